@@ -1,0 +1,32 @@
+-- The instructions of a block's listing are instructions of the function.
+use Rattle.std.proofs.Common.{ℕ, zero, suc, ◌≡◌, ◌+◌, ◌-◌, ◌<◌, ◌≤◌, List, ◌∷◌, map, subst, arith}
+use Rattle.std.specs.Prelude.{All}
+use Rattle.std.proofs.lemmas.List.Elements.{All-nil, All-append, All-cons, All-map, All-head, All-tail}
+use Rattle.regalloc2_function.specs.OutputValue.{OutputValue, MoveValue, moves_before}
+use Rattle.regalloc2_function.specs.Listing.{Listed, ListedInst, ListedMove, listing_from}
+use Rattle.regalloc2_function.specs.Views.{item_of}
+use Rattle.regalloc2_function.specs.declared.listing.InstOrEdit.{InstOrEdit}
+use Rattle.regalloc2_function.specs.declared.listing.InstOrEdit.TheVariants.{Inst}
+
+-- an item of a listing is a move, or an instruction below a bound
+abbrev pub IsBelow : ℕ → Listed → Type 0
+IsBelow n (ListedInst i) = i < n
+IsBelow n (ListedMove m) = Unit {0}
+
+listed_below : (o : OutputValue) (n first i k : ℕ) → i + k ≤ n → All (IsBelow n) (listing_from o first i k)
+unfolding listing_from
+listed_below o n first i zero h = All-nil _
+listed_below o n first i (suc k) h =
+    All-append (IsBelow n) (map (λ m. ListedMove m) (moves_before o first i)) _
+    (All-map (IsBelow n) (λ m. ListedMove m) (moves_before o first i) (λ j d w. tt))
+    (All-cons (IsBelow n) (ListedInst i) _ (omega arith) (listed_below o n first (i + 1) k (omega arith)))
+
+-- of a block that is within the instructions
+pub block_below : (o : OutputValue) (n first end : ℕ) → first < end → end ≤ n → All (IsBelow n) (listing_from o first first (end - first))
+block_below o n first end h w = listed_below o n first first (end - first) (omega arith)
+
+-- the first item of such a listing, where it is an instruction
+pub first_below : (n i : ℕ) (xs ys : List Listed) (x : InstOrEdit) → All (IsBelow n) xs → xs ≡ item_of x ∷ ys → x ≡ Inst i → i < n
+first_below n i xs ys x h e f =
+    let g : xs ≡ ListedInst i ∷ ys = subst (λ (v : InstOrEdit). xs ≡ item_of v ∷ ys) f e in
+    All-head (IsBelow n) (ListedInst i) ys (subst (λ (l : List Listed). All (IsBelow n) l) g h)

@@ -1,0 +1,3 @@
+pub mod Example
+pub mod Framed
+pub mod Refusal

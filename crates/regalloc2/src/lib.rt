@@ -1,0 +1,28 @@
+//! Register allocation: the fast allocator, with the names, functions and tests that its clients use, under the paths
+//! of the crate `regalloc2`.
+//!
+//! A client describes its function by an implementation of [`Function`] and its machine by a [`MachineEnv`], calls
+//! [`run`], and reads the [`Output`]. What each item promises stands where it is declared.
+#![tactic(auto)]
+
+pub use regalloc2_fastalloc::{Algorithm, Ctx, RegallocOptions, run, run_into_ctx, run_with_ctx};
+pub use regalloc2_function::{
+    Edit, Function, InstOrEdit, MachineEnv, Output, OutputIter, blocks_follow, count_operands,
+    finds_earlier_writes, is_framed, machine_fits, reads_the_same_numbers, successors_are_blocks,
+    test_blocks, test_ends,
+};
+pub use regalloc2_index::{
+    Block, ContainerComparator, ContainerIndex, Inst, InstRange, InstRangeIter,
+};
+pub use regalloc2_names::{
+    Allocation, AllocationKind, InstPosition, Operand, OperandConstraint, OperandKind, OperandPos,
+    PReg, PRegSet, PRegSetIter, ProgPoint, RegAllocError, RegClass, SpillSlot, VReg,
+};
+pub use regalloc2_parts::moves;
+pub use regalloc2_shape::{postorder, ssa};
+
+/// The fast allocator and its parts.
+pub mod fastalloc {
+    pub use regalloc2_fastalloc::run;
+    pub use regalloc2_parts::{iter, lru, vregset};
+}

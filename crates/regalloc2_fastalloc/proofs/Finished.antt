@@ -1,0 +1,186 @@
+-- What the walk's end gives.
+use Rattle.std.proofs.Common.{ℕ, zero, suc, ◌≡◌, ◌≢◌, ◌+◌, ◌-◌, ◌*◌, ◌<◌, ◌≤◌, ◌⊎◌, ⊎_elim, inl, inr, Bool, true, false, cond, ◌||◌, ◌&&◌, List, [], ◌∷◌, length, take, drop, reverse, refl, sym, ap, ◌∙◌, subst, arith, nat_eq, nat_lt, eq-eqb, slice_index_or, slice_index}
+use Rattle.std.specs.Prelude.{All, Contains, Option, None, Some, sum_by}
+use Rattle.std.specs.List.Sorted.{IsNonDecreasingBy}
+use Rattle.std.proofs.lemmas.Bool.{ne_eqb, lt-ltb}
+use Rattle.std.proofs.lemmas.List.{get_or-take, get_or-drop, get_or-reverse, length-reverse, take_all}
+use Rattle.std.proofs.lemmas.List.Elements.{All-get_or, All-contains}
+use Rattle.std.proofs.lemmas.List.Sums.{sum_by-take-le}
+use Rattle.regalloc2_names.specs.declared.OperandConstraint.{OperandConstraint}
+use Rattle.regalloc2_names.specs.declared.OperandConstraint.TheVariants.{Reg}
+use Rattle.regalloc2_names.specs.declared.RegClass.TheVariants.{Int}
+use Rattle.regalloc2_names.specs.Register.{Register, invalid_register}
+use Rattle.regalloc2_names.specs.Place.{Place, NoPlace, InRegister, InSlot}
+use Rattle.regalloc2_names.specs.Point.{before}
+use Rattle.regalloc2_names.specs.Operand.{OperandValue, fixed_register}
+use Rattle.regalloc2_function.specs.FunctionValue.{FunctionValue, block_at, inst_at, operand_count}
+use Rattle.regalloc2_function.specs.Machine.{MachineValue, is_allocatable, scratch_of, IsFixedStackSlot}
+use Rattle.regalloc2_function.specs.OutputValue.{OutputValue, MoveValue, IsInOrder, OffsetsInOrder, alloc_start, alloc_end, allocs_of, place_at, is_listed_at}
+use Rattle.regalloc2_function.specs.Faithful.{ConstraintsMet, EditsAreListed, Meets}
+use Rattle.regalloc2_function.specs.Fitting.{MachineFits, PlacesAreProper, IsProperPlace, IsMoveEnd}
+use Rattle.regalloc2_fastalloc.specs.Profile.{IsStraightBlock, IsPlainOperand, ArePlain}
+use Rattle.regalloc2_fastalloc.specs.Sound.{IsEnd, IsSoundEdit, HasGoodPlace}
+use Rattle.regalloc2_fastalloc.specs.Steps.{Tables, op_at}
+use Rattle.regalloc2_fastalloc.specs.Tables.{NeverRise}
+use Rattle.regalloc2_fastalloc.specs.Walks.{offset_of}
+use Rattle.regalloc2_fastalloc.proofs.Falling.{rising_reverse}
+use Rattle.regalloc2_fastalloc.proofs.Inverses.{same_number, always}
+use Rattle.regalloc2_fastalloc.proofs.Setting.{default_free}
+use Rattle.regalloc2_fastalloc.proofs.Walking.{WalkKept, offset_next, offset_rises}
+
+-- an output that is made of the walk's tables
+pub record IsMade (f : FunctionValue) (env : MachineValue) (t : Tables) (o : OutputValue) : Type 0 where
+  pub count : o.num_spillslots ≡ t.slots.count
+  pub edits : o.edits ≡ reverse t.edits
+  pub falling : NeverRise t.edits
+  pub long : length o.offsets ≡ length f.insts
+  pub offsets : (i : ℕ) → i < length f.insts → slice_index o.offsets i ≡ offset_of f i
+  pub allocs_long : length o.allocs ≡ operand_count f
+  pub debug : o.debug_locations ≡ []
+  pub kept : WalkKept env f 0 o.allocs t
+
+-- what holds of each element holds the other way round
+all_reverse : {X : Type 0} (P : X → Type 0) (xs : List X) → All P xs → All P (reverse xs)
+all_reverse P xs h k d lt =
+    let n : length (reverse xs) ≡ length xs = length-reverse xs in
+    subst P (sym (get_or-reverse xs k d (omega arith))) (h (length xs - 1 - k) d (omega arith))
+
+all_weaker : {X : Type 0} (P Q : X → Type 0) (xs : List X) → ((x : X) → P x → Q x) → All P xs → All Q xs
+all_weaker P Q xs f h k d lt = f (slice_index_or xs k d) (h k d lt)
+
+-- what holds of each move that was pushed holds of each that is listed
+each_edit : (f : FunctionValue) (env : MachineValue) (t : Tables) (o : OutputValue) (Q : ℕ × MoveValue → Type 0) → IsMade f env t o
+    → ((e : ℕ × MoveValue) → IsSoundEdit env t.slots.count (before (length f.insts)) e → Q e) → All Q o.edits
+each_edit f env t o Q m g =
+    subst (All Q) (sym m.edits) (all_reverse Q t.edits (all_weaker (IsSoundEdit env t.slots.count (before (length f.insts))) Q t.edits g m.kept.sound.edits))
+
+-- the places of all operands end where those of the last instruction do
+last_offset : (f : FunctionValue) (n : ℕ) → n ≡ length f.insts → offset_of f n ≡ operand_count f
+last_offset f n e = ap (sum_by (λ i. length i.operands)) (take_all n f.insts (omega arith))
+
+offset_within : (f : FunctionValue) (i : ℕ) → offset_of f i ≤ operand_count f
+offset_within f i = sum_by-take-le (λ n. length n.operands) f.insts i
+
+-- where an instruction's places end, the next one's begin
+end_is : (f : FunctionValue) (env : MachineValue) (t : Tables) (o : OutputValue) → IsMade f env t o → (i : ℕ) → i < length f.insts → alloc_end o i ≡ offset_of f (i + 1)
+end_is f env t o m i lt = ⊎_elim
+    (λ (e : i + 1 ≡ length f.insts).
+    let last : nat_eq (i + 1) (length o.offsets) ≡ true = eq-eqb (i + 1) (length o.offsets) (e ∙ sym m.long) in
+    ap (λ b. cond b (length o.allocs) (slice_index o.offsets (i + 1))) last ∙ m.allocs_long ∙ sym (last_offset f (i + 1) e))
+    (λ (d : i + 1 ≢ length f.insts).
+    let other : nat_eq (i + 1) (length o.offsets) ≡ false = ne_eqb (i + 1) (length o.offsets) (λ e. d (e ∙ m.long)) in
+    ap (λ b. cond b (length o.allocs) (slice_index o.offsets (i + 1))) other ∙ m.offsets (i + 1) (omega arith))
+    (same_number (i + 1) (length f.insts))
+
+end_is_no_place : (env : MachineValue) (n : ℕ) (p : Place) → IsEnd env n p → p ≢ NoPlace
+end_is_no_place env n NoPlace h = absurd h
+end_is_no_place env n (InRegister r) h = λ e. cc
+end_is_no_place env n (InSlot k) h = λ e. cc
+
+pub made_in_order : (f : FunctionValue) (env : MachineValue) (t : Tables) (o : OutputValue) → IsMade f env t o → IsInOrder f o
+made_in_order f env t o m = record {
+  one_offset_each = m.long;
+  offsets = record {
+    begins = λ some. m.offsets 0 (omega (arith, some, m.long));
+    rises = λ i lt. let a = m.offsets i (omega (arith, lt, m.long)) in let b = end_is f env t o m i (omega (arith, lt, m.long)) in let r = offset_rises f i 1 (omega (arith, lt, m.long)) in omega (arith, a, b, r);
+    within = λ i lt. let a = m.offsets i (omega (arith, lt, m.long)) in let w = offset_within f i in omega (arith, a, w, m.allocs_long);
+  };
+  no_more_than_operands = λ i lt. let a = m.offsets i lt in let b = end_is f env t o m i lt in let n = offset_next f i lt in omega (arith, a, b, n);
+  points_never_fall = subst (IsNonDecreasingBy (λ e. e.0)) (sym m.edits) (rising_reverse t.edits m.falling);
+  moves_name_places = each_edit f env t o (λ e. (e.1.from ≢ NoPlace) × (e.1.to ≢ NoPlace)) m (λ e s. (end_is_no_place env t.slots.count e.1.from s.from, end_is_no_place env t.slots.count e.1.to s.to));
+}
+
+-- the place of an operand
+place_is : (f : FunctionValue) (env : MachineValue) (t : Tables) (o : OutputValue) → IsMade f env t o → (i : ℕ) → i < length f.insts → (k : ℕ) → k < length (inst_at f i).operands
+    → place_at (allocs_of o i) k ≡ slice_index_or o.allocs (offset_of f i + k) NoPlace
+place_is f env t o m i lt k less =
+    let a : alloc_start o i ≡ offset_of f i = m.offsets i lt in
+    let b = end_is f env t o m i lt in
+    let n = offset_next f i lt in
+    get_or-take (alloc_end o i - alloc_start o i) (drop (alloc_start o i) o.allocs) k NoPlace (omega (arith, a, b, n, less))
+    ∙ get_or-drop (alloc_start o i) o.allocs k NoPlace ∙ ap (λ (j : ℕ). slice_index_or o.allocs (j + k) NoPlace) a
+
+good_place : (f : FunctionValue) (env : MachineValue) (t : Tables) (o : OutputValue) → IsMade f env t o → (i : ℕ) → i < length f.insts → (k : ℕ) → k < length (inst_at f i).operands
+    → HasGoodPlace env (op_at (inst_at f i).operands k).vreg (place_at (allocs_of o i) k)
+good_place f env t o m i lt k less = subst (HasGoodPlace env (op_at (inst_at f i).operands k).vreg) (sym (place_is f env t o m i lt k less)) (m.kept.good i (omega arith) lt k less)
+
+-- an allocatable register is no place in memory
+no_stack_slot : (f : FunctionValue) (env : MachineValue) → MachineFits f env → (r : Register) → is_allocatable env r.class r ≡ true → IsFixedStackSlot env r → ⊥
+no_stack_slot f env fits r allowed is =
+    let apart = All-contains (λ (q : Register). (is_allocatable env r.class q ≡ false) × (scratch_of env r.class ≢ Some q) × (q ≢ invalid_register)) env.fixed_stack_slots r (fits r.class).slots_apart is in
+    let nay : is_allocatable env r.class r ≡ false = apart.0 in cc
+
+meets_reg : (f : FunctionValue) (env : MachineValue) → MachineFits f env → (count : ℕ) (places : List Place) (c : OperandConstraint) (p : Place) → c ≡ Reg
+    → (r : Register) → p ≡ InRegister r → is_allocatable env r.class r ≡ true → Meets env count places c p
+meets_reg f env fits count places c p reg r is allowed = rw (reg, is) (no_stack_slot f env fits r allowed)
+
+pub made_constraints : (f : FunctionValue) (env : MachineValue) (t : Tables) (o : OutputValue) → MachineFits f env → ArePlain f → IsMade f env t o → (i : ℕ) → i < length f.insts → ConstraintsMet f env o i
+made_constraints f env t o fits plain m i lt k d less =
+    let g = good_place f env t o m i lt k less in
+    let is : IsPlainOperand (slice_index_or (inst_at f i).operands k d) = All-get_or IsPlainOperand (inst_at f i).operands k d less (plain i lt).operands in
+    meets_reg f env fits (length (inst_at f i).operands) (allocs_of o i) (slice_index_or (inst_at f i).operands k d).constraint (place_at (allocs_of o i) k) is.1 g.register g.place_is g.own_class
+
+-- each end of a move is proper
+move_end : (env : MachineValue) (o : OutputValue) (n : ℕ) (p : Place) → o.num_spillslots ≡ n → IsEnd env n p → IsMoveEnd env o p
+move_end env o n NoPlace e h = absurd h
+move_end env o n (InRegister r) e h = (r.class, inl (inl h))
+move_end env o n (InSlot k) e h = (Int, inl (omega arith))
+
+pub made_proper : (f : FunctionValue) (env : MachineValue) (t : Tables) (o : OutputValue) → ArePlain f → IsMade f env t o → PlacesAreProper f env o
+made_proper f env t o plain m = record {
+  operands = λ i lt k d less named.
+      let g = good_place f env t o m i lt k less in
+      let same : op_at (inst_at f i).operands k ≡ slice_index_or (inst_at f i).operands k d = default_free (inst_at f i).operands k _ d less in
+      subst (λ (x : OperandValue). IsProperPlace env o x.vreg.class (place_at (allocs_of o i) k)) same
+      (subst (IsProperPlace env o (op_at (inst_at f i).operands k).vreg.class) (sym g.place_is) (inl g.allocatable));
+  nonallocatable = λ i lt k d less r names. absurd (names_none (slice_index_or (inst_at f i).operands k d) r
+      (All-get_or IsPlainOperand (inst_at f i).operands k d less (plain i lt).operands).1 names);
+  moves = each_edit f env t o (λ e. IsMoveEnd env o e.1.from × IsMoveEnd env o e.1.to) m (λ e s. (move_end env o t.slots.count e.1.from m.count s.from, move_end env o t.slots.count e.1.to m.count s.to));
+  debug_locations = rw m.debug (λ k d lt. absurd (omega arith));
+}
+  where
+    either_none : (b : Bool) (r : Register) → cond b None None ≡ Some r → ⊥
+    either_none true r e = cc
+    either_none false r e = cc
+
+    names_none : (x : OperandValue) (r : Register) → x.constraint ≡ Reg → cond (nat_eq x.vreg.number 1073741823) (fixed_register x.constraint) None ≡ Some r → ⊥
+    names_none x r reg names = either_none (nat_eq x.vreg.number 1073741823) r (sym (ap (λ (c : OperandConstraint). cond (nat_eq x.vreg.number 1073741823) (fixed_register c) None) reg) ∙ names)
+
+-- a point is at an instruction or before the next
+half_of : (p : ℕ) → (i : ℕ) × ((p ≡ 2 * i) ⊎ (p + 1 ≡ 2 * i))
+half_of zero = (0, inl refl)
+half_of (suc zero) = (1, inr refl)
+half_of (suc (suc p)) =
+    let h = half_of p in
+    (h.0 + 1, ⊎_elim (λ (e : p ≡ 2 * h.0). inl (omega arith)) (λ (e : p + 1 ≡ 2 * h.0). inr (omega arith)) h.1)
+
+listed_somewhere : (f : FunctionValue) → IsStraightBlock f → (p : ℕ) → p + 1 < before (length f.insts)
+    → (b i : ℕ) × (b < length f.blocks) × ((block_at f b).range.first ≤ i) × (i < (block_at f b).range.end) × (is_listed_at (block_at f b).range.first i p ≡ true)
+listed_somewhere f s p small =
+    let h = half_of p in
+    let first : (block_at f 0).range.first ≡ 0 = s.block.first in
+    let end : (block_at f 0).range.end ≡ length f.insts = s.block.end in
+    let half : (p ≡ 2 * h.0) ⊎ (p + 1 ≡ 2 * h.0) = h.1 in
+    let less : h.0 < length f.insts = ⊎_elim (λ (e : p ≡ 2 * h.0). omega arith) (λ (e : p + 1 ≡ 2 * h.0). omega arith) half in
+    let listed : is_listed_at 0 h.0 p ≡ true = ⊎_elim
+    (λ (e : p ≡ 2 * h.0). ap (λ b. b || (nat_lt 0 h.0 && nat_eq (p + 1) (before h.0))) (eq-eqb p (before h.0) e))
+    (λ (e : p + 1 ≡ 2 * h.0). either (nat_eq p (before h.0)) (nat_lt 0 h.0) (nat_eq (p + 1) (before h.0)) (lt-ltb 0 h.0 (omega arith)) (eq-eqb (p + 1) (before h.0) e))
+    half in
+    (0, h.0, omega (arith, s.one), omega (arith, first), omega (arith, end, less), subst (λ (n : ℕ). is_listed_at n h.0 p ≡ true) (sym first) listed)
+  where
+    either : (a b c : Bool) → b ≡ true → c ≡ true → (a || (b && c)) ≡ true
+    either true b c x y = refl
+    either false b c x y = ap (λ d. d && c) x ∙ y
+
+pub made_listed : (f : FunctionValue) (env : MachineValue) (t : Tables) (o : OutputValue) → IsStraightBlock f → IsMade f env t o → EditsAreListed f o
+made_listed f env t o s m = record {
+  none_at_end = λ b less. each_edit f env t o (λ e. e.0 + 1 ≢ before (block_at f b).range.end) m (λ e sound. end_later b less e.0 sound.point);
+  listed = each_edit f env t o (λ e. (b i : ℕ) × (b < length f.blocks) × ((block_at f b).range.first ≤ i) × (i < (block_at f b).range.end) × (is_listed_at (block_at f b).range.first i e.0 ≡ true)) m
+      (λ e sound. listed_somewhere f s e.0 sound.point);
+}
+  where
+    end_later : (b : ℕ) → b < length f.blocks → (p : ℕ) → p + 1 < before (length f.insts) → p + 1 ≢ before (block_at f b).range.end
+    end_later b less p small e =
+        let zero_b : b ≡ 0 = omega (arith, less, s.one) in
+        let end : (block_at f b).range.end ≡ length f.insts = ap (λ (n : ℕ). (block_at f n).range.end) zero_b ∙ s.block.end in
+        absurd (omega (arith, end, e, small))

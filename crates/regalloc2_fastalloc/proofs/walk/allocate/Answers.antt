@@ -1,0 +1,99 @@
+use Rattle.std.proofs.Common.{ℕ, ◌≡◌, ◌+◌, ◌<◌, ◌≤◌, ◌^◌, List, [], map, reverse, length, replicate, refl, sym, ap, ◌∙◌, subst, rules, arith, slice_index}
+use Rattle.std.specs.Prelude.{Option, None, Some, SomeIff}
+use Rattle.std.specs.Vec.{with_items}
+use Rattle.std.proofs.lemmas.List.{length-replicate, with_items_is}
+use Rattle.regalloc2_names.specs.Place.{Place, NoPlace}
+use Rattle.regalloc2_names.specs.Point.{before}
+use Rattle.regalloc2_function.specs.FunctionValue.{FunctionValue, operand_count}
+use Rattle.regalloc2_function.specs.Machine.{MachineValue}
+use Rattle.regalloc2_function.specs.OutputValue.{DebugLocation, OutputValue}
+use Rattle.regalloc2_function.specs.Views.{edit_of, machine_of, output_of}
+use Rattle.regalloc2_fastalloc.specs.Sound.{IsBlank, IsSound}
+use Rattle.regalloc2_fastalloc.specs.Steps.{Tables, tables_of}
+use Rattle.regalloc2_fastalloc.specs.Tables.{PlacesValue}
+use Rattle.regalloc2_fastalloc.proofs.Finished.{IsMade, made_in_order, made_constraints, made_proper, made_listed}
+use Rattle.regalloc2_fastalloc.proofs.Starting.{all_in_tables, blank_tables, blank_sound}
+use Rattle.regalloc2_fastalloc.proofs.Walking.{WalkKept, walk_kept}
+use Rattle.regalloc2_fastalloc.proofs.walk.allocate.Given.{Over}
+use Rattle.regalloc2_fastalloc.proofs.walk.allocate.Goals as goal
+
+-- the count that there is
+count_is : {o : Option ℕ} {n : ℕ} (P : Type 0) (v : ℕ) → o ≡ Some n → SomeIff o P v → n ≡ v
+count_is P v e h = (subst (λ (x : Option ℕ). SomeIff x P v) e h).1
+
+pub new-requires : goal.new-requires
+new-requires g c = (search rules, c.requires.machine)
+
+pub alloc_insts-requires : goal.alloc_insts-requires
+alloc_insts-requires g c =
+    let f = g.F.Function.function c.args.f.now in
+    let t : Tables = tables_of c.in_ok-state.state in
+    let long : length t.places.stands ≡ f.num_vregs = ap (λ (p : PlacesValue). length p.stands) c.in_ok-state.ensures.places ∙ length-replicate f.num_vregs NoPlace in (
+      search rules,
+      (
+        c.in_ok-state.ensures.edits,
+        (
+          all_in_tables f t c.requires.straight c.requires.plain c.requires.once c.requires.defined long,
+          (
+            ap length c.deref.ensures.value ∙ c.in_ok-offsets.ensures.long,
+            (
+              λ i lt. ap (λ xs. slice_index xs i) c.deref.ensures.value ∙ c.in_ok-offsets.ensures.each i lt,
+              c.deref_mut.ensures.len ∙ c.in_ok-allocs.ensures.len ∙ count_is (operand_count f < 2 ^ 32) (operand_count f) c.unwrap-total.ensures c.count_operands.ensures,
+            ),
+          ),
+        ),
+      ),
+    )
+
+-- what the walk left
+walked : (g : Over) (c : goal.After-array_drop-state-2 g) → WalkKept (machine_of c.args.env.now) (g.F.Function.function c.args.f.now) 0 c.alloc_insts.new.allocs (tables_of c.alloc_insts.new.self)
+walked g c =
+    let f : FunctionValue = g.F.Function.function c.args.f.now in
+    let env : MachineValue = machine_of c.args.env.now in
+    let t : Tables = tables_of c.in_ok-state.state in
+    let blank : IsBlank t = blank_tables t f.num_vregs _ _ c.in_ok-state.ensures.places c.in_ok-state.ensures.slots in
+    walk_kept env f c.deref_mut.result.now t blank c.in_ok-state.ensures.edits (blank_sound env (before (length f.insts)) t blank c.in_ok-state.ensures.edits c.in_ok-state.ensures.registers)
+    0 c.alloc_insts.new.allocs (tables_of c.alloc_insts.new.self) c.in_ok-alloc_insts.ensures.ok
+
+-- a debug location as contracts see it
+abbrev debug_of : (ℕ × ℕ × ℕ × Place) → DebugLocation
+debug_of d = record { label = d.0; start = d.1; end = d.2; place = d.3 }
+
+-- the output as contracts see it
+abbrev out_of : (g : Over) (c : goal.After-array_drop-state-2 g) → OutputValue
+out_of g c = record {
+  num_spillslots = c.count.result;
+  edits = map edit_of c.in_ok-edits.edits.items;
+  allocs = (with_items c.in_ok-allocs.allocs c.alloc_insts.new.allocs).items;
+  offsets = c.in_ok-offsets.offsets.items;
+  debug_locations = map debug_of c.new-2.result.items;
+}
+
+made : (g : Over) (c : goal.After-array_drop-state-2 g) → IsMade (g.F.Function.function c.args.f.now) (machine_of c.args.env.now) (tables_of c.alloc_insts.new.self) (out_of g c)
+made g c =
+    let f : FunctionValue = g.F.Function.function c.args.f.now in
+    let env : MachineValue = machine_of c.args.env.now in
+    let long : length c.alloc_insts.new.allocs ≡ c.in_ok-allocs.allocs.len = c.alloc_insts.auto.allocs ∙ c.deref_mut.ensures.len in
+    let allocs : (with_items c.in_ok-allocs.allocs c.alloc_insts.new.allocs).items ≡ c.alloc_insts.new.allocs = with_items_is c.in_ok-allocs.allocs c.alloc_insts.new.allocs long in
+    record {
+      count = c.count.ensures.count;
+      edits = c.in_ok-edits.ensures.listed;
+      falling = c.in_ok-edits.ensures.falling;
+      long = c.in_ok-offsets.ensures.long;
+      offsets = λ i lt. c.in_ok-offsets.ensures.each i lt;
+      allocs_long = ap length allocs ∙ long ∙ c.in_ok-allocs.ensures.len ∙ count_is (operand_count f < 2 ^ 32) (operand_count f) c.unwrap-total.ensures c.count_operands.ensures;
+      debug = ap (map debug_of) c.new-2.ensures.items;
+      kept = subst (λ (ps : List Place). WalkKept env f 0 ps (tables_of c.alloc_insts.new.self)) (sym allocs) (walked g c);
+    }
+
+pub returns-clause-in_order : goal.returns-clause-in_order
+returns-clause-in_order g c = made_in_order _ _ _ _ (made g c)
+
+pub returns-clause-constraints : goal.returns-clause-constraints
+returns-clause-constraints g c = made_constraints _ _ _ _ c.requires.machine c.requires.plain (made g c)
+
+pub returns-clause-proper : goal.returns-clause-proper
+returns-clause-proper g c = made_proper _ _ _ _ c.requires.plain (made g c)
+
+pub returns-clause-listed : goal.returns-clause-listed
+returns-clause-listed g c = made_listed _ _ _ _ c.requires.straight (made g c)

@@ -1,0 +1,7 @@
+pub mod Lack
+pub mod Profile
+pub mod Reason
+pub mod Sound
+pub mod Steps
+pub mod Tables
+pub mod Walks

@@ -1,0 +1,48 @@
+-- What the allocator takes so far: one straight block, whose operands stand in any register.
+use Rattle.std.specs.Prelude.{ℕ, ◌≡◌, ◌+◌, ◌<◌, ◌⊎◌, false, nat_eq, [], All, length}
+use Rattle.regalloc2_names.specs.declared.OperandConstraint.TheVariants.{Reg}
+use Rattle.regalloc2_names.specs.declared.OperandKind.TheVariants.{Def, Use}
+use Rattle.regalloc2_names.specs.declared.OperandPos.TheVariants.{Early, Late}
+use Rattle.regalloc2_names.specs.Register.{Register}
+use Rattle.regalloc2_names.specs.RegisterSet.{has_register}
+use Rattle.regalloc2_names.specs.Operand.{OperandValue}
+use Rattle.regalloc2_function.specs.FunctionValue.{FunctionValue, BlockValue, InstValue, block_at, inst_at}
+
+-- a block that is entered by the function's start alone, leads nowhere, and has all instructions, of which there is one at least
+pub record HasAll (f : FunctionValue) (b : BlockValue) : Type 0 where
+  pub params : b.params ≡ []
+  pub preds : b.preds ≡ []
+  pub succs : b.succs ≡ []
+  pub first : b.range.first ≡ 0
+  pub end : b.range.end ≡ length f.insts
+  pub nonempty : 0 < length f.insts
+
+-- no branch, and a return only as the last instruction
+abbrev pub IsLastReturn : FunctionValue → ℕ → InstValue → Type 0
+IsLastReturn f n i = (i.is_branch ≡ false) × (i.is_ret ≡ nat_eq (n + 1) (length f.insts))
+
+-- a function that is one straight block
+pub record IsStraightBlock (f : FunctionValue) : Type 0 where
+  pub one : length f.blocks ≡ 1
+  pub entry : f.entry ≡ 0
+  pub block : HasAll f (block_at f 0)
+  pub returns : (i : ℕ) → i < length f.insts → IsLastReturn f i (inst_at f i)
+
+-- a late definition or an early use, in any register
+abbrev pub IsPlainOperand : OperandValue → Type 0
+IsPlainOperand o = (((o.kind ≡ Def) × (o.position ≡ Late)) ⊎ ((o.kind ≡ Use) × (o.position ≡ Early))) × (o.constraint ≡ Reg)
+
+-- an instruction of such operands, which clobbers nothing
+pub record IsPlain (i : InstValue) : Type 0 where
+  pub operands : All IsPlainOperand i.operands
+  pub clobbers : (r : Register) → has_register i.clobbers r ≡ false
+
+-- each instruction is plain
+abbrev pub ArePlain : FunctionValue → Type 0
+ArePlain f = (i : ℕ) → i < length f.insts → IsPlain (inst_at f i)
+
+-- the first instruction that isn't
+pub record IsFirstOther (f : FunctionValue) (i : ℕ) : Type 0 where
+  pub there : i < length f.insts
+  pub fails : IsPlain (inst_at f i) → ⊥
+  pub passed : (j : ℕ) → j < i → IsPlain (inst_at f j)

@@ -1,0 +1,158 @@
+-- The allocator's tables, as contracts see them.
+use Rattle.std.specs.Prelude.{ℕ, ◌≡◌, ◌≢◌, ◌+◌, ◌-◌, ◌*◌, ◌<◌, ◌≤◌, ◌⊎◌, ◌||◌, Bool, true, false, List, [], ◌∷◌, ◌++◌, All, Contains, length, replicate, slice_index, slice_index_or, Option, None, Some, if◌then◌else◌}
+use Rattle.std.specs.Int.{next_multiple_of}
+use Rattle.regalloc2_names.specs.declared.RegClass.{RegClass}
+use Rattle.regalloc2_names.specs.Register.{class_code}
+use Rattle.regalloc2_parts.specs.Ring.{AreDistinctOf}
+use Rattle.regalloc2_function.specs.OutputValue.{MoveValue}
+use Rattle.regalloc2_names.specs.Register.{Register, VirtualRegister}
+use Rattle.regalloc2_names.specs.RegisterBits.{bits_of_register}
+use Rattle.regalloc2_names.specs.declared.sets.PRegSet.{PRegSet}
+use Rattle.regalloc2_names.specs.RegisterSet.{has_register}
+use Rattle.regalloc2_names.specs.Place.{Place, NoPlace, InRegister, InSlot, is_place, is_no_place}
+
+-- where the vregs stand, by number, and which vreg stands in each register, by index
+pub record PlacesValue : Type 0 where
+  pub stands : List Place
+  pub held : List (Option VirtualRegister)
+
+-- the place where the vreg of a number stands
+abbrev pub stood : PlacesValue → ℕ → Place
+stood t n = slice_index_or t.stands n NoPlace
+
+-- the vreg that stands in a register
+abbrev pub holder : PlacesValue → Register → Option VirtualRegister
+holder t r = slice_index_or t.held (bits_of_register r) None
+
+-- each table is the inverse of the other
+pub record IsInverse (t : PlacesValue) : Type 0 where
+  pub registers : length t.held ≡ 256
+  pub small : (n : ℕ) (r : Register) → stood t n ≡ InRegister r → r.number < 64
+  pub known : (r : Register) (v : VirtualRegister) → r.number < 64 → holder t r ≡ Some v → v.number < length t.stands
+  pub holds : (r : Register) (v : VirtualRegister) → r.number < 64 → holder t r ≡ Some v → stood t v.number ≡ InRegister r
+  pub stands : (n : ℕ) (r : Register) → stood t n ≡ InRegister r → (v : VirtualRegister) × (v.number ≡ n) × (holder t r ≡ Some v)
+
+-- nobody stands anywhere, of so many vregs
+abbrev pub nobody_stands : ℕ → PlacesValue
+nobody_stands n = record { stands = replicate n NoPlace; held = replicate 256 None }
+
+-- the vreg stands at the place from now on, and nowhere else
+pub record Settles (old new : PlacesValue) (v : VirtualRegister) (p : Place) : Type 0 where
+  pub long : length new.stands ≡ length old.stands
+  pub here : stood new v.number ≡ p
+  pub others : (n : ℕ) → n ≢ v.number → stood new n ≡ stood old n
+  pub holders : (r : Register) → r.number < 64 → holder new r ≡ (if is_place p (InRegister r) then Some v else if is_place (stood old v.number) (InRegister r) then None else holder old r)
+
+-- a register of the table is given a vreg, or none; another place changes nothing
+pub record Marks (old new : List (Option VirtualRegister)) (p : Place) (v : Option VirtualRegister) : Type 0 where
+  pub long : length new ≡ length old
+  pub each : (r : Register) → r.number < 64 → slice_index_or new (bits_of_register r) None ≡ (if is_place p (InRegister r) then v else slice_index_or old (bits_of_register r) None)
+
+-- the greatest number of units that all slots may take
+abbrev pub most_units : ℕ
+most_units = 16777216
+
+-- the slots of the vregs, by number, and how many units they take; the units of a slot of each class; whether a slot is named by its last unit
+pub record SlotsValue : Type 0 where
+  pub of_vreg : List Place
+  pub count : ℕ
+  pub sizes : List ℕ
+  pub by_last : Bool
+
+-- the slot of the vreg of a number, as a place
+abbrev pub slot_name : SlotsValue → ℕ → Place
+slot_name s n = slice_index_or s.of_vreg n NoPlace
+
+-- how many units a slot of a class takes
+abbrev pub units_of : SlotsValue → RegClass → ℕ
+units_of s class = slice_index s.sizes (class_code class)
+
+-- A new slot starts at the first multiple of its size at or past those that are taken; it ends there:
+abbrev pub slot_end : SlotsValue → RegClass → ℕ
+slot_end s class = next_multiple_of s.count (units_of s class) + units_of s class
+
+-- and it is named by its first or its last unit
+abbrev pub new_slot : SlotsValue → RegClass → ℕ
+new_slot s class = if s.by_last then slot_end s class - 1 else next_multiple_of s.count (units_of s class)
+
+-- no place, or a slot below a count
+abbrev pub IsSlotOrNone : ℕ → Place → Type 0
+IsSlotOrNone count NoPlace = Unit {0}
+IsSlotOrNone count (InRegister r) = ⊥
+IsSlotOrNone count (InSlot n) = n < count
+
+-- each name has one owner, and lies below the count
+pub record AreOwned (s : SlotsValue) : Type 0 where
+  pub three : length s.sizes ≡ 3
+  pub sizes : (c : ℕ) → c < 3 → 0 < slice_index s.sizes c × slice_index s.sizes c ≤ most_units
+  pub few : s.count ≤ most_units
+  pub below : (n : ℕ) → IsSlotOrNone s.count (slot_name s n)
+  pub own : (m n k : ℕ) → slot_name s m ≡ InSlot k → slot_name s n ≡ InSlot k → m ≡ n
+
+-- the vreg has the slot p, which it had or which is made for it
+pub record GivesSlot (old new : SlotsValue) (v : VirtualRegister) (p : Place) : Type 0 where
+  pub long : length new.of_vreg ≡ length old.of_vreg
+  pub sizes : new.sizes ≡ old.sizes
+  pub by_last : new.by_last ≡ old.by_last
+  pub grows : old.count ≤ new.count
+  pub gives : slot_name new v.number ≡ p
+  pub there : p ≢ NoPlace
+  pub below : IsSlotOrNone new.count p
+  pub others : (n : ℕ) → n ≢ v.number → slot_name new n ≡ slot_name old n
+  pub had : slot_name old v.number ≢ NoPlace → (p ≡ slot_name old v.number) × (new.count ≡ old.count)
+  pub made : slot_name old v.number ≡ NoPlace → (p ≡ InSlot (new_slot old v.class)) × (new.count ≡ slot_end old v.class)
+
+-- no slots, for so many vregs
+abbrev pub no_slots : ℕ → List ℕ → Bool → SlotsValue
+no_slots n sizes by_last = record { of_vreg = replicate n NoPlace; count = 0; sizes = sizes; by_last = by_last }
+
+-- each point is at most those of the moves that were pushed before
+abbrev pub NeverRise : List (ℕ × MoveValue) → Type 0
+NeverRise es = (i j : ℕ) (d : ℕ × MoveValue) → i ≤ j → j < length es → (slice_index_or es j d).0 ≤ (slice_index_or es i d).0
+
+-- all moves stand at a point or after it
+abbrev pub NoneBefore : ℕ → List (ℕ × MoveValue) → Type 0
+NoneBefore point es = All (λ e. point ≤ e.0) es
+
+-- the moves with one more, unless its destination is none or its source
+abbrev pub sent : ℕ → Place → Place → List (ℕ × MoveValue) → List (ℕ × MoveValue)
+sent point from to es = if is_no_place to || is_place from to then es else es ++ (point, record { from = from; to = to }) ∷ []
+
+-- the allocatable registers, and for each class the order of their use, the newest first
+pub record RegistersValue : Type 0 where
+  pub allocatable : PRegSet
+  pub rings : List (List Register)
+
+abbrev pub ring_of : RegistersValue → RegClass → List Register
+ring_of t class = slice_index_or t.rings (class_code class) []
+
+-- the ring of each class has its allocatable registers
+pub record AreRings (t : RegistersValue) : Type 0 where
+  pub three : length t.rings ≡ 3
+  pub of_class : (c : RegClass) (r : Register) → Contains (ring_of t c) r → (r.class ≡ c) × (r.number < 64)
+  pub has : (c : RegClass) (r : Register) → Contains (ring_of t c) r → has_register t.allocatable r ≡ true
+  pub all : (r : Register) → r.number < 64 → has_register t.allocatable r ≡ true → Contains (ring_of t r.class) r
+
+-- the register is the oldest of its class in a set
+pub record IsFoundIn (t : RegistersValue) (class : RegClass) (free : PRegSet) (r : Register) : Type 0 where
+  pub of_class : r.class ≡ class
+  pub small : r.number < 64
+  pub allocatable : has_register t.allocatable r ≡ true
+  pub free_there : has_register free r ≡ true
+
+-- no allocatable register of the class is in the set
+abbrev pub NoneIsFoundIn : RegistersValue → RegClass → PRegSet → Type 0
+NoneIsFoundIn t class free = (r : Register) → r.number < 64 → r.class ≡ class → has_register t.allocatable r ≡ true → has_register free r ≡ false
+
+-- the registers of a class in a set whose numbers are below a bound, each once
+pub record AreThoseBelow (set : PRegSet) (class : RegClass) (bound : ℕ) (regs : List Register) : Type 0 where
+  pub distinct : AreDistinctOf class regs
+  pub small : All (λ r. r.number < bound) regs
+  pub has : All (λ r. has_register set r ≡ true) regs
+  pub all : (r : Register) → r.number < bound → r.class ≡ class → has_register set r ≡ true → Contains regs r
+
+-- a ring of all allocatable registers of a class
+pub record IsRingOf (allocatable : PRegSet) (class : RegClass) (ring : List Register) : Type 0 where
+  pub of_class : (r : Register) → Contains ring r → (r.class ≡ class) × (r.number < 64)
+  pub has : (r : Register) → Contains ring r → has_register allocatable r ≡ true
+  pub all : (r : Register) → r.number < 64 → r.class ≡ class → has_register allocatable r ≡ true → Contains ring r

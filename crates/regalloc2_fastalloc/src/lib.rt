@@ -1,0 +1,165 @@
+//! The fast allocator: one walk from the last instruction to the first, which gives a register to each operand as it meets
+//! it, and moves virtual registers to spill slots where registers run out.
+//!
+//! [`run`] allocates a function. Upstream's module `fastalloc` does the same, reached by its crate's `run`.
+#![tactic(auto)]
+
+ghost use Rattle.std.specs.Prelude.{◌≡◌, ◌<◌, ◌≤◌, ◌^◌, ◌↔◌, ℕ, [], false, length, IfErr, IfOk, OnErr, OnOk};
+ghost use Rattle.regalloc2_function.specs.FunctionValue.{operand_count};
+ghost use Rattle.regalloc2_function.specs.Views.{machine_of, output_of};
+ghost use Rattle.regalloc2_function.specs.OutputValue.{IsInOrder};
+ghost use Rattle.regalloc2_function.specs.Faithful.{ConstraintsMet, EditsAreListed};
+ghost use Rattle.regalloc2_function.specs.WellFormed.{IsWellFormed};
+ghost use Rattle.regalloc2_function.specs.Fitting.{MachineFits, PlacesAreProper};
+ghost use Rattle.regalloc2_fastalloc.specs.Reason.{IsReason, PassesAll};
+
+use regalloc2_function::{Function, MachineEnv, Output, count_operands};
+use regalloc2_names::RegAllocError;
+use regalloc2_shape::ssa::test_definitions;
+use std::alloc::{Allocator, Global};
+
+mod allocs;
+mod edits;
+mod places;
+mod profile;
+mod registers;
+mod slots;
+mod state;
+mod steps;
+mod walk;
+
+use profile::{test_operands, test_straight_block};
+
+/// An algorithm of register allocation. Upstream has a second one, `Ion`, which is left out.
+#[derive(Clone, Copy, Debug, Default, PartialEq, Eq)]
+pub enum Algorithm {
+    /// The fast allocator: one backward walk, and a spill slot for each virtual register that needs one.
+    #[default]
+    Fastalloc,
+}
+
+/// How to allocate.
+#[derive(Clone, Copy, Debug, Default, PartialEq, Eq)]
+pub struct RegallocOptions {
+    /// Whether to test that the function is well-formed. Else the caller answers for that.
+    pub validate_ssa: bool,
+    /// By which algorithm.
+    pub algorithm: Algorithm,
+}
+
+/// What is kept between allocations: the newest output, and the allocator that outputs are made with.
+#[derive(Drop)]
+pub struct Ctx<A: Allocator = Global> {
+    /// What the newest call that wasn't refused gave; at first an output of no instructions.
+    pub output: Output<A>,
+    alloc: A,
+}
+
+impl<A: Allocator + Copy> Ctx<A> {
+    /// A context with an output of no instructions, of which all later ones take their memory from `alloc`.
+    pub fn new(alloc: A) -> Ctx<A>
+        ensures { output_of result.output ≡ record { num_spillslots = 0; edits = []; allocs = []; offsets = []; debug_locations = [] } }
+    {
+        Ctx {
+            output: Output::new(alloc),
+            alloc,
+        }
+    }
+}
+
+/// Allocates registers to a function.
+///
+/// The machine suits the function (`machine_fits` tests that). Where `options.validate_ssa` is false the function is
+/// well-formed; else that is tested. The output is in order; each operand's place is proper and meets its constraint, also in
+/// instructions that no path reaches; each end of a move is proper; and each move is listed, none after the last
+/// instruction of a block.
+///
+/// Refused are, in this order: 2^32 operands or more, by `TooManyOperands`; a function that isn't one straight block, by `BB`
+/// with block 0; where `options.validate_ssa` is true, definitions and then uses that aren't sound, by `SSA` as
+/// `test_definitions` says; an operand other than a late definition or an early use under `Reg`, or a clobber, by `Unsupported`
+/// with the first such instruction. Only after all these tests comes `TooManyLiveRegs`, where an instruction asks for more
+/// registers than there are, or `TooManySpillSlots`, where a slot would end past 2^24. `Memory` comes where memory was refused;
+/// the first two tests ask for none.
+///
+/// The contract doesn't say which registers are chosen, nor how many moves are made. Upstream's `run` makes the same tests in
+/// another order, and takes functions of any blocks and operands.
+pub fn run<A: Allocator + Copy, F: Function, B: Allocator>(
+    alloc: A,
+    f: &F,
+    env: &MachineEnv<B>,
+    options: &RegallocOptions,
+) -> Result<Output<A>, RegAllocError>
+    requires machine { MachineFits (F.function f.now) (machine_of env.now) }
+    requires well_formed { options.now.validate_ssa ≡ false → IsWellFormed (machine_of env.now) (F.function f.now) }
+    ensures in_order { IfOk result (λ out. IsInOrder (F.function f.now) (output_of out)) }
+    ensures constraints { IfOk result (λ out. (i : ℕ) → i < length (F.function f.now).insts →
+        ConstraintsMet (F.function f.now) (machine_of env.now) (output_of out) i) }
+    ensures proper { IfOk result (λ out. PlacesAreProper (F.function f.now) (machine_of env.now) (output_of out)) }
+    ensures listed { IfOk result (λ out. EditsAreListed (F.function f.now) (output_of out)) }
+    ensures tested { OnOk result (IsWellFormed (machine_of env.now) (F.function f.now)) }
+    ensures owed { OnOk result (PassesAll (F.function f.now) (machine_of env.now) options.now.validate_ssa) }
+    ensures refused { IfErr result (IsReason (F.function f.now) (machine_of env.now) options.now.validate_ssa) }
+    ensures many_operands { (result ≡ Err RegAllocError.TooManyOperands) ↔ (2 ^ 32 ≤ operand_count (F.function f.now)) }
+{
+    if count_operands(f).is_none() {
+        return Err(RegAllocError::TooManyOperands);
+    }
+    test_straight_block(f)?;
+    if options.validate_ssa {
+        test_definitions(alloc, f)?;
+    }
+    test_operands(f)?;
+    walk::allocate(alloc, f, env)
+}
+
+/// Allocates registers to a function, and puts the output into `ctx.output`.
+///
+/// Conditions, output and refusals are those of [`run`]. A refusal leaves `ctx.output`. Upstream has this within
+/// `run_with_ctx`, whose result borrows from the context, so that no contract can say there what a refusal leaves.
+pub fn run_into_ctx<A: Allocator + Copy, F: Function, B: Allocator>(
+    f: &F,
+    env: &MachineEnv<B>,
+    options: &RegallocOptions,
+    ctx: &mut Ctx<A>,
+) -> Result<(), RegAllocError>
+    requires machine { MachineFits (F.function f.now) (machine_of env.now) }
+    requires well_formed { options.now.validate_ssa ≡ false → IsWellFormed (machine_of env.now) (F.function f.now) }
+    ensures in_order { OnOk result (IsInOrder (F.function f.now) (output_of ctx.new.output)) }
+    ensures constraints { OnOk result ((i : ℕ) → i < length (F.function f.now).insts →
+        ConstraintsMet (F.function f.now) (machine_of env.now) (output_of ctx.new.output) i) }
+    ensures proper { OnOk result (PlacesAreProper (F.function f.now) (machine_of env.now) (output_of ctx.new.output)) }
+    ensures listed { OnOk result (EditsAreListed (F.function f.now) (output_of ctx.new.output)) }
+    ensures tested { OnOk result (IsWellFormed (machine_of env.now) (F.function f.now)) }
+    ensures owed { OnOk result (PassesAll (F.function f.now) (machine_of env.now) options.now.validate_ssa) }
+    ensures refused { IfErr result (IsReason (F.function f.now) (machine_of env.now) options.now.validate_ssa) }
+    ensures many_operands { (result ≡ Err RegAllocError.TooManyOperands) ↔ (2 ^ 32 ≤ operand_count (F.function f.now)) }
+    ensures kept { OnErr result (ctx.new.output ≡ ctx.old.output) }
+{
+    ctx.output = run(ctx.alloc, f, env, options)?;
+    Ok(())
+}
+
+/// Allocates registers to a function, puts the output into `ctx.output` and lends it.
+///
+/// It is [`run_into_ctx`] and a loan; a refusal leaves `ctx.output`, as is said there.
+pub fn run_with_ctx<'c, A: Allocator + Copy, F: Function, B: Allocator>(
+    f: &F,
+    env: &MachineEnv<B>,
+    options: &RegallocOptions,
+    ctx: &'c mut Ctx<A>,
+) -> Result<&'c Output<A>, RegAllocError>
+    requires machine { MachineFits (F.function f.now) (machine_of env.now) }
+    requires well_formed { options.now.validate_ssa ≡ false → IsWellFormed (machine_of env.now) (F.function f.now) }
+    ensures in_order { IfOk result (λ out. IsInOrder (F.function f.now) (output_of out.now)) }
+    ensures constraints { IfOk result (λ out. (i : ℕ) → i < length (F.function f.now).insts →
+        ConstraintsMet (F.function f.now) (machine_of env.now) (output_of out.now) i) }
+    ensures proper { IfOk result (λ out. PlacesAreProper (F.function f.now) (machine_of env.now) (output_of out.now)) }
+    ensures listed { IfOk result (λ out. EditsAreListed (F.function f.now) (output_of out.now)) }
+    ensures tested { OnOk result (IsWellFormed (machine_of env.now) (F.function f.now)) }
+    ensures owed { OnOk result (PassesAll (F.function f.now) (machine_of env.now) options.now.validate_ssa) }
+    ensures refused { IfErr result (IsReason (F.function f.now) (machine_of env.now) options.now.validate_ssa) }
+    ensures many_operands { (result ≡ Err RegAllocError.TooManyOperands) ↔ (2 ^ 32 ≤ operand_count (F.function f.now)) }
+{
+    run_into_ctx(f, env, options, ctx)?;
+    Ok(&ctx.output)
+}

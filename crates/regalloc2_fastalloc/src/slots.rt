@@ -1,0 +1,107 @@
+//! Spill slots.
+
+ghost use Rattle.std.specs.Prelude.{◌≡◌, ℕ, ◌+◌, ◌-◌, ◌<◌, ◌≤◌, length, IfOk, IfErr, if◌then◌else◌, slice_index};
+ghost use Rattle.std.specs.Int.{next_multiple_of};
+ghost use Rattle.regalloc2_names.specs.Register.{class_code};
+ghost use Rattle.regalloc2_fastalloc.specs.Tables.{AreOwned, GivesSlot, no_slots, slot_end, slot_name, most_units};
+
+use regalloc2_names::{Allocation, RegAllocError, RegClass, SpillSlot, VReg};
+use std::alloc::Allocator;
+use std::marker::Model;
+
+/// The spill slots: that of each vreg, and how many units they take.
+#[derive(Drop)]
+pub struct Slots<A: Allocator> {
+    /// By vreg number.
+    of_vreg: Vec<Allocation, A>,
+    /// How many units the slots take so far.
+    count: usize,
+    /// How many units a slot of each class takes.
+    sizes: [usize; 3],
+    /// Whether a slot is named by its last unit.
+    by_last: bool,
+}
+
+impl<A: Allocator> Model for Slots<A> {
+    ghost use Rattle.regalloc2_fastalloc.specs.Tables.{SlotsValue, AreOwned};
+
+    ghost Value = { SlotsValue };
+
+    ghost view = { λ s. record { of_vreg = s.of_vreg.items; count = s.count; sizes = s.sizes; by_last = s.by_last } };
+
+    ghost invariant = { λ s. AreOwned (record { of_vreg = s.of_vreg.items; count = s.count; sizes = s.sizes; by_last = s.by_last }) };
+}
+
+impl<A: Allocator> Slots<A> {
+    /// No slots, for so many vregs.
+    pub fn new(
+        alloc: A,
+        vregs: usize,
+        sizes: [usize; 3],
+        by_last: bool,
+    ) -> Result<Self, RegAllocError>
+        requires sizes { (c : ℕ) → c < 3 → 0 < slice_index sizes c × slice_index sizes c ≤ most_units }
+        ensures empty { IfOk result (λ s. s ≡ no_slots vregs sizes by_last) }
+        ensures err { IfErr result (λ e. e ≡ RegAllocError.Memory) }
+    {
+        let of_vreg = vec![in alloc; Allocation::none(); vregs]?;
+        Ok(Slots {
+            of_vreg,
+            count: 0,
+            sizes,
+            by_last,
+        })
+    }
+
+    /// How many units the slots take.
+    pub fn count(&self) -> usize
+        ensures count { result ≡ self.now.count }
+        ensures owned { AreOwned self.now }
+    {
+        self.count
+    }
+
+    /// The vreg's slot, if it has one, else none.
+    pub fn find(&self, vreg: VReg) -> Allocation
+        requires { vreg.number < length self.now.of_vreg }
+        ensures slot { result ≡ slot_name self.now vreg.number }
+        ensures owned { AreOwned self.now }
+    {
+        self.of_vreg[vreg.vreg()]
+    }
+
+    /// The vreg's slot, which is made if it has none. Refused, with `TooManySpillSlots`, where it would end past the
+    /// greatest number of units.
+    pub fn slot_of(&mut self, vreg: VReg) -> Result<Allocation, RegAllocError>
+        requires { vreg.number < length self.old.of_vreg }
+        ensures ok { IfOk result (λ p. GivesSlot self.old self.new vreg p) }
+        ensures full { IfErr result (λ e. (e ≡ RegAllocError.TooManySpillSlots) × (self.new ≡ self.old) × (most_units < slot_end self.old vreg.class)) }
+        ensures owned { AreOwned self.new }
+    {
+        let number = vreg.vreg();
+        let had = self.of_vreg[number];
+        if had.is_some() {
+            return Ok(had);
+        }
+        let size = self.sizes[vreg.class() as usize];
+        let start = self.count.next_multiple_of(size);
+        let end = start + size;
+        if end > SpillSlot::MAX + 1 {
+            return Err(RegAllocError::TooManySpillSlots);
+        }
+        let slot = Allocation::stack(SpillSlot::new(named_unit(start, size, self.by_last)));
+        self.of_vreg[number] = slot;
+        self.count = end;
+        Ok(slot)
+    }
+}
+
+/// The unit that names the slot of so many units from `start` on.
+fn named_unit(start: usize, size: usize, by_last: bool) -> usize
+    requires size { 0 < size }
+    requires few { start + size ≤ most_units }
+    ensures unit { result ≡ (if by_last then start + size - 1 else start) }
+    ensures within { start ≤ result × result < start + size }
+{
+    if by_last { start + size - 1 } else { start }
+}

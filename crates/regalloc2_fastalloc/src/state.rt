@@ -1,0 +1,61 @@
+//! The tables of the walk.
+
+ghost use Rattle.std.specs.Prelude.{◌≡◌, ◌<◌, length, true, IfOk, IfErr, [], ◌∷◌};
+ghost use Rattle.regalloc2_names.specs.Register.{Register};
+ghost use Rattle.regalloc2_names.specs.RegisterSet.{has_register};
+ghost use Rattle.regalloc2_function.specs.FunctionValue.{slot_size};
+ghost use Rattle.regalloc2_function.specs.Machine.{is_allocatable};
+ghost use Rattle.regalloc2_function.specs.Fitting.{MachineFits};
+ghost use Rattle.regalloc2_function.specs.Views.{machine_of};
+ghost use Rattle.regalloc2_fastalloc.specs.Tables.{nobody_stands, no_slots};
+
+use super::edits::Edits;
+use super::places::Places;
+use super::registers::Registers;
+use super::slots::Slots;
+use regalloc2_function::{Function, MachineEnv};
+use regalloc2_names::{RegAllocError, RegClass};
+use std::alloc::Allocator;
+
+/// The tables of the walk over the instructions, which goes from the last to the first.
+#[derive(Drop)]
+pub struct State<A: Allocator> {
+    pub places: Places<A>,
+    pub slots: Slots<A>,
+    pub edits: Edits<A>,
+    pub registers: Registers<A>,
+    pub ghost same_long: { length slots.of_vreg ≡ length places.stands },
+}
+
+impl<A: Allocator + Copy> State<A> {
+    /// The tables before the walk.
+    pub fn new<F: Function, B: Allocator>(
+        alloc: A,
+        f: &F,
+        env: &MachineEnv<B>,
+    ) -> Result<Self, RegAllocError>
+        requires { MachineFits (F.function f.now) (machine_of env.now) }
+        ensures places { IfOk result (λ s. s.places ≡ nobody_stands (F.function f.now).num_vregs) }
+        ensures slots { IfOk result (λ s. (let sizes = (F.function f.now).slot_sizes in
+            s.slots ≡ no_slots (F.function f.now).num_vregs (slot_size sizes RegClass.Int ∷ slot_size sizes RegClass.Float ∷ slot_size sizes RegClass.Vector ∷ []) (F.function f.now).named_by_last_slot)) }
+        ensures edits { IfOk result (λ s. s.edits ≡ []) }
+        ensures registers { IfOk result (λ s. (r : Register) → r.number < 64 → has_register s.registers.allocatable r ≡ true → is_allocatable (machine_of env.now) r.class r ≡ true) }
+        ensures err { IfErr result (λ e. e ≡ RegAllocError.Memory) }
+    {
+        let vregs = f.num_vregs();
+        let sizes = [
+            f.spillslot_size(RegClass::Int),
+            f.spillslot_size(RegClass::Float),
+            f.spillslot_size(RegClass::Vector),
+        ];
+        let places = Places::new(alloc, vregs)?;
+        let slots = Slots::new(alloc, vregs, sizes, f.multi_spillslot_named_by_last_slot())?;
+        let registers = Registers::new(alloc, env)?;
+        Ok(State {
+            places,
+            slots,
+            edits: Edits::new(alloc),
+            registers,
+        })
+    }
+}

@@ -1,0 +1,32 @@
+//! What a listing carries for one virtual register, and from blocks to paths.
+//!
+//! A crate of laws: the public face is what its functions ensure, and the lemmas of `proofs/`.
+#![tactic(auto)]
+
+ghost use Rattle.regalloc2_flow.specs.Blocks.{BlocksAgree, BlocksAgreeByPoints};
+ghost use Rattle.regalloc2_flow.specs.Laws.{FaithfulWhereReadsAgree};
+ghost use Rattle.regalloc2_flow.specs.Sound.{WellFormedAreSound};
+ghost use Rattle.regalloc2_flow.specs.Straight.{StraightAgrees, StraightAgreesByPoints};
+
+/// A law: where reads agree on every path, every instruction's constraints are met and no move joins two places in memory, the output is faithful.
+pub fn is_faithful_where_reads_agree()
+    ensures { FaithfulWhereReadsAgree }
+{}
+
+/// A law: in a function of one straight block, reads agree on every path where the block's listing carries each virtual register.
+pub fn agrees_in_a_straight_block()
+    ensures listing { StraightAgrees }
+    ensures by_points { StraightAgreesByPoints }
+{}
+
+/// A law: where no path reads before writing, reads agree on every path if each block carries each virtual register
+/// from its slot to its slot, and to the slots of the parameters that it is passed to.
+pub fn agrees_where_blocks_carry()
+    ensures listing { BlocksAgree }
+    ensures by_points { BlocksAgreeByPoints }
+{}
+
+/// A law: a well-formed function has what the law on blocks wants.
+pub fn is_sound_where_well_formed()
+    ensures { WellFormedAreSound }
+{}

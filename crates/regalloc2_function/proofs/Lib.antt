@@ -1,0 +1,9 @@
+pub mod RunLaws
+pub mod Rows
+pub mod ValueLaws
+pub mod CellLaws
+pub mod Steps
+pub mod ListingLaws
+pub mod Tests
+pub mod OrderLaws
+pub mod Following

@@ -1,0 +1,141 @@
+-- Writes are found only after they are made.
+use Rattle.std.proofs.Common.{ℕ, suc, ◌≡◌, ◌+◌, ◌<◌, Bool, true, false, cond, List, [], ◌∷◌, length, refl, arith, ◌∙◌}
+use Rattle.std.specs.Prelude.{Option, None, Some, ◌&&◌, not}
+use Rattle.regalloc2_names.specs.declared.sets.PRegSet.{PRegSet}
+use Rattle.regalloc2_names.specs.Register.{VirtualRegister, is_vreg}
+use Rattle.regalloc2_names.specs.RegisterSet.{has_register}
+use Rattle.regalloc2_names.specs.Operand.{OperandValue}
+use Rattle.regalloc2_names.specs.Place.{Place, NoPlace, InRegister, InSlot, is_place}
+use Rattle.regalloc2_function.specs.FunctionValue.{FunctionValue}
+use Rattle.regalloc2_function.specs.OutputValue.{OutputValue, MoveValue, place_at}
+use Rattle.regalloc2_function.specs.Path.{Way, Onward, ToSuccessor, Location, end_of, last_inst}
+use Rattle.regalloc2_function.specs.SourceRun.{Stamp, Source, assigned, after_defs, passed, over_edge, source_before, is_def, is_late}
+use Rattle.regalloc2_function.specs.AllocatedRun.{Cells, stored, after_moves, after_early_defs, after_writes, after_clobbers, cells_early, cells_before}
+use Rattle.regalloc2_function.specs.Laws.{SourceIsEarlier, CellsAreEarlier, MissingHoldsNothing}
+
+-- what is found was made before step n
+record Below {K : Type 0} (n : ℕ) (m : K → Option Stamp) : Type 0 where
+  below : (q : K) (s : Stamp) → m q ≡ Some s → s.step < n
+
+-- a choice of two that are both below
+chosen : {K : Type 0} (b : Bool) (n : ℕ) (m l : K → Option Stamp) → Below n m → Below n l → Below n (cond b m l)
+chosen true n m l h g = h
+chosen false n m l h g = g
+
+either : (b : Bool) (n : ℕ) (x y : Option Stamp) (s : Stamp) → ((s : Stamp) → x ≡ Some s → s.step < n) → ((s : Stamp) → y ≡ Some s → s.step < n) → cond b x y ≡ Some s → s.step < n
+either true n x y s h g e = h s e
+either false n x y s h g e = g s e
+
+some_below : (n : ℕ) (t s : Stamp) → t.step < n → Some t ≡ Some s → s.step < n
+some_below n t s h e = let q : t ≡ s = cc in rw (← q) h
+
+assigned-Below : (n : ℕ) (m : Source) (v : VirtualRegister) (x : Option Stamp) → Below n m → ((s : Stamp) → x ≡ Some s → s.step < n) → Below n (assigned m v x)
+assigned-Below n m v x h g = record { below = λ q s e. either (is_vreg v q) n x (m q) s g (h.below q) e }
+
+after_defs-Below : (n k : ℕ) (os : List OperandValue) (m : Source) → Below (suc n) m → Below (suc n) (after_defs n k os m)
+unfolding after_defs
+after_defs-Below n k [] m h = h
+after_defs-Below n k (o ∷ os) m h =
+    after_defs-Below n (k + 1) os _ (chosen (is_def o.kind) (suc n) _ m (assigned-Below (suc n) m o.vreg _ h (λ s e. some_below (suc n) (record { step = n; operand = k }) s (omega arith) e)) h)
+
+passed-Below : (n : ℕ) (ps xs : List VirtualRegister) (old new : Source) → Below n old → Below n new → Below n (passed ps xs old new)
+unfolding passed
+passed-Below n [] xs old new h g = g
+passed-Below n (p ∷ ps) [] old new h g = g
+passed-Below n (p ∷ ps) (x ∷ xs) old new h g = passed-Below n ps xs old (assigned new p (old x)) h (assigned-Below n new p (old x) g (h.below x))
+
+over_edge-Below : (n : ℕ) (f : FunctionValue) (l : Location) (w : Way) (m : Source) → Below n m → Below n (over_edge f l w m)
+unfolding over_edge
+over_edge-Below n f l Onward m h = h
+over_edge-Below n f l (ToSuccessor k) m h = passed-Below n _ _ m m h h
+
+more : {K : Type 0} (n : ℕ) (m : K → Option Stamp) → Below n m → Below (suc n) m
+more n m h = record { below = λ q s e. omega (arith, h.below q s e) }
+
+source_before-Below : (f : FunctionValue) (ws : List Way) → Below (length ws) (source_before f ws)
+unfolding source_before
+source_before-Below f [] = record { below = λ q s e. absurd cc }
+source_before-Below f (w ∷ ws) =
+    let h : Below (suc (length ws)) (after_defs (length ws) 0 (last_inst f ws).operands (source_before f ws)) = after_defs-Below (length ws) 0 _ _ (more (length ws) _ (source_before-Below f ws)) in
+    over_edge-Below (suc (length ws)) f (end_of f ws) w _ h
+
+pub source_is_earlier : SourceIsEarlier
+source_is_earlier f ws v s e = (source_before-Below f ws).below v s e
+
+-- the cells
+
+stored-Below : (n : ℕ) (c : Cells) (p : Place) (x : Option Stamp) → Below n c → ((s : Stamp) → x ≡ Some s → s.step < n) → Below n (stored c p x)
+unfolding stored
+stored-Below n c NoPlace x h g = h
+stored-Below n c (InRegister r) x h g = record { below = λ q s e. either (is_place (InRegister r) q) n x (c q) s g (h.below q) e }
+stored-Below n c (InSlot k) x h g = record { below = λ q s e. either (is_place (InSlot k) q) n x (c q) s g (h.below q) e }
+
+after_moves-Below : (n : ℕ) (ms : List MoveValue) (c : Cells) → Below n c → Below n (after_moves ms c)
+unfolding after_moves
+after_moves-Below n [] c h = h
+after_moves-Below n (m ∷ ms) c h = after_moves-Below n ms _ (stored-Below n c m.to (c m.from) h (h.below m.from))
+
+after_early_defs-Below : (n : ℕ) (ps : List Place) (k : ℕ) (os : List OperandValue) (c : Cells) → Below n c → Below n (after_early_defs ps k os c)
+unfolding after_early_defs
+after_early_defs-Below n ps k [] c h = h
+after_early_defs-Below n ps k (o ∷ os) c h =
+    after_early_defs-Below n ps (k + 1) os _ (chosen (is_def o.kind && not (is_late o.position)) n _ c (stored-Below n c (place_at ps k) None h (λ s e. absurd cc)) h)
+
+after_writes-Below : (n : ℕ) (ps : List Place) (k : ℕ) (os : List OperandValue) (c : Cells) → Below (suc n) c → Below (suc n) (after_writes ps n k os c)
+unfolding after_writes
+after_writes-Below n ps k [] c h = h
+after_writes-Below n ps k (o ∷ os) c h =
+    after_writes-Below n ps (k + 1) os _
+    (chosen (is_def o.kind) (suc n) _ c (stored-Below (suc n) c (place_at ps k) _ h (λ s e. some_below (suc n) (record { step = n; operand = k }) s (omega arith) e)) h)
+
+after_clobbers-Below : (n : ℕ) (clobbers : PRegSet) (c : Cells) → Below n c → Below n (after_clobbers clobbers c)
+unfolding after_clobbers
+after_clobbers-Below n clobbers c h = record { below = at }
+  where
+    at : (q : Place) (s : Stamp) → after_clobbers clobbers c q ≡ Some s → s.step < n
+    at NoPlace s e = h.below NoPlace s e
+    at (InRegister r) s e = either (has_register clobbers r) n None (c (InRegister r)) s (λ t d. absurd cc) (h.below (InRegister r)) e
+    at (InSlot k) s e = h.below (InSlot k) s e
+
+cells_before-Below : (f : FunctionValue) (o : OutputValue) (ws : List Way) → Below (length ws) (cells_before f o ws)
+unfolding cells_before
+cells_before-Below f o [] = record { below = λ q s e. absurd cc }
+cells_before-Below f o (w ∷ ws) =
+    let h : Below (length ws) (cells_early f o (end_of f ws) (cells_before f o ws)) = after_early_defs-Below (length ws) _ 0 _ _ (after_moves-Below (length ws) _ _ (cells_before-Below f o ws)) in
+    after_clobbers-Below (suc (length ws)) _ _ (after_writes-Below (length ws) _ 0 _ _ (more (length ws) _ h))
+
+pub cells_are_earlier : CellsAreEarlier
+cells_are_earlier f o ws p s e = (cells_before-Below f o ws).below p s e
+
+-- missing places
+
+stored-missing : (c : Cells) (p : Place) (x : Option Stamp) → stored c p x NoPlace ≡ c NoPlace
+unfolding stored
+stored-missing c NoPlace x = refl
+stored-missing c (InRegister r) x = refl
+stored-missing c (InSlot n) x = refl
+
+cond-missing : (b : Bool) (c d : Cells) → c NoPlace ≡ d NoPlace → (cond b c d) NoPlace ≡ d NoPlace
+cond-missing true c d e = e
+cond-missing false c d e = refl
+
+after_moves-missing : (ms : List MoveValue) (c : Cells) → after_moves ms c NoPlace ≡ c NoPlace
+unfolding after_moves
+after_moves-missing [] c = refl
+after_moves-missing (m ∷ ms) c = after_moves-missing ms _ ∙ stored-missing c m.to (c m.from)
+
+after_early_defs-missing : (ps : List Place) (k : ℕ) (os : List OperandValue) (c : Cells) → after_early_defs ps k os c NoPlace ≡ c NoPlace
+unfolding after_early_defs
+after_early_defs-missing ps k [] c = refl
+after_early_defs-missing ps k (o ∷ os) c = after_early_defs-missing ps (k + 1) os _ ∙ cond-missing (is_def o.kind && not (is_late o.position)) _ c (stored-missing c (place_at ps k) None)
+
+after_writes-missing : (ps : List Place) (n k : ℕ) (os : List OperandValue) (c : Cells) → after_writes ps n k os c NoPlace ≡ c NoPlace
+unfolding after_writes
+after_writes-missing ps n k [] c = refl
+after_writes-missing ps n k (o ∷ os) c = after_writes-missing ps n (k + 1) os _ ∙ cond-missing (is_def o.kind) _ c (stored-missing c (place_at ps k) _)
+
+pub missing_holds_nothing : MissingHoldsNothing
+unfolding cells_before after_clobbers
+missing_holds_nothing f o [] = refl
+missing_holds_nothing f o (w ∷ ws) =
+    after_writes-missing _ (length ws) 0 _ _ ∙ after_early_defs-missing _ 0 _ _ ∙ after_moves-missing _ _ ∙ missing_holds_nothing f o ws

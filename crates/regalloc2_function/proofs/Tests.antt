@@ -1,0 +1,38 @@
+-- Tests that answer exactly where a fact holds.
+use Rattle.std.proofs.Common.{◌≡◌, Bool, true, false, not, IsTrue, refl}
+use Rattle.regalloc2_names.specs.declared.RegClass.{RegClass}
+use Rattle.regalloc2_names.specs.declared.RegClass.TheVariants.{Int, Float, Vector}
+use Rattle.std.specs.Bool.{OnTrue, OnFalse}
+
+-- where such a test answers no, the fact doesn't hold
+pub not_so : {P : Type 0} (b : Bool) → b ≡ false → (P → IsTrue b) → P → ⊥
+not_so b e f p = let t : b ≡ true = f p in cc
+
+pub never_true : IsTrue false → ⊥
+never_true t = cc
+
+pub no_of : (b : Bool) → IsTrue (not b) → b ≡ false
+no_of true e = absurd cc
+no_of false e = refl
+
+pub is_not : (b : Bool) → (IsTrue b → ⊥) → IsTrue (not b)
+is_not true h = absurd (h refl)
+is_not false h = refl
+
+-- what holds where a test answers yes, and where it answers no
+pub holds_at : {P : Type 0} (b : Bool) → b ≡ true → OnTrue b P → P
+holds_at true e h = h
+holds_at false e h = absurd cc
+
+pub none_at : {P : Type 0} (b : Bool) → b ≡ false → OnFalse b P → P
+none_at true e h = absurd cc
+none_at false e h = h
+
+pub true_is_not_false : (b : Bool) → b ≡ true → b ≡ false → ⊥
+true_is_not_false b t f = cc
+
+-- what holds of each class by name holds of every class
+pub by_class : (P : RegClass → Type 0) → P Int → P Float → P Vector → (c : RegClass) → P c
+by_class P i f v Int = i
+by_class P i f v Float = f
+by_class P i f v Vector = v

@@ -1,0 +1,24 @@
+use Rattle.std.proofs.Common.{◌<◌, length, refl, arith, below_more}
+use Rattle.regalloc2_function.specs.FunctionValue.{FunctionValue, block_at}
+use Rattle.regalloc2_function.specs.WellFormed.{FollowsAt}
+use Rattle.regalloc2_function.proofs.framed.test_blocks.Goals as goal
+
+pub returns-then-not-follows-clause-ok : goal.returns-then-not-follows-clause-ok
+returns-then-not-follows-clause-ok g c =
+    let f : FunctionValue = g.F.Function.function c.args.f.now in
+    let less : c.loop-b.b < length f.blocks = omega (arith, c.loop-b.invariant.within) in
+    (λ h. absurd cc, λ all. let yes = c.follows.ensures.1 (rw c.new-block.ensures (all c.loop-b.b less)) in absurd cc)
+
+pub returns-then-not-follows-clause-first : goal.returns-then-not-follows-clause-first
+returns-then-not-follows-clause-first g c =
+    let f : FunctionValue = g.F.Function.function c.args.f.now in
+    let less : c.new-block.result < length f.blocks = omega (arith, c.loop-b.invariant.within, c.new-block.ensures) in
+    (c.new-block.result, refl, (less, λ h. let yes = c.follows.ensures.1 h in absurd cc, λ m low. c.loop-b.invariant.so_far m (omega (arith, c.new-block.ensures))))
+
+pub loop-b-preserved : goal.loop-b-preserved
+loop-b-preserved g c =
+    let f : FunctionValue = g.F.Function.function c.args.f.now in
+    record {
+      within = c.loop-b.invariant.within;
+      so_far = below_more (λ n. FollowsAt f n (block_at f n)) _ c.loop-b.invariant.so_far (rw c.new-block.ensures at (c.follows.ensures.0 c.if-not-follows.false));
+    }

@@ -1,0 +1,28 @@
+use Rattle.std.proofs.Common.{ℕ, ◌≡◌, ◌<◌, ◌≤◌, length, refl, below_more, arith}
+use Rattle.regalloc2_function.specs.FunctionValue.{FunctionValue, block_at}
+use Rattle.regalloc2_function.specs.WellFormed.{EndsAt}
+use Rattle.regalloc2_function.proofs.Following.{end_within}
+use Rattle.regalloc2_function.proofs.framed.test_ends.Goals as goal
+
+pub ends-requires-clause-within : goal.ends-requires-clause-within
+ends-requires-clause-within g c =
+    let f : FunctionValue = g.F.Function.function c.args.f.now in
+    let less : c.new-open.result < length f.blocks = omega (arith, c.loop-b.invariant.within, c.new-open.ensures) in
+    end_within f c.requires c.new-open.result less
+
+pub returns-then-not-ends-clause-first : goal.returns-then-not-ends-clause-first
+returns-then-not-ends-clause-first g c =
+    let f : FunctionValue = g.F.Function.function c.args.f.now in
+    let less : c.new-open.result < length f.blocks = omega (arith, c.loop-b.invariant.within, c.new-open.ensures) in
+    (c.new-open.result, refl, (less, λ h. let yes' = c.ends.ensures.1 h in absurd cc, λ m low. c.loop-b.invariant.so_far m (omega (arith, c.new-open.ensures))))
+
+pub loop-b-preserved : goal.loop-b-preserved
+loop-b-preserved g c =
+    let f : FunctionValue = g.F.Function.function c.args.f.now in
+    record {
+      within = c.loop-b.invariant.within;
+      so_far = below_more (λ n. EndsAt f n (block_at f n)) _ c.loop-b.invariant.so_far (rw c.new-open.ensures at (c.ends.ensures.0 c.if-not-ends.false));
+    }
+
+pub returns-clause-ok : goal.returns-clause-ok
+returns-clause-ok g c = (λ h n less. c.loop-b.invariant.so_far n (omega (arith, c.loop-b.invariant.within)), λ h. refl)

@@ -1,0 +1,15 @@
+use Rattle.std.proofs.Common.{arith, below_more, inl, inr}
+use Rattle.regalloc2_function.proofs.Tests.{not_so, never_true}
+use Rattle.regalloc2_function.proofs.machine.blocks_name.Goals as goal
+
+pub loop-b-preserved : goal.loop-b-preserved
+loop-b-preserved g c =
+    let params = not_so _ c.if-vregs_name.false c.vregs_name.ensures.1 in
+    let arguments = not_so _ c.if-arguments_name.false c.arguments_name.ensures.1 in
+    record {
+      whole = c.num_blocks-b-end.ensures.count;
+      none = below_more _ _ c.loop-b.invariant.none (rw (← c.new-block.ensures) (λ h. elim h [ inl p ↦ params (rw c.block_params.ensures p) | inr a ↦ arguments a ]));
+    }
+
+pub returns : goal.returns
+returns g c = (λ t. absurd (never_true t), λ h. absurd (c.loop-b.invariant.none h.0 (omega (arith, h.1, c.loop-b-test.false, c.loop-b.invariant.whole)) h.2))

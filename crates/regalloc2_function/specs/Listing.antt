@@ -1,0 +1,26 @@
+-- A block's listing: its instructions, each after the moves that run before it.
+use Rattle.std.specs.Prelude.{ℕ, zero, suc, ◌+◌, ◌-◌, nat_le, if◌then◌else◌, List, [], ◌∷◌, ◌++◌, map}
+use Rattle.regalloc2_names.specs.Point.{before}
+use Rattle.regalloc2_function.specs.FunctionValue.{FunctionValue, block_at}
+use Rattle.regalloc2_function.specs.OutputValue.{OutputValue, MoveValue, moves_before}
+
+-- an item of a listing
+pub data Listed : Type 0 where
+  ListedInst : ℕ → Listed
+  ListedMove : MoveValue → Listed
+
+-- the listing of so many instructions of a block from one on; the block begins at first
+unfoldable pub listing_from : OutputValue → ℕ → ℕ → ℕ → List Listed
+listing_from o first i zero = []
+listing_from o first i (suc n) = map (λ m. ListedMove m) (moves_before o first i) ++ (ListedInst i ∷ listing_from o first (i + 1) n)
+
+-- the listing of a block
+abbrev pub block_listing : FunctionValue → OutputValue → ℕ → List Listed
+block_listing f o b = listing_from o (block_at f b).range.first (block_at f b).range.first ((block_at f b).range.end - (block_at f b).range.first)
+
+-- what is left of a listing where these edits and so many instructions from one on are left
+unfoldable pub listing_left : List (ℕ × MoveValue) → ℕ → ℕ → List Listed
+listing_left [] i zero = []
+listing_left [] i (suc n) = ListedInst i ∷ listing_left [] (i + 1) n
+listing_left (e ∷ es) i zero = []
+listing_left (e ∷ es) i (suc n) = if nat_le e.0 (before i) then ListedMove e.1 ∷ listing_left es i (suc n) else ListedInst i ∷ listing_left (e ∷ es) (i + 1) n

@@ -1,0 +1,48 @@
+-- The registers of a machine, as contracts see them.
+use Rattle.std.specs.Prelude.{Bool, ◌||◌, List, [], ◌∷◌, Contains, Option, None, slice_index_or}
+use Rattle.regalloc2_names.specs.Register.{Register, class_code}
+use Rattle.regalloc2_names.specs.RegisterSet.{has_register}
+use Rattle.regalloc2_names.specs.Place.{Place, NoPlace, InRegister, InSlot}
+use Rattle.regalloc2_names.specs.declared.RegClass.{RegClass}
+use Rattle.regalloc2_names.specs.declared.sets.PRegSet.{PRegSet}
+
+abbrev pub empty_set : PRegSet
+empty_set = record { bits = 0 ∷ 0 ∷ 0 ∷ [] }
+
+-- a machine; the lists by class have three members
+pub record MachineValue : Type 0 where
+  pub preferred : List PRegSet
+  pub non_preferred : List PRegSet
+  pub scratch : List (Option Register)
+  pub fixed_stack_slots : List Register
+
+-- whether a register is among those that are taken first for virtual registers of a class, or among those that are taken then
+abbrev pub is_preferred : MachineValue → RegClass → Register → Bool
+is_preferred env class r = has_register (slice_index_or env.preferred (class_code class) empty_set) r
+
+abbrev pub is_non_preferred : MachineValue → RegClass → Register → Bool
+is_non_preferred env class r = has_register (slice_index_or env.non_preferred (class_code class) empty_set) r
+
+-- whether a register may be allocated to virtual registers of a class
+abbrev pub is_allocatable : MachineValue → RegClass → Register → Bool
+is_allocatable env class r = is_preferred env class r || is_non_preferred env class r
+
+-- the dedicated scratch register of a class
+abbrev pub scratch_of : MachineValue → RegClass → Option Register
+scratch_of env class = slice_index_or env.scratch (class_code class) None
+
+-- whether a register stands for a place in memory
+abbrev pub IsFixedStackSlot : MachineValue → Register → Type 0
+IsFixedStackSlot env r = Contains env.fixed_stack_slots r
+
+-- a place in memory
+abbrev pub IsStackPlace : MachineValue → Place → Type 0
+IsStackPlace env NoPlace = ⊥
+IsStackPlace env (InRegister r) = IsFixedStackSlot env r
+IsStackPlace env (InSlot n) = Unit {0}
+
+-- a register that is no place in memory
+abbrev pub IsPlainRegister : MachineValue → Place → Type 0
+IsPlainRegister env NoPlace = ⊥
+IsPlainRegister env (InRegister r) = IsFixedStackSlot env r → ⊥
+IsPlainRegister env (InSlot n) = ⊥

@@ -1,0 +1,63 @@
+-- What the allocator gives, as contracts see it.
+use Rattle.std.specs.Prelude.{ℕ, ◌≡◌, ◌≢◌, ◌+◌, ◌≤◌, ◌<◌, Bool, ◌&&◌, ◌||◌, nat_eq, nat_lt, if◌then◌else◌, List, length, slice_index, slice_index_or, slice_range, filter, map, All}
+use Rattle.std.specs.List.Sorted.{IsNonDecreasingBy}
+use Rattle.regalloc2_names.specs.Place.{Place, NoPlace}
+use Rattle.regalloc2_names.specs.Point.{before}
+use Rattle.regalloc2_function.specs.FunctionValue.{FunctionValue, inst_at}
+
+-- a move from a place to another
+pub record MoveValue : Type 0 where
+  pub from : Place
+  pub to : Place
+
+-- where a labelled value stands, from a point to a point
+pub record DebugLocation : Type 0 where
+  pub label : ℕ
+  pub start : ℕ
+  pub end : ℕ
+  pub place : Place
+
+-- what the allocator gives: moves by their points, the places of all operands, and where those of each instruction begin
+pub record OutputValue : Type 0 where
+  pub num_spillslots : ℕ
+  pub edits : List (ℕ × MoveValue)
+  pub allocs : List Place
+  pub offsets : List ℕ
+  pub debug_locations : List DebugLocation
+
+-- the offset at which the places of an instruction begin, and that at which they end
+abbrev pub alloc_start : OutputValue → ℕ → ℕ
+alloc_start o i = slice_index o.offsets i
+
+abbrev pub alloc_end : OutputValue → ℕ → ℕ
+alloc_end o i = if nat_eq (i + 1) (length o.offsets) then length o.allocs else slice_index o.offsets (i + 1)
+
+-- the places of an instruction's operands, in operand order
+abbrev pub allocs_of : OutputValue → ℕ → List Place
+allocs_of o i = slice_range o.allocs (alloc_start o i) (alloc_end o i)
+
+-- the place of an operand; it is missing where there is none
+abbrev pub place_at : List Place → ℕ → Place
+place_at places k = slice_index_or places k NoPlace
+
+-- whether an edit is listed before an instruction of a block that begins at first
+abbrev pub is_listed_at : ℕ → ℕ → ℕ → Bool
+is_listed_at first i point = nat_eq point (before i) || (nat_lt first i && nat_eq (point + 1) (before i))
+
+-- the moves that are listed before an instruction
+abbrev pub moves_before : OutputValue → ℕ → ℕ → List MoveValue
+moves_before o first i = map (λ e. e.1) (filter (λ e. is_listed_at first i e.0) o.edits)
+
+-- the offsets are in order: the first is 0, none is below the one before, and none is past the places
+pub record OffsetsInOrder (o : OutputValue) : Type 0 where
+  pub begins : 0 < length o.offsets → slice_index o.offsets 0 ≡ 0
+  pub rises : (i : ℕ) → i < length o.offsets → alloc_start o i ≤ alloc_end o i
+  pub within : (i : ℕ) → i < length o.offsets → alloc_start o i ≤ length o.allocs
+
+-- the output is in order
+pub record IsInOrder (f : FunctionValue) (o : OutputValue) : Type 0 where
+  pub one_offset_each : length o.offsets ≡ length f.insts
+  pub offsets : OffsetsInOrder o
+  pub no_more_than_operands : (i : ℕ) → i < length f.insts → alloc_end o i ≤ alloc_start o i + length (inst_at f i).operands
+  pub points_never_fall : IsNonDecreasingBy (λ e. e.0) o.edits
+  pub moves_name_places : All (λ e. (e.1.from ≢ NoPlace) × (e.1.to ≢ NoPlace)) o.edits

@@ -1,0 +1,163 @@
+-- Where the tests of a function fail first, as their refusals say.
+use Rattle.std.specs.Prelude.{ℕ, ◌≡◌, ◌≢◌, ◌+◌, ◌<◌, ◌≤◌, ◌⊎◌, List, [], ◌∷◌, ◌++◌, All, count_by, filter_map, flat_map, length, map, nat_eq, slice_index, slice_index_or, Option, None, Some, if◌then◌else◌}
+use Rattle.regalloc2_index.specs.Range.{numbers_from, numbers_of}
+use Rattle.regalloc2_names.specs.Register.{VirtualRegister}
+use Rattle.regalloc2_names.specs.Operand.{OperandValue}
+use Rattle.regalloc2_names.specs.declared.RegAllocError.{RegAllocError}
+use Rattle.regalloc2_names.specs.declared.RegAllocError.TheVariants.{BB, Branch, CritEdge, DisallowedBranchArg, EntryLivein, Memory, SSA}
+use Rattle.regalloc2_function.specs.FunctionValue.{FunctionValue, BlockValue, block_at, inst_at}
+use Rattle.regalloc2_function.specs.SourceRun.{is_def, is_reading}
+use Rattle.regalloc2_function.specs.WellFormed.{ArgumentsCounted, ArgumentsFit, BlocksEnd, BlocksFollow, DefinedOnce, EndsAt, EntryIsFirst, FollowsAt, IsDefinedBefore, IsFirstToFail, NoCriticalEdge, NoOperandsIntoJoins, PredecessorsAgree, SuccessorsAreBlocks, UsesAreDefined, last_of, times_in, ways_into}
+
+-- the first of a list that fails: those before it pass
+pub record IsFirstIn {X : Type 0} (P : X → Type 0) (xs : List X) (x : X) : Type 0 where
+  pub earlier : List X
+  pub later : List X
+  pub is : xs ≡ earlier ++ x ∷ later
+  pub passed : All P earlier
+  pub fails : P x → ⊥
+
+-- the number that names no instruction
+abbrev pub no_instruction : ℕ
+no_instruction = 4294967295
+
+-- a definition of a virtual register: the instruction that makes it, none for a parameter, and the first instruction that may use it
+pub record DefinitionSite : Type 0 where
+  pub vreg : VirtualRegister
+  pub inst : ℕ
+  pub usable : ℕ
+
+-- a parameter of a block that begins at an instruction
+abbrev pub param_definition : ℕ → VirtualRegister → DefinitionSite
+param_definition first v = record { vreg = v; inst = no_instruction; usable = first }
+
+-- the definition that an operand of an instruction makes, if it does
+abbrev pub operand_definition : ℕ → OperandValue → Option DefinitionSite
+operand_definition i o = if is_def o.kind then Some (record { vreg = o.vreg; inst = i; usable = i + 1 }) else None
+
+-- an instruction's definitions, in operand order
+abbrev pub inst_definitions : FunctionValue → ℕ → List DefinitionSite
+inst_definitions f i = filter_map (operand_definition i) (inst_at f i).operands
+
+-- a block's definitions: its parameters, then those of its instructions
+abbrev pub block_definitions : FunctionValue → BlockValue → List DefinitionSite
+block_definitions f b = map (param_definition b.range.first) b.params ++ flat_map (inst_definitions f) (numbers_of b.range)
+
+-- all definitions, block by block
+abbrev pub definitions_in : FunctionValue → List DefinitionSite
+definitions_in f = flat_map (block_definitions f) f.blocks
+
+-- how many of these define a virtual register of that number
+abbrev pub definitions_among : List DefinitionSite → ℕ → ℕ
+definitions_among ds n = count_by (λ d. nat_eq d.vreg.number n) ds
+
+-- each number is defined at most once by these, and below a bound
+abbrev pub AreSingle : ℕ → List DefinitionSite → Type 0
+AreSingle num ds = (n : ℕ) → (definitions_among ds n ≤ 1) × (0 < definitions_among ds n → n < num)
+
+-- the first definition whose number is too large or is defined by an earlier one
+pub record IsFirstRepeat (f : FunctionValue) (v : VirtualRegister) (i : ℕ) : Type 0 where
+  pub site : DefinitionSite
+  pub vreg : site.vreg ≡ v
+  pub inst : site.inst ≡ i
+  pub earlier : List DefinitionSite
+  pub later : List DefinitionSite
+  pub is : definitions_in f ≡ earlier ++ site ∷ later
+  pub single : AreSingle f.num_vregs earlier
+  pub fails : AreSingle f.num_vregs (earlier ++ site ∷ []) → ⊥
+
+-- an instruction that reads or passes a virtual register
+pub record UseSite : Type 0 where
+  pub vreg : VirtualRegister
+  pub inst : ℕ
+
+-- the read that an operand of an instruction makes, if it does
+abbrev pub operand_read : ℕ → OperandValue → Option UseSite
+operand_read i o = if is_reading o then Some (record { vreg = o.vreg; inst = i }) else None
+
+-- an instruction's reads, in operand order
+abbrev pub inst_reads : FunctionValue → ℕ → List UseSite
+inst_reads f i = filter_map (operand_read i) (inst_at f i).operands
+
+-- an argument that an instruction passes
+abbrev pub argument_use : ℕ → VirtualRegister → UseSite
+argument_use i v = record { vreg = v; inst = i }
+
+-- the arguments that a block passes to its successor at a position
+abbrev pub passed_at : BlockValue → ℕ → List UseSite
+passed_at b k = map (argument_use (last_of b)) (slice_index_or b.arguments k [])
+
+-- a block's uses: what its instructions read, then what it passes to its successors in turn
+abbrev pub block_uses : FunctionValue → BlockValue → List UseSite
+block_uses f b = flat_map (inst_reads f) (numbers_of b.range) ++ flat_map (passed_at b) (numbers_from 0 (length b.succs))
+
+-- all uses, block by block
+abbrev pub uses_in : FunctionValue → List UseSite
+uses_in f = flat_map (block_uses f) f.blocks
+
+-- the first use that is not defined before
+abbrev pub IsFirstUndefined : FunctionValue → VirtualRegister → ℕ → Type 0
+IsFirstUndefined f v i = IsFirstIn (λ u. IsDefinedBefore f u.vreg u.inst) (uses_in f) (record { vreg = v; inst = i })
+
+-- why the definitions of a function are refused: want of memory, or else the first repeat, or where there is none the first use that is not defined before
+abbrev pub IsDefinitionFault : FunctionValue → RegAllocError → Type 0
+IsDefinitionFault f Memory = Unit {0}
+IsDefinitionFault f (SSA v i) = IsFirstRepeat f v i ⊎ (DefinedOnce f × IsFirstUndefined f v i)
+IsDefinitionFault f _ = ⊥
+
+-- the first that is no block, of the entry and then all successors as listed
+abbrev pub IsFirstOutside : FunctionValue → ℕ → Type 0
+IsFirstOutside f s = IsFirstIn (λ s. s < length f.blocks) (f.entry ∷ flat_map (λ b. b.succs) f.blocks) s
+
+-- a block's predecessors are its listings among successors, counted
+abbrev pub PredecessorsAt : FunctionValue → ℕ → BlockValue → Type 0
+PredecessorsAt f n b = (p : ℕ) → times_in p b.preds ≡ times_in n (block_at f p).succs
+
+-- a block that is entered in several ways has no predecessor with several successors
+abbrev pub NotCriticalAt : FunctionValue → ℕ → BlockValue → Type 0
+NotCriticalAt f n b = 1 < ways_into f n → All (λ p. length (block_at f p).succs ≤ 1) b.preds
+
+-- the first of a block's predecessors that has several successors
+abbrev pub IsFirstFork : FunctionValue → BlockValue → ℕ → Type 0
+IsFirstFork f b p = IsFirstIn (λ p. length (block_at f p).succs ≤ 1) b.preds p
+
+-- a block's last instruction has no operands where it branches into a block that is entered in several ways
+abbrev pub NoOperandsAt : FunctionValue → ℕ → BlockValue → Type 0
+NoOperandsAt f n b = All (λ s. 1 < ways_into f s → (inst_at f (last_of b)).operands ≡ []) b.succs
+
+-- a block passes each successor as many arguments as it has parameters, of the same classes
+abbrev pub PassesAt : FunctionValue → ℕ → BlockValue → Type 0
+PassesAt f n b = (k : ℕ) → k < length b.succs → map (λ v. v.class) (slice_index_or b.arguments k []) ≡ map (λ v. v.class) (block_at f (slice_index b.succs k)).params
+
+-- what the tests of blocks and edges test
+pub record HasShape (f : FunctionValue) : Type 0 where
+  pub successors : SuccessorsAreBlocks f
+  pub follow : BlocksFollow f
+  pub predecessors : PredecessorsAgree f
+  pub no_critical_edge : NoCriticalEdge f
+  pub no_operands_into_joins : NoOperandsIntoJoins f
+
+-- why the blocks and edges of a function are refused: the first of these tests that fails, and where it fails first
+pub data IsShapeFault (f : FunctionValue) : RegAllocError → Type 0 where
+  outside : (s : ℕ) → IsFirstOutside f s → IsShapeFault f (BB s)
+  apart : (b : ℕ) → SuccessorsAreBlocks f → IsFirstToFail f (FollowsAt f) b → IsShapeFault f (BB b)
+  unlisted : (b : ℕ) → SuccessorsAreBlocks f → BlocksFollow f → IsFirstToFail f (PredecessorsAt f) b → IsShapeFault f (BB b)
+  critical : (b p : ℕ) → SuccessorsAreBlocks f → BlocksFollow f → PredecessorsAgree f → IsFirstToFail f (NotCriticalAt f) b → IsFirstFork f (block_at f b) p → IsShapeFault f (CritEdge p b)
+  operands : (b : ℕ) → SuccessorsAreBlocks f → BlocksFollow f → PredecessorsAgree f → NoCriticalEdge f → IsFirstToFail f (NoOperandsAt f) b → IsShapeFault f (DisallowedBranchArg (last_of (block_at f b)))
+
+-- what the tests of the entry, of terminators, arguments, definitions and uses test
+pub record IsSound (f : FunctionValue) : Type 0 where
+  pub entry : EntryIsFirst f
+  pub end : BlocksEnd f
+  pub counted : ArgumentsCounted f
+  pub classes : ArgumentsFit f
+  pub defined_once : DefinedOnce f
+  pub uses_defined : UsesAreDefined f
+
+-- and why they refuse a function: the first of them that fails, and where it fails first
+pub data IsSoundnessFault (f : FunctionValue) : RegAllocError → Type 0 where
+  elsewhere : f.entry ≢ 0 → IsSoundnessFault f (BB f.entry)
+  livein : f.entry ≡ 0 → (block_at f 0).params ≢ [] → IsSoundnessFault f EntryLivein
+  open_end : (b : ℕ) → EntryIsFirst f → IsFirstToFail f (EndsAt f) b → IsSoundnessFault f (BB b)
+  arguments : (b : ℕ) → EntryIsFirst f → BlocksEnd f → IsFirstToFail f (PassesAt f) b → IsSoundnessFault f (Branch (last_of (block_at f b)))
+  definitions : (v : VirtualRegister) (i : ℕ) → EntryIsFirst f → BlocksEnd f → ArgumentsFit f → IsDefinitionFault f (SSA v i) → IsSoundnessFault f (SSA v i)

@@ -1,0 +1,47 @@
+-- Spill slots as memory: who owns each, and which units it stands for.
+-- Cells are kept by name; these facts make the names real, disjoint memory.
+use Rattle.std.specs.Prelude.{ℕ, ◌≡◌, ◌≢◌, ◌+◌, ◌-◌, ◌%◌, ◌<◌, ◌≤◌, ◌⊎◌, true, if◌then◌else◌, All, Any as SomeIn, length}
+use Rattle.regalloc2_names.specs.declared.RegClass.{RegClass}
+use Rattle.regalloc2_names.specs.Register.{VirtualRegister}
+use Rattle.regalloc2_names.specs.Place.{Place, NoPlace, InRegister, InSlot}
+use Rattle.regalloc2_function.specs.FunctionValue.{FunctionValue, inst_at, slot_size}
+use Rattle.regalloc2_function.specs.OutputValue.{OutputValue, allocs_of, place_at}
+use Rattle.regalloc2_function.specs.WellFormed.{EachOperand}
+
+-- whose values a slot takes: those of a virtual register, or what a branch's moves of arguments put aside, the first or a later time for a class
+pub data Owner : Type 0 where
+  OfVReg : VirtualRegister → Owner
+  OfBranch : (branch : ℕ) (class : RegClass) (time : ℕ) → Owner
+
+abbrev pub class_of_owner : Owner → RegClass
+class_of_owner (OfVReg v) = v.class
+class_of_owner (OfBranch branch class time) = class
+
+-- a slot's name stands in the output: as an operand's place, in a move or in a debug location
+abbrev pub IsSlotOf : FunctionValue → OutputValue → ℕ → Type 0
+IsSlotOf f out n = SomeIn (λ p. p ≡ InSlot n) out.allocs ⊎ SomeIn (λ e. (e.1.from ≡ InSlot n) ⊎ (e.1.to ≡ InSlot n)) out.edits ⊎ SomeIn (λ d. d.place ≡ InSlot n) out.debug_locations
+
+-- how many units a slot takes that has an owner, and the first of them where a slot has that name
+abbrev pub units_of : FunctionValue → Owner → ℕ
+units_of f owner = slot_size f.slot_sizes (class_of_owner owner)
+
+abbrev pub first_unit : FunctionValue → Owner → ℕ → ℕ
+first_unit f owner n = if f.named_by_last_slot then n + 1 - units_of f owner else n
+
+-- the class of what a place takes
+abbrev pub IsOfClass : (ℕ → Owner) → Place → RegClass → Type 0
+IsOfClass owner NoPlace class = ⊥
+IsOfClass owner (InRegister r) class = r.class ≡ class
+IsOfClass owner (InSlot n) class = class_of_owner (owner n) ≡ class
+
+-- each slot has an owner of its own; it stands for as many units as its owner's class takes, aligned to that number and below the count; the units of two slots are apart; operands stand in their own virtual register's slot; and moves keep to a class
+pub record AreSlotsOwned (f : FunctionValue) (out : OutputValue) : Type 0 where
+  pub owner : ℕ → Owner
+  pub own : (m n : ℕ) → IsSlotOf f out m → IsSlotOf f out n → owner m ≡ owner n → m ≡ n
+  pub operands : (i : ℕ) → i < length f.insts → EachOperand (inst_at f i) (λ k o. (n : ℕ) → place_at (allocs_of out i) k ≡ InSlot n → owner n ≡ OfVReg o.vreg)
+  pub named : (n : ℕ) → IsSlotOf f out n → f.named_by_last_slot ≡ true → units_of f (owner n) ≤ n + 1
+  pub aligned : (n : ℕ) → IsSlotOf f out n → first_unit f (owner n) n % units_of f (owner n) ≡ 0
+  pub within : (n : ℕ) → IsSlotOf f out n → first_unit f (owner n) n + units_of f (owner n) ≤ out.num_spillslots
+  pub apart : (m n : ℕ) → IsSlotOf f out m → IsSlotOf f out n → m ≢ n →
+      (first_unit f (owner m) m + units_of f (owner m) ≤ first_unit f (owner n) n) ⊎ (first_unit f (owner n) n + units_of f (owner n) ≤ first_unit f (owner m) m)
+  pub moves : All (λ e. (class : RegClass) × IsOfClass owner e.1.from class × IsOfClass owner e.1.to class) out.edits

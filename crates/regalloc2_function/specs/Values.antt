@@ -1,0 +1,43 @@
+-- What values the uses read, for any meaning of the instructions.
+use Rattle.std.specs.Prelude.{ℕ, ◌≡◌, ◌+◌, nat_eq, if◌then◌else◌, List, [], ◌∷◌, map, length, Option}
+use Rattle.std.specs.Option.{option_map}
+use Rattle.regalloc2_names.specs.Operand.{OperandValue}
+use Rattle.regalloc2_function.specs.FunctionValue.{FunctionValue}
+use Rattle.regalloc2_function.specs.OutputValue.{OutputValue}
+use Rattle.regalloc2_function.specs.Path.{Way, IsPath, end_of, last_inst}
+use Rattle.regalloc2_function.specs.SourceRun.{Stamp, is_reading, source_read}
+use Rattle.regalloc2_function.specs.AllocatedRun.{allocated_read}
+
+-- A meaning gives the number that an instruction writes: from the instruction, its step, what was read at each step so far, the newest first, and the index of the operand that is written.
+abbrev pub Meaning : Type 0
+Meaning = ℕ → ℕ → List (List (Option ℕ)) → ℕ → ℕ
+
+-- what the reading uses of a list of operands read, from index k on
+unfoldable pub reads_from : (ℕ → OperandValue → Option Stamp) → ℕ → List OperandValue → List (Option Stamp)
+reads_from read k [] = []
+reads_from read k (o ∷ os) = if is_reading o then read k o ∷ reads_from read (k + 1) os else reads_from read (k + 1) os
+
+-- what the last step of a path reads, in each of the two runs
+abbrev pub source_reads : FunctionValue → List Way → List (Option Stamp)
+source_reads f ws = reads_from (λ k o. source_read f ws o) 0 (last_inst f ws).operands
+
+abbrev pub allocated_reads : FunctionValue → OutputValue → List Way → List (Option Stamp)
+allocated_reads f out ws = reads_from (allocated_read f out ws) 0 (last_inst f ws).operands
+
+-- the numbers that were read at each step of a path, the newest first, and the number of each write of an earlier step
+pub record Numbers : Type 0 where
+  pub history : List (List (Option ℕ))
+  pub written : Stamp → ℕ
+
+-- those of a path whose steps read the given writes
+unfoldable pub numbers : FunctionValue → Meaning → (List Way → List (Option Stamp)) → List Way → Numbers
+numbers f meaning reads [] = record { history = map (option_map (λ s. 0)) (reads []) ∷ []; written = λ s. 0 }
+numbers f meaning reads (w ∷ ws) =
+    let before : Numbers = numbers f meaning reads ws in
+    let written : Stamp → ℕ = λ s. if nat_eq s.step (length ws) then meaning (end_of f ws).inst (length ws) before.history s.operand else before.written s in
+    record { history = map (option_map written) (reads (w ∷ ws)) ∷ before.history; written = written }
+
+-- on every path, both runs read the same numbers at each step
+abbrev pub SameNumbers : FunctionValue → OutputValue → Type 0
+SameNumbers f out = (meaning : Meaning) (ws : List Way) → IsPath f ws →
+    (numbers f meaning (allocated_reads f out) ws).history ≡ (numbers f meaning (source_reads f) ws).history

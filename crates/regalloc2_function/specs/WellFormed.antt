@@ -1,0 +1,167 @@
+-- The conditions on a function, in the order in which they are tested.
+use Rattle.std.specs.Prelude.{ℕ, ◌≡◌, ◌+◌, ◌-◌, ◌<◌, ◌≤◌, ◌⊎◌, Bool, true, false, ◌&&◌, nat_eq, if◌then◌else◌, List, [], ◌∷◌, All, Contains, count_by, length, map, slice_index, slice_index_or}
+use Rattle.regalloc2_names.specs.declared.OperandConstraint.{OperandConstraint}
+use Rattle.regalloc2_names.specs.declared.OperandConstraint.TheVariants.{Any, Reg, Stack, FixedReg, Reuse, Limit}
+use Rattle.regalloc2_names.specs.declared.RegClass.{RegClass}
+use Rattle.regalloc2_names.specs.declared.OperandKind.TheVariants.{Def, Use}
+use Rattle.regalloc2_names.specs.declared.OperandPos.TheVariants.{Early, Late}
+use Rattle.regalloc2_names.specs.Register.{Register, VirtualRegister}
+use Rattle.regalloc2_names.specs.RegisterSet.{has_register}
+use Rattle.regalloc2_names.specs.Operand.{OperandValue}
+use Rattle.regalloc2_function.specs.FunctionValue.{FunctionValue, BlockValue, InstValue, block_at, inst_at}
+use Rattle.regalloc2_function.specs.Machine.{MachineValue, is_allocatable}
+use Rattle.regalloc2_function.specs.SourceRun.{is_def, is_reading}
+
+-- each block of a function
+abbrev pub EachBlock : FunctionValue → (ℕ → BlockValue → Type 0) → Type 0
+EachBlock f P = (b : ℕ) → b < length f.blocks → P b (block_at f b)
+
+-- each operand of an instruction, with its index
+abbrev pub EachOperand : InstValue → (ℕ → OperandValue → Type 0) → Type 0
+EachOperand i P = (k : ℕ) (d : OperandValue) → k < length i.operands → P k (slice_index_or i.operands k d)
+
+-- each instruction of a block
+abbrev pub EachInst : FunctionValue → BlockValue → (ℕ → InstValue → Type 0) → Type 0
+EachInst f b P = (i : ℕ) → b.range.first ≤ i → i < b.range.end → P i (inst_at f i)
+
+-- how often a number stands in a list
+abbrev pub times_in : ℕ → List ℕ → ℕ
+times_in n xs = count_by (λ x. nat_eq x n) xs
+
+-- in how many ways a block is entered; the function's start is one into the entry
+abbrev pub ways_into : FunctionValue → ℕ → ℕ
+ways_into f b = length (block_at f b).preds + (if nat_eq b f.entry then 1 else 0)
+
+-- the last instruction of a block
+abbrev pub last_of : BlockValue → ℕ
+last_of b = b.range.end - 1
+
+-- the entry and each successor is a block
+abbrev pub SuccessorsAreBlocks : FunctionValue → Type 0
+SuccessorsAreBlocks f = (f.entry < length f.blocks) × EachBlock f (λ n b. All (λ s. s < length f.blocks) b.succs)
+
+-- a block is nonempty and follows the one before, or begins at the first instruction; the last block ends at the last instruction
+abbrev pub FollowsAt : FunctionValue → ℕ → BlockValue → Type 0
+FollowsAt f n b = (b.range.first < b.range.end) × (n ≡ 0 → b.range.first ≡ 0) × (0 < n → b.range.first ≡ (block_at f (n - 1)).range.end)
+    × (n + 1 ≡ length f.blocks → b.range.end ≡ length f.insts)
+
+-- blocks are nonempty and follow one another, from the first instruction to the last
+abbrev pub BlocksFollow : FunctionValue → Type 0
+BlocksFollow f = EachBlock f (FollowsAt f)
+
+-- a block's predecessors are its listings among successors, counted
+abbrev pub PredecessorsAgree : FunctionValue → Type 0
+PredecessorsAgree f = EachBlock f (λ n b. (p : ℕ) → times_in p b.preds ≡ times_in n (block_at f p).succs)
+
+-- a block that is entered in several ways has no predecessor with several successors
+abbrev pub NoCriticalEdge : FunctionValue → Type 0
+NoCriticalEdge f = EachBlock f (λ n b. 1 < ways_into f n → All (λ p. length (block_at f p).succs ≤ 1) b.preds)
+
+-- a branch into such a block has no operands
+abbrev pub NoOperandsIntoJoins : FunctionValue → Type 0
+NoOperandsIntoJoins f = EachBlock f (λ n b. All (λ s. 1 < ways_into f s → (inst_at f (last_of b)).operands ≡ []) b.succs)
+
+-- the entry is block 0 and has no parameters
+abbrev pub EntryIsFirst : FunctionValue → Type 0
+EntryIsFirst f = (f.entry ≡ 0) × ((block_at f 0).params ≡ [])
+
+-- an instruction that may end a block with so many successors
+abbrev pub EndsBlock : InstValue → ℕ → Type 0
+EndsBlock i succs = (i.is_branch ≡ true × i.is_ret ≡ false) ⊎ (i.is_branch ≡ false × i.is_ret ≡ true × succs ≡ 0)
+
+-- a block ends, and only ends, in a branch or in a return without successors
+abbrev pub EndsAt : FunctionValue → ℕ → BlockValue → Type 0
+EndsAt f n b = EndsBlock (inst_at f (last_of b)) (length b.succs)
+    × EachInst f b (λ i inst. i < last_of b → (inst.is_branch ≡ false) × (inst.is_ret ≡ false))
+
+abbrev pub BlocksEnd : FunctionValue → Type 0
+BlocksEnd f = EachBlock f (EndsAt f)
+
+-- each successor is given as many arguments as it has parameters
+abbrev pub CountedAt : FunctionValue → ℕ → BlockValue → Type 0
+CountedAt f n b = (k : ℕ) → k < length b.succs → length (slice_index_or b.arguments k []) ≡ length (block_at f (slice_index b.succs k)).params
+
+abbrev pub ArgumentsCounted : FunctionValue → Type 0
+ArgumentsCounted f = EachBlock f (CountedAt f)
+
+-- and of the same classes
+abbrev pub ArgumentsFit : FunctionValue → Type 0
+ArgumentsFit f = EachBlock f (λ n b. (k : ℕ) → k < length b.succs → map (λ v. v.class) (slice_index_or b.arguments k []) ≡ map (λ v. v.class) (block_at f (slice_index b.succs k)).params)
+
+-- an operand that defines
+abbrev pub defines : ℕ → OperandValue → Bool
+defines n o = is_def o.kind && nat_eq o.vreg.number n
+
+-- how often a virtual register's number is defined: as a parameter and by instructions
+abbrev pub definitions_of : FunctionValue → ℕ → ℕ
+definitions_of f n = sum_of (map (λ b. count_by (λ v. nat_eq v.number n) b.params) f.blocks) + sum_of (map (λ i. count_by (defines n) i.operands) f.insts)
+  where
+    sum_of : List ℕ → ℕ
+    sum_of [] = 0
+    sum_of (x ∷ xs) = x + sum_of xs
+
+-- each number is defined at most once, and below the function's count
+abbrev pub DefinedOnce : FunctionValue → Type 0
+DefinedOnce f = (n : ℕ) → (definitions_of f n ≤ 1) × (0 < definitions_of f n → n < f.num_vregs)
+
+-- a virtual register is defined before an instruction, by its number: as a parameter of a block that begins there or earlier, or at a smaller instruction
+abbrev pub IsDefinedBefore : FunctionValue → VirtualRegister → ℕ → Type 0
+IsDefinedBefore f v i =
+    ((b : ℕ) × (b < length f.blocks) × ((block_at f b).range.first ≤ i) × Contains (block_at f b).params v)
+    ⊎ ((j k : ℕ) × (d : OperandValue) × (j < i) × (k < length (inst_at f j).operands) × (is_def (slice_index_or (inst_at f j).operands k d).kind ≡ true) × ((slice_index_or (inst_at f j).operands k d).vreg ≡ v))
+
+-- each virtual register that is read or passed is defined at a smaller instruction
+abbrev pub UsesAreDefined : FunctionValue → Type 0
+UsesAreDefined f = EachBlock f (λ n b.
+    EachInst f b (λ i inst. EachOperand inst (λ k o. is_reading o ≡ true → IsDefinedBefore f o.vreg i))
+    × ((k : ℕ) → k < length b.succs → All (λ v. IsDefinedBefore f v (last_of b)) (slice_index_or b.arguments k [])))
+
+abbrev pub IsReuse : OperandConstraint → ℕ → Type 0
+IsReuse k n = k ≡ Reuse n
+
+-- a constraint under which a reused operand may stand
+abbrev pub MayBeReused : MachineValue → RegClass → OperandConstraint → Type 0
+MayBeReused env class Any = ⊥
+MayBeReused env class Reg = Unit {0}
+MayBeReused env class Stack = ⊥
+MayBeReused env class (FixedReg r) = is_allocatable env class r ≡ true
+MayBeReused env class (Reuse n) = ⊥
+MayBeReused env class (Limit n) = ⊥
+
+-- reuses are late definitions of early uses, each of its own
+pub record ReusesAreSound (env : MachineValue) (i : InstValue) : Type 0 where
+  pub definitions : EachOperand i (λ k o. (n : ℕ) → IsReuse o.constraint n → (o.kind ≡ Def) × (o.position ≡ Late))
+  pub targets : EachOperand i (λ k o. (n : ℕ) (d : OperandValue) → IsReuse o.constraint n → (n < length i.operands)
+      × (let u : OperandValue = slice_index_or i.operands n d in (u.kind ≡ Use) × (u.position ≡ Early) × (is_reading u ≡ true) × (u.vreg.class ≡ o.vreg.class) × MayBeReused env u.vreg.class u.constraint))
+  pub apart : (j k n : ℕ) (d e : OperandValue) → j < length i.operands → k < length i.operands → IsReuse (slice_index_or i.operands j d).constraint n → IsReuse (slice_index_or i.operands k e).constraint n → j ≡ k
+
+-- no definition, late use or reused early use is fixed to a clobber
+abbrev pub FixedAvoidClobbers : InstValue → Type 0
+FixedAvoidClobbers i = EachOperand i (λ k o. (r : Register) → o.constraint ≡ FixedReg r → (o.kind ≡ Def) ⊎ (o.position ≡ Late) ⊎ ((j : ℕ) × (d : OperandValue) × (j < length i.operands) × IsReuse (slice_index_or i.operands j d).constraint k) → has_register i.clobbers r ≡ false)
+
+-- a function whose blocks and terminators are sound, and whose arguments are counted
+pub record IsFramed (f : FunctionValue) : Type 0 where
+  pub successors : SuccessorsAreBlocks f
+  pub follow : BlocksFollow f
+  pub end : BlocksEnd f
+  pub counted : ArgumentsCounted f
+
+-- a function that may be allocated
+pub record IsWellFormed (env : MachineValue) (f : FunctionValue) : Type 0 where
+  pub successors : SuccessorsAreBlocks f
+  pub follow : BlocksFollow f
+  pub predecessors : PredecessorsAgree f
+  pub no_critical_edge : NoCriticalEdge f
+  pub no_operands_into_joins : NoOperandsIntoJoins f
+  pub entry : EntryIsFirst f
+  pub end : BlocksEnd f
+  pub counted : ArgumentsCounted f
+  pub classes : ArgumentsFit f
+  pub defined_once : DefinedOnce f
+  pub uses_defined : UsesAreDefined f
+  pub reuses : All (ReusesAreSound env) f.insts
+  pub fixed : All FixedAvoidClobbers f.insts
+
+-- the first block that fails a test
+abbrev pub IsFirstToFail : FunctionValue → (ℕ → BlockValue → Type 0) → ℕ → Type 0
+IsFirstToFail f P b = (b < length f.blocks) × (P b (block_at f b) → ⊥) × ((c : ℕ) → c < b → P c (block_at f c))

@@ -1,0 +1,143 @@
+//! The function that is being allocated, the machine, the output of an allocation, and what they mean.
+//!
+//! Contracts speak of three values: the [`Function`]'s own, `machine_of` a [`MachineEnv`] and `output_of` an [`Output`].
+//! The definitions over them stand in this crate's `specs`.
+#![tactic(auto)]
+
+ghost use Rattle.std.specs.Prelude.{◌≡◌, ℕ, ◌+◌, ◌-◌, ◌<◌, ◌≤◌, ◌^◌, SomeIff, length, map, slice_index_or, []};
+ghost use Rattle.regalloc2_function.specs.FunctionValue.{FunctionValue, IsLimited, block_at, inst_at, operand_count, slot_size, label_of};
+
+use regalloc2_index::{Block, Inst, InstRange};
+use regalloc2_names::{Operand, PRegSet, RegClass, VReg};
+
+mod framed;
+mod laws;
+mod listing;
+mod machine;
+
+pub use framed::{blocks_follow, is_framed, successors_are_blocks, test_blocks, test_ends};
+pub use laws::{finds_earlier_writes, reads_the_same_numbers};
+pub use listing::{Edit, InstOrEdit, Output, OutputIter};
+pub use machine::{MachineEnv, machine_fits};
+
+/// A function as a client of the allocator describes it: blocks of instructions, and what each instruction does with
+/// virtual registers.
+///
+/// All calls agree with one function value, and an implementation proves that it keeps the limits of `IsLimited`: fewer
+/// than 2^30 instructions, fewer than 2^32 - 1 blocks, at most 2^30 - 1 virtual registers, slot sizes that are powers of
+/// two from 1 to 2^24, and labels of virtual registers below `num_vregs`. Nothing else is owed: whether the blocks follow
+/// one another, or the uses are defined, is tested by the calls that want it.
+///
+/// Names and arguments are those of upstream's trait `Function`.
+pub trait Function {
+    /// The function that all calls agree on.
+    ghost function: { Self → FunctionValue };
+
+    /// How many instructions there are; they are numbered from 0.
+    fn num_insts(&self) -> usize
+        ensures count { result ≡ length (function self.now).insts }
+        ensures limit { result < 2 ^ 30 };
+
+    /// How many blocks there are; they are numbered from 0.
+    fn num_blocks(&self) -> usize
+        ensures count { result ≡ length (function self.now).blocks }
+        ensures limit { result < 2 ^ 32 - 1 };
+
+    /// A number above that of each virtual register that is defined.
+    fn num_vregs(&self) -> usize
+        ensures count { result ≡ (function self.now).num_vregs }
+        ensures limit { result < 2 ^ 30 };
+
+    /// The block at which the function starts.
+    fn entry_block(&self) -> Block
+        ensures { result ≡ (function self.now).entry };
+
+    /// The instructions of a block.
+    fn block_insns(&self, block: Block) -> InstRange
+        requires { block < length (function self.now).blocks }
+        ensures { result ≡ (block_at (function self.now) block).range };
+
+    /// The blocks that may follow, by the position that the block's last instruction names.
+    fn block_succs(&self, block: Block) -> &[Block]
+        requires { block < length (function self.now).blocks }
+        ensures { result.now ≡ (block_at (function self.now) block).succs };
+
+    /// The blocks that a block may follow, once for each of their positions that names it.
+    fn block_preds(&self, block: Block) -> &[Block]
+        requires { block < length (function self.now).blocks }
+        ensures { result.now ≡ (block_at (function self.now) block).preds };
+
+    /// The virtual registers that take the arguments with which a block is entered.
+    fn block_params(&self, block: Block) -> &[VReg]
+        requires { block < length (function self.now).blocks }
+        ensures { result.now ≡ (block_at (function self.now) block).params };
+
+    /// Whether an instruction returns from the function.
+    fn is_ret(&self, inst: Inst) -> bool
+        requires { inst < length (function self.now).insts }
+        ensures { result ≡ (inst_at (function self.now) inst).is_ret };
+
+    /// Whether an instruction goes on to a successor of its block.
+    fn is_branch(&self, inst: Inst) -> bool
+        requires { inst < length (function self.now).insts }
+        ensures { result ≡ (inst_at (function self.now) inst).is_branch };
+
+    /// The arguments that a block's last instruction passes to the successor at a position.
+    fn branch_blockparams(&self, block: Block, inst: Inst, succ_idx: usize) -> &[VReg]
+        requires block { block < length (function self.now).blocks }
+        requires last { inst + 1 ≡ (block_at (function self.now) block).range.end }
+        requires nonempty { (block_at (function self.now) block).range.first ≤ inst }
+        requires position { succ_idx < length (block_at (function self.now) block).succs }
+        ensures { result.now ≡ slice_index_or (block_at (function self.now) block).arguments succ_idx [] };
+
+    /// What an instruction does with virtual registers.
+    fn inst_operands(&self, inst: Inst) -> &[Operand]
+        requires { inst < length (function self.now).insts }
+        ensures { result.now ≡ (inst_at (function self.now) inst).operands };
+
+    /// The registers that an instruction overwrites, besides those of its operands.
+    fn inst_clobbers(&self, inst: Inst) -> PRegSet
+        requires { inst < length (function self.now).insts }
+        ensures { result ≡ (inst_at (function self.now) inst).clobbers };
+
+    /// The ranges of instructions over which a client wants to be told where a virtual register stands, each from its
+    /// first instruction up to its end, with a label of the client's own.
+    ///
+    /// Upstream's default, no labels, can't be given here: see `docs/DECISIONS.md`.
+    fn debug_value_labels(&self) -> &[(VReg, Inst, Inst, u32)]
+        ensures { map label_of result.now ≡ (function self.now).labels };
+
+    /// How many units a spill slot for a class takes.
+    fn spillslot_size(&self, regclass: RegClass) -> usize
+        ensures size { result ≡ slot_size (function self.now).slot_sizes regclass }
+        ensures limit { 1 ≤ result × result ≤ 2 ^ 24 };
+
+    /// Whether a slot of several units is named by its last unit, and not by its first.
+    ///
+    /// Upstream's default is false.
+    fn multi_spillslot_named_by_last_slot(&self) -> bool
+        ensures { result ≡ (function self.now).named_by_last_slot };
+
+    /// Whether a virtual register may have several definitions. The allocator wants single definitions all the same.
+    ///
+    /// Upstream's default is false.
+    fn allow_multiple_vreg_defs(&self) -> bool
+        ensures { result ≡ (function self.now).allows_multiple_defs };
+
+    /// What each implementation owes.
+    ghost limited: { (f : Self) → IsLimited (function f) };
+}
+
+/// How many operands the instructions have in all, if they are fewer than 2^32.
+///
+/// Linear in the number of instructions: the operands are counted by their lists.
+pub fn count_operands<F: Function>(f: &F) -> Option<u32>
+    ensures { SomeIff result (operand_count (F.function f.now) < 2 ^ 32) (operand_count (F.function f.now)) }
+{
+    let mut count = 0u32;
+    for i in 0..f.num_insts() {
+        let here = u32::try_from(f.inst_operands(Inst::new(i)).len()).ok()?;
+        count = count.checked_add(here)?;
+    }
+    Some(count)
+}

@@ -1,0 +1,84 @@
+//! Numbers of blocks.
+
+ghost use Rattle.std.specs.Prelude.{◌≡◌, ◌≢◌, ℕ, ◌+◌, ◌-◌, ◌<◌, ◌↔◌, IsTrue};
+
+use super::ContainerIndex;
+use std::marker::Model;
+
+/// The number of a block.
+#[derive(Clone, Copy, Debug, PartialEq, Eq, PartialOrd, Ord, Hash)]
+pub struct Block(pub u32);
+
+impl Model for Block {
+    ghost use Rattle.std.specs.Prelude.{ℕ};
+
+    ghost Value = { ℕ };
+
+    ghost view = { λ x. x.0 };
+
+    ghost inverse = { λ n. record { 0 = n } };
+}
+
+impl Block {
+    /// The block with that number, which is below 2^32.
+    pub fn new(i: usize) -> Self
+        requires { i < 4294967296 }
+        ensures { result ≡ i }
+    {
+        Block(i as u32)
+    }
+
+    /// The number.
+    pub fn index(self) -> usize
+        ensures { result ≡ self }
+    {
+        self.0 as usize
+    }
+
+    /// The block that stands for none: the greatest number.
+    pub fn invalid() -> Self
+        ensures { result ≡ 4294967295 }
+    {
+        Block(u32::MAX)
+    }
+
+    /// Whether it stands for none.
+    pub fn is_invalid(self) -> bool
+        ensures { IsTrue result ↔ (self ≡ 4294967295) }
+    {
+        self == Self::invalid()
+    }
+
+    /// Whether it doesn't stand for none.
+    pub fn is_valid(self) -> bool
+        ensures { IsTrue result ↔ (self ≢ 4294967295) }
+    {
+        self != Self::invalid()
+    }
+
+    /// The block after a valid one.
+    pub fn next(self) -> Self
+        requires { self ≢ 4294967295 }
+        ensures { result ≡ self + 1 }
+    {
+        Block(self.0 + 1)
+    }
+
+    /// The block before one that isn't the first.
+    pub fn prev(self) -> Self
+        requires { 0 < self }
+        ensures { result ≡ self - 1 }
+    {
+        Block(self.0 - 1)
+    }
+
+    /// The number, as it is stored.
+    pub fn raw_u32(self) -> u32
+        ensures { result ≡ self }
+    {
+        let Block(raw) = self;
+        raw
+    }
+}
+
+impl ContainerIndex for Block {}

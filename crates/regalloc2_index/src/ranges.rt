@@ -1,0 +1,88 @@
+//! Ranges of instructions.
+
+ghost use Rattle.std.specs.Prelude.{◌≡◌, ℕ, ◌+◌, ◌-◌, ◌<◌, ◌≤◌};
+ghost use Rattle.regalloc2_index.specs.Range.{numbers_of};
+
+use super::{Inst, InstRangeIter};
+use std::marker::Model;
+
+/// The instructions from one on, up to but without another.
+#[derive(Clone, Copy, Debug, PartialEq, Eq)]
+pub struct InstRange {
+    from: Inst,
+    to: Inst,
+}
+
+impl Model for InstRange {
+    ghost use Rattle.std.specs.Prelude.{◌≤◌};
+    ghost use Rattle.regalloc2_index.specs.Range.{Span};
+
+    ghost Value = { Span };
+
+    ghost view = { λ r. record { first = r.from; end = r.to } };
+
+    ghost invariant = { λ r. r.from ≤ r.to };
+
+    ghost inverse = { λ s. record { from = s.first; to = s.end } };
+}
+
+impl InstRange {
+    /// The range that starts at `from` and ends before `to`.
+    pub fn new(from: Inst, to: Inst) -> Self
+        requires { from ≤ to }
+        ensures { result ≡ record { first = from; end = to } }
+    {
+        InstRange { from, to }
+    }
+
+    /// The first instruction of a range that isn't empty.
+    pub fn first(self) -> Inst
+        requires { self.first < self.end }
+        ensures { result ≡ self.first }
+    {
+        let InstRange { from: first, to: _ } = self;
+        first
+    }
+
+    /// The last instruction of a range that isn't empty.
+    pub fn last(self) -> Inst
+        requires { self.first < self.end }
+        ensures { result ≡ self.end - 1 }
+    {
+        self.to.prev()
+    }
+
+    /// The range without its first instruction, of one that isn't empty.
+    pub fn rest(self) -> Self
+        requires { self.first < self.end }
+        ensures { result ≡ record { first = self.first + 1; end = self.end } }
+    {
+        InstRange {
+            from: self.from.next(),
+            to: self.to,
+        }
+    }
+
+    /// How many instructions there are.
+    pub fn len(self) -> usize
+        ensures len { result ≡ self.end - self.first }
+        ensures ordered { self.first ≤ self.end }
+    {
+        self.to.index() - self.from.index()
+    }
+
+    /// The instruction before which the range ends. An item of this crate's own.
+    pub fn end(self) -> Inst
+        ensures { result ≡ self.end }
+    {
+        let InstRange { from: _, to: end } = self;
+        end
+    }
+
+    /// The instructions in order, from either end.
+    pub fn iter(self) -> InstRangeIter
+        ensures { result ≡ numbers_of self }
+    {
+        InstRangeIter::new(self.from, self.to)
+    }
+}

@@ -1,0 +1,7 @@
+use Rattle.regalloc2_names.specs.RegisterSet.{has_register}
+use Rattle.regalloc2_names.proofs.SetBits.{words_join}
+use Rattle.regalloc2_names.proofs.sets.PRegSet.union_from.Goals as goal
+
+pub returns : goal.returns
+unfolding has_register
+returns c r = words_join c.args.self.now.bits c.args.other.bits r.class r.number

@@ -1,0 +1,11 @@
+pub mod Register
+pub mod RegisterBits
+pub mod Place
+pub mod PlaceBits
+pub mod Point
+pub mod Operand
+pub mod Packing
+pub mod RegisterSet
+pub mod Same
+pub mod Listed
+pub mod Text

@@ -1,0 +1,61 @@
+-- Places, as contracts see them.
+use Rattle.std.specs.Prelude.{ℕ, ◌≡◌, ◌≤◌, ◌⊎◌, Option, None, Some, Bool, true, false, nat_eq}
+use Rattle.regalloc2_names.specs.declared.AllocationKind.{AllocationKind}
+use Rattle.regalloc2_names.specs.declared.AllocationKind.TheVariants.{None as NoKind, Reg as RegKind, Stack as StackKind}
+use Rattle.regalloc2_names.specs.Register.{Register, is_register}
+
+-- where a value may stand: nowhere, in a register, or in a spill slot
+pub data Place : Type 0 where
+  NoPlace : Place
+  InRegister : Register → Place
+  InSlot : ℕ → Place
+
+abbrev pub register_of_place : Place → Option Register
+register_of_place NoPlace = None
+register_of_place (InRegister r) = Some r
+register_of_place (InSlot n) = None
+
+abbrev pub slot_of_place : Place → Option ℕ
+slot_of_place NoPlace = None
+slot_of_place (InRegister r) = None
+slot_of_place (InSlot n) = Some n
+
+-- which of the three forms a place has
+abbrev pub kind_of_place : Place → AllocationKind
+kind_of_place NoPlace = NoKind
+kind_of_place (InRegister r) = RegKind
+kind_of_place (InSlot n) = StackKind
+
+abbrev pub is_no_place : Place → Bool
+is_no_place NoPlace = true
+is_no_place (InRegister r) = false
+is_no_place (InSlot n) = false
+
+abbrev pub is_in_register : Place → Bool
+is_in_register NoPlace = false
+is_in_register (InRegister r) = true
+is_in_register (InSlot n) = false
+
+abbrev pub is_in_slot : Place → Bool
+is_in_slot NoPlace = false
+is_in_slot (InRegister r) = false
+is_in_slot (InSlot n) = true
+
+-- two names of one place
+abbrev pub is_place : Place → Place → Bool
+is_place NoPlace NoPlace = true
+is_place (InRegister r) (InRegister s) = is_register r s
+is_place (InSlot m) (InSlot n) = nat_eq m n
+is_place NoPlace (InRegister s) = false
+is_place NoPlace (InSlot n) = false
+is_place (InRegister r) NoPlace = false
+is_place (InRegister r) (InSlot n) = false
+is_place (InSlot m) NoPlace = false
+is_place (InSlot m) (InRegister s) = false
+
+-- the number of the invalid spill slot, and the numbers that a spill slot may have
+abbrev pub invalid_slot : ℕ
+invalid_slot = 4294967295
+
+abbrev pub IsSlotNumber : ℕ → Type 0
+IsSlotNumber n = (n ≤ 16777215) ⊎ (n ≡ invalid_slot)

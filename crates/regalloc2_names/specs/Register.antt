@@ -1,0 +1,50 @@
+-- Registers and virtual registers, as contracts see them.
+use Rattle.std.specs.Prelude.{ℕ, zero, suc, ◌<◌, Bool, ◌&&◌, nat_eq}
+use Rattle.regalloc2_names.specs.declared.RegClass.{RegClass}
+use Rattle.regalloc2_names.specs.declared.RegClass.TheVariants.{Int, Float, Vector}
+
+-- the number that stands for a class
+abbrev pub class_code : RegClass → ℕ
+class_code Int = 0
+class_code Float = 1
+class_code Vector = 2
+
+-- the class that a number stands for
+abbrev pub class_of_code : ℕ → RegClass
+class_of_code zero = Int
+class_of_code (suc zero) = Float
+class_of_code (suc (suc n)) = Vector
+
+-- a hardware register: the class of its file and its number there
+pub record Register : Type 0 where
+  pub number : ℕ
+  pub class : RegClass
+
+-- a virtual register: a number and the class of its values
+pub record VirtualRegister : Type 0 where
+  pub number : ℕ
+  pub class : RegClass
+
+-- two names of one register
+abbrev pub is_register : Register → Register → Bool
+is_register a b = nat_eq (class_code a.class) (class_code b.class) && nat_eq a.number b.number
+
+-- two names of one virtual register
+abbrev pub is_vreg : VirtualRegister → VirtualRegister → Bool
+is_vreg a b = nat_eq (class_code a.class) (class_code b.class) && nat_eq a.number b.number
+
+-- a register that the packed form holds: 64 numbers in each of three classes
+abbrev pub IsRegister : Register → Type 0
+IsRegister r = r.number < 64
+
+-- a virtual register that the packed form holds: 30 bits of number
+abbrev pub IsVirtualRegister : VirtualRegister → Type 0
+IsVirtualRegister v = v.number < 1073741824
+
+-- the register that stands for none where a register is wanted
+abbrev pub invalid_register : Register
+invalid_register = record { number = 63; class = Int }
+
+-- the virtual register that stands for none where one is wanted
+abbrev pub invalid_vreg : VirtualRegister
+invalid_vreg = record { number = 1073741823; class = Int }

@@ -1,0 +1,38 @@
+-- How registers and virtual registers are packed into bits.
+use Rattle.std.specs.Prelude.{ℕ, ◌≡◌, ◌<◌, ◌+◌, ◌*◌, ◌/◌, ◌%◌, zero, suc, refl}
+use Rattle.std.proofs.Common.{arith}
+use Rattle.regalloc2_names.specs.Register.{class_code, class_of_code, Register, VirtualRegister}
+
+-- the class above, the number below
+abbrev pub register_of_bits : ℕ → Register
+register_of_bits b = record { number = b % 64; class = class_of_code (b / 64) }
+
+abbrev pub bits_of_register : Register → ℕ
+bits_of_register r = class_code r.class * 64 + r.number
+
+-- the bytes of registers
+abbrev pub IsRegisterIndex : ℕ → Type 0
+IsRegisterIndex b = b < 192
+
+abbrev pub vreg_of_bits : ℕ → VirtualRegister
+vreg_of_bits b = record { number = b / 4; class = class_of_code (b % 4) }
+
+abbrev pub bits_of_vreg : VirtualRegister → ℕ
+bits_of_vreg v = v.number * 4 + class_code v.class
+
+-- the words of virtual registers
+abbrev pub IsVRegBits : ℕ → Type 0
+IsVRegBits b = b % 4 < 3
+
+-- codes of classes go back
+pub class_code-class_of_code : (n : ℕ) → n < 3 → class_code (class_of_code n) ≡ n
+class_code-class_of_code zero h = refl
+class_code-class_of_code (suc zero) h = refl
+class_code-class_of_code (suc (suc zero)) h = refl
+class_code-class_of_code (suc (suc (suc n))) h = absurd (omega arith)
+
+pub bits_of_vreg-vreg_of_bits : (b : ℕ) → b % 4 < 3 → bits_of_vreg (vreg_of_bits b) ≡ b
+bits_of_vreg-vreg_of_bits b h = omega (arith, class_code-class_of_code (b % 4) h)
+
+pub bits_of_register-register_of_bits : (b : ℕ) → b < 192 → bits_of_register (register_of_bits b) ≡ b
+bits_of_register-register_of_bits b h = omega (arith, class_code-class_of_code (b / 64) (omega arith))

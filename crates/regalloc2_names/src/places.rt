@@ -1,0 +1,247 @@
+//! Places: spill slots, and what an operand is given.
+
+ghost use Rattle.std.specs.Prelude.{None, Some, false, ◌≡◌, ℕ, ◌+◌, ◌%◌, ◌<◌, ◌≤◌, ◌↔◌, IsTrue};
+ghost use Rattle.regalloc2_names.specs.PlaceBits.{IsPlaceBits, bits_of_place, index_of_place, place_of_bits};
+ghost use Rattle.regalloc2_names.specs.Place.{NoPlace, InRegister, InSlot, invalid_slot, is_in_register, is_in_slot, is_no_place, kind_of_place, register_of_place, slot_of_place};
+
+use super::{AllocationKind, PReg};
+use std::marker::Model;
+
+/// A spill slot, which a contract sees as its number: at most `SpillSlot::MAX`, or that of the invalid slot.
+#[derive(Clone, Copy, Debug, PartialEq, Eq, PartialOrd, Ord, Hash)]
+pub struct SpillSlot {
+    bits: u32,
+}
+
+impl Model for SpillSlot {
+    ghost use Rattle.std.specs.Prelude.{ℕ};
+    ghost use Rattle.regalloc2_names.specs.Place.{IsSlotNumber};
+
+    ghost Value = { ℕ };
+
+    ghost view = { λ s. s.bits };
+
+    ghost invariant = { λ s. IsSlotNumber s.bits };
+
+    ghost inverse = { λ n. record { bits = n } };
+}
+
+impl SpillSlot {
+    /// The greatest number of a slot.
+    pub const MAX: usize = (1 << 24) - 1;
+
+    /// The slot of that number.
+    pub fn new(slot: usize) -> Self
+        requires { slot ≤ SpillSlot.MAX }
+        ensures { result ≡ slot }
+    {
+        SpillSlot { bits: slot as u32 }
+    }
+
+    /// The number of the slot: its lower 24 bits, so that of the invalid slot is the greatest.
+    pub fn index(self) -> usize
+        ensures low { result ≡ self % 16777216 }
+        ensures number { self ≤ SpillSlot.MAX → result ≡ self }
+        ensures small { result ≤ SpillSlot.MAX }
+    {
+        (self.bits & 0x00ff_ffff) as usize
+    }
+
+    /// The slot so many numbers further on.
+    pub fn plus(self, offset: usize) -> Self
+        requires { self + offset ≤ SpillSlot.MAX }
+        ensures { result ≡ self + offset }
+    {
+        SpillSlot::new(self.index() + offset)
+    }
+
+    /// The slot that stands for none.
+    pub fn invalid() -> Self
+        ensures { result ≡ invalid_slot }
+    {
+        SpillSlot { bits: u32::MAX }
+    }
+
+    /// Whether it stands for none.
+    pub fn is_invalid(self) -> bool
+        ensures { IsTrue result ↔ (self ≡ invalid_slot) }
+    {
+        self == Self::invalid()
+    }
+
+    /// Whether it is a slot.
+    pub fn is_valid(self) -> bool
+        ensures { IsTrue result ↔ (self ≤ SpillSlot.MAX) }
+    {
+        !self.is_invalid()
+    }
+}
+
+/// A place: none, a register or a spill slot.
+///
+/// Packed into 32 bits, the form in the top three, the register's or the slot's index in the lower 28.
+#[derive(Clone, Copy, PartialEq, Eq, PartialOrd, Ord, Hash)]
+pub struct Allocation {
+    bits: u32,
+}
+
+impl Model for Allocation {
+    ghost use Rattle.std.specs.Prelude.{ℕ};
+    ghost use Rattle.std.proofs.Common.{ap};
+    ghost use Rattle.regalloc2_names.specs.Place.{Place};
+    ghost use Rattle.regalloc2_names.specs.PlaceBits.{place_of_bits, bits_of_place, IsPlaceBits, bits_of_place-place_of_bits};
+
+    ghost Value = { Place };
+
+    ghost view = { λ a. place_of_bits a.bits };
+
+    ghost invariant = { λ a. IsPlaceBits a.bits };
+
+    ghost inverse = { λ p. record { bits = bits_of_place p } };
+
+    ghost inverse_ok = { λ a h. ap (λ (b : ℕ). record { bits = b }) (bits_of_place-place_of_bits a.bits h) };
+}
+
+#[tactic(auto, unfolding(crate::specs::PlaceBits::place_of_bits))]
+impl Allocation {
+    /// No place.
+    pub fn none() -> Self
+        ensures { result ≡ NoPlace }
+    {
+        Allocation { bits: 0 }
+    }
+
+    /// That register.
+    pub fn reg(preg: PReg) -> Self
+        ensures { result ≡ InRegister preg }
+    {
+        Allocation {
+            bits: (1 << 29) | preg.index() as u32,
+        }
+    }
+
+    /// That spill slot, which is a valid one.
+    pub fn stack(slot: SpillSlot) -> Self
+        requires { slot ≤ SpillSlot.MAX }
+        ensures { result ≡ InSlot slot }
+    {
+        Allocation {
+            bits: (2 << 29) | slot.bits,
+        }
+    }
+
+    /// Which form the place has.
+    pub fn kind(self) -> AllocationKind
+        ensures { result ≡ kind_of_place self }
+    {
+        match self.bits >> 29 {
+            0 => AllocationKind::None,
+            1 => AllocationKind::Reg,
+            2 => AllocationKind::Stack,
+            _ => unreachable!(),
+        }
+    }
+
+    /// Whether there is no place.
+    pub fn is_none(self) -> bool
+        ensures { result ≡ is_no_place self }
+    {
+        self.kind() == AllocationKind::None
+    }
+
+    /// Whether there is a place.
+    pub fn is_some(self) -> bool
+        ensures { IsTrue result ↔ (is_no_place self ≡ false) }
+    {
+        self.kind() != AllocationKind::None
+    }
+
+    /// Whether it is a register.
+    pub fn is_reg(self) -> bool
+        ensures { result ≡ is_in_register self }
+    {
+        self.kind() == AllocationKind::Reg
+    }
+
+    /// Whether it is a spill slot.
+    pub fn is_stack(self) -> bool
+        ensures { result ≡ is_in_slot self }
+    {
+        self.kind() == AllocationKind::Stack
+    }
+
+    /// The index of the register or the number of the slot; 0 where there is no place.
+    pub fn index(self) -> usize
+        ensures { result ≡ index_of_place self }
+    {
+        (self.bits & 0x0fff_ffff) as usize
+    }
+
+    /// The register, where it is one.
+    pub fn as_reg(self) -> Option<PReg>
+        ensures { result ≡ register_of_place self }
+    {
+        if self.bits >> 29 == 1 {
+            Some(PReg::from_index(self.index()))
+        } else {
+            None
+        }
+    }
+
+    /// The spill slot, where it is one.
+    pub fn as_stack(self) -> Option<SpillSlot>
+        ensures { result ≡ slot_of_place self }
+    {
+        if self.bits >> 29 == 2 {
+            Some(SpillSlot {
+                bits: self.bits & 0x0fff_ffff,
+            })
+        } else {
+            None
+        }
+    }
+
+    /// The word that holds the place, and gives it back.
+    pub fn bits(self) -> u32
+        ensures bits { result ≡ bits_of_place self }
+        ensures word { IsPlaceBits result }
+        ensures place { place_of_bits result ≡ self }
+    {
+        let Self { bits } = self;
+        bits
+    }
+
+    /// Whether a word is that of a place.
+    pub fn is_bits(bits: u32) -> bool
+        ensures { IsTrue result ↔ IsPlaceBits bits }
+    {
+        let index = bits & 0x1fff_ffff;
+        match bits >> 29 {
+            0 => index == 0,
+            1 => index < 192,
+            2 => index <= 0x00ff_ffff,
+            _ => false,
+        }
+    }
+
+    /// The place of that word, which `is_bits` accepts.
+    pub fn from_bits(bits: u32) -> Self
+        requires { IsPlaceBits bits }
+        ensures place { result ≡ place_of_bits bits }
+        ensures back { bits_of_place result ≡ bits }
+    {
+        Allocation { bits }
+    }
+}
+
+/// No place, with which short lists of places fill what they do not use.
+impl Default for Allocation {
+    ghost use Rattle.std.specs.Prelude.{◌≡◌};
+    ghost use Rattle.regalloc2_names.specs.Place.{NoPlace};
+
+    ghost is_default = { λ a. a ≡ NoPlace };
+
+    fn default() -> Allocation {
+        Allocation::none()
+    }
+}

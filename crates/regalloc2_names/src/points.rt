@@ -1,0 +1,140 @@
+//! Points before and after instructions.
+
+ghost use Rattle.std.specs.Prelude.{◌≡◌, ◌≢◌, ℕ, ◌+◌, ◌-◌, ◌<◌, ◌↔◌, IsTrue};
+ghost use Rattle.regalloc2_names.specs.Point.{IsPointNumber, after, before, inst_of_point, invalid_inst, invalid_point, point_at, position_of_point};
+
+use super::InstPosition;
+use regalloc2_index::Inst;
+use std::marker::Model;
+
+/// A point before or after an instruction, which a contract sees as its number in the order of points.
+///
+/// That number is twice the instruction's, and one more for the point after it. `Inst::invalid()` has the
+/// two points past all others.
+#[derive(Clone, Copy, PartialEq, Eq, PartialOrd, Ord, Hash)]
+pub struct ProgPoint {
+    bits: u32,
+}
+
+impl Model for ProgPoint {
+    ghost use Rattle.std.specs.Prelude.{ℕ};
+    ghost use Rattle.regalloc2_names.specs.Point.{IsPointNumber};
+
+    ghost Value = { ℕ };
+
+    ghost view = { λ p. p.bits };
+
+    ghost invariant = { λ p. IsPointNumber p.bits };
+
+    ghost inverse = { λ n. record { bits = n } };
+}
+
+impl ProgPoint {
+    /// The point at that position of that instruction, whose number is below 2^30 or that of `Inst::invalid()`.
+    pub fn new(inst: Inst, pos: InstPosition) -> Self
+        requires { inst ≢ invalid_inst → inst < 1073741824 }
+        ensures point { inst ≢ invalid_inst → result ≡ point_at inst pos }
+        ensures invalid { inst ≡ invalid_inst → result ≡ invalid_point pos }
+    {
+        match pos {
+            InstPosition::Before => ProgPoint::before(inst),
+            InstPosition::After => ProgPoint::after(inst),
+        }
+    }
+
+    /// The point before that instruction.
+    pub fn before(inst: Inst) -> Self
+        requires { inst ≢ invalid_inst → inst < 1073741824 }
+        ensures point { inst ≢ invalid_inst → result ≡ before inst }
+        ensures invalid { inst ≡ invalid_inst → result ≡ 4294967294 }
+    {
+        ProgPoint { bits: inst.0 << 1 }
+    }
+
+    /// The point after that instruction.
+    #[tactic(auto, using(crate::proofs::Words::odd_word))]
+    pub fn after(inst: Inst) -> Self
+        requires { inst ≢ invalid_inst → inst < 1073741824 }
+        ensures point { inst ≢ invalid_inst → result ≡ after inst }
+        ensures invalid { inst ≡ invalid_inst → result ≡ 4294967295 }
+    {
+        ProgPoint {
+            bits: (inst.0 << 1) | 1,
+        }
+    }
+
+    /// The instruction of the point.
+    pub fn inst(self) -> Inst
+        ensures inst { result ≡ inst_of_point self }
+        ensures valid { result ≢ invalid_inst → result < 1073741824 }
+    {
+        if self.bits < 1 << 31 {
+            Inst(self.bits >> 1)
+        } else {
+            Inst::invalid()
+        }
+    }
+
+    /// Before or after that instruction.
+    pub fn pos(self) -> InstPosition
+        ensures { result ≡ position_of_point self }
+    {
+        if self.bits & 1 == 0 {
+            InstPosition::Before
+        } else {
+            InstPosition::After
+        }
+    }
+
+    /// The number of the point in the order of points.
+    pub fn to_index(self) -> u32
+        ensures index { result ≡ self }
+        ensures point { IsPointNumber self }
+    {
+        let Self { bits } = self;
+        bits
+    }
+
+    /// Whether a number is that of a point.
+    pub fn is_index(index: u32) -> bool
+        ensures { IsTrue result ↔ IsPointNumber index }
+    {
+        index < 1 << 31 || index >= u32::MAX - 1
+    }
+
+    /// The point of that number, which `is_index` accepts.
+    pub fn from_index(index: u32) -> Self
+        requires { IsPointNumber index }
+        ensures { result ≡ index }
+    {
+        ProgPoint { bits: index }
+    }
+
+    /// The next point, where there is one: after an instruction comes what is before the next.
+    pub fn next(self) -> Self
+        requires { IsPointNumber (self + 1) }
+        ensures { result ≡ self + 1 }
+    {
+        ProgPoint {
+            bits: self.bits + 1,
+        }
+    }
+
+    /// The point before, where there is one.
+    pub fn prev(self) -> Self
+        requires not_first { 0 < self }
+        requires point { IsPointNumber (self - 1) }
+        ensures { result ≡ self - 1 }
+    {
+        ProgPoint {
+            bits: self.bits - 1,
+        }
+    }
+
+    /// The point before `Inst::invalid()`, which stands for none.
+    pub fn invalid() -> Self
+        ensures { result ≡ 4294967294 }
+    {
+        ProgPoint::before(Inst::invalid())
+    }
+}

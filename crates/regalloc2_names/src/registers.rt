@@ -1,0 +1,133 @@
+//! Hardware registers.
+
+ghost use Rattle.std.specs.Prelude.{◌≡◌, ◌≢◌, ℕ, ◌<◌, ◌≤◌, ◌↔◌, IsTrue, MatchOption};
+ghost use Rattle.regalloc2_names.specs.RegisterBits.{IsRegisterIndex, bits_of_register, register_of_bits};
+ghost use Rattle.regalloc2_names.specs.Register.{IsRegister, invalid_register};
+
+use super::RegClass;
+use std::marker::Model;
+
+/// A hardware register: a number from 0 to 63 in the register file of a class.
+///
+/// Packed into one byte, the class in the top two bits, which is also its index among all registers.
+#[derive(Clone, Copy, PartialEq, Eq, PartialOrd, Ord, Hash)]
+pub struct PReg {
+    bits: u8,
+}
+
+impl Model for PReg {
+    ghost use Rattle.std.specs.Prelude.{ℕ};
+    ghost use Rattle.std.proofs.Common.{ap};
+    ghost use Rattle.regalloc2_names.specs.Register.{Register};
+    ghost use Rattle.regalloc2_names.specs.RegisterBits.{IsRegisterIndex, register_of_bits, bits_of_register, bits_of_register-register_of_bits};
+
+    ghost Value = { Register };
+
+    ghost view = { λ r. register_of_bits r.bits };
+
+    ghost invariant = { λ r. IsRegisterIndex r.bits };
+
+    ghost inverse = { λ r. record { bits = bits_of_register r } };
+
+    ghost inverse_ok = { λ r h. ap (λ (b : ℕ). record { bits = b }) (bits_of_register-register_of_bits r.bits h) };
+}
+
+impl PReg {
+    /// How many bits a hardware number has.
+    pub const MAX_BITS: usize = 6;
+
+    /// The greatest hardware number.
+    pub const MAX: usize = 63;
+
+    /// How many numbers an index may have, the unused ones of a fourth class among them.
+    pub const NUM_INDEX: usize = 256;
+
+    /// The index of the invalid register.
+    pub const INVALID: u8 = 63;
+
+    /// The register with that number in the register file of that class.
+    pub fn new(hw_enc: usize, class: RegClass) -> Self
+        requires { hw_enc ≤ PReg.MAX }
+        ensures { result ≡ record { number = hw_enc; class = class } }
+    {
+        PReg {
+            bits: ((class as u8) << 6) | (hw_enc as u8),
+        }
+    }
+
+    /// The number in the class's register file.
+    pub fn hw_enc(self) -> usize
+        ensures number { result ≡ self.number }
+        ensures small { result ≤ PReg.MAX }
+    {
+        self.bits as usize & Self::MAX
+    }
+
+    /// The class of the register file.
+    pub fn class(self) -> RegClass
+        ensures { result ≡ self.class }
+    {
+        match (self.bits >> 6) & 0b11 {
+            0 => RegClass::Int,
+            1 => RegClass::Float,
+            2 => RegClass::Vector,
+            _ => unreachable!(),
+        }
+    }
+
+    /// The place among all registers: those of the class `Int` first, then `Float`, then `Vector`.
+    pub fn index(self) -> usize
+        ensures index { result ≡ bits_of_register self }
+        ensures small { result < 192 }
+        ensures valid { IsRegister self }
+    {
+        usize::from(self.bits)
+    }
+
+    /// Whether a number is the index of a register.
+    pub fn is_index(index: usize) -> bool
+        ensures { IsTrue result ↔ IsRegisterIndex index }
+    {
+        index < 192
+    }
+
+    /// The register of that index, which `is_index` accepts.
+    pub fn from_index(index: usize) -> Self
+        requires { IsRegisterIndex index }
+        ensures register { result ≡ register_of_bits index }
+        ensures back { bits_of_register result ≡ index }
+    {
+        PReg { bits: index as u8 }
+    }
+
+    /// The register that stands for none: number 63 of the class `Int`.
+    pub fn invalid() -> Self
+        ensures { result ≡ invalid_register }
+    {
+        PReg {
+            bits: Self::INVALID,
+        }
+    }
+
+    /// The register itself, or `None` for the invalid one.
+    pub fn as_valid(self) -> Option<PReg>
+        ensures { MatchOption result (self ≡ invalid_register) (λ r. (r ≡ self) × (self ≢ invalid_register)) }
+    {
+        if self == Self::invalid() {
+            None
+        } else {
+            Some(self)
+        }
+    }
+}
+
+impl Default for PReg {
+    ghost use Rattle.std.specs.Prelude.{◌≡◌};
+    ghost use Rattle.regalloc2_names.specs.Register.{invalid_register};
+
+    ghost is_default = { λ r. r ≡ invalid_register };
+
+    fn default() -> PReg {
+        PReg::invalid()
+    }
+}

@@ -1,0 +1,304 @@
+//! Sets of registers.
+
+ghost use Rattle.std.specs.Prelude.{◌≢◌, ◌∷◌, [], List, Contains, ◌≡◌, ◌≤◌, ℕ, ◌<◌, ◌↔◌, ◌||◌, ◌&&◌, not, false, true, IsTrue, IfSome, IsNone, length, nat_lt};
+ghost use Rattle.regalloc2_names.specs.Register.{IsRegister, Register, class_code, is_register};
+ghost use Rattle.regalloc2_names.specs.RegisterBits.{bits_of_register};
+ghost use Rattle.std.specs.Int.{bit_at};
+ghost use Rattle.regalloc2_names.specs.RegisterSet.{has_register, word_members, registers_of};
+ghost use Rattle.regalloc2_names.specs.declared.RegClass.{RegClass};
+ghost use Rattle.std.specs.Iterator.{YieldsFirst, item_count};
+
+use super::{PReg, RegClass};
+use std::alloc::{AllocError, Global};
+use std::marker::Model;
+use std::ops::{BitAnd, BitOr};
+
+/// A set of the 192 registers, one word of bits for each class.
+#[derive(Clone, Copy, Debug, PartialEq, Eq)]
+pub struct PRegSet {
+    bits: [u64; 3],
+}
+
+#[tactic(auto, unfolding(crate::specs::RegisterSet::has_register))]
+impl PRegSet {
+    /// The set of no register.
+    pub fn empty() -> Self
+        ensures { (r : Register) → has_register result r ≡ false }
+    {
+        PRegSet { bits: [0; 3] }
+    }
+
+    fn split_index(reg: PReg) -> (usize, usize)
+        ensures word { result.0 ≡ class_code reg.class }
+        ensures bit { result.1 ≡ reg.number }
+        ensures word_small { result.0 < 3 }
+        ensures bit_small { result.1 < 64 }
+    {
+        (reg.class() as usize, reg.hw_enc())
+    }
+
+    /// Whether the register is in the set.
+    pub fn contains(&self, reg: PReg) -> bool
+        ensures member { result ≡ has_register self.now reg }
+        ensures in_range { reg.number ≤ PReg.MAX }
+    {
+        let (index, bit) = Self::split_index(reg);
+        self.bits[index] & (1 << bit) != 0
+    }
+
+    /// Puts the register into the set.
+    pub fn add(&mut self, reg: PReg)
+        ensures members { (r : Register) → has_register self.new r ≡ is_register reg r || has_register self.old r }
+        ensures in_range { reg.number ≤ PReg.MAX }
+    {
+        let (index, bit) = Self::split_index(reg);
+        self.bits[index] |= 1 << bit;
+    }
+
+    /// The set and that register.
+    pub fn with(self, reg: PReg) -> Self
+        ensures members { (r : Register) → has_register result r ≡ is_register reg r || has_register self r }
+        ensures in_range { reg.number ≤ PReg.MAX }
+    {
+        let mut out = self;
+        out.add(reg);
+        out
+    }
+
+    /// Takes the register out of the set.
+    pub fn remove(&mut self, reg: PReg)
+        ensures members { (r : Register) → has_register self.new r ≡ not (is_register reg r) && has_register self.old r }
+        ensures in_range { reg.number ≤ PReg.MAX }
+    {
+        let (index, bit) = Self::split_index(reg);
+        self.bits[index] &= !(1 << bit);
+    }
+
+    /// Puts the other set's registers into the set.
+    pub fn union_from(&mut self, other: PRegSet)
+        ensures { (r : Register) → has_register self.new r ≡ has_register self.old r || has_register other r }
+    {
+        let [a, b, c] = self.bits;
+        let [d, e, f] = other.bits;
+        self.bits = [a | d, b | e, c | f];
+    }
+
+    /// Takes out what isn't in the other set.
+    pub fn intersect_from(&mut self, other: PRegSet)
+        ensures { (r : Register) → has_register self.new r ≡ has_register self.old r && has_register other r }
+    {
+        let [a, b, c] = self.bits;
+        let [d, e, f] = other.bits;
+        self.bits = [a & d, b & e, c & f];
+    }
+
+    /// The registers that aren't in the set.
+    pub fn invert(&self) -> PRegSet
+        ensures { (r : Register) → IsRegister r → has_register result r ≡ not (has_register self.now r) }
+    {
+        let [a, b, c] = self.bits;
+        PRegSet { bits: [!a, !b, !c] }
+    }
+
+    /// Whether the set has no register of that class.
+    pub fn is_empty(&self, regclass: RegClass) -> bool
+        ensures { IsTrue result ↔ ((r : Register) → r.class ≡ regclass → has_register self.now r ≡ false) }
+    {
+        self.bits[regclass as usize] == 0
+    }
+
+    /// How many registers are in the set.
+    pub fn len(&self) -> u32
+        ensures len { result ≡ length (registers_of self.now) }
+        ensures small { result ≤ 192 }
+    {
+        let [a, b, c] = self.bits;
+        a.count_ones() + b.count_ones() + c.count_ones()
+    }
+
+    /// The register of the greatest index in the set.
+    pub fn max_preg(&self) -> Option<PReg>
+        ensures none { IsNone result ↔ ((r : Register) → has_register self.now r ≡ false) }
+        ensures member { IfSome result (λ m. has_register self.now m ≡ true) }
+        ensures greatest { IfSome result (λ m. (r : Register) → has_register self.now r ≡ true → bits_of_register r ≤ bits_of_register m) }
+    {
+        let [int, float, vector] = self.bits;
+        if vector != 0 {
+            Some(PReg::new(highest_bit(vector), RegClass::Vector))
+        } else if float != 0 {
+            Some(PReg::new(highest_bit(float), RegClass::Float))
+        } else if int != 0 {
+            Some(PReg::new(highest_bit(int), RegClass::Int))
+        } else {
+            None
+        }
+    }
+
+    /// Puts every register of a lower index than that one into the set.
+    pub fn add_up_to(&mut self, reg: PReg)
+        ensures { (r : Register) → IsRegister r → has_register self.new r ≡ nat_lt (bits_of_register r) (bits_of_register reg) || has_register self.old r }
+    {
+        let low = (1 << reg.hw_enc()) - 1;
+        let [int, float, vector] = self.bits;
+        self.bits = match reg.class() {
+            RegClass::Int => [int | low, float, vector],
+            RegClass::Float => [u64::MAX, float | low, vector],
+            RegClass::Vector => [u64::MAX, u64::MAX, vector | low],
+        };
+    }
+}
+
+/// Which is the highest bit of a word that isn't 0.
+fn highest_bit(word: u64) -> usize
+    requires { word ≢ 0 }
+    ensures small { result < 64 }
+    ensures set { bit_at word result ≡ 1 }
+    ensures highest { (n : ℕ) → result < n → bit_at word n ≡ 0 }
+{
+    (63 - word.leading_zeros()) as usize
+}
+
+impl Default for PRegSet {
+    ghost use Rattle.std.specs.Prelude.{◌≡◌, false};
+    ghost use Rattle.regalloc2_names.specs.Register.{Register};
+    ghost use Rattle.regalloc2_names.specs.RegisterSet.{has_register};
+
+    ghost is_default = { λ s. (r : Register) → has_register s r ≡ false };
+
+    fn default() -> PRegSet {
+        Self::empty()
+    }
+}
+
+impl BitAnd<PRegSet> for PRegSet {
+    type Output = PRegSet;
+
+    ghost use Rattle.std.specs.Prelude.{◌≡◌, ◌&&◌};
+    ghost use Rattle.regalloc2_names.specs.Register.{Register};
+    ghost use Rattle.regalloc2_names.specs.RegisterSet.{has_register};
+
+    ghost bitand_gives = { λ a b s. (r : Register) → has_register s r ≡ has_register a r && has_register b r };
+
+    fn bitand(self, rhs: PRegSet) -> PRegSet {
+        let mut out = self;
+        out.intersect_from(rhs);
+        out
+    }
+}
+
+impl BitOr<PRegSet> for PRegSet {
+    type Output = PRegSet;
+
+    ghost use Rattle.std.specs.Prelude.{◌≡◌, ◌||◌};
+    ghost use Rattle.regalloc2_names.specs.Register.{Register};
+    ghost use Rattle.regalloc2_names.specs.RegisterSet.{has_register};
+
+    ghost bitor_gives = { λ a b s. (r : Register) → has_register s r ≡ has_register a r || has_register b r };
+
+    fn bitor(self, rhs: PRegSet) -> PRegSet {
+        let mut out = self;
+        out.union_from(rhs);
+        out
+    }
+}
+
+/// The registers of a set that are left, by rising index.
+#[derive(Debug, Drop)]
+pub struct PRegSetIter {
+    int: u64,
+    float: u64,
+    vector: u64,
+}
+
+impl Model for PRegSetIter {
+    ghost use Rattle.std.specs.Prelude.{List};
+    ghost use Rattle.regalloc2_names.specs.Register.{Register};
+
+    ghost Value = { List Register };
+
+    ghost use Rattle.regalloc2_names.specs.RegisterSet.{registers_of_words};
+
+    ghost view = { λ it. registers_of_words it.int it.float it.vector };
+}
+
+/// Takes the lowest bit out of a word, and says which it was.
+fn take_lowest(word: &mut u64) -> usize
+    requires { word.old ≢ 0 }
+    ensures taken { (class : RegClass) → word_members class 0 64 word.old ≡ record { number = result; class = class } ∷ word_members class 0 64 word.new }
+    ensures small { result < 64 }
+{
+    let bit = word.trailing_zeros();
+    *word &= !(1 << bit);
+    bit as usize
+}
+
+impl Iterator for PRegSetIter {
+    type Item = PReg;
+
+    ghost next_gives = { YieldsFirst (λ rest. rest) };
+
+    ghost remaining = { item_count (λ rest. rest) };
+
+    fn next(&mut self) -> Option<PReg> {
+        if self.int != 0 {
+            return Some(PReg::new(take_lowest(&mut self.int), RegClass::Int));
+        }
+        if self.float != 0 {
+            return Some(PReg::new(take_lowest(&mut self.float), RegClass::Float));
+        }
+        if self.vector != 0 {
+            return Some(PReg::new(take_lowest(&mut self.vector), RegClass::Vector));
+        }
+        None
+    }
+}
+
+impl IntoIterator for PRegSet {
+    type Item = PReg;
+
+    type IntoIter = PRegSetIter;
+
+    ghost use Rattle.regalloc2_names.specs.Listed.{IsWalkOf};
+
+    ghost into_iter_gives = { λ s it. IsWalkOf s it };
+
+    fn into_iter(self) -> PRegSetIter {
+        let [int, float, vector] = self.bits;
+        PRegSetIter { int, float, vector }
+    }
+}
+
+impl<'a> IntoIterator for &'a PRegSet {
+    type Item = PReg;
+
+    type IntoIter = PRegSetIter;
+
+    ghost use Rattle.regalloc2_names.specs.Listed.{IsWalkOf};
+
+    ghost into_iter_gives = { λ s it. IsWalkOf s.now it };
+
+    fn into_iter(self) -> PRegSetIter {
+        (*self).into_iter()
+    }
+}
+
+impl FromIterator<PReg> for PRegSet {
+    type Alloc = Global;
+
+    ghost use Rattle.std.specs.Prelude.{◌≡◌, ◌↔◌, true, Contains};
+    ghost use Rattle.regalloc2_names.specs.Register.{Register};
+    ghost use Rattle.regalloc2_names.specs.RegisterSet.{has_register};
+
+    ghost from_iter_gives = { λ xs s. (r : Register) → (has_register s r ≡ true) ↔ Contains xs r };
+
+    fn from_iter<U: IntoIterator<Item = PReg>>(
+        _alloc: Global,
+        iter: U,
+    ) -> Result<PRegSet, AllocError> {
+        let mut set = PRegSet::empty();
+        for reg in iter {
+            set.add(reg);
+        }
+        Ok(set)
+    }
+}

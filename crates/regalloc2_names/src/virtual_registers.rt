@@ -1,0 +1,104 @@
+//! Virtual registers.
+
+ghost use Rattle.std.specs.Prelude.{◌≡◌, ℕ, ◌<◌, ◌≤◌, ◌↔◌, IsTrue};
+ghost use Rattle.regalloc2_names.specs.RegisterBits.{IsVRegBits, bits_of_vreg, vreg_of_bits};
+ghost use Rattle.regalloc2_names.specs.Register.{IsVirtualRegister, invalid_vreg};
+
+use super::RegClass;
+use std::marker::Model;
+
+/// A virtual register: a number below 2^30 and the class of its values.
+///
+/// Packed into 32 bits, the class in the lower two.
+#[derive(Clone, Copy, PartialEq, Eq, PartialOrd, Ord, Hash)]
+pub struct VReg {
+    bits: u32,
+}
+
+impl Model for VReg {
+    ghost use Rattle.std.specs.Prelude.{ℕ};
+    ghost use Rattle.std.proofs.Common.{ap};
+    ghost use Rattle.regalloc2_names.specs.Register.{VirtualRegister};
+    ghost use Rattle.regalloc2_names.specs.RegisterBits.{IsVRegBits, vreg_of_bits, bits_of_vreg, bits_of_vreg-vreg_of_bits};
+
+    ghost Value = { VirtualRegister };
+
+    ghost view = { λ v. vreg_of_bits v.bits };
+
+    ghost invariant = { λ v. IsVRegBits v.bits };
+
+    ghost inverse = { λ v. record { bits = bits_of_vreg v } };
+
+    ghost inverse_ok = { λ v h. ap (λ (b : ℕ). record { bits = b }) (bits_of_vreg-vreg_of_bits v.bits h) };
+}
+
+impl VReg {
+    /// How many bits a number has.
+    pub const MAX_BITS: usize = 30;
+
+    /// The greatest number.
+    pub const MAX: usize = (1 << 30) - 1;
+
+    /// The virtual register with that number and class.
+    pub fn new(virt_reg: usize, class: RegClass) -> Self
+        requires { virt_reg ≤ VReg.MAX }
+        ensures { result ≡ record { number = virt_reg; class = class } }
+    {
+        VReg {
+            bits: ((virt_reg as u32) << 2) | (class as u8 as u32),
+        }
+    }
+
+    /// The number.
+    pub fn vreg(self) -> usize
+        ensures number { result ≡ self.number }
+        ensures small { result ≤ VReg.MAX }
+    {
+        (self.bits >> 2) as usize
+    }
+
+    /// The class of the values.
+    pub fn class(self) -> RegClass
+        ensures { result ≡ self.class }
+    {
+        match self.bits & 0b11 {
+            0 => RegClass::Int,
+            1 => RegClass::Float,
+            2 => RegClass::Vector,
+            _ => unreachable!(),
+        }
+    }
+
+    /// The virtual register that stands for none: the greatest number, of the class `Int`.
+    pub fn invalid() -> Self
+        ensures { result ≡ invalid_vreg }
+    {
+        VReg::new(Self::MAX, RegClass::Int)
+    }
+
+    /// The word that holds the number and, in the lower two bits, the class.
+    pub fn bits(self) -> usize
+        ensures bits { result ≡ bits_of_vreg self }
+        ensures word { IsVRegBits result }
+        ensures small { result < 4294967296 }
+        ensures valid { IsVirtualRegister self }
+    {
+        self.bits as usize
+    }
+
+    /// Whether a word is that of a virtual register.
+    pub fn is_bits(bits: u32) -> bool
+        ensures { IsTrue result ↔ IsVRegBits bits }
+    {
+        bits & 0b11 != 0b11
+    }
+
+    /// The virtual register of that word, which `is_bits` accepts.
+    pub fn from_bits(bits: u32) -> Self
+        requires { IsVRegBits bits }
+        ensures vreg { result ≡ vreg_of_bits bits }
+        ensures back { bits_of_vreg result ≡ bits }
+    {
+        VReg { bits }
+    }
+}

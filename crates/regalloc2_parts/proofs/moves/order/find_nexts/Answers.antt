@@ -1,0 +1,22 @@
+use Rattle.std.proofs.Common.{◌≡◌, ◌<◌, ◌+◌, length, arith, sym, subst}
+use Rattle.std.proofs.lemmas.List.Elements.{Contains-get_or}
+use Rattle.regalloc2_names.specs.Place.{Place}
+use Rattle.regalloc2_parts.specs.AtOnce.{ends_of, IsPlace, no_move}
+use Rattle.regalloc2_parts.specs.Giving.{from_at, IsWriterOf}
+use Rattle.regalloc2_parts.proofs.Lists.{length_ends, read_from}
+use Rattle.regalloc2_parts.proofs.Searching.{AreNextsTo, nexts_more}
+use Rattle.regalloc2_parts.proofs.moves.order.find_nexts.Goals as goal
+
+pub find_writer-requires-clause-real : goal.find_writer-requires-clause-real
+find_writer-requires-clause-real g c =
+    let many : length (ends_of c.args.moves.now) ≡ length c.args.moves.now = length_ends c.args.moves.now in
+    let low : c.loop-m.m-index < length (ends_of c.args.moves.now) = omega arith in
+    subst (λ (p : Place). IsPlace p) (sym (read_from c.args.moves.now c.loop-m.m-index c.m-item.result c.loop-m-test.true c.m-item.is))
+    (c.requires.proper _ (Contains-get_or (ends_of c.args.moves.now) c.loop-m.m-index no_move low)).0
+
+pub loop-m-preserved : goal.loop-m-preserved
+loop-m-preserved g c =
+    let is : IsWriterOf (ends_of c.args.moves.now) (from_at (ends_of c.args.moves.now) c.loop-m.m-index) c.find_writer.result =
+    subst (λ (p : Place). IsWriterOf (ends_of c.args.moves.now) p c.find_writer.result) (read_from c.args.moves.now c.loop-m.m-index c.m-item.result c.loop-m-test.true c.m-item.is) c.find_writer.ensures in
+    subst (λ x. AreNextsTo (ends_of c.args.moves.now) x (c.loop-m.m-index + 1)) (sym c.in_ok-push.ensures.ok)
+    (nexts_more (ends_of c.args.moves.now) c.loop-m.nexts.items c.loop-m.m-index c.find_writer.result c.loop-m.invariant is)

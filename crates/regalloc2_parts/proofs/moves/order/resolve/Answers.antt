@@ -1,0 +1,118 @@
+use Rattle.std.proofs.Common.{◌≡◌, ℕ, ◌<◌, ◌≤◌, List, length, true, false, rules, arith, sym, subst, ap, ◌∙◌, refl, get_or}
+use Rattle.std.specs.List.{All}
+use Rattle.std.specs.List.Sorted.{IsNonDecreasingBy}
+use Rattle.regalloc2_names.specs.Place.{Place}
+use Rattle.regalloc2_names.specs.PlaceBits.{bits_of_place}
+use Rattle.regalloc2_parts.specs.AtOnce.{ends_of, IsOfMoves}
+use Rattle.regalloc2_parts.specs.Giving.{AreApart, AreProper, AreNexts, IsOrder}
+use Rattle.regalloc2_parts.proofs.Lists.{length_ends}
+use Rattle.regalloc2_parts.proofs.Tidying.{tidied_apart, tidied_sorted}
+use Rattle.regalloc2_parts.proofs.Resolving.{real_proper, real_fair, resolves_short, resolves_free, resolves_order}
+use Rattle.regalloc2_parts.proofs.moves.order.resolve.Goals as goal
+
+pub returns-then-len-le1-clause-resolved : goal.returns-then-len-le1-clause-resolved
+returns-then-len-le1-clause-resolved g c = resolves_short c.args.moves.items c.requires.one_source c.requires.real (omega arith)
+
+pub returns-then-len-le1-clause-runnable : goal.returns-then-len-le1-clause-runnable
+returns-then-len-le1-clause-runnable g c = (resolves_short c.args.moves.items c.requires.one_source c.requires.real (omega arith)).plain refl
+
+pub tidy-requires : goal.tidy-requires
+tidy-requires g c = (search rules, (real_fair c.args.moves.items c.requires.one_source c.requires.real, real_proper c.args.moves.items c.requires.real))
+
+pub find_nexts-requires : goal.find_nexts-requires
+find_nexts-requires g c =
+    let old = c.args.moves.items in
+    let new = c.tidy.new.moves.items in (
+      omega arith,
+      (
+        subst (λ (xs : List (Place × Place × g.row.T.Denot)). IsNonDecreasingBy (λ (m : Place × Place × g.row.T.Denot). bits_of_place m.1) xs) (sym c.as_slice.ensures) (tidied_sorted (ends_of old) new c.tidy.ensures.tidied),
+        subst (λ (xs : List (Place × Place × g.row.T.Denot)). AreProper (ends_of xs)) (sym c.as_slice.ensures) (λ m h. real_proper old c.requires.real m (c.tidy.ensures.tidied.of_old m h)),
+      ),
+    )
+
+pub returns-then-are_free-clause-resolved : goal.returns-then-are_free-clause-resolved
+returns-then-are_free-clause-resolved g c =
+    let old = c.args.moves.items in
+    let new = c.tidy.new.moves.items in
+    let nexts = c.in_ok-nexts.nexts.items in
+    let ns : AreNexts (ends_of new) nexts = subst (λ (xs : List (Place × Place × g.row.T.Denot)). AreNexts (ends_of xs) nexts) c.as_slice.ensures c.in_ok-nexts.ensures.ok in
+    let free : (k : ℕ) → k < length c.as_slice-2.result.now → length c.as_slice-2.result.now ≤ get_or c.as_slice-2.result.now k 0 = c.if-are_free.ensures.0 refl in
+    resolves_free old new nexts c.requires.one_source c.requires.real (omega arith) c.tidy.ensures.tidied c.tidy.ensures.given ns
+    (subst (λ (xs : List ℕ). (k : ℕ) → k < length xs → length xs ≤ get_or xs k 0) c.as_slice-2.ensures free)
+
+pub returns-then-are_free-clause-runnable : goal.returns-then-are_free-clause-runnable
+returns-then-are_free-clause-runnable g c =
+    let old = c.args.moves.items in
+    let new = c.tidy.new.moves.items in
+    let nexts = c.in_ok-nexts.nexts.items in
+    let ns : AreNexts (ends_of new) nexts = subst (λ (xs : List (Place × Place × g.row.T.Denot)). AreNexts (ends_of xs) nexts) c.as_slice.ensures c.in_ok-nexts.ensures.ok in
+    let free : (k : ℕ) → k < length c.as_slice-2.result.now → length c.as_slice-2.result.now ≤ get_or c.as_slice-2.result.now k 0 = c.if-are_free.ensures.0 refl in
+    (resolves_free old new nexts c.requires.one_source c.requires.real (omega arith) c.tidy.ensures.tidied c.tidy.ensures.given ns
+    (subst (λ (xs : List ℕ). (k : ℕ) → k < length xs → length xs ≤ get_or xs k 0) c.as_slice-2.ensures free)).plain refl
+
+pub give_all-requires : goal.give_all-requires
+give_all-requires g c =
+    let old = c.args.moves.items in
+    let new = c.tidy.new.moves.items in
+    let nexts = c.in_ok-nexts.nexts.items in
+    let ns : AreNexts (ends_of new) nexts = subst (λ (xs : List (Place × Place × g.row.T.Denot)). AreNexts (ends_of xs) nexts) c.as_slice.ensures c.in_ok-nexts.ensures.ok in
+    let many : length (ends_of new) ≡ length new = length_ends new in
+    let apart : AreApart (ends_of new) = tidied_apart (ends_of old) (ends_of new) (real_fair old c.requires.one_source c.requires.real) c.tidy.ensures.tidied in (
+      search rules,
+      (
+        subst (λ (xs : List (Place × Place × g.row.T.Denot)). AreApart (ends_of xs)) (sym c.as_slice-3.ensures) apart,
+        (
+          subst (λ (xs : List (Place × Place × g.row.T.Denot)). AreNexts (ends_of xs) c.as_slice-4.result.now) (sym c.as_slice-3.ensures)
+              (subst (λ (ks : List ℕ). AreNexts (ends_of new) ks) (sym c.as_slice-4.ensures) ns),
+          ap length c.as_slice-4.ensures ∙ ns.as_many ∙ many ∙ sym (ap length c.as_slice-3.ensures),
+        ),
+      ),
+    )
+
+pub returns-then-len-clause-resolved : goal.returns-then-len-clause-resolved
+returns-then-len-clause-resolved g c =
+    let old = c.args.moves.items in
+    let new = c.tidy.new.moves.items in
+    let nexts = c.in_ok-nexts.nexts.items in
+    let ns : AreNexts (ends_of new) nexts = subst (λ (xs : List (Place × Place × g.row.T.Denot)). AreNexts (ends_of xs) nexts) c.as_slice.ensures c.in_ok-nexts.ensures.ok in
+    let order : IsOrder (ends_of new) nexts (ends_of c.in_ok-given.given.items) =
+    subst (λ (ks : List ℕ). IsOrder (ends_of new) ks (ends_of c.in_ok-given.given.items)) c.as_slice-4.ensures
+    (subst (λ (xs : List (Place × Place × g.row.T.Denot)). IsOrder (ends_of xs) c.as_slice-4.result.now (ends_of c.in_ok-given.given.items)) c.as_slice-3.ensures c.in_ok-given.ensures.order) in
+    let of_moves : All (IsOfMoves new) c.in_ok-given.given.items = subst (λ (xs : List (Place × Place × g.row.T.Denot)). All (IsOfMoves xs) c.in_ok-given.given.items) c.as_slice-3.ensures c.in_ok-given.ensures.of_moves in
+    resolves_order old new c.in_ok-given.given.items c.turn_round.new.moves.items nexts true c.requires.one_source c.requires.real (omega arith) c.tidy.ensures.tidied c.tidy.ensures.given ns order of_moves c.turn_round.ensures (λ e. omega arith) (λ e. absurd cc)
+
+pub returns-then-len-clause-runnable : goal.returns-then-len-clause-runnable
+returns-then-len-clause-runnable g c =
+    let old = c.args.moves.items in
+    let new = c.tidy.new.moves.items in
+    let nexts = c.in_ok-nexts.nexts.items in
+    let ns : AreNexts (ends_of new) nexts = subst (λ (xs : List (Place × Place × g.row.T.Denot)). AreNexts (ends_of xs) nexts) c.as_slice.ensures c.in_ok-nexts.ensures.ok in
+    let order : IsOrder (ends_of new) nexts (ends_of c.in_ok-given.given.items) =
+    subst (λ (ks : List ℕ). IsOrder (ends_of new) ks (ends_of c.in_ok-given.given.items)) c.as_slice-4.ensures
+    (subst (λ (xs : List (Place × Place × g.row.T.Denot)). IsOrder (ends_of xs) c.as_slice-4.result.now (ends_of c.in_ok-given.given.items)) c.as_slice-3.ensures c.in_ok-given.ensures.order) in
+    let of_moves : All (IsOfMoves new) c.in_ok-given.given.items = subst (λ (xs : List (Place × Place × g.row.T.Denot)). All (IsOfMoves xs) c.in_ok-given.given.items) c.as_slice-3.ensures c.in_ok-given.ensures.of_moves in
+    (resolves_order old new c.in_ok-given.given.items c.turn_round.new.moves.items nexts true c.requires.one_source c.requires.real (omega arith) c.tidy.ensures.tidied c.tidy.ensures.given ns order of_moves c.turn_round.ensures (λ e. omega arith) (λ e. absurd cc)).written
+
+pub returns-clause-resolved : goal.returns-clause-resolved
+returns-clause-resolved g c =
+    let old = c.args.moves.items in
+    let new = c.tidy.new.moves.items in
+    let nexts = c.in_ok-nexts.nexts.items in
+    let ns : AreNexts (ends_of new) nexts = subst (λ (xs : List (Place × Place × g.row.T.Denot)). AreNexts (ends_of xs) nexts) c.as_slice.ensures c.in_ok-nexts.ensures.ok in
+    let order : IsOrder (ends_of new) nexts (ends_of c.in_ok-given.given.items) =
+    subst (λ (ks : List ℕ). IsOrder (ends_of new) ks (ends_of c.in_ok-given.given.items)) c.as_slice-4.ensures
+    (subst (λ (xs : List (Place × Place × g.row.T.Denot)). IsOrder (ends_of xs) c.as_slice-4.result.now (ends_of c.in_ok-given.given.items)) c.as_slice-3.ensures c.in_ok-given.ensures.order) in
+    let of_moves : All (IsOfMoves new) c.in_ok-given.given.items = subst (λ (xs : List (Place × Place × g.row.T.Denot)). All (IsOfMoves xs) c.in_ok-given.given.items) c.as_slice-3.ensures c.in_ok-given.ensures.of_moves in
+    resolves_order old new c.in_ok-given.given.items c.turn_round.new.moves.items nexts false c.requires.one_source c.requires.real (omega arith) c.tidy.ensures.tidied c.tidy.ensures.given ns order of_moves c.turn_round.ensures (λ e. absurd cc) (λ e. omega arith)
+
+pub returns-clause-runnable : goal.returns-clause-runnable
+returns-clause-runnable g c =
+    let old = c.args.moves.items in
+    let new = c.tidy.new.moves.items in
+    let nexts = c.in_ok-nexts.nexts.items in
+    let ns : AreNexts (ends_of new) nexts = subst (λ (xs : List (Place × Place × g.row.T.Denot)). AreNexts (ends_of xs) nexts) c.as_slice.ensures c.in_ok-nexts.ensures.ok in
+    let order : IsOrder (ends_of new) nexts (ends_of c.in_ok-given.given.items) =
+    subst (λ (ks : List ℕ). IsOrder (ends_of new) ks (ends_of c.in_ok-given.given.items)) c.as_slice-4.ensures
+    (subst (λ (xs : List (Place × Place × g.row.T.Denot)). IsOrder (ends_of xs) c.as_slice-4.result.now (ends_of c.in_ok-given.given.items)) c.as_slice-3.ensures c.in_ok-given.ensures.order) in
+    let of_moves : All (IsOfMoves new) c.in_ok-given.given.items = subst (λ (xs : List (Place × Place × g.row.T.Denot)). All (IsOfMoves xs) c.in_ok-given.given.items) c.as_slice-3.ensures c.in_ok-given.ensures.of_moves in
+    (resolves_order old new c.in_ok-given.given.items c.turn_round.new.moves.items nexts false c.requires.one_source c.requires.real (omega arith) c.tidy.ensures.tidied c.tidy.ensures.given ns order of_moves c.turn_round.ensures (λ e. absurd cc) (λ e. omega arith)).plain refl

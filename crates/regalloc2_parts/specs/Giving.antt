@@ -1,0 +1,206 @@
+-- What the private steps of the move resolver promise one another: moves are given out from the last to the first. No public contract speaks of this.
+use Rattle.std.specs.Prelude.{ℕ, ◌≡◌, ◌<◌, ◌≤◌, ◌+◌, ◌==◌, Bool, true, false, if◌then◌else◌, List, reverse, count_by, Contains, [], ◌∷◌, length, slice_index_or, ◌⊎◌}
+use Rattle.regalloc2_names.specs.Place.{Place, NoPlace, is_place}
+use Rattle.std.specs.List.{All, AllPairs}
+use Rattle.regalloc2_names.specs.PlaceBits.{bits_of_place}
+use Rattle.regalloc2_parts.specs.AtOnce.{Ends, no_move, WritesNoneFirst, IsPlace}
+use Rattle.regalloc2_parts.specs.declared.moves.order.State.{State}
+use Rattle.regalloc2_parts.specs.declared.moves.order.State.TheVariants.{Todo, Pending, Done}
+
+abbrev pub from_at : List Ends → ℕ → Place
+from_at ms k = (slice_index_or ms k no_move).from
+
+abbrev pub to_at : List Ends → ℕ → Place
+to_at ms k = (slice_index_or ms k no_move).to
+
+abbrev pub state_at : List State → ℕ → State
+state_at st k = slice_index_or st k Todo
+
+abbrev pub number_at : List ℕ → ℕ → ℕ
+number_at ks i = slice_index_or ks i 0
+
+-- the place from which a move takes what comes to stand at p
+abbrev pub before : Ends → Place → Place
+before m p = if is_place m.to p then m.from else p
+
+-- the place from which what comes to stand at q is taken, the moves run from the last to the first
+unfoldable pub origin : List Ends → Place → Place
+origin [] q = q
+origin (m ∷ ms) q = origin ms (before m q)
+
+-- where the move k takes its value from, while the move `cut` takes it from `none`
+abbrev pub source : ℕ → List Ends → ℕ → Place
+source cut ms k = if k == cut then NoPlace else from_at ms k
+
+-- each place has one writer, and no move names `none`
+pub record AreApart (ms : List Ends) : Type 0 where
+  pub one_writer : (j k : ℕ) → j < length ms → k < length ms → to_at ms j ≡ to_at ms k → j ≡ k
+  pub from_some : (k : ℕ) → k < length ms → from_at ms k ≡ NoPlace → ⊥
+  pub to_some : (k : ℕ) → k < length ms → to_at ms k ≡ NoPlace → ⊥
+  pub away : (k : ℕ) → k < length ms → from_at ms k ≡ to_at ms k → ⊥
+
+-- the move that writes a place, or past the end if there is none
+pub record IsWriterOf (ms : List Ends) (place : Place) (found : ℕ) : Type 0 where
+  pub within : found ≤ length ms
+  pub writes : found < length ms → to_at ms found ≡ place
+  pub absent : (found < length ms → ⊥) → (j : ℕ) → j < length ms → to_at ms j ≡ place → ⊥
+
+-- for each move, the one that writes what it reads, or past the end if there is none
+pub record AreNexts (ms : List Ends) (nexts : List ℕ) : Type 0 where
+  pub as_many : length nexts ≡ length ms
+  pub found : (k : ℕ) → k < length ms → number_at nexts k < length ms → to_at ms (number_at nexts k) ≡ from_at ms k
+  pub absent : (k : ℕ) → k < length ms → (number_at nexts k < length ms → ⊥) → (j : ℕ) → j < length ms → to_at ms j ≡ from_at ms k → ⊥
+
+-- what was given out makes the moves that are done at once, and each place that they read is written by moves that are done, if at all
+pub record HasGiven (cut : ℕ) (ms : List Ends) (st : List State) (given : List Ends) : Type 0 where
+  pub gave : (k : ℕ) → k < length ms → state_at st k ≡ Done → origin given (to_at ms k) ≡ source cut ms k
+  pub kept : (q : Place) → (q ≡ NoPlace → ⊥) → ((k : ℕ) → k < length ms → state_at st k ≡ Done → to_at ms k ≡ q → ⊥) → origin given q ≡ q
+  pub closed : (k j : ℕ) → k < length ms → j < length ms → state_at st k ≡ Done → to_at ms j ≡ source cut ms k → state_at st j ≡ Done
+
+-- the move that writes what the move k reads is done, if there is one
+abbrev pub IsNextDone : List ℕ → List State → ℕ → Type 0
+IsNextDone nexts st k = number_at nexts k < length nexts → state_at st (number_at nexts k) ≡ Done
+
+-- each of the moves is followed by the one that writes what it reads, and they are those that are pending
+pub record IsChain (nexts : List ℕ) (st : List State) (chain : List ℕ) : Type 0 where
+  pub inside : (i : ℕ) → i < length chain → number_at chain i < length nexts
+  pub pending : (i : ℕ) → i < length chain → state_at st (number_at chain i) ≡ Pending
+  pub differ : (i j : ℕ) → i < j → j < length chain → number_at chain i ≡ number_at chain j → ⊥
+  pub linked : (i : ℕ) → i + 1 < length chain → number_at nexts (number_at chain i) ≡ number_at chain (i + 1)
+  pub only : (k : ℕ) → k < length nexts → state_at st k ≡ Pending → (i : ℕ) × (i < length chain) × (number_at chain i ≡ k)
+
+-- what comes after the last move of the chain
+abbrev pub LeadsTo : List ℕ → List ℕ → ℕ → Type 0
+LeadsTo nexts chain stop = (i : ℕ) → i + 1 ≡ length chain → number_at nexts (number_at chain i) ≡ stop
+
+-- whether a move is done
+unfoldable pub is_done : State → Bool
+is_done Todo = false
+is_done Pending = false
+is_done Done = true
+
+-- a ring of moves, by their indexes: each is followed by the one that writes what it reads, and the last by the first
+pub record IsRingOf (nexts ring : List ℕ) : Type 0 where
+  pub many : 2 ≤ length ring
+  pub inside : (i : ℕ) → i < length ring → number_at ring i < length nexts
+  pub differ : (i j : ℕ) → i < j → j < length ring → number_at ring i ≡ number_at ring j → ⊥
+  pub linked : (i : ℕ) → i + 1 < length ring → number_at nexts (number_at ring i) ≡ number_at ring (i + 1)
+  pub closed : (i : ℕ) → i + 1 ≡ length ring → number_at nexts (number_at ring i) ≡ number_at ring 0
+
+abbrev pub ring_at : List (List ℕ) → ℕ → List ℕ
+ring_at rings r = slice_index_or rings r []
+
+-- a move stands in one of the rings
+abbrev pub StandsIn : List (List ℕ) → ℕ → Type 0
+StandsIn rings k = (r : ℕ) × (i : ℕ) × (r < length rings) × (i < length (ring_at rings r)) × (number_at (ring_at rings r) i ≡ k)
+
+-- the rings that were met as moves were given out, and how many moves that took: one for each that is done, and one for each ring
+pub record HasRings (nexts : List ℕ) (st : List State) (count : ℕ) : Type 0 where
+  pub rings : List (List ℕ)
+  pub each : (r : ℕ) → r < length rings → IsRingOf nexts (ring_at rings r)
+  pub apart : (r s i j : ℕ) → r < s → s < length rings → i < length (ring_at rings r) → j < length (ring_at rings s) → number_at (ring_at rings r) i ≡ number_at (ring_at rings s) j → ⊥
+  pub reached : (k : ℕ) → StandsIn rings k → state_at st k ≡ Todo → ⊥
+  pub onward : (k : ℕ) → k < length nexts → state_at st k ≡ Done → number_at nexts k < length nexts → (state_at st (number_at nexts k) ≡ Done) ⊎ StandsIn rings k
+  pub whole : (ring : List ℕ) → IsRingOf nexts ring → ((i : ℕ) → i < length ring → state_at st (number_at ring i) ≡ Done) → (i : ℕ) × (i < length ring) × StandsIn rings (number_at ring i)
+  pub counted : count ≡ count_by is_done st + length rings
+
+-- all moves in the rings are done
+abbrev pub AreRingsDone : List State → List (List ℕ) → Type 0
+AreRingsDone st rings = (k : ℕ) → StandsIn rings k → state_at st k ≡ Done
+
+-- what was given out writes `none` before it reads it
+abbrev pub HasWrittenFirst : List Ends → Type 0
+HasWrittenFirst given = WritesNoneFirst (reverse given)
+
+-- each move is from a place to a place
+abbrev pub AreBetween : List Ends → Type 0
+AreBetween ms = All (λ (m : Ends). (m.from ≡ NoPlace → ⊥) × (m.to ≡ NoPlace → ⊥)) ms
+
+-- where no ring took one more, each move that was given out is from a place to a place
+abbrev pub IsPlain : List State → List Ends → Type 0
+IsPlain st given = length given ≡ count_by is_done st → AreBetween given
+
+-- no ring is open
+pub record HasNoRing (ms : List Ends) (nexts : List ℕ) (st : List State) (given : List Ends) (cut first : ℕ) : Type 0 where
+  pub cut_past : cut ≡ length ms
+  pub first_past : first ≡ length ms
+  pub rings : HasRings nexts st (length given)
+  pub written : HasWrittenFirst given
+  pub plain : IsPlain st given
+
+-- the ring whose last move takes its value from `none`, down to its first, which is still to be given out
+pub record IsRing (ms : List Ends) (nexts : List ℕ) (st : List State) (chain : List ℕ) (given : List Ends) (cut first : ℕ) : Type 0 where
+  pub cut_within : cut < length ms
+  pub cut_done : state_at st cut ≡ Done
+  pub first_within : first < length ms
+  pub follows : to_at ms first ≡ from_at ms cut
+  pub stands : (i : ℕ) × (i < length chain) × (number_at chain i ≡ first)
+  pub rings : HasRings nexts st (length given + 1)
+  pub least : count_by is_done st ≤ length given
+
+-- the chain is being given out, from its end on
+pub record IsGiving (ms : List Ends) (nexts : List ℕ) (st : List State) (chain : List ℕ) (given : List Ends) (cut first : ℕ) : Type 0 where
+  pub had : HasGiven cut ms st given
+  pub is_chain : IsChain nexts st chain
+  pub ready : (i : ℕ) → i + 1 ≡ length chain → IsNextDone nexts st (number_at chain i)
+  pub ring : HasNoRing ms nexts st given cut first ⊎ IsRing ms nexts st chain given cut first
+
+-- the moves given out so far, with no ring open
+pub record HasGivenWhole (ms : List Ends) (nexts : List ℕ) (st : List State) (given : List Ends) : Type 0 where
+  pub had : HasGiven (length ms) ms st given
+  pub rings : HasRings nexts st (length given)
+  pub written : HasWrittenFirst given
+  pub plain : IsPlain st given
+
+-- no move is pending
+abbrev pub IsSettled : List State → Type 0
+IsSettled st = (k : ℕ) → k < length st → state_at st k ≡ Pending → ⊥
+
+-- what was not to be done at first isn't now
+abbrev pub HasGoneOn : List State → List State → Type 0
+HasGoneOn old new = (k : ℕ) → (state_at old k ≡ Todo → ⊥) → state_at new k ≡ Todo → ⊥
+
+-- the same moves are done
+pub record AreSameDone (old new : List State) : Type 0 where
+  pub stays : (k : ℕ) → state_at old k ≡ Done → state_at new k ≡ Done
+  pub was : (k : ℕ) → state_at new k ≡ Done → state_at old k ≡ Done
+
+-- p is the place from which what comes to stand at q is taken, where all moves are made at once
+pub record TakesFrom (ms : List Ends) (q p : Place) : Type 0 where
+  pub written : (k : ℕ) → k < length ms → to_at ms k ≡ q → p ≡ from_at ms k
+  pub unwritten : ((k : ℕ) → k < length ms → to_at ms k ≡ q → ⊥) → p ≡ q
+
+-- all moves were given out, and the rings among them are those that were met
+pub record IsOrder (ms : List Ends) (nexts : List ℕ) (given : List Ends) : Type 0 where
+  pub takes : (q : Place) → (q ≡ NoPlace → ⊥) → TakesFrom ms q (origin given q)
+  pub rings : List (List ℕ)
+  pub each : (r : ℕ) → r < length rings → IsRingOf nexts (ring_at rings r)
+  pub apart : (r s i j : ℕ) → r < s → s < length rings → i < length (ring_at rings r) → j < length (ring_at rings s) → number_at (ring_at rings r) i ≡ number_at (ring_at rings s) j → ⊥
+  pub whole : (ring : List ℕ) → IsRingOf nexts ring → (i : ℕ) × (i < length ring) × StandsIn rings (number_at ring i)
+  pub counted : length given ≡ length ms + length rings
+  pub written : HasWrittenFirst given
+  pub plain : length given ≡ length ms → AreBetween given
+
+-- the words of the places give them back
+abbrev pub AreProper : List Ends → Type 0
+AreProper ms = (m : Ends) → Contains ms m → IsPlace m.from × IsPlace m.to
+
+-- of two moves, the second writes a place of a higher word
+abbrev pub Below : Ends → Ends → Type 0
+Below x y = bits_of_place x.to < bits_of_place y.to
+
+-- the same moves once each, in order of their destinations, without those that change nothing
+pub record IsTidied (old new : List Ends) : Type 0 where
+  pub strict : AllPairs Below new
+  pub away : (m : Ends) → Contains new m → m.from ≡ m.to → ⊥
+  pub of_old : (m : Ends) → Contains new m → Contains old m
+  pub of_new : (m : Ends) → Contains old m → (m.from ≡ m.to → ⊥) → Contains new m
+
+-- two moves into one place are one move, and no move names no place
+pub record AreFair (ms : List Ends) : Type 0 where
+  pub one_source : (a b : Ends) → Contains ms a → Contains ms b → a.to ≡ b.to → a.from ≡ b.from
+  pub real : (m : Ends) → Contains ms m → (m.from ≡ NoPlace → ⊥) × (m.to ≡ NoPlace → ⊥)
+
+-- of two moves, the second writes a place of a higher word, or they are one move
+abbrev pub IsBefore : Ends → Ends → Type 0
+IsBefore x y = (bits_of_place x.to < bits_of_place y.to) ⊎ ((x.from ≡ y.from) × (x.to ≡ y.to))

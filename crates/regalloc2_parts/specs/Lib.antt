@@ -1,0 +1,9 @@
+pub mod LiveList
+pub mod Matching
+pub mod Parted
+pub mod Picked
+pub mod Ring
+pub mod AtOnce
+pub mod Giving
+pub mod Cycles
+pub mod Resolved

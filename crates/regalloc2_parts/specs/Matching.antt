@@ -1,0 +1,27 @@
+-- A walk over the operands that a closure accepts, as contracts see it.
+use Rattle.std.specs.Prelude.{ℕ, ◌≡◌, ◌+◌, ◌<◌, ◌≤◌, Bool, true, false, List, Option, MatchOption, length, slice_index_or}
+use Rattle.std.specs.List.{AllWithin}
+use Rattle.regalloc2_names.specs.Operand.{OperandValue}
+use Rattle.regalloc2_parts.specs.declared.iter.Matches.{Matches}
+
+-- the operands that the walk goes over
+abbrev pub operands_of : {F : Type 0} → Matches F → List OperandValue
+operands_of it = it.operands.now
+
+-- the index of the first operand that the closure has not been asked about
+abbrev pub next_index : {F : Type 0} → Matches F → ℕ
+next_index it = it.from
+
+-- the closure
+abbrev pub predicate_of : {F : Type 0} → Matches F → F
+predicate_of it = it.predicate
+
+-- the closure was asked about each operand from the next one on until it gave true: that operand with its index, or none at all;
+-- answers f o b: the closure f can give b at o
+abbrev pub GivesNextMatch : {F : Type 0} → (F → OperandValue → Bool → Type 0) → Matches F → Option (ℕ × OperandValue) → Matches F → Type 0
+GivesNextMatch answers it result after =
+    (operands_of after ≡ operands_of it) × (predicate_of after ≡ predicate_of it)
+    × MatchOption result
+    (AllWithin (λ o. answers (predicate_of it) o false) (operands_of it) (next_index it) (length (operands_of it)) × (length (operands_of it) ≤ next_index after))
+    (λ x. (next_index it ≤ x.0) × (x.0 < length (operands_of it)) × (slice_index_or (operands_of it) x.0 x.1 ≡ x.1) × answers (predicate_of it) x.1 true
+    × AllWithin (λ o. answers (predicate_of it) o false) (operands_of it) (next_index it) x.0 × (next_index after ≡ x.0 + 1))

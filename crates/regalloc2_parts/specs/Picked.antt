@@ -1,0 +1,97 @@
+-- Operands picked by what they do, as contracts see them.
+use Rattle.std.specs.Prelude.{ℕ, Bool, true, false, List, drop, filter}
+use Rattle.std.specs.List.{enumerate_from}
+use Rattle.regalloc2_names.specs.declared.OperandConstraint.{OperandConstraint}
+use Rattle.regalloc2_names.specs.declared.OperandConstraint.TheVariants.{Any, Reg, Stack, FixedReg, Reuse, Limit}
+use Rattle.regalloc2_names.specs.declared.OperandKind.{OperandKind}
+use Rattle.regalloc2_names.specs.declared.OperandKind.TheVariants as kinds
+use Rattle.regalloc2_names.specs.declared.OperandPos.{OperandPos}
+use Rattle.regalloc2_names.specs.declared.OperandPos.TheVariants as positions
+use Rattle.regalloc2_names.specs.Operand.{OperandValue}
+use Rattle.regalloc2_parts.specs.declared.iter.Pick.{Pick}
+use Rattle.regalloc2_parts.specs.declared.iter.Pick.TheVariants as picks
+
+abbrev pub defines : OperandKind → Bool
+defines kinds.Def = true
+defines kinds.Use = false
+
+-- it writes its virtual register
+abbrev pub is_def : OperandValue → Bool
+is_def o = defines o.kind
+
+abbrev pub uses : OperandKind → Bool
+uses kinds.Def = false
+uses kinds.Use = true
+
+-- it reads its virtual register
+abbrev pub is_use : OperandValue → Bool
+is_use o = uses o.kind
+
+abbrev pub stands_late : OperandPos → Bool
+stands_late positions.Early = false
+stands_late positions.Late = true
+
+-- it holds its place after the instruction's early part
+abbrev pub is_late : OperandValue → Bool
+is_late o = stands_late o.position
+
+abbrev pub stands_early : OperandPos → Bool
+stands_early positions.Early = true
+stands_early positions.Late = false
+
+-- it holds its place in the instruction's early part
+abbrev pub is_early : OperandValue → Bool
+is_early o = stands_early o.position
+
+abbrev pub asks_reuse : OperandConstraint → Bool
+asks_reuse Any = false
+asks_reuse Reg = false
+asks_reuse Stack = false
+asks_reuse (FixedReg r) = false
+asks_reuse (Reuse i) = true
+asks_reuse (Limit n) = false
+
+-- it takes the place of another operand
+abbrev pub is_reuse : OperandValue → Bool
+is_reuse o = asks_reuse o.constraint
+
+abbrev pub asks_by_name : OperandConstraint → Bool
+asks_by_name Any = false
+asks_by_name Reg = false
+asks_by_name Stack = false
+asks_by_name (FixedReg r) = true
+asks_by_name (Reuse i) = false
+asks_by_name (Limit n) = false
+
+-- it takes one register that it names
+abbrev pub is_fixed : OperandValue → Bool
+is_fixed o = asks_by_name o.constraint
+
+abbrev pub asks_any_reg : OperandConstraint → Bool
+asks_any_reg Any = false
+asks_any_reg Reg = true
+asks_any_reg Stack = false
+asks_any_reg (FixedReg r) = false
+asks_any_reg (Reuse i) = false
+asks_any_reg (Limit n) = false
+
+-- it takes a register, whichever
+abbrev pub is_any_reg : OperandValue → Bool
+is_any_reg o = asks_any_reg o.constraint
+
+-- whether an operand is picked
+abbrev pub accepts : Pick → OperandValue → Bool
+accepts picks.Def o = is_def o
+accepts picks.Use o = is_use o
+accepts picks.Reuse o = is_reuse o
+accepts picks.Fixed o = is_fixed o
+accepts picks.AnyReg o = is_any_reg o
+accepts picks.Late o = is_late o
+accepts picks.Early o = is_early o
+
+-- the operands that pass a test, each with its index, in order: those from an index on, and all
+abbrev pub left_from : (OperandValue → Bool) → ℕ → List OperandValue → List (ℕ × OperandValue)
+left_from test i operands = filter (λ x. test x.1) (enumerate_from i (drop i operands))
+
+abbrev pub picked : (OperandValue → Bool) → List OperandValue → List (ℕ × OperandValue)
+picked test operands = filter (λ x. test x.1) (enumerate_from 0 operands)

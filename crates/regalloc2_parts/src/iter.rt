@@ -1,0 +1,268 @@
+//! The operands of one instruction, picked by what they do.
+
+ghost use Rattle.std.specs.Prelude.{◌≡◌, ◌+◌, ◌-◌, ◌<◌, ◌∷◌, [], IfSome, IfNone, drop, length, slice_index_or};
+ghost use Rattle.std.specs.Iterator.{IsFinite, YieldsFirst, item_count, at_most};
+ghost use Rattle.regalloc2_names.specs.Operand.{OperandValue};
+ghost use Rattle.regalloc2_parts.specs.Picked.{accepts, left_from, picked, is_def, is_use, is_reuse, is_fixed, is_any_reg, is_late, is_early};
+ghost use Rattle.regalloc2_parts.specs.Matching.{GivesNextMatch, operands_of, next_index, predicate_of};
+
+use regalloc2_names::{Operand, OperandConstraint, OperandKind, OperandPos};
+use std::marker::Model;
+use std::ops::Index;
+
+/// The operands of one instruction.
+#[derive(Clone, Copy, Debug)]
+pub struct Operands<'a>(pub &'a [Operand]);
+
+impl<'a> Operands<'a> {
+    /// The operands of this slice.
+    pub fn new(operands: &'a [Operand]) -> Self
+        ensures { result.0.now ≡ operands.now }
+    {
+        Operands(operands)
+    }
+
+    /// The operands that `predicate` accepts, with their indexes.
+    pub fn matches<F: Fn(Operand) -> bool>(&self, predicate: F) -> Matches<'a, F>
+        ensures operands { operands_of result ≡ self.now.0.now }
+        ensures from_the_first { next_index result ≡ 0 }
+        ensures predicate { predicate_of result ≡ predicate }
+    {
+        let operands = self.0;
+        Matches {
+            operands,
+            from: 0,
+            predicate,
+        }
+    }
+
+    fn picked(&self, pick: Pick) -> PickedOperands<'a>
+        ensures { result ≡ picked (accepts pick) self.now.0.now }
+    {
+        PickedOperands {
+            operands: self.0,
+            from: 0,
+            pick,
+        }
+    }
+
+    /// The definitions, with their indexes.
+    pub fn def_ops(&self) -> PickedOperands<'a>
+        ensures { result ≡ picked is_def self.now.0.now }
+    {
+        self.picked(Pick::Def)
+    }
+
+    /// The uses, with their indexes.
+    pub fn use_ops(&self) -> PickedOperands<'a>
+        ensures { result ≡ picked is_use self.now.0.now }
+    {
+        self.picked(Pick::Use)
+    }
+
+    /// The operands that reuse another one's place, with their indexes.
+    pub fn reuse(&self) -> PickedOperands<'a>
+        ensures { result ≡ picked is_reuse self.now.0.now }
+    {
+        self.picked(Pick::Reuse)
+    }
+
+    /// The operands that ask for a register by name, with their indexes.
+    pub fn fixed(&self) -> PickedOperands<'a>
+        ensures { result ≡ picked is_fixed self.now.0.now }
+    {
+        self.picked(Pick::Fixed)
+    }
+
+    /// The operands that ask for any register, with their indexes.
+    pub fn any_reg(&self) -> PickedOperands<'a>
+        ensures { result ≡ picked is_any_reg self.now.0.now }
+    {
+        self.picked(Pick::AnyReg)
+    }
+
+    /// The late operands, with their indexes.
+    pub fn late(&self) -> PickedOperands<'a>
+        ensures { result ≡ picked is_late self.now.0.now }
+    {
+        self.picked(Pick::Late)
+    }
+
+    /// The early operands, with their indexes.
+    pub fn early(&self) -> PickedOperands<'a>
+        ensures { result ≡ picked is_early self.now.0.now }
+    {
+        self.picked(Pick::Early)
+    }
+}
+
+impl<'a> Index<usize> for Operands<'a> {
+    type Output = Operand;
+
+    ghost can_index = { λ operands i. i < length operands.0.now };
+
+    ghost index_gives = { λ operands i operand. (other : _) → slice_index_or operands.0.now i other ≡ operand };
+
+    fn index(&self, index: usize) -> &Operand {
+        &self.0[index]
+    }
+}
+
+/// What an operand is picked by.
+#[derive(Clone, Copy, Debug)]
+enum Pick {
+    Def,
+    Use,
+    Reuse,
+    Fixed,
+    AnyReg,
+    Late,
+    Early,
+}
+
+impl Pick {
+    fn accepts(self, operand: Operand) -> bool
+        ensures { result ≡ accepts self operand }
+    {
+        match self {
+            Pick::Def => matches!(operand.kind(), OperandKind::Def),
+            Pick::Use => matches!(operand.kind(), OperandKind::Use),
+            Pick::Reuse => matches!(operand.constraint(), OperandConstraint::Reuse(_)),
+            Pick::Fixed => matches!(operand.constraint(), OperandConstraint::FixedReg(_)),
+            Pick::AnyReg => matches!(operand.constraint(), OperandConstraint::Reg),
+            Pick::Late => matches!(operand.pos(), OperandPos::Late),
+            Pick::Early => matches!(operand.pos(), OperandPos::Early),
+        }
+    }
+}
+
+/// The first index from `from` on whose operand is picked.
+fn next_picked(operands: &[Operand], from: usize, pick: Pick) -> Option<usize>
+    ensures none { IfNone result (left_from (accepts pick) from operands.now ≡ []) }
+    ensures bound { IfSome result (λ i. i < length operands.now) }
+    ensures first { IfSome result (λ i. (other : OperandValue) → left_from (accepts pick) from operands.now ≡ (i, slice_index_or operands.now i other) ∷ left_from (accepts pick) (i + 1) operands.now) }
+{
+    for i in from..operands.len() {
+        if pick.accepts(operands[i]) {
+            return Some(i);
+        }
+    }
+    None
+}
+
+/// Picked operands with their indexes, in order: those that are left, seen as their list.
+#[derive(Clone, Debug, Drop)]
+pub struct PickedOperands<'a> {
+    operands: &'a [Operand],
+    from: usize,
+    pick: Pick,
+}
+
+impl<'a> Model for PickedOperands<'a> {
+    ghost use Rattle.std.specs.Prelude.{List, ℕ};
+    ghost use Rattle.regalloc2_names.specs.Operand.{OperandValue};
+    ghost use Rattle.regalloc2_parts.specs.Picked.{accepts, left_from};
+
+    ghost Value = { List (ℕ × OperandValue) };
+
+    ghost view = { λ it. left_from (accepts it.pick) it.from it.operands.now };
+}
+
+impl<'a> Iterator for PickedOperands<'a> {
+    type Item = (usize, Operand);
+
+    ghost next_gives = { YieldsFirst (λ left. left) };
+
+    ghost remaining = { item_count (λ left. left) };
+
+    fn next(&mut self) -> Option<(usize, Operand)> {
+        let index = next_picked(self.operands, self.from, self.pick)?;
+        self.from = index + 1;
+        Some((index, self.operands[index]))
+    }
+}
+
+/// The operands that a closure accepts, with their indexes, in order.
+#[derive(Drop)]
+pub struct Matches<'a, F> {
+    operands: &'a [Operand],
+    from: usize,
+    predicate: F,
+}
+
+impl<'a, F: Fn(Operand) -> bool + Drop> Iterator for Matches<'a, F> {
+    type Item = (usize, Operand);
+
+    ghost can_next = { λ it. F.IsAlwaysCallable (predicate_of it) };
+
+    ghost next_gives = { GivesNextMatch (λ f operand answer. F.post f operand answer) };
+
+    ghost remaining = { λ it. at_most (length (operands_of it) - next_index it) };
+
+    fn next(&mut self) -> Option<(usize, Operand)> {
+        while self.from < self.operands.len() {
+            let index = self.from;
+            let operand = self.operands[index];
+            self.from += 1;
+            if (self.predicate)(operand) {
+                return Some((index, operand));
+            }
+        }
+        None
+    }
+}
+
+#[cfg(test)]
+mod tests {
+    use super::*;
+    use regalloc2_names::{PReg, RegClass, VReg};
+    use std::test::Fail;
+
+    // The indexes that a walk gives, each as a digit of a number in base ten, after a leading 1.
+    fn digits<I: Iterator<Item = (usize, Operand)>>(walk: I) -> u64
+        requires can { I.can_next walk }
+        requires ends { IsFinite (I.remaining walk) }
+    {
+        let mut digits = 1u64;
+        for (index, _operand) in walk {
+            digits = digits.wrapping_mul(10).wrapping_add(index as u64);
+        }
+        digits
+    }
+
+    #[test]
+    fn picks(rt: HostRuntime) -> Result<(), Fail> {
+        let v0 = VReg::new(0, RegClass::Int);
+        let v1 = VReg::new(1, RegClass::Int);
+        let v2 = VReg::new(2, RegClass::Int);
+        let list = [
+            Operand::new(
+                v0,
+                OperandConstraint::Reuse(1),
+                OperandKind::Def,
+                OperandPos::Late,
+            ),
+            Operand::reg_use(v1),
+            Operand::new(
+                v2,
+                OperandConstraint::FixedReg(PReg::new(3, RegClass::Int)),
+                OperandKind::Use,
+                OperandPos::Late,
+            ),
+        ];
+        let operands = Operands::new(&list);
+        assert_eq!(rt; digits(operands.def_ops()), 10);
+        assert_eq!(rt; digits(operands.use_ops()), 112);
+        assert_eq!(rt; digits(operands.reuse()), 10);
+        assert_eq!(rt; digits(operands.fixed()), 12);
+        assert_eq!(rt; digits(operands.any_reg()), 11);
+        assert_eq!(rt; digits(operands.late()), 102);
+        assert_eq!(rt; digits(operands.early()), 11);
+        assert_eq!(rt;
+            digits(operands.matches(|operand| operand.vreg().vreg() != 1)),
+            102
+        );
+        assert_eq!(rt; operands[1].vreg(), v1);
+        Ok(())
+    }
+}

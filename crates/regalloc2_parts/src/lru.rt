@@ -1,0 +1,345 @@
+//! Registers in the order of their last use.
+
+ghost use Rattle.std.specs.Prelude.{◌≡◌, ◌-◌, ◌∷◌, ◌≤◌, ◌↔◌, ◌==◌, IsTrue, false, IfSome, IfNone, IfOk, IfErr, IsNone, All, Contains, length, not, filter, find, reverse, slice_get, slice_index_or, ◌≢◌, [], IsOk};
+ghost use Rattle.std.specs.List.{IsDistinct};
+ghost use Rattle.regalloc2_names.specs.declared.RegClass.{RegClass};
+ghost use Rattle.regalloc2_names.specs.Register.{Register, class_code, is_register};
+ghost use Rattle.regalloc2_names.specs.RegisterSet.{has_register};
+ghost use Rattle.regalloc2_parts.specs.Ring.{AreDistinctOf, IsNewRing, IsOldestAccepted, ring_of};
+
+use regalloc2_names::{PReg, PRegSet, RegAllocError, RegClass};
+use std::alloc::{Allocator, Global};
+use std::fmt;
+use std::marker::Model;
+use std::ops::{Index, IndexMut};
+
+/// The registers of one class in the order of their last use, seen as their list: the newest first.
+///
+/// No register stands twice in it, and none comes or goes: only the order changes.
+#[derive(Debug, Drop)]
+pub struct Lru<A: Allocator = Global> {
+    regs: Vec<PReg, A>,
+}
+
+impl<A: Allocator> Model for Lru<A> {
+    ghost use Rattle.std.specs.Prelude.{List};
+    ghost use Rattle.std.specs.List.{IsDistinct};
+    ghost use Rattle.regalloc2_names.specs.Register.{Register, is_register};
+
+    ghost Value = { List Register };
+
+    ghost view = { λ ring. ring.regs.items };
+
+    ghost invariant = { λ ring. IsDistinct is_register ring.regs.items };
+}
+
+/// Whether two names stand for one register.
+fn is_same(a: PReg, b: PReg) -> bool
+    ensures { result ≡ is_register a b }
+{
+    a.class() as u8 == b.class() as u8 && a.hw_enc() == b.hw_enc()
+}
+
+impl<A: Allocator> Lru<A> {
+    /// The ring of these registers of class `regclass`, the lowest number newest and the highest oldest.
+    ///
+    /// `Memory` where there is no room for them, which no contract can foresee; a ring of none takes no memory, and no
+    /// later call takes any.
+    pub fn new(alloc: A, regclass: RegClass, regs: &[PReg]) -> Result<Self, RegAllocError>
+        requires { AreDistinctOf regclass regs.now }
+        ensures ring { IfOk result (λ ring. IsNewRing regs.now ring) }
+        ensures memory { IfErr result (λ e. e ≡ RegAllocError.Memory) }
+        ensures empty { regs.now ≡ [] → IsOk result }
+    {
+        let mut list = Vec::with_capacity(alloc, regs.len())?;
+        list.extend_from_slice(regs)?;
+        list.sort_unstable_by_key(|r| r.hw_enc());
+        Ok(Lru { regs: list })
+    }
+
+    /// Makes a member the newest; the others keep their order.
+    pub fn poke(&mut self, preg: PReg)
+        requires { Contains self.old preg }
+        ensures moved { self.new ≡ preg ∷ filter (λ r. not (is_register preg r)) self.old }
+        ensures members { (r : Register) → Contains self.new r ↔ Contains self.old r }
+        ensures distinct { IsDistinct is_register self.new }
+    {
+        self.regs.retain(|r| !is_same(preg, *r));
+        self.regs.insert(0, preg).unwrap();
+    }
+
+    /// The oldest member, which stays in the ring; `None` for an empty ring.
+    pub fn pop(&mut self) -> Option<PReg>
+        ensures oldest { result ≡ slice_get self.old (length self.old - 1) }
+        ensures member { IfSome result (λ r. Contains self.old r) }
+        ensures unchanged { self.new ≡ self.old }
+        ensures distinct { IsDistinct is_register self.new }
+    {
+        self.regs.last().copied()
+    }
+
+    /// The oldest member that is in the set; `None` where no member is.
+    pub fn last(&self, from: PRegSet) -> Option<PReg>
+        ensures oldest { result ≡ find (has_register from) (reverse self.now) }
+        ensures member { IfSome result (λ r. Contains self.now r) }
+        ensures in_set { IfSome result (λ r. IsTrue (has_register from r)) }
+        ensures none { IfNone result (All (λ r. has_register from r ≡ false) self.now) }
+        ensures distinct { IsDistinct is_register self.now }
+    {
+        self.regs.iter().rev().copied().find(|r| from.contains(*r))
+    }
+
+    /// The oldest member that `f` accepts; `None` where it accepts none. `f` is asked from the oldest on, and no more
+    /// once it has accepted.
+    pub fn last_satisfying<F: Fn(PReg) -> bool + Drop>(&self, f: F) -> Option<PReg>
+        requires { F.IsAlwaysCallable f }
+        ensures oldest { IsOldestAccepted (λ r b. F.post f r b) self.now result }
+        ensures member { IfSome result (λ r. Contains self.now r) }
+    {
+        let regs = self.regs.as_slice();
+        let mut left = regs.len();
+        while left > 0 {
+            left -= 1;
+            let preg = regs[left];
+            if f(preg) {
+                return Some(preg);
+            }
+        }
+        None
+    }
+
+    /// Whether it has no member.
+    pub fn is_empty(&self) -> bool
+        ensures { result ≡ (length self.now == 0) }
+    {
+        self.regs.is_empty()
+    }
+}
+
+/// One value for each register class.
+#[derive(Clone, Copy, Debug, PartialEq, Eq, Drop)]
+pub struct PartedByRegClass<T> {
+    /// The values for `Int`, `Float` and `Vector`, in this order.
+    pub items: [T; 3],
+}
+
+impl<T> Index<RegClass> for PartedByRegClass<T> {
+    type Output = T;
+
+    ghost index_gives = { λ parted class value. (other : _) → slice_index_or parted.items (class_code class) other ≡ value };
+
+    fn index(&self, class: RegClass) -> &T {
+        &self.items[class as usize]
+    }
+}
+
+impl<T> IndexMut<RegClass> for PartedByRegClass<T> {
+    /// The value of a class, to be written. The contract says which value it is, and not what a write leaves in the others:
+    /// where that matters, write to `items[class as usize]`.
+    fn index_mut(&mut self, class: RegClass) -> &mut T
+        ensures { (other : _) → slice_index_or self.old.items (class_code class) other ≡ result.now }
+    {
+        &mut self.items[class as usize]
+    }
+}
+
+impl<T: fmt::Display> fmt::Display for PartedByRegClass<T> {
+    ghost use Rattle.regalloc2_parts.specs.Parted.{text_of_parts};
+
+    ghost output = { λ parted. text_of_parts T.output parted.items };
+
+    fn fmt<W: fmt::Write>(&self, f: &mut fmt::Formatter<W>) -> fmt::Result {
+        let [int, float, vector] = &self.items;
+        write!(f, "{{ int: {int}, float: {float}, vector: {vector} }}")
+    }
+}
+
+/// A ring for each register class.
+pub type Lrus<A = Global> = PartedByRegClass<Lru<A>>;
+
+impl<A: Allocator + Copy> PartedByRegClass<Lru<A>> {
+    /// The rings of the registers of the three classes, each as `Lru::new` makes it, and refused as it refuses.
+    ///
+    /// A function that is generic in its allocator makes rings that stay within it over `&alloc`.
+    pub fn new(
+        alloc: A,
+        int_regs: &[PReg],
+        float_regs: &[PReg],
+        vec_regs: &[PReg],
+    ) -> Result<Self, RegAllocError>
+        requires int { AreDistinctOf RegClass.Int int_regs.now }
+        requires float { AreDistinctOf RegClass.Float float_regs.now }
+        requires vector { AreDistinctOf RegClass.Vector vec_regs.now }
+        ensures three { IfOk result (λ rings. length rings.items ≡ 3) }
+        ensures int { IfOk result (λ rings. IsNewRing int_regs.now (ring_of rings.items RegClass.Int)) }
+        ensures float { IfOk result (λ rings. IsNewRing float_regs.now (ring_of rings.items RegClass.Float)) }
+        ensures vector { IfOk result (λ rings. IsNewRing vec_regs.now (ring_of rings.items RegClass.Vector)) }
+        ensures memory { IfErr result (λ e. e ≡ RegAllocError.Memory) }
+        ensures empty { int_regs.now ≡ [] → float_regs.now ≡ [] → vec_regs.now ≡ [] → IsOk result }
+    {
+        let int = Lru::new(alloc, RegClass::Int, int_regs)?;
+        let float = Lru::new(alloc, RegClass::Float, float_regs)?;
+        let vector = Lru::new(alloc, RegClass::Vector, vec_regs)?;
+        Ok(PartedByRegClass {
+            items: [int, float, vector],
+        })
+    }
+}
+
+impl<A: Allocator> PartedByRegClass<Lru<A>> {
+    /// Makes a member of a class's ring its newest, as `Lru::poke` does; the other rings stay.
+    pub fn poke(&mut self, class: RegClass, preg: PReg)
+        requires { Contains (ring_of self.old.items class) preg }
+        ensures moved { ring_of self.new.items class ≡ preg ∷ filter (λ r. not (is_register preg r)) (ring_of self.old.items class) }
+        ensures members { (r : Register) → Contains (ring_of self.new.items class) r ↔ Contains (ring_of self.old.items class) r }
+        ensures distinct { IsDistinct is_register (ring_of self.new.items class) }
+        ensures others { (other : RegClass) → other ≢ class → ring_of self.new.items other ≡ ring_of self.old.items other }
+    {
+        self.poke_ring(class, preg);
+    }
+
+    fn poke_ring(&mut self, class: RegClass, preg: PReg)
+        requires { Contains (ring_of self.old.items class) preg }
+        ensures moved { ring_of self.new.items class ≡ preg ∷ filter (λ r. not (is_register preg r)) (ring_of self.old.items class) }
+        ensures distinct { IsDistinct is_register (ring_of self.new.items class) }
+        ensures others { (other : RegClass) → other ≢ class → ring_of self.new.items other ≡ ring_of self.old.items other }
+    {
+        self.items[class as usize].poke(preg);
+    }
+
+    /// The oldest member of a class's ring, as `Lru::pop` answers it.
+    pub fn pop(&mut self, class: RegClass) -> Option<PReg>
+        ensures oldest { result ≡ slice_get (ring_of self.old.items class) (length (ring_of self.old.items class) - 1) }
+        ensures member { IfSome result (λ r. Contains (ring_of self.old.items class) r) }
+        ensures unchanged { self.new.items ≡ self.old.items }
+    {
+        self.items[class as usize].pop()
+    }
+
+    /// The oldest member of a class's ring that is in the set, as `Lru::last` answers it.
+    pub fn last(&self, class: RegClass, from: PRegSet) -> Option<PReg>
+        ensures oldest { result ≡ find (has_register from) (reverse (ring_of self.now.items class)) }
+        ensures member { IfSome result (λ r. Contains (ring_of self.now.items class) r) }
+        ensures in_set { IfSome result (λ r. IsTrue (has_register from r)) }
+        ensures none { IfNone result (All (λ r. has_register from r ≡ false) (ring_of self.now.items class)) }
+        ensures distinct { IsDistinct is_register (ring_of self.now.items class) }
+    {
+        self.items[class as usize].last(from)
+    }
+}
+
+#[cfg(test)]
+mod tests {
+    use super::*;
+    use regalloc2_refusing::Refusing;
+    use std::test::Fail;
+
+    fn int(number: usize) -> PReg
+        requires { number ≤ 63 }
+        ensures { result ≡ record { number = number; class = RegClass.Int } }
+    {
+        PReg::new(number, RegClass::Int)
+    }
+
+    // Makes rings that it does not give away.
+    fn oldest_of_none<A: Allocator + Copy>(alloc: A) -> Result<Option<PReg>, RegAllocError> {
+        let mut rings = Lrus::new(&alloc, &[], &[], &[])?;
+        Ok(rings.pop(RegClass::Int))
+    }
+
+    #[test]
+    fn pokes(rt: HostRuntime) -> Result<(), Fail> {
+        let mut ring = Lru::new(rt.alloc(), RegClass::Int, &[int(0), int(1), int(2)])?;
+        assert!(rt; !ring.is_empty());
+        let two = PRegSet::empty().with(int(0)).with(int(1));
+        let all = two.with(int(2));
+        ring.poke(int(1));
+        assert_eq!(rt; ring.last(all), Some(int(2)));
+        assert_eq!(rt; ring.last(two), Some(int(0)));
+        ring.poke(int(2));
+        assert_eq!(rt; ring.pop(), Some(int(0)));
+        assert_eq!(rt; ring.pop(), Some(int(0)));
+        assert_eq!(rt; ring.last(PRegSet::empty()), None);
+        assert_eq!(rt;
+            ring.last_satisfying(|preg| preg.hw_enc() != 0),
+            Some(int(1))
+        );
+        assert_eq!(rt; ring.last_satisfying(|preg| preg.hw_enc() == 7), None);
+        Ok(())
+    }
+
+    #[test]
+    fn answers_of_an_empty_ring(rt: HostRuntime) -> Result<(), Fail> {
+        let mut ring = Lru::new(rt.alloc(), RegClass::Float, &[])?;
+        assert!(rt; ring.is_empty());
+        assert_eq!(rt; ring.pop(), None);
+        assert_eq!(rt; ring.last(PRegSet::empty().with(int(0))), None);
+        Ok(())
+    }
+
+    #[test]
+    fn orders_by_number(rt: HostRuntime) -> Result<(), Fail> {
+        let mut ring = Lru::new(rt.alloc(), RegClass::Int, &[int(9), int(63), int(0)])?;
+        assert_eq!(rt; ring.pop(), Some(int(63)));
+        Ok(())
+    }
+
+    #[test]
+    fn parts_by_class(rt: HostRuntime) -> Result<(), Fail> {
+        let mut parted = PartedByRegClass {
+            items: [7u32, 8, 9],
+        };
+        parted[RegClass::Vector] = 10;
+        assert_eq!(rt; parted[RegClass::Float], 8);
+        let copy = parted;
+        assert_eq!(rt; copy, PartedByRegClass { items: [7, 8, 10] });
+        let text = format!(in rt.alloc(); "{parted}")?;
+        assert_eq!(rt; text.as_str(), "{ int: 7, float: 8, vector: 10 }");
+        Ok(())
+    }
+
+    #[test]
+    fn rings_of_three_classes(rt: HostRuntime) -> Result<(), Fail> {
+        let mut rings = Lrus::new(rt.alloc(), &[int(4), int(5)], &[], &[])?;
+        assert_eq!(rt; rings.pop(RegClass::Int), Some(int(5)));
+        assert_eq!(rt; rings.pop(RegClass::Float), None);
+        rings.poke(RegClass::Int, int(5));
+        assert_eq!(rt;
+            rings.last(RegClass::Int, PRegSet::empty().with(int(4)).with(int(5))),
+            Some(int(4))
+        );
+        Ok(())
+    }
+
+    fn one_each<A: Allocator>(alloc: &A) -> Result<Lrus<&A>, RegAllocError> {
+        let float = PReg::new(1, RegClass::Float);
+        let vector = PReg::new(2, RegClass::Vector);
+        Lrus::new(alloc, &[int(0)], &[float], &[vector])
+    }
+
+    #[test]
+    fn each_growth_refused(rt: HostRuntime) {
+        let mut met = 0u32;
+        for nth in 1..10u64 {
+            let alloc = Refusing::new(rt.alloc(), nth);
+            match one_each(&alloc) {
+                Ok(_rings) => break,
+                Err(refused) => assert_eq!(rt; refused, RegAllocError::Memory),
+            }
+            met = met.wrapping_add(1);
+        }
+        assert_eq!(rt; met, 3);
+    }
+
+    #[test]
+    fn takes_no_memory_once_made(rt: HostRuntime) -> Result<(), Fail> {
+        let alloc = Refusing::counting(rt.alloc());
+        let mut ring = Lru::new(&alloc, RegClass::Int, &[int(0), int(1)])?;
+        assert_eq!(rt; alloc.requests(), 1);
+        ring.poke(int(1));
+        assert_eq!(rt; ring.pop(), Some(int(0)));
+        assert_eq!(rt; ring.last(PRegSet::empty().with(int(1))), Some(int(1)));
+        assert_eq!(rt; alloc.requests(), 1);
+        Ok(())
+    }
+}

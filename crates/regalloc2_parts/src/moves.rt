@@ -1,0 +1,121 @@
+//! Moves that are to be made at once, put in an order in which they can be made one after another.
+//!
+//! The moves of a branch's arguments or of a call's are a parallel assignment: each destination takes what its source held before
+//! any of them. The order is found by a walk from each move to the one that writes what it reads; a cycle is broken through a
+//! scratch place.
+
+ghost use Rattle.std.specs.Prelude.{◌≡◌, ◌≢◌, ◌<◌, ◌≤◌, length, [], ◌∷◌, ◌++◌, IsOk, IfOk, OnOk, OnErr, IfErr};
+ghost use Rattle.regalloc2_names.specs.Place.{NoPlace};
+ghost use Rattle.regalloc2_parts.specs.AtOnce.{ends_of, HasOneSourceEach, IsPlace};
+
+mod order;
+mod resolved;
+
+use regalloc2_names::Allocation;
+pub use resolved::MoveVecWithScratch;
+use smallvec::SmallVec;
+use std::alloc::{AllocError, AllocFailed, Allocator, Global};
+use std::marker::Model;
+
+/// Moves in the order in which they are made: from a place, to a place, with a value of the caller's. 16 of them stand inline.
+pub type MoveVec<T, A = Global> = SmallVec<(Allocation, Allocation, T), 16, A>;
+
+/// Why moves could not be resolved.
+#[derive(Clone, Copy, Debug, PartialEq, Eq)]
+pub enum MoveFault {
+    /// A spill slot was needed, and the resolver's `get_stackslot` answered none.
+    NoSlot,
+    /// A growth was refused.
+    Memory,
+}
+
+impl From<AllocError> for MoveFault {
+    ghost use Rattle.std.specs.Prelude.{◌≡◌};
+    ghost use Rattle.regalloc2_parts.specs.declared.moves.MoveFault.TheVariants.{Memory};
+
+    ghost from_gives = { λ _ r. r ≡ Memory };
+
+    fn from(_: AllocError) -> Self {
+        MoveFault::Memory
+    }
+}
+
+impl<T: Drop> From<AllocFailed<T>> for MoveFault {
+    ghost use Rattle.std.specs.Prelude.{◌≡◌};
+    ghost use Rattle.regalloc2_parts.specs.declared.moves.MoveFault.TheVariants.{Memory};
+
+    ghost from_gives = { λ _ r. r ≡ Memory };
+
+    fn from(_: AllocFailed<T>) -> Self {
+        MoveFault::Memory
+    }
+}
+
+/// Moves that are to be made at once, seen as their list in the order in which they were added.
+///
+/// The first 16 stand inline and take no memory.
+#[derive(Drop)]
+pub struct ParallelMoves<T: Drop, A: Allocator = Global> {
+    parallel_moves: MoveVec<T, A>,
+}
+
+impl<T: Drop, A: Allocator> Model for ParallelMoves<T, A> {
+    ghost use Rattle.std.specs.Prelude.{List, ◌≤◌};
+    ghost use Rattle.regalloc2_names.specs.Place.{Place};
+    ghost use Rattle.regalloc2_parts.specs.AtOnce.{AreReal};
+
+    ghost Value = { List (Place × Place × T) };
+
+    ghost view = { λ p. p.parallel_moves.items };
+
+    ghost invariant = { λ p. AreReal p.parallel_moves.items × (16 ≤ p.parallel_moves.capacity) };
+}
+
+/// Its word gives a place back: the sort by words rests on this.
+fn has_word(place: Allocation)
+    ensures { IsPlace place }
+{
+    let _word = place.bits();
+}
+
+impl<T: Copy + Default, A: Allocator + Copy> ParallelMoves<T, A> {
+    ghost use Rattle.regalloc2_parts.specs.Resolved.{listed, has_scratch, IsResolution, IsRunnable};
+
+    /// No moves.
+    pub fn new(alloc: A) -> Self
+        ensures { result ≡ [] }
+    {
+        ParallelMoves {
+            parallel_moves: SmallVec::new(alloc),
+        }
+    }
+
+    /// One move more, from a place to a place. Refused, with `Memory`, only from the 17th on, and then nothing changes.
+    pub fn add(&mut self, from: Allocation, to: Allocation, t: T) -> Result<(), MoveFault>
+        requires from { from ≢ NoPlace }
+        requires to { to ≢ NoPlace }
+        ensures ok { OnOk result (self.new ≡ self.old ++ (from, to, t) ∷ []) }
+        ensures err { OnErr result (self.new ≡ self.old) }
+        ensures memory { IfErr result (λ e. e ≡ MoveFault.Memory) }
+        ensures inline { length self.old < 16 → IsOk result }
+    {
+        has_word(from);
+        has_word(to);
+        self.parallel_moves.push((from, to, t))?;
+        Ok(())
+    }
+
+    /// The moves in an order in which they can be made one after another as if they were made at once. Two moves into one place
+    /// are to be one and the same move. Refused, with `Memory`, where a growth was refused, and never for one move or none.
+    ///
+    /// The contract leaves open which order that is, and what a move into the scratch place carries.
+    pub fn resolve(self) -> Result<MoveVecWithScratch<T, A>, MoveFault>
+        requires { HasOneSourceEach (ends_of self) }
+        ensures resolved { IfOk result (λ r. IsResolution self (has_scratch r) (listed r)) }
+        ensures runnable { IfOk result (λ r. IsRunnable r) }
+        ensures short { length self ≤ 1 → IsOk result }
+        ensures memory { IfErr result (λ e. e ≡ MoveFault.Memory) }
+    {
+        order::resolve(self.parallel_moves)
+    }
+}

@@ -1,0 +1,287 @@
+//! The order in which moves that overlap are made.
+
+ghost use Rattle.std.specs.Prelude.{◌≡◌, ◌≢◌, ◌↔◌, ℕ, ◌+◌, ◌<◌, ◌≤◌, length, reverse, slice_index, [], Contains, EachIndex, IsTrue, IsOk, IfOk, IfErr, OnOk};
+ghost use Rattle.std.specs.List.{All};
+ghost use Rattle.std.specs.List.Sorted.{IsPermutation, IsNonDecreasingBy};
+ghost use Rattle.regalloc2_names.specs.Place.{Place, NoPlace};
+ghost use Rattle.regalloc2_names.specs.PlaceBits.{bits_of_place};
+ghost use Rattle.regalloc2_parts.specs.AtOnce.{ends_of, AreReal, HasOneSourceEach, IsOfMoves, IsPlace};
+ghost use Rattle.regalloc2_parts.specs.Giving.{AreFair, AreProper, IsTidied, IsWriterOf, AreApart, AreNexts, HasGivenWhole, IsOrder, IsChain, IsGiving, LeadsTo, IsSettled, HasGoneOn, AreSameDone, AreRingsDone, HasRings, state_at};
+ghost use Rattle.regalloc2_parts.specs.Resolved.{listed, has_scratch, IsResolution, IsRunnable};
+ghost use Rattle.regalloc2_parts.specs.declared.moves.order.State.TheVariants.{Todo, Pending, Done};
+
+use super::{MoveFault, MoveVec, MoveVecWithScratch};
+use regalloc2_names::Allocation;
+use smallvec::SmallVec;
+use std::alloc::{AllocError, Allocator};
+
+/// Indexes of moves, of which 16 stand inline.
+pub(super) type Indexes<'a, A> = SmallVec<usize, 16, &'a A>;
+
+/// How far a move has come.
+#[derive(Clone, Copy, Debug, Default, PartialEq, Eq)]
+pub(super) enum State {
+    /// It stands on no chain yet.
+    #[default]
+    Todo,
+    /// It stands on the chain that is followed.
+    Pending,
+    /// It was given out.
+    Done,
+}
+
+/// Follows a chain of moves, each by the one that writes what it reads, and answers where it stops: at a move that is no
+/// longer to be done, or past the end.
+fn follow<'a, B: Allocator>(
+    start: usize,
+    nexts: &[usize],
+    state: &mut [State],
+    chain: &mut Indexes<'a, B>,
+) -> Result<usize, AllocError>
+    requires as_many { length state.old ≡ length nexts.now }
+    requires settled { IsSettled state.old }
+    requires empty { chain.old.items ≡ [] }
+    requires start { state_at state.old start ≡ Todo }
+    requires within { start < length nexts.now }
+    ensures chain { OnOk result (IsChain nexts.now state.new chain.new.items) }
+    ensures link { IfOk result (λ stop. LeadsTo nexts.now chain.new.items stop) }
+    ensures stops { IfOk result (λ stop. stop < length nexts.now → state_at state.new stop ≢ Todo) }
+    ensures same { OnOk result (AreSameDone state.old state.new) }
+    ensures goes_on { OnOk result (HasGoneOn state.old state.new) }
+    ensures begun { OnOk result (state_at state.new start ≢ Todo) }
+{
+    let mut at = start;
+    while at < nexts.len() && matches!(state[at], State::Todo) {
+        chain.push(at)?;
+        state[at] = State::Pending;
+        at = nexts[at];
+    }
+    Ok(at)
+}
+
+/// Opens the ring at a chain's end: its last move is given out as one from no place. Answers that move, which `give_chain`
+/// makes up for once the ring's first move is given out.
+fn open_ring<'a, T: Copy + Default, A: Allocator + Copy, B: Allocator>(
+    moves: &[(Allocation, Allocation, T)],
+    nexts: &[usize],
+    state: &mut [State],
+    chain: &mut Indexes<'a, B>,
+    given: &mut MoveVec<T, A>,
+    first: usize,
+) -> Result<usize, AllocError>
+    requires apart { AreApart (ends_of moves.now) }
+    requires nexts { AreNexts (ends_of moves.now) nexts.now }
+    requires as_many { length state.old ≡ length moves.now }
+    requires indexed { length nexts.now ≡ length moves.now }
+    requires had { HasGivenWhole (ends_of moves.now) nexts.now state.old (ends_of given.old.items) }
+    requires rings { (had : HasRings nexts.now state.old (length given.old.items)) × AreRingsDone state.old had.rings }
+    requires chain { IsChain nexts.now state.old chain.old.items }
+    requires link { LeadsTo nexts.now chain.old.items first }
+    requires within { first < length moves.now }
+    requires pending { state_at state.old first ≡ Pending }
+    requires of_moves { All (IsOfMoves moves.now) given.old.items }
+    ensures giving { IfOk result (λ cut. IsGiving (ends_of moves.now) nexts.now state.new chain.new.items (ends_of given.new.items) cut first) }
+    ensures goes_on { OnOk result (HasGoneOn state.old state.new) }
+    ensures of_moves { OnOk result (All (IsOfMoves moves.now) given.new.items) }
+{
+    let Some(last) = chain.pop() else {
+        return Ok(moves.len());
+    };
+    let end = moves[last];
+    given.push((Allocation::none(), end.1, end.2))?;
+    state[last] = State::Done;
+    Ok(last)
+}
+
+/// Gives out the moves of a chain from its end on. Where it holds a ring, that is down to `first`, what the ring's last move,
+/// `cut`, reads is then put aside; where it holds none, both are past the end.
+fn give_chain<'a, T: Copy + Default, A: Allocator + Copy, B: Allocator>(
+    moves: &[(Allocation, Allocation, T)],
+    nexts: &[usize],
+    state: &mut [State],
+    chain: &mut Indexes<'a, B>,
+    given: &mut MoveVec<T, A>,
+    mut cut: usize,
+    mut first: usize,
+) -> Result<(), AllocError>
+    requires apart { AreApart (ends_of moves.now) }
+    requires nexts { AreNexts (ends_of moves.now) nexts.now }
+    requires as_many { length state.old ≡ length moves.now }
+    requires indexed { length nexts.now ≡ length moves.now }
+    requires giving { IsGiving (ends_of moves.now) nexts.now state.old chain.old.items (ends_of given.old.items) cut first }
+    requires of_moves { All (IsOfMoves moves.now) given.old.items }
+    ensures had { OnOk result (HasGivenWhole (ends_of moves.now) nexts.now state.new (ends_of given.new.items)) }
+    ensures settled { OnOk result (IsSettled state.new) }
+    ensures empty { OnOk result (chain.new.items ≡ []) }
+    ensures goes_on { OnOk result (HasGoneOn state.old state.new) }
+    ensures of_moves { OnOk result (All (IsOfMoves moves.now) given.new.items) }
+{
+    while let Some(top) = chain.pop() {
+        given.push(moves[top])?;
+        state[top] = State::Done;
+        if top == first {
+            let end = moves[cut];
+            given.push((end.0, Allocation::none(), T::default()))?;
+            cut = moves.len();
+            first = moves.len();
+        }
+    }
+    Ok(())
+}
+
+/// Gives out the chain that begins at a move.
+fn give_from<'a, T: Copy + Default, A: Allocator + Copy, B: Allocator>(
+    moves: &[(Allocation, Allocation, T)],
+    nexts: &[usize],
+    state: &mut [State],
+    chain: &mut Indexes<'a, B>,
+    given: &mut MoveVec<T, A>,
+    start: usize,
+) -> Result<(), AllocError>
+    requires apart { AreApart (ends_of moves.now) }
+    requires nexts { AreNexts (ends_of moves.now) nexts.now }
+    requires as_many { length state.old ≡ length moves.now }
+    requires indexed { length nexts.now ≡ length moves.now }
+    requires had { HasGivenWhole (ends_of moves.now) nexts.now state.old (ends_of given.old.items) }
+    requires settled { IsSettled state.old }
+    requires empty { chain.old.items ≡ [] }
+    requires start { state_at state.old start ≡ Todo }
+    requires within { start < length moves.now }
+    requires of_moves { All (IsOfMoves moves.now) given.old.items }
+    ensures had { OnOk result (HasGivenWhole (ends_of moves.now) nexts.now state.new (ends_of given.new.items)) }
+    ensures settled { OnOk result (IsSettled state.new) }
+    ensures empty { OnOk result (chain.new.items ≡ []) }
+    ensures goes_on { OnOk result (HasGoneOn state.old state.new) }
+    ensures begun { OnOk result (state_at state.new start ≢ Todo) }
+    ensures of_moves { OnOk result (All (IsOfMoves moves.now) given.new.items) }
+{
+    let stop = follow(start, nexts, state, chain)?;
+    if stop < moves.len() && matches!(state[stop], State::Pending) {
+        let cut = open_ring(moves, nexts, state, chain, given, stop)?;
+        give_chain(moves, nexts, state, chain, given, cut, stop)?;
+        return Ok(());
+    }
+    give_chain(moves, nexts, state, chain, given, moves.len(), moves.len())?;
+    Ok(())
+}
+
+/// The moves from the last to the first.
+fn give_all<T: Copy + Default, A: Allocator + Copy>(
+    alloc: A,
+    moves: &[(Allocation, Allocation, T)],
+    nexts: &[usize],
+) -> Result<MoveVec<T, A>, AllocError>
+    requires apart { AreApart (ends_of moves.now) }
+    requires nexts { AreNexts (ends_of moves.now) nexts.now }
+    requires indexed { length nexts.now ≡ length moves.now }
+    ensures order { IfOk result (λ given. IsOrder (ends_of moves.now) nexts.now (ends_of given.items)) }
+    ensures of_moves { IfOk result (λ given. All (IsOfMoves moves.now) given.items) }
+{
+    let mut given = SmallVec::new(alloc);
+    let mut chain: Indexes<'_, A> = SmallVec::new(&alloc);
+    let mut states: SmallVec<State, 16, &A> = SmallVec::from_elem(
+        &alloc,
+        State::Todo,
+        moves.len(),
+    )?;
+    let state = states.as_mut_slice();
+    for start in 0..moves.len() {
+        if matches!(state[start], State::Todo) {
+            give_from(moves, nexts, state, &mut chain, &mut given, start)?;
+        }
+    }
+    Ok(given)
+}
+
+/// The index of the move that writes a place, or past the end where no move does.
+fn find_writer<T: Copy + Default>(moves: &[(Allocation, Allocation, T)], place: Allocation) -> usize
+    requires sorted { IsNonDecreasingBy (λ (m : Place × Place × _). bits_of_place m.1) moves.now }
+    requires proper { AreProper (ends_of moves.now) }
+    requires real { IsPlace place }
+    ensures { IsWriterOf (ends_of moves.now) place result }
+{
+    match moves.binary_search_by_key(&place.bits(), |other| other.1.bits()) {
+        Ok(found) => found,
+        Err(_) => moves.len(),
+    }
+}
+
+/// For each move, the index of the one that writes its source, or past the end where no move does.
+fn find_nexts<'a, T: Copy + Default, B: Allocator>(
+    alloc: &'a B,
+    moves: &[(Allocation, Allocation, T)],
+) -> Result<Indexes<'a, B>, AllocError>
+    requires sorted { IsNonDecreasingBy (λ (m : Place × Place × _). bits_of_place m.1) moves.now }
+    requires proper { AreProper (ends_of moves.now) }
+    ensures ok { IfOk result (λ nexts. AreNexts (ends_of moves.now) nexts.items) }
+{
+    let mut nexts = SmallVec::new(alloc);
+    for m in moves {
+        nexts.push(find_writer(moves, m.0))?;
+    }
+    Ok(nexts)
+}
+
+/// Sorts the moves by the words of their destinations.
+fn sort_moves<T: Copy + Default, A: Allocator + Copy>(moves: &mut MoveVec<T, A>)
+    ensures permutation { IsPermutation moves.old.items moves.new.items }
+    ensures sorted { IsNonDecreasingBy (λ (m : Place × Place × _). bits_of_place m.1) moves.new.items }
+{
+    moves.sort_unstable_by_key(|m| m.1.bits());
+}
+
+/// Sorts the moves by destination, and drops repeats and moves that change nothing.
+fn tidy<T: Copy + Default, A: Allocator + Copy>(moves: &mut MoveVec<T, A>)
+    requires fair { AreFair (ends_of moves.old.items) }
+    requires proper { AreProper (ends_of moves.old.items) }
+    ensures tidied { IsTidied (ends_of moves.old.items) (ends_of moves.new.items) }
+    ensures given { (m : Place × Place × _) → Contains moves.new.items m → Contains moves.old.items m }
+{
+    sort_moves(moves);
+    moves.dedup_by_key(|m| m.1.bits());
+    moves.retain(|m| m.0.bits() != m.1.bits());
+}
+
+/// Turns the moves round.
+fn turn_round<T: Copy + Default, A: Allocator + Copy>(moves: &mut MoveVec<T, A>)
+    ensures { moves.new.items ≡ reverse moves.old.items }
+{
+    moves.as_mut_slice().reverse();
+}
+
+/// Whether no move reads what another writes.
+fn are_free(nexts: &[usize]) -> bool
+    ensures { IsTrue result ↔ EachIndex nexts.now (λ k. length nexts.now ≤ slice_index nexts.now k) }
+{
+    let end = nexts.len();
+    nexts.iter().all(|next| *next >= end)
+}
+
+/// The moves in an order in which they can be made one after another as if they were made at once.
+pub(super) fn resolve<T: Copy + Default, A: Allocator + Copy>(
+    mut moves: MoveVec<T, A>,
+) -> Result<MoveVecWithScratch<T, A>, MoveFault>
+    requires one_source { HasOneSourceEach (ends_of moves.items) }
+    requires real { AreReal moves.items }
+    ensures resolved { IfOk result (λ r. IsResolution moves.items (has_scratch r) (listed r)) }
+    ensures runnable { IfOk result (λ r. IsRunnable r) }
+    ensures short { length moves.items ≤ 1 → IsOk result }
+    ensures memory { IfErr result (λ e. e ≡ MoveFault.Memory) }
+{
+    if moves.len() <= 1 {
+        return Ok(MoveVecWithScratch::NoScratch(moves));
+    }
+    tidy(&mut moves);
+    let alloc = *moves.allocator();
+    let nexts = find_nexts(&alloc, moves.as_slice())?;
+    if are_free(nexts.as_slice()) {
+        return Ok(MoveVecWithScratch::NoScratch(moves));
+    }
+    let mut given = give_all(alloc, moves.as_slice(), nexts.as_slice())?;
+    turn_round(&mut given);
+    // each cycle took one move more
+    if given.len() > moves.len() {
+        return Ok(MoveVecWithScratch::Scratch(given));
+    }
+    Ok(MoveVecWithScratch::NoScratch(given))
+}

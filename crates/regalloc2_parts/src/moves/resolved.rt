@@ -1,0 +1,76 @@
+//! Moves in an order in which they can be made.
+
+ghost use Rattle.std.specs.Prelude.{◌≡◌, ◌≢◌, map};
+ghost use Rattle.regalloc2_names.specs.Place.{Place, NoPlace};
+ghost use Rattle.regalloc2_parts.specs.AtOnce.{ends_of, names, in_turn};
+ghost use Rattle.regalloc2_parts.specs.Resolved.{listed, has_scratch, with_place, place_or, filled, unscratched, IsRunnable, IsUnnamed, AreBetweenPlaces};
+
+use super::MoveVec;
+use regalloc2_names::Allocation;
+use std::alloc::{Allocator, Global};
+
+/// Moves in the order in which they are made. Where they have a cycle, one place is still to be chosen: until then
+/// `Allocation::none()` stands for it.
+#[derive(Drop)]
+pub enum MoveVecWithScratch<T: Drop, A: Allocator = Global> {
+    /// No move names `Allocation::none()`.
+    NoScratch(MoveVec<T, A>),
+    /// `Allocation::none()` stands for a scratch place, which is written before it is read.
+    Scratch(MoveVec<T, A>),
+}
+
+/// The place, or the scratch place in place of none.
+fn or_scratch(place: Allocation, scratch: Allocation) -> Allocation
+    ensures { result ≡ place_or scratch place }
+{
+    if place.is_none() { scratch } else { place }
+}
+
+/// Puts the scratch place wherever a move names none.
+fn fill<T: Copy + Default>(moves: &mut [(Allocation, Allocation, T)], scratch: Allocation)
+    ensures { moves.new ≡ map (filled scratch) moves.old }
+{
+    for at in 0..moves.len() {
+        let m = moves[at];
+        moves[at] = (or_scratch(m.0, scratch), or_scratch(m.1, scratch), m.2);
+    }
+}
+
+impl<T: Copy + Default, A: Allocator + Copy> MoveVecWithScratch<T, A> {
+    /// The moves with `scratch` in place of `Allocation::none()` where they need a scratch place, else as they are.
+    ///
+    /// `scratch` is to be a place that no move names: then each place but `scratch` ends as before.
+    pub fn with_scratch(self, scratch: Allocation) -> MoveVec<T, A>
+        ensures items { result.items ≡ with_place scratch self }
+        ensures real { scratch ≢ NoPlace → IsRunnable self → AreBetweenPlaces result.items }
+        ensures same { scratch ≢ NoPlace → IsRunnable self → IsUnnamed scratch (listed self) → (q : Place) → q ≢ scratch → q ≢ NoPlace → in_turn (ends_of result.items) names q ≡ in_turn (ends_of (listed self)) names q }
+    {
+        match self {
+            MoveVecWithScratch::NoScratch(moves) => moves,
+            MoveVecWithScratch::Scratch(mut moves) => {
+                fill(moves.as_mut_slice(), scratch);
+                moves
+            }
+        }
+    }
+
+    /// The moves where they need no scratch place, else `None`.
+    pub fn without_scratch(self) -> Option<MoveVec<T, A>>
+        ensures { result ≡ unscratched self }
+    {
+        match self {
+            MoveVecWithScratch::NoScratch(moves) => Some(moves),
+            MoveVecWithScratch::Scratch(_) => None,
+        }
+    }
+
+    /// Whether the moves need a scratch place.
+    pub fn needs_scratch(&self) -> bool
+        ensures { result ≡ has_scratch self.now }
+    {
+        match self {
+            MoveVecWithScratch::NoScratch(_) => false,
+            MoveVecWithScratch::Scratch(_) => true,
+        }
+    }
+}

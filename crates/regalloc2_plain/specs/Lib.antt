@@ -1,0 +1,6 @@
+pub mod Table
+pub mod TableLimits
+pub mod Logs
+pub mod Ways
+pub mod Inside
+pub mod Runs

@@ -1,0 +1,12 @@
+pub mod Parts
+pub mod Noted
+pub mod Ranges
+pub mod Counted
+pub mod Members
+pub mod Kept
+pub mod Bridges
+pub mod Faults
+pub mod Tallies
+pub mod Ways
+pub mod Walks
+pub mod Reached

@@ -1,0 +1,6 @@
+//! The shape of a function: its order of blocks, its tables, and the tests that a well-formed function passes.
+#![tactic(auto)]
+
+mod blocks;
+pub mod postorder;
+pub mod ssa;

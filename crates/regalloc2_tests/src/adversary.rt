@@ -1,0 +1,124 @@
+//! A function that lends the same long list of operands for each of very many instructions.
+
+ghost use Rattle.std.specs.Prelude.{◌<◌, ◌^◌};
+
+use regalloc2_function::Function;
+use regalloc2_index::{Block, Inst, InstRange};
+use regalloc2_names::{Operand, PRegSet, RegClass, VReg};
+
+/// So many instructions, each with the same operands, in one block that says nothing of how it ends.
+#[derive(Drop)]
+pub struct Same<'a> {
+    /// What each instruction does.
+    pub operands: &'a [Operand],
+    /// What each instruction overwrites.
+    pub clobbers: PRegSet,
+    /// How many instructions there are.
+    pub insts: usize,
+    pub ghost few: { insts < 2 ^ 30 },
+}
+
+impl Function for Same<'_> {
+    ghost use Rattle.regalloc2_tests.specs.Same.{same_function, limited_same};
+
+    ghost function = { same_function };
+
+    fn num_insts(&self) -> usize {
+        self.insts
+    }
+
+    fn num_blocks(&self) -> usize {
+        1
+    }
+
+    fn num_vregs(&self) -> usize {
+        1
+    }
+
+    fn entry_block(&self) -> Block {
+        Block::new(0)
+    }
+
+    fn block_insns(&self, _block: Block) -> InstRange {
+        InstRange::new(Inst::new(0), Inst::new(self.insts))
+    }
+
+    fn block_succs(&self, _block: Block) -> &[Block] {
+        &[]
+    }
+
+    fn block_preds(&self, _block: Block) -> &[Block] {
+        &[]
+    }
+
+    fn block_params(&self, _block: Block) -> &[VReg] {
+        &[]
+    }
+
+    fn is_ret(&self, _inst: Inst) -> bool {
+        false
+    }
+
+    fn is_branch(&self, _inst: Inst) -> bool {
+        false
+    }
+
+    fn branch_blockparams(&self, _block: Block, _inst: Inst, _succ_idx: usize) -> &[VReg] {
+        &[]
+    }
+
+    fn inst_operands(&self, _inst: Inst) -> &[Operand] {
+        self.operands
+    }
+
+    fn inst_clobbers(&self, _inst: Inst) -> PRegSet {
+        self.clobbers
+    }
+
+    fn debug_value_labels(&self) -> &[(VReg, Inst, Inst, u32)] {
+        &[]
+    }
+
+    fn spillslot_size(&self, _regclass: RegClass) -> usize {
+        1
+    }
+
+    fn multi_spillslot_named_by_last_slot(&self) -> bool {
+        false
+    }
+
+    fn allow_multiple_vreg_defs(&self) -> bool {
+        false
+    }
+
+    ghost limited = { limited_same };
+}
+
+#[cfg(test)]
+mod tests {
+    use super::*;
+    use crate::blocks::run_fitting;
+    use crate::machines::whole_machine;
+    use regalloc2::{RegAllocError, count_operands};
+    use std::test::Fail;
+
+    /// A list of 2^15 operands that is lent 2^17 times makes 2^32 operands, which no list holds. That is refused
+    /// before anything is allocated, and without a look at each of them.
+    #[test]
+    fn too_many_operands_are_refused_at_once(rt: HostRuntime) -> Result<(), Fail> {
+        let alloc = rt.alloc();
+        let operands = vec![in alloc; Operand::reg_use(VReg::new(0, RegClass::Int)); 32768]?;
+        let mut f = Same {
+            operands: operands.as_slice(),
+            clobbers: PRegSet::empty(),
+            insts: 131_071,
+        };
+        assert_eq!(rt; count_operands(&f), Some(4_294_934_528));
+        f.insts = 131_072;
+        assert_eq!(rt; count_operands(&f), None);
+        let env = whole_machine(alloc, 2);
+        let refused = run_fitting(&rt, alloc, &f, &env).err();
+        assert_eq!(rt; refused, Some(RegAllocError::TooManyOperands));
+        Ok(())
+    }
+}
