@@ -9,7 +9,7 @@ use Rattle.ra2.specs.declared.example.Example.{Example}
 
 abbrev pub example_function : Example → FunctionValue
 example_function e = record {
-  blocks = record { range = record { first = 0; end = 2 }; succs = []; preds = []; params = []; arguments = [] } ∷ [];
+  blocks = record { range = record { first = 0; end = 2 }; succs = e.successors.now; preds = []; params = []; arguments = [] } ∷ [];
   insts = record { operands = e.definition; clobbers = e.clobbers; is_branch = false; is_ret = false }
       ∷ record { operands = e.reading; clobbers = e.clobbers; is_branch = false; is_ret = true } ∷ [];
   entry = 0;

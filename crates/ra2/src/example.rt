@@ -7,24 +7,27 @@ use std::alloc::Global;
 
 /// A definition of a virtual register, and a return that reads it, both in a register.
 #[derive(Drop)]
-pub struct Example {
+pub struct Example<'a> {
     definition: [Operand; 1],
     reading: [Operand; 1],
     clobbers: PRegSet,
+    /// Where its one block goes.
+    successors: &'a [Block],
 }
 
-impl Example {
-    pub fn new() -> Example {
+impl<'a> Example<'a> {
+    pub fn new(successors: &'a [Block]) -> Example<'a> {
         let value = VReg::new(0, RegClass::Int);
         Example {
             definition: [Operand::reg_def(value)],
             reading: [Operand::reg_use(value)],
             clobbers: PRegSet::empty(),
+            successors,
         }
     }
 }
 
-impl Function for Example {
+impl Function for Example<'_> {
     ghost use Rattle.ra2.specs.Example.{example_function, limited_example};
 
     ghost function = { example_function };
@@ -50,7 +53,7 @@ impl Function for Example {
     }
 
     fn block_succs(&self, _block: Block) -> &[Block] {
-        &[]
+        self.successors
     }
 
     fn block_preds(&self, _block: Block) -> &[Block] {

@@ -94,5 +94,11 @@ pub fn answer<R: Read + Drop, O: Write, E: Write>(
     if !words.is_empty() {
         return refuse_words(err);
     }
-    show(alloc, &Example::new(), &example::machine(alloc), out, err)
+    show(
+        alloc,
+        &Example::new(&[]),
+        &example::machine(alloc),
+        out,
+        err,
+    )
 }

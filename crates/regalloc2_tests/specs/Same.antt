@@ -10,7 +10,7 @@ use Rattle.regalloc2_tests.specs.declared.adversary.Same.{Same}
 
 abbrev pub same_function : Same → FunctionValue
 same_function f = record {
-  blocks = record { range = record { first = 0; end = f.insts }; succs = []; preds = []; params = []; arguments = [] } ∷ [];
+  blocks = record { range = record { first = 0; end = f.insts }; succs = f.succs.now; preds = []; params = []; arguments = [] } ∷ [];
   insts = replicate f.insts (record { operands = f.operands.now; clobbers = f.clobbers; is_branch = false; is_ret = false });
   entry = 0;
   num_vregs = 1;

@@ -6,7 +6,7 @@ use regalloc2_function::Function;
 use regalloc2_index::{Block, Inst, InstRange};
 use regalloc2_names::{Operand, PRegSet, RegClass, VReg};
 
-/// So many instructions, each with the same operands, in one block that says nothing of how it ends.
+/// So many instructions, each with the same operands, in one block that passes nothing to those that it may go to.
 #[derive(Drop)]
 pub struct Same<'a> {
     /// What each instruction does.
@@ -15,6 +15,8 @@ pub struct Same<'a> {
     pub clobbers: PRegSet,
     /// How many instructions there are.
     pub insts: usize,
+    /// Where the block may go.
+    pub succs: &'a [Block],
     pub ghost few: { insts < 2 ^ 30 },
 }
 
@@ -44,7 +46,7 @@ impl Function for Same<'_> {
     }
 
     fn block_succs(&self, _block: Block) -> &[Block] {
-        &[]
+        self.succs
     }
 
     fn block_preds(&self, _block: Block) -> &[Block] {
@@ -112,6 +114,7 @@ mod tests {
             operands: operands.as_slice(),
             clobbers: PRegSet::empty(),
             insts: 131_071,
+            succs: &[],
         };
         assert_eq!(rt; count_operands(&f), Some(4_294_934_528));
         f.insts = 131_072;
