@@ -17,7 +17,7 @@ use Rattle.regalloc2_flow.proofs.Sending.{carries_sent}
 use Rattle.regalloc2_flow.proofs.Operands.{register_there}
 
 -- a reading operand is a use
-reads_use : (o : OperandValue) → is_reading o ≡ true → is_def o.kind ≡ false
+pub reads_use : (o : OperandValue) → is_reading o ≡ true → is_def o.kind ≡ false
 reads_use o h = by_test (is_def o.kind) (and_parts (not (is_def o.kind)) (not (is_fixed_nonallocatable o)) h).0
   where
     by_test : (b : Bool) → not b ≡ true → b ≡ false

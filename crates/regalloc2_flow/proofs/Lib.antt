@@ -17,3 +17,9 @@ pub mod Sending
 pub mod Operands
 pub mod Placing
 pub mod Crossing
+pub mod Sharing
+pub mod Claiming
+pub mod Choosing
+pub mod Needing
+pub mod Across
+pub mod Between

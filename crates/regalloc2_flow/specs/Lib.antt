@@ -6,3 +6,4 @@ pub mod Straight
 pub mod Blocks
 pub mod Sound
 pub mod Instruction
+pub mod Placed

@@ -1,0 +1,223 @@
+-- What the moves around an instruction do to what each number needs.
+use Rattle.std.proofs.Common.{◌≡◌, ◌≢◌, ℕ, ◌+◌, ◌<◌, ◌≤◌, Bool, true, false, List, ◌∷◌, Option, Some, ◌⊎◌, ⊎_elim, sym, ap, ◌∙◌, arith}
+use Rattle.std.proofs.lemmas.Bool.{cases_eq}
+use Rattle.regalloc2_names.specs.Register.{VirtualRegister}
+use Rattle.regalloc2_names.specs.Place.{Place, NoPlace}
+use Rattle.regalloc2_flow.specs.Listing.{Item}
+use Rattle.regalloc2_flow.specs.Listing.Item.{Move}
+use Rattle.regalloc2_flow.specs.Instruction.{Claims}
+use Rattle.regalloc2_flow.specs.Placed.{What, Need, stands, in_slot, made, Pending, still, slotted, used}
+use Rattle.regalloc2_flow.proofs.Carrying.{carries_move, carries_weaken, carries_through}
+
+-- a listing carries more, and less of it is needed
+pub claims_weaken : (Known : VirtualRegister → Type 0) (E : VirtualRegister → Place → Type 0) (L : List Item) (N M : ℕ → Place → Type 0) → ((n : ℕ) (p : Place) → N n p → M n p) → Claims Known L N E → Claims Known L M E
+claims_weaken Known E L N M h g v known = carries_weaken v L (N v.number) (M v.number) (E v) (E v) (h v.number) (λ p x. x) (g v known)
+
+-- a move in front
+pub claims_move : (Known : VirtualRegister → Type 0) (E : VirtualRegister → Place → Type 0) (L : List Item) (N M : ℕ → Place → Type 0) (from to : Place) → to ≢ NoPlace →
+    ((n : ℕ) → N n to → M n from) → ((n : ℕ) (p : Place) → (p ≡ to → ⊥) → N n p → M n p) → Claims Known L N E → Claims Known (Move (record { from = from; to = to }) ∷ L) M E
+claims_move Known E L N M from to there moved kept g v known =
+    carries_move v (record { from = from; to = to }) L (N v.number) (M v.number) (E v) there (moved v.number) (kept v.number) (g v known)
+
+-- a move by way of a place that nobody needs
+pub claims_through : (Known : VirtualRegister → Type 0) (E : VirtualRegister → Place → Type 0) (L : List Item) (N M : ℕ → Place → Type 0) (from by to : Place) → by ≢ NoPlace → to ≢ NoPlace → ((n : ℕ) → N n by → ⊥) →
+    ((n : ℕ) → N n to → M n from) → ((n : ℕ) (p : Place) → (p ≡ to → ⊥) → N n p → M n p) → Claims Known L N E → Claims Known (Move (record { from = from; to = by }) ∷ (Move (record { from = by; to = to }) ∷ L)) M E
+claims_through Known E L N M from by to there_by there_to clear moved kept g v known =
+    carries_through v from by to L (N v.number) (M v.number) (E v) there_by there_to (clear v.number) (moved v.number) (kept v.number) (g v known)
+
+module _ (Known : VirtualRegister → Type 0) (E : VirtualRegister → Place → Type 0) (L : List Item) where
+  -- the reload of w, which is evicted
+  pub need_evict : (lived out : ℕ → Bool) (X : Place → ℕ → Bool) (T U S : ℕ → Option Place) (w : ℕ) (r p : Place) → r ≢ NoPlace
+      → T w ≡ Some r → S w ≡ Some p → U w ≡ Some p → ((x : ℕ) → (x ≡ w → ⊥) → U x ≡ T x)
+      → ((x : ℕ) → T x ≡ Some r → x ≡ w) → ((x : ℕ) → S x ≡ Some r → ⊥) → ((x : ℕ) → X r x ≡ false)
+      → Claims Known L (Need lived out X T S) E
+      → Claims Known (Move (record { from = p; to = r }) ∷ L) (Need lived out X U S) E
+  need_evict lived out X T U S w r p there stood slot now same alone no_slot clear =
+      claims_move Known E L (Need lived out X T S) (Need lived out X U S) p r there
+      (λ v o. elim o [
+        | stands l e ↦ stands l (ap U (alone v e) ∙ now)
+        | in_slot n e ↦ absurd (no_slot v e)
+        | made x ↦ let c = clear v in absurd cc
+      ])
+      (λ v q ne o. elim o [
+        | stands l e ↦ stands l (same v (λ i. let a : T w ≡ Some q = ap T (sym i) ∙ e in let c : Some r ≡ Some q = sym stood ∙ a in let b : q ≡ r = cc in ne b) ∙ e)
+        | in_slot n e ↦ in_slot n e
+        | made x ↦ made x
+      ])
+
+  -- a new slot only adds to what is needed
+  pub need_slot : (lived out : ℕ → Bool) (X : Place → ℕ → Bool) (T S S2 : ℕ → Option Place)
+      → ((x : ℕ) (p : Place) → S x ≡ Some p → S2 x ≡ Some p)
+      → Claims Known L (Need lived out X T S) E → Claims Known L (Need lived out X T S2) E
+  need_slot lived out X T S S2 grows =
+      claims_weaken Known E L (Need lived out X T S) (Need lived out X T S2)
+      (λ v q o. elim o [ stands l e ↦ stands l e | in_slot n e ↦ in_slot n (grows v q e) | made x ↦ made x ])
+
+  -- a use of a number that stood nowhere
+  pub need_new : (lived out : ℕ → Bool) (X : Place → ℕ → Bool) (T U S : ℕ → Option Place) (u : ℕ)
+      → lived u ≡ false → ((x : ℕ) → (x ≡ u → ⊥) → U x ≡ T x)
+      → Claims Known L (Need lived out X T S) E → Claims Known L (Need lived out X U S) E
+  need_new lived out X T U S u dead same =
+      claims_weaken Known E L (Need lived out X T S) (Need lived out X U S)
+      (λ v q o. elim o [
+        | stands l e ↦ stands l (same v (λ i. let a : lived u ≡ true = ap lived (sym i) ∙ l in cc) ∙ e)
+        | in_slot n e ↦ in_slot n e
+        | made x ↦ made x
+      ])
+
+  -- the definition of d at a, which stands there or nowhere
+  pub need_leave : (lived out out2 : ℕ → Bool) (X Y : Place → ℕ → Bool) (T U S : ℕ → Option Place) (d : ℕ) (a : Place)
+      → ((p : Place) → T d ≡ Some p → p ≡ a) → ((x : ℕ) → (x ≡ d → ⊥) → U x ≡ T x)
+      → Y a d ≡ true → ((p : Place) (x : ℕ) → X p x ≡ true → Y p x ≡ true)
+      → ((x : ℕ) (p : Place) → out x ≡ false → S x ≡ Some p → (out2 x ≡ false) ⊎ (Y p x ≡ true))
+      → Claims Known L (Need lived out X T S) E → Claims Known L (Need lived out2 Y U S) E
+  need_leave lived out out2 X Y T U S d a only same at_a grows rest =
+      claims_weaken Known E L (Need lived out X T S) (Need lived out2 Y U S)
+      (λ v q o. elim o [
+        | stands l e ↦ ⊎_elim
+            (λ (i : v ≡ d). let b : q ≡ a = only q (ap T (sym i) ∙ e) in made (ap (λ (x : Place). Y x v) b ∙ ap (λ (x : ℕ). Y a x) i ∙ at_a))
+            (λ (n : v ≡ d → ⊥). stands l (same v n ∙ e))
+            (cases_eq v d)
+        | in_slot n e ↦ ⊎_elim (λ z. in_slot z e) (λ z. made z) (rest v q n e)
+        | made x ↦ made (grows q v x)
+      ])
+
+-- what the move a -> c does, where d is awaited at c
+module _ (lived out out2 : ℕ → Bool) (X Y : Place → ℕ → Bool) (T U S : ℕ → Option Place) (d : ℕ) (a c : Place) (there : c ≢ NoPlace) (stood : T d ≡ Some c)
+    (same : (x : ℕ) → (x ≡ d → ⊥) → U x ≡ T x)
+    (alone : (x : ℕ) → T x ≡ Some c → x ≡ d) (own : (x : ℕ) → S x ≡ Some c → x ≡ d) (clear : (x : ℕ) → X c x ≡ false)
+    (at_a : Y a d ≡ true) (grows : (p : Place) (x : ℕ) → X p x ≡ true → Y p x ≡ true)
+    (rest : (x : ℕ) (p : Place) → out x ≡ false → S x ≡ Some p → (p ≡ c → ⊥) → (out2 x ≡ false) ⊎ (Y p x ≡ true)) where
+  sent_here : (v : ℕ) → Need lived out X T S v c → Need lived out2 Y U S v a
+  sent_here v o = elim o [
+    | stands l e ↦ made (ap (Y a) (alone v e) ∙ at_a)
+    | in_slot n e ↦ made (ap (Y a) (own v e) ∙ at_a)
+    | made x ↦ let b = clear v in absurd cc
+  ]
+
+  sent_there : (v : ℕ) (q : Place) → (q ≡ c → ⊥) → Need lived out X T S v q → Need lived out2 Y U S v q
+  sent_there v q ne o = elim o [
+    | stands l e ↦ stands l (same v (λ i. let b : T d ≡ Some q = ap T (sym i) ∙ e in let y : Some c ≡ Some q = sym stood ∙ b in let z : q ≡ c = cc in ne z) ∙ e)
+    | in_slot n e ↦ ⊎_elim (λ z. in_slot z e) (λ z. made z) (rest v q n e ne)
+    | made x ↦ made (grows q v x)
+  ]
+
+  pub need_send : (Known : VirtualRegister → Type 0) (E : VirtualRegister → Place → Type 0) (L : List Item)
+      → Claims Known L (Need lived out X T S) E → Claims Known (Move (record { from = a; to = c }) ∷ L) (Need lived out2 Y U S) E
+  need_send Known E L = claims_move Known E L (Need lived out X T S) (Need lived out2 Y U S) a c there sent_here sent_there
+
+  -- by way of a scratch register, where nobody is needed
+  pub need_send_through : (by : Place) (Known : VirtualRegister → Type 0) (E : VirtualRegister → Place → Type 0) (L : List Item)
+      → by ≢ NoPlace → ((x : ℕ) → T x ≡ Some by → ⊥) → ((x : ℕ) → S x ≡ Some by → ⊥) → ((x : ℕ) → X by x ≡ false)
+      → Claims Known L (Need lived out X T S) E → Claims Known (Move (record { from = a; to = by }) ∷ (Move (record { from = by; to = c }) ∷ L)) (Need lived out2 Y U S) E
+  need_send_through by Known E L real nobody no_slot none =
+      claims_through Known E L (Need lived out X T S) (Need lived out2 Y U S) a by c real there
+      (λ v o. elim o [ stands l e ↦ nobody v e | in_slot n e ↦ no_slot v e | made x ↦ let b = none v in absurd cc ])
+      sent_here sent_there
+
+-- what the store a -> s does, where s is the slot of d, which has left the table
+module _ (lived out out2 : ℕ → Bool) (X : Place → ℕ → Bool) (T S : ℕ → Option Place) (d : ℕ) (a s : Place) (there : s ≢ NoPlace) (slot : S d ≡ Some s)
+    (alone : (x : ℕ) → T x ≡ Some s → ⊥) (own : (x : ℕ) → S x ≡ Some s → x ≡ d) (mine : (x : ℕ) → X s x ≡ true → x ≡ d)
+    (at_a : X a d ≡ true) (outs : (x : ℕ) → out x ≡ false → (x ≡ d → ⊥) → out2 x ≡ false) where
+  stored_here : (v : ℕ) → Need lived out X T S v s → Need lived out2 X T S v a
+  stored_here v o = elim o [
+    | stands l e ↦ absurd (alone v e)
+    | in_slot n e ↦ made (ap (X a) (own v e) ∙ at_a)
+    | made x ↦ made (ap (X a) (mine v x) ∙ at_a)
+  ]
+
+  stored_there : (v : ℕ) (q : Place) → (q ≡ s → ⊥) → Need lived out X T S v q → Need lived out2 X T S v q
+  stored_there v q ne o = elim o [
+    | stands l e ↦ stands l e
+    | in_slot n e ↦ in_slot (outs v n (λ i. let b : S d ≡ Some q = ap S (sym i) ∙ e in let y : Some s ≡ Some q = sym slot ∙ b in let z : q ≡ s = cc in ne z)) e
+    | made x ↦ made x
+  ]
+
+  pub need_store : (Known : VirtualRegister → Type 0) (E : VirtualRegister → Place → Type 0) (L : List Item)
+      → Claims Known L (Need lived out X T S) E → Claims Known (Move (record { from = a; to = s }) ∷ L) (Need lived out2 X T S) E
+  need_store Known E L = claims_move Known E L (Need lived out X T S) (Need lived out2 X T S) a s there stored_here stored_there
+
+  pub need_store_through : (by : Place) (Known : VirtualRegister → Type 0) (E : VirtualRegister → Place → Type 0) (L : List Item)
+      → by ≢ NoPlace → ((x : ℕ) → T x ≡ Some by → ⊥) → ((x : ℕ) → S x ≡ Some by → ⊥) → ((x : ℕ) → X by x ≡ false)
+      → Claims Known L (Need lived out X T S) E → Claims Known (Move (record { from = a; to = by }) ∷ (Move (record { from = by; to = s }) ∷ L)) (Need lived out2 X T S) E
+  need_store_through by Known E L real nobody no_slot none =
+      claims_through Known E L (Need lived out X T S) (Need lived out2 X T S) a by s real there
+      (λ v o. elim o [ stands l e ↦ nobody v e | in_slot n e ↦ no_slot v e | made x ↦ let b = none v in absurd cc ])
+      stored_here stored_there
+
+-- before the instruction: the move of the use k from c, where its number stands, to its place
+module _ (what : ℕ → What) (here : ℕ → Place) (done out : ℕ → Bool) (T S : ℕ → Option Place) (k : ℕ) (c : Place) (there : here k ≢ NoPlace) (is_use : (what k).is_def ≡ false)
+    (stood : T (what k).number ≡ Some c)
+    (alone : (w : ℕ) → T w ≡ Some (here k) → w ≡ (what k).number) (own : (w : ℕ) → S w ≡ Some (here k) → w ≡ (what k).number)
+    (apart : (j : ℕ) → done j ≡ true → (what j).is_def ≡ false → here j ≡ here k → (what j).number ≡ (what k).number) where
+  moved_here : (v : ℕ) → Pending what here done out T S k v (here k) → Pending what here done out T S (k + 1) v c
+  moved_here v o = elim o [
+    | still e ↦ still (ap T (alone v e) ∙ stood)
+    | slotted n e ↦ still (ap T (own v e) ∙ stood)
+    | used j le lt u i e ↦ still (ap T (sym i ∙ apart j lt u e) ∙ stood)
+  ]
+
+  moved_there : (v : ℕ) (q : Place) → (q ≡ here k → ⊥) → Pending what here done out T S k v q → Pending what here done out T S (k + 1) v q
+  moved_there v q ne o = elim o [
+    | still e ↦ still e
+    | slotted n e ↦ slotted n e
+    | used j le lt u i e ↦ used j (let x : j ≡ k → ⊥ = λ y. ne (sym e ∙ ap here y) in omega arith) lt u i e
+  ]
+
+  pub pend_move : (Known : VirtualRegister → Type 0) (E : VirtualRegister → Place → Type 0) (L : List Item)
+      → Claims Known L (Pending what here done out T S k) E → Claims Known (Move (record { from = c; to = here k }) ∷ L) (Pending what here done out T S (k + 1)) E
+  pend_move Known E L = claims_move Known E L (Pending what here done out T S k) (Pending what here done out T S (k + 1)) c (here k) there moved_here moved_there
+
+  pub pend_through : (by : Place) (Known : VirtualRegister → Type 0) (E : VirtualRegister → Place → Type 0) (L : List Item)
+      → by ≢ NoPlace → ((v : ℕ) → Pending what here done out T S k v by → ⊥)
+      → Claims Known L (Pending what here done out T S k) E → Claims Known (Move (record { from = c; to = by }) ∷ (Move (record { from = by; to = here k }) ∷ L)) (Pending what here done out T S (k + 1)) E
+  pend_through by Known E L real clear = claims_through Known E L (Pending what here done out T S k) (Pending what here done out T S (k + 1)) c by (here k) real there clear moved_here moved_there
+
+  pub pend_stay : c ≡ here k → (Known : VirtualRegister → Type 0) (E : VirtualRegister → Place → Type 0) (L : List Item)
+      → Claims Known L (Pending what here done out T S k) E → Claims Known L (Pending what here done out T S (k + 1)) E
+  pend_stay same Known E L = claims_weaken Known E L (Pending what here done out T S k) (Pending what here done out T S (k + 1))
+      (λ v q o. elim o [
+        | still e ↦ still e
+        | slotted n e ↦ slotted n e
+        | used j le lt u i e ↦ ⊎_elim
+            (λ (y : j ≡ k). still (ap T (sym i ∙ ap (λ (x : ℕ). (what x).number) y) ∙ stood ∙ ap Some (same ∙ ap here (sym y) ∙ e)))
+            (λ (ne : j ≡ k → ⊥). used j (omega arith) lt u i e)
+            (cases_eq j k)
+      ])
+
+module _ (Known : VirtualRegister → Type 0) (E : VirtualRegister → Place → Type 0) (L : List Item) (what : ℕ → What) (here : ℕ → Place) (done out : ℕ → Bool) where
+  -- an operand that has no move: a definition, or one that isn't placed
+  pub pend_pass : (T S : ℕ → Option Place) (k : ℕ) → (done k ≡ true → (what k).is_def ≡ true)
+      → Claims Known L (Pending what here done out T S k) E → Claims Known L (Pending what here done out T S (k + 1)) E
+  pend_pass T S k def = claims_weaken Known E L (Pending what here done out T S k) (Pending what here done out T S (k + 1))
+      (λ v q o. elim o [
+        | still e ↦ still e
+        | slotted n e ↦ slotted n e
+        | used j le lt u i e ↦ used j (let x : j ≡ k → ⊥ = λ y. let d : done k ≡ true = ap done (sym y) ∙ lt in let z : (what j).is_def ≡ true = ap (λ (x : ℕ). (what x).is_def) y ∙ def d in cc in omega arith) lt u i e
+      ])
+
+  -- the reload of w, which a scratch register evicts before the instruction
+  pub pend_evict : (T U S : ℕ → Option Place) (k w : ℕ) (r p : Place) → r ≢ NoPlace
+      → T w ≡ Some r → S w ≡ Some p → U w ≡ Some p → ((x : ℕ) → (x ≡ w → ⊥) → U x ≡ T x)
+      → ((x : ℕ) → T x ≡ Some r → x ≡ w) → ((x : ℕ) → S x ≡ Some r → ⊥) → ((j : ℕ) → done j ≡ true → (what j).is_def ≡ false → here j ≡ r → ⊥)
+      → Claims Known L (Pending what here done out T S k) E
+      → Claims Known (Move (record { from = p; to = r }) ∷ L) (Pending what here done out U S k) E
+  pend_evict T U S k w r p there stood slot now same alone no_slot clear =
+      claims_move Known E L (Pending what here done out T S k) (Pending what here done out U S k) p r there
+      (λ v o. elim o [
+        | still e ↦ still (ap U (alone v e) ∙ now)
+        | slotted n e ↦ absurd (no_slot v e)
+        | used j le lt u i e ↦ absurd (clear j lt u e)
+      ])
+      (λ v q ne o. elim o [
+        | still e ↦ still (same v (λ i. let a : T w ≡ Some q = ap T (sym i) ∙ e in let c : Some r ≡ Some q = sym stood ∙ a in let b : q ≡ r = cc in ne b) ∙ e)
+        | slotted n e ↦ slotted n e
+        | used j le lt u i e ↦ used j le lt u i e
+      ])
+
+  pub pend_slot : (T S S2 : ℕ → Option Place) (k : ℕ)
+      → ((x : ℕ) (p : Place) → S x ≡ Some p → S2 x ≡ Some p)
+      → Claims Known L (Pending what here done out T S k) E → Claims Known L (Pending what here done out T S2 k) E
+  pend_slot T S S2 k grows =
+      claims_weaken Known E L (Pending what here done out T S k) (Pending what here done out T S2 k)
+      (λ v q o. elim o [ still e ↦ still e | slotted n e ↦ slotted n (grows v q e) | used j le lt u i e ↦ used j le lt u i e ])
