@@ -1,16 +1,16 @@
 -- The instruction itself, with operands of every kind.
-use Rattle.std.proofs.Common.{◌≡◌, ◌≢◌, ℕ, ◌+◌, ◌<◌, ◌≤◌, Bool, true, false, List, ◌∷◌, length, Option, Some, ⊎_elim, inl, inr, refl, sym, ap, subst, ◌∙◌, arith}
+use Rattle.std.proofs.Common.{◌≡◌, ℕ, ◌<◌, Bool, true, false, List, ◌∷◌, length, Option, Some, ⊎_elim, inl, inr, sym, ap, subst, ◌∙◌, arith}
 use Rattle.regalloc2_names.specs.declared.sets.PRegSet.{PRegSet}
 use Rattle.regalloc2_names.specs.Register.{VirtualRegister}
 use Rattle.regalloc2_names.specs.Operand.{OperandValue}
-use Rattle.regalloc2_names.specs.Place.{Place, NoPlace}
+use Rattle.regalloc2_names.specs.Place.{Place}
 use Rattle.regalloc2_function.specs.OutputValue.{place_at}
-use Rattle.regalloc2_function.specs.SourceRun.{is_def, is_late, is_reading}
+use Rattle.regalloc2_function.specs.SourceRun.{is_def}
 use Rattle.regalloc2_flow.specs.Listing.{Item, op_at}
 use Rattle.regalloc2_flow.specs.Listing.Item.{Exec}
 use Rattle.regalloc2_flow.specs.Carry.{is_clobbered}
 use Rattle.regalloc2_flow.specs.Instruction.{Claims, Knows}
-use Rattle.regalloc2_flow.specs.Placed.{What, what_of, Need, stands, in_slot, made, Pending, still, slotted, used, Counts, Placed, Once}
+use Rattle.regalloc2_flow.specs.Placed.{what_of, Need, stands, in_slot, made, Pending, still, slotted, used, Counts, Placed, Once}
 use Rattle.regalloc2_flow.proofs.Carrying.{carries_exec}
 use Rattle.regalloc2_flow.proofs.Crossing.{reads_use}
 use Rattle.regalloc2_flow.proofs.Sharing.{share_defs, share_late, share_early}
@@ -30,7 +30,7 @@ cross_all Known operands places clobbers here claimed done lived out clob X T S 
     let alone : (i j : ℕ) → is_def (op_at operands i).kind ≡ true → is_def (op_at operands j).kind ≡ false → i ≡ j → ⊥ = λ i j d u e. let x : is_def (op_at operands j).kind ≡ true = subst (λ z. is_def (op_at operands z).kind ≡ true) e d in cc in
     carries_exec v operands places clobbers L (Need lived out X T S n) (Pending (what_of operands) here done out T S 0 n) (E v)
     (λ j lt reads early is.
-      let u : is_def (op_at operands j).kind ≡ false = reads_use (op_at operands j) reads in (
+    let u : is_def (op_at operands j).kind ≡ false = reads_use (op_at operands j) reads in (
       used j (omega arith) (all j (lt, inr reads)) u (number _ _ is) (sym (at_places j (lt, inr reads))),
       λ i less d l e. ⊎_elim
           (λ (same : i ≡ j). alone i j d u same)
@@ -38,9 +38,9 @@ cross_all Known operands places clobbers here claimed done lived out clob X T S 
           (s.apart i j (claim i (less, inl d)) (claim j (lt, inr reads)) (sym (at_places i (less, inl d)) ∙ e ∙ at_places j (lt, inr reads))),
     ))
     (λ j lt reads late is.
-      let u : is_def (op_at operands j).kind ≡ false = reads_use (op_at operands j) reads in
-      let place : place_at places j ≡ here j = at_places j (lt, inr reads) in
-      inr (
+    let u : is_def (op_at operands j).kind ≡ false = reads_use (op_at operands j) reads in
+    let place : place_at places j ≡ here j = at_places j (lt, inr reads) in
+    inr (
       used j (omega arith) (all j (lt, inr reads)) u (number _ _ is) (sym place),
       record {
         no_definition = λ i less d e. ⊎_elim

@@ -1,5 +1,5 @@
 -- Where an operand may stand: the law of the instruction from what is held, and from where its vreg stands.
-use Rattle.std.proofs.Common.{◌≡◌, ℕ, ◌<◌, Bool, true, false, Option, Some, None, ◌⊎◌, ⊎_elim, inl, inr, sym, ap, ◌∙◌}
+use Rattle.std.proofs.Common.{◌≡◌, ℕ, Bool, true, false, Option, Some, None, ◌⊎◌, ⊎_elim, inl, inr, sym, ap, ◌∙◌}
 use Rattle.std.proofs.lemmas.Bool.{cases_Bool}
 use Rattle.regalloc2_names.specs.Place.{Place}
 use Rattle.regalloc2_flow.specs.Placed.{What, uses, read_first, written_after, Placed, Once, Clear, Held, Free}

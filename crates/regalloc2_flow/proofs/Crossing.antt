@@ -1,17 +1,17 @@
 -- The instruction itself, and the moves of its uses before it.
-use Rattle.std.proofs.Common.{ℕ, ◌≡◌, ◌≢◌, ◌+◌, ◌<◌, ◌≤◌, Bool, true, false, List, [], ◌∷◌, length, refl, arith, sym, ap, ◌∙◌, subst, inl, inr, ◌⊎◌}
-use Rattle.std.specs.Prelude.{◌&&◌, not}
+use Rattle.std.proofs.Common.{ℕ, ◌≡◌, ◌≢◌, ◌+◌, ◌<◌, Bool, true, false, List, ◌∷◌, length, refl, arith, sym, ap, ◌∙◌, subst, inl, inr}
+use Rattle.std.specs.Prelude.{not}
 use Rattle.std.proofs.lemmas.Bool.{cases_eq, and_parts}
 use Rattle.regalloc2_names.specs.declared.sets.PRegSet.{PRegSet}
 use Rattle.regalloc2_names.specs.Register.{Register, VirtualRegister}
 use Rattle.regalloc2_names.specs.Operand.{OperandValue}
-use Rattle.regalloc2_names.specs.Place.{Place, NoPlace, InRegister, InSlot}
+use Rattle.regalloc2_names.specs.Place.{Place, NoPlace, InRegister}
 use Rattle.regalloc2_function.specs.OutputValue.{place_at}
-use Rattle.regalloc2_function.specs.SourceRun.{is_def, is_late, is_reading, is_fixed_nonallocatable}
+use Rattle.regalloc2_function.specs.SourceRun.{is_def, is_reading, is_fixed_nonallocatable}
 use Rattle.regalloc2_flow.specs.Listing.{Item, op_at}
-use Rattle.regalloc2_flow.specs.Listing.Item.{Move, Exec}
-use Rattle.regalloc2_flow.specs.Carry.{Carries, Spares, Undefined, Makes, is_clobbered}
-use Rattle.regalloc2_flow.specs.Instruction.{number_at, IsDefinition, IsUse, IsPlain, IsTidy, Stands, at_place, at_slot, IsOut, Needs, stood, slotted, made, Awaits, standing, in_slot, used, Placed, Claims, Knows, with_sent}
+use Rattle.regalloc2_flow.specs.Listing.Item.{Exec}
+use Rattle.regalloc2_flow.specs.Carry.{is_clobbered}
+use Rattle.regalloc2_flow.specs.Instruction.{number_at, IsDefinition, IsUse, IsPlain, IsTidy, Stands, at_place, at_slot, Needs, stood, slotted, made, Awaits, standing, in_slot, used, Placed, Claims, Knows, with_sent}
 use Rattle.regalloc2_flow.proofs.Carrying.{carries_exec, carries_weaken}
 use Rattle.regalloc2_flow.proofs.Sending.{carries_sent}
 use Rattle.regalloc2_flow.proofs.Operands.{register_there}

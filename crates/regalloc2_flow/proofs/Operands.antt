@@ -1,16 +1,13 @@
 -- The operands of one instruction, placed one after another.
-use Rattle.std.proofs.Common.{ℕ, ◌≡◌, ◌≢◌, ◌+◌, ◌<◌, ◌≤◌, Bool, true, false, cond, List, [], ◌∷◌, length, refl, arith, sym, ap, ◌∙◌, subst, inl, inr, ◌⊎◌}
+use Rattle.std.proofs.Common.{ℕ, ◌≡◌, ◌≢◌, List, ◌∷◌, sym, ap, ◌∙◌, inl, inr}
 use Rattle.std.proofs.lemmas.Bool.{cases_eq}
 use Rattle.regalloc2_names.specs.Register.{Register, VirtualRegister}
 use Rattle.regalloc2_names.specs.Operand.{OperandValue}
 use Rattle.regalloc2_names.specs.Place.{Place, NoPlace, InRegister, InSlot}
-use Rattle.regalloc2_flow.specs.Listing.{Item, op_at}
+use Rattle.regalloc2_flow.specs.Listing.{Item}
 use Rattle.regalloc2_flow.specs.Listing.Item.{Move}
-use Rattle.regalloc2_flow.specs.Carry.{Carries}
-use Rattle.regalloc2_flow.specs.Instruction.{number_at, IsDefinition, IsUse, IsPlain, IsTidy, Stands, at_place, at_slot, IsOut, Needs, stood, slotted, made, Placed, Claims, Knows, with_sent}
-use Rattle.regalloc2_flow.proofs.Cells.{cases_place}
+use Rattle.regalloc2_flow.specs.Instruction.{number_at, IsUse, IsTidy, Stands, at_place, at_slot, Needs, stood, slotted, made, Placed, Claims}
 use Rattle.regalloc2_flow.proofs.Carrying.{carries_move, carries_weaken}
-use Rattle.regalloc2_flow.proofs.Sending.{carries_sent}
 
 pub registers_apart : (r : Register) (k : ℕ) (p : Place) → p ≡ InRegister r → p ≡ InSlot k → ⊥
 registers_apart r k p e g = let x : InRegister r ≡ InSlot k = sym e ∙ g in cc

@@ -1,14 +1,13 @@
 -- An operand that is placed: a definition leaves the tables and is sent to where it is awaited, a use stands in its place if it stood nowhere.
-use Rattle.std.proofs.Common.{ℕ, ◌≡◌, ◌≢◌, ◌+◌, ◌<◌, ◌≤◌, Bool, true, false, cond, List, [], ◌∷◌, length, refl, arith, sym, ap, ◌∙◌, subst, inl, inr, ◌⊎◌}
+use Rattle.std.proofs.Common.{ℕ, ◌≡◌, ◌≢◌, ◌<◌, Bool, true, false, cond, List, length, refl, sym, ap, ◌∙◌, subst, inl, inr, ◌⊎◌}
 use Rattle.std.proofs.lemmas.Bool.{cases_eq}
 use Rattle.regalloc2_names.specs.Register.{Register, VirtualRegister}
 use Rattle.regalloc2_names.specs.Operand.{OperandValue}
 use Rattle.regalloc2_names.specs.Place.{Place, NoPlace, InRegister, InSlot, is_place}
-use Rattle.regalloc2_flow.specs.Listing.{Item, op_at}
-use Rattle.regalloc2_flow.specs.Listing.Item.{Move}
+use Rattle.regalloc2_flow.specs.Listing.{Item}
 use Rattle.regalloc2_flow.specs.Carry.{Carries}
-use Rattle.regalloc2_flow.specs.Instruction.{number_at, IsDefinition, IsUse, IsPlain, IsTidy, Stands, at_place, at_slot, IsOut, Needs, stood, slotted, made, Placed, Claims, Knows, with_sent}
-use Rattle.regalloc2_flow.proofs.Cells.{cases_place, is_place-true, is_place-same}
+use Rattle.regalloc2_flow.specs.Instruction.{number_at, IsDefinition, IsUse, IsTidy, Needs, stood, slotted, made, Placed, Claims, with_sent}
+use Rattle.regalloc2_flow.proofs.Cells.{cases_place, is_place-true}
 use Rattle.regalloc2_flow.proofs.Carrying.{carries_weaken}
 use Rattle.regalloc2_flow.proofs.Sending.{carries_sent}
 use Rattle.regalloc2_flow.proofs.Operands.{registers_apart, register_there}

@@ -1,13 +1,13 @@
 -- A move in front, unless it goes nowhere.
-use Rattle.std.proofs.Common.{ℕ, ◌≡◌, ◌≢◌, Bool, true, false, cond, List, ◌∷◌, refl, sym, ap, ◌∙◌, subst, inl, inr, ◌⊎◌}
+use Rattle.std.proofs.Common.{◌≡◌, Bool, true, false, cond, List, ◌∷◌, refl, sym, ◌∙◌, subst, inl, inr, ◌⊎◌}
 use Rattle.std.specs.Prelude.{◌||◌}
-use Rattle.regalloc2_names.specs.Register.{Register, VirtualRegister}
+use Rattle.regalloc2_names.specs.Register.{VirtualRegister}
 use Rattle.regalloc2_names.specs.Place.{Place, NoPlace, InRegister, InSlot, is_place, is_no_place}
 use Rattle.regalloc2_flow.specs.Listing.{Item}
 use Rattle.regalloc2_flow.specs.Listing.Item.{Move}
 use Rattle.regalloc2_flow.specs.Carry.{Carries}
 use Rattle.regalloc2_flow.specs.Instruction.{with_sent}
-use Rattle.regalloc2_flow.proofs.Cells.{cases_place, is_place-true, is_place-same}
+use Rattle.regalloc2_flow.proofs.Cells.{cases_place, is_place-true}
 use Rattle.regalloc2_flow.proofs.Carrying.{carries_move, carries_weaken}
 
 no_place_true : (p : Place) → is_no_place p ≡ true → p ≡ NoPlace

@@ -1,5 +1,5 @@
 -- Two operands in one place.
-use Rattle.std.proofs.Common.{◌≡◌, ℕ, Bool, true, false, sym}
+use Rattle.std.proofs.Common.{◌≡◌, true, false, sym}
 use Rattle.regalloc2_flow.specs.Placed.{What, Share, uses, read_first, written_after}
 
 -- a place that two operands share is no definition of both, nor a late use's with a definition
