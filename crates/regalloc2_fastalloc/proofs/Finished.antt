@@ -91,7 +91,7 @@ made_in_order f env t o m = record {
 }
 
 -- the place of an operand
-place_is : (f : FunctionValue) (env : MachineValue) (t : Tables) (o : OutputValue) → IsMade f env t o → (i : ℕ) → i < length f.insts → (k : ℕ) → k < length (inst_at f i).operands
+pub place_is : (f : FunctionValue) (env : MachineValue) (t : Tables) (o : OutputValue) → IsMade f env t o → (i : ℕ) → i < length f.insts → (k : ℕ) → k < length (inst_at f i).operands
     → place_at (allocs_of o i) k ≡ slice_index_or o.allocs (offset_of f i + k) NoPlace
 place_is f env t o m i lt k less =
     let a : alloc_start o i ≡ offset_of f i = m.offsets i lt in
