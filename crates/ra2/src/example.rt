@@ -3,6 +3,8 @@
 use regalloc2::{
     Block, Function, Inst, InstRange, MachineEnv, Operand, PReg, PRegSet, RegClass, VReg,
 };
+#[cfg(test)]
+use regalloc2::{OperandConstraint, OperandKind, OperandPos};
 use std::alloc::Global;
 
 /// A definition of a virtual register, and a return that reads it, both in a register.
@@ -18,6 +20,25 @@ impl Example {
         let value = VReg::new(0, RegClass::Int);
         Example {
             definition: [Operand::reg_def(value)],
+            reading: [Operand::reg_use(value)],
+            clobbers: PRegSet::empty(),
+        }
+    }
+}
+
+#[cfg(test)]
+impl Example {
+    /// The same with a definition in one of the first eight registers, which the allocator doesn't take.
+    pub fn limited() -> Example {
+        let value = VReg::new(0, RegClass::Int);
+        let definition = Operand::new(
+            value,
+            OperandConstraint::Limit(8),
+            OperandKind::Def,
+            OperandPos::Late,
+        );
+        Example {
+            definition: [definition],
             reading: [Operand::reg_use(value)],
             clobbers: PRegSet::empty(),
         }

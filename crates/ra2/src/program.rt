@@ -96,3 +96,6 @@ pub fn answer<R: Read + Drop, O: Write, E: Write>(
     }
     show(alloc, &Example::new(), &example::machine(alloc), out, err)
 }
+
+#[cfg(test)]
+mod tests;
