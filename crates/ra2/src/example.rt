@@ -3,6 +3,8 @@
 use regalloc2::{
     Block, Function, Inst, InstRange, MachineEnv, Operand, PReg, PRegSet, RegClass, VReg,
 };
+#[cfg(test)]
+use regalloc2::{OperandConstraint, OperandKind, OperandPos};
 use std::alloc::Global;
 
 /// A definition of a virtual register, and a return that reads it, both in a register.
@@ -23,6 +25,26 @@ impl<'a> Example<'a> {
             reading: [Operand::reg_use(value)],
             clobbers: PRegSet::empty(),
             successors,
+        }
+    }
+}
+
+#[cfg(test)]
+impl Example<'_> {
+    /// The same with a definition in one of the first eight registers, which the allocator doesn't take.
+    pub fn limited() -> Example<'static> {
+        let value = VReg::new(0, RegClass::Int);
+        let definition = Operand::new(
+            value,
+            OperandConstraint::Limit(8),
+            OperandKind::Def,
+            OperandPos::Late,
+        );
+        Example {
+            definition: [definition],
+            reading: [Operand::reg_use(value)],
+            clobbers: PRegSet::empty(),
+            successors: &[],
         }
     }
 }

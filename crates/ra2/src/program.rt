@@ -102,3 +102,6 @@ pub fn answer<R: Read + Drop, O: Write, E: Write>(
         err,
     )
 }
+
+#[cfg(test)]
+mod tests;

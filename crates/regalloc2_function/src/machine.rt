@@ -138,6 +138,24 @@ impl<A: Allocator> MachineEnv<A> {
     }
 }
 
+/// The registers that may be allocated, of all classes.
+impl<A: Allocator> From<&MachineEnv<A>> for PRegSet {
+    ghost use Rattle.std.specs.Prelude.{◌≡◌, ◌||◌};
+    ghost use Rattle.regalloc2_names.specs.Register.{Register};
+    ghost use Rattle.regalloc2_names.specs.RegisterSet.{has_register};
+    ghost use Rattle.regalloc2_names.specs.declared.RegClass.{RegClass};
+    ghost use Rattle.regalloc2_function.specs.Machine.{is_allocatable};
+    ghost use Rattle.regalloc2_function.specs.Views.{machine_of};
+
+    ghost from_gives = { λ env set. (r : Register) → has_register set r ≡
+        is_allocatable (machine_of env.now) RegClass.Int r || is_allocatable (machine_of env.now) RegClass.Float r || is_allocatable (machine_of env.now) RegClass.Vector r };
+
+    fn from(env: &MachineEnv<A>) -> PRegSet {
+        let scalar = env.allocatable(RegClass::Int) | env.allocatable(RegClass::Float);
+        scalar | env.allocatable(RegClass::Vector)
+    }
+}
+
 /// Whether an operand names a virtual register of a class.
 fn operand_names(operand: Operand, class: RegClass) -> bool
     ensures { IsTrue result ↔ ((is_fixed_nonallocatable operand ≡ false) × (operand.vreg.class ≡ class)) }

@@ -3,12 +3,12 @@ ghost use Rattle.std.specs.Iterator.{IsFinite};
 use super::*;
 use std::cmp::Ordering;
 
-/// The numbers of a list, written one after the other in base 10.
+/// The numbers of a list, written one after the other in base 10, after a 1.
 fn digits<I: Iterator<Item = Inst>>(items: I) -> u64
     requires can { I.can_next items }
     requires ends { IsFinite (I.remaining items) }
 {
-    let mut sum = 0u64;
+    let mut sum = 1u64;
     for inst in items {
         sum = sum.wrapping_mul(10).wrapping_add(inst.index() as u64);
     }
@@ -27,8 +27,8 @@ fn ranges_are_walked_from_both_ends(rt: HostRuntime) {
     assert_eq!(rt; five.len(), 5);
     assert_eq!(rt; five.end(), Inst::new(5));
     assert_eq!(rt; five.rest().first(), Inst::new(1));
-    assert_eq!(rt; digits(five.iter()), 1234);
-    assert_eq!(rt; digits(five.iter().rev()), 43210);
+    assert_eq!(rt; digits(five.iter()), 101234);
+    assert_eq!(rt; digits(five.iter().rev()), 143210);
 }
 
 #[test]

@@ -290,10 +290,11 @@ impl Operand {
         }
     }
 
-    /// The word that holds the operand.
+    /// The word that holds the operand, and gives it back.
     pub fn bits(self) -> u64
         ensures bits { result ≡ bits_of_operand self }
         ensures word { IsOperandBits result }
+        ensures operand { operand_of_bits result ≡ self }
     {
         let Self { bits } = self;
         bits

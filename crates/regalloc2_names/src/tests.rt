@@ -25,6 +25,54 @@ fn words_of_operands(rt: HostRuntime) {
     assert!(rt; !Operand::is_bits(8796093022208), "bit 43");
 }
 
+// What the contracts say of words that are packed and unpacked again: the name itself comes back.
+fn vreg_again(vreg: VReg) -> VReg
+    ensures { result ≡ vreg }
+{
+    VReg::from_bits(vreg.bits() as u32)
+}
+
+fn operand_again(operand: Operand) -> Operand
+    ensures { result ≡ operand }
+{
+    Operand::from_bits(operand.bits())
+}
+
+fn place_again(place: Allocation) -> Allocation
+    ensures { result ≡ place }
+{
+    Allocation::from_bits(place.bits())
+}
+
+fn register_again(preg: PReg) -> PReg
+    ensures { result ≡ preg }
+{
+    PReg::from_index(preg.index())
+}
+
+fn point_again(point: ProgPoint) -> ProgPoint
+    ensures { result ≡ point }
+{
+    ProgPoint::from_index(point.to_index())
+}
+
+#[test]
+fn words_give_names_back(rt: HostRuntime) {
+    for number in [0u8, 31, 63] {
+        let preg = int(number);
+        let vreg = VReg::new(number as usize, RegClass::Vector);
+        let point = ProgPoint::after(Inst::new(number as usize));
+        assert_eq!(rt; register_again(preg), preg);
+        assert_eq!(rt; vreg_again(vreg), vreg);
+        assert_eq!(rt; place_again(Allocation::reg(preg)), Allocation::reg(preg));
+        assert_eq!(rt;
+            operand_again(Operand::any_def(vreg)),
+            Operand::any_def(vreg)
+        );
+        assert_eq!(rt; point_again(point), point);
+    }
+}
+
 #[test]
 fn words_of_names(rt: HostRuntime) {
     assert!(rt; Allocation::is_bits(536870912));

@@ -167,7 +167,7 @@ impl fmt::Debug for Allocation {
     ghost debug_output = { λ a. Some (place_text a) };
 
     fn fmt<W: fmt::Write>(&self, f: &mut fmt::Formatter<W>) -> fmt::Result {
-        fmt::Display::fmt(self, f)
+        write!(f, "{self}")
     }
 }
 

@@ -76,10 +76,11 @@ impl VReg {
         VReg::new(Self::MAX, RegClass::Int)
     }
 
-    /// The word that holds the number and, in the lower two bits, the class.
+    /// The word that holds the number and, in the lower two bits, the class; it gives the virtual register back.
     pub fn bits(self) -> usize
         ensures bits { result ≡ bits_of_vreg self }
         ensures word { IsVRegBits result }
+        ensures vreg { vreg_of_bits result ≡ self }
         ensures small { result < 4294967296 }
         ensures valid { IsVirtualRegister self }
     {
