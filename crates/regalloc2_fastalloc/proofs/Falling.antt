@@ -1,5 +1,5 @@
 -- Points that never rise.
-use Rattle.std.proofs.Common.{ℕ, ◌≡◌, ◌≢◌, ◌+◌, ◌-◌, ◌<◌, ◌≤◌, List, [], ◌∷◌, ◌++◌, reverse, map, refl, sym, ap, ◌∙◌, length, slice_index_or, ◌⊎◌, ⊎_elim, inl, inr, arith, subst, true, false, nat_eq, eqb-true, eq-eqb}
+use Rattle.std.proofs.Common.{ℕ, ◌≡◌, ◌≢◌, ◌+◌, ◌-◌, ◌<◌, ◌≤◌, List, [], ◌∷◌, ◌++◌, reverse, map, refl, sym, ap, ◌∙◌, length, ◌⊎◌, ⊎_elim, inl, inr, arith, subst}
 use Rattle.std.specs.Prelude.{All}
 use Rattle.std.specs.List.Sorted.{IsNonDecreasingBy}
 use Rattle.std.proofs.lemmas.List.{reverse-append, map-append, get_or_append_left, get_or_push, get_or-reverse, length_push, length-reverse}

@@ -1,6 +1,6 @@
 -- The rings of a machine's registers.
-use Rattle.std.proofs.Common.{ℕ, suc, ◌≡◌, ◌≢◌, ◌+◌, ◌<◌, ◌≤◌, List, [], ◌∷◌, ◌++◌, Bool, true, false, length, refl, sym, ap, ◌∙◌, ◌⊎◌, ⊎_elim, inl, inr, subst, arith, slice_index_or}
-use Rattle.std.specs.Prelude.{All, Contains, ◌||◌, ◌↔◌, IsPermutation}
+use Rattle.std.proofs.Common.{ℕ, suc, ◌≡◌, ◌≢◌, ◌+◌, ◌<◌, List, [], ◌∷◌, ◌++◌, Bool, true, false, length, refl, sym, ap, ◌∙◌, ◌⊎◌, ⊎_elim, inl, inr, subst, arith, slice_index_or}
+use Rattle.std.specs.Prelude.{All, Contains, ◌||◌}
 use Rattle.std.specs.List.{IsDistinct, AllByRecursion}
 use Rattle.std.proofs.lemmas.List.Elements.{Contains-append_left, Contains-append_right, All-contains}
 use Rattle.std.proofs.lemmas.List.Sorted.{Contains-permutation, IsPermutation-sym}
@@ -10,8 +10,8 @@ use Rattle.regalloc2_names.specs.declared.sets.PRegSet.{PRegSet}
 use Rattle.regalloc2_names.specs.Register.{Register, class_code, is_register}
 use Rattle.regalloc2_names.specs.RegisterSet.{has_register}
 use Rattle.regalloc2_function.proofs.CellLaws.{is_register-true}
-use Rattle.regalloc2_parts.specs.Ring.{AreDistinctOf, IsNewRing}
-use Rattle.regalloc2_fastalloc.specs.Tables.{AreThoseBelow, AreRings, IsRingOf, RegistersValue, ring_of}
+use Rattle.regalloc2_parts.specs.Ring.{IsNewRing}
+use Rattle.regalloc2_fastalloc.specs.Tables.{AreThoseBelow, AreRings, IsRingOf}
 use Rattle.regalloc2_fastalloc.proofs.Falling.{all_push}
 use Rattle.regalloc2_fastalloc.proofs.Inverses.{whether, same_number}
 

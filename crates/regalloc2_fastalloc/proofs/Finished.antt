@@ -1,6 +1,6 @@
 -- What the walk's end gives.
-use Rattle.std.proofs.Common.{ℕ, zero, suc, ◌≡◌, ◌≢◌, ◌+◌, ◌-◌, ◌*◌, ◌<◌, ◌≤◌, ◌⊎◌, ⊎_elim, inl, inr, Bool, true, false, cond, ◌||◌, ◌&&◌, List, [], ◌∷◌, length, take, drop, reverse, refl, sym, ap, ◌∙◌, subst, arith, nat_eq, nat_lt, eq-eqb, slice_index_or, slice_index}
-use Rattle.std.specs.Prelude.{All, Contains, Option, None, Some, sum_by}
+use Rattle.std.proofs.Common.{ℕ, zero, suc, ◌≡◌, ◌≢◌, ◌+◌, ◌-◌, ◌*◌, ◌<◌, ◌≤◌, ◌⊎◌, ⊎_elim, inl, inr, Bool, true, false, cond, ◌||◌, ◌&&◌, List, [], length, drop, reverse, refl, sym, ap, ◌∙◌, subst, arith, nat_eq, nat_lt, eq-eqb, slice_index_or, slice_index}
+use Rattle.std.specs.Prelude.{All, None, Some, sum_by}
 use Rattle.std.specs.List.Sorted.{IsNonDecreasingBy}
 use Rattle.std.proofs.lemmas.Bool.{ne_eqb, lt-ltb}
 use Rattle.std.proofs.lemmas.List.{get_or-take, get_or-drop, get_or-reverse, length-reverse, take_all}
@@ -14,17 +14,17 @@ use Rattle.regalloc2_names.specs.Place.{Place, NoPlace, InRegister, InSlot}
 use Rattle.regalloc2_names.specs.Point.{before}
 use Rattle.regalloc2_names.specs.Operand.{OperandValue, fixed_register}
 use Rattle.regalloc2_function.specs.FunctionValue.{FunctionValue, block_at, inst_at, operand_count}
-use Rattle.regalloc2_function.specs.Machine.{MachineValue, is_allocatable, scratch_of, IsFixedStackSlot}
-use Rattle.regalloc2_function.specs.OutputValue.{OutputValue, MoveValue, IsInOrder, OffsetsInOrder, alloc_start, alloc_end, allocs_of, place_at, is_listed_at}
-use Rattle.regalloc2_function.specs.Faithful.{ConstraintsMet, EditsAreListed, Meets}
+use Rattle.regalloc2_function.specs.Machine.{MachineValue, is_allocatable, scratch_of, IsFixedStackSlot, IsStackPlace}
+use Rattle.regalloc2_function.specs.OutputValue.{OutputValue, MoveValue, IsInOrder, alloc_start, alloc_end, allocs_of, place_at, is_listed_at}
+use Rattle.regalloc2_function.specs.Faithful.{ConstraintsMet, EditsAreListed, HasNoStackToStack, IsStackToStack, Meets}
 use Rattle.regalloc2_function.specs.Fitting.{MachineFits, PlacesAreProper, IsProperPlace, IsMoveEnd}
 use Rattle.regalloc2_fastalloc.specs.Profile.{IsStraightBlock, IsPlainOperand, ArePlain}
-use Rattle.regalloc2_fastalloc.specs.Sound.{IsEnd, IsSoundEdit, HasGoodPlace}
+use Rattle.regalloc2_fastalloc.specs.Sound.{IsEnd, IsInRegister, IsSoundEdit, HasGoodPlace}
 use Rattle.regalloc2_fastalloc.specs.Steps.{Tables, op_at}
 use Rattle.regalloc2_fastalloc.specs.Tables.{NeverRise}
 use Rattle.regalloc2_fastalloc.specs.Walks.{offset_of}
 use Rattle.regalloc2_fastalloc.proofs.Falling.{rising_reverse}
-use Rattle.regalloc2_fastalloc.proofs.Inverses.{same_number, always}
+use Rattle.regalloc2_fastalloc.proofs.Inverses.{same_number}
 use Rattle.regalloc2_fastalloc.proofs.Setting.{default_free}
 use Rattle.regalloc2_fastalloc.proofs.Walking.{WalkKept, offset_next, offset_rises}
 
@@ -145,6 +145,18 @@ made_proper f env t o plain m = record {
 
     names_none : (x : OperandValue) (r : Register) → x.constraint ≡ Reg → cond (nat_eq x.vreg.number 1073741823) (fixed_register x.constraint) None ≡ Some r → ⊥
     names_none x r reg names = either_none (nat_eq x.vreg.number 1073741823) r (sym (ap (λ (c : OperandConstraint). cond (nat_eq x.vreg.number 1073741823) (fixed_register c) None) reg) ∙ names)
+
+-- an end that is a register is no place in memory
+no_stack_end : (f : FunctionValue) (env : MachineValue) → MachineFits f env → (n : ℕ) (p : Place) → IsInRegister p → IsEnd env n p → IsStackPlace env p → ⊥
+no_stack_end f env fits n NoPlace i e s = i
+no_stack_end f env fits n (InRegister r) i e s = no_stack_slot f env fits r e s
+no_stack_end f env fits n (InSlot k) i e s = i
+
+pub made_in_registers : (f : FunctionValue) (env : MachineValue) (t : Tables) (o : OutputValue) → MachineFits f env → IsMade f env t o → HasNoStackToStack env o
+made_in_registers f env t o fits m = each_edit f env t o (λ e. IsStackToStack env e.1 → ⊥) m (λ e s. λ both. ⊎_elim
+    (λ (r : IsInRegister e.1.from). no_stack_end f env fits t.slots.count e.1.from r s.from both.0)
+    (λ (r : IsInRegister e.1.to). no_stack_end f env fits t.slots.count e.1.to r s.to both.1)
+    s.register)
 
 -- a point is at an instruction or before the next
 half_of : (p : ℕ) → (i : ℕ) × ((p ≡ 2 * i) ⊎ (p + 1 ≡ 2 * i))

@@ -1,11 +1,11 @@
 -- The two tables of places stay inverse.
-use Rattle.std.proofs.Common.{ℕ, zero, suc, ◌≡◌, ◌≢◌, ◌+◌, ◌*◌, ◌<◌, ◌≤◌, Bool, true, false, cond, List, length, refl, arith, sym, ap, ◌∙◌, ◌⊎◌, inl, inr, ⊎_elim, nat_eq, eqb-true, eq-eqb, replicate, slice_index_or, set, subst, get_or-set_same}
+use Rattle.std.proofs.Common.{ℕ, zero, suc, ◌≡◌, ◌≢◌, ◌<◌, Bool, true, false, cond, List, length, refl, sym, ap, ◌∙◌, ◌⊎◌, inl, inr, ⊎_elim, nat_eq, eqb-true, eq-eqb, replicate, slice_index_or, set, subst, get_or-set_same}
 use Rattle.std.specs.Prelude.{Option, None, Some}
-use Rattle.std.proofs.lemmas.List.{get_or-set_other, get_or-replicate, length-replicate}
+use Rattle.std.proofs.lemmas.List.{get_or-set_other, length-replicate}
 use Rattle.std.proofs.Math.ListN.{length-set}
-use Rattle.regalloc2_names.specs.Register.{Register, VirtualRegister, is_register, class_code}
+use Rattle.regalloc2_names.specs.Register.{Register, VirtualRegister}
 use Rattle.regalloc2_names.specs.RegisterBits.{bits_of_register}
-use Rattle.regalloc2_names.specs.Place.{Place, NoPlace, InRegister, InSlot, is_place}
+use Rattle.regalloc2_names.specs.Place.{Place, NoPlace, InRegister, is_place}
 use Rattle.regalloc2_function.proofs.CellLaws.{is_place-true, is_place-same, is_place-other}
 use Rattle.regalloc2_fastalloc.specs.Tables.{PlacesValue, IsInverse, Settles, Marks, stood, holder, nobody_stands}
 

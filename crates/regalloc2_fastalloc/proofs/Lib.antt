@@ -5,7 +5,9 @@ pub mod Filling
 pub mod Finished
 pub mod Flowing
 pub mod Inverses
+pub mod Knowing
 pub mod Looping
+pub mod Numbers
 pub mod Phases
 pub mod Quiet
 pub mod Reading

@@ -1,21 +1,20 @@
 -- What the loops over an instruction's operands keep.
-use Rattle.std.proofs.Common.{ℕ, zero, suc, ◌≡◌, ◌≢◌, ◌+◌, ◌*◌, ◌<◌, ◌≤◌, List, [], Bool, true, false, cond, length, refl, sym, ap, ◌∙◌, ◌⊎◌, ⊎_elim, inl, inr, subst, arith, slice_index_or, set, get_or-set_same}
-use Rattle.std.specs.Prelude.{All, Option, None, Some, not}
+use Rattle.std.proofs.Common.{ℕ, ◌≡◌, ◌≢◌, ◌+◌, ◌<◌, ◌≤◌, List, [], Bool, true, false, length, refl, sym, ap, ◌∙◌, ⊎_elim, inr, subst, arith, slice_index_or, set, get_or-set_same}
+use Rattle.std.specs.Prelude.{All, not}
 use Rattle.std.proofs.lemmas.List.{get_or-set_other}
 use Rattle.std.proofs.Math.ListN.{length-set}
 use Rattle.regalloc2_names.specs.declared.sets.PRegSet.{PRegSet}
-use Rattle.regalloc2_names.specs.Register.{Register, VirtualRegister}
-use Rattle.regalloc2_names.specs.Place.{Place, NoPlace, InRegister, InSlot}
+use Rattle.regalloc2_names.specs.Register.{VirtualRegister}
+use Rattle.regalloc2_names.specs.Place.{Place, NoPlace, InRegister}
 use Rattle.regalloc2_names.specs.Operand.{OperandValue}
 use Rattle.regalloc2_names.specs.Point.{before, after}
 use Rattle.regalloc2_function.specs.SourceRun.{is_def}
 use Rattle.regalloc2_function.specs.Machine.{MachineValue}
-use Rattle.regalloc2_function.specs.OutputValue.{MoveValue}
-use Rattle.regalloc2_fastalloc.specs.Tables.{PlacesValue, SlotsValue, stood, slot_name, sent}
-use Rattle.regalloc2_fastalloc.specs.Steps.{Tables, op_at, Evicts, nobody, moved, Chooses, kept, taken, Uses, stays, stands, PlacesDef, PlacesUse, PlacesDefs, no_defs, no_def, a_def, PlacesUses, no_uses, no_use, a_use, MovesUses, none_moved, not_moved, one_moved, Allocates}
-use Rattle.regalloc2_fastalloc.specs.Sound.{IsEnd, IsEndOrNone, IsSoundEdit, IsSound, HasGoodPlace, IsBlank, IsNew, AreGood}
+use Rattle.regalloc2_fastalloc.specs.Tables.{PlacesValue, stood}
+use Rattle.regalloc2_fastalloc.specs.Steps.{Tables, op_at, Evicts, nobody, moved, Chooses, kept, taken, Uses, stays, stands, PlacesUse, PlacesDefs, no_defs, no_def, a_def, PlacesUses, no_uses, no_use, a_use, MovesUses, none_moved, not_moved, one_moved, Allocates}
+use Rattle.regalloc2_fastalloc.specs.Sound.{IsEndOrNone, IsInRegister, IsSoundEdit, IsSound, HasGoodPlace, IsBlank, IsNew, AreGood}
 use Rattle.regalloc2_fastalloc.proofs.Inverses.{same_number}
-use Rattle.regalloc2_fastalloc.proofs.Sound.{places_def_sound, places_use_sound, sent_sound, there_end, end_none}
+use Rattle.regalloc2_fastalloc.proofs.Sound.{places_def_sound, places_use_sound, sent_sound, there_end}
 use Rattle.regalloc2_fastalloc.proofs.Quiet.{blank_def, blank_new, new_use}
 
 abbrev pub defines_it : OperandValue → Bool
@@ -146,7 +145,7 @@ moves_kept env bound point ops here old lt h found good k t (one_moved i s prev 
         slots = p.0.slots;
         allocatable = p.0.allocatable;
         edits = sent_sound env s.slots.count bound point (stood s.places v) (slice_index_or here i NoPlace) s.edits (λ e. lt) (there_end env s.slots.count (stood s.places v) from (p.0.places v))
-            (subst (IsEndOrNone env s.slots.count) (sym to.place_is) to.own_class) p.0.edits;
+            (subst (IsEndOrNone env s.slots.count) (sym to.place_is) to.own_class) (inr (subst IsInRegister (sym to.place_is) tt)) p.0.edits;
       },
       p.1,
     )

@@ -1,16 +1,16 @@
 -- At the last instruction nothing is pushed after it.
-use Rattle.std.proofs.Common.{ℕ, zero, suc, ◌≡◌, ◌≢◌, ◌+◌, ◌<◌, ◌≤◌, List, Bool, true, false, cond, length, refl, sym, ap, ◌∙◌, ◌⊎◌, ⊎_elim, inl, inr, subst, arith}
-use Rattle.std.specs.Prelude.{Option, None, Some, not, ◌&&◌}
+use Rattle.std.proofs.Common.{ℕ, ◌≡◌, ◌≢◌, List, Bool, true, false, cond, refl, sym, ap, ◌∙◌, ◌⊎◌, ⊎_elim, subst}
+use Rattle.std.specs.Prelude.{None, Some, not, ◌&&◌}
 use Rattle.regalloc2_names.specs.declared.sets.PRegSet.{PRegSet}
 use Rattle.regalloc2_names.specs.Register.{Register, VirtualRegister, is_register}
 use Rattle.regalloc2_names.specs.RegisterSet.{has_register}
-use Rattle.regalloc2_names.specs.Place.{Place, NoPlace, InRegister, InSlot, is_place, is_no_place}
+use Rattle.regalloc2_names.specs.Place.{Place, NoPlace, InRegister, is_place}
 use Rattle.regalloc2_function.specs.OutputValue.{MoveValue}
-use Rattle.regalloc2_function.proofs.CellLaws.{is_place-true, is_place-same, is_place-other}
-use Rattle.regalloc2_fastalloc.specs.Tables.{PlacesValue, SlotsValue, Settles, stood, holder, slot_name, sent}
-use Rattle.regalloc2_fastalloc.specs.Steps.{Tables, Evicts, nobody, moved, MayHold, Chooses, kept, taken, Takes, Defines, Uses, stays, stands, PlacesDef, PlacesUse}
+use Rattle.regalloc2_function.proofs.CellLaws.{is_place-true, is_place-same}
+use Rattle.regalloc2_fastalloc.specs.Tables.{SlotsValue, stood, holder, slot_name, sent}
+use Rattle.regalloc2_fastalloc.specs.Steps.{Tables, Evicts, nobody, moved, Chooses, kept, taken, Takes, Uses, stays, stands, PlacesDef, PlacesUse}
 use Rattle.regalloc2_fastalloc.specs.Sound.{IsBlank, IsNew}
-use Rattle.regalloc2_fastalloc.proofs.Inverses.{no_some, same_some, same_number, whether, chosen}
+use Rattle.regalloc2_fastalloc.proofs.Inverses.{no_some, same_number, chosen}
 
 no_register : (r : Register) → NoPlace ≡ InRegister r → ⊥
 no_register r e = cc

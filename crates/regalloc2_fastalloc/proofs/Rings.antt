@@ -1,5 +1,5 @@
 -- The rings of the classes.
-use Rattle.std.proofs.Common.{ℕ, ◌≡◌, ◌≢◌, ◌<◌, List, [], Bool, true, false, length, refl, sym, ap, ◌∙◌, ◌⊎◌, ⊎_elim, subst, arith, slice_index_or, set, get_or-set_same}
+use Rattle.std.proofs.Common.{ℕ, ◌≡◌, ◌≢◌, ◌<◌, List, [], length, sym, ◌∙◌, ⊎_elim, subst, slice_index_or, set, get_or-set_same}
 use Rattle.std.specs.Prelude.{Option, None, Some, IfSome, IsTrue, Contains, ◌↔◌}
 use Rattle.std.proofs.lemmas.List.{get_or-set_other}
 use Rattle.std.proofs.Math.ListN.{length-set}

@@ -1,9 +1,9 @@
 -- Slots as places.
-use Rattle.std.proofs.Common.{ℕ, Bool, true, false, ◌≡◌, ◌≢◌, ◌<◌, ◌≤◌, refl, sym, ap, ◌∙◌, subst}
+use Rattle.std.proofs.Common.{Bool, true, false, ◌≡◌, refl, ap, ◌∙◌, subst}
 use Rattle.regalloc2_names.specs.Register.{Register, VirtualRegister}
-use Rattle.std.specs.Prelude.{Option, None, Some, IsTrue}
+use Rattle.std.specs.Prelude.{Some, IsTrue}
 use Rattle.regalloc2_names.specs.Place.{Place, NoPlace, InRegister, InSlot, register_of_place, is_no_place}
-use Rattle.regalloc2_fastalloc.specs.Tables.{SlotsValue, AreOwned, GivesSlot, IsSlotOrNone, slot_name}
+use Rattle.regalloc2_fastalloc.specs.Tables.{SlotsValue, AreOwned, GivesSlot, IsSlotOrNone}
 
 -- a slot is no register
 pub slot_is_no_register : (old new : SlotsValue) (v : VirtualRegister) (p : Place) (r : Register) → GivesSlot old new v p → AreOwned new → p ≡ InRegister r → ⊥

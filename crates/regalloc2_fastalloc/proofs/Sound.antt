@@ -1,18 +1,18 @@
 -- The steps of the walk keep the tables sound.
-use Rattle.std.proofs.Common.{ℕ, zero, suc, ◌≡◌, ◌≢◌, ◌+◌, ◌*◌, ◌<◌, ◌≤◌, List, [], ◌∷◌, ◌++◌, Bool, true, false, cond, length, refl, sym, ap, ◌∙◌, ◌⊎◌, ⊎_elim, inl, inr, subst, arith, slice_index_or}
-use Rattle.std.specs.Prelude.{All, Option, None, Some, not, ◌||◌, ◌&&◌}
+use Rattle.std.proofs.Common.{ℕ, ◌≡◌, ◌≢◌, ◌+◌, ◌<◌, ◌≤◌, List, [], ◌∷◌, ◌++◌, Bool, true, false, cond, refl, sym, ap, ◌∙◌, ◌⊎◌, ⊎_elim, inl, inr, subst, arith}
+use Rattle.std.specs.Prelude.{All, Some, ◌&&◌}
 use Rattle.regalloc2_names.specs.declared.RegClass.{RegClass}
 use Rattle.regalloc2_names.specs.declared.sets.PRegSet.{PRegSet}
-use Rattle.regalloc2_names.specs.Register.{Register, VirtualRegister, is_register}
+use Rattle.regalloc2_names.specs.Register.{Register, VirtualRegister}
 use Rattle.regalloc2_names.specs.RegisterSet.{has_register}
 use Rattle.regalloc2_names.specs.Place.{Place, NoPlace, InRegister, InSlot, is_place, is_no_place}
 use Rattle.regalloc2_function.specs.Machine.{MachineValue, is_allocatable}
 use Rattle.regalloc2_function.specs.OutputValue.{MoveValue}
 use Rattle.regalloc2_fastalloc.specs.Tables.{PlacesValue, SlotsValue, Settles, GivesSlot, IsSlotOrNone, stood, holder, slot_name, sent}
 use Rattle.regalloc2_fastalloc.specs.Steps.{Tables, Evicts, nobody, moved, MayHold, Chooses, kept, taken, Takes, Defines, Uses, stays, stands, PlacesDef, PlacesUse}
-use Rattle.regalloc2_fastalloc.specs.Sound.{IsEnd, IsEndOrNone, IsSoundEdit, IsSound, HasGoodPlace}
+use Rattle.regalloc2_fastalloc.specs.Sound.{IsEnd, IsEndOrNone, IsInRegister, IsSoundEdit, IsSound, HasGoodPlace}
 use Rattle.regalloc2_fastalloc.proofs.Falling.{all_push}
-use Rattle.regalloc2_fastalloc.proofs.Inverses.{same_number, whether}
+use Rattle.regalloc2_fastalloc.proofs.Inverses.{same_number}
 
 -- what is below a count is below a greater one
 end_grows : (env : MachineValue) (m n : ℕ) (p : Place) → m ≤ n → IsEnd env m p → IsEnd env n p
@@ -31,7 +31,7 @@ slot_grows m n (InRegister r) le h = h
 slot_grows m n (InSlot k) le h = omega arith
 
 edits_grow : (env : MachineValue) (m n bound : ℕ) (es : List (ℕ × MoveValue)) → m ≤ n → All (IsSoundEdit env m bound) es → All (IsSoundEdit env n bound) es
-edits_grow env m n bound es le h = λ k d lt. let e = h k d lt in record { from = end_grows env m n _ le e.from; to = end_grows env m n _ le e.to; point = e.point }
+edits_grow env m n bound es le h = λ k d lt. let e = h k d lt in record { from = end_grows env m n _ le e.from; to = end_grows env m n _ le e.to; register = e.register; point = e.point }
 
 -- a slot is an end, and so is a place that isn't none
 slot_end : (env : MachineValue) (n : ℕ) (p : Place) → p ≢ NoPlace → IsSlotOrNone n p → IsEnd env n p
@@ -55,17 +55,17 @@ end_none env n (InRegister r) h = h
 end_none env n (InSlot k) h = h
 
 by_test : (env : MachineValue) (count bound point : ℕ) (from to : Place) (es : List (ℕ × MoveValue)) (b : Bool) → point + 1 < bound
-    → IsEnd env count from → IsEnd env count to → All (IsSoundEdit env count bound) es
+    → IsEnd env count from → IsEnd env count to → IsInRegister from ⊎ IsInRegister to → All (IsSoundEdit env count bound) es
     → All (IsSoundEdit env count bound) (cond b es (es ++ (point, record { from = from; to = to }) ∷ []))
-by_test env count bound point from to es true lt f t h = h
-by_test env count bound point from to es false lt f t h = all_push (IsSoundEdit env count bound) es (point, record { from = from; to = to }) h (record { from = f; to = t; point = lt })
+by_test env count bound point from to es true lt f t r h = h
+by_test env count bound point from to es false lt f t r h = all_push (IsSoundEdit env count bound) es (point, record { from = from; to = to }) h (record { from = f; to = t; register = r; point = lt })
 
 -- a move that is sent is sound
 pub sent_sound : (env : MachineValue) (count bound point : ℕ) (from to : Place) (es : List (ℕ × MoveValue)) → (is_no_place to ≡ false → point + 1 < bound)
-    → IsEnd env count from → IsEndOrNone env count to → All (IsSoundEdit env count bound) es → All (IsSoundEdit env count bound) (sent point from to es)
-sent_sound env count bound point from NoPlace es lt f t h = h
-sent_sound env count bound point from (InRegister r) es lt f t h = by_test env count bound point from (InRegister r) es (is_place from (InRegister r)) (lt refl) f t h
-sent_sound env count bound point from (InSlot k) es lt f t h = by_test env count bound point from (InSlot k) es (is_place from (InSlot k)) (lt refl) f t h
+    → IsEnd env count from → IsEndOrNone env count to → IsInRegister from ⊎ IsInRegister to → All (IsSoundEdit env count bound) es → All (IsSoundEdit env count bound) (sent point from to es)
+sent_sound env count bound point from NoPlace es lt f t o h = h
+sent_sound env count bound point from (InRegister r) es lt f t o h = by_test env count bound point from (InRegister r) es (is_place from (InRegister r)) (lt refl) f t o h
+sent_sound env count bound point from (InSlot k) es lt f t o h = by_test env count bound point from (InSlot k) es (is_place from (InSlot k)) (lt refl) f t o h
 
 -- the places after a vreg has settled
 settled_sound : (env : MachineValue) (count : ℕ) (t u : PlacesValue) (v : VirtualRegister) (p : Place) → Settles t u v p → IsEndOrNone env count p
@@ -90,7 +90,7 @@ evicts_sound env bound point r t u (moved v s held gives settles edits registers
   slots = slots_sound t.slots u.slots v s gives h.slots;
   edits = subst (All (IsSoundEdit env u.slots.count bound)) (sym edits) (all_push (IsSoundEdit env u.slots.count bound) t.edits (point, record { from = s; to = InRegister r })
       (edits_grow env t.slots.count u.slots.count bound t.edits gives.grows h.edits)
-      (record { from = slot_end env u.slots.count s gives.there gives.below; to = ok; point = lt v held }));
+      (record { from = slot_end env u.slots.count s gives.there gives.below; to = ok; register = inr tt; point = lt v held }));
   allocatable = λ q small has. h.allocatable q small (subst (λ (a : PRegSet). has_register a q ≡ true) registers has);
 }
 
@@ -111,17 +111,17 @@ unless_end : (env : MachineValue) (count : ℕ) (b : Bool) (p : Place) → IsSlo
 unless_end env count true p h = tt
 unless_end env count false p h = slot_none env count p h
 
-pub defines_sound : (env : MachineValue) (bound point : ℕ) (v : VirtualRegister) (p : Place) (t u : Tables) → Defines point v p t u → IsEnd env t.slots.count p
+pub defines_sound : (env : MachineValue) (bound point : ℕ) (v : VirtualRegister) (p : Place) (t u : Tables) → Defines point v p t u → IsEnd env t.slots.count p → IsInRegister p
     → (is_no_place (stood t.places v.number) && is_no_place (slot_name t.slots v.number) ≡ false → point + 1 < bound) → IsSound env bound t → IsSound env bound u
-defines_sound env bound point v p t u d end lt h =
+defines_sound env bound point v p t u d end in_register lt h =
     let count : ℕ = t.slots.count in
     let awaited : Place = stood t.places v.number in
     let slot : Place = slot_name t.slots v.number in
     let first : All (IsSoundEdit env count bound) (sent point p awaited t.edits) =
-    sent_sound env count bound point p awaited t.edits (λ e. lt (left_false (is_no_place awaited) (is_no_place slot) e)) end (h.places v.number) h.edits in
+    sent_sound env count bound point p awaited t.edits (λ e. lt (left_false (is_no_place awaited) (is_no_place slot) e)) end (h.places v.number) (inl in_register) h.edits in
     let second : All (IsSoundEdit env count bound) (sent point p (cond (is_place slot awaited) NoPlace slot) (sent point p awaited t.edits)) =
     sent_sound env count bound point p (cond (is_place slot awaited) NoPlace slot) (sent point p awaited t.edits)
-    (λ e. lt (right_false (is_no_place awaited) (is_no_place slot) (unless_there (is_place slot awaited) slot e))) end (unless_end env count (is_place slot awaited) slot (h.slots v.number)) first in
+    (λ e. lt (right_false (is_no_place awaited) (is_no_place slot) (unless_there (is_place slot awaited) slot e))) end (unless_end env count (is_place slot awaited) slot (h.slots v.number)) (inl in_register) first in
     let same : u.slots.count ≡ count = ap (λ (s : SlotsValue). s.count) d.slots in
     record {
       places = settled_sound env u.slots.count t.places u.places v NoPlace d.settles tt (λ n. subst (λ (c : ℕ). IsEndOrNone env c (stood t.places n)) (sym same) (h.places n));
@@ -170,7 +170,7 @@ pub places_def_sound : (env : MachineValue) (bound point : ℕ) (v : VirtualRegi
     → PlacesDef point v free left p t u → IsSound env bound t → IsSound env bound u × HasGoodPlace env v p
 places_def_sound env bound point v free left p t u lt d h =
     let m : IsSound env bound d.middle = takes_sound env bound point v free left d.register t d.middle d.takes (λ e w f. lt) h in (
-      defines_sound env bound point v p d.middle u d.defines (register_end env bound d.middle.slots.count t v d.register p d.is_register h d.takes.may_hold) (λ e. lt) m,
+      defines_sound env bound point v p d.middle u d.defines (register_end env bound d.middle.slots.count t v d.register p d.is_register h d.takes.may_hold) (subst IsInRegister (sym d.is_register) tt) (λ e. lt) m,
       good_place env bound t v d.register p d.is_register h d.takes.may_hold,
     )
 

@@ -1,10 +1,9 @@
 -- What the walk over all instructions keeps.
-use Rattle.std.proofs.Common.{ℕ, zero, suc, ◌≡◌, ◌≢◌, ◌+◌, ◌-◌, ◌*◌, ◌<◌, ◌≤◌, List, [], length, refl, sym, ap, ◌∙◌, ◌⊎◌, ⊎_elim, inl, inr, subst, arith, slice_index_or}
-use Rattle.std.proofs.lemmas.List.Sums.{sum_by_more, sum_by_more_le}
+use Rattle.std.proofs.Common.{ℕ, zero, suc, ◌≡◌, ◌≢◌, ◌+◌, ◌-◌, ◌<◌, ◌≤◌, List, [], length, refl, sym, ap, ◌∙◌, ⊎_elim, inr, subst, arith, slice_index_or}
+use Rattle.std.proofs.lemmas.List.Sums.{sum_by_more}
 use Rattle.regalloc2_names.specs.Place.{Place, NoPlace}
-use Rattle.regalloc2_names.specs.Point.{before, after}
-use Rattle.regalloc2_names.specs.Operand.{OperandValue}
-use Rattle.regalloc2_function.specs.FunctionValue.{FunctionValue, InstValue, inst_at, no_inst, operand_count}
+use Rattle.regalloc2_names.specs.Point.{before}
+use Rattle.regalloc2_function.specs.FunctionValue.{FunctionValue, inst_at, no_inst}
 use Rattle.regalloc2_function.specs.Machine.{MachineValue}
 use Rattle.regalloc2_fastalloc.specs.Steps.{Tables, op_at}
 use Rattle.regalloc2_fastalloc.specs.Sound.{IsSound, HasGoodPlace, IsBlank}

@@ -1,5 +1,6 @@
 pub mod Lack
 pub mod Profile
+pub mod Promise
 pub mod Reason
 pub mod Sound
 pub mod Steps

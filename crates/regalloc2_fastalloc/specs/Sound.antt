@@ -1,5 +1,5 @@
 -- What holds of the tables all along the walk.
-use Rattle.std.specs.Prelude.{ℕ, ◌≡◌, ◌+◌, ◌<◌, Bool, true, false, List, All, slice_index_or, Option, None, Some}
+use Rattle.std.specs.Prelude.{ℕ, ◌≡◌, ◌+◌, ◌<◌, ◌⊎◌, Bool, true, false, List, All, slice_index_or, None, Some}
 use Rattle.regalloc2_names.specs.Register.{Register, VirtualRegister}
 use Rattle.regalloc2_names.specs.RegisterSet.{has_register}
 use Rattle.regalloc2_names.specs.declared.sets.PRegSet.{PRegSet}
@@ -21,10 +21,17 @@ IsEndOrNone env count NoPlace = Unit {0}
 IsEndOrNone env count (InRegister r) = is_allocatable env r.class r ≡ true
 IsEndOrNone env count (InSlot n) = n < count
 
--- a move between two such places, at a point that isn't the last below a bound
+-- a register
+abbrev pub IsInRegister : Place → Type 0
+IsInRegister NoPlace = ⊥
+IsInRegister (InRegister r) = Unit {0}
+IsInRegister (InSlot n) = ⊥
+
+-- a move between two such places, of which one is a register, at a point that isn't the last below a bound
 pub record IsSoundEdit (env : MachineValue) (count bound : ℕ) (e : ℕ × MoveValue) : Type 0 where
   pub from : IsEnd env count e.1.from
   pub to : IsEnd env count e.1.to
+  pub register : IsInRegister e.1.from ⊎ IsInRegister e.1.to
   pub point : e.0 + 1 < bound
 
 pub record IsSound (env : MachineValue) (bound : ℕ) (t : Tables) : Type 0 where

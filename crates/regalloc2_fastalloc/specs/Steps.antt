@@ -1,5 +1,5 @@
 -- What the steps of the walk do to the tables.
-use Rattle.std.specs.Prelude.{ℕ, ◌≡◌, ◌≢◌, ◌+◌, ◌<◌, Bool, true, false, not, ◌&&◌, List, [], ◌∷◌, ◌++◌, length, Option, None, Some, slice_index_or, slice_set, if◌then◌else◌}
+use Rattle.std.specs.Prelude.{ℕ, ◌≡◌, ◌≢◌, ◌+◌, ◌<◌, true, false, not, ◌&&◌, List, [], ◌∷◌, ◌++◌, length, None, Some, slice_index_or, slice_set, if◌then◌else◌}
 use Rattle.regalloc2_names.specs.declared.RegClass.TheVariants.{Int}
 use Rattle.regalloc2_names.specs.declared.OperandConstraint.TheVariants.{Any}
 use Rattle.regalloc2_names.specs.declared.OperandKind.TheVariants.{Use}

@@ -8,12 +8,14 @@ ghost use Rattle.std.specs.Prelude.{◌≡◌, ◌<◌, ◌≤◌, ◌^◌, ◌�
 ghost use Rattle.regalloc2_function.specs.FunctionValue.{operand_count};
 ghost use Rattle.regalloc2_function.specs.Views.{machine_of, output_of};
 ghost use Rattle.regalloc2_function.specs.OutputValue.{IsInOrder};
-ghost use Rattle.regalloc2_function.specs.Faithful.{ConstraintsMet, EditsAreListed};
+ghost use Rattle.regalloc2_function.specs.Faithful.{ConstraintsMet, EditsAreListed, HasNoStackToStack};
+ghost use Rattle.regalloc2_function.specs.SourceRun.{IsWrittenFirst};
 ghost use Rattle.regalloc2_function.specs.WellFormed.{IsWellFormed};
 ghost use Rattle.regalloc2_function.specs.Fitting.{MachineFits, PlacesAreProper};
+ghost use Rattle.regalloc2_fastalloc.specs.Promise.{RunsAsTheFunction};
 ghost use Rattle.regalloc2_fastalloc.specs.Reason.{IsReason, PassesAll};
 
-use regalloc2_function::{Function, MachineEnv, Output, count_operands};
+use regalloc2_function::{Function, MachineEnv, Output, count_operands, reads_the_same_numbers};
 use regalloc2_names::RegAllocError;
 use regalloc2_shape::ssa::test_definitions;
 use std::alloc::{Allocator, Global};
@@ -71,8 +73,11 @@ impl<A: Allocator + Copy> Ctx<A> {
 ///
 /// The machine suits the function (`machine_fits` tests that). Where `options.validate_ssa` is false the function is
 /// well-formed; else that is tested. The output is in order; each operand's place is proper and meets its constraint, also in
-/// instructions that no path reaches; each end of a move is proper; and each move is listed, none after the last
-/// instruction of a block.
+/// instructions that no path reaches; each end of a move is proper, and no move goes from a place in memory to another; and
+/// each move is listed, none after the last instruction of a block.
+///
+/// If no path from the entry reads a virtual register before writing it, the output runs as the function does: along every
+/// path, and whatever the instructions mean, each use reads the function's own value. That premise isn't tested here.
 ///
 /// Refused are, in this order: 2^32 operands or more, by `TooManyOperands`; a function that isn't one straight block, by `BB`
 /// with block 0; where `options.validate_ssa` is true, definitions and then uses that aren't sound, by `SSA` as
@@ -95,7 +100,9 @@ pub fn run<A: Allocator + Copy, F: Function, B: Allocator>(
     ensures constraints { IfOk result (λ out. (i : ℕ) → i < length (F.function f.now).insts →
         ConstraintsMet (F.function f.now) (machine_of env.now) (output_of out) i) }
     ensures proper { IfOk result (λ out. PlacesAreProper (F.function f.now) (machine_of env.now) (output_of out)) }
+    ensures no_stack_to_stack { IfOk result (λ out. HasNoStackToStack (machine_of env.now) (output_of out)) }
     ensures listed { IfOk result (λ out. EditsAreListed (F.function f.now) (output_of out)) }
+    ensures faithful { IfOk result (λ out. IsWrittenFirst (F.function f.now) → RunsAsTheFunction (F.function f.now) (machine_of env.now) (output_of out)) }
     ensures tested { OnOk result (IsWellFormed (machine_of env.now) (F.function f.now)) }
     ensures owed { OnOk result (PassesAll (F.function f.now) (machine_of env.now) options.now.validate_ssa) }
     ensures refused { IfErr result (IsReason (F.function f.now) (machine_of env.now) options.now.validate_ssa) }
@@ -109,6 +116,7 @@ pub fn run<A: Allocator + Copy, F: Function, B: Allocator>(
         test_definitions(alloc, f)?;
     }
     test_operands(f)?;
+    reads_the_same_numbers();
     walk::allocate(alloc, f, env)
 }
 
@@ -128,7 +136,9 @@ pub fn run_into_ctx<A: Allocator + Copy, F: Function, B: Allocator>(
     ensures constraints { OnOk result ((i : ℕ) → i < length (F.function f.now).insts →
         ConstraintsMet (F.function f.now) (machine_of env.now) (output_of ctx.new.output) i) }
     ensures proper { OnOk result (PlacesAreProper (F.function f.now) (machine_of env.now) (output_of ctx.new.output)) }
+    ensures no_stack_to_stack { OnOk result (HasNoStackToStack (machine_of env.now) (output_of ctx.new.output)) }
     ensures listed { OnOk result (EditsAreListed (F.function f.now) (output_of ctx.new.output)) }
+    ensures faithful { OnOk result (IsWrittenFirst (F.function f.now) → RunsAsTheFunction (F.function f.now) (machine_of env.now) (output_of ctx.new.output)) }
     ensures tested { OnOk result (IsWellFormed (machine_of env.now) (F.function f.now)) }
     ensures owed { OnOk result (PassesAll (F.function f.now) (machine_of env.now) options.now.validate_ssa) }
     ensures refused { IfErr result (IsReason (F.function f.now) (machine_of env.now) options.now.validate_ssa) }
@@ -154,7 +164,9 @@ pub fn run_with_ctx<'c, A: Allocator + Copy, F: Function, B: Allocator>(
     ensures constraints { IfOk result (λ out. (i : ℕ) → i < length (F.function f.now).insts →
         ConstraintsMet (F.function f.now) (machine_of env.now) (output_of out.now) i) }
     ensures proper { IfOk result (λ out. PlacesAreProper (F.function f.now) (machine_of env.now) (output_of out.now)) }
+    ensures no_stack_to_stack { IfOk result (λ out. HasNoStackToStack (machine_of env.now) (output_of out.now)) }
     ensures listed { IfOk result (λ out. EditsAreListed (F.function f.now) (output_of out.now)) }
+    ensures faithful { IfOk result (λ out. IsWrittenFirst (F.function f.now) → RunsAsTheFunction (F.function f.now) (machine_of env.now) (output_of out.now)) }
     ensures tested { OnOk result (IsWellFormed (machine_of env.now) (F.function f.now)) }
     ensures owed { OnOk result (PassesAll (F.function f.now) (machine_of env.now) options.now.validate_ssa) }
     ensures refused { IfErr result (IsReason (F.function f.now) (machine_of env.now) options.now.validate_ssa) }

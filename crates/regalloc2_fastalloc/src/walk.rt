@@ -3,10 +3,10 @@
 ghost use Rattle.std.specs.Prelude.{◌≡◌, ℕ, ◌+◌, ◌≤◌, ◌<◌, ◌^◌, length, [], slice_index, OnOk, IfOk, IfErr};
 ghost use Rattle.regalloc2_names.specs.Point.{before, after};
 ghost use Rattle.regalloc2_function.specs.FunctionValue.{inst_at, operand_count};
-ghost use Rattle.regalloc2_function.specs.SourceRun.{is_def};
+ghost use Rattle.regalloc2_function.specs.SourceRun.{IsWrittenFirst, is_def};
 ghost use Rattle.regalloc2_function.specs.Views.{machine_of, output_of};
 ghost use Rattle.regalloc2_function.specs.OutputValue.{IsInOrder};
-ghost use Rattle.regalloc2_function.specs.Faithful.{ConstraintsMet, EditsAreListed};
+ghost use Rattle.regalloc2_function.specs.Faithful.{ConstraintsMet, EditsAreListed, HasNoStackToStack, IsFaithful};
 ghost use Rattle.regalloc2_function.specs.WellFormed.{DefinedOnce, UsesAreDefined};
 ghost use Rattle.regalloc2_function.specs.Fitting.{MachineFits, PlacesAreProper};
 ghost use Rattle.regalloc2_fastalloc.specs.Profile.{ArePlain, IsStraightBlock};
@@ -197,7 +197,9 @@ pub fn allocate<A: Allocator + Copy, F: Function, B: Allocator>(
     ensures constraints { IfOk result (λ out. (i : ℕ) → i < length (F.function f.now).insts →
         ConstraintsMet (F.function f.now) (machine_of env.now) (output_of out) i) }
     ensures proper { IfOk result (λ out. PlacesAreProper (F.function f.now) (machine_of env.now) (output_of out)) }
+    ensures no_stack_to_stack { IfOk result (λ out. HasNoStackToStack (machine_of env.now) (output_of out)) }
     ensures listed { IfOk result (λ out. EditsAreListed (F.function f.now) (output_of out)) }
+    ensures faithful { IfOk result (λ out. IsWrittenFirst (F.function f.now) → IsFaithful (F.function f.now) (machine_of env.now) (output_of out)) }
     ensures err { IfErr result IsLack }
 {
     let total = count_operands(f).unwrap();

@@ -4,10 +4,14 @@ use Rattle.regalloc2_function.specs.FunctionValue.{FunctionValue}
 use Rattle.regalloc2_function.specs.Machine.{MachineValue}
 use Rattle.regalloc2_function.specs.OutputValue.{IsInOrder}
 use Rattle.regalloc2_function.specs.Views.{machine_of, output_of}
+use Rattle.regalloc2_function.specs.Faithful.{IsFaithful}
+use Rattle.regalloc2_function.specs.SourceRun.{IsWrittenFirst}
 use Rattle.regalloc2_function.specs.WellFormed.{IsWellFormed}
 use Rattle.regalloc2_fastalloc.specs.Lack.{IsLack}
 use Rattle.regalloc2_fastalloc.specs.Profile.{ArePlain}
+use Rattle.regalloc2_fastalloc.specs.Promise.{RunsAsTheFunction}
 use Rattle.regalloc2_fastalloc.specs.Reason.{IsReason, PassesFirst, PassesAll}
+use Rattle.regalloc2_fastalloc.proofs.Numbers.{reads_numbers}
 use Rattle.regalloc2_fastalloc.proofs.Straight.{passes_all, well_formed_either_way, lack_is_reason}
 use Rattle.regalloc2_fastalloc.proofs.run.Given.{Over}
 use Rattle.regalloc2_fastalloc.proofs.run.Goals as goal
@@ -30,6 +34,13 @@ passed g c =
       | then-options+in_ok-test_definitions w ↦ passes_all f (machine_of c.args.env.now) c.args.options.now.validate_ssa first w.in_ok-test_definitions.ensures.once w.in_ok-test_definitions.ensures.uses plain
       | else-options w ↦ record { first = first; well_formed = λ asked. c.requires.well_formed w.if-options.false; plain = plain }
     ]
+
+pub returns-clause-faithful : goal.returns-clause-faithful
+returns-clause-faithful g c =
+    let f : FunctionValue = g.F.Function.function c.args.f.now in
+    let env : MachineValue = machine_of c.args.env.now in
+    IfOk-weaker c.allocate.result (λ out. IsWrittenFirst f → IsFaithful f env (output_of out)) (λ out. IsWrittenFirst f → RunsAsTheFunction f env (output_of out))
+    (λ out h. λ written. record { faithful = h written; reads_numbers = reads_numbers f env (output_of out) (h written); same_numbers = c.reads_the_same_numbers.ensures f env (output_of out) (h written) }) c.allocate.ensures.faithful
 
 pub returns-clause-tested : goal.returns-clause-tested
 returns-clause-tested g c =

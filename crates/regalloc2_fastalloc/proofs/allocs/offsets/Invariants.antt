@@ -1,5 +1,4 @@
-use Rattle.std.proofs.Common.{ℕ, ◌≡◌, ◌<◌, ◌^◌, length, take, slice_index}
-use Rattle.std.specs.Prelude.{sum_by}
+use Rattle.std.proofs.Common.{ℕ, ◌≡◌, ◌<◌, length, slice_index}
 use Rattle.regalloc2_fastalloc.specs.Walks.{offset_of}
 use Rattle.regalloc2_fastalloc.proofs.allocs.offsets.Given as goal
 

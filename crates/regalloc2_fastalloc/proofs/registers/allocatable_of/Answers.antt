@@ -1,4 +1,4 @@
-use Rattle.std.proofs.Common.{ℕ, ◌≡◌, List, [], Bool, ◌∙◌, ap, slice_index_or}
+use Rattle.std.proofs.Common.{ℕ, List, [], Bool, ◌∙◌, ap, slice_index_or}
 use Rattle.std.specs.Prelude.{◌||◌}
 use Rattle.regalloc2_names.specs.declared.sets.PRegSet.{PRegSet}
 use Rattle.regalloc2_names.specs.RegisterSet.{has_register}

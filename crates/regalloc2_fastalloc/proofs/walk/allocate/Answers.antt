@@ -1,5 +1,5 @@
-use Rattle.std.proofs.Common.{ℕ, ◌≡◌, ◌+◌, ◌<◌, ◌≤◌, ◌^◌, List, [], map, reverse, length, replicate, refl, sym, ap, ◌∙◌, subst, rules, arith, slice_index}
-use Rattle.std.specs.Prelude.{Option, None, Some, SomeIff}
+use Rattle.std.proofs.Common.{ℕ, ◌≡◌, ◌<◌, ◌^◌, List, map, length, sym, ap, ◌∙◌, subst, rules, slice_index}
+use Rattle.std.specs.Prelude.{Option, Some, SomeIff}
 use Rattle.std.specs.Vec.{with_items}
 use Rattle.std.proofs.lemmas.List.{length-replicate, with_items_is}
 use Rattle.regalloc2_names.specs.Place.{Place, NoPlace}
@@ -7,12 +7,16 @@ use Rattle.regalloc2_names.specs.Point.{before}
 use Rattle.regalloc2_function.specs.FunctionValue.{FunctionValue, operand_count}
 use Rattle.regalloc2_function.specs.Machine.{MachineValue}
 use Rattle.regalloc2_function.specs.OutputValue.{DebugLocation, OutputValue}
-use Rattle.regalloc2_function.specs.Views.{edit_of, machine_of, output_of}
-use Rattle.regalloc2_fastalloc.specs.Sound.{IsBlank, IsSound}
+use Rattle.regalloc2_function.specs.Views.{edit_of, machine_of}
+use Rattle.regalloc2_flow.proofs.Faithful.{faithful}
+use Rattle.regalloc2_fastalloc.specs.Sound.{IsBlank}
 use Rattle.regalloc2_fastalloc.specs.Steps.{Tables, tables_of}
 use Rattle.regalloc2_fastalloc.specs.Tables.{PlacesValue}
-use Rattle.regalloc2_fastalloc.proofs.Finished.{IsMade, made_in_order, made_constraints, made_proper, made_listed}
-use Rattle.regalloc2_fastalloc.proofs.Starting.{all_in_tables, blank_tables, blank_sound}
+use Rattle.regalloc2_fastalloc.specs.Walks.{Walks}
+use Rattle.regalloc2_fastalloc.proofs.Agreeing.{walk_agrees}
+use Rattle.regalloc2_fastalloc.proofs.Finished.{IsMade, made_in_order, made_constraints, made_proper, made_in_registers, made_listed}
+use Rattle.regalloc2_fastalloc.proofs.Knowing.{IsNamed, knows_operands, plain_operands}
+use Rattle.regalloc2_fastalloc.proofs.Starting.{all_in_tables, blank_tables, blank_sound, blank_units}
 use Rattle.regalloc2_fastalloc.proofs.Walking.{WalkKept, walk_kept}
 use Rattle.regalloc2_fastalloc.proofs.walk.allocate.Given.{Over}
 use Rattle.regalloc2_fastalloc.proofs.walk.allocate.Goals as goal
@@ -69,21 +73,24 @@ out_of g c = record {
   debug_locations = map debug_of c.new-2.result.items;
 }
 
+-- the places that the walk filled are the output's
+places_are : (g : Over) (c : goal.After-array_drop-state-2 g) → (out_of g c).allocs ≡ c.alloc_insts.new.allocs
+places_are g c = with_items_is c.in_ok-allocs.allocs c.alloc_insts.new.allocs (c.alloc_insts.auto.allocs ∙ c.deref_mut.ensures.len)
+
 made : (g : Over) (c : goal.After-array_drop-state-2 g) → IsMade (g.F.Function.function c.args.f.now) (machine_of c.args.env.now) (tables_of c.alloc_insts.new.self) (out_of g c)
 made g c =
     let f : FunctionValue = g.F.Function.function c.args.f.now in
     let env : MachineValue = machine_of c.args.env.now in
     let long : length c.alloc_insts.new.allocs ≡ c.in_ok-allocs.allocs.len = c.alloc_insts.auto.allocs ∙ c.deref_mut.ensures.len in
-    let allocs : (with_items c.in_ok-allocs.allocs c.alloc_insts.new.allocs).items ≡ c.alloc_insts.new.allocs = with_items_is c.in_ok-allocs.allocs c.alloc_insts.new.allocs long in
     record {
       count = c.count.ensures.count;
       edits = c.in_ok-edits.ensures.listed;
       falling = c.in_ok-edits.ensures.falling;
       long = c.in_ok-offsets.ensures.long;
       offsets = λ i lt. c.in_ok-offsets.ensures.each i lt;
-      allocs_long = ap length allocs ∙ long ∙ c.in_ok-allocs.ensures.len ∙ count_is (operand_count f < 2 ^ 32) (operand_count f) c.unwrap-total.ensures c.count_operands.ensures;
+      allocs_long = ap length (places_are g c) ∙ long ∙ c.in_ok-allocs.ensures.len ∙ count_is (operand_count f < 2 ^ 32) (operand_count f) c.unwrap-total.ensures c.count_operands.ensures;
       debug = ap (map debug_of) c.new-2.ensures.items;
-      kept = subst (λ (ps : List Place). WalkKept env f 0 ps (tables_of c.alloc_insts.new.self)) (sym allocs) (walked g c);
+      kept = subst (λ (ps : List Place). WalkKept env f 0 ps (tables_of c.alloc_insts.new.self)) (sym (places_are g c)) (walked g c);
     }
 
 pub returns-clause-in_order : goal.returns-clause-in_order
@@ -95,5 +102,23 @@ returns-clause-constraints g c = made_constraints _ _ _ _ c.requires.machine c.r
 pub returns-clause-proper : goal.returns-clause-proper
 returns-clause-proper g c = made_proper _ _ _ _ c.requires.plain (made g c)
 
+pub returns-clause-no_stack_to_stack : goal.returns-clause-no_stack_to_stack
+returns-clause-no_stack_to_stack g c = made_in_registers _ _ _ _ c.requires.machine (made g c)
+
 pub returns-clause-listed : goal.returns-clause-listed
 returns-clause-listed g c = made_listed _ _ _ _ c.requires.straight (made g c)
+
+pub returns-clause-faithful : goal.returns-clause-faithful
+returns-clause-faithful g c = λ written.
+    let f : FunctionValue = g.F.Function.function c.args.f.now in
+    let env : MachineValue = machine_of c.args.env.now in
+    let begin : Tables = tables_of c.in_ok-state.state in
+    let last : Tables = tables_of c.alloc_insts.new.self in
+    let r = c.requires in
+    let m : IsMade f env last (out_of g c) = made g c in
+    faithful f env (out_of g c) (made_constraints f env last (out_of g c) r.machine r.plain m) (made_in_registers f env last (out_of g c) r.machine m)
+    (walk_agrees f env (IsNamed f) c.deref_mut.result.now begin last (out_of g c) r.straight r.plain
+    (plain_operands f r.straight r.plain r.once r.defined) (knows_operands f r.straight r.plain r.once r.defined)
+    (blank_tables begin f.num_vregs _ _ c.in_ok-state.ensures.places c.in_ok-state.ensures.slots) c.in_ok-state.ensures.edits
+    (blank_units begin f.num_vregs f.slot_sizes f.named_by_last_slot (g.met.F.Function.limited c.args.f.now).slot_sizes c.in_ok-state.ensures.slots)
+    (subst (λ (ps : List Place). Walks f c.deref_mut.result.now begin 0 ps last) (sym (places_are g c)) c.in_ok-alloc_insts.ensures.ok) m written)

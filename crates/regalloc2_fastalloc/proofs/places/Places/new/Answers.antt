@@ -1,7 +1,6 @@
 use Rattle.std.proofs.Common.{◌≡◌, rules, ◌∙◌, ap, replicate, refl}
 use Rattle.std.specs.Prelude.{None}
 use Rattle.regalloc2_names.specs.Place.{NoPlace}
-use Rattle.regalloc2_fastalloc.proofs.Inverses.{inverse_empty}
 use Rattle.regalloc2_fastalloc.proofs.places.Places.new.Goals as goal
 
 pub returns-clause-empty : goal.returns-clause-empty

@@ -1,4 +1,4 @@
-use Rattle.std.proofs.Common.{ℕ, ◌≡◌, List, [], Bool, true, ap, ◌∙◌, sym, subst, slice_index_or}
+use Rattle.std.proofs.Common.{◌≡◌, List, [], Bool, true, ap, ◌∙◌, sym, subst, slice_index_or}
 use Rattle.std.specs.Prelude.{◌||◌}
 use Rattle.regalloc2_names.specs.declared.RegClass.{RegClass}
 use Rattle.regalloc2_names.specs.declared.RegClass.TheVariants.{Int, Float, Vector}

@@ -1,13 +1,12 @@
-use Rattle.std.proofs.Common.{ℕ, ◌≡◌, ◌+◌, ◌-◌, ◌<◌, ◌≤◌, ◌^◌, List, [], length, refl, sym, ap, ◌∙◌, subst, rules, arith, slice_index}
+use Rattle.std.proofs.Common.{ℕ, ◌≡◌, ◌+◌, ◌-◌, ◌<◌, ◌^◌, List, length, refl, sym, ap, ◌∙◌, subst, rules, arith, slice_index}
 use Rattle.std.proofs.lemmas.List.Sums.{sum_by_more_le}
 use Rattle.regalloc2_names.specs.Operand.{OperandValue}
 use Rattle.regalloc2_names.specs.Point.{before}
-use Rattle.regalloc2_names.specs.Place.{Place}
 use Rattle.regalloc2_function.specs.OutputValue.{MoveValue}
-use Rattle.regalloc2_function.specs.FunctionValue.{FunctionValue, inst_at, no_inst}
+use Rattle.regalloc2_function.specs.FunctionValue.{inst_at, no_inst}
 use Rattle.regalloc2_fastalloc.specs.Tables.{NoneBefore}
 use Rattle.regalloc2_fastalloc.specs.Steps.{tables_of, op_at}
-use Rattle.regalloc2_fastalloc.specs.Walks.{Walks, untouched, one_more, AllocatesAt, offset_of}
+use Rattle.regalloc2_fastalloc.specs.Walks.{Walks, untouched, one_more, AllocatesAt}
 use Rattle.regalloc2_fastalloc.proofs.state.State.alloc_insts.Goals as goal
 
 pub loop-i-init : goal.loop-i-init

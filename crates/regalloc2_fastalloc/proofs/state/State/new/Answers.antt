@@ -1,4 +1,4 @@
-use Rattle.std.proofs.Common.{ℕ, ◌<◌, ◌≤◌, ◌∙◌, ap, rules, arith}
+use Rattle.std.proofs.Common.{◌<◌, ◌≤◌, ◌∙◌, ap, rules, arith}
 use Rattle.regalloc2_fastalloc.specs.Tables.{nobody_stands, most_units}
 use Rattle.regalloc2_fastalloc.proofs.Setting.{each_of_three}
 use Rattle.regalloc2_fastalloc.proofs.state.State.new.Goals as goal

@@ -1,7 +1,7 @@
-use Rattle.std.proofs.Common.{◌≡◌, ◌≢◌, ◌⊎◌, inl, Bool, true, false, sym, ◌∙◌, ap, subst, refl}
+use Rattle.std.proofs.Common.{◌≡◌, inl, sym, ◌∙◌, subst, refl}
 use Rattle.std.specs.Prelude.{None}
 use Rattle.regalloc2_names.specs.Register.{Register}
-use Rattle.regalloc2_names.specs.Place.{Place, NoPlace, InRegister, is_no_place}
+use Rattle.regalloc2_names.specs.Place.{NoPlace}
 use Rattle.regalloc2_fastalloc.specs.Tables.{holder, stood}
 use Rattle.regalloc2_fastalloc.specs.Steps.{tables_of, stays, stands}
 use Rattle.regalloc2_fastalloc.proofs.Slotting.{nothing_there, something_there, same_register}

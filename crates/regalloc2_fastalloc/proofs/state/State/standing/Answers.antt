@@ -1,4 +1,4 @@
-use Rattle.std.proofs.Common.{◌≡◌, sym, ◌∙◌, ap, arith}
+use Rattle.std.proofs.Common.{sym, ◌∙◌, ap, arith}
 use Rattle.regalloc2_names.specs.Place.{register_of_place}
 use Rattle.regalloc2_fastalloc.proofs.Slotting.{place_of_register}
 use Rattle.regalloc2_fastalloc.proofs.state.State.standing.Goals as goal

@@ -1,6 +1,6 @@
-use Rattle.std.proofs.Common.{◌≡◌, sym, ◌∙◌, ap, subst, refl}
+use Rattle.std.proofs.Common.{sym, ap, subst}
 use Rattle.regalloc2_names.specs.declared.sets.PRegSet.{PRegSet}
-use Rattle.regalloc2_fastalloc.specs.Steps.{Tables, tables_of, kept, taken, Chooses, Evicts}
+use Rattle.regalloc2_fastalloc.specs.Steps.{Tables, tables_of, kept, taken, Evicts}
 use Rattle.regalloc2_fastalloc.proofs.state.State.take.Goals as goal
 
 pub returns-in-Some-clause-ok : goal.returns-in-Some-clause-ok
