@@ -9,7 +9,7 @@ use Rattle.regalloc2_names.specs.declared.RegClass.TheVariants.{Int, Float, Vect
 use Rattle.regalloc2_names.specs.declared.sets.PRegSet.{PRegSet}
 use Rattle.regalloc2_names.specs.Register.{Register, class_code, is_register}
 use Rattle.regalloc2_names.specs.RegisterSet.{has_register}
-use Rattle.regalloc2_function.proofs.CellLaws.{is_register-true}
+use Rattle.regalloc2_flow.proofs.Cells.{is_register-true}
 use Rattle.regalloc2_parts.specs.Ring.{IsNewRing}
 use Rattle.regalloc2_fastalloc.specs.Tables.{AreThoseBelow, AreRings, IsRingOf}
 use Rattle.regalloc2_fastalloc.proofs.Falling.{all_push}

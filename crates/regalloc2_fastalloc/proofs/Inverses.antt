@@ -6,7 +6,7 @@ use Rattle.std.proofs.Math.ListN.{length-set}
 use Rattle.regalloc2_names.specs.Register.{Register, VirtualRegister}
 use Rattle.regalloc2_names.specs.RegisterBits.{bits_of_register}
 use Rattle.regalloc2_names.specs.Place.{Place, NoPlace, InRegister, is_place}
-use Rattle.regalloc2_function.proofs.CellLaws.{is_place-true, is_place-same, is_place-other}
+use Rattle.regalloc2_flow.proofs.Cells.{is_place-true, is_place-same, is_place-other}
 use Rattle.regalloc2_fastalloc.specs.Tables.{PlacesValue, IsInverse, Settles, Marks, stood, holder, nobody_stands}
 
 -- a test is true or false

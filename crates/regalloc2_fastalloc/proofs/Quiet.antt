@@ -6,7 +6,7 @@ use Rattle.regalloc2_names.specs.Register.{Register, VirtualRegister, is_registe
 use Rattle.regalloc2_names.specs.RegisterSet.{has_register}
 use Rattle.regalloc2_names.specs.Place.{Place, NoPlace, InRegister, is_place}
 use Rattle.regalloc2_function.specs.OutputValue.{MoveValue}
-use Rattle.regalloc2_function.proofs.CellLaws.{is_place-true, is_place-same}
+use Rattle.regalloc2_flow.proofs.Cells.{is_place-true, is_place-same}
 use Rattle.regalloc2_fastalloc.specs.Tables.{SlotsValue, stood, holder, slot_name, sent}
 use Rattle.regalloc2_fastalloc.specs.Steps.{Tables, Evicts, nobody, moved, Chooses, kept, taken, Takes, Uses, stays, stands, PlacesDef, PlacesUse}
 use Rattle.regalloc2_fastalloc.specs.Sound.{IsBlank, IsNew}

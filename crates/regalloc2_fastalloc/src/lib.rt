@@ -116,6 +116,7 @@ pub fn run<A: Allocator + Copy, F: Function, B: Allocator>(
         test_definitions(alloc, f)?;
     }
     test_operands(f)?;
+    // a law, which the contract needs: the call does nothing
     reads_the_same_numbers();
     walk::allocate(alloc, f, env)
 }

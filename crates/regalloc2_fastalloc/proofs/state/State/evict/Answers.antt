@@ -2,7 +2,7 @@ use Rattle.std.proofs.Common.{ℕ, ◌≡◌, ◌<◌, List, [], ◌∷◌, ◌+
 use Rattle.std.specs.Prelude.{Some}
 use Rattle.regalloc2_names.specs.Place.{Place, InRegister, is_place}
 use Rattle.regalloc2_function.specs.OutputValue.{MoveValue}
-use Rattle.regalloc2_function.proofs.CellLaws.{is_place-other, is_place-same}
+use Rattle.regalloc2_flow.proofs.Cells.{is_place-other, is_place-same}
 use Rattle.regalloc2_fastalloc.specs.Tables.{holder, stood}
 use Rattle.regalloc2_fastalloc.specs.Steps.{moved}
 use Rattle.regalloc2_fastalloc.proofs.Slotting.{slot_is_no_register}
