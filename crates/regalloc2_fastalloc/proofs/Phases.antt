@@ -53,27 +53,27 @@ still_free r q free left e h =
 
 module _ (Known : VirtualRegister → Type 0) (insts : ℕ → InstValue) (placesf : ℕ → List Place) (i n : ℕ) (ops : List OperandValue) (E : VirtualRegister → Place → Type 0) where
   -- what holds while the operands are placed
-  pub record Phase (here : ℕ → Place) (done : ℕ → Type 0) (T0 : ℕ → Place) (t : Tables) : Type 0 where
+  pub record Phase (here : ℕ → Place) (done : ℕ → Type 0) (T₀ : ℕ → Place) (t : Tables) : Type 0 where
     pub whole : IsWhole t
     pub later : AllFrom (after i) (listed t.edits)
-    pub placed : Placed ops here done T0 (place_in t) (slot_in t)
-    pub claims : Claims Known (after_part insts (listed t.edits) placesf i n) (Needs ops here done T0 (place_in t) (slot_in t)) E
+    pub placed : Placed ops here done T₀ (place_in t) (slot_in t)
+    pub claims : Claims Known (after_part insts (listed t.edits) placesf i n) (Needs ops here done T₀ (place_in t) (slot_in t)) E
 
-  renamed_phase : (here here' : ℕ → Place) (done done' : ℕ → Type 0) (T0 : ℕ → Place) (t : Tables) → Renamed here here' done done' → Phase here done T0 t → Phase here' done' T0 t
-  renamed_phase here here' done done' T0 t r p = record {
+  renamed_phase : (here here' : ℕ → Place) (done done' : ℕ → Type 0) (T₀ : ℕ → Place) (t : Tables) → Renamed here here' done done' → Phase here done T₀ t → Phase here' done' T₀ t
+  renamed_phase here here' done done' T₀ t r p = record {
     whole = p.whole;
     later = p.later;
-    placed = placed_renamed ops here here' done done' T0 (place_in t) (slot_in t) r p.placed;
-    claims = claims_renamed Known ops here here' done done' T0 (place_in t) (slot_in t) (after_part insts (listed t.edits) placesf i n) E r p.claims;
+    placed = placed_renamed ops here here' done done' T₀ (place_in t) (slot_in t) r p.placed;
+    claims = claims_renamed Known ops here here' done done' T₀ (place_in t) (slot_in t) (after_part insts (listed t.edits) placesf i n) E r p.claims;
   }
 
-  evict_phase : (here : ℕ → Place) (done : ℕ → Type 0) (T0 : ℕ → Place) (old new : Tables) (r : Register) → r.number < 64 → ((j : ℕ) → done j → IsUse ops j → here j ≢ InRegister r) → Phase here done T0 old → Evicts (after i) r old new →
-      Phase here done T0 new × ((m : ℕ) → place_in new m ≡ InRegister r → ⊥)
-  evict_phase here done T0 old new r lt free p (nobody none same) = (
-    subst (Phase here done T0) (sym same) p,
+  evict_phase : (here : ℕ → Place) (done : ℕ → Type 0) (T₀ : ℕ → Place) (old new : Tables) (r : Register) → r.number < 64 → ((j : ℕ) → done j → IsUse ops j → here j ≢ InRegister r) → Phase here done T₀ old → Evicts (after i) r old new →
+      Phase here done T₀ new × ((m : ℕ) → place_in new m ≡ InRegister r → ⊥)
+  evict_phase here done T₀ old new r lt free p (nobody none same) = (
+    subst (Phase here done T₀) (sym same) p,
     λ m h. let x = p.whole.stands_in m r (subst (λ t. place_in t m ≡ InRegister r) same h) in let y : None ≡ Some x.1.0 = sym none ∙ x.1.2 in cc,
   )
-  evict_phase here done T0 old new r lt free p (moved v s held gives settles edits registers) =
+  evict_phase here done T₀ old new r lt free p (moved v s held gives settles edits registers) =
       let g = given old.slots new.slots v s gives p.whole.units p.whole.below p.whole.own in
       let e : Evicted (place_in old) (slot_in old) (place_in new) (slot_in new) v.number r s = record {
         stood_there = p.whole.holds r v lt held;
@@ -100,38 +100,38 @@ module _ (Known : VirtualRegister → Type 0) (insts : ℕ → InstValue) (place
             units = given_units old.slots new.slots v s gives p.whole.units p.whole.below p.whole.own;
           };
           later = subst (λ es. AllFrom (after i) (listed es)) (sym edits) (later_push (after i) (record { from = s; to = InRegister r }) old.edits p.later);
-          placed = evicted_placed (place_in old) (slot_in old) (place_in new) (slot_in new) v.number r s e tidy ops here done T0 p.placed free;
-          claims = subst (λ l. Claims Known l (Needs ops here done T0 (place_in new) (slot_in new)) E) (sym items)
-              (evicted_claims (place_in old) (slot_in old) (place_in new) (slot_in new) v.number r s e tidy ops here done T0 p.placed free Known (after_part insts (listed old.edits) placesf i n) E p.claims);
+          placed = evicted_placed (place_in old) (slot_in old) (place_in new) (slot_in new) v.number r s e tidy ops here done T₀ p.placed free;
+          claims = subst (λ l. Claims Known l (Needs ops here done T₀ (place_in new) (slot_in new)) E) (sym items)
+              (evicted_claims (place_in old) (slot_in old) (place_in new) (slot_in new) v.number r s e tidy ops here done T₀ p.placed free Known (after_part insts (listed old.edits) placesf i n) E p.claims);
         },
         evicted_empty (place_in old) (slot_in old) (place_in new) (slot_in new) v.number r s e tidy,
       )
 
   -- a register is taken for v: nobody else stands there, and v does or it was free
-  take_phase : (here : ℕ → Place) (done : ℕ → Type 0) (T0 : ℕ → Place) (old new : Tables) (v : VirtualRegister) (free : PRegSet) (r : Register) → r.number < 64 →
-      (has_register free r ≡ true → (j : ℕ) → done j → IsUse ops j → here j ≢ InRegister r) → Phase here done T0 old → Chooses (after i) v free r old new →
-      Phase here done T0 new × ((m : ℕ) → place_in new m ≡ InRegister r → m ≡ v.number) × ((place_in new v.number ≡ InRegister r) ⊎ (has_register free r ≡ true))
-  take_phase here done T0 old new v free r lt clear p (kept there same) = (
-    subst (Phase here done T0) (sym same) p,
+  take_phase : (here : ℕ → Place) (done : ℕ → Type 0) (T₀ : ℕ → Place) (old new : Tables) (v : VirtualRegister) (free : PRegSet) (r : Register) → r.number < 64 →
+      (has_register free r ≡ true → (j : ℕ) → done j → IsUse ops j → here j ≢ InRegister r) → Phase here done T₀ old → Chooses (after i) v free r old new →
+      Phase here done T₀ new × ((m : ℕ) → place_in new m ≡ InRegister r → m ≡ v.number) × ((place_in new v.number ≡ InRegister r) ⊎ (has_register free r ≡ true))
+  take_phase here done T₀ old new v free r lt clear p (kept there same) = (
+    subst (Phase here done T₀) (sym same) p,
     λ m h. (whole_tidy old p.whole).apart m v.number r (subst (λ t. place_in t m ≡ InRegister r) same h) there,
     inl (subst (λ t. place_in t v.number ≡ InRegister r) (sym same) there),
   )
-  take_phase here done T0 old new v free r lt clear p (taken none is_free evicts) =
-      let x = evict_phase here done T0 old new r lt (clear is_free) p evicts in
+  take_phase here done T₀ old new v free r lt clear p (taken none is_free evicts) =
+      let x = evict_phase here done T₀ old new r lt (clear is_free) p evicts in
       (x.0, λ m h. absurd (x.1 m h), inr is_free)
 
   -- a definition is placed
-  def_phase : (here here' : ℕ → Place) (done done' : ℕ → Type 0) (T0 : ℕ → Place) (old new : Tables) (j : ℕ) (free left : PRegSet) (place : Place) (d : PlacesDef (after i) (op_at ops j).vreg free left place old new) →
+  def_phase : (here here' : ℕ → Place) (done done' : ℕ → Type 0) (T₀ : ℕ → Place) (old new : Tables) (j : ℕ) (free left : PRegSet) (place : Place) (d : PlacesDef (after i) (op_at ops j).vreg free left place old new) →
       j < length ops → IsDefinition ops j → ((k : ℕ) → done k → IsDefinition ops k) → ((k : ℕ) → done k → number_at ops k ≢ number_at ops j) →
-      (has_register free d.register ≡ true → (k : ℕ) → done k → here k ≢ InRegister d.register) → Next here here' done done' j d.register → Phase here done T0 old → Phase here' done' T0 new
-  def_phase here here' done done' T0 old new j free left place d lt is_def defs once clear next p =
+      (has_register free d.register ≡ true → (k : ℕ) → done k → here k ≢ InRegister d.register) → Next here here' done done' j d.register → Phase here done T₀ old → Phase here' done' T₀ new
+  def_phase here here' done done' T₀ old new j free left place d lt is_def defs once clear next p =
       let v : VirtualRegister = (op_at ops j).vreg in
       let r : Register = d.register in
       let m : Tables = d.middle in
-      let got = take_phase here done T0 old m v free r d.takes.may_hold.small (λ f k x u. clear f k x) p d.takes.chooses in
-      let q : Phase here done T0 m = got.0 in
+      let got = take_phase here done T₀ old m v free r d.takes.may_hold.small (λ f k x u. clear f k x) p d.takes.chooses in
+      let q : Phase here done T₀ m = got.0 in
       let tidy : IsTidy (place_in m) (slot_in m) = whole_tidy m q.whole in
-      let by : IsDefined ops here here' done done' T0 (place_in m) (place_in new) (slot_in m) j r next q.placed tidy lt = record {
+      let by : IsDefined ops here here' done done' T₀ (place_in m) (place_in new) (slot_in m) j r next q.placed tidy lt = record {
         defines = is_def;
         once = λ k x f. once k x;
         no_uses = defs;
@@ -139,7 +139,7 @@ module _ (Known : VirtualRegister → Type 0) (insts : ℕ → InstValue) (place
         apart = λ k x f e. elim got.2 [
           | inl there ↦ (
               let stands_there : place_in m v.number ≢ NoPlace = λ z. let y : InRegister r ≡ NoPlace = sym there ∙ z in cc in
-              let lived : T0 v.number ≢ NoPlace = λ z. let y = q.placed.newly v.number z stands_there in let a : IsDefinition ops y.0 = defs y.0 y.1 in let b : IsUse ops y.0 = y.2 in cc in
+              let lived : T₀ v.number ≢ NoPlace = λ z. let y = q.placed.newly v.number z stands_there in let a : IsDefinition ops y.0 = defs y.0 y.1 in let b : IsUse ops y.0 = y.2 in cc in
               q.placed.def_alone k v.number x f lived (there ∙ sym e))
           | inr is_free ↦ clear is_free k x e
         ];
@@ -154,7 +154,7 @@ module _ (Known : VirtualRegister → Type 0) (insts : ℕ → InstValue) (place
       ap (λ es. after_part insts (listed es) placesf i n) d.defines.edits ∙ after_part-sent insts place last first placesf i n
       ∙ chosen (is_place (slot_in m v.number) (place_in m v.number)) place (slot_in m v.number) (after_part insts (listed first) placesf i n) (with_sent place (place_in m v.number) L) one in
       let later_first : AllFrom (after i) (listed first) = later_sent (after i) place (place_in m v.number) m.edits q.later in
-      let tidy' : IsTidy (place_in new) (slot_in m) = defined_tidy ops here here' done done' T0 (place_in m) (place_in new) (slot_in m) j r next q.placed tidy lt by in
+      let tidy' : IsTidy (place_in new) (slot_in m) = defined_tidy ops here here' done done' T₀ (place_in m) (place_in new) (slot_in m) j r next q.placed tidy lt by in
       let slots : slot_in new ≡ slot_in m = ap (λ (s : SlotsValue). λ (k : ℕ). slot_name s k) d.defines.slots in
       record {
         whole = record {
@@ -166,11 +166,11 @@ module _ (Known : VirtualRegister → Type 0) (insts : ℕ → InstValue) (place
           units = λ c. subst (λ (s : SlotsValue). 0 < units_of s c) (sym d.defines.slots) (q.whole.units c);
         };
         later = subst (λ es. AllFrom (after i) (listed es)) (sym d.defines.edits) (later_sent (after i) place last first later_first);
-        placed = subst (Placed ops here' done' T0 (place_in new)) (sym slots) (defined_placed ops here here' done done' T0 (place_in m) (place_in new) (slot_in m) j r next q.placed tidy lt by);
-        claims = subst (λ l. Claims Known l (Needs ops here' done' T0 (place_in new) (slot_in new)) E) (sym items)
-            (subst (λ s. Claims Known (cond (is_place (slot_in m v.number) (place_in m v.number)) (with_sent place (place_in m v.number) L) (with_sent place (slot_in m v.number) (with_sent place (place_in m v.number) L))) (Needs ops here' done' T0 (place_in new) s) E) (sym slots)
-            (subst (λ q2. Claims Known (cond (is_place (slot_in m v.number) (place_in m v.number)) (with_sent q2 (place_in m v.number) L) (with_sent q2 (slot_in m v.number) (with_sent q2 (place_in m v.number) L))) (Needs ops here' done' T0 (place_in new) (slot_in m)) E) (sym d.is_register)
-            (defined_claims ops here here' done done' T0 (place_in m) (place_in new) (slot_in m) j r next q.placed tidy lt by Known L E q.claims)));
+        placed = subst (Placed ops here' done' T₀ (place_in new)) (sym slots) (defined_placed ops here here' done done' T₀ (place_in m) (place_in new) (slot_in m) j r next q.placed tidy lt by);
+        claims = subst (λ l. Claims Known l (Needs ops here' done' T₀ (place_in new) (slot_in new)) E) (sym items)
+            (subst (λ s. Claims Known (cond (is_place (slot_in m v.number) (place_in m v.number)) (with_sent place (place_in m v.number) L) (with_sent place (slot_in m v.number) (with_sent place (place_in m v.number) L))) (Needs ops here' done' T₀ (place_in new) s) E) (sym slots)
+            (subst (λ q2. Claims Known (cond (is_place (slot_in m v.number) (place_in m v.number)) (with_sent q2 (place_in m v.number) L) (with_sent q2 (slot_in m v.number) (with_sent q2 (place_in m v.number) L))) (Needs ops here' done' T₀ (place_in new) (slot_in m)) E) (sym d.is_register)
+            (defined_claims ops here here' done done' T₀ (place_in m) (place_in new) (slot_in m) j r next q.placed tidy lt by Known L E q.claims)));
       }
     where
       chosen : (b : Bool) (p q : Place) (K M : List Item) → K ≡ M → with_sent p (cond b NoPlace q) K ≡ cond b M (with_sent p q M)
@@ -178,20 +178,20 @@ module _ (Known : VirtualRegister → Type 0) (insts : ℕ → InstValue) (place
       chosen false p q K M h = ap (with_sent p q) h
 
   -- a use is placed
-  use_phase : (here here' : ℕ → Place) (done done' : ℕ → Type 0) (T0 : ℕ → Place) (old new : Tables) (j : ℕ) (free left : PRegSet) (place : Place) (d : PlacesUse (after i) (op_at ops j).vreg free left place old new) →
+  use_phase : (here here' : ℕ → Place) (done done' : ℕ → Type 0) (T₀ : ℕ → Place) (old new : Tables) (j : ℕ) (free left : PRegSet) (place : Place) (d : PlacesUse (after i) (op_at ops j).vreg free left place old new) →
       j < length ops → IsUse ops j → ((k : ℕ) → done k → IsDefinition ops k → number_at ops k ≢ number_at ops j) →
-      (has_register free d.register ≡ true → (k : ℕ) → done k → IsUse ops k → here k ≢ InRegister d.register) → Next here here' done done' j d.register → Phase here done T0 old → Phase here' done' T0 new
-  use_phase here here' done done' T0 old new j free left place d lt is_use unread clear next p =
+      (has_register free d.register ≡ true → (k : ℕ) → done k → IsUse ops k → here k ≢ InRegister d.register) → Next here here' done done' j d.register → Phase here done T₀ old → Phase here' done' T₀ new
+  use_phase here here' done done' T₀ old new j free left place d lt is_use unread clear next p =
       let v : VirtualRegister = (op_at ops j).vreg in
       let r : Register = d.register in
       let m : Tables = d.middle in
-      let got = take_phase here done T0 old m v free r d.takes.may_hold.small clear p d.takes.chooses in
+      let got = take_phase here done T₀ old m v free r d.takes.may_hold.small clear p d.takes.chooses in
       by_use m r got.0 got.1 got.2 d.takes.may_hold.small d.is_register (clear) next d.uses
     where
-      by_use : (m : Tables) (r : Register) → Phase here done T0 m → ((k : ℕ) → place_in m k ≡ InRegister r → k ≡ number_at ops j) → ((place_in m (number_at ops j) ≡ InRegister r) ⊎ (has_register free r ≡ true)) → r.number < 64 → place ≡ InRegister r →
-          (has_register free r ≡ true → (k : ℕ) → done k → IsUse ops k → here k ≢ InRegister r) → Next here here' done done' j r → Uses (op_at ops j).vreg place m new → Phase here' done' T0 new
+      by_use : (m : Tables) (r : Register) → Phase here done T₀ m → ((k : ℕ) → place_in m k ≡ InRegister r → k ≡ number_at ops j) → ((place_in m (number_at ops j) ≡ InRegister r) ⊎ (has_register free r ≡ true)) → r.number < 64 → place ≡ InRegister r →
+          (has_register free r ≡ true → (k : ℕ) → done k → IsUse ops k → here k ≢ InRegister r) → Next here here' done done' j r → Uses (op_at ops j).vreg place m new → Phase here' done' T₀ new
       by_use m r q alone got small is_register clear next (stays there same) =
-          let by : IsUsedAt ops here here' done done' T0 (place_in m) (place_in m) (slot_in m) j r next q.placed (whole_tidy m q.whole) lt = record {
+          let by : IsUsedAt ops here here' done done' T₀ (place_in m) (place_in m) (slot_in m) j r next q.placed (whole_tidy m q.whole) lt = record {
             uses = is_use;
             unread = unread;
             alone = alone;
@@ -200,17 +200,17 @@ module _ (Known : VirtualRegister → Type 0) (insts : ℕ → InstValue) (place
             stands = λ x. absurd (there x);
             others = λ k x. refl;
           } in
-          subst (Phase here' done' T0) (sym same) (record {
+          subst (Phase here' done' T₀) (sym same) (record {
             whole = q.whole;
             later = q.later;
-            placed = used_placed ops here here' done done' T0 (place_in m) (place_in m) (slot_in m) j r next q.placed (whole_tidy m q.whole) lt by;
-            claims = used_claims ops here here' done done' T0 (place_in m) (place_in m) (slot_in m) j r next q.placed (whole_tidy m q.whole) lt by Known (after_part insts (listed m.edits) placesf i n) E q.claims;
+            placed = used_placed ops here here' done done' T₀ (place_in m) (place_in m) (slot_in m) j r next q.placed (whole_tidy m q.whole) lt by;
+            claims = used_claims ops here here' done done' T₀ (place_in m) (place_in m) (slot_in m) j r next q.placed (whole_tidy m q.whole) lt by Known (after_part insts (listed m.edits) placesf i n) E q.claims;
           })
       by_use m r q alone got small is_register clear next (stands nowhere settles slots edits registers) =
           let v : VirtualRegister = (op_at ops j).vreg in
           let s : Settles m.places new.places v (InRegister r) = subst (Settles m.places new.places v) is_register settles in
           let empty : (k : ℕ) → place_in m k ≡ InRegister r → ⊥ = λ k h. let e : k ≡ number_at ops j = alone k h in let x : InRegister r ≡ NoPlace = sym h ∙ ap (place_in m) e ∙ nowhere in cc in
-          let by : IsUsedAt ops here here' done done' T0 (place_in m) (place_in new) (slot_in m) j r next q.placed (whole_tidy m q.whole) lt = record {
+          let by : IsUsedAt ops here here' done done' T₀ (place_in m) (place_in new) (slot_in m) j r next q.placed (whole_tidy m q.whole) lt = record {
             uses = is_use;
             unread = unread;
             alone = alone;
@@ -219,7 +219,7 @@ module _ (Known : VirtualRegister → Type 0) (insts : ℕ → InstValue) (place
             stands = λ x. s.here;
             others = s.others;
           } in
-          let tidy' : IsTidy (place_in new) (slot_in m) = used_tidy ops here here' done done' T0 (place_in m) (place_in new) (slot_in m) j r next q.placed (whole_tidy m q.whole) lt by in
+          let tidy' : IsTidy (place_in new) (slot_in m) = used_tidy ops here here' done done' T₀ (place_in m) (place_in new) (slot_in m) j r next q.placed (whole_tidy m q.whole) lt by in
           let same : slot_in new ≡ slot_in m = ap (λ (x : SlotsValue). λ (k : ℕ). slot_name x k) slots in
           record {
             whole = record {
@@ -231,10 +231,10 @@ module _ (Known : VirtualRegister → Type 0) (insts : ℕ → InstValue) (place
               units = λ c. subst (λ (x : SlotsValue). 0 < units_of x c) (sym slots) (q.whole.units c);
             };
             later = subst (λ es. AllFrom (after i) (listed es)) (sym edits) q.later;
-            placed = subst (Placed ops here' done' T0 (place_in new)) (sym same) (used_placed ops here here' done done' T0 (place_in m) (place_in new) (slot_in m) j r next q.placed (whole_tidy m q.whole) lt by);
-            claims = subst (λ es. Claims Known (after_part insts (listed es) placesf i n) (Needs ops here' done' T0 (place_in new) (slot_in new)) E) (sym edits)
-                (subst (λ x. Claims Known (after_part insts (listed m.edits) placesf i n) (Needs ops here' done' T0 (place_in new) x) E) (sym same)
-                (used_claims ops here here' done done' T0 (place_in m) (place_in new) (slot_in m) j r next q.placed (whole_tidy m q.whole) lt by Known (after_part insts (listed m.edits) placesf i n) E q.claims));
+            placed = subst (Placed ops here' done' T₀ (place_in new)) (sym same) (used_placed ops here here' done done' T₀ (place_in m) (place_in new) (slot_in m) j r next q.placed (whole_tidy m q.whole) lt by);
+            claims = subst (λ es. Claims Known (after_part insts (listed es) placesf i n) (Needs ops here' done' T₀ (place_in new) (slot_in new)) E) (sym edits)
+                (subst (λ x. Claims Known (after_part insts (listed m.edits) placesf i n) (Needs ops here' done' T₀ (place_in new) x) E) (sym same)
+                (used_claims ops here here' done done' T₀ (place_in m) (place_in new) (slot_in m) j r next q.placed (whole_tidy m q.whole) lt by Known (after_part insts (listed m.edits) placesf i n) E q.claims));
           }
 
   -- the operands that are placed among the first k
@@ -256,8 +256,8 @@ module _ (Known : VirtualRegister → Type 0) (insts : ℕ → InstValue) (place
   }
 
   -- the definitions among the first k are placed
-  pub record DefsPlaced (T0 : ℕ → Place) (k : ℕ) (left : PRegSet) (there : List Place) (t : Tables) : Type 0 where
-    pub phase : Phase (at_list there) (defs_below k) T0 t
+  pub record DefsPlaced (T₀ : ℕ → Place) (k : ℕ) (left : PRegSet) (there : List Place) (t : Tables) : Type 0 where
+    pub phase : Phase (at_list there) (defs_below k) T₀ t
     pub free : (q : Register) → has_register left q ≡ true → (j : ℕ) → defs_below k j → at_list there j ≢ InRegister q
     pub long : length there ≡ length ops
 
@@ -300,26 +300,26 @@ module _ (Known : VirtualRegister → Type 0) (insts : ℕ → InstValue) (place
   not_both_kinds j d u = cc
 
   -- all definitions are placed, and the uses among the first k
-  pub record UsesPlaced (T0 : ℕ → Place) (k : ℕ) (left : PRegSet) (there : List Place) (t : Tables) : Type 0 where
-    pub phase : Phase (at_list there) (and_uses_below k) T0 t
+  pub record UsesPlaced (T₀ : ℕ → Place) (k : ℕ) (left : PRegSet) (there : List Place) (t : Tables) : Type 0 where
+    pub phase : Phase (at_list there) (and_uses_below k) T₀ t
     pub free : (q : Register) → has_register left q ≡ true → (j : ℕ) → j < k → IsUse ops j → at_list there j ≢ InRegister q
     pub long : length there ≡ length ops
 
-  pub uses_placed : (free : PRegSet) (half : List Place) (old : Tables) (T0 : ℕ → Place) → IsPlain ops → length half ≡ length ops → Phase (at_list half) (defs_below (length ops)) T0 old →
-      (k : ℕ) (left : PRegSet) (there : List Place) (t : Tables) → PlacesUses (after i) ops free half old k left there t → k ≤ length ops → UsesPlaced T0 k left there t
-  uses_placed free half old T0 plain long begin k left there t no_uses = λ le. record {
-    phase = renamed_phase (at_list half) (at_list half) (defs_below (length ops)) (and_uses_below 0) T0 old (record { there = λ j d. inl d; back = λ j d. elim d [ inl y ↦ y | inr y ↦ absurd (omega (arith, y.0)) ]; same = λ j d. refl }) begin;
+  pub uses_placed : (free : PRegSet) (half : List Place) (old : Tables) (T₀ : ℕ → Place) → IsPlain ops → length half ≡ length ops → Phase (at_list half) (defs_below (length ops)) T₀ old →
+      (k : ℕ) (left : PRegSet) (there : List Place) (t : Tables) → PlacesUses (after i) ops free half old k left there t → k ≤ length ops → UsesPlaced T₀ k left there t
+  uses_placed free half old T₀ plain long begin k left there t no_uses = λ le. record {
+    phase = renamed_phase (at_list half) (at_list half) (defs_below (length ops)) (and_uses_below 0) T₀ old (record { there = λ j d. inl d; back = λ j d. elim d [ inl y ↦ y | inr y ↦ absurd (omega (arith, y.0)) ]; same = λ j d. refl }) begin;
     free = λ q h j lt. absurd (omega arith);
     long = long;
   }
-  uses_placed free half old T0 plain long begin k left there t (no_use x l e s prev def) = λ le.
-      let p = uses_placed free half old T0 plain long begin x l e s prev (omega arith) in
+  uses_placed free half old T₀ plain long begin k left there t (no_use x l e s prev def) = λ le.
+      let p = uses_placed free half old T₀ plain long begin x l e s prev (omega arith) in
       let less : (j : ℕ) → j < x + 1 → IsUse ops j → j < x = λ j lt u. elim (cases_eq j x) [
         | inl same ↦ absurd (not_both_kinds j (subst (IsDefinition ops) (sym same) def) u)
         | inr ne ↦ omega arith
       ] in
       record {
-        phase = renamed_phase (at_list e) (at_list e) (and_uses_below x) (and_uses_below (x + 1)) T0 s (record {
+        phase = renamed_phase (at_list e) (at_list e) (and_uses_below x) (and_uses_below (x + 1)) T₀ s (record {
           there = λ j d. elim d [ inl y ↦ inl y | inr y ↦ inr (omega (arith, y.0), y.1) ];
           back = λ j d. elim d [ inl y ↦ inl y | inr y ↦ inr (less j y.0 y.1, y.1) ];
           same = λ j d. refl;
@@ -327,8 +327,8 @@ module _ (Known : VirtualRegister → Type 0) (insts : ℕ → InstValue) (place
         free = λ q h j lt u. p.free q h j (less j lt u) u;
         long = p.long;
       }
-  uses_placed free half old T0 plain long begin k left there t (a_use x l r e s u place prev use_it d) = λ le.
-      let p = uses_placed free half old T0 plain long begin x l e s prev (omega arith) in
+  uses_placed free half old T₀ plain long begin k left there t (a_use x l r e s u place prev use_it d) = λ le.
+      let p = uses_placed free half old T₀ plain long begin x l e s prev (omega arith) in
       let only : (j : ℕ) → and_uses_below (x + 1) j → and_uses_below x j ⊎ (j ≡ x) = λ j y. elim y [
         | inl z ↦ inl (inl z)
         | inr z ↦ elim (cases_eq j x) [ inl same ↦ inr same | inr ne ↦ inl (inr (omega (arith, z.0), z.1)) ]
@@ -341,7 +341,7 @@ module _ (Known : VirtualRegister → Type 0) (insts : ℕ → InstValue) (place
       next_place e x place (and_uses_below x) (and_uses_below (x + 1)) d.register (omega (arith, p.long)) d.is_register apart
       (λ j y. elim y [ inl z ↦ inl z | inr z ↦ inr (omega (arith, z.0), z.1) ]) (inr (omega arith, use_it)) only in
       record {
-        phase = use_phase (at_list e) (at_list (set e x place)) (and_uses_below x) (and_uses_below (x + 1)) T0 s u x l r place d (omega arith) use_it
+        phase = use_phase (at_list e) (at_list (set e x place)) (and_uses_below x) (and_uses_below (x + 1)) T₀ s u x l r place d (omega arith) use_it
             (λ j y def same. elim y [ inl z ↦ plain.unread j x z.0 (omega arith) def use_it same | inr z ↦ not_both_kinds j def z.1 ])
             (λ f j y w. elim y [ inl z ↦ absurd (not_both_kinds j z.1 w) | inr z ↦ p.free d.register f j z.0 w ])
             step p.phase;
@@ -361,23 +361,23 @@ module _ (Known : VirtualRegister → Type 0) (insts : ℕ → InstValue) (place
     pub later : AllFrom (before i) (listed t.edits)
     pub claims : Claims Known (before_part insts (listed t.edits) placesf i n item) (Awaits ops (at_list there) (place_in old) (slot_in old) k) E
 
-  pub moves_done : (item : Item) (there : List Place) (T0 : ℕ → Place) (old : Tables) → Phase (at_list there) (and_uses_below (length ops)) T0 old →
+  pub moves_done : (item : Item) (there : List Place) (T₀ : ℕ → Place) (old : Tables) → Phase (at_list there) (and_uses_below (length ops)) T₀ old →
       Claims Known (before_part insts (listed old.edits) placesf i n item) (Awaits ops (at_list there) (place_in old) (slot_in old) 0) E →
       (k : ℕ) (t : Tables) → MovesUses (before i) ops there old k t → k ≤ length ops → Moved item there old k t
-  moves_done item there T0 old p begin k t none_moved = λ le. record { places = refl; slots = refl; later = all_from-less (before i) (after i) (listed old.edits) (omega arith) p.later; claims = begin }
-  moves_done item there T0 old p begin k t (not_moved x s prev def) = λ le.
-      let m = moves_done item there T0 old p begin x s prev (omega arith) in
+  moves_done item there T₀ old p begin k t none_moved = λ le. record { places = refl; slots = refl; later = all_from-less (before i) (after i) (listed old.edits) (omega arith) p.later; claims = begin }
+  moves_done item there T₀ old p begin k t (not_moved x s prev def) = λ le.
+      let m = moves_done item there T₀ old p begin x s prev (omega arith) in
       record {
         places = m.places;
         slots = m.slots;
         later = m.later;
-        claims = pass_def Known ops (at_list there) (and_uses_below (length ops)) T0 (place_in old) (slot_in old) E p.placed (whole_tidy old p.whole) (λ j lt. all_of j lt) x (before_part insts (listed s.edits) placesf i n item) def m.claims;
+        claims = pass_def Known ops (at_list there) (and_uses_below (length ops)) T₀ (place_in old) (slot_in old) E p.placed (whole_tidy old p.whole) (λ j lt. all_of j lt) x (before_part insts (listed s.edits) placesf i n item) def m.claims;
       }
     where
       all_of : (j : ℕ) → j < length ops → and_uses_below (length ops) j
       all_of j lt = elim (cases_Bool (is_def (op_at ops j).kind)) [ inl d ↦ inl (lt, d) | inr u ↦ inr (lt, u) ]
-  moves_done item there T0 old p begin k t (one_moved x s prev use_it) = λ le.
-      let m = moves_done item there T0 old p begin x s prev (omega arith) in
+  moves_done item there T₀ old p begin k t (one_moved x s prev use_it) = λ le.
+      let m = moves_done item there T₀ old p begin x s prev (omega arith) in
       let from : Place = stood s.places (number_at ops x) in
       let same : from ≡ place_in old (number_at ops x) = ap (λ (y : PlacesValue). stood y (number_at ops x)) m.places in
       let items : before_part insts (listed (sent (before i) from (at_list there x) s.edits)) placesf i n item ≡ with_sent (place_in old (number_at ops x)) (at_list there x) (before_part insts (listed s.edits) placesf i n item) =
@@ -387,7 +387,7 @@ module _ (Known : VirtualRegister → Type 0) (insts : ℕ → InstValue) (place
         slots = m.slots;
         later = later_sent (before i) from (at_list there x) s.edits m.later;
         claims = subst (λ l. Claims Known l (Awaits ops (at_list there) (place_in old) (slot_in old) (x + 1)) E) (sym items)
-            (move_use Known ops (at_list there) (and_uses_below (length ops)) T0 (place_in old) (slot_in old) E p.placed (whole_tidy old p.whole) (λ j lt. all_of j lt) x (before_part insts (listed s.edits) placesf i n item) (omega arith) use_it m.claims);
+            (move_use Known ops (at_list there) (and_uses_below (length ops)) T₀ (place_in old) (slot_in old) E p.placed (whole_tidy old p.whole) (λ j lt. all_of j lt) x (before_part insts (listed s.edits) placesf i n item) (omega arith) use_it m.claims);
       }
     where
       all_of : (j : ℕ) → j < length ops → and_uses_below (length ops) j

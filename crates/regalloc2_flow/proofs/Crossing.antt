@@ -25,16 +25,16 @@ reads_use o h = by_test (is_def o.kind) (and_parts (not (is_def o.kind)) (not (i
     by_test false x = refl
 
 -- all operands are placed: what is needed after the instruction is needed before it, and the uses' places
-pub cross : (Known : VirtualRegister → Type 0) (operands : List OperandValue) (places : List Place) (clobbers : PRegSet) (here : ℕ → Place) (done : ℕ → Type 0) (T0 T S : ℕ → Place) (L : List Item) (E : VirtualRegister → Place → Type 0) →
-    IsPlain operands → Knows Known operands → Placed operands here done T0 T S → IsTidy T S →
+pub cross : (Known : VirtualRegister → Type 0) (operands : List OperandValue) (places : List Place) (clobbers : PRegSet) (here : ℕ → Place) (done : ℕ → Type 0) (T₀ T S : ℕ → Place) (L : List Item) (E : VirtualRegister → Place → Type 0) →
+    IsPlain operands → Knows Known operands → Placed operands here done T₀ T S → IsTidy T S →
     ((j : ℕ) → j < length operands → done j) → ((j : ℕ) → j < length operands → place_at places j ≡ here j) → ((p : Place) → is_clobbered clobbers p ≡ false) →
-    Claims Known L (Needs operands here done T0 T S) E → Claims Known (Exec operands places clobbers ∷ L) (Awaits operands here T S 0) E
-cross Known operands places clobbers here done T0 T S L E plain knows p tidy all at_places none g v known =
+    Claims Known L (Needs operands here done T₀ T S) E → Claims Known (Exec operands places clobbers ∷ L) (Awaits operands here T S 0) E
+cross Known operands places clobbers here done T₀ T S L E plain knows p tidy all at_places none g v known =
     let n : ℕ = v.number in
     let alone : (i j : ℕ) → IsDefinition operands i → IsUse operands j → i ≡ j → ⊥ = λ i j d u e. let x : IsDefinition operands j = subst (IsDefinition operands) e d in cc in
     let def_register : (i : ℕ) → i < length operands → (q : Place) → place_at places i ≡ q → (r : Register) × (q ≡ InRegister r) =
     λ i lt q e. let x = p.in_register i (all i lt) in (x.0, sym e ∙ at_places i lt ∙ x.1) in
-    carries_exec v operands places clobbers L (Needs operands here done T0 T S n) (Awaits operands here T S 0 n) (E v)
+    carries_exec v operands places clobbers L (Needs operands here done T₀ T S n) (Awaits operands here T S 0 n) (E v)
     (λ j lt reads early is. (
       used j (omega arith) lt (reads_use (op_at operands j) reads) (ap (λ (x : VirtualRegister). x.number) is) (sym (at_places j lt)),
       λ i less d l e. let x = plain.late_defs i less d in cc,
@@ -71,15 +71,15 @@ cross Known operands places clobbers here done T0 T S L E plain knows p tidy all
     ])
     (g v known)
 
-awaits_there : (operands : List OperandValue) (here : ℕ → Place) (done : ℕ → Type 0) (T0 T S : ℕ → Place) (k n : ℕ) → Placed operands here done T0 T S → ((j : ℕ) → j < length operands → done j) → Awaits operands here T S k n NoPlace → ⊥
-awaits_there operands here done T0 T S k n p all h = elim h [
+awaits_there : (operands : List OperandValue) (here : ℕ → Place) (done : ℕ → Type 0) (T₀ T S : ℕ → Place) (k n : ℕ) → Placed operands here done T₀ T S → ((j : ℕ) → j < length operands → done j) → Awaits operands here T S k n NoPlace → ⊥
+awaits_there operands here done T₀ T S k n p all h = elim h [
   | standing at x ↦ x refl
   | in_slot at x ↦ x refl
   | used j le lt u is at ↦ (let x = p.in_register j (all j lt) in register_there x.0 (here j) x.1 at)
 ]
 
-module _ (Known : VirtualRegister → Type 0) (operands : List OperandValue) (here : ℕ → Place) (done : ℕ → Type 0) (T0 T S : ℕ → Place) (E : VirtualRegister → Place → Type 0)
-    (p : Placed operands here done T0 T S) (tidy : IsTidy T S) (all : (j : ℕ) → j < length operands → done j) where
+module _ (Known : VirtualRegister → Type 0) (operands : List OperandValue) (here : ℕ → Place) (done : ℕ → Type 0) (T₀ T S : ℕ → Place) (E : VirtualRegister → Place → Type 0)
+    (p : Placed operands here done T₀ T S) (tidy : IsTidy T S) (all : (j : ℕ) → j < length operands → done j) where
   -- a definition has no move
   pub pass_def : (k : ℕ) (L : List Item) → IsDefinition operands k → Claims Known L (Awaits operands here T S k) E → Claims Known L (Awaits operands here T S (k + 1)) E
   pass_def k L d g v known =
@@ -103,7 +103,7 @@ module _ (Known : VirtualRegister → Type 0) (operands : List OperandValue) (he
       let found : T m ≢ NoPlace = p.use_found k (all k less) u in
       let register = p.in_register k (all k less) in
       carries_sent v (T m) (here k) L (Awaits operands here T S k n) (Awaits operands here T S (k + 1) n) (E v)
-      (awaits_there operands here done T0 T S k n p all)
+      (awaits_there operands here done T₀ T S k n p all)
       (λ h. elim (cases_eq n m) [
         | inl same ↦ standing (ap T same) found
         | inr ne ↦ elim h [

@@ -102,15 +102,15 @@ module _ (T S T' S' : ℕ → Place) (w : ℕ) (r : Register) (s : Place) (e : E
     | inr ne ↦ (e.others n ne ∙ h)
   ]
 
-  module _ (operands : List OperandValue) (here : ℕ → Place) (done : ℕ → Type 0) (T0 : ℕ → Place) (p : Placed operands here done T0 T S) where
+  module _ (operands : List OperandValue) (here : ℕ → Place) (done : ℕ → Type 0) (T₀ : ℕ → Place) (p : Placed operands here done T₀ T S) where
     at_here : (j n : ℕ) → done j → T' n ≡ here j → T n ≡ here j
     at_here j n d h = let q = p.in_register j d in (still n q.0 (h ∙ q.1)).1 ∙ sym q.1
 
     -- no use that is placed has the register: then who stands there lived
-    evicted_lived : ((j : ℕ) → done j → IsUse operands j → here j ≢ InRegister r) → T0 w ≢ NoPlace
+    evicted_lived : ((j : ℕ) → done j → IsUse operands j → here j ≢ InRegister r) → T₀ w ≢ NoPlace
     evicted_lived free = λ z. let x = p.newly w z (register_there r (T w) e.stood_there) in free x.0 x.1 x.2 (sym x.4 ∙ e.stood_there)
 
-    pub evicted_placed : ((j : ℕ) → done j → IsUse operands j → here j ≢ InRegister r) → Placed operands here done T0 T' S'
+    pub evicted_placed : ((j : ℕ) → done j → IsUse operands j → here j ≢ InRegister r) → Placed operands here done T₀ T' S'
     evicted_placed free = record {
       within = p.within;
       in_register = p.in_register;
@@ -123,17 +123,17 @@ module _ (T S T' S' : ℕ → Place) (w : ℕ) (r : Register) (s : Place) (e : E
       newly = λ n z h.
           let x = p.newly n z (λ y. h (gone n y)) in
           let q = p.in_register x.0 x.1 in
-          let ne : n ≢ w = λ same. evicted_lived free (ap T0 (sym same) ∙ z) in
+          let ne : n ≢ w = λ same. evicted_lived free (ap T₀ (sym same) ∙ z) in
           (x.0, x.1, x.2, x.3, e.others n ne ∙ x.4);
       lives = λ n h z. p.lives n h (lost n z);
     }
 
     pub evicted_claims : ((j : ℕ) → done j → IsUse operands j → here j ≢ InRegister r) → (Known : VirtualRegister → Type 0) (L : List Item) (E : VirtualRegister → Place → Type 0) →
-        Claims Known L (Needs operands here done T0 T S) E → Claims Known (Move (record { from = s; to = InRegister r }) ∷ L) (Needs operands here done T0 T' S') E
+        Claims Known L (Needs operands here done T₀ T S) E → Claims Known (Move (record { from = s; to = InRegister r }) ∷ L) (Needs operands here done T₀ T' S') E
     evicted_claims free Known L E g v known =
         let n : ℕ = v.number in
         let there : s ≢ NoPlace = λ z. let x : InSlot e.is_slot.0 ≡ NoPlace = sym e.is_slot.1 ∙ z in cc in
-        carries_move v (record { from = s; to = InRegister r }) L (Needs operands here done T0 T S n) (Needs operands here done T0 T' S' n) (E v) (λ z. cc)
+        carries_move v (record { from = s; to = InRegister r }) L (Needs operands here done T₀ T S n) (Needs operands here done T₀ T' S' n) (E v) (λ z. cc)
         (λ h. elim h [
           | stood l at x ↦ (let same : n ≡ w = tidy.apart n w r at e.stood_there in stood l (ap T' same ∙ e.stands_now) there)
           | slotted o at x ↦ absurd (tidy.no_register n r at)
@@ -158,8 +158,8 @@ pub record Renamed (here here' : ℕ → Place) (done done' : ℕ → Type 0) : 
   pub back : (j : ℕ) → done' j → done j
   pub same : (j : ℕ) → done j → here' j ≡ here j
 
-pub placed_renamed : (operands : List OperandValue) (here here' : ℕ → Place) (done done' : ℕ → Type 0) (T0 T S : ℕ → Place) → Renamed here here' done done' → Placed operands here done T0 T S → Placed operands here' done' T0 T S
-placed_renamed operands here here' done done' T0 T S r p = record {
+pub placed_renamed : (operands : List OperandValue) (here here' : ℕ → Place) (done done' : ℕ → Type 0) (T₀ T S : ℕ → Place) → Renamed here here' done done' → Placed operands here done T₀ T S → Placed operands here' done' T₀ T S
+placed_renamed operands here here' done done' T₀ T S r p = record {
   within = λ j d. p.within j (r.back j d);
   in_register = λ j d. let x = p.in_register j (r.back j d) in (x.0, r.same j (r.back j d) ∙ x.1);
   defs_apart = λ i j d e f g h. p.defs_apart i j (r.back i d) (r.back j e) f g (sym (r.same i (r.back i d)) ∙ h ∙ r.same j (r.back j e));
@@ -172,10 +172,10 @@ placed_renamed operands here here' done done' T0 T S r p = record {
   lives = λ n h z. let x = p.lives n h z in (x.0, r.there x.0 x.1, x.2, x.3);
 }
 
-pub claims_renamed : (Known : VirtualRegister → Type 0) (operands : List OperandValue) (here here' : ℕ → Place) (done done' : ℕ → Type 0) (T0 T S : ℕ → Place) (L : List Item) (E : VirtualRegister → Place → Type 0) → Renamed here here' done done' →
-    Claims Known L (Needs operands here done T0 T S) E → Claims Known L (Needs operands here' done' T0 T S) E
-claims_renamed Known operands here here' done done' T0 T S L E r g v known =
-    carries_weaken v L (Needs operands here done T0 T S v.number) (Needs operands here' done' T0 T S v.number) (E v) (E v)
+pub claims_renamed : (Known : VirtualRegister → Type 0) (operands : List OperandValue) (here here' : ℕ → Place) (done done' : ℕ → Type 0) (T₀ T S : ℕ → Place) (L : List Item) (E : VirtualRegister → Place → Type 0) → Renamed here here' done done' →
+    Claims Known L (Needs operands here done T₀ T S) E → Claims Known L (Needs operands here' done' T₀ T S) E
+claims_renamed Known operands here here' done done' T₀ T S L E r g v known =
+    carries_weaken v L (Needs operands here done T₀ T S v.number) (Needs operands here' done' T₀ T S v.number) (E v) (E v)
     (λ p h. elim h [
       | stood l at x ↦ stood l at x
       | slotted o at x ↦ slotted (λ out. o (out.0, r.back out.0 out.1, out.2, out.3)) at x

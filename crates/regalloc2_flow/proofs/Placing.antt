@@ -24,7 +24,7 @@ pub record Next (here here' : ℕ → Place) (done done' : ℕ → Type 0) (j : 
 both_kinds : (operands : List OperandValue) (j : ℕ) → IsDefinition operands j → IsUse operands j → ⊥
 both_kinds operands j d u = cc
 
-module _ (operands : List OperandValue) (here here' : ℕ → Place) (done done' : ℕ → Type 0) (T0 T T' S : ℕ → Place) (j : ℕ) (r : Register) (next : Next here here' done done' j r) (p : Placed operands here done T0 T S) (tidy : IsTidy T S) (j_within : j < length operands) where
+module _ (operands : List OperandValue) (here here' : ℕ → Place) (done done' : ℕ → Type 0) (T₀ T T' S : ℕ → Place) (j : ℕ) (r : Register) (next : Next here here' done done' j r) (p : Placed operands here done T₀ T S) (tidy : IsTidy T S) (j_within : j < length operands) where
   number : ℕ
   number = number_at operands j
 
@@ -37,7 +37,7 @@ module _ (operands : List OperandValue) (here here' : ℕ → Place) (done done'
     | inr e ↦ (r, ap here' e ∙ next.place)
   ]
 
-  needs_there : (n : ℕ) → Needs operands here done T0 T S n NoPlace → ⊥
+  needs_there : (n : ℕ) → Needs operands here done T₀ T S n NoPlace → ⊥
   needs_there n h = elim h [
     | stood l at x ↦ x refl
     | slotted o at x ↦ x refl
@@ -61,7 +61,7 @@ module _ (operands : List OperandValue) (here here' : ℕ → Place) (done done'
     | inr ne ↦ (ne, sym (d.others n ne) ∙ h)
   ]
 
-  def_lived : IsDefined → (n : ℕ) → T n ≢ NoPlace → T0 n ≢ NoPlace
+  def_lived : IsDefined → (n : ℕ) → T n ≢ NoPlace → T₀ n ≢ NoPlace
   def_lived d n h = λ z. let x = p.newly n z h in both_kinds operands x.0 (d.no_uses x.0 x.1) x.2
 
   pub defined_tidy : IsDefined → IsTidy T' S
@@ -78,7 +78,7 @@ module _ (operands : List OperandValue) (here here' : ℕ → Place) (done done'
     | inr e ↦ both_kinds operands j d.defines (subst (IsUse operands) e u)
   ]
 
-  pub defined_placed : IsDefined → Placed operands here' done' T0 T' S
+  pub defined_placed : IsDefined → Placed operands here' done' T₀ T' S
   defined_placed d = record {
     within = within';
     in_register = register';
@@ -117,7 +117,7 @@ module _ (operands : List OperandValue) (here here' : ℕ → Place) (done done'
   }
 
   -- the two places of the virtual register that is defined are needed by nobody else
-  place_unneeded : IsDefined → (n : ℕ) → n ≢ number_at operands j → (q : Place) → q ≡ T (number_at operands j) → Needs operands here done T0 T S n q → ⊥
+  place_unneeded : IsDefined → (n : ℕ) → n ≢ number_at operands j → (q : Place) → q ≡ T (number_at operands j) → Needs operands here done T₀ T S n q → ⊥
   place_unneeded d n ne NoPlace e h = needs_there n h
   place_unneeded d n ne (InRegister q) e h = elim h [
     | stood l at x ↦ ne (tidy.apart n (number_at operands j) q at (sym e))
@@ -130,7 +130,7 @@ module _ (operands : List OperandValue) (here here' : ℕ → Place) (done done'
     | made i y f is at ↦ (let x = p.in_register i y in registers_apart x.0 k (here i) x.1 at)
   ]
 
-  slot_unneeded : (n : ℕ) → n ≢ number_at operands j → (q : Place) → q ≡ S (number_at operands j) → Needs operands here done T0 T S n q → ⊥
+  slot_unneeded : (n : ℕ) → n ≢ number_at operands j → (q : Place) → q ≡ S (number_at operands j) → Needs operands here done T₀ T S n q → ⊥
   slot_unneeded n ne NoPlace e h = needs_there n h
   slot_unneeded n ne (InRegister q) e h = tidy.no_register (number_at operands j) q (sym e)
   slot_unneeded n ne (InSlot k) e h = elim h [
@@ -140,7 +140,7 @@ module _ (operands : List OperandValue) (here here' : ℕ → Place) (done done'
   ]
 
   -- what another needs stays as it is
-  others_need : IsDefined → (n : ℕ) → n ≢ number_at operands j → (q : Place) → Needs operands here done T0 T S n q → Needs operands here' done' T0 T' S n q
+  others_need : IsDefined → (n : ℕ) → n ≢ number_at operands j → (q : Place) → Needs operands here done T₀ T S n q → Needs operands here' done' T₀ T' S n q
   others_need d n ne q h = elim h [
     | stood l at x ↦ stood l (d.others n ne ∙ at) x
     | slotted o at x ↦ slotted (λ out. elim (next.only out.0 out.1) [ inl y ↦ o (out.0, y, out.2, out.3) | inr e ↦ ne (sym out.3 ∙ ap (number_at operands) e) ]) at x
@@ -153,11 +153,11 @@ module _ (operands : List OperandValue) (here here' : ℕ → Place) (done done'
       (with_sent (InRegister r) (T (number_at operands j)) L)
       (with_sent (InRegister r) (S (number_at operands j)) (with_sent (InRegister r) (T (number_at operands j)) L))
 
-  defined_other : IsDefined → (v : VirtualRegister) → v.number ≢ number_at operands j → (L : List Item) (E : Place → Type 0) → Carries v L (Needs operands here done T0 T S v.number) E → Carries v (defined_items L) (Needs operands here' done' T0 T' S v.number) E
+  defined_other : IsDefined → (v : VirtualRegister) → v.number ≢ number_at operands j → (L : List Item) (E : Place → Type 0) → Carries v L (Needs operands here done T₀ T S v.number) E → Carries v (defined_items L) (Needs operands here' done' T₀ T' S v.number) E
   defined_other d v ne L E g = by_test (is_place (S (number_at operands j)) (T (number_at operands j)))
     where
       N : Place → Type 0
-      N = Needs operands here done T0 T S v.number
+      N = Needs operands here done T₀ T S v.number
 
       first : Carries v (with_sent (InRegister r) (T (number_at operands j)) L) N E
       first = carries_sent v (InRegister r) (T (number_at operands j)) L N N E (needs_there v.number) (λ h. absurd (place_unneeded d v.number ne (T (number_at operands j)) refl h)) (λ q x h. h) g
@@ -165,11 +165,11 @@ module _ (operands : List OperandValue) (here here' : ℕ → Place) (done done'
       second : Carries v (with_sent (InRegister r) (S (number_at operands j)) (with_sent (InRegister r) (T (number_at operands j)) L)) N E
       second = carries_sent v (InRegister r) (S (number_at operands j)) (with_sent (InRegister r) (T (number_at operands j)) L) N N E (needs_there v.number) (λ h. absurd (slot_unneeded v.number ne (S (number_at operands j)) refl h)) (λ q x h. h) first
 
-      by_test : (b : Bool) → Carries v (cond b (with_sent (InRegister r) (T (number_at operands j)) L) (with_sent (InRegister r) (S (number_at operands j)) (with_sent (InRegister r) (T (number_at operands j)) L))) (Needs operands here' done' T0 T' S v.number) E
-      by_test true = carries_weaken v _ N (Needs operands here' done' T0 T' S v.number) E E (others_need d v.number ne) (λ q x. x) first
-      by_test false = carries_weaken v _ N (Needs operands here' done' T0 T' S v.number) E E (others_need d v.number ne) (λ q x. x) second
+      by_test : (b : Bool) → Carries v (cond b (with_sent (InRegister r) (T (number_at operands j)) L) (with_sent (InRegister r) (S (number_at operands j)) (with_sent (InRegister r) (T (number_at operands j)) L))) (Needs operands here' done' T₀ T' S v.number) E
+      by_test true = carries_weaken v _ N (Needs operands here' done' T₀ T' S v.number) E E (others_need d v.number ne) (λ q x. x) first
+      by_test false = carries_weaken v _ N (Needs operands here' done' T₀ T' S v.number) E E (others_need d v.number ne) (λ q x. x) second
 
-  defined_own : IsDefined → (v : VirtualRegister) → v.number ≡ number_at operands j → (L : List Item) (E : Place → Type 0) → Carries v L (Needs operands here done T0 T S v.number) E → Carries v (defined_items L) (Needs operands here' done' T0 T' S v.number) E
+  defined_own : IsDefined → (v : VirtualRegister) → v.number ≡ number_at operands j → (L : List Item) (E : Place → Type 0) → Carries v L (Needs operands here done T₀ T S v.number) E → Carries v (defined_items L) (Needs operands here' done' T₀ T' S v.number) E
   defined_own d v same L E g = by_test (is_place (S (number_at operands j)) (T (number_at operands j))) refl
     where
       place : Place
@@ -182,13 +182,13 @@ module _ (operands : List OperandValue) (here here' : ℕ → Place) (done done'
       slot = S (number_at operands j)
 
       N : Place → Type 0
-      N = Needs operands here done T0 T S v.number
+      N = Needs operands here done T₀ T S v.number
 
       M : Place → Type 0
       M = λ q. (q ≡ place) ⊎ ((slot ≡ q) × (q ≢ NoPlace) × (q ≡ awaited → ⊥))
 
       R : Place → Type 0
-      R = Needs operands here' done' T0 T' S v.number
+      R = Needs operands here' done' T₀ T' S v.number
 
       at_own : (q : Place) → q ≡ place → R q
       at_own q e = made j next.adds d.defines (sym same) (next.place ∙ sym e)
@@ -211,7 +211,7 @@ module _ (operands : List OperandValue) (here here' : ℕ → Place) (done done'
           first
 
   pub defined_claims : IsDefined → (Known : VirtualRegister → Type 0) (L : List Item) (E : VirtualRegister → Place → Type 0) →
-      Claims Known L (Needs operands here done T0 T S) E → Claims Known (defined_items L) (Needs operands here' done' T0 T' S) E
+      Claims Known L (Needs operands here done T₀ T S) E → Claims Known (defined_items L) (Needs operands here' done' T₀ T' S) E
   defined_claims d Known L E g v known = elim (cases_eq v.number (number_at operands j)) [
     | inl same ↦ defined_own d v same L (E v) (g v known)
     | inr ne ↦ defined_other d v ne L (E v) (g v known)
@@ -272,7 +272,7 @@ module _ (operands : List OperandValue) (here here' : ℕ → Place) (done done'
   use_no_def : IsUsedAt → (i : ℕ) → done' i → IsDefinition operands i → done i
   use_no_def u i x d = elim (next.only i x) [ inl o ↦ o | inr e ↦ absurd (both_kinds operands j (subst (IsDefinition operands) e d) u.uses) ]
 
-  pub used_placed : IsUsedAt → Placed operands here' done' T0 T' S
+  pub used_placed : IsUsedAt → Placed operands here' done' T₀ T' S
   used_placed u = record {
     within = within';
     in_register = register';
@@ -321,9 +321,9 @@ module _ (operands : List OperandValue) (here here' : ℕ → Place) (done done'
   }
 
   pub used_claims : IsUsedAt → (Known : VirtualRegister → Type 0) (L : List Item) (E : VirtualRegister → Place → Type 0) →
-      Claims Known L (Needs operands here done T0 T S) E → Claims Known L (Needs operands here' done' T0 T' S) E
+      Claims Known L (Needs operands here done T₀ T S) E → Claims Known L (Needs operands here' done' T₀ T' S) E
   used_claims u Known L E g v known =
-      carries_weaken v L (Needs operands here done T0 T S v.number) (Needs operands here' done' T0 T' S v.number) (E v) (E v)
+      carries_weaken v L (Needs operands here done T₀ T S v.number) (Needs operands here' done' T₀ T' S v.number) (E v) (E v)
       (λ q h. elim h [
         | stood l at x ↦ stood l (use_kept u v.number (λ z. x (sym at ∙ z)) ∙ at) x
         | slotted o at x ↦ slotted (λ out. o (out.0, use_no_def u out.0 out.1 out.2, out.2, out.3)) at x

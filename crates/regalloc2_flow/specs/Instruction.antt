@@ -41,12 +41,12 @@ pub data Stands (T S : ℕ → Place) (n : ℕ) (p : Place) : Type 0 where
 abbrev pub IsOut : List OperandValue → (ℕ → Type 0) → ℕ → Type 0
 IsOut operands done n = (j : ℕ) × done j × IsDefinition operands j × (number_at operands j ≡ n)
 
--- What is needed after the instruction, while its operands are placed; T0 is T as it was when the instruction began:
+-- What is needed after the instruction, while its operands are placed; T₀ is T as it was when the instruction began:
 -- where it stood all through, its slot, or where it was defined.
-pub data Needs (operands : List OperandValue) (here : ℕ → Place) (done : ℕ → Type 0) (T0 T S : ℕ → Place) (n : ℕ) (p : Place) : Type 0 where
-  stood : T0 n ≢ NoPlace → T n ≡ p → p ≢ NoPlace → Needs operands here done T0 T S n p
-  slotted : (IsOut operands done n → ⊥) → S n ≡ p → p ≢ NoPlace → Needs operands here done T0 T S n p
-  made : (j : ℕ) → done j → IsDefinition operands j → number_at operands j ≡ n → here j ≡ p → Needs operands here done T0 T S n p
+pub data Needs (operands : List OperandValue) (here : ℕ → Place) (done : ℕ → Type 0) (T₀ T S : ℕ → Place) (n : ℕ) (p : Place) : Type 0 where
+  stood : T₀ n ≢ NoPlace → T n ≡ p → p ≢ NoPlace → Needs operands here done T₀ T S n p
+  slotted : (IsOut operands done n → ⊥) → S n ≡ p → p ≢ NoPlace → Needs operands here done T₀ T S n p
+  made : (j : ℕ) → done j → IsDefinition operands j → number_at operands j ≡ n → here j ≡ p → Needs operands here done T₀ T S n p
 
 -- what is needed before the instruction, while the moves of the uses from k on are not listed
 pub data Awaits (operands : List OperandValue) (here : ℕ → Place) (T S : ℕ → Place) (k n : ℕ) (p : Place) : Type 0 where
@@ -55,17 +55,17 @@ pub data Awaits (operands : List OperandValue) (here : ℕ → Place) (T S : ℕ
   used : (j : ℕ) → k ≤ j → j < length operands → IsUse operands j → number_at operands j ≡ n → here j ≡ p → Awaits operands here T S k n p
 
 -- the operands that are placed so far
-pub record Placed (operands : List OperandValue) (here : ℕ → Place) (done : ℕ → Type 0) (T0 T S : ℕ → Place) : Type 0 where
+pub record Placed (operands : List OperandValue) (here : ℕ → Place) (done : ℕ → Type 0) (T₀ T S : ℕ → Place) : Type 0 where
   pub within : (j : ℕ) → done j → j < length operands
   pub in_register : (j : ℕ) → done j → (r : Register) × (here j ≡ InRegister r)
   pub defs_apart : (i j : ℕ) → done i → done j → IsDefinition operands i → IsDefinition operands j → here i ≡ here j → i ≡ j
   pub def_gone : (j : ℕ) → done j → IsDefinition operands j → T (number_at operands j) ≡ NoPlace
-  pub def_alone : (j n : ℕ) → done j → IsDefinition operands j → T0 n ≢ NoPlace → T n ≡ here j → ⊥
+  pub def_alone : (j n : ℕ) → done j → IsDefinition operands j → T₀ n ≢ NoPlace → T n ≡ here j → ⊥
   pub use_found : (j : ℕ) → done j → IsUse operands j → T (number_at operands j) ≢ NoPlace
   pub use_alone : (j n : ℕ) → done j → IsUse operands j → T n ≡ here j → n ≡ number_at operands j
   pub uses_apart : (i j : ℕ) → done i → done j → IsUse operands i → IsUse operands j → here i ≡ here j → number_at operands i ≡ number_at operands j
-  pub newly : (n : ℕ) → T0 n ≡ NoPlace → T n ≢ NoPlace → (j : ℕ) × done j × IsUse operands j × (number_at operands j ≡ n) × (T n ≡ here j)
-  pub lives : (n : ℕ) → T0 n ≢ NoPlace → T n ≡ NoPlace → IsOut operands done n
+  pub newly : (n : ℕ) → T₀ n ≡ NoPlace → T n ≢ NoPlace → (j : ℕ) × done j × IsUse operands j × (number_at operands j ≡ n) × (T n ≡ here j)
+  pub lives : (n : ℕ) → T₀ n ≢ NoPlace → T n ≡ NoPlace → IsOut operands done n
 
 -- a listing carries each virtual register that is known from the places that its number needs
 abbrev pub Claims : (VirtualRegister → Type 0) → List Item → (ℕ → Place → Type 0) → (VirtualRegister → Place → Type 0) → Type 0
