@@ -1,5 +1,5 @@
 -- Where the tests of a function fail first, as their refusals say.
-use Rattle.std.specs.Prelude.{ℕ, ◌≡◌, ◌≢◌, ◌+◌, ◌<◌, ◌≤◌, ◌⊎◌, List, [], ◌∷◌, ◌++◌, All, count_by, filter_map, flat_map, length, map, nat_eq, slice_index, slice_index_or, Option, None, Some, if◌then◌else◌}
+use Rattle.std.specs.Prelude.{ℕ, ◌≡◌, ◌≢◌, ◌+◌, ◌<◌, ◌≤◌, ◌⊎◌, List, [], ◌∷◌, ◌++◌, All, count_by, filter_map, flat_map, length, map, nat_eq, slice_index_or, Option, None, Some, if◌then◌else◌}
 use Rattle.regalloc2_index.specs.Range.{numbers_from, numbers_of}
 use Rattle.regalloc2_names.specs.Register.{VirtualRegister}
 use Rattle.regalloc2_names.specs.Operand.{OperandValue}
@@ -7,7 +7,7 @@ use Rattle.regalloc2_names.specs.declared.RegAllocError.{RegAllocError}
 use Rattle.regalloc2_names.specs.declared.RegAllocError.TheVariants.{BB, Branch, CritEdge, DisallowedBranchArg, EntryLivein, Memory, SSA}
 use Rattle.regalloc2_function.specs.FunctionValue.{FunctionValue, BlockValue, block_at, inst_at}
 use Rattle.regalloc2_function.specs.SourceRun.{is_def, is_reading}
-use Rattle.regalloc2_function.specs.WellFormed.{ArgumentsCounted, ArgumentsFit, BlocksEnd, BlocksFollow, DefinedOnce, EndsAt, EntryIsFirst, FollowsAt, IsDefinedBefore, IsFirstToFail, NoCriticalEdge, NoOperandsIntoJoins, PredecessorsAgree, SuccessorsAreBlocks, UsesAreDefined, last_of, times_in, ways_into}
+use Rattle.regalloc2_function.specs.WellFormed.{ArgumentsCounted, ArgumentsFit, BlocksEnd, BlocksFollow, DefinedOnce, EndsAt, EntryIsFirst, FollowsAt, IsDefinedBefore, IsFirstToFail, NoCriticalEdge, NoOperandsIntoJoins, PredecessorsAgree, SuccessorsAreBlocks, UsesAreDefined, last_of, ArgumentsFitAt, NoOperandsAt, NotCriticalAt, PredecessorsAt}
 
 -- the first of a list that fails: those before it pass
 pub record IsFirstIn {X : Type 0} (P : X → Type 0) (xs : List X) (x : X) : Type 0 where
@@ -109,25 +109,9 @@ IsDefinitionFault f _ = ⊥
 abbrev pub IsFirstOutside : FunctionValue → ℕ → Type 0
 IsFirstOutside f s = IsFirstIn (λ s. s < length f.blocks) (f.entry ∷ flat_map (λ b. b.succs) f.blocks) s
 
--- a block's predecessors are its listings among successors, counted
-abbrev pub PredecessorsAt : FunctionValue → ℕ → BlockValue → Type 0
-PredecessorsAt f n b = (p : ℕ) → times_in p b.preds ≡ times_in n (block_at f p).succs
-
--- a block that is entered in several ways has no predecessor with several successors
-abbrev pub NotCriticalAt : FunctionValue → ℕ → BlockValue → Type 0
-NotCriticalAt f n b = 1 < ways_into f n → All (λ p. length (block_at f p).succs ≤ 1) b.preds
-
 -- the first of a block's predecessors that has several successors
 abbrev pub IsFirstFork : FunctionValue → BlockValue → ℕ → Type 0
 IsFirstFork f b p = IsFirstIn (λ p. length (block_at f p).succs ≤ 1) b.preds p
-
--- a block's last instruction has no operands where it branches into a block that is entered in several ways
-abbrev pub NoOperandsAt : FunctionValue → ℕ → BlockValue → Type 0
-NoOperandsAt f n b = All (λ s. 1 < ways_into f s → (inst_at f (last_of b)).operands ≡ []) b.succs
-
--- a block passes each successor as many arguments as it has parameters, of the same classes
-abbrev pub PassesAt : FunctionValue → ℕ → BlockValue → Type 0
-PassesAt f n b = (k : ℕ) → k < length b.succs → map (λ v. v.class) (slice_index_or b.arguments k []) ≡ map (λ v. v.class) (block_at f (slice_index b.succs k)).params
 
 -- what the tests of blocks and edges test
 pub record HasShape (f : FunctionValue) : Type 0 where
@@ -159,5 +143,5 @@ pub data IsSoundnessFault (f : FunctionValue) : RegAllocError → Type 0 where
   elsewhere : f.entry ≢ 0 → IsSoundnessFault f (BB f.entry)
   livein : f.entry ≡ 0 → (block_at f 0).params ≢ [] → IsSoundnessFault f EntryLivein
   open_end : (b : ℕ) → EntryIsFirst f → IsFirstToFail f (EndsAt f) b → IsSoundnessFault f (BB b)
-  arguments : (b : ℕ) → EntryIsFirst f → BlocksEnd f → IsFirstToFail f (PassesAt f) b → IsSoundnessFault f (Branch (last_of (block_at f b)))
+  arguments : (b : ℕ) → EntryIsFirst f → BlocksEnd f → IsFirstToFail f (ArgumentsFitAt f) b → IsSoundnessFault f (Branch (last_of (block_at f b)))
   definitions : (v : VirtualRegister) (i : ℕ) → EntryIsFirst f → BlocksEnd f → ArgumentsFit f → IsDefinitionFault f (SSA v i) → IsSoundnessFault f (SSA v i)

@@ -1,15 +1,15 @@
 -- The tests that a function has to pass before it is allocated, in their order, and why it is refused: the lowest test that fails, and within it the first place where it fails.
 -- The tests are those of upstream's `CFGInfo::init`, `validate_ssa` and `run`, and of what its allocators take for granted.
-use Rattle.std.specs.Prelude.{ℕ, ◌≡◌, ◌≢◌, ◌+◌, ◌*◌, ◌<◌, ◌≤◌, ◌^◌, ◌⊎◌, max, Bool, true, false, not, nat_lt, find, List, [], ◌∷◌, All, flat_map, length, map, slice_index, slice_index_or, Some}
+use Rattle.std.specs.Prelude.{ℕ, ◌≡◌, ◌≢◌, ◌+◌, ◌*◌, ◌<◌, ◌≤◌, ◌^◌, ◌⊎◌, max, Bool, true, false, [], All, length}
 use Rattle.regalloc2_names.specs.declared.RegAllocError.{RegAllocError}
 use Rattle.regalloc2_names.specs.declared.RegAllocError.TheVariants.{CritEdge, SSA, BB, Branch, EntryLivein, DisallowedBranchArg, TooManyLiveRegs, TooManyOperands, Unsupported, TooManySpillSlots, Memory}
 use Rattle.regalloc2_names.specs.declared.OperandConstraint.TheVariants.{Limit}
-use Rattle.regalloc2_function.specs.FunctionValue.{FunctionValue, BlockValue, InstValue, SlotSizes, block_at, inst_at, operand_count}
+use Rattle.regalloc2_function.specs.FunctionValue.{FunctionValue, InstValue, SlotSizes, block_at, inst_at, operand_count}
 use Rattle.regalloc2_function.specs.Machine.{MachineValue}
 use Rattle.regalloc2_function.specs.Fitting.{Fits}
 use Rattle.regalloc2_function.specs.SourceRun.{is_def}
-use Rattle.regalloc2_function.specs.WellFormed.{SuccessorsAreBlocks, BlocksFollow, FollowsAt, PredecessorsAgree, NoCriticalEdge, NoOperandsIntoJoins, EntryIsFirst, BlocksEnd, EndsAt, ArgumentsCounted, ArgumentsFit, DefinedOnce, UsesAreDefined, ReusesAreSound, FixedAvoidClobbers, EachOperand, IsFirstToFail, times_in, ways_into, last_of}
-use Rattle.regalloc2_function.specs.Reasons.{IsFirstRepeat, IsFirstUndefined}
+use Rattle.regalloc2_function.specs.WellFormed.{SuccessorsAreBlocks, BlocksFollow, FollowsAt, PredecessorsAgree, NoCriticalEdge, NoOperandsIntoJoins, EntryIsFirst, BlocksEnd, EndsAt, ArgumentsCounted, ArgumentsFit, DefinedOnce, UsesAreDefined, ReusesAreSound, FixedAvoidClobbers, EachOperand, IsFirstToFail, PredecessorsAt, NotCriticalAt, NoOperandsAt, ArgumentsFitAt, last_of}
+use Rattle.regalloc2_function.specs.Reasons.{IsFirstFork, IsFirstOutside, IsFirstRepeat, IsFirstUndefined}
 
 -- no operand asks for a register below a bound
 abbrev pub HasNoLimit : InstValue → Type 0
@@ -84,32 +84,6 @@ PassesAll f env asked = (u : Test) → IsMade asked u → Passes f env u
 abbrev pub IsFirstInst : FunctionValue → (InstValue → Type 0) → ℕ → Type 0
 IsFirstInst f P i = (i < length f.insts) × (P (inst_at f i) → ⊥) × ((j : ℕ) → j < i → P (inst_at f j))
 
--- the numbers that have to be blocks: the entry, and then the successors as listed
-abbrev pub named_blocks : FunctionValue → List ℕ
-named_blocks f = f.entry ∷ flat_map (λ b. b.succs) f.blocks
-
--- a block's predecessors are its listings among successors, counted
-abbrev pub PredecessorsAgreeAt : FunctionValue → ℕ → BlockValue → Type 0
-PredecessorsAgreeAt f n b = (p : ℕ) → times_in p b.preds ≡ times_in n (block_at f p).succs
-
--- a block that is entered in several ways has no predecessor with several successors
-abbrev pub NoCriticalEdgeAt : FunctionValue → ℕ → BlockValue → Type 0
-NoCriticalEdgeAt f n b = 1 < ways_into f n → All (λ p. length (block_at f p).succs ≤ 1) b.preds
-
--- a block's branch into a block that is entered in several ways has no operands
-abbrev pub NoOperandsAt : FunctionValue → ℕ → BlockValue → Type 0
-NoOperandsAt f n b = All (λ s. 1 < ways_into f s → (inst_at f (last_of b)).operands ≡ []) b.succs
-
--- a block gives each successor arguments of the classes of its parameters, one for each
-abbrev pub ArgumentsFitAt : FunctionValue → ℕ → BlockValue → Type 0
-ArgumentsFitAt f n b = (k : ℕ) → k < length b.succs → map (λ v. v.class) (slice_index_or b.arguments k []) ≡ map (λ v. v.class) (block_at f (slice_index b.succs k)).params
-
--- the first critical edge: into the lowest such block, from its first such predecessor
-abbrev pub IsFirstCriticalEdge : FunctionValue → ℕ → ℕ → Type 0
-IsFirstCriticalEdge f p b = IsFirstToFail f (NoCriticalEdgeAt f) b
-    × ((k : ℕ) × (k < length (block_at f b).preds) × (slice_index (block_at f b).preds k ≡ p) × (1 < length (block_at f p).succs)
-    × ((j : ℕ) → j < k → length (block_at f (slice_index (block_at f b).preds j)).succs ≤ 1))
-
 abbrev pub largest_slot : SlotSizes → ℕ
 largest_slot s = max s.int (max s.float s.vector)
 
@@ -123,12 +97,12 @@ FailsAt f env asked t Place = IsMade asked t × PassesBefore f env asked t × Pl
 
 -- The reason that a refusal gives. Want of operands' numbers comes before every test, and lack of registers, of slots and of a test's passing after it; want of memory may come anywhere in between.
 abbrev pub IsReason : FunctionValue → MachineValue → Bool → RegAllocError → Type 0
-IsReason f env asked (CritEdge p b) = (operand_count f < 2 ^ 32) × FailsAt f env asked CriticalEdges (IsFirstCriticalEdge f p b)
+IsReason f env asked (CritEdge p b) = (operand_count f < 2 ^ 32) × FailsAt f env asked CriticalEdges (IsFirstToFail f (NotCriticalAt f) b × IsFirstFork f (block_at f b) p)
 IsReason f env asked (SSA v i) = (operand_count f < 2 ^ 32) × (FailsAt f env asked Definitions (IsFirstRepeat f v i) ⊎ FailsAt f env asked Uses (IsFirstUndefined f v i))
 IsReason f env asked (BB b) = (operand_count f < 2 ^ 32) ×
-    (FailsAt f env asked Successors (find (λ s. not (nat_lt s (length f.blocks))) (named_blocks f) ≡ Some b)
+    (FailsAt f env asked Successors (IsFirstOutside f b)
     ⊎ FailsAt f env asked Ranges (IsFirstToFail f (FollowsAt f) b)
-    ⊎ FailsAt f env asked Predecessors (IsFirstToFail f (PredecessorsAgreeAt f) b)
+    ⊎ FailsAt f env asked Predecessors (IsFirstToFail f (PredecessorsAt f) b)
     ⊎ FailsAt f env asked Entry ((f.entry ≢ 0) × (b ≡ f.entry))
     ⊎ FailsAt f env asked Ends (IsFirstToFail f (EndsAt f) b))
 IsReason f env asked (Branch i) = (operand_count f < 2 ^ 32) × FailsAt f env asked Arguments ((b : ℕ) × IsFirstToFail f (ArgumentsFitAt f) b × (i ≡ last_of (block_at f b)))

@@ -50,16 +50,25 @@ abbrev pub BlocksFollow : FunctionValue → Type 0
 BlocksFollow f = EachBlock f (FollowsAt f)
 
 -- a block's predecessors are its listings among successors, counted
+abbrev pub PredecessorsAt : FunctionValue → ℕ → BlockValue → Type 0
+PredecessorsAt f n b = (p : ℕ) → times_in p b.preds ≡ times_in n (block_at f p).succs
+
 abbrev pub PredecessorsAgree : FunctionValue → Type 0
-PredecessorsAgree f = EachBlock f (λ n b. (p : ℕ) → times_in p b.preds ≡ times_in n (block_at f p).succs)
+PredecessorsAgree f = EachBlock f (PredecessorsAt f)
 
 -- a block that is entered in several ways has no predecessor with several successors
-abbrev pub NoCriticalEdge : FunctionValue → Type 0
-NoCriticalEdge f = EachBlock f (λ n b. 1 < ways_into f n → All (λ p. length (block_at f p).succs ≤ 1) b.preds)
+abbrev pub NotCriticalAt : FunctionValue → ℕ → BlockValue → Type 0
+NotCriticalAt f n b = 1 < ways_into f n → All (λ p. length (block_at f p).succs ≤ 1) b.preds
 
--- a branch into such a block has no operands
+abbrev pub NoCriticalEdge : FunctionValue → Type 0
+NoCriticalEdge f = EachBlock f (NotCriticalAt f)
+
+-- a block's branch into such a block has no operands
+abbrev pub NoOperandsAt : FunctionValue → ℕ → BlockValue → Type 0
+NoOperandsAt f n b = All (λ s. 1 < ways_into f s → (inst_at f (last_of b)).operands ≡ []) b.succs
+
 abbrev pub NoOperandsIntoJoins : FunctionValue → Type 0
-NoOperandsIntoJoins f = EachBlock f (λ n b. All (λ s. 1 < ways_into f s → (inst_at f (last_of b)).operands ≡ []) b.succs)
+NoOperandsIntoJoins f = EachBlock f (NoOperandsAt f)
 
 -- the entry is block 0 and has no parameters
 abbrev pub EntryIsFirst : FunctionValue → Type 0
@@ -85,8 +94,11 @@ abbrev pub ArgumentsCounted : FunctionValue → Type 0
 ArgumentsCounted f = EachBlock f (CountedAt f)
 
 -- and of the same classes
+abbrev pub ArgumentsFitAt : FunctionValue → ℕ → BlockValue → Type 0
+ArgumentsFitAt f n b = (k : ℕ) → k < length b.succs → map (λ v. v.class) (slice_index_or b.arguments k []) ≡ map (λ v. v.class) (block_at f (slice_index b.succs k)).params
+
 abbrev pub ArgumentsFit : FunctionValue → Type 0
-ArgumentsFit f = EachBlock f (λ n b. (k : ℕ) → k < length b.succs → map (λ v. v.class) (slice_index_or b.arguments k []) ≡ map (λ v. v.class) (block_at f (slice_index b.succs k)).params)
+ArgumentsFit f = EachBlock f (ArgumentsFitAt f)
 
 -- an operand that defines
 abbrev pub defines : ℕ → OperandValue → Bool

@@ -32,7 +32,7 @@ sums_of f n [] (i ∷ is) = let h = sums_of f n [] is in let c = sum_by-cons (op
 sums_of f n (b ∷ bs) is = let h = sums_of f n bs is in let c = sum_by-cons (param_count n) b bs in omega (arith, h, c)
 
 -- the last block ends at the last instruction
-start_at_end : (f : FunctionValue) → BlocksFollow f → (n : ℕ) → n ≡ length f.blocks → 0 < n → start_of f n ≡ length f.insts
+pub start_at_end : (f : FunctionValue) → BlocksFollow f → (n : ℕ) → n ≡ length f.blocks → 0 < n → start_of f n ≡ length f.insts
 start_at_end f follow zero e some = absurd (omega arith)
 start_at_end f follow (suc b) e some = (follow b (omega arith)).3 (omega arith)
 
@@ -67,7 +67,7 @@ block_of f follow (suc b) j within less =
     le_or_lt m n = grind arith
 
 -- a block of the list, by its number
-numbered : (f : FunctionValue) (b : BlockValue) → Contains f.blocks b → (k : ℕ) × (k < length f.blocks) × (block_at f k ≡ b)
+pub numbered : (f : FunctionValue) (b : BlockValue) → Contains f.blocks b → (k : ℕ) × (k < length f.blocks) × (block_at f k ≡ b)
 numbered f b m = (m.0, m.1, get_or_default f.blocks m.0 no_block b m.1 ∙ m.2)
 
 -- an instruction with an operand is one of the function's

@@ -6,7 +6,10 @@ pub mod Members
 pub mod Kept
 pub mod Bridges
 pub mod Faults
+pub mod Refused
 pub mod Tallies
 pub mod Ways
+pub mod Tabled
+pub mod Named
 pub mod Walks
 pub mod Reached

@@ -101,40 +101,48 @@ pub finish_start : (succs : ℕ → List ℕ) (b : ℕ) (rest : List ℕ) → Fi
 unfolding Finish met
 finish_start succs b rest h = rw (h.4, h.3) (enter refl h.2 done)
 
--- how much a walk with this stack still does
-unfoldable pub frames_work : (ℕ → List ℕ) → List Frame → ℕ
-frames_work succs [] = 0
-frames_work succs (f ∷ fs) = suc (length (succs f.block) - f.next) + frames_work succs fs
+-- how many successors a list has at most
+pub most : ℕ
+most = 18446744073709551616
 
--- and what the blocks from k on that it has not entered may add
-unfoldable pub pending : (ℕ → List ℕ) → ℕ → List Bool → ℕ
-pending succs k [] = 0
-pending succs k (true ∷ vs) = pending succs (suc k) vs
-pending succs k (false ∷ vs) = suc (length (succs k)) + pending succs (suc k) vs
+pub below_most : (n : ℕ) → n < 18446744073709551616 → n < most
+unfolding most
+below_most n less = less
 
-pub pending-set : (succs : ℕ → List ℕ) (k b : ℕ) (vs : List Bool) → b < length vs → get_or vs b false ≡ false → pending succs k (set vs b true) + suc (length (succs (k + b))) ≡ pending succs k vs
+-- how much a walk with this stack still does at most
+unfoldable pub frames_work : ℕ → List Frame → ℕ
+frames_work top [] = 0
+frames_work top (f ∷ fs) = suc (top - f.next) + frames_work top fs
+
+-- and what the blocks that it has not entered may add
+unfoldable pub pending : ℕ → List Bool → ℕ
+pending top [] = 0
+pending top (true ∷ vs) = pending top vs
+pending top (false ∷ vs) = suc top + pending top vs
+
+pending-set : (top b : ℕ) (vs : List Bool) → b < length vs → get_or vs b false ≡ false → pending top (set vs b true) + suc top ≡ pending top vs
 unfolding pending
-pending-set succs k b [] less is = absurd (omega arith)
-pending-set succs k zero (true ∷ vs) less is = absurd cc
-pending-set succs k zero (false ∷ vs) less is = let e : k + 0 ≡ k = omega arith in rw e (omega arith)
-pending-set succs k (suc b) (true ∷ vs) less is = let e : k + suc b ≡ suc k + b = omega arith in rw e (pending-set succs (suc k) b vs (omega arith) is)
-pending-set succs k (suc b) (false ∷ vs) less is = let e : k + suc b ≡ suc k + b = omega arith in rw e (let h = pending-set succs (suc k) b vs (omega arith) is in omega (arith, h))
+pending-set top b [] less is = absurd (omega arith)
+pending-set top zero (true ∷ vs) less is = absurd cc
+pending-set top zero (false ∷ vs) less is = omega arith
+pending-set top (suc b) (true ∷ vs) less is = pending-set top b vs (omega arith) is
+pending-set top (suc b) (false ∷ vs) less is = let h = pending-set top b vs (omega arith) is in omega (arith, h)
 
 -- a step that looks at a successor that was met
-pub work_again : (succs : ℕ → List ℕ) (b n : ℕ) (fs : List Frame) → n < length (succs b) → frames_work succs (record { block = b; next = n + 1 } ∷ fs) < frames_work succs (record { block = b; next = n } ∷ fs)
+work_again : (top b n : ℕ) (fs : List Frame) → n < top → frames_work top (record { block = b; next = n + 1 } ∷ fs) < frames_work top (record { block = b; next = n } ∷ fs)
 unfolding frames_work
-work_again succs b n fs less = omega arith
+work_again top b n fs less = omega arith
 
 -- a step that enters a block
-pub work_enter : (succs : ℕ → List ℕ) (b n x : ℕ) (fs : List Frame) (vs : List Bool) → n < length (succs b) → x < length vs → get_or vs x false ≡ false →
-    pending succs 0 (set vs x true) + frames_work succs (record { block = x; next = 0 } ∷ record { block = b; next = n + 1 } ∷ fs) < pending succs 0 vs + frames_work succs (record { block = b; next = n } ∷ fs)
+work_enter : (top b n x : ℕ) (fs : List Frame) (vs : List Bool) → n < top → x < length vs → get_or vs x false ≡ false →
+    pending top (set vs x true) + frames_work top (record { block = x; next = 0 } ∷ record { block = b; next = n + 1 } ∷ fs) < pending top vs + frames_work top (record { block = b; next = n } ∷ fs)
 unfolding frames_work
-work_enter succs b n x fs vs less in_range is = let h : pending succs 0 (set vs x true) + suc (length (succs x)) ≡ pending succs 0 vs = (let k = pending-set succs 0 x vs in_range is in let e : 0 + x ≡ x = omega arith in rw e at k) in omega (arith, h)
+work_enter top b n x fs vs less in_range is = let h = pending-set top x vs in_range is in omega (arith, h)
 
 -- a step that leaves a block
-pub work_leave : (succs : ℕ → List ℕ) (b n : ℕ) (fs : List Frame) → frames_work succs fs < frames_work succs (record { block = b; next = n } ∷ fs)
+work_leave : (top b n : ℕ) (fs : List Frame) → frames_work top fs < frames_work top (record { block = b; next = n } ∷ fs)
 unfolding frames_work
-work_leave succs b n fs = omega arith
+work_leave top b n fs = omega arith
 
 -- the marks of the blocks that were met
 abbrev pub Marks : List Bool → List ℕ → Type 0
@@ -180,9 +188,13 @@ pub record Walked (succs : ℕ → List ℕ) (num entry : ℕ) (vs : List Bool) 
   pub marks : Marks vs seen
   pub goes : (rest : List ℕ) → Finish succs seen (reverse fs) rest → Leaves succs [] (entry ∷ []) (out ++ rest)
 
--- and how much is still to do
-abbrev pub work : (ℕ → List ℕ) → List Bool → List Frame → ℕ
-work succs vs fs = pending succs 0 vs + frames_work succs (reverse fs)
+-- a block on the stack is one of so many
+pub walked_frame : {succs : ℕ → List ℕ} {num entry : ℕ} {vs : List Bool} {before : List Frame} {out : List ℕ} (popped : List Frame) (f : Frame) → Walked succs num entry vs before out → before ≡ popped ++ f ∷ [] → f.block < num
+walked_frame {num = num} popped f w top = framed_last num popped f (subst (Framed num) top w.framed)
+
+-- and how much is still to do at most
+abbrev pub work : List Bool → List Frame → ℕ
+work vs fs = pending most vs + frames_work most (reverse fs)
 
 pub walked_start : (succs : ℕ → List ℕ) (num entry : ℕ) (vs ws : List Bool) (fs : List Frame) (out : List ℕ) → vs ≡ replicate num false → entry < num → ws ≡ set vs entry true → fs ≡ [] ++ record { block = entry; next = 0 } ∷ [] → out ≡ [] → Walked succs num entry ws fs out
 walked_start succs num entry vs ws fs out e less w f o =
@@ -226,26 +238,23 @@ module _ (succs : ℕ → List ℕ) (num entry : ℕ) (vs : List Bool) (out : Li
     goes = λ rest h. rw append_assoc (w.goes (f.block ∷ rest) (rw (top, reverse-push) (finish_leave succs w.seen f.block f.next (reverse popped) rest (rw (← is) less) h)));
   })
 
-  pub again_less : (pushed : List Frame) → pushed ≡ popped ++ record { block = f.block; next = f.next + 1 } ∷ [] → f.next < length xs → work succs vs pushed < work succs vs before
-  again_less pushed p less = rw (p, top, reverse-push, reverse-push) (let h = work_again succs f.block f.next (reverse popped) (rw (← is) less) in omega (arith, h))
+-- each step leaves less to do
+module _ (vs : List Bool) (before popped : List Frame) (f : Frame) (top : before ≡ popped ++ f ∷ []) where
+  pub again_less : (pushed : List Frame) → pushed ≡ popped ++ record { block = f.block; next = f.next + 1 } ∷ [] → f.next < 18446744073709551616 → work vs pushed < work vs before
+  again_less pushed p less = rw (p, top, reverse-push, reverse-push) (let h = work_again most f.block f.next (reverse popped) (below_most f.next less) in omega (arith, h))
 
-  pub enter_less : (pushed after : List Frame) (x : ℕ) → pushed ≡ popped ++ record { block = f.block; next = f.next + 1 } ∷ [] → after ≡ pushed ++ record { block = x; next = 0 } ∷ [] → f.next < length xs → x < num → get_or vs x false ≡ false → work succs (set vs x true) after < work succs vs before
+  pub enter_less : (pushed after : List Frame) (x : ℕ) → pushed ≡ popped ++ record { block = f.block; next = f.next + 1 } ∷ [] → after ≡ pushed ++ record { block = x; next = 0 } ∷ [] → f.next < 18446744073709551616 → x < length vs → get_or vs x false ≡ false → work (set vs x true) after < work vs before
   enter_less pushed after x p q less within m =
       rw (q, p, top, reverse-push (popped ++ record { block = f.block; next = f.next + 1 } ∷ []) (record { block = x; next = 0 }), reverse-push popped (record { block = f.block; next = f.next + 1 }), reverse-push popped f)
-      (work_enter succs f.block f.next x (reverse popped) vs (rw (← is) less) (rw w.long within) m)
+      (work_enter most f.block f.next x (reverse popped) vs (below_most f.next less) within m)
 
-  pub leave_less : work succs vs popped < work succs vs before
-  leave_less = rw (top, reverse-push) (let h = work_leave succs f.block f.next (reverse popped) in omega (arith, h))
+  pub leave_less : work vs popped < work vs before
+  leave_less = rw (top, reverse-push) (let h = work_leave most f.block f.next (reverse popped) in omega (arith, h))
 
 -- nothing is left to do
 pub walked_end : (succs : ℕ → List ℕ) (num entry : ℕ) (vs : List Bool) (fs : List Frame) (out : List ℕ) → fs ≡ [] → Walked succs num entry vs fs out → Leaves succs [] (entry ∷ []) out
 unfolding Finish
 walked_end succs num entry vs fs out e w = rw append-nil at (w.goes [] (rw e refl))
-
--- a successor that is listed is a block
-pub next_in_range : (succs : ℕ → List ℕ) (num : ℕ) (xs : List ℕ) (b k x : ℕ) → xs ≡ succs b → ((j d : ℕ) → j < length (succs b) → get_or (succs b) j d < num) → k < length xs → x ≡ get_or xs k x → x < num
-next_in_range succs num xs b k x e all less r =
-    subst (λ (z : ℕ). z < num) (sym r) (subst (λ (l : List ℕ). get_or l k x < num) (sym e) (all k x (subst (λ (l : List ℕ). k < length l) e less)))
 
 pub read_zero : (xs : List ℕ) (k x : ℕ) → k < length xs → x ≡ get_or xs k x → get_or xs k 0 ≡ x
 read_zero xs k x less r = get_or_default xs k 0 x less ∙ sym r

@@ -1,3 +1,5 @@
 pub mod Definitions
 pub mod Ways
 pub mod Leaves
+pub mod Listed
+pub mod Tables

@@ -3,8 +3,8 @@
 ghost use Rattle.std.specs.Prelude.{◌≡◌, ◌+◌, ◌<◌, ◌≤◌, ◌^◌, ◌↔◌, ◌⊎◌, ℕ, [], All, length, replicate, slice_index, IfErr, IfNone, IfOk, IfSome, IsTrue, OnOk, if◌then◌else◌, nat_eq};
 ghost use Rattle.std.specs.Bool.{OnTrue};
 ghost use Rattle.regalloc2_function.specs.FunctionValue.{block_at};
-ghost use Rattle.regalloc2_function.specs.Reasons.{HasShape, IsFirstFork, IsFirstIn, IsFirstOutside, IsShapeFault, NoOperandsAt, NotCriticalAt, PredecessorsAt};
-ghost use Rattle.regalloc2_function.specs.WellFormed.{BlocksFollow, EachBlock, IsFirstToFail, NoCriticalEdge, NoOperandsIntoJoins, PredecessorsAgree, SuccessorsAreBlocks, last_of, times_in, ways_into};
+ghost use Rattle.regalloc2_function.specs.Reasons.{HasShape, IsFirstFork, IsFirstIn, IsFirstOutside, IsShapeFault};
+ghost use Rattle.regalloc2_function.specs.WellFormed.{BlocksFollow, EachBlock, IsFirstToFail, NoCriticalEdge, NoOperandsAt, NoOperandsIntoJoins, NotCriticalAt, PredecessorsAgree, PredecessorsAt, SuccessorsAreBlocks, last_of, times_in, ways_into};
 ghost use Rattle.regalloc2_shape.specs.Ways.{listed_of};
 
 use regalloc2_function::Function;
@@ -13,7 +13,7 @@ use regalloc2_names::RegAllocError;
 use std::alloc::{AllocError, Allocator};
 
 // The first of these blocks that is none of so many.
-fn first_outside(num_blocks: usize, blocks: &[Block]) -> Option<Block>
+pub fn first_outside(num_blocks: usize, blocks: &[Block]) -> Option<Block>
     ensures none { IfNone result (All (λ s. s < num_blocks) blocks.now) }
     ensures first { IfSome result (IsFirstIn (λ s. s < num_blocks) blocks.now) }
 {
@@ -260,6 +260,7 @@ pub fn test_branches<F: Function>(f: &F) -> Result<(), RegAllocError>
 pub fn test_shape<A: Allocator + Copy, F: Function>(alloc: A, f: &F) -> Result<(), RegAllocError>
     ensures ok { OnOk result (HasShape (F.function f.now)) }
     ensures err { IfErr result (λ e. (e ≡ RegAllocError.Memory) ⊎ IsShapeFault (F.function f.now) e) }
+    ensures accepted { HasShape (F.function f.now) → IfErr result (λ e. e ≡ RegAllocError.Memory) }
 {
     test_successors(f)?;
     regalloc2_function::test_blocks(f)?;

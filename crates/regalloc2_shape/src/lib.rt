@@ -2,5 +2,6 @@
 #![tactic(auto)]
 
 mod blocks;
+pub mod cfg;
 pub mod postorder;
 pub mod ssa;

@@ -1,15 +1,17 @@
 //! The tests on definitions and uses.
 
-ghost use Rattle.std.specs.Prelude.{◌≡◌, ◌<◌, ◌≤◌, ◌↔◌, All, filter_map, flat_map, map, length, replicate, slice_set, IfErr, IsTrue, None, OnOk, Some};
+ghost use Rattle.std.specs.Prelude.{◌≡◌, ◌≢◌, ◌+◌, ◌<◌, ◌≤◌, ◌↔◌, ◌⊎◌, ℕ, [], All, filter_map, flat_map, map, length, replicate, slice_set, IfErr, IsTrue, None, OnOk, Some};
 ghost use Rattle.std.specs.Bool.{OnFalse, OnTrue};
 ghost use Rattle.regalloc2_index.specs.Range.{numbers_from, numbers_of};
 ghost use Rattle.regalloc2_function.specs.FunctionValue.{block_at};
-ghost use Rattle.regalloc2_function.specs.Reasons.{param_definition, operand_definition, inst_definitions, block_definitions, definitions_in, operand_read, inst_reads, argument_use, passed_at, block_uses, uses_in, IsDefinitionFault};
+ghost use Rattle.regalloc2_function.specs.Reasons.{param_definition, operand_definition, inst_definitions, block_definitions, definitions_in, operand_read, inst_reads, argument_use, passed_at, block_uses, uses_in, IsDefinitionFault, IsSound, IsSoundnessFault};
 ghost use Rattle.regalloc2_function.specs.SourceRun.{is_def, is_reading};
-ghost use Rattle.regalloc2_function.specs.WellFormed.{BlocksFollow, DefinedOnce, UsesAreDefined};
+ghost use Rattle.regalloc2_function.specs.WellFormed.{ArgumentsFit, ArgumentsFitAt, BlocksFollow, DefinedOnce, EntryIsFirst, IsFirstToFail, SuccessorsAreBlocks, UsesAreDefined, last_of};
 ghost use Rattle.regalloc2_shape.specs.Definitions.{entry_of, IsTaken, IsUsable, NamesTaken, NamesUnusable, Notes};
+ghost use Rattle.regalloc2_shape.specs.Tables.{IsInfoOf};
 
-use regalloc2_function::Function;
+use super::cfg::CFGInfo;
+use regalloc2_function::{Function, test_ends};
 use regalloc2_index::{Block, Inst, InstRange};
 use regalloc2_names::{Operand, OperandConstraint, OperandKind, RegAllocError, RegClass, VReg};
 use std::alloc::Allocator;
@@ -290,4 +292,99 @@ pub fn test_definitions<A: Allocator + Copy, F: Function>(
     let mut defined: Vec<Option<Definition>, A> = Vec::new(alloc);
     defined.resize(f.num_vregs(), None)?;
     test_over(defined.as_mut_slice(), f)
+}
+
+// Tests that the entry is block 0 and has no parameters.
+fn test_entry<F: Function>(f: &F) -> Result<(), RegAllocError>
+    requires { 0 < length (F.function f.now).blocks }
+    ensures ok { OnOk result (EntryIsFirst (F.function f.now)) }
+    ensures err { IfErr result (λ e. (((F.function f.now).entry ≢ 0) × (e ≡ RegAllocError.BB (F.function f.now).entry)) ⊎ (((F.function f.now).entry ≡ 0) × ((block_at (F.function f.now) 0).params ≢ []) × (e ≡ RegAllocError.EntryLivein))) }
+{
+    let entry = f.entry_block();
+    if entry.index() != 0 {
+        return Err(RegAllocError::BB(entry));
+    }
+    if !f.block_params(entry).is_empty() {
+        return Err(RegAllocError::EntryLivein);
+    }
+    Ok(())
+}
+
+// Whether there is one argument for each parameter, of its class.
+fn same_classes(arguments: &[VReg], params: &[VReg]) -> bool
+    ensures { IsTrue result ↔ (map (λ v. v.class) arguments.now ≡ map (λ v. v.class) params.now) }
+{
+    if arguments.len() != params.len() {
+        return false;
+    }
+    for k in 0..params.len() {
+        if arguments[k].class() != params[k].class() {
+            return false;
+        }
+    }
+    true
+}
+
+// Whether a block gives each successor arguments that fit its parameters.
+fn arguments_fit<F: Function>(f: &F, block: Block, last: Inst) -> bool
+    requires block { block < length (F.function f.now).blocks }
+    requires last { last + 1 ≡ (block_at (F.function f.now) block).range.end }
+    requires nonempty { (block_at (F.function f.now) block).range.first ≤ last }
+    requires blocks { SuccessorsAreBlocks (F.function f.now) }
+    ensures { IsTrue result ↔ ArgumentsFitAt (F.function f.now) block (block_at (F.function f.now) block) }
+{
+    let succs = f.block_succs(block);
+    for k in 0..succs.len() {
+        let arguments = f.branch_blockparams(block, last, k);
+        if !same_classes(arguments, f.block_params(succs[k])) {
+            return false;
+        }
+    }
+    true
+}
+
+// Tests that each successor is given arguments that fit its parameters.
+fn test_fit<F: Function>(f: &F) -> Result<(), RegAllocError>
+    requires blocks { SuccessorsAreBlocks (F.function f.now) }
+    requires follow { BlocksFollow (F.function f.now) }
+    ensures ok { OnOk result (ArgumentsFit (F.function f.now)) }
+    ensures err { IfErr result (λ e. (b : ℕ) × (e ≡ RegAllocError.Branch (last_of (block_at (F.function f.now) b))) × IsFirstToFail (F.function f.now) (ArgumentsFitAt (F.function f.now)) b) }
+{
+    for b in 0..f.num_blocks() {
+        let block = Block::new(b);
+        let last = f.block_insns(block).last();
+        if !arguments_fit(f, block, last) {
+            return Err(RegAllocError::Branch(last));
+        }
+    }
+    Ok(())
+}
+
+/// Tests a function's entry, terminators, arguments, definitions and uses. `cfginfo` is what [`CFGInfo::new`] or
+/// [`CFGInfo::init`] made of the same function, so blocks and edges are sound.
+///
+/// The tests, in turn: the entry is block 0 and has no parameters; each block ends, and only ends, in a branch or in a return
+/// without successors, and no instruction is both; each successor is given as many arguments as it has parameters, of the
+/// same classes; definitions and then uses are as [`test_definitions`] says.
+///
+/// The first test that fails decides, and the refusal names where it fails first: `BB` with the entry, or with the block that
+/// doesn't end so; `EntryLivein`; `Branch` with the last instruction of the block that passes the arguments; `SSA` as
+/// [`test_definitions`] says. `Memory` comes where memory was refused.
+///
+/// Linear in the function's instructions, operands and arguments. Upstream tests uses by dominance where this tests the order of
+/// instruction numbers, counts arguments without looking at their classes, and judges the entry's parameters last.
+pub fn validate_ssa<A: Allocator + Copy, F: Function, B: Allocator>(
+    alloc: A,
+    f: &F,
+    _cfginfo: &CFGInfo<B>,
+) -> Result<(), RegAllocError>
+    requires { IsInfoOf (F.function f.now) _cfginfo.now }
+    ensures sound { OnOk result (IsSound (F.function f.now)) }
+    ensures refused { IfErr result (λ e. (e ≡ RegAllocError.Memory) ⊎ IsSoundnessFault (F.function f.now) e) }
+    ensures accepted { IsSound (F.function f.now) → IfErr result (λ e. e ≡ RegAllocError.Memory) }
+{
+    test_entry(f)?;
+    test_ends(f)?;
+    test_fit(f)?;
+    test_definitions(alloc, f)
 }

@@ -1,8 +1,7 @@
 use Rattle.std.proofs.Common.{◌≡◌, ◌<◌, ◌∙◌, length, refl, sym, ap, below_more, arith}
 use Rattle.std.proofs.lemmas.List.{length-replicate}
 use Rattle.regalloc2_function.specs.FunctionValue.{FunctionValue, block_at}
-use Rattle.regalloc2_function.specs.Reasons.{PredecessorsAt}
-use Rattle.regalloc2_function.specs.WellFormed.{times_in}
+use Rattle.regalloc2_function.specs.WellFormed.{PredecessorsAt, times_in}
 use Rattle.regalloc2_shape.specs.Ways.{listed_of}
 use Rattle.regalloc2_shape.proofs.Tallies.{zeros}
 use Rattle.regalloc2_shape.proofs.Ways.{are_blocks, listed_here}

@@ -1,6 +1,6 @@
 use Rattle.std.proofs.Common.{ℕ, ◌≡◌, ◌<◌, get_or, length}
 use Rattle.regalloc2_function.specs.FunctionValue.{block_at}
-use Rattle.regalloc2_function.specs.Reasons.{PredecessorsAt}
+use Rattle.regalloc2_function.specs.WellFormed.{PredecessorsAt}
 use Rattle.regalloc2_shape.proofs.blocks.compare_ways.Given as goal
 
 -- the blocks so far pass, and the counts are 0 again

@@ -1,6 +1,6 @@
 use Rattle.std.proofs.Common.{ℕ, ◌≡◌, ◌<◌, length}
 use Rattle.regalloc2_function.specs.FunctionValue.{block_at}
-use Rattle.regalloc2_function.specs.Reasons.{NoOperandsAt}
+use Rattle.regalloc2_function.specs.WellFormed.{NoOperandsAt}
 use Rattle.regalloc2_shape.proofs.blocks.test_branches.Given as goal
 
 -- the blocks so far pass

@@ -1,6 +1,6 @@
 use Rattle.std.proofs.Common.{ℕ, ◌≡◌, ◌<◌, length}
 use Rattle.regalloc2_function.specs.FunctionValue.{block_at}
-use Rattle.regalloc2_function.specs.Reasons.{NotCriticalAt}
+use Rattle.regalloc2_function.specs.WellFormed.{NotCriticalAt}
 use Rattle.regalloc2_shape.proofs.blocks.test_edges.Given as goal
 
 abbrev pub invariant-loop-b : goal.invariant-loop-b

@@ -6,6 +6,7 @@ use Rattle.regalloc2_function.specs.FunctionValue.{FunctionValue, block_at}
 use Rattle.regalloc2_function.specs.Reasons.{IsShapeFault}
 use Rattle.regalloc2_function.specs.Reasons.IsShapeFault.{apart, critical, operands, outside, unlisted}
 use Rattle.regalloc2_function.specs.WellFormed.{BlocksFollow}
+use Rattle.regalloc2_shape.proofs.Refused.{shape_refused}
 use Rattle.regalloc2_shape.proofs.Ways.{are_blocks}
 use Rattle.regalloc2_shape.proofs.blocks.test_shape.Goals as goal
 
@@ -52,3 +53,17 @@ returns-clause-err g c =
     let f : FunctionValue = g.F.Function.function c.args.f.now in
     let follow : BlocksFollow f = c.in_ok-test_blocks.ensures.ok.0 refl in
     IfErr-weaker c.test_branches.result _ (Fault f) (λ e h. subst (Fault f) (sym h.1) (inr (operands h.0 c.in_ok-test_successors.ensures.ok follow c.in_ok-test_predecessors.ensures.ok c.in_ok-test_edges.ensures.ok h.2))) c.test_branches.ensures.err
+
+pub returns-in_err-test_successors-clause-accepted : goal.returns-in_err-test_successors-clause-accepted
+returns-in_err-test_successors-clause-accepted g c = λ shape.
+    (let f : FunctionValue = g.F.Function.function c.args.f.now in
+    let h = c.in_err-test_successors.ensures.err in
+    absurd (shape_refused f shape (outside h.0 h.2)))
+
+pub returns-in_err-test_edges-clause-accepted : goal.returns-in_err-test_edges-clause-accepted
+returns-in_err-test_edges-clause-accepted g c = λ shape.
+    (let h = c.in_err-test_edges.ensures.err in
+    absurd (h.3.1 (shape.no_critical_edge h.0 h.3.0)))
+
+pub returns-clause-accepted : goal.returns-clause-accepted
+returns-clause-accepted g c = λ shape. IfErr-weaker c.test_branches.result _ (λ e. e ≡ Memory) (λ e h. absurd (h.2.1 (shape.no_operands_into_joins h.0 h.2.0))) c.test_branches.ensures.err

@@ -1,10 +1,11 @@
-use Rattle.std.proofs.Common.{length}
-use Rattle.regalloc2_shape.specs.Leaves.{succs_in}
+use Rattle.std.proofs.Common.{ℕ, List, length}
+use Rattle.regalloc2_shape.specs.Listed.{AreBlocks, AreSuccessors}
 use Rattle.regalloc2_shape.proofs.Walks.{Walked, work}
 use Rattle.regalloc2_shape.proofs.postorder.walk.Given as goal
 
+-- the walk so far, whatever successors the answers are
 abbrev pub invariant-loop-frame : goal.invariant-loop-frame
-invariant-loop-frame g l = Walked (succs_in (g.F.Function.function l.f)) (length l.fn.visited) (g.F.Function.function l.f).entry l.visited l.stack.items l.out.items
+invariant-loop-frame g l = (succs : ℕ → List ℕ) → AreSuccessors (goal.F-post g l.succ_blocks) (length l.fn.visited) succs → AreBlocks succs (length l.fn.visited) l.fn.entry → Walked succs (length l.fn.visited) l.fn.entry l.visited l.stack.items l.out.items
 
 abbrev pub decreases-loop-frame : goal.decreases-loop-frame
-decreases-loop-frame g l = work (succs_in (g.F.Function.function l.f)) l.visited l.stack.items
+decreases-loop-frame g l = work l.visited l.stack.items

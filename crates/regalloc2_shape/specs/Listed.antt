@@ -1,0 +1,16 @@
+-- What a closure answers for blocks.
+use Rattle.std.specs.Prelude.{ℕ, ◌≡◌, ◌<◌, List, ◌∷◌, All, flat_map}
+use Rattle.std.specs.Borrow.{Bor}
+use Rattle.regalloc2_index.specs.Range.{numbers_from}
+
+-- the successors of so many blocks, which is what the closure answers for each, whenever it is asked
+abbrev pub AreSuccessors : (ℕ → Bor (List ℕ) → Type 0) → ℕ → (ℕ → List ℕ) → Type 0
+AreSuccessors answers num succs = (b : ℕ) (r : Bor (List ℕ)) → b < num → answers b r → r.now ≡ succs b
+
+-- the numbers that have to be blocks: the entry, and then the successors as listed
+abbrev pub named_blocks : (ℕ → List ℕ) → ℕ → ℕ → List ℕ
+named_blocks succs num entry = entry ∷ flat_map succs (numbers_from 0 num)
+
+-- and each is one of so many
+abbrev pub AreBlocks : (ℕ → List ℕ) → ℕ → ℕ → Type 0
+AreBlocks succs num entry = All (λ s. s < num) (named_blocks succs num entry)
