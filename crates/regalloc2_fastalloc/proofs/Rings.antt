@@ -1,9 +1,10 @@
 -- The rings of the classes.
-use Rattle.std.proofs.Common.{ℕ, ◌≡◌, ◌≢◌, ◌<◌, List, [], length, sym, ◌∙◌, ⊎_elim, subst, slice_index_or, set, get_or-set_same}
+use Rattle.std.proofs.Common.{ℕ, ◌≡◌, ◌≢◌, ◌<◌, List, [], length, refl, sym, ◌∙◌, ⊎_elim, subst, slice_index_or, set, get_or-set_same}
 use Rattle.std.specs.Prelude.{Option, None, Some, IfSome, IsTrue, Contains, ◌↔◌}
 use Rattle.std.proofs.lemmas.List.{get_or-set_other}
 use Rattle.std.proofs.Math.ListN.{length-set}
 use Rattle.regalloc2_names.specs.declared.RegClass.{RegClass}
+use Rattle.regalloc2_names.specs.declared.RegClass.TheVariants.{Int, Float, Vector}
 use Rattle.regalloc2_names.specs.declared.sets.PRegSet.{PRegSet}
 use Rattle.regalloc2_names.specs.Register.{Register, class_code}
 use Rattle.regalloc2_names.specs.RegisterSet.{has_register}
@@ -40,3 +41,21 @@ rings_kept allocatable rings i ring lt same old = record {
         (subst (λ (l : List Register). Contains l r) (sym (get_or-set_same rings i ring [] lt)) ((same r).1 (subst (λ (k : ℕ). Contains (slice_index_or rings k []) r) e h))))
         (λ (d : class_code r.class ≢ i). subst (λ (l : List Register). Contains l r) (sym (get_or-set_other rings i (class_code r.class) ring [] d)) h)
         (same_number (class_code r.class) i)
+
+-- a class's ring, where it or another one is replaced
+pub ring_replaced : (rings : List (List Register)) (i : ℕ) (ring : List Register) (c : RegClass) → i < length rings → i ≡ class_code c → slice_index_or (set rings i ring) (class_code c) [] ≡ ring
+ring_replaced rings i ring c lt e = subst (λ (k : ℕ). slice_index_or (set rings i ring) k [] ≡ ring) e (get_or-set_same rings i ring [] lt)
+
+code_other : (a b : RegClass) → a ≢ b → class_code a ≢ class_code b
+code_other Int Int ne = absurd (ne refl)
+code_other Int Float ne = λ e. cc
+code_other Int Vector ne = λ e. cc
+code_other Float Int ne = λ e. cc
+code_other Float Float ne = absurd (ne refl)
+code_other Float Vector ne = λ e. cc
+code_other Vector Int ne = λ e. cc
+code_other Vector Float ne = λ e. cc
+code_other Vector Vector ne = absurd (ne refl)
+
+pub other_ring : (rings : List (List Register)) (i : ℕ) (ring : List Register) (c d : RegClass) → i ≡ class_code c → d ≢ c → slice_index_or (set rings i ring) (class_code d) [] ≡ slice_index_or rings (class_code d) []
+other_ring rings i ring c d e ne = get_or-set_other rings i (class_code d) ring [] (λ same. code_other d c ne (same ∙ e))

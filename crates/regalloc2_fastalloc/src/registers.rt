@@ -1,12 +1,12 @@
 //! The registers that may be allocated.
 
-ghost use Rattle.std.specs.Prelude.{◌≡◌, ◌↔◌, ◌<◌, true, false, IsTrue, IfSome, IfNone, IfOk, IfErr};
+ghost use Rattle.std.specs.Prelude.{◌≡◌, ◌≢◌, ◌↔◌, ◌<◌, ◌∷◌, true, false, not, filter, IsTrue, IfSome, IfNone, IfOk, IfErr};
 ghost use Rattle.regalloc2_names.specs.declared.RegClass.{RegClass};
 ghost use Rattle.regalloc2_function.specs.Machine.{is_allocatable};
 ghost use Rattle.regalloc2_function.specs.Views.{machine_of};
-ghost use Rattle.regalloc2_names.specs.Register.{Register, class_code};
+ghost use Rattle.regalloc2_names.specs.Register.{Register, class_code, is_register};
 ghost use Rattle.regalloc2_names.specs.RegisterSet.{has_register};
-ghost use Rattle.regalloc2_fastalloc.specs.Tables.{IsFoundIn, NoneIsFoundIn, AreThoseBelow};
+ghost use Rattle.regalloc2_fastalloc.specs.Tables.{IsFoundIn, NoneIsFoundIn, AreThoseBelow, ring_of};
 
 use regalloc2_function::MachineEnv;
 use regalloc2_names::{PReg, PRegSet, RegAllocError, RegClass};
@@ -111,10 +111,12 @@ impl<A: Allocator> Registers<A> {
         self.rings.items[ring_index(class)].last(free)
     }
 
-    /// The register was used just now.
+    /// The register was used just now: it is the newest of its class from now on, and the others keep their order.
     pub fn poke(&mut self, preg: PReg)
         requires member { has_register self.old.allocatable preg ≡ true }
         ensures allocatable { self.new.allocatable ≡ self.old.allocatable }
+        ensures newest { ring_of self.new preg.class ≡ preg ∷ filter (λ r. not (is_register preg r)) (ring_of self.old preg.class) }
+        ensures others { (class : RegClass) → class ≢ preg.class → ring_of self.new class ≡ ring_of self.old class }
     {
         self.rings.items[ring_index(preg.class())].poke(preg);
     }
