@@ -4,10 +4,14 @@
 pub mod adversary;
 #[cfg(test)]
 mod blocks;
-pub mod build;
+#[cfg(test)]
+mod calls;
 pub mod machines;
 #[cfg(test)]
 mod memory;
 #[cfg(test)]
+mod outputs;
+#[cfg(test)]
+mod paths;
+#[cfg(test)]
 mod straight;
-pub mod table;
