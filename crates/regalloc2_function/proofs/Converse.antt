@@ -1,18 +1,17 @@
 -- Where both runs read the same numbers, whatever the instructions mean, reads agree.
 -- For each write that the function's run reads there is a meaning that gives the number 1 to that write alone.
-use Rattle.std.proofs.Common.{ℕ, zero, suc, ◌≡◌, ◌+◌, ◌<◌, Bool, true, false, cond, List, [], ◌∷◌, length, map, refl, arith, ap, sym, ◌∙◌, eq-eqb, eqb-true, nat_eq, inl, inr}
+use Rattle.std.proofs.Common.{ℕ, zero, suc, ◌≡◌, ◌+◌, ◌<◌, Bool, true, false, cond, List, [], ◌∷◌, length, map, refl, arith, sym, ◌∙◌, eq-eqb, eqb-true, nat_eq, inl, inr}
 use Rattle.std.specs.Prelude.{Option, None, Some, IsSome, ◌&&◌, slice_index_or}
 use Rattle.std.specs.Option.{option_map}
 use Rattle.std.proofs.lemmas.Bool.{cases_eq, ne_eqb}
 use Rattle.regalloc2_names.specs.Operand.{OperandValue}
 use Rattle.regalloc2_function.specs.FunctionValue.{FunctionValue}
 use Rattle.regalloc2_function.specs.OutputValue.{OutputValue}
-use Rattle.regalloc2_function.specs.Path.{Way, IsPath, end_of, last_inst}
-use Rattle.regalloc2_function.specs.SourceRun.{Stamp, is_reading, source_read, UsesFindEarlier}
+use Rattle.regalloc2_function.specs.Path.{Way, IsPath, last_inst}
+use Rattle.regalloc2_function.specs.SourceRun.{Stamp, is_reading, source_read}
 use Rattle.regalloc2_function.specs.AllocatedRun.{allocated_read}
-use Rattle.regalloc2_function.specs.Faithful.{ReadsAgree}
 use Rattle.regalloc2_function.specs.Laws.{NumbersGiveReads}
-use Rattle.regalloc2_function.specs.Values.{Meaning, Numbers, reads_from, source_reads, allocated_reads, numbers, SameNumbers}
+use Rattle.regalloc2_function.specs.Values.{Meaning, reads_from, source_reads, allocated_reads, numbers, SameNumbers}
 
 -- the meaning that gives one write the number 1, and all others 0
 abbrev marking : Stamp → Meaning
@@ -44,8 +43,8 @@ marked_alone f t reads [] s e = absurd cc
 marked_alone f t reads (w ∷ ws) s e =
     either (nat_eq s.step (length ws)) (cond (nat_eq (length ws) t.step && nat_eq s.operand t.operand) 1 0) (marked f t reads ws s)
     (λ here one.
-        let both = marks (nat_eq (length ws) t.step) (nat_eq s.operand t.operand) one in
-        stamps s.step t.step s.operand t.operand (eqb-true s.step (length ws) here ∙ eqb-true (length ws) t.step both.0) (eqb-true s.operand t.operand both.1))
+    let both = marks (nat_eq (length ws) t.step) (nat_eq s.operand t.operand) one in
+    stamps s.step t.step s.operand t.operand (eqb-true s.step (length ws) here ∙ eqb-true (length ws) t.step both.0) (eqb-true s.operand t.operand both.1))
     (λ one. marked_alone f t reads ws s one) e
 
 -- and that write has it, once its step is past

@@ -1,12 +1,10 @@
 -- A table keeps the limits of a function.
-use Rattle.std.specs.Prelude.{map, length, [], ◌<◌, ◌^◌, ◌-◌, ◌≡◌}
 use Rattle.std.proofs.Common.{arith}
 use Rattle.std.proofs.lemmas.List.{length-map}
 use Rattle.std.proofs.lemmas.List.Elements.{All-nil}
 use Rattle.regalloc2_function.specs.FunctionValue.{IsLimited, IsSlotSize, slot_size}
-use Rattle.regalloc2_names.specs.declared.RegClass.{RegClass}
 use Rattle.regalloc2_names.specs.declared.RegClass.TheVariants.{Int, Float, Vector}
-use Rattle.regalloc2_plain.specs.Table.{function_of, inst_of, block_of}
+use Rattle.regalloc2_plain.specs.Table.{function_of}
 use Rattle.regalloc2_plain.specs.declared.table.SlotUnits.{SlotUnits}
 use Rattle.regalloc2_plain.specs.declared.table.TableFunction.{TableFunction}
 

@@ -3,13 +3,13 @@
 ghost use Rattle.std.specs.Prelude.{◌≡◌, ◌<◌, ◌≤◌, ◌^◌, vec_len};
 ghost use Rattle.regalloc2_names.specs.declared.RegClass.{RegClass};
 
-use regalloc2_plain::build::{op, ret};
-use regalloc2_plain::table::{SlotUnits, TableFunction, TableInst};
 use regalloc2::{
     Algorithm, Allocation, Ctx, Edit, Function, MachineEnv, Operand, Output, PReg, ProgPoint,
     RegAllocError, RegClass, RegallocOptions, SpillSlot, VReg, machine_fits, run, run_into_ctx,
     run_with_ctx,
 };
+use regalloc2_plain::build::{op, ret};
+use regalloc2_plain::table::{SlotUnits, TableFunction, TableInst};
 use std::alloc::{AllocError, Allocator, Global};
 use std::process::Abort;
 

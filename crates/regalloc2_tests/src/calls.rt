@@ -15,11 +15,18 @@ use std::test::Fail;
 fn two_blocks(alloc: Global, takes: bool, returns: bool) -> Result<TableFunction, AllocError> {
     let mut insts = Vec::new(alloc);
     insts.push(branch(alloc, &[def(0)])?)?;
-    insts.push(if returns { ret(alloc, &[])? } else { op(alloc, &[])? })?;
+    insts.push(if returns {
+        ret(alloc, &[])?
+    } else {
+        op(alloc, &[])?
+    })?;
     let (zero, one, two) = (Inst::new(0), Inst::new(1), Inst::new(2));
     let argument = [def(0).vreg()];
-    let first = TableBlock::alone(alloc, InstRange::new(zero, one))
-        .passing(alloc, Block::new(1), &argument)?;
+    let first = TableBlock::alone(alloc, InstRange::new(zero, one)).passing(
+        alloc,
+        Block::new(1),
+        &argument,
+    )?;
     let second = TableBlock::alone(alloc, InstRange::new(one, two)).after(Block::new(0))?;
     let mut blocks = Vec::new(alloc);
     blocks.push(first)?;
@@ -39,13 +46,19 @@ fn framed_functions(rt: HostRuntime) -> Result<(), Fail> {
     assert!(rt; is_framed(&swapping_loop(alloc)?));
     assert!(rt; is_framed(&fork(alloc, 0)?));
     assert!(rt; is_framed(&two_blocks(alloc, true, true)?));
-    assert!(rt; !is_framed(&two_blocks(alloc, false, true)?), "an argument too many");
+    assert!(rt;
+        !is_framed(&two_blocks(alloc, false, true)?),
+        "an argument too many"
+    );
     assert!(rt; !is_framed(&two_blocks(alloc, true, false)?), "no end");
     let mut insts = Vec::new(alloc);
     insts.push(ret(alloc, &[])?)?;
     insts.push(ret(alloc, &[])?)?;
     assert!(rt; !is_framed(&straight(alloc, 0, insts)?), "an end too early");
-    assert!(rt; !is_framed(&straight(alloc, 0, Vec::new(alloc))?), "an empty block");
+    assert!(rt;
+        !is_framed(&straight(alloc, 0, Vec::new(alloc))?),
+        "an empty block"
+    );
     let mut elsewhere = smallest(alloc)?;
     elsewhere.entry = Block::new(1);
     assert!(rt; !is_framed(&elsewhere), "no such entry");

@@ -1,9 +1,7 @@
 //! What the plain program reads along paths: of outputs written by hand, and of outputs that are wrong.
 
 use super::blocks::{reg, smallest, spilling, stack};
-use super::outputs::{
-    after, before, fork, fork_output, loop_output, output, swapping_loop,
-};
+use super::outputs::{after, before, fork, fork_output, loop_output, output, swapping_loop};
 use regalloc2::Output;
 use regalloc2_plain::logs::Stamp;
 use regalloc2_plain::reads::{Reads, reads_at};
@@ -14,7 +12,9 @@ use std::test::Fail;
 
 /// On in the block, and to a successor.
 const ON: Option<usize> = None;
+
 const FIRST: Option<usize> = Some(0);
+
 const SECOND: Option<usize> = Some(1);
 
 /// The write of an instruction's first operand at a step.
@@ -67,11 +67,32 @@ fn tells_a_wrong_register(rt: HostRuntime) -> Result<(), Fail> {
     let alloc = rt.alloc();
     let f = smallest(alloc)?;
     let other = output(alloc, 0, &[], &[reg(9), reg(8)], &[0, 1])?;
-    assert_reads(&rt, reads_of(&rt, alloc, &f, &other, &[ON])?, &[at(0)], &[None]);
-    let lost = output(alloc, 0, &[before(1, reg(8), reg(9))], &[reg(9), reg(9)], &[0, 1])?;
-    assert_reads(&rt, reads_of(&rt, alloc, &f, &lost, &[ON])?, &[at(0)], &[None]);
+    assert_reads(
+        &rt,
+        reads_of(&rt, alloc, &f, &other, &[ON])?,
+        &[at(0)],
+        &[None],
+    );
+    let lost = output(
+        alloc,
+        0,
+        &[before(1, reg(8), reg(9))],
+        &[reg(9), reg(9)],
+        &[0, 1],
+    )?;
+    assert_reads(
+        &rt,
+        reads_of(&rt, alloc, &f, &lost, &[ON])?,
+        &[at(0)],
+        &[None],
+    );
     let missing = output(alloc, 0, &[], &[reg(9)], &[0, 1])?;
-    assert_reads(&rt, reads_of(&rt, alloc, &f, &missing, &[ON])?, &[at(0)], &[None]);
+    assert_reads(
+        &rt,
+        reads_of(&rt, alloc, &f, &missing, &[ON])?,
+        &[at(0)],
+        &[None],
+    );
     Ok(())
 }
 
@@ -82,7 +103,12 @@ fn a_value_that_is_stored_and_reloaded(rt: HostRuntime) -> Result<(), Fail> {
     let places = [reg(0), reg(0), reg(0), reg(0)];
     let edits = [after(0, reg(0), stack(0)), after(2, stack(0), reg(0))];
     let out = output(alloc, 1, &edits, &places, &[0, 1, 2, 3])?;
-    assert_reads(&rt, reads_of(&rt, alloc, &f, &out, &[ON, ON])?, &[at(1)], &[at(1)]);
+    assert_reads(
+        &rt,
+        reads_of(&rt, alloc, &f, &out, &[ON, ON])?,
+        &[at(1)],
+        &[at(1)],
+    );
     let read = reads_of(&rt, alloc, &f, &out, &[ON, ON, ON])?;
     assert_reads(&rt, read, &[at(0)], &[at(0)]);
     let kept = output(alloc, 1, &edits[..1], &places, &[0, 1, 2, 3])?;
@@ -90,7 +116,6 @@ fn a_value_that_is_stored_and_reloaded(rt: HostRuntime) -> Result<(), Fail> {
     assert_reads(&rt, read, &[at(0)], &[at(1)]);
     Ok(())
 }
-
 
 #[test]
 fn values_that_a_loop_swaps(rt: HostRuntime) -> Result<(), Fail> {
@@ -103,7 +128,9 @@ fn values_that_a_loop_swaps(rt: HostRuntime) -> Result<(), Fail> {
         before(5, reg(7), stack(1)),
     ];
     let out = loop_output(alloc, &swap)?;
-    let ways = [SECOND, ON, FIRST, FIRST, ON, FIRST, FIRST, ON, FIRST, ON, ON];
+    let ways = [
+        SECOND, ON, FIRST, FIRST, ON, FIRST, FIRST, ON, FIRST, ON, ON,
+    ];
     for (left, value) in [(8, 0), (5, 1), (2, 0)] {
         let read = reads_of(&rt, alloc, &f, &out, &ways[left..])?;
         assert_reads(&rt, read, &[at(value)], &[at(value)]);
@@ -152,7 +179,17 @@ fn tells_a_read_before_a_write(rt: HostRuntime) -> Result<(), Fail> {
     let alloc = rt.alloc();
     let f = fork(alloc, 1)?;
     let out = fork_output(alloc, stack(1), stack(0), stack(0))?;
-    assert_reads(&rt, reads_of(&rt, alloc, &f, &out, &[FIRST, ON])?, &[at(0)], &[at(0)]);
-    assert_reads(&rt, reads_of(&rt, alloc, &f, &out, &[SECOND, ON])?, &[None], &[at(0)]);
+    assert_reads(
+        &rt,
+        reads_of(&rt, alloc, &f, &out, &[FIRST, ON])?,
+        &[at(0)],
+        &[at(0)],
+    );
+    assert_reads(
+        &rt,
+        reads_of(&rt, alloc, &f, &out, &[SECOND, ON])?,
+        &[None],
+        &[at(0)],
+    );
     Ok(())
 }
