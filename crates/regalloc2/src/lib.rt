@@ -7,8 +7,8 @@
 
 pub use regalloc2_fastalloc::{Algorithm, Ctx, RegallocOptions, run, run_into_ctx, run_with_ctx};
 pub use regalloc2_function::{
-    Edit, Function, InstOrEdit, MachineEnv, Output, OutputIter, blocks_follow, count_operands,
-    finds_earlier_writes, is_framed, machine_fits, reads_the_same_numbers, successors_are_blocks,
+    Edit, Function, InstOrEdit, MachineEnv, Output, OutputIter, agrees_where_numbers_do,
+    count_operands, finds_earlier_writes, is_framed, machine_fits, reads_the_same_numbers,
     test_blocks, test_ends,
 };
 pub use regalloc2_index::{

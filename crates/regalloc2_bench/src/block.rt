@@ -3,8 +3,8 @@
 ghost use Rattle.std.specs.Prelude.{◌<◌, ◌^◌};
 
 use regalloc2::{Operand, RegClass, VReg};
-use regalloc2_tests::build::{op, ret};
-use regalloc2_tests::table::{SlotUnits, TableFunction, TableInst};
+use regalloc2_plain::build::{op, ret};
+use regalloc2_plain::table::{SlotUnits, TableFunction, TableInst};
 use std::alloc::{AllocError, Global};
 
 /// Virtual registers are integers and floating-point numbers in turn.
@@ -52,6 +52,6 @@ pub fn live(alloc: Global, insts: usize) -> Result<TableFunction, AllocError>
     if list.len() >= 1 << 30 {
         return Err(AllocError);
     }
-    let slots = [SlotUnits::one(), SlotUnits::two(), SlotUnits::two()];
+    let slots = (SlotUnits::one(), SlotUnits::two(), SlotUnits::two());
     TableFunction::straight(alloc, vregs, slots, list)
 }

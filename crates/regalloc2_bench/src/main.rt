@@ -7,13 +7,13 @@
 ghost use Rattle.std.specs.Prelude.{◌<◌, ◌^◌};
 ghost use Rattle.regalloc2_function.specs.Fitting.{MachineFits};
 ghost use Rattle.regalloc2_function.specs.Views.{machine_of};
-ghost use Rattle.regalloc2_tests.specs.Table.{function_of};
+ghost use Rattle.regalloc2_plain.specs.Table.{function_of};
 
 mod block;
 
 use regalloc2::{Algorithm, MachineEnv, RegallocOptions, machine_fits, run};
 use regalloc2_tests::machines::whole_machine;
-use regalloc2_tests::table::TableFunction;
+use regalloc2_plain::table::TableFunction;
 use std::alloc::Global;
 use std::env::{self, Env};
 use std::process::ExitCode;

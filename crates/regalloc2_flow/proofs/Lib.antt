@@ -13,6 +13,7 @@ pub mod Pushing
 pub mod Tables
 pub mod Slots
 pub mod Soundness
+pub mod Earlier
 pub mod Sending
 pub mod Operands
 pub mod Placing

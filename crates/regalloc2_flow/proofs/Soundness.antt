@@ -5,6 +5,8 @@ use Rattle.std.proofs.lemmas.Bool.{cases_eq, ne_eqb}
 use Rattle.std.proofs.lemmas.List.{get_or_past}
 use Rattle.std.proofs.lemmas.List.Sums.{get_or-le-sum_by, sum_by-cons, count_by-le-length}
 use Rattle.regalloc2_names.specs.Register.{VirtualRegister, is_vreg}
+use Rattle.regalloc2_names.specs.Operand.{OperandValue}
+use Rattle.regalloc2_function.specs.SourceRun.{is_def}
 use Rattle.regalloc2_function.specs.FunctionValue.{FunctionValue, BlockValue, InstValue, block_at, inst_at, no_block, no_inst}
 use Rattle.regalloc2_function.specs.WellFormed.{defines, times_in, ways_into, DefinedOnce, PredecessorsAgree, NoCriticalEdge}
 use Rattle.regalloc2_flow.specs.Listing.{op_at, no_operand}
@@ -14,7 +16,7 @@ use Rattle.regalloc2_flow.specs.Sound.{WellFormedAreSound}
 use Rattle.regalloc2_flow.proofs.Cells.{is_vreg-true}
 
 -- sums by recursion
-abbrev total : List ℕ → ℕ
+abbrev pub total : List ℕ → ℕ
 total [] = 0
 total (x ∷ xs) = x + total xs
 
@@ -23,7 +25,7 @@ total-at g [] k d lt = absurd (omega arith)
 total-at g (x ∷ xs) zero d lt = omega arith
 total-at g (x ∷ xs) (suc k) d lt = let h = total-at g xs k d (omega arith) in omega arith
 
-total-two : {X : Type 0} (g : X → ℕ) (xs : List X) (j k : ℕ) (d : X) → j ≢ k → j < length xs → k < length xs → g (slice_index_or xs j d) + g (slice_index_or xs k d) ≤ total (map g xs)
+pub total-two : {X : Type 0} (g : X → ℕ) (xs : List X) (j k : ℕ) (d : X) → j ≢ k → j < length xs → k < length xs → g (slice_index_or xs j d) + g (slice_index_or xs k d) ≤ total (map g xs)
 total-two g [] j k d ne lj lk = absurd (omega arith)
 total-two g (x ∷ xs) zero zero d ne lj lk = absurd (ne refl)
 total-two g (x ∷ xs) zero (suc k) d ne lj lk = let h = total-at g xs k d (omega arith) in omega arith
@@ -35,7 +37,7 @@ one : (b : Bool) → b ≡ true → 1 ≤ cond b 1 0
 one true e = omega arith
 one false e = absurd cc
 
-count_at : {X : Type 0} (p : X → Bool) (xs : List X) (k : ℕ) (d : X) → k < length xs → p (slice_index_or xs k d) ≡ true → 1 ≤ count_by p xs
+pub count_at : {X : Type 0} (p : X → Bool) (xs : List X) (k : ℕ) (d : X) → k < length xs → p (slice_index_or xs k d) ≡ true → 1 ≤ count_by p xs
 count_at p xs k d lt e =
     let h : cond (p (slice_index_or xs k d)) 1 0 ≤ count_by p xs = get_or-le-sum_by (λ x. cond (p x) 1 0) xs k d lt in
     let o = one (p (slice_index_or xs k d)) e in omega arith
@@ -59,7 +61,7 @@ times_apart : (b c : ℕ) (xs : List ℕ) → b ≢ c → times_in b xs + times_
 times_apart b c xs ne = counts_apart (λ x. nat_eq x b) (λ x. nat_eq x c) xs (λ x e. ne_eqb x c (λ s. ne (sym (eqb-true x b e) ∙ s)))
 
 -- an index is within a list, or past it
-cases_within : (i n : ℕ) → (i < n) ⊎ (n ≤ i)
+pub cases_within : (i n : ℕ) → (i < n) ⊎ (n ≤ i)
 cases_within i n = grind (arith)
 
 -- a block that has an edge, or a parameter
@@ -98,14 +100,18 @@ names_count v (p ∷ ps) h =
     first_counts (nat_eq p.number v.number) (is_vreg p v) (count_by (λ w. nat_eq w.number v.number) ps) (count_by (λ w. nat_eq w.number v.number) (p ∷ ps))
     (same_number p v) (λ n. names_count v ps (right_of (is_vreg p v) (names v ps) h n)) (sum_by-cons (λ w. cond (nat_eq w.number v.number) 1 0) p ps)
 
+-- an operand that defines v counts as a definition of its number
+defines_it : (o : OperandValue) (v : VirtualRegister) → is_def o.kind ≡ true → o.vreg ≡ v → defines v.number o ≡ true
+defines_it o v d e = rw (d, eq-eqb o.vreg.number v.number (ap (λ (x : VirtualRegister). x.number) e)) refl
+
 module _ (f : FunctionValue) (once : DefinedOnce f) where
-  in_blocks : ℕ → ℕ
+  pub in_blocks : ℕ → ℕ
   in_blocks n = total (map (λ (b : BlockValue). count_by (λ v. nat_eq v.number n) b.params) f.blocks)
 
-  in_insts : ℕ → ℕ
+  pub in_insts : ℕ → ℕ
   in_insts n = total (map (λ (i : InstValue). count_by (defines n) i.operands) f.insts)
 
-  at_most_one : (n : ℕ) → in_blocks n + in_insts n ≤ 1
+  pub at_most_one : (n : ℕ) → in_blocks n + in_insts n ≤ 1
   unfolding in_blocks in_insts
   at_most_one n = (once n).0
 
@@ -121,7 +127,7 @@ module _ (f : FunctionValue) (once : DefinedOnce f) where
         let z = at_most_one v.number in absurd (omega arith))
   ]
 
-  no_definition : (b i : ℕ) (v : VirtualRegister) → IsParameter f b v → Undefined (inst_at f i).operands v
+  pub no_definition : (b i : ℕ) (v : VirtualRegister) → IsParameter f b v → Undefined (inst_at f i).operands v
   unfolding in_blocks in_insts
   no_definition b i v h j lt d e =
       let within : i < length f.insts = elim (cases_within i (length f.insts)) [
@@ -133,6 +139,17 @@ module _ (f : FunctionValue) (once : DefinedOnce f) where
       let insts : count_by (defines v.number) (inst_at f i).operands ≤ in_insts v.number = total-at (λ (x : InstValue). count_by (defines v.number) x.operands) f.insts i no_inst within in
       let params : count_by (λ w. nat_eq w.number v.number) (block_at f b).params ≤ in_blocks v.number = total-at (λ (x : BlockValue). count_by (λ w. nat_eq w.number v.number) x.params) f.blocks b no_block (param_within f b v h) in
       let x = names_count v (block_at f b).params h in
+      let z = at_most_one v.number in absurd (omega arith)
+
+  -- a virtual register that one instruction defines, and another one
+  pub no_second : (i j : ℕ) (v : VirtualRegister) → j ≢ i → i < length f.insts → j < length f.insts → (k : ℕ) (d : OperandValue) → k < length (inst_at f j).operands →
+      is_def (slice_index_or (inst_at f j).operands k d).kind ≡ true → (slice_index_or (inst_at f j).operands k d).vreg ≡ v → Undefined (inst_at f i).operands v
+  unfolding in_blocks in_insts
+  no_second i j v ne within also k d lt def is m less def' is' =
+      let g : InstValue → ℕ = λ x. count_by (defines v.number) x.operands in
+      let two : g (inst_at f j) + g (inst_at f i) ≤ in_insts v.number = total-two g f.insts j i no_inst ne also within in
+      let there : 1 ≤ g (inst_at f j) = count_at (defines v.number) (inst_at f j).operands k d lt (defines_it (slice_index_or (inst_at f j).operands k d) v def is) in
+      let here : 1 ≤ g (inst_at f i) = count_at (defines v.number) (inst_at f i).operands m no_operand less (defines_it (op_at (inst_at f i).operands m) v def' is') in
       let z = at_most_one v.number in absurd (omega arith)
 
 -- a successor is counted, among successors and so among predecessors

@@ -4,9 +4,11 @@
 #![tactic(auto)]
 
 ghost use Rattle.regalloc2_flow.specs.Blocks.{BlocksAgree, BlocksAgreeByPoints};
-ghost use Rattle.regalloc2_flow.specs.Laws.{FaithfulWhereReadsAgree};
+ghost use Rattle.regalloc2_flow.specs.Laws.{AgreeingReadsFindEarlier, FaithfulWhereReadsAgree, ReadsAgreeWhereNumbersDo, WellFormedReadEarlier};
 ghost use Rattle.regalloc2_flow.specs.Sound.{WellFormedAreSound};
 ghost use Rattle.regalloc2_flow.specs.Straight.{StraightAgrees, StraightAgreesByPoints};
+
+use regalloc2_function::{agrees_where_numbers_do, finds_earlier_writes};
 
 /// A law: where reads agree on every path, every instruction's constraints are met and no move joins two places in memory, the output is faithful.
 pub fn is_faithful_where_reads_agree()
@@ -30,3 +32,15 @@ pub fn agrees_where_blocks_carry()
 pub fn is_sound_where_well_formed()
     ensures { WellFormedAreSound }
 {}
+
+/// A law: in a well-formed function each use that finds a write finds one of an earlier step, so both runs read numbers
+/// that a meaning gives; and where every use finds a write, reads agree on every path if both runs read the same numbers,
+/// whatever the instructions mean.
+pub fn reads_earlier_where_well_formed()
+    ensures earlier { WellFormedReadEarlier }
+    ensures defined { AgreeingReadsFindEarlier }
+    ensures agree { ReadsAgreeWhereNumbersDo }
+{
+    finds_earlier_writes();
+    agrees_where_numbers_do();
+}

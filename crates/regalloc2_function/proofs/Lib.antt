@@ -1,6 +1,7 @@
 pub mod RunLaws
 pub mod Rows
 pub mod ValueLaws
+pub mod Converse
 pub mod CellLaws
 pub mod Steps
 pub mod ListingLaws

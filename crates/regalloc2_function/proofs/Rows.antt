@@ -1,5 +1,5 @@
 -- Worked functions, computed.
-use Rattle.std.proofs.Common.{ℕ, ◌≡◌, false, List, [], ◌∷◌, refl}
+use Rattle.std.proofs.Common.{ℕ, ◌≡◌, false, List, [], ◌∷◌, refl, inl, lit<}
 use Rattle.std.specs.Prelude.{Option, None, Some, map, if◌then◌else◌}
 use Rattle.regalloc2_names.specs.declared.OperandConstraint.TheVariants.{Reg}
 use Rattle.regalloc2_names.specs.declared.OperandKind.TheVariants.{Def, Use}
@@ -14,6 +14,8 @@ use Rattle.regalloc2_function.specs.FunctionValue.{FunctionValue, BlockValue, In
 use Rattle.regalloc2_function.specs.OutputValue.{OutputValue, MoveValue}
 use Rattle.regalloc2_function.specs.Path.{Way, Onward, ToSuccessor}
 use Rattle.regalloc2_function.specs.SourceRun.{Stamp, source_before, after_defs, passed, over_edge, source_read}
+use Rattle.regalloc2_function.specs.DebugPaths.{HoldsValue}
+use Rattle.regalloc2_function.specs.DebugPaths.GoesOn.{there}
 use Rattle.regalloc2_function.specs.AllocatedRun.{cells_before, stored, after_moves, after_early_defs, after_writes, after_clobbers, allocated_read}
 
 abbrev v : ℕ → VirtualRegister
@@ -133,3 +135,11 @@ copied_absence = refl
 last_listing : passed (v 7 ∷ v 7 ∷ []) (v 0 ∷ v 1 ∷ []) (λ q. if is_vreg (v 1) q then at_step 5 else None) (λ q. None) (v 7) ≡ at_step 5
 unfolding passed
 last_listing = refl
+
+-- a debug location that names another place than the value's does not hold it
+not_elsewhere : HoldsValue the_use (all_in_p0 []) (v 0) (p 1) → ⊥
+unfolding source_before after_defs over_edge cells_before stored after_moves after_early_defs after_writes after_clobbers has_register
+not_elsewhere h =
+    let e = h [] Onward (Onward ∷ []) (Onward ∷ []) (record { step = 0; operand = 0 }) (tt, lit< tt) (inl (lit< tt, (0, def_reg 0, lit< tt, refl, refl, refl))) refl
+    there there (inl (lit< tt, (0, use_reg 0, lit< tt, refl, refl, refl, refl))) refl in
+    absurd cc

@@ -9,6 +9,7 @@ use Rattle.regalloc2_function.specs.Path.{Way, IsPath, last_inst}
 use Rattle.regalloc2_function.specs.SourceRun.{Stamp, is_reading, source_read}
 use Rattle.regalloc2_function.specs.AllocatedRun.{allocated_read}
 use Rattle.regalloc2_function.specs.Faithful.{ReadsAgree, IsFaithful}
+use Rattle.regalloc2_function.specs.Laws.{ReadsGiveNumbers}
 use Rattle.regalloc2_function.specs.Values.{Meaning, Numbers, reads_from, source_reads, allocated_reads, numbers, SameNumbers}
 
 pick : (b : Bool) (x y : Option Stamp) (xs ys : List (Option Stamp)) → (b ≡ true → x ≡ y) → xs ≡ ys → cond b (x ∷ xs) xs ≡ cond b (y ∷ ys) ys
@@ -37,10 +38,14 @@ unfolding numbers
 numbers-same f meaning r t [] p h = rw (h [] tt) refl
 numbers-same f meaning r t (w ∷ ws) p h = rw (numbers-same f meaning r t ws p.0 h, h (w ∷ ws) p) refl
 
+-- where reads agree, the numbers are the same
+pub reads_give_numbers : ReadsGiveNumbers
+reads_give_numbers f out h meaning ws p =
+    ap (λ (n : Numbers). n.history) (numbers-same f meaning (allocated_reads f out) (source_reads f) ws p (λ vs q. reads-same f out vs (h vs q)))
+
 -- a faithful output reads the function's numbers
 pub same_numbers : (f : FunctionValue) (env : MachineValue) (out : OutputValue) → IsFaithful f env out → SameNumbers f out
-same_numbers f env out h meaning ws p =
-    ap (λ (n : Numbers). n.history) (numbers-same f meaning (allocated_reads f out) (source_reads f) ws p (λ vs q. reads-same f out vs (h vs q).reads))
+same_numbers f env out h = reads_give_numbers f out (λ ws p. (h ws p).reads)
 
 -- what holds at the start, and is kept by each step and each way on, holds on every path
 pub along_paths : (f : FunctionValue) (P : List Way → Type 0) → P [] → ((w : Way) (ws : List Way) → IsPath f (w ∷ ws) → P ws → P (w ∷ ws)) → (ws : List Way) → IsPath f ws → P ws

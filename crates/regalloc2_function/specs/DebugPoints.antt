@@ -46,16 +46,16 @@ pub data IsLastPoint (f : FunctionValue) (v : VirtualRegister) : ℕ → Type 0 
 abbrev pub IsKept : FunctionValue → Label → ℕ → ℕ → Type 0
 IsKept f l start end = IsFirstPoint f l.vreg start × IsLastPoint f l.vreg end × (start / 2 ≤ l.start) × (l.end ≤ end / 2 + 1)
 
--- the debug locations of a list of labels, as listed
-pub data AreLocationsOf (f : FunctionValue) : List Label → List DebugLocation → Type 0 where
-  none : AreLocationsOf f [] []
-  kept : {ls : List Label} {ds : List DebugLocation} (l : Label) (d : DebugLocation) → d.label ≡ l.label → IsKept f l d.start d.end → AreLocationsOf f ls ds → AreLocationsOf f (l ∷ ls) (d ∷ ds)
-  left_out : {ls : List Label} {ds : List DebugLocation} (l : Label) → ((start end : ℕ) → IsKept f l start end → ⊥) → AreLocationsOf f ls ds → AreLocationsOf f (l ∷ ls) ds
+-- the debug locations of a list of labels, as listed, each with what is asked of it and its label
+pub data AreLocationsOf (f : FunctionValue) (Asked : Label → DebugLocation → Type 0) : List Label → List DebugLocation → Type 0 where
+  none : AreLocationsOf f Asked [] []
+  kept : {ls : List Label} {ds : List DebugLocation} (l : Label) (d : DebugLocation) → d.label ≡ l.label → IsKept f l d.start d.end → Asked l d → AreLocationsOf f Asked ls ds → AreLocationsOf f Asked (l ∷ ls) (d ∷ ds)
+  left_out : {ls : List Label} {ds : List DebugLocation} (l : Label) → ((start end : ℕ) → IsKept f l start end → ⊥) → AreLocationsOf f Asked ls ds → AreLocationsOf f Asked (l ∷ ls) ds
 
 -- the debug locations of an output are those of the function's labels, by rising label, and as listed where labels are equal
-pub record AreDebugLocations (f : FunctionValue) (out : OutputValue) : Type 0 where
+pub record AreDebugLocations (f : FunctionValue) (Asked : Label → DebugLocation → Type 0) (out : OutputValue) : Type 0 where
   pub listed : List DebugLocation
-  pub kept : AreLocationsOf f f.labels listed
+  pub kept : AreLocationsOf f Asked f.labels listed
   pub same : IsPermutation listed out.debug_locations
   pub rising : IsNonDecreasingBy (λ d. d.label) out.debug_locations
   pub stable : IsStableByKey (λ d. d.label) nat_cmp listed out.debug_locations

@@ -1,4 +1,5 @@
 -- A faithful output: on every path each use reads what the function's own run reads.
+-- Constraints are those of upstream's `OperandConstraint`. That reads agree is what its checker is there to test, said here along paths.
 use Rattle.std.specs.Prelude.{ℕ, ◌≡◌, ◌≢◌, ◌+◌, ◌<◌, ◌≤◌, true, List, All, length, slice_index_or, IsSome}
 use Rattle.regalloc2_names.specs.declared.OperandConstraint.{OperandConstraint}
 use Rattle.regalloc2_names.specs.declared.OperandConstraint.TheVariants.{Any, Reg, Stack, FixedReg, Reuse, Limit}

@@ -1,4 +1,5 @@
 -- Fitting machines, proper places and instructions that fit.
+-- What upstream's `MachineEnv` and allocators take for granted of machines and places. When an instruction fits is this project's own.
 use Rattle.std.specs.Prelude.{ℕ, zero, suc, nat_lt, is_none, ◌≡◌, ◌≢◌, ◌+◌, ◌<◌, ◌≤◌, ◌⊎◌, Bool, true, false, ◌&&◌, ◌||◌, not, nat_eq, if◌then◌else◌, [], All, Any as SomeIn, count_by, length, slice_index_or, Some}
 use Rattle.regalloc2_names.specs.declared.OperandConstraint.{OperandConstraint}
 use Rattle.regalloc2_names.specs.declared.OperandConstraint.TheVariants.{Any, Reg, Stack, FixedReg, Reuse, Limit}

@@ -1,4 +1,5 @@
 -- The function that is being allocated, as contracts see it.
+-- Its parts are what the methods of upstream's trait `Function` answer.
 use Rattle.std.specs.Prelude.{ℕ, ◌-◌, ◌<◌, ◌≤◌, ◌^◌, Bool, false, IsTrue, List, [], ◌∷◌, length, slice_index_or, sum_by, All}
 use Rattle.std.specs.Int.{is_power_of_two}
 use Rattle.regalloc2_index.specs.Range.{Span}

@@ -1,4 +1,5 @@
 -- What places hold on every path.
+-- This project's own: upstream's checker keeps a set of virtual registers for each place, and differs from it where a place is known to hold nothing.
 use Rattle.std.specs.Prelude.{◌≡◌, List, length, Option, IsSome}
 use Rattle.regalloc2_names.specs.declared.OperandPos.{OperandPos}
 use Rattle.regalloc2_names.specs.Place.{Place}

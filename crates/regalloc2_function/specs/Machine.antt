@@ -1,4 +1,5 @@
 -- The registers of a machine, as contracts see them.
+-- Its parts are the fields of upstream's `MachineEnv`.
 use Rattle.std.specs.Prelude.{Bool, ◌||◌, List, [], ◌∷◌, Contains, Option, None, slice_index_or}
 use Rattle.regalloc2_names.specs.Register.{Register, class_code}
 use Rattle.regalloc2_names.specs.RegisterSet.{has_register}

@@ -1,4 +1,5 @@
 -- Moves made at once, and one after another.
+-- What upstream's `ParallelMoves` says of its moves, and of the list that it makes of them.
 use Rattle.std.specs.Prelude.{◌≡◌, false, if◌then◌else◌, List, [], ◌∷◌, Contains, Option}
 use Rattle.regalloc2_names.specs.Place.{Place, is_place}
 use Rattle.regalloc2_function.specs.OutputValue.{MoveValue}

@@ -1,4 +1,5 @@
 -- Paths through a function.
+-- Blocks and successors are those of upstream's trait `Function`; paths are this project's own.
 use Rattle.std.specs.Prelude.{ℕ, ◌≡◌, ◌+◌, ◌<◌, List, [], ◌∷◌, length, slice_index}
 use Rattle.regalloc2_function.specs.FunctionValue.{FunctionValue, block_at, inst_at, InstValue}
 

@@ -1,4 +1,5 @@
 -- The run of the function itself: who wrote each virtual register last.
+-- Operands are read and written as upstream's `OperandKind` and `OperandPos` say, and parameters take arguments as its `Function::branch_blockparams` says. The names of writes are this project's own.
 use Rattle.std.specs.Prelude.{ℕ, ◌≡◌, ◌+◌, ◌<◌, Bool, true, false, ◌&&◌, not, nat_eq, if◌then◌else◌, List, [], ◌∷◌, length, slice_index_or, slice_index, Option, None, Some, IsSome}
 use Rattle.regalloc2_names.specs.declared.OperandConstraint.{OperandConstraint}
 use Rattle.regalloc2_names.specs.declared.OperandConstraint.TheVariants.{Any, Reg, Stack, FixedReg, Reuse, Limit}
@@ -90,6 +91,12 @@ abbrev pub UsesWritten : FunctionValue → List Way → Type 0
 UsesWritten f ws = (k : ℕ) (d : OperandValue) → k < length (last_inst f ws).operands →
     let o : OperandValue = slice_index_or (last_inst f ws).operands k d in
     is_reading o ≡ true → IsSome (source_read f ws o)
+
+-- every use of the last step finds a write of an earlier step
+abbrev pub UsesFindEarlier : FunctionValue → List Way → Type 0
+UsesFindEarlier f ws = (k : ℕ) (d : OperandValue) → k < length (last_inst f ws).operands →
+    let o : OperandValue = slice_index_or (last_inst f ws).operands k d in
+    is_reading o ≡ true → (s : Stamp) × (source_read f ws o ≡ Some s) × (s.step < length ws)
 
 -- every argument that is passed on the way on was written
 abbrev pub ArgumentsWritten : FunctionValue → List Way → Type 0

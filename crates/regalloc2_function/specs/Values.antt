@@ -1,4 +1,5 @@
 -- What values the uses read, for any meaning of the instructions.
+-- This project's own: what the instructions compute is left open.
 use Rattle.std.specs.Prelude.{ℕ, ◌≡◌, ◌+◌, nat_eq, if◌then◌else◌, List, [], ◌∷◌, map, length, Option}
 use Rattle.std.specs.Option.{option_map}
 use Rattle.regalloc2_names.specs.Operand.{OperandValue}

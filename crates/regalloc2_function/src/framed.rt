@@ -9,7 +9,7 @@ use regalloc2_index::{Block, Inst};
 use regalloc2_names::RegAllocError;
 
 /// Whether the entry and each successor is a block.
-pub fn successors_are_blocks<F: Function>(f: &F) -> bool
+fn successors_are_blocks<F: Function>(f: &F) -> bool
     ensures { IsTrue result ↔ SuccessorsAreBlocks (F.function f.now) }
 {
     let blocks = f.num_blocks();
@@ -46,7 +46,7 @@ fn follows<F: Function>(f: &F, block: Block) -> bool
 }
 
 /// Whether blocks follow one another.
-pub fn blocks_follow<F: Function>(f: &F) -> bool
+fn blocks_follow<F: Function>(f: &F) -> bool
     ensures { IsTrue result ↔ BlocksFollow (F.function f.now) }
 {
     for b in 0..f.num_blocks() {

@@ -1,6 +1,6 @@
 //! Laws of the definitions, each the contract of a function that does nothing.
 
-ghost use Rattle.regalloc2_function.specs.Laws.{FaithfulGivesNumbers, SourceIsEarlier, CellsAreEarlier, MissingHoldsNothing};
+ghost use Rattle.regalloc2_function.specs.Laws.{FaithfulGivesNumbers, ReadsGiveNumbers, NumbersGiveReads, SourceIsEarlier, CellsAreEarlier, MissingHoldsNothing};
 
 /// A law of the runs: each write that is found was made at an earlier step, and a missing place holds nothing.
 pub fn finds_earlier_writes()
@@ -12,4 +12,11 @@ pub fn finds_earlier_writes()
 /// A law of the runs: a faithful output reads the function's own numbers, whatever the instructions mean.
 pub fn reads_the_same_numbers()
     ensures { FaithfulGivesNumbers }
+{}
+
+/// A law of the runs: reads agree on every path just where both runs read the same numbers, whatever the instructions mean.
+/// From the numbers back to the reads it wants each use to find a write of an earlier step.
+pub fn agrees_where_numbers_do()
+    ensures numbers { ReadsGiveNumbers }
+    ensures reads { NumbersGiveReads }
 {}

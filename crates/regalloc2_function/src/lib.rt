@@ -15,8 +15,8 @@ mod laws;
 mod listing;
 mod machine;
 
-pub use framed::{blocks_follow, is_framed, successors_are_blocks, test_blocks, test_ends};
-pub use laws::{finds_earlier_writes, reads_the_same_numbers};
+pub use framed::{is_framed, test_blocks, test_ends};
+pub use laws::{agrees_where_numbers_do, finds_earlier_writes, reads_the_same_numbers};
 pub use listing::{Edit, InstOrEdit, Output, OutputIter};
 pub use machine::{MachineEnv, machine_fits};
 

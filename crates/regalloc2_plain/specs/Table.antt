@@ -1,24 +1,42 @@
--- What a function in tables stands for.
-use Rattle.std.specs.Prelude.{map, [], false}
-use Rattle.regalloc2_function.specs.FunctionValue.{FunctionValue, BlockValue, InstValue}
+-- The function that a table stands for.
+use Rattle.std.specs.Prelude.{ℕ, List, map, length, [], ◌∷◌, false}
+use Rattle.regalloc2_function.specs.FunctionValue.{FunctionValue, BlockValue, InstValue, SlotSizes}
 use Rattle.regalloc2_plain.specs.declared.table.TableBlock.{TableBlock}
 use Rattle.regalloc2_plain.specs.declared.table.TableInst.{TableInst}
+use Rattle.regalloc2_plain.specs.declared.table.SlotUnits.{SlotUnits}
 use Rattle.regalloc2_plain.specs.declared.table.TableFunction.{TableFunction}
 
-abbrev pub inst_of : TableInst → InstValue
+abbrev pub inst_of : {A : Type 0} → TableInst A → InstValue
 inst_of i = record { operands = i.operands.items; clobbers = i.clobbers; is_branch = i.is_branch; is_ret = i.is_ret }
 
-abbrev pub block_of : TableBlock → BlockValue
+abbrev pub block_of : {A : Type 0} → TableBlock A → BlockValue
 block_of b = record { range = b.range; succs = b.succs.items; preds = b.preds.items; params = b.params.items; arguments = map (λ v. v.items) b.arguments.items }
 
-abbrev pub function_of : TableFunction → FunctionValue
+abbrev pub function_of : {A : Type 0} → TableFunction A → FunctionValue
 function_of f = record {
   blocks = map block_of f.blocks.items;
   insts = map inst_of f.insts.items;
   entry = f.entry;
   num_vregs = f.num_vregs;
-  slot_sizes = record { int = f.slot_size; float = f.slot_size; vector = f.slot_size };
-  named_by_last_slot = f.named_by_last;
+  slot_sizes = record { int = f.int_slot.units; float = f.float_slot.units; vector = f.vector_slot.units };
+  named_by_last_slot = f.named_by_last_slot;
   labels = [];
   allows_multiple_defs = false;
 }
+
+-- the function of one block that has these instructions
+abbrev pub straight_function : ℕ → SlotSizes → List InstValue → FunctionValue
+straight_function num_vregs sizes insts = record {
+  blocks = record { range = record { first = 0; end = length insts }; succs = []; preds = []; params = []; arguments = [] } ∷ [];
+  insts = insts;
+  entry = 0;
+  num_vregs = num_vregs;
+  slot_sizes = sizes;
+  named_by_last_slot = false;
+  labels = [];
+  allows_multiple_defs = false;
+}
+
+-- sizes of slots
+abbrev pub sizes_of : SlotUnits → SlotUnits → SlotUnits → SlotSizes
+sizes_of i f v = record { int = i.units; float = f.units; vector = v.units }

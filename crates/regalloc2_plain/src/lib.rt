@@ -1,7 +1,7 @@
-//! Tests that cross crates, with a function that is kept in tables, and the two runs of the definitions as a plain, slow
-//! program.
+//! A function that is kept in tables, and the two runs of the definitions as a plain, slow program.
 #![tactic(auto)]
 
+pub mod build;
 pub mod cells;
 pub mod logs;
 pub mod reads;

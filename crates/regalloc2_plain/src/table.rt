@@ -1,20 +1,21 @@
-//! A function that is kept in tables, for tests.
+//! A function that is kept in tables.
 
-ghost use Rattle.std.specs.Prelude.{◌≡◌, ◌<◌, ◌^◌, ◌-◌, vec_len};
-ghost use Rattle.regalloc2_function.specs.FunctionValue.{IsSlotSize};
+ghost use Rattle.std.specs.Prelude.{◌≡◌, ◌<◌, ◌≤◌, ◌^◌, ◌-◌, IsTrue, vec_len};
+ghost use Rattle.std.specs.Int.{is_power_of_two};
 
 use regalloc2_function::Function;
 use regalloc2_index::{Block, Inst, InstRange};
 use regalloc2_names::{Operand, PRegSet, RegClass, VReg};
+use std::alloc::{Allocator, Global};
 
 /// An instruction.
 #[derive(Drop)]
-pub struct TableInst {
+pub struct TableInst<A: Allocator = Global> {
     /// What it does with virtual registers.
-    pub operands: Vec<Operand>,
+    pub operands: Vec<Operand, A>,
     /// The registers that it overwrites besides.
     pub clobbers: PRegSet,
-    /// Whether it goes on to a successor.
+    /// Whether it goes on to a successor of its block.
     pub is_branch: bool,
     /// Whether it returns.
     pub is_ret: bool,
@@ -22,47 +23,58 @@ pub struct TableInst {
 
 /// A block.
 #[derive(Drop)]
-pub struct TableBlock {
+pub struct TableBlock<A: Allocator = Global> {
     /// Its instructions.
     pub range: InstRange,
     /// The blocks that may follow.
-    pub succs: Vec<Block>,
+    pub succs: Vec<Block, A>,
     /// The blocks that it may follow.
-    pub preds: Vec<Block>,
-    /// Its parameters.
-    pub params: Vec<VReg>,
+    pub preds: Vec<Block, A>,
+    /// What takes the arguments.
+    pub params: Vec<VReg, A>,
     /// The arguments for each successor.
-    pub arguments: Vec<Vec<VReg>>,
+    pub arguments: Vec<Vec<VReg, A>, A>,
 }
 
-/// A function without labels, whose slots have one size for all classes.
+/// How many units a spill slot takes: a power of two from 1 to 2^24.
 #[derive(Drop)]
-pub struct TableFunction {
-    /// The blocks, by number.
-    pub blocks: Vec<TableBlock>,
-    /// The instructions, by number.
-    pub insts: Vec<TableInst>,
-    /// The block at which it starts.
+pub struct SlotUnits {
+    /// How many.
+    pub units: usize,
+    pub ghost positive: { 1 ≤ units },
+    pub ghost at_most: { units ≤ 2 ^ 24 },
+    pub ghost power_of_two: { IsTrue (is_power_of_two units) },
+}
+
+/// A function: its blocks and instructions by number. It has no labels, and its virtual registers have one definition.
+#[derive(Drop)]
+pub struct TableFunction<A: Allocator = Global> {
+    /// The blocks.
+    pub blocks: Vec<TableBlock<A>, A>,
+    /// The instructions.
+    pub insts: Vec<TableInst<A>, A>,
+    /// The block at which the function starts.
     pub entry: Block,
-    /// A number above that of each virtual register.
+    /// A number above that of each virtual register that is defined.
     pub num_vregs: usize,
-    /// How many units a slot takes.
-    pub slot_size: usize,
+    /// The size of a slot for an integer.
+    pub int_slot: SlotUnits,
+    /// The size of a slot for a floating-point number.
+    pub float_slot: SlotUnits,
+    /// The size of a slot for a vector.
+    pub vector_slot: SlotUnits,
     /// Whether a slot is named by its last unit.
-    pub named_by_last: bool,
+    pub named_by_last_slot: bool,
     pub ghost few_insts: { vec_len insts < 2 ^ 30 },
     pub ghost few_blocks: { vec_len blocks < 2 ^ 32 - 1 },
     pub ghost few_vregs: { num_vregs < 2 ^ 30 },
-    pub ghost sized: { IsSlotSize slot_size },
 }
 
-impl Function for TableFunction {
+impl<A: Allocator> Function for TableFunction<A> {
     ghost use Rattle.regalloc2_plain.specs.Table.{function_of};
-    ghost use Rattle.regalloc2_plain.specs.TableLimits.{limits};
+    ghost use Rattle.regalloc2_plain.specs.TableLimits.{limited_table};
 
     ghost function = { function_of };
-
-    ghost limited = { limits };
 
     fn num_insts(&self) -> usize {
         self.insts.len()
@@ -104,7 +116,7 @@ impl Function for TableFunction {
         self.insts[inst.index()].is_branch
     }
 
-    fn branch_blockparams(&self, block: Block, inst: Inst, succ_idx: usize) -> &[VReg] {
+    fn branch_blockparams(&self, block: Block, _inst: Inst, succ_idx: usize) -> &[VReg] {
         let arguments = self.blocks[block.index()].arguments.as_slice();
         if succ_idx < arguments.len() {
             &arguments[succ_idx]
@@ -127,17 +139,19 @@ impl Function for TableFunction {
 
     fn spillslot_size(&self, regclass: RegClass) -> usize {
         match regclass {
-            RegClass::Int => self.slot_size,
-            RegClass::Float => self.slot_size,
-            RegClass::Vector => self.slot_size,
+            RegClass::Int => self.int_slot.units,
+            RegClass::Float => self.float_slot.units,
+            RegClass::Vector => self.vector_slot.units,
         }
     }
 
     fn multi_spillslot_named_by_last_slot(&self) -> bool {
-        self.named_by_last
+        self.named_by_last_slot
     }
 
     fn allow_multiple_vreg_defs(&self) -> bool {
         false
     }
+
+    ghost limited = { λ f. limited_table f };
 }

@@ -11,7 +11,7 @@ ghost use Rattle.std.specs.Prelude.{◌≡◌, ◌<◌, ◌≤◌, ◌^◌, ◌-
 
 use regalloc2_index::{Block, Inst, InstRange};
 use regalloc2_names::{Operand, PReg, PRegSet, RegClass, VReg};
-use regalloc2_plain::table::{TableBlock, TableFunction, TableInst};
+use regalloc2_plain::table::{SlotUnits, TableBlock, TableFunction, TableInst};
 use std::alloc::Global;
 
 /// A word that a number follows.
@@ -204,8 +204,10 @@ impl Draft {
             insts,
             entry,
             num_vregs,
-            slot_size: 1,
-            named_by_last: false,
+            int_slot: SlotUnits::one(),
+            float_slot: SlotUnits::one(),
+            vector_slot: SlotUnits::one(),
+            named_by_last_slot: false,
         })
     }
 }

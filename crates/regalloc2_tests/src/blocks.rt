@@ -3,13 +3,13 @@
 ghost use Rattle.std.specs.Prelude.{◌≡◌, ◌<◌, ◌≤◌, ◌^◌, vec_len};
 ghost use Rattle.regalloc2_names.specs.declared.RegClass.{RegClass};
 
-use super::build::{op, ret};
-use super::table::{SlotUnits, TableFunction, TableInst};
 use regalloc2::{
     Algorithm, Allocation, Ctx, Edit, Function, MachineEnv, Operand, Output, PReg, ProgPoint,
     RegAllocError, RegClass, RegallocOptions, SpillSlot, VReg, machine_fits, run, run_into_ctx,
     run_with_ctx,
 };
+use regalloc2_plain::build::{op, ret};
+use regalloc2_plain::table::{SlotUnits, TableFunction, TableInst};
 use std::alloc::{AllocError, Allocator, Global};
 use std::process::Abort;
 
@@ -69,7 +69,7 @@ pub fn straight(
     requires insts { vec_len insts < 2 ^ 30 }
     requires vregs { num_vregs < 2 ^ 30 }
 {
-    let slots = [SlotUnits::one(), SlotUnits::one(), SlotUnits::one()];
+    let slots = (SlotUnits::one(), SlotUnits::one(), SlotUnits::one());
     TableFunction::straight(alloc, num_vregs, slots, insts)
 }
 

@@ -4,12 +4,16 @@
 pub mod adversary;
 #[cfg(test)]
 mod blocks;
-pub mod build;
+#[cfg(test)]
+mod calls;
 pub mod machines;
 #[cfg(test)]
 mod memory;
 #[cfg(test)]
+mod outputs;
+#[cfg(test)]
+mod paths;
+#[cfg(test)]
 mod sets;
 #[cfg(test)]
 mod straight;
-pub mod table;

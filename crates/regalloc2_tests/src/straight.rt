@@ -4,12 +4,12 @@ use super::blocks::{
     def, edit, reads, reg, run_fitting, run_into_ctx_fitting, run_with_ctx_fitting, smallest,
     spilling, stack, straight, vreg,
 };
-use super::build::{op, ret};
 use super::machines::integer_machine;
 use regalloc2::{
     Algorithm, Ctx, Inst, Operand, OperandConstraint, OperandKind, OperandPos, ProgPoint,
     RegAllocError, RegallocOptions,
 };
+use regalloc2_plain::build::{op, ret};
 use std::test::Fail;
 
 #[test]
