@@ -9,5 +9,7 @@ pub mod machines;
 #[cfg(test)]
 mod memory;
 #[cfg(test)]
+mod sets;
+#[cfg(test)]
 mod straight;
 pub mod table;
