@@ -12,8 +12,8 @@ ghost use Rattle.regalloc2_plain.specs.Table.{function_of};
 mod block;
 
 use regalloc2::{Algorithm, MachineEnv, RegallocOptions, machine_fits, run};
-use regalloc2_tests::machines::whole_machine;
 use regalloc2_plain::table::TableFunction;
+use regalloc2_tests::machines::whole_machine;
 use std::alloc::Global;
 use std::env::{self, Env};
 use std::process::ExitCode;
