@@ -1,0 +1,4 @@
+pub mod Traced
+pub mod Exact
+pub mod Fixpoint
+pub mod Verdict
