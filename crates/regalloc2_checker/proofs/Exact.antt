@@ -201,7 +201,7 @@ passed-renamed (p ∷ ps) [] m after r e v = e v
 passed-renamed (p ∷ ps) (x ∷ xs) m after r e v =
     passed-renamed ps xs m (assigned after p (m x)) (λ q. cond (is_vreg p q) x (r q)) (λ u. assigned-renamed (is_vreg p u) m x (r u) (after u) (e u)) v
 
-over_edge-Exact : (f : FunctionValue) (l : Location) (w : Way) (c : Cells) (m : Source) (F : Facts) → Exact c m F → Exact c (over_edge f l w m) (facts_over_edge f l w F)
+pub over_edge-Exact : (f : FunctionValue) (l : Location) (w : Way) (c : Cells) (m : Source) (F : Facts) → Exact c m F → Exact c (over_edge f l w m) (facts_over_edge f l w F)
 unfolding over_edge facts_over_edge
 over_edge-Exact f l Onward c m F h = h
 over_edge-Exact f l (ToSuccessor k) c m F h = record { same = λ p v. ap (same_write (c p)) (passed-renamed _ _ m m (λ u. u) (λ u. refl) v) ∙ h.same p _ }
