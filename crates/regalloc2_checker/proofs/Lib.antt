@@ -1,0 +1,16 @@
+pub mod Equal
+pub mod Traced
+pub mod Exact
+pub mod Fixpoint
+pub mod Verdict
+pub mod Keys
+pub mod Steps
+pub mod Seeing
+pub mod Joining
+pub mod Counting
+pub mod Sharing
+pub mod Rounds
+pub mod Updates
+pub mod Tracking
+pub mod Inside
+pub mod Start

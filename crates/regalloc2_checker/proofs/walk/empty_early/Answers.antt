@@ -1,0 +1,18 @@
+use Rattle.std.proofs.Common.{sym, ◌∙◌, arith}
+use Rattle.regalloc2_checker.specs.Numbers.{cells_in}
+use Rattle.regalloc2_checker.proofs.Steps.{early_step, early_done}
+use Rattle.regalloc2_checker.proofs.walk.empty_early.Goals as goal
+
+pub loop-k-preserved : goal.loop-k-preserved
+loop-k-preserved g c = record {
+  cells = sym (early_step c.args.places.now c.args.operands.now c.loop-k.k c.index-operands-k.result (cells_in c.loop-k.values) (cells_in c.empty_one.new.values) (omega (arith, c.loop-k-test.true)) c.index-operands-k.is
+      (rw (← c.place_at.ensures) c.in_ok-empty_one.ensures.cells))
+      ∙ c.loop-k.invariant.cells;
+  source = c.in_ok-empty_one.ensures.source ∙ c.loop-k.invariant.source;
+}
+
+pub returns : goal.returns
+returns g c = record {
+  cells = sym (early_done c.args.places.now c.args.operands.now c.loop-k.k (cells_in c.loop-k.values) (omega (arith, c.loop-k-test.false))) ∙ c.loop-k.invariant.cells;
+  source = c.loop-k.invariant.source;
+}

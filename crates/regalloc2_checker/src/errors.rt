@@ -1,0 +1,201 @@
+//! What a check finds.
+
+ghost use Rattle.std.specs.Prelude.{◌≡◌};
+
+use regalloc2_index::Inst;
+use regalloc2_names::{Allocation, Operand, VReg};
+use std::alloc::{Allocator, Global};
+use std::fmt;
+use std::ops::Range;
+
+/// A fault of an output, or why it can't be judged.
+///
+/// Names and fields are upstream's, with two variants of this port's own at the end.
+#[derive(Debug, Drop)]
+pub enum CheckerError<A: Allocator = Global> {
+    /// An operand has no place.
+    MissingAllocation {
+        /// The instruction.
+        inst: Inst,
+        /// The operand.
+        op: Operand,
+    },
+    /// A use reads a place that holds no virtual register's value on every path.
+    UnknownValueInAllocation {
+        /// The instruction.
+        inst: Inst,
+        /// The operand.
+        op: Operand,
+        /// Its place.
+        alloc: Allocation,
+    },
+    /// Kept from upstream, and never given.
+    ConflictedValueInAllocation {
+        /// The instruction.
+        inst: Inst,
+        /// The operand.
+        op: Operand,
+        /// Its place.
+        alloc: Allocation,
+    },
+    /// A use reads a place that holds values of other virtual registers on every path, and not of its own.
+    IncorrectValuesInAllocation {
+        /// The instruction.
+        inst: Inst,
+        /// The operand.
+        op: Operand,
+        /// Its place.
+        alloc: Allocation,
+        /// The virtual registers whose values the place holds, by rising bits.
+        actual: Vec<VReg, A>,
+    },
+    /// A reuse names no operand of its instruction.
+    ConstraintViolated {
+        /// The instruction.
+        inst: Inst,
+        /// The operand.
+        op: Operand,
+        /// Its place.
+        alloc: Allocation,
+    },
+    /// The place is no register, or is a fixed stack slot.
+    AllocationIsNotReg {
+        /// The instruction.
+        inst: Inst,
+        /// The operand.
+        op: Operand,
+        /// Its place.
+        alloc: Allocation,
+    },
+    /// The place isn't the register that the operand is fixed to.
+    AllocationIsNotFixedReg {
+        /// The instruction.
+        inst: Inst,
+        /// The operand.
+        op: Operand,
+        /// Its place.
+        alloc: Allocation,
+    },
+    /// The place isn't that of the operand that is to be reused.
+    AllocationIsNotReuse {
+        /// The instruction.
+        inst: Inst,
+        /// The operand.
+        op: Operand,
+        /// Its place.
+        alloc: Allocation,
+        /// The named operand's place, `none` where it is missing.
+        expected_alloc: Allocation,
+    },
+    /// The place is neither a spill slot nor a fixed stack slot.
+    AllocationIsNotStack {
+        /// The instruction.
+        inst: Inst,
+        /// The operand.
+        op: Operand,
+        /// Its place.
+        alloc: Allocation,
+    },
+    /// A move goes from one place in memory to another.
+    StackToStackMove {
+        /// The place that is written.
+        into: Allocation,
+        /// The place that is read.
+        from: Allocation,
+    },
+    /// The place is a register whose number isn't below the operand's bound.
+    AllocationOutsideLimit {
+        /// The instruction.
+        inst: Inst,
+        /// The operand.
+        op: Operand,
+        /// Its place.
+        alloc: Allocation,
+        /// The numbers below the bound.
+        range: Range<usize>,
+    },
+    /// The output isn't in order, or none was prepared.
+    MalformedOutput,
+    /// A growth was refused.
+    Memory,
+}
+
+/// Writes the line of a fault of an operand.
+fn write_fault<W: fmt::Write>(
+    f: &mut fmt::Formatter<W>,
+    number: u32,
+    inst: Inst,
+    op: Operand,
+    place: Allocation,
+) -> fmt::Result {
+    let index = inst.index();
+    write!(f, "error {number} inst{index} {op} [{place}]")
+}
+
+/// As `error 2 inst1 Use: v0i reg [p8i]`, `error 10 stack0 -> stack1`, `error 12` or `error 13`: the number stands for
+/// the kind of fault, in the order of the variants but with `AllocationOutsideLimit` as 11.
+impl<A: Allocator> fmt::Display for CheckerError<A> {
+    fn fmt<W: fmt::Write>(&self, f: &mut fmt::Formatter<W>) -> fmt::Result {
+        match self {
+            CheckerError::MissingAllocation { inst, op } => {
+                write_fault(f, 1, *inst, *op, Allocation::none())
+            }
+            CheckerError::UnknownValueInAllocation { inst, op, alloc } => {
+                write_fault(f, 2, *inst, *op, *alloc)
+            }
+            CheckerError::ConflictedValueInAllocation { inst, op, alloc } => {
+                write_fault(f, 3, *inst, *op, *alloc)
+            }
+            CheckerError::IncorrectValuesInAllocation {
+                inst,
+                op,
+                alloc,
+                ..
+            } => write_fault(f, 4, *inst, *op, *alloc),
+            CheckerError::ConstraintViolated { inst, op, alloc } => {
+                write_fault(f, 5, *inst, *op, *alloc)
+            }
+            CheckerError::AllocationIsNotReg { inst, op, alloc } => {
+                write_fault(f, 6, *inst, *op, *alloc)
+            }
+            CheckerError::AllocationIsNotFixedReg { inst, op, alloc } => {
+                write_fault(f, 7, *inst, *op, *alloc)
+            }
+            CheckerError::AllocationIsNotReuse {
+                inst,
+                op,
+                alloc,
+                ..
+            } => write_fault(f, 8, *inst, *op, *alloc),
+            CheckerError::AllocationIsNotStack { inst, op, alloc } => {
+                write_fault(f, 9, *inst, *op, *alloc)
+            }
+            CheckerError::StackToStackMove { into, from } => {
+                write!(f, "error 10 {from} -> {into}")
+            }
+            CheckerError::AllocationOutsideLimit {
+                inst,
+                op,
+                alloc,
+                ..
+            } => write_fault(f, 11, *inst, *op, *alloc),
+            CheckerError::MalformedOutput => write!(f, "error 12"),
+            CheckerError::Memory => write!(f, "error 13"),
+        }
+    }
+}
+
+/// What a check found: at least one fault.
+#[derive(Debug, Drop)]
+pub struct CheckerErrors<A: Allocator = Global> {
+    errors: Vec<CheckerError<A>, A>,
+}
+
+impl<A: Allocator> CheckerErrors<A> {
+    /// The faults, by rising block and instruction, a move's where the move is listed.
+    pub fn errors(&self) -> &[CheckerError<A>]
+        ensures { result.now ≡ self.now.errors.items }
+    {
+        &self.errors
+    }
+}

@@ -1,0 +1,18 @@
+//! The law of the checker.
+
+ghost use Rattle.regalloc2_checker.specs.Facts.{FactsAreTraced, FactsAreExact};
+ghost use Rattle.regalloc2_checker.specs.Fixpoint.{FactsAreHeld, FactsHoldBefore, AcceptedIsFaithful};
+
+use regalloc2_function::finds_earlier_writes;
+
+/// A law: facts at the blocks' beginnings that no edge asks more of, and of which each missing one fails on a path, are
+/// those that hold on every path, and they accept just what is faithful.
+pub fn stands_for_every_path()
+    ensures traced { FactsAreTraced }
+    ensures exact { FactsAreExact }
+    ensures before { FactsHoldBefore }
+    ensures held { FactsAreHeld }
+    ensures accepted { AcceptedIsFaithful }
+{
+    finds_earlier_writes();
+}
