@@ -19,7 +19,7 @@ pub use regalloc2_names::{
     PReg, PRegSet, PRegSetIter, ProgPoint, RegAllocError, RegClass, SpillSlot, VReg,
 };
 pub use regalloc2_parts::moves;
-pub use regalloc2_shape::{postorder, ssa};
+pub use regalloc2_shape::{cfg, postorder, ssa};
 
 /// The fast allocator and its parts.
 pub mod fastalloc {
