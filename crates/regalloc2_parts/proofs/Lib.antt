@@ -17,3 +17,5 @@ pub mod Counting
 pub mod Resolving
 pub mod Filling
 pub mod Rising
+pub mod Tracking
+pub mod Computing

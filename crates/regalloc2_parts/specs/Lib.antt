@@ -7,3 +7,5 @@ pub mod AtOnce
 pub mod Giving
 pub mod Cycles
 pub mod Resolved
+pub mod Tracking
+pub mod Computed

@@ -9,10 +9,13 @@ ghost use Rattle.regalloc2_names.specs.Place.{NoPlace};
 ghost use Rattle.regalloc2_parts.specs.AtOnce.{ends_of, HasOneSourceEach, IsPlace};
 
 mod order;
+mod passing;
 mod resolved;
+mod scratch;
 
 use regalloc2_names::Allocation;
 pub use resolved::MoveVecWithScratch;
+pub use scratch::MoveAndScratchResolver;
 use smallvec::SmallVec;
 use std::alloc::{AllocError, AllocFailed, Allocator, Global};
 use std::marker::Model;

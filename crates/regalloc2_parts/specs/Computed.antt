@@ -1,0 +1,100 @@
+-- What the closures of a resolver of scratch places answer and owe, and what it makes of moves.
+use Rattle.std.specs.Prelude.{◌≡◌, ◌≢◌, ◌⊎◌, ◌≤◌, Bool, true, false, List, length, Contains, Option, None, Some, Result, MatchResult}
+use Rattle.std.specs.List.{All, FoldsTo}
+use Rattle.smallvec.specs.SmallVec.{SmallVec}
+use Rattle.regalloc2_names.specs.Place.{Place, NoPlace}
+use Rattle.regalloc2_parts.specs.declared.moves.MoveFault.{MoveFault}
+use Rattle.regalloc2_parts.specs.declared.moves.MoveFault.TheVariants.{NoSlot}
+use Rattle.regalloc2_parts.specs.declared.moves.scratch.Handed.{Handed}
+use Rattle.regalloc2_parts.specs.declared.moves.scratch.Handed.TheVariants.{Register, Slot}
+use Rattle.regalloc2_parts.specs.declared.moves.resolved.MoveVecWithScratch.{MoveVecWithScratch}
+use Rattle.regalloc2_parts.specs.AtOnce.{ends_of, names, in_turn}
+use Rattle.regalloc2_parts.specs.Resolved.{listed, has_scratch, with_place, IsUnnamed}
+
+module _ {G : Type 0} (step : G → Option Place → G → Type 0) where
+  -- what a closure answered as it went from the state old to the state new, in at most two calls
+  pub record Asked (old new : G) : Type 0 where
+    pub answers : List (Option Place)
+    pub few : length answers ≤ 2
+    pub calls : FoldsTo step old answers new
+
+  -- the place is what the first or the second call from the state s on answers
+  abbrev pub MayAnswer : G → Place → Type 0
+  MayAnswer s p =
+      ((next : G) × step s (Some p) next)
+      ⊎ ((first : Option Place) × (middle : G) × (next : G) × step s first middle × step middle (Some p) next)
+
+  -- the first call and the second answer two places
+  abbrev pub AnswersDiffer : G → Type 0
+  AnswersDiffer s = (p q : Place) (middle next : G) → step s (Some p) middle → step middle (Some q) next → p ≢ q
+
+-- Whether a place is in memory has one answer.
+abbrev pub HasOneAnswer : (Place → Bool → Type 0) → Type 0
+HasOneAnswer stack = (p : Place) (a b : Bool) → stack p a → stack p b → a ≡ b
+
+-- What the closures owe to the moves: registers and slots that no move names and that differ, none of the registers in memory.
+pub record Owes {F G T : Type 0} (registers : F → Option Place → F → Type 0) (slots : G → Option Place → G → Type 0) (stack : Place → Bool → Type 0) (borrowed : Place) (ms : List (Place × Place × T)) (f : F) (g : G) : Type 0 where
+  -- what is answered is a place that no move names
+  pub free : (p : Place) → MayAnswer registers f p → (p ≢ NoPlace) × IsUnnamed p ms
+  pub unused : (p : Place) → MayAnswer slots g p → (p ≢ NoPlace) × IsUnnamed p ms
+  -- all that is answered differs
+  pub registers_differ : AnswersDiffer registers f
+  pub slots_differ : AnswersDiffer slots g
+  pub apart : (p q : Place) → MayAnswer registers f p → MayAnswer slots g q → p ≢ q
+  -- no register stands for memory, and the borrowed one is no slot
+  pub one_answer : HasOneAnswer stack
+  pub no_memory : (p : Place) → MayAnswer registers f p → stack p true → ⊥
+  pub borrowed_no_memory : stack borrowed true → ⊥
+  pub no_slot : (p : Place) → MayAnswer slots g p → p ≢ borrowed
+
+-- the register or, where there is none, the slot that was handed out
+abbrev pub IsHanding : {F G : Type 0} → (F → Option Place → F → Type 0) → (G → Option Place → G → Type 0) → F → F → G → G → Handed → Type 0
+IsHanding registers slots f f' g g' (Register p) = registers f (Some p) f' × (g' ≡ g)
+IsHanding registers slots f f' g g' (Slot p) = registers f None f' × slots g (Some p) g'
+
+-- neither was there
+abbrev pub IsRefusing : {F G : Type 0} → (F → Option Place → F → Type 0) → (G → Option Place → G → Type 0) → F → F → G → G → Type 0
+IsRefusing registers slots f f' g g' = registers f None f' × slots g None g'
+
+abbrev pub handed_place : Handed → Place
+handed_place (Register p) = p
+handed_place (Slot p) = p
+
+-- the moves with a scratch place chosen, where they need one
+abbrev pub IsChoice : {F G T A : Type 0} → (F → Option Place → F → Type 0) → (G → Option Place → G → Type 0) → F → F → G → G → MoveVecWithScratch T A → List (Place × Place × T) → Type 0
+IsChoice registers slots f f' g g' moves made =
+    ((has_scratch moves ≡ false) × (f' ≡ f) × (g' ≡ g) × (made ≡ listed moves))
+    ⊎ ((h : Handed) × (has_scratch moves ≡ true) × IsHanding registers slots f f' g g' h × (made ≡ with_place (handed_place h) moves))
+
+-- a place is one of the answers
+abbrev pub IsAnswered : List (Option Place) → List (Option Place) → Place → Type 0
+IsAnswered registers slots p = Contains registers (Some p) ⊎ Contains slots (Some p)
+
+-- A move of those that were made of the given ones.
+pub record IsComputedMove {T : Type 0} (stack : Place → Bool → Type 0) (lent : Place → Type 0) (given : List (Place × Place × T)) (m : Place × Place × T) : Type 0 where
+  -- it is from a place to a place, one of them no place in memory
+  pub apart : stack m.0 true → stack m.1 true → ⊥
+  pub between : (m.0 ≢ NoPlace) × (m.1 ≢ NoPlace)
+  -- its ends are those of given moves, or what was lent; where it ends as a given move does, it carries that one's value
+  pub source : lent m.0 ⊎ ((n : Place × Place × T) × Contains given n × (m.0 ≡ n.0))
+  pub target : lent m.1 ⊎ ((n : Place × Place × T) × Contains given n × (m.1 ≡ n.1) × (m.2 ≡ n.2))
+
+-- none of the moves goes from memory to memory
+abbrev pub AreApartInMemory : {T : Type 0} → (Place → Bool → Type 0) → List (Place × Place × T) → Type 0
+AreApartInMemory stack ms = All (λ m. stack m.0 true → stack m.1 true → ⊥) ms
+
+-- The moves `made`, one after another, do what the given ones do, without going from memory to memory.
+pub record IsComputed {T : Type 0} (stack : Place → Bool → Type 0) (borrowed : Place) (handed : Place → Type 0) (scratch : Bool) (given made : List (Place × Place × T)) : Type 0 where
+  -- each place but those that were handed out ends as the given moves leave it, the borrowed register too
+  pub same : (q : Place) → q ≢ NoPlace → (handed q → ⊥) → in_turn (ends_of made) names q ≡ in_turn (ends_of given) names q
+  pub each : All (IsComputedMove stack (λ p. handed p ⊎ (p ≡ borrowed)) given) made
+  -- where there is nothing to do they come back as they are
+  pub plain : scratch ≡ false → AreApartInMemory stack given → made ≡ given
+
+-- what the resolver asked for, and the moves that it made of the given ones or why it made none
+abbrev pub Computes : {F G T A : Type 0} → (F → Option Place → F → Type 0) → (G → Option Place → G → Type 0) → (Place → Bool → Type 0) → Place → F → F → G → G → MoveVecWithScratch T A → Result (SmallVec (Place × Place × T)) MoveFault → Type 0
+Computes registers slots stack borrowed f f' g g' moves result =
+    (asked : Asked registers f f') × (slots_asked : Asked slots g g')
+    × MatchResult result
+    (λ made. IsComputed stack borrowed (IsAnswered asked.answers slots_asked.answers) (has_scratch moves) (listed moves) made.items)
+    (λ fault. fault ≡ NoSlot → Contains slots_asked.answers None)

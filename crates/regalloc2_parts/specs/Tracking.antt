@@ -1,0 +1,64 @@
+-- Moves from stack to stack by way of a register, which may have to hold something else meanwhile.
+use Rattle.std.specs.Prelude.{◌≡◌, ◌≢◌, ◌⊎◌, Bool, true, false, List, Contains}
+use Rattle.regalloc2_names.specs.Place.{Place, NoPlace}
+use Rattle.regalloc2_parts.specs.declared.moves.passing.Held.{Held}
+use Rattle.regalloc2_parts.specs.declared.moves.passing.Held.TheVariants.{Free, InRegister, InBoth, InSave}
+use Rattle.regalloc2_parts.specs.AtOnce.{Cells}
+
+-- a free register needs no slot to be saved in, and stands for its own; any other is saved elsewhere
+abbrev pub Fits : Held → Place → Place → Type 0
+Fits Free register save = register ≡ save
+Fits InRegister register save = register ≢ save
+Fits InBoth register save = register ≢ save
+Fits InSave register save = register ≢ save
+
+-- where it stands what the moves say is in the register
+abbrev pub stands : Held → Type 0 → Type 0 → Type 0
+stands Free here there = Unit {0}
+stands InRegister here there = here
+stands InBoth here there = here × there
+stands InSave here there = there
+
+-- d is c, what the moves make, but for the save slot and for what passes through the register
+pub record Tracks (register save : Place) (held : Held) (c d : Cells Place) : Type 0 where
+  pub fits : Fits held register save
+  pub others : (q : Place) → q ≢ register → q ≢ save → d q ≡ c q
+  pub borrowed : stands held (d register ≡ c register) (d save ≡ c register)
+
+-- the register may be filled with something else
+abbrev pub CanPass : Held → Type 0
+CanPass Free = Unit {0}
+CanPass InRegister = ⊥
+CanPass InBoth = ⊥
+CanPass InSave = Unit {0}
+
+-- nothing has gone through the register yet
+abbrev pub IsFirst : Held → Type 0
+IsFirst Free = Unit {0}
+IsFirst InRegister = Unit {0}
+IsFirst InBoth = ⊥
+IsFirst InSave = ⊥
+
+-- one of the two places
+abbrev pub IsOneOf : Place → Place → Place → Type 0
+IsOneOf register save p = (p ≡ register) ⊎ (p ≡ save)
+
+-- a move that saves the register or restores it
+abbrev pub IsAside : {T : Type 0} → Place → Place → Place × Place × T → Type 0
+IsAside register save x = ((x.0 ≡ register) × (x.1 ≡ save)) ⊎ ((x.0 ≡ save) × (x.1 ≡ register))
+
+-- one of the two moves that make the move m by way of the register
+abbrev pub IsThrough : {T : Type 0} → Place → Place × Place × T → Place × Place × T → Type 0
+IsThrough register m x = ((x.0 ≡ m.0) × (x.1 ≡ register)) ⊎ ((x.0 ≡ register) × (x.1 ≡ m.1) × (x.2 ≡ m.2))
+
+-- a move that is made for the move m: by way of the register if it is one from stack to stack, else as it is
+abbrev pub IsStep : {T : Type 0} → Place → Bool → Place × Place × T → Place × Place × T → Type 0
+IsStep register true m x = IsThrough register m x
+IsStep register false m x = x ≡ m
+
+-- A move that is made for the moves ms, none of them from stack to stack.
+pub record IsMade {T : Type 0} (stack : Place → Bool → Type 0) (register save : Place) (ms : List (Place × Place × T)) (m : Place × Place × T) : Type 0 where
+  pub apart : stack m.0 true → stack m.1 true → ⊥
+  pub between : (m.0 ≢ NoPlace) × (m.1 ≢ NoPlace)
+  pub source : IsOneOf register save m.0 ⊎ ((n : Place × Place × T) × Contains ms n × (m.0 ≡ n.0))
+  pub target : IsOneOf register save m.1 ⊎ ((n : Place × Place × T) × Contains ms n × (m.1 ≡ n.1) × (m.2 ≡ n.2))

@@ -1,0 +1,142 @@
+//! Moves from stack to stack, made by way of a register.
+
+ghost use Rattle.std.specs.Prelude.{◌≡◌, ◌≢◌, ◌↔◌, ◌⊎◌, Contains, IsTrue, IfOk, OnOk};
+ghost use Rattle.regalloc2_names.specs.Place.{Place};
+ghost use Rattle.regalloc2_parts.specs.AtOnce.{Cells, ends_of, in_turn, moved};
+ghost use Rattle.regalloc2_parts.specs.Tracking.{Tracks, CanPass, IsAside, IsThrough, IsStep};
+ghost use Rattle.regalloc2_parts.specs.declared.moves.passing.Held.TheVariants.{Free, InRegister, InBoth, InSave};
+
+use super::MoveVec;
+use regalloc2_names::Allocation;
+use std::alloc::{AllocError, Allocator};
+
+/// Where it stands what the moves made so far say is in the register.
+#[derive(Clone, Copy, Debug, PartialEq, Eq)]
+pub(super) enum Held {
+    /// The register is free: no move names it, and what it holds counts for nothing.
+    Free,
+    /// In the register alone.
+    InRegister,
+    /// In the register, and in the save slot too.
+    InBoth,
+    /// In the save slot alone: the register holds what last went through it.
+    InSave,
+}
+
+/// The register by which moves go, and the slot in which what it held is saved. A free register is given in both.
+#[derive(Clone, Copy, Debug, PartialEq, Eq)]
+pub(super) struct Way {
+    pub register: Allocation,
+    pub save: Allocation,
+}
+
+/// Whether two places are one.
+fn is_one(a: Allocation, b: Allocation) -> bool
+    ensures { IsTrue result ↔ (a ≡ b) }
+{
+    a.bits() == b.bits()
+}
+
+/// Saves what the register is to hold, unless it is saved.
+fn save_first<T: Copy + Default, A: Allocator + Copy>(
+    way: &Way,
+    held: Held,
+    out: &mut MoveVec<T, A>,
+) -> Result<Held, AllocError>
+    ensures tracks { IfOk result (λ after. (c d : Cells Place) → Tracks way.now.register way.now.save held c (in_turn (ends_of out.old.items) d) → Tracks way.now.register way.now.save after c (in_turn (ends_of out.new.items) d)) }
+    ensures can_pass { IfOk result (λ after. CanPass after) }
+    ensures added { OnOk result ((x : Place × Place × _) → Contains out.new.items x → Contains out.old.items x ⊎ IsAside way.now.register way.now.save x) }
+{
+    match held {
+        Held::Free => Ok(Held::Free),
+        Held::InRegister => {
+            out.push((way.register, way.save, T::default()))?;
+            Ok(Held::InSave)
+        }
+        Held::InBoth => Ok(Held::InSave),
+        Held::InSave => Ok(Held::InSave),
+    }
+}
+
+/// Has the register hold what the moves say.
+pub(super) fn restore_first<T: Copy + Default, A: Allocator + Copy>(
+    way: &Way,
+    held: Held,
+    out: &mut MoveVec<T, A>,
+) -> Result<Held, AllocError>
+    ensures tracks { IfOk result (λ after. (c d : Cells Place) → Tracks way.now.register way.now.save held c (in_turn (ends_of out.old.items) d) → Tracks way.now.register way.now.save after c (in_turn (ends_of out.new.items) d)) }
+    ensures restored { IfOk result (λ after. after ≢ InSave) }
+    ensures added { OnOk result ((x : Place × Place × _) → Contains out.new.items x → Contains out.old.items x ⊎ IsAside way.now.register way.now.save x) }
+{
+    match held {
+        Held::Free => Ok(Held::Free),
+        Held::InRegister => Ok(Held::InRegister),
+        Held::InBoth => Ok(Held::InBoth),
+        Held::InSave => {
+            out.push((way.save, way.register, T::default()))?;
+            Ok(Held::InBoth)
+        }
+    }
+}
+
+/// Makes a move by way of the register.
+fn pass<T: Copy + Default, A: Allocator + Copy>(
+    m: &(Allocation, Allocation, T),
+    way: &Way,
+    held: Held,
+    out: &mut MoveVec<T, A>,
+) -> Result<Held, AllocError>
+    requires from { (m.now.0 ≢ way.now.register) × (m.now.0 ≢ way.now.save) }
+    requires to { (m.now.1 ≢ way.now.register) × (m.now.1 ≢ way.now.save) }
+    ensures tracks { IfOk result (λ after. (c d : Cells Place) → Tracks way.now.register way.now.save held c (in_turn (ends_of out.old.items) d) → Tracks way.now.register way.now.save after (moved c m.now.1 (c m.now.0)) (in_turn (ends_of out.new.items) d)) }
+    ensures added { OnOk result ((x : Place × Place × _) → Contains out.new.items x → (Contains out.old.items x ⊎ IsAside way.now.register way.now.save x) ⊎ IsThrough way.now.register m.now x) }
+{
+    let after = save_first(way, held, out)?;
+    let first = *m;
+    out.push((first.0, way.register, first.2))?;
+    let second = *m;
+    out.push((way.register, second.1, second.2))?;
+    Ok(after)
+}
+
+/// Makes a move as it is. What it reads is to be there: not in the save slot alone.
+fn copy<T: Copy + Default, A: Allocator + Copy>(
+    m: &(Allocation, Allocation, T),
+    way: &Way,
+    held: Held,
+    out: &mut MoveVec<T, A>,
+) -> Result<Held, AllocError>
+    requires unnamed { (m.now.0 ≢ way.now.save) × (m.now.1 ≢ way.now.save) }
+    requires ready { m.now.0 ≡ way.now.register → held ≢ InSave }
+    ensures tracks { IfOk result (λ after. (c d : Cells Place) → Tracks way.now.register way.now.save held c (in_turn (ends_of out.old.items) d) → Tracks way.now.register way.now.save after (moved c m.now.1 (c m.now.0)) (in_turn (ends_of out.new.items) d)) }
+    ensures added { OnOk result ((x : Place × Place × _) → Contains out.new.items x → Contains out.old.items x ⊎ (x ≡ m.now)) }
+{
+    out.push(*m)?;
+    if is_one(m.1, way.register) {
+        return Ok(Held::InRegister);
+    }
+    Ok(held)
+}
+
+/// Makes a move, by way of the register where it is one from stack to stack.
+pub(super) fn make<T: Copy + Default, A: Allocator + Copy>(
+    m: &(Allocation, Allocation, T),
+    is_passing: bool,
+    way: &Way,
+    held: Held,
+    out: &mut MoveVec<T, A>,
+) -> Result<Held, AllocError>
+    requires unnamed { (m.now.0 ≢ way.now.save) × (m.now.1 ≢ way.now.save) }
+    requires passing { IsTrue is_passing → (m.now.0 ≢ way.now.register) × (m.now.1 ≢ way.now.register) }
+    ensures tracks { IfOk result (λ after. (c d : Cells Place) → Tracks way.now.register way.now.save held c (in_turn (ends_of out.old.items) d) → Tracks way.now.register way.now.save after (moved c m.now.1 (c m.now.0)) (in_turn (ends_of out.new.items) d)) }
+    ensures added { OnOk result ((x : Place × Place × _) → Contains out.new.items x → (Contains out.old.items x ⊎ IsAside way.now.register way.now.save x) ⊎ IsStep way.now.register is_passing m.now x) }
+{
+    if is_passing {
+        return pass(m, way, held, out);
+    }
+    if is_one(m.0, way.register) {
+        let after = restore_first(way, held, out)?;
+        return copy(m, way, after, out);
+    }
+    copy(m, way, held, out)
+}

@@ -1,0 +1,210 @@
+//! A scratch place for cycles, and a register for moves from stack to stack.
+
+ghost use Rattle.std.specs.Prelude.{◌≡◌, ◌≢◌, ◌↔◌, ◌⊎◌, true, false, Option, None, Some, Contains, IsTrue, IsOk, IfOk, IfErr, MatchResult};
+ghost use Rattle.std.specs.List.{All};
+ghost use Rattle.regalloc2_names.specs.Place.{Place, NoPlace, InRegister};
+ghost use Rattle.regalloc2_parts.specs.AtOnce.{ends_of, names, in_turn};
+ghost use Rattle.regalloc2_parts.specs.Resolved.{listed, has_scratch, IsRunnable, IsUnnamed, AreBetweenPlaces};
+ghost use Rattle.regalloc2_parts.specs.Tracking.{Fits, IsFirst, IsMade};
+ghost use Rattle.regalloc2_parts.specs.Computed.{Owes, HasOneAnswer, IsHanding, IsRefusing, IsChoice, Computes, AreApartInMemory};
+
+use super::passing::{self, Held, Way};
+use super::{MoveFault, MoveVec, MoveVecWithScratch};
+use regalloc2_names::{Allocation, PReg};
+use smallvec::SmallVec;
+use std::alloc::{AllocError, Allocator};
+
+/// Finds the scratch places that resolved moves need, and a register for those of them that go from stack to stack.
+///
+/// What the three closures owe is said where they are asked, at `compute`.
+#[derive(Drop)]
+pub struct MoveAndScratchResolver<GetReg, GetStackSlot, IsStackAlloc>
+where
+    GetReg: FnMut() -> Option<Allocation>,
+    GetStackSlot: FnMut() -> Option<Allocation>,
+    IsStackAlloc: Fn(Allocation) -> bool,
+{
+    /// Answers a register that is free for the moves, another one at each call, or none.
+    pub find_free_reg: GetReg,
+    /// Answers a spill slot that is free for the moves, another one at each call, or none.
+    pub get_stackslot: GetStackSlot,
+    /// Whether a place is in memory, so that no move may go from it to another such.
+    pub is_stack_alloc: IsStackAlloc,
+    /// The register that is used where none is free. What the moves leave in it is restored.
+    pub borrowed_scratch_reg: PReg,
+}
+
+/// A place that the closures handed out.
+#[derive(Clone, Copy, Debug, PartialEq, Eq)]
+enum Handed {
+    Register(Allocation),
+    Slot(Allocation),
+}
+
+impl<GetReg, GetStackSlot, IsStackAlloc> MoveAndScratchResolver<GetReg, GetStackSlot, IsStackAlloc>
+where
+    GetReg: FnMut() -> Option<Allocation>,
+    GetStackSlot: FnMut() -> Option<Allocation>,
+    IsStackAlloc: Fn(Allocation) -> bool,
+{
+    /// A free register, or a slot where none is free.
+    fn hand_out(&mut self) -> Result<Handed, MoveFault>
+        requires registers { GetReg.IsAlwaysCallable self.old.find_free_reg }
+        requires slots { GetStackSlot.IsAlwaysCallable self.old.get_stackslot }
+        ensures registers { GetReg.IsAlwaysCallable self.new.find_free_reg }
+        ensures slots { GetStackSlot.IsAlwaysCallable self.new.get_stackslot }
+        ensures stack { self.new.is_stack_alloc ≡ self.old.is_stack_alloc }
+        ensures borrowed { self.new.borrowed_scratch_reg ≡ self.old.borrowed_scratch_reg }
+        ensures handed { IfOk result (λ h. IsHanding (λ s a t. GetReg.step s a t) (λ s a t. GetStackSlot.step s a t) self.old.find_free_reg self.new.find_free_reg self.old.get_stackslot self.new.get_stackslot h) }
+        ensures none { IfErr result (λ e. IsRefusing (λ s a t. GetReg.step s a t) (λ s a t. GetStackSlot.step s a t) self.old.find_free_reg self.new.find_free_reg self.old.get_stackslot self.new.get_stackslot) }
+        ensures fault { IfErr result (λ e. e ≡ MoveFault.NoSlot) }
+    {
+        if let Some(register) = (self.find_free_reg)() {
+            return Ok(Handed::Register(register));
+        }
+        match (self.get_stackslot)() {
+            Some(slot) => Ok(Handed::Slot(slot)),
+            None => Err(MoveFault::NoSlot),
+        }
+    }
+
+    /// Whether a move goes from memory to memory.
+    fn is_stack_to_stack(&self, from: Allocation, to: Allocation) -> bool
+        requires callable { IsStackAlloc.IsAlwaysCallable self.now.is_stack_alloc }
+        requires one_answer { HasOneAnswer (λ p b. IsStackAlloc.post self.now.is_stack_alloc p b) }
+        ensures { IsTrue result ↔ (IsStackAlloc.post self.now.is_stack_alloc from true × IsStackAlloc.post self.now.is_stack_alloc to true) }
+    {
+        (self.is_stack_alloc)(from) && (self.is_stack_alloc)(to)
+    }
+
+    /// Whether one of the moves goes from memory to memory.
+    fn has_stack_to_stack<T: Copy + Default>(&self, moves: &[(Allocation, Allocation, T)]) -> bool
+        requires callable { IsStackAlloc.IsAlwaysCallable self.now.is_stack_alloc }
+        requires one_answer { HasOneAnswer (λ p b. IsStackAlloc.post self.now.is_stack_alloc p b) }
+        ensures none { result ≡ false → AreApartInMemory (λ p b. IsStackAlloc.post self.now.is_stack_alloc p b) moves.now }
+        ensures some { AreApartInMemory (λ p b. IsStackAlloc.post self.now.is_stack_alloc p b) moves.now → result ≡ false }
+    {
+        for m in moves {
+            if self.is_stack_to_stack(m.0, m.1) {
+                return true;
+            }
+        }
+        false
+    }
+
+    /// The moves with a scratch place in place of `Allocation::none()`, where they need one.
+    fn choose_scratch<T: Copy + Default, A: Allocator + Copy>(
+        &mut self,
+        moves: MoveVecWithScratch<T, A>,
+    ) -> Result<MoveVec<T, A>, MoveFault>
+        requires registers { GetReg.IsAlwaysCallable self.old.find_free_reg }
+        requires slots { GetStackSlot.IsAlwaysCallable self.old.get_stackslot }
+        ensures registers { GetReg.IsAlwaysCallable self.new.find_free_reg }
+        ensures slots { GetStackSlot.IsAlwaysCallable self.new.get_stackslot }
+        ensures stack { self.new.is_stack_alloc ≡ self.old.is_stack_alloc }
+        ensures borrowed { self.new.borrowed_scratch_reg ≡ self.old.borrowed_scratch_reg }
+        ensures chosen { IfOk result (λ made. IsChoice (λ s a t. GetReg.step s a t) (λ s a t. GetStackSlot.step s a t) self.old.find_free_reg self.new.find_free_reg self.old.get_stackslot self.new.get_stackslot moves made.items) }
+        ensures none { IfErr result (λ e. IsRefusing (λ s a t. GetReg.step s a t) (λ s a t. GetStackSlot.step s a t) self.old.find_free_reg self.new.find_free_reg self.old.get_stackslot self.new.get_stackslot) }
+        ensures fault { IfErr result (λ e. e ≡ MoveFault.NoSlot) }
+        ensures needed { IfErr result (λ e. has_scratch moves ≡ true) }
+    {
+        if !moves.needs_scratch() {
+            return Ok(moves.with_scratch(Allocation::none()));
+        }
+        match self.hand_out()? {
+            Handed::Register(register) => Ok(moves.with_scratch(register)),
+            Handed::Slot(slot) => Ok(moves.with_scratch(slot)),
+        }
+    }
+
+    /// The moves, each of those from memory to memory made by way of a register.
+    fn expand<T: Copy + Default, A: Allocator + Copy>(
+        &self,
+        alloc: A,
+        moves: &[(Allocation, Allocation, T)],
+        way: &Way,
+        first: Held,
+    ) -> Result<MoveVec<T, A>, AllocError>
+        requires callable { IsStackAlloc.IsAlwaysCallable self.now.is_stack_alloc }
+        requires one_answer { HasOneAnswer (λ p b. IsStackAlloc.post self.now.is_stack_alloc p b) }
+        requires register { IsStackAlloc.post self.now.is_stack_alloc way.now.register true → ⊥ }
+        requires first { IsFirst first }
+        requires fits { Fits first way.now.register way.now.save }
+        requires unnamed { IsUnnamed way.now.save moves.now }
+        requires real { (way.now.register ≢ NoPlace) × (way.now.save ≢ NoPlace) }
+        requires between { AreBetweenPlaces moves.now }
+        ensures same { IfOk result (λ out. (q : Place) → q ≢ way.now.save → in_turn (ends_of out.items) names q ≡ in_turn (ends_of moves.now) names q) }
+        ensures made { IfOk result (λ out. All (IsMade (λ p b. IsStackAlloc.post self.now.is_stack_alloc p b) way.now.register way.now.save moves.now) out.items) }
+    {
+        let mut held = first;
+        let mut out = SmallVec::new(alloc);
+        for m in moves {
+            let is_passing = self.is_stack_to_stack(m.0, m.1);
+            held = passing::make(m, is_passing, way, held, &mut out)?;
+        }
+        let _held = passing::restore_first(way, held, &mut out)?;
+        Ok(out)
+    }
+
+    /// `compute`, which leaves the resolver: so a caller learns what states its closures have come to.
+    pub fn compute_by_ref<T: Copy + Default, A: Allocator + Copy>(
+        &mut self,
+        moves: MoveVecWithScratch<T, A>,
+    ) -> Result<MoveVec<T, A>, MoveFault>
+        requires registers { GetReg.IsAlwaysCallable self.old.find_free_reg }
+        requires slots { GetStackSlot.IsAlwaysCallable self.old.get_stackslot }
+        requires stack { IsStackAlloc.IsAlwaysCallable self.old.is_stack_alloc }
+        requires runnable { IsRunnable moves }
+        requires owes { Owes (λ s a t. GetReg.step s a t) (λ s a t. GetStackSlot.step s a t) (λ p b. IsStackAlloc.post self.old.is_stack_alloc p b) (InRegister self.old.borrowed_scratch_reg) (listed moves) self.old.find_free_reg self.old.get_stackslot }
+        ensures stack { self.new.is_stack_alloc ≡ self.old.is_stack_alloc }
+        ensures borrowed { self.new.borrowed_scratch_reg ≡ self.old.borrowed_scratch_reg }
+        ensures computed { Computes (λ s a t. GetReg.step s a t) (λ s a t. GetStackSlot.step s a t) (λ p b. IsStackAlloc.post self.old.is_stack_alloc p b) (InRegister self.old.borrowed_scratch_reg) self.old.find_free_reg self.new.find_free_reg self.old.get_stackslot self.new.get_stackslot moves result }
+        ensures plain { has_scratch moves ≡ false → AreApartInMemory (λ p b. IsStackAlloc.post self.old.is_stack_alloc p b) (listed moves) → IsOk result }
+    {
+        let chosen = self.choose_scratch(moves)?;
+        let list = chosen.as_slice();
+        if !self.has_stack_to_stack(list) {
+            return Ok(chosen);
+        }
+        let alloc = *chosen.allocator();
+        match self.hand_out()? {
+            Handed::Register(register) => {
+                let way = Way {
+                    register,
+                    save: register,
+                };
+                Ok(self.expand(alloc, list, &way, Held::Free)?)
+            }
+            Handed::Slot(save) => {
+                let register = Allocation::reg(self.borrowed_scratch_reg);
+                let way = Way { register, save };
+                Ok(self.expand(alloc, list, &way, Held::InRegister)?)
+            }
+        }
+    }
+
+    /// The moves with the scratch places that they need, none of them from memory to memory. A cycle goes through a free
+    /// register, or else through a slot; a move from memory to memory goes through a free register, or else through the
+    /// borrowed one, which is saved in a slot and restored.
+    ///
+    /// `moves` are to be as `ParallelMoves::resolve` gives them: without `Allocation::none()`, or with it written before it is
+    /// read. The closures owe registers and slots that no move names and that all differ; no register, the borrowed one
+    /// neither, is in memory; the borrowed register is no slot; and whether a place is in memory has one answer.
+    ///
+    /// Refused with `NoSlot` only where `get_stackslot` answered none, and with `Memory` where a growth was refused.
+    /// The contract leaves open in which order the moves come, and how many they are.
+    pub fn compute<T: Copy + Default, A: Allocator + Copy>(
+        mut self,
+        moves: MoveVecWithScratch<T, A>,
+    ) -> Result<MoveVec<T, A>, MoveFault>
+        requires registers { GetReg.IsAlwaysCallable self.find_free_reg }
+        requires slots { GetStackSlot.IsAlwaysCallable self.get_stackslot }
+        requires stack { IsStackAlloc.IsAlwaysCallable self.is_stack_alloc }
+        requires runnable { IsRunnable moves }
+        requires owes { Owes (λ s a t. GetReg.step s a t) (λ s a t. GetStackSlot.step s a t) (λ p b. IsStackAlloc.post self.is_stack_alloc p b) (InRegister self.borrowed_scratch_reg) (listed moves) self.find_free_reg self.get_stackslot }
+        ensures computed { (f : _) × (g : _) × Computes (λ s a t. GetReg.step s a t) (λ s a t. GetStackSlot.step s a t) (λ p b. IsStackAlloc.post self.is_stack_alloc p b) (InRegister self.borrowed_scratch_reg) self.find_free_reg f self.get_stackslot g moves result }
+        ensures plain { has_scratch moves ≡ false → AreApartInMemory (λ p b. IsStackAlloc.post self.is_stack_alloc p b) (listed moves) → IsOk result }
+    {
+        self.compute_by_ref(moves)
+    }
+}
