@@ -122,3 +122,6 @@ impl<T: Copy + Default, A: Allocator + Copy> ParallelMoves<T, A> {
         order::resolve(self.parallel_moves)
     }
 }
+
+#[cfg(test)]
+mod tests;

@@ -1,0 +1,235 @@
+//! Orders of moves on worked inputs, and moves of many shapes run one by one beside their definition.
+
+ghost use Rattle.std.specs.Prelude.{◌≡◌, ◌≢◌, ◌<◌, ◌≤◌, IsTrue, length};
+ghost use Rattle.regalloc2_names.specs.Place.{NoPlace};
+ghost use Rattle.regalloc2_parts.specs.AtOnce.{ends, ends_of, HasOneSourceEach};
+ghost use Rattle.regalloc2_parts.specs.Giving.{IsBefore};
+
+use super::*;
+use regalloc2_names::{PReg, RegClass, SpillSlot};
+use regalloc2_refusing::Refusing;
+use std::test::Fail;
+
+/// The place of a number: registers below 64, then slots.
+fn place(number: usize) -> Allocation
+    requires { number < 1000000 }
+    ensures { result ≢ NoPlace }
+{
+    if number < 64 {
+        Allocation::reg(PReg::new(number, RegClass::Int))
+    } else {
+        Allocation::stack(SpillSlot::new(number - 64))
+    }
+}
+
+/// The number of a place, and 199 for none.
+fn cell(place: Allocation) -> usize
+    ensures { result < 200 }
+{
+    if place.is_none() {
+        199
+    } else if place.is_reg() {
+        place.index() % 64
+    } else {
+        64 + place.index() % 128
+    }
+}
+
+/// Adds moves between places of these numbers.
+fn add_all<A: Allocator + Copy>(
+    moves: &mut ParallelMoves<u32, A>,
+    pairs: &[(usize, usize)],
+) -> Result<(), MoveFault> {
+    for (from, to) in pairs {
+        if *from < 1000000 && *to < 1000000 {
+            moves.add(place(*from), place(*to), 7)?;
+        }
+    }
+    Ok(())
+}
+
+/// Whether one move comes before another, or is the same.
+fn is_before(a: (Allocation, Allocation, u32), b: (Allocation, Allocation, u32)) -> bool
+    ensures { IsTrue result → IsBefore (ends a) (ends b) }
+{
+    let from = a.0.bits() == b.0.bits();
+    let to = a.1.bits();
+    let next = b.1.bits();
+    to < next || (from && to == next)
+}
+
+/// Whether the destinations rise, repeats aside.
+fn list_rises(list: &[(Allocation, Allocation, u32)]) -> bool
+    ensures { IsTrue result → HasOneSourceEach (ends_of list.now) }
+{
+    for at in 1..list.len() {
+        if !is_before(list[at - 1], list[at]) {
+            return false;
+        }
+    }
+    true
+}
+
+fn rises<A: Allocator + Copy>(moves: &ParallelMoves<u32, A>) -> bool
+    ensures { IsTrue result → HasOneSourceEach (ends_of moves.now) }
+{
+    list_rises(moves.parallel_moves.as_slice())
+}
+
+/// The moves resolved, where their destinations rise.
+fn resolved<A: Allocator + Copy>(
+    moves: ParallelMoves<u32, A>,
+) -> Option<Result<MoveVecWithScratch<u32, A>, MoveFault>> {
+    if rises(&moves) {
+        return Some(moves.resolve());
+    }
+    None
+}
+
+/// The cells after moves are made one after another.
+fn run(moves: &[(Allocation, Allocation, u32)], mut cells: [u32; 200]) -> [u32; 200] {
+    for m in moves {
+        cells[cell(m.1)] = cells[cell(m.0)];
+    }
+    cells
+}
+
+/// What the moves of these numbers resolve to: each from and to, 199 for none, and whether they need a scratch place.
+fn orders(alloc: Global, pairs: &[(usize, usize)]) -> Result<(Vec<(usize, usize)>, bool), Fail> {
+    let mut moves = ParallelMoves::new(alloc);
+    add_all(&mut moves, pairs)?;
+    let mut out = Vec::new(alloc);
+    let Some(answer) = resolved(moves) else {
+        return Err(Fail::from("the destinations do not rise"));
+    };
+    let answer = answer?;
+    let scratch = answer.needs_scratch();
+    let list = match answer {
+        MoveVecWithScratch::NoScratch(list) => list,
+        MoveVecWithScratch::Scratch(list) => list,
+    };
+    for m in list.as_slice() {
+        out.push((cell(m.0), cell(m.1)))?;
+    }
+    Ok((out, scratch))
+}
+
+#[test]
+fn orders_of_worked_moves(rt: HostRuntime) -> Result<(), Fail> {
+    let (list, scratch) = orders(rt.alloc(), &[(1, 0), (0, 1)])?;
+    assert_eq!(rt; list.as_slice(), [(0, 199), (1, 0), (199, 1)].as_slice());
+    assert!(rt; scratch);
+    let (list, scratch) = orders(rt.alloc(), &[(0, 0)])?;
+    assert_eq!(rt; list.as_slice(), [(0, 0)].as_slice());
+    assert!(rt; !scratch);
+    let (list, scratch) = orders(rt.alloc(), &[(0, 1), (0, 1), (2, 3)])?;
+    assert_eq!(rt; list.as_slice(), [(0, 1), (2, 3)].as_slice());
+    assert!(rt; !scratch);
+    let (list, scratch) = orders(rt.alloc(), &[(2, 0), (0, 1), (1, 2), (0, 3)])?;
+    assert_eq!(rt;
+        list.as_slice(),
+        [(0, 3), (0, 199), (2, 0), (1, 2), (199, 1)].as_slice()
+    );
+    assert!(rt; scratch);
+    Ok(())
+}
+
+/// The next number of a fixed sequence.
+fn next_number(seed: u32) -> u32 {
+    seed.wrapping_mul(1664525).wrapping_add(1013904223)
+}
+
+/// Moves of a seed: into some of the first 8 registers and 8 slots, in rising order, from any of them; some listed twice.
+fn pairs_of(alloc: Global, mut seed: u32) -> Result<Vec<(usize, usize)>, AllocError> {
+    let mut pairs = Vec::new(alloc);
+    for to in 0..16usize {
+        seed = next_number(seed);
+        let choice = (seed >> 16) as usize;
+        let from = choice % 16;
+        if (choice >> 4) % 4 != 0 {
+            pairs.push((number(from), number(to)))?;
+        }
+        if (choice >> 6) % 8 == 0 && (choice >> 4) % 4 != 0 {
+            pairs.push((number(from), number(to)))?;
+        }
+    }
+    Ok(pairs)
+}
+
+/// One of the first 8 registers or of the first 8 slots.
+fn number(index: usize) -> usize {
+    if index % 16 < 8 {
+        index % 16
+    } else {
+        56 + index % 16
+    }
+}
+
+#[test]
+fn makes_at_once_what_it_resolves(rt: HostRuntime) -> Result<(), Fail> {
+    let mut with_scratch = 0u32;
+    for seed in 0..3000u32 {
+        let pairs = pairs_of(rt.alloc(), seed.wrapping_mul(2654435761))?;
+        let mut moves = ParallelMoves::new(rt.alloc());
+        add_all(&mut moves, pairs.as_slice())?;
+        let Some(answer) = resolved(moves) else {
+            return Err(Fail::from("the destinations do not rise"));
+        };
+        let answer = answer?;
+        let scratch = answer.needs_scratch();
+        if scratch {
+            with_scratch = with_scratch.wrapping_add(1);
+        }
+        let list = answer.with_scratch(place(40));
+        let mut cells = [0u32; 200];
+        for at in 0..200usize {
+            cells[at] = at as u32;
+        }
+        let made = run(list.as_slice(), cells);
+        for (from, to) in pairs.as_slice() {
+            if *from < 200 && *to < 200 {
+                assert_eq!(rt; made[*to], *from as u32, "seed {seed}");
+            }
+        }
+        assert!(rt; scratch || made[40] == 40);
+    }
+    assert!(rt; with_scratch > 1000);
+    Ok(())
+}
+
+#[test]
+fn orders_a_hundred_thousand(rt: HostRuntime) -> Result<(), Fail> {
+    let mut moves = ParallelMoves::new(rt.alloc());
+    for at in 100..50100usize {
+        moves.add(place(at), place(at + 1), 0)?;
+    }
+    moves.add(place(110000), place(60000), 0)?;
+    for at in 60000..110000usize {
+        moves.add(place(at), place(at + 1), 0)?;
+    }
+    let Some(answer) = resolved(moves) else {
+        return Err(Fail::from("the destinations do not rise"));
+    };
+    let answer = answer?;
+    assert!(rt; answer.needs_scratch());
+    assert_eq!(rt; answer.with_scratch(place(10)).len(), 100002);
+    Ok(())
+}
+
+#[test]
+fn refuses_the_seventeenth_alone(rt: HostRuntime) -> Result<(), Fail> {
+    let refuses = Refusing::new(rt.alloc(), 1);
+    let mut moves = ParallelMoves::new(&refuses);
+    for at in 100..116usize {
+        assert_eq!(rt; moves.add(place(at), place(at + 1), 0u32), Ok(()));
+    }
+    assert!(rt; !refuses.has_refused());
+    assert_eq!(rt;
+        moves.add(place(116), place(100), 0),
+        Err(MoveFault::Memory)
+    );
+    assert!(rt; refuses.has_refused());
+    assert_eq!(rt; moves.parallel_moves.len(), 16);
+    assert_eq!(rt; moves.add(place(116), place(117), 0), Ok(()));
+    Ok(())
+}
