@@ -1,6 +1,6 @@
 -- A function that passes the tests is refused for want of memory alone.
 use Rattle.std.proofs.Common.{ℕ, ◌≡◌, ◌<◌, ◌⊎◌, List, ◌∷◌, length, refl, sym, ap, ◌∙◌, subst, inl, inr, Ok, Err}
-use Rattle.std.specs.Prelude.{All, Contains, OnOk, Result, flat_map, map}
+use Rattle.std.specs.Prelude.{All, Contains, OnOk, Result, flat_map}
 use Rattle.std.proofs.lemmas.List.{length-map}
 use Rattle.std.proofs.lemmas.List.Elements.{All-cons, All-contains}
 use Rattle.regalloc2_names.specs.declared.RegAllocError.{RegAllocError}

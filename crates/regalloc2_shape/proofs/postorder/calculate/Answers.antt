@@ -1,5 +1,5 @@
-use Rattle.std.proofs.Common.{ℕ, ◌≡◌, ◌<◌, List, length, sym, subst, arith}
-use Rattle.regalloc2_shape.specs.Listed.{AreBlocks, AreSuccessors}
+use Rattle.std.proofs.Common.{◌≡◌, length, sym, subst, arith}
+use Rattle.regalloc2_shape.specs.Listed.{AreBlocks}
 use Rattle.regalloc2_shape.proofs.Reached.{leaves_once, leaves_reached}
 use Rattle.regalloc2_shape.proofs.postorder.calculate.Goals as goal
 

@@ -1,7 +1,7 @@
-use Rattle.std.proofs.Common.{ℕ, ◌≡◌, ◌<◌, List, length, refl, sym, subst, arith, rules}
+use Rattle.std.proofs.Common.{ℕ, ◌≡◌, ◌<◌, length, refl, sym, subst, arith, rules}
 use Rattle.regalloc2_function.specs.FunctionValue.{FunctionValue}
 use Rattle.regalloc2_function.specs.WellFormed.{SuccessorsAreBlocks}
-use Rattle.regalloc2_shape.specs.Leaves.{Leaves, succs_in}
+use Rattle.regalloc2_shape.specs.Leaves.{succs_in}
 use Rattle.regalloc2_shape.specs.Listed.{AreBlocks}
 use Rattle.regalloc2_shape.proofs.Named.{function_blocks}
 use Rattle.regalloc2_shape.proofs.Reached.{leaves_once, leaves_reached}

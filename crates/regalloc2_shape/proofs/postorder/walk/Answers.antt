@@ -1,8 +1,8 @@
-use Rattle.std.proofs.Common.{ℕ, ◌≡◌, ◌<◌, ◌+◌, true, List, [], ◌∷◌, ◌++◌, length, get_or, refl, sym, ap, ◌∙◌, subst, arith, set}
+use Rattle.std.proofs.Common.{ℕ, ◌≡◌, true, List, [], ◌∷◌, ◌++◌, length, refl, ap, ◌∙◌, arith, set}
 use Rattle.std.proofs.lemmas.Grind.{common_steps}
 use Rattle.regalloc2_shape.specs.declared.postorder.Frame.{Frame}
 use Rattle.regalloc2_shape.proofs.Named.{entry_is_block, succ_in_range}
-use Rattle.regalloc2_shape.proofs.Walks.{Walked, walked_frame, walked_start, again_step, enter_step, leave_step, again_less, enter_less, leave_less, walked_end, read_zero}
+use Rattle.regalloc2_shape.proofs.Walks.{walked_frame, walked_start, again_step, enter_step, leave_step, again_less, enter_less, leave_less, walked_end, read_zero}
 use Rattle.regalloc2_shape.proofs.postorder.walk.Goals as goal
 
 pub loop-frame-init : goal.loop-frame-init

@@ -1,4 +1,4 @@
-use Rattle.std.proofs.Common.{ℕ, ◌≡◌, ◌+◌, ◌<◌, ◌∙◌, true, not, List, length, get_or, refl, sym, ap, subst, arith}
+use Rattle.std.proofs.Common.{◌≡◌, ◌∙◌, true, not, length, get_or, sym, ap, subst, arith}
 use Rattle.std.proofs.lemmas.List.{get_or-map}
 use Rattle.regalloc2_names.specs.declared.RegClass.{RegClass}
 use Rattle.regalloc2_names.specs.declared.RegClass.TheVariants.{Int, Float, Vector}

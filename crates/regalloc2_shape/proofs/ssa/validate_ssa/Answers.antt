@@ -1,4 +1,4 @@
-use Rattle.std.proofs.Common.{◌≡◌, ◌<◌, ◌⊎◌, inl, inr, length, refl, sym, subst, arith}
+use Rattle.std.proofs.Common.{◌≡◌, ◌⊎◌, inl, inr, refl, sym, subst}
 use Rattle.std.proofs.lemmas.Result.{IfErr-weaker, err_from_is_err_and}
 use Rattle.regalloc2_names.specs.declared.RegAllocError.{RegAllocError}
 use Rattle.regalloc2_names.specs.declared.RegAllocError.TheVariants.{Memory}
@@ -6,7 +6,7 @@ use Rattle.regalloc2_function.specs.FunctionValue.{FunctionValue}
 use Rattle.regalloc2_function.specs.Reasons.{IsDefinitionFault, IsSoundnessFault}
 use Rattle.regalloc2_function.specs.Reasons.IsSoundnessFault.{arguments, elsewhere, livein, open_end}
 use Rattle.regalloc2_function.specs.WellFormed.{BlocksEnd}
-use Rattle.regalloc2_shape.proofs.Refused.{definition_fault, fit_counted, on_ok_both, only_memory_sound}
+use Rattle.regalloc2_shape.proofs.Refused.{definition_fault, fit_counted, on_ok_both}
 use Rattle.regalloc2_shape.proofs.ssa.validate_ssa.Goals as goal
 
 abbrev Fault : FunctionValue → RegAllocError → Type 0
