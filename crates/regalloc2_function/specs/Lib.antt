@@ -17,3 +17,4 @@ pub mod Reasons
 pub mod Refusals
 pub mod Slots
 pub mod DebugPoints
+pub mod Stored
