@@ -1,5 +1,5 @@
 -- What stored outputs stand for.
-use Rattle.std.specs.Prelude.{ℕ, List, map, All}
+use Rattle.std.specs.Prelude.{ℕ, map, All}
 use Rattle.regalloc2_names.specs.Place.{Place}
 use Rattle.regalloc2_names.specs.PlaceBits.{IsPlaceBits, place_of_bits}
 use Rattle.regalloc2_names.specs.Point.{IsPointNumber}

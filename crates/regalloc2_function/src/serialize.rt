@@ -194,10 +194,7 @@ fn words_of_moves<A: Allocator>(
 }
 
 /// The numbers of places.
-fn words_of_places<A: Allocator>(
-    alloc: A,
-    places: &[Allocation],
-) -> Result<Vec<u32, A>, AllocError>
+fn words_of_places<A: Allocator>(alloc: A, places: &[Allocation]) -> Result<Vec<u32, A>, AllocError>
     ensures places { IfOk result (λ words. map place_of_bits words.items ≡ places.now) }
     ensures names { IfOk result (λ words. All IsPlaceBits words.items) }
 {
@@ -298,7 +295,15 @@ mod tests {
         let last = ProgPoint::before(Inst::new(1));
         Ok(Output {
             num_spillslots: 3,
-            edits: vec![in alloc; (first, Edit::Move { from: register, to: slot })]?,
+            edits: vec![in alloc;
+                (
+                    first,
+                    Edit::Move {
+                        from: register,
+                        to: slot
+                    }
+                ),
+            ]?,
             allocs: vec![in alloc; register, slot]?,
             inst_alloc_offsets: vec![in alloc; 0, 1]?,
             debug_locations: vec![in alloc; (7, first, last, slot)]?,
@@ -310,16 +315,31 @@ mod tests {
         let output = example(rt.alloc())?;
         let stored = output.stored(rt.alloc())?;
         assert_eq!(rt; stored.num_spillslots, 3);
-        assert_eq!(rt; stored.edits.as_slice(), [(1, 536870979, 1073741826)].as_slice());
-        assert_eq!(rt; stored.allocs.as_slice(), [536870979, 1073741826].as_slice());
+        assert_eq!(rt;
+            stored.edits.as_slice(),
+            [(1, 536870979, 1073741826)].as_slice()
+        );
+        assert_eq!(rt;
+            stored.allocs.as_slice(),
+            [536870979, 1073741826].as_slice()
+        );
         assert_eq!(rt; stored.inst_alloc_offsets.as_slice(), [0, 1].as_slice());
-        assert_eq!(rt; stored.debug_locations.as_slice(), [(7, 1, 2, 1073741826)].as_slice());
+        assert_eq!(rt;
+            stored.debug_locations.as_slice(),
+            [(7, 1, 2, 1073741826)].as_slice()
+        );
         let back = Output::from_stored(rt.alloc(), &stored)?;
         assert_eq!(rt; back.num_spillslots, output.num_spillslots);
         assert_eq!(rt; back.edits.as_slice(), output.edits.as_slice());
         assert_eq!(rt; back.allocs.as_slice(), output.allocs.as_slice());
-        assert_eq!(rt; back.inst_alloc_offsets.as_slice(), output.inst_alloc_offsets.as_slice());
-        assert_eq!(rt; back.debug_locations.as_slice(), output.debug_locations.as_slice());
+        assert_eq!(rt;
+            back.inst_alloc_offsets.as_slice(),
+            output.inst_alloc_offsets.as_slice()
+        );
+        assert_eq!(rt;
+            back.debug_locations.as_slice(),
+            output.debug_locations.as_slice()
+        );
         Ok(())
     }
 
@@ -327,10 +347,16 @@ mod tests {
     fn numbers_of_no_name_are_refused(rt: HostRuntime) -> Result<(), Fail> {
         let mut stored = example(rt.alloc())?.stored(rt.alloc())?;
         stored.allocs.push(u32::MAX)?;
-        assert_eq!(rt; Output::from_stored(rt.alloc(), &stored).err(), Some(StoredFault::Bits));
+        assert_eq!(rt;
+            Output::from_stored(rt.alloc(), &stored).err(),
+            Some(StoredFault::Bits)
+        );
         let mut stored = example(rt.alloc())?.stored(rt.alloc())?;
         stored.edits.push((1 << 31, 536870912, 536870912))?;
-        assert_eq!(rt; Output::from_stored(rt.alloc(), &stored).err(), Some(StoredFault::Bits));
+        assert_eq!(rt;
+            Output::from_stored(rt.alloc(), &stored).err(),
+            Some(StoredFault::Bits)
+        );
         Ok(())
     }
 }

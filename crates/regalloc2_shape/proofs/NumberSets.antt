@@ -13,10 +13,6 @@ pub word_of-whole : (few many whole : List (ℕ × ℕ)) → few ++ many ≡ who
 word_of-whole few many whole e k = rw (← e) (word_of-append few many k)
 
 -- one bit of a word
-pub has_from_words : (s t : List (ℕ × ℕ)) (i j : ℕ) → bit_at (word_of t (i / 64)) (i % 64) ≡ j → has_number t i ≡ nat_eq j 1
-unfolding has_number
-has_from_words s t i j e = rw e refl
-
 has_set : (s t : List (ℕ × ℕ)) (index w : ℕ) → ((k : ℕ) → word_of t k ≡ cond (nat_eq k (index / 64)) w (word_of s k))
     → (bit : Bool) → nat_eq (bit_at w (index % 64)) 1 ≡ bit → ((j : ℕ) → j < 64 → j ≢ index % 64 → bit_at w j ≡ bit_at (word_of s (index / 64)) j)
     → (i : ℕ) → has_number t i ≡ cond (nat_eq i index) bit (has_number s i)
@@ -40,7 +36,6 @@ has_set s t index w h bit here others i = rw (h (i / 64)) (elim (cases_eq (i / 6
 pub has_inserted : (s t : List (ℕ × ℕ)) (index : ℕ) → ((k : ℕ) → word_of t k ≡ cond (nat_eq k (index / 64)) (bit_or (word_of s (index / 64)) (1 * 2 ^ (index % 64) % 2 ^ 64)) (word_of s k))
     → (i : ℕ) → has_number t i ≡ cond (nat_eq i index) true (has_number s i)
 has_inserted s t index h =
-    let w = word_of s (index / 64) in
     has_set s t index _ h true (eq-eqb _ _ (bit_at_set_same w64 (word_of s (index / 64)) (index % 64) (omega arith)))
     (λ j small ne. bit_at_set_other w64 (word_of s (index / 64)) (index % 64) (omega arith) j ne)
 

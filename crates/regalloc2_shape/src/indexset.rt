@@ -70,6 +70,7 @@ impl Model for Few {
 }
 
 impl Few {
+    /// No words.
     fn new() -> Self
         ensures { result ≡ [] }
     {
@@ -79,6 +80,7 @@ impl Few {
         }
     }
 
+    /// The same words.
     fn copy(&self) -> Self
         ensures { result ≡ self.now }
     {
@@ -88,6 +90,7 @@ impl Few {
         }
     }
 
+    /// The words with their keys, which differ.
     fn as_slice(&self) -> &[(u32, u64)]
         ensures items { result.now ≡ self.now }
         ensures apart { KeysApart self.now }
@@ -248,6 +251,7 @@ impl<'a> Iterator for IndexSetIter<'a> {
 /// The words of a set that don't stand inline.
 type Many<A> = HashMap<u32, u64, BuildHasherDefault<FoldHasher>, A>;
 
+/// What a map has at a key, or zero.
 fn stored_in<A: Allocator>(many: &Many<A>, key: u32) -> u64
     ensures { result ≡ unwrap_or (get nat_eq many.now key) 0 }
 {

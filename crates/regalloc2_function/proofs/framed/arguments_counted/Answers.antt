@@ -1,4 +1,4 @@
-use Rattle.std.proofs.Common.{ℕ, ◌≡◌, ◌<◌, length, below_more}
+use Rattle.std.proofs.Common.{below_more}
 use Rattle.regalloc2_function.specs.FunctionValue.{FunctionValue, block_at}
 use Rattle.regalloc2_function.specs.WellFormed.{CountedAt}
 use Rattle.regalloc2_function.proofs.framed.arguments_counted.Goals as goal

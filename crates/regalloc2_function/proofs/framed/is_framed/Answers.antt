@@ -1,4 +1,4 @@
-use Rattle.std.proofs.Common.{◌≡◌, refl}
+use Rattle.std.proofs.Common.{refl}
 use Rattle.regalloc2_function.proofs.framed.is_framed.Goals as goal
 
 pub test_ends-requires : goal.test_ends-requires

@@ -1,4 +1,4 @@
-use Rattle.std.proofs.Common.{ℕ, ◌≡◌, ◌<◌, ◌≤◌, length, refl, below_more, arith}
+use Rattle.std.proofs.Common.{◌<◌, length, refl, below_more, arith}
 use Rattle.regalloc2_function.specs.FunctionValue.{FunctionValue, block_at}
 use Rattle.regalloc2_function.specs.WellFormed.{EndsAt}
 use Rattle.regalloc2_function.proofs.Following.{end_within}

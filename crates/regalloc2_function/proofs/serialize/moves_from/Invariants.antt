@@ -1,7 +1,6 @@
 use Rattle.std.proofs.Common.{◌≡◌, map, take}
-use Rattle.regalloc2_names.specs.PlaceBits.{place_of_bits}
 use Rattle.regalloc2_function.specs.Views.{edit_of}
-use Rattle.regalloc2_function.specs.Stored.{stored_move, stored_location, location_of}
+use Rattle.regalloc2_function.specs.Stored.{stored_move}
 use Rattle.regalloc2_function.proofs.serialize.moves_from.Given as goal
 
 abbrev pub invariant-loop-word : goal.invariant-loop-word

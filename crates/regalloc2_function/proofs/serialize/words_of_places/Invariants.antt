@@ -1,8 +1,6 @@
 use Rattle.std.proofs.Common.{◌≡◌, map, take}
 use Rattle.std.specs.Prelude.{All}
 use Rattle.regalloc2_names.specs.PlaceBits.{place_of_bits, IsPlaceBits}
-use Rattle.regalloc2_function.specs.Views.{edit_of}
-use Rattle.regalloc2_function.specs.Stored.{stored_move, stored_location, location_of, NamesMove, NamesLocation}
 use Rattle.regalloc2_function.proofs.serialize.words_of_places.Given as goal
 
 abbrev pub invariant-loop-place : goal.invariant-loop-place
