@@ -18,3 +18,4 @@ pub mod Refusals
 pub mod Slots
 pub mod DebugPoints
 pub mod DebugPaths
+pub mod Stored

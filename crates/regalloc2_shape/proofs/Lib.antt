@@ -13,3 +13,8 @@ pub mod Tabled
 pub mod Named
 pub mod Walks
 pub mod Reached
+pub mod NumberPlaces
+pub mod NumberBits
+pub mod NumberMaps
+pub mod NumberSets
+pub mod NumberUnions

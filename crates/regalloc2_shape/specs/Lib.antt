@@ -3,3 +3,5 @@ pub mod Ways
 pub mod Leaves
 pub mod Listed
 pub mod Tables
+pub mod Numbers
+pub mod NumberWords

@@ -3,5 +3,6 @@
 
 mod blocks;
 pub mod cfg;
+pub mod indexset;
 pub mod postorder;
 pub mod ssa;

@@ -1,0 +1,362 @@
+//! Outputs as plain numbers, to be stored.
+
+ghost use Rattle.std.specs.Prelude.{◌≡◌, ◌⊎◌, ℕ, ◌↔◌, IsTrue, All, IfOk, IfErr, map};
+ghost use Rattle.regalloc2_names.specs.PlaceBits.{IsPlaceBits, place_of_bits};
+ghost use Rattle.regalloc2_names.specs.Point.{IsPointNumber};
+ghost use Rattle.regalloc2_function.specs.Views.{output_of, edit_of};
+ghost use Rattle.regalloc2_function.specs.Stored.{NamesMove, NamesLocation, NamesValues, stored_move, stored_location, location_of, output_of_stored};
+
+use super::{Edit, Output};
+use regalloc2_names::{Allocation, ProgPoint, RegAllocError};
+use std::alloc::{AllocError, AllocFailed, Allocator, Global};
+use std::error::Error;
+use std::fmt;
+
+/// Why stored data stand for no function or output. They are counted from 1.
+#[derive(Clone, Copy, Debug, PartialEq, Eq)]
+pub enum StoredFault {
+    /// Lists that should be of one length are not.
+    Lengths,
+    /// A block, an instruction or a labelled virtual register is out of range.
+    Index,
+    /// A number is that of no name.
+    Bits,
+    /// A limit that each function keeps is passed.
+    Limit,
+    /// A growth was refused.
+    Memory,
+    /// A JSON value has another shape.
+    Shape,
+}
+
+impl fmt::Display for StoredFault {
+    fn fmt<W: fmt::Write>(&self, f: &mut fmt::Formatter<W>) -> fmt::Result {
+        write!(f, "{self:?}")
+    }
+}
+
+impl Error for StoredFault {}
+
+impl From<AllocError> for StoredFault {
+    ghost use Rattle.std.specs.Prelude.{◌≡◌};
+    ghost use Rattle.regalloc2_function.specs.declared.serialize.StoredFault.TheVariants.{Memory};
+
+    ghost from_gives = { λ _ e. e ≡ Memory };
+
+    fn from(_refused: AllocError) -> StoredFault {
+        StoredFault::Memory
+    }
+}
+
+impl<T: Drop> From<AllocFailed<T>> for StoredFault {
+    ghost use Rattle.std.specs.Prelude.{◌≡◌};
+    ghost use Rattle.regalloc2_function.specs.declared.serialize.StoredFault.TheVariants.{Memory};
+
+    ghost from_gives = { λ _ e. e ≡ Memory };
+
+    fn from(_refused: AllocFailed<T>) -> StoredFault {
+        StoredFault::Memory
+    }
+}
+
+/// An [`Output`] with the numbers of its names.
+#[derive(Debug, Drop)]
+pub struct StoredOutput<A: Allocator = Global> {
+    /// How many units the spill slots take.
+    pub num_spillslots: u64,
+    /// The moves: a point, the place that is read, and the place that is written.
+    pub edits: Vec<(u32, u32, u32), A>,
+    /// The places of all operands.
+    pub allocs: Vec<u32, A>,
+    /// For each instruction, where its operands' places begin.
+    pub inst_alloc_offsets: Vec<u32, A>,
+    /// Where labelled values stand: a label, the points from which and up to which, and a place.
+    pub debug_locations: Vec<(u32, u32, u32, u32), A>,
+}
+
+impl<A: Allocator> StoredOutput<A> {
+    /// Whether each number is that of a name: points and places.
+    fn names_values(&self) -> bool
+        ensures { IsTrue result ↔ NamesValues self.now }
+    {
+        are_moves(self.edits.as_slice())
+            && are_places(self.allocs.as_slice())
+            && are_locations(self.debug_locations.as_slice())
+    }
+}
+
+/// Whether a move's numbers are those of a point and two places.
+fn is_move(edit: (u32, u32, u32)) -> bool
+    ensures { IsTrue result ↔ NamesMove edit }
+{
+    ProgPoint::is_index(edit.0) && Allocation::is_bits(edit.1) && Allocation::is_bits(edit.2)
+}
+
+/// Whether a debug location's numbers are those of two points and a place.
+fn is_location(location: (u32, u32, u32, u32)) -> bool
+    ensures { IsTrue result ↔ NamesLocation location }
+{
+    ProgPoint::is_index(location.1)
+        && ProgPoint::is_index(location.2)
+        && Allocation::is_bits(location.3)
+}
+
+/// Whether all are moves.
+fn are_moves(edits: &[(u32, u32, u32)]) -> bool
+    ensures { IsTrue result ↔ All NamesMove edits.now }
+{
+    edits.iter().all(|edit| is_move(*edit))
+}
+
+/// Whether all are places.
+fn are_places(words: &[u32]) -> bool
+    ensures { IsTrue result ↔ All IsPlaceBits words.now }
+{
+    words.iter().all(|bits| Allocation::is_bits(*bits))
+}
+
+/// Whether all are debug locations.
+fn are_locations(locations: &[(u32, u32, u32, u32)]) -> bool
+    ensures { IsTrue result ↔ All NamesLocation locations.now }
+{
+    locations.iter().all(|location| is_location(*location))
+}
+
+/// The moves of these numbers.
+fn moves_from<A: Allocator>(
+    alloc: A,
+    words: &[(u32, u32, u32)],
+) -> Result<Vec<(ProgPoint, Edit), A>, AllocError>
+    requires { All NamesMove words.now }
+    ensures { IfOk result (λ edits. map edit_of edits.items ≡ map stored_move words.now) }
+{
+    let mut edits = Vec::with_capacity(alloc, words.len())?;
+    for word in words {
+        let from = Allocation::from_bits(word.1);
+        let to = Allocation::from_bits(word.2);
+        edits.push((ProgPoint::from_index(word.0), Edit::Move { from, to }))?;
+    }
+    Ok(edits)
+}
+
+/// The places of these numbers.
+fn places_from<A: Allocator>(alloc: A, words: &[u32]) -> Result<Vec<Allocation, A>, AllocError>
+    requires { All IsPlaceBits words.now }
+    ensures { IfOk result (λ places. places.items ≡ map place_of_bits words.now) }
+{
+    let mut places = Vec::with_capacity(alloc, words.len())?;
+    for bits in words {
+        places.push(Allocation::from_bits(*bits))?;
+    }
+    Ok(places)
+}
+
+/// The debug locations of these numbers.
+fn locations_from<A: Allocator>(
+    alloc: A,
+    words: &[(u32, u32, u32, u32)],
+) -> Result<Vec<(u32, ProgPoint, ProgPoint, Allocation), A>, AllocError>
+    requires { All NamesLocation words.now }
+    ensures { IfOk result (λ locations. map location_of locations.items ≡ map stored_location words.now) }
+{
+    let mut locations = Vec::with_capacity(alloc, words.len())?;
+    for word in words {
+        let from = ProgPoint::from_index(word.1);
+        let to = ProgPoint::from_index(word.2);
+        locations.push((word.0, from, to, Allocation::from_bits(word.3)))?;
+    }
+    Ok(locations)
+}
+
+/// The same numbers.
+fn numbers_from<A: Allocator>(alloc: A, words: &[u32]) -> Result<Vec<u32, A>, AllocError>
+    ensures { IfOk result (λ numbers. numbers.items ≡ words.now) }
+{
+    let mut numbers = Vec::with_capacity(alloc, words.len())?;
+    numbers.extend_from_slice(words)?;
+    Ok(numbers)
+}
+
+/// The numbers of moves.
+fn words_of_moves<A: Allocator>(
+    alloc: A,
+    edits: &[(ProgPoint, Edit)],
+) -> Result<Vec<(u32, u32, u32), A>, AllocError>
+    ensures moves { IfOk result (λ words. map stored_move words.items ≡ map edit_of edits.now) }
+    ensures names { IfOk result (λ words. All NamesMove words.items) }
+{
+    let mut words = Vec::with_capacity(alloc, edits.len())?;
+    for edit in edits {
+        let (from, to) = edit.1.places();
+        words.push((edit.0.to_index(), from.bits(), to.bits()))?;
+    }
+    Ok(words)
+}
+
+/// The numbers of places.
+fn words_of_places<A: Allocator>(alloc: A, places: &[Allocation]) -> Result<Vec<u32, A>, AllocError>
+    ensures places { IfOk result (λ words. map place_of_bits words.items ≡ places.now) }
+    ensures names { IfOk result (λ words. All IsPlaceBits words.items) }
+{
+    let mut words = Vec::with_capacity(alloc, places.len())?;
+    for place in places {
+        words.push(place.bits())?;
+    }
+    Ok(words)
+}
+
+/// The numbers of debug locations.
+fn words_of_locations<A: Allocator>(
+    alloc: A,
+    locations: &[(u32, ProgPoint, ProgPoint, Allocation)],
+) -> Result<Vec<(u32, u32, u32, u32), A>, AllocError>
+    ensures locations { IfOk result (λ words. map stored_location words.items ≡ map location_of locations.now) }
+    ensures names { IfOk result (λ words. All NamesLocation words.items) }
+{
+    let mut words = Vec::with_capacity(alloc, locations.len())?;
+    for location in locations {
+        let place = location.3.bits();
+        words.push((
+            location.0,
+            location.1.to_index(),
+            location.2.to_index(),
+            place,
+        ))?;
+    }
+    Ok(words)
+}
+
+impl<A: Allocator + Copy> Output<A> {
+    /// The output that stored numbers name.
+    ///
+    /// `Bits` exactly where a number is that of no point or place, and `Memory` where a growth was refused; no other fault
+    /// comes. Whether the output is in order is tested by [`Output::is_in_order`].
+    pub fn from_stored<B: Allocator>(
+        alloc: A,
+        stored: &StoredOutput<B>,
+    ) -> Result<Output<A>, StoredFault>
+        ensures output { IfOk result (λ output. output_of output ≡ output_of_stored stored.now) }
+        ensures names { IfOk result (λ output. NamesValues stored.now) }
+        ensures bits { IfErr result (λ e. e ≡ StoredFault.Bits → NamesValues stored.now → ⊥) }
+        ensures faults { IfErr result (λ e. (e ≡ StoredFault.Bits) ⊎ (e ≡ StoredFault.Memory)) }
+    {
+        if !stored.names_values() {
+            return Err(StoredFault::Bits);
+        }
+        let edits = moves_from(alloc, stored.edits.as_slice())?;
+        let allocs = places_from(alloc, stored.allocs.as_slice())?;
+        let inst_alloc_offsets = numbers_from(alloc, stored.inst_alloc_offsets.as_slice())?;
+        let debug_locations = locations_from(alloc, stored.debug_locations.as_slice())?;
+        Ok(Output {
+            num_spillslots: stored.num_spillslots as usize,
+            edits,
+            allocs,
+            inst_alloc_offsets,
+            debug_locations,
+        })
+    }
+}
+
+impl<A: Allocator> Output<A> {
+    /// The numbers of this output, which [`Output::from_stored`] takes back.
+    ///
+    /// `Memory` where a growth was refused, and nothing else.
+    pub fn stored<B: Allocator + Copy>(&self, alloc: B) -> Result<StoredOutput<B>, RegAllocError>
+        ensures output { IfOk result (λ stored. output_of_stored stored ≡ output_of self.now) }
+        ensures names { IfOk result (λ stored. NamesValues stored) }
+        ensures memory { IfErr result (λ e. e ≡ RegAllocError.Memory) }
+    {
+        let edits = words_of_moves(alloc, self.edits.as_slice())?;
+        let allocs = words_of_places(alloc, self.allocs.as_slice())?;
+        let inst_alloc_offsets = numbers_from(alloc, self.inst_alloc_offsets.as_slice())?;
+        let debug_locations = words_of_locations(alloc, self.debug_locations.as_slice())?;
+        Ok(StoredOutput {
+            num_spillslots: self.num_spillslots as u64,
+            edits,
+            allocs,
+            inst_alloc_offsets,
+            debug_locations,
+        })
+    }
+}
+
+#[cfg(test)]
+mod tests {
+    use super::*;
+    use regalloc2_index::Inst;
+    use regalloc2_names::{PReg, RegClass, SpillSlot};
+    use std::test::Fail;
+
+    /// A move from a register to a slot, and a labelled value there.
+    fn example(alloc: Global) -> Result<Output, AllocError> {
+        let register = Allocation::reg(PReg::new(3, RegClass::Float));
+        let slot = Allocation::stack(SpillSlot::new(2));
+        let first = ProgPoint::after(Inst::new(0));
+        let last = ProgPoint::before(Inst::new(1));
+        Ok(Output {
+            num_spillslots: 3,
+            edits: vec![in alloc;
+                (
+                    first,
+                    Edit::Move {
+                        from: register,
+                        to: slot
+                    }
+                ),
+            ]?,
+            allocs: vec![in alloc; register, slot]?,
+            inst_alloc_offsets: vec![in alloc; 0, 1]?,
+            debug_locations: vec![in alloc; (7, first, last, slot)]?,
+        })
+    }
+
+    #[test]
+    fn outputs_come_back(rt: HostRuntime) -> Result<(), Fail> {
+        let output = example(rt.alloc())?;
+        let stored = output.stored(rt.alloc())?;
+        assert_eq!(rt; stored.num_spillslots, 3);
+        assert_eq!(rt;
+            stored.edits.as_slice(),
+            [(1, 536870979, 1073741826)].as_slice()
+        );
+        assert_eq!(rt;
+            stored.allocs.as_slice(),
+            [536870979, 1073741826].as_slice()
+        );
+        assert_eq!(rt; stored.inst_alloc_offsets.as_slice(), [0, 1].as_slice());
+        assert_eq!(rt;
+            stored.debug_locations.as_slice(),
+            [(7, 1, 2, 1073741826)].as_slice()
+        );
+        let back = Output::from_stored(rt.alloc(), &stored)?;
+        assert_eq!(rt; back.num_spillslots, output.num_spillslots);
+        assert_eq!(rt; back.edits.as_slice(), output.edits.as_slice());
+        assert_eq!(rt; back.allocs.as_slice(), output.allocs.as_slice());
+        assert_eq!(rt;
+            back.inst_alloc_offsets.as_slice(),
+            output.inst_alloc_offsets.as_slice()
+        );
+        assert_eq!(rt;
+            back.debug_locations.as_slice(),
+            output.debug_locations.as_slice()
+        );
+        Ok(())
+    }
+
+    #[test]
+    fn numbers_of_no_name_are_refused(rt: HostRuntime) -> Result<(), Fail> {
+        let mut stored = example(rt.alloc())?.stored(rt.alloc())?;
+        stored.allocs.push(u32::MAX)?;
+        assert_eq!(rt;
+            Output::from_stored(rt.alloc(), &stored).err(),
+            Some(StoredFault::Bits)
+        );
+        let mut stored = example(rt.alloc())?.stored(rt.alloc())?;
+        stored.edits.push((1 << 31, 536870912, 536870912))?;
+        assert_eq!(rt;
+            Output::from_stored(rt.alloc(), &stored).err(),
+            Some(StoredFault::Bits)
+        );
+        Ok(())
+    }
+}
