@@ -7,9 +7,9 @@
 
 pub use regalloc2_fastalloc::{Algorithm, Ctx, RegallocOptions, run, run_into_ctx, run_with_ctx};
 pub use regalloc2_function::{
-    Edit, Function, InstOrEdit, MachineEnv, Output, OutputIter, agrees_where_numbers_do,
-    count_operands, finds_earlier_writes, is_framed, machine_fits, reads_the_same_numbers,
-    test_blocks, test_ends,
+    Edit, Function, InstOrEdit, MachineEnv, Output, OutputIter, StoredFault, StoredOutput,
+    agrees_where_numbers_do, count_operands, finds_earlier_writes, is_framed, machine_fits,
+    reads_the_same_numbers, test_blocks, test_ends,
 };
 pub use regalloc2_index::{
     Block, ContainerComparator, ContainerIndex, Inst, InstRange, InstRangeIter,
@@ -19,7 +19,7 @@ pub use regalloc2_names::{
     PReg, PRegSet, PRegSetIter, ProgPoint, RegAllocError, RegClass, SpillSlot, VReg,
 };
 pub use regalloc2_parts::moves;
-pub use regalloc2_shape::{cfg, postorder, ssa};
+pub use regalloc2_shape::{cfg, indexset, postorder, ssa};
 
 /// The fast allocator and its parts.
 pub mod fastalloc {
