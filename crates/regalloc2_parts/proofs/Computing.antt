@@ -1,10 +1,10 @@
 -- Lemmas on what a resolver of scratch places hands out, and on what it makes of moves.
-use Rattle.std.proofs.Common.{◌≡◌, ◌≢◌, ◌≤◌, ◌<◌, ◌+◌, ℕ, Bool, true, false, List, [], ◌∷◌, ◌++◌, length, map, get_or, Option, Some, None, ◌⊎◌, inl, inr, refl, sym, ap, ◌∙◌, subst, ⊎_elim, arith, length-append}
+use Rattle.std.proofs.Common.{◌≡◌, ◌≢◌, ◌≤◌, ◌<◌, ◌+◌, Bool, true, false, List, [], ◌∷◌, ◌++◌, length, map, get_or, Option, Some, None, ◌⊎◌, inl, inr, refl, sym, ap, ◌∙◌, subst, ⊎_elim, arith, length-append}
 use Rattle.std.specs.Prelude.{Contains}
 use Rattle.std.specs.List.{All, FoldsTo}
 use Rattle.std.proofs.lemmas.Fn.{FoldsTo-push}
 use Rattle.std.proofs.lemmas.List.{get_or-map, length-map, append-nil}
-use Rattle.std.proofs.lemmas.List.Elements.{All-contains, Contains-get_or, Contains-append_left, Contains-push}
+use Rattle.std.proofs.lemmas.List.Elements.{Contains-get_or, Contains-append_left, Contains-push}
 use Rattle.regalloc2_names.specs.Place.{Place, NoPlace}
 use Rattle.regalloc2_parts.specs.declared.moves.scratch.Handed.{Handed}
 use Rattle.regalloc2_parts.specs.declared.moves.scratch.Handed.TheVariants.{Register, Slot}
@@ -13,7 +13,7 @@ use Rattle.regalloc2_parts.specs.declared.moves.resolved.MoveVecWithScratch.TheV
 use Rattle.regalloc2_parts.specs.AtOnce.{ends_of, names, in_turn, WritesNoneFirst}
 use Rattle.regalloc2_parts.specs.Resolved.{listed, has_scratch, with_place, place_or, filled, IsRunnable, IsUnnamed, AreBetweenPlaces}
 use Rattle.regalloc2_parts.specs.Tracking.{IsMade, IsOneOf}
-use Rattle.regalloc2_parts.specs.Computed.{Asked, Owes, IsHanding, IsRefusing, IsChoice, IsAnswered, IsComputed, IsComputedMove, AreApartInMemory}
+use Rattle.regalloc2_parts.specs.Computed.{Asked, Owes, IsHanding, IsRefusing, IsChoice, IsAnswered, IsComputed, AreApartInMemory}
 use Rattle.regalloc2_parts.proofs.Filling.{fills_same, fills_real, or_some, or_none}
 use Rattle.regalloc2_parts.proofs.Places.{cases_place}
 

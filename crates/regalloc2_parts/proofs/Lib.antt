@@ -19,3 +19,4 @@ pub mod Filling
 pub mod Rising
 pub mod Tracking
 pub mod Computing
+mod Lending

@@ -3,7 +3,7 @@ use Rattle.std.proofs.Common.{◌≡◌, ◌≢◌, ℕ, List, [], ◌∷◌, �
 use Rattle.std.specs.Prelude.{Contains, Bool, true, false}
 use Rattle.std.proofs.lemmas.List.Elements.{All-contains, Contains-get_or, Contains-push_cases}
 use Rattle.std.specs.List.{All}
-use Rattle.std.proofs.lemmas.List.{take_more, take_all, map-append}
+use Rattle.std.proofs.lemmas.List.{take_more, take_all}
 use Rattle.regalloc2_names.specs.Place.{Place, NoPlace}
 use Rattle.regalloc2_parts.specs.declared.moves.passing.Held.{Held}
 use Rattle.regalloc2_parts.specs.declared.moves.passing.Held.TheVariants.{Free, InRegister, InBoth, InSave}

@@ -9,3 +9,4 @@ pub mod Cycles
 pub mod Resolved
 pub mod Tracking
 pub mod Computed
+pub mod Lending

@@ -124,4 +124,6 @@ impl<T: Copy + Default, A: Allocator + Copy> ParallelMoves<T, A> {
 }
 
 #[cfg(test)]
+mod scratch_tests;
+#[cfg(test)]
 mod tests;

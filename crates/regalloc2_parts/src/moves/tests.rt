@@ -1,9 +1,10 @@
 //! Orders of moves on worked inputs, and moves of many shapes run one by one beside their definition.
 
-ghost use Rattle.std.specs.Prelude.{◌≡◌, ◌≢◌, ◌<◌, ◌≤◌, IsTrue, length};
+ghost use Rattle.std.specs.Prelude.{◌≡◌, ◌≢◌, ◌<◌, ◌≤◌, IsTrue, IfOk, IfSome, length};
 ghost use Rattle.regalloc2_names.specs.Place.{NoPlace};
 ghost use Rattle.regalloc2_parts.specs.AtOnce.{ends, ends_of, HasOneSourceEach};
 ghost use Rattle.regalloc2_parts.specs.Giving.{IsBefore};
+ghost use Rattle.regalloc2_parts.specs.Resolved.{IsRunnable};
 
 use super::*;
 use regalloc2_names::{PReg, RegClass, SpillSlot};
@@ -11,7 +12,7 @@ use regalloc2_refusing::Refusing;
 use std::test::Fail;
 
 /// The place of a number: registers below 64, then slots.
-fn place(number: usize) -> Allocation
+pub(super) fn place(number: usize) -> Allocation
     requires { number < 1000000 }
     ensures { result ≢ NoPlace }
 {
@@ -23,7 +24,7 @@ fn place(number: usize) -> Allocation
 }
 
 /// The number of a place, and 199 for none.
-fn cell(place: Allocation) -> usize
+pub(super) fn cell(place: Allocation) -> usize
     ensures { result < 200 }
 {
     if place.is_none() {
@@ -36,7 +37,7 @@ fn cell(place: Allocation) -> usize
 }
 
 /// Adds moves between places of these numbers.
-fn add_all<A: Allocator + Copy>(
+pub(super) fn add_all<A: Allocator + Copy>(
     moves: &mut ParallelMoves<u32, A>,
     pairs: &[(usize, usize)],
 ) -> Result<(), MoveFault> {
@@ -77,9 +78,11 @@ fn rises<A: Allocator + Copy>(moves: &ParallelMoves<u32, A>) -> bool
 }
 
 /// The moves resolved, where their destinations rise.
-fn resolved<A: Allocator + Copy>(
+pub(super) fn resolved<A: Allocator + Copy>(
     moves: ParallelMoves<u32, A>,
-) -> Option<Result<MoveVecWithScratch<u32, A>, MoveFault>> {
+) -> Option<Result<MoveVecWithScratch<u32, A>, MoveFault>>
+    ensures { IfSome result (λ answer. IfOk answer (λ moves. IsRunnable moves)) }
+{
     if rises(&moves) {
         return Some(moves.resolve());
     }
@@ -87,7 +90,7 @@ fn resolved<A: Allocator + Copy>(
 }
 
 /// The cells after moves are made one after another.
-fn run(moves: &[(Allocation, Allocation, u32)], mut cells: [u32; 200]) -> [u32; 200] {
+pub(super) fn run(moves: &[(Allocation, Allocation, u32)], mut cells: [u32; 200]) -> [u32; 200] {
     for m in moves {
         cells[cell(m.1)] = cells[cell(m.0)];
     }
@@ -140,7 +143,7 @@ fn next_number(seed: u32) -> u32 {
 }
 
 /// Moves of a seed: into some of the first 8 registers and 8 slots, in rising order, from any of them; some listed twice.
-fn pairs_of(alloc: Global, mut seed: u32) -> Result<Vec<(usize, usize)>, AllocError> {
+pub(super) fn pairs_of(alloc: Global, mut seed: u32) -> Result<Vec<(usize, usize)>, AllocError> {
     let mut pairs = Vec::new(alloc);
     for to in 0..16usize {
         seed = next_number(seed);

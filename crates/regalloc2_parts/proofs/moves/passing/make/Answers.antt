@@ -1,4 +1,4 @@
-use Rattle.std.proofs.Common.{◌≡◌, inl, inr, refl, sym, subst, ⊎_elim}
+use Rattle.std.proofs.Common.{inl, inr, sym, subst, ⊎_elim}
 use Rattle.std.proofs.lemmas.Result.{on_ok_weaker}
 use Rattle.regalloc2_parts.specs.Tracking.{IsStep}
 use Rattle.regalloc2_parts.proofs.moves.passing.make.Goals as goal

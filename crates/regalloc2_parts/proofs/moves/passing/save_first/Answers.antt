@@ -1,4 +1,4 @@
-use Rattle.std.proofs.Common.{inl, inr, subst, refl}
+use Rattle.std.proofs.Common.{inl, subst, refl}
 use Rattle.regalloc2_parts.specs.AtOnce.{ends_of, in_turn}
 use Rattle.regalloc2_parts.specs.Tracking.{Tracks}
 use Rattle.regalloc2_parts.proofs.Tracking.{saves_pushed, added_aside}

@@ -1,5 +1,4 @@
 use Rattle.std.proofs.Common.{◌≡◌, false, inl, refl, sym, ◌∙◌}
-use Rattle.regalloc2_names.specs.Place.{NoPlace}
 use Rattle.regalloc2_parts.specs.Resolved.{has_scratch}
 use Rattle.regalloc2_parts.proofs.Computing.{unfilled}
 use Rattle.regalloc2_parts.proofs.moves.scratch.MoveAndScratchResolver.choose_scratch.Goals as goal

@@ -1,10 +1,8 @@
-use Rattle.std.proofs.Common.{◌≡◌, ◌≢◌, ◌<◌, ◌≤◌, Bool, true, false, List, length, rules, arith, sym, ap, ◌∙◌, subst}
+use Rattle.std.proofs.Common.{◌≡◌, ◌≢◌, ◌<◌, ◌≤◌, Bool, true, false, length, rules, arith, sym, ◌∙◌, subst}
 use Rattle.std.specs.Prelude.{Contains}
-use Rattle.std.specs.List.{All}
 use Rattle.std.proofs.lemmas.List.Elements.{All-contains}
 use Rattle.regalloc2_names.specs.Place.{Place, NoPlace}
-use Rattle.regalloc2_parts.specs.AtOnce.{ends_of, names, in_turn}
-use Rattle.regalloc2_parts.specs.Tracking.{IsMade}
+use Rattle.regalloc2_parts.specs.AtOnce.{ends_of, names}
 use Rattle.regalloc2_parts.proofs.Lists.{length_ends, read_from, read_to, read_in}
 use Rattle.regalloc2_parts.proofs.Tracking.{follows_more, follows_all, made_more, made_last}
 use Rattle.regalloc2_parts.proofs.moves.scratch.MoveAndScratchResolver.expand.Goals as goal

@@ -1,4 +1,4 @@
-use Rattle.std.proofs.Common.{◌≡◌, Bool, true, false, sym, subst, ◌∙◌}
+use Rattle.std.proofs.Common.{◌≡◌, true, false, sym, subst, ◌∙◌}
 use Rattle.regalloc2_parts.proofs.moves.scratch.MoveAndScratchResolver.is_stack_to_stack.Goals as goal
 
 pub returns-then-is_stack_alloc : goal.returns-then-is_stack_alloc
