@@ -7,6 +7,8 @@ use Rattle.regalloc2_names.specs.declared.OperandKind.{OperandKind}
 use Rattle.regalloc2_names.specs.declared.OperandKind.TheVariants.{Def, Use}
 use Rattle.regalloc2_names.specs.declared.OperandPos.{OperandPos}
 use Rattle.regalloc2_names.specs.declared.OperandPos.TheVariants.{Early, Late}
+use Rattle.regalloc2_names.specs.declared.RegAllocError.{RegAllocError}
+use Rattle.regalloc2_names.specs.declared.RegAllocError.TheVariants.{CritEdge, SSA, BB, Branch, EntryLivein, DisallowedBranchArg, TooManyLiveRegs, TooManyOperands, Unsupported, TooManySpillSlots, Memory}
 use Rattle.regalloc2_names.specs.declared.RegClass.{RegClass}
 use Rattle.regalloc2_names.specs.declared.RegClass.TheVariants.{Int, Float, Vector}
 use Rattle.regalloc2_names.specs.declared.InstPosition.{InstPosition}
@@ -99,3 +101,23 @@ position_ending After = codes "-post"
 -- as progpoint3-pre
 abbrev pub point_debug_text : ℕ → List ℕ
 point_debug_text p = codes "progpoint" ++ decimal (inst_of_point p) ++ position_ending (position_of_point p)
+
+abbrev pub block_debug_text : ℕ → List ℕ
+block_debug_text b = codes "Block(" ++ decimal b ++ codes ")"
+
+abbrev pub inst_debug_text : ℕ → List ℕ
+inst_debug_text i = codes "Inst(" ++ decimal i ++ codes ")"
+
+-- as CritEdge(Block(0), Block(2))
+abbrev pub refusal_text : RegAllocError → List ℕ
+refusal_text (CritEdge a b) = codes "CritEdge(" ++ block_debug_text a ++ codes ", " ++ block_debug_text b ++ codes ")"
+refusal_text (SSA v i) = codes "SSA(" ++ vreg_debug_text v ++ codes ", " ++ inst_debug_text i ++ codes ")"
+refusal_text (BB b) = codes "BB(" ++ block_debug_text b ++ codes ")"
+refusal_text (Branch i) = codes "Branch(" ++ inst_debug_text i ++ codes ")"
+refusal_text EntryLivein = codes "EntryLivein"
+refusal_text (DisallowedBranchArg i) = codes "DisallowedBranchArg(" ++ inst_debug_text i ++ codes ")"
+refusal_text TooManyLiveRegs = codes "TooManyLiveRegs"
+refusal_text TooManyOperands = codes "TooManyOperands"
+refusal_text (Unsupported i) = codes "Unsupported(" ++ inst_debug_text i ++ codes ")"
+refusal_text TooManySpillSlots = codes "TooManySpillSlots"
+refusal_text Memory = codes "Memory"
