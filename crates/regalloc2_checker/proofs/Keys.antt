@@ -11,7 +11,7 @@ use Rattle.regalloc2_names.specs.PlaceBits.{bits_of_place, place_of_bits}
 use Rattle.regalloc2_function.specs.SourceRun.{Stamp, Source, assigned}
 use Rattle.regalloc2_function.specs.AllocatedRun.{Cells, stored}
 use Rattle.regalloc2_checker.proofs.Equal.{is_place-true, is_place-same, is_vreg-true, is_vreg-same}
-use Rattle.regalloc2_checker.specs.Numbers.{key_of_place, key_of_vreg, is_packed, stamp_of, Numbers, cells_of, source_of}
+use Rattle.regalloc2_checker.specs.Numbers.{key_of_place, key_of_vreg, is_packed, is_packed_vreg, stamp_of, Numbers, cells_of, source_of}
 
 -- maps that agree everywhere are one
 pub same_cells : (c d : Cells) → ((q : Place) → c q ≡ d q) → c ≡ d
@@ -105,14 +105,21 @@ cells_put m n p w some packed e = same_cells _ _ (λ q. by_packed q (is_packed q
 
 pub source_put : (m n : Numbers) (p : Place) (w : Option ℕ) → ((k : ℕ) → n k ≡ cond (nat_eq (key_of_place p) k) w (m k)) → source_of n ≡ source_of m
 unfolding source_of
-source_put m n p w e = same_source _ _ (λ v. ap (option_map stamp_of) (e (key_of_vreg v) ∙ ap (λ b. cond b w (m (key_of_vreg v))) (keys_apart p v)))
+source_put m n p w e = same_source _ _ (λ v. ap (λ o. cond (is_packed_vreg v) (option_map stamp_of o) None) (e (key_of_vreg v) ∙ ap (λ b. cond b w (m (key_of_vreg v))) (keys_apart p v)))
 
 -- a number under a virtual register's key is assigned to it
-pub source_assigned : (m n : Numbers) (u : VirtualRegister) (w : Option ℕ) → ((k : ℕ) → n k ≡ cond (nat_eq (key_of_vreg u) k) w (m k)) →
+pub source_assigned : (m n : Numbers) (u : VirtualRegister) (w : Option ℕ) → is_packed_vreg u ≡ true → ((k : ℕ) → n k ≡ cond (nat_eq (key_of_vreg u) k) w (m k)) →
     source_of n ≡ assigned (source_of m) u (option_map stamp_of w)
 unfolding source_of
-source_assigned m n u w e = same_source _ _ (λ v.
-    ap (option_map stamp_of) (e (key_of_vreg v)) ∙ mapped_choice _ w (m (key_of_vreg v)) ∙ ap (λ b. cond b (option_map stamp_of w) (option_map stamp_of (m (key_of_vreg v)))) (vreg_keys u v))
+source_assigned m n u w packed e = same_source _ _ (λ v. by_packed v (is_packed_vreg v) refl)
+  where
+    unlike : (v : VirtualRegister) (b : Bool) → is_vreg u v ≡ b → is_packed_vreg v ≡ false → b ≡ false
+    unlike v true g h = let f : u ≡ v = is_vreg-true u v g in let t : is_packed_vreg v ≡ true = subst (λ (w : VirtualRegister). is_packed_vreg w ≡ true) f packed in absurd cc
+    unlike v false g h = refl
+
+    by_packed : (v : VirtualRegister) (b : Bool) → is_packed_vreg v ≡ b → cond b (option_map stamp_of (n (key_of_vreg v))) None ≡ cond (is_vreg u v) (option_map stamp_of w) (cond b (option_map stamp_of (m (key_of_vreg v))) None)
+    by_packed v true h = ap (option_map stamp_of) (e (key_of_vreg v)) ∙ mapped_choice _ w (m (key_of_vreg v)) ∙ ap (λ b. cond b (option_map stamp_of w) (option_map stamp_of (m (key_of_vreg v)))) (vreg_keys u v)
+    by_packed v false h = sym (ap (λ b. cond b (option_map stamp_of w) None) (unlike v (is_vreg u v) refl h))
 
 pub cells_assigned : (m n : Numbers) (u : VirtualRegister) (w : Option ℕ) → ((k : ℕ) → n k ≡ cond (nat_eq (key_of_vreg u) k) w (m k)) → cells_of n ≡ cells_of m
 unfolding cells_of
@@ -123,6 +130,6 @@ pub cells_at : (m : Numbers) (p : Place) (o : Option ℕ) → is_packed p ≡ tr
 unfolding cells_of
 cells_at m p o packed e = ap (option_map stamp_of) e ∙ sym (ap (λ b. cond b (option_map stamp_of (m (key_of_place p))) None) packed)
 
-pub source_at : (m : Numbers) (v : VirtualRegister) (o : Option ℕ) → o ≡ m (key_of_vreg v) → option_map stamp_of o ≡ source_of m v
+pub source_at : (m : Numbers) (v : VirtualRegister) (o : Option ℕ) → is_packed_vreg v ≡ true → o ≡ m (key_of_vreg v) → option_map stamp_of o ≡ source_of m v
 unfolding source_of
-source_at m v o e = ap (option_map stamp_of) e
+source_at m v o packed e = ap (option_map stamp_of) e ∙ sym (ap (λ b. cond b (option_map stamp_of (m (key_of_vreg v))) None) packed)

@@ -14,3 +14,10 @@ pub mod Updates
 pub mod Tracking
 pub mod Inside
 pub mod Start
+pub mod Copying
+pub mod Blocks
+pub mod Faultless
+pub mod Judging
+pub mod Members
+pub mod Holding
+pub mod Reported

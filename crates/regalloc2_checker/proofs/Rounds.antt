@@ -113,6 +113,7 @@ block_below f ok b r = subst (λ (l : Location). l.block < length f.blocks) r.2 
 -- and the table is what the checker wants
 pub solved : (f : FunctionValue) (o : OutputValue) (t : List BlockView) → IsFramed f → IsSound f o t → AllSettled f o t → IsSolved f o t
 solved f o t ok s a = record {
+  size = s.size;
   reached = λ b. (s.reached b, marked_block f o t ok s a b);
   settled = record {
     entry = s.nothing;

@@ -5,7 +5,7 @@ use Rattle.std.specs.Option.{option_map}
 use Rattle.regalloc2_names.specs.Register.{VirtualRegister}
 use Rattle.regalloc2_names.specs.Place.{Place}
 use Rattle.regalloc2_checker.specs.Facts.{is_stamp, same_write}
-use Rattle.regalloc2_checker.specs.Numbers.{key_of_place, key_of_vreg, is_packed, stamp_of, Numbers, cells_of, source_of, facts_in}
+use Rattle.regalloc2_checker.specs.Numbers.{key_of_place, key_of_vreg, is_packed, is_packed_vreg, stamp_of, Numbers, cells_of, source_of, facts_in}
 use Rattle.regalloc2_checker.specs.Meeting.{same_number, agree, IsWithin, IsCommon}
 use Rattle.regalloc2_checker.proofs.Keys.{both_false}
 
@@ -31,17 +31,23 @@ writes_as None y = refl
 writes_as (Some a) None = refl
 writes_as (Some a) (Some b) = stamps a b
 
-none_same : (y : Option ℕ) → same_write None (option_map stamp_of y) ≡ false
-none_same y = refl
+none_same : (x : Option ℕ) → same_write (option_map stamp_of x) None ≡ false
+none_same None = refl
+none_same (Some a) = refl
+
+-- both have keys of their own
+abbrev pub are_packed : Place → VirtualRegister → Bool
+are_packed p v = is_packed p && is_packed_vreg v
 
 -- a place holds a virtual register's value where their keys agree
-pub facts_as : (m : Numbers) (p : Place) (v : VirtualRegister) → facts_in m p v ≡ cond (is_packed p) (agree m (key_of_place p) (key_of_vreg v)) false
+pub facts_as : (m : Numbers) (p : Place) (v : VirtualRegister) → facts_in m p v ≡ cond (are_packed p v) (agree m (key_of_place p) (key_of_vreg v)) false
 unfolding cells_of source_of
-facts_as m p v = by_test (is_packed p)
+facts_as m p v = by_test (is_packed p) (is_packed_vreg v)
   where
-    by_test : (b : Bool) → same_write (cond b (option_map stamp_of (m (key_of_place p))) None) (option_map stamp_of (m (key_of_vreg v))) ≡ cond b (agree m (key_of_place p) (key_of_vreg v)) false
-    by_test true = writes_as (m (key_of_place p)) (m (key_of_vreg v))
-    by_test false = none_same (m (key_of_vreg v))
+    by_test : (b d : Bool) → same_write (cond b (option_map stamp_of (m (key_of_place p))) None) (cond d (option_map stamp_of (m (key_of_vreg v))) None) ≡ cond (b && d) (agree m (key_of_place p) (key_of_vreg v)) false
+    by_test true true = writes_as (m (key_of_place p)) (m (key_of_vreg v))
+    by_test true false = none_same (m (key_of_place p))
+    by_test false d = refl
 
 both_choice : (b x y : Bool) → cond b (x && y) false ≡ (cond b x false && cond b y false)
 both_choice true x y = refl
@@ -49,11 +55,11 @@ both_choice false x y = refl
 
 pub common_facts : (r m n : Numbers) → IsCommon r m n → (p : Place) (v : VirtualRegister) → facts_in r p v ≡ (facts_in m p v && facts_in n p v)
 common_facts r m n h p v =
-    facts_as r p v ∙ ap (λ b. cond (is_packed p) b false) (h (key_of_place p) (key_of_vreg v)) ∙ both_choice (is_packed p) _ _
-    ∙ ap (λ b. b && cond (is_packed p) (agree n (key_of_place p) (key_of_vreg v)) false) (sym (facts_as m p v)) ∙ ap (λ b. facts_in m p v && b) (sym (facts_as n p v))
+    facts_as r p v ∙ ap (λ b. cond (are_packed p v) b false) (h (key_of_place p) (key_of_vreg v)) ∙ both_choice (are_packed p v) _ _
+    ∙ ap (λ b. b && cond (are_packed p v) (agree n (key_of_place p) (key_of_vreg v)) false) (sym (facts_as m p v)) ∙ ap (λ b. facts_in m p v && b) (sym (facts_as n p v))
 
 pub within_facts : (m n : Numbers) → IsWithin m n → (p : Place) (v : VirtualRegister) → facts_in m p v ≡ true → facts_in n p v ≡ true
-within_facts m n h p v t = facts_as n p v ∙ by_test (is_packed p) _ _ (h (key_of_place p) (key_of_vreg v)) (sym (facts_as m p v) ∙ t)
+within_facts m n h p v t = facts_as n p v ∙ by_test (are_packed p v) _ _ (h (key_of_place p) (key_of_vreg v)) (sym (facts_as m p v) ∙ t)
   where
     by_test : (b x y : Bool) → (x ≡ true → y ≡ true) → cond b x false ≡ true → cond b y false ≡ true
     by_test true x y h e = h e

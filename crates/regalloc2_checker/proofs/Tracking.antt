@@ -14,7 +14,7 @@ use Rattle.regalloc2_function.specs.SourceRun.{Stamp, Source, assigned, after_de
 use Rattle.regalloc2_function.specs.AllocatedRun.{Cells, stored, after_writes, after_clobbers, cells_early, cells_late, moves_at, after_moves, after_early_defs}
 use Rattle.regalloc2_checker.specs.Facts.{Facts, facts_of, facts_after, facts_early, facts_over_edge}
 use Rattle.regalloc2_checker.specs.Fixpoint.{facts_within}
-use Rattle.regalloc2_checker.specs.Numbers.{Numbers, stamp_of, cells_of, source_of, facts_in, is_packed, key_of_place, key_of_vreg}
+use Rattle.regalloc2_checker.specs.Numbers.{Numbers, stamp_of, cells_of, source_of, facts_in, is_packed, is_packed_vreg, key_of_place, key_of_vreg}
 use Rattle.regalloc2_function.specs.declared.listing.Edit.{Edit}
 use Rattle.regalloc2_function.specs.Views.{move_of}
 use Rattle.regalloc2_checker.specs.declared.listing.Listed.{Listed}
@@ -155,13 +155,17 @@ pub tracks_start : (r : Numbers) (F : Facts) (n : ℕ) → ((k j : ℕ) → r k 
 unfolding cells_of source_of
 tracks_start r F n small same = record {
   cells = λ p s e. at_place (is_packed p) p s e;
-  source = λ v s e. (let z = mapped_step (r (key_of_vreg v)) s (small (key_of_vreg v)) e in omega arith);
+  source = λ v s e. at_vreg (is_packed_vreg v) v s e;
   same = same;
 }
   where
     at_place : (b : Bool) (p : Place) (s : Stamp) → cond b (option_map stamp_of (r (key_of_place p))) None ≡ Some s → s.step < n + 1
     at_place true p s e = (let z = mapped_step (r (key_of_place p)) s (small (key_of_place p)) e in omega arith)
     at_place false p s e = absurd cc
+
+    at_vreg : (b : Bool) (v : VirtualRegister) (s : Stamp) → cond b (option_map stamp_of (r (key_of_vreg v))) None ≡ Some s → s.step < n + 1
+    at_vreg true v s e = (let z = mapped_step (r (key_of_vreg v)) s (small (key_of_vreg v)) e in omega arith)
+    at_vreg false v s e = absurd cc
 
 -- over an edge
 pub edge_facts : (f : FunctionValue) (b k : ℕ) (c d : Cells) (m n : Source) (ps vs : List VirtualRegister) (F : Facts) → ps ≡ (block_at f (slice_index (block_at f b).succs k)).params → vs ≡ arguments_at f b k →

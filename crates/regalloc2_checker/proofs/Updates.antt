@@ -8,7 +8,7 @@ use Rattle.regalloc2_function.specs.OutputValue.{OutputValue}
 use Rattle.regalloc2_checker.specs.declared.settle.BlockValues.{BlockValues}
 use Rattle.regalloc2_checker.specs.Numbers.{Numbers, numbers_of}
 use Rattle.regalloc2_checker.specs.Meeting.{agree, IsWithin, IsCommon, Differ}
-use Rattle.regalloc2_checker.specs.Tables.{BlockView, view_of, views, no_view, view_at, weight, agreeing, all_pairs, keys_end, IsMet, IsSound}
+use Rattle.regalloc2_checker.specs.Tables.{BlockView, view_of, views, no_view, view_at, weight, agreeing, all_pairs, keys_end, IsMet, IsSound, IsSolved}
 use Rattle.regalloc2_checker.proofs.Counting.{fewer_agree, at_most_all}
 
 set-same : (t : List BlockView) (i : ℕ) (x : BlockView) → i < length t → view_at (set t i x) i ≡ x
@@ -137,6 +137,9 @@ module _ {A : Type 0} where
 
   pub long : (f : FunctionValue) (o : OutputValue) (t : List (BlockValues A)) → IsSound f o (views t) → length t ≡ length f.blocks
   long f o t s = sym (length-map t view_of) ∙ s.size
+
+  pub solved_long : (f : FunctionValue) (o : OutputValue) (t : List (BlockValues A)) → IsSolved f o (views t) → length t ≡ length f.blocks
+  solved_long f o t s = sym (length-map t view_of) ∙ s.size
 
   -- two reads of one place
   pub one_item : (t : List (BlockValues A)) (i : ℕ) (x y : BlockValues A) → i < length t → x ≡ get_or t i x → y ≡ get_or t i y → x ≡ y

@@ -4,3 +4,10 @@ pub mod Numbers
 pub mod Meeting
 pub mod Tables
 pub mod Walked
+pub mod Copied
+pub mod Once
+pub mod Prepared
+pub mod Found
+pub mod Report
+pub mod Judged
+pub mod Blocks

@@ -1,5 +1,5 @@
 -- Writes kept by numbers: a place holds the write of a number, and a virtual register has one.
-use Rattle.std.specs.Prelude.{ℕ, ◌+◌, ◌*◌, ◌/◌, ◌%◌, Bool, nat_eq, if◌then◌else◌, Option, None}
+use Rattle.std.specs.Prelude.{ℕ, ◌+◌, ◌*◌, ◌/◌, ◌%◌, Bool, nat_eq, nat_lt, if◌then◌else◌, Option, None}
 use Rattle.std.specs.Option.{option_map}
 use Rattle.std.specs.HashMap.{get}
 use Rattle.regalloc2_names.specs.Register.{VirtualRegister}
@@ -22,6 +22,10 @@ key_of_vreg v = 2 * bits_of_vreg v + 1
 abbrev pub is_packed : Place → Bool
 is_packed p = is_place (place_of_bits (bits_of_place p)) p
 
+-- a virtual register that a packed name can have
+abbrev pub is_packed_vreg : VirtualRegister → Bool
+is_packed_vreg v = nat_lt v.number 1073741824
+
 -- the write of a number
 abbrev pub stamp_of : ℕ → Stamp
 stamp_of n = record { step = n / 18446744073709551616; operand = n % 18446744073709551616 }
@@ -36,7 +40,7 @@ cells_of m p = if is_packed p then option_map stamp_of (m (key_of_place p)) else
 
 -- the writes that virtual registers have
 unfoldable pub source_of : Numbers → Source
-source_of m v = option_map stamp_of (m (key_of_vreg v))
+source_of m v = if is_packed_vreg v then option_map stamp_of (m (key_of_vreg v)) else None
 
 -- which places hold which virtual registers' writes
 abbrev pub facts_in : Numbers → Facts

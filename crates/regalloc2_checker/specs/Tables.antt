@@ -94,6 +94,7 @@ pub record IsRound (f : FunctionValue) (o : OutputValue) (old new : List BlockVi
 
 -- the facts of a table are what the checker wants
 pub record IsSolved (f : FunctionValue) (o : OutputValue) (t : List BlockView) : Type 0 where
+  pub size : length t ≡ length f.blocks
   pub reached : (b : ℕ) → ((view_at t b).reached ≡ true) ↔ IsReachedBlock f b
   pub settled : IsSettled f o (facts_at t)
   pub refuted : IsRefutedElsewhere f o (facts_at t)

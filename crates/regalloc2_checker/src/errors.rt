@@ -1,6 +1,7 @@
 //! What a check finds.
 
-ghost use Rattle.std.specs.Prelude.{◌≡◌};
+ghost use Rattle.std.specs.Prelude.{◌≡◌, ◌<◌, length};
+ghost use Rattle.std.specs.Vec.{vec_len};
 
 use regalloc2_index::Inst;
 use regalloc2_names::{Allocation, Operand, VReg};
@@ -189,12 +190,24 @@ impl<A: Allocator> fmt::Display for CheckerError<A> {
 #[derive(Debug, Drop)]
 pub struct CheckerErrors<A: Allocator = Global> {
     errors: Vec<CheckerError<A>, A>,
+    ghost some: { 0 < vec_len errors },
 }
 
 impl<A: Allocator> CheckerErrors<A> {
+    ghost use Rattle.regalloc2_checker.specs.Found.{errors_of};
+
+    /// A list of faults.
+    pub(crate) fn of(errors: Vec<CheckerError<A>, A>) -> CheckerErrors<A>
+        requires { 0 < vec_len errors }
+        ensures { errors_of result ≡ errors.items }
+    {
+        CheckerErrors { errors }
+    }
+
     /// The faults, by rising block and instruction, a move's where the move is listed.
     pub fn errors(&self) -> &[CheckerError<A>]
-        ensures { result.now ≡ self.now.errors.items }
+        ensures errors { result.now ≡ errors_of self.now }
+        ensures some { 0 < length result.now }
     {
         &self.errors
     }

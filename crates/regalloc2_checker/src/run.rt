@@ -21,7 +21,7 @@ use regalloc2_index::{Block, Inst};
 use std::alloc::{AllocError, Allocator};
 
 /// The step at which an instruction runs in a walk over its block, which starts at step 0.
-fn step_of(inst: Inst) -> u32
+pub fn step_of(inst: Inst) -> u32
     requires { inst + 1 < 2 ^ 32 }
     ensures { result ≡ inst + 1 }
 {

@@ -4,7 +4,7 @@ ghost use Rattle.std.specs.Prelude.{◌≡◌, ℕ, ◌<◌, None, true, OnOk, n
 ghost use Rattle.std.specs.Option.{option_map};
 ghost use Rattle.regalloc2_function.specs.SourceRun.{assigned};
 ghost use Rattle.regalloc2_function.specs.AllocatedRun.{stored};
-ghost use Rattle.regalloc2_checker.specs.Numbers.{key_of_place, key_of_vreg, is_packed, stamp_of, numbers_of, cells_in, source_in};
+ghost use Rattle.regalloc2_checker.specs.Numbers.{key_of_place, key_of_vreg, is_packed, is_packed_vreg, stamp_of, numbers_of, facts_in, cells_in, source_in};
 
 use regalloc2_names::{Allocation, VReg};
 use std::alloc::{AllocError, Allocator};
@@ -30,7 +30,8 @@ fn place_key(place: Allocation) -> u64
 
 /// The key of a virtual register.
 fn vreg_key(vreg: VReg) -> u64
-    ensures { result ≡ key_of_vreg vreg }
+    ensures key { result ≡ key_of_vreg vreg }
+    ensures packed { is_packed_vreg vreg ≡ true }
 {
     2 * vreg.bits() as u64 + 1
 }
@@ -49,6 +50,7 @@ impl<A: Allocator + Copy> Values<A> {
     pub fn held(&self, place: Allocation) -> Option<u128>
         ensures number { result ≡ numbers_of self.now (key_of_place place) }
         ensures stamp { option_map stamp_of result ≡ cells_in self.now place }
+        ensures packed { is_packed place ≡ true }
     {
         self.numbers.get(&place_key(place)).copied()
     }
@@ -59,6 +61,16 @@ impl<A: Allocator + Copy> Values<A> {
         ensures stamp { option_map stamp_of result ≡ source_in self.now vreg }
     {
         self.numbers.get(&vreg_key(vreg)).copied()
+    }
+
+    /// Whether a place holds what a virtual register has.
+    pub fn holds(&self, place: Allocation, vreg: VReg) -> bool
+        ensures { result ≡ facts_in (numbers_of self.now) place vreg }
+    {
+        match (self.held(place), self.had(vreg)) {
+            (Some(held), Some(had)) => held == had,
+            _ => false,
+        }
     }
 
     /// Gives a key a number, or takes its number away.

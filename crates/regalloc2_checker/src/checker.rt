@@ -1,0 +1,122 @@
+//! The checker as its callers see it.
+
+ghost use Rattle.std.specs.Prelude.{◌≡◌, ◌<◌, ◌⊎◌, ◌∷◌, [], None, Some, IfOk, IfErr, OnOk, IfSome};
+ghost use Rattle.std.specs.Vec.{vec_len, vec_capacity};
+ghost use Rattle.std.proofs.Props.{props};
+ghost use Rattle.regalloc2_function.specs.OutputValue.{OutputValue, IsInOrder};
+ghost use Rattle.regalloc2_function.specs.Views.{output_of, machine_of};
+ghost use Rattle.regalloc2_function.specs.WellFormed.{IsFramed};
+ghost use Rattle.regalloc2_checker.specs.Once.{framed-once};
+
+use crate::copy::copy_output;
+use crate::errors::{CheckerError, CheckerErrors};
+use crate::report::find_errors;
+use regalloc2_function::{Function, MachineEnv, Output};
+use std::alloc::{Allocator, Global};
+
+/// Checks what an allocation gave for one function on one machine.
+///
+/// It judges the output that [`Checker::prepare`] was last given, of which it holds a copy.
+#[derive(Drop)]
+pub struct Checker<'a, F: Function, A: Allocator = Global, B: Allocator = Global> {
+    f: &'a F,
+    env: &'a MachineEnv<B>,
+    alloc: A,
+    prepared: Option<Output<A>>,
+    room: Vec<CheckerError<A>, A>,
+    ghost framed: { IsFramed (F.function f.now) } by { framed-once (F.function f.now) },
+    ghost in_order: { IfSome prepared (λ o. IsInOrder (F.function f.now) (output_of o)) } by { Prim.hlevel props },
+    ghost empty: { vec_len room ≡ 0 },
+    ghost room_for_one: { 0 < vec_capacity room },
+}
+
+impl<'a, F: Function, A: Allocator + Copy, B: Allocator> Checker<'a, F, A, B> {
+    ghost use Rattle.regalloc2_function.specs.Faithful.{IsFaithful};
+    ghost use Rattle.regalloc2_checker.specs.Found.{errors_of};
+    ghost use Rattle.regalloc2_checker.specs.Prepared.{subject_of, machine_in, output_in};
+    ghost use Rattle.regalloc2_checker.specs.Report.{IsReport};
+
+    /// A checker that no output was given yet. It takes room for one error, and is refused with `Memory` where there is
+    /// none.
+    pub fn new(
+        alloc: A,
+        f: &'a F,
+        env: &'a MachineEnv<B>,
+    ) -> Result<Checker<'a, F, A, B>, CheckerError<A>>
+        requires { IsFramed (F.function f.now) }
+        ensures ok { IfOk result (λ c. (subject_of c ≡ f.now) × (machine_in c ≡ machine_of env.now) × (output_in c ≡ None)) }
+        ensures err { IfErr result (λ e. e ≡ CheckerError.Memory) }
+    {
+        match Vec::with_capacity(alloc, 1) {
+            Ok(room) => Ok(Checker {
+                f,
+                env,
+                alloc,
+                prepared: None,
+                room,
+            }),
+            Err(_) => Err(CheckerError::Memory),
+        }
+    }
+
+    /// Takes a copy of an output, in place of what was prepared before.
+    ///
+    /// It is refused with `MalformedOutput` exactly where the output isn't in order, and with `Memory` where a growth was
+    /// refused. The checker is unprepared then.
+    pub fn prepare<C: Allocator>(&mut self, out: &Output<C>) -> Result<(), CheckerError<A>>
+        ensures subject { subject_of self.new ≡ subject_of self.old }
+        ensures machine { machine_in self.new ≡ machine_in self.old }
+        ensures ok { OnOk result (IsInOrder (F.function (subject_of self.old)) (output_of out.now) × (output_in self.new ≡ Some (output_of out.now))) }
+        ensures err { IfErr result (λ e. (output_in self.new ≡ None) × (((e ≡ CheckerError.MalformedOutput) × (IsInOrder (F.function (subject_of self.old)) (output_of out.now) → ⊥))
+            ⊎ ((e ≡ CheckerError.Memory) × IsInOrder (F.function (subject_of self.old)) (output_of out.now)))) }
+    {
+        self.prepared = None;
+        if !out.is_in_order(self.f) {
+            return Err(CheckerError::MalformedOutput);
+        }
+        match copy_output(self.alloc, out) {
+            Ok(copy) => {
+                self.prepared = Some(copy);
+                Ok(())
+            }
+            Err(_) => Err(CheckerError::Memory),
+        }
+    }
+
+    /// Judges the prepared output: whether on every path each use reads what its virtual register has in the function's
+    /// own run, every constraint is met, and no move goes from one place in memory to another.
+    ///
+    /// The faults come by rising block and instruction, a move's where the move is listed, at most one for each of an
+    /// instruction's two positions. Where no output is prepared they are `MalformedOutput` alone, and where a growth was
+    /// refused `Memory` alone.
+    pub fn run(self) -> Result<(), CheckerErrors<A>>
+        ensures accepted { OnOk result ((o : OutputValue) × (output_in self.entry ≡ Some o) × IsFaithful (F.function (subject_of self.entry)) (machine_in self.entry) o) }
+        ensures unprepared { output_in self.entry ≡ None → IfErr result (λ es. errors_of es ≡ CheckerError.MalformedOutput ∷ []) }
+        ensures refused { (o : OutputValue) → output_in self.entry ≡ Some o → IfErr result (λ es. (errors_of es ≡ CheckerError.Memory ∷ [])
+            ⊎ ((IsFaithful (F.function (subject_of self.entry)) (machine_in self.entry) o → ⊥) × IsReport (F.function (subject_of self.entry)) (machine_in self.entry) o (errors_of es))) }
+    {
+        let Checker {
+            f,
+            env,
+            alloc,
+            prepared,
+            mut room,
+        } = self;
+        let Some(out) = prepared else {
+            room.push_reserved(CheckerError::MalformedOutput);
+            return Err(CheckerErrors::of(room));
+        };
+        match find_errors(alloc, f, env, &out) {
+            Ok(errors) => {
+                if errors.is_empty() {
+                    return Ok(());
+                }
+                Err(CheckerErrors::of(errors))
+            }
+            Err(_) => {
+                room.push_reserved(CheckerError::Memory);
+                Err(CheckerErrors::of(room))
+            }
+        }
+    }
+}

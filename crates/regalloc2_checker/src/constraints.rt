@@ -1,0 +1,160 @@
+//! What operands ask of their places.
+
+ghost use Rattle.std.specs.Prelude.{◌≡◌, ◌≢◌, ◌↔◌, ℕ, List, IsTrue, MatchOption};
+ghost use Rattle.regalloc2_names.specs.Place.{Place, NoPlace};
+ghost use Rattle.regalloc2_function.specs.Machine.{MachineValue, IsStackPlace, IsPlainRegister};
+ghost use Rattle.regalloc2_function.specs.Faithful.{Meets, IsNumberedBelow};
+ghost use Rattle.regalloc2_function.specs.Views.{machine_of};
+ghost use Rattle.regalloc2_checker.specs.Judged.{AreStackSlots};
+ghost use Rattle.regalloc2_checker.specs.Report.{IsConstraintFault};
+
+use crate::errors::CheckerError;
+use crate::walk::place_at;
+use regalloc2_function::MachineEnv;
+use regalloc2_index::Inst;
+use regalloc2_names::{Allocation, Operand, OperandConstraint, PRegSet};
+use std::alloc::Allocator;
+
+/// The fixed stack slots of a machine, as a set.
+pub fn stack_slots<B: Allocator>(env: &MachineEnv<B>) -> PRegSet
+    ensures { AreStackSlots (machine_of env.now) result }
+{
+    let mut slots = PRegSet::empty();
+    for reg in env.fixed_stack_slots.as_slice() {
+        slots.add(*reg);
+    }
+    slots
+}
+
+/// Whether a place is in memory.
+pub fn is_stack(slots: PRegSet, place: Allocation) -> bool
+    ensures { (env : MachineValue) → AreStackSlots env slots → IsTrue result ↔ IsStackPlace env place }
+{
+    match place.as_reg() {
+        Some(reg) => slots.contains(reg),
+        None => place.is_stack(),
+    }
+}
+
+/// Whether a place is a register that isn't in memory.
+fn is_plain_reg(slots: PRegSet, place: Allocation) -> bool
+    ensures { (env : MachineValue) → AreStackSlots env slots → IsTrue result ↔ IsPlainRegister env place }
+{
+    match place.as_reg() {
+        Some(reg) => !slots.contains(reg),
+        None => false,
+    }
+}
+
+/// Whether two places are one.
+fn is_same(a: Allocation, b: Allocation) -> bool
+    ensures { IsTrue result ↔ (a ≡ b) }
+{
+    a.bits() == b.bits()
+}
+
+/// Whether a place is a register with a number below a bound.
+fn is_numbered_below(place: Allocation, bound: usize) -> bool
+    ensures { IsTrue result ↔ IsNumberedBelow place bound }
+{
+    match place.as_reg() {
+        Some(reg) => reg.hw_enc() < bound,
+        None => false,
+    }
+}
+
+/// What a reuse of the operand with an index finds wrong with its place.
+fn reuse_fault<A: Allocator>(
+    inst: Inst,
+    op: Operand,
+    alloc: Allocation,
+    index: usize,
+    count: usize,
+    places: &[Allocation],
+) -> Option<CheckerError<A>>
+    ensures { (env : MachineValue) → MatchOption result (Meets env count places.now (OperandConstraint.Reuse index) alloc)
+        (λ e. IsConstraintFault env inst op count places.now alloc (OperandConstraint.Reuse index) e) }
+{
+    if !alloc.is_reg() {
+        return Some(CheckerError::AllocationIsNotReg { inst, op, alloc });
+    }
+    if index >= count {
+        return Some(CheckerError::ConstraintViolated { inst, op, alloc });
+    }
+    let expected_alloc = place_at(places, index);
+    if is_same(alloc, expected_alloc) {
+        return None;
+    }
+    Some(CheckerError::AllocationIsNotReuse {
+        inst,
+        op,
+        alloc,
+        expected_alloc,
+    })
+}
+
+/// What a bound on the register's number finds wrong with its place.
+fn limit_fault<A: Allocator>(
+    slots: PRegSet,
+    inst: Inst,
+    op: Operand,
+    alloc: Allocation,
+    max: usize,
+) -> Option<CheckerError<A>>
+    ensures { (env : MachineValue) → AreStackSlots env slots → (count : ℕ) (places : List Place) → MatchOption result (Meets env count places (OperandConstraint.Limit max) alloc)
+        (λ e. IsConstraintFault env inst op count places alloc (OperandConstraint.Limit max) e) }
+{
+    if !is_plain_reg(slots, alloc) {
+        return Some(CheckerError::AllocationIsNotReg { inst, op, alloc });
+    }
+    if is_numbered_below(alloc, max) {
+        return None;
+    }
+    Some(CheckerError::AllocationOutsideLimit {
+        inst,
+        op,
+        alloc,
+        range: 0..max,
+    })
+}
+
+/// What an operand's constraint finds wrong with its place, which is there. The instruction has so many operands, and
+/// these are their places.
+pub fn constraint_fault<A: Allocator>(
+    slots: PRegSet,
+    inst: Inst,
+    op: Operand,
+    alloc: Allocation,
+    count: usize,
+    places: &[Allocation],
+) -> Option<CheckerError<A>>
+    ensures { (env : MachineValue) → AreStackSlots env slots → alloc ≢ NoPlace → MatchOption result (Meets env count places.now op.constraint alloc)
+        (λ e. IsConstraintFault env inst op count places.now alloc op.constraint e) }
+{
+    match op.constraint() {
+        OperandConstraint::Any => None,
+        OperandConstraint::Reg => {
+            if is_plain_reg(slots, alloc) {
+                None
+            } else {
+                Some(CheckerError::AllocationIsNotReg { inst, op, alloc })
+            }
+        }
+        OperandConstraint::Stack => {
+            if is_stack(slots, alloc) {
+                None
+            } else {
+                Some(CheckerError::AllocationIsNotStack { inst, op, alloc })
+            }
+        }
+        OperandConstraint::FixedReg(reg) => {
+            if is_same(alloc, Allocation::reg(reg)) {
+                None
+            } else {
+                Some(CheckerError::AllocationIsNotFixedReg { inst, op, alloc })
+            }
+        }
+        OperandConstraint::Reuse(index) => reuse_fault(inst, op, alloc, index, count, places),
+        OperandConstraint::Limit(max) => limit_fault(slots, inst, op, alloc, max),
+    }
+}
