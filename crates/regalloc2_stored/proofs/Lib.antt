@@ -1,0 +1,5 @@
+pub mod Lists
+pub mod Indexes
+pub mod Shown
+pub mod Blocks
+pub mod Copied

@@ -1,0 +1,54 @@
+-- What lists of numbers show is the lists themselves.
+use Rattle.std.proofs.Common.{◌≡◌, ◌∙◌, ℕ, List, [], ◌∷◌, map, ap, refl, Option, None, Some}
+use Rattle.std.specs.Option.{option_map}
+use Rattle.std.specs.Prelude.{codes, IsSome}
+use Rattle.std.proofs.lemmas.List.{map-id}
+use Rattle.std.proofs.lemmas.Iterator.Adapters.{option_map_id}
+use Rattle.serde_json.specs.Data.{Data}
+use Rattle.regalloc2_stored.specs.Reading.{byte, or_null, list, member}
+use Rattle.regalloc2_stored.specs.Value.{machine}
+
+pub map-same : {X Y : Type 0} (f g : X → Y) → ((x : X) → f x ≡ g x) → (xs : List X) → map f xs ≡ map g xs
+map-same f g same [] = refl
+map-same f g same (x ∷ xs) = rw (same x, map-same f g same xs) refl
+
+pub options-shown : (xs : List (Option ℕ)) → map (option_map (λ n. n)) xs ≡ xs
+options-shown xs = map-same (option_map (λ n. n)) (λ o. o) (λ o. option_map_id o) xs ∙ map-id xs
+
+pub lists-shown : {X : Type 0} (items : X → List ℕ) (xs : List X) → map (λ v. map (λ n. n) (items v)) xs ≡ map items xs
+lists-shown items xs = map-same (λ v. map (λ n. n) (items v)) items (λ v. map-id (items v)) xs
+
+pub nested-shown : {X Y : Type 0} (items : X → List Y) (inner : Y → List ℕ) (xs : List X) →
+    map (λ v. map (λ w. map (λ n. n) (inner w)) (items v)) xs ≡ map (λ v. map inner (items v)) xs
+nested-shown items inner xs = map-same (λ v. map (λ w. map (λ n. n) (inner w)) (items v)) (λ v. map inner (items v)) (λ v. lists-shown inner (items v)) xs
+
+pub plain-read : {X : Type 0} (o : Option (List X)) (xs : List X) → o ≡ Some (map (λ x. x) xs) → o ≡ Some xs
+plain-read o xs h = h ∙ ap Some (map-id xs)
+
+pub lists-read : {X : Type 0} (items : X → List ℕ) (o : Option (List (List ℕ))) (xs : List X) → o ≡ Some (map (λ v. map (λ n. n) (items v)) xs) → o ≡ Some (map items xs)
+lists-read items o xs h = h ∙ ap Some (lists-shown items xs)
+
+pub nested-read : {X Y : Type 0} (items : X → List Y) (inner : Y → List ℕ) (o : Option (List (List (List ℕ)))) (xs : List X) →
+    o ≡ Some (map (λ v. map (λ w. map (λ n. n) (inner w)) (items v)) xs) → o ≡ Some (map (λ v. map inner (items v)) xs)
+nested-read items inner o xs h = h ∙ ap Some (nested-shown items inner xs)
+
+machine-made : (d : Data) (p n : List (List ℕ)) (s : List (Option ℕ)) (f : List ℕ) →
+    member (codes "preferred_regs_by_class") (list (list byte)) d ≡ Some p →
+    member (codes "non_preferred_regs_by_class") (list (list byte)) d ≡ Some n →
+    member (codes "scratch_by_class") (list (or_null byte)) d ≡ Some s →
+    member (codes "fixed_stack_slots") (list byte) d ≡ Some f →
+    machine d ≡ Some (record { preferred = p; non_preferred = n; scratch = s; fixed_stack_slots = f })
+machine-made d p n s f hp hn hs hf = rw (hp, hn, hs, hf) refl
+
+pub machine-read : {X : Type 0} (items : X → List ℕ) (d : Data) (p n : List X) (s : List (Option ℕ)) (f : List ℕ) →
+    member (codes "preferred_regs_by_class") (list (list byte)) d ≡ Some (map (λ v. map (λ k. k) (items v)) p) →
+    member (codes "non_preferred_regs_by_class") (list (list byte)) d ≡ Some (map (λ v. map (λ k. k) (items v)) n) →
+    member (codes "scratch_by_class") (list (or_null byte)) d ≡ Some (map (option_map (λ k. k)) s) →
+    member (codes "fixed_stack_slots") (list byte) d ≡ Some (map (λ k. k) f) →
+    machine d ≡ Some (record { preferred = map items p; non_preferred = map items n; scratch = s; fixed_stack_slots = f })
+machine-read items d p n s f hp hn hs hf =
+    machine-made d (map items p) (map items n) s f (lists-read items _ p hp) (lists-read items _ n hn) (hs ∙ ap Some (options-shown s)) (plain-read _ f hf)
+
+pub none-some : {X : Type 0} (o : Option X) → o ≡ None → IsSome o → ⊥
+none-some None e h = absurd cc
+none-some (Some x) e h = absurd cc

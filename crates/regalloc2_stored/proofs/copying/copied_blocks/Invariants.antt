@@ -1,0 +1,12 @@
+use Rattle.std.proofs.Common.{◌≡◌, map, length}
+use Rattle.std.specs.List.{range_with_len}
+use Rattle.regalloc2_function.specs.FunctionValue.{block_at}
+use Rattle.regalloc2_stored.specs.Copies.{shown_block}
+use Rattle.regalloc2_stored.specs.Tables.{block_of}
+use Rattle.regalloc2_stored.proofs.copying.copied_blocks.Given as goal
+
+abbrev pub invariant-loop-block : goal.invariant-loop-block
+invariant-loop-block g l = record {
+  blocks : map block_of l.tables.items ≡ map (λ b. shown_block (block_at (g.F.Function.function l.f) b)) (range_with_len 0 l.block);
+  count : length l.tables.items ≡ l.block;
+}

@@ -1,0 +1,71 @@
+//! Functions and machines with the numbers of their names.
+
+use std::alloc::{Allocator, Global};
+
+/// A machine's registers as indexes. Lists by class hold integer, float and vector registers in this order.
+///
+/// Fields and names are those of upstream's `MachineEnv`.
+#[derive(Debug, Drop)]
+pub struct StoredMachine<A: Allocator = Global> {
+    /// The registers of each class that are taken first.
+    pub preferred_regs_by_class: Vec<Vec<u8, A>, A>,
+    /// The registers of each class that are taken where no preferred one is left.
+    pub non_preferred_regs_by_class: Vec<Vec<u8, A>, A>,
+    /// A register of each class through which moves may go, if one is set aside for that.
+    pub scratch_by_class: Vec<Option<u8>, A>,
+    /// Names of registers that stand for places in memory.
+    pub fixed_stack_slots: Vec<u8, A>,
+}
+
+/// What an instruction does to the control flow.
+#[derive(Clone, Copy, Debug, PartialEq, Eq)]
+pub enum InstOpcode {
+    /// It goes on to the next instruction.
+    Op,
+    /// It returns from the function.
+    Ret,
+    /// It goes on to a successor of its block.
+    Branch,
+}
+
+/// An instruction with the numbers of its names.
+#[derive(Debug, Drop)]
+pub struct StoredInst<A: Allocator = Global> {
+    /// What it does to the control flow.
+    pub op: InstOpcode,
+    /// The words of its operands.
+    pub operands: Vec<u64, A>,
+    /// The indexes of the registers that it overwrites besides.
+    pub clobbers: Vec<u8, A>,
+}
+
+/// A function with the numbers of its names.
+#[derive(Debug, Drop)]
+pub struct StoredFunction<A: Allocator = Global> {
+    /// The machine that the function is for.
+    pub machine_env: StoredMachine<A>,
+    /// The block at which the function starts.
+    pub entry_block: u32,
+    /// The instructions by number.
+    pub insts: Vec<StoredInst<A>, A>,
+    /// For each block its first instruction and the one past its last.
+    pub blocks: Vec<(u32, u32), A>,
+    /// For each block those that it may follow.
+    pub block_preds: Vec<Vec<u32, A>, A>,
+    /// For each block those that may follow.
+    pub block_succs: Vec<Vec<u32, A>, A>,
+    /// For each block the words of the virtual registers that take the arguments.
+    pub block_params_in: Vec<Vec<u32, A>, A>,
+    /// For each block and each of its successors the words of the arguments.
+    pub block_params_out: Vec<Vec<Vec<u32, A>, A>, A>,
+    /// A number above that of each virtual register that is defined.
+    pub num_vregs: u64,
+    /// Labels: a virtual register's word, the first instruction, the end, and the label.
+    pub debug_value_labels: Vec<(u32, u32, u32, u32), A>,
+    /// How many units a spill slot for a value of each class takes.
+    pub spillslot_size: Vec<u64, A>,
+    /// Whether a slot of several units is named by its last unit.
+    pub multi_spillslot_named_by_last_slot: bool,
+    /// Whether a virtual register may have several definitions.
+    pub allow_multiple_vreg_defs: bool,
+}
