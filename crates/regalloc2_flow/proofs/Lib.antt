@@ -24,3 +24,4 @@ pub mod Choosing
 pub mod Needing
 pub mod Across
 pub mod Between
+pub mod Defined

@@ -105,10 +105,10 @@ defines_it : (o : OperandValue) (v : VirtualRegister) → is_def o.kind ≡ true
 defines_it o v d e = rw (d, eq-eqb o.vreg.number v.number (ap (λ (x : VirtualRegister). x.number) e)) refl
 
 module _ (f : FunctionValue) (once : DefinedOnce f) where
-  pub in_blocks : ℕ → ℕ
+  unfoldable pub in_blocks : ℕ → ℕ
   in_blocks n = total (map (λ (b : BlockValue). count_by (λ v. nat_eq v.number n) b.params) f.blocks)
 
-  pub in_insts : ℕ → ℕ
+  unfoldable pub in_insts : ℕ → ℕ
   in_insts n = total (map (λ (i : InstValue). count_by (defines n) i.operands) f.insts)
 
   pub at_most_one : (n : ℕ) → in_blocks n + in_insts n ≤ 1
