@@ -95,7 +95,7 @@ ring_is allocatable set class regs ring those new into from = record {
 
 pub rings_are : (allocatable : PRegSet) (rings : List (List Register)) → length rings ≡ 3
     → IsRingOf allocatable Int (slice_index_or rings 0 []) → IsRingOf allocatable Float (slice_index_or rings 1 []) → IsRingOf allocatable Vector (slice_index_or rings 2 [])
-    → AreRings (record { allocatable = allocatable; rings = rings })
+    → AreRings allocatable rings
 rings_are allocatable rings three int float vector = record {
   three = three;
   of_class = λ c r h. (each c).of_class r h;
@@ -145,7 +145,7 @@ by_class all int float vector P r u h a b c =
 pub rings_from : (all int float vector : PRegSet) (ints floats vectors : List Register) (rings : List (List Register)) → IsUnion all int float vector
     → AreThoseBelow int Int 64 ints → AreThoseBelow float Float 64 floats → AreThoseBelow vector Vector 64 vectors
     → length rings ≡ 3 → IsNewRing ints (slice_index_or rings 0 []) → IsNewRing floats (slice_index_or rings 1 []) → IsNewRing vectors (slice_index_or rings 2 [])
-    → AreRings (record { allocatable = all; rings = rings })
+    → AreRings all rings
 rings_from all int float vector ints floats vectors rings u ti tf tv three ni nf nv = rings_are all rings three
     (ring_is all int Int ints (slice_index_or rings 0 []) ti ni
     (λ r h. u.same r ∙ or_first (has_register int r) (has_register float r) (has_register vector r) h)

@@ -1,35 +1,48 @@
--- What the walk's end gives.
+-- What the walk's end gives, with operands of every kind but `Limit`.
 use Rattle.std.proofs.Common.{ℕ, zero, suc, ◌≡◌, ◌≢◌, ◌+◌, ◌-◌, ◌*◌, ◌<◌, ◌≤◌, ◌⊎◌, ⊎_elim, inl, inr, Bool, true, false, cond, ◌||◌, ◌&&◌, List, [], length, drop, reverse, refl, sym, ap, ◌∙◌, subst, arith, nat_eq, nat_lt, eq-eqb, slice_index_or, slice_index}
 use Rattle.std.specs.Prelude.{All, None, Some, sum_by}
 use Rattle.std.specs.List.Sorted.{IsNonDecreasingBy}
-use Rattle.std.proofs.lemmas.Bool.{ne_eqb, lt-ltb}
+use Rattle.std.proofs.lemmas.Bool.{ne_eqb, lt-ltb, cases_eq}
 use Rattle.std.proofs.lemmas.List.{get_or-take, get_or-drop, get_or-reverse, length-reverse, take_all}
-use Rattle.std.proofs.lemmas.List.Elements.{All-get_or, All-contains}
+use Rattle.std.proofs.lemmas.List.Elements.{All-contains}
 use Rattle.std.proofs.lemmas.List.Sums.{sum_by-take-le}
 use Rattle.regalloc2_names.specs.declared.OperandConstraint.{OperandConstraint}
-use Rattle.regalloc2_names.specs.declared.OperandConstraint.TheVariants.{Reg}
+use Rattle.regalloc2_names.specs.declared.OperandConstraint.TheVariants.{Any, Reg, Stack, FixedReg, Reuse, Limit}
+use Rattle.regalloc2_names.specs.declared.RegClass.{RegClass}
 use Rattle.regalloc2_names.specs.declared.RegClass.TheVariants.{Int}
-use Rattle.regalloc2_names.specs.Register.{Register, invalid_register}
+use Rattle.regalloc2_names.specs.Register.{Register, VirtualRegister, invalid_register}
 use Rattle.regalloc2_names.specs.Place.{Place, NoPlace, InRegister, InSlot}
 use Rattle.regalloc2_names.specs.Point.{before}
-use Rattle.regalloc2_names.specs.Operand.{OperandValue, fixed_register}
+use Rattle.regalloc2_names.specs.Operand.{OperandValue, fixed_register, nonallocatable_register}
 use Rattle.regalloc2_function.specs.FunctionValue.{FunctionValue, block_at, inst_at, operand_count}
-use Rattle.regalloc2_function.specs.Machine.{MachineValue, is_allocatable, scratch_of, IsFixedStackSlot, IsStackPlace}
+use Rattle.regalloc2_function.specs.Machine.{MachineValue, is_allocatable, scratch_of, IsFixedStackSlot}
 use Rattle.regalloc2_function.specs.OutputValue.{OutputValue, MoveValue, IsInOrder, alloc_start, alloc_end, allocs_of, place_at, is_listed_at}
+use Rattle.regalloc2_function.specs.SourceRun.{is_fixed_nonallocatable}
 use Rattle.regalloc2_function.specs.Faithful.{ConstraintsMet, EditsAreListed, HasNoStackToStack, IsStackToStack, Meets}
 use Rattle.regalloc2_function.specs.Fitting.{MachineFits, PlacesAreProper, IsProperPlace, IsMoveEnd}
-use Rattle.regalloc2_fastalloc.specs.Profile.{IsStraightBlock, IsPlainOperand, ArePlain}
-use Rattle.regalloc2_fastalloc.specs.Sound.{IsEnd, IsInRegister, IsSoundEdit, HasGoodPlace}
+use Rattle.regalloc2_fastalloc.specs.Profile.{IsStraightBlock}
 use Rattle.regalloc2_fastalloc.specs.Steps.{Tables, op_at}
+use Rattle.regalloc2_fastalloc.specs.Sound.{MayStand, IsEndOfMove, IsSafeEdit}
 use Rattle.regalloc2_fastalloc.specs.Tables.{NeverRise}
 use Rattle.regalloc2_fastalloc.specs.Walks.{offset_of}
 use Rattle.regalloc2_fastalloc.proofs.Falling.{rising_reverse}
-use Rattle.regalloc2_fastalloc.proofs.Inverses.{same_number}
+use Rattle.regalloc2_fastalloc.proofs.Filled.{MeetsAlone, IsGood}
+use Rattle.regalloc2_fastalloc.proofs.Sound.{IsApart}
 use Rattle.regalloc2_fastalloc.proofs.Setting.{default_free}
 use Rattle.regalloc2_fastalloc.proofs.Walking.{WalkKept, offset_next, offset_rises}
 
+-- what the machine keeps apart
+pub machine_apart : (f : FunctionValue) (env : MachineValue) → MachineFits f env → IsApart env
+machine_apart f env fits = record {
+  slots = λ r allowed is. (let apart = at_slot r.class r is in let nay : is_allocatable env r.class r ≡ false = apart.0 in cc);
+  scratch = λ c r own is. (at_slot c r is).1 own;
+}
+  where
+    at_slot : (c : RegClass) (r : Register) → IsFixedStackSlot env r → (is_allocatable env c r ≡ false) × (scratch_of env c ≡ Some r → ⊥) × (r ≡ invalid_register → ⊥)
+    at_slot c r is = All-contains (λ (q : Register). (is_allocatable env c q ≡ false) × (scratch_of env c ≢ Some q) × (q ≢ invalid_register)) env.fixed_stack_slots r (fits c).slots_apart is
+
 -- an output that is made of the walk's tables
-pub record IsMade (f : FunctionValue) (env : MachineValue) (t : Tables) (o : OutputValue) : Type 0 where
+pub record IsMade (f : FunctionValue) (env : MachineValue) (Known : VirtualRegister → Type 0) (t : Tables) (o : OutputValue) : Type 0 where
   pub count : o.num_spillslots ≡ t.slots.count
   pub edits : o.edits ≡ reverse t.edits
   pub falling : NeverRise t.edits
@@ -37,7 +50,7 @@ pub record IsMade (f : FunctionValue) (env : MachineValue) (t : Tables) (o : Out
   pub offsets : (i : ℕ) → i < length f.insts → slice_index o.offsets i ≡ offset_of f i
   pub allocs_long : length o.allocs ≡ operand_count f
   pub debug : o.debug_locations ≡ []
-  pub kept : WalkKept env f 0 o.allocs t
+  pub kept : WalkKept env Known f 0 o.allocs t
 
 -- what holds of each element holds the other way round
 all_reverse : {X : Type 0} (P : X → Type 0) (xs : List X) → All P xs → All P (reverse xs)
@@ -49,10 +62,10 @@ all_weaker : {X : Type 0} (P Q : X → Type 0) (xs : List X) → ((x : X) → P 
 all_weaker P Q xs f h k d lt = f (slice_index_or xs k d) (h k d lt)
 
 -- what holds of each move that was pushed holds of each that is listed
-each_edit : (f : FunctionValue) (env : MachineValue) (t : Tables) (o : OutputValue) (Q : ℕ × MoveValue → Type 0) → IsMade f env t o
-    → ((e : ℕ × MoveValue) → IsSoundEdit env t.slots.count (before (length f.insts)) e → Q e) → All Q o.edits
-each_edit f env t o Q m g =
-    subst (All Q) (sym m.edits) (all_reverse Q t.edits (all_weaker (IsSoundEdit env t.slots.count (before (length f.insts))) Q t.edits g m.kept.sound.edits))
+each_edit : (f : FunctionValue) (env : MachineValue) (Known : VirtualRegister → Type 0) (t : Tables) (o : OutputValue) (Q : ℕ × MoveValue → Type 0) → IsMade f env Known t o
+    → ((e : ℕ × MoveValue) → IsSafeEdit env t.slots.count (before (length f.insts)) e → Q e) → All Q o.edits
+each_edit f env Known t o Q m g =
+    subst (All Q) (sym m.edits) (all_reverse Q t.edits (all_weaker (IsSafeEdit env t.slots.count (before (length f.insts))) Q t.edits g m.kept.safe.edits))
 
 -- the places of all operands end where those of the last instruction do
 last_offset : (f : FunctionValue) (n : ℕ) → n ≡ length f.insts → offset_of f n ≡ operand_count f
@@ -62,101 +75,112 @@ offset_within : (f : FunctionValue) (i : ℕ) → offset_of f i ≤ operand_coun
 offset_within f i = sum_by-take-le (λ n. length n.operands) f.insts i
 
 -- where an instruction's places end, the next one's begin
-end_is : (f : FunctionValue) (env : MachineValue) (t : Tables) (o : OutputValue) → IsMade f env t o → (i : ℕ) → i < length f.insts → alloc_end o i ≡ offset_of f (i + 1)
-end_is f env t o m i lt = ⊎_elim
+end_is : (f : FunctionValue) (env : MachineValue) (Known : VirtualRegister → Type 0) (t : Tables) (o : OutputValue) → IsMade f env Known t o → (i : ℕ) → i < length f.insts → alloc_end o i ≡ offset_of f (i + 1)
+end_is f env Known t o m i lt = ⊎_elim
     (λ (e : i + 1 ≡ length f.insts).
     let last : nat_eq (i + 1) (length o.offsets) ≡ true = eq-eqb (i + 1) (length o.offsets) (e ∙ sym m.long) in
     ap (λ b. cond b (length o.allocs) (slice_index o.offsets (i + 1))) last ∙ m.allocs_long ∙ sym (last_offset f (i + 1) e))
     (λ (d : i + 1 ≢ length f.insts).
     let other : nat_eq (i + 1) (length o.offsets) ≡ false = ne_eqb (i + 1) (length o.offsets) (λ e. d (e ∙ m.long)) in
     ap (λ b. cond b (length o.allocs) (slice_index o.offsets (i + 1))) other ∙ m.offsets (i + 1) (omega arith))
-    (same_number (i + 1) (length f.insts))
+    (cases_eq (i + 1) (length f.insts))
 
-end_is_no_place : (env : MachineValue) (n : ℕ) (p : Place) → IsEnd env n p → p ≢ NoPlace
+end_is_no_place : (env : MachineValue) (n : ℕ) (p : Place) → IsEndOfMove env n p → p ≢ NoPlace
 end_is_no_place env n NoPlace h = absurd h
 end_is_no_place env n (InRegister r) h = λ e. cc
 end_is_no_place env n (InSlot k) h = λ e. cc
 
-pub made_in_order : (f : FunctionValue) (env : MachineValue) (t : Tables) (o : OutputValue) → IsMade f env t o → IsInOrder f o
-made_in_order f env t o m = record {
+pub made_in_order : (f : FunctionValue) (env : MachineValue) (Known : VirtualRegister → Type 0) (t : Tables) (o : OutputValue) → IsMade f env Known t o → IsInOrder f o
+made_in_order f env Known t o m = record {
   one_offset_each = m.long;
   offsets = record {
     begins = λ some. m.offsets 0 (omega (arith, some, m.long));
-    rises = λ i lt. let a = m.offsets i (omega (arith, lt, m.long)) in let b = end_is f env t o m i (omega (arith, lt, m.long)) in let r = offset_rises f i 1 (omega (arith, lt, m.long)) in omega (arith, a, b, r);
+    rises = λ i lt. let a = m.offsets i (omega (arith, lt, m.long)) in let b = end_is f env Known t o m i (omega (arith, lt, m.long)) in let r = offset_rises f i 1 (omega (arith, lt, m.long)) in omega (arith, a, b, r);
     within = λ i lt. let a = m.offsets i (omega (arith, lt, m.long)) in let w = offset_within f i in omega (arith, a, w, m.allocs_long);
   };
-  no_more_than_operands = λ i lt. let a = m.offsets i lt in let b = end_is f env t o m i lt in let n = offset_next f i lt in omega (arith, a, b, n);
+  no_more_than_operands = λ i lt. let a = m.offsets i lt in let b = end_is f env Known t o m i lt in let n = offset_next f i lt in omega (arith, a, b, n);
   points_never_fall = subst (IsNonDecreasingBy (λ e. e.0)) (sym m.edits) (rising_reverse t.edits m.falling);
-  moves_name_places = each_edit f env t o (λ e. (e.1.from ≢ NoPlace) × (e.1.to ≢ NoPlace)) m (λ e s. (end_is_no_place env t.slots.count e.1.from s.from, end_is_no_place env t.slots.count e.1.to s.to));
+  moves_name_places = each_edit f env Known t o (λ e. (e.1.from ≢ NoPlace) × (e.1.to ≢ NoPlace)) m (λ e s. (end_is_no_place env t.slots.count e.1.from s.from, end_is_no_place env t.slots.count e.1.to s.to));
 }
 
 -- the place of an operand
-pub place_is : (f : FunctionValue) (env : MachineValue) (t : Tables) (o : OutputValue) → IsMade f env t o → (i : ℕ) → i < length f.insts → (k : ℕ) → k < length (inst_at f i).operands
+pub place_is : (f : FunctionValue) (env : MachineValue) (Known : VirtualRegister → Type 0) (t : Tables) (o : OutputValue) → IsMade f env Known t o → (i : ℕ) → i < length f.insts → (k : ℕ) → k < length (inst_at f i).operands
     → place_at (allocs_of o i) k ≡ slice_index_or o.allocs (offset_of f i + k) NoPlace
-place_is f env t o m i lt k less =
+place_is f env Known t o m i lt k less =
     let a : alloc_start o i ≡ offset_of f i = m.offsets i lt in
-    let b = end_is f env t o m i lt in
+    let b = end_is f env Known t o m i lt in
     let n = offset_next f i lt in
     get_or-take (alloc_end o i - alloc_start o i) (drop (alloc_start o i) o.allocs) k NoPlace (omega (arith, a, b, n, less))
     ∙ get_or-drop (alloc_start o i) o.allocs k NoPlace ∙ ap (λ (j : ℕ). slice_index_or o.allocs (j + k) NoPlace) a
 
-good_place : (f : FunctionValue) (env : MachineValue) (t : Tables) (o : OutputValue) → IsMade f env t o → (i : ℕ) → i < length f.insts → (k : ℕ) → k < length (inst_at f i).operands
-    → HasGoodPlace env (op_at (inst_at f i).operands k).vreg (place_at (allocs_of o i) k)
-good_place f env t o m i lt k less = subst (HasGoodPlace env (op_at (inst_at f i).operands k).vreg) (sym (place_is f env t o m i lt k less)) (m.kept.good i (omega arith) lt k less)
+-- the place of an operand is good
+operand_good : (f : FunctionValue) (env : MachineValue) (Known : VirtualRegister → Type 0) (t : Tables) (o : OutputValue) → IsMade f env Known t o → (i : ℕ) → i < length f.insts → (k : ℕ) → k < length (inst_at f i).operands
+    → IsGood env t.slots.count (op_at (inst_at f i).operands k) (place_at (allocs_of o i) k)
+operand_good f env Known t o m i lt k less = subst (IsGood env t.slots.count (op_at (inst_at f i).operands k)) (sym (place_is f env Known t o m i lt k less)) (m.kept.good i k (omega arith) lt less).good
 
--- an allocatable register is no place in memory
-no_stack_slot : (f : FunctionValue) (env : MachineValue) → MachineFits f env → (r : Register) → is_allocatable env r.class r ≡ true → IsFixedStackSlot env r → ⊥
-no_stack_slot f env fits r allowed is =
-    let apart = All-contains (λ (q : Register). (is_allocatable env r.class q ≡ false) × (scratch_of env r.class ≢ Some q) × (q ≢ invalid_register)) env.fixed_stack_slots r (fits r.class).slots_apart is in
-    let nay : is_allocatable env r.class r ≡ false = apart.0 in cc
+-- what a constraint says of the operand's own place, and of that which a reuse shares
+meets_all : (env : MachineValue) (count : ℕ) (places : List Place) (c : OperandConstraint) (p : Place) → MeetsAlone env c p → ((n : ℕ) → c ≡ Reuse n → (n < count) × (p ≡ place_at places n)) → Meets env count places c p
+meets_all env count places Any p h s = λ e. h e
+meets_all env count places Reg p h s = h
+meets_all env count places Stack p h s = h
+meets_all env count places (FixedReg r) p h s = h
+meets_all env count places (Reuse n) NoPlace h s = absurd h
+meets_all env count places (Reuse n) (InRegister r) h s = (tt, (s n refl).0, (s n refl).1)
+meets_all env count places (Reuse n) (InSlot k) h s = absurd h
+meets_all env count places (Limit n) p h s = absurd h
 
-meets_reg : (f : FunctionValue) (env : MachineValue) → MachineFits f env → (count : ℕ) (places : List Place) (c : OperandConstraint) (p : Place) → c ≡ Reg
-    → (r : Register) → p ≡ InRegister r → is_allocatable env r.class r ≡ true → Meets env count places c p
-meets_reg f env fits count places c p reg r is allowed = rw (reg, is) (no_stack_slot f env fits r allowed)
-
-pub made_constraints : (f : FunctionValue) (env : MachineValue) (t : Tables) (o : OutputValue) → MachineFits f env → ArePlain f → IsMade f env t o → (i : ℕ) → i < length f.insts → ConstraintsMet f env o i
-made_constraints f env t o fits plain m i lt k d less =
-    let g = good_place f env t o m i lt k less in
-    let is : IsPlainOperand (slice_index_or (inst_at f i).operands k d) = All-get_or IsPlainOperand (inst_at f i).operands k d less (plain i lt).operands in
-    meets_reg f env fits (length (inst_at f i).operands) (allocs_of o i) (slice_index_or (inst_at f i).operands k d).constraint (place_at (allocs_of o i) k) is.1 g.register g.place_is g.own_class
+pub made_constraints : (f : FunctionValue) (env : MachineValue) (Known : VirtualRegister → Type 0) (t : Tables) (o : OutputValue) → IsMade f env Known t o → (i : ℕ) → i < length f.insts → ConstraintsMet f env o i
+made_constraints f env Known t o m i lt k d less =
+    let ops : List OperandValue = (inst_at f i).operands in
+    let same : op_at ops k ≡ slice_index_or ops k d = default_free ops k _ d less in
+    let shared = (m.kept.good i k (omega arith) lt less).shared in
+    subst (λ (x : OperandValue). Meets env (length ops) (allocs_of o i) x.constraint (place_at (allocs_of o i) k)) same
+    (meets_all env (length ops) (allocs_of o i) (op_at ops k).constraint (place_at (allocs_of o i) k) (operand_good f env Known t o m i lt k less).meets
+    (λ n is. let s = shared n is in (s.0, place_is f env Known t o m i lt k less ∙ s.1 ∙ sym (place_is f env Known t o m i lt n s.0))))
 
 -- each end of a move is proper
-move_end : (env : MachineValue) (o : OutputValue) (n : ℕ) (p : Place) → o.num_spillslots ≡ n → IsEnd env n p → IsMoveEnd env o p
+move_end : (env : MachineValue) (o : OutputValue) (n : ℕ) (p : Place) → o.num_spillslots ≡ n → IsEndOfMove env n p → IsMoveEnd env o p
 move_end env o n NoPlace e h = absurd h
-move_end env o n (InRegister r) e h = (r.class, inl (inl h))
+move_end env o n (InRegister r) e (inl (inl a)) = (r.class, inl (inl a))
+move_end env o n (InRegister r) e (inl (inr s)) = (r.class, inl (inr (s, refl)))
+move_end env o n (InRegister r) e (inr c) = (c.0, inr (r, c.1, refl))
 move_end env o n (InSlot k) e h = (Int, inl (omega arith))
 
-pub made_proper : (f : FunctionValue) (env : MachineValue) (t : Tables) (o : OutputValue) → ArePlain f → IsMade f env t o → PlacesAreProper f env o
-made_proper f env t o plain m = record {
+proper_place : (env : MachineValue) (o : OutputValue) (n : ℕ) (class : RegClass) (p : Place) → o.num_spillslots ≡ n → MayStand env n class p → IsProperPlace env o class p
+proper_place env o n class NoPlace e h = h
+proper_place env o n class (InRegister r) e (inl a, same) = inl (subst (λ (c : RegClass). is_allocatable env c r ≡ true) same a)
+proper_place env o n class (InRegister r) e (inr s, same) = inr (s, same)
+proper_place env o n class (InSlot k) e h = omega arith
+
+-- the register of an operand that names no virtual register
+names_register : (b : Bool) (c : OperandConstraint) (r : Register) → cond b (fixed_register c) None ≡ Some r → c ≡ FixedReg r
+names_register true Any r e = absurd cc
+names_register true Reg r e = absurd cc
+names_register true Stack r e = absurd cc
+names_register true (FixedReg q) r e = (let same : q ≡ r = cc in ap FixedReg same)
+names_register true (Reuse n) r e = absurd cc
+names_register true (Limit n) r e = absurd cc
+names_register false c r e = absurd cc
+
+pub made_proper : (f : FunctionValue) (env : MachineValue) (Known : VirtualRegister → Type 0) (t : Tables) (o : OutputValue) → IsMade f env Known t o → PlacesAreProper f env o
+made_proper f env Known t o m = record {
   operands = λ i lt k d less named.
-      let g = good_place f env t o m i lt k less in
-      let same : op_at (inst_at f i).operands k ≡ slice_index_or (inst_at f i).operands k d = default_free (inst_at f i).operands k _ d less in
-      subst (λ (x : OperandValue). IsProperPlace env o x.vreg.class (place_at (allocs_of o i) k)) same
-      (subst (IsProperPlace env o (op_at (inst_at f i).operands k).vreg.class) (sym g.place_is) (inl g.allocatable));
-  nonallocatable = λ i lt k d less r names. absurd (names_none (slice_index_or (inst_at f i).operands k d) r
-      (All-get_or IsPlainOperand (inst_at f i).operands k d less (plain i lt).operands).1 names);
-  moves = each_edit f env t o (λ e. IsMoveEnd env o e.1.from × IsMoveEnd env o e.1.to) m (λ e s. (move_end env o t.slots.count e.1.from m.count s.from, move_end env o t.slots.count e.1.to m.count s.to));
+      let ops : List OperandValue = (inst_at f i).operands in
+      let same : slice_index_or ops k d ≡ op_at ops k = default_free ops k d _ less in
+      subst (λ (x : OperandValue). IsProperPlace env o x.vreg.class (place_at (allocs_of o i) k)) (sym same)
+      (proper_place env o t.slots.count (op_at ops k).vreg.class (place_at (allocs_of o i) k) m.count ((operand_good f env Known t o m i lt k less).place (ap is_fixed_nonallocatable (sym same) ∙ named)));
+  nonallocatable = λ i lt k d less r names.
+      let ops : List OperandValue = (inst_at f i).operands in
+      let same : slice_index_or ops k d ≡ op_at ops k = default_free ops k d _ less in
+      let x : OperandValue = op_at ops k in
+      let fixed : x.constraint ≡ FixedReg r = names_register (nat_eq x.vreg.number 1073741823) x.constraint r (ap nonallocatable_register (sym same) ∙ names) in
+      subst (λ (c : OperandConstraint). MeetsAlone env c (place_at (allocs_of o i) k)) fixed (operand_good f env Known t o m i lt k less).meets;
+  moves = each_edit f env Known t o (λ e. IsMoveEnd env o e.1.from × IsMoveEnd env o e.1.to) m (λ e s. (move_end env o t.slots.count e.1.from m.count s.from, move_end env o t.slots.count e.1.to m.count s.to));
   debug_locations = rw m.debug (λ k d lt. absurd (omega arith));
 }
-  where
-    either_none : (b : Bool) (r : Register) → cond b None None ≡ Some r → ⊥
-    either_none true r e = cc
-    either_none false r e = cc
 
-    names_none : (x : OperandValue) (r : Register) → x.constraint ≡ Reg → cond (nat_eq x.vreg.number 1073741823) (fixed_register x.constraint) None ≡ Some r → ⊥
-    names_none x r reg names = either_none (nat_eq x.vreg.number 1073741823) r (sym (ap (λ (c : OperandConstraint). cond (nat_eq x.vreg.number 1073741823) (fixed_register c) None) reg) ∙ names)
-
--- an end that is a register is no place in memory
-no_stack_end : (f : FunctionValue) (env : MachineValue) → MachineFits f env → (n : ℕ) (p : Place) → IsInRegister p → IsEnd env n p → IsStackPlace env p → ⊥
-no_stack_end f env fits n NoPlace i e s = i
-no_stack_end f env fits n (InRegister r) i e s = no_stack_slot f env fits r e s
-no_stack_end f env fits n (InSlot k) i e s = i
-
-pub made_in_registers : (f : FunctionValue) (env : MachineValue) (t : Tables) (o : OutputValue) → MachineFits f env → IsMade f env t o → HasNoStackToStack env o
-made_in_registers f env t o fits m = each_edit f env t o (λ e. IsStackToStack env e.1 → ⊥) m (λ e s. λ both. ⊎_elim
-    (λ (r : IsInRegister e.1.from). no_stack_end f env fits t.slots.count e.1.from r s.from both.0)
-    (λ (r : IsInRegister e.1.to). no_stack_end f env fits t.slots.count e.1.to r s.to both.1)
-    s.register)
+pub made_in_registers : (f : FunctionValue) (env : MachineValue) (Known : VirtualRegister → Type 0) (t : Tables) (o : OutputValue) → IsMade f env Known t o → HasNoStackToStack env o
+made_in_registers f env Known t o m = each_edit f env Known t o (λ e. IsStackToStack env e.1 → ⊥) m (λ e s. s.not_both)
 
 -- a point is at an instruction or before the next
 half_of : (p : ℕ) → (i : ℕ) × ((p ≡ 2 * i) ⊎ (p + 1 ≡ 2 * i))
@@ -184,10 +208,10 @@ listed_somewhere f s p small =
     either true b c x y = refl
     either false b c x y = ap (λ d. d && c) x ∙ y
 
-pub made_listed : (f : FunctionValue) (env : MachineValue) (t : Tables) (o : OutputValue) → IsStraightBlock f → IsMade f env t o → EditsAreListed f o
-made_listed f env t o s m = record {
-  none_at_end = λ b less. each_edit f env t o (λ e. e.0 + 1 ≢ before (block_at f b).range.end) m (λ e sound. end_later b less e.0 sound.point);
-  listed = each_edit f env t o (λ e. (b i : ℕ) × (b < length f.blocks) × ((block_at f b).range.first ≤ i) × (i < (block_at f b).range.end) × (is_listed_at (block_at f b).range.first i e.0 ≡ true)) m
+pub made_listed : (f : FunctionValue) (env : MachineValue) (Known : VirtualRegister → Type 0) (t : Tables) (o : OutputValue) → IsStraightBlock f → IsMade f env Known t o → EditsAreListed f o
+made_listed f env Known t o s m = record {
+  none_at_end = λ b less. each_edit f env Known t o (λ e. e.0 + 1 ≢ before (block_at f b).range.end) m (λ e sound. end_later b less e.0 sound.point);
+  listed = each_edit f env Known t o (λ e. (b i : ℕ) × (b < length f.blocks) × ((block_at f b).range.first ≤ i) × (i < (block_at f b).range.end) × (is_listed_at (block_at f b).range.first i e.0 ≡ true)) m
       (λ e sound. listed_somewhere f s e.0 sound.point);
 }
   where

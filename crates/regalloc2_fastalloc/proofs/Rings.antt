@@ -11,7 +11,7 @@ use Rattle.regalloc2_names.specs.RegisterSet.{has_register}
 use Rattle.regalloc2_fastalloc.specs.Tables.{RegistersValue, AreRings, IsFoundIn, ring_of}
 use Rattle.regalloc2_fastalloc.proofs.Inverses.{same_number}
 
-pub found_in : (t : RegistersValue) (class : RegClass) (free : PRegSet) (result : Option Register) → AreRings t
+pub found_in : (t : RegistersValue) (class : RegClass) (free : PRegSet) (result : Option Register) → AreRings t.allocatable t.rings
     → IfSome result (λ r. Contains (ring_of t class) r) → IfSome result (λ r. IsTrue (has_register free r)) → IfSome result (λ r. IsFoundIn t class free r)
 found_in t class free None rings member free_there = tt
 found_in t class free (Some r) rings member free_there =
@@ -20,7 +20,7 @@ found_in t class free (Some r) rings member free_there =
 -- a ring is replaced by one with the same members
 pub rings_kept : (allocatable : PRegSet) (rings : List (List Register)) (i : ℕ) (ring : List Register) → i < length rings
     → ((r : Register) → Contains ring r ↔ Contains (slice_index_or rings i []) r)
-    → AreRings (record { allocatable = allocatable; rings = rings }) → AreRings (record { allocatable = allocatable; rings = set rings i ring })
+    → AreRings allocatable rings → AreRings allocatable (set rings i ring)
 rings_kept allocatable rings i ring lt same old = record {
   three = length-set rings i ring ∙ old.three;
   of_class = λ c r h. old.of_class c r (before c r h);

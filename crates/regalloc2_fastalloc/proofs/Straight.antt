@@ -1,4 +1,4 @@
--- A straight block of plain instructions, whose definitions and uses are sound, is well-formed.
+-- A straight block whose definitions, uses, reuses and fixed registers are sound is well-formed.
 use Rattle.std.proofs.Common.{ℕ, zero, suc, ◌≡◌, ◌+◌, ◌<◌, ◌≤◌, Bool, true, false, [], length, refl, sym, subst, ap, ◌∙◌, inr, arith, eq-eqb}
 use Rattle.std.specs.Prelude.{All, slice_index_or}
 use Rattle.std.proofs.lemmas.Bool.{ne_eqb}
@@ -12,7 +12,8 @@ use Rattle.regalloc2_function.specs.FunctionValue.{FunctionValue, BlockValue, In
 use Rattle.regalloc2_function.specs.Machine.{MachineValue}
 use Rattle.regalloc2_function.specs.WellFormed.{EachBlock, FollowsAt, BlocksFollow, EndsAt, CountedAt, DefinedOnce, UsesAreDefined, ReusesAreSound, FixedAvoidClobbers, IsWellFormed, IsReuse, times_in, ways_into, last_of}
 use Rattle.regalloc2_fastalloc.specs.Lack.{IsLack}
-use Rattle.regalloc2_fastalloc.specs.Profile.{IsLastReturn, IsStraightBlock, IsPlainOperand, IsPlain, ArePlain}
+use Rattle.regalloc2_fastalloc.specs.Constraints.{AreUnlimited}
+use Rattle.regalloc2_fastalloc.specs.Profile.{IsLastReturn, IsStraightBlock}
 use Rattle.regalloc2_fastalloc.specs.Reason.{PassesFirst, PassesAll, IsReason}
 
 -- what holds of block 0 holds of each block
@@ -47,20 +48,9 @@ straight_ends f s =
           (here.0, here.1 ∙ ne_eqb (i + 1) (length f.insts) (λ e. omega arith)),
     )
 
--- an operand under Reg is no reuse
-no_reuse : (i : InstValue) → IsPlain i → (k : ℕ) (d : OperandValue) (n : ℕ) → k < length i.operands → IsReuse (slice_index_or i.operands k d).constraint n → ⊥
-no_reuse i p k d n less is = let reg : IsPlainOperand (slice_index_or i.operands k d) = All-get_or IsPlainOperand i.operands k d less p.operands in let e : Reg ≡ Reuse n = sym reg.1 ∙ is in cc
-
-plain_reuses : (env : MachineValue) (i : InstValue) → IsPlain i → ReusesAreSound env i
-plain_reuses env i p = record {
-  definitions = λ k d less n is. absurd (no_reuse i p k d n less is);
-  targets = λ k e less n d is. absurd (no_reuse i p k e n less is);
-  apart = λ j k n d e less more is also. absurd (no_reuse i p j d n less is);
-}
-
 -- the function is well-formed
-straight_well_formed : (f : FunctionValue) (env : MachineValue) → IsStraightBlock f → ArePlain f → DefinedOnce f → UsesAreDefined f → IsWellFormed env f
-straight_well_formed f env s p once uses =
+pub straight_well_formed : (f : FunctionValue) (env : MachineValue) → IsStraightBlock f → DefinedOnce f → UsesAreDefined f → ((i : ℕ) → i < length f.insts → ReusesAreSound env (inst_at f i)) → ((i : ℕ) → i < length f.insts → FixedAvoidClobbers (inst_at f i)) → IsWellFormed env f
+straight_well_formed f env s once uses reuses fixed =
     let b = s.block in
     let none : length (block_at f 0).succs ≡ 0 = ap length b.succs in
     record {
@@ -76,13 +66,14 @@ straight_well_formed f env s p once uses =
       classes = λ n less k few. let e : 0 ≡ n = omega (arith, s.one) in let low : k < length (block_at f 0).succs = subst (λ m. k < length (block_at f m).succs) (sym e) few in absurd (omega arith);
       defined_once = once;
       uses_defined = uses;
-      reuses = All-from_get_or (ReusesAreSound env) f.insts no_inst (λ i less. plain_reuses env (inst_at f i) (p i less));
-      fixed = All-from_get_or FixedAvoidClobbers f.insts no_inst (λ i less k d few r is holds. (p i less).clobbers r);
+      reuses = All-from_get_or (ReusesAreSound env) f.insts no_inst reuses;
+      fixed = All-from_get_or FixedAvoidClobbers f.insts no_inst fixed;
     }
 
 -- all tests have passed
-pub passes_all : (f : FunctionValue) (env : MachineValue) (asked : Bool) → PassesFirst f → DefinedOnce f → UsesAreDefined f → ArePlain f → PassesAll f env asked
-passes_all f env asked p once uses plain = record { first = p; well_formed = λ h. straight_well_formed f env p.straight plain once uses; plain = plain }
+pub passes_all : (f : FunctionValue) (env : MachineValue) (asked : Bool) → PassesFirst f → DefinedOnce f → UsesAreDefined f → ((i : ℕ) → i < length f.insts → ReusesAreSound env (inst_at f i)) → ((i : ℕ) → i < length f.insts → FixedAvoidClobbers (inst_at f i))
+    → ((i : ℕ) → i < length f.insts → AreUnlimited (inst_at f i)) → PassesAll f env asked
+passes_all f env asked p once uses reuses fixed unlimited = record { first = p; well_formed = λ h. straight_well_formed f env p.straight once uses reuses fixed; unlimited = unlimited }
 
 -- a function is well-formed by the tests, or as the caller has it
 pub well_formed_either_way : (f : FunctionValue) (env : MachineValue) (asked : Bool) → PassesAll f env asked → (asked ≡ false → IsWellFormed env f) → IsWellFormed env f

@@ -1,15 +1,22 @@
--- What the walk over all instructions keeps.
-use Rattle.std.proofs.Common.{ℕ, zero, suc, ◌≡◌, ◌≢◌, ◌+◌, ◌-◌, ◌<◌, ◌≤◌, List, [], length, refl, sym, ap, ◌∙◌, ⊎_elim, inr, subst, arith, slice_index_or}
+-- What the walk over all instructions keeps, with operands of every kind but `Limit`.
+use Rattle.std.proofs.Common.{ℕ, zero, suc, ◌≡◌, ◌+◌, ◌-◌, ◌<◌, ◌≤◌, List, [], length, refl, sym, ap, ◌∙◌, inl, inr, subst, arith}
+use Rattle.std.specs.Prelude.{true}
+use Rattle.std.proofs.lemmas.Bool.{cases_eq}
 use Rattle.std.proofs.lemmas.List.Sums.{sum_by_more}
-use Rattle.regalloc2_names.specs.Place.{Place, NoPlace}
+use Rattle.regalloc2_names.specs.declared.OperandConstraint.TheVariants.{Reuse}
+use Rattle.regalloc2_names.specs.Register.{VirtualRegister}
+use Rattle.regalloc2_names.specs.Place.{Place}
 use Rattle.regalloc2_names.specs.Point.{before}
-use Rattle.regalloc2_function.specs.FunctionValue.{FunctionValue, inst_at, no_inst}
+use Rattle.regalloc2_function.specs.FunctionValue.{FunctionValue, InstValue, inst_at, no_inst}
 use Rattle.regalloc2_function.specs.Machine.{MachineValue}
 use Rattle.regalloc2_fastalloc.specs.Steps.{Tables, op_at}
-use Rattle.regalloc2_fastalloc.specs.Sound.{IsSound, HasGoodPlace, IsBlank}
+use Rattle.regalloc2_fastalloc.specs.Sound.{IsSafe}
 use Rattle.regalloc2_fastalloc.specs.Walks.{AllocatesAt, Walks, untouched, one_more, offset_of}
-use Rattle.regalloc2_fastalloc.proofs.Inverses.{same_number}
-use Rattle.regalloc2_fastalloc.proofs.Looping.{allocates_sound, allocates_last}
+use Rattle.regalloc2_fastalloc.proofs.Sound.{IsApart}
+use Rattle.regalloc2_fastalloc.proofs.Filled.{at_place, IsTame, IsGood, good_grows}
+use Rattle.regalloc2_fastalloc.proofs.Allocated.{InstKept, allocates_kept, allocates_last_kept}
+use Rattle.regalloc2_fastalloc.proofs.Calm.{IsEmpty}
+use Rattle.regalloc2_fastalloc.proofs.Last.{calm_last}
 
 -- offsets rise by the numbers of operands
 pub offset_next : (f : FunctionValue) (i : ℕ) → i < length f.insts → offset_of f (i + 1) ≡ offset_of f i + length (inst_at f i).operands
@@ -23,46 +30,66 @@ offset_rises f i (suc n) le =
     let s : offset_of f (i + suc n) ≡ offset_of f (i + n + 1) = ap (offset_of f) (omega arith) in
     omega arith
 
--- the tables are sound, and the operands of the instructions from i on have good places
-pub record WalkKept (env : MachineValue) (f : FunctionValue) (i : ℕ) (places : List Place) (t : Tables) : Type 0 where
-  pub sound : IsSound env (before (length f.insts)) t
-  pub good : (j : ℕ) → i ≤ j → j < length f.insts → (k : ℕ) → k < length (inst_at f j).operands
-      → HasGoodPlace env (op_at (inst_at f j).operands k).vreg (slice_index_or places (offset_of f j + k) NoPlace)
+-- the place of an operand among those of all operands
+abbrev pub place_of : FunctionValue → List Place → ℕ → ℕ → Place
+place_of f places j k = at_place places (offset_of f j + k)
+
+-- an operand has a good place, and a reuse that of the operand that it names
+pub record HasGood (env : MachineValue) (count : ℕ) (f : FunctionValue) (places : List Place) (j k : ℕ) : Type 0 where
+  pub good : IsGood env count (op_at (inst_at f j).operands k) (place_of f places j k)
+  pub shared : (n : ℕ) → (op_at (inst_at f j).operands k).constraint ≡ Reuse n → (n < length (inst_at f j).operands) × (place_of f places j k ≡ place_of f places j n)
+
+-- the tables are safe, and the operands of the instructions from i on have good places
+pub record WalkKept (env : MachineValue) (Known : VirtualRegister → Type 0) (f : FunctionValue) (i : ℕ) (places : List Place) (t : Tables) : Type 0 where
+  pub safe : IsSafe env Known (before (length f.insts)) t
+  pub good : (j k : ℕ) → i ≤ j → j < length f.insts → k < length (inst_at f j).operands → HasGood env t.slots.count f places j k
 
 -- where all instructions are left, nothing has been done
 at_start : (f : FunctionValue) (blank : List Place) (old : Tables) (i : ℕ) (places : List Place) (t : Tables) → Walks f blank old i places t → i ≡ length f.insts → t ≡ old
 at_start f blank old i places t untouched e = refl
 at_start f blank old i places t (one_more n b p s u lt prev a) e = absurd (omega arith)
 
--- the places of one more instruction
-more_places : (env : MachineValue) (f : FunctionValue) (i : ℕ) (b p : List Place) (t u : Tables) → i < length f.insts → (a : AllocatesAt i (inst_at f i).operands (offset_of f i) b p t u)
-    → ((k : ℕ) → k < length (inst_at f i).operands → HasGoodPlace env (op_at (inst_at f i).operands k).vreg (slice_index_or a.here k NoPlace))
-    → ((j : ℕ) → i + 1 ≤ j → j < length f.insts → (k : ℕ) → k < length (inst_at f j).operands → HasGoodPlace env (op_at (inst_at f j).operands k).vreg (slice_index_or b (offset_of f j + k) NoPlace))
-    → (j : ℕ) → i ≤ j → j < length f.insts → (k : ℕ) → k < length (inst_at f j).operands → HasGoodPlace env (op_at (inst_at f j).operands k).vreg (slice_index_or p (offset_of f j + k) NoPlace)
-more_places env f i b p t u lt a here rest j le less k within = ⊎_elim
-    (λ (e : j ≡ i).
-    let P : ℕ → Type 0 = λ n. k < length (inst_at f n).operands → HasGoodPlace env (op_at (inst_at f n).operands k).vreg (slice_index_or p (offset_of f n + k) NoPlace) in
-    subst P (sym e) (λ w. subst (HasGoodPlace env (op_at (inst_at f i).operands k).vreg) (sym (a.inside k w)) (here k w)) within)
-    (λ (d : j ≢ i).
-    let m : ℕ = j - (i + 1) in
-    let r = offset_rises f (i + 1) m (omega arith) in
-    let n = offset_next f i lt in
-    let s : offset_of f (i + 1 + m) ≡ offset_of f j = ap (offset_of f) (omega arith) in
-    subst (HasGoodPlace env (op_at (inst_at f j).operands k).vreg) (sym (a.outside (offset_of f j + k) (inr (omega arith)))) (rest j (omega arith) less k within))
-    (same_number j i)
+module _ (env : MachineValue) (apart : IsApart env) (Known : VirtualRegister → Type 0) (f : FunctionValue) (tame : (i : ℕ) → i < length f.insts → IsTame Known (inst_at f i).operands)
+    (returns : (i : ℕ) → i + 1 ≡ length f.insts → (inst_at f i).is_ret ≡ true) where
+  -- the places of one more instruction
+  more_places : (i : ℕ) (b p : List Place) (t u : Tables) → (lt : i < length f.insts) → (a : AllocatesAt i (inst_at f i) (offset_of f i) b p t u)
+      → InstKept env Known (before (length f.insts)) (inst_at f i).operands a.here t u
+      → ((j k : ℕ) → i + 1 ≤ j → j < length f.insts → k < length (inst_at f j).operands → HasGood env t.slots.count f b j k)
+      → (j k : ℕ) → i ≤ j → j < length f.insts → k < length (inst_at f j).operands → HasGood env u.slots.count f p j k
+  more_places i b p t u lt a here rest j k le less within = elim (cases_eq j i) [
+    | inl e ↦ (let P : ℕ → Type 0 = λ n. k < length (inst_at f n).operands → HasGood env u.slots.count f p n k in
+        subst P (sym e) (λ w. record {
+          good = subst (IsGood env u.slots.count (op_at (inst_at f i).operands k)) (sym (a.inside k w)) (here.good k w);
+          shared = λ n is. (let m : n < length (inst_at f i).operands = ((tame i lt).named k n w is).0 in (m, a.inside k w ∙ here.shared k n w is ∙ sym (a.inside n m)));
+        }) within)
+    | inr d ↦ (
+        let m : ℕ = j - (i + 1) in
+        let r = offset_rises f (i + 1) m (omega arith) in
+        let n = offset_next f i lt in
+        let s : offset_of f (i + 1 + m) ≡ offset_of f j = ap (offset_of f) (omega arith) in
+        let g = rest j k (omega arith) less within in
+        let same : (x : ℕ) → place_of f p j x ≡ place_of f b j x = λ x. a.outside (offset_of f j + x) (inr (omega arith)) in
+        record {
+          good = subst (IsGood env u.slots.count (op_at (inst_at f j).operands k)) (sym (same k)) (good_grows env t.slots.count u.slots.count (op_at (inst_at f j).operands k) (place_of f b j k) here.grows g.good);
+          shared = λ x is. ((g.shared x is).0, same k ∙ (g.shared x is).1 ∙ sym (same x));
+        })
+  ]
 
-pub walk_kept : (env : MachineValue) (f : FunctionValue) (blank : List Place) (old : Tables) → IsBlank old → old.edits ≡ [] → IsSound env (before (length f.insts)) old
-    → (i : ℕ) (places : List Place) (t : Tables) → Walks f blank old i places t → WalkKept env f i places t
-walk_kept env f blank old empty none h i places t untouched = record { sound = h; good = λ j le less k within. absurd (omega arith) }
-walk_kept env f blank old empty none h i places t (one_more n b p s u lt prev a) =
-    let w = walk_kept env f blank old empty none h (n + 1) b s prev in
-    ⊎_elim
-    (λ (e : n + 1 ≡ length f.insts).
-    let start : s ≡ old = at_start f blank old (n + 1) b s prev e in
-    let x = allocates_last env (before (length f.insts)) n (inst_at f n).operands a.blank a.here s u (omega arith) a.blank_long a.allocates
-    (subst IsBlank (sym start) empty) (ap (λ (z : Tables). z.edits) start ∙ none) w.sound in
-    record { sound = x.0; good = more_places env f n b p s u lt a x.1 w.good })
-    (λ (d : n + 1 ≢ length f.insts).
-    let x = allocates_sound env (before (length f.insts)) n (inst_at f n).operands a.blank a.here s u (omega arith) a.blank_long a.allocates w.sound in
-    record { sound = x.0; good = more_places env f n b p s u lt a x.1 w.good })
-    (same_number (n + 1) (length f.insts))
+  pub walk_kept : (blank : List Place) (old : Tables) → IsEmpty old → old.edits ≡ [] → IsSafe env Known (before (length f.insts)) old
+      → (i : ℕ) (places : List Place) (t : Tables) → Walks f blank old i places t → WalkKept env Known f i places t
+  walk_kept blank old empty none h i places t untouched = record { safe = h; good = λ j k le less within. absurd (omega arith) }
+  walk_kept blank old empty none h i places t (one_more n b p s u lt prev a) =
+      let w = walk_kept blank old empty none h (n + 1) b s prev in
+      let inst : InstValue = inst_at f n in
+      elim (cases_eq (n + 1) (length f.insts)) [
+        | inl e ↦ (
+            let start : s ≡ old = at_start f blank old (n + 1) b s prev e in
+            let nobody : IsEmpty s = subst IsEmpty (sym start) empty in
+            let fresh : s.edits ≡ [] = ap (λ (z : Tables). z.edits) start ∙ none in
+            let still : a.allocates.after_early.edits ≡ s.edits = calm_last Known n inst a.blank a.here s u (tame n lt) (returns n e) a.allocates nobody in
+            let x = allocates_last_kept env apart Known (before (length f.insts)) n inst a.blank a.here s u (omega arith) (tame n lt) a.allocates fresh (still ∙ fresh) w.safe in
+            record { safe = x.safe; good = more_places n b p s u lt a x w.good })
+        | inr d ↦ (
+            let x = allocates_kept env apart Known (before (length f.insts)) n inst a.blank a.here s u (omega arith) (tame n lt) a.allocates w.safe in
+            record { safe = x.safe; good = more_places n b p s u lt a x w.good })
+      ]

@@ -1,8 +1,10 @@
+pub mod Constraints
+pub mod Walks
+pub mod Steps
 pub mod Lack
 pub mod Profile
 pub mod Promise
 pub mod Reason
+pub mod Reserving
 pub mod Sound
-pub mod Steps
 pub mod Tables
-pub mod Walks

@@ -1,11 +1,12 @@
--- What the allocator takes so far: one straight block, whose operands stand in any register.
+-- What the allocator takes so far: one straight block, without limits.
 use Rattle.std.specs.Prelude.{ℕ, ◌≡◌, ◌+◌, ◌<◌, ◌⊎◌, false, nat_eq, [], All, length}
-use Rattle.regalloc2_names.specs.declared.OperandConstraint.TheVariants.{Reg}
+use Rattle.regalloc2_names.specs.declared.OperandConstraint.TheVariants.{Reg, Limit}
 use Rattle.regalloc2_names.specs.declared.OperandKind.TheVariants.{Def, Use}
 use Rattle.regalloc2_names.specs.declared.OperandPos.TheVariants.{Early, Late}
 use Rattle.regalloc2_names.specs.Register.{Register}
 use Rattle.regalloc2_names.specs.RegisterSet.{has_register}
 use Rattle.regalloc2_names.specs.Operand.{OperandValue}
+use Rattle.regalloc2_names.specs.Packing.{IsConstraintOf}
 use Rattle.regalloc2_function.specs.FunctionValue.{FunctionValue, BlockValue, InstValue, block_at, inst_at}
 
 -- a block that is entered by the function's start alone, leads nowhere, and has all instructions, of which there is one at least
@@ -28,21 +29,11 @@ pub record IsStraightBlock (f : FunctionValue) : Type 0 where
   pub block : HasAll f (block_at f 0)
   pub returns : (i : ℕ) → i < length f.insts → IsLastReturn f i (inst_at f i)
 
--- a late definition or an early use, in any register
-abbrev pub IsPlainOperand : OperandValue → Type 0
-IsPlainOperand o = (((o.kind ≡ Def) × (o.position ≡ Late)) ⊎ ((o.kind ≡ Use) × (o.position ≡ Early))) × (o.constraint ≡ Reg)
+-- an operand that the walk takes: any but one with a limit; a register that it names is of its class
+pub record IsTaken (o : OperandValue) : Type 0 where
+  pub of_class : IsConstraintOf o.vreg.class o.constraint
+  pub unlimited : (n : ℕ) → o.constraint ≡ Limit n → ⊥
 
--- an instruction of such operands, which clobbers nothing
-pub record IsPlain (i : InstValue) : Type 0 where
-  pub operands : All IsPlainOperand i.operands
-  pub clobbers : (r : Register) → has_register i.clobbers r ≡ false
-
--- each instruction is plain
-abbrev pub ArePlain : FunctionValue → Type 0
-ArePlain f = (i : ℕ) → i < length f.insts → IsPlain (inst_at f i)
-
--- the first instruction that isn't
-pub record IsFirstOther (f : FunctionValue) (i : ℕ) : Type 0 where
-  pub there : i < length f.insts
-  pub fails : IsPlain (inst_at f i) → ⊥
-  pub passed : (j : ℕ) → j < i → IsPlain (inst_at f j)
+-- each operand of each instruction
+abbrev pub AreTaken : FunctionValue → Type 0
+AreTaken f = (i : ℕ) → i < length f.insts → All IsTaken (inst_at f i).operands

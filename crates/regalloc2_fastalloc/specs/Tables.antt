@@ -114,24 +114,31 @@ NeverRise es = (i j : ℕ) (d : ℕ × MoveValue) → i ≤ j → j < length es 
 abbrev pub NoneBefore : ℕ → List (ℕ × MoveValue) → Type 0
 NoneBefore point es = All (λ e. point ≤ e.0) es
 
--- the moves with one more, unless its destination is none or its source
-abbrev pub sent : ℕ → Place → Place → List (ℕ × MoveValue) → List (ℕ × MoveValue)
-sent point from to es = if is_no_place to || is_place from to then es else es ++ (point, record { from = from; to = to }) ∷ []
-
--- the allocatable registers, and for each class the order of their use, the newest first
+-- The allocatable registers, and for each class the order of their use, the newest first; those that are fixed stack slots; the register of each class that is kept for moves from stack to stack;
+-- how many of each class may be allocated.
 pub record RegistersValue : Type 0 where
   pub allocatable : PRegSet
   pub rings : List (List Register)
+  pub fixed_stack : PRegSet
+  pub dedicated : List (Option Register)
+  pub counts : List ℕ
+
+-- what the machine has stays, in whatever order its registers were used
+pub record SameRegisters (old new : RegistersValue) : Type 0 where
+  pub allocatable : new.allocatable ≡ old.allocatable
+  pub fixed_stack : new.fixed_stack ≡ old.fixed_stack
+  pub dedicated : new.dedicated ≡ old.dedicated
+  pub counts : new.counts ≡ old.counts
 
 abbrev pub ring_of : RegistersValue → RegClass → List Register
 ring_of t class = slice_index_or t.rings (class_code class) []
 
 -- the ring of each class has its allocatable registers
-pub record AreRings (t : RegistersValue) : Type 0 where
-  pub three : length t.rings ≡ 3
-  pub of_class : (c : RegClass) (r : Register) → Contains (ring_of t c) r → (r.class ≡ c) × (r.number < 64)
-  pub has : (c : RegClass) (r : Register) → Contains (ring_of t c) r → has_register t.allocatable r ≡ true
-  pub all : (r : Register) → r.number < 64 → has_register t.allocatable r ≡ true → Contains (ring_of t r.class) r
+pub record AreRings (allocatable : PRegSet) (rings : List (List Register)) : Type 0 where
+  pub three : length rings ≡ 3
+  pub of_class : (c : RegClass) (r : Register) → Contains (slice_index_or rings (class_code c) []) r → (r.class ≡ c) × (r.number < 64)
+  pub has : (c : RegClass) (r : Register) → Contains (slice_index_or rings (class_code c) []) r → has_register allocatable r ≡ true
+  pub all : (r : Register) → r.number < 64 → has_register allocatable r ≡ true → Contains (slice_index_or rings (class_code r.class) []) r
 
 -- the register is the oldest of its class in a set
 pub record IsFoundIn (t : RegistersValue) (class : RegClass) (free : PRegSet) (r : Register) : Type 0 where

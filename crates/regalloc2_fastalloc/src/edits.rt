@@ -2,7 +2,7 @@
 
 ghost use Rattle.std.specs.Prelude.{◌≡◌, ◌≤◌, ◌++◌, ◌∷◌, [], All, OnOk, IfOk, IfErr, map, reverse};
 ghost use Rattle.regalloc2_function.specs.Views.{edit_of};
-ghost use Rattle.regalloc2_fastalloc.specs.Tables.{NeverRise, NoneBefore, sent};
+ghost use Rattle.regalloc2_fastalloc.specs.Tables.{NeverRise, NoneBefore};
 
 use regalloc2_function::Edit;
 use regalloc2_names::{Allocation, ProgPoint, RegAllocError};
@@ -37,24 +37,6 @@ impl<A: Allocator> Edits<A> {
         Edits {
             pushed: Vec::new(alloc),
         }
-    }
-
-    /// One more move, unless it goes nowhere: to no place, or to where it comes from.
-    pub fn send(
-        &mut self,
-        point: ProgPoint,
-        from: Allocation,
-        to: Allocation,
-    ) -> Result<(), RegAllocError>
-        requires { NoneBefore point self.old }
-        ensures ok { OnOk result (self.new ≡ sent point from to self.old) }
-        ensures err { IfErr result (λ e. e ≡ RegAllocError.Memory) }
-        ensures later { NoneBefore point self.new }
-    {
-        if to.is_none() || from == to {
-            return Ok(());
-        }
-        self.push(point, from, to)
     }
 
     /// One more move, listed before all others, at a point that comes after none of theirs.

@@ -20,17 +20,23 @@ use regalloc2_names::RegAllocError;
 use regalloc2_shape::ssa::test_definitions;
 use std::alloc::{Allocator, Global};
 
+mod allocate;
 mod allocs;
+mod choose;
+mod constraints;
 mod edits;
+mod insts;
 mod places;
 mod profile;
 mod registers;
+mod reserve;
+mod scratch;
 mod slots;
 mod state;
-mod steps;
-mod walk;
+mod turn;
 
-use profile::{test_operands, test_straight_block};
+use constraints::{test_fixed, test_limits};
+use profile::test_straight_block;
 
 /// An algorithm of register allocation. Upstream has a second one, `Ion`, which is left out.
 #[derive(Clone, Copy, Debug, Default, PartialEq, Eq)]
@@ -81,13 +87,17 @@ impl<A: Allocator + Copy> Ctx<A> {
 ///
 /// Refused are, in this order: 2^32 operands or more, by `TooManyOperands`; a function that isn't one straight block, by `BB`
 /// with block 0; where `options.validate_ssa` is true, definitions and then uses that aren't sound, by `SSA` as
-/// `test_definitions` says; an operand other than a late definition or an early use under `Reg`, or a clobber, by `Unsupported`
-/// with the first such instruction. Only after all these tests comes `TooManyLiveRegs`, where an instruction asks for more
-/// registers than there are, or `TooManySpillSlots`, where a slot would end past 2^24. `Memory` comes where memory was refused;
-/// the first two tests ask for none.
+/// `test_definitions` says, and then reuses that aren't sound and registers fixed beside clobbers, by `Unsupported` with the
+/// first such instruction; an operand under `Limit`, by `Unsupported` with the first such instruction. Only after all these
+/// tests comes `TooManyLiveRegs`, where an instruction asks for more registers than there are, or `TooManySpillSlots`, where a
+/// slot would end past 2^24. `Memory` comes where memory was refused; the first two tests ask for none.
+///
+/// A reuse is sound where it is a late definition that names an early use, which no other one names, of a virtual register of
+/// its class, in any register or fixed to an allocatable one. No definition, late use or reused operand may be fixed to a
+/// clobber of its instruction.
 ///
 /// The contract doesn't say which registers are chosen, nor how many moves are made. Upstream's `run` makes the same tests in
-/// another order, and takes functions of any blocks and operands.
+/// another order, takes reuses and fixed registers for granted, and takes functions of any blocks.
 pub fn run<A: Allocator + Copy, F: Function, B: Allocator>(
     alloc: A,
     f: &F,
@@ -114,11 +124,12 @@ pub fn run<A: Allocator + Copy, F: Function, B: Allocator>(
     test_straight_block(f)?;
     if options.validate_ssa {
         test_definitions(alloc, f)?;
+        test_fixed(f, env)?;
     }
-    test_operands(f)?;
+    test_limits(f)?;
     // a law, which the contract needs: the call does nothing
     reads_the_same_numbers();
-    walk::allocate(alloc, f, env)
+    allocate::allocate_block(alloc, f, env)
 }
 
 /// Allocates registers to a function, and puts the output into `ctx.output`.

@@ -1,16 +1,12 @@
-//! The tests of what the allocator takes so far: one straight block, whose operands stand in any register.
+//! The test of what the allocator takes so far: one straight block.
 
-ghost use Rattle.std.specs.Prelude.{◌≡◌, ◌<◌, ◌↔◌, ℕ, false, IfErr, IsOk, IsTrue, length};
-ghost use Rattle.regalloc2_names.specs.Register.{Register};
-ghost use Rattle.regalloc2_names.specs.RegisterSet.{has_register};
+ghost use Rattle.std.specs.Prelude.{◌≡◌, ◌<◌, ◌↔◌, ℕ, IfErr, IsOk, IsTrue, length};
 ghost use Rattle.regalloc2_function.specs.FunctionValue.{block_at, inst_at};
-ghost use Rattle.regalloc2_fastalloc.specs.Profile.{ArePlain, HasAll, IsFirstOther, IsLastReturn, IsPlain, IsPlainOperand, IsStraightBlock};
+ghost use Rattle.regalloc2_fastalloc.specs.Profile.{HasAll, IsLastReturn, IsStraightBlock};
 
 use regalloc2_function::Function;
 use regalloc2_index::{Block, Inst};
-use regalloc2_names::{
-    Operand, OperandConstraint, OperandKind, OperandPos, PRegSet, RegAllocError, RegClass,
-};
+use regalloc2_names::RegAllocError;
 
 /// Whether a block is entered by the function's start alone, leads nowhere and has all instructions.
 fn has_all<F: Function>(f: &F, block: Block) -> bool
@@ -78,50 +74,4 @@ pub fn test_straight_block<F: Function>(f: &F) -> Result<(), RegAllocError>
     } else {
         Err(RegAllocError::BB(Block::new(0)))
     }
-}
-
-/// Whether an operand is a late definition or an early use, in any register.
-fn is_plain_operand(operand: Operand) -> bool
-    ensures { IsTrue result ↔ IsPlainOperand operand }
-{
-    let is_timely = match operand.kind() {
-        OperandKind::Def => operand.pos() == OperandPos::Late,
-        OperandKind::Use => operand.pos() == OperandPos::Early,
-    };
-    is_timely && matches!(operand.constraint(), OperandConstraint::Reg)
-}
-
-/// Whether a set has no register at all.
-fn is_no_set(set: PRegSet) -> bool
-    ensures { IsTrue result ↔ ((r : Register) → has_register set r ≡ false) }
-{
-    set.is_empty(RegClass::Int) && set.is_empty(RegClass::Float) && set.is_empty(RegClass::Vector)
-}
-
-/// Whether an instruction has such operands alone, and clobbers nothing.
-fn is_plain<F: Function>(f: &F, inst: Inst) -> bool
-    requires { inst < length (F.function f.now).insts }
-    ensures { IsTrue result ↔ IsPlain (inst_at (F.function f.now) inst) }
-{
-    let are_plain = f
-        .inst_operands(inst)
-        .iter()
-        .all(|operand| is_plain_operand(*operand));
-    are_plain && is_no_set(f.inst_clobbers(inst))
-}
-
-/// Tests that each operand is a late definition or an early use under `Reg`, and that no instruction clobbers a register.
-///
-/// Else the first instruction that breaks this is refused by `Unsupported`. Upstream takes operands of every form.
-pub fn test_operands<F: Function>(f: &F) -> Result<(), RegAllocError>
-    ensures ok { IsOk result ↔ ArePlain (F.function f.now) }
-    ensures first { IfErr result (λ e. (i : ℕ) × (e ≡ RegAllocError.Unsupported i) × IsFirstOther (F.function f.now) i) }
-{
-    for i in 0..f.num_insts() {
-        let inst = Inst::new(i);
-        if !is_plain(f, inst) {
-            return Err(RegAllocError::Unsupported(inst));
-        }
-    }
-    Ok(())
 }

@@ -1,12 +1,12 @@
 //! The registers that may be allocated.
 
-ghost use Rattle.std.specs.Prelude.{◌≡◌, ◌≢◌, ◌↔◌, ◌<◌, ◌∷◌, true, false, not, filter, IsTrue, IfSome, IfNone, IfOk, IfErr};
+ghost use Rattle.std.specs.Prelude.{ℕ, ◌≡◌, ◌≢◌, ◌↔◌, ◌<◌, ◌≤◌, ◌∷◌, ◌||◌, ◌⊎◌, true, false, not, filter, Contains, IsTrue, IfSome, IfNone, IfOk, IfErr, None, slice_index, slice_index_or};
 ghost use Rattle.regalloc2_names.specs.declared.RegClass.{RegClass};
 ghost use Rattle.regalloc2_function.specs.Machine.{is_allocatable};
 ghost use Rattle.regalloc2_function.specs.Views.{machine_of};
 ghost use Rattle.regalloc2_names.specs.Register.{Register, class_code, is_register};
 ghost use Rattle.regalloc2_names.specs.RegisterSet.{has_register};
-ghost use Rattle.regalloc2_fastalloc.specs.Tables.{IsFoundIn, NoneIsFoundIn, AreThoseBelow, ring_of};
+ghost use Rattle.regalloc2_fastalloc.specs.Tables.{IsFoundIn, NoneIsFoundIn, AreThoseBelow, SameRegisters, ring_of};
 
 use regalloc2_function::MachineEnv;
 use regalloc2_names::{PReg, PRegSet, RegAllocError, RegClass};
@@ -19,6 +19,12 @@ use std::marker::Model;
 pub struct Registers<A: Allocator> {
     allocatable: PRegSet,
     rings: Lrus<A>,
+    /// Those that are fixed stack slots.
+    fixed_stack: PRegSet,
+    /// The register of each class that is kept for moves from stack to stack.
+    dedicated: [Option<PReg>; 3],
+    /// How many of each class may be allocated.
+    counts: [usize; 3],
 }
 
 impl<A: Allocator> Model for Registers<A> {
@@ -26,9 +32,9 @@ impl<A: Allocator> Model for Registers<A> {
 
     ghost Value = { RegistersValue };
 
-    ghost view = { λ t. record { allocatable = t.allocatable; rings = t.rings.items } };
+    ghost view = { λ t. record { allocatable = t.allocatable; rings = t.rings.items; fixed_stack = t.fixed_stack; dedicated = t.dedicated; counts = t.counts } };
 
-    ghost invariant = { λ t. AreRings (record { allocatable = t.allocatable; rings = t.rings.items }) };
+    ghost invariant = { λ t. AreRings t.allocatable t.rings.items };
 }
 
 /// Where the ring of a class stands.
@@ -59,11 +65,22 @@ fn class_registers<A: Allocator>(
 }
 
 /// The allocatable registers of a class.
-fn allocatable_of<A: Allocator>(env: &MachineEnv<A>, class: RegClass) -> PRegSet
+pub fn allocatable_of<A: Allocator>(env: &MachineEnv<A>, class: RegClass) -> PRegSet
     ensures { (r : Register) → has_register result r ≡ is_allocatable (machine_of env.now) class r }
 {
     let index = ring_index(class);
     env.preferred_regs_by_class[index] | env.non_preferred_regs_by_class[index]
+}
+
+/// The set of some registers.
+fn set_of(regs: &[PReg]) -> PRegSet
+    ensures { (r : Register) → (has_register result r ≡ true) ↔ Contains regs.now r }
+{
+    let mut set = PRegSet::empty();
+    for k in 0..regs.len() {
+        set.add(regs[k]);
+    }
+    set
 }
 
 impl<A: Allocator + Copy> Registers<A> {
@@ -71,6 +88,9 @@ impl<A: Allocator + Copy> Registers<A> {
     pub fn new<B: Allocator>(alloc: A, env: &MachineEnv<B>) -> Result<Self, RegAllocError>
         requires { (c : RegClass) (r : Register) → is_allocatable (machine_of env.now) c r ≡ true → r.class ≡ c }
         ensures ok { IfOk result (λ t. (r : Register) → r.number < 64 → has_register t.allocatable r ≡ true → is_allocatable (machine_of env.now) r.class r ≡ true) }
+        ensures fixed_stack { IfOk result (λ t. (r : Register) → (has_register t.fixed_stack r ≡ true) ↔ Contains (machine_of env.now).fixed_stack_slots r) }
+        ensures dedicated { IfOk result (λ t. t.dedicated ≡ (machine_of env.now).scratch) }
+        ensures small { IfOk result (λ t. (r : Register) → (has_register t.allocatable r ≡ true) ⊎ (has_register t.fixed_stack r ≡ true) → r.number < 64) }
         ensures err { IfErr result (λ e. e ≡ RegAllocError.Memory) }
     {
         let int = allocatable_of(env, RegClass::Int);
@@ -83,24 +103,74 @@ impl<A: Allocator + Copy> Registers<A> {
         Ok(Registers {
             allocatable: int | float | vector,
             rings,
+            fixed_stack: set_of(&env.fixed_stack_slots),
+            dedicated: [
+                env.scratch_by_class[0],
+                env.scratch_by_class[1],
+                env.scratch_by_class[2],
+            ],
+            counts: [int_regs.len(), float_regs.len(), vector_regs.len()],
         })
     }
 }
 
 impl<A: Allocator> Registers<A> {
-    /// The registers of all classes that may be allocated.
-    pub fn allocatable(&self) -> PRegSet
-        ensures { result ≡ self.now.allocatable }
+    /// The registers of all classes that may be allocated, and the fixed stack slots.
+    pub fn every(&self) -> PRegSet
+        ensures { (r : Register) → has_register result r ≡ has_register self.now.allocatable r || has_register self.now.fixed_stack r }
     {
-        self.allocatable
+        self.allocatable | self.fixed_stack
     }
 
-    /// Whether values of a class may stand in the register.
-    pub fn may_hold(&self, preg: PReg, class: RegClass) -> bool
-        ensures holds { IsTrue result ↔ ((preg.class ≡ class) × (has_register self.now.allocatable preg ≡ true)) }
-        ensures in_range { preg.number < 64 }
+    /// Whether the register may be allocated.
+    pub fn is_allocatable(&self, preg: PReg) -> bool
+        ensures { result ≡ has_register self.now.allocatable preg }
     {
-        preg.class() == class && self.allocatable.contains(preg)
+        self.allocatable.contains(preg)
+    }
+
+    /// Whether the register is a fixed stack slot.
+    pub fn is_fixed_stack(&self, preg: PReg) -> bool
+        ensures { result ≡ has_register self.now.fixed_stack preg }
+    {
+        self.fixed_stack.contains(preg)
+    }
+
+    /// The register of the class that is kept for moves from stack to stack.
+    pub fn dedicated(&self, class: RegClass) -> Option<PReg>
+        ensures { result ≡ slice_index_or self.now.dedicated (class_code class) None }
+    {
+        self.dedicated[ring_index(class)]
+    }
+
+    /// How many registers of the class may be allocated.
+    pub fn count(&self, class: RegClass) -> usize
+        ensures { result ≡ slice_index self.now.counts (class_code class) }
+    {
+        self.counts[ring_index(class)]
+    }
+
+    /// How many registers of the class are to be kept for moves from stack to stack: one where there are fixed stack
+    /// slots of the class, and no register for such moves.
+    fn spare_of(&self, class: RegClass) -> usize
+        ensures { result ≤ 1 }
+    {
+        if self.fixed_stack.is_empty(class) || self.dedicated(class).is_some() {
+            0
+        } else {
+            1
+        }
+    }
+
+    /// How many registers of each class are to be kept for moves from stack to stack.
+    pub fn spare(&self) -> [usize; 3]
+        ensures { (c : ℕ) → slice_index result c ≤ 1 }
+    {
+        [
+            self.spare_of(RegClass::Int),
+            self.spare_of(RegClass::Float),
+            self.spare_of(RegClass::Vector),
+        ]
     }
 
     /// The register of the class in the set that was used longest ago.
@@ -114,7 +184,7 @@ impl<A: Allocator> Registers<A> {
     /// The register was used just now: it is the newest of its class from now on, and the others keep their order.
     pub fn poke(&mut self, preg: PReg)
         requires member { has_register self.old.allocatable preg ≡ true }
-        ensures allocatable { self.new.allocatable ≡ self.old.allocatable }
+        ensures machine { SameRegisters self.old self.new }
         ensures newest { ring_of self.new preg.class ≡ preg ∷ filter (λ r. not (is_register preg r)) (ring_of self.old preg.class) }
         ensures others { (class : RegClass) → class ≢ preg.class → ring_of self.new class ≡ ring_of self.old class }
     {

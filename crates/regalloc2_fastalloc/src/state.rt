@@ -1,10 +1,10 @@
 //! The tables of the walk.
 
-ghost use Rattle.std.specs.Prelude.{◌≡◌, ◌<◌, length, true, IfOk, IfErr, [], ◌∷◌};
+ghost use Rattle.std.specs.Prelude.{◌≡◌, ◌<◌, ◌↔◌, ◌⊎◌, length, true, IfOk, IfErr, [], ◌∷◌};
 ghost use Rattle.regalloc2_names.specs.Register.{Register};
 ghost use Rattle.regalloc2_names.specs.RegisterSet.{has_register};
 ghost use Rattle.regalloc2_function.specs.FunctionValue.{slot_size};
-ghost use Rattle.regalloc2_function.specs.Machine.{is_allocatable};
+ghost use Rattle.regalloc2_function.specs.Machine.{is_allocatable, IsFixedStackSlot};
 ghost use Rattle.regalloc2_function.specs.Fitting.{MachineFits};
 ghost use Rattle.regalloc2_function.specs.Views.{machine_of};
 ghost use Rattle.regalloc2_fastalloc.specs.Tables.{nobody_stands, no_slots};
@@ -40,6 +40,9 @@ impl<A: Allocator + Copy> State<A> {
             s.slots ≡ no_slots (F.function f.now).num_vregs (slot_size sizes RegClass.Int ∷ slot_size sizes RegClass.Float ∷ slot_size sizes RegClass.Vector ∷ []) (F.function f.now).named_by_last_slot)) }
         ensures edits { IfOk result (λ s. s.edits ≡ []) }
         ensures registers { IfOk result (λ s. (r : Register) → r.number < 64 → has_register s.registers.allocatable r ≡ true → is_allocatable (machine_of env.now) r.class r ≡ true) }
+        ensures fixed_stack { IfOk result (λ s. (r : Register) → (has_register s.registers.fixed_stack r ≡ true) ↔ IsFixedStackSlot (machine_of env.now) r) }
+        ensures dedicated { IfOk result (λ s. s.registers.dedicated ≡ (machine_of env.now).scratch) }
+        ensures small { IfOk result (λ s. (r : Register) → (has_register s.registers.allocatable r ≡ true) ⊎ (has_register s.registers.fixed_stack r ≡ true) → r.number < 64) }
         ensures err { IfErr result (λ e. e ≡ RegAllocError.Memory) }
     {
         let vregs = f.num_vregs();

@@ -1,10 +1,11 @@
-use Rattle.std.proofs.Common.{◌≡◌, List, [], Bool, true, ap, ◌∙◌, sym, subst, slice_index_or}
+use Rattle.std.proofs.Common.{ℕ, ◌≡◌, ◌<◌, inl, inr, rules, slice_index, List, [], Bool, true, ap, ◌∙◌, sym, subst, slice_index_or}
 use Rattle.std.specs.Prelude.{◌||◌}
 use Rattle.regalloc2_names.specs.declared.RegClass.{RegClass}
 use Rattle.regalloc2_names.specs.declared.RegClass.TheVariants.{Int, Float, Vector}
 use Rattle.regalloc2_names.specs.declared.sets.PRegSet.{PRegSet}
 use Rattle.regalloc2_names.specs.Register.{Register}
 use Rattle.regalloc2_names.specs.RegisterSet.{has_register}
+use Rattle.regalloc2_names.specs.Listed.{has_register-small}
 use Rattle.regalloc2_function.specs.Machine.{is_allocatable}
 use Rattle.regalloc2_function.specs.Views.{machine_of}
 use Rattle.regalloc2_parts.specs.Ring.{IsNewRing}
@@ -47,3 +48,12 @@ returns-clause-ok g c = λ r lt h.
     (λ x. subst P (sym (u.int_class r x)) (sym (c.allocatable_of-int.ensures r) ∙ x))
     (λ x. subst P (sym (u.float_class r x)) (sym (c.allocatable_of-float.ensures r) ∙ x))
     (λ x. subst P (sym (u.vector_class r x)) (sym (c.allocatable_of-vector.ensures r) ∙ x))
+
+pub returns-clause-small : goal.returns-clause-small
+returns-clause-small g c =
+    let every_fits : (i : ℕ) → slice_index c.bitor-2.result.bits i < 18446744073709551616 = λ i. search rules in
+    let fixed_fits : (i : ℕ) → slice_index c.set_of.result.bits i < 18446744073709551616 = λ i. search rules in
+    λ r h. elim h [
+      | inl a ↦ has_register-small c.bitor-2.result every_fits r a
+      | inr b ↦ has_register-small c.set_of.result fixed_fits r b
+    ]

@@ -15,5 +15,5 @@ returns-clause-found g c =
     let P : RegistersValue → Type 0 = λ t. IfSome c.last.result (λ r. IsFoundIn t c.args.class c.args.free r) in
     let Q : List Register → Type 0 = λ l. IfSome c.last.result (λ r. Contains l r) in
     subst P c.self.view_is
-    (found_in (record { allocatable = c.self.inside.allocatable; rings = rings }) c.args.class c.args.free c.last.result c.self.invariant
+    (found_in (record { allocatable = c.self.inside.allocatable; rings = rings; fixed_stack = c.self.inside.fixed_stack; dedicated = c.self.inside.dedicated; counts = c.self.inside.counts }) c.args.class c.args.free c.last.result c.self.invariant
     (subst Q (sym c.index-self-ring_index.is ∙ ring) c.last.ensures.member) c.last.ensures.in_set)

@@ -1,0 +1,73 @@
+-- From the last operand of an instruction to the boundary before it: across the instruction, and the moves of its uses.
+use Rattle.std.proofs.Common.{ℕ, suc, ◌≡◌, ◌≢◌, ◌+◌, ◌<◌, ◌≤◌, Bool, true, false, List, [], ◌∷◌, length, refl, arith, sym, ap, ◌∙◌, subst, inl, inr, ◌⊎◌, ⊎_elim}
+use Rattle.std.specs.Prelude.{Option, None, Some, slice_index_or}
+use Rattle.std.proofs.lemmas.Bool.{cases_Bool}
+use Rattle.regalloc2_names.specs.declared.RegClass.{RegClass}
+use Rattle.regalloc2_names.specs.declared.sets.PRegSet.{PRegSet}
+use Rattle.regalloc2_names.specs.Register.{Register, VirtualRegister}
+use Rattle.regalloc2_names.specs.Operand.{OperandValue}
+use Rattle.regalloc2_names.specs.Place.{Place, NoPlace, InRegister, InSlot}
+use Rattle.regalloc2_names.specs.Point.{before, after}
+use Rattle.regalloc2_function.specs.FunctionValue.{InstValue}
+use Rattle.regalloc2_function.specs.OutputValue.{place_at}
+use Rattle.regalloc2_function.specs.SourceRun.{is_late}
+use Rattle.regalloc2_flow.specs.Listing.{Item, executed}
+use Rattle.regalloc2_flow.specs.Carry.{is_clobbered}
+use Rattle.regalloc2_flow.specs.Walked.{AllFrom, at_point, walked, after_part, before_part, listed}
+use Rattle.regalloc2_flow.specs.Instruction.{Claims, Knows}
+use Rattle.regalloc2_flow.specs.Placed.{What, what_of, Need, Pending, Placed, Once, Counts}
+use Rattle.regalloc2_flow.proofs.Points.{all_from-less}
+use Rattle.regalloc2_flow.proofs.Walking.{walked-more, before_part-clean}
+use Rattle.regalloc2_flow.proofs.Between.{end_all}
+use Rattle.regalloc2_fastalloc.specs.declared.turn.Turn.{Turn}
+use Rattle.regalloc2_fastalloc.specs.Steps.{Tables, op_at, MovesUses}
+use Rattle.regalloc2_fastalloc.proofs.Standing.{stands_at, slots_at, Stands, Owes}
+use Rattle.regalloc2_fastalloc.proofs.Evicting.{kept_all}
+use Rattle.regalloc2_fastalloc.proofs.Scratching.{of_machine}
+use Rattle.regalloc2_fastalloc.proofs.Spanning.{lives_in, cross_stands}
+use Rattle.regalloc2_fastalloc.proofs.Laying.{Orderly, Turned, Laid}
+use Rattle.regalloc2_fastalloc.proofs.Moving.{Pends, Moves, moves_done}
+use Rattle.regalloc2_fastalloc.proofs.Opening.{Carried}
+
+-- after both passes each operand had its turn
+turned_all : (ops : List OperandValue) (j : ℕ) → Counts ops j → Turned ops false (length ops) j
+turned_all ops j c = inr (refl, ⊎_elim (λ (l : is_late (op_at ops j).position ≡ true). inl l) (λ (e : is_late (op_at ops j).position ≡ false). inr c.0) (cases_Bool (is_late (op_at ops j).position)))
+
+module _ (Known : VirtualRegister → Type 0) (insts : ℕ → InstValue) (placesf : ℕ → List Place) (E : VirtualRegister → Place → Type 0) (i n : ℕ) where
+  -- all operands are placed, and the uses are moved
+  pub closed : (lived : ℕ → Bool) (ret : Bool) (places : List Place) (u w : Turn) (t new : Tables) → Orderly (insts i).operands → Knows Known (insts i).operands →
+      ((k : ℕ) → k < length (insts i).operands → place_at (placesf i) k ≡ slice_index_or places k NoPlace) →
+      Laid Known insts placesf i n E (insts i).operands lived (is_clobbered (insts i).clobbers) ret false (length (insts i).operands) places u t →
+      MovesUses (before i) (insts i).operands places u t (length (insts i).operands) w new → Carried Known insts placesf E i (suc n) new
+  closed lived ret places u w t new o knows are_listed l moves =
+      let ops : List OperandValue = (insts i).operands in
+      let clob : Place → Bool = is_clobbered (insts i).clobbers in
+      let all : (j : ℕ) → Counts ops j → l.done j ≡ true = λ j c. l.all j c (turned_all ops j c) in
+      let counted : (j : ℕ) → l.done j ≡ true → Counts ops j = λ j d. l.ready.within j (l.ready.stands.placed.claims j d) in
+      let at_places : (j : ℕ) → Counts ops j → slice_index_or places j NoPlace ≡ l.here j = λ j c. l.placed j (all j c) in
+      let item : Item = executed (insts i) (placesf i) in
+      let crossed : Claims Known (item ∷ after_part insts (listed t.edits) placesf i n) (Pending (what_of ops) l.here l.done l.out (stands_at t) (slots_at t) 0) E =
+      cross_stands Known insts placesf i n E ops (placesf i) (insts i).clobbers l.here l.claimed l.done lived l.out clob l.X t knows o.once all counted
+      (λ j c. are_listed j c.0 ∙ at_places j c) (λ p e. e) l.ready.stands l.ready.owes in
+      let begin : Moves Known insts placesf i n item E (what_of ops) l.here l.claimed l.done lived l.out clob l.X 0 u t t = record {
+        stands = l.ready.stands;
+        pends = record {
+          later = all_from-less (before i) (after i) (listed t.edits) (omega arith) l.ready.owes.later;
+          claims = subst (λ y. Claims Known y (Pending (what_of ops) l.here l.done l.out (stands_at t) (slots_at t) 0) E) (sym (before_part-clean insts (listed t.edits) placesf i n item l.ready.owes.later)) crossed;
+        };
+        held = l.ready.held;
+        spare = l.ready.spare;
+        fit = l.ready.fit;
+        kept = kept_all t;
+      } in
+      let m : Moves Known insts placesf i n item E (what_of ops) l.here l.claimed l.done lived l.out clob l.X (length ops) w t new =
+      moves_done Known insts placesf i n item E ops places l.here l.claimed l.done lived l.out clob l.X u t all counted at_places begin (length ops) w new moves (omega arith) in
+      let ended : Claims Known (before_part insts (listed new.edits) placesf i n item) (Need (lives_in new) (λ x. false) (λ p x. false) (stands_at new) (slots_at new)) E =
+      end_all Known E (before_part insts (listed new.edits) placesf i n item) (what_of ops) l.here l.done l.out (lives_in new) (stands_at new) (slots_at new) (length ops) (λ x. refl) (λ j d. (counted j d).0) m.pends.claims in
+      record {
+        whole = m.stands.whole;
+        later = m.pends.later;
+        claims = subst (λ y. Claims Known y (Need (lives_in new) (λ x. false) (λ p x. false) (stands_at new) (slots_at new)) E) (sym (walked-more insts (listed new.edits) placesf i n)) ended;
+        fit = m.fit;
+        apart = λ c b e. (m.spare.idle c b (of_machine e)).nobody_stands;
+      }

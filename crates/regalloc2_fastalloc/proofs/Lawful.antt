@@ -1,0 +1,32 @@
+-- The law of one instruction: what the listing carries before it.
+use Rattle.std.proofs.Common.{ℕ, suc, ◌≡◌, ◌≢◌, ◌+◌, ◌<◌, ◌≤◌, Bool, true, false, List, [], ◌∷◌, length, refl, arith, sym, ap, ◌∙◌, subst, is_some}
+use Rattle.std.specs.Prelude.{Option, None, Some, slice_index_or}
+use Rattle.regalloc2_names.specs.Register.{Register, VirtualRegister}
+use Rattle.regalloc2_names.specs.RegisterSet.{registers_of}
+use Rattle.regalloc2_names.specs.Operand.{OperandValue}
+use Rattle.regalloc2_names.specs.Place.{Place, NoPlace, InRegister, InSlot}
+use Rattle.regalloc2_names.specs.Point.{before, after}
+use Rattle.regalloc2_function.specs.FunctionValue.{FunctionValue, InstValue, inst_at}
+use Rattle.regalloc2_flow.specs.Carry.{is_clobbered}
+use Rattle.regalloc2_flow.specs.Instruction.{Knows}
+use Rattle.regalloc2_fastalloc.specs.declared.turn.Turn.{Turn}
+use Rattle.regalloc2_fastalloc.specs.Tables.{holder}
+use Rattle.regalloc2_fastalloc.specs.Steps.{Tables, Allocates, PlacesAt, ClearsFixed, none_cleared, not_fixed, of_fixed, of_reuse, ClearsAll, none_left, one_more, op_at}
+use Rattle.regalloc2_fastalloc.proofs.Flowing.{place_in, IsWhole}
+use Rattle.regalloc2_fastalloc.proofs.Standing.{opt, opt_none, stands_at}
+use Rattle.regalloc2_fastalloc.proofs.Spanning.{lives_in}
+use Rattle.regalloc2_fastalloc.proofs.Laying.{Orderly, Laid}
+use Rattle.regalloc2_fastalloc.proofs.Turns.{laid_all, laid_over, laid_both}
+use Rattle.regalloc2_fastalloc.proofs.Opening.{AvoidClobbers, Carried, EndsHere, opened}
+use Rattle.regalloc2_fastalloc.proofs.Closing.{closed}
+use Rattle.regalloc2_fastalloc.proofs.Rounding.{EachKeeps}
+
+module _ (Known : VirtualRegister → Type 0) (f : FunctionValue) (placesf : ℕ → List Place) (E : VirtualRegister → Place → Type 0)
+    (orderly : (i : ℕ) → i < length f.insts → Orderly (inst_at f i).operands) (avoids : (i : ℕ) → i < length f.insts → AvoidClobbers (inst_at f i).operands (inst_at f i).clobbers) where
+  pub each_keeps : ((i : ℕ) → i < length f.insts → Knows Known (inst_at f i).operands) → EachKeeps Known f placesf E
+  each_keeps knows i n blank here old new lt are_listed ends a c =
+      let ops : List OperandValue = (inst_at f i).operands in
+      let ret : Bool = (inst_at f i).is_ret in
+      closed Known (inst_at f) placesf E i n (lives_in old) ret here a.early a.ended a.after_early new (orderly i lt) (knows i lt) are_listed
+      (laid_both Known (inst_at f) placesf i n E ops (lives_in old) (is_clobbered (inst_at f i).clobbers) ret (orderly i lt) blank a.half here a.quiet a.late a.early a.after_clobbers a.after_late a.after_early a.lates a.earlies
+      (opened Known (inst_at f) placesf E i n (inst_at f i) blank here old new (orderly i lt) (avoids i lt) ends c a)) a.moves

@@ -1,0 +1,10 @@
+use Rattle.regalloc2_fastalloc.specs.Steps.{tables_of}
+use Rattle.regalloc2_fastalloc.proofs.Choosing.{occupies_counted}
+use Rattle.regalloc2_fastalloc.proofs.state.State.place.Goals as goal
+
+pub returns-clause-ok : goal.returns-clause-ok
+returns-clause-ok g c = record {
+  middle = tables_of c.picked.new.self;
+  picks = c.in_ok-place.ensures.ok;
+  occupies = occupies_counted c.args.point c.args.placing.now c.in_ok-place.place c.args.turn.now c.occupy.new.turn c.note_placed.new.turn (tables_of c.picked.new.self) (tables_of c.occupy.new.self) c.in_ok-occupy.ensures.ok c.note_placed.ensures;
+}

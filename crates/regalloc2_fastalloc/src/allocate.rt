@@ -1,0 +1,53 @@
+//! The whole walk over a straight block.
+
+ghost use Rattle.std.specs.Prelude.{◌≡◌, ◌<◌, ◌^◌, ℕ, length, IfOk, IfErr};
+ghost use Rattle.regalloc2_function.specs.FunctionValue.{operand_count};
+ghost use Rattle.regalloc2_function.specs.Views.{machine_of, output_of};
+ghost use Rattle.regalloc2_function.specs.OutputValue.{IsInOrder};
+ghost use Rattle.regalloc2_function.specs.Faithful.{ConstraintsMet, EditsAreListed, HasNoStackToStack, IsFaithful};
+ghost use Rattle.regalloc2_function.specs.SourceRun.{IsWrittenFirst};
+ghost use Rattle.regalloc2_function.specs.WellFormed.{IsWellFormed};
+ghost use Rattle.regalloc2_function.specs.Fitting.{MachineFits, PlacesAreProper};
+ghost use Rattle.regalloc2_fastalloc.specs.Lack.{IsLack};
+ghost use Rattle.regalloc2_fastalloc.specs.Profile.{IsStraightBlock, AreTaken};
+
+use super::allocs;
+use super::state::State;
+use regalloc2_function::{Function, MachineEnv, Output, count_operands};
+use regalloc2_names::{Allocation, RegAllocError};
+use std::alloc::Allocator;
+
+/// Allocates registers to the operands of a well-formed function of one straight block, of every kind but `Limit`.
+pub fn allocate_block<A: Allocator + Copy, F: Function, B: Allocator>(
+    alloc: A,
+    f: &F,
+    env: &MachineEnv<B>,
+) -> Result<Output<A>, RegAllocError>
+    requires machine { MachineFits (F.function f.now) (machine_of env.now) }
+    requires straight { IsStraightBlock (F.function f.now) }
+    requires taken { AreTaken (F.function f.now) }
+    requires well_formed { IsWellFormed (machine_of env.now) (F.function f.now) }
+    requires few { operand_count (F.function f.now) < 2 ^ 32 }
+    ensures in_order { IfOk result (λ out. IsInOrder (F.function f.now) (output_of out)) }
+    ensures constraints { IfOk result (λ out. (i : ℕ) → i < length (F.function f.now).insts →
+        ConstraintsMet (F.function f.now) (machine_of env.now) (output_of out) i) }
+    ensures proper { IfOk result (λ out. PlacesAreProper (F.function f.now) (machine_of env.now) (output_of out)) }
+    ensures no_stack_to_stack { IfOk result (λ out. HasNoStackToStack (machine_of env.now) (output_of out)) }
+    ensures listed { IfOk result (λ out. EditsAreListed (F.function f.now) (output_of out)) }
+    ensures faithful { IfOk result (λ out. IsWrittenFirst (F.function f.now) → IsFaithful (F.function f.now) (machine_of env.now) (output_of out)) }
+    ensures err { IfErr result IsLack }
+{
+    let total = count_operands(f).unwrap();
+    let offsets = allocs::offsets(alloc, f)?;
+    let mut allocs = vec![in alloc; Allocation::none(); total as usize]?;
+    let mut state = State::new(&alloc, f, env)?;
+    state.allocate_insts(f, &offsets, &mut allocs)?;
+    let edits = state.edits.listed(alloc)?;
+    Ok(Output {
+        num_spillslots: state.slots.count(),
+        edits,
+        allocs,
+        inst_alloc_offsets: offsets,
+        debug_locations: Vec::new(alloc),
+    })
+}
