@@ -2,7 +2,8 @@
 //! of the crate `regalloc2`.
 //!
 //! A client describes its function by an implementation of [`Function`] and its machine by a [`MachineEnv`], calls
-//! [`run`], and reads the [`Output`]. What each item promises stands where it is declared.
+//! [`run`], and reads the [`Output`], which a [`checker::Checker`] judges. What each item promises stands where it is
+//! declared.
 #![tactic(auto)]
 
 pub use regalloc2_fastalloc::{Algorithm, Ctx, RegallocOptions, run, run_into_ctx, run_with_ctx};
@@ -21,8 +22,21 @@ pub use regalloc2_names::{
 pub use regalloc2_parts::moves;
 pub use regalloc2_shape::{cfg, indexset, postorder, ssa};
 
+/// The checker of allocations.
+pub mod checker {
+    pub use regalloc2_checker::{Checker, CheckerError, CheckerErrors, stands_for_every_path};
+}
+
 /// The fast allocator and its parts.
 pub mod fastalloc {
     pub use regalloc2_fastalloc::run;
     pub use regalloc2_parts::{iter, lru, vregset};
+}
+
+/// Functions and outputs as plain data, and as they are read from JSON.
+pub mod serialize {
+    pub use regalloc2_function::{StoredFault, StoredOutput};
+    pub use regalloc2_stored::{
+        FromValue, InstOpcode, SerializableFunction, StoredFunction, StoredInst, StoredMachine,
+    };
 }

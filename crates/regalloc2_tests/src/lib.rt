@@ -6,13 +6,25 @@ pub mod adversary;
 mod blocks;
 #[cfg(test)]
 mod calls;
+#[cfg(test)]
+mod checks;
+#[cfg(test)]
+mod forged;
+#[cfg(test)]
+mod judged;
+#[cfg(test)]
+mod kinds;
 pub mod machines;
+#[cfg(test)]
+mod many;
 #[cfg(test)]
 mod memory;
 #[cfg(test)]
 mod outputs;
 #[cfg(test)]
 mod paths;
+#[cfg(test)]
+mod random;
 #[cfg(test)]
 mod sets;
 #[cfg(test)]

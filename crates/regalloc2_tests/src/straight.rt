@@ -2,13 +2,10 @@
 
 use super::blocks::{
     def, edit, reads, reg, run_fitting, run_into_ctx_fitting, run_with_ctx_fitting, smallest,
-    spilling, stack, straight, vreg,
+    spilling, stack, straight,
 };
 use super::machines::integer_machine;
-use regalloc2::{
-    Algorithm, Ctx, Inst, Operand, OperandConstraint, OperandKind, OperandPos, ProgPoint,
-    RegAllocError, RegallocOptions,
-};
+use regalloc2::{Algorithm, Ctx, Inst, ProgPoint, RegAllocError, RegallocOptions};
 use regalloc2_plain::build::{op, ret};
 use std::test::Fail;
 
@@ -46,25 +43,6 @@ fn spills_where_one_register_serves_two_values(rt: HostRuntime) -> Result<(), Fa
     ];
     assert_eq!(rt; output.edits.as_slice(), edits.as_slice());
     assert_eq!(rt; output.num_spillslots, 1);
-    Ok(())
-}
-
-#[test]
-fn refuses_what_is_not_taken_yet(rt: HostRuntime) -> Result<(), Fail> {
-    let alloc = rt.alloc();
-    let anywhere = Operand::new(
-        vreg(0),
-        OperandConstraint::Any,
-        OperandKind::Use,
-        OperandPos::Early,
-    );
-    let mut insts = Vec::new(alloc);
-    insts.push(op(alloc, &[def(0)])?)?;
-    insts.push(ret(alloc, &[anywhere])?)?;
-    let f = straight(alloc, 1, insts)?;
-    let env = integer_machine(alloc, 10);
-    let refused = run_fitting(&rt, alloc, &f, &env).err();
-    assert_eq!(rt; refused, Some(RegAllocError::Unsupported(Inst::new(1))));
     Ok(())
 }
 
