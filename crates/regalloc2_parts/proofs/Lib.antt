@@ -19,4 +19,5 @@ pub mod Filling
 pub mod Rising
 pub mod Tracking
 pub mod Computing
+pub mod Fronted
 mod Lending

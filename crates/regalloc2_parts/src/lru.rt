@@ -1,6 +1,6 @@
 //! Registers in the order of their last use.
 
-ghost use Rattle.std.specs.Prelude.{◌≡◌, ◌-◌, ◌∷◌, ◌≤◌, ◌↔◌, ◌==◌, IsTrue, false, IfSome, IfNone, IfOk, IfErr, IsNone, All, Contains, length, not, filter, find, reverse, slice_get, slice_index_or, ◌≢◌, [], IsOk};
+ghost use Rattle.std.specs.Prelude.{◌≡◌, ◌-◌, ◌∷◌, ◌<◌, ◌≤◌, ◌↔◌, ◌==◌, IsTrue, false, IfSome, IfNone, IfOk, IfErr, IsNone, All, Contains, length, not, filter, find, reverse, slice_get, slice_index_or, ◌≢◌, [], IsOk};
 ghost use Rattle.std.specs.List.{IsDistinct};
 ghost use Rattle.regalloc2_names.specs.declared.RegClass.{RegClass};
 ghost use Rattle.regalloc2_names.specs.Register.{Register, class_code, is_register};
@@ -40,6 +40,30 @@ fn is_same(a: PReg, b: PReg) -> bool
     a.class() as u8 == b.class() as u8 && a.hw_enc() == b.hw_enc()
 }
 
+/// Where a member stands, sought from the oldest on: a register that is poked is mostly one of the oldest.
+fn position(regs: &[PReg], preg: PReg) -> usize
+    requires { Contains regs.now preg }
+    ensures inside { result < length regs.now }
+    ensures there { slice_index_or regs.now result preg ≡ preg }
+{
+    let mut at = regs.len() - 1;
+    while !is_same(preg, regs[at]) {
+        at -= 1;
+    }
+    at
+}
+
+/// Makes a member the first; the others keep their order.
+fn move_to_front(regs: &mut [PReg], preg: PReg)
+    requires member { Contains regs.old preg }
+    requires distinct { IsDistinct is_register regs.old }
+    ensures moved { regs.new ≡ preg ∷ filter (λ r. not (is_register preg r)) regs.old }
+    ensures long { length regs.new ≡ length regs.old }
+{
+    let at = position(regs, preg);
+    regs[..at + 1].rotate_right(1);
+}
+
 impl<A: Allocator> Lru<A> {
     /// The ring of these registers of class `regclass`, the lowest number newest and the highest oldest.
     ///
@@ -64,8 +88,7 @@ impl<A: Allocator> Lru<A> {
         ensures members { (r : Register) → Contains self.new r ↔ Contains self.old r }
         ensures distinct { IsDistinct is_register self.new }
     {
-        self.regs.retain(|r| !is_same(preg, *r));
-        self.regs.insert(0, preg).unwrap();
+        move_to_front(&mut self.regs, preg);
     }
 
     /// The oldest member, which stays in the ring; `None` for an empty ring.
