@@ -11,6 +11,7 @@ pub mod Counting
 pub mod Sharing
 pub mod Rounds
 pub mod Updates
+pub mod Kept
 pub mod Tracking
 pub mod Inside
 pub mod Start

@@ -3,6 +3,7 @@ pub mod Fixpoint
 pub mod Numbers
 pub mod Meeting
 pub mod Tables
+pub mod Passing
 pub mod Walked
 pub mod Copied
 pub mod Once

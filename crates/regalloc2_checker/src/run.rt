@@ -13,7 +13,6 @@ ghost use Rattle.regalloc2_checker.specs.Numbers.{numbers_of, cells_in, source_i
 ghost use Rattle.regalloc2_checker.specs.Walked.{IsListing, Tracks};
 
 use crate::listing::Listed;
-use crate::meet::meet;
 use crate::values::Values;
 use crate::walk::{go_to_early, go_to_late, pass};
 use regalloc2_function::Function;
@@ -81,23 +80,23 @@ pub fn run_block<F: Function, A: Allocator + Copy>(
     Ok(())
 }
 
-/// What holds at a successor's beginning, where only the way by this edge counts.
+/// What holds at a successor's beginning, where only the way by this edge counts: the values of the block's end, with those
+/// of the parameters.
 pub fn pass_edge<F: Function, A: Allocator + Copy>(
     alloc: A,
     f: &F,
     block: Block,
     position: usize,
-    values: &Values<A>,
+    mut values: Values<A>,
 ) -> Result<Values<A>, AllocError>
     requires framed { IsFramed (F.function f.now) }
     requires block { block < length (F.function f.now).blocks }
     requires position { position < length (block_at (F.function f.now) block).succs }
     ensures { IfOk result (λ r. (p : Place) (v : VirtualRegister) → facts_in (numbers_of r) p v
-        ≡ facts_over_edge (F.function f.now) (first_of (F.function f.now) block) (ToSuccessor position) (facts_in (numbers_of values.now)) p v) }
+        ≡ facts_over_edge (F.function f.now) (first_of (F.function f.now) block) (ToSuccessor position) (facts_in (numbers_of values)) p v) }
 {
-    let mut passed = meet(alloc, values, values)?;
     let params = f.block_params(f.block_succs(block)[position]);
     let arguments = f.branch_blockparams(block, f.block_insns(block).last(), position);
-    pass(alloc, &mut passed, params, arguments)?;
-    Ok(passed)
+    pass(alloc, &mut values, params, arguments)?;
+    Ok(values)
 }

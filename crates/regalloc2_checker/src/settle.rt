@@ -1,11 +1,12 @@
 //! What holds at the blocks' beginnings, passed on until it stands still.
 
-ghost use Rattle.std.specs.Prelude.{◌≡◌, ◌<◌, IfOk, length, slice_index};
+ghost use Rattle.std.specs.Prelude.{◌≡◌, ◌<◌, true, IfOk, OnOk, length};
 ghost use Rattle.regalloc2_function.specs.FunctionValue.{block_at};
 ghost use Rattle.regalloc2_function.specs.OutputValue.{OutputValue};
 ghost use Rattle.regalloc2_function.specs.WellFormed.{IsFramed};
-ghost use Rattle.regalloc2_checker.specs.Numbers.{numbers_of};
-ghost use Rattle.regalloc2_checker.specs.Tables.{view_at, IsSound, IsMet, IsRound, IsSolved, BlockSettled, AllSettled, views};
+ghost use Rattle.regalloc2_checker.specs.Numbers.{numbers_of, facts_in};
+ghost use Rattle.regalloc2_checker.specs.Passing.{IsBlockEnd, IsPassedOver, ArePassed, IsKept};
+ghost use Rattle.regalloc2_checker.specs.Tables.{view_at, facts_at, IsSound, IsMet, IsRound, IsSolved, BlockSettled, AllSettled, views};
 ghost use Rattle.regalloc2_checker.specs.Walked.{IsListing};
 
 use crate::listing::Listed;
@@ -51,62 +52,131 @@ fn update<A: Allocator + Copy>(
     Ok(true)
 }
 
-/// Passes on what a block has over its edges, and answers whether anything changed.
+/// Passes on what holds at a block's end over one of its edges, and answers whether anything changed. Where it did, the
+/// successor gets a mark.
+fn pass_over<F: Function, A: Allocator + Copy>(
+    alloc: A,
+    f: &F,
+    table: &mut Vec<BlockValues<A>, A>,
+    marks: &mut Vec<bool, A>,
+    block: Block,
+    position: usize,
+    values: Values<A>,
+) -> Result<bool, AllocError>
+    requires framed { IsFramed (F.function f.now) }
+    requires block { block < length (F.function f.now).blocks }
+    requires position { position < length (block_at (F.function f.now) block).succs }
+    requires size { length table.old.items ≡ length (F.function f.now).blocks }
+    requires marks { length marks.old.items ≡ length (F.function f.now).blocks }
+    ensures { IfOk result (λ changed. IsPassedOver (F.function f.now) block position (facts_in (numbers_of values))
+        (views table.old.items) (views table.new.items) marks.old.items marks.new.items changed) }
+{
+    let target = f.block_succs(block)[position].index();
+    let passed = pass_edge(alloc, f, block, position, values)?;
+    let changed = update(alloc, table, target, passed)?;
+    if changed {
+        marks[target] = true;
+    }
+    Ok(changed)
+}
+
+/// Passes on what holds at a block's end over its edges, and answers whether anything changed. The last edge takes the
+/// values themselves.
+fn pass_edges<F: Function, A: Allocator + Copy>(
+    alloc: A,
+    f: &F,
+    table: &mut Vec<BlockValues<A>, A>,
+    marks: &mut Vec<bool, A>,
+    block: Block,
+    values: Values<A>,
+) -> Result<bool, AllocError>
+    ghost o: { OutputValue }
+    requires framed { IsFramed (F.function f.now) }
+    requires block { block < length (F.function f.now).blocks }
+    requires sound { IsSound (F.function f.now) o (views table.old.items) }
+    requires reached { (view_at (views table.old.items) block).reached ≡ true }
+    requires values { IsBlockEnd (F.function f.now) o block (facts_at (views table.old.items) block) (facts_in (numbers_of values)) }
+    requires kept { ArePassed (F.function f.now) o (views table.old.items) (views table.old.items) marks.old.items block 0 }
+    ensures round { IfOk result (λ changed. IsRound (F.function f.now) o (views table.old.items) (views table.new.items) (BlockSettled (F.function f.now) o (views table.new.items) block) changed) }
+    ensures kept { OnOk result (IsKept (F.function f.now) o (views table.new.items) marks.new.items) }
+{
+    finds_earlier_writes();
+    let Some(last) = f.block_succs(block).len().checked_sub(1) else {
+        return Ok(false);
+    };
+    let mut changed = false;
+    for k in 0..last {
+        if pass_over(alloc, f, table, marks, block, k, values.copy()?)? {
+            changed = true;
+        }
+    }
+    if pass_over(alloc, f, table, marks, block, last, values)? {
+        changed = true;
+    }
+    Ok(changed)
+}
+
+/// Passes on what a block has over its edges, if it has a mark, and answers whether anything changed.
 fn pass_block<F: Function, A: Allocator + Copy>(
     alloc: A,
     f: &F,
     listing: &[Listed<A>],
     table: &mut Vec<BlockValues<A>, A>,
+    marks: &mut Vec<bool, A>,
     block: Block,
 ) -> Result<bool, AllocError>
     ghost o: { OutputValue }
     requires listing { IsListing (F.function f.now) o listing.now }
     requires framed { IsFramed (F.function f.now) }
     requires sound { IsSound (F.function f.now) o (views table.old.items) }
+    requires kept { IsKept (F.function f.now) o (views table.old.items) marks.old.items }
     requires block { block < length (F.function f.now).blocks }
-    ensures { IfOk result (λ changed. IsRound (F.function f.now) o (views table.old.items) (views table.new.items) (BlockSettled (F.function f.now) o (views table.new.items) block) changed) }
+    ensures round { IfOk result (λ changed. IsRound (F.function f.now) o (views table.old.items) (views table.new.items) (BlockSettled (F.function f.now) o (views table.new.items) block) changed) }
+    ensures kept { OnOk result (IsKept (F.function f.now) o (views table.new.items) marks.new.items) }
 {
+    if !marks[block.index()] {
+        return Ok(false);
+    }
+    marks[block.index()] = false;
     if !table[block.index()].reached {
         return Ok(false);
     }
-    finds_earlier_writes();
+    if f.block_succs(block).is_empty() {
+        return Ok(false);
+    }
     let have = &table[block.index()].values;
     let mut values = meet(alloc, have, have)?;
     run_block(f, listing, block, &mut values)?;
-    let succs = f.block_succs(block);
-    let mut changed = false;
-    for k in 0..succs.len() {
-        let passed = pass_edge(alloc, f, block, k, &values)?;
-        if update(alloc, table, succs[k].index(), passed)? {
-            changed = true;
-        }
-    }
-    Ok(changed)
+    pass_edges(alloc, f, table, marks, block, values)
 }
 
-/// Passes on what each block has, and answers whether anything changed.
+/// Passes on what each block with a mark has, and answers whether anything changed.
 fn pass_all<F: Function, A: Allocator + Copy>(
     alloc: A,
     f: &F,
     listing: &[Listed<A>],
     table: &mut Vec<BlockValues<A>, A>,
+    marks: &mut Vec<bool, A>,
 ) -> Result<bool, AllocError>
     ghost o: { OutputValue }
     requires listing { IsListing (F.function f.now) o listing.now }
     requires framed { IsFramed (F.function f.now) }
     requires sound { IsSound (F.function f.now) o (views table.old.items) }
-    ensures { IfOk result (λ changed. IsRound (F.function f.now) o (views table.old.items) (views table.new.items) (AllSettled (F.function f.now) o (views table.new.items)) changed) }
+    requires kept { IsKept (F.function f.now) o (views table.old.items) marks.old.items }
+    ensures round { IfOk result (λ changed. IsRound (F.function f.now) o (views table.old.items) (views table.new.items) (AllSettled (F.function f.now) o (views table.new.items)) changed) }
+    ensures kept { OnOk result (IsKept (F.function f.now) o (views table.new.items) marks.new.items) }
 {
     let mut changed = false;
     for b in 0..f.num_blocks() {
-        if pass_block(alloc, f, listing, table, Block::new(b))? {
+        if pass_block(alloc, f, listing, table, marks, Block::new(b))? {
             changed = true;
         }
     }
     Ok(changed)
 }
 
-/// Passes on what holds at the blocks' beginnings until nothing changes.
+/// Passes on what holds at the blocks' beginnings until nothing changes. A block has a mark until it is passed on, and
+/// again where it changes after.
 pub fn settle<F: Function, A: Allocator + Copy>(
     alloc: A,
     f: &F,
@@ -119,9 +189,11 @@ pub fn settle<F: Function, A: Allocator + Copy>(
     requires sound { IsSound (F.function f.now) o (views table.old.items) }
     ensures { IfOk result (λ _. IsSolved (F.function f.now) o (views table.new.items)) }
 {
+    let mut marks = Vec::new(alloc);
+    marks.resize(f.num_blocks(), true)?;
     let mut again = true;
     while again {
-        again = pass_all(alloc, f, listing, table)?;
+        again = pass_all(alloc, f, listing, table, &mut marks)?;
     }
     Ok(())
 }

@@ -1,6 +1,6 @@
 //! What places hold and virtual registers have, by the numbers of writes.
 
-ghost use Rattle.std.specs.Prelude.{◌≡◌, ℕ, ◌<◌, None, true, OnOk, nat_eq, if◌then◌else◌};
+ghost use Rattle.std.specs.Prelude.{◌≡◌, ℕ, ◌<◌, None, true, IfOk, OnOk, nat_eq, if◌then◌else◌};
 ghost use Rattle.std.specs.Option.{option_map};
 ghost use Rattle.regalloc2_function.specs.SourceRun.{assigned};
 ghost use Rattle.regalloc2_function.specs.AllocatedRun.{stored};
@@ -44,6 +44,15 @@ impl<A: Allocator + Copy> Values<A> {
         Values {
             numbers: HashMap::new(alloc),
         }
+    }
+
+    /// The same values once more.
+    pub fn copy(&self) -> Result<Self, AllocError>
+        ensures { IfOk result (λ r. numbers_of r ≡ numbers_of self.now) }
+    {
+        Ok(Values {
+            numbers: self.numbers.clone()?,
+        })
     }
 
     /// The number of what a place holds.

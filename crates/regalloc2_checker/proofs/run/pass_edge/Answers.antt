@@ -1,8 +1,7 @@
-use Rattle.std.proofs.Common.{◌≡◌, ◌<◌, ℕ, length, slice_index, ◌∙◌, ap}
+use Rattle.std.proofs.Common.{◌≡◌, ◌<◌, ℕ, length, slice_index, ◌∙◌, ap, refl}
 use Rattle.regalloc2_function.specs.FunctionValue.{FunctionValue, block_at}
 use Rattle.regalloc2_checker.specs.Numbers.{cells_in, source_in, facts_in, numbers_of}
 use Rattle.regalloc2_checker.proofs.Inside.{index_is}
-use Rattle.regalloc2_checker.proofs.Sharing.{same_facts}
 use Rattle.regalloc2_checker.proofs.Tracking.{edge_facts}
 use Rattle.regalloc2_checker.proofs.run.pass_edge.Goals as goal
 
@@ -12,7 +11,7 @@ returns g c =
     let less : c.args.position < length c.block_succs.result.now = rw c.block_succs.ensures c.requires.position in
     let target : c.index-block_succs-position.result ≡ slice_index (block_at f c.args.block).succs c.args.position =
     index_is (block_at f c.args.block).succs c.block_succs.result.now c.args.position c.index-block_succs-position.result less c.index-block_succs-position.is c.block_succs.ensures in
-    edge_facts f c.args.block c.args.position (cells_in c.in_ok-passed.passed) (cells_in c.pass.new.values) (source_in c.in_ok-passed.passed) (source_in c.pass.new.values)
-    c.block_params-params.result.now c.branch_blockparams-arguments.result.now (facts_in (numbers_of c.args.values.now))
+    edge_facts f c.args.block c.args.position (cells_in c.args.values) (cells_in c.pass.new.values) (source_in c.args.values) (source_in c.pass.new.values)
+    c.block_params-params.result.now c.branch_blockparams-arguments.result.now (facts_in (numbers_of c.args.values))
     (c.block_params-params.ensures ∙ ap (λ (t : ℕ). (block_at f t).params) target) c.branch_blockparams-arguments.ensures
-    (same_facts (numbers_of c.in_ok-passed.passed) (numbers_of c.args.values.now) c.in_ok-passed.ensures.common) c.in_ok-pass.ensures.cells c.in_ok-pass.ensures.source
+    (λ p v. refl) c.in_ok-pass.ensures.cells c.in_ok-pass.ensures.source

@@ -9,7 +9,8 @@ use Rattle.regalloc2_checker.proofs.settle.pass_all.Goals.{then-branch, else-bra
 pub loop-b-init : goal.loop-b-init
 loop-b-init g c = record {
   within = c.num_blocks-b-end.ensures.count;
-  round = record { sound = c.requires.1.1.1.1; same = λ h. (refl, λ b less. absurd (omega arith)); falls = λ h. absurd cc };
+  kept = c.requires.1.1.1.1.1;
+  round = record { sound = c.requires.1.1.1.1.0; same = λ h. (refl, λ b less. absurd (omega arith)); falls = λ h. absurd cc };
 }
 
 pub loop-b-preserved : goal.loop-b-preserved
@@ -20,9 +21,10 @@ loop-b-preserved g c =
     let t : List BlockView = views c.loop-b.table.items in
     let new : List BlockView = views c.pass_block.new.table.items in
     let n : ℕ = c.loop-b.b in
-    let step : IsRound f o t new (BlockSettled f o new n) c.in_ok-pass_block.field-0 = rw c.new.ensures at c.in_ok-pass_block.ensures in
+    let step : IsRound f o t new (BlockSettled f o new n) c.in_ok-pass_block.field-0 = rw c.new.ensures at c.in_ok-pass_block.ensures.round in
     record {
       within = c.loop-b.invariant.within;
+      kept = c.in_ok-pass_block.ensures.kept;
       round = elim c.if-branch.branch [
         | then-branch w ↦ subst (IsRound f o old new ((b : ℕ) → b < n + 1 → BlockSettled f o new b)) (sym w.changed-is)
             (round-more f o old t new ((b : ℕ) → b < n → BlockSettled f o t b) (BlockSettled f o new n) ((b : ℕ) → b < n + 1 → BlockSettled f o new b) c.loop-b.changed c.loop-b.invariant.round
@@ -33,8 +35,8 @@ loop-b-preserved g c =
       ];
     }
 
-pub returns : goal.returns
-returns g c =
+pub returns-clause-round : goal.returns-clause-round
+returns-clause-round g c =
     let f : FunctionValue = g.F.Function.function c.args.f.now in
     let whole : length f.blocks ≤ c.loop-b.b = omega (arith, c.loop-b.invariant.within) in
     round-as f g.o _ (views c.loop-b.table.items) _ _ c.loop-b.changed c.loop-b.invariant.round (λ h b less. h b (omega arith))
