@@ -19,8 +19,9 @@ use Rattle.regalloc2_function.specs.OutputValue.{OutputValue, MoveValue, allocs_
 use Rattle.regalloc2_function.specs.Path.{Location}
 use Rattle.regalloc2_function.specs.SourceRun.{is_reading}
 use Rattle.regalloc2_function.specs.AllocatedRun.{moves_at}
-use Rattle.regalloc2_function.specs.Faithful.{Meets, IsNumberedBelow, IsStackToStack}
+use Rattle.regalloc2_function.specs.Faithful.{Meets, IsNumberedBelow, IsStackToStack, IsFaithful}
 use Rattle.regalloc2_function.specs.Held.{Holds}
+use Rattle.regalloc2_function.specs.WellFormed.{IsFramed}
 use Rattle.regalloc2_checker.specs.Fixpoint.{IsReachedBlock, nth_of}
 use Rattle.regalloc2_checker.specs.declared.errors.CheckerError.{CheckerError}
 use Rattle.regalloc2_checker.specs.declared.errors.CheckerError.TheVariants.{MissingAllocation, UnknownValueInAllocation, IncorrectValuesInAllocation, ConstraintViolated, AllocationIsNotReg, AllocationIsNotFixedReg, AllocationIsNotReuse, AllocationIsNotStack, StackToStackMove, AllocationOutsideLimit}
@@ -118,3 +119,7 @@ pub data BlockReports {A : Type 0} (f : FunctionValue) (env : MachineValue) (o :
 -- the errors of an output
 abbrev pub IsReport : {A : Type 0} → FunctionValue → MachineValue → OutputValue → List (CheckerError A) → Type 0
 IsReport f env o es = BlockReports f env o (length f.blocks) es
+
+-- of the outputs of a framed function, those without errors are just the faithful ones
+abbrev pub NoneWhereFaithful : Type 0 → Type 0
+NoneWhereFaithful A = (f : FunctionValue) (env : MachineValue) (o : OutputValue) (es : List (CheckerError A)) → IsFramed f → IsReport f env o es → (es ≡ []) ↔ IsFaithful f env o

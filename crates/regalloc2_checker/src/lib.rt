@@ -18,4 +18,4 @@ mod walk;
 
 pub use checker::Checker;
 pub use errors::{CheckerError, CheckerErrors};
-pub use laws::stands_for_every_path;
+pub use laws::{finds_no_error_where_faithful, stands_for_every_path};
