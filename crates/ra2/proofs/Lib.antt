@@ -1,1 +1,4 @@
 pub mod Below
+pub mod Frames
+pub mod Judged
+pub mod Texts

@@ -1,3 +1,5 @@
-pub mod Example
+pub mod Words
+pub mod Input
+pub mod Outcome
 pub mod Framed
 pub mod Refusal

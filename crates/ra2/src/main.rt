@@ -1,11 +1,17 @@
-//! `ra2`: allocates registers to a function and prints what it gives.
+//! `ra2`: allocates registers to a stored function, and prints what it gives.
 //!
-//! Without words it shows a small function. Any words are bad, until there are stored functions to read.
+//! The word `run` prints the listing of the allocated function, and `check` then judges it. The stored function stands on
+//! standard input, as JSON. The status is 0, or 1 where the function is refused or a fault is found, or 2 where words or
+//! input are bad or the output can't be written.
 #![tactic(auto)]
 
-mod example;
+mod judging;
 mod listing;
 mod program;
+mod reading;
+mod task;
+#[cfg(test)]
+mod texts;
 
 use std::env::{self, Env};
 use std::process::ExitCode;

@@ -1,41 +1,20 @@
 //! What the program does with its words.
 
-ghost use Rattle.std.specs.Prelude.{◌≡◌, ◌<◌, ◌≤◌, length};
-ghost use Rattle.ra2.specs.Framed.{BlocksAreWithin};
-ghost use Rattle.ra2.specs.Refusal.{refusal_number};
+ghost use Rattle.std.specs.Prelude.{◌≡◌, ◌≤◌, None, Some, true, false};
+ghost use Rattle.ra2.specs.Words.{task_of};
+ghost use Rattle.ra2.specs.Outcome.{HasOutcome};
 
-use super::example::{self, Example};
-use super::listing::write_listing;
-use regalloc2::{
-    Algorithm, Function, MachineEnv, RegAllocError, RegallocOptions, machine_fits, run,
-};
+use super::judging::show;
+use super::reading::function_from;
+use super::task::Task;
 use std::alloc::Global;
 use std::io::{Read, Write};
 
-/// Status of bad words, of a bad machine and of output that can't be written.
+/// Status of bad words, of bad input and of output that can't be written.
 const UNUSABLE: u8 = 2;
 
-/// Status of a refused function.
+/// Status of a refused function, and of an output with faults.
 const REFUSED: u8 = 1;
-
-/// The number of a refusal, counted from 1 in the order in which `RegAllocError` lists them.
-fn number_of(error: RegAllocError) -> u8
-    ensures { result ≡ refusal_number error }
-{
-    match error {
-        RegAllocError::CritEdge(..) => 1,
-        RegAllocError::SSA(..) => 2,
-        RegAllocError::BB(_) => 3,
-        RegAllocError::Branch(_) => 4,
-        RegAllocError::EntryLivein => 5,
-        RegAllocError::DisallowedBranchArg(_) => 6,
-        RegAllocError::TooManyLiveRegs => 7,
-        RegAllocError::TooManyOperands => 8,
-        RegAllocError::Unsupported(_) => 9,
-        RegAllocError::TooManySpillSlots => 10,
-        RegAllocError::Memory => 11,
-    }
-}
 
 /// Says that the words are bad, and answers the status.
 pub fn refuse_words<E: Write>(err: &mut E) -> u8
@@ -45,62 +24,56 @@ pub fn refuse_words<E: Write>(err: &mut E) -> u8
     UNUSABLE
 }
 
-/// Allocates registers to a function, and writes its listing or the number of the refusal. Answers the status.
-fn show<F: Function, O: Write, E: Write>(
+/// Does a task with what a reader gives, and answers the status.
+fn perform<R: Read + Drop, O: Write, E: Write>(
     alloc: Global,
-    f: &F,
-    env: &MachineEnv,
-    out: &mut O,
-    err: &mut E,
-) -> u8
-    requires blocks { BlocksAreWithin (F.function f.now) }
-    ensures { result ≤ 2 }
-{
-    if !machine_fits(f, env) {
-        let _ = writeln!(err, "ra2: bad machine");
-        return UNUSABLE;
-    }
-    let options = RegallocOptions {
-        validate_ssa: true,
-        algorithm: Algorithm::Fastalloc,
-    };
-    let (written, status) = match run(alloc, f, env, &options) {
-        Ok(output) => (write_listing(f, &output, out), 0),
-        Err(error) => {
-            let number = number_of(error);
-            (writeln!(out, "refused {number}"), REFUSED)
-        }
-    };
-    if written.is_err() || out.flush().is_err() {
-        return UNUSABLE;
-    }
-    status
-}
-
-/// What the program does with its words: reads `input`, writes to `out` and `err`, and answers the status.
-///
-/// Without words it writes the listing of a small function, and answers 0. Any words are bad: a line on `err`, and 2. A
-/// failed write to `out` ends it with 2 and no further text.
-pub fn answer<R: Read + Drop, O: Write, E: Write>(
-    alloc: Global,
-    words: &[String],
-    _input: R,
+    task: Task,
+    input: R,
     out: &mut O,
     err: &mut E,
 ) -> u8
     ensures status { result ≤ 2 }
-    ensures bad_words { 0 < length words.now → result ≡ 2 }
+    ensures done { result ≡ 0 → HasOutcome (R.remaining input) task true }
+    ensures turned_down { result ≡ 1 → HasOutcome (R.remaining input) task false }
 {
-    if !words.is_empty() {
-        return refuse_words(err);
+    let f = match function_from(alloc, input) {
+        Ok(f) => f,
+        Err(error) => {
+            let _ = writeln!(err, "ra2: {error}");
+            return UNUSABLE;
+        }
+    };
+    let Ok(accepted) = show(alloc, task, &f, f.machine_env(), out) else {
+        return UNUSABLE;
+    };
+    if out.flush().is_err() {
+        return UNUSABLE;
     }
-    show(
-        alloc,
-        &Example::new(&[]),
-        &example::machine(alloc),
-        out,
-        err,
-    )
+    if accepted { 0 } else { REFUSED }
+}
+
+/// What the program does with its words: reads `input`, writes to `out` and `err`, and answers the status.
+///
+/// The input is the JSON text of a stored function. `run` allocates registers to it, tests included, and writes its listing,
+/// or `refused` and the refusal's number; `check` also judges the output, and then writes `checked` or its faults. The status
+/// is 0; or 1 where the function is refused or a fault is found; or 2, with one line on `err`, where words, input, stored
+/// numbers or machine are bad, which is judged in this order. A failed write to `out` ends it with 2 and no further text.
+pub fn answer<R: Read + Drop, O: Write, E: Write>(
+    alloc: Global,
+    words: &[String],
+    input: R,
+    out: &mut O,
+    err: &mut E,
+) -> u8
+    ensures status { result ≤ 2 }
+    ensures bad_words { task_of words.now ≡ None → result ≡ 2 }
+    ensures done { result ≡ 0 → (t : Task) × (task_of words.now ≡ Some t) × HasOutcome (R.remaining input) t true }
+    ensures turned_down { result ≡ 1 → (t : Task) × (task_of words.now ≡ Some t) × HasOutcome (R.remaining input) t false }
+{
+    match Task::of(words) {
+        Some(task) => perform(alloc, task, input, out, err),
+        None => refuse_words(err),
+    }
 }
 
 #[cfg(test)]

@@ -1,13 +1,35 @@
-//! What the program answers to words, machines and functions, and where a write fails.
+//! What the program answers to words and texts, and where a read or a write fails.
 
 use super::*;
-use regalloc2::PRegSet;
+use crate::texts::{TEXT, TOO_MANY};
 use std::alloc::AllocError;
 use std::io::{self, ErrorKind};
 use std::test::Fail;
 
 const LISTING: &str =
     "block0:\n  inst0 op: Def: v0i reg [p9i]\n  inst1 ret: Use: v0i reg [p9i]\nslots 0\n";
+
+const CHECKED: &str =
+    "block0:\n  inst0 op: Def: v0i reg [p9i]\n  inst1 ret: Use: v0i reg [p9i]\nslots 0\nchecked\n";
+
+const UNREADABLE: &str = "ra2: input unreadable\n";
+
+/// A reader over a text, of which the read that comes after so many others fails.
+#[derive(Drop)]
+struct Failing<'a> {
+    text: &'a [u8],
+    sound_reads: u32,
+}
+
+impl Read for Failing<'_> {
+    fn read(&mut self, buf: &mut [u8]) -> io::Result<usize> {
+        if self.sound_reads == 0 {
+            return Err(io::Error::from(ErrorKind::BrokenPipe));
+        }
+        self.sound_reads = self.sound_reads.saturating_sub(1);
+        self.text.read(buf)
+    }
+}
 
 /// A writer over memory. The write that comes after so many others fails, once, and so may each flush.
 #[derive(Drop)]
@@ -26,11 +48,6 @@ impl Faulty {
             has_failed: false,
             flushes,
         }
-    }
-
-    /// A writer that takes all.
-    fn sound(alloc: Global) -> Faulty {
-        Faulty::new(alloc, u32::MAX, true)
     }
 }
 
@@ -56,106 +73,220 @@ impl Write for Faulty {
     }
 }
 
-/// A reader that fails at its first read.
-#[derive(Drop)]
-struct Closed;
-
-impl Read for Closed {
-    fn read(&mut self, _buf: &mut [u8]) -> io::Result<usize> {
-        Err(io::Error::from(ErrorKind::BrokenPipe))
-    }
+/// What the program writes, and its status.
+#[derive(Clone, Copy)]
+struct Answer<'a> {
+    out: &'a str,
+    err: &'a str,
+    status: u8,
 }
 
-/// One word.
-fn words(alloc: Global, word: &str) -> Result<Vec<String>, AllocError> {
+/// The words of a command line.
+fn words(alloc: Global, line: &[&str]) -> Result<Vec<String>, AllocError> {
     let mut words = Vec::new(alloc);
-    words.push(String::from_str(alloc, word)?)?;
+    for word in line {
+        words.push(String::from_str(alloc, word)?)?;
+    }
     Ok(words)
 }
 
-#[test]
-fn shows_a_function_without_words(rt: HostRuntime) {
-    let mut out = Faulty::sound(rt.alloc());
-    let mut err = Faulty::sound(rt.alloc());
-    let status = answer(rt.alloc(), &[], Closed, &mut out, &mut err);
-    assert_eq!(rt; status, 0);
-    assert_eq!(rt; out.text.as_slice(), LISTING.as_bytes());
-    assert!(rt; err.text.is_empty());
+/// Whether the program answers so to one word and a text.
+fn answers(alloc: Global, line: &[&str], text: &[u8], want: Answer) -> Result<bool, Fail> {
+    let words = words(alloc, line)?;
+    let mut out = Vec::new(alloc);
+    let mut err = Vec::new(alloc);
+    let status = answer(alloc, words.as_slice(), text, &mut out, &mut err);
+    Ok(
+        status == want.status
+            && out.as_slice() == want.out.as_bytes()
+            && err.as_slice() == want.err.as_bytes(),
+    )
+}
+
+/// The text with one part replaced.
+fn replaced(alloc: Global, old: &str, new: &str) -> Result<String, AllocError> {
+    match TEXT.split_once(old) {
+        Some((before, after)) => format!(in alloc; "{before}{new}{after}"),
+        None => Ok(String::new(alloc)),
+    }
 }
 
 #[test]
-fn refuses_words(rt: HostRuntime) -> Result<(), Fail> {
-    for word in ["walk", "run", "", "ra2"] {
-        let words = words(rt.alloc(), word)?;
-        let mut out = Faulty::sound(rt.alloc());
-        let mut err = Faulty::sound(rt.alloc());
-        let status = answer(rt.alloc(), words.as_slice(), Closed, &mut out, &mut err);
-        assert_eq!(rt; status, 2);
-        assert!(rt; out.text.is_empty());
-        assert_eq!(rt; err.text.as_slice(), "ra2: bad words\n".as_bytes());
-        let mut shut = Faulty::new(rt.alloc(), 0, false);
-        let status = answer(rt.alloc(), words.as_slice(), Closed, &mut out, &mut shut);
-        assert_eq!(rt; status, 2, "and the line can't be written");
-        assert!(rt; out.text.is_empty());
+fn functions_are_allocated(rt: HostRuntime) -> Result<(), Fail> {
+    let rows = [
+        ("run", TEXT, LISTING, 0),
+        ("check", TEXT, CHECKED, 0),
+        ("run", TOO_MANY, "refused 7\n", 1),
+        ("check", TOO_MANY, "refused 7\n", 1),
+    ];
+    for (word, text, out, status) in rows {
+        let want = Answer {
+            out,
+            err: "",
+            status,
+        };
+        assert!(rt;
+            answers(rt.alloc(), &[word], text.as_bytes(), want)?,
+            "{word} {status}"
+        );
     }
     Ok(())
 }
 
 #[test]
-fn refuses_a_machine_without_registers(rt: HostRuntime) {
-    let mut env = example::machine(rt.alloc());
-    env.preferred_regs_by_class = [PRegSet::empty(); 3];
-    let mut out = Faulty::sound(rt.alloc());
-    let mut err = Faulty::sound(rt.alloc());
-    let status = show(rt.alloc(), &Example::new(&[]), &env, &mut out, &mut err);
-    assert_eq!(rt; status, 2);
-    assert!(rt; out.text.is_empty());
-    assert_eq!(rt; err.text.as_slice(), "ra2: bad machine\n".as_bytes());
+fn bad_words_are_refused(rt: HostRuntime) -> Result<(), Fail> {
+    let want = Answer {
+        out: "",
+        err: "ra2: bad words\n",
+        status: 2,
+    };
+    for word in ["walk", "replay", "", "Run", "runs", "ru"] {
+        assert!(rt;
+            answers(rt.alloc(), &[word], TEXT.as_bytes(), want)?,
+            "{word}"
+        );
+    }
+    assert!(rt; answers(rt.alloc(), &[], TEXT.as_bytes(), want)?);
+    assert!(rt; answers(rt.alloc(), &["run", "check"], TEXT.as_bytes(), want)?);
+    assert!(rt; answers(rt.alloc(), &["run", "run"], b"{", want)?);
+    Ok(())
 }
 
 #[test]
-fn names_a_refusal_by_its_number(rt: HostRuntime) {
-    let env = example::machine(rt.alloc());
-    let mut out = Faulty::sound(rt.alloc());
-    let mut err = Faulty::sound(rt.alloc());
-    let status = show(rt.alloc(), &Example::limited(), &env, &mut out, &mut err);
-    assert_eq!(rt; status, 1);
-    assert_eq!(rt; out.text.as_slice(), "refused 9\n".as_bytes());
-    assert!(rt; err.text.is_empty());
-    let mut shut = Faulty::new(rt.alloc(), 0, true);
-    let status = show(rt.alloc(), &Example::limited(), &env, &mut shut, &mut err);
-    assert_eq!(rt; status, 2, "and the line can't be written");
-    assert!(rt; err.text.is_empty());
+fn bad_functions_are_refused(rt: HostRuntime) -> Result<(), Fail> {
+    let rows = [
+        (
+            "\"block_preds\":[[]]",
+            "\"block_preds\":[]",
+            "ra2: bad function 1\n",
+        ),
+        ("[[0,2]]", "[[0,3]]", "ra2: bad function 2\n"),
+        ("85899345920", "206158430208", "ra2: bad function 3\n"),
+        ("[1,1,1]", "[3,1,1]", "ra2: bad function 4\n"),
+        ("[1,1,1]", "[1,1]", "ra2: bad function 1\n"),
+        (
+            "\"fixed_stack_slots\":[]",
+            "\"fixed_stack_slots\":[0]",
+            "ra2: bad machine\n",
+        ),
+        ("\"num_vregs\":1,", "", UNREADABLE),
+    ];
+    for (old, new, err) in rows {
+        let text = replaced(rt.alloc(), old, new)?;
+        let want = Answer {
+            out: "",
+            err,
+            status: 2,
+        };
+        assert!(rt;
+            answers(rt.alloc(), &["run"], text.as_bytes(), want)?,
+            "run with {new}"
+        );
+        assert!(rt;
+            answers(rt.alloc(), &["check"], text.as_bytes(), want)?,
+            "check with {new}"
+        );
+    }
+    Ok(())
 }
 
 #[test]
-fn ends_where_a_write_fails(rt: HostRuntime) {
+fn texts_that_are_cut_or_no_text_are_refused(rt: HostRuntime) -> Result<(), Fail> {
+    let want = Answer {
+        out: "",
+        err: UNREADABLE,
+        status: 2,
+    };
+    let whole = TEXT.as_bytes();
+    for length in 0..whole.len() {
+        assert!(rt;
+            answers(rt.alloc(), &["run"], &whole[..length], want)?,
+            "{length} bytes"
+        );
+    }
+    let no_text: [&[u8]; 4] = [b"{", b"null", &[34, 255, 34], &[195, 40]];
+    for bytes in no_text {
+        assert!(rt; answers(rt.alloc(), &["run"], bytes, want)?);
+    }
+    Ok(())
+}
+
+#[test]
+fn failed_reads_are_refused(rt: HostRuntime) -> Result<(), Fail> {
+    let words = words(rt.alloc(), &["run"])?;
+    for sound_reads in [0, 1] {
+        let input = Failing {
+            text: TEXT.as_bytes(),
+            sound_reads,
+        };
+        let mut out = Vec::new(rt.alloc());
+        let mut err = Vec::new(rt.alloc());
+        let status = answer(rt.alloc(), words.as_slice(), input, &mut out, &mut err);
+        assert_eq!(rt; status, 2, "after {sound_reads}");
+        assert!(rt; out.is_empty(), "after {sound_reads}");
+        assert_eq!(rt;
+            err.as_slice(),
+            UNREADABLE.as_bytes(),
+            "after {sound_reads}"
+        );
+    }
+    Ok(())
+}
+
+#[test]
+fn a_failed_write_ends_it(rt: HostRuntime) -> Result<(), Fail> {
+    let words = words(rt.alloc(), &["check"])?;
     let mut failures = 0u32;
     for sound_writes in 0..1000u32 {
         let mut out = Faulty::new(rt.alloc(), sound_writes, true);
-        let mut err = Faulty::sound(rt.alloc());
-        let status = answer(rt.alloc(), &[], Closed, &mut out, &mut err);
-        assert!(rt; err.text.is_empty(), "after {sound_writes}");
+        let mut err = Vec::new(rt.alloc());
+        let status = answer(
+            rt.alloc(),
+            words.as_slice(),
+            TEXT.as_bytes(),
+            &mut out,
+            &mut err,
+        );
+        assert!(rt; err.is_empty(), "after {sound_writes}");
         if !out.has_failed {
             assert_eq!(rt; status, 0, "after {sound_writes}");
             break;
         }
         assert_eq!(rt; status, 2, "after {sound_writes}");
         assert!(rt;
-            LISTING.as_bytes().starts_with(out.text.as_slice()),
+            CHECKED.as_bytes().starts_with(out.text.as_slice()),
             "after {sound_writes}"
         );
-        assert!(rt; out.text.len() < LISTING.len(), "after {sound_writes}");
         failures = failures.wrapping_add(1);
     }
     assert!(rt; failures > 4);
+    Ok(())
 }
 
 #[test]
-fn ends_where_the_flush_fails(rt: HostRuntime) {
+fn a_failed_flush_and_a_shut_error_stream_end_it(rt: HostRuntime) -> Result<(), Fail> {
+    let run = words(rt.alloc(), &["run"])?;
+    let walk = words(rt.alloc(), &["walk"])?;
     let mut out = Faulty::new(rt.alloc(), u32::MAX, false);
-    let mut err = Faulty::sound(rt.alloc());
-    let status = answer(rt.alloc(), &[], Closed, &mut out, &mut err);
+    let mut err = Vec::new(rt.alloc());
+    let status = answer(
+        rt.alloc(),
+        run.as_slice(),
+        TEXT.as_bytes(),
+        &mut out,
+        &mut err,
+    );
     assert_eq!(rt; status, 2);
-    assert!(rt; err.text.is_empty());
+    assert!(rt; err.is_empty());
+    let mut shut = Faulty::new(rt.alloc(), 0, false);
+    let status = answer(
+        rt.alloc(),
+        walk.as_slice(),
+        TEXT.as_bytes(),
+        &mut err,
+        &mut shut,
+    );
+    assert_eq!(rt; status, 2, "and the line can't be written");
+    assert!(rt; err.is_empty());
+    Ok(())
 }

@@ -1,0 +1,108 @@
+//! An allocation, and what the checker finds of it, in text.
+
+ghost use Rattle.std.specs.Prelude.{◌≡◌, true, IfOk};
+ghost use Rattle.regalloc2_function.specs.Faithful.{IsFaithful};
+ghost use Rattle.regalloc2_function.specs.Views.{machine_of, output_of};
+ghost use Rattle.regalloc2_function.specs.WellFormed.{IsFramed};
+ghost use Rattle.regalloc2_function.specs.Fitting.{MachineFits};
+ghost use Rattle.ra2.specs.Outcome.{IsOutcome};
+ghost use Rattle.ra2.specs.Refusal.{refusal_number};
+
+use super::listing::write_listing;
+use super::task::Task;
+use regalloc2::checker::Checker;
+use regalloc2::{Algorithm, Function, MachineEnv, Output, RegAllocError, RegallocOptions, run};
+use std::alloc::Global;
+use std::io::{self, Write};
+
+/// The program's own function was proved by nobody, so it is tested.
+const OPTIONS: RegallocOptions = RegallocOptions {
+    validate_ssa: true,
+    algorithm: Algorithm::Fastalloc,
+};
+
+/// The number of a refusal, counted from 1 in the order in which `RegAllocError` lists them.
+fn number_of(error: RegAllocError) -> u8
+    ensures { result ≡ refusal_number error }
+{
+    match error {
+        RegAllocError::CritEdge(..) => 1,
+        RegAllocError::SSA(..) => 2,
+        RegAllocError::BB(_) => 3,
+        RegAllocError::Branch(_) => 4,
+        RegAllocError::EntryLivein => 5,
+        RegAllocError::DisallowedBranchArg(_) => 6,
+        RegAllocError::TooManyLiveRegs => 7,
+        RegAllocError::TooManyOperands => 8,
+        RegAllocError::Unsupported(_) => 9,
+        RegAllocError::TooManySpillSlots => 10,
+        RegAllocError::Memory => 11,
+    }
+}
+
+/// Writes `checked`, or the faults that the checker finds of an output. Whether there are none.
+fn judge<F: Function, O: Write>(
+    alloc: Global,
+    f: &F,
+    env: &MachineEnv,
+    output: &Output,
+    out: &mut O,
+) -> io::Result<bool>
+    requires framed { IsFramed (F.function f.now) }
+    ensures accepted { IfOk result (λ b. b ≡ true → IsFaithful (F.function f.now) (machine_of env.now) (output_of output.now)) }
+{
+    let mut checker = match Checker::new(alloc, f, env) {
+        Ok(checker) => checker,
+        Err(error) => {
+            writeln!(out, "{error}")?;
+            return Ok(false);
+        }
+    };
+    if let Err(error) = checker.prepare(output) {
+        writeln!(out, "{error}")?;
+        return Ok(false);
+    }
+    match checker.run() {
+        Ok(()) => {
+            writeln!(out, "checked")?;
+            Ok(true)
+        }
+        Err(errors) => {
+            for error in errors.errors() {
+                writeln!(out, "{error}")?;
+            }
+            Ok(false)
+        }
+    }
+}
+
+/// Allocates registers to a function, writes its listing or the number of the refusal, and judges it if asked. Whether
+/// nothing was refused, and no fault found.
+pub fn show<F: Function, O: Write>(
+    alloc: Global,
+    task: Task,
+    f: &F,
+    env: &MachineEnv,
+    out: &mut O,
+) -> io::Result<bool>
+    requires machine { MachineFits (F.function f.now) (machine_of env.now) }
+    ensures { IfOk result (IsOutcome task (F.function f.now) (machine_of env.now)) }
+{
+    match run(alloc, f, env, &OPTIONS) {
+        Ok(output) => {
+            write_listing(f, &output, out)?;
+            match task {
+                Task::Run => Ok(true),
+                Task::Check => judge(alloc, f, env, &output, out),
+            }
+        }
+        Err(error) => {
+            let number = number_of(error);
+            writeln!(out, "refused {number}")?;
+            Ok(false)
+        }
+    }
+}
+
+#[cfg(test)]
+mod tests;
