@@ -8,8 +8,6 @@ mod naming;
 mod reading;
 mod storing;
 mod tables;
-#[cfg(test)]
-mod tests;
 mod values;
 
 pub use data::{InstOpcode, StoredFunction, StoredInst, StoredMachine};

@@ -1,7 +1,7 @@
 use Rattle.std.proofs.Common.{refl}
 use Rattle.regalloc2_function.proofs.Following.{end_within}
 use Rattle.regalloc2_stored.specs.Tables.{function_of}
-use Rattle.regalloc2_stored.proofs.tests.copied.Goals as goal
+use Rattle.regalloc2_stored_tests.proofs.functions.copied.Goals as goal
 
 pub new-requires-2 : goal.new-requires-2
 new-requires-2 c =

@@ -1,12 +1,13 @@
 //! Stored functions by their JSON texts.
 
-use super::{FromValue, SerializableFunction, StoredFunction};
+use super::asserts::{holds, same};
 use regalloc2_function::{
     Function, MachineEnv, StoredFault, StoredOutput, is_framed, machine_fits,
 };
 use regalloc2_index::{Block, Inst};
 use regalloc2_names::{Operand, PReg, PRegSet, RegAllocError, RegClass, VReg};
 use regalloc2_refusing::Refusing;
+use regalloc2_stored::{FromValue, SerializableFunction, StoredFunction};
 use serde_json::Value;
 use std::alloc::{AllocError, Allocator, Global};
 use std::test::Fail;
@@ -65,23 +66,30 @@ fn fault(rt: &HostRuntime, index: usize, member: &'static str) -> Option<StoredF
 fn functions_are_read(rt: HostRuntime) -> Result<(), Fail> {
     let f = read(&rt, rt.alloc(), members())?;
     let v0 = VReg::new(0, RegClass::Int);
-    assert_eq!(rt; (f.num_insts(), f.num_blocks(), f.num_vregs()), (2, 1, 1));
-    assert_eq!(rt; f.entry_block(), Block::new(0));
-    assert_eq!(rt;
+    assert_eq!(rt; f.num_insts(), 2);
+    same(&rt, (f.num_blocks(), f.num_vregs()), (1, 1));
+    same(&rt, f.entry_block(), Block::new(0));
+    same(
+        &rt,
         f.inst_operands(Inst::new(0)),
-        [Operand::reg_def(v0)].as_slice()
+        [Operand::reg_def(v0)].as_slice(),
     );
-    assert_eq!(rt;
+    same(
+        &rt,
         f.inst_operands(Inst::new(1)),
-        [Operand::reg_use(v0)].as_slice()
+        [Operand::reg_use(v0)].as_slice(),
     );
-    assert!(rt; f.is_ret(Inst::new(1)) && !f.is_ret(Inst::new(0)) && !f.is_branch(Inst::new(1)));
-    assert!(rt;
+    holds(
+        &rt,
+        f.is_ret(Inst::new(1)) && !f.is_ret(Inst::new(0)) && !f.is_branch(Inst::new(1)),
+    );
+    holds(
+        &rt,
         f.inst_clobbers(Inst::new(1))
-            .contains(PReg::new(2, RegClass::Int))
+            .contains(PReg::new(2, RegClass::Int)),
     );
-    assert_eq!(rt; f.spillslot_size(RegClass::Vector), 4);
-    assert!(rt; machine_fits(&f, f.machine_env()));
+    same(&rt, f.spillslot_size(RegClass::Vector), 4);
+    holds(&rt, machine_fits(&f, f.machine_env()));
     Ok(())
 }
 
@@ -89,60 +97,65 @@ fn functions_are_read(rt: HostRuntime) -> Result<(), Fail> {
 fn functions_come_back(rt: HostRuntime) -> Result<(), Fail> {
     let f = read(&rt, rt.alloc(), members())?;
     let stored = f.stored(rt.alloc())?;
-    assert_eq!(rt; stored.blocks.as_slice(), [(0, 2)].as_slice());
-    assert_eq!(rt; stored.spillslot_size.as_slice(), [1, 2, 4].as_slice());
-    assert_eq!(rt; stored.machine_env.preferred_regs_by_class.len(), 3);
-    assert_eq!(rt; stored.insts.len(), 2);
+    same(&rt, stored.blocks.as_slice(), [(0, 2)].as_slice());
+    same(&rt, stored.spillslot_size.as_slice(), [1, 2, 4].as_slice());
+    same(&rt, stored.machine_env.preferred_regs_by_class.len(), 3);
+    same(&rt, stored.insts.len(), 2);
     let back = SerializableFunction::from_stored(rt.alloc(), &stored)?;
     assert_eq!(rt; back.num_insts(), 2);
-    assert!(rt;
-        back.machine_env().preferred_regs_by_class[0].contains(PReg::new(1, RegClass::Int))
+    holds(
+        &rt,
+        back.machine_env().preferred_regs_by_class[0].contains(PReg::new(1, RegClass::Int)),
     );
-    assert!(rt;
+    holds(
+        &rt,
         back.inst_clobbers(Inst::new(1))
-            .contains(PReg::new(2, RegClass::Int))
+            .contains(PReg::new(2, RegClass::Int)),
     );
     Ok(())
 }
 
 #[test]
 fn the_first_fault_is_named(rt: HostRuntime) -> Result<(), Fail> {
-    assert_eq!(rt; fault(&rt, 1, "[]"), Some(StoredFault::Lengths));
-    assert_eq!(rt; fault(&rt, 4, "[1,1]"), Some(StoredFault::Lengths));
-    assert_eq!(rt; fault(&rt, 1, "[[1]]"), Some(StoredFault::Index));
-    assert_eq!(rt; fault(&rt, 2, "[[0,3]]"), Some(StoredFault::Index));
-    assert_eq!(rt; fault(&rt, 2, "[[2,1]]"), Some(StoredFault::Index));
+    same(&rt, fault(&rt, 1, "[]"), Some(StoredFault::Lengths));
+    same(&rt, fault(&rt, 4, "[1,1]"), Some(StoredFault::Lengths));
+    same(&rt, fault(&rt, 1, "[[1]]"), Some(StoredFault::Index));
+    same(&rt, fault(&rt, 2, "[[0,3]]"), Some(StoredFault::Index));
+    same(&rt, fault(&rt, 2, "[[2,1]]"), Some(StoredFault::Index));
     let label = ",\"num_vregs\":1,\"debug_value_labels\":[[4,0,1,7]]";
-    assert_eq!(rt; fault(&rt, 5, label), Some(StoredFault::Index));
+    same(&rt, fault(&rt, 5, label), Some(StoredFault::Index));
     let vreg = ",\"num_vregs\":1,\"block_params_in\":[[3]]";
-    assert_eq!(rt; fault(&rt, 5, vreg), Some(StoredFault::Bits));
-    assert_eq!(rt; fault(&rt, 3, "206158430208"), Some(StoredFault::Bits));
-    assert_eq!(rt; fault(&rt, 3, "12884901888"), Some(StoredFault::Bits));
-    assert_eq!(rt; fault(&rt, 0, "[192]"), Some(StoredFault::Bits));
-    assert_eq!(rt; fault(&rt, 4, "[3,1,1]"), Some(StoredFault::Limit));
-    assert_eq!(rt;
+    same(&rt, fault(&rt, 5, vreg), Some(StoredFault::Bits));
+    same(&rt, fault(&rt, 3, "206158430208"), Some(StoredFault::Bits));
+    same(&rt, fault(&rt, 3, "12884901888"), Some(StoredFault::Bits));
+    same(&rt, fault(&rt, 0, "[192]"), Some(StoredFault::Bits));
+    same(&rt, fault(&rt, 4, "[3,1,1]"), Some(StoredFault::Limit));
+    same(
+        &rt,
         fault(&rt, 5, ",\"num_vregs\":1073741824"),
-        Some(StoredFault::Limit)
+        Some(StoredFault::Limit),
     );
     Ok(())
 }
 
 #[test]
 fn other_shapes_are_refused(rt: HostRuntime) -> Result<(), Fail> {
-    assert_eq!(rt; fault(&rt, 5, ""), Some(StoredFault::Shape));
-    assert_eq!(rt;
+    same(&rt, fault(&rt, 5, ""), Some(StoredFault::Shape));
+    same(
+        &rt,
         fault(&rt, 5, ",\"num_vregs\":\"1\""),
-        Some(StoredFault::Shape)
+        Some(StoredFault::Shape),
     );
-    assert_eq!(rt;
+    same(
+        &rt,
         fault(&rt, 5, ",\"num_vregs\":-1"),
-        Some(StoredFault::Shape)
+        Some(StoredFault::Shape),
     );
-    assert_eq!(rt; fault(&rt, 2, "[[0,2,2]]"), Some(StoredFault::Shape));
-    assert_eq!(rt; fault(&rt, 2, "[[0]]"), Some(StoredFault::Shape));
-    assert_eq!(rt; fault(&rt, 0, "[256]"), Some(StoredFault::Shape));
-    assert_eq!(rt; fault(&rt, 1, "{}"), Some(StoredFault::Shape));
-    assert_eq!(rt; fault(&rt, 5, ",\"num_vregs\":1,\"more\":[]"), None);
+    same(&rt, fault(&rt, 2, "[[0,2,2]]"), Some(StoredFault::Shape));
+    same(&rt, fault(&rt, 2, "[[0]]"), Some(StoredFault::Shape));
+    same(&rt, fault(&rt, 0, "[256]"), Some(StoredFault::Shape));
+    same(&rt, fault(&rt, 1, "{}"), Some(StoredFault::Shape));
+    same(&rt, fault(&rt, 5, ",\"num_vregs\":1,\"more\":[]"), None);
     Ok(())
 }
 
@@ -160,7 +173,7 @@ fn each_growth_is_refused(rt: HostRuntime) -> Result<(), Fail> {
         assert_eq!(rt; answer.err(), Some(StoredFault::Memory), "refused at {nth}");
         assert!(rt; read(&rt, &alloc, members()).is_ok(), "after {nth}");
     }
-    assert!(rt; has_ended);
+    holds(&rt, has_ended);
     Ok(())
 }
 
@@ -178,7 +191,7 @@ fn each_growth_of_storing_is_refused(rt: HostRuntime) -> Result<(), Fail> {
         }
         assert_eq!(rt; answer, Err(RegAllocError::Memory), "refused at {nth}");
     }
-    assert!(rt; has_ended);
+    holds(&rt, has_ended);
     Ok(())
 }
 
@@ -204,17 +217,17 @@ fn functions_are_copied(rt: HostRuntime) -> Result<(), Fail> {
     let f = read(&rt, rt.alloc(), members())?;
     let copy = copied(rt.alloc(), &f)?.ok_or("a framed function")?;
     let v0 = VReg::new(0, RegClass::Int);
-    assert_eq!(rt;
-        (copy.num_insts(), copy.num_blocks(), copy.num_vregs()),
-        (2, 1, 1)
-    );
-    assert_eq!(rt;
+    assert_eq!(rt; copy.num_insts(), 2);
+    same(&rt, (copy.num_blocks(), copy.num_vregs()), (1, 1));
+    same(
+        &rt,
         copy.inst_operands(Inst::new(1)),
-        [Operand::reg_use(v0)].as_slice()
+        [Operand::reg_use(v0)].as_slice(),
     );
-    assert_eq!(rt;
+    same(
+        &rt,
         copy.stored(rt.alloc())?.blocks.as_slice(),
-        [(0, 2)].as_slice()
+        [(0, 2)].as_slice(),
     );
     Ok(())
 }
@@ -226,16 +239,17 @@ fn outputs_are_read(rt: HostRuntime) -> Result<(), Fail> {
         \"debug_locations\":[[5,6,7,8]]}";
     let value = Value::from_str(rt.alloc(), text)?;
     let stored: StoredOutput = StoredOutput::from_value(rt.alloc(), &value)?;
-    assert_eq!(rt; stored.num_spillslots, 2);
-    assert_eq!(rt; stored.edits.as_slice(), [(1, 2, 3)].as_slice());
-    assert_eq!(rt; stored.allocs.as_slice(), [4].as_slice());
-    assert_eq!(rt; stored.inst_alloc_offsets.as_slice(), [0].as_slice());
-    assert_eq!(rt;
+    same(&rt, stored.num_spillslots, 2);
+    same(&rt, stored.edits.as_slice(), [(1, 2, 3)].as_slice());
+    same(&rt, stored.allocs.as_slice(), [4].as_slice());
+    same(&rt, stored.inst_alloc_offsets.as_slice(), [0].as_slice());
+    same(
+        &rt,
         stored.debug_locations.as_slice(),
-        [(5, 6, 7, 8)].as_slice()
+        [(5, 6, 7, 8)].as_slice(),
     );
     let value = Value::from_str(rt.alloc(), "{\"num_spillslots\":2}")?;
     let refused: Result<StoredOutput, StoredFault> = StoredOutput::from_value(rt.alloc(), &value);
-    assert_eq!(rt; refused.err(), Some(StoredFault::Shape));
+    same(&rt, refused.err(), Some(StoredFault::Shape));
     Ok(())
 }
