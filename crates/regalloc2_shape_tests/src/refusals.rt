@@ -1,6 +1,7 @@
 //! Each way in which each test fails, with the exact refusal, and which of two failing tests decides.
 
 use super::answers::{answer, order};
+use super::asserts::holds;
 use super::text::{FORK, LOOP, read};
 use regalloc2_index::{Block, Inst};
 use regalloc2_names::{RegAllocError, RegClass, VReg};
@@ -56,7 +57,7 @@ fn numbers_that_are_no_blocks(rt: HostRuntime) {
         let mut out = Vec::new(rt.alloc());
         let refused = order(rt.alloc(), &f, &mut out);
         assert_eq!(rt; refused, Err(RegAllocError::BB(Block(named))), "{text}");
-        assert!(rt; out.is_empty());
+        holds(&rt, out.is_empty());
     }
 }
 

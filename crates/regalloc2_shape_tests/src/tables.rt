@@ -1,6 +1,7 @@
 //! The tables of small functions and of a long chain, and what refused memory leaves.
 
 use super::answers::{answer, order};
+use super::asserts::{holds, same};
 use super::chain::chain;
 use super::text::{FORK, LOOP, read};
 use regalloc2_index::{Block, Inst};
@@ -14,7 +15,7 @@ fn tables_of_a_loop(rt: HostRuntime) -> Result<(), Fail> {
     let f = read(rt.alloc(), LOOP).expect(&rt, "a function");
     let info = CFGInfo::new(rt.alloc(), &f)?;
     let postorder = [Block(2), Block(3), Block(1), Block(0)];
-    assert_eq!(rt; info.postorder.as_slice(), postorder.as_slice());
+    same(&rt, info.postorder.as_slice(), postorder.as_slice());
     let blocks = [
         Block(0),
         Block(0),
@@ -24,19 +25,22 @@ fn tables_of_a_loop(rt: HostRuntime) -> Result<(), Fail> {
         Block(2),
         Block(3),
     ];
-    assert_eq!(rt; info.insn_block.as_slice(), blocks.as_slice());
-    assert_eq!(rt; info.block_entry.len(), 4);
-    assert_eq!(rt;
+    same(&rt, info.insn_block.as_slice(), blocks.as_slice());
+    same(&rt, info.block_entry.len(), 4);
+    same(
+        &rt,
         info.block_entry.get(1).copied(),
-        Some(ProgPoint::before(Inst(3)))
+        Some(ProgPoint::before(Inst(3))),
     );
-    assert_eq!(rt;
+    same(
+        &rt,
         info.block_exit.get(1).copied(),
-        Some(ProgPoint::after(Inst(4)))
+        Some(ProgPoint::after(Inst(4))),
     );
-    assert_eq!(rt;
+    same(
+        &rt,
         info.block_exit.get(3).copied(),
-        Some(ProgPoint::after(Inst(6)))
+        Some(ProgPoint::after(Inst(6))),
     );
     Ok(())
 }
@@ -46,10 +50,10 @@ fn tables_of_a_fork(rt: HostRuntime) -> Result<(), Fail> {
     let f = read(rt.alloc(), FORK).expect(&rt, "a function");
     let info = CFGInfo::new(rt.alloc(), &f)?;
     let postorder = [Block(1), Block(2), Block(0)];
-    assert_eq!(rt; info.postorder.as_slice(), postorder.as_slice());
+    same(&rt, info.postorder.as_slice(), postorder.as_slice());
     let mut out = Vec::new(rt.alloc());
     order(rt.alloc(), &f, &mut out)?;
-    assert_eq!(rt; out.as_slice(), postorder.as_slice());
+    same(&rt, out.as_slice(), postorder.as_slice());
     Ok(())
 }
 
@@ -58,12 +62,12 @@ fn chain_of_a_million_blocks(rt: HostRuntime) -> Result<(), Fail> {
     let f = chain(rt.alloc(), 1000000).expect(&rt, "a chain");
     let mut out = Vec::new(rt.alloc());
     order(rt.alloc(), &f, &mut out)?;
-    assert_eq!(rt; out.len(), 1000000);
-    assert_eq!(rt; out.first().copied(), Some(Block(999999)));
-    assert_eq!(rt; out.last().copied(), Some(Block(0)));
+    same(&rt, out.len(), 1000000);
+    same(&rt, out.first().copied(), Some(Block(999999)));
+    same(&rt, out.last().copied(), Some(Block(0)));
     let info = CFGInfo::new(rt.alloc(), &f)?;
-    assert_eq!(rt; info.postorder.as_slice(), out.as_slice());
-    assert_eq!(rt; answer(rt.alloc(), &f), Ok(()));
+    same(&rt, info.postorder.as_slice(), out.as_slice());
+    same(&rt, answer(rt.alloc(), &f), Ok(()));
     Ok(())
 }
 
@@ -75,16 +79,20 @@ fn tables_are_filled_anew(rt: HostRuntime) -> Result<(), Fail> {
     let fork = read(rt.alloc(), FORK).expect(&rt, "a function");
     let apart = read(rt.alloc(), "block 1 ret op").expect(&rt, "a function");
     info.init(&cycle, &mut ctx)?;
-    assert_eq!(rt; info.postorder.len(), 4);
+    same(&rt, info.postorder.len(), 4);
     info.init(&fork, &mut ctx)?;
-    assert_eq!(rt; info.postorder.len(), 3);
-    assert_eq!(rt; info.insn_block.len(), 4);
-    assert_eq!(rt;
+    same(&rt, info.postorder.len(), 3);
+    same(&rt, info.insn_block.len(), 4);
+    same(
+        &rt,
         info.init(&apart, &mut ctx),
-        Err(RegAllocError::BB(Block(0)))
+        Err(RegAllocError::BB(Block(0))),
     );
-    assert!(rt; info.postorder.is_empty() && info.insn_block.is_empty());
-    assert!(rt; info.block_entry.is_empty() && info.block_exit.is_empty());
+    holds(&rt, info.postorder.is_empty() && info.insn_block.is_empty());
+    holds(
+        &rt,
+        info.block_entry.is_empty() && info.block_exit.is_empty(),
+    );
     Ok(())
 }
 
@@ -119,8 +127,8 @@ fn each_growth_refused(rt: HostRuntime) -> Result<(), Fail> {
         );
         refusals = refusals.wrapping_add(1);
     }
-    assert!(rt; has_ended);
-    assert!(rt; refusals > 5);
+    holds(&rt, has_ended);
+    holds(&rt, refusals > 5);
     Ok(())
 }
 
@@ -140,6 +148,6 @@ fn each_growth_of_an_order_refused(rt: HostRuntime) -> Result<(), Fail> {
         assert_eq!(rt; answer, Err(RegAllocError::Memory), "refused at {nth}");
         assert!(rt; out.is_empty(), "at {nth}");
     }
-    assert!(rt; has_ended);
+    holds(&rt, has_ended);
     Ok(())
 }
