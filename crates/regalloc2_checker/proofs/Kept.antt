@@ -1,5 +1,5 @@
 -- Blocks without a mark stay settled while one block's edges are passed on.
-use Rattle.std.proofs.Common.{ℕ, zero, suc, ◌≡◌, ◌+◌, ◌-◌, ◌<◌, inl, inr, arith, Bool, true, false, cond, List, [], ◌∷◌, length, get_or, set, refl, sym, ap, ◌∙◌, subst, below_more}
+use Rattle.std.proofs.Common.{ℕ, zero, suc, ◌≡◌, ◌+◌, ◌<◌, inl, inr, arith, Bool, true, false, List, [], ◌∷◌, length, get_or, set, refl, sym, ap, ◌∙◌, subst, below_more}
 use Rattle.std.specs.Prelude.{◌&&◌, slice_index}
 use Rattle.std.proofs.lemmas.Bool.{cases_Bool, cases_eq}
 use Rattle.std.proofs.lemmas.List.{get_or-set_same, get_or-set_other, length-set}
@@ -9,10 +9,10 @@ use Rattle.regalloc2_function.specs.FunctionValue.{FunctionValue, block_at}
 use Rattle.regalloc2_function.specs.OutputValue.{OutputValue}
 use Rattle.regalloc2_function.specs.WellFormed.{IsFramed}
 use Rattle.regalloc2_checker.specs.Facts.{Facts}
-use Rattle.regalloc2_checker.specs.Fixpoint.{facts_within, facts_passed}
+use Rattle.regalloc2_checker.specs.Fixpoint.{facts_passed}
 use Rattle.regalloc2_checker.specs.Numbers.{Numbers, facts_in}
 use Rattle.regalloc2_checker.specs.Meeting.{IsCommon}
-use Rattle.regalloc2_checker.specs.Tables.{BlockView, view_at, facts_at, IsSound, IsRound, BlockSettled, EdgeSettled, EdgesSettled, IsUpdated, IsMet}
+use Rattle.regalloc2_checker.specs.Tables.{BlockView, view_at, facts_at, IsSound, IsRound, BlockSettled, EdgeSettled, EdgesSettled, IsUpdated}
 use Rattle.regalloc2_checker.specs.Passing.{mark_at, IsBlockEnd, IsPassedOver, IsKept, ArePassed}
 use Rattle.regalloc2_checker.proofs.Rounds.{over-same, edge-more, edge-less}
 use Rattle.regalloc2_checker.proofs.Exact.{AreEarlier}

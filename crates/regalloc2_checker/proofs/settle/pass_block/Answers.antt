@@ -1,6 +1,5 @@
-use Rattle.std.proofs.Common.{◌≡◌, ◌<◌, ℕ, List, Bool, true, false, length, ◌∙◌, ap, sym, subst, arith, rules, set}
+use Rattle.std.proofs.Common.{◌≡◌, ◌<◌, ℕ, List, true, false, length, ◌∙◌, ap, sym, subst, arith, rules, set}
 use Rattle.regalloc2_function.specs.FunctionValue.{FunctionValue, block_at}
-use Rattle.regalloc2_function.specs.OutputValue.{OutputValue}
 use Rattle.regalloc2_checker.specs.Numbers.{Numbers, numbers_of, facts_in}
 use Rattle.regalloc2_checker.specs.Passing.{IsKept, ArePassed}
 use Rattle.regalloc2_checker.specs.Tables.{BlockView, view_at, facts_at, views}

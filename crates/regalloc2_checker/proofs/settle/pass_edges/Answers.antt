@@ -1,10 +1,10 @@
-use Rattle.std.proofs.Common.{◌≡◌, ◌<◌, ◌+◌, ℕ, List, Bool, true, false, length, ◌∙◌, ap, sym, subst, arith, refl}
+use Rattle.std.proofs.Common.{◌≡◌, ◌<◌, ◌+◌, ℕ, List, Bool, true, false, length, ap, sym, subst, arith}
 use Rattle.regalloc2_function.specs.FunctionValue.{FunctionValue, block_at}
 use Rattle.regalloc2_function.specs.OutputValue.{OutputValue}
 use Rattle.regalloc2_checker.specs.Facts.{Facts}
 use Rattle.regalloc2_checker.specs.Numbers.{Numbers, numbers_of, facts_in}
-use Rattle.regalloc2_checker.specs.Passing.{IsBlockEnd, IsPassedOver, ArePassed}
-use Rattle.regalloc2_checker.specs.Tables.{BlockView, facts_at, views}
+use Rattle.regalloc2_checker.specs.Passing.{IsPassedOver, ArePassed}
+use Rattle.regalloc2_checker.specs.Tables.{BlockView, views}
 use Rattle.regalloc2_checker.proofs.Exact.{AreEarlier}
 use Rattle.regalloc2_checker.proofs.Kept.{EdgesPassed, edge-changed, edge-unchanged, edges-done, all-kept}
 use Rattle.regalloc2_checker.proofs.Rounds.{edges-none}
