@@ -1,6 +1,6 @@
 -- The walk over an instruction's clobbers.
-use Rattle.std.proofs.Common.{ℕ, zero, suc, ◌≡◌, ◌<◌, Bool, true, false, List, [], ◌∷◌, ◌++◌, length, refl, arith, sym, ap, ◌∙◌, subst, ◌⊎◌, inl, inr, append-nil}
-use Rattle.std.specs.Prelude.{not, ◌&&◌, ◌||◌, Contains, ◌↔◌, slice_index_or}
+use Rattle.std.proofs.Common.{ℕ, zero, suc, ◌≡◌, Bool, true, false, List, [], ◌∷◌, ◌++◌, refl, arith, sym, ap, ◌∙◌, subst, append-nil}
+use Rattle.std.specs.Prelude.{not, ◌&&◌, ◌||◌, Contains, ◌↔◌}
 use Rattle.regalloc2_names.specs.declared.sets.PRegSet.{PRegSet}
 use Rattle.regalloc2_names.specs.Register.{Register, is_register}
 use Rattle.regalloc2_names.specs.RegisterSet.{has_register}
@@ -97,4 +97,4 @@ clears_more point rs r t u w old m new (none_left v l) c = one_more r [] v w w l
 clears_more point rs r t u w old m new (one_more q qs a b d k l n first rest) c = one_more q (qs ++ r ∷ []) a b w k l new first (clears_more point qs r b d w l n new rest c)
 
 pub machine_then : (a b c : Tables) → SameMachine a b → SameMachine b c → SameMachine a c
-machine_then a b c x y = record { allocatable = y.allocatable ∙ x.allocatable; fixed_stack = y.fixed_stack ∙ x.fixed_stack; dedicated = y.dedicated ∙ x.dedicated }
+machine_then a b c x y = record { allocatable = y.allocatable ∙ x.allocatable; fixed_stack = y.fixed_stack ∙ x.fixed_stack; dedicated = y.dedicated ∙ x.dedicated; sizes = y.sizes ∙ x.sizes; vregs = y.vregs ∙ x.vregs }

@@ -77,5 +77,8 @@ pub two_pushed : (point : ℕ) (got by from to : Place) (es one two : List (ℕ 
 two_pushed point got by from to es one two e f g =
     g ∙ ap (λ l. l ++ a_move point from got ∷ []) f ∙ append_two es (a_move point got to) (a_move point from got) ∙ ap (λ p. es ++ a_move point p to ∷ a_move point from p ∷ []) e
 
+pub same_of : (a b : Tables) → b ≡ a → SameMachine a b
+same_of a b e = subst (SameMachine a) (sym e) (record { allocatable = refl; fixed_stack = refl; dedicated = refl; sizes = refl; vregs = refl })
+
 pub same_then : (a b c : Tables) → SameMachine a b → SameMachine b c → SameMachine a c
-same_then a b c f g = record { allocatable = g.allocatable ∙ f.allocatable; fixed_stack = g.fixed_stack ∙ f.fixed_stack; dedicated = g.dedicated ∙ f.dedicated }
+same_then a b c f g = record { allocatable = g.allocatable ∙ f.allocatable; fixed_stack = g.fixed_stack ∙ f.fixed_stack; dedicated = g.dedicated ∙ f.dedicated; sizes = g.sizes ∙ f.sizes; vregs = g.vregs ∙ f.vregs }

@@ -13,7 +13,8 @@ use Rattle.regalloc2_fastalloc.specs.Steps.{Tables, SameMachine, is_stack_in, Su
 use Rattle.regalloc2_fastalloc.specs.Steps.Picks.{stays, fixed, slot, free}
 use Rattle.regalloc2_fastalloc.specs.Steps.Uses.{stays as use_stays, stands}
 use Rattle.regalloc2_fastalloc.specs.Sound.{IsOfMachine, MayStand, MayStandOrNone, IsEndOfMove, IsSafeEdit, HasMachine, IsSafe, IsSafeTurn}
-use Rattle.regalloc2_fastalloc.proofs.Sound.{IsApart, StepKept, kept_both, kept_none, clears_but_kept, sends_kept, end_grows, none_grows, slot_grows, slot_end, slot_stands, slot_memory, stand_grows, stand_none, stand_end, stand_there, stand_of_machine, there_stands, machine_kept, settled_places, settled_holders, settled_standing, slots_kept, edits_grow, safe_turn}
+use Rattle.regalloc2_fastalloc.proofs.Sound.{IsApart, StepKept, kept_both, kept_none, clears_but_kept, sends_kept, end_grows, none_grows, slot_end, slot_stands, slot_memory, stand_grows, stand_none, stand_end, stand_there, stand_of_machine, there_stands, machine_kept, settled_places, settled_holders, settled_standing, slots_kept, edits_grow, safe_turn}
+use Rattle.regalloc2_fastalloc.proofs.Slotting.{slot_grows}
 
 -- a place meets what is asked, in the machine's terms
 abbrev pub IsAnswer : MachineValue → Wanted → Place → Type 0

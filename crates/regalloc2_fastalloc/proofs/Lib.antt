@@ -42,6 +42,7 @@ pub mod Readying
 pub mod Reserved
 pub mod Reusing
 pub mod Rings
+pub mod Rooming
 pub mod Rounding
 pub mod Sound
 pub mod Scratching

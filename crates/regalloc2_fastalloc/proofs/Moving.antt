@@ -1,14 +1,14 @@
 -- Before an instruction: scratch registers are taken, and uses are moved to their places.
-use Rattle.std.proofs.Common.{ℕ, ◌≡◌, ◌≢◌, ◌+◌, ◌<◌, ◌≤◌, Bool, true, false, List, [], ◌∷◌, ◌++◌, length, refl, arith, sym, ap, ◌∙◌, subst, inl, inr, ◌⊎◌, ⊎_elim}
-use Rattle.std.specs.Prelude.{Option, None, Some, not, ◌&&◌, slice_index_or}
+use Rattle.std.proofs.Common.{ℕ, ◌≡◌, ◌≢◌, ◌+◌, ◌≤◌, Bool, true, false, List, [], ◌∷◌, ◌++◌, length, refl, arith, sym, ap, ◌∙◌, subst, inr, ◌⊎◌, ⊎_elim}
+use Rattle.std.specs.Prelude.{Option, None, Some, not, slice_index_or}
 use Rattle.std.proofs.lemmas.Bool.{and_parts}
 use Rattle.std.proofs.lemmas.List.{append_assoc}
 use Rattle.regalloc2_names.specs.declared.RegClass.{RegClass}
-use Rattle.regalloc2_names.specs.Register.{Register, VirtualRegister, class_code}
+use Rattle.regalloc2_names.specs.Register.{Register, VirtualRegister}
 use Rattle.regalloc2_names.specs.RegisterSet.{has_register}
-use Rattle.regalloc2_names.specs.Place.{Place, NoPlace, InRegister, InSlot, is_place}
+use Rattle.regalloc2_names.specs.Place.{Place, NoPlace, InRegister, is_place}
 use Rattle.regalloc2_names.specs.Operand.{OperandValue}
-use Rattle.regalloc2_names.specs.Point.{before, after}
+use Rattle.regalloc2_names.specs.Point.{before}
 use Rattle.regalloc2_function.specs.FunctionValue.{InstValue}
 use Rattle.regalloc2_function.specs.OutputValue.{MoveValue}
 use Rattle.regalloc2_function.specs.SourceRun.{is_def, is_reading}
@@ -16,7 +16,7 @@ use Rattle.regalloc2_flow.specs.Listing.{Item}
 use Rattle.regalloc2_flow.specs.Listing.Item.{Move}
 use Rattle.regalloc2_flow.specs.Walked.{AllFrom, before_part, listed}
 use Rattle.regalloc2_flow.specs.Instruction.{Claims}
-use Rattle.regalloc2_flow.specs.Placed.{What, what_of, Pending, still, slotted, used, Counts, Placed, Held}
+use Rattle.regalloc2_flow.specs.Placed.{What, what_of, Pending, still, slotted, used, Counts, Held}
 use Rattle.regalloc2_flow.proofs.Cells.{is_place-true}
 use Rattle.regalloc2_flow.proofs.Pushing.{before_part-more}
 use Rattle.regalloc2_flow.proofs.Sharing.{share_uses}
@@ -24,8 +24,7 @@ use Rattle.regalloc2_flow.proofs.Crossing.{reads_use}
 use Rattle.regalloc2_flow.proofs.Needing.{pend_move, pend_through, pend_stay, pend_pass, pend_evict, pend_slot}
 use Rattle.regalloc2_flow.proofs.Between.{FreeAt, scratch_idle}
 use Rattle.regalloc2_fastalloc.specs.declared.turn.Turn.{Turn}
-use Rattle.regalloc2_fastalloc.specs.Tables.{stood}
-use Rattle.regalloc2_fastalloc.specs.Steps.{Tables, SameMachine, is_stack_in, Evicts, nobody, moved, Scratches, dedicated, had, found, Crosses, direct, through, Sends, sent, unsent, MovesUses, none_moved, not_moved, one_moved, op_at, a_move}
+use Rattle.regalloc2_fastalloc.specs.Steps.{Tables, is_stack_in, Evicts, nobody, moved, Scratches, dedicated, had, found, direct, through, Sends, sent, unsent, MovesUses, none_moved, not_moved, one_moved, op_at, a_move}
 use Rattle.regalloc2_fastalloc.proofs.Flowing.{place_in, slot_in, IsWhole}
 use Rattle.regalloc2_fastalloc.proofs.Standing.{stands_at, slots_at, opt, opt_from, no_register_slot, Stands, Shifts, shifts, shift_whole, shift_stands, later_push}
 use Rattle.regalloc2_fastalloc.proofs.Evicting.{held_early, held_late, Kept, kept_all, shift_kept}
@@ -43,7 +42,7 @@ stands_edits what here claimed done lived out clob X t es st = record {
 }
 
 pub kept_edits : (s t : Tables) (es : List (ℕ × MoveValue)) → Kept s t → Kept s (record t { edits = es })
-kept_edits s t es k = record { slots = k.slots; registers = k.registers; nowhere = k.nowhere; slotted = k.slotted; unslotted = k.unslotted; machine = record { allocatable = k.machine.allocatable; fixed_stack = k.machine.fixed_stack; dedicated = k.machine.dedicated } }
+kept_edits s t es k = record { slots = k.slots; registers = k.registers; nowhere = k.nowhere; slotted = k.slotted; unslotted = k.unslotted; machine = record { allocatable = k.machine.allocatable; fixed_stack = k.machine.fixed_stack; dedicated = k.machine.dedicated; sizes = k.machine.sizes; vregs = k.machine.vregs } }
 
 module _ (Known : VirtualRegister → Type 0) (insts : ℕ → InstValue) (placesf : ℕ → List Place) (i n : ℕ) (item : Item) (E : VirtualRegister → Place → Type 0) where
   -- what the listing carries with the instruction in front, while the moves of the uses from k on are not listed

@@ -1,5 +1,5 @@
 -- Slots as places.
-use Rattle.std.proofs.Common.{Bool, true, false, ◌≡◌, refl, ap, ◌∙◌, subst}
+use Rattle.std.proofs.Common.{ℕ, arith, ◌≤◌, Bool, true, false, ◌≡◌, refl, ap, ◌∙◌, subst}
 use Rattle.regalloc2_names.specs.Register.{Register, VirtualRegister}
 use Rattle.std.specs.Prelude.{Some, IsTrue}
 use Rattle.regalloc2_names.specs.Place.{Place, NoPlace, InRegister, InSlot, register_of_place, is_no_place}
@@ -27,3 +27,9 @@ something_there p e h = let t : is_no_place p ≡ true = ap is_no_place e in cc
 
 pub same_register : (q r : Register) → InRegister q ≡ InRegister r → q ≡ r
 same_register q r e = cc
+
+-- a slot lies below a greater count too
+pub slot_grows : (m n : ℕ) (p : Place) → m ≤ n → IsSlotOrNone m p → IsSlotOrNone n p
+slot_grows m n NoPlace le h = h
+slot_grows m n (InRegister r) le h = h
+slot_grows m n (InSlot k) le h = omega arith

@@ -20,6 +20,7 @@ use Rattle.regalloc2_fastalloc.specs.Steps.{Tables, SameMachine, is_stack_in, Ev
 use Rattle.regalloc2_fastalloc.specs.Sound.{IsOfMachine, MayStand, MayStandOrNone, IsEndOfMove, IsSafeEdit, HasMachine, IsSafe, IsSafeTurn}
 use Rattle.regalloc2_fastalloc.proofs.Falling.{all_push}
 use Rattle.regalloc2_fastalloc.proofs.Inverses.{chosen, no_some}
+use Rattle.regalloc2_fastalloc.proofs.Slotting.{slot_grows}
 
 -- what is below a count is below a greater one
 pub end_grows : (env : MachineValue) (m n : ℕ) (p : Place) → m ≤ n → IsEndOfMove env m p → IsEndOfMove env n p
@@ -36,11 +37,6 @@ pub none_grows : (env : MachineValue) (m n : ℕ) (c : RegClass) (p : Place) →
 none_grows env m n c NoPlace le h = h
 none_grows env m n c (InRegister r) le h = h
 none_grows env m n c (InSlot k) le h = omega arith
-
-pub slot_grows : (m n : ℕ) (p : Place) → m ≤ n → IsSlotOrNone m p → IsSlotOrNone n p
-slot_grows m n NoPlace le h = h
-slot_grows m n (InRegister r) le h = h
-slot_grows m n (InSlot k) le h = omega arith
 
 pub edits_grow : (env : MachineValue) (m n bound : ℕ) (es : List (ℕ × MoveValue)) → m ≤ n → All (IsSafeEdit env m bound) es → All (IsSafeEdit env n bound) es
 edits_grow env m n bound es le h = λ k d lt. let e = h k d lt in record { from = end_grows env m n _ le e.from; to = end_grows env m n _ le e.to; not_both = e.not_both; point = e.point }

@@ -1,20 +1,18 @@
 -- A straight block whose definitions, uses, reuses and fixed registers are sound is well-formed.
-use Rattle.std.proofs.Common.{ℕ, zero, suc, ◌≡◌, ◌+◌, ◌<◌, ◌≤◌, Bool, true, false, [], length, refl, sym, subst, ap, ◌∙◌, inr, arith, eq-eqb}
-use Rattle.std.specs.Prelude.{All, slice_index_or}
+use Rattle.std.proofs.Common.{ℕ, zero, suc, ◌≡◌, ◌+◌, ◌^◌, ◌<◌, ◌≤◌, Bool, true, false, [], length, refl, sym, subst, ap, ◌∙◌, inr, arith, eq-eqb}
+use Rattle.std.specs.Prelude.{All}
 use Rattle.std.proofs.lemmas.Bool.{ne_eqb}
 use Rattle.std.proofs.lemmas.List.{get_or_past}
-use Rattle.std.proofs.lemmas.List.Elements.{All-nil, All-get_or, All-from_get_or, All-same}
+use Rattle.std.proofs.lemmas.List.Elements.{All-nil, All-from_get_or, All-same}
 use Rattle.regalloc2_names.specs.declared.RegAllocError.{RegAllocError}
 use Rattle.regalloc2_names.specs.declared.RegAllocError.TheVariants.{CritEdge, SSA, BB, Branch, EntryLivein, DisallowedBranchArg, TooManyLiveRegs, TooManyOperands, Unsupported, TooManySpillSlots, Memory}
-use Rattle.regalloc2_names.specs.declared.OperandConstraint.TheVariants.{Reg, Reuse}
-use Rattle.regalloc2_names.specs.Operand.{OperandValue}
-use Rattle.regalloc2_function.specs.FunctionValue.{FunctionValue, BlockValue, InstValue, block_at, inst_at, no_block, no_inst}
+use Rattle.regalloc2_function.specs.FunctionValue.{FunctionValue, BlockValue, block_at, inst_at, no_block, no_inst}
 use Rattle.regalloc2_function.specs.Machine.{MachineValue}
-use Rattle.regalloc2_function.specs.WellFormed.{EachBlock, FollowsAt, BlocksFollow, EndsAt, CountedAt, DefinedOnce, UsesAreDefined, ReusesAreSound, FixedAvoidClobbers, IsWellFormed, IsReuse, times_in, ways_into, last_of}
-use Rattle.regalloc2_fastalloc.specs.Lack.{IsLack}
+use Rattle.regalloc2_function.specs.WellFormed.{EachBlock, FollowsAt, BlocksFollow, EndsAt, CountedAt, DefinedOnce, UsesAreDefined, ReusesAreSound, FixedAvoidClobbers, IsWellFormed, times_in, ways_into, last_of}
+use Rattle.regalloc2_fastalloc.specs.Lack.{LacksOnly}
 use Rattle.regalloc2_fastalloc.specs.Constraints.{AreUnlimited}
 use Rattle.regalloc2_fastalloc.specs.Profile.{IsLastReturn, IsStraightBlock}
-use Rattle.regalloc2_fastalloc.specs.Reason.{PassesFirst, PassesAll, IsReason}
+use Rattle.regalloc2_fastalloc.specs.Reason.{PassesFirst, PassesAll, IsReason, units_needed}
 
 -- what holds of block 0 holds of each block
 only_block : (f : FunctionValue) (P : ℕ → BlockValue → Type 0) → length f.blocks ≡ 1 → P 0 (block_at f 0) → EachBlock f P
@@ -81,7 +79,7 @@ well_formed_either_way f env true p given = p.well_formed refl
 well_formed_either_way f env false p given = given refl
 
 -- what may be lacking is a reason, after all tests
-pub lack_is_reason : (f : FunctionValue) (env : MachineValue) (asked : Bool) → PassesAll f env asked → (e : RegAllocError) → IsLack e → IsReason f env asked e
+pub lack_is_reason : (f : FunctionValue) (env : MachineValue) (asked : Bool) → PassesAll f env asked → (e : RegAllocError) → LacksOnly (2 ^ 24 < units_needed f) e → IsReason f env asked e
 lack_is_reason f env asked p (CritEdge a b) h = h
 lack_is_reason f env asked p (SSA v i) h = absurd h
 lack_is_reason f env asked p (BB b) h = absurd h
@@ -91,5 +89,5 @@ lack_is_reason f env asked p (DisallowedBranchArg i) h = h
 lack_is_reason f env asked p TooManyLiveRegs h = p
 lack_is_reason f env asked p TooManyOperands h = absurd h
 lack_is_reason f env asked p (Unsupported i) h = absurd h
-lack_is_reason f env asked p TooManySpillSlots h = p
+lack_is_reason f env asked p TooManySpillSlots h = (p, h)
 lack_is_reason f env asked p Memory h = p.first

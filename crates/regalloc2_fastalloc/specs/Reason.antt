@@ -1,8 +1,10 @@
 -- Why a function is refused: the first test that fails, and the first place where it does.
-use Rattle.std.specs.Prelude.{ℕ, ◌≡◌, ◌<◌, ◌≤◌, ◌^◌, ◌⊎◌, Bool, true, length}
+use Rattle.std.specs.Prelude.{ℕ, ◌≡◌, ◌+◌, ◌*◌, ◌<◌, ◌≤◌, ◌^◌, ◌⊎◌, max, Bool, true, length}
 use Rattle.regalloc2_names.specs.declared.RegAllocError.{RegAllocError}
 use Rattle.regalloc2_names.specs.declared.RegAllocError.TheVariants.{CritEdge, SSA, BB, Branch, EntryLivein, DisallowedBranchArg, TooManyLiveRegs, TooManyOperands, Unsupported, TooManySpillSlots, Memory}
-use Rattle.regalloc2_function.specs.FunctionValue.{FunctionValue, inst_at, operand_count}
+use Rattle.regalloc2_names.specs.declared.RegClass.TheVariants.{Int, Float, Vector}
+use Rattle.regalloc2_function.specs.FunctionValue.{FunctionValue, inst_at, operand_count, slot_size}
+use Rattle.regalloc2_function.specs.OutputValue.{OutputValue}
 use Rattle.regalloc2_function.specs.Machine.{MachineValue}
 use Rattle.regalloc2_function.specs.Reasons.{IsDefinitionFault}
 use Rattle.regalloc2_function.specs.WellFormed.{DefinedOnce, UsesAreDefined, ReusesAreSound, FixedAvoidClobbers, IsWellFormed}
@@ -32,6 +34,14 @@ AreFixedWell f env = (i : ℕ) → i < length f.insts → ReusesAreSound env (in
 abbrev pub IsUnsupported : FunctionValue → MachineValue → Bool → ℕ → Type 0
 IsUnsupported f env asked i = ((asked ≡ true) × AreDefined f × IsFixedFault f env (Unsupported i)) ⊎ ((asked ≡ true → AreDefined f × AreFixedWell f env) × IsFirst f AreUnlimited i)
 
+-- how many units the greatest slot takes
+abbrev pub greatest_slot : FunctionValue → ℕ
+greatest_slot f = max (slot_size f.slot_sizes Int) (max (slot_size f.slot_sizes Float) (slot_size f.slot_sizes Vector))
+
+-- How many units slots may take: each less than twice its size, since it is aligned; there is one at most for each vreg, and six for the moves of each block.
+abbrev pub units_needed : FunctionValue → ℕ
+units_needed f = 2 * greatest_slot f * (f.num_vregs + 6 * length f.blocks)
+
 -- the reason that an error gives
 abbrev pub IsReason : FunctionValue → MachineValue → Bool → RegAllocError → Type 0
 IsReason f env asked (CritEdge p b) = ⊥
@@ -43,5 +53,10 @@ IsReason f env asked (DisallowedBranchArg i) = ⊥
 IsReason f env asked TooManyLiveRegs = PassesAll f env asked
 IsReason f env asked TooManyOperands = 2 ^ 32 ≤ operand_count f
 IsReason f env asked (Unsupported i) = PassesFirst f × IsUnsupported f env asked i
-IsReason f env asked TooManySpillSlots = PassesAll f env asked
+IsReason f env asked TooManySpillSlots = PassesAll f env asked × (2 ^ 24 < units_needed f)
 IsReason f env asked Memory = PassesFirst f
+
+-- the slots of an output take no more units than these bounds
+pub record SlotsAreFew (f : FunctionValue) (out : OutputValue) : Type 0 where
+  pub limit : out.num_spillslots ≤ 2 ^ 24
+  pub needed : out.num_spillslots ≤ units_needed f

@@ -1,12 +1,11 @@
 -- What the steps of the walk do to the tables, with operands of every kind but `Limit`.
-use Rattle.std.specs.Prelude.{ℕ, ◌≡◌, ◌≢◌, ◌+◌, ◌<◌, ◌⊎◌, Bool, true, false, not, ◌&&◌, ◌||◌, List, [], ◌∷◌, ◌++◌, length, Option, None, Some, slice_index_or, slice_set, if◌then◌else◌}
+use Rattle.std.specs.Prelude.{ℕ, ◌≡◌, ◌≢◌, ◌+◌, ◌<◌, ◌⊎◌, Bool, true, false, not, ◌&&◌, ◌||◌, List, [], ◌∷◌, ◌++◌, length, Option, None, Some, slice_index_or, slice_set}
 use Rattle.regalloc2_names.specs.declared.RegClass.{RegClass}
 use Rattle.regalloc2_names.specs.declared.RegClass.TheVariants.{Int}
 use Rattle.regalloc2_names.specs.declared.OperandConstraint.{OperandConstraint}
 use Rattle.regalloc2_names.specs.declared.OperandConstraint.TheVariants.{Any, Reg, Stack, FixedReg, Reuse, Limit}
-use Rattle.regalloc2_names.specs.declared.OperandKind.TheVariants.{Def, Use}
-use Rattle.regalloc2_names.specs.declared.OperandPos.{OperandPos}
-use Rattle.regalloc2_names.specs.declared.OperandPos.TheVariants.{Early, Late}
+use Rattle.regalloc2_names.specs.declared.OperandKind.TheVariants.{Use}
+use Rattle.regalloc2_names.specs.declared.OperandPos.TheVariants.{Early}
 use Rattle.regalloc2_names.specs.declared.sets.PRegSet.{PRegSet}
 use Rattle.regalloc2_names.specs.Register.{Register, VirtualRegister, class_code, is_register}
 use Rattle.regalloc2_names.specs.RegisterSet.{has_register, registers_of}
@@ -36,11 +35,13 @@ pub record Tables : Type 0 where
 abbrev pub tables_of : {A : Type 0} → State A → Tables
 tables_of s = record { places = s.places; slots = s.slots; edits = s.edits; allocatable = s.registers.allocatable; fixed_stack = s.registers.fixed_stack; dedicated = s.registers.dedicated }
 
--- the machine's registers stay
+-- the machine's registers stay, and so do the sizes of slots and the number of vregs
 pub record SameMachine (old new : Tables) : Type 0 where
   pub allocatable : new.allocatable ≡ old.allocatable
   pub fixed_stack : new.fixed_stack ≡ old.fixed_stack
   pub dedicated : new.dedicated ≡ old.dedicated
+  pub sizes : new.slots.sizes ≡ old.slots.sizes
+  pub vregs : length new.slots.of_vreg ≡ length old.slots.of_vreg
 
 -- a move at a point
 abbrev pub a_move : ℕ → Place → Place → ℕ × MoveValue

@@ -1,6 +1,7 @@
 -- The allocator's tables, as contracts see them.
-use Rattle.std.specs.Prelude.{ℕ, ◌≡◌, ◌≢◌, ◌+◌, ◌-◌, ◌<◌, ◌≤◌, ◌||◌, Bool, true, false, List, [], ◌∷◌, ◌++◌, All, Contains, length, replicate, slice_index, slice_index_or, Option, None, Some, if◌then◌else◌}
+use Rattle.std.specs.Prelude.{ℕ, ◌≡◌, ◌≢◌, ◌+◌, ◌-◌, ◌*◌, ◌<◌, ◌≤◌, Bool, true, false, not, List, [], All, Contains, length, replicate, slice_index, slice_index_or, Option, None, Some, if◌then◌else◌}
 use Rattle.std.specs.Int.{next_multiple_of}
+use Rattle.std.specs.List.{count_by}
 use Rattle.regalloc2_names.specs.declared.RegClass.{RegClass}
 use Rattle.regalloc2_names.specs.Register.{class_code}
 use Rattle.regalloc2_parts.specs.Ring.{AreDistinctOf}
@@ -81,13 +82,22 @@ IsSlotOrNone count NoPlace = Unit {0}
 IsSlotOrNone count (InRegister r) = ⊥
 IsSlotOrNone count (InSlot n) = n < count
 
--- each name has one owner, and lies below the count
+-- how many vregs have a slot
+abbrev pub owners : SlotsValue → ℕ
+owners s = count_by (λ p. not (is_no_place p)) s.of_vreg
+
+-- a slot takes so many units at most
+abbrev pub AreUpTo : ℕ → List ℕ → Type 0
+AreUpTo most sizes = (c : ℕ) → c < 3 → slice_index sizes c ≤ most
+
+-- Each name has one owner, and lies below the count. A slot is aligned to its size, so it takes less than twice as many units.
 pub record AreOwned (s : SlotsValue) : Type 0 where
   pub three : length s.sizes ≡ 3
   pub sizes : (c : ℕ) → c < 3 → 0 < slice_index s.sizes c × slice_index s.sizes c ≤ most_units
   pub few : s.count ≤ most_units
   pub below : (n : ℕ) → IsSlotOrNone s.count (slot_name s n)
   pub own : (m n k : ℕ) → slot_name s m ≡ InSlot k → slot_name s n ≡ InSlot k → m ≡ n
+  pub room : (most : ℕ) → AreUpTo most s.sizes → s.count ≤ owners s * (2 * most)
 
 -- the vreg has the slot p, which it had or which is made for it
 pub record GivesSlot (old new : SlotsValue) (v : VirtualRegister) (p : Place) : Type 0 where

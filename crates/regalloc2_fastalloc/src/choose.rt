@@ -144,7 +144,7 @@ impl<A: Allocator> State<A> {
         ensures places { self.new.places ≡ self.old.places }
         ensures edits { self.new.edits ≡ self.old.edits }
         ensures machine { SameMachine (tables_of self.old) (tables_of self.new) }
-        ensures err { IfErr result IsLack }
+        ensures err { IfErr result (IsLack self.new.slots) }
     {
         if let Wanted::At(preg) = placing.wanted {
             return Ok(Allocation::reg(preg));
@@ -167,7 +167,7 @@ impl<A: Allocator> State<A> {
         ensures places { self.new.places ≡ self.old.places }
         ensures edits { self.new.edits ≡ self.old.edits }
         ensures machine { SameMachine (tables_of self.old) (tables_of self.new) }
-        ensures err { IfErr result IsLack }
+        ensures err { IfErr result (IsLack self.new.slots) }
     {
         if let Some(stands) = self.kept(turn, placing) {
             return Ok(stands);
@@ -204,7 +204,7 @@ impl<A: Allocator> State<A> {
         ensures later { OnOk result (NoneBefore point self.new.edits) }
         ensures long { OnOk result (length self.new.places.stands ≡ length self.old.places.stands) }
         ensures machine { SameMachine (tables_of self.old) (tables_of self.new) }
-        ensures err { IfErr result IsLack }
+        ensures err { IfErr result (IsLack self.new.slots) }
     {
         self.evict_others(turn, point, preg, placing.vreg)?;
         turn.hold(preg, placing.positions);
@@ -227,7 +227,7 @@ impl<A: Allocator> State<A> {
         ensures later { OnOk result (NoneBefore point self.new.edits) }
         ensures long { OnOk result (length self.new.places.stands ≡ length self.old.places.stands) }
         ensures machine { SameMachine (tables_of self.old) (tables_of self.new) }
-        ensures err { IfErr result IsLack }
+        ensures err { IfErr result (IsLack self.new.slots) }
     {
         let Some(preg) = place.as_reg() else {
             return Ok(());
@@ -250,7 +250,7 @@ impl<A: Allocator> State<A> {
         ensures later { OnOk result (NoneBefore point self.new.edits) }
         ensures long { OnOk result (length self.new.places.stands ≡ length self.old.places.stands) }
         ensures machine { SameMachine (tables_of self.old) (tables_of self.new) }
-        ensures err { IfErr result IsLack }
+        ensures err { IfErr result (IsLack self.new.slots) }
     {
         let place = self.picked(turn, placing)?;
         self.occupy(turn, point, placing, place)?;
@@ -273,7 +273,7 @@ impl<A: Allocator> State<A> {
         ensures later { OnOk result (NoneBefore point self.new.edits) }
         ensures long { OnOk result (length self.new.places.stands ≡ length self.old.places.stands) }
         ensures machine { SameMachine (tables_of self.old) (tables_of self.new) }
-        ensures err { IfErr result IsLack }
+        ensures err { IfErr result (IsLack self.new.slots) }
     {
         if !is_made {
             return Ok(());
@@ -298,7 +298,7 @@ impl<A: Allocator> State<A> {
         ensures later { OnOk result (NoneBefore point self.new.edits) }
         ensures long { OnOk result (length self.new.places.stands ≡ length self.old.places.stands) }
         ensures machine { SameMachine (tables_of self.old) (tables_of self.new) }
-        ensures err { IfErr result IsLack }
+        ensures err { IfErr result (IsLack self.new.slots) }
     {
         let class = vreg.class();
         let awaited = self.places.place_of(vreg);
@@ -326,7 +326,7 @@ impl<A: Allocator> State<A> {
         ensures later { OnOk result (NoneBefore point self.new.edits) }
         ensures long { OnOk result (length self.new.places.stands ≡ length self.old.places.stands) }
         ensures machine { SameMachine (tables_of self.old) (tables_of self.new) }
-        ensures err { IfErr result IsLack }
+        ensures err { IfErr result (IsLack self.new.slots) }
     {
         let place = self.place(turn, point, placing)?;
         self.leave(turn, point, placing.vreg, is_ret, place)?;
@@ -346,7 +346,7 @@ impl<A: Allocator> State<A> {
         ensures later { OnOk result (NoneBefore point self.new.edits) }
         ensures long { OnOk result (length self.new.places.stands ≡ length self.old.places.stands) }
         ensures machine { SameMachine (tables_of self.old) (tables_of self.new) }
-        ensures err { IfErr result IsLack }
+        ensures err { IfErr result (IsLack self.new.slots) }
     {
         let place = self.place(turn, point, placing)?;
         if self.places.place_of(placing.vreg).is_some() {

@@ -156,7 +156,7 @@ impl<A: Allocator> State<A> {
         ensures later { OnOk result (NoneBefore (after inst) self.new.edits) }
         ensures long { OnOk result (length self.new.places.stands ≡ length self.old.places.stands) }
         ensures machine { SameMachine (tables_of self.old) (tables_of self.new) }
-        ensures err { IfErr result IsLack }
+        ensures err { IfErr result (IsLack self.new.slots) }
     {
         let operand = operands[k];
         let point = ProgPoint::after(inst);
@@ -198,7 +198,7 @@ impl<A: Allocator> State<A> {
         ensures later { OnOk result (NoneBefore (after inst) self.new.edits) }
         ensures long { OnOk result (length self.new.places.stands ≡ length self.old.places.stands) }
         ensures machine { SameMachine (tables_of self.old) (tables_of self.new) }
-        ensures err { IfErr result IsLack }
+        ensures err { IfErr result (IsLack self.new.slots) }
     {
         for k in 0..operands.len() {
             if stands_at(operands[k], pos) {
@@ -223,7 +223,7 @@ impl<A: Allocator> State<A> {
         ensures later { OnOk result (NoneBefore point self.new.edits) }
         ensures long { OnOk result (length self.new.places.stands ≡ length self.old.places.stands) }
         ensures machine { SameMachine (tables_of self.old) (tables_of self.new) }
-        ensures err { IfErr result IsLack }
+        ensures err { IfErr result (IsLack self.new.slots) }
     {
         let stands = self.places.place_of(operand.vreg());
         let is_moved = differ(stands, place);
@@ -246,7 +246,7 @@ impl<A: Allocator> State<A> {
         ensures later { OnOk result (NoneBefore point self.new.edits) }
         ensures long { OnOk result (length self.new.places.stands ≡ length self.old.places.stands) }
         ensures machine { SameMachine (tables_of self.old) (tables_of self.new) }
-        ensures err { IfErr result IsLack }
+        ensures err { IfErr result (IsLack self.new.slots) }
     {
         for k in 0..operands.len() {
             if reads(operands[k]) {
@@ -275,7 +275,8 @@ impl<A: Allocator> State<A> {
         ensures ok { OnOk result (Allocates inst (record { operands = operands.now; clobbers = clobbers; is_branch = false; is_ret = is_ret }) here.old here.new (tables_of self.old) (tables_of self.new)) }
         ensures later { OnOk result (NoneBefore (before inst) self.new.edits) }
         ensures long { OnOk result (length self.new.places.stands ≡ length self.old.places.stands) }
-        ensures err { IfErr result IsLack }
+        ensures machine { SameMachine (tables_of self.old) (tables_of self.new) }
+        ensures err { IfErr result (IsLack self.new.slots) }
     {
         let mut turn = Turn::new(self.registers.every(), self.registers.spare());
         let point = ProgPoint::after(inst);
@@ -307,7 +308,8 @@ impl<A: Allocator> State<A> {
         ensures ok { OnOk result (AllocatesAt inst (record { operands = operands.now; clobbers = clobbers; is_branch = false; is_ret = is_ret }) start allocs.old allocs.new (tables_of self.old) (tables_of self.new)) }
         ensures later { OnOk result (NoneBefore (before inst) self.new.edits) }
         ensures long { OnOk result (length self.new.places.stands ≡ length self.old.places.stands) }
-        ensures err { IfErr result IsLack }
+        ensures machine { SameMachine (tables_of self.old) (tables_of self.new) }
+        ensures err { IfErr result (IsLack self.new.slots) }
     {
         let end = start + operands.len();
         self.allocate_inst(inst, is_ret, operands, clobbers, &mut allocs[start..end])?;
@@ -328,7 +330,8 @@ impl<A: Allocator> State<A> {
         requires allocs_long { length allocs.old ≡ operand_count (F.function f.now) }
         requires no_places { (k : ℕ) → slice_index_or allocs.old k NoPlace ≡ NoPlace }
         ensures ok { OnOk result (Walks (F.function f.now) allocs.old (tables_of self.old) 0 allocs.new (tables_of self.new)) }
-        ensures err { IfErr result IsLack }
+        ensures machine { SameMachine (tables_of self.old) (tables_of self.new) }
+        ensures err { IfErr result (IsLack self.new.slots) }
     {
         let mut i = f.num_insts();
         while i > 0 {

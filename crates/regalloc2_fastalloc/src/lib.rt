@@ -13,7 +13,7 @@ ghost use Rattle.regalloc2_function.specs.SourceRun.{IsWrittenFirst};
 ghost use Rattle.regalloc2_function.specs.WellFormed.{IsWellFormed};
 ghost use Rattle.regalloc2_function.specs.Fitting.{MachineFits, PlacesAreProper};
 ghost use Rattle.regalloc2_fastalloc.specs.Promise.{RunsAsTheFunction};
-ghost use Rattle.regalloc2_fastalloc.specs.Reason.{IsReason, PassesAll};
+ghost use Rattle.regalloc2_fastalloc.specs.Reason.{IsReason, PassesAll, SlotsAreFew};
 
 use regalloc2_function::{Function, MachineEnv, Output, count_operands, reads_the_same_numbers};
 use regalloc2_names::RegAllocError;
@@ -90,7 +90,9 @@ impl<A: Allocator + Copy> Ctx<A> {
 /// `test_definitions` says, and then reuses that aren't sound and registers fixed beside clobbers, by `Unsupported` with the
 /// first such instruction; an operand under `Limit`, by `Unsupported` with the first such instruction. Only after all these
 /// tests comes `TooManyLiveRegs`, where an instruction asks for more registers than there are, or `TooManySpillSlots`, where a
-/// slot would end past 2^24. `Memory` comes where memory was refused; the first two tests ask for none.
+/// slot would end past 2^24: that happens only where `units_needed` passes 2^24, which is twice the size of the greatest slot,
+/// for each virtual register and six times for each block. Slots take no more units than that, and at most 2^24. `Memory` comes
+/// where memory was refused; the first two tests ask for none.
 ///
 /// A reuse is sound where it is a late definition that names an early use, which no other one names, of a virtual register of
 /// its class, in any register or fixed to an allocatable one. No definition, late use or reused operand may be fixed to a
@@ -113,6 +115,7 @@ pub fn run<A: Allocator + Copy, F: Function, B: Allocator>(
     ensures no_stack_to_stack { IfOk result (λ out. HasNoStackToStack (machine_of env.now) (output_of out)) }
     ensures listed { IfOk result (λ out. EditsAreListed (F.function f.now) (output_of out)) }
     ensures faithful { IfOk result (λ out. IsWrittenFirst (F.function f.now) → RunsAsTheFunction (F.function f.now) (machine_of env.now) (output_of out)) }
+    ensures slots { IfOk result (λ out. SlotsAreFew (F.function f.now) (output_of out)) }
     ensures tested { OnOk result (IsWellFormed (machine_of env.now) (F.function f.now)) }
     ensures owed { OnOk result (PassesAll (F.function f.now) (machine_of env.now) options.now.validate_ssa) }
     ensures refused { IfErr result (IsReason (F.function f.now) (machine_of env.now) options.now.validate_ssa) }
@@ -151,6 +154,7 @@ pub fn run_into_ctx<A: Allocator + Copy, F: Function, B: Allocator>(
     ensures no_stack_to_stack { OnOk result (HasNoStackToStack (machine_of env.now) (output_of ctx.new.output)) }
     ensures listed { OnOk result (EditsAreListed (F.function f.now) (output_of ctx.new.output)) }
     ensures faithful { OnOk result (IsWrittenFirst (F.function f.now) → RunsAsTheFunction (F.function f.now) (machine_of env.now) (output_of ctx.new.output)) }
+    ensures slots { OnOk result (SlotsAreFew (F.function f.now) (output_of ctx.new.output)) }
     ensures tested { OnOk result (IsWellFormed (machine_of env.now) (F.function f.now)) }
     ensures owed { OnOk result (PassesAll (F.function f.now) (machine_of env.now) options.now.validate_ssa) }
     ensures refused { IfErr result (IsReason (F.function f.now) (machine_of env.now) options.now.validate_ssa) }
@@ -179,6 +183,7 @@ pub fn run_with_ctx<'c, A: Allocator + Copy, F: Function, B: Allocator>(
     ensures no_stack_to_stack { IfOk result (λ out. HasNoStackToStack (machine_of env.now) (output_of out.now)) }
     ensures listed { IfOk result (λ out. EditsAreListed (F.function f.now) (output_of out.now)) }
     ensures faithful { IfOk result (λ out. IsWrittenFirst (F.function f.now) → RunsAsTheFunction (F.function f.now) (machine_of env.now) (output_of out.now)) }
+    ensures slots { IfOk result (λ out. SlotsAreFew (F.function f.now) (output_of out.now)) }
     ensures tested { OnOk result (IsWellFormed (machine_of env.now) (F.function f.now)) }
     ensures owed { OnOk result (PassesAll (F.function f.now) (machine_of env.now) options.now.validate_ssa) }
     ensures refused { IfErr result (IsReason (F.function f.now) (machine_of env.now) options.now.validate_ssa) }

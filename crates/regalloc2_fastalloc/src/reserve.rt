@@ -35,7 +35,7 @@ impl Claims {
     fn claim(&mut self, preg: PReg, positions: Positions) -> Result<(), RegAllocError>
         ensures ok { OnOk result (IsClaimed self.old self.new preg positions) }
         ensures grows { Grows self.old self.new }
-        ensures err { IfErr result IsLack }
+        ensures err { IfErr result (λ e. e ≡ RegAllocError.TooManyLiveRegs) }
     {
         let is_early = positions.early && self.early.contains(preg);
         let is_late = positions.late && self.late.contains(preg);
@@ -110,7 +110,7 @@ impl<A: Allocator> State<A> {
         ensures ok { OnOk result (IsReserved (tables_of self.now) preg positions turn.new claims.old claims.new) }
         ensures shrinks { Shrinks turn.old turn.new }
         ensures grows { Grows claims.old claims.new }
-        ensures err { IfErr result IsLack }
+        ensures err { IfErr result (IsLack self.now.slots) }
     {
         if !self.registers.every().contains(preg) {
             return Err(RegAllocError::TooManyLiveRegs);
@@ -148,7 +148,7 @@ impl<A: Allocator> State<A> {
         requires { k < length operands.now }
         ensures ok { OnOk result (ReservesOne operands.now k turn.old turn.new claims.old claims.new (tables_of self.old)) }
         ensures same { tables_of self.new ≡ tables_of self.old }
-        ensures err { IfErr result IsLack }
+        ensures err { IfErr result (IsLack self.new.slots) }
     {
         let operand = operands[k];
         if let Some(claim) = claimed_by(operands, k) {
@@ -168,7 +168,7 @@ impl<A: Allocator> State<A> {
     pub fn reserve(&mut self, turn: &mut Turn, operands: &[Operand]) -> Result<(), RegAllocError>
         ensures ok { OnOk result (Reserves operands.now turn.old turn.new (tables_of self.old)) }
         ensures same { tables_of self.new ≡ tables_of self.old }
-        ensures err { IfErr result IsLack }
+        ensures err { IfErr result (IsLack self.new.slots) }
     {
         let mut claims = Claims::none();
         for k in 0..operands.len() {
@@ -206,7 +206,7 @@ impl<A: Allocator> State<A> {
         ensures later { OnOk result (NoneBefore point self.new.edits) }
         ensures long { OnOk result (length self.new.places.stands ≡ length self.old.places.stands) }
         ensures machine { SameMachine (tables_of self.old) (tables_of self.new) }
-        ensures err { IfErr result IsLack }
+        ensures err { IfErr result (IsLack self.new.slots) }
     {
         for k in 0..operands.len() {
             let operand = operands[k];
@@ -231,7 +231,7 @@ impl<A: Allocator> State<A> {
         ensures later { OnOk result (NoneBefore point self.new.edits) }
         ensures long { OnOk result (length self.new.places.stands ≡ length self.old.places.stands) }
         ensures machine { SameMachine (tables_of self.old) (tables_of self.new) }
-        ensures err { IfErr result IsLack }
+        ensures err { IfErr result (IsLack self.new.slots) }
     {
         for preg in clobbers {
             self.evict_from(turn, point, preg)?;

@@ -30,7 +30,7 @@ impl<A: Allocator> State<A> {
         ensures later { OnOk result (NoneBefore point self.new.edits) }
         ensures long { OnOk result (length self.new.places.stands ≡ length self.old.places.stands) }
         ensures machine { SameMachine (tables_of self.old) (tables_of self.new) }
-        ensures err { IfErr result IsLack }
+        ensures err { IfErr result (IsLack self.new.slots) }
     {
         let Some(vreg) = self.places.vreg_in(preg) else {
             return Ok(());
@@ -54,7 +54,7 @@ impl<A: Allocator> State<A> {
         ensures later { OnOk result (NoneBefore point self.new.edits) }
         ensures long { OnOk result (length self.new.places.stands ≡ length self.old.places.stands) }
         ensures machine { SameMachine (tables_of self.old) (tables_of self.new) }
-        ensures err { IfErr result IsLack }
+        ensures err { IfErr result (IsLack self.new.slots) }
     {
         if let Some(preg) = self.registers.dedicated(class) {
             return Ok(preg);
@@ -87,7 +87,7 @@ impl<A: Allocator> State<A> {
         ensures later { OnOk result (NoneBefore point self.new.edits) }
         ensures long { OnOk result (length self.new.places.stands ≡ length self.old.places.stands) }
         ensures machine { SameMachine (tables_of self.old) (tables_of self.new) }
-        ensures err { IfErr result IsLack }
+        ensures err { IfErr result (IsLack self.new.slots) }
     {
         if self.is_stack_place(from) && self.is_stack_place(to) {
             let by = Allocation::reg(self.scratch(turn, point, class)?);
@@ -113,7 +113,7 @@ impl<A: Allocator> State<A> {
         ensures later { OnOk result (NoneBefore point self.new.edits) }
         ensures long { OnOk result (length self.new.places.stands ≡ length self.old.places.stands) }
         ensures machine { SameMachine (tables_of self.old) (tables_of self.new) }
-        ensures err { IfErr result IsLack }
+        ensures err { IfErr result (IsLack self.new.slots) }
     {
         let Some(vreg) = self.places.vreg_in(preg) else {
             return Ok(());
@@ -138,7 +138,7 @@ impl<A: Allocator> State<A> {
         ensures later { OnOk result (NoneBefore point self.new.edits) }
         ensures long { OnOk result (length self.new.places.stands ≡ length self.old.places.stands) }
         ensures machine { SameMachine (tables_of self.old) (tables_of self.new) }
-        ensures err { IfErr result IsLack }
+        ensures err { IfErr result (IsLack self.new.slots) }
     {
         if let Some(held) = self.places.vreg_in(preg) {
             if held.vreg() == vreg.vreg() {

@@ -3,6 +3,7 @@
 ghost use Rattle.std.specs.Prelude.{◌≡◌, ℕ, ◌+◌, ◌-◌, ◌<◌, ◌≤◌, length, IfOk, IfErr, if◌then◌else◌, slice_index};
 ghost use Rattle.std.specs.Int.{next_multiple_of};
 ghost use Rattle.regalloc2_names.specs.Register.{class_code};
+ghost use Rattle.regalloc2_fastalloc.specs.Lack.{IsLack};
 ghost use Rattle.regalloc2_fastalloc.specs.Tables.{AreOwned, GivesSlot, no_slots, slot_end, slot_name, most_units};
 
 use regalloc2_names::{Allocation, RegAllocError, RegClass, SpillSlot, VReg};
@@ -76,6 +77,9 @@ impl<A: Allocator> Slots<A> {
         requires { vreg.number < length self.old.of_vreg }
         ensures ok { IfOk result (λ p. GivesSlot self.old self.new vreg p) }
         ensures full { IfErr result (λ e. (e ≡ RegAllocError.TooManySpillSlots) × (self.new ≡ self.old) × (most_units < slot_end self.old vreg.class)) }
+        ensures lack { IfErr result (IsLack self.new) }
+        ensures sizes { self.new.sizes ≡ self.old.sizes }
+        ensures vregs { length self.new.of_vreg ≡ length self.old.of_vreg }
         ensures owned { AreOwned self.new }
     {
         let number = vreg.vreg();
@@ -83,7 +87,7 @@ impl<A: Allocator> Slots<A> {
         if had.is_some() {
             return Ok(had);
         }
-        let size = self.sizes[vreg.class() as usize];
+        let size = self.sizes[size_index(vreg.class())];
         let start = self.count.next_multiple_of(size);
         let end = start + size;
         if end > SpillSlot::MAX + 1 {
@@ -94,6 +98,14 @@ impl<A: Allocator> Slots<A> {
         self.count = end;
         Ok(slot)
     }
+}
+
+/// Where the size of a class stands.
+fn size_index(class: RegClass) -> usize
+    ensures code { result ≡ class_code class }
+    ensures small { result < 3 }
+{
+    class as usize
 }
 
 /// The unit that names the slot of so many units from `start` on.

@@ -1,4 +1,4 @@
-use Rattle.std.proofs.Common.{ℕ, ◌≡◌, ◌<◌, Bool, true, false, length, refl, sym, ◌∙◌, subst, inr, rules}
+use Rattle.std.proofs.Common.{ℕ, ◌≡◌, ◌<◌, ◌^◌, Bool, true, false, length, refl, sym, ◌∙◌, subst, inr, rules}
 use Rattle.std.proofs.lemmas.Result.{IfErr-weaker, IfOk-weaker, err_from_is_err_and}
 use Rattle.regalloc2_function.specs.FunctionValue.{FunctionValue, inst_at}
 use Rattle.regalloc2_function.specs.Machine.{MachineValue}
@@ -7,11 +7,11 @@ use Rattle.regalloc2_function.specs.Views.{machine_of, output_of}
 use Rattle.regalloc2_function.specs.Faithful.{IsFaithful}
 use Rattle.regalloc2_function.specs.SourceRun.{IsWrittenFirst}
 use Rattle.regalloc2_function.specs.WellFormed.{IsWellFormed}
-use Rattle.regalloc2_fastalloc.specs.Lack.{IsLack}
+use Rattle.regalloc2_fastalloc.specs.Lack.{LacksOnly}
 use Rattle.regalloc2_fastalloc.specs.Constraints.{AreUnlimited}
 use Rattle.regalloc2_fastalloc.specs.Profile.{IsStraightBlock}
 use Rattle.regalloc2_fastalloc.specs.Promise.{RunsAsTheFunction}
-use Rattle.regalloc2_fastalloc.specs.Reason.{IsReason, PassesFirst, PassesAll, AreDefined, AreFixedWell}
+use Rattle.regalloc2_fastalloc.specs.Reason.{IsReason, PassesFirst, PassesAll, AreDefined, AreFixedWell, units_needed}
 use Rattle.regalloc2_fastalloc.proofs.Numbers.{reads_numbers}
 use Rattle.regalloc2_fastalloc.proofs.Straight.{straight_well_formed, passes_all, well_formed_either_way, lack_is_reason}
 use Rattle.regalloc2_fastalloc.proofs.run.Given.{Over}
@@ -78,4 +78,4 @@ returns-clause-refused g c =
     let f : FunctionValue = g.F.Function.function c.args.f.now in
     let env : MachineValue = machine_of c.args.env.now in
     let asked : Bool = c.args.options.now.validate_ssa in
-    IfErr-weaker c.allocate_block.result IsLack (IsReason f env asked) (lack_is_reason f env asked (passed g c)) c.allocate_block.ensures.err
+    IfErr-weaker c.allocate_block.result (LacksOnly (2 ^ 24 < units_needed f)) (IsReason f env asked) (lack_is_reason f env asked (passed g c)) c.allocate_block.ensures.err

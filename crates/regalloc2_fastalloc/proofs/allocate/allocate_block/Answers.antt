@@ -1,7 +1,8 @@
-use Rattle.std.proofs.Common.{ℕ, ◌≡◌, ◌<◌, ◌^◌, List, map, length, sym, ap, ◌∙◌, subst, rules, arith, slice_index, slice_index_or}
-use Rattle.std.specs.Prelude.{Option, Some, SomeIff, replicate}
+use Rattle.std.proofs.Common.{ℕ, ◌≡◌, ◌<◌, ◌^◌, List, map, length, sym, ap, ◌∙◌, subst, rules, slice_index, slice_index_or}
+use Rattle.std.specs.Prelude.{Bool, Option, Some, SomeIff, replicate}
 use Rattle.std.specs.Vec.{with_items}
 use Rattle.std.proofs.lemmas.List.{length-replicate, with_items_is}
+use Rattle.std.proofs.lemmas.Result.{err_from_is_err_and}
 use Rattle.regalloc2_names.specs.declared.RegClass.TheVariants.{Int, Float, Vector}
 use Rattle.regalloc2_names.specs.Place.{Place, NoPlace}
 use Rattle.regalloc2_function.specs.FunctionValue.{FunctionValue, IsLimited, slot_size, operand_count}
@@ -10,15 +11,18 @@ use Rattle.regalloc2_function.specs.OutputValue.{DebugLocation, OutputValue}
 use Rattle.regalloc2_function.specs.Views.{edit_of, machine_of}
 use Rattle.regalloc2_flow.proofs.Defined.{Made}
 use Rattle.regalloc2_flow.proofs.Faithful.{faithful}
-use Rattle.regalloc2_fastalloc.specs.Steps.{Tables, tables_of}
+use Rattle.regalloc2_fastalloc.specs.Lack.{LacksOnly, AreFull}
+use Rattle.regalloc2_fastalloc.specs.Reason.{units_needed}
+use Rattle.regalloc2_fastalloc.specs.Steps.{Tables, tables_of, SameMachine}
 use Rattle.regalloc2_fastalloc.specs.Walks.{Walks}
 use Rattle.regalloc2_fastalloc.specs.Sound.{HasMachine}
-use Rattle.regalloc2_fastalloc.specs.Tables.{PlacesValue}
+use Rattle.regalloc2_fastalloc.specs.Tables.{PlacesValue, SlotsValue, no_slots}
 use Rattle.regalloc2_fastalloc.proofs.Begun.{begun_machine}
 use Rattle.regalloc2_fastalloc.proofs.Finished.{IsMade, made_in_order, made_constraints, made_proper, made_in_registers, made_listed}
 use Rattle.regalloc2_fastalloc.proofs.Gathered.{walk_good}
 use Rattle.regalloc2_fastalloc.proofs.Inverses.{always}
 use Rattle.regalloc2_fastalloc.proofs.Launching.{fresh_blank, some_units, fresh_fit, all_in_tables, made_agrees}
+use Rattle.regalloc2_fastalloc.proofs.Rooming.{sizes_of, few_slots, full_needs, lacks_then}
 use Rattle.regalloc2_fastalloc.proofs.Walking.{WalkKept}
 use Rattle.regalloc2_fastalloc.proofs.allocate.allocate_block.Given.{Over}
 use Rattle.regalloc2_fastalloc.proofs.allocate.allocate_block.Goals as goal
@@ -132,3 +136,28 @@ returns-clause-faithful g c = λ written.
     (fresh_blank begin f.num_vregs _ _ e.places e.slots e.edits (some_units f.num_vregs (slot_size f.slot_sizes Int) (slot_size f.slot_sizes Float) (slot_size f.slot_sizes Vector) f.named_by_last_slot (limited.slot_sizes Int).positive (limited.slot_sizes Float).positive (limited.slot_sizes Vector).positive))
     (fresh_fit f env begin c.requires.machine (machine_is g c) e.small)
     (subst (λ (ps : List Place). Walks f c.deref_mut.result.now begin 0 ps last) (sym (places_are g c)) c.in_ok-allocate_insts.ensures.ok) m written)
+
+-- the slots that the walk leaves have the sizes that the function asks for, and as many vregs
+sizes_kept : (f : FunctionValue) (begun left : Tables) (by_last : Bool) → begun.slots ≡ no_slots f.num_vregs (sizes_of f) by_last → SameMachine begun left → left.slots.sizes ≡ sizes_of f
+sizes_kept f begun left by_last slots machine = machine.sizes ∙ ap (λ (s : SlotsValue). s.sizes) slots
+
+vregs_kept : (f : FunctionValue) (begun left : Tables) (by_last : Bool) → begun.slots ≡ no_slots f.num_vregs (sizes_of f) by_last → SameMachine begun left → length left.slots.of_vreg ≡ f.num_vregs
+vregs_kept f begun left by_last slots machine = machine.vregs ∙ ap (λ (s : SlotsValue). length s.of_vreg) slots ∙ length-replicate f.num_vregs NoPlace
+
+pub returns-clause-slots : goal.returns-clause-slots
+returns-clause-slots g c =
+    let f : FunctionValue = g.F.Function.function c.args.f.now in
+    let begun : Tables = tables_of c.in_ok-state.state in
+    let left : Tables = tables_of c.allocate_insts.new.self in
+    let machine = c.in_ok-allocate_insts.ensures.machine in
+    few_slots f left.slots (out_of g c) c.count.ensures.count (sizes_kept f begun left f.named_by_last_slot c.in_ok-state.ensures.slots machine) (vregs_kept f begun left f.named_by_last_slot c.in_ok-state.ensures.slots machine) c.count.ensures.owned
+
+pub returns-in_err-allocate_insts-clause-err : goal.returns-in_err-allocate_insts-clause-err
+returns-in_err-allocate_insts-clause-err g c =
+    let f : FunctionValue = g.F.Function.function c.args.f.now in
+    let begun : Tables = tables_of c.in_ok-state.state in
+    let left : Tables = tables_of c.allocate_insts.new.self in
+    let machine = c.allocate_insts.ensures.machine in
+    let p = err_from_is_err_and c.from_residual-in_err-allocate_insts.result c.from_residual-in_err-allocate_insts.ensures.1 in
+    let more : AreFull left.slots → 2 ^ 24 < units_needed f = full_needs f left.slots (sizes_kept f begun left f.named_by_last_slot c.in_ok-state.ensures.slots machine) (vregs_kept f begun left f.named_by_last_slot c.in_ok-state.ensures.slots machine) in
+    rw p.1 (subst (LacksOnly (2 ^ 24 < units_needed f)) (sym p.2) (lacks_then (AreFull left.slots) (2 ^ 24 < units_needed f) more _ c.in_err-allocate_insts.ensures.err))

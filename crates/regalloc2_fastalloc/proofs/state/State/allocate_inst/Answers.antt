@@ -1,10 +1,11 @@
-use Rattle.std.proofs.Common.{ℕ, ◌≡◌, ◌≢◌, ◌≤◌, ◌<◌, List, length, true, false, refl, sym, ap, ◌∙◌, subst, rules, arith}
+use Rattle.std.proofs.Common.{ℕ, ◌≡◌, List, length, sym, ap, ◌∙◌, subst, rules, arith}
 use Rattle.regalloc2_names.specs.declared.sets.PRegSet.{PRegSet}
 use Rattle.regalloc2_names.specs.RegisterSet.{has_register, registers_of}
-use Rattle.regalloc2_names.specs.Point.{before, after, invalid_inst}
+use Rattle.regalloc2_names.specs.Point.{before, after}
 use Rattle.regalloc2_names.specs.Operand.{OperandValue}
 use Rattle.regalloc2_fastalloc.specs.Tables.{NoneBefore}
 use Rattle.regalloc2_fastalloc.specs.Steps.{Tables, tables_of, ClearsFixed, ClearsAll, MovesUses}
+use Rattle.regalloc2_fastalloc.proofs.Emptying.{same_of, same_then}
 use Rattle.regalloc2_fastalloc.proofs.state.State.allocate_inst.Goals as goal
 
 pub evict_fixed-requires : goal.evict_fixed-requires
@@ -92,3 +93,25 @@ pub returns-clause-later : goal.returns-clause-later
 returns-clause-later g c =
     let early : c.before-2.result ≡ before c.args.inst = c.before-2.ensures.point (λ e. omega (arith, c.requires.inst)) in
     subst (λ (p : ℕ). NoneBefore p c.move_reads.new.self.edits) early c.in_ok-move_reads.ensures.later
+
+-- the machine stays, wherever the walk stops
+pub returns-in_err-reserve-clause-machine : goal.returns-in_err-reserve-clause-machine
+returns-in_err-reserve-clause-machine g c = same_of _ _ c.reserve.ensures.same
+
+pub returns-in_err-evict_fixed-clause-machine : goal.returns-in_err-evict_fixed-clause-machine
+returns-in_err-evict_fixed-clause-machine g c = same_then _ _ _ (same_of _ _ (c.hold_clobbers.ensures.same ∙ c.reserve.ensures.same)) c.evict_fixed.ensures.machine
+
+pub returns-in_err-evict_clobbers-clause-machine : goal.returns-in_err-evict_clobbers-clause-machine
+returns-in_err-evict_clobbers-clause-machine g c = same_then _ _ _ (same_then _ _ _ (same_of _ _ (c.hold_clobbers.ensures.same ∙ c.reserve.ensures.same)) c.evict_fixed.ensures.machine) c.evict_clobbers.ensures.machine
+
+pub returns-in_err-place_operands-clause-machine : goal.returns-in_err-place_operands-clause-machine
+returns-in_err-place_operands-clause-machine g c = same_then _ _ _ (same_then _ _ _ (same_then _ _ _ (same_of _ _ (c.hold_clobbers.ensures.same ∙ c.reserve.ensures.same)) c.evict_fixed.ensures.machine) c.evict_clobbers.ensures.machine) c.place_operands.ensures.machine
+
+pub returns-in_err-place_operands-2-clause-machine : goal.returns-in_err-place_operands-2-clause-machine
+returns-in_err-place_operands-2-clause-machine g c = same_then _ _ _ (same_then _ _ _ (same_then _ _ _ (same_then _ _ _ (same_of _ _ (c.hold_clobbers.ensures.same ∙ c.reserve.ensures.same)) c.evict_fixed.ensures.machine) c.evict_clobbers.ensures.machine) c.place_operands.ensures.machine) c.place_operands-2.ensures.machine
+
+pub returns-in_err-move_reads-clause-machine : goal.returns-in_err-move_reads-clause-machine
+returns-in_err-move_reads-clause-machine g c = same_then _ _ _ (same_then _ _ _ (same_then _ _ _ (same_then _ _ _ (same_then _ _ _ (same_of _ _ (c.hold_clobbers.ensures.same ∙ c.reserve.ensures.same)) c.evict_fixed.ensures.machine) c.evict_clobbers.ensures.machine) c.place_operands.ensures.machine) c.place_operands-2.ensures.machine) c.move_reads.ensures.machine
+
+pub returns-clause-machine : goal.returns-clause-machine
+returns-clause-machine g c = same_then _ _ _ (same_then _ _ _ (same_then _ _ _ (same_then _ _ _ (same_then _ _ _ (same_of _ _ (c.hold_clobbers.ensures.same ∙ c.reserve.ensures.same)) c.evict_fixed.ensures.machine) c.evict_clobbers.ensures.machine) c.place_operands.ensures.machine) c.place_operands-2.ensures.machine) c.move_reads.ensures.machine

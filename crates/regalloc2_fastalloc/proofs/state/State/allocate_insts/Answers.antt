@@ -1,13 +1,13 @@
-use Rattle.std.proofs.Common.{ℕ, ◌≡◌, ◌+◌, ◌-◌, ◌<◌, ◌≤◌, ◌^◌, inl, List, length, refl, sym, ap, ◌∙◌, subst, rules, arith, slice_index}
+use Rattle.std.proofs.Common.{ℕ, ◌≡◌, ◌+◌, ◌-◌, ◌<◌, ◌^◌, inl, List, length, refl, sym, ap, ◌∙◌, subst, rules, arith, slice_index}
 use Rattle.std.proofs.lemmas.List.Sums.{sum_by_more, sum_by_more_le}
-use Rattle.regalloc2_names.specs.declared.sets.PRegSet.{PRegSet}
 use Rattle.regalloc2_names.specs.Operand.{OperandValue}
 use Rattle.regalloc2_names.specs.Point.{before}
 use Rattle.regalloc2_function.specs.OutputValue.{MoveValue}
 use Rattle.regalloc2_function.specs.FunctionValue.{InstValue, inst_at, no_inst}
 use Rattle.regalloc2_fastalloc.specs.Tables.{NoneBefore}
-use Rattle.regalloc2_fastalloc.specs.Steps.{tables_of, op_at, InTables}
+use Rattle.regalloc2_fastalloc.specs.Steps.{tables_of, InTables}
 use Rattle.regalloc2_fastalloc.specs.Walks.{Walks, untouched, one_more, AllocatesAt, offset_of}
+use Rattle.regalloc2_fastalloc.proofs.Emptying.{same_then}
 use Rattle.regalloc2_fastalloc.proofs.Parts.{at_inst}
 use Rattle.regalloc2_fastalloc.proofs.state.State.allocate_insts.Goals as goal
 
@@ -22,6 +22,7 @@ loop-i-init g c =
       blank = λ k lt. c.requires.no_places k;
       later = subst Q (sym c.requires.fresh) (λ k d lt. absurd (omega arith));
       long = refl;
+      machine = record { allocatable = refl; fixed_stack = refl; dedicated = refl; sizes = refl; vregs = refl };
     }
 
 pub allocate_at-requires : goal.allocate_at-requires
@@ -78,6 +79,7 @@ loop-i-preserved g c =
       blank = λ k less. a3.outside k (inl less) ∙ c.loop-i.invariant.blank k (omega (arith, less, more, upto));
       later = subst Q at c.in_ok-allocate_at.ensures.later;
       long = c.in_ok-allocate_at.ensures.long ∙ c.loop-i.invariant.long;
+      machine = same_then _ _ _ c.loop-i.invariant.machine c.in_ok-allocate_at.ensures.machine;
     }
 
 pub returns-clause-ok : goal.returns-clause-ok
@@ -86,3 +88,9 @@ returns-clause-ok g c =
     let e : c.loop-i.i ≡ 0 = omega (arith, c.loop-i-test.false) in
     let P : ℕ → Type 0 = λ n. Walks f c.args.allocs.now (tables_of c.args.self.now) n c.loop-i.allocs (tables_of c.loop-i.self) in
     subst P e c.loop-i.invariant.walks
+
+pub returns-in_err-allocate_at-clause-machine : goal.returns-in_err-allocate_at-clause-machine
+returns-in_err-allocate_at-clause-machine g c = same_then _ _ _ c.loop-i.invariant.machine c.allocate_at.ensures.machine
+
+pub returns-clause-machine : goal.returns-clause-machine
+returns-clause-machine g c = c.loop-i.invariant.machine

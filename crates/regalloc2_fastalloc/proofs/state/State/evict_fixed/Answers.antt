@@ -1,4 +1,4 @@
-use Rattle.std.proofs.Common.{ℕ, ◌≡◌, List, length, refl, sym, ap, ◌∙◌, subst, arith, rules}
+use Rattle.std.proofs.Common.{ℕ, ◌≡◌, List, length, refl, sym, ap, ◌∙◌, subst, arith}
 use Rattle.regalloc2_names.specs.Register.{VirtualRegister}
 use Rattle.regalloc2_names.specs.Operand.{OperandValue}
 use Rattle.regalloc2_fastalloc.specs.Steps.{Tables, tables_of, op_at, ClearsBut, ClearsFixed, none_cleared, not_fixed, of_fixed, of_reuse}
@@ -12,7 +12,7 @@ loop-k-init g c = record {
   cleared = none_cleared;
   later = c.requires;
   long = refl;
-  machine = record { allocatable = refl; fixed_stack = refl; dedicated = refl };
+  machine = record { allocatable = refl; fixed_stack = refl; dedicated = refl; sizes = refl; vregs = refl };
 }
 
 pub loop-k-preserved : goal.loop-k-preserved

@@ -1,9 +1,8 @@
-use Rattle.std.proofs.Common.{ℕ, ◌≡◌, Bool, refl, sym, ◌∙◌, ap, subst}
+use Rattle.std.proofs.Common.{Bool, refl, subst}
 use Rattle.std.specs.Prelude.{not, ◌&&◌}
 use Rattle.regalloc2_names.specs.declared.RegClass.{RegClass}
-use Rattle.regalloc2_names.specs.Place.{Place, NoPlace, is_place}
+use Rattle.regalloc2_names.specs.Place.{Place, is_place}
 use Rattle.regalloc2_fastalloc.specs.Tables.{Settles, stood, slot_name}
-use Rattle.regalloc2_fastalloc.specs.declared.turn.Turn.{Turn}
 use Rattle.regalloc2_fastalloc.specs.Steps.{Tables, tables_of, Sends, is_another}
 use Rattle.regalloc2_fastalloc.proofs.state.State.leave.Goals as goal
 
@@ -32,7 +31,7 @@ returns-clause-ok g c =
       settles = subst (Settles t.places c.settle.new.self c.args.vreg) c.none.ensures c.settle.ensures.settled;
       slots = refl;
       edits = refl;
-      machine = record { allocatable = refl; fixed_stack = refl; dedicated = refl };
+      machine = record { allocatable = refl; fixed_stack = refl; dedicated = refl; sizes = refl; vregs = refl };
       awaited = a3;
       stored = s4;
     }

@@ -1,6 +1,5 @@
-use Rattle.std.proofs.Common.{ℕ, ◌≡◌, ◌<◌, List, length, refl, sym, ap, ◌∙◌, subst, arith, rules, true, false}
+use Rattle.std.proofs.Common.{ℕ, ◌≡◌, List, length, refl, sym, ap, ◌∙◌, subst, arith, rules, true, false}
 use Rattle.regalloc2_names.specs.Operand.{OperandValue}
-use Rattle.regalloc2_names.specs.Place.{Place}
 use Rattle.regalloc2_function.specs.SourceRun.{is_late}
 use Rattle.regalloc2_fastalloc.specs.Steps.{tables_of, op_at, none_placed, of_other, one_placed, PlacesAt}
 use Rattle.regalloc2_fastalloc.proofs.Reading.{read_operand}
@@ -9,7 +8,7 @@ use Rattle.regalloc2_fastalloc.proofs.state.State.place_operands.Goals as goal
 use Rattle.regalloc2_fastalloc.proofs.state.State.place_operands.Goals.{then-stands_at+in_ok-place_operand, else-stands_at}
 
 pub loop-k-init : goal.loop-k-init
-loop-k-init g c = record { done = none_placed; later = c.requires.later; long = refl; machine = record { allocatable = refl; fixed_stack = refl; dedicated = refl } }
+loop-k-init g c = record { done = none_placed; later = c.requires.later; long = refl; machine = record { allocatable = refl; fixed_stack = refl; dedicated = refl; sizes = refl; vregs = refl } }
 
 pub place_operand-requires : goal.place_operand-requires
 place_operand-requires g c = (
