@@ -1,18 +1,15 @@
 -- Fixed registers of well-formed instructions avoid clobbers.
-use Rattle.std.proofs.Common.{ℕ, ◌≡◌, ◌<◌, Bool, true, false, List, length, refl, sym, ap, ◌∙◌, inl, inr, ◌⊎◌, ⊎_elim}
+use Rattle.std.proofs.Common.{◌≡◌, true, refl, sym, ap, ◌∙◌, inl, inr, ◌⊎◌, ⊎_elim}
 use Rattle.std.specs.Prelude.{◌||◌}
-use Rattle.std.proofs.lemmas.Bool.{cases_Bool}
 use Rattle.regalloc2_names.specs.declared.OperandKind.{OperandKind}
 use Rattle.regalloc2_names.specs.declared.OperandKind.TheVariants.{Def, Use}
 use Rattle.regalloc2_names.specs.declared.OperandPos.{OperandPos}
 use Rattle.regalloc2_names.specs.declared.OperandPos.TheVariants.{Early, Late}
-use Rattle.regalloc2_names.specs.Register.{Register}
-use Rattle.regalloc2_names.specs.RegisterSet.{has_register}
 use Rattle.regalloc2_function.specs.FunctionValue.{InstValue}
 use Rattle.regalloc2_function.specs.SourceRun.{is_def, is_late}
 use Rattle.regalloc2_function.specs.WellFormed.{FixedAvoidClobbers}
 use Rattle.regalloc2_fastalloc.specs.declared.turn.Positions.{Positions}
-use Rattle.regalloc2_fastalloc.specs.Steps.{op_at, no_operand, ClaimsFixed, own, named}
+use Rattle.regalloc2_fastalloc.specs.Steps.{op_at, no_operand, own, named}
 use Rattle.regalloc2_fastalloc.proofs.Opening.{AvoidClobbers}
 
 late_kind : (k : OperandKind) (p : OperandPos) → (is_def k || is_late p) ≡ true → (k ≡ Def) ⊎ (p ≡ Late)

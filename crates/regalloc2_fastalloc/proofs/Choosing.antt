@@ -1,7 +1,7 @@
 -- What is chosen for an operand, and what it claims.
-use Rattle.std.proofs.Common.{ℕ, ◌≡◌, ◌≢◌, Bool, true, false, inl, inr, ◌⊎◌, refl, sym, ap, ◌∙◌, subst}
-use Rattle.std.specs.Prelude.{Option, None, Some, IsTrue, not, ◌&&◌}
-use Rattle.regalloc2_names.specs.Register.{Register, is_register}
+use Rattle.std.proofs.Common.{ℕ, ◌≡◌, ◌≢◌, Bool, true, false, inl, inr, ◌⊎◌, refl, sym, ap, ◌∙◌}
+use Rattle.std.specs.Prelude.{None, IsTrue, not}
+use Rattle.regalloc2_names.specs.Register.{Register}
 use Rattle.regalloc2_names.specs.RegisterSet.{has_register}
 use Rattle.regalloc2_names.specs.Place.{Place, NoPlace, InRegister, InSlot, is_place, register_of_place}
 use Rattle.regalloc2_names.specs.declared.sets.PRegSet.{PRegSet}

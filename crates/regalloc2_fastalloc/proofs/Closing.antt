@@ -1,32 +1,30 @@
 -- From the last operand of an instruction to the boundary before it: across the instruction, and the moves of its uses.
-use Rattle.std.proofs.Common.{ℕ, suc, ◌≡◌, ◌≢◌, ◌+◌, ◌<◌, ◌≤◌, Bool, true, false, List, [], ◌∷◌, length, refl, arith, sym, ap, ◌∙◌, subst, inl, inr, ◌⊎◌, ⊎_elim}
-use Rattle.std.specs.Prelude.{Option, None, Some, slice_index_or}
+use Rattle.std.proofs.Common.{ℕ, suc, ◌≡◌, ◌<◌, Bool, true, false, List, ◌∷◌, length, refl, arith, sym, ◌∙◌, subst, inl, inr, ◌⊎◌, ⊎_elim}
+use Rattle.std.specs.Prelude.{slice_index_or}
 use Rattle.std.proofs.lemmas.Bool.{cases_Bool}
-use Rattle.regalloc2_names.specs.declared.RegClass.{RegClass}
-use Rattle.regalloc2_names.specs.declared.sets.PRegSet.{PRegSet}
-use Rattle.regalloc2_names.specs.Register.{Register, VirtualRegister}
+use Rattle.regalloc2_names.specs.Register.{VirtualRegister}
 use Rattle.regalloc2_names.specs.Operand.{OperandValue}
-use Rattle.regalloc2_names.specs.Place.{Place, NoPlace, InRegister, InSlot}
+use Rattle.regalloc2_names.specs.Place.{Place, NoPlace}
 use Rattle.regalloc2_names.specs.Point.{before, after}
 use Rattle.regalloc2_function.specs.FunctionValue.{InstValue}
 use Rattle.regalloc2_function.specs.OutputValue.{place_at}
 use Rattle.regalloc2_function.specs.SourceRun.{is_late}
 use Rattle.regalloc2_flow.specs.Listing.{Item, executed}
 use Rattle.regalloc2_flow.specs.Carry.{is_clobbered}
-use Rattle.regalloc2_flow.specs.Walked.{AllFrom, at_point, walked, after_part, before_part, listed}
+use Rattle.regalloc2_flow.specs.Walked.{after_part, before_part, listed}
 use Rattle.regalloc2_flow.specs.Instruction.{Claims, Knows}
-use Rattle.regalloc2_flow.specs.Placed.{What, what_of, Need, Pending, Placed, Once, Counts}
+use Rattle.regalloc2_flow.specs.Placed.{what_of, Need, Pending, Counts}
 use Rattle.regalloc2_flow.proofs.Points.{all_from-less}
 use Rattle.regalloc2_flow.proofs.Walking.{walked-more, before_part-clean}
 use Rattle.regalloc2_flow.proofs.Between.{end_all}
 use Rattle.regalloc2_fastalloc.specs.declared.turn.Turn.{Turn}
 use Rattle.regalloc2_fastalloc.specs.Steps.{Tables, op_at, MovesUses}
-use Rattle.regalloc2_fastalloc.proofs.Standing.{stands_at, slots_at, Stands, Owes}
+use Rattle.regalloc2_fastalloc.proofs.Standing.{stands_at, slots_at}
 use Rattle.regalloc2_fastalloc.proofs.Evicting.{kept_all}
 use Rattle.regalloc2_fastalloc.proofs.Scratching.{of_machine}
 use Rattle.regalloc2_fastalloc.proofs.Spanning.{lives_in, cross_stands}
 use Rattle.regalloc2_fastalloc.proofs.Laying.{Orderly, Turned, Laid}
-use Rattle.regalloc2_fastalloc.proofs.Moving.{Pends, Moves, moves_done}
+use Rattle.regalloc2_fastalloc.proofs.Moving.{Moves, moves_done}
 use Rattle.regalloc2_fastalloc.proofs.Opening.{Carried}
 
 -- after both passes each operand had its turn

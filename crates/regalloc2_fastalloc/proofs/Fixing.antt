@@ -1,31 +1,28 @@
 -- Fixed registers are emptied and claimed, before operands are placed.
-use Rattle.std.proofs.Common.{ℕ, ◌≡◌, ◌≢◌, ◌+◌, ◌<◌, ◌≤◌, Bool, true, false, cond, List, [], ◌∷◌, length, refl, arith, sym, ap, ◌∙◌, subst, inl, inr, ◌⊎◌, ⊎_elim, nat_eq, eq-eqb}
-use Rattle.std.specs.Prelude.{Option, None, Some, not, ◌&&◌, ◌||◌, slice_index_or}
+use Rattle.std.proofs.Common.{ℕ, ◌≡◌, ◌≢◌, ◌+◌, ◌<◌, ◌≤◌, Bool, true, false, cond, List, length, refl, arith, sym, ap, ◌∙◌, subst, inl, inr, ◌⊎◌, ⊎_elim, nat_eq, eq-eqb}
+use Rattle.std.specs.Prelude.{None, Some, not, ◌&&◌, ◌||◌, slice_index_or}
 use Rattle.std.proofs.lemmas.Bool.{cases_Bool, cases_eq, ne_eqb}
 use Rattle.regalloc2_names.specs.declared.RegClass.{RegClass}
-use Rattle.regalloc2_names.specs.declared.OperandConstraint.{OperandConstraint}
 use Rattle.regalloc2_names.specs.declared.OperandConstraint.TheVariants.{FixedReg, Reuse}
-use Rattle.regalloc2_names.specs.declared.sets.PRegSet.{PRegSet}
 use Rattle.regalloc2_names.specs.Register.{Register, VirtualRegister, class_code}
 use Rattle.regalloc2_names.specs.RegisterSet.{has_register}
 use Rattle.regalloc2_names.specs.Operand.{OperandValue}
-use Rattle.regalloc2_names.specs.Place.{Place, NoPlace, InRegister, InSlot}
-use Rattle.regalloc2_names.specs.Point.{before, after}
+use Rattle.regalloc2_names.specs.Place.{Place, InRegister}
+use Rattle.regalloc2_names.specs.Point.{after}
 use Rattle.regalloc2_function.specs.FunctionValue.{InstValue}
-use Rattle.regalloc2_function.specs.SourceRun.{is_def, is_late, is_reading, is_fixed_nonallocatable}
-use Rattle.regalloc2_flow.specs.Placed.{What, what_of, Share, read_first, written_after, Counts, Clear, Held}
-use Rattle.regalloc2_flow.proofs.Between.{Covers, Holds as Keeps}
+use Rattle.regalloc2_function.specs.SourceRun.{is_def, is_late, is_fixed_nonallocatable}
+use Rattle.regalloc2_flow.specs.Placed.{What, what_of, Share, read_first, written_after, Counts, Clear}
 use Rattle.regalloc2_fastalloc.specs.declared.turn.Turn.{Turn}
 use Rattle.regalloc2_fastalloc.specs.declared.turn.Positions.{Positions}
 use Rattle.regalloc2_fastalloc.specs.Steps.{Tables, SameMachine, Scratches, dedicated, had, found, Crosses, direct, through, Clears, empty, cleared, ClearsBut, own, others, op_at, positions_of, ClaimsFixed, own as of_its_own, named as of_named, ClearsFixed, none_cleared, not_fixed, of_fixed, of_reuse}
 use Rattle.regalloc2_fastalloc.proofs.Flowing.{place_in}
 use Rattle.regalloc2_fastalloc.proofs.Standing.{stands_at, Stands}
-use Rattle.regalloc2_fastalloc.proofs.Evicting.{held_early, held_late, Kept, kept_all}
-use Rattle.regalloc2_fastalloc.proofs.Scratching.{IsIdle, IsScratch, of_machine, taken, Fit, Less, less_same, less_then, set_found}
+use Rattle.regalloc2_fastalloc.proofs.Evicting.{Kept, kept_all}
+use Rattle.regalloc2_fastalloc.proofs.Scratching.{IsScratch, of_machine, taken, Fit, Less, less_same, less_then, set_found}
 use Rattle.regalloc2_fastalloc.proofs.Clearing.{kept_then}
 use Rattle.regalloc2_fastalloc.proofs.Taking.{Puts, covers_at, claim_register}
 use Rattle.regalloc2_fastalloc.proofs.Laying.{Orderly, Ready}
-use Rattle.regalloc2_fastalloc.proofs.Readying.{Readied, ready_clears, ready_clears_but}
+use Rattle.regalloc2_fastalloc.proofs.Readying.{ready_clears, ready_clears_but}
 use Rattle.regalloc2_fastalloc.proofs.Gaining.{Grips, ready_claim}
 
 -- operands that hold no position together may stand in one place

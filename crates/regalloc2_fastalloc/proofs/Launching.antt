@@ -1,20 +1,19 @@
 -- The walk over a well-formed function, from fresh tables to the output: its operands are in the tables, and each use finds what the function wrote.
-use Rattle.std.proofs.Common.{ℕ, suc, ◌≡◌, ◌≢◌, ◌+◌, ◌-◌, ◌<◌, ◌≤◌, Bool, true, false, List, [], ◌∷◌, length, map, nat_eq, refl, arith, sym, ap, ◌∙◌, subst, inl, inr, ◌⊎◌, ⊎_elim}
-use Rattle.std.specs.Prelude.{All, filter, Option, None, Some, slice_index_or}
+use Rattle.std.proofs.Common.{ℕ, suc, ◌≡◌, ◌≢◌, ◌-◌, ◌<◌, Bool, true, List, [], ◌∷◌, length, map, nat_eq, refl, arith, sym, ap, ◌∙◌, subst, inl, inr, ◌⊎◌}
+use Rattle.std.specs.Prelude.{All, filter, None}
 use Rattle.std.proofs.lemmas.Bool.{ne_eqb}
 use Rattle.std.proofs.lemmas.List.Elements.{All-get_or}
 use Rattle.regalloc2_names.specs.declared.RegClass.{RegClass}
 use Rattle.regalloc2_names.specs.declared.RegClass.TheVariants.{Int, Float, Vector}
-use Rattle.regalloc2_names.specs.Register.{Register, VirtualRegister, class_code}
+use Rattle.regalloc2_names.specs.Register.{Register}
 use Rattle.regalloc2_names.specs.RegisterBits.{bits_of_register}
 use Rattle.regalloc2_names.specs.RegisterSet.{has_register}
-use Rattle.regalloc2_names.specs.Operand.{OperandValue}
 use Rattle.regalloc2_names.specs.Place.{Place, NoPlace}
-use Rattle.regalloc2_names.specs.Point.{before, after}
-use Rattle.regalloc2_function.specs.FunctionValue.{FunctionValue, IsLimited, IsSlotSize, slot_size, block_at, inst_at, no_inst}
+use Rattle.regalloc2_names.specs.Point.{after}
+use Rattle.regalloc2_function.specs.FunctionValue.{FunctionValue, IsLimited, block_at, inst_at, no_inst}
 use Rattle.regalloc2_function.specs.Machine.{MachineValue}
 use Rattle.regalloc2_function.specs.OutputValue.{OutputValue, MoveValue, allocs_of}
-use Rattle.regalloc2_function.specs.SourceRun.{is_fixed_nonallocatable, IsWrittenFirst}
+use Rattle.regalloc2_function.specs.SourceRun.{IsWrittenFirst}
 use Rattle.regalloc2_function.specs.Fitting.{MachineFits}
 use Rattle.regalloc2_function.specs.WellFormed.{IsWellFormed, FixedAvoidClobbers}
 use Rattle.regalloc2_flow.specs.Walked.{EndsQuiet}
@@ -30,7 +29,6 @@ use Rattle.regalloc2_fastalloc.specs.Sound.{HasMachine}
 use Rattle.regalloc2_fastalloc.proofs.Inverses.{always}
 use Rattle.regalloc2_fastalloc.proofs.Scratching.{Fit}
 use Rattle.regalloc2_fastalloc.proofs.Fixing.{counts_by}
-use Rattle.regalloc2_fastalloc.proofs.Laying.{Orderly}
 use Rattle.regalloc2_fastalloc.proofs.Ordering.{orderly, knows}
 use Rattle.regalloc2_fastalloc.proofs.Avoiding.{avoids}
 use Rattle.regalloc2_fastalloc.proofs.Machines.{machine_fit}

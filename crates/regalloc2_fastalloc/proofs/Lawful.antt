@@ -1,23 +1,15 @@
 -- The law of one instruction: what the listing carries before it.
-use Rattle.std.proofs.Common.{ℕ, suc, ◌≡◌, ◌≢◌, ◌+◌, ◌<◌, ◌≤◌, Bool, true, false, List, [], ◌∷◌, length, refl, arith, sym, ap, ◌∙◌, subst, is_some}
-use Rattle.std.specs.Prelude.{Option, None, Some, slice_index_or}
-use Rattle.regalloc2_names.specs.Register.{Register, VirtualRegister}
-use Rattle.regalloc2_names.specs.RegisterSet.{registers_of}
+use Rattle.std.proofs.Common.{ℕ, ◌<◌, Bool, List, length}
+use Rattle.regalloc2_names.specs.Register.{VirtualRegister}
 use Rattle.regalloc2_names.specs.Operand.{OperandValue}
-use Rattle.regalloc2_names.specs.Place.{Place, NoPlace, InRegister, InSlot}
-use Rattle.regalloc2_names.specs.Point.{before, after}
-use Rattle.regalloc2_function.specs.FunctionValue.{FunctionValue, InstValue, inst_at}
+use Rattle.regalloc2_names.specs.Place.{Place}
+use Rattle.regalloc2_function.specs.FunctionValue.{FunctionValue, inst_at}
 use Rattle.regalloc2_flow.specs.Carry.{is_clobbered}
 use Rattle.regalloc2_flow.specs.Instruction.{Knows}
-use Rattle.regalloc2_fastalloc.specs.declared.turn.Turn.{Turn}
-use Rattle.regalloc2_fastalloc.specs.Tables.{holder}
-use Rattle.regalloc2_fastalloc.specs.Steps.{Tables, Allocates, PlacesAt, ClearsFixed, none_cleared, not_fixed, of_fixed, of_reuse, ClearsAll, none_left, one_more, op_at}
-use Rattle.regalloc2_fastalloc.proofs.Flowing.{place_in, IsWhole}
-use Rattle.regalloc2_fastalloc.proofs.Standing.{opt, opt_none, stands_at}
 use Rattle.regalloc2_fastalloc.proofs.Spanning.{lives_in}
-use Rattle.regalloc2_fastalloc.proofs.Laying.{Orderly, Laid}
-use Rattle.regalloc2_fastalloc.proofs.Turns.{laid_all, laid_over, laid_both}
-use Rattle.regalloc2_fastalloc.proofs.Opening.{AvoidClobbers, Carried, EndsHere, opened}
+use Rattle.regalloc2_fastalloc.proofs.Laying.{Orderly}
+use Rattle.regalloc2_fastalloc.proofs.Turns.{laid_both}
+use Rattle.regalloc2_fastalloc.proofs.Opening.{AvoidClobbers, opened}
 use Rattle.regalloc2_fastalloc.proofs.Closing.{closed}
 use Rattle.regalloc2_fastalloc.proofs.Rounding.{EachKeeps}
 

@@ -1,10 +1,9 @@
 -- From the boundary after an instruction to its first operand: fixed registers are claimed, and clobbers are emptied.
-use Rattle.std.proofs.Common.{ℕ, zero, suc, ◌≡◌, ◌≢◌, ◌+◌, ◌<◌, ◌≤◌, Bool, true, false, List, [], ◌∷◌, length, refl, arith, sym, ap, ◌∙◌, subst, inl, inr, ◌⊎◌, ⊎_elim}
-use Rattle.std.specs.Prelude.{Option, None, Some, not, ◌&&◌, ◌||◌, Contains, slice_index_or}
+use Rattle.std.proofs.Common.{ℕ, zero, suc, ◌≡◌, ◌+◌, ◌<◌, Bool, true, false, List, [], ◌∷◌, length, refl, arith, sym, ap, ◌∙◌, subst, inl, inr, ◌⊎◌, ⊎_elim}
+use Rattle.std.specs.Prelude.{None, Some, not, ◌&&◌, ◌||◌, Contains, slice_index_or}
 use Rattle.std.proofs.lemmas.Bool.{cases_Bool}
 use Rattle.regalloc2_names.specs.declared.RegClass.{RegClass}
 use Rattle.regalloc2_names.specs.declared.RegClass.TheVariants.{Int, Float, Vector}
-use Rattle.regalloc2_names.specs.declared.OperandConstraint.TheVariants.{FixedReg, Reuse}
 use Rattle.regalloc2_names.specs.declared.sets.PRegSet.{PRegSet}
 use Rattle.regalloc2_names.specs.Register.{Register, VirtualRegister, class_code}
 use Rattle.regalloc2_names.specs.RegisterSet.{has_register, registers_of}
@@ -17,7 +16,7 @@ use Rattle.regalloc2_function.specs.SourceRun.{is_def, is_late}
 use Rattle.regalloc2_flow.specs.Carry.{is_clobbered}
 use Rattle.regalloc2_flow.specs.Instruction.{Claims}
 use Rattle.regalloc2_flow.specs.Walked.{AllFrom, at_point, walked, after_part, listed}
-use Rattle.regalloc2_flow.specs.Placed.{What, what_of, Need, stands, in_slot, made, Placed, Counts, Held}
+use Rattle.regalloc2_flow.specs.Placed.{What, what_of, Need, stands, in_slot, made}
 use Rattle.regalloc2_flow.proofs.Needing.{claims_weaken}
 use Rattle.regalloc2_fastalloc.specs.declared.turn.Turn.{Turn}
 use Rattle.regalloc2_fastalloc.specs.declared.turn.Positions.{Positions}
@@ -25,12 +24,12 @@ use Rattle.regalloc2_fastalloc.specs.Steps.{Tables, op_at, positions_of, ClaimsF
 use Rattle.regalloc2_fastalloc.proofs.Flowing.{place_in, IsWhole}
 use Rattle.regalloc2_fastalloc.proofs.Standing.{opt_from, stands_at, slots_at, Stands, Owes}
 use Rattle.regalloc2_fastalloc.proofs.Evicting.{Kept, kept_all}
-use Rattle.regalloc2_fastalloc.proofs.Scratching.{IsScratch, of_machine, taken, Fit, Spare, Less, less_same, less_then}
+use Rattle.regalloc2_fastalloc.proofs.Scratching.{of_machine, taken, Fit, Less, less_same, less_then}
 use Rattle.regalloc2_fastalloc.proofs.Clearing.{kept_then}
 use Rattle.regalloc2_fastalloc.proofs.Spanning.{lives_in, begin_stands, begin_owes}
-use Rattle.regalloc2_fastalloc.proofs.Laying.{Orderly, Turned, Waits, of_fixed, of_reuse, Ready, Laid}
-use Rattle.regalloc2_fastalloc.proofs.Readying.{Readied, ready_clears}
-use Rattle.regalloc2_fastalloc.proofs.Fixing.{WereFree, Reserved, Takes, claims_at, Start, FixedUpTo, fixed_done, all_lived}
+use Rattle.regalloc2_fastalloc.proofs.Laying.{Orderly, Waits, of_fixed, of_reuse, Laid}
+use Rattle.regalloc2_fastalloc.proofs.Readying.{ready_clears}
+use Rattle.regalloc2_fastalloc.proofs.Fixing.{Reserved, claims_at, Start, FixedUpTo, fixed_done, all_lived}
 
 -- as a well-formed function has them: the fixed register of a definition, a late use or a reuse is no clobber
 abbrev pub AvoidClobbers : List OperandValue → PRegSet → Type 0

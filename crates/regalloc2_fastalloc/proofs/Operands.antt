@@ -1,14 +1,13 @@
 -- The operands of an instruction, as they are placed.
-use Rattle.std.proofs.Common.{ℕ, ◌≡◌, ◌+◌, ◌<◌, Bool, true, false, List, length, refl, sym, ap, ◌∙◌, subst, slice_index_or}
-use Rattle.std.specs.Prelude.{Option, None, Some, IsTrue, ◌&&◌, not, nat_eq, if◌then◌else◌, slice_set, ◌↔◌}
+use Rattle.std.proofs.Common.{ℕ, ◌≡◌, ◌<◌, Bool, true, false, List, length, refl, sym, ap, ◌∙◌, subst, slice_index_or}
+use Rattle.std.specs.Prelude.{None, Some, ◌&&◌, not, nat_eq, if◌then◌else◌, slice_set}
 use Rattle.regalloc2_names.specs.declared.OperandConstraint.{OperandConstraint}
 use Rattle.regalloc2_names.specs.declared.OperandConstraint.TheVariants.{Any, Reg, Stack, FixedReg, Reuse, Limit}
 use Rattle.regalloc2_names.specs.Register.{Register, VirtualRegister}
-use Rattle.regalloc2_names.specs.Place.{Place, NoPlace, InRegister, InSlot, is_place}
+use Rattle.regalloc2_names.specs.Place.{Place, NoPlace, InRegister, InSlot}
 use Rattle.regalloc2_names.specs.Operand.{OperandValue, fixed_register, nonallocatable_register}
 use Rattle.regalloc2_names.specs.Point.{after}
 use Rattle.regalloc2_function.specs.SourceRun.{is_def, is_fixed, is_fixed_nonallocatable, is_reading}
-use Rattle.regalloc2_fastalloc.specs.Tables.{stood}
 use Rattle.regalloc2_fastalloc.specs.declared.turn.Turn.{Turn}
 use Rattle.regalloc2_fastalloc.specs.declared.choose.Placing.{Placing}
 use Rattle.regalloc2_fastalloc.specs.Steps.{Tables, InTables, op_at, use_placing, def_placing, reuse_placing, PlacesUse, PlacesDef, PlacesOne, a_register, a_use, a_def, a_reuse}

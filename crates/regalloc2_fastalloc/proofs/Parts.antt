@@ -1,12 +1,12 @@
 -- A part of a list whose items are all one, and an instruction whose fields are known.
-use Rattle.std.proofs.Common.{ℕ, ◌≡◌, ◌+◌, ◌<◌, ◌≤◌, Bool, ⊎_elim, List, length, take, drop, sym, ap, ◌∙◌, subst, arith, slice_index_or}
+use Rattle.std.proofs.Common.{ℕ, ◌≡◌, ◌+◌, ◌<◌, ◌≤◌, Bool, ⊎_elim, List, take, drop, ◌∙◌, subst, arith, slice_index_or}
 use Rattle.std.proofs.lemmas.Bool.{cases_lt}
 use Rattle.std.proofs.lemmas.List.{length-take, get_or-take, get_or-drop, get_or_past}
 use Rattle.regalloc2_names.specs.Place.{Place}
 use Rattle.regalloc2_names.specs.Operand.{OperandValue}
 use Rattle.regalloc2_names.specs.declared.sets.PRegSet.{PRegSet}
 use Rattle.regalloc2_function.specs.FunctionValue.{InstValue}
-use Rattle.regalloc2_fastalloc.specs.Steps.{Tables, Allocates}
+use Rattle.regalloc2_fastalloc.specs.Steps.{Tables}
 use Rattle.regalloc2_fastalloc.specs.Walks.{AllocatesAt}
 
 pub blank_part : {X : Type 0} (xs : List X) (a k : ℕ) (d : X) → ((j : ℕ) → j < a + k → slice_index_or xs j d ≡ d) → (j : ℕ) → slice_index_or (take k (drop a xs)) j d ≡ d

@@ -1,11 +1,11 @@
 -- What the listing carries, along the walk over all instructions.
-use Rattle.std.proofs.Common.{ℕ, zero, suc, ◌≡◌, ◌≢◌, ◌+◌, ◌-◌, ◌<◌, ◌≤◌, ◌⊎◌, inl, inr, Bool, true, false, List, [], ◌∷◌, length, refl, arith, sym, ap, ◌∙◌, subst}
-use Rattle.std.specs.Prelude.{Option, None, Some, slice_index_or}
+use Rattle.std.proofs.Common.{ℕ, zero, suc, ◌≡◌, ◌+◌, ◌-◌, ◌<◌, ◌≤◌, inl, inr, true, false, List, [], length, refl, arith, sym, ap, ◌∙◌, subst}
+use Rattle.std.specs.Prelude.{None, Some, slice_index_or}
 use Rattle.std.proofs.lemmas.Bool.{cases_eq, ne_eqb}
 use Rattle.regalloc2_names.specs.declared.RegClass.{RegClass}
 use Rattle.regalloc2_names.specs.Register.{Register, VirtualRegister}
 use Rattle.regalloc2_names.specs.Place.{Place, NoPlace, InRegister, InSlot}
-use Rattle.regalloc2_names.specs.Point.{before, after}
+use Rattle.regalloc2_names.specs.Point.{before}
 use Rattle.regalloc2_function.specs.FunctionValue.{FunctionValue, InstValue, block_at, inst_at}
 use Rattle.regalloc2_function.specs.OutputValue.{OutputValue, place_at, allocs_of}
 use Rattle.regalloc2_function.specs.SourceRun.{IsWrittenFirst}
@@ -14,7 +14,7 @@ use Rattle.regalloc2_flow.specs.Walked.{at_point, walked, block_walked, AllFrom,
 use Rattle.regalloc2_flow.specs.Straight.{IsStraight, EachIsCarried}
 use Rattle.regalloc2_flow.specs.Laws.{ReadsAgreeOnPaths}
 use Rattle.regalloc2_flow.specs.Instruction.{Knows}
-use Rattle.regalloc2_flow.specs.Placed.{Need, stands, in_slot, made}
+use Rattle.regalloc2_flow.specs.Placed.{Need}
 use Rattle.regalloc2_flow.proofs.Carrying.{carries_nil, carries_weaken}
 use Rattle.regalloc2_flow.proofs.Walking.{walked-none}
 use Rattle.regalloc2_flow.proofs.OneBlock.{straight_agrees_by_points}
@@ -23,7 +23,7 @@ use Rattle.regalloc2_fastalloc.specs.Steps.{Tables, Allocates}
 use Rattle.regalloc2_fastalloc.specs.Walks.{AllocatesAt, Walks, untouched, one_more, offset_of}
 use Rattle.regalloc2_fastalloc.specs.Tables.{stood, holder, slot_name, units_of, IsSlotOrNone}
 use Rattle.regalloc2_fastalloc.proofs.Walking.{offset_next, offset_rises}
-use Rattle.regalloc2_fastalloc.proofs.Flowing.{place_in, slot_in, IsWhole}
+use Rattle.regalloc2_fastalloc.proofs.Flowing.{IsWhole}
 use Rattle.regalloc2_fastalloc.proofs.Standing.{opt, stands_at, slots_at}
 use Rattle.regalloc2_fastalloc.proofs.Scratching.{Fit}
 use Rattle.regalloc2_fastalloc.proofs.Spanning.{lives_in}

@@ -1,10 +1,6 @@
 -- What the allocator takes so far: one straight block, without limits.
-use Rattle.std.specs.Prelude.{ℕ, ◌≡◌, ◌+◌, ◌<◌, ◌⊎◌, false, nat_eq, [], All, length}
-use Rattle.regalloc2_names.specs.declared.OperandConstraint.TheVariants.{Reg, Limit}
-use Rattle.regalloc2_names.specs.declared.OperandKind.TheVariants.{Def, Use}
-use Rattle.regalloc2_names.specs.declared.OperandPos.TheVariants.{Early, Late}
-use Rattle.regalloc2_names.specs.Register.{Register}
-use Rattle.regalloc2_names.specs.RegisterSet.{has_register}
+use Rattle.std.specs.Prelude.{ℕ, ◌≡◌, ◌+◌, ◌<◌, false, nat_eq, [], All, length}
+use Rattle.regalloc2_names.specs.declared.OperandConstraint.TheVariants.{Limit}
 use Rattle.regalloc2_names.specs.Operand.{OperandValue}
 use Rattle.regalloc2_names.specs.Packing.{IsConstraintOf}
 use Rattle.regalloc2_function.specs.FunctionValue.{FunctionValue, BlockValue, InstValue, block_at, inst_at}

@@ -1,6 +1,5 @@
 -- What one operand reserves before operands are placed.
-use Rattle.std.specs.Prelude.{ℕ, ◌≡◌, ◌<◌, ◌⊎◌, true, false, List}
-use Rattle.regalloc2_names.specs.declared.sets.PRegSet.{PRegSet}
+use Rattle.std.specs.Prelude.{ℕ, ◌≡◌, ◌⊎◌, true, false, List}
 use Rattle.regalloc2_names.specs.Register.{Register}
 use Rattle.regalloc2_names.specs.RegisterSet.{has_register}
 use Rattle.regalloc2_names.specs.Operand.{OperandValue}

@@ -1,6 +1,5 @@
-use Rattle.std.proofs.Common.{ℕ, ◌≡◌, ◌<◌, List, false, length, length-set, refl, sym, ap, ◌∙◌, subst, arith}
+use Rattle.std.proofs.Common.{ℕ, ◌≡◌, List, false, length, length-set, refl, sym, ap, ◌∙◌, subst, arith}
 use Rattle.regalloc2_names.specs.Operand.{OperandValue}
-use Rattle.regalloc2_fastalloc.specs.Steps.{op_at}
 use Rattle.regalloc2_fastalloc.specs.Constraints.{AreApart}
 use Rattle.regalloc2_fastalloc.proofs.Inverses.{always}
 use Rattle.regalloc2_fastalloc.proofs.Constraining.{named_none, named_same, named_more, one_named, not_named, apart_none, apart_same, apart_more}

@@ -1,4 +1,4 @@
-use Rattle.std.proofs.Common.{ℕ, ◌≡◌, ◌<◌, List, length, refl, sym, subst, arith, below_more}
+use Rattle.std.proofs.Common.{List, refl, sym, subst, arith, below_more}
 use Rattle.regalloc2_names.specs.Operand.{OperandValue}
 use Rattle.regalloc2_fastalloc.specs.Steps.{op_at}
 use Rattle.regalloc2_fastalloc.specs.Constraints.{IsUnlimited}

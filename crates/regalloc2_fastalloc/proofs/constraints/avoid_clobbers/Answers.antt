@@ -1,7 +1,5 @@
-use Rattle.std.proofs.Common.{ℕ, ◌≡◌, ◌+◌, ◌<◌, List, Bool, false, length, refl, sym, ap, ◌∙◌, subst, arith, below_more}
-use Rattle.std.specs.Prelude.{◌↔◌, IsTrue, slice_index_or}
+use Rattle.std.proofs.Common.{ℕ, List, false, below_more}
 use Rattle.regalloc2_names.specs.Operand.{OperandValue}
-use Rattle.regalloc2_fastalloc.specs.Steps.{op_at}
 use Rattle.regalloc2_fastalloc.specs.Constraints.{IsClear}
 use Rattle.regalloc2_fastalloc.proofs.Constraining.{clear_read}
 use Rattle.regalloc2_fastalloc.proofs.Reading.{read_operand}

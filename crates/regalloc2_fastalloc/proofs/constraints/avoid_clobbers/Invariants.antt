@@ -1,5 +1,4 @@
-use Rattle.std.proofs.Common.{ℕ, ◌≡◌, ◌<◌}
-use Rattle.std.specs.Prelude.{length}
+use Rattle.std.proofs.Common.{ℕ, ◌<◌}
 use Rattle.regalloc2_fastalloc.specs.Constraints.{IsClear}
 use Rattle.regalloc2_fastalloc.proofs.constraints.avoid_clobbers.Given as goal
 

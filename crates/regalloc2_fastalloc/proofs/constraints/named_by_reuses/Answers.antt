@@ -1,6 +1,5 @@
-use Rattle.std.proofs.Common.{ℕ, ◌≡◌, ◌<◌, List, false, length, length-set, refl, sym, ap, ◌∙◌, arith}
+use Rattle.std.proofs.Common.{ℕ, List, false, length-set, refl, sym, ap, ◌∙◌, arith}
 use Rattle.regalloc2_names.specs.Operand.{OperandValue}
-use Rattle.regalloc2_fastalloc.specs.Steps.{op_at}
 use Rattle.regalloc2_fastalloc.proofs.Inverses.{always}
 use Rattle.regalloc2_fastalloc.proofs.Constraining.{named_none, named_same, named_more, all_named}
 use Rattle.regalloc2_fastalloc.proofs.Reading.{read_operand}

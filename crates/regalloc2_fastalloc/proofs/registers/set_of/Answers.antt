@@ -1,4 +1,4 @@
-use Rattle.std.proofs.Common.{ℕ, ◌≡◌, length, subst, arith}
+use Rattle.std.proofs.Common.{◌≡◌, length, subst, arith}
 use Rattle.regalloc2_fastalloc.proofs.Numbered.{HasUpTo, has_none, has_more}
 use Rattle.regalloc2_fastalloc.proofs.registers.set_of.Goals as goal
 

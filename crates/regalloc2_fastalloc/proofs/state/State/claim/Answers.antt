@@ -1,8 +1,7 @@
-use Rattle.std.proofs.Common.{ℕ, ◌≡◌, List, refl, sym, ap, subst}
+use Rattle.std.proofs.Common.{◌≡◌, refl, sym, subst}
 use Rattle.std.specs.Prelude.{None}
 use Rattle.regalloc2_names.specs.Place.{NoPlace}
-use Rattle.regalloc2_function.specs.OutputValue.{MoveValue}
-use Rattle.regalloc2_fastalloc.specs.Tables.{PlacesValue, NoneBefore, holder, stood}
+use Rattle.regalloc2_fastalloc.specs.Tables.{NoneBefore, holder, stood}
 use Rattle.regalloc2_fastalloc.specs.Steps.{Tables, tables_of, ClearsBut, in_register}
 use Rattle.regalloc2_fastalloc.proofs.Choosing.{holds_counted}
 use Rattle.regalloc2_fastalloc.proofs.state.State.claim.Goals as goal

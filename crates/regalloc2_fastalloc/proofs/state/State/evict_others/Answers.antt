@@ -1,7 +1,6 @@
-use Rattle.std.proofs.Common.{ℕ, ◌≡◌, refl, sym, ◌∙◌, ap, subst, arith}
-use Rattle.std.specs.Prelude.{Option, None, Some}
-use Rattle.regalloc2_names.specs.Register.{VirtualRegister}
-use Rattle.regalloc2_names.specs.Place.{Place, NoPlace, InRegister}
+use Rattle.std.proofs.Common.{ℕ, ◌≡◌, refl, sym, ◌∙◌, ap, arith}
+use Rattle.std.specs.Prelude.{None, Some}
+use Rattle.regalloc2_names.specs.Place.{NoPlace, InRegister}
 use Rattle.regalloc2_fastalloc.specs.Tables.{holder, stood}
 use Rattle.regalloc2_fastalloc.specs.Steps.{own, others}
 use Rattle.regalloc2_fastalloc.proofs.Emptying.{same_held}

@@ -1,4 +1,4 @@
-use Rattle.std.proofs.Common.{ℕ, ◌≡◌, refl, sym, ◌∙◌, ap, subst}
+use Rattle.std.proofs.Common.{◌≡◌, refl, sym, ◌∙◌, subst}
 use Rattle.std.specs.Prelude.{None}
 use Rattle.regalloc2_names.specs.Register.{Register}
 use Rattle.regalloc2_names.specs.Place.{Place, NoPlace, InRegister}

@@ -1,7 +1,7 @@
-use Rattle.std.proofs.Common.{ℕ, ◌≡◌, ◌≢◌, ◌<◌, List, length, refl, sym, ap, ◌∙◌, subst, arith, rules, true, false, slice_index_or}
+use Rattle.std.proofs.Common.{ℕ, ◌≡◌, ◌<◌, List, length, refl, sym, ◌∙◌, subst, arith, rules, true, false, slice_index_or}
 use Rattle.std.proofs.lemmas.List.{get_or_read}
-use Rattle.regalloc2_names.specs.Place.{Place, NoPlace}
-use Rattle.regalloc2_names.specs.Point.{after, invalid_inst}
+use Rattle.regalloc2_names.specs.Place.{NoPlace}
+use Rattle.regalloc2_names.specs.Point.{after}
 use Rattle.regalloc2_names.specs.Operand.{OperandValue}
 use Rattle.regalloc2_function.specs.SourceRun.{is_fixed_nonallocatable}
 use Rattle.regalloc2_fastalloc.specs.Tables.{NoneBefore}
@@ -9,7 +9,6 @@ use Rattle.regalloc2_fastalloc.specs.declared.choose.Placing.{Placing}
 use Rattle.regalloc2_fastalloc.specs.Steps.{tables_of, op_at}
 use Rattle.regalloc2_fastalloc.proofs.Reading.{read_operand}
 use Rattle.regalloc2_fastalloc.proofs.Operands.{is_unmarked, op_in_tables, use_in_tables, one_register, one_use, one_def, one_reuse}
-use Rattle.regalloc2_fastalloc.proofs.state.State.place_operand.Given.{Over}
 use Rattle.regalloc2_fastalloc.proofs.state.State.place_operand.Goals as goal
 
 pub returns-in-Some-clause-ok : goal.returns-in-Some-clause-ok

@@ -1,4 +1,4 @@
-use Rattle.std.proofs.Common.{ℕ, ◌≡◌, length, refl, ◌∙◌, subst, arith, rules}
+use Rattle.std.proofs.Common.{◌≡◌, length, refl, ◌∙◌, subst, arith}
 use Rattle.regalloc2_fastalloc.specs.Steps.{Tables, tables_of}
 use Rattle.regalloc2_fastalloc.specs.Reserving.{ReservesOne}
 use Rattle.regalloc2_fastalloc.proofs.Reserved.{reserving_none, reserving_more, reserves_all}

@@ -1,8 +1,6 @@
-use Rattle.std.proofs.Common.{ℕ, ◌≡◌, List, refl, sym, ap, ◌∙◌, subst}
-use Rattle.std.specs.Prelude.{Option, None, Some}
-use Rattle.regalloc2_names.specs.Register.{Register}
+use Rattle.std.proofs.Common.{◌≡◌, List, refl, sym, ◌∙◌}
+use Rattle.std.specs.Prelude.{None, Some}
 use Rattle.regalloc2_names.specs.Operand.{OperandValue}
-use Rattle.regalloc2_fastalloc.specs.declared.turn.Positions.{Positions}
 use Rattle.regalloc2_fastalloc.specs.Steps.{Tables, tables_of}
 use Rattle.regalloc2_fastalloc.specs.Reserving.{ReservesOne}
 use Rattle.regalloc2_fastalloc.proofs.Reserved.{shrinks_none, shrinks_same, reserves_nothing, reserves_it, reserves_then, same_claim}

@@ -1,8 +1,8 @@
-use Rattle.std.proofs.Common.{ℕ, ◌≡◌, List, true, refl, sym, ◌∙◌, ap}
+use Rattle.std.proofs.Common.{List, sym, ◌∙◌, ap}
 use Rattle.std.specs.Prelude.{Option, slice_set, Some}
 use Rattle.regalloc2_names.specs.Register.{Register, class_code}
 use Rattle.regalloc2_fastalloc.specs.declared.turn.Positions.{Positions}
-use Rattle.regalloc2_fastalloc.specs.Steps.{Tables, tables_of, found, IsFreeAt}
+use Rattle.regalloc2_fastalloc.specs.Steps.{found, IsFreeAt}
 use Rattle.regalloc2_fastalloc.proofs.Emptying.{left_of_both}
 use Rattle.regalloc2_fastalloc.proofs.state.State.scratch.Goals as goal
 
