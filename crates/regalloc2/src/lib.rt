@@ -6,6 +6,11 @@
 //! declared.
 #![tactic(auto)]
 
+mod checked;
+mod laws;
+
+pub use checked::{CheckedRunError, run_checked};
+pub use laws::accepts_what_is_promised;
 pub use regalloc2_fastalloc::{Algorithm, Ctx, RegallocOptions, run, run_into_ctx, run_with_ctx};
 pub use regalloc2_function::{
     Edit, Function, InstOrEdit, MachineEnv, Output, OutputIter, StoredFault, StoredOutput,
@@ -24,7 +29,9 @@ pub use regalloc2_shape::{cfg, indexset, postorder, ssa};
 
 /// The checker of allocations.
 pub mod checker {
-    pub use regalloc2_checker::{Checker, CheckerError, CheckerErrors, stands_for_every_path};
+    pub use regalloc2_checker::{
+        Checker, CheckerError, CheckerErrors, finds_no_error_where_faithful, stands_for_every_path,
+    };
 }
 
 /// The fast allocator and its parts.

@@ -1,0 +1,40 @@
+-- What the checker's errors come to.
+use Rattle.std.proofs.Common.{◌≡◌, List, [], ◌∷◌, inl, inr, subst}
+use Rattle.std.specs.Prelude.{◌⊎◌, Bool}
+use Rattle.regalloc2_function.specs.FunctionValue.{FunctionValue}
+use Rattle.regalloc2_function.specs.Machine.{MachineValue}
+use Rattle.regalloc2_function.specs.OutputValue.{OutputValue, IsInOrder}
+use Rattle.regalloc2_function.specs.Faithful.{IsFaithful}
+use Rattle.regalloc2_fastalloc.specs.Reason.{PassesAll}
+use Rattle.regalloc2_checker.specs.declared.errors.CheckerError.{CheckerError}
+use Rattle.regalloc2_checker.specs.declared.errors.CheckerError.TheVariants.{Memory}
+use Rattle.regalloc2_checker.specs.declared.errors.CheckerErrors.{CheckerErrors}
+use Rattle.regalloc2_checker.specs.Found.{errors_of}
+use Rattle.regalloc2_checker.specs.Report.{IsReport}
+use Rattle.regalloc2.specs.declared.checked.CheckedRunError.{CheckedRunError}
+use Rattle.regalloc2.specs.declared.checked.CheckedRunError.TheVariants.{Refused, Faults, Unjudged}
+use Rattle.regalloc2.specs.Judged.{IsCheckedReason}
+
+-- what is said of an output that isn't accepted
+abbrev pub IsFound : {A : Type 0} → FunctionValue → MachineValue → OutputValue → CheckedRunError A → Type 0
+IsFound {A} f env out e = (e ≡ Unjudged) ⊎ ((es : CheckerErrors A) × (e ≡ Faults es) × (IsFaithful f env out → ⊥) × IsReport f env out (errors_of es))
+
+-- an output's errors, told
+pub told : {A : Type 0} (f : FunctionValue) (env : MachineValue) (out : OutputValue) (es : CheckerErrors A) (e : CheckedRunError A) →
+    (errors_of es ≡ Memory ∷ []) ⊎ ((IsFaithful f env out → ⊥) × IsReport f env out (errors_of es)) →
+    ((errors_of es ≡ Memory ∷ []) × (e ≡ Unjudged)) ⊎ ((errors_of es ≡ Memory ∷ [] → ⊥) × (e ≡ Faults es)) → IsFound f env out e
+told f env out es e found (inl h) = inl h.1
+told f env out es e (inl m) (inr h) = absurd (h.0 m)
+told f env out es e (inr r) (inr h) = inr (es, h.1, r.0, r.1)
+
+-- the reason that they give
+pub reason : {A : Type 0} (f : FunctionValue) (env : MachineValue) (asked : Bool) (out : OutputValue) (e : CheckedRunError A) → IsInOrder f out → PassesAll f env asked → IsFound f env out e → IsCheckedReason f env asked e
+reason f env asked out e order owed (inl h) = rw h owed
+reason f env asked out e order owed (inr h) = rw h.1 (out, order, h.2, h.3)
+
+-- what the checker finds of a function and a machine it finds of the same under other names
+pub same_found : {F A : Type 0} (value : F → FunctionValue) (x y : F) (m n : MachineValue) (out : OutputValue) (es : List (CheckerError A)) → x ≡ y → m ≡ n →
+    (es ≡ Memory ∷ []) ⊎ ((IsFaithful (value x) m out → ⊥) × IsReport (value x) m out es) → (es ≡ Memory ∷ []) ⊎ ((IsFaithful (value y) n out → ⊥) × IsReport (value y) n out es)
+same_found {F = F} value x y m n out es p q h =
+    subst (λ (z : F). (es ≡ Memory ∷ []) ⊎ ((IsFaithful (value z) n out → ⊥) × IsReport (value z) n out es)) p
+    (subst (λ (k : MachineValue). (es ≡ Memory ∷ []) ⊎ ((IsFaithful (value x) k out → ⊥) × IsReport (value x) k out es)) q h)

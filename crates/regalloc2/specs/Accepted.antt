@@ -1,0 +1,26 @@
+-- What binds the allocator to the checker: the checker accepts every output that the allocator promises.
+use Rattle.std.specs.Prelude.{◌≡◌, List, []}
+use Rattle.regalloc2_function.specs.FunctionValue.{FunctionValue}
+use Rattle.regalloc2_function.specs.Machine.{MachineValue}
+use Rattle.regalloc2_function.specs.OutputValue.{OutputValue, IsInOrder}
+use Rattle.regalloc2_function.specs.SourceRun.{IsWrittenFirst}
+use Rattle.regalloc2_function.specs.Faithful.{IsFaithful}
+use Rattle.regalloc2_function.specs.WellFormed.{IsWellFormed}
+use Rattle.regalloc2_fastalloc.specs.Promise.{RunsAsTheFunction}
+use Rattle.regalloc2_checker.specs.declared.errors.CheckerError.{CheckerError}
+use Rattle.regalloc2_checker.specs.Report.{IsReport}
+
+-- what `run` promises of an output, of which the checker asks
+pub record IsPromised (f : FunctionValue) (env : MachineValue) (out : OutputValue) : Type 0 where
+  pub in_order : IsInOrder f out
+  pub runs : IsWrittenFirst f → RunsAsTheFunction f env out
+
+-- the checker takes an output, and finds nothing in it
+pub record IsAccepted (A : Type 0) (f : FunctionValue) (env : MachineValue) (out : OutputValue) : Type 0 where
+  pub in_order : IsInOrder f out
+  pub faithful : IsFaithful f env out
+  pub no_errors : (es : List (CheckerError A)) → IsReport f env out es → es ≡ []
+
+-- of a well-formed function in which no path reads before writing, what is promised is accepted
+abbrev pub PromisedIsAccepted : Type 0 → Type 0
+PromisedIsAccepted A = (f : FunctionValue) (env : MachineValue) (out : OutputValue) → IsWellFormed env f → IsWrittenFirst f → IsPromised f env out → IsAccepted A f env out

@@ -1,0 +1,98 @@
+//! Allocating with the checker behind.
+
+ghost use Rattle.std.specs.Prelude.{◌≡◌, ◌<◌, ◌⊎◌, ◌∷◌, ℕ, [], false, length, IfErr, IfOk, OnOk};
+ghost use Rattle.regalloc2_function.specs.Views.{machine_of, output_of};
+ghost use Rattle.regalloc2_function.specs.OutputValue.{IsInOrder};
+ghost use Rattle.regalloc2_function.specs.SourceRun.{IsWrittenFirst};
+ghost use Rattle.regalloc2_function.specs.Faithful.{ConstraintsMet, EditsAreListed, HasNoStackToStack, IsFaithful};
+ghost use Rattle.regalloc2_function.specs.Fitting.{MachineFits, PlacesAreProper};
+ghost use Rattle.regalloc2_function.specs.WellFormed.{IsFramed, IsWellFormed};
+ghost use Rattle.regalloc2_checker.specs.Found.{errors_of};
+ghost use Rattle.regalloc2_checker.specs.Report.{IsReport};
+ghost use Rattle.regalloc2.specs.Judged.{IsCheckedReason, IsFault};
+
+use regalloc2_checker::{Checker, CheckerError, CheckerErrors};
+use regalloc2_fastalloc::{RegallocOptions, run};
+use regalloc2_function::{Function, MachineEnv, Output};
+use regalloc2_names::RegAllocError;
+use std::alloc::{Allocator, Global};
+
+/// Why a run that is checked gives no output.
+#[derive(Debug, Drop)]
+pub enum CheckedRunError<A: Allocator = Global> {
+    /// The function was refused.
+    Refused(RegAllocError),
+    /// The checker found these faults in what was allocated.
+    Faults(CheckerErrors<A>),
+    /// The checker was refused memory.
+    Unjudged,
+}
+
+/// The error that the checker's errors come to: `Unjudged` exactly where they are `Memory` alone.
+fn error_of<A: Allocator>(errors: CheckerErrors<A>) -> CheckedRunError<A>
+    ensures { ((errors_of errors ≡ CheckerError.Memory ∷ []) × (result ≡ CheckedRunError.Unjudged))
+        ⊎ ((errors_of errors ≡ CheckerError.Memory ∷ [] → ⊥) × (result ≡ CheckedRunError.Faults errors)) }
+{
+    match errors.errors() {
+        [CheckerError::Memory] => CheckedRunError::Unjudged,
+        _ => CheckedRunError::Faults(errors),
+    }
+}
+
+/// Has the checker judge an output that is in order.
+fn judge<A: Allocator + Copy, F: Function, B: Allocator>(
+    alloc: A,
+    f: &F,
+    env: &MachineEnv<B>,
+    out: &Output<A>,
+) -> Result<(), CheckedRunError<A>>
+    requires framed { IsFramed (F.function f.now) }
+    requires in_order { IsInOrder (F.function f.now) (output_of out.now) }
+    ensures ok { OnOk result (IsFaithful (F.function f.now) (machine_of env.now) (output_of out.now)) }
+    ensures err { IfErr result (λ e. (e ≡ CheckedRunError.Unjudged) ⊎ ((es : CheckerErrors A) × (e ≡ CheckedRunError.Faults es)
+        × (IsFaithful (F.function f.now) (machine_of env.now) (output_of out.now) → ⊥) × IsReport (F.function f.now) (machine_of env.now) (output_of out.now) (errors_of es))) }
+{
+    let Ok(mut checker) = Checker::new(alloc, f, env) else {
+        return Err(CheckedRunError::Unjudged);
+    };
+    let Ok(()) = checker.prepare(out) else {
+        return Err(CheckedRunError::Unjudged);
+    };
+    match checker.run() {
+        Ok(()) => Ok(()),
+        Err(errors) => Err(error_of(errors)),
+    }
+}
+
+/// Allocates registers to a function as [`run`] does, and gives the output only where the checker accepts it.
+///
+/// The conditions are those of `run`, and so is what is said of the output; besides, it is faithful. If no path from the
+/// entry reads a virtual register before writing it, the checker finds no fault, so the output is refused by it for want
+/// of memory alone.
+pub fn run_checked<A: Allocator + Copy, F: Function, B: Allocator>(
+    alloc: A,
+    f: &F,
+    env: &MachineEnv<B>,
+    options: &RegallocOptions,
+) -> Result<Output<A>, CheckedRunError<A>>
+    requires machine { MachineFits (F.function f.now) (machine_of env.now) }
+    requires well_formed { options.now.validate_ssa ≡ false → IsWellFormed (machine_of env.now) (F.function f.now) }
+    ensures in_order { IfOk result (λ out. IsInOrder (F.function f.now) (output_of out)) }
+    ensures constraints { IfOk result (λ out. (i : ℕ) → i < length (F.function f.now).insts →
+        ConstraintsMet (F.function f.now) (machine_of env.now) (output_of out) i) }
+    ensures proper { IfOk result (λ out. PlacesAreProper (F.function f.now) (machine_of env.now) (output_of out)) }
+    ensures no_stack_to_stack { IfOk result (λ out. HasNoStackToStack (machine_of env.now) (output_of out)) }
+    ensures listed { IfOk result (λ out. EditsAreListed (F.function f.now) (output_of out)) }
+    ensures faithful { IfOk result (λ out. IsFaithful (F.function f.now) (machine_of env.now) (output_of out)) }
+    ensures accepted { IsWrittenFirst (F.function f.now) → IfErr result (λ e. IsFault e → ⊥) }
+    ensures refused { IfErr result (IsCheckedReason (F.function f.now) (machine_of env.now) options.now.validate_ssa) }
+{
+    let out = match run(alloc, f, env, options) {
+        Ok(out) => out,
+        Err(error) => return Err(CheckedRunError::Refused(error)),
+    };
+    match judge(alloc, f, env, &out) {
+        Ok(()) => Ok(out),
+        Err(error) => Err(error),
+    }
+}
