@@ -1,6 +1,8 @@
 //! Support for the tests that cross crates, and these tests.
 #![tactic(auto)]
 
+#[cfg(test)]
+mod accepted;
 pub mod adversary;
 #[cfg(test)]
 mod blocks;
