@@ -1,28 +1,19 @@
-//! `regalloc2_bench`: allocates a straight block so many times, for counting what one allocation costs.
+//! `regalloc2_bench`: reads a stored function, allocates it, and then does a task with it so many times, for counting what
+//! one time costs.
 //!
-//! Words: how many instructions the block has, below 2^29, and how many times it is allocated. `docs/BENCH.md` says how to
-//! measure.
+//! Words: the task, and how many times. `allocate` allocates without testing that the function is well-formed, `test` with
+//! those tests, and `check` judges the output. The function comes on standard input. `docs/BENCH.md` says how to measure.
 #![tactic(auto)]
 
-ghost use Rattle.std.specs.Prelude.{◌<◌, ◌^◌};
-ghost use Rattle.regalloc2_function.specs.Fitting.{MachineFits};
-ghost use Rattle.regalloc2_function.specs.Views.{machine_of};
-ghost use Rattle.regalloc2_plain.specs.Table.{function_of};
+mod input;
+mod task;
 
-mod block;
-
-use regalloc2::{Algorithm, MachineEnv, RegallocOptions, machine_fits, run};
-use regalloc2_plain::table::TableFunction;
-use regalloc2_tests::machines::whole_machine;
+use input::read_function;
 use std::alloc::Global;
 use std::env::{self, Env};
+use std::io::Read;
 use std::process::ExitCode;
-
-/// The block's definitions and uses are tested too, since no caller has proved them sound.
-const OPTIONS: RegallocOptions = RegallocOptions {
-    validate_ssa: true,
-    algorithm: Algorithm::Fastalloc,
-};
+use task::{Task, is_performed};
 
 /// The words after the program's name.
 fn words(rt: &(impl Env + AllocGlobal)) -> std::io::Result<Vec<String>> {
@@ -33,31 +24,18 @@ fn words(rt: &(impl Env + AllocGlobal)) -> std::io::Result<Vec<String>> {
     Ok(words)
 }
 
-/// The number that a word says.
-fn number(words: &[String], at: usize) -> Option<usize> {
-    words.get(at)?.parse().ok()
+/// The task that the words name, and how many times.
+fn task_of(words: &[String]) -> Option<(Task, usize)> {
+    let task = Task::of(words.get(0)?.as_str())?;
+    let times = words.get(1)?.parse().ok()?;
+    Some((task, times))
 }
 
-/// Whether the function was allocated so many times.
-fn is_allocated(alloc: Global, f: &TableFunction, env: &MachineEnv, times: usize) -> bool
-    requires { MachineFits (function_of f.now) (machine_of env.now) }
-{
-    for _ in 0..times {
-        if run(alloc, f, env, &OPTIONS).is_err() {
-            return false;
-        }
-    }
-    true
-}
-
-/// Whether a block of so many instructions was made, and allocated so many times.
-fn is_measured(alloc: Global, insts: usize, times: usize) -> bool
-    requires { insts < 2 ^ 29 }
-{
-    let env = whole_machine(alloc, 16);
-    match block::live(alloc, insts) {
-        Ok(f) => machine_fits(&f, &env) && is_allocated(alloc, &f, &env, times),
-        Err(_) => false,
+/// Whether a function was read from the input, and the task done with it so many times.
+fn is_measured<R: Read + Drop>(alloc: Global, input: R, task: Task, times: usize) -> bool {
+    match read_function(alloc, input) {
+        Some(f) => is_performed(alloc, task, times, &f, f.machine_env()),
+        None => false,
     }
 }
 
@@ -65,14 +43,9 @@ fn main(rt: HostRuntime) -> ExitCode {
     let Ok(words) = words(&rt) else {
         return ExitCode::from(2);
     };
-    match (number(&words, 0), number(&words, 1)) {
-        (Some(insts), Some(times)) if insts < 1 << 29 => {
-            ExitCode::from(if is_measured(rt.alloc(), insts, times) {
-                0
-            } else {
-                1
-            })
-        }
-        _ => ExitCode::from(2),
-    }
+    let Some((task, times)) = task_of(&words) else {
+        return ExitCode::from(2);
+    };
+    let is_done = is_measured(rt.alloc(), rt.stdin(), task, times);
+    ExitCode::from(if is_done { 0 } else { 1 })
 }

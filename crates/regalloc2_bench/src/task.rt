@@ -1,0 +1,103 @@
+//! What is measured.
+
+ghost use Rattle.regalloc2_function.specs.Fitting.{MachineFits};
+ghost use Rattle.regalloc2_function.specs.Views.{machine_of};
+ghost use Rattle.regalloc2_function.specs.WellFormed.{IsWellFormed};
+
+use regalloc2::checker::Checker;
+use regalloc2::{Algorithm, Function, MachineEnv, Output, RegallocOptions, machine_fits, run};
+use std::alloc::Global;
+
+/// What is done with a function that was allocated once.
+#[derive(Clone, Copy, PartialEq, Eq)]
+pub enum Task {
+    /// To allocate it again, as one that is well-formed.
+    Allocate,
+    /// To test that it is well-formed, and to allocate it again.
+    Test,
+    /// To judge the output.
+    Check,
+}
+
+impl Task {
+    /// The task that a word names.
+    pub fn of(word: &str) -> Option<Task> {
+        match word {
+            "allocate" => Some(Task::Allocate),
+            "test" => Some(Task::Test),
+            "check" => Some(Task::Check),
+            _ => None,
+        }
+    }
+}
+
+/// To allocate with the tests of a well-formed function.
+const TESTED: RegallocOptions = RegallocOptions {
+    validate_ssa: true,
+    algorithm: Algorithm::Fastalloc,
+};
+
+/// To allocate without those tests.
+const UNTESTED: RegallocOptions = RegallocOptions {
+    validate_ssa: false,
+    algorithm: Algorithm::Fastalloc,
+};
+
+/// Whether the checker accepts an output.
+fn is_accepted<F: Function>(alloc: Global, f: &F, env: &MachineEnv, output: &Output) -> bool
+    requires { IsWellFormed (machine_of env.now) (F.function f.now) }
+{
+    let Ok(mut checker) = Checker::new(alloc, f, env) else {
+        return false;
+    };
+    checker.prepare(output).is_ok() && checker.run().is_ok()
+}
+
+/// Whether a task was done with a function that was allocated.
+fn is_done<F: Function>(alloc: Global, task: Task, f: &F, env: &MachineEnv, output: &Output) -> bool
+    requires machine { MachineFits (F.function f.now) (machine_of env.now) }
+    requires well_formed { IsWellFormed (machine_of env.now) (F.function f.now) }
+{
+    match task {
+        Task::Allocate => run(alloc, f, env, &UNTESTED).is_ok(),
+        Task::Test => run(alloc, f, env, &TESTED).is_ok(),
+        Task::Check => is_accepted(alloc, f, env, output),
+    }
+}
+
+/// Whether a task was done so many times with a function that was allocated.
+fn is_repeated<F: Function>(
+    alloc: Global,
+    task: Task,
+    times: usize,
+    f: &F,
+    env: &MachineEnv,
+    output: &Output,
+) -> bool
+    requires machine { MachineFits (F.function f.now) (machine_of env.now) }
+    requires well_formed { IsWellFormed (machine_of env.now) (F.function f.now) }
+{
+    for _ in 0..times {
+        if !is_done(alloc, task, f, env, output) {
+            return false;
+        }
+    }
+    true
+}
+
+/// Whether a function was allocated, and then a task done with it so many times.
+pub fn is_performed<F: Function>(
+    alloc: Global,
+    task: Task,
+    times: usize,
+    f: &F,
+    env: &MachineEnv,
+) -> bool {
+    if !machine_fits(f, env) {
+        return false;
+    }
+    match run(alloc, f, env, &TESTED) {
+        Ok(output) => is_repeated(alloc, task, times, f, env, &output),
+        Err(_) => false,
+    }
+}
