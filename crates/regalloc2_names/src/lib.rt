@@ -126,6 +126,3 @@ pub enum RegAllocError {
     /// Memory was refused.
     Memory,
 }
-
-#[cfg(test)]
-mod tests;
