@@ -1,5 +1,4 @@
 pub mod LiveNumbers
-pub mod MadeRings
 pub mod Poked
 pub mod RegisterLaws
 pub mod Places
@@ -16,8 +15,6 @@ pub mod Runs
 pub mod Counting
 pub mod Resolving
 pub mod Filling
-pub mod Rising
 pub mod Tracking
 pub mod Computing
 pub mod Fronted
-mod Lending

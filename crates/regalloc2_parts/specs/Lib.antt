@@ -9,4 +9,3 @@ pub mod Cycles
 pub mod Resolved
 pub mod Tracking
 pub mod Computed
-pub mod Lending

@@ -122,8 +122,3 @@ impl<T: Copy + Default, A: Allocator + Copy> ParallelMoves<T, A> {
         order::resolve(self.parallel_moves)
     }
 }
-
-#[cfg(test)]
-mod scratch_tests;
-#[cfg(test)]
-mod tests;

@@ -1,0 +1,3 @@
+mod Rising
+mod Lending
+mod MadeRings
