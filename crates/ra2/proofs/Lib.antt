@@ -1,4 +1,4 @@
 pub mod Below
 pub mod Frames
 pub mod Judged
-pub mod Texts
+pub mod Readings
