@@ -1,4 +1,4 @@
-use Rattle.std.proofs.Common.{ℕ, List, false, below_more}
+use Rattle.std.proofs.Common.{ℕ, List, below_more}
 use Rattle.regalloc2_names.specs.Operand.{OperandValue}
 use Rattle.regalloc2_fastalloc.specs.Constraints.{IsClear}
 use Rattle.regalloc2_fastalloc.proofs.Constraining.{clear_read}
