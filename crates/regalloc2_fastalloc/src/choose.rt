@@ -64,6 +64,8 @@ fn note_placed(turn: &mut Turn, placing: &Placing)
     }
 }
 
+// The steps that place an operand, and the moves of `scratch`, are inlined into one: calls between them would cost about a
+// tenth of a whole allocation.
 impl<A: Allocator> State<A> {
     /// Whether a place meets what is asked.
     fn meets(&self, wanted: Wanted, place: Allocation) -> bool
@@ -94,6 +96,7 @@ impl<A: Allocator> State<A> {
     }
 
     /// The place where the operand's vreg stands, if the operand may have that.
+    #[inline(always)]
     fn kept(&self, turn: &Turn, placing: &Placing) -> Option<Allocation>
         requires { placing.now.vreg.number < length self.now.places.stands }
         ensures { IfSome result (λ p. (stood self.now.places placing.now.vreg.number ≡ p) × Suits (tables_of self.now) placing.now.wanted p) }
@@ -121,6 +124,7 @@ impl<A: Allocator> State<A> {
     }
 
     /// A free register for an operand that may stand in any, or anywhere and takes one.
+    #[inline(always)]
     fn lent(&self, turn: &Turn, placing: &Placing) -> Option<PReg>
         requires { placing.now.vreg.number < length self.now.places.stands }
         ensures asks { IfSome result (λ r. (placing.now.wanted ≡ Wanted.Anywhere) ⊎ (placing.now.wanted ≡ Wanted.AnyRegister)) }
@@ -137,6 +141,7 @@ impl<A: Allocator> State<A> {
     }
 
     /// Another place for the operand. Refused, with `TooManyLiveRegs`, where it asks for any register, and none is free.
+    #[inline(always)]
     fn chosen(&mut self, turn: &Turn, placing: &Placing) -> Result<Allocation, RegAllocError>
         requires { placing.now.vreg.number < length self.old.places.stands }
         ensures ok { IfOk result (λ p. Picks turn.now placing.now p (tables_of self.old) (tables_of self.new)) }
@@ -160,6 +165,7 @@ impl<A: Allocator> State<A> {
     }
 
     /// The place of an operand, before it is claimed: where its vreg stands if it may stay there, else another one.
+    #[inline(always)]
     fn picked(&mut self, turn: &Turn, placing: &Placing) -> Result<Allocation, RegAllocError>
         requires { placing.now.vreg.number < length self.old.places.stands }
         ensures ok { IfOk result (λ p. Picks turn.now placing.now p (tables_of self.old) (tables_of self.new)) }
@@ -191,6 +197,7 @@ impl<A: Allocator> State<A> {
     }
 
     /// The register is the operand's: others are evicted, and it is held.
+    #[inline(always)]
     fn claim(
         &mut self,
         turn: &mut Turn,
@@ -213,6 +220,7 @@ impl<A: Allocator> State<A> {
     }
 
     /// The place is the operand's: a register is claimed.
+    #[inline(always)]
     fn occupy(
         &mut self,
         turn: &mut Turn,
@@ -237,6 +245,7 @@ impl<A: Allocator> State<A> {
     }
 
     /// The place of an operand, which is claimed.
+    #[inline(always)]
     fn place(
         &mut self,
         turn: &mut Turn,
@@ -259,6 +268,7 @@ impl<A: Allocator> State<A> {
     }
 
     /// A move that is made unless it goes nowhere, by way of a register where both ends are stack places.
+    #[inline(always)]
     pub fn send(
         &mut self,
         turn: &mut Turn,
@@ -284,6 +294,7 @@ impl<A: Allocator> State<A> {
 
     /// The definition of a vreg in a place: the vreg leaves the tables, and is sent to where it was awaited and to its
     /// slot, unless the instruction is a return.
+    #[inline(always)]
     fn leave(
         &mut self,
         turn: &mut Turn,
@@ -313,6 +324,7 @@ impl<A: Allocator> State<A> {
 
     /// Places a definition: its vreg leaves the tables, and is sent to where it was awaited and to its slot, unless the
     /// instruction is a return.
+    #[inline(always)]
     pub fn put_def(
         &mut self,
         turn: &mut Turn,

@@ -74,6 +74,7 @@ impl<A: Allocator> State<A> {
     }
 
     /// One more move of a vreg of the class, listed before all others, by way of a register where both ends are stack places.
+    #[inline(always)]
     pub fn cross(
         &mut self,
         turn: &mut Turn,
@@ -101,6 +102,7 @@ impl<A: Allocator> State<A> {
 
     /// Empties a register or fixed stack slot: the vreg that stands there stands in its slot from now on, and is
     /// reloaded from there at the point.
+    #[inline(always)]
     pub fn evict_from(
         &mut self,
         turn: &mut Turn,
@@ -125,6 +127,7 @@ impl<A: Allocator> State<A> {
     }
 
     /// Empties a register or fixed stack slot of all vregs but one.
+    #[inline(always)]
     pub fn evict_others(
         &mut self,
         turn: &mut Turn,
