@@ -12,7 +12,7 @@ use Rattle.regalloc2_checker.specs.declared.errors.CheckerErrors.{CheckerErrors}
 use Rattle.regalloc2_checker.specs.Found.{errors_of}
 use Rattle.regalloc2_checker.specs.Report.{IsReport}
 use Rattle.regalloc2.specs.declared.checked.CheckedRunError.{CheckedRunError}
-use Rattle.regalloc2.specs.declared.checked.CheckedRunError.TheVariants.{Refused, Faults, Unjudged}
+use Rattle.regalloc2.specs.declared.checked.CheckedRunError.TheVariants.{Faults, Unjudged}
 use Rattle.regalloc2.specs.Judged.{IsCheckedReason}
 
 -- what is said of an output that isn't accepted
