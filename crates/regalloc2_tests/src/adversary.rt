@@ -99,6 +99,7 @@ impl Function for Same<'_> {
 #[cfg(test)]
 mod tests {
     use super::*;
+    use crate::asserts::same;
     use crate::blocks::run_fitting;
     use crate::machines::whole_machine;
     use regalloc2::{RegAllocError, count_operands};
@@ -116,12 +117,12 @@ mod tests {
             insts: 131_071,
             succs: &[],
         };
-        assert_eq!(rt; count_operands(&f), Some(4_294_934_528));
+        same(&rt, count_operands(&f), Some(4_294_934_528));
         f.insts = 131_072;
-        assert_eq!(rt; count_operands(&f), None);
+        same(&rt, count_operands(&f), None);
         let env = whole_machine(alloc, 2);
         let refused = run_fitting(&rt, alloc, &f, &env).err();
-        assert_eq!(rt; refused, Some(RegAllocError::TooManyOperands));
+        same(&rt, refused, Some(RegAllocError::TooManyOperands));
         Ok(())
     }
 }

@@ -73,6 +73,25 @@ pub fn straight(
     TableFunction::straight(alloc, num_vregs, slots, insts)
 }
 
+/// A block of instructions with these operands, and then a return with those.
+pub fn block(
+    rt: &impl Abort,
+    alloc: Global,
+    num_vregs: usize,
+    ops: &[&[Operand]],
+    last: &[Operand],
+) -> Result<TableFunction, AllocError>
+    requires { num_vregs < 2 ^ 30 }
+{
+    let mut insts = Vec::new(alloc);
+    for operands in ops {
+        insts.push(op(alloc, operands)?)?;
+    }
+    insts.push(ret(alloc, last)?)?;
+    assert!(rt; insts.len() < 100);
+    straight(alloc, num_vregs, insts)
+}
+
 /// A definition and a return that reads it.
 pub fn smallest(alloc: Global) -> Result<TableFunction, AllocError> {
     let mut insts = Vec::new(alloc);

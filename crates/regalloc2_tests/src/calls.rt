@@ -1,5 +1,6 @@
 //! The calls on functions and outputs, on what they take and on what they refuse.
 
+use super::asserts::{holds, same};
 use super::blocks::{def, reads, reg, smallest, spilling, stack, straight};
 use super::outputs::{after, fork, output, swapping_loop};
 use regalloc2::{
@@ -42,10 +43,10 @@ fn two_blocks(alloc: Global, takes: bool, returns: bool) -> Result<TableFunction
 #[test]
 fn framed_functions(rt: HostRuntime) -> Result<(), Fail> {
     let alloc = rt.alloc();
-    assert!(rt; is_framed(&smallest(alloc)?));
-    assert!(rt; is_framed(&swapping_loop(alloc)?));
-    assert!(rt; is_framed(&fork(alloc, 0)?));
-    assert!(rt; is_framed(&two_blocks(alloc, true, true)?));
+    holds(&rt, is_framed(&smallest(alloc)?));
+    holds(&rt, is_framed(&swapping_loop(alloc)?));
+    holds(&rt, is_framed(&fork(alloc, 0)?));
+    holds(&rt, is_framed(&two_blocks(alloc, true, true)?));
     assert!(rt;
         !is_framed(&two_blocks(alloc, false, true)?),
         "an argument too many"
@@ -71,13 +72,28 @@ fn outputs_in_order(rt: HostRuntime) -> Result<(), Fail> {
     let f = smallest(alloc)?;
     let places = [reg(0), reg(0)];
     let edits = [after(0, reg(0), stack(0)), after(0, stack(0), reg(0))];
-    assert!(rt; output(alloc, 1, &edits, &places, &[0, 1])?.is_in_order(&f));
-    assert!(rt; output(alloc, 0, &[], &places[..1], &[0, 1])?.is_in_order(&f));
-    assert!(rt; !output(alloc, 0, &[], &places, &[0, 3])?.is_in_order(&f));
-    assert!(rt; !output(alloc, 0, &[], &places, &[0, 0])?.is_in_order(&f));
-    assert!(rt; !output(alloc, 0, &[], &places, &[0])?.is_in_order(&f));
+    holds(
+        &rt,
+        output(alloc, 1, &edits, &places, &[0, 1])?.is_in_order(&f),
+    );
+    holds(
+        &rt,
+        output(alloc, 0, &[], &places[..1], &[0, 1])?.is_in_order(&f),
+    );
+    holds(
+        &rt,
+        !output(alloc, 0, &[], &places, &[0, 3])?.is_in_order(&f),
+    );
+    holds(
+        &rt,
+        !output(alloc, 0, &[], &places, &[0, 0])?.is_in_order(&f),
+    );
+    holds(&rt, !output(alloc, 0, &[], &places, &[0])?.is_in_order(&f));
     let falling = [after(1, reg(0), stack(0)), after(0, stack(0), reg(0))];
-    assert!(rt; !output(alloc, 1, &falling, &places, &[0, 1])?.is_in_order(&f));
+    holds(
+        &rt,
+        !output(alloc, 1, &falling, &places, &[0, 1])?.is_in_order(&f),
+    );
     Ok(())
 }
 
@@ -111,9 +127,9 @@ fn lists_a_block(rt: HostRuntime) -> Result<(), Fail> {
     let out = output(alloc, 1, &edits, &places, &[0, 1, 2, 3])?;
     let (insts, moves) = listing_of(&rt, alloc, &f, &out)?;
     let numbers = [Inst::new(0), Inst::new(1), Inst::new(2), Inst::new(3)];
-    assert_eq!(rt; insts.as_slice(), numbers.as_slice());
+    same(&rt, insts.as_slice(), numbers.as_slice());
     let listed = [(1, edits[0].1), (3, edits[1].1)];
-    assert_eq!(rt; moves.as_slice(), listed.as_slice());
+    same(&rt, moves.as_slice(), listed.as_slice());
     Ok(())
 }
 
@@ -135,9 +151,13 @@ fn lends_the_places_of_an_instruction(rt: HostRuntime) -> Result<(), Fail> {
     let f = swapping_loop(alloc)?;
     let places = [reg(5), reg(6), reg(7), reg(9), reg(8)];
     let out = output(alloc, 0, &[], &places, &[0, 1, 2, 2, 3, 3, 3])?;
-    assert_eq!(rt; places_of(&rt, &f, &out, 0), [reg(5)].as_slice());
-    assert!(rt; places_of(&rt, &f, &out, 2).is_empty());
-    assert_eq!(rt; places_of(&rt, &f, &out, 3), [reg(7)].as_slice());
-    assert_eq!(rt; places_of(&rt, &f, &out, 6), [reg(9), reg(8)].as_slice());
+    same(&rt, places_of(&rt, &f, &out, 0), [reg(5)].as_slice());
+    holds(&rt, places_of(&rt, &f, &out, 2).is_empty());
+    same(&rt, places_of(&rt, &f, &out, 3), [reg(7)].as_slice());
+    same(
+        &rt,
+        places_of(&rt, &f, &out, 6),
+        [reg(9), reg(8)].as_slice(),
+    );
     Ok(())
 }

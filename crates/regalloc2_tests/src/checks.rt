@@ -1,5 +1,6 @@
 //! What the checker answers, of outputs that are written by hand.
 
+use super::asserts::same;
 use super::blocks::{reg, stack, vreg};
 use super::machines::integer_machine;
 use super::outputs::{before, fork, fork_output, loop_output, swapping_loop};
@@ -63,7 +64,7 @@ fn a_loop_that_swaps_at_once(rt: HostRuntime) -> Result<(), Fail> {
         before(5, reg(7), stack(1)),
     ];
     let text = told(&rt, alloc, &f, &env, &loop_output(alloc, &swap)?)?;
-    assert_eq!(rt; text.as_str(), "checked");
+    same(&rt, text.as_str(), "checked");
     Ok(())
 }
 
@@ -80,7 +81,7 @@ fn a_loop_that_swaps_in_turn(rt: HostRuntime) -> Result<(), Fail> {
     ];
     let text = told(&rt, alloc, &f, &env, &loop_output(alloc, &swap)?)?;
     let wanted = "error 4 inst3 Use: v2i reg [p7i]; error 4 inst6 Use: v2i reg [p9i]; ";
-    assert_eq!(rt; text.as_str(), wanted);
+    same(&rt, text.as_str(), wanted);
     Ok(())
 }
 
@@ -91,14 +92,14 @@ fn a_fork_whose_value_stands_on_each_edge(rt: HostRuntime) -> Result<(), Fail> {
     let f = fork(alloc, 0)?;
     let out = fork_output(alloc, stack(0), stack(1), stack(0))?;
     let text = told(&rt, alloc, &f, &env, &out)?;
-    assert_eq!(rt; text.as_str(), "checked");
+    same(&rt, text.as_str(), "checked");
     let f = fork(alloc, 1)?;
     let out = fork_output(alloc, stack(1), stack(0), stack(0))?;
     let Ok(Err(errors)) = check(&rt, alloc, &f, &env, &out) else {
         panic!(&rt; "accepted");
     };
     let text = lines(alloc, errors.errors())?;
-    assert_eq!(rt; text.as_str(), "error 4 inst3 Use: v1i reg [p9i]; ");
+    same(&rt, text.as_str(), "error 4 inst3 Use: v1i reg [p9i]; ");
     assert_actual(&rt, errors.errors(), &[vreg(0)]);
     Ok(())
 }
@@ -108,7 +109,7 @@ pub fn assert_actual<A: Allocator>(rt: &impl Abort, errors: &[CheckerError<A>], 
     assert_eq!(rt; errors.len(), 1);
     match &errors[0] {
         CheckerError::IncorrectValuesInAllocation { actual, .. } => {
-            assert_eq!(rt; actual.as_slice(), wanted)
+            same(rt, actual.as_slice(), wanted)
         }
         _ => panic!(rt; "another error"),
     }

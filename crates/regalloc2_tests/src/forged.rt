@@ -2,6 +2,7 @@
 
 ghost use Rattle.std.specs.Prelude.{◌≤◌};
 
+use super::asserts::{holds, same, same_at};
 use super::blocks::{def, reads, reg, smallest, stack, straight, vreg};
 use super::checks::{assert_actual, check, lines, told};
 use super::machines::integer_machine;
@@ -58,13 +59,13 @@ fn early_definitions_and_missing_places(rt: HostRuntime) -> Result<(), Fail> {
     let alloc = rt.alloc();
     let early = Operand::reg_def_at_start(vreg(1));
     let text = told_of_ret(&rt, alloc, &[early, reads(0)], &[reg(0), reg(0)])?;
-    assert_eq!(rt; text.as_str(), "error 2 inst1 Use: v0i reg [p0i]; ");
+    same(&rt, text.as_str(), "error 2 inst1 Use: v0i reg [p0i]; ");
     let text = told_of_ret(&rt, alloc, &[reads(0)], &[])?;
-    assert_eq!(rt; text.as_str(), "error 1 inst1 Use: v0i reg [none]; ");
+    same(&rt, text.as_str(), "error 1 inst1 Use: v0i reg [none]; ");
     let text = told_of_ret(&rt, alloc, &[reads(0)], &[Allocation::none()])?;
-    assert_eq!(rt; text.as_str(), "error 1 inst1 Use: v0i reg [none]; ");
+    same(&rt, text.as_str(), "error 1 inst1 Use: v0i reg [none]; ");
     let text = told_of_ret(&rt, alloc, &[reads(0)], &[reg(0)])?;
-    assert_eq!(rt; text.as_str(), "checked");
+    same(&rt, text.as_str(), "checked");
     Ok(())
 }
 
@@ -73,12 +74,20 @@ fn reuses_and_what_stands_beside_them(rt: HostRuntime) -> Result<(), Fail> {
     let alloc = rt.alloc();
     let none = reuses(0, 9, OperandKind::Use, OperandPos::Early);
     let text = told_of_ret(&rt, alloc, &[none, reads(0)], &[reg(0), reg(0)])?;
-    assert_eq!(rt; text.as_str(), "error 5 inst1 Use: v0i reuse(9) [p0i]; ");
+    same(
+        &rt,
+        text.as_str(),
+        "error 5 inst1 Use: v0i reuse(9) [p0i]; ",
+    );
     let reuse = reuses(1, 0, OperandKind::Def, OperandPos::Late);
     let text = told_of_ret(&rt, alloc, &[reads(0), reuse], &[reg(0), reg(0)])?;
-    assert_eq!(rt; text.as_str(), "checked");
+    same(&rt, text.as_str(), "checked");
     let text = told_of_ret(&rt, alloc, &[reads(0), reuse], &[reg(0), reg(1)])?;
-    assert_eq!(rt; text.as_str(), "error 8 inst1 Def: v1i reuse(0) [p1i]; ");
+    same(
+        &rt,
+        text.as_str(),
+        "error 8 inst1 Def: v1i reuse(0) [p1i]; ",
+    );
     let late = Operand::reg_use_at_end(vreg(0));
     let text = told_of_ret(
         &rt,
@@ -86,7 +95,11 @@ fn reuses_and_what_stands_beside_them(rt: HostRuntime) -> Result<(), Fail> {
         &[reads(0), reuse, late],
         &[reg(0), reg(0), reg(1)],
     )?;
-    assert_eq!(rt; text.as_str(), "error 2 inst1 Use@Late: v0i reg [p1i]; ");
+    same(
+        &rt,
+        text.as_str(),
+        "error 2 inst1 Use@Late: v0i reg [p1i]; ",
+    );
     Ok(())
 }
 
@@ -97,14 +110,14 @@ fn moves_that_are_forged(rt: HostRuntime) -> Result<(), Fail> {
     let places = [reg(0), reg(0)];
     let out = output(alloc, 0, &[before(1, reg(1), reg(0))], &places, &[0, 1])?;
     let text = told(&rt, alloc, &f, &env, &out)?;
-    assert_eq!(rt; text.as_str(), "error 2 inst1 Use: v0i reg [p0i]; ");
+    same(&rt, text.as_str(), "error 2 inst1 Use: v0i reg [p0i]; ");
     let out = output(alloc, 2, &[before(1, stack(0), stack(1))], &places, &[0, 1])?;
     let text = told(&rt, alloc, &f, &env, &out)?;
-    assert_eq!(rt; text.as_str(), "error 10 stack0 -> stack1; ");
+    same(&rt, text.as_str(), "error 10 stack0 -> stack1; ");
     let edits = [before(1, reg(0), reg(1)), after(0, reg(0), reg(1))];
     let out = output(alloc, 0, &edits, &places, &[0, 1])?;
     let text = told(&rt, alloc, &f, &env, &out)?;
-    assert_eq!(rt; text.as_str(), "refused error 12");
+    same(&rt, text.as_str(), "refused error 12");
     Ok(())
 }
 
@@ -138,7 +151,7 @@ fn two_ways_into_one_block(rt: HostRuntime) -> Result<(), Fail> {
         panic!(&rt; "accepted");
     };
     let text = lines(alloc, errors.errors())?;
-    assert_eq!(rt; text.as_str(), "error 4 inst2 Use: v2i reg [p0i]; ");
+    same(&rt, text.as_str(), "error 4 inst2 Use: v2i reg [p0i]; ");
     assert_actual(&rt, errors.errors(), &[vreg(0)]);
     Ok(())
 }
@@ -163,7 +176,7 @@ fn a_block_that_nothing_leads_to(rt: HostRuntime) -> Result<(), Fail> {
     let (f, env) = (left_aside(alloc)?, integer_machine(alloc, 2));
     let out = output(alloc, 0, &[], &[reg(0)], &[0, 0])?;
     let text = told(&rt, alloc, &f, &env, &out)?;
-    assert_eq!(rt; text.as_str(), "checked");
+    same(&rt, text.as_str(), "checked");
     Ok(())
 }
 
@@ -179,7 +192,7 @@ fn names_at_their_greatest(rt: HostRuntime) -> Result<(), Fail> {
         let f = straight(alloc, 1, insts)?;
         let out = output(alloc, 0, &[], &[last, last], &[0, 1])?;
         let text = told(&rt, alloc, &f, &env, &out)?;
-        assert_eq!(rt; text.as_str(), "checked");
+        same(&rt, text.as_str(), "checked");
     }
     Ok(())
 }
@@ -195,12 +208,12 @@ fn a_checker_with_no_output(rt: HostRuntime) -> Result<(), Fail> {
     assert_malformed(&rt, alloc, checker)?;
     let mut checker = Checker::new(alloc, &f, &env)?;
     checker.prepare(&good)?;
-    assert!(rt; checker.prepare(&bad).is_err());
+    holds(&rt, checker.prepare(&bad).is_err());
     assert_malformed(&rt, alloc, checker)?;
     let mut checker = Checker::new(alloc, &f, &env)?;
-    assert!(rt; checker.prepare(&bad).is_err());
+    holds(&rt, checker.prepare(&bad).is_err());
     checker.prepare(&good)?;
-    assert!(rt; checker.run().is_ok());
+    holds(&rt, checker.run().is_ok());
     Ok(())
 }
 
@@ -214,7 +227,7 @@ fn assert_malformed(
         panic!(rt; "accepted");
     };
     let text = lines(alloc, errors.errors())?;
-    assert_eq!(rt; text.as_str(), "error 12; ");
+    same(rt, text.as_str(), "error 12; ");
     Ok(())
 }
 
@@ -234,14 +247,14 @@ fn each_growth_of_a_check_is_refused(rt: HostRuntime) -> Result<(), Fail> {
             Err(error) => format!(in global; "{error}; ")?,
         };
         if !alloc.has_refused() {
-            assert_eq!(rt; text.as_str(), "error 2 inst1 Use: v0i reg [p0i]; ");
+            same(&rt, text.as_str(), "error 2 inst1 Use: v0i reg [p0i]; ");
             has_ended = true;
             break;
         }
-        assert_eq!(rt; text.as_str(), "error 13; ", "refused at {nth}");
+        same_at(&rt, nth, text.as_str(), "error 13; ");
         refusals = refusals.wrapping_add(1);
     }
-    assert!(rt; has_ended);
-    assert!(rt; refusals > 2);
+    holds(&rt, has_ended);
+    holds(&rt, refusals > 2);
     Ok(())
 }

@@ -3,7 +3,8 @@
 ghost use Rattle.std.specs.Prelude.{◌≡◌, ◌<◌, ◌≤◌};
 ghost use Rattle.regalloc2_names.specs.declared.RegClass.{RegClass};
 
-use super::blocks::{def, reads, reg, run_fitting, stack, straight, vreg};
+use super::asserts::same;
+use super::blocks::{block, def, reads, reg, run_fitting, stack, straight, vreg};
 use super::machines::{integer_machine, machine_with_slot, registers};
 use super::outputs::{after, before};
 use regalloc2::{
@@ -86,9 +87,9 @@ fn assert_output(
     edits: &[(ProgPoint, Edit)],
     slots: usize,
 ) {
-    assert_eq!(rt; found.allocs.as_slice(), places);
-    assert_eq!(rt; found.edits.as_slice(), edits);
-    assert_eq!(rt; found.num_spillslots, slots);
+    same(rt, found.allocs.as_slice(), places);
+    same(rt, found.edits.as_slice(), edits);
+    same(rt, found.num_spillslots, slots);
 }
 
 /// A block in which one definition comes after another, and then a return.
@@ -135,10 +136,7 @@ fn two_with_slots(
 #[test]
 fn a_use_in_any_place_takes_a_register(rt: HostRuntime) -> Result<(), Fail> {
     let alloc = rt.alloc();
-    let mut insts = Vec::new(alloc);
-    insts.push(op(alloc, &[def(0)])?)?;
-    insts.push(ret(alloc, &[uses_any(0)])?)?;
-    let f = straight(alloc, 1, insts)?;
+    let f = block(&rt, alloc, 1, &[&[def(0)]], &[uses_any(0)])?;
     let out = run_fitting(&rt, alloc, &f, &integer_machine(alloc, 10))?;
     assert_output(&rt, &out, &[reg(9), reg(9)], &[], 0);
     Ok(())
@@ -190,7 +188,7 @@ fn slots_end_where_their_names_do(rt: HostRuntime) -> Result<(), Fail> {
         &[uses_stack(0), uses_stack(1)],
     )?;
     let refused = run_fitting(&rt, alloc, &f, &env).err();
-    assert_eq!(rt; refused, Some(RegAllocError::TooManySpillSlots));
+    same(&rt, refused, Some(RegAllocError::TooManySpillSlots));
     let f = two_with_slots(
         alloc,
         largest_units(&rt),
@@ -206,12 +204,15 @@ fn slots_end_where_their_names_do(rt: HostRuntime) -> Result<(), Fail> {
 #[test]
 fn refuses_two_uses_fixed_to_one_register(rt: HostRuntime) -> Result<(), Fail> {
     let alloc = rt.alloc();
-    let mut insts = Vec::new(alloc);
-    insts.push(op(alloc, &[def(0)])?)?;
-    insts.push(ret(alloc, &[uses_fixed(0, 0), uses_fixed(0, 0)])?)?;
-    let f = straight(alloc, 1, insts)?;
+    let f = block(
+        &rt,
+        alloc,
+        1,
+        &[&[def(0)]],
+        &[uses_fixed(0, 0), uses_fixed(0, 0)],
+    )?;
     let refused = run_fitting(&rt, alloc, &f, &integer_machine(alloc, 2)).err();
-    assert_eq!(rt; refused, Some(RegAllocError::TooManyLiveRegs));
+    same(&rt, refused, Some(RegAllocError::TooManyLiveRegs));
     Ok(())
 }
 
@@ -224,24 +225,22 @@ fn refuses_a_limit(rt: HostRuntime) -> Result<(), Fail> {
         OperandKind::Use,
         OperandPos::Early,
     );
-    let mut insts = Vec::new(alloc);
-    insts.push(op(alloc, &[def(0)])?)?;
-    insts.push(ret(alloc, &[limited])?)?;
-    let f = straight(alloc, 1, insts)?;
+    let f = block(&rt, alloc, 1, &[&[def(0)]], &[limited])?;
     let refused = run_fitting(&rt, alloc, &f, &integer_machine(alloc, 2)).err();
-    assert_eq!(rt; refused, Some(RegAllocError::Unsupported(Inst::new(1))));
+    same(&rt, refused, Some(RegAllocError::Unsupported(Inst::new(1))));
     Ok(())
 }
 
 #[test]
 fn refuses_a_use_before_its_definition(rt: HostRuntime) -> Result<(), Fail> {
     let alloc = rt.alloc();
-    let mut insts = Vec::new(alloc);
-    insts.push(op(alloc, &[reads(0)])?)?;
-    insts.push(ret(alloc, &[def(0)])?)?;
-    let f = straight(alloc, 1, insts)?;
+    let f = block(&rt, alloc, 1, &[&[reads(0)]], &[def(0)])?;
     let refused = run_fitting(&rt, alloc, &f, &integer_machine(alloc, 2)).err();
-    assert_eq!(rt; refused, Some(RegAllocError::SSA(vreg(0), Inst::new(0))));
+    same(
+        &rt,
+        refused,
+        Some(RegAllocError::SSA(vreg(0), Inst::new(0))),
+    );
     Ok(())
 }
 
@@ -251,7 +250,7 @@ fn refuses_a_reuse_of_no_operand(rt: HostRuntime) -> Result<(), Fail> {
     let reuse = Operand::reg_reuse_def(vreg(1), 9);
     let f = in_between(alloc, &[def(0)], &[reuse, reads(0)], &[reads(1), reads(0)])?;
     let refused = run_fitting(&rt, alloc, &f, &integer_machine(alloc, 2)).err();
-    assert_eq!(rt; refused, Some(RegAllocError::Unsupported(Inst::new(1))));
+    same(&rt, refused, Some(RegAllocError::Unsupported(Inst::new(1))));
     Ok(())
 }
 
@@ -265,7 +264,7 @@ fn refuses_a_definition_fixed_to_a_clobber(rt: HostRuntime) -> Result<(), Fail> 
     insts.push(ret(alloc, &[reads(0)])?)?;
     let f = straight(alloc, 1, insts)?;
     let refused = run_fitting(&rt, alloc, &f, &integer_machine(alloc, 2)).err();
-    assert_eq!(rt; refused, Some(RegAllocError::Unsupported(Inst::new(0))));
+    same(&rt, refused, Some(RegAllocError::Unsupported(Inst::new(0))));
     Ok(())
 }
 
@@ -319,10 +318,13 @@ fn a_fixed_stack_slot_goes_to_a_slot_through_a_register(rt: HostRuntime) -> Resu
 #[test]
 fn an_early_definition_stands_apart_from_an_early_use(rt: HostRuntime) -> Result<(), Fail> {
     let alloc = rt.alloc();
-    let mut insts = Vec::new(alloc);
-    insts.push(op(alloc, &[def(0)])?)?;
-    insts.push(ret(alloc, &[Operand::reg_def_at_start(vreg(1)), reads(0)])?)?;
-    let f = straight(alloc, 2, insts)?;
+    let f = block(
+        &rt,
+        alloc,
+        2,
+        &[&[def(0)]],
+        &[Operand::reg_def_at_start(vreg(1)), reads(0)],
+    )?;
     let out = run_fitting(&rt, alloc, &f, &integer_machine(alloc, 2))?;
     assert_output(&rt, &out, &[reg(0), reg(1), reg(0)], &[], 0);
     Ok(())
@@ -333,11 +335,13 @@ fn an_early_definition_stands_apart_from_an_early_use(rt: HostRuntime) -> Result
 #[test]
 fn uses_in_any_place_spare_a_register(rt: HostRuntime) -> Result<(), Fail> {
     let alloc = rt.alloc();
-    let mut insts = Vec::new(alloc);
-    insts.push(op(alloc, &[def(0)])?)?;
-    insts.push(op(alloc, &[def(1)])?)?;
-    insts.push(ret(alloc, &[uses_any(0), uses_any(1)])?)?;
-    let f = straight(alloc, 2, insts)?;
+    let f = block(
+        &rt,
+        alloc,
+        2,
+        &[&[def(0)], &[def(1)]],
+        &[uses_any(0), uses_any(1)],
+    )?;
     let env = machine_with_slot(alloc, 2, preg(32), None)?;
     let out = run_fitting(&rt, alloc, &f, &env)?;
     let edits = [after(1, reg(0), stack(0))];
@@ -352,13 +356,18 @@ fn uses_in_any_place_spare_a_register(rt: HostRuntime) -> Result<(), Fail> {
 #[test]
 fn a_use_that_keeps_its_register_counts(rt: HostRuntime) -> Result<(), Fail> {
     let alloc = rt.alloc();
-    let mut insts = Vec::new(alloc);
-    insts.push(op(alloc, &[def(0)])?)?;
-    insts.push(op(alloc, &[def(1)])?)?;
-    insts.push(op(alloc, &[def(2)])?)?;
-    insts.push(op(alloc, &[uses_any(0), uses_any(1), reads(2)])?)?;
-    insts.push(ret(alloc, &[reads(0)])?)?;
-    let f = straight(alloc, 3, insts)?;
+    let f = block(
+        &rt,
+        alloc,
+        3,
+        &[
+            &[def(0)],
+            &[def(1)],
+            &[def(2)],
+            &[uses_any(0), uses_any(1), reads(2)],
+        ],
+        &[reads(0)],
+    )?;
     let out = run_fitting(&rt, alloc, &f, &integer_machine(alloc, 2))?;
     let places = [reg(0), reg(1), reg(0), reg(1), stack(0), reg(0), reg(1)];
     let edits = [
@@ -373,12 +382,13 @@ fn a_use_that_keeps_its_register_counts(rt: HostRuntime) -> Result<(), Fail> {
 #[test]
 fn a_fixed_use_evicts_a_value_that_lives_on(rt: HostRuntime) -> Result<(), Fail> {
     let alloc = rt.alloc();
-    let mut insts = Vec::new(alloc);
-    insts.push(op(alloc, &[def(0)])?)?;
-    insts.push(op(alloc, &[def(1)])?)?;
-    insts.push(op(alloc, &[uses_fixed(1, 1)])?)?;
-    insts.push(ret(alloc, &[reads(0)])?)?;
-    let f = straight(alloc, 2, insts)?;
+    let f = block(
+        &rt,
+        alloc,
+        2,
+        &[&[def(0)], &[def(1)], &[uses_fixed(1, 1)]],
+        &[reads(0)],
+    )?;
     let out = run_fitting(&rt, alloc, &f, &integer_machine(alloc, 2))?;
     let edits = [after(0, reg(0), stack(0)), after(2, stack(0), reg(1))];
     assert_output(&rt, &out, &[reg(0), reg(1), reg(1), reg(1)], &edits, 1);

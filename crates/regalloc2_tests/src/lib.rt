@@ -5,6 +5,8 @@
 mod accepted;
 pub mod adversary;
 #[cfg(test)]
+mod asserts;
+#[cfg(test)]
 mod blocks;
 #[cfg(test)]
 mod calls;

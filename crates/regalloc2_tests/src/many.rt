@@ -2,6 +2,7 @@
 
 ghost use Rattle.std.specs.Prelude.{◌<◌};
 
+use super::asserts::same;
 use super::blocks::{def, reads, run_fitting, straight, vreg};
 use super::judged::{assert_places, assert_values};
 use super::kinds::{def_fixed, uses_any, uses_fixed, uses_stack};
@@ -82,7 +83,7 @@ fn a_long_block_of_every_kind(rt: HostRuntime) -> Result<(), Fail> {
     let f = straight(alloc, 8000, insts)?;
     let env = integer_machine(alloc, 8);
     let out = run_fitting(&rt, alloc, &f, &env)?;
-    assert_eq!(rt; out.allocs.len(), 22_000);
+    same(&rt, out.allocs.len(), 22_000);
     Ok(())
 }
 
@@ -106,7 +107,7 @@ fn wide_instructions(rt: HostRuntime) -> Result<(), Fail> {
     let f = straight(alloc, 10_000, insts)?;
     let env = integer_machine(alloc, 16);
     let out = run_fitting(&rt, alloc, &f, &env)?;
-    assert_eq!(rt; out.allocs.len(), 40_000);
-    assert_eq!(rt; out.num_spillslots, 10_000);
+    same(&rt, out.allocs.len(), 40_000);
+    same(&rt, out.num_spillslots, 10_000);
     Ok(())
 }

@@ -1,5 +1,6 @@
 //! Each growth of the allocator's calls, refused in turn.
 
+use super::asserts::{holds, same_at};
 use super::blocks::{run_fitting, run_with_ctx_fitting, spilling};
 use super::machines::integer_machine;
 use regalloc2::{Ctx, RegAllocError};
@@ -16,17 +17,17 @@ fn each_growth_of_a_run_is_refused(rt: HostRuntime) -> Result<(), Fail> {
         let alloc = Refusing::new(rt.alloc(), nth);
         let answer = run_fitting(&rt, &alloc, &f, &env).map(|output| output.num_spillslots);
         if !alloc.has_refused() {
-            assert_eq!(rt; answer, Ok(1), "met no refusal at {nth}");
+            same_at(&rt, nth, answer, Ok(1));
             has_ended = true;
             break;
         }
-        assert_eq!(rt; answer, Err(RegAllocError::Memory), "refused at {nth}");
+        same_at(&rt, nth, answer, Err(RegAllocError::Memory));
         let again = run_fitting(&rt, &alloc, &f, &env).map(|output| output.num_spillslots);
-        assert_eq!(rt; again, Ok(1), "with ample memory, after {nth}");
+        same_at(&rt, nth, again, Ok(1));
         refusals = refusals.wrapping_add(1);
     }
-    assert!(rt; has_ended);
-    assert!(rt; refusals > 0);
+    holds(&rt, has_ended);
+    holds(&rt, refusals > 0);
     Ok(())
 }
 
@@ -44,21 +45,21 @@ fn each_growth_of_a_run_into_a_context_is_refused(rt: HostRuntime) -> Result<(),
             |output| output.num_spillslots,
         );
         if !alloc.has_refused() {
-            assert_eq!(rt; answer, Ok(1), "met no refusal at {nth}");
+            same_at(&rt, nth, answer, Ok(1));
             has_ended = true;
             break;
         }
-        assert_eq!(rt; answer, Err(RegAllocError::Memory), "refused at {nth}");
-        assert_eq!(rt; ctx.output.num_spillslots, 7, "as before, at {nth}");
-        assert!(rt; ctx.output.allocs.is_empty(), "as before, at {nth}");
+        same_at(&rt, nth, answer, Err(RegAllocError::Memory));
+        same_at(&rt, nth, ctx.output.num_spillslots, 7);
+        same_at(&rt, nth, ctx.output.allocs.is_empty(), true);
         let again = run_with_ctx_fitting(&rt, &f, &env, &mut ctx).map(
             |output| output.num_spillslots,
         );
-        assert_eq!(rt; again, Ok(1), "with ample memory, after {nth}");
-        assert_eq!(rt; ctx.output.allocs.len(), 4, "after {nth}");
+        same_at(&rt, nth, again, Ok(1));
+        same_at(&rt, nth, ctx.output.allocs.len(), 4);
         refusals = refusals.wrapping_add(1);
     }
-    assert!(rt; has_ended);
-    assert!(rt; refusals > 0);
+    holds(&rt, has_ended);
+    holds(&rt, refusals > 0);
     Ok(())
 }

@@ -1,5 +1,6 @@
 //! What the plain program reads along paths: of outputs written by hand, and of outputs that are wrong.
 
+use super::asserts::{holds, same};
 use super::blocks::{reg, smallest, spilling, stack};
 use super::outputs::{after, before, fork, fork_output, loop_output, output, swapping_loop};
 use regalloc2::Output;
@@ -45,8 +46,8 @@ fn assert_reads(
         assert!(rt; false, "no path");
         return;
     };
-    assert_eq!(rt; found.source.as_slice(), source);
-    assert_eq!(rt; found.allocated.as_slice(), allocated);
+    same(rt, found.source.as_slice(), source);
+    same(rt, found.allocated.as_slice(), allocated);
 }
 
 #[test]
@@ -57,8 +58,8 @@ fn one_value_in_a_register(rt: HostRuntime) -> Result<(), Fail> {
     assert_reads(&rt, reads_of(&rt, alloc, &f, &out, &[])?, &[], &[]);
     let read = reads_of(&rt, alloc, &f, &out, &[ON])?;
     assert_reads(&rt, read, &[at(0)], &[at(0)]);
-    assert!(rt; reads_of(&rt, alloc, &f, &out, &[ON, ON])?.is_none());
-    assert!(rt; reads_of(&rt, alloc, &f, &out, &[FIRST])?.is_none());
+    holds(&rt, reads_of(&rt, alloc, &f, &out, &[ON, ON])?.is_none());
+    holds(&rt, reads_of(&rt, alloc, &f, &out, &[FIRST])?.is_none());
     Ok(())
 }
 
@@ -169,7 +170,10 @@ fn a_parameter_in_a_slot_of_its_own(rt: HostRuntime) -> Result<(), Fail> {
         let read = reads_of(&rt, alloc, &f, &out, &[Some(k), ON])?;
         assert_reads(&rt, read, &[at(0)], &[at(0)]);
     }
-    assert!(rt; reads_of(&rt, alloc, &f, &out, &[Some(2), ON])?.is_none());
+    holds(
+        &rt,
+        reads_of(&rt, alloc, &f, &out, &[Some(2), ON])?.is_none(),
+    );
     Ok(())
 }
 
