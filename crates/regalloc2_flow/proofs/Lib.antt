@@ -25,3 +25,4 @@ pub mod Needing
 pub mod Across
 pub mod Between
 pub mod Defined
+pub mod Backward
