@@ -1,4 +1,4 @@
--- At the last instruction, where nobody stands anywhere yet, placing operands pushes no move: what one operand does.
+-- At a block's last instruction, where nobody stands in a register, placing operands pushes no move: what one operand does.
 use Rattle.std.proofs.Common.{ℕ, ◌≡◌, ◌≢◌, ◌<◌, List, Bool, true, false, cond, refl, sym, ap, ◌∙◌, inl, inr, length}
 use Rattle.std.specs.Prelude.{Option, None, Some, not, ◌&&◌, ◌||◌}
 use Rattle.std.proofs.lemmas.Bool.{cases_eq}
@@ -9,7 +9,7 @@ use Rattle.regalloc2_names.specs.Operand.{OperandValue}
 use Rattle.regalloc2_names.specs.Place.{Place, NoPlace, InRegister, InSlot, is_place}
 use Rattle.regalloc2_function.specs.OutputValue.{MoveValue}
 use Rattle.regalloc2_function.specs.SourceRun.{is_def, is_late}
-use Rattle.regalloc2_flow.proofs.Cells.{is_place-same}
+use Rattle.regalloc2_flow.proofs.Cells.{is_place-same, is_place-other}
 use Rattle.regalloc2_fastalloc.specs.declared.turn.Turn.{Turn}
 use Rattle.regalloc2_fastalloc.specs.declared.turn.Positions.{Positions}
 use Rattle.regalloc2_fastalloc.specs.declared.choose.Wanted.TheVariants.{At}
@@ -26,6 +26,14 @@ pub record IsEmpty (t : Tables) : Type 0 where
   pub nowhere : (n : ℕ) → stood t.places n ≡ NoPlace
   pub nobody : (r : Register) → r.number < 64 → holder t.places r ≡ None
 
+-- nobody stands in a register
+pub record IsOutside (t : Tables) : Type 0 where
+  pub no_register : (n : ℕ) (r : Register) → stood t.places n ≡ InRegister r → ⊥
+  pub nobody : (r : Register) → r.number < 64 → holder t.places r ≡ None
+
+pub empty_outside : (t : Tables) → IsEmpty t → IsOutside t
+empty_outside t e = record { no_register = λ n r h. (let x : NoPlace ≡ InRegister r = sym (e.nowhere n) ∙ h in cc); nobody = e.nobody }
+
 -- two operands hold their registers at one time
 abbrev pub Overlap : Positions → Positions → Type 0
 Overlap p q = ((p.early && q.early) || (p.late && q.late)) ≡ true
@@ -35,14 +43,14 @@ pub data Asks (ops : List OperandValue) (there : List Place) (k : ℕ) (r : Regi
   claims : ClaimsFixed ops k r p → Asks ops there k r p
   chosen : at_place there k ≡ InRegister r → p ≡ positions_of (op_at ops k) → Asks ops there k r p
 
--- nothing was pushed; registers hold those who stand there, and are held, in the pass over late operands at both positions; who is defined stands nowhere
+-- nothing was pushed; registers hold those who stand there, and are held, in the pass over late operands at both positions; who is defined stands in none
 pub record Still (ops : List OperandValue) (pass : Bool) (edits : List (ℕ × MoveValue)) (u : Turn) (t : Tables) : Type 0 where
   pub edits_are : t.edits ≡ edits
   pub early : (r : Register) (v : VirtualRegister) → r.number < 64 → holder t.places r ≡ Some v → has_register u.early r ≡ false
   pub late : pass ≡ true → (r : Register) (v : VirtualRegister) → r.number < 64 → holder t.places r ≡ Some v → has_register u.late r ≡ false
   pub holds : (r : Register) (v : VirtualRegister) → r.number < 64 → holder t.places r ≡ Some v → stood t.places v.number ≡ InRegister r
   pub stands : (n : ℕ) (r : Register) → stood t.places n ≡ InRegister r → (r.number < 64) × ((v : VirtualRegister) × (v.number ≡ n) × (holder t.places r ≡ Some v))
-  pub away : (k : ℕ) → k < length ops → is_def (op_at ops k).kind ≡ true → stood t.places (op_at ops k).vreg.number ≡ NoPlace
+  pub away : (k : ℕ) (r : Register) → k < length ops → is_def (op_at ops k).kind ≡ true → stood t.places (op_at ops k).vreg.number ≡ InRegister r → ⊥
 
 -- the registers of the operands that aren't done are held, and nobody stands there; two of them that overlap have two registers
 pub record Awaiting (ops : List OperandValue) (done : ℕ → Type 0) (there : List Place) (u : Turn) (t : Tables) : Type 0 where
@@ -173,21 +181,27 @@ module _ (point : ℕ) (ops : List OperandValue) (pass : Bool) (edits : List (�
         origin = from;
       }
 
--- tables where the same vregs stand in the same places
+-- tables where the same vregs stand in the same registers
 pub record SamePlaces (old new : Tables) : Type 0 where
   pub edits : new.edits ≡ old.edits
-  pub stood_at : (n : ℕ) → stood new.places n ≡ stood old.places n
+  pub stood_at : (n : ℕ) (r : Register) → stood new.places n ≡ InRegister r → stood old.places n ≡ InRegister r
+  pub stands_at : (n : ℕ) (r : Register) → stood old.places n ≡ InRegister r → stood new.places n ≡ InRegister r
   pub held_by : (r : Register) → r.number < 64 → holder new.places r ≡ holder old.places r
 
 pub same_places : (old new : Tables) → new.places ≡ old.places → new.edits ≡ old.edits → SamePlaces old new
-same_places old new p e = record { edits = e; stood_at = λ n. ap (λ (x : PlacesValue). stood x n) p; held_by = λ r small. ap (λ (x : PlacesValue). holder x r) p }
+same_places old new p e = record {
+  edits = e;
+  stood_at = λ n r h. ap (λ (x : PlacesValue). stood x n) (sym p) ∙ h;
+  stands_at = λ n r h. ap (λ (x : PlacesValue). stood x n) p ∙ h;
+  held_by = λ r small. ap (λ (x : PlacesValue). holder x r) p;
+}
 
 unsent_nothing : (point : ℕ) (v : VirtualRegister) (ret b : Bool) (from to : Place) (t u : Turn) (old new : Tables) → ret ≡ true → Sends point v.class (not ret && b) from to t u old new → (u ≡ t) × (new ≡ old)
 unsent_nothing point v ret b from to t u old new yes_ret (sent made crosses) = absurd (let x : (not true && b) ≡ true = ap (λ r. not r && b) (sym yes_ret) ∙ made in cc)
 unsent_nothing point v ret b from to t u old new yes_ret (unsent made eu en) = (eu, en)
 
--- a definition of a return, whose vreg stands nowhere, changes nothing
-pub defines_calm : (point : ℕ) (v : VirtualRegister) (ret : Bool) (p : Place) (t u : Turn) (old new : Tables) → ret ≡ true → Defines point v ret p t u old new → stood old.places v.number ≡ NoPlace → (u ≡ t) × SamePlaces old new
+-- a definition of a return, whose vreg stands in no register, changes no register
+pub defines_calm : (point : ℕ) (v : VirtualRegister) (ret : Bool) (p : Place) (t u : Turn) (old new : Tables) → ret ≡ true → Defines point v ret p t u old new → ((r : Register) → stood old.places v.number ≡ InRegister r → ⊥) → (u ≡ t) × SamePlaces old new
 defines_calm point v ret p t u old new yes_ret d nowhere =
     let a = unsent_nothing point v ret _ p (stood old.places v.number) t d.turn d.left d.middle yes_ret d.awaited in
     let b = unsent_nothing point v ret _ p _ d.turn u d.middle new yes_ret d.stored in
@@ -195,10 +209,15 @@ defines_calm point v ret p t u old new yes_ret d nowhere =
       b.0 ∙ a.0,
       record {
         edits = ap (λ (x : Tables). x.edits) same ∙ d.edits;
-        stood_at = λ n. ap (λ (x : Tables). stood x.places n) same ∙ elim (cases_eq n v.number) [
-          | inl e ↦ (ap (stood d.left.places) e ∙ d.settles.here ∙ sym nowhere ∙ ap (stood old.places) (sym e))
-          | inr ne ↦ d.settles.others n ne
+        stood_at = λ n r h. (let there : stood d.left.places n ≡ InRegister r = ap (λ (x : Tables). stood x.places n) (sym same) ∙ h in elim (cases_eq n v.number) [
+          | inl e ↦ (let x : NoPlace ≡ InRegister r = sym d.settles.here ∙ ap (stood d.left.places) (sym e) ∙ there in absurd cc)
+          | inr ne ↦ (sym (d.settles.others n ne) ∙ there)
+        ]);
+        stands_at = λ n r h. ap (λ (x : Tables). stood x.places n) same ∙ elim (cases_eq n v.number) [
+          | inl e ↦ absurd (nowhere r (ap (stood old.places) (sym e) ∙ h))
+          | inr ne ↦ (d.settles.others n ne ∙ h)
         ];
-        held_by = λ r small. ap (λ (x : Tables). holder x.places r) same ∙ d.settles.holders r small ∙ ap (λ (x : Place). cond (is_place x (InRegister r)) None (holder old.places r)) nowhere;
+        held_by = λ r small. ap (λ (x : Tables). holder x.places r) same ∙ d.settles.holders r small
+            ∙ ap (λ (b : Bool). cond b None (holder old.places r)) (is_place-other (stood old.places v.number) (InRegister r) (nowhere r));
       },
     )

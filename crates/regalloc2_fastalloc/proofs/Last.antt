@@ -1,4 +1,4 @@
--- At the last instruction, where nobody stands anywhere yet, placing operands pushes no move.
+-- At a block's last instruction, where nobody stands in a register, placing operands pushes no move.
 use Rattle.std.proofs.Common.{ℕ, ◌≡◌, ◌+◌, ◌<◌, ◌≤◌, List, Bool, true, false, refl, sym, ap, ◌∙◌, ◌⊎◌, inl, inr, subst, arith, length}
 use Rattle.std.specs.Prelude.{not, ◌&&◌, ◌||◌}
 use Rattle.std.proofs.lemmas.Bool.{cases_Bool}
@@ -17,7 +17,7 @@ use Rattle.regalloc2_fastalloc.specs.declared.turn.Positions.{Positions}
 use Rattle.regalloc2_fastalloc.specs.Tables.{stood, holder}
 use Rattle.regalloc2_fastalloc.specs.Steps.{Tables, op_at, positions_of, Clears, empty, cleared, ClearsBut, own as its_own, others, ClearsFixed, none_cleared, not_fixed, of_fixed, of_reuse, ClearsAll, none_left, one_more, PlacesAt, none_placed, of_other, one_placed, ClaimsFixed, own, named, Allocates}
 use Rattle.regalloc2_fastalloc.proofs.Filled.{at_place, IsTame, not_both, reads_not_def}
-use Rattle.regalloc2_fastalloc.proofs.Calm.{IsEmpty, Asks, claims, chosen, later_none, none_some}
+use Rattle.regalloc2_fastalloc.proofs.Calm.{IsEmpty, IsOutside, empty_outside, Asks, claims, chosen, Still, later_none, none_some}
 use Rattle.regalloc2_fastalloc.proofs.Quieting.{NextDone, Calm, one_calm, awaiting_on, early_overlap, late_overlap}
 
 either_way : (b : Bool) → (b || true) ≡ true
@@ -60,31 +60,31 @@ claim_small Known ops tame k r p less (own allocated is e) = (let c : IsConstrai
 claim_small Known ops tame k r p less (named n reuses within is e) = (let c : IsConstraintOf (op_at ops n).vreg.class (FixedReg r) = subst (IsConstraintOf (op_at ops n).vreg.class) is (tame.constraint n within) in c.0)
 
 -- where nobody stands, nobody is moved
-clears_empty : (point : ℕ) (r : Register) (t u : Turn) (old new : Tables) → Clears point r t u old new → IsEmpty old → (u ≡ t) × (new ≡ old)
+clears_empty : (point : ℕ) (r : Register) (t u : Turn) (old new : Tables) → Clears point r t u old new → IsOutside old → (u ≡ t) × (new ≡ old)
 clears_empty point r t u old new (empty none eu en) e = (eu, en)
 clears_empty point r t u old new (cleared v s m small held gives settles edits machine crosses) e = absurd (none_some (holder old.places r) v (e.nobody r small) held)
 
-clears_but_empty : (point : ℕ) (r : Register) (v : VirtualRegister) (t u : Turn) (old new : Tables) → ClearsBut point r v t u old new → IsEmpty old → (u ≡ t) × (new ≡ old)
+clears_but_empty : (point : ℕ) (r : Register) (v : VirtualRegister) (t u : Turn) (old new : Tables) → ClearsBut point r v t u old new → IsOutside old → (u ≡ t) × (new ≡ old)
 clears_but_empty point r v t u old new (its_own w held same eu en) e = (eu, en)
 clears_but_empty point r v t u old new (others not_own clears) e = clears_empty point r t u old new clears e
 
-fixed_empty : (point : ℕ) (ops : List OperandValue) (t : Turn) (old : Tables) → IsEmpty old → (k : ℕ) (u : Turn) (m : Tables) → ClearsFixed point ops t old k u m → (u ≡ t) × (m ≡ old)
+fixed_empty : (point : ℕ) (ops : List OperandValue) (t : Turn) (old : Tables) → IsOutside old → (k : ℕ) (u : Turn) (m : Tables) → ClearsFixed point ops t old k u m → (u ≡ t) × (m ≡ old)
 fixed_empty point ops t old e k u m none_cleared = (refl, refl)
 fixed_empty point ops t old e k u m (not_fixed j x s prev a b) = fixed_empty point ops t old e j u m prev
 fixed_empty point ops t old e k u m (of_fixed j r x w s n prev is clears) =
     let p = fixed_empty point ops t old e j x s prev in
-    let c = clears_but_empty point r (op_at ops j).vreg x u s m clears (subst IsEmpty (sym p.1) e) in
+    let c = clears_but_empty point r (op_at ops j).vreg x u s m clears (subst IsOutside (sym p.1) e) in
     (c.0 ∙ p.0, c.1 ∙ p.1)
 fixed_empty point ops t old e k u m (of_reuse j l r x w s n prev a b c clears) =
     let p = fixed_empty point ops t old e j x s prev in
-    let q = clears_empty point r x u s m clears (subst IsEmpty (sym p.1) e) in
+    let q = clears_empty point r x u s m clears (subst IsOutside (sym p.1) e) in
     (q.0 ∙ p.0, q.1 ∙ p.1)
 
-all_empty : (point : ℕ) (rs : List Register) (t u : Turn) (old new : Tables) → ClearsAll point rs t old u new → IsEmpty old → (u ≡ t) × (new ≡ old)
+all_empty : (point : ℕ) (rs : List Register) (t u : Turn) (old new : Tables) → ClearsAll point rs t old u new → IsOutside old → (u ≡ t) × (new ≡ old)
 all_empty point rs t u old new (none_left x m) e = (refl, refl)
 all_empty point rs t u old new (one_more r rest x y w a m b clears more) e =
     let p = clears_empty point r t y old m clears e in
-    let q = all_empty point rest y u m new more (subst IsEmpty (sym p.1) e) in
+    let q = all_empty point rest y u m new more (subst IsOutside (sym p.1) e) in
     (q.0 ∙ p.0, q.1 ∙ p.1)
 
 -- which operands are done in the pass over late operands, and in that over early ones
@@ -98,7 +98,7 @@ is_early : (b : Bool) → (b ≡ true → ⊥) → b ≡ false
 is_early true h = absurd (h refl)
 is_early false h = refl
 
-module _ (Known : VirtualRegister → Type 0) (ops : List OperandValue) (tame : IsTame Known ops) (i : ℕ) (is_ret : Bool) (ret : is_ret ≡ true) (edits : List (ℕ × MoveValue)) where
+module _ (Known : VirtualRegister → Type 0) (ops : List OperandValue) (tame : IsTame Known ops) (i : ℕ) (is_ret : Bool) (ret : (k : ℕ) → k < length ops → is_def (op_at ops k).kind ≡ true → is_ret ≡ true) (edits : List (ℕ × MoveValue)) where
   -- fewer are awaited
   fewer : (pass : Bool) (D E : ℕ → Type 0) (there : List Place) (u : Turn) (t : Tables) → ((j : ℕ) → j < length ops → D j → E j) → Calm Known ops tame i is_ret ret pass edits D there u t → Calm Known ops tame i is_ret ret pass edits E there u t
   fewer pass D E there u t forth c = (
@@ -177,20 +177,22 @@ false_or : (a b : Bool) → b ≡ false → (a && b) ≡ false
 false_or true b h = h
 false_or false b h = refl
 
-pub calm_last : (Known : VirtualRegister → Type 0) (i : ℕ) (inst : InstValue) (blank places : List Place) (old new : Tables) → IsTame Known inst.operands → inst.is_ret ≡ true → (a : Allocates i inst blank places old new)
-    → IsEmpty old → a.after_early.edits ≡ old.edits
-calm_last Known i inst blank places old new tame ret a bare =
+-- nothing was pushed when all operands are placed, and who stands in a register holds it
+pub still_end : (Known : VirtualRegister → Type 0) (i : ℕ) (inst : InstValue) (blank places : List Place) (old new : Tables) → IsTame Known inst.operands
+    → ((k : ℕ) → k < length inst.operands → is_def (op_at inst.operands k).kind ≡ true → inst.is_ret ≡ true) → (a : Allocates i inst blank places old new)
+    → IsOutside old → Still inst.operands false old.edits a.early a.after_early
+still_end Known i inst blank places old new tame ret a bare =
     let ops : List OperandValue = inst.operands in
     let f = fixed_empty (after i) ops a.held old bare (length ops) a.cleared a.after_fixed a.fixed in
-    let q = all_empty (after i) (registers_of inst.clobbers) a.cleared a.quiet a.after_fixed a.after_clobbers a.clobbers (subst IsEmpty (sym f.1) bare) in
+    let q = all_empty (after i) (registers_of inst.clobbers) a.cleared a.quiet a.after_fixed a.after_clobbers a.clobbers (subst IsOutside (sym f.1) bare) in
     let begin : Calm Known ops tame i inst.is_ret ret true old.edits (LateDone ops 0) blank a.held old = (
       record {
         edits_are = refl;
         early = λ r v small held. absurd (none_some (holder old.places r) v (bare.nobody r small) held);
         late = λ yes_pass r v small held. absurd (none_some (holder old.places r) v (bare.nobody r small) held);
         holds = λ r v small held. absurd (none_some (holder old.places r) v (bare.nobody r small) held);
-        stands = λ n r at. absurd (no_place_there (stood old.places n) r (bare.nowhere n) at);
-        away = λ k less def. bare.nowhere (op_at ops k).vreg.number;
+        stands = λ n r at. absurd (bare.no_register n r at);
+        away = λ k r less def at. bare.no_register (op_at ops k).vreg.number r at;
       },
       record {
         held_early = λ k r p less not_d asks early. a.holds.early r ∙ a.reserves.held_early k r p less (first k r p asks) early;
@@ -207,8 +209,18 @@ calm_last Known i inst blank places old new tame ret a bare =
     (subst (Calm Known ops tame i inst.is_ret ret true old.edits (LateDone ops 0) blank a.held) (sym (q.1 ∙ f.1)) begin) in
     let l = late_calm Known ops tame i inst.is_ret ret old.edits blank a.quiet a.after_clobbers start (length ops) a.half a.late a.after_late a.lates (omega arith) in
     let e = early_calm Known ops tame i inst.is_ret ret old.edits a.half a.late a.after_late (other_pass Known ops tame i inst.is_ret ret old.edits a.half a.late a.after_late l) (length ops) places a.early a.after_early a.earlies (omega arith) in
-    e.0.edits_are
+    e.0
   where
     first : (k : ℕ) (r : Register) (p : Positions) → Asks inst.operands blank k r p → ClaimsFixed inst.operands k r p
     first k r p (claims c) = c
     first k r p (chosen at e) = absurd (no_place_there (at_place blank k) r (a.no_places k) at)
+
+pub calm_end : (Known : VirtualRegister → Type 0) (i : ℕ) (inst : InstValue) (blank places : List Place) (old new : Tables) → IsTame Known inst.operands
+    → ((k : ℕ) → k < length inst.operands → is_def (op_at inst.operands k).kind ≡ true → inst.is_ret ≡ true) → (a : Allocates i inst blank places old new)
+    → IsOutside old → a.after_early.edits ≡ old.edits
+calm_end Known i inst blank places old new tame ret a bare = (still_end Known i inst blank places old new tame ret a bare).edits_are
+
+-- and where nobody stands anywhere, at a return
+pub calm_last : (Known : VirtualRegister → Type 0) (i : ℕ) (inst : InstValue) (blank places : List Place) (old new : Tables) → IsTame Known inst.operands → inst.is_ret ≡ true → (a : Allocates i inst blank places old new)
+    → IsEmpty old → a.after_early.edits ≡ old.edits
+calm_last Known i inst blank places old new tame ret a bare = calm_end Known i inst blank places old new tame (λ k less def. ret) a (empty_outside old bare)

@@ -58,3 +58,4 @@ pub mod Turning
 pub mod Turns
 pub mod Walking
 pub mod Flowing
+pub mod Growing

@@ -1,4 +1,4 @@
--- At the last instruction, where nobody stands anywhere yet, placing operands pushes no move: the passes.
+-- At a block's last instruction, where nobody stands in a register, placing operands pushes no move: the passes.
 use Rattle.std.proofs.Common.{ℕ, ◌≡◌, ◌≢◌, ◌<◌, List, Bool, true, false, cond, refl, sym, ap, ◌∙◌, ◌⊎◌, inl, inr, subst, arith, length, set, get_or-set_same}
 use Rattle.std.specs.Prelude.{Option, None, Some, ◌&&◌, ◌||◌}
 use Rattle.std.proofs.lemmas.Bool.{cases_eq, cases_Bool}
@@ -28,9 +28,9 @@ still_on ops pass edits t u old new later same s = record {
   edits_are = same.edits ∙ s.edits_are;
   early = λ r v small held. later.early r (s.early r v small (sym (same.held_by r small) ∙ held));
   late = λ yes_pass r v small held. later.late r (s.late yes_pass r v small (sym (same.held_by r small) ∙ held));
-  holds = λ r v small held. same.stood_at v.number ∙ s.holds r v small (sym (same.held_by r small) ∙ held);
-  stands = λ n r at. (let x = s.stands n r (sym (same.stood_at n) ∙ at) in (x.0, (x.1.0, x.1.1, same.held_by r x.0 ∙ x.1.2)));
-  away = λ k less def. same.stood_at (op_at ops k).vreg.number ∙ s.away k less def;
+  holds = λ r v small held. same.stands_at v.number r (s.holds r v small (sym (same.held_by r small) ∙ held));
+  stands = λ n r at. (let x = s.stands n r (same.stood_at n r at) in (x.0, (x.1.0, x.1.1, same.held_by r x.0 ∙ x.1.2)));
+  away = λ k r less def at. s.away k r less def (same.stood_at (op_at ops k).vreg.number r at);
 }
 
 -- and where a vreg has come to stand
@@ -64,7 +64,7 @@ settled_still ops pass edits v p t u old new later z pushed nowhere mine other s
         let b : is_place (stood old.places v.number) (InRegister r) ≡ false = ap (λ (y : Place). is_place y (InRegister r)) nowhere in
         (x.0, (x.1.0, x.1.1, z.holders r x.0 ∙ rw (a, b) x.1.2)))
   ];
-  away = λ k less def. z.others (op_at ops k).vreg.number (other k less def) ∙ s.away k less def;
+  away = λ k r less def at. s.away k r less def (sym (z.others (op_at ops k).vreg.number (other k less def)) ∙ at);
 }
 
 -- a register of whom nobody comes to stand there
@@ -218,7 +218,7 @@ use_vreg o (InSlot n) = refl
 free_at : (t : Turn) (p q : Positions) (r : Register) → p ≡ q → IsFreeAt t p r → IsFreeAt t q r
 free_at t p q r e h = subst (λ (x : Positions). IsFreeAt t x r) e h
 
-module _ (Known : VirtualRegister → Type 0) (ops : List OperandValue) (tame : IsTame Known ops) (i : ℕ) (is_ret : Bool) (ret : is_ret ≡ true) (pass : Bool) (edits : List (ℕ × MoveValue)) where
+module _ (Known : VirtualRegister → Type 0) (ops : List OperandValue) (tame : IsTame Known ops) (i : ℕ) (is_ret : Bool) (ret : (k : ℕ) → k < length ops → is_def (op_at ops k).kind ≡ true → is_ret ≡ true) (pass : Bool) (edits : List (ℕ × MoveValue)) where
   -- an operand is placed, and holds its register at a position of the pass at least
   abbrev pub Reaches : Positions → Type 0
   Reaches p = (p.early ≡ true) ⊎ ((pass ≡ true) × (p.late ≡ true))
@@ -247,11 +247,12 @@ module _ (Known : VirtualRegister → Type 0) (ops : List OperandValue) (tame : 
       let g = gets_calm (after i) ops pass edits (def_placing o) p t d.turn old d.middle d.gets c.0
       (λ q wants. c.1.nobody k q (positions_of o) less next.before_it (claims (own (tame.allocated k less def) (asked_fixed o.constraint q wants) refl)))
       (not_free t old (positions_of o) reach c.0) in
-      let z = defines_calm (after i) o.vreg is_ret p d.turn u d.middle new ret d.defines (ap (λ (x : PlacesValue). stood x o.vreg.number) g.places ∙ c.0.away k less def) in
+      let z = defines_calm (after i) o.vreg is_ret p d.turn u d.middle new (ret k less def) d.defines (λ q at. c.0.away k q less def (ap (λ (x : PlacesValue). stood x o.vreg.number) (sym g.places) ∙ at)) in
       let later : Later t u = subst (Later t) (sym z.0) g.later in
       let both : SamePlaces old new = record {
         edits = z.1.edits ∙ g.edits;
-        stood_at = λ n. z.1.stood_at n ∙ ap (λ (x : PlacesValue). stood x n) g.places;
+        stood_at = λ n r h. ap (λ (x : PlacesValue). stood x n) (sym g.places) ∙ z.1.stood_at n r h;
+        stands_at = λ n r h. z.1.stands_at n r (ap (λ (x : PlacesValue). stood x n) g.places ∙ h);
         held_by = λ r small. z.1.held_by r small ∙ ap (λ (x : PlacesValue). holder x r) g.places;
       } in
       same_calm D E k p here t u old new next later both c
@@ -268,11 +269,12 @@ module _ (Known : VirtualRegister → Type 0) (ops : List OperandValue) (tame : 
       let none : (q : Register) → (reuse_placing o m).wanted ≡ At q → holder old.places q ≡ None = λ q wants. c.1.nobody k q (record { early = false; late = true }) less next.before_it (mine q wants) in
       let taken : (q : Register) (v : VirtualRegister) → q.number < 64 → holder old.places q ≡ Some v → IsFreeAt t (reuse_placing o m).positions q → ⊥ = λ q v small held f. not_both (has_register t.early q) (f.early refl) (c.0.early q v small held) in
       let g = gets_calm (after i) ops pass edits (reuse_placing o m) p t d.turn old d.middle d.gets c.0 none taken in
-      let z = defines_calm (after i) o.vreg is_ret p d.turn u d.middle new ret d.defines (ap (λ (x : PlacesValue). stood x o.vreg.number) g.places ∙ c.0.away k less def) in
+      let z = defines_calm (after i) o.vreg is_ret p d.turn u d.middle new (ret k less def) d.defines (λ q at. c.0.away k q less def (ap (λ (x : PlacesValue). stood x o.vreg.number) (sym g.places) ∙ at)) in
       let later : Later t u = subst (Later t) (sym z.0) g.later in
       let both : SamePlaces old new = record {
         edits = z.1.edits ∙ g.edits;
-        stood_at = λ x. z.1.stood_at x ∙ ap (λ (y : PlacesValue). stood y x) g.places;
+        stood_at = λ x r h. ap (λ (y : PlacesValue). stood y x) (sym g.places) ∙ z.1.stood_at x r h;
+        stands_at = λ x r h. z.1.stands_at x r (ap (λ (y : PlacesValue). stood y x) g.places ∙ h);
         held_by = λ r small. z.1.held_by r small ∙ ap (λ (x : PlacesValue). holder x r) g.places;
       } in
       let long_enough : (q : Register) → p ≡ InRegister q → (q.number < 64) × (holder old.places q ≡ None) × ((j : ℕ) (w : Positions) → j < length ops → (E j → ⊥) → j ≢ n → Asks ops here j q w → w.early ≡ true → ⊥) = λ q is. by_origin q is g.origin none taken mine in (
@@ -296,7 +298,7 @@ module _ (Known : VirtualRegister → Type 0) (ops : List OperandValue) (tame : 
           → ((q : Register) (v : VirtualRegister) → q.number < 64 → holder old.places q ≡ Some v → IsFreeAt t (reuse_placing (op_at ops k) (op_at ops n)).positions q → ⊥)
           → ((q : Register) → (reuse_placing (op_at ops k) (op_at ops n)).wanted ≡ At q → Asks ops here k q (record { early = false; late = true }))
           → (q.number < 64) × (holder old.places q ≡ None) × ((j : ℕ) (w : Positions) → j < length ops → (E j → ⊥) → j ≢ n → Asks ops here j q w → w.early ≡ true → ⊥)
-      by_origin q is (stood_there there real) none taken mine = absurd (real (sym there ∙ c.0.away k less def))
+      by_origin q is (stood_there there real) none taken mine = absurd (c.0.away k q less def (there ∙ is))
       by_origin q is (asked r at wants) none taken mine =
           let same : r ≡ q = one_register r q (sym at ∙ is) in
           let asks : (reuse_placing (op_at ops k) (op_at ops n)).wanted ≡ At q = wants ∙ ap At same in
