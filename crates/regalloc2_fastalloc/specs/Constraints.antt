@@ -12,7 +12,7 @@ use Rattle.regalloc2_names.specs.RegisterSet.{has_register}
 use Rattle.regalloc2_names.specs.Operand.{OperandValue}
 use Rattle.regalloc2_function.specs.FunctionValue.{FunctionValue, InstValue, inst_at}
 use Rattle.regalloc2_function.specs.Machine.{MachineValue}
-use Rattle.regalloc2_function.specs.SourceRun.{is_reading}
+use Rattle.regalloc2_function.specs.SourceRun.{is_def, is_reading}
 use Rattle.regalloc2_function.specs.WellFormed.{MayBeReused, ReusesAreSound, FixedAvoidClobbers}
 use Rattle.regalloc2_fastalloc.specs.Steps.{op_at}
 
@@ -50,6 +50,10 @@ IsUnlimited o = (n : ℕ) → o.constraint ≡ Limit n → ⊥
 
 abbrev pub AreUnlimited : InstValue → Type 0
 AreUnlimited i = (k : ℕ) → k < length i.operands → IsUnlimited (op_at i.operands k)
+
+-- a branch defines nothing
+abbrev pub BranchDefinesNothing : InstValue → Type 0
+BranchDefinesNothing i = i.is_branch ≡ true → (k : ℕ) → k < length i.operands → is_def (op_at i.operands k).kind ≡ false
 
 -- the first instruction that fails a test
 pub record IsFirst (f : FunctionValue) (P : InstValue → Type 0) (i : ℕ) : Type 0 where

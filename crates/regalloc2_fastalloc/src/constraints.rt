@@ -1,4 +1,4 @@
-//! The tests of operands' constraints: reuses, fixed registers beside clobbers, and limits.
+//! The tests of operands' constraints: reuses, fixed registers beside clobbers, limits, and definitions on branches.
 
 ghost use Rattle.std.specs.Prelude.{ℕ, ◌≡◌, ◌<◌, ◌⊎◌, ◌↔◌, All, length, true, false, IsTrue, IsOk, OnOk, IfSome, IfNone, IfErr, slice_index_or};
 ghost use Rattle.regalloc2_function.specs.FunctionValue.{inst_at};
@@ -7,7 +7,8 @@ ghost use Rattle.regalloc2_function.specs.WellFormed.{MayBeReused, ReusesAreSoun
 ghost use Rattle.regalloc2_names.specs.Packing.{IsConstraintOf};
 ghost use Rattle.regalloc2_fastalloc.specs.Steps.{op_at};
 ghost use Rattle.regalloc2_fastalloc.specs.Profile.{IsTaken, AreTaken};
-ghost use Rattle.regalloc2_fastalloc.specs.Constraints.{IsReused, IsTarget, IsSoundReuse, AreApart, AvoidsClobbers, IsClear, IsUnlimited, AreUnlimited, IsFirst, IsFixedFault};
+ghost use Rattle.regalloc2_fastalloc.specs.Constraints.{IsReused, IsTarget, IsSoundReuse, AreApart, AvoidsClobbers, IsClear, IsUnlimited, AreUnlimited, BranchDefinesNothing, IsFirst, IsFixedFault};
+ghost use Rattle.regalloc2_function.specs.SourceRun.{is_def};
 
 use super::registers::allocatable_of;
 use regalloc2_function::{Function, MachineEnv};
@@ -263,6 +264,49 @@ pub fn test_limits<F: Function>(f: &F) -> Result<(), RegAllocError>
     for i in 0..f.num_insts() {
         let inst = Inst::new(i);
         if !has_no_limit(f, inst) {
+            return Err(RegAllocError::Unsupported(inst));
+        }
+    }
+    Ok(())
+}
+
+/// Whether an operand defines its vreg.
+fn defines(operand: Operand) -> bool
+    ensures { result ≡ is_def operand.kind }
+{
+    operand.kind() == OperandKind::Def
+}
+
+/// Whether no operand defines.
+fn define_nothing(operands: &[Operand]) -> bool
+    ensures { IsTrue result ↔ ((k : ℕ) → k < length operands.now → is_def (op_at operands.now k).kind ≡ false) }
+{
+    for k in 0..operands.len() {
+        if defines(operands[k]) {
+            return false;
+        }
+    }
+    true
+}
+
+/// Whether an instruction is no branch, or defines nothing.
+fn is_sound_branch<F: Function>(f: &F, inst: Inst) -> bool
+    requires { inst < length (F.function f.now).insts }
+    ensures { IsTrue result ↔ BranchDefinesNothing (inst_at (F.function f.now) inst) }
+{
+    !f.is_branch(inst) || define_nothing(f.inst_operands(inst))
+}
+
+/// Tests that no branch has a definition. Else the first one that has is refused by `Unsupported`.
+///
+/// A value that a branch defines would have to be moved behind it. Upstream's fast allocator stops the program there.
+pub fn test_branches<F: Function>(f: &F) -> Result<(), RegAllocError>
+    ensures ok { IsOk result ↔ ((i : ℕ) → i < length (F.function f.now).insts → BranchDefinesNothing (inst_at (F.function f.now) i)) }
+    ensures first { IfErr result (λ e. (i : ℕ) × (e ≡ RegAllocError.Unsupported i) × IsFirst (F.function f.now) (BranchDefinesNothing) i) }
+{
+    for i in 0..f.num_insts() {
+        let inst = Inst::new(i);
+        if !is_sound_branch(f, inst) {
             return Err(RegAllocError::Unsupported(inst));
         }
     }
