@@ -26,3 +26,4 @@ pub mod Across
 pub mod Between
 pub mod Defined
 pub mod Backward
+pub mod Order
