@@ -25,3 +25,6 @@ pub mod Needing
 pub mod Across
 pub mod Between
 pub mod Defined
+pub mod Splitting
+pub mod Silent
+pub mod Keeping
