@@ -141,7 +141,7 @@ defines_not (o ∷ os) v h =
     first_not (is_def o.kind) o os v refl parts.0 (defines_not os v parts.1)
 
 -- a place that no item writes may be relied on and is owed, where none writes v
-from_fresh : (v : VirtualRegister) (L : List Item) (E R : Place → Type 0) (s : Source) (c : Cells) (n : ℕ) → ((p : Place) → R p → Untouched p L) → writes v L ≡ false → ((p : Place) → R p → c p ≡ s v) →
+pub from_fresh : (v : VirtualRegister) (L : List Item) (E R : Place → Type 0) (s : Source) (c : Cells) (n : ℕ) → ((p : Place) → R p → Untouched p L) → writes v L ≡ false → ((p : Place) → R p → c p ≡ s v) →
     CarriesFrom v E L s c n → CarriesFrom v (λ p. E p ⊎ R p) L s c n
 unfolding CarriesFrom Untouched writes
 from_fresh v [] E R s c n u w h g = λ p x. elim x [ inl y ↦ g p y | inr y ↦ h p y ]

@@ -27,3 +27,6 @@ pub mod Between
 pub mod Defined
 pub mod Backward
 pub mod Order
+pub mod Splitting
+pub mod Silent
+pub mod Keeping

@@ -16,7 +16,7 @@ use Rattle.regalloc2_function.specs.Faithful.{ReadsAgree}
 use Rattle.regalloc2_function.specs.Held.{IsReached}
 use Rattle.regalloc2_flow.specs.Listing.{op_at, no_operand, items_by, items_from, block_items, IsReadIn}
 use Rattle.regalloc2_flow.specs.Carry.{CarriesFrom, Carries, Undefined}
-use Rattle.regalloc2_flow.specs.Blocks.{names, HasEdge, target_at, IsSound, IsUnwritten, IsUsed, IsExcused, ExcusedAreSilent, StandsBefore, StandsAfter, BlockCarries, BlocksAgree, BlocksAgreeByPoints}
+use Rattle.regalloc2_flow.specs.Blocks.{names, HasEdge, target_at, IsSound, IsUnwritten, IsUsed, IsUsedIn, IsWantedBehind, IsExcused, ExcusedAreSilent, StandsBefore, StandsAfter, BlockCarries, BlocksAgree, BlocksAgreeByPoints}
 use Rattle.regalloc2_flow.proofs.Runs.{after_defs-other}
 use Rattle.regalloc2_flow.proofs.Passing.{passed-other, passed-passes, passes_some, passes_contains}
 use Rattle.regalloc2_flow.proofs.Onwards.{onwards, onwards-block, onwards-inst, onwards-path, onwards-source}
@@ -33,6 +33,29 @@ live_used : (f : FunctionValue) (v : VirtualRegister) (b : ℕ) → Live f v b �
 live_used f v b (read u r) = inl (b, r)
 live_used f v b (passed_on u k edge c) = inr (b, k, edge, c)
 live_used f v b (onward u k edge aside l) = live_used f v (target_at f b k) l
+
+-- some block of the function uses v and does not write it
+record UsedSomewhere (f : FunctionValue) (v : VirtualRegister) : Type 0 where
+  block : ℕ
+  within : block < length f.blocks
+  unwritten : IsUnwritten f block v
+  used : IsUsedIn f block v
+
+live_somewhere : (f : FunctionValue) → IsSound f → (v : VirtualRegister) (b : ℕ) → b < length f.blocks → Live f v b → UsedSomewhere f v
+live_somewhere f ok v b lt (read u r) = record { block = b; within = lt; unwritten = u; used = inl r }
+live_somewhere f ok v b lt (passed_on u k edge c) = record { block = b; within = lt; unwritten = u; used = inr (k, edge, c) }
+live_somewhere f ok v b lt (onward u k edge aside l) = live_somewhere f ok v (target_at f b k) (ok.targets b k edge) l
+
+-- what is live at a successor is wanted behind the block
+live_wanted : (f : FunctionValue) → IsSound f → (v : VirtualRegister) (b k : ℕ) → HasEdge f b k → Live f v (target_at f b k) → IsWantedBehind f b v
+live_wanted f ok v b k edge l =
+    let u = live_somewhere f ok v (target_at f b k) (ok.targets b k edge) l in (
+      (k, edge),
+      elim (cases_eq u.block b) [
+        | inl e ↦ inl (subst (λ c. IsUnwritten f c v) e u.unwritten)
+        | inr ne ↦ inr (u.block, u.within, ne, u.unwritten, u.used)
+      ],
+    )
 
 -- a path at the beginning of a block
 record Entered (f : FunctionValue) (b : ℕ) (ws : List Way) : Type 0 where
@@ -288,7 +311,7 @@ module _ (f : FunctionValue) (ok : IsSound f) (written : IsWrittenFirst f) where
                     absurd (live_not_excused a v r.start (block_within ws path.0) r.entered (onward (λ i le lt. ok.no_definition (target_at f a j) i v is) k edge not l) (j, d, ok.no_critical_edge a k j edge d other, is)))
                 | inr n ↦ n
               ] in
-              ends k ws r path.1.0 v (live_used f v (target_at f a k) l) (λ n. onward n k edge not l) p (inl (none, s)) ∙ sym (kept_on k ws v not))
+              ends k ws r path.1.0 v (live_used f v (target_at f a k) l) (λ n. onward n k edge not l) p (inl (none, live_wanted f ok v a k edge l, s)) ∙ sym (kept_on k ws v not))
         ]
 
     rest_on : (ws : List Way) → IsPath f ws → Rest ws

@@ -9,7 +9,7 @@ use Rattle.regalloc2_function.specs.SourceRun.{arguments_at}
 use Rattle.regalloc2_function.specs.AllocatedRun.{Cells, after_moves}
 use Rattle.regalloc2_flow.specs.Listing.{Item, with_moves, writes}
 use Rattle.regalloc2_flow.specs.Carry.{Carries, Untouched}
-use Rattle.regalloc2_flow.specs.Blocks.{names, HasEdge, target_at, IsUnwritten, Passes, StandsBefore, StandsAfter, BlockCarries}
+use Rattle.regalloc2_flow.specs.Blocks.{names, HasEdge, target_at, IsUnwritten, IsWantedBehind, Passes, StandsBefore, StandsAfter, BlockCarries}
 use Rattle.regalloc2_flow.proofs.Cells.{cases_vreg, is_vreg-same}
 use Rattle.regalloc2_flow.proofs.Carrying.{carries_weaken, carries_fresh, carries_moves}
 
@@ -51,7 +51,7 @@ module _ (f : FunctionValue) (slot new : VirtualRegister → Option Place) (w : 
             carries_weaken v L (λ p. P p ⊎ (p ≡ s)) (λ p. P p ⊎ ((v ≡ w) × (p ≡ s))) (λ q. StandsAfter f slot b v q ⊎ (q ≡ s)) (StandsAfter f new b v)
             (λ p h. elim h [ inl x ↦ inl x | inr i ↦ inr (e, i) ])
             (λ q h. elim h [
-              | inl x ↦ inr (let i : new v ≡ Some s = ap new e ∙ a.here in let j = x.1 in cc)
+              | inl x ↦ inr (let i : new v ≡ Some s = ap new e ∙ a.here in let j = x.2 in cc)
               | inr (k, u, edge, gives, there) ↦ inl (inr (k, u, edge, gives, passed_to_old a v u k q edge gives there))
             ])
             (carries_fresh v L P (StandsAfter f slot b v) (λ q. q ≡ s) (λ q i. subst (λ x. Untouched x L) (sym i) untouched) (ap (λ x. writes x L) e ∙ unwritten) k)
@@ -59,7 +59,7 @@ module _ (f : FunctionValue) (slot new : VirtualRegister → Option Place) (w : 
             carries_weaken v L P (λ p. P p ⊎ ((v ≡ w) × (p ≡ s))) (StandsAfter f slot b v) (StandsAfter f new b v)
             (λ p h. inl h)
             (λ q h. elim h [
-              | inl x ↦ inl (x.0, sym (a.others v n) ∙ x.1)
+              | inl x ↦ inl (x.0, x.1, sym (a.others v n) ∙ x.2)
               | inr (k, u, edge, gives, there) ↦ inr (k, u, edge, gives, passed_to_old a v u k q edge gives there)
             ])
             k
@@ -85,7 +85,7 @@ pub pass_arguments : (f : FunctionValue) (slot : VirtualRegister → Option Plac
     ((p : Place) → P p → (c : Cells) → after_moves ms c p ≡ c p) →
     ((q : Place) → PassedTo f slot b v q → (r : Place) × (slot v ≡ Some r) × ((c : Cells) → after_moves ms c q ≡ c r)) →
     ((q : Place) → PassedTo f slot b v q → Untouched q L) → writes v L ≡ false →
-    ((q : Place) → ((k : ℕ) → HasEdge f b k → names v (block_at f (target_at f b k)).params ≡ false) × (slot v ≡ Some q) → E q) →
+    ((q : Place) → ((k : ℕ) → HasEdge f b k → names v (block_at f (target_at f b k)).params ≡ false) × IsWantedBehind f b v × (slot v ≡ Some q) → E q) →
     Carries v L P E → Carries v (with_moves ms L) (λ p. P p ⊎ (slot v ≡ Some p)) (StandsAfter f slot b v)
 pass_arguments f slot b v ms L P E kept moved untouched unwritten own k =
     carries_weaken v (with_moves ms L) (λ p. P p ⊎ (slot v ≡ Some p)) (λ p. P p ⊎ (slot v ≡ Some p)) (λ q. E q ⊎ PassedTo f slot b v q) (StandsAfter f slot b v)

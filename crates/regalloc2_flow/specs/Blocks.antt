@@ -50,6 +50,14 @@ IsUnwritten f b v = (i : ℕ) → (block_at f b).range.first ≤ i → i < (bloc
 abbrev pub IsUsed : FunctionValue → VirtualRegister → Type 0
 IsUsed f v = ((b : ℕ) × IsReadIn f b v) ⊎ ((b k : ℕ) × HasEdge f b k × Contains (arguments_at f b k) v)
 
+-- a block reads v, or passes it on an edge
+abbrev pub IsUsedIn : FunctionValue → ℕ → VirtualRegister → Type 0
+IsUsedIn f b v = IsReadIn f b v ⊎ ((k : ℕ) × HasEdge f b k × Contains (arguments_at f b k) v)
+
+-- v may be wanted behind the block: it has an edge, and either leaves v unwritten, or another block uses v and leaves it unwritten
+abbrev pub IsWantedBehind : FunctionValue → ℕ → VirtualRegister → Type 0
+IsWantedBehind f b v = ((k : ℕ) × HasEdge f b k) × (IsUnwritten f b v ⊎ ((c : ℕ) × (c < length f.blocks) × (c ≢ b) × IsUnwritten f c v × IsUsedIn f c v))
+
 -- v is a parameter of a successor that is entered in one way: then a block owes nothing for v
 abbrev pub IsExcused : FunctionValue → ℕ → VirtualRegister → Type 0
 IsExcused f b v = (k : ℕ) × HasEdge f b k × IsEnteredOnce f (target_at f b k) × IsParameter f (target_at f b k) v
@@ -73,10 +81,10 @@ module _ (f : FunctionValue) (slot : VirtualRegister → Option Place) where
   abbrev pub StandsBefore : ℕ → VirtualRegister → Place → Type 0
   StandsBefore b v p = IsUnwritten f b v × (slot v ≡ Some p)
 
-  -- where v's value has to stand at the block's end: in its slot, unless it is a parameter of a successor, and in the slot of each parameter that it is passed to
+  -- where v's value has to stand at the block's end: in its slot, where it may be wanted and is no parameter of a successor, and in the slot of each parameter that it is passed to
   abbrev pub StandsAfter : ℕ → VirtualRegister → Place → Type 0
   StandsAfter b v p =
-      (((k : ℕ) → HasEdge f b k → names v (block_at f (target_at f b k)).params ≡ false) × (slot v ≡ Some p))
+      (((k : ℕ) → HasEdge f b k → names v (block_at f (target_at f b k)).params ≡ false) × IsWantedBehind f b v × (slot v ≡ Some p))
       ⊎ ((k : ℕ) × (u : VirtualRegister) × HasEdge f b k × Passes u v (block_at f (target_at f b k)).params (arguments_at f b k) × (slot u ≡ Some p))
 
   -- what a block owes, for each virtual register that is used somewhere

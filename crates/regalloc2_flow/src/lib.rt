@@ -22,7 +22,7 @@ pub fn agrees_in_a_straight_block()
 {}
 
 /// A law: where no path reads before writing, reads agree on every path if each block carries each virtual register
-/// from its slot to its slot, and to the slots of the parameters that it is passed to.
+/// from its slot to its slot, where it may be wanted behind the block, and to the slots of the parameters that it is passed to.
 pub fn agrees_where_blocks_carry()
     ensures listing { BlocksAgree }
     ensures by_points { BlocksAgreeByPoints }
