@@ -1,4 +1,5 @@
 pub mod Allocated
+pub mod Alone
 pub mod Avoiding
 pub mod Begun
 pub mod Calm
@@ -36,6 +37,7 @@ pub mod Outs
 pub mod Parts
 pub mod Passes
 pub mod Phasing
+pub mod Pushes
 pub mod Putting
 pub mod Quieting
 pub mod Reading
