@@ -1,6 +1,6 @@
 -- From the last operand of an instruction to the boundary before it: across the instruction, and the moves of its uses.
-use Rattle.std.proofs.Common.{ℕ, suc, ◌≡◌, ◌<◌, Bool, true, false, List, ◌∷◌, length, refl, arith, sym, ◌∙◌, subst, inl, inr, ⊎_elim}
-use Rattle.std.specs.Prelude.{slice_index_or}
+use Rattle.std.proofs.Common.{ℕ, suc, ◌≡◌, ◌<◌, Bool, true, false, List, ◌∷◌, length, refl, arith, sym, ap, ◌∙◌, subst, inl, inr, ⊎_elim}
+use Rattle.std.specs.Prelude.{is_some, slice_index_or}
 use Rattle.std.proofs.lemmas.Bool.{cases_Bool}
 use Rattle.regalloc2_names.specs.Register.{VirtualRegister}
 use Rattle.regalloc2_names.specs.Operand.{OperandValue}
@@ -13,10 +13,10 @@ use Rattle.regalloc2_flow.specs.Listing.{Item, executed}
 use Rattle.regalloc2_flow.specs.Carry.{is_clobbered}
 use Rattle.regalloc2_flow.specs.Walked.{after_part, before_part, listed}
 use Rattle.regalloc2_flow.specs.Instruction.{Claims, Knows}
-use Rattle.regalloc2_flow.specs.Placed.{what_of, Need, Pending, Counts}
+use Rattle.regalloc2_flow.specs.Placed.{what_of, Need, stands, in_slot, Pending, still, slotted, used, Counts}
 use Rattle.regalloc2_flow.proofs.Points.{all_from-less}
 use Rattle.regalloc2_flow.proofs.Walking.{walked-more, before_part-clean}
-use Rattle.regalloc2_flow.proofs.Between.{end_all}
+use Rattle.regalloc2_flow.proofs.Needing.{claims_weaken}
 use Rattle.regalloc2_fastalloc.specs.declared.turn.Turn.{Turn}
 use Rattle.regalloc2_fastalloc.specs.Steps.{Tables, op_at, MovesUses}
 use Rattle.regalloc2_fastalloc.proofs.Standing.{stands_at, slots_at}
@@ -25,7 +25,8 @@ use Rattle.regalloc2_fastalloc.proofs.Scratching.{of_machine}
 use Rattle.regalloc2_fastalloc.proofs.Spanning.{lives_in, cross_stands}
 use Rattle.regalloc2_fastalloc.proofs.Laying.{Orderly, Turned, Laid}
 use Rattle.regalloc2_fastalloc.proofs.Moving.{Moves, moves_done}
-use Rattle.regalloc2_fastalloc.proofs.Opening.{Carried}
+use Rattle.regalloc2_fastalloc.proofs.Opening.{CarriedBut}
+use Rattle.regalloc2_fastalloc.proofs.Outs.{defined_by, defined_by-some}
 
 -- after both passes each operand had its turn
 turned_all : (ops : List OperandValue) (j : ℕ) → Counts ops j → Turned ops false (length ops) j
@@ -36,7 +37,7 @@ module _ (Known : VirtualRegister → Type 0) (insts : ℕ → InstValue) (place
   pub closed : (lived : ℕ → Bool) (ret : Bool) (places : List Place) (u w : Turn) (t new : Tables) → Orderly (insts i).operands → Knows Known (insts i).operands →
       ((k : ℕ) → k < length (insts i).operands → place_at (placesf i) k ≡ slice_index_or places k NoPlace) →
       Laid Known insts placesf i n E (insts i).operands lived (is_clobbered (insts i).clobbers) ret false (length (insts i).operands) places u t →
-      MovesUses (before i) (insts i).operands places u t (length (insts i).operands) w new → Carried Known insts placesf E i (suc n) new
+      MovesUses (before i) (insts i).operands places u t (length (insts i).operands) w new → CarriedBut Known insts placesf E (defined_by (insts i).operands) i (suc n) new
   closed lived ret places u w t new o knows are_listed l moves =
       let ops : List OperandValue = (insts i).operands in
       let clob : Place → Bool = is_clobbered (insts i).clobbers in
@@ -60,12 +61,28 @@ module _ (Known : VirtualRegister → Type 0) (insts : ℕ → InstValue) (place
       } in
       let m : Moves Known insts placesf i n item E (what_of ops) l.here l.claimed l.done lived l.out clob l.X (length ops) w t new =
       moves_done Known insts placesf i n item E ops places l.here l.claimed l.done lived l.out clob l.X u t all counted at_places begin (length ops) w new moves (omega arith) in
-      let ended : Claims Known (before_part insts (listed new.edits) placesf i n item) (Need (lives_in new) (λ x. false) (λ p x. false) (stands_at new) (slots_at new)) E =
-      end_all Known E (before_part insts (listed new.edits) placesf i n item) (what_of ops) l.here l.done l.out (lives_in new) (stands_at new) (slots_at new) (length ops) (λ x. refl) (λ j d. (counted j d).0) m.pends.claims in
+      let owed : ℕ → Place → Type 0 = Need (lives_in new) (defined_by ops) (λ p x. false) (stands_at new) (slots_at new) in
+      let ended : Claims Known (before_part insts (listed new.edits) placesf i n item) owed E =
+      claims_weaken Known E (before_part insts (listed new.edits) placesf i n item) (Pending (what_of ops) l.here l.done l.out (stands_at new) (slots_at new) (length ops)) owed
+      (λ x p o. elim o [
+        | still e ↦ stands (ap is_some e) e
+        | slotted f e ↦ in_slot (undefined x f) e
+        | used j le d u a e ↦ (let lt = (counted j d).0 in absurd (omega arith))
+      ]) m.pends.claims in
       record {
         whole = m.stands.whole;
         later = m.pends.later;
-        claims = subst (λ y. Claims Known y (Need (lives_in new) (λ x. false) (λ p x. false) (stands_at new) (slots_at new)) E) (sym (walked-more insts (listed new.edits) placesf i n)) ended;
+        claims = subst (λ y. Claims Known y owed E) (sym (walked-more insts (listed new.edits) placesf i n)) ended;
         fit = m.fit;
         apart = λ c b e. (m.spare.idle c b (of_machine e)).nobody_stands;
       }
+    where
+      -- whose definition isn't placed is not defined
+      undefined : (x : ℕ) → l.out x ≡ false → defined_by (insts i).operands x ≡ false
+      undefined x f = ⊎_elim
+          (λ (h : defined_by (insts i).operands x ≡ true).
+          let d = defined_by-some (insts i).operands x h in
+          let done : l.done d.0 ≡ true = l.all d.0 (d.1, inl d.2) (turned_all (insts i).operands d.0 (d.1, inl d.2)) in
+          let is_out : l.out x ≡ true = ap l.out (sym d.3) ∙ l.ready.stands.placed.outs d.0 done d.2 in absurd cc)
+          (λ (h : defined_by (insts i).operands x ≡ false). h)
+          (cases_Bool (defined_by (insts i).operands x))

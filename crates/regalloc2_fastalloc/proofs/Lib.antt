@@ -1,4 +1,5 @@
 pub mod Allocated
+pub mod Alone
 pub mod Avoiding
 pub mod Begun
 pub mod Calm
@@ -32,9 +33,11 @@ pub mod Numbers
 pub mod Opening
 pub mod Operands
 pub mod Ordering
+pub mod Outs
 pub mod Parts
 pub mod Passes
 pub mod Phasing
+pub mod Pushes
 pub mod Putting
 pub mod Quieting
 pub mod Reading

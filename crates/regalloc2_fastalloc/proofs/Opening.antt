@@ -15,9 +15,10 @@ use Rattle.regalloc2_function.specs.FunctionValue.{InstValue}
 use Rattle.regalloc2_function.specs.SourceRun.{is_def, is_late}
 use Rattle.regalloc2_flow.specs.Carry.{is_clobbered}
 use Rattle.regalloc2_flow.specs.Instruction.{Claims}
-use Rattle.regalloc2_flow.specs.Walked.{AllFrom, at_point, walked, after_part, listed}
+use Rattle.regalloc2_flow.specs.Walked.{AllFrom, at_point, walked, listed}
 use Rattle.regalloc2_flow.specs.Placed.{What, what_of, Need, stands, in_slot, made}
 use Rattle.regalloc2_flow.proofs.Needing.{claims_weaken}
+use Rattle.regalloc2_flow.proofs.Walking.{after_part-clean}
 use Rattle.regalloc2_fastalloc.specs.declared.turn.Turn.{Turn}
 use Rattle.regalloc2_fastalloc.specs.declared.turn.Positions.{Positions}
 use Rattle.regalloc2_fastalloc.specs.Steps.{Tables, op_at, positions_of, ClaimsFixed, own, named, Reserves, HoldsClobbers, ClearsAll, none_left, one_more, Allocates}
@@ -54,7 +55,7 @@ reserved_all ops clobbers t u b old f s h = record {
 }
 
 -- no scratch register is taken yet
-no_scratch : (u : Turn) (c : RegClass) (q : Register) → u.scratch ≡ None ∷ None ∷ None ∷ [] → slice_index_or u.scratch (class_code c) None ≡ Some q → ⊥
+pub no_scratch : (u : Turn) (c : RegClass) (q : Register) → u.scratch ≡ None ∷ None ∷ None ∷ [] → slice_index_or u.scratch (class_code c) None ≡ Some q → ⊥
 no_scratch u Int q e h = let x : None ≡ Some q = ap (λ l. slice_index_or l 0 None) (sym e) ∙ h in cc
 no_scratch u Float q e h = let x : None ≡ Some q = ap (λ l. slice_index_or l 1 None) (sym e) ∙ h in cc
 no_scratch u Vector q e h = let x : None ≡ Some q = ap (λ l. slice_index_or l 2 None) (sym e) ∙ h in cc
@@ -92,20 +93,35 @@ late_by false true h = refl
 late_by false false h = elim h [ inl e ↦ absurd cc | inr e ↦ absurd cc ]
 
 module _ (Known : VirtualRegister → Type 0) (insts : ℕ → InstValue) (placesf : ℕ → List Place) (E : VirtualRegister → Place → Type 0) where
-  -- What holds before the instruction i, with n from it on: no move stands before it, the listing carries each known vreg from where it stands, and nobody stands in a register that is kept for moves.
-  pub record Carried (i n : ℕ) (t : Tables) : Type 0 where
+  -- What holds before the instruction i, with n from it on: no move stands before it, the listing carries each known vreg from where it stands and, where out doesn't say otherwise, from its slot,
+  -- and nobody stands in a register that is kept for moves.
+  pub record CarriedBut (out : ℕ → Bool) (i n : ℕ) (t : Tables) : Type 0 where
     pub whole : IsWhole t
     pub later : AllFrom (before i) (listed t.edits)
-    pub claims : Claims Known (walked insts (at_point (listed t.edits)) placesf i n) (Need (lives_in t) (λ x. false) (λ p x. false) (stands_at t) (slots_at t)) E
+    pub claims : Claims Known (walked insts (at_point (listed t.edits)) placesf i n) (Need (lives_in t) out (λ p x. false) (stands_at t) (slots_at t)) E
     pub fit : Fit t
     pub apart : (c : RegClass) (b : Register) → slice_index_or t.dedicated (class_code c) None ≡ Some b → (x : ℕ) → place_in t x ≡ InRegister b → ⊥
 
-  -- nothing lives after a return
-  abbrev pub EndsHere : Bool → Tables → Type 0
-  EndsHere ret t = ret ≡ true → (x : ℕ) → (stands_at t x ≡ None) × (slots_at t x ≡ None)
+  -- from every slot
+  abbrev pub Carried : ℕ → ℕ → Tables → Type 0
+  Carried = CarriedBut (λ x. false)
+
+  pub carried_more : (out : ℕ → Bool) (i n : ℕ) (t : Tables) → CarriedBut out i n t → Carried i n t
+  carried_more out i n t c = record {
+    whole = c.whole;
+    later = c.later;
+    claims = claims_weaken Known E (walked insts (at_point (listed t.edits)) placesf i n) (Need (lives_in t) out (λ p x. false) (stands_at t) (slots_at t)) (Need (lives_in t) (λ x. false) (λ p x. false) (stands_at t) (slots_at t))
+        (λ x p h. elim h [ stands l at ↦ stands l at | in_slot o at ↦ in_slot refl at | made m ↦ made m ]) c.claims;
+    fit = c.fit;
+    apart = c.apart;
+  }
+
+  -- What is listed behind a return carries each known vreg from nowhere.
+  abbrev pub EndsHere : ℕ → ℕ → Bool → Tables → Type 0
+  EndsHere i n ret t = ret ≡ true → Claims Known (walked insts (at_point (listed t.edits)) placesf i n) (λ x p. ⊥) E
 
   module _ (i n : ℕ) where
-    pub start : (ops : List OperandValue) (ret : Bool) (b : Turn) (t : Tables) → Carried (i + 1) n t → EndsHere ret t → b.scratch ≡ None ∷ None ∷ None ∷ [] →
+    pub start : (ops : List OperandValue) (ret : Bool) (b : Turn) (t : Tables) → Carried (i + 1) n t → EndsHere (i + 1) n ret t → b.scratch ≡ None ∷ None ∷ None ∷ [] →
         FixedUpTo Known insts placesf i n E ops (lives_in t) ret b t 0 b t
     start ops ret b t c ends none =
         let owes : Owes Known insts placesf i n E (lives_in t) (λ x. false) (λ p x. false) (stands_at t) (slots_at t) t.edits = begin_owes Known insts placesf i n E t c.later c.claims in
@@ -115,12 +131,7 @@ module _ (Known : VirtualRegister → Type 0) (insts : ℕ → InstValue) (place
           ready = record {
             stands = begin_stands (what_of ops) (λ j. NoPlace) t c.whole;
             owes = owes;
-            nothing = λ e. claims_weaken Known E (after_part insts (listed t.edits) placesf i n) (Need (lives_in t) (λ x. false) (λ p x. false) (stands_at t) (slots_at t)) (λ x p. ⊥)
-                (λ x p h. elim h [
-                  | stands l at ↦ (let y : None ≡ Some p = sym (ends e x).0 ∙ at in cc)
-                  | in_slot o at ↦ (let y : None ≡ Some p = sym (ends e x).1 ∙ at in cc)
-                  | made m ↦ cc
-                ]) owes.claims;
+            nothing = λ e. subst (λ l. Claims Known l (λ x p. ⊥) E) (sym (after_part-clean insts (listed t.edits) placesf i n c.later)) (ends e);
             held = record { early_uses = λ j x u. absurd cc; early_defs = λ j x u. absurd cc; late_defs = λ j x u. absurd cc; late_uses = λ j x u. absurd cc };
             spare = record {
               idle = λ d q is. elim is [
@@ -170,7 +181,7 @@ module _ (Known : VirtualRegister → Type 0) (insts : ℕ → InstValue) (place
         by_index (suc k) r lt e x at others first = others r (k, omega arith, e) x at
 
     -- the operands' turns may begin
-    pub opened : (inst : InstValue) (blank places : List Place) (old new : Tables) → Orderly inst.operands → AvoidClobbers inst.operands inst.clobbers → EndsHere inst.is_ret old → Carried (i + 1) n old → (a : Allocates i inst blank places old new) →
+    pub opened : (inst : InstValue) (blank places : List Place) (old new : Tables) → Orderly inst.operands → AvoidClobbers inst.operands inst.clobbers → EndsHere (i + 1) n inst.is_ret old → Carried (i + 1) n old → (a : Allocates i inst blank places old new) →
         Laid Known insts placesf i n E inst.operands (lives_in old) (is_clobbered inst.clobbers) inst.is_ret true 0 blank a.quiet a.after_clobbers
     opened inst blank places old new o v ends c a =
         let ops : List OperandValue = inst.operands in

@@ -1,5 +1,5 @@
 -- What the listing carries, along the walk over all instructions.
-use Rattle.std.proofs.Common.{ℕ, zero, suc, ◌≡◌, ◌+◌, ◌-◌, ◌<◌, ◌≤◌, inl, inr, true, false, List, [], length, refl, arith, sym, ap, ◌∙◌, subst}
+use Rattle.std.proofs.Common.{ℕ, zero, suc, ◌≡◌, ◌+◌, ◌-◌, ◌<◌, ◌≤◌, inl, inr, true, false, List, [], length, arith, sym, ap, ◌∙◌, subst}
 use Rattle.std.specs.Prelude.{None, Some, slice_index_or}
 use Rattle.std.proofs.lemmas.Bool.{cases_eq, ne_eqb}
 use Rattle.regalloc2_names.specs.declared.RegClass.{RegClass}
@@ -13,7 +13,7 @@ use Rattle.regalloc2_flow.specs.Carry.{Carries}
 use Rattle.regalloc2_flow.specs.Walked.{at_point, walked, block_walked, AllFrom, Rising, EndsQuiet, listed}
 use Rattle.regalloc2_flow.specs.Straight.{IsStraight, EachIsCarried}
 use Rattle.regalloc2_flow.specs.Laws.{ReadsAgreeOnPaths}
-use Rattle.regalloc2_flow.specs.Instruction.{Knows}
+use Rattle.regalloc2_flow.specs.Instruction.{Claims, Knows}
 use Rattle.regalloc2_flow.specs.Placed.{Need}
 use Rattle.regalloc2_flow.proofs.Carrying.{carries_nil, carries_weaken}
 use Rattle.regalloc2_flow.proofs.Walking.{walked-none}
@@ -24,7 +24,7 @@ use Rattle.regalloc2_fastalloc.specs.Walks.{AllocatesAt, Walks, untouched, one_m
 use Rattle.regalloc2_fastalloc.specs.Tables.{stood, holder, slot_name, units_of, IsSlotOrNone}
 use Rattle.regalloc2_fastalloc.proofs.Walking.{offset_next, offset_rises}
 use Rattle.regalloc2_fastalloc.proofs.Flowing.{IsWhole}
-use Rattle.regalloc2_fastalloc.proofs.Standing.{opt, stands_at, slots_at}
+use Rattle.regalloc2_fastalloc.proofs.Standing.{stands_at, slots_at}
 use Rattle.regalloc2_fastalloc.proofs.Scratching.{Fit}
 use Rattle.regalloc2_fastalloc.proofs.Spanning.{lives_in}
 use Rattle.regalloc2_fastalloc.proofs.Opening.{Carried, EndsHere}
@@ -47,9 +47,6 @@ blank_whole t b = record {
   units = b.units;
 }
 
-pub blank_empty : (t : Tables) → Blank t → (x : ℕ) → (stands_at t x ≡ None) × (slots_at t x ≡ None)
-blank_empty t b x = (ap opt (b.nowhere x), ap opt (b.no_slot x))
-
 -- before the walk there is nothing to carry
 pub at_start : (Known : VirtualRegister → Type 0) (insts : ℕ → InstValue) (placesf : ℕ → List Place) (i : ℕ) (t : Tables) → Blank t → Fit t → Carried Known insts placesf (λ v p. ⊥) i 0 t
 unfolding AllFrom
@@ -66,38 +63,39 @@ at_start Known insts placesf i t b fit = record {
 abbrev pub AreListed : FunctionValue → (ℕ → List Place) → ℕ → List Place → Type 0
 AreListed f placesf i places = (j : ℕ) → i ≤ j → j < length f.insts → (k : ℕ) → k < length (inst_at f j).operands → place_at (placesf j) k ≡ slice_index_or places (offset_of f j + k) NoPlace
 
--- behind the last instruction the walk has done nothing
-walks_last : (f : FunctionValue) (blank : List Place) (begin : Tables) (i : ℕ) (places : List Place) (t : Tables) → Walks f blank begin i places t → i ≡ length f.insts → t ≡ begin
-walks_last f blank begin i places t untouched = λ e. refl
-walks_last f blank begin i places t (one_more j b p s u lt prev a) = λ e. absurd (omega arith)
-
 module _ (Known : VirtualRegister → Type 0) (f : FunctionValue) (placesf : ℕ → List Place) (E : VirtualRegister → Place → Type 0) where
   -- the law of one instruction
   abbrev pub EachKeeps : Type 0
   EachKeeps = (i n : ℕ) (blank here : List Place) (old new : Tables) → i < length f.insts → ((k : ℕ) → k < length (inst_at f i).operands → place_at (placesf i) k ≡ slice_index_or here k NoPlace) →
-      EndsHere Known (inst_at f) placesf E (inst_at f i).is_ret old → Allocates i (inst_at f i) blank here old new → Carried Known (inst_at f) placesf E (i + 1) n old → Carried Known (inst_at f) placesf E i (suc n) new
+      EndsHere Known (inst_at f) placesf E (i + 1) n (inst_at f i).is_ret old → Allocates i (inst_at f i) blank here old new → Carried Known (inst_at f) placesf E (i + 1) n old → Carried Known (inst_at f) placesf E i (suc n) new
 
-  -- and one after another, from the last; only the last is a return
-  pub walk_carried : EachKeeps → ((i : ℕ) → i < length f.insts → (inst_at f i).is_ret ≡ true → i + 1 ≡ length f.insts) →
-      (blank : List Place) (begin : Tables) → ((x : ℕ) → (stands_at begin x ≡ None) × (slots_at begin x ≡ None)) → Carried Known (inst_at f) placesf E (length f.insts) 0 begin →
+  -- nothing is listed behind the last instruction
+  pub nothing_left : ((v : VirtualRegister) (p : Place) → E v p → ⊥) → (i n : ℕ) (t : Tables) → n ≡ 0 → Claims Known (walked (inst_at f) (at_point (listed t.edits)) placesf i n) (λ x p. ⊥) E
+  nothing_left none i n t e v known = subst (λ l. Carries v l (λ p. ⊥) (E v))
+      (sym (ap (walked (inst_at f) (at_point (listed t.edits)) placesf i) e ∙ walked-none (inst_at f) (at_point (listed t.edits)) placesf i)) (carries_nil v (λ p. ⊥) (E v) (none v))
+
+  -- and one after another, from the last; only the last is a return, and nothing is owed at the end
+  pub walk_carried : EachKeeps → ((i : ℕ) → i < length f.insts → (inst_at f i).is_ret ≡ true → i + 1 ≡ length f.insts) → ((v : VirtualRegister) (p : Place) → E v p → ⊥) →
+      (blank : List Place) (begin : Tables) → Carried Known (inst_at f) placesf E (length f.insts) 0 begin →
       (i : ℕ) (places : List Place) (t : Tables) → Walks f blank begin i places t → AreListed f placesf i places → (n : ℕ) → i + n ≡ length f.insts → Carried Known (inst_at f) placesf E i n t
-  walk_carried keeps returns blank begin empty c i places t untouched = λ h n e.
+  walk_carried keeps returns none blank begin c i places t untouched = λ h n e.
       let zero_left : 0 ≡ n = omega arith in subst (λ k. Carried Known (inst_at f) placesf E (length f.insts) k begin) zero_left c
-  walk_carried keeps returns blank begin empty c i places t (one_more j b p s u lt prev a) = λ h.
+  walk_carried keeps returns none blank begin c i places t (one_more j b p s u lt prev a) = λ h.
       let next = offset_next f j lt in
       let before_it : AreListed f placesf (j + 1) b = λ k le less m within.
       let rises = offset_rises f (j + 1) (k - (j + 1)) (omega arith) in
       let same : offset_of f (j + 1 + (k - (j + 1))) ≡ offset_of f k = ap (offset_of f) (omega arith) in
       h k (omega arith) less m within ∙ a.outside (offset_of f k + m) (inr (omega arith)) in
-      let rest : (n : ℕ) → j + 1 + n ≡ length f.insts → Carried Known (inst_at f) placesf E (j + 1) n s = walk_carried keeps returns blank begin empty c (j + 1) b s prev before_it in
+      let rest : (n : ℕ) → j + 1 + n ≡ length f.insts → Carried Known (inst_at f) placesf E (j + 1) n s = walk_carried keeps returns none blank begin c (j + 1) b s prev before_it in
       by_count j b p s u lt a (λ k less. h j (omega arith) lt k less ∙ a.inside k less)
-      (λ ret x. let same : s ≡ begin = walks_last f blank begin (j + 1) b s prev (returns j lt ret) in subst (λ (y : Tables). (stands_at y x ≡ None) × (slots_at y x ≡ None)) (sym same) (empty x)) rest
+      (λ n e ret. let last = returns j lt ret in nothing_left none (j + 1) n s (omega (arith, e, last))) rest
     where
       by_count : (j : ℕ) (b p : List Place) (s u : Tables) → j < length f.insts → (a : AllocatesAt j (inst_at f j) (offset_of f j) b p s u) →
-          ((k : ℕ) → k < length (inst_at f j).operands → place_at (placesf j) k ≡ slice_index_or a.here k NoPlace) → EndsHere Known (inst_at f) placesf E (inst_at f j).is_ret s →
+          ((k : ℕ) → k < length (inst_at f j).operands → place_at (placesf j) k ≡ slice_index_or a.here k NoPlace) →
+          ((n : ℕ) → j + 1 + n ≡ length f.insts → EndsHere Known (inst_at f) placesf E (j + 1) n (inst_at f j).is_ret s) →
           ((n : ℕ) → j + 1 + n ≡ length f.insts → Carried Known (inst_at f) placesf E (j + 1) n s) → (n : ℕ) → j + n ≡ length f.insts → Carried Known (inst_at f) placesf E j n u
       by_count j b p s u lt a here ends rest zero e = absurd (omega arith)
-      by_count j b p s u lt a here ends rest (suc n) e = keeps j n a.blank a.here s u lt here ends a.allocates (rest n (omega arith))
+      by_count j b p s u lt a here ends rest (suc n) e = keeps j n a.blank a.here s u lt here (ends n (omega arith)) a.allocates (rest n (omega arith))
 
 -- the one block is the law's
 straight_is : (f : FunctionValue) → IsStraightBlock f → IsStraight f
@@ -133,7 +131,7 @@ pub walk_agrees : (f : FunctionValue) (Known : VirtualRegister → Type 0) (blan
 walk_agrees f Known blank begin last out straight knows keeps empty fit walks edits rising quiet are_listed written =
     let n : ℕ = length f.insts in
     let c : Carried Known (inst_at f) (allocs_of out) (λ v p. ⊥) 0 n last =
-    walk_carried Known f (allocs_of out) (λ v p. ⊥) keeps (returns_last f straight) blank begin (blank_empty begin empty) (at_start Known (inst_at f) (allocs_of out) n begin empty fit)
+    walk_carried Known f (allocs_of out) (λ v p. ⊥) keeps (returns_last f straight) (λ v p h. h) blank begin (at_start Known (inst_at f) (allocs_of out) n begin empty fit)
     0 out.allocs last walks (λ j le lt k less. are_listed j lt k less) n (omega arith) in
     let end : (block_at f f.entry).range.end ≡ n = ap (λ b. (block_at f b).range.end) straight.entry ∙ straight.block.end in
     let each : EachIsCarried f (block_walked f out f.entry) = λ v read.
