@@ -21,7 +21,8 @@ use Rattle.regalloc2_fastalloc.proofs.Spanning.{lives_in}
 use Rattle.regalloc2_fastalloc.proofs.Laying.{Orderly}
 use Rattle.regalloc2_fastalloc.proofs.Opening.{AvoidClobbers, Carried, CarriedBut, EndsHere}
 use Rattle.regalloc2_fastalloc.proofs.Outs.{defined_by}
-use Rattle.regalloc2_fastalloc.proofs.Lawful.{each_exactly}
+use Rattle.regalloc2_fastalloc.proofs.Lawful.{each_exactly, each_ended}
+use Rattle.regalloc2_fastalloc.proofs.Closing.{Ended}
 use Rattle.regalloc2_fastalloc.proofs.Pushes.{Pushes, pushed_walked, allocates_pushes}
 
 -- what is needed of a vreg between instructions: its place and, where out doesn't say otherwise, its slot
@@ -50,6 +51,7 @@ module _ (Known : VirtualRegister → Type 0) (f : FunctionValue) (placesf : ℕ
     pub between : Between i new
     pub carries : (inst_at f i).is_ret ≡ false → StepCarries i (Needed (λ x. false) old) new
     pub returns : (inst_at f i).is_ret ≡ true → StepCarries i (λ v p. ⊥) new
+    pub ends : Ended (inst_at f i).operands (lives_in old) new
     pub pushes : Pushes (IsAround i) old.edits new.edits
     pub same : (n : ℕ) → walked (inst_at f) (at_point (listed new.edits)) placesf (i + 1) n ≡ walked (inst_at f) (at_point (listed old.edits)) placesf (i + 1) n
 
@@ -72,6 +74,8 @@ module _ (Known : VirtualRegister → Type 0) (f : FunctionValue) (placesf : ℕ
         between = record { whole = nothing.whole; later = nothing.later; fit = nothing.fit; apart = nothing.apart };
         carries = λ e. (carried (Needed (λ x. false) old) (λ v p h. h) (λ r. absurd cc)).claims;
         returns = λ e. nothing.claims;
+        ends = each_ended Known f placesf (λ v p. ⊥) orderly avoids knows i 0 blank here old new lt are_listed (λ e v known. carried_nil (λ w p. ⊥) (i + 1) old (λ w p. ⊥) (λ w p h. h) v) a
+            (record { whole = b.whole; later = b.later; claims = λ v known. carried_nil (λ w p. ⊥) (i + 1) old (Needed (λ x. false) old) (λ w p h. absurd h) v; fit = b.fit; apart = b.apart });
         pushes = pushes;
         same = λ n. pushed_walked (IsAround i) (inst_at f) placesf (i + 1) n old.edits new.edits (λ e h. elim h [ inl x ↦ omega (arith, x) | inr x ↦ omega (arith, x) ]) pushes;
       }

@@ -13,7 +13,7 @@ use Rattle.regalloc2_fastalloc.proofs.Spanning.{lives_in}
 use Rattle.regalloc2_fastalloc.proofs.Laying.{Orderly}
 use Rattle.regalloc2_fastalloc.proofs.Turns.{laid_both}
 use Rattle.regalloc2_fastalloc.proofs.Opening.{AvoidClobbers, Carried, CarriedBut, EndsHere, carried_more, opened}
-use Rattle.regalloc2_fastalloc.proofs.Closing.{closed}
+use Rattle.regalloc2_fastalloc.proofs.Closing.{Ended, closed, ended}
 use Rattle.regalloc2_fastalloc.proofs.Outs.{defined_by}
 use Rattle.regalloc2_fastalloc.proofs.Rounding.{EachKeeps}
 
@@ -28,6 +28,18 @@ module _ (Known : VirtualRegister → Type 0) (f : FunctionValue) (placesf : ℕ
       let ops : List OperandValue = (inst_at f i).operands in
       let ret : Bool = (inst_at f i).is_ret in
       closed Known (inst_at f) placesf E i n (lives_in old) ret here a.early a.ended a.after_early new (orderly i lt) (knows i lt) are_listed
+      (laid_both Known (inst_at f) placesf i n E ops (lives_in old) (is_clobbered (inst_at f i).clobbers) ret (orderly i lt) blank a.half here a.quiet a.late a.early a.after_clobbers a.after_late a.after_early a.lates a.earlies
+      (opened Known (inst_at f) placesf E i n (inst_at f i) blank here old new (orderly i lt) (avoids i lt) ends c a)) a.moves
+
+  -- and where the vregs stand before it
+  pub each_ended : ((i : ℕ) → i < length f.insts → Knows Known (inst_at f i).operands) →
+      (i n : ℕ) (blank here : List Place) (old new : Tables) → i < length f.insts → ((k : ℕ) → k < length (inst_at f i).operands → place_at (placesf i) k ≡ slice_index_or here k NoPlace) →
+      EndsHere Known (inst_at f) placesf E (i + 1) n (inst_at f i).is_ret old → Allocates i (inst_at f i) blank here old new → Carried Known (inst_at f) placesf E (i + 1) n old →
+      Ended (inst_at f i).operands (lives_in old) new
+  each_ended knows i n blank here old new lt are_listed ends a c =
+      let ops : List OperandValue = (inst_at f i).operands in
+      let ret : Bool = (inst_at f i).is_ret in
+      ended Known (inst_at f) placesf E i n (lives_in old) ret here a.early a.ended a.after_early new (orderly i lt) (knows i lt) are_listed
       (laid_both Known (inst_at f) placesf i n E ops (lives_in old) (is_clobbered (inst_at f i).clobbers) ret (orderly i lt) blank a.half here a.quiet a.late a.early a.after_clobbers a.after_late a.after_early a.lates a.earlies
       (opened Known (inst_at f) placesf E i n (inst_at f i) blank here old new (orderly i lt) (avoids i lt) ends c a)) a.moves
 

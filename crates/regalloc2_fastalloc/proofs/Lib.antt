@@ -62,3 +62,4 @@ pub mod Turns
 pub mod Walking
 pub mod Flowing
 pub mod Growing
+pub mod Stretch
