@@ -1,5 +1,5 @@
 -- One instruction by itself: what its listing carries, from what is needed before it to what was needed after it.
-use Rattle.std.proofs.Common.{ℕ, ◌≡◌, ◌+◌, ◌<◌, ◌⊎◌, inl, inr, Bool, true, false, List, length, refl, arith, sym, subst, ◌∙◌}
+use Rattle.std.proofs.Common.{ℕ, ◌≡◌, ◌+◌, ◌<◌, ◌⊎◌, inl, inr, Bool, true, false, List, length, refl, arith, sym, subst}
 use Rattle.std.specs.Prelude.{None, Some, slice_index_or}
 use Rattle.regalloc2_names.specs.declared.RegClass.{RegClass}
 use Rattle.regalloc2_names.specs.Register.{Register, VirtualRegister, class_code}
@@ -9,7 +9,7 @@ use Rattle.regalloc2_function.specs.FunctionValue.{FunctionValue, inst_at}
 use Rattle.regalloc2_function.specs.OutputValue.{MoveValue, place_at}
 use Rattle.regalloc2_flow.specs.Carry.{Carries}
 use Rattle.regalloc2_flow.specs.Walked.{AllFrom, at_point, walked, listed}
-use Rattle.regalloc2_flow.specs.Instruction.{Claims, Knows}
+use Rattle.regalloc2_flow.specs.Instruction.{Knows}
 use Rattle.regalloc2_flow.specs.Placed.{Need}
 use Rattle.regalloc2_flow.proofs.Carrying.{carries_nil}
 use Rattle.regalloc2_flow.proofs.Walking.{walked-none}
@@ -19,7 +19,7 @@ use Rattle.regalloc2_fastalloc.proofs.Standing.{stands_at, slots_at}
 use Rattle.regalloc2_fastalloc.proofs.Scratching.{Fit}
 use Rattle.regalloc2_fastalloc.proofs.Spanning.{lives_in}
 use Rattle.regalloc2_fastalloc.proofs.Laying.{Orderly}
-use Rattle.regalloc2_fastalloc.proofs.Opening.{AvoidClobbers, Carried, CarriedBut, EndsHere}
+use Rattle.regalloc2_fastalloc.proofs.Opening.{AvoidClobbers, CarriedBut, EndsHere}
 use Rattle.regalloc2_fastalloc.proofs.Outs.{defined_by}
 use Rattle.regalloc2_fastalloc.proofs.Lawful.{each_exactly, each_ended}
 use Rattle.regalloc2_fastalloc.proofs.Closing.{Ended}

@@ -10,6 +10,7 @@ pub mod Closing
 pub mod Constraining
 pub mod Defining
 pub mod Emptying
+pub mod Entering
 pub mod Finished
 pub mod Evicting
 pub mod Falling

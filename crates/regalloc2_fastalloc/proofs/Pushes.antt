@@ -1,5 +1,5 @@
 -- Each step leaves the moves that were pushed before, and pushes its own at its point.
-use Rattle.std.proofs.Common.{ℕ, ◌≡◌, ◌+◌, ◌<◌, ◌≤◌, List, [], ◌∷◌, ◌++◌, refl, arith, sym, ap, ◌∙◌, subst}
+use Rattle.std.proofs.Common.{ℕ, ◌≡◌, ◌<◌, List, [], ◌∷◌, ◌++◌, refl, arith, sym, ap, ◌∙◌, subst}
 use Rattle.std.specs.Prelude.{Bool, All}
 use Rattle.std.proofs.lemmas.List.{append_assoc}
 use Rattle.regalloc2_names.specs.declared.RegClass.{RegClass}

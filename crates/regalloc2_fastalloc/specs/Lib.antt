@@ -1,3 +1,4 @@
+pub mod Blocks
 pub mod Constraints
 pub mod Walks
 pub mod Steps
