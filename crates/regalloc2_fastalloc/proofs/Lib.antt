@@ -64,3 +64,4 @@ pub mod Walking
 pub mod Flowing
 pub mod Growing
 pub mod Stretch
+pub mod Going
