@@ -65,3 +65,4 @@ pub mod Flowing
 pub mod Growing
 pub mod Stretch
 pub mod Going
+pub mod Arriving
