@@ -32,6 +32,7 @@ pub mod Numbers
 pub mod Opening
 pub mod Operands
 pub mod Ordering
+pub mod Owning
 pub mod Parts
 pub mod Passes
 pub mod Phasing
