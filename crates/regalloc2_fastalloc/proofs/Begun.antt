@@ -30,12 +30,12 @@ begun_machine env t allocatable fixed memory dedicated = record {
 }
 
 -- nobody stands anywhere, nobody has a slot, and no move is pushed
-pub begun_safe : (env : MachineValue) (Known : VirtualRegister → Type 0) (bound : ℕ) (t : Tables) (n m : ℕ) (sizes : List ℕ) (by_last : Bool) → t.places ≡ nobody_stands n → t.slots ≡ no_slots m sizes by_last → t.edits ≡ [] → HasMachine env t → IsSafe env Known bound t
-begun_safe env Known bound t n m sizes by_last places slots none machine =
+pub begun_safe : (env : MachineValue) (Known : VirtualRegister → Type 0) (Writes : ℕ → VirtualRegister → ℕ → Type 0) (bound : ℕ) (t : Tables) (n m : ℕ) (sizes : List ℕ) (by_last : Bool) → t.places ≡ nobody_stands n → t.slots ≡ no_slots m sizes by_last → t.edits ≡ [] → HasMachine env t → IsSafe env Known Writes bound t
+begun_safe env Known Writes bound t n m sizes by_last places slots none machine =
     let e : IsEmpty t = begun_empty t n places in
     record {
       machine = machine;
-      places = λ v known. subst (MayStandOrNone env t.slots.count v.class) (sym (e.nowhere v.number)) tt;
+      places = λ v known. subst (MayStandOrNone env t.slots v) (sym (e.nowhere v.number)) tt;
       holders = λ r v small held. absurd (no_some v (sym (e.nobody r small) ∙ held));
       slots = λ k. subst (IsSlotOrNone t.slots.count) (sym (ap (λ (s : SlotsValue). slot_name s k) slots ∙ always m k NoPlace)) tt;
       edits = rw none (λ k d lt. absurd (omega arith));

@@ -1,5 +1,5 @@
 -- The places of an instruction's operands, while they are placed one after another.
-use Rattle.std.proofs.Common.{ℕ, ◌≡◌, ◌≢◌, ◌<◌, ◌≤◌, List, Bool, true, false, refl, sym, ap, ◌∙◌, ◌⊎◌, inl, inr, subst, arith, length, set, slice_index_or, get_or-set_same}
+use Rattle.std.proofs.Common.{ℕ, ◌≡◌, ◌≢◌, ◌<◌, List, Bool, true, false, refl, sym, ap, ◌∙◌, ◌⊎◌, inl, inr, subst, arith, length, set, slice_index_or, get_or-set_same}
 use Rattle.std.specs.Prelude.{◌&&◌, not}
 use Rattle.std.proofs.lemmas.Bool.{cases_eq}
 use Rattle.std.proofs.lemmas.List.{get_or-set_other}
@@ -11,14 +11,15 @@ use Rattle.regalloc2_names.specs.Register.{Register, VirtualRegister}
 use Rattle.regalloc2_names.specs.Operand.{OperandValue}
 use Rattle.regalloc2_names.specs.Packing.{IsConstraintOf}
 use Rattle.regalloc2_names.specs.Place.{Place, NoPlace, InRegister, InSlot}
+use Rattle.regalloc2_names.specs.Point.{before, after}
 use Rattle.regalloc2_function.specs.Machine.{MachineValue, IsStackPlace, IsPlainRegister}
 use Rattle.regalloc2_function.specs.SourceRun.{is_def, is_late, is_reading, is_fixed_nonallocatable}
 use Rattle.regalloc2_fastalloc.specs.declared.turn.Turn.{Turn}
 use Rattle.regalloc2_fastalloc.specs.declared.choose.Wanted.TheVariants.{At}
-use Rattle.regalloc2_fastalloc.specs.Tables.{stood}
+use Rattle.regalloc2_fastalloc.specs.Tables.{SlotsValue, stood}
 use Rattle.regalloc2_fastalloc.specs.Steps.{Tables, op_at, asked_by, asked_as}
 use Rattle.regalloc2_fastalloc.specs.Sound.{IsOfMachine, MayStand, IsSafe, IsSafeTurn}
-use Rattle.regalloc2_fastalloc.proofs.Sound.{stand_grows}
+use Rattle.regalloc2_fastalloc.proofs.Sound.{SlotsStay, stand_grows}
 use Rattle.regalloc2_fastalloc.proofs.Given.{IsAnswer}
 
 abbrev pub at_place : List Place → ℕ → Place
@@ -53,12 +54,12 @@ MeetsAlone env (Reuse n) p = IsInRegister p
 MeetsAlone env (Limit n) p = ⊥
 
 -- a proper place, which meets the operand's constraint
-pub record IsGood (env : MachineValue) (count : ℕ) (o : OperandValue) (p : Place) : Type 0 where
-  pub place : is_fixed_nonallocatable o ≡ false → MayStand env count o.vreg.class p
+pub record IsGood (env : MachineValue) (slots : SlotsValue) (o : OperandValue) (p : Place) : Type 0 where
+  pub place : is_fixed_nonallocatable o ≡ false → MayStand env slots o.vreg p
   pub meets : MeetsAlone env o.constraint p
 
-pub good_grows : (env : MachineValue) (m n : ℕ) (o : OperandValue) (p : Place) → m ≤ n → IsGood env m o p → IsGood env n o p
-good_grows env m n o p le g = record { place = λ a. stand_grows env m n o.vreg.class p le (g.place a); meets = g.meets }
+pub good_grows : (env : MachineValue) (s t : SlotsValue) (o : OperandValue) (p : Place) → SlotsStay s t → IsGood env s o p → IsGood env t o p
+good_grows env s t o p stay g = record { place = λ a. stand_grows env s t o.vreg p stay (g.place a); meets = g.meets }
 
 pub not_both : (b : Bool) → b ≡ true → b ≡ false → ⊥
 not_both b p q = cc
@@ -135,16 +136,23 @@ same_reuse m n e = cc
 abbrev pub FixedAreKnown : MachineValue → List OperandValue → Type 0
 FixedAreKnown env ops = (k : ℕ) (r : Register) → k < length ops → is_fixed_nonallocatable (op_at ops k) ≡ false → (op_at ops k).constraint ≡ FixedReg r → IsOfMachine env r
 
--- the operands that are done have good places; each other one has none yet, or the one that a reuse chose for it; base: how many slots there were at least
-pub record Filled (env : MachineValue) (Known : VirtualRegister → Type 0) (bound base : ℕ) (ops : List OperandValue) (done : ℕ → Type 0) (there : List Place) (u : Turn) (t : Tables) : Type 0 where
-  pub safe : IsSafe env Known bound t
+-- the operands that are done have good places; each other one has none yet, or the one that a reuse chose for it; base: slots that are there at least
+pub record Filled (env : MachineValue) (Known : VirtualRegister → Type 0) (Writes : ℕ → VirtualRegister → ℕ → Type 0) (bound : ℕ) (base : SlotsValue) (ops : List OperandValue) (done : ℕ → Type 0) (there : List Place) (u : Turn) (t : Tables) : Type 0 where
+  pub safe : IsSafe env Known Writes bound t
   pub turn : IsSafeTurn env u
-  pub grows : base ≤ t.slots.count
+  pub stay : SlotsStay base t.slots
   pub long : length there ≡ length ops
-  pub good : (j : ℕ) → j < length ops → done j → IsGood env t.slots.count (op_at ops j) (at_place there j)
+  pub good : (j : ℕ) → j < length ops → done j → IsGood env t.slots (op_at ops j) (at_place there j)
   pub shared : (j n : ℕ) → j < length ops → done j → (op_at ops j).constraint ≡ Reuse n → at_place there j ≡ at_place there n
-  pub waits : (j : ℕ) → j < length ops → (done j → ⊥) → (at_place there j ≡ NoPlace) ⊎ (IsGood env t.slots.count (op_at ops j) (at_place there j) × IsInRegister (at_place there j))
+  pub waits : (j : ℕ) → j < length ops → (done j → ⊥) → (at_place there j ≡ NoPlace) ⊎ (IsGood env t.slots (op_at ops j) (at_place there j) × IsInRegister (at_place there j))
   pub found : (j : ℕ) → j < length ops → done j → is_reading (op_at ops j) ≡ true → stood t.places (op_at ops j).vreg.number ≢ NoPlace
+
+-- what an instruction may write to slots: after it, those of the vregs that it defines; before it, those in which it reads
+abbrev pub DefsAreWritten : (ℕ → VirtualRegister → ℕ → Type 0) → ℕ → List OperandValue → Type 0
+DefsAreWritten Writes i ops = (k n : ℕ) → k < length ops → is_def (op_at ops k).kind ≡ true → Writes (after i) (op_at ops k).vreg n
+
+abbrev pub UsesAreWritten : (ℕ → VirtualRegister → ℕ → Type 0) → ℕ → List OperandValue → List Place → Type 0
+UsesAreWritten Writes i ops places = (k n : ℕ) → k < length ops → is_reading (op_at ops k) ≡ true → at_place places k ≡ InSlot n → Writes (before i) (op_at ops k).vreg n
 
 pub reuse_register : (env : MachineValue) (c : OperandConstraint) (n : ℕ) (p : Place) → c ≡ Reuse n → MeetsAlone env c p → IsInRegister p
 reuse_register env c n p e h = subst (λ x. MeetsAlone env x p) e h
@@ -152,14 +160,14 @@ reuse_register env c n p e h = subst (λ x. MeetsAlone env x p) e h
 pub no_place_register : (p : Place) → p ≡ NoPlace → IsInRegister p → ⊥
 no_place_register p e h = subst IsInRegister e h
 
-module _ (env : MachineValue) (Known : VirtualRegister → Type 0) (bound base : ℕ) (ops : List OperandValue) (tame : IsTame Known ops) where
+module _ (env : MachineValue) (Known : VirtualRegister → Type 0) (Writes : ℕ → VirtualRegister → ℕ → Type 0) (bound : ℕ) (base : SlotsValue) (ops : List OperandValue) (tame : IsTame Known ops) where
   -- the same operands are done
   pub filled_same : (D E : ℕ → Type 0) (there : List Place) (u : Turn) (t : Tables) → ((j : ℕ) → j < length ops → E j → D j) → ((j : ℕ) → j < length ops → D j → E j)
-      → Filled env Known bound base ops D there u t → Filled env Known bound base ops E there u t
+      → Filled env Known Writes bound base ops D there u t → Filled env Known Writes bound base ops E there u t
   filled_same D E there u t back forth h = record {
     safe = h.safe;
     turn = h.turn;
-    grows = h.grows;
+    stay = h.stay;
     long = h.long;
     good = λ j less e. h.good j less (back j less e);
     shared = λ j n less e. h.shared j n less (back j less e);
@@ -168,19 +176,19 @@ module _ (env : MachineValue) (Known : VirtualRegister → Type 0) (bound base :
   }
 
   -- other tables, in which all uses that are done still stand somewhere
-  pub filled_on : (D : ℕ → Type 0) (there : List Place) (t u : Turn) (old new : Tables) → IsSafe env Known bound new → IsSafeTurn env u → old.slots.count ≤ new.slots.count
+  pub filled_on : (D : ℕ → Type 0) (there : List Place) (t u : Turn) (old new : Tables) → IsSafe env Known Writes bound new → IsSafeTurn env u → SlotsStay old.slots new.slots
       → ((j : ℕ) → j < length ops → is_reading (op_at ops j) ≡ true → stood old.places (op_at ops j).vreg.number ≢ NoPlace → stood new.places (op_at ops j).vreg.number ≢ NoPlace)
-      → Filled env Known bound base ops D there t old → Filled env Known bound base ops D there u new
-  filled_on D there t u old new safe turn grows standing h = record {
+      → Filled env Known Writes bound base ops D there t old → Filled env Known Writes bound base ops D there u new
+  filled_on D there t u old new safe turn stay standing h = record {
     safe = safe;
     turn = turn;
-    grows = (let b = h.grows in omega arith);
+    stay = λ n k is. stay n k (h.stay n k is);
     long = h.long;
-    good = λ j less d. good_grows env old.slots.count new.slots.count (op_at ops j) (at_place there j) grows (h.good j less d);
+    good = λ j less d. good_grows env old.slots new.slots (op_at ops j) (at_place there j) stay (h.good j less d);
     shared = h.shared;
     waits = λ j less not_d. elim (h.waits j less not_d) [
       | inl none ↦ inl none
-      | inr g ↦ inr (good_grows env old.slots.count new.slots.count (op_at ops j) (at_place there j) grows g.0, g.1)
+      | inr g ↦ inr (good_grows env old.slots new.slots (op_at ops j) (at_place there j) stay g.0, g.1)
     ];
     found = λ j less d reads. standing j less reads (h.found j less d reads);
   }
@@ -194,17 +202,17 @@ module _ (env : MachineValue) (Known : VirtualRegister → Type 0) (bound base :
 
   -- the place of an operand that is no reuse is written
   pub written : (D E : ℕ → Type 0) (k : ℕ) (p : Place) (here : List Place) (u : Turn) (t : Tables) → k < length ops → OneMore D E k → ((n : ℕ) → (op_at ops k).constraint ≡ Reuse n → ⊥)
-      → IsGood env t.slots.count (op_at ops k) p → (is_reading (op_at ops k) ≡ true → stood t.places (op_at ops k).vreg.number ≢ NoPlace)
+      → IsGood env t.slots (op_at ops k) p → (is_reading (op_at ops k) ≡ true → stood t.places (op_at ops k).vreg.number ≢ NoPlace)
       → ((j : ℕ) → j < length ops → D j → (op_at ops j).constraint ≡ Reuse k → p ≡ at_place here k)
-      → Filled env Known bound base ops D here u t → Filled env Known bound base ops E (set here k p) u t
+      → Filled env Known Writes bound base ops D here u t → Filled env Known Writes bound base ops E (set here k p) u t
   written D E k p here u t lt more no_reuse good found kept h = record {
     safe = h.safe;
     turn = h.turn;
-    grows = h.grows;
+    stay = h.stay;
     long = length-set here k p ∙ h.long;
     good = λ j less e. elim (more.back j e) [
-      | inl d ↦ subst (IsGood env t.slots.count (op_at ops j)) (sym (elsewhere j (not_k j d))) (h.good j less d)
-      | inr same ↦ subst (λ (n : ℕ). IsGood env t.slots.count (op_at ops n) (at_place (set here k p) n)) (sym same) (subst (IsGood env t.slots.count (op_at ops k)) (sym there) good)
+      | inl d ↦ subst (IsGood env t.slots (op_at ops j)) (sym (elsewhere j (not_k j d))) (h.good j less d)
+      | inr same ↦ subst (λ (n : ℕ). IsGood env t.slots (op_at ops n) (at_place (set here k p) n)) (sym same) (subst (IsGood env t.slots (op_at ops k)) (sym there) good)
     ];
     shared = λ j n less e is. elim (more.back j e) [
       | inl d ↦ (elsewhere j (not_k j d) ∙ h.shared j n less d is ∙ elim (cases_eq n k) [
@@ -215,7 +223,7 @@ module _ (env : MachineValue) (Known : VirtualRegister → Type 0) (bound base :
     ];
     waits = λ j less not_e.
         let ne : j ≢ k = λ same. not_e (subst E (sym same) more.at_it) in
-        subst (λ (x : Place). (x ≡ NoPlace) ⊎ (IsGood env t.slots.count (op_at ops j) x × IsInRegister x)) (sym (elsewhere j ne)) (h.waits j less (λ d. not_e (more.forth j d)));
+        subst (λ (x : Place). (x ≡ NoPlace) ⊎ (IsGood env t.slots (op_at ops j) x × IsInRegister x)) (sym (elsewhere j ne)) (h.waits j less (λ d. not_e (more.forth j d)));
     found = λ j less e reads. elim (more.back j e) [
       | inl d ↦ h.found j less d reads
       | inr same ↦ (let P : ℕ → Type 0 = λ n. is_reading (op_at ops n) ≡ true → stood t.places (op_at ops n).vreg.number ≢ NoPlace in subst P (sym same) found reads)
@@ -233,16 +241,16 @@ module _ (env : MachineValue) (Known : VirtualRegister → Type 0) (bound base :
 
   -- the place of a reuse, which is that of the use that it names too
   pub written_twice : (D E : ℕ → Type 0) (k n : ℕ) (p : Place) (here : List Place) (u : Turn) (t : Tables) → k < length ops → OneMore D E k → (op_at ops k).constraint ≡ Reuse n → (D n → ⊥)
-      → IsGood env t.slots.count (op_at ops k) p → IsGood env t.slots.count (op_at ops n) p → IsInRegister p
-      → Filled env Known bound base ops D here u t → Filled env Known bound base ops E (set (set here k p) n p) u t
+      → IsGood env t.slots (op_at ops k) p → IsGood env t.slots (op_at ops n) p → IsInRegister p
+      → Filled env Known Writes bound base ops D here u t → Filled env Known Writes bound base ops E (set (set here k p) n p) u t
   written_twice D E k n p here u t lt more reuses not_n good good_n register h = record {
     safe = h.safe;
     turn = h.turn;
-    grows = h.grows;
+    stay = h.stay;
     long = length-set (set here k p) n p ∙ length-set here k p ∙ h.long;
     good = λ j less e. elim (more.back j e) [
-      | inl d ↦ subst (IsGood env t.slots.count (op_at ops j)) (sym (elsewhere j (not_k j d) (not_named j d))) (h.good j less d)
-      | inr same ↦ subst (λ (m : ℕ). IsGood env t.slots.count (op_at ops m) (at_place (set (set here k p) n p) m)) (sym same) (subst (IsGood env t.slots.count (op_at ops k)) (sym there) good)
+      | inl d ↦ subst (IsGood env t.slots (op_at ops j)) (sym (elsewhere j (not_k j d) (not_named j d))) (h.good j less d)
+      | inr same ↦ subst (λ (m : ℕ). IsGood env t.slots (op_at ops m) (at_place (set (set here k p) n p) m)) (sym same) (subst (IsGood env t.slots (op_at ops k)) (sym there) good)
     ];
     shared = λ j m less e is. elim (more.back j e) [
       | inl d ↦ (elsewhere j (not_k j d) (not_named j d) ∙ h.shared j m less d is ∙ sym (elsewhere m (names_no_def j m less is) (λ same. not_k j d (tame.apart j k n less lt (is ∙ ap Reuse same) reuses))))
@@ -253,10 +261,10 @@ module _ (env : MachineValue) (Known : VirtualRegister → Type 0) (bound base :
         let ne : j ≢ k = λ same. not_e (subst E (sym same) more.at_it) in
         elim (cases_eq j n) [
           | inl same ↦ inr (
-            subst (λ (m : ℕ). IsGood env t.slots.count (op_at ops m) (at_place (set (set here k p) n p) m)) (sym same) (subst (IsGood env t.slots.count (op_at ops n)) (sym there_n) good_n),
+            subst (λ (m : ℕ). IsGood env t.slots (op_at ops m) (at_place (set (set here k p) n p) m)) (sym same) (subst (IsGood env t.slots (op_at ops n)) (sym there_n) good_n),
             subst (λ (m : ℕ). IsInRegister (at_place (set (set here k p) n p) m)) (sym same) (subst IsInRegister (sym there_n) register),
           )
-          | inr other ↦ subst (λ (x : Place). (x ≡ NoPlace) ⊎ (IsGood env t.slots.count (op_at ops j) x × IsInRegister x)) (sym (elsewhere j ne other)) (h.waits j less (λ d. not_e (more.forth j d)))
+          | inr other ↦ subst (λ (x : Place). (x ≡ NoPlace) ⊎ (IsGood env t.slots (op_at ops j) x × IsInRegister x)) (sym (elsewhere j ne other)) (h.waits j less (λ d. not_e (more.forth j d)))
         ];
     found = λ j less e reads. elim (more.back j e) [
       | inl d ↦ h.found j less d reads

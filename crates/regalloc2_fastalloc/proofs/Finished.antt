@@ -9,7 +9,6 @@ use Rattle.std.proofs.lemmas.List.Sums.{sum_by-take-le}
 use Rattle.regalloc2_names.specs.declared.OperandConstraint.{OperandConstraint}
 use Rattle.regalloc2_names.specs.declared.OperandConstraint.TheVariants.{Any, Reg, Stack, FixedReg, Reuse, Limit}
 use Rattle.regalloc2_names.specs.declared.RegClass.{RegClass}
-use Rattle.regalloc2_names.specs.declared.RegClass.TheVariants.{Int}
 use Rattle.regalloc2_names.specs.Register.{Register, VirtualRegister, invalid_register}
 use Rattle.regalloc2_names.specs.Place.{Place, NoPlace, InRegister, InSlot}
 use Rattle.regalloc2_names.specs.Point.{before}
@@ -23,13 +22,13 @@ use Rattle.regalloc2_function.specs.Fitting.{MachineFits, PlacesAreProper, IsPro
 use Rattle.regalloc2_fastalloc.specs.Profile.{IsStraightBlock}
 use Rattle.regalloc2_fastalloc.specs.Steps.{Tables, op_at}
 use Rattle.regalloc2_fastalloc.specs.Sound.{MayStand, IsEndOfMove, IsSafeEdit}
-use Rattle.regalloc2_fastalloc.specs.Tables.{NeverRise}
+use Rattle.regalloc2_fastalloc.specs.Tables.{SlotsValue, IsSlotOrNone, slot_name, NeverRise}
 use Rattle.regalloc2_fastalloc.specs.Walks.{offset_of}
 use Rattle.regalloc2_fastalloc.proofs.Falling.{rising_reverse}
 use Rattle.regalloc2_fastalloc.proofs.Filled.{MeetsAlone, IsGood}
 use Rattle.regalloc2_fastalloc.proofs.Sound.{IsApart}
 use Rattle.regalloc2_fastalloc.proofs.Setting.{default_free}
-use Rattle.regalloc2_fastalloc.proofs.Walking.{WalkKept, offset_next, offset_rises}
+use Rattle.regalloc2_fastalloc.proofs.Walking.{WalkKept, WritesAt, offset_next, offset_rises}
 
 -- what the machine keeps apart
 pub machine_apart : (f : FunctionValue) (env : MachineValue) → MachineFits f env → IsApart env
@@ -50,7 +49,7 @@ pub record IsMade (f : FunctionValue) (env : MachineValue) (Known : VirtualRegis
   pub offsets : (i : ℕ) → i < length f.insts → slice_index o.offsets i ≡ offset_of f i
   pub allocs_long : length o.allocs ≡ operand_count f
   pub debug : o.debug_locations ≡ []
-  pub kept : WalkKept env Known f 0 o.allocs t
+  pub kept : WalkKept env Known f o.allocs 0 o.allocs t
 
 -- what holds of each element holds the other way round
 all_reverse : {X : Type 0} (P : X → Type 0) (xs : List X) → All P xs → All P (reverse xs)
@@ -63,9 +62,9 @@ all_weaker P Q xs f h k d lt = f (slice_index_or xs k d) (h k d lt)
 
 -- what holds of each move that was pushed holds of each that is listed
 each_edit : (f : FunctionValue) (env : MachineValue) (Known : VirtualRegister → Type 0) (t : Tables) (o : OutputValue) (Q : ℕ × MoveValue → Type 0) → IsMade f env Known t o
-    → ((e : ℕ × MoveValue) → IsSafeEdit env t.slots.count (before (length f.insts)) e → Q e) → All Q o.edits
+    → ((e : ℕ × MoveValue) → IsSafeEdit env Known (WritesAt f o.allocs) t.slots (before (length f.insts)) e → Q e) → All Q o.edits
 each_edit f env Known t o Q m g =
-    subst (All Q) (sym m.edits) (all_reverse Q t.edits (all_weaker (IsSafeEdit env t.slots.count (before (length f.insts))) Q t.edits g m.kept.safe.edits))
+    subst (All Q) (sym m.edits) (all_reverse Q t.edits (all_weaker (IsSafeEdit env Known (WritesAt f o.allocs) t.slots (before (length f.insts))) Q t.edits g m.kept.safe.edits))
 
 -- the places of all operands end where those of the last instruction do
 last_offset : (f : FunctionValue) (n : ℕ) → n ≡ length f.insts → offset_of f n ≡ operand_count f
@@ -85,10 +84,10 @@ end_is f env Known t o m i lt = ⊎_elim
     ap (λ b. cond b (length o.allocs) (slice_index o.offsets (i + 1))) other ∙ m.offsets (i + 1) (omega arith))
     (cases_eq (i + 1) (length f.insts))
 
-end_is_no_place : (env : MachineValue) (n : ℕ) (p : Place) → IsEndOfMove env n p → p ≢ NoPlace
-end_is_no_place env n NoPlace h = absurd h
-end_is_no_place env n (InRegister r) h = λ e. cc
-end_is_no_place env n (InSlot k) h = λ e. cc
+end_is_no_place : (env : MachineValue) (s : SlotsValue) (v : VirtualRegister) (p : Place) → IsEndOfMove env s v p → p ≢ NoPlace
+end_is_no_place env s v NoPlace h = absurd h
+end_is_no_place env s v (InRegister r) h = λ e. cc
+end_is_no_place env s v (InSlot k) h = λ e. cc
 
 pub made_in_order : (f : FunctionValue) (env : MachineValue) (Known : VirtualRegister → Type 0) (t : Tables) (o : OutputValue) → IsMade f env Known t o → IsInOrder f o
 made_in_order f env Known t o m = record {
@@ -100,7 +99,7 @@ made_in_order f env Known t o m = record {
   };
   no_more_than_operands = λ i lt. let a = m.offsets i lt in let b = end_is f env Known t o m i lt in let n = offset_next f i lt in omega (arith, a, b, n);
   points_never_fall = subst (IsNonDecreasingBy (λ e. e.0)) (sym m.edits) (rising_reverse t.edits m.falling);
-  moves_name_places = each_edit f env Known t o (λ e. (e.1.from ≢ NoPlace) × (e.1.to ≢ NoPlace)) m (λ e s. (end_is_no_place env t.slots.count e.1.from s.from, end_is_no_place env t.slots.count e.1.to s.to));
+  moves_name_places = each_edit f env Known t o (λ e. (e.1.from ≢ NoPlace) × (e.1.to ≢ NoPlace)) m (λ e s. (end_is_no_place env t.slots s.vreg e.1.from s.from, end_is_no_place env t.slots s.vreg e.1.to s.to));
 }
 
 -- the place of an operand
@@ -114,9 +113,9 @@ place_is f env Known t o m i lt k less =
     ∙ get_or-drop (alloc_start o i) o.allocs k NoPlace ∙ ap (λ (j : ℕ). slice_index_or o.allocs (j + k) NoPlace) a
 
 -- the place of an operand is good
-operand_good : (f : FunctionValue) (env : MachineValue) (Known : VirtualRegister → Type 0) (t : Tables) (o : OutputValue) → IsMade f env Known t o → (i : ℕ) → i < length f.insts → (k : ℕ) → k < length (inst_at f i).operands
-    → IsGood env t.slots.count (op_at (inst_at f i).operands k) (place_at (allocs_of o i) k)
-operand_good f env Known t o m i lt k less = subst (IsGood env t.slots.count (op_at (inst_at f i).operands k)) (sym (place_is f env Known t o m i lt k less)) (m.kept.good i k (omega arith) lt less).good
+pub operand_good : (f : FunctionValue) (env : MachineValue) (Known : VirtualRegister → Type 0) (t : Tables) (o : OutputValue) → IsMade f env Known t o → (i : ℕ) → i < length f.insts → (k : ℕ) → k < length (inst_at f i).operands
+    → IsGood env t.slots (op_at (inst_at f i).operands k) (place_at (allocs_of o i) k)
+operand_good f env Known t o m i lt k less = subst (IsGood env t.slots (op_at (inst_at f i).operands k)) (sym (place_is f env Known t o m i lt k less)) (m.kept.good i k (omega arith) lt less).good
 
 -- what a constraint says of the operand's own place, and of that which a reuse shares
 meets_all : (env : MachineValue) (count : ℕ) (places : List Place) (c : OperandConstraint) (p : Place) → MeetsAlone env c p → ((n : ℕ) → c ≡ Reuse n → (n < count) × (p ≡ place_at places n)) → Meets env count places c p
@@ -138,19 +137,30 @@ made_constraints f env Known t o m i lt k d less =
     (meets_all env (length ops) (allocs_of o i) (op_at ops k).constraint (place_at (allocs_of o i) k) (operand_good f env Known t o m i lt k less).meets
     (λ n is. let s = shared n is in (s.0, place_is f env Known t o m i lt k less ∙ s.1 ∙ sym (place_is f env Known t o m i lt n s.0))))
 
--- each end of a move is proper
-move_end : (env : MachineValue) (o : OutputValue) (n : ℕ) (p : Place) → o.num_spillslots ≡ n → IsEndOfMove env n p → IsMoveEnd env o p
-move_end env o n NoPlace e h = absurd h
-move_end env o n (InRegister r) e (inl (inl a)) = (r.class, inl (inl a))
-move_end env o n (InRegister r) e (inl (inr s)) = (r.class, inl (inr (s, refl)))
-move_end env o n (InRegister r) e (inr c) = (c.0, inr (r, c.1, refl))
-move_end env o n (InSlot k) e h = (Int, inl (omega arith))
+-- the slots below a count
+abbrev AreBelow : SlotsValue → ℕ → Type 0
+AreBelow s count = (n : ℕ) → IsSlotOrNone count (slot_name s n)
 
-proper_place : (env : MachineValue) (o : OutputValue) (n : ℕ) (class : RegClass) (p : Place) → o.num_spillslots ≡ n → MayStand env n class p → IsProperPlace env o class p
-proper_place env o n class NoPlace e h = h
-proper_place env o n class (InRegister r) e (inl a, same) = inl (subst (λ (c : RegClass). is_allocatable env c r ≡ true) same a)
-proper_place env o n class (InRegister r) e (inr s, same) = inr (s, same)
-proper_place env o n class (InSlot k) e h = omega arith
+own_below : (s : SlotsValue) (count n k : ℕ) → AreBelow s count → slot_name s n ≡ InSlot k → k < count
+own_below s count n k below e = subst (IsSlotOrNone count) e (below n)
+
+-- each end of a move is proper
+move_end : (env : MachineValue) (o : OutputValue) (s : SlotsValue) (v : VirtualRegister) (p : Place) → AreBelow s o.num_spillslots → IsEndOfMove env s v p → IsMoveEnd env o p
+move_end env o s v NoPlace below h = absurd h
+move_end env o s v (InRegister r) below (inl (inl a, same)) = (r.class, inl (inl a))
+move_end env o s v (InRegister r) below (inl (inr is, same)) = (r.class, inl (inr (is, refl)))
+move_end env o s v (InRegister r) below (inr c) = (v.class, inr (r, c, refl))
+move_end env o s v (InSlot k) below h = (v.class, inl (own_below s o.num_spillslots v.number k below h))
+
+proper_place : (env : MachineValue) (o : OutputValue) (s : SlotsValue) (v : VirtualRegister) (p : Place) → AreBelow s o.num_spillslots → MayStand env s v p → IsProperPlace env o v.class p
+proper_place env o s v NoPlace below h = h
+proper_place env o s v (InRegister r) below (inl a, same) = inl (subst (λ (c : RegClass). is_allocatable env c r ≡ true) same a)
+proper_place env o s v (InRegister r) below (inr is, same) = inr (is, same)
+proper_place env o s v (InSlot k) below h = own_below s o.num_spillslots v.number k below h
+
+-- the slots of a made output
+slots_below : (f : FunctionValue) (env : MachineValue) (Known : VirtualRegister → Type 0) (t : Tables) (o : OutputValue) → IsMade f env Known t o → AreBelow t.slots o.num_spillslots
+slots_below f env Known t o m = subst (AreBelow t.slots) (sym m.count) m.kept.safe.slots
 
 -- the register of an operand that names no virtual register
 names_register : (b : Bool) (c : OperandConstraint) (r : Register) → cond b (fixed_register c) None ≡ Some r → c ≡ FixedReg r
@@ -168,14 +178,14 @@ made_proper f env Known t o m = record {
       let ops : List OperandValue = (inst_at f i).operands in
       let same : slice_index_or ops k d ≡ op_at ops k = default_free ops k d _ less in
       subst (λ (x : OperandValue). IsProperPlace env o x.vreg.class (place_at (allocs_of o i) k)) (sym same)
-      (proper_place env o t.slots.count (op_at ops k).vreg.class (place_at (allocs_of o i) k) m.count ((operand_good f env Known t o m i lt k less).place (ap is_fixed_nonallocatable (sym same) ∙ named)));
+      (proper_place env o t.slots (op_at ops k).vreg (place_at (allocs_of o i) k) (slots_below f env Known t o m) ((operand_good f env Known t o m i lt k less).place (ap is_fixed_nonallocatable (sym same) ∙ named)));
   nonallocatable = λ i lt k d less r names.
       let ops : List OperandValue = (inst_at f i).operands in
       let same : slice_index_or ops k d ≡ op_at ops k = default_free ops k d _ less in
       let x : OperandValue = op_at ops k in
       let fixed : x.constraint ≡ FixedReg r = names_register (nat_eq x.vreg.number 1073741823) x.constraint r (ap nonallocatable_register (sym same) ∙ names) in
       subst (λ (c : OperandConstraint). MeetsAlone env c (place_at (allocs_of o i) k)) fixed (operand_good f env Known t o m i lt k less).meets;
-  moves = each_edit f env Known t o (λ e. IsMoveEnd env o e.1.from × IsMoveEnd env o e.1.to) m (λ e s. (move_end env o t.slots.count e.1.from m.count s.from, move_end env o t.slots.count e.1.to m.count s.to));
+  moves = each_edit f env Known t o (λ e. IsMoveEnd env o e.1.from × IsMoveEnd env o e.1.to) m (λ e s. (move_end env o t.slots s.vreg e.1.from (slots_below f env Known t o m) s.from, move_end env o t.slots s.vreg e.1.to (slots_below f env Known t o m) s.to));
   debug_locations = rw m.debug (λ k d lt. absurd (omega arith));
 }
 

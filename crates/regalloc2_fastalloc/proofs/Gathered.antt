@@ -1,5 +1,5 @@
 -- The whole walk over a well-formed function keeps the tables safe, and each operand has a good place.
-use Rattle.std.proofs.Common.{ℕ, ◌≡◌, ◌<◌, ◌+◌, Bool, true, List, [], length, ◌∙◌, arith, eq-eqb}
+use Rattle.std.proofs.Common.{ℕ, ◌≡◌, ◌<◌, ◌+◌, Bool, true, List, [], length, ◌∙◌, refl, arith, eq-eqb}
 use Rattle.std.proofs.lemmas.List.Elements.{All-get_or}
 use Rattle.regalloc2_names.specs.Place.{Place}
 use Rattle.regalloc2_names.specs.Point.{before}
@@ -18,7 +18,7 @@ use Rattle.regalloc2_fastalloc.proofs.Finished.{machine_apart}
 use Rattle.regalloc2_fastalloc.proofs.Filled.{IsTame}
 use Rattle.regalloc2_fastalloc.proofs.Ordering.{orderly, knows}
 use Rattle.regalloc2_fastalloc.proofs.Taming.{tame_of}
-use Rattle.regalloc2_fastalloc.proofs.Walking.{WalkKept, walk_kept}
+use Rattle.regalloc2_fastalloc.proofs.Walking.{WalkKept, WritesAt, walk_kept}
 
 -- the last instruction is a return, and no other one
 pub last_returns : (f : FunctionValue) → IsStraightBlock f → (i : ℕ) → i + 1 ≡ length f.insts → (inst_at f i).is_ret ≡ true
@@ -34,7 +34,7 @@ tame_at env f limited ok taken i lt =
 
 pub walk_good : (env : MachineValue) (f : FunctionValue) → MachineFits f env → IsStraightBlock f → IsLimited f → IsWellFormed env f → AreTaken f
     → (blank places : List Place) (old t : Tables) (n m : ℕ) (sizes : List ℕ) (by_last : Bool) → old.places ≡ nobody_stands n → old.slots ≡ no_slots m sizes by_last → old.edits ≡ [] → HasMachine env old
-    → Walks f blank old 0 places t → WalkKept env (Made f) f 0 places t
+    → Walks f blank old 0 places t → WalkKept env (Made f) f places 0 places t
 walk_good env f fits straight limited ok taken blank places old t n m sizes by_last nobody slots none machine walks =
-    walk_kept env (machine_apart f env fits) (Made f) f (tame_at env f limited ok taken) (last_returns f straight) blank old (begun_empty old n nobody) none
-    (begun_safe env (Made f) (before (length f.insts)) old n m sizes by_last nobody slots none machine) 0 places t walks
+    walk_kept env (machine_apart f env fits) (Made f) f (tame_at env f limited ok taken) (last_returns f straight) places blank old (begun_empty old n nobody) none
+    (begun_safe env (Made f) (WritesAt f places) (before (length f.insts)) old n m sizes by_last nobody slots none machine) 0 places t walks (λ j k le less within. refl)

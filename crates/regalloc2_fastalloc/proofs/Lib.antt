@@ -35,6 +35,7 @@ pub mod Opening
 pub mod Operands
 pub mod Ordering
 pub mod Outs
+pub mod Owning
 pub mod Parts
 pub mod Passes
 pub mod Phasing

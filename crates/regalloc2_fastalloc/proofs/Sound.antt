@@ -1,5 +1,5 @@
 -- The steps of the walk keep the tables safe, with operands of every kind but `Limit`.
-use Rattle.std.proofs.Common.{ℕ, ◌≡◌, ◌≢◌, ◌+◌, ◌<◌, ◌≤◌, List, [], ◌∷◌, ◌++◌, Bool, true, false, refl, sym, ap, ◌∙◌, ◌⊎◌, ⊎_elim, inl, inr, subst, arith, length, set, slice_index_or, get_or-set_same}
+use Rattle.std.proofs.Common.{ℕ, ◌≡◌, ◌≢◌, ◌+◌, ◌<◌, List, [], ◌∷◌, ◌++◌, Bool, true, false, refl, sym, ap, ◌∙◌, ◌⊎◌, ⊎_elim, inl, inr, subst, arith, length, set, slice_index_or, get_or-set_same}
 use Rattle.std.specs.Prelude.{All, Option, None, Some, ◌&&◌}
 use Rattle.std.proofs.lemmas.Bool.{cases_eq}
 use Rattle.std.proofs.lemmas.List.{get_or-set_other}
@@ -22,73 +22,88 @@ use Rattle.regalloc2_fastalloc.proofs.Falling.{all_push}
 use Rattle.regalloc2_fastalloc.proofs.Inverses.{chosen, no_some}
 use Rattle.regalloc2_fastalloc.proofs.Slotting.{slot_grows}
 
--- what is below a count is below a greater one
-pub end_grows : (env : MachineValue) (m n : ℕ) (p : Place) → m ≤ n → IsEndOfMove env m p → IsEndOfMove env n p
-end_grows env m n NoPlace le h = h
-end_grows env m n (InRegister r) le h = h
-end_grows env m n (InSlot k) le h = omega arith
+-- slots that are there stay
+abbrev pub SlotsStay : SlotsValue → SlotsValue → Type 0
+SlotsStay old new = (n k : ℕ) → slot_name old n ≡ InSlot k → slot_name new n ≡ InSlot k
 
-pub stand_grows : (env : MachineValue) (m n : ℕ) (c : RegClass) (p : Place) → m ≤ n → MayStand env m c p → MayStand env n c p
-stand_grows env m n c NoPlace le h = h
-stand_grows env m n c (InRegister r) le h = h
-stand_grows env m n c (InSlot k) le h = omega arith
+pub gives_stay : (old new : SlotsValue) (v : VirtualRegister) (p : Place) → GivesSlot old new v p → SlotsStay old new
+gives_stay old new v p gives n k is = elim (cases_eq n v.number) [
+  | inl e ↦ (let there : slot_name old v.number ≡ InSlot k = ap (slot_name old) (sym e) ∙ is in
+      let had = gives.had (λ none. (let x : InSlot k ≡ NoPlace = sym there ∙ none in cc)) in
+      ap (slot_name new) e ∙ gives.gives ∙ had.0 ∙ there)
+  | inr d ↦ gives.others n d ∙ is
+]
 
-pub none_grows : (env : MachineValue) (m n : ℕ) (c : RegClass) (p : Place) → m ≤ n → MayStandOrNone env m c p → MayStandOrNone env n c p
-none_grows env m n c NoPlace le h = h
-none_grows env m n c (InRegister r) le h = h
-none_grows env m n c (InSlot k) le h = omega arith
+pub same_stay : (old new : SlotsValue) → new ≡ old → SlotsStay old new
+same_stay old new e n k is = ap (λ (s : SlotsValue). slot_name s n) e ∙ is
 
-pub edits_grow : (env : MachineValue) (m n bound : ℕ) (es : List (ℕ × MoveValue)) → m ≤ n → All (IsSafeEdit env m bound) es → All (IsSafeEdit env n bound) es
-edits_grow env m n bound es le h = λ k d lt. let e = h k d lt in record { from = end_grows env m n _ le e.from; to = end_grows env m n _ le e.to; not_both = e.not_both; point = e.point }
+-- what holds with slots holds with those that stay, and more
+pub end_grows : (env : MachineValue) (s t : SlotsValue) (v : VirtualRegister) (p : Place) → SlotsStay s t → IsEndOfMove env s v p → IsEndOfMove env t v p
+end_grows env s t v NoPlace stay h = h
+end_grows env s t v (InRegister r) stay h = h
+end_grows env s t v (InSlot k) stay h = stay v.number k h
 
--- a slot is an end of a move, and values of each class may stand there; nor is it memory only in name
-pub slot_end : (env : MachineValue) (n : ℕ) (p : Place) → p ≢ NoPlace → IsSlotOrNone n p → IsEndOfMove env n p
-slot_end env n NoPlace d h = d refl
-slot_end env n (InRegister r) d h = absurd h
-slot_end env n (InSlot k) d h = h
+pub stand_grows : (env : MachineValue) (s t : SlotsValue) (v : VirtualRegister) (p : Place) → SlotsStay s t → MayStand env s v p → MayStand env t v p
+stand_grows env s t v NoPlace stay h = h
+stand_grows env s t v (InRegister r) stay h = h
+stand_grows env s t v (InSlot k) stay h = stay v.number k h
 
-pub slot_stands : (env : MachineValue) (n : ℕ) (c : RegClass) (p : Place) → p ≢ NoPlace → IsSlotOrNone n p → MayStand env n c p
-slot_stands env n c NoPlace d h = d refl
-slot_stands env n c (InRegister r) d h = absurd h
-slot_stands env n c (InSlot k) d h = h
+pub none_grows : (env : MachineValue) (s t : SlotsValue) (v : VirtualRegister) (p : Place) → SlotsStay s t → MayStandOrNone env s v p → MayStandOrNone env t v p
+none_grows env s t v NoPlace stay h = h
+none_grows env s t v (InRegister r) stay h = h
+none_grows env s t v (InSlot k) stay h = stay v.number k h
 
-slot_none : (env : MachineValue) (n : ℕ) (c : RegClass) (p : Place) → IsSlotOrNone n p → MayStandOrNone env n c p
-slot_none env n c NoPlace h = tt
-slot_none env n c (InRegister r) h = absurd h
-slot_none env n c (InSlot k) h = h
+pub edits_grow : (env : MachineValue) (Known : VirtualRegister → Type 0) (Writes : ℕ → VirtualRegister → ℕ → Type 0) (s t : SlotsValue) (bound : ℕ) (es : List (ℕ × MoveValue)) → SlotsStay s t
+    → All (IsSafeEdit env Known Writes s bound) es → All (IsSafeEdit env Known Writes t bound) es
+edits_grow env Known Writes s t bound es stay h = λ k d lt. let e = h k d lt in
+    record { vreg = e.vreg; known = e.known; from = end_grows env s t e.vreg _ stay e.from; to = end_grows env s t e.vreg _ stay e.to; written = e.written; not_both = e.not_both; point = e.point }
+
+-- a vreg's own slot is an end of moves of its value, and it may stand there; nor is it memory only in name
+pub slot_end : (env : MachineValue) (s : SlotsValue) (v : VirtualRegister) (p : Place) → slot_name s v.number ≡ p → p ≢ NoPlace → IsSlotOrNone s.count p → IsEndOfMove env s v p
+slot_end env s v NoPlace is d h = d refl
+slot_end env s v (InRegister r) is d h = absurd h
+slot_end env s v (InSlot k) is d h = is
+
+pub slot_stands : (env : MachineValue) (s : SlotsValue) (v : VirtualRegister) (p : Place) → slot_name s v.number ≡ p → p ≢ NoPlace → IsSlotOrNone s.count p → MayStand env s v p
+slot_stands env s v NoPlace is d h = d refl
+slot_stands env s v (InRegister r) is d h = absurd h
+slot_stands env s v (InSlot k) is d h = is
+
+slot_none : (env : MachineValue) (s : SlotsValue) (v : VirtualRegister) (p : Place) → slot_name s v.number ≡ p → IsSlotOrNone s.count p → MayStandOrNone env s v p
+slot_none env s v NoPlace is h = tt
+slot_none env s v (InRegister r) is h = absurd h
+slot_none env s v (InSlot k) is h = is
 
 pub slot_memory : (env : MachineValue) (n : ℕ) (p : Place) → p ≢ NoPlace → IsSlotOrNone n p → IsStackPlace env p
 slot_memory env n NoPlace d h = d refl
 slot_memory env n (InRegister r) d h = absurd h
 slot_memory env n (InSlot k) d h = tt
 
-pub stand_none : (env : MachineValue) (n : ℕ) (c : RegClass) (p : Place) → MayStand env n c p → MayStandOrNone env n c p
-stand_none env n c NoPlace h = tt
-stand_none env n c (InRegister r) h = h
-stand_none env n c (InSlot k) h = h
+pub stand_none : (env : MachineValue) (s : SlotsValue) (v : VirtualRegister) (p : Place) → MayStand env s v p → MayStandOrNone env s v p
+stand_none env s v NoPlace h = tt
+stand_none env s v (InRegister r) h = h
+stand_none env s v (InSlot k) h = h
 
-pub there_stands : (env : MachineValue) (n : ℕ) (c : RegClass) (p : Place) → p ≢ NoPlace → MayStandOrNone env n c p → MayStand env n c p
-there_stands env n c NoPlace d h = d refl
-there_stands env n c (InRegister r) d h = h
-there_stands env n c (InSlot k) d h = h
+pub there_stands : (env : MachineValue) (s : SlotsValue) (v : VirtualRegister) (p : Place) → p ≢ NoPlace → MayStandOrNone env s v p → MayStand env s v p
+there_stands env s v NoPlace d h = d refl
+there_stands env s v (InRegister r) d h = h
+there_stands env s v (InSlot k) d h = h
 
-pub stand_end : (env : MachineValue) (n : ℕ) (c : RegClass) (p : Place) → MayStand env n c p → IsEndOfMove env n p
-stand_end env n c NoPlace h = h
-stand_end env n c (InRegister r) h = inl h.0
-stand_end env n c (InSlot k) h = h
+pub stand_end : (env : MachineValue) (s : SlotsValue) (v : VirtualRegister) (p : Place) → MayStand env s v p → IsEndOfMove env s v p
+stand_end env s v NoPlace h = h
+stand_end env s v (InRegister r) h = inl h
+stand_end env s v (InSlot k) h = h
 
-pub stand_there : (env : MachineValue) (n : ℕ) (c : RegClass) (p : Place) → MayStand env n c p → p ≢ NoPlace
-stand_there env n c NoPlace h e = h
-stand_there env n c (InRegister r) h e = cc
-stand_there env n c (InSlot k) h e = cc
+pub stand_there : (env : MachineValue) (s : SlotsValue) (v : VirtualRegister) (p : Place) → MayStand env s v p → p ≢ NoPlace
+stand_there env s v NoPlace h e = h
+stand_there env s v (InRegister r) h e = cc
+stand_there env s v (InSlot k) h e = cc
 
-slot_of_machine : (env : MachineValue) (n : ℕ) (p : Place) (r : Register) → IsSlotOrNone n p → p ≡ InRegister r → IsOfMachine env r
-slot_of_machine env n NoPlace r h e = absurd cc
-slot_of_machine env n (InRegister q) r h e = absurd h
-slot_of_machine env n (InSlot k) r h e = absurd cc
+slot_is_none_else : (n : ℕ) (p : Place) (r : Register) → IsSlotOrNone n p → p ≡ InRegister r → ⊥
+slot_is_none_else n p r h e = subst (IsSlotOrNone n) e h
 
-pub stand_of_machine : (env : MachineValue) (n : ℕ) (c : RegClass) (p : Place) (r : Register) → MayStand env n c p → p ≡ InRegister r → IsOfMachine env r
-stand_of_machine env n c p r h e = (let m : MayStand env n c (InRegister r) = subst (MayStand env n c) e h in m.0)
+pub stand_of_machine : (env : MachineValue) (s : SlotsValue) (v : VirtualRegister) (p : Place) (r : Register) → MayStand env s v p → p ≡ InRegister r → IsOfMachine env r × (r.class ≡ v.class)
+stand_of_machine env s v p r h e = subst (MayStand env s v) e h
 
 -- a place in memory, as the tables see it
 pub memory_seen : (env : MachineValue) (t : Tables) (p : Place) → HasMachine env t → IsStackPlace env p → is_stack_in t p ≡ true
@@ -118,30 +133,36 @@ pub record IsApart (env : MachineValue) : Type 0 where
   pub slots : (r : Register) → is_allocatable env r.class r ≡ true → IsFixedStackSlot env r → ⊥
   pub scratch : (c : RegClass) (r : Register) → scratch_of env c ≡ Some r → IsFixedStackSlot env r → ⊥
 
--- a register through which moves go: an allocatable one, or one that is kept for moves
-abbrev pub IsThrough : MachineValue → Register → Type 0
-IsThrough env r = (is_allocatable env r.class r ≡ true) ⊎ ((c : RegClass) × (scratch_of env c ≡ Some r))
+-- a register through which moves of a class go: an allocatable one, or the one that is kept for them
+abbrev pub IsThrough : MachineValue → RegClass → Register → Type 0
+IsThrough env class r = ((is_allocatable env r.class r ≡ true) × (r.class ≡ class)) ⊎ (scratch_of env class ≡ Some r)
 
-through_end : (env : MachineValue) (n : ℕ) (r : Register) → IsThrough env r → IsEndOfMove env n (InRegister r)
-through_end env n r (inl a) = inl (inl a)
-through_end env n r (inr b) = inr b
+through_end : (env : MachineValue) (s : SlotsValue) (v : VirtualRegister) (r : Register) → IsThrough env v.class r → IsEndOfMove env s v (InRegister r)
+through_end env s v r (inl a) = inl (inl a.0, a.1)
+through_end env s v r (inr b) = inr b
 
-through_apart : (env : MachineValue) → IsApart env → (r : Register) → IsThrough env r → IsFixedStackSlot env r → ⊥
-through_apart env apart r (inl a) is = apart.slots r a is
-through_apart env apart r (inr b) is = apart.scratch b.0 r b.1 is
+through_apart : (env : MachineValue) → IsApart env → (class : RegClass) (r : Register) → IsThrough env class r → IsFixedStackSlot env r → ⊥
+through_apart env apart class r (inl a) is = apart.slots r a.0 is
+through_apart env apart class r (inr b) is = apart.scratch class r b is
 
--- one more move
-pushed : (env : MachineValue) (count bound point : ℕ) (from to : Place) (es : List (ℕ × MoveValue)) → point + 1 < bound → IsEndOfMove env count from → IsEndOfMove env count to
-    → (IsStackToStack env (record { from = from; to = to }) → ⊥) → All (IsSafeEdit env count bound) es → All (IsSafeEdit env count bound) (es ++ a_move point from to ∷ [])
-pushed env count bound point from to es lt f t n h = all_push (IsSafeEdit env count bound) es (a_move point from to) h (record { from = f; to = t; not_both = n; point = lt })
+-- one more move of a vreg's value
+pushed : (env : MachineValue) (Known : VirtualRegister → Type 0) (Writes : ℕ → VirtualRegister → ℕ → Type 0) (s : SlotsValue) (bound point : ℕ) (v : VirtualRegister) (from to : Place) (es : List (ℕ × MoveValue)) → point + 1 < bound → Known v
+    → IsEndOfMove env s v from → IsEndOfMove env s v to → ((n : ℕ) → to ≡ InSlot n → Writes point v n)
+    → (IsStackToStack env (record { from = from; to = to }) → ⊥) → All (IsSafeEdit env Known Writes s bound) es → All (IsSafeEdit env Known Writes s bound) (es ++ a_move point from to ∷ [])
+pushed env Known Writes s bound point v from to es lt known f t w n h =
+    all_push (IsSafeEdit env Known Writes s bound) es (a_move point from to) h (record { vreg = v; known = known; from = f; to = t; written = w; not_both = n; point = lt })
+
+-- a register is no slot
+no_write : (P : ℕ → Type 0) (r : Register) (n : ℕ) → InRegister r ≡ InSlot n → P n
+no_write P r n e = absurd cc
 
 -- the tables after a vreg has settled
-pub settled_places : (env : MachineValue) (Known : VirtualRegister → Type 0) (m n : ℕ) (t u : PlacesValue) (v : VirtualRegister) (p : Place) → m ≤ n → Settles t u v p
-    → ((w : VirtualRegister) → Known w → w.number ≡ v.number → MayStandOrNone env n w.class p)
-    → ((w : VirtualRegister) → Known w → MayStandOrNone env m w.class (stood t w.number)) → (w : VirtualRegister) → Known w → MayStandOrNone env n w.class (stood u w.number)
-settled_places env Known m n t u v p le s here h w known = elim (cases_eq w.number v.number) [
-  | inl e ↦ subst (MayStandOrNone env n w.class) (sym (ap (stood u) e ∙ s.here)) (here w known e)
-  | inr d ↦ subst (MayStandOrNone env n w.class) (sym (s.others w.number d)) (none_grows env m n w.class (stood t w.number) le (h w known))
+pub settled_places : (env : MachineValue) (Known : VirtualRegister → Type 0) (m n : SlotsValue) (t u : PlacesValue) (v : VirtualRegister) (p : Place) → SlotsStay m n → Settles t u v p
+    → ((w : VirtualRegister) → Known w → w.number ≡ v.number → MayStandOrNone env n w p)
+    → ((w : VirtualRegister) → Known w → MayStandOrNone env m w (stood t w.number)) → (w : VirtualRegister) → Known w → MayStandOrNone env n w (stood u w.number)
+settled_places env Known m n t u v p stay s here h w known = elim (cases_eq w.number v.number) [
+  | inl e ↦ subst (MayStandOrNone env n w) (sym (ap (stood u) e ∙ s.here)) (here w known e)
+  | inr d ↦ subst (MayStandOrNone env n w) (sym (s.others w.number d)) (none_grows env m n w (stood t w.number) stay (h w known))
 ]
 
 -- a register of the tables after a vreg has settled
@@ -154,10 +175,14 @@ settled_holder t u v w p r small s held = ⊎_elim
     o)
     (chosen (is_place p (InRegister r)) (is_place (stood t v.number) (InRegister r)) (Some v) None (holder t r) (Some w) (sym (s.holders r small) ∙ held))
 
-pub settled_holders : (env : MachineValue) (t u : PlacesValue) (v : VirtualRegister) (p : Place) → Settles t u v p → ((r : Register) → p ≡ InRegister r → IsOfMachine env r)
-    → ((r : Register) (w : VirtualRegister) → r.number < 64 → holder t r ≡ Some w → IsOfMachine env r) → (r : Register) (w : VirtualRegister) → r.number < 64 → holder u r ≡ Some w → IsOfMachine env r
-settled_holders env t u v p s here h r w small held = elim (settled_holder t u v w p r small s held) [
-  | inl a ↦ here r a.0
+-- who stands in a register is known, and of its class
+abbrev pub MayBeHeld : MachineValue → (VirtualRegister → Type 0) → Register → VirtualRegister → Type 0
+MayBeHeld env Known r v = Known v × IsOfMachine env r × (r.class ≡ v.class)
+
+pub settled_holders : (env : MachineValue) (Known : VirtualRegister → Type 0) (t u : PlacesValue) (v : VirtualRegister) (p : Place) → Settles t u v p → ((r : Register) → p ≡ InRegister r → MayBeHeld env Known r v)
+    → ((r : Register) (w : VirtualRegister) → r.number < 64 → holder t r ≡ Some w → MayBeHeld env Known r w) → (r : Register) (w : VirtualRegister) → r.number < 64 → holder u r ≡ Some w → MayBeHeld env Known r w
+settled_holders env Known t u v p s here h r w small held = elim (settled_holder t u v w p r small s held) [
+  | inl a ↦ subst (MayBeHeld env Known r) a.1 (here r a.0)
   | inr b ↦ h r w small b
 ]
 
@@ -186,15 +211,26 @@ code_three Int = omega arith
 code_three Float = omega arith
 code_three Vector = omega arith
 
+same_code : (a b : RegClass) → class_code a ≡ class_code b → a ≡ b
+same_code Int Int e = refl
+same_code Int Float e = absurd cc
+same_code Int Vector e = absurd cc
+same_code Float Int e = absurd cc
+same_code Float Float e = refl
+same_code Float Vector e = absurd cc
+same_code Vector Int e = absurd cc
+same_code Vector Float e = absurd cc
+same_code Vector Vector e = refl
+
 -- the scratch registers with one more
-scratch_set : (env : MachineValue) (class : RegClass) (by : Register) (t u : Turn) → is_allocatable env by.class by ≡ true → u.scratch ≡ set t.scratch (class_code class) (Some by) → IsSafeTurn env t → IsSafeTurn env u
+scratch_set : (env : MachineValue) (class : RegClass) (by : Register) (t u : Turn) → (is_allocatable env by.class by ≡ true) × (by.class ≡ class) → u.scratch ≡ set t.scratch (class_code class) (Some by) → IsSafeTurn env t → IsSafeTurn env u
 scratch_set env class by t u ok e h = record {
   three = ap length e ∙ length-set t.scratch (class_code class) (Some by) ∙ h.three;
   scratch = λ c r is. let here : slice_index_or (set t.scratch (class_code class) (Some by)) (class_code c) None ≡ Some r = ap (λ (l : List (Option Register)). slice_index_or l (class_code c) None) (sym e) ∙ is in
       elim (cases_eq (class_code c) (class_code class)) [
         | inl a ↦ (let small = code_three class in
             let x : Some by ≡ Some r = sym (get_or-set_same t.scratch (class_code class) (Some by) None (omega (arith, small, h.three))) ∙ ap (λ (i : ℕ). slice_index_or (set t.scratch (class_code class) (Some by)) i None) (sym a) ∙ here in
-            let same : by ≡ r = cc in subst (λ (q : Register). is_allocatable env q.class q ≡ true) same ok)
+            let same : by ≡ r = cc in subst (λ (q : Register). (is_allocatable env q.class q ≡ true) × (q.class ≡ c)) same (ok.0, ok.1 ∙ sym (same_code c class a)))
         | inr d ↦ h.scratch c r (sym (get_or-set_other t.scratch (class_code class) (class_code c) (Some by) None d) ∙ here)
       ];
 }
@@ -204,108 +240,121 @@ two_more [] x y = refl
 two_more (z ∷ xs) x y = ap (λ l. z ∷ l) (two_more xs x y)
 
 -- what a step keeps
-pub record StepKept (env : MachineValue) (Known : VirtualRegister → Type 0) (bound : ℕ) (old : Tables) (u : Turn) (new : Tables) : Type 0 where
-  pub safe : IsSafe env Known bound new
+pub record StepKept (env : MachineValue) (Known : VirtualRegister → Type 0) (Writes : ℕ → VirtualRegister → ℕ → Type 0) (bound : ℕ) (old : Tables) (u : Turn) (new : Tables) : Type 0 where
+  pub safe : IsSafe env Known Writes bound new
   pub turn : IsSafeTurn env u
-  pub grows : old.slots.count ≤ new.slots.count
+  pub stay : SlotsStay old.slots new.slots
   pub standing : KeepsStanding old new
 
-pub kept_both : (env : MachineValue) (Known : VirtualRegister → Type 0) (bound : ℕ) (a b c : Tables) (t u : Turn) → StepKept env Known bound a t b → StepKept env Known bound b u c → StepKept env Known bound a u c
-kept_both env Known bound a b c t u x y = (let p = x.grows in let q = y.grows in record { safe = y.safe; turn = y.turn; grows = omega arith; standing = λ n h. y.standing n (x.standing n h) })
+pub kept_both : (env : MachineValue) (Known : VirtualRegister → Type 0) (Writes : ℕ → VirtualRegister → ℕ → Type 0) (bound : ℕ) (a b c : Tables) (t u : Turn) → StepKept env Known Writes bound a t b → StepKept env Known Writes bound b u c
+    → StepKept env Known Writes bound a u c
+kept_both env Known Writes bound a b c t u x y = record { safe = y.safe; turn = y.turn; stay = λ n k h. y.stay n k (x.stay n k h); standing = λ n h. y.standing n (x.standing n h) }
 
-pub kept_none : (env : MachineValue) (Known : VirtualRegister → Type 0) (bound : ℕ) (old new : Tables) (t u : Turn) → new ≡ old → u ≡ t → IsSafe env Known bound old → IsSafeTurn env t → StepKept env Known bound old u new
-kept_none env Known bound old new t u en eu h ht = record {
-  safe = subst (IsSafe env Known bound) (sym en) h;
+pub kept_none : (env : MachineValue) (Known : VirtualRegister → Type 0) (Writes : ℕ → VirtualRegister → ℕ → Type 0) (bound : ℕ) (old new : Tables) (t u : Turn) → new ≡ old → u ≡ t → IsSafe env Known Writes bound old → IsSafeTurn env t
+    → StepKept env Known Writes bound old u new
+kept_none env Known Writes bound old new t u en eu h ht = record {
+  safe = subst (IsSafe env Known Writes bound) (sym en) h;
   turn = subst (IsSafeTurn env) (sym eu) ht;
-  grows = (let e : new.slots.count ≡ old.slots.count = ap (λ (x : Tables). x.slots.count) en in omega arith);
+  stay = same_stay old.slots new.slots (ap (λ (x : Tables). x.slots) en);
   standing = λ n there e. there (ap (λ (x : Tables). stood x.places n) (sym en) ∙ e);
 }
 
-module _ (env : MachineValue) (apart : IsApart env) (Known : VirtualRegister → Type 0) (bound point : ℕ) (lt : point + 1 < bound) where
+module _ (env : MachineValue) (apart : IsApart env) (Known : VirtualRegister → Type 0) (Writes : ℕ → VirtualRegister → ℕ → Type 0) (bound point : ℕ) (lt : point + 1 < bound) where
   -- a vreg goes to its slot, and perhaps a move is pushed
-  shifted : (t u : Tables) (v : VirtualRegister) (s : Place) → GivesSlot t.slots u.slots v s → Settles t.places u.places v s → SameMachine t u → All (IsSafeEdit env u.slots.count bound) u.edits
-      → IsSafe env Known bound t → IsSafe env Known bound u
+  shifted : (t u : Tables) (v : VirtualRegister) (s : Place) → GivesSlot t.slots u.slots v s → Settles t.places u.places v s → SameMachine t u → All (IsSafeEdit env Known Writes u.slots bound) u.edits
+      → IsSafe env Known Writes bound t → IsSafe env Known Writes bound u
   shifted t u v s gives settles machine edits h = record {
     machine = machine_kept env t u machine h.machine;
-    places = settled_places env Known t.slots.count u.slots.count t.places u.places v s gives.grows settles (λ w known e. slot_none env u.slots.count w.class s gives.below) h.places;
-    holders = settled_holders env t.places u.places v s settles (λ r e. slot_of_machine env u.slots.count s r gives.below e) h.holders;
+    places = settled_places env Known t.slots u.slots t.places u.places v s (gives_stay t.slots u.slots v s gives) settles
+        (λ w known e. slot_none env u.slots w s (ap (slot_name u.slots) e ∙ gives.gives) gives.below) h.places;
+    holders = settled_holders env Known t.places u.places v s settles (λ r e. absurd (slot_is_none_else u.slots.count s r gives.below e)) h.holders;
     slots = slots_kept t.slots u.slots v s gives h.slots;
     edits = edits;
   }
 
   -- an allocatable register is emptied
-  pub evicts_kept : (r : Register) (u : Turn) (old new : Tables) → Evicts point r old new → is_allocatable env r.class r ≡ true → IsSafe env Known bound old → IsSafeTurn env u
-      → StepKept env Known bound old u new
-  evicts_kept r u old new (nobody none same) ok h ht = kept_none env Known bound old new u u same refl h ht
-  evicts_kept r u old new (moved v s small held gives settles edits machine) ok h ht = record {
-    safe = shifted old new v s gives settles machine
-        (subst (All (IsSafeEdit env new.slots.count bound)) (sym edits) (pushed env new.slots.count bound point s (InRegister r) old.edits lt (slot_end env new.slots.count s gives.there gives.below) (inl (inl ok))
-        (λ both. apart.slots r ok both.1) (edits_grow env old.slots.count new.slots.count bound old.edits gives.grows h.edits))) h;
-    turn = ht;
-    grows = gives.grows;
-    standing = settled_standing old.places new.places v s gives.there settles;
-  }
+  pub evicts_kept : (r : Register) (u : Turn) (old new : Tables) → Evicts point r old new → is_allocatable env r.class r ≡ true → IsSafe env Known Writes bound old → IsSafeTurn env u
+      → StepKept env Known Writes bound old u new
+  evicts_kept r u old new (nobody none same) ok h ht = kept_none env Known Writes bound old new u u same refl h ht
+  evicts_kept r u old new (moved v s small held gives settles edits machine) ok h ht =
+      let was : MayBeHeld env Known r v = h.holders r v small held in
+      let stay : SlotsStay old.slots new.slots = gives_stay old.slots new.slots v s gives in
+      record {
+        safe = shifted old new v s gives settles machine
+            (subst (All (IsSafeEdit env Known Writes new.slots bound)) (sym edits) (pushed env Known Writes new.slots bound point v s (InRegister r) old.edits lt was.0
+            (slot_end env new.slots v s gives.gives gives.there gives.below) (inl (was.1, was.2)) (no_write (Writes point v) r)
+            (λ both. apart.slots r ok both.1) (edits_grow env Known Writes old.slots new.slots bound old.edits stay h.edits))) h;
+        turn = ht;
+        stay = stay;
+        standing = settled_standing old.places new.places v s gives.there settles;
+      }
 
   -- the register through which moves from stack to stack go
-  pub scratches_kept : (class : RegClass) (t u : Turn) (by : Register) (old new : Tables) → Scratches point class t u by old new → IsSafe env Known bound old → IsSafeTurn env t
-      → StepKept env Known bound old u new × IsThrough env by
-  scratches_kept class t u by old new (dedicated is eu en) h ht = (kept_none env Known bound old new t u en eu h ht, inr (class, h.machine.dedicated class by is))
-  scratches_kept class t u by old new (had none is eu en) h ht = (kept_none env Known bound old new t u en eu h ht, inl (ht.scratch class by is))
+  pub scratches_kept : (class : RegClass) (t u : Turn) (by : Register) (old new : Tables) → Scratches point class t u by old new → IsSafe env Known Writes bound old → IsSafeTurn env t
+      → StepKept env Known Writes bound old u new × IsThrough env class by
+  scratches_kept class t u by old new (dedicated is eu en) h ht = (kept_none env Known Writes bound old new t u en eu h ht, inr (h.machine.dedicated class by is))
+  scratches_kept class t u by old new (had none is eu en) h ht = (kept_none env Known Writes bound old new t u en eu h ht, inl (ht.scratch class by is))
   scratches_kept class t u by old new (found none fresh may early late early_left late_left scratch evicts) h ht =
       let ok : is_allocatable env by.class by ≡ true = h.machine.allocatable by may.small may.allocatable in
-      (evicts_kept by u old new evicts ok h (scratch_set env class by t u ok scratch ht), inl ok)
+      (evicts_kept by u old new evicts ok h (scratch_set env class by t u (ok, may.of_class) scratch ht), inl (ok, may.of_class))
 
-  -- a move, by way of a register where both ends are in memory
-  pub crosses_kept : (class : RegClass) (from to : Place) (t u : Turn) (old new : Tables) → Crosses point class from to t u old new → IsEndOfMove env old.slots.count from → IsEndOfMove env old.slots.count to
-      → IsSafe env Known bound old → IsSafeTurn env t → StepKept env Known bound old u new
-  crosses_kept class from to t u old new (direct one eu en) f g h ht =
-      subst (StepKept env Known bound old u) (sym en) (record {
+  -- a move of a vreg's value, by way of a register where both ends are in memory
+  pub crosses_kept : (v : VirtualRegister) (from to : Place) (t u : Turn) (old new : Tables) → Crosses point v.class from to t u old new → Known v → IsEndOfMove env old.slots v from → IsEndOfMove env old.slots v to
+      → ((n : ℕ) → to ≡ InSlot n → Writes point v n) → IsSafe env Known Writes bound old → IsSafeTurn env t → StepKept env Known Writes bound old u new
+  crosses_kept v from to t u old new (direct one eu en) known f g w h ht =
+      subst (StepKept env Known Writes bound old u) (sym en) (record {
         safe = record {
           machine = record { allocatable = h.machine.allocatable; fixed_stack = h.machine.fixed_stack; memory = h.machine.memory; dedicated = h.machine.dedicated };
           places = h.places;
           holders = h.holders;
           slots = h.slots;
-          edits = pushed env old.slots.count bound point from to old.edits lt f g (one_register env old from to h.machine one) h.edits;
+          edits = pushed env Known Writes old.slots bound point v from to old.edits lt known f g w (one_register env old from to h.machine one) h.edits;
         };
         turn = subst (IsSafeTurn env) (sym eu) ht;
-        grows = omega arith;
+        stay = λ n k is. is;
         standing = λ n there. there;
       })
-  crosses_kept class from to t u old new (through by m both scratches en) f g h ht =
-      let s = scratches_kept class t u by old m scratches h ht in
+  crosses_kept v from to t u old new (through by m both scratches en) known f g w h ht =
+      let s = scratches_kept v.class t u by old m scratches h ht in
       let k = s.0 in
-      let count : ℕ = m.slots.count in
-      let b : IsEndOfMove env count (InRegister by) = through_end env count by s.1 in
-      let first : All (IsSafeEdit env count bound) (m.edits ++ a_move point (InRegister by) to ∷ []) =
-      pushed env count bound point (InRegister by) to m.edits lt b (end_grows env old.slots.count count to k.grows g) (λ x. through_apart env apart by s.1 x.0) k.safe.edits in
-      let second : All (IsSafeEdit env count bound) ((m.edits ++ a_move point (InRegister by) to ∷ []) ++ a_move point from (InRegister by) ∷ []) =
-      pushed env count bound point from (InRegister by) (m.edits ++ a_move point (InRegister by) to ∷ []) lt (end_grows env old.slots.count count from k.grows f) b (λ x. through_apart env apart by s.1 x.1) first in
-      subst (StepKept env Known bound old u) (sym en) (record {
+      let b : IsEndOfMove env m.slots v (InRegister by) = through_end env m.slots v by s.1 in
+      let first : All (IsSafeEdit env Known Writes m.slots bound) (m.edits ++ a_move point (InRegister by) to ∷ []) =
+      pushed env Known Writes m.slots bound point v (InRegister by) to m.edits lt known b (end_grows env old.slots m.slots v to k.stay g) w (λ x. through_apart env apart v.class by s.1 x.0) k.safe.edits in
+      let second : All (IsSafeEdit env Known Writes m.slots bound) ((m.edits ++ a_move point (InRegister by) to ∷ []) ++ a_move point from (InRegister by) ∷ []) =
+      pushed env Known Writes m.slots bound point v from (InRegister by) (m.edits ++ a_move point (InRegister by) to ∷ []) lt known (end_grows env old.slots m.slots v from k.stay f) b
+      (no_write (Writes point v) by) (λ x. through_apart env apart v.class by s.1 x.1) first in
+      subst (StepKept env Known Writes bound old u) (sym en) (record {
         safe = record {
           machine = record { allocatable = k.safe.machine.allocatable; fixed_stack = k.safe.machine.fixed_stack; memory = k.safe.machine.memory; dedicated = k.safe.machine.dedicated };
           places = k.safe.places;
           holders = k.safe.holders;
           slots = k.safe.slots;
-          edits = subst (All (IsSafeEdit env count bound)) (two_more m.edits (a_move point (InRegister by) to) (a_move point from (InRegister by))) second;
+          edits = subst (All (IsSafeEdit env Known Writes m.slots bound)) (two_more m.edits (a_move point (InRegister by) to) (a_move point from (InRegister by))) second;
         };
         turn = k.turn;
-        grows = k.grows;
+        stay = k.stay;
         standing = k.standing;
       })
 
-  pub sends_kept : (class : RegClass) (is_made : Bool) (from to : Place) (t u : Turn) (old new : Tables) → Sends point class is_made from to t u old new
-      → (is_made ≡ true → IsEndOfMove env old.slots.count from × IsEndOfMove env old.slots.count to) → IsSafe env Known bound old → IsSafeTurn env t → StepKept env Known bound old u new
-  sends_kept class is_made from to t u old new (sent made crosses) ends h ht = (let e = ends made in crosses_kept class from to t u old new crosses e.0 e.1 h ht)
-  sends_kept class is_made from to t u old new (unsent not_made eu en) ends h ht = kept_none env Known bound old new t u en eu h ht
+  -- the ends of a move that is made, and what it writes
+  abbrev pub MayMove : SlotsValue → VirtualRegister → Place → Place → Type 0
+  MayMove slots v from to = IsEndOfMove env slots v from × IsEndOfMove env slots v to × ((n : ℕ) → to ≡ InSlot n → Writes point v n)
+
+  pub sends_kept : (v : VirtualRegister) (is_made : Bool) (from to : Place) (t u : Turn) (old new : Tables) → Sends point v.class is_made from to t u old new → Known v
+      → (is_made ≡ true → MayMove old.slots v from to) → IsSafe env Known Writes bound old → IsSafeTurn env t → StepKept env Known Writes bound old u new
+  sends_kept v is_made from to t u old new (sent made crosses) known ends h ht = (let e = ends made in crosses_kept v from to t u old new crosses known e.0 e.1 e.2 h ht)
+  sends_kept v is_made from to t u old new (unsent not_made eu en) known ends h ht = kept_none env Known Writes bound old new t u en eu h ht
 
   -- a register or fixed stack slot is emptied
-  pub clears_kept : (r : Register) (t u : Turn) (old new : Tables) → Clears point r t u old new → IsSafe env Known bound old → IsSafeTurn env t → StepKept env Known bound old u new
-  clears_kept r t u old new (empty none eu en) h ht = kept_none env Known bound old new t u en eu h ht
+  pub clears_kept : (r : Register) (t u : Turn) (old new : Tables) → Clears point r t u old new → IsSafe env Known Writes bound old → IsSafeTurn env t → StepKept env Known Writes bound old u new
+  clears_kept r t u old new (empty none eu en) h ht = kept_none env Known Writes bound old new t u en eu h ht
   clears_kept r t u old new (cleared v s m small held gives settles edits machine crosses) h ht =
-      let safe : IsSafe env Known bound m = shifted old m v s gives settles machine (subst (All (IsSafeEdit env m.slots.count bound)) (sym edits) (edits_grow env old.slots.count m.slots.count bound old.edits gives.grows h.edits)) h in
-      kept_both env Known bound old m new t u (record { safe = safe; turn = ht; grows = gives.grows; standing = settled_standing old.places m.places v s gives.there settles })
-      (crosses_kept v.class s (InRegister r) t u m new crosses (slot_end env m.slots.count s gives.there gives.below) (inl (h.holders r v small held)) safe ht)
+      let was : MayBeHeld env Known r v = h.holders r v small held in
+      let stay : SlotsStay old.slots m.slots = gives_stay old.slots m.slots v s gives in
+      let safe : IsSafe env Known Writes bound m = shifted old m v s gives settles machine (subst (All (IsSafeEdit env Known Writes m.slots bound)) (sym edits) (edits_grow env Known Writes old.slots m.slots bound old.edits stay h.edits)) h in
+      kept_both env Known Writes bound old m new t u (record { safe = safe; turn = ht; stay = stay; standing = settled_standing old.places m.places v s gives.there settles })
+      (crosses_kept v s (InRegister r) t u m new crosses was.0 (slot_end env m.slots v s gives.gives gives.there gives.below) (inl (was.1, was.2)) (no_write (Writes point v) r) safe ht)
 
-  pub clears_but_kept : (r : Register) (v : VirtualRegister) (t u : Turn) (old new : Tables) → ClearsBut point r v t u old new → IsSafe env Known bound old → IsSafeTurn env t → StepKept env Known bound old u new
-  clears_but_kept r v t u old new (own w held same eu en) h ht = kept_none env Known bound old new t u en eu h ht
+  pub clears_but_kept : (r : Register) (v : VirtualRegister) (t u : Turn) (old new : Tables) → ClearsBut point r v t u old new → IsSafe env Known Writes bound old → IsSafeTurn env t → StepKept env Known Writes bound old u new
+  clears_but_kept r v t u old new (own w held same eu en) h ht = kept_none env Known Writes bound old new t u en eu h ht
   clears_but_kept r v t u old new (others not_own clears) h ht = clears_kept r t u old new clears h ht

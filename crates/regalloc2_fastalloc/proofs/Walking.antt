@@ -1,19 +1,21 @@
 -- What the walk over all instructions keeps, with operands of every kind but `Limit`.
-use Rattle.std.proofs.Common.{ℕ, zero, suc, ◌≡◌, ◌+◌, ◌-◌, ◌<◌, ◌≤◌, List, [], length, refl, sym, ap, ◌∙◌, inl, inr, subst, arith}
+use Rattle.std.proofs.Common.{ℕ, zero, suc, ◌≡◌, ◌+◌, ◌-◌, ◌<◌, ◌≤◌, ◌⊎◌, List, [], length, refl, sym, ap, ◌∙◌, inl, inr, subst, arith}
 use Rattle.std.specs.Prelude.{true}
 use Rattle.std.proofs.lemmas.Bool.{cases_eq}
 use Rattle.std.proofs.lemmas.List.Sums.{sum_by_more}
 use Rattle.regalloc2_names.specs.declared.OperandConstraint.TheVariants.{Reuse}
 use Rattle.regalloc2_names.specs.Register.{VirtualRegister}
-use Rattle.regalloc2_names.specs.Place.{Place}
-use Rattle.regalloc2_names.specs.Point.{before}
+use Rattle.regalloc2_names.specs.Place.{Place, InSlot}
+use Rattle.regalloc2_names.specs.Point.{before, after}
 use Rattle.regalloc2_function.specs.FunctionValue.{FunctionValue, InstValue, inst_at, no_inst}
 use Rattle.regalloc2_function.specs.Machine.{MachineValue}
+use Rattle.regalloc2_function.specs.SourceRun.{is_def, is_reading}
+use Rattle.regalloc2_fastalloc.specs.Tables.{SlotsValue}
 use Rattle.regalloc2_fastalloc.specs.Steps.{Tables, op_at}
 use Rattle.regalloc2_fastalloc.specs.Sound.{IsSafe}
 use Rattle.regalloc2_fastalloc.specs.Walks.{AllocatesAt, Walks, untouched, one_more, offset_of}
 use Rattle.regalloc2_fastalloc.proofs.Sound.{IsApart}
-use Rattle.regalloc2_fastalloc.proofs.Filled.{at_place, IsTame, IsGood, good_grows}
+use Rattle.regalloc2_fastalloc.proofs.Filled.{at_place, IsTame, IsGood, good_grows, DefsAreWritten, UsesAreWritten}
 use Rattle.regalloc2_fastalloc.proofs.Allocated.{InstKept, allocates_kept, allocates_last_kept}
 use Rattle.regalloc2_fastalloc.proofs.Calm.{IsEmpty}
 use Rattle.regalloc2_fastalloc.proofs.Last.{calm_last}
@@ -34,62 +36,86 @@ offset_rises f i (suc n) le =
 abbrev pub place_of : FunctionValue → List Place → ℕ → ℕ → Place
 place_of f places j k = at_place places (offset_of f j + k)
 
+-- what the walk writes to slots: after an instruction those of the vregs that it defines, and before it those in which it reads
+abbrev pub WritesAt : FunctionValue → List Place → ℕ → VirtualRegister → ℕ → Type 0
+WritesAt f places point v n =
+    (i k : ℕ) × (i < length f.insts) × (k < length (inst_at f i).operands) × ((op_at (inst_at f i).operands k).vreg ≡ v)
+    × (((point ≡ after i) × (is_def (op_at (inst_at f i).operands k).kind ≡ true)) ⊎ ((point ≡ before i) × (is_reading (op_at (inst_at f i).operands k) ≡ true) × (place_of f places i k ≡ InSlot n)))
+
 -- an operand has a good place, and a reuse that of the operand that it names
-pub record HasGood (env : MachineValue) (count : ℕ) (f : FunctionValue) (places : List Place) (j k : ℕ) : Type 0 where
-  pub good : IsGood env count (op_at (inst_at f j).operands k) (place_of f places j k)
+pub record HasGood (env : MachineValue) (slots : SlotsValue) (f : FunctionValue) (places : List Place) (j k : ℕ) : Type 0 where
+  pub good : IsGood env slots (op_at (inst_at f j).operands k) (place_of f places j k)
   pub shared : (n : ℕ) → (op_at (inst_at f j).operands k).constraint ≡ Reuse n → (n < length (inst_at f j).operands) × (place_of f places j k ≡ place_of f places j n)
 
--- the tables are safe, and the operands of the instructions from i on have good places
-pub record WalkKept (env : MachineValue) (Known : VirtualRegister → Type 0) (f : FunctionValue) (i : ℕ) (places : List Place) (t : Tables) : Type 0 where
-  pub safe : IsSafe env Known (before (length f.insts)) t
-  pub good : (j k : ℕ) → i ≤ j → j < length f.insts → k < length (inst_at f j).operands → HasGood env t.slots.count f places j k
+-- the tables are safe, and the operands of the instructions from i on have good places; at the walk's end all places are the last ones
+pub record WalkKept (env : MachineValue) (Known : VirtualRegister → Type 0) (f : FunctionValue) (last : List Place) (i : ℕ) (places : List Place) (t : Tables) : Type 0 where
+  pub safe : IsSafe env Known (WritesAt f last) (before (length f.insts)) t
+  pub good : (j k : ℕ) → i ≤ j → j < length f.insts → k < length (inst_at f j).operands → HasGood env t.slots f places j k
 
 -- where all instructions are left, nothing has been done
 at_start : (f : FunctionValue) (blank : List Place) (old : Tables) (i : ℕ) (places : List Place) (t : Tables) → Walks f blank old i places t → i ≡ length f.insts → t ≡ old
 at_start f blank old i places t untouched e = refl
 at_start f blank old i places t (one_more n b p s u lt prev a) e = absurd (omega arith)
 
+-- the places of later instructions stay
+later_same : (f : FunctionValue) (i : ℕ) (b p : List Place) (t u : Tables) → i < length f.insts → AllocatesAt i (inst_at f i) (offset_of f i) b p t u → (j : ℕ) → i + 1 ≤ j → j < length f.insts → (k : ℕ) → place_of f p j k ≡ place_of f b j k
+later_same f i b p t u lt a j le less k =
+    let m : ℕ = j - (i + 1) in
+    let r = offset_rises f (i + 1) m (omega arith) in
+    let n = offset_next f i lt in
+    let s : offset_of f (i + 1 + m) ≡ offset_of f j = ap (offset_of f) (omega arith) in
+    a.outside (offset_of f j + k) (inr (omega arith))
+
+-- the instructions from i on have their last places
+abbrev pub AreLast : FunctionValue → List Place → ℕ → List Place → Type 0
+AreLast f last i places = (j k : ℕ) → i ≤ j → j < length f.insts → k < length (inst_at f j).operands → place_of f last j k ≡ place_of f places j k
+
 module _ (env : MachineValue) (apart : IsApart env) (Known : VirtualRegister → Type 0) (f : FunctionValue) (tame : (i : ℕ) → i < length f.insts → IsTame Known (inst_at f i).operands)
-    (returns : (i : ℕ) → i + 1 ≡ length f.insts → (inst_at f i).is_ret ≡ true) where
+    (returns : (i : ℕ) → i + 1 ≡ length f.insts → (inst_at f i).is_ret ≡ true) (last : List Place) where
   -- the places of one more instruction
   more_places : (i : ℕ) (b p : List Place) (t u : Tables) → (lt : i < length f.insts) → (a : AllocatesAt i (inst_at f i) (offset_of f i) b p t u)
-      → InstKept env Known (before (length f.insts)) (inst_at f i).operands a.here t u
-      → ((j k : ℕ) → i + 1 ≤ j → j < length f.insts → k < length (inst_at f j).operands → HasGood env t.slots.count f b j k)
-      → (j k : ℕ) → i ≤ j → j < length f.insts → k < length (inst_at f j).operands → HasGood env u.slots.count f p j k
+      → InstKept env Known (WritesAt f last) (before (length f.insts)) (inst_at f i).operands a.here t u
+      → ((j k : ℕ) → i + 1 ≤ j → j < length f.insts → k < length (inst_at f j).operands → HasGood env t.slots f b j k)
+      → (j k : ℕ) → i ≤ j → j < length f.insts → k < length (inst_at f j).operands → HasGood env u.slots f p j k
   more_places i b p t u lt a here rest j k le less within = elim (cases_eq j i) [
-    | inl e ↦ (let P : ℕ → Type 0 = λ n. k < length (inst_at f n).operands → HasGood env u.slots.count f p n k in
+    | inl e ↦ (let P : ℕ → Type 0 = λ n. k < length (inst_at f n).operands → HasGood env u.slots f p n k in
         subst P (sym e) (λ w. record {
-          good = subst (IsGood env u.slots.count (op_at (inst_at f i).operands k)) (sym (a.inside k w)) (here.good k w);
+          good = subst (IsGood env u.slots (op_at (inst_at f i).operands k)) (sym (a.inside k w)) (here.good k w);
           shared = λ n is. (let m : n < length (inst_at f i).operands = ((tame i lt).named k n w is).0 in (m, a.inside k w ∙ here.shared k n w is ∙ sym (a.inside n m)));
         }) within)
     | inr d ↦ (
-        let m : ℕ = j - (i + 1) in
-        let r = offset_rises f (i + 1) m (omega arith) in
-        let n = offset_next f i lt in
-        let s : offset_of f (i + 1 + m) ≡ offset_of f j = ap (offset_of f) (omega arith) in
         let g = rest j k (omega arith) less within in
-        let same : (x : ℕ) → place_of f p j x ≡ place_of f b j x = λ x. a.outside (offset_of f j + x) (inr (omega arith)) in
+        let same : (x : ℕ) → place_of f p j x ≡ place_of f b j x = later_same f i b p t u lt a j (omega arith) less in
         record {
-          good = subst (IsGood env u.slots.count (op_at (inst_at f j).operands k)) (sym (same k)) (good_grows env t.slots.count u.slots.count (op_at (inst_at f j).operands k) (place_of f b j k) here.grows g.good);
+          good = subst (IsGood env u.slots (op_at (inst_at f j).operands k)) (sym (same k)) (good_grows env t.slots u.slots (op_at (inst_at f j).operands k) (place_of f b j k) here.stay g.good);
           shared = λ x is. ((g.shared x is).0, same k ∙ (g.shared x is).1 ∙ sym (same x));
         })
   ]
 
-  pub walk_kept : (blank : List Place) (old : Tables) → IsEmpty old → old.edits ≡ [] → IsSafe env Known (before (length f.insts)) old
-      → (i : ℕ) (places : List Place) (t : Tables) → Walks f blank old i places t → WalkKept env Known f i places t
-  walk_kept blank old empty none h i places t untouched = record { safe = h; good = λ j k le less within. absurd (omega arith) }
-  walk_kept blank old empty none h i places t (one_more n b p s u lt prev a) =
-      let w = walk_kept blank old empty none h (n + 1) b s prev in
+  -- what an instruction writes to slots
+  defs_written : (i : ℕ) → i < length f.insts → DefsAreWritten (WritesAt f last) i (inst_at f i).operands
+  defs_written i lt k n less def = (i, k, lt, less, refl, inl (refl, def))
+
+  uses_written : (i : ℕ) (b p : List Place) (t u : Tables) → i < length f.insts → (a : AllocatesAt i (inst_at f i) (offset_of f i) b p t u) → AreLast f last i p → UsesAreWritten (WritesAt f last) i (inst_at f i).operands a.here
+  uses_written i b p t u lt a are_last k n less reads is = (i, k, lt, less, refl, inr (refl, reads, are_last i k (omega arith) lt less ∙ a.inside k less ∙ is))
+
+  pub walk_kept : (blank : List Place) (old : Tables) → IsEmpty old → old.edits ≡ [] → IsSafe env Known (WritesAt f last) (before (length f.insts)) old
+      → (i : ℕ) (places : List Place) (t : Tables) → Walks f blank old i places t → AreLast f last i places → WalkKept env Known f last i places t
+  walk_kept blank old empty none h i places t untouched are_last = record { safe = h; good = λ j k le less within. absurd (omega arith) }
+  walk_kept blank old empty none h i places t (one_more n b p s u lt prev a) are_last =
+      let w = walk_kept blank old empty none h (n + 1) b s prev (λ j k le less within. are_last j k (omega arith) less within ∙ later_same f n b p s u lt a j le less k) in
       let inst : InstValue = inst_at f n in
+      let defs : DefsAreWritten (WritesAt f last) n inst.operands = defs_written n lt in
+      let uses : UsesAreWritten (WritesAt f last) n inst.operands a.here = uses_written n b p s u lt a are_last in
       elim (cases_eq (n + 1) (length f.insts)) [
         | inl e ↦ (
             let start : s ≡ old = at_start f blank old (n + 1) b s prev e in
             let nobody : IsEmpty s = subst IsEmpty (sym start) empty in
             let fresh : s.edits ≡ [] = ap (λ (z : Tables). z.edits) start ∙ none in
             let still : a.allocates.after_early.edits ≡ s.edits = calm_last Known n inst a.blank a.here s u (tame n lt) (returns n e) a.allocates nobody in
-            let x = allocates_last_kept env apart Known (before (length f.insts)) n inst a.blank a.here s u (omega arith) (tame n lt) a.allocates fresh (still ∙ fresh) w.safe in
+            let x = allocates_last_kept env apart Known (WritesAt f last) (before (length f.insts)) n inst a.blank a.here s u (omega arith) (tame n lt) defs uses a.allocates fresh (still ∙ fresh) w.safe in
             record { safe = x.safe; good = more_places n b p s u lt a x w.good })
         | inr d ↦ (
-            let x = allocates_kept env apart Known (before (length f.insts)) n inst a.blank a.here s u (omega arith) (tame n lt) a.allocates w.safe in
+            let x = allocates_kept env apart Known (WritesAt f last) (before (length f.insts)) n inst a.blank a.here s u (omega arith) (tame n lt) defs uses a.allocates w.safe in
             record { safe = x.safe; good = more_places n b p s u lt a x w.good })
       ]

@@ -8,34 +8,37 @@ use Rattle.regalloc2_function.specs.Machine.{MachineValue, is_allocatable, scrat
 use Rattle.regalloc2_function.specs.OutputValue.{MoveValue}
 use Rattle.regalloc2_function.specs.Faithful.{IsStackToStack}
 use Rattle.regalloc2_fastalloc.specs.declared.turn.Turn.{Turn}
-use Rattle.regalloc2_fastalloc.specs.Tables.{stood, holder, slot_name, IsSlotOrNone}
+use Rattle.regalloc2_fastalloc.specs.Tables.{SlotsValue, stood, holder, slot_name, IsSlotOrNone}
 use Rattle.regalloc2_fastalloc.specs.Steps.{Tables}
 
 -- a register where values may stand: an allocatable one, or a fixed stack slot
 abbrev pub IsOfMachine : MachineValue → Register → Type 0
 IsOfMachine env r = (is_allocatable env r.class r ≡ true) ⊎ IsFixedStackSlot env r
 
--- a place where a value of a class may stand; slots lie below a count
-abbrev pub MayStand : MachineValue → ℕ → RegClass → Place → Type 0
-MayStand env count class NoPlace = ⊥
-MayStand env count class (InRegister r) = IsOfMachine env r × (r.class ≡ class)
-MayStand env count class (InSlot n) = n < count
+-- a place where a vreg may stand: such a register of its class, or its own slot
+abbrev pub MayStand : MachineValue → SlotsValue → VirtualRegister → Place → Type 0
+MayStand env slots v NoPlace = ⊥
+MayStand env slots v (InRegister r) = IsOfMachine env r × (r.class ≡ v.class)
+MayStand env slots v (InSlot n) = slot_name slots v.number ≡ InSlot n
 
-abbrev pub MayStandOrNone : MachineValue → ℕ → RegClass → Place → Type 0
-MayStandOrNone env count class NoPlace = Unit {0}
-MayStandOrNone env count class (InRegister r) = IsOfMachine env r × (r.class ≡ class)
-MayStandOrNone env count class (InSlot n) = n < count
+abbrev pub MayStandOrNone : MachineValue → SlotsValue → VirtualRegister → Place → Type 0
+MayStandOrNone env slots v NoPlace = Unit {0}
+MayStandOrNone env slots v (InRegister r) = IsOfMachine env r × (r.class ≡ v.class)
+MayStandOrNone env slots v (InSlot n) = slot_name slots v.number ≡ InSlot n
 
--- an end of a move: such a place, or a register that is kept for moves
-abbrev pub IsEndOfMove : MachineValue → ℕ → Place → Type 0
-IsEndOfMove env count NoPlace = ⊥
-IsEndOfMove env count (InRegister r) = IsOfMachine env r ⊎ ((c : RegClass) × (scratch_of env c ≡ Some r))
-IsEndOfMove env count (InSlot n) = n < count
+-- an end of a move of a vreg's value: such a place, or the register that is kept for moves of its class
+abbrev pub IsEndOfMove : MachineValue → SlotsValue → VirtualRegister → Place → Type 0
+IsEndOfMove env slots v NoPlace = ⊥
+IsEndOfMove env slots v (InRegister r) = (IsOfMachine env r × (r.class ≡ v.class)) ⊎ (scratch_of env v.class ≡ Some r)
+IsEndOfMove env slots v (InSlot n) = slot_name slots v.number ≡ InSlot n
 
--- a move between such ends, not from a place in memory to another, at a point that isn't the last below a bound
-pub record IsSafeEdit (env : MachineValue) (count bound : ℕ) (e : ℕ × MoveValue) : Type 0 where
-  pub from : IsEndOfMove env count e.1.from
-  pub to : IsEndOfMove env count e.1.to
+-- a move of a known vreg's value between such ends, not from a place in memory to another, at a point that isn't the last below a bound; into a slot only where Writes lets its vreg's value be written there
+pub record IsSafeEdit (env : MachineValue) (Known : VirtualRegister → Type 0) (Writes : ℕ → VirtualRegister → ℕ → Type 0) (slots : SlotsValue) (bound : ℕ) (e : ℕ × MoveValue) : Type 0 where
+  pub vreg : VirtualRegister
+  pub known : Known vreg
+  pub from : IsEndOfMove env slots vreg e.1.from
+  pub to : IsEndOfMove env slots vreg e.1.to
+  pub written : (n : ℕ) → e.1.to ≡ InSlot n → Writes e.0 vreg n
   pub not_both : IsStackToStack env e.1 → ⊥
   pub point : e.0 + 1 < bound
 
@@ -46,15 +49,15 @@ pub record HasMachine (env : MachineValue) (t : Tables) : Type 0 where
   pub memory : (r : Register) → IsFixedStackSlot env r → has_register t.fixed_stack r ≡ true
   pub dedicated : (c : RegClass) (r : Register) → slice_index_or t.dedicated (class_code c) None ≡ Some r → scratch_of env c ≡ Some r
 
--- whoever is known stands where values of its class may, or nowhere; registers hold nobody else; slots and moves are in order
-pub record IsSafe (env : MachineValue) (Known : VirtualRegister → Type 0) (bound : ℕ) (t : Tables) : Type 0 where
+-- whoever is known stands where it may, or nowhere; registers hold nobody else; slots and moves are in order
+pub record IsSafe (env : MachineValue) (Known : VirtualRegister → Type 0) (Writes : ℕ → VirtualRegister → ℕ → Type 0) (bound : ℕ) (t : Tables) : Type 0 where
   pub machine : HasMachine env t
-  pub places : (v : VirtualRegister) → Known v → MayStandOrNone env t.slots.count v.class (stood t.places v.number)
-  pub holders : (r : Register) (v : VirtualRegister) → r.number < 64 → holder t.places r ≡ Some v → IsOfMachine env r
+  pub places : (v : VirtualRegister) → Known v → MayStandOrNone env t.slots v (stood t.places v.number)
+  pub holders : (r : Register) (v : VirtualRegister) → r.number < 64 → holder t.places r ≡ Some v → Known v × IsOfMachine env r × (r.class ≡ v.class)
   pub slots : (n : ℕ) → IsSlotOrNone t.slots.count (slot_name t.slots n)
-  pub edits : All (IsSafeEdit env t.slots.count bound) t.edits
+  pub edits : All (IsSafeEdit env Known Writes t.slots bound) t.edits
 
--- moves from stack to stack go through allocatable registers, where the machine has none of its own for them
+-- moves from stack to stack go through allocatable registers of their class, where the machine has none of its own for them
 pub record IsSafeTurn (env : MachineValue) (t : Turn) : Type 0 where
   pub three : length t.scratch ≡ 3
-  pub scratch : (c : RegClass) (r : Register) → slice_index_or t.scratch (class_code c) None ≡ Some r → is_allocatable env r.class r ≡ true
+  pub scratch : (c : RegClass) (r : Register) → slice_index_or t.scratch (class_code c) None ≡ Some r → (is_allocatable env r.class r ≡ true) × (r.class ≡ c)

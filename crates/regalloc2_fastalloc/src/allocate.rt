@@ -8,6 +8,7 @@ ghost use Rattle.regalloc2_function.specs.Faithful.{ConstraintsMet, EditsAreList
 ghost use Rattle.regalloc2_function.specs.SourceRun.{IsWrittenFirst};
 ghost use Rattle.regalloc2_function.specs.WellFormed.{IsWellFormed};
 ghost use Rattle.regalloc2_function.specs.Fitting.{MachineFits, PlacesAreProper};
+ghost use Rattle.regalloc2_function.specs.Slots.{SlotsHaveOwners};
 ghost use Rattle.regalloc2_fastalloc.specs.Lack.{LacksOnly};
 ghost use Rattle.regalloc2_fastalloc.specs.Reason.{SlotsAreFew, units_needed};
 ghost use Rattle.regalloc2_fastalloc.specs.Profile.{IsStraightBlock, AreTaken};
@@ -37,6 +38,7 @@ pub fn allocate_block<A: Allocator + Copy, F: Function, B: Allocator>(
     ensures listed { IfOk result (λ out. EditsAreListed (F.function f.now) (output_of out)) }
     ensures faithful { IfOk result (λ out. IsWrittenFirst (F.function f.now) → IsFaithful (F.function f.now) (machine_of env.now) (output_of out)) }
     ensures slots { IfOk result (λ out. SlotsAreFew (F.function f.now) (output_of out)) }
+    ensures owners { IfOk result (λ out. SlotsHaveOwners (F.function f.now) (output_of out)) }
     ensures err { IfErr result (LacksOnly (2 ^ 24 < units_needed (F.function f.now))) }
 {
     let total = count_operands(f).unwrap();

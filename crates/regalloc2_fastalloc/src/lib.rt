@@ -12,6 +12,7 @@ ghost use Rattle.regalloc2_function.specs.Faithful.{ConstraintsMet, EditsAreList
 ghost use Rattle.regalloc2_function.specs.SourceRun.{IsWrittenFirst};
 ghost use Rattle.regalloc2_function.specs.WellFormed.{IsWellFormed};
 ghost use Rattle.regalloc2_function.specs.Fitting.{MachineFits, PlacesAreProper};
+ghost use Rattle.regalloc2_function.specs.Slots.{SlotsHaveOwners};
 ghost use Rattle.regalloc2_fastalloc.specs.Promise.{RunsAsTheFunction};
 ghost use Rattle.regalloc2_fastalloc.specs.Reason.{IsReason, PassesAll, SlotsAreFew};
 
@@ -80,7 +81,8 @@ impl<A: Allocator + Copy> Ctx<A> {
 /// The machine suits the function (`machine_fits` tests that). Where `options.validate_ssa` is false the function is
 /// well-formed; else that is tested. The output is in order; each operand's place is proper and meets its constraint, also in
 /// instructions that no path reaches; each end of a move is proper, and no move goes from a place in memory to another; and
-/// each move is listed, none after the last instruction of a block.
+/// each move is listed, none after the last instruction of a block. Operands that share a slot name one virtual register, and
+/// each virtual register has one slot at most.
 ///
 /// If no path from the entry reads a virtual register before writing it, the output runs as the function does: along every
 /// path, and whatever the instructions mean, each use reads the function's own value. That premise isn't tested here.
@@ -116,6 +118,7 @@ pub fn run<A: Allocator + Copy, F: Function, B: Allocator>(
     ensures listed { IfOk result (λ out. EditsAreListed (F.function f.now) (output_of out)) }
     ensures faithful { IfOk result (λ out. IsWrittenFirst (F.function f.now) → RunsAsTheFunction (F.function f.now) (machine_of env.now) (output_of out)) }
     ensures slots { IfOk result (λ out. SlotsAreFew (F.function f.now) (output_of out)) }
+    ensures owners { IfOk result (λ out. SlotsHaveOwners (F.function f.now) (output_of out)) }
     ensures tested { OnOk result (IsWellFormed (machine_of env.now) (F.function f.now)) }
     ensures owed { OnOk result (PassesAll (F.function f.now) (machine_of env.now) options.now.validate_ssa) }
     ensures refused { IfErr result (IsReason (F.function f.now) (machine_of env.now) options.now.validate_ssa) }
@@ -155,6 +158,7 @@ pub fn run_into_ctx<A: Allocator + Copy, F: Function, B: Allocator>(
     ensures listed { OnOk result (EditsAreListed (F.function f.now) (output_of ctx.new.output)) }
     ensures faithful { OnOk result (IsWrittenFirst (F.function f.now) → RunsAsTheFunction (F.function f.now) (machine_of env.now) (output_of ctx.new.output)) }
     ensures slots { OnOk result (SlotsAreFew (F.function f.now) (output_of ctx.new.output)) }
+    ensures owners { OnOk result (SlotsHaveOwners (F.function f.now) (output_of ctx.new.output)) }
     ensures tested { OnOk result (IsWellFormed (machine_of env.now) (F.function f.now)) }
     ensures owed { OnOk result (PassesAll (F.function f.now) (machine_of env.now) options.now.validate_ssa) }
     ensures refused { IfErr result (IsReason (F.function f.now) (machine_of env.now) options.now.validate_ssa) }
@@ -184,6 +188,7 @@ pub fn run_with_ctx<'c, A: Allocator + Copy, F: Function, B: Allocator>(
     ensures listed { IfOk result (λ out. EditsAreListed (F.function f.now) (output_of out.now)) }
     ensures faithful { IfOk result (λ out. IsWrittenFirst (F.function f.now) → RunsAsTheFunction (F.function f.now) (machine_of env.now) (output_of out.now)) }
     ensures slots { IfOk result (λ out. SlotsAreFew (F.function f.now) (output_of out.now)) }
+    ensures owners { IfOk result (λ out. SlotsHaveOwners (F.function f.now) (output_of out.now)) }
     ensures tested { OnOk result (IsWellFormed (machine_of env.now) (F.function f.now)) }
     ensures owed { OnOk result (PassesAll (F.function f.now) (machine_of env.now) options.now.validate_ssa) }
     ensures refused { IfErr result (IsReason (F.function f.now) (machine_of env.now) options.now.validate_ssa) }

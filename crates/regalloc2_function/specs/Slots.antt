@@ -1,8 +1,9 @@
 -- Spill slots as memory: who owns each, and which units it stands for.
 -- Cells are kept by name; these facts make the names real, disjoint memory.
-use Rattle.std.specs.Prelude.{ℕ, ◌≡◌, ◌≢◌, ◌+◌, ◌-◌, ◌%◌, ◌<◌, ◌≤◌, ◌⊎◌, true, if◌then◌else◌, All, Any as SomeIn, length}
+use Rattle.std.specs.Prelude.{ℕ, ◌≡◌, ◌≢◌, ◌+◌, ◌-◌, ◌%◌, ◌<◌, ◌≤◌, ◌⊎◌, true, if◌then◌else◌, All, Any as SomeIn, length, slice_index_or}
 use Rattle.regalloc2_names.specs.declared.RegClass.{RegClass}
 use Rattle.regalloc2_names.specs.Register.{VirtualRegister}
+use Rattle.regalloc2_names.specs.Operand.{OperandValue}
 use Rattle.regalloc2_names.specs.Place.{Place, NoPlace, InRegister, InSlot}
 use Rattle.regalloc2_function.specs.FunctionValue.{FunctionValue, inst_at, slot_size}
 use Rattle.regalloc2_function.specs.OutputValue.{OutputValue, allocs_of, place_at}
@@ -45,3 +46,13 @@ pub record AreSlotsOwned (f : FunctionValue) (out : OutputValue) : Type 0 where
   pub apart : (m n : ℕ) → IsSlotOf f out m → IsSlotOf f out n → m ≢ n →
       (first_unit f (owner m) m + units_of f (owner m) ≤ first_unit f (owner n) n) ⊎ (first_unit f (owner n) n + units_of f (owner n) ≤ first_unit f (owner m) m)
   pub moves : All (λ e. (class : RegClass) × IsOfClass owner e.1.from class × IsOfClass owner e.1.to class) out.edits
+
+-- an operand names the virtual register, and its place is the slot
+abbrev pub StandsInSlot : FunctionValue → OutputValue → VirtualRegister → ℕ → Type 0
+StandsInSlot f out v n =
+    (i k : ℕ) × (d : OperandValue) × (i < length f.insts) × (k < length (inst_at f i).operands) × ((slice_index_or (inst_at f i).operands k d).vreg ≡ v) × (place_at (allocs_of out i) k ≡ InSlot n)
+
+-- what is promised of this by now: operands that share a slot name one virtual register, and each virtual register has one slot at most
+pub record SlotsHaveOwners (f : FunctionValue) (out : OutputValue) : Type 0 where
+  pub one_owner : (v w : VirtualRegister) (n : ℕ) → StandsInSlot f out v n → StandsInSlot f out w n → v ≡ w
+  pub one_slot : (v : VirtualRegister) (m n : ℕ) → StandsInSlot f out v m → StandsInSlot f out v n → m ≡ n

@@ -19,9 +19,10 @@ use Rattle.regalloc2_fastalloc.specs.Sound.{HasMachine}
 use Rattle.regalloc2_fastalloc.specs.Tables.{PlacesValue, SlotsValue, no_slots}
 use Rattle.regalloc2_fastalloc.proofs.Begun.{begun_machine}
 use Rattle.regalloc2_fastalloc.proofs.Finished.{IsMade, made_in_order, made_constraints, made_proper, made_in_registers, made_listed}
-use Rattle.regalloc2_fastalloc.proofs.Gathered.{walk_good}
+use Rattle.regalloc2_fastalloc.proofs.Gathered.{walk_good, tame_at}
 use Rattle.regalloc2_fastalloc.proofs.Inverses.{always}
 use Rattle.regalloc2_fastalloc.proofs.Launching.{fresh_blank, some_units, fresh_fit, all_in_tables, made_agrees}
+use Rattle.regalloc2_fastalloc.proofs.Owning.{made_owners}
 use Rattle.regalloc2_fastalloc.proofs.Rooming.{sizes_of, few_slots, full_needs, lacks_then}
 use Rattle.regalloc2_fastalloc.proofs.Walking.{WalkKept}
 use Rattle.regalloc2_fastalloc.proofs.allocate.allocate_block.Given.{Over}
@@ -66,7 +67,7 @@ machine_is g c =
     begun_machine (machine_of c.args.env.now) (tables_of c.in_ok-state.state) e.registers (λ r. (e.fixed_stack r).0) (λ r. (e.fixed_stack r).1) e.dedicated
 
 -- what the walk left
-walked : (g : Over) (c : goal.After-array_drop-state-2 g) → WalkKept (machine_of c.args.env.now) (Made (g.F.Function.function c.args.f.now)) (g.F.Function.function c.args.f.now) 0 c.allocate_insts.new.allocs (tables_of c.allocate_insts.new.self)
+walked : (g : Over) (c : goal.After-array_drop-state-2 g) → WalkKept (machine_of c.args.env.now) (Made (g.F.Function.function c.args.f.now)) (g.F.Function.function c.args.f.now) c.allocate_insts.new.allocs 0 c.allocate_insts.new.allocs (tables_of c.allocate_insts.new.self)
 walked g c =
     let f : FunctionValue = g.F.Function.function c.args.f.now in
     let e = c.in_ok-state.ensures in
@@ -104,7 +105,7 @@ made g c =
       offsets = λ i lt. c.in_ok-offsets.ensures.each i lt;
       allocs_long = ap length (places_are g c) ∙ long ∙ c.in_ok-allocs.ensures.len ∙ count_is (operand_count f < 2 ^ 32) (operand_count f) c.unwrap-total.ensures c.count_operands.ensures;
       debug = ap (map debug_of) c.new-2.ensures.items;
-      kept = subst (λ (ps : List Place). WalkKept env (Made f) f 0 ps (tables_of c.allocate_insts.new.self)) (sym (places_are g c)) (walked g c);
+      kept = subst (λ (ps : List Place). WalkKept env (Made f) f ps 0 ps (tables_of c.allocate_insts.new.self)) (sym (places_are g c)) (walked g c);
     }
 
 pub returns-clause-in_order : goal.returns-clause-in_order
@@ -151,6 +152,12 @@ returns-clause-slots g c =
     let left : Tables = tables_of c.allocate_insts.new.self in
     let machine = c.in_ok-allocate_insts.ensures.machine in
     few_slots f left.slots (out_of g c) c.count.ensures.count (sizes_kept f begun left f.named_by_last_slot c.in_ok-state.ensures.slots machine) (vregs_kept f begun left f.named_by_last_slot c.in_ok-state.ensures.slots machine) c.count.ensures.owned
+
+pub returns-clause-owners : goal.returns-clause-owners
+returns-clause-owners g c =
+    let f : FunctionValue = g.F.Function.function c.args.f.now in
+    let env : MachineValue = machine_of c.args.env.now in
+    made_owners f env (Made f) (tables_of c.allocate_insts.new.self) (out_of g c) (made g c) c.count.ensures.owned (tame_at env f (g.met.F.Function.limited c.args.f.now) c.requires.well_formed c.requires.taken)
 
 pub returns-in_err-allocate_insts-clause-err : goal.returns-in_err-allocate_insts-clause-err
 returns-in_err-allocate_insts-clause-err g c =
