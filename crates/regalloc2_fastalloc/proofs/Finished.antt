@@ -52,7 +52,7 @@ pub record IsMade (f : FunctionValue) (env : MachineValue) (Known : VirtualRegis
   pub kept : WalkKept env Known f o.allocs 0 o.allocs t
 
 -- what holds of each element holds the other way round
-all_reverse : {X : Type 0} (P : X → Type 0) (xs : List X) → All P xs → All P (reverse xs)
+pub all_reverse : {X : Type 0} (P : X → Type 0) (xs : List X) → All P xs → All P (reverse xs)
 all_reverse P xs h k d lt =
     let n : length (reverse xs) ≡ length xs = length-reverse xs in
     subst P (sym (get_or-reverse xs k d (omega arith))) (h (length xs - 1 - k) d (omega arith))

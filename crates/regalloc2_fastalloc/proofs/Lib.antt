@@ -67,3 +67,4 @@ pub mod Growing
 pub mod Stretch
 pub mod Going
 pub mod Arriving
+pub mod Owned
