@@ -68,3 +68,4 @@ pub mod Stretch
 pub mod Going
 pub mod Arriving
 pub mod Owned
+pub mod Owing

@@ -42,7 +42,7 @@ module _ (f : FunctionValue) (placesf : ℕ → List Place) (F : ℕ → Option 
         Keeps (inst_at f i).operands (placesf i) (inst_at f i).clobbers (at_point (listed new.edits) (before i)) (at_point (listed new.edits) (after i)) v s
 
   -- who isn't defined by number isn't by name
-  undefined_by : (v : VirtualRegister) (i : ℕ) → defined_by (inst_at f i).operands v.number ≡ false → Undefined (inst_at f i).operands v
+  pub undefined_by : (v : VirtualRegister) (i : ℕ) → defined_by (inst_at f i).operands v.number ≡ false → Undefined (inst_at f i).operands v
   undefined_by v i h j lt d e =
       let y : defined_by (inst_at f i).operands v.number ≡ true = subst (λ (w : VirtualRegister). defined_by (inst_at f i).operands w.number ≡ true) e (defined_by-at (inst_at f i).operands j lt d) in cc
 
