@@ -34,6 +34,7 @@ mod scratch;
 mod slots;
 mod state;
 mod turn;
+mod validate;
 
 use constraints::{test_fixed, test_limits};
 use profile::test_straight_block;
