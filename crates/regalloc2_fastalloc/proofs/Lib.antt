@@ -43,6 +43,7 @@ pub mod Pushes
 pub mod Putting
 pub mod Quieting
 pub mod Reading
+pub mod Reasoned
 pub mod Readying
 pub mod Reserved
 pub mod Reusing
@@ -59,6 +60,7 @@ pub mod Standing
 mod Straight
 pub mod Taking
 pub mod Taming
+pub mod Tested
 pub mod Turning
 pub mod Turns
 pub mod Walking

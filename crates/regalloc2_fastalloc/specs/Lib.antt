@@ -6,6 +6,8 @@ pub mod Lack
 pub mod Profile
 pub mod Promise
 pub mod Reason
+pub mod Reasons
 pub mod Reserving
 pub mod Sound
+pub mod Tested
 pub mod Tables

@@ -35,6 +35,7 @@ mod scratch;
 mod slots;
 mod state;
 mod turn;
+mod validate;
 
 use constraints::{test_fixed, test_limits};
 use profile::test_straight_block;

@@ -1,0 +1,59 @@
+-- What the tests and the walk refuse is refused for a reason.
+use Rattle.std.proofs.Common.{◌≡◌, ◌^◌, ◌<◌, Bool, true, false, refl, inl}
+use Rattle.regalloc2_names.specs.declared.RegAllocError.{RegAllocError}
+use Rattle.regalloc2_names.specs.declared.RegAllocError.TheVariants.{CritEdge, SSA, BB, Branch, EntryLivein, DisallowedBranchArg, TooManyLiveRegs, TooManyOperands, Unsupported, TooManySpillSlots, Memory}
+use Rattle.regalloc2_function.specs.FunctionValue.{FunctionValue}
+use Rattle.regalloc2_function.specs.Machine.{MachineValue}
+use Rattle.regalloc2_function.specs.Reasons.{HasShape, IsShapeFault, IsSound, IsSoundnessFault}
+use Rattle.regalloc2_function.specs.Reasons.IsShapeFault.{apart, critical, operands, outside, unlisted}
+use Rattle.regalloc2_function.specs.Reasons.IsSoundnessFault.{arguments, definitions, elsewhere, livein, open_end}
+use Rattle.regalloc2_function.specs.WellFormed.{IsWellFormed}
+use Rattle.regalloc2_fastalloc.specs.Constraints.{IsFixedFault}
+use Rattle.regalloc2_fastalloc.specs.Lack.{LacksOnly}
+use Rattle.regalloc2_fastalloc.specs.Reason.{units_needed}
+use Rattle.regalloc2_fastalloc.specs.Reasons.{PassesFirst, PassesAll, IsReason}
+use Rattle.regalloc2_fastalloc.specs.Tested.{IsFault}
+use Rattle.regalloc2_fastalloc.specs.Tested.IsFault.{memory, misshapen, unsound, clashing}
+
+-- a function is well-formed by the tests, or as the caller has it
+pub well_formed_by_either : (f : FunctionValue) (env : MachineValue) (asked : Bool) → PassesAll f env asked → (asked ≡ false → IsWellFormed env f) → IsWellFormed env f
+well_formed_by_either f env true p given = p.well_formed refl
+well_formed_by_either f env false p given = given refl
+
+shape_reason : (f : FunctionValue) (env : MachineValue) (asked : Bool) {e : RegAllocError} → PassesFirst f → asked ≡ true → IsShapeFault f e → IsReason f env asked e
+shape_reason f env asked p on (outside s h) = (p, on, misshapen (outside s h))
+shape_reason f env asked p on (apart b blocks h) = (p, on, misshapen (apart b blocks h))
+shape_reason f env asked p on (unlisted b blocks follow h) = (p, on, misshapen (unlisted b blocks follow h))
+shape_reason f env asked p on (critical b q blocks follow agree h fork) = (p, on, misshapen (critical b q blocks follow agree h fork))
+shape_reason f env asked p on (operands b blocks follow agree edges h) = (p, on, misshapen (operands b blocks follow agree edges h))
+
+soundness_reason : (f : FunctionValue) (env : MachineValue) (asked : Bool) {e : RegAllocError} → PassesFirst f → asked ≡ true → HasShape f → IsSoundnessFault f e → IsReason f env asked e
+soundness_reason f env asked p on shape (elsewhere ne) = (p, on, unsound shape (elsewhere ne))
+soundness_reason f env asked p on shape (livein z ne) = (p, on, unsound shape (livein z ne))
+soundness_reason f env asked p on shape (open_end b entry h) = (p, on, unsound shape (open_end b entry h))
+soundness_reason f env asked p on shape (arguments b entry end h) = (p, on, unsound shape (arguments b entry end h))
+soundness_reason f env asked p on shape (definitions v i entry end fit h) = (p, on, unsound shape (definitions v i entry end fit h))
+
+fixed_reason : (f : FunctionValue) (env : MachineValue) (asked : Bool) (e : RegAllocError) → PassesFirst f → asked ≡ true → HasShape f → IsSound f → IsFixedFault f env e → IsReason f env asked e
+fixed_reason f env asked e p on shape sound h = rw h.1 (inl (p, on, clashing shape sound (h.0, refl, h.2)))
+
+-- a fault is a reason, where it is asked for
+pub fault_is_reason : (f : FunctionValue) (env : MachineValue) (asked : Bool) {e : RegAllocError} → PassesFirst f → asked ≡ true → IsFault f env e → IsReason f env asked e
+fault_is_reason f env asked p on memory = p
+fault_is_reason f env asked p on (misshapen h) = shape_reason f env asked p on h
+fault_is_reason f env asked p on (unsound shape h) = soundness_reason f env asked p on shape h
+fault_is_reason f env asked {e} p on (clashing shape sound h) = fixed_reason f env asked e p on shape sound h
+
+-- and what may be lacking is one, after all tests
+pub lack_is_a_reason : (f : FunctionValue) (env : MachineValue) (asked : Bool) → PassesAll f env asked → (e : RegAllocError) → LacksOnly (2 ^ 24 < units_needed f) e → IsReason f env asked e
+lack_is_a_reason f env asked p (CritEdge a b) h = absurd h
+lack_is_a_reason f env asked p (SSA v i) h = absurd h
+lack_is_a_reason f env asked p (BB b) h = absurd h
+lack_is_a_reason f env asked p (Branch i) h = absurd h
+lack_is_a_reason f env asked p EntryLivein h = absurd h
+lack_is_a_reason f env asked p (DisallowedBranchArg i) h = absurd h
+lack_is_a_reason f env asked p TooManyLiveRegs h = p
+lack_is_a_reason f env asked p TooManyOperands h = absurd h
+lack_is_a_reason f env asked p (Unsupported i) h = absurd h
+lack_is_a_reason f env asked p TooManySpillSlots h = (p, h)
+lack_is_a_reason f env asked p Memory h = p.first

@@ -1,0 +1,47 @@
+-- Why a function of any blocks is refused: the first test that fails, and the first place where it does.
+use Rattle.std.specs.Prelude.{ℕ, ◌≡◌, ◌<◌, ◌≤◌, ◌^◌, ◌⊎◌, Bool, true, length}
+use Rattle.regalloc2_names.specs.declared.RegAllocError.{RegAllocError}
+use Rattle.regalloc2_names.specs.declared.RegAllocError.TheVariants.{CritEdge, SSA, BB, Branch, EntryLivein, DisallowedBranchArg, TooManyLiveRegs, TooManyOperands, Unsupported, TooManySpillSlots, Memory}
+use Rattle.regalloc2_function.specs.FunctionValue.{FunctionValue, inst_at, operand_count}
+use Rattle.regalloc2_function.specs.Machine.{MachineValue}
+use Rattle.regalloc2_function.specs.WellFormed.{IsWellFormed}
+use Rattle.regalloc2_fastalloc.specs.Constraints.{AreUnlimited, BranchDefinesNothing, IsFirst}
+use Rattle.regalloc2_fastalloc.specs.Reason.{units_needed}
+use Rattle.regalloc2_fastalloc.specs.Tested.{IsFault}
+
+-- The first test needs no memory: fewer than 2^32 operands.
+abbrev pub PassesFirst : FunctionValue → Type 0
+PassesFirst f = operand_count f < 2 ^ 32
+
+-- then those of a well-formed function, where they are asked for
+abbrev pub PassesAsked : FunctionValue → MachineValue → Bool → Type 0
+PassesAsked f env asked = asked ≡ true → IsWellFormed env f
+
+-- all tests that are owed
+pub record PassesAll (f : FunctionValue) (env : MachineValue) (asked : Bool) : Type 0 where
+  pub first : PassesFirst f
+  pub well_formed : PassesAsked f env asked
+  pub unlimited : (i : ℕ) → i < length f.insts → AreUnlimited (inst_at f i)
+  pub branches : (i : ℕ) → i < length f.insts → BranchDefinesNothing (inst_at f i)
+
+-- the function isn't well-formed, where that is asked for
+abbrev pub IsAskedFault : FunctionValue → MachineValue → Bool → RegAllocError → Type 0
+IsAskedFault f env asked e = PassesFirst f × (asked ≡ true) × IsFault f env e
+
+-- an instruction that the allocator doesn't take: the first that has a `Limit`, or where none has one, the first branch that defines
+abbrev pub IsNotTaken : FunctionValue → ℕ → Type 0
+IsNotTaken f i = IsFirst f AreUnlimited i ⊎ (((j : ℕ) → j < length f.insts → AreUnlimited (inst_at f j)) × IsFirst f BranchDefinesNothing i)
+
+-- the reason that an error gives
+abbrev pub IsReason : FunctionValue → MachineValue → Bool → RegAllocError → Type 0
+IsReason f env asked (CritEdge p b) = IsAskedFault f env asked (CritEdge p b)
+IsReason f env asked (SSA v i) = IsAskedFault f env asked (SSA v i)
+IsReason f env asked (BB b) = IsAskedFault f env asked (BB b)
+IsReason f env asked (Branch i) = IsAskedFault f env asked (Branch i)
+IsReason f env asked EntryLivein = IsAskedFault f env asked EntryLivein
+IsReason f env asked (DisallowedBranchArg i) = IsAskedFault f env asked (DisallowedBranchArg i)
+IsReason f env asked TooManyLiveRegs = PassesAll f env asked
+IsReason f env asked TooManyOperands = 2 ^ 32 ≤ operand_count f
+IsReason f env asked (Unsupported i) = IsAskedFault f env asked (Unsupported i) ⊎ (PassesFirst f × PassesAsked f env asked × IsNotTaken f i)
+IsReason f env asked TooManySpillSlots = PassesAll f env asked × (2 ^ 24 < units_needed f)
+IsReason f env asked Memory = PassesFirst f
