@@ -71,3 +71,4 @@ pub mod Going
 pub mod Arriving
 pub mod Owned
 pub mod Owing
+pub mod Ends
