@@ -1,24 +1,19 @@
 -- What the tests and the walk refuse is refused for a reason.
-use Rattle.std.proofs.Common.{◌≡◌, ◌^◌, ◌<◌, Bool, true, false, refl, inl}
+use Rattle.std.proofs.Common.{◌≡◌, ◌^◌, ◌<◌, ◌≤◌, Bool, true, Err, refl, subst, inl, arith}
+use Rattle.std.specs.Prelude.{◌↔◌, IfErr, Result}
 use Rattle.regalloc2_names.specs.declared.RegAllocError.{RegAllocError}
 use Rattle.regalloc2_names.specs.declared.RegAllocError.TheVariants.{CritEdge, SSA, BB, Branch, EntryLivein, DisallowedBranchArg, TooManyLiveRegs, TooManyOperands, Unsupported, TooManySpillSlots, Memory}
-use Rattle.regalloc2_function.specs.FunctionValue.{FunctionValue}
+use Rattle.regalloc2_function.specs.FunctionValue.{FunctionValue, operand_count}
 use Rattle.regalloc2_function.specs.Machine.{MachineValue}
 use Rattle.regalloc2_function.specs.Reasons.{HasShape, IsShapeFault, IsSound, IsSoundnessFault}
 use Rattle.regalloc2_function.specs.Reasons.IsShapeFault.{apart, critical, operands, outside, unlisted}
 use Rattle.regalloc2_function.specs.Reasons.IsSoundnessFault.{arguments, definitions, elsewhere, livein, open_end}
-use Rattle.regalloc2_function.specs.WellFormed.{IsWellFormed}
 use Rattle.regalloc2_fastalloc.specs.Constraints.{IsFixedFault}
 use Rattle.regalloc2_fastalloc.specs.Lack.{LacksOnly}
 use Rattle.regalloc2_fastalloc.specs.Reason.{units_needed}
 use Rattle.regalloc2_fastalloc.specs.Reasons.{PassesFirst, PassesAll, IsReason}
 use Rattle.regalloc2_fastalloc.specs.Tested.{IsFault}
 use Rattle.regalloc2_fastalloc.specs.Tested.IsFault.{memory, misshapen, unsound, clashing}
-
--- a function is well-formed by the tests, or as the caller has it
-pub well_formed_by_either : (f : FunctionValue) (env : MachineValue) (asked : Bool) → PassesAll f env asked → (asked ≡ false → IsWellFormed env f) → IsWellFormed env f
-well_formed_by_either f env true p given = p.well_formed refl
-well_formed_by_either f env false p given = given refl
 
 shape_reason : (f : FunctionValue) (env : MachineValue) (asked : Bool) {e : RegAllocError} → PassesFirst f → asked ≡ true → IsShapeFault f e → IsReason f env asked e
 shape_reason f env asked p on (outside s h) = (p, on, misshapen (outside s h))
@@ -57,3 +52,7 @@ lack_is_a_reason f env asked p TooManyOperands h = absurd h
 lack_is_a_reason f env asked p (Unsupported i) h = absurd h
 lack_is_a_reason f env asked p TooManySpillSlots h = (p, h)
 lack_is_a_reason f env asked p Memory h = p.first
+
+-- where operands are few, no refusal says that they are too many
+pub counted_alone : {T : Type 0} (f : FunctionValue) (env : MachineValue) (asked : Bool) (r : Result T RegAllocError) → PassesFirst f → IfErr r (IsReason f env asked) → (r ≡ Err TooManyOperands) ↔ (2 ^ 32 ≤ operand_count f)
+counted_alone {T = T} f env asked r few h = (λ e. subst (λ (s : Result T RegAllocError). IfErr s (IsReason f env asked)) e h, λ many. absurd (omega (arith, few, many)))
