@@ -47,13 +47,16 @@ module _ (Known : VirtualRegister → Type 0) (f : FunctionValue) (placesf : ℕ
       relied : (p : Place) → Needed (defined_by (inst_at f last).operands) new v p → Relied (defined_from f v.number last 1) block (stands_at new v.number) (slots_at new v.number) (F v.number) p
       relied p h = elim (cases_Bool (defined_by (inst_at f last).operands v.number)) [
         | inl d ↦ elim (needed_parts (defined_by (inst_at f last).operands) new v p h) [
-            | inl at ↦ (let x : None ≡ Some p = sym (a.ends.gone v.number d) ∙ at in absurd cc)
-            | inr s ↦ (let x : true ≡ false = sym d ∙ s.0 in absurd cc)
-          ]
-        | inr u ↦ (defined_from-one f v.number last ∙ or_none (defined_by (inst_at f last).operands v.number) u, elim (needed_parts (defined_by (inst_at f last).operands) new v p h) [
+          | inl at ↦ (let x : None ≡ Some p = sym (a.ends.gone v.number d) ∙ at in absurd cc)
+          | inr s ↦ (let x : true ≡ false = sym d ∙ s.0 in absurd cc)
+        ]
+        | inr u ↦ (
+          defined_from-one f v.number last ∙ or_none (defined_by (inst_at f last).operands v.number) u,
+          elim (needed_parts (defined_by (inst_at f last).operands) new v p h) [
             | inl at ↦ inl at
             | inr s ↦ inr (inl s.1)
-          ])
+          ],
+        )
       ]
 
 -- what is owed in v's own slot behind a block that has edges
@@ -68,10 +71,10 @@ pub owed_there : (f : FunctionValue) (F : ℕ → Option Place) (b : ℕ) (v : V
 owed_there f F b v block t stays settled writes lives p (none, (edge, wanted), own) = elim (cases_Bool block) [
   | inr free ↦ (refl, inr (inr (free, own)))
   | inl is ↦ elim wanted [
-      | inl unwritten ↦ absurd (writes is unwritten)
-      | inr used ↦ elim settled [
-          | inl nowhere ↦ absurd (lives is used.0 used.1 used.2 used.4 nowhere)
-          | inr k ↦ (refl, inr (inl (ap opt k.2 ∙ sym (stays (InSlot k.0) (ap opt k.2)) ∙ own)))
-        ]
+    | inl unwritten ↦ absurd (writes is unwritten)
+    | inr used ↦ elim settled [
+      | inl nowhere ↦ absurd (lives is used.0 used.1 used.2 used.4 nowhere)
+      | inr k ↦ (refl, inr (inl (ap opt k.2 ∙ sym (stays (InSlot k.0) (ap opt k.2)) ∙ own)))
     ]
+  ]
 ]

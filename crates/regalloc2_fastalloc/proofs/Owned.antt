@@ -30,12 +30,12 @@ no_move_or p q [] R h = inl tt
 no_move_or p q (e ∷ es) R h = elim (no_move_or p q es R (λ k d lt. h (suc k) d (omega arith))) [
   | inr r ↦ inr r
   | inl rest ↦ elim (cases_eq e.0 q) [
-      | inr not ↦ inl (subst (NoMoveTo p) (sym (at_point-other e.0 q e.1 es not)) rest)
-      | inl is ↦ elim (cases_place e.1.to p) [
-          | inl to ↦ inr (h 0 e (omega arith) is to)
-          | inr ne ↦ inl (subst (NoMoveTo p) (sym (subst (λ x. at_point (e ∷ es) x ≡ e.1 ∷ at_point es x) is (at_point-here e.0 e.1 es))) (λ d. ne (sym d), rest))
-        ]
+    | inr not ↦ inl (subst (NoMoveTo p) (sym (at_point-other e.0 q e.1 es not)) rest)
+    | inl is ↦ elim (cases_place e.1.to p) [
+      | inl to ↦ inr (h 0 e (omega arith) is to)
+      | inr ne ↦ inl (subst (NoMoveTo p) (sym (subst (λ x. at_point (e ∷ es) x ≡ e.1 ∷ at_point es x) is (at_point-here e.0 e.1 es))) (λ d. ne (sym d), rest))
     ]
+  ]
 ]
 
 module _ (env : MachineValue) (Known : VirtualRegister → Type 0) (same : (v w : VirtualRegister) → Known v → Known w → v.number ≡ w.number → v ≡ w)
@@ -64,8 +64,8 @@ module _ (env : MachineValue) (Known : VirtualRegister → Type 0) (same : (v w 
       };
       no_move_later = elim (no_move_or (InSlot n) (after i) (listed new.edits) ⊥ (λ k d lt at to.
           let w = later (subst (λ q. Writes q v n) at (writes_own n v known mine k d lt to)) in not_defined w.0 w.1 w.2 (ap (λ (x : VirtualRegister). x.number) w.3))) [
-        | inl none ↦ none
-        | inr r ↦ absurd r
-      ];
+            | inl none ↦ none
+            | inr r ↦ absurd r
+          ];
       before_it = no_move_or (InSlot n) (before i) (listed new.edits) (IsReadAt ops places v (InSlot n)) (λ k d lt at to. sooner (subst (λ q. Writes q v n) at (writes_own n v known mine k d lt to)));
     }

@@ -68,9 +68,9 @@ module _ (v : VirtualRegister) (step L : List Item) (written later block : Bool)
       (λ p h. elim h [
         | inl u ↦ inl (inl u)
         | inr x ↦ elim x [
-            | inl r ↦ inl (inr r)
-            | inr b ↦ inr (let same : Some p ≡ Some s = sym b.1 ∙ comes in cc)
-          ]
+          | inl r ↦ inl (inr r)
+          | inr b ↦ inr (let same : Some p ≡ Some s = sym b.1 ∙ comes in cc)
+        ]
       ])
       (k.left s unwritten none comes (λ p. (T ≡ Some p) ⊎ ((written ≡ false) × (S ≡ Some p))) (λ p. (U ≡ Some p) ⊎ (R ≡ Some p)) k.law))
       (λ p h. elim h [
