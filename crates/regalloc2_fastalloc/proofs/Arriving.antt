@@ -1,5 +1,5 @@
 -- A block's beginning, for one vreg: its listing carries it from the slot that it has at the end of the whole walk, unless the block writes it.
-use Rattle.std.proofs.Common.{ℕ, suc, ◌≡◌, ◌≢◌, ◌⊎◌, inl, inr, Bool, true, false, List, [], ◌∷◌, ◌++◌, nat_eq, refl, sym, ap, ◌∙◌, subst, eq-eqb, eqb-true}
+use Rattle.std.proofs.Common.{ℕ, suc, ◌≡◌, ◌⊎◌, inl, inr, Bool, true, false, List, [], ◌∷◌, ◌++◌, nat_eq, refl, sym, ap, ◌∙◌, subst, eq-eqb}
 use Rattle.std.specs.Prelude.{Option, None, Some, ◌&&◌, is_some}
 use Rattle.regalloc2_names.specs.Register.{Register, VirtualRegister}
 use Rattle.regalloc2_names.specs.Place.{Place, NoPlace, InRegister, InSlot, is_place}
@@ -19,7 +19,7 @@ use Rattle.regalloc2_flow.proofs.Backward.{Relied}
 use Rattle.regalloc2_fastalloc.specs.Steps.{Tables}
 use Rattle.regalloc2_fastalloc.specs.Blocks.{BeginsBlock}
 use Rattle.regalloc2_fastalloc.proofs.Flowing.{place_in, slot_in}
-use Rattle.regalloc2_fastalloc.proofs.Standing.{opt, opt_from, stands_at, slots_at}
+use Rattle.regalloc2_fastalloc.proofs.Standing.{opt, stands_at, slots_at}
 use Rattle.regalloc2_fastalloc.proofs.Spanning.{lives_in}
 use Rattle.regalloc2_fastalloc.proofs.Alone.{Between}
 use Rattle.regalloc2_fastalloc.proofs.Pushes.{Pushes, none_pushed, one_pushed}

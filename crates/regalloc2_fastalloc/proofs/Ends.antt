@@ -1,9 +1,9 @@
 -- The last instruction of a block: what is owed behind it, and what a return carries.
-use Rattle.std.proofs.Common.{ℕ, ◌≡◌, ◌≢◌, ◌+◌, ◌<◌, ◌⊎◌, inl, inr, Bool, true, false, List, [], length, refl, sym, ap, ◌∙◌, subst, arith}
-use Rattle.std.specs.Prelude.{Option, None, Some, ◌||◌, slice_index_or}
+use Rattle.std.proofs.Common.{ℕ, ◌≡◌, ◌≢◌, ◌<◌, ◌⊎◌, inl, inr, Bool, true, false, List, [], length, refl, sym, ap, ◌∙◌, arith}
+use Rattle.std.specs.Prelude.{Option, None, Some, ◌||◌}
 use Rattle.std.proofs.lemmas.Bool.{cases_Bool}
-use Rattle.regalloc2_names.specs.Register.{Register, VirtualRegister}
-use Rattle.regalloc2_names.specs.Place.{Place, NoPlace, InRegister, InSlot}
+use Rattle.regalloc2_names.specs.Register.{VirtualRegister}
+use Rattle.regalloc2_names.specs.Place.{Place, NoPlace, InSlot}
 use Rattle.regalloc2_function.specs.FunctionValue.{FunctionValue, block_at, inst_at}
 use Rattle.regalloc2_flow.specs.Carry.{Carries}
 use Rattle.regalloc2_flow.specs.Walked.{at_point, walked, listed}
@@ -19,7 +19,7 @@ use Rattle.regalloc2_fastalloc.proofs.Opening.{AvoidClobbers}
 use Rattle.regalloc2_fastalloc.proofs.Outs.{defined_by}
 use Rattle.regalloc2_fastalloc.proofs.Alone.{Alone, Needed}
 use Rattle.regalloc2_fastalloc.proofs.Stretch.{needed_parts}
-use Rattle.regalloc2_fastalloc.proofs.Going.{defined_from, defined_from-more}
+use Rattle.regalloc2_fastalloc.proofs.Going.{defined_from}
 
 -- one instruction alone
 defined_from-one : (f : FunctionValue) (x i : ℕ) → defined_from f x i 1 ≡ (defined_by (inst_at f i).operands x || false)

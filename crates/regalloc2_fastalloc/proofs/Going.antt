@@ -1,6 +1,6 @@
 -- The instructions of a block before its last one: what the block's listing carries, one instruction after another.
 use Rattle.std.proofs.Common.{ℕ, zero, suc, ◌≡◌, ◌+◌, ◌<◌, ◌≤◌, Bool, true, false, List, ◌++◌, length, refl, sym, ap, ◌∙◌, subst, arith}
-use Rattle.std.specs.Prelude.{Option, None, ◌||◌, slice_index_or}
+use Rattle.std.specs.Prelude.{Option, ◌||◌, slice_index_or}
 use Rattle.regalloc2_names.specs.Register.{VirtualRegister}
 use Rattle.regalloc2_names.specs.Place.{Place, NoPlace}
 use Rattle.regalloc2_function.specs.FunctionValue.{FunctionValue, inst_at}

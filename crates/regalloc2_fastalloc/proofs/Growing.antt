@@ -15,8 +15,8 @@ use Rattle.regalloc2_function.specs.FunctionValue.{InstValue}
 use Rattle.regalloc2_function.specs.OutputValue.{MoveValue}
 use Rattle.regalloc2_fastalloc.specs.declared.turn.Turn.{Turn}
 use Rattle.regalloc2_fastalloc.specs.declared.choose.Placing.{Placing}
-use Rattle.regalloc2_fastalloc.specs.Tables.{SlotsValue, GivesSlot, slot_name, slot_end, new_slot, units_of}
-use Rattle.regalloc2_fastalloc.specs.Steps.{Tables, a_move, Evicts, nobody, moved, Scratches, dedicated, had, found, Crosses, direct, through, Clears, empty, cleared, ClearsBut, own, others, Picks, Occupies, in_slot, in_register, Gets, Sends, sent, unsent, Defines, Uses, PlacesDef, PlacesUse, PlacesOne, a_register, a_use, a_def, a_reuse, PlacesAt, none_placed, of_other, one_placed, MovesUses, none_moved, not_moved, one_moved, ClearsFixed, none_cleared, not_fixed, of_fixed, of_reuse, ClearsAll, none_left, one_more, Allocates}
+use Rattle.regalloc2_fastalloc.specs.Tables.{SlotsValue, GivesSlot, slot_name, new_slot, units_of}
+use Rattle.regalloc2_fastalloc.specs.Steps.{Tables, a_move, Evicts, nobody, moved, Scratches, dedicated, had, found, Crosses, direct, through, Clears, empty, cleared, ClearsBut, own, others, Picks, Occupies, in_slot, in_register, Gets, Sends, sent, unsent, Defines, Uses, PlacesOne, a_register, a_use, a_def, a_reuse, PlacesAt, none_placed, of_other, one_placed, MovesUses, none_moved, not_moved, one_moved, ClearsFixed, none_cleared, not_fixed, of_fixed, of_reuse, ClearsAll, none_left, one_more, Allocates}
 use Rattle.regalloc2_fastalloc.specs.Steps.Picks.{stays, fixed, slot, free}
 use Rattle.regalloc2_fastalloc.specs.Steps.Uses.{stays as stays_there, stands}
 

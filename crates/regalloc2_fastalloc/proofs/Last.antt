@@ -14,7 +14,7 @@ use Rattle.regalloc2_function.specs.OutputValue.{MoveValue}
 use Rattle.regalloc2_function.specs.SourceRun.{is_def, is_late, is_reading}
 use Rattle.regalloc2_fastalloc.specs.declared.turn.Turn.{Turn}
 use Rattle.regalloc2_fastalloc.specs.declared.turn.Positions.{Positions}
-use Rattle.regalloc2_fastalloc.specs.Tables.{stood, holder}
+use Rattle.regalloc2_fastalloc.specs.Tables.{holder}
 use Rattle.regalloc2_fastalloc.specs.Steps.{Tables, op_at, positions_of, Clears, empty, cleared, ClearsBut, own as its_own, others, ClearsFixed, none_cleared, not_fixed, of_fixed, of_reuse, ClearsAll, none_left, one_more, PlacesAt, none_placed, of_other, one_placed, ClaimsFixed, own, named, Allocates}
 use Rattle.regalloc2_fastalloc.proofs.Filled.{at_place, IsTame, not_both, reads_not_def}
 use Rattle.regalloc2_fastalloc.proofs.Calm.{IsEmpty, IsOutside, empty_outside, Asks, claims, chosen, Still, later_none, none_some}

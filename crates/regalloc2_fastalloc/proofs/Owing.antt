@@ -1,19 +1,16 @@
 -- What a block owes to the law on paths: from its last instruction, those before it and its beginning.
-use Rattle.std.proofs.Common.{ℕ, zero, suc, ◌≡◌, ◌+◌, ◌-◌, ◌<◌, ◌≤◌, ◌⊎◌, inl, inr, Bool, true, false, List, length, refl, sym, ap, ◌∙◌, subst, arith}
-use Rattle.std.specs.Prelude.{Option, None, Some, ◌||◌, slice_index_or}
-use Rattle.std.proofs.lemmas.Bool.{cases_Bool, cases_eq}
+use Rattle.std.proofs.Common.{ℕ, zero, suc, ◌≡◌, ◌+◌, ◌-◌, ◌<◌, ◌≤◌, ◌⊎◌, inl, inr, Bool, true, false, List, length, refl, ap, subst, arith}
+use Rattle.std.specs.Prelude.{Option, Some, ◌||◌}
+use Rattle.std.proofs.lemmas.Bool.{cases_eq}
 use Rattle.regalloc2_names.specs.Register.{Register, VirtualRegister}
-use Rattle.regalloc2_names.specs.Place.{Place, NoPlace, InRegister}
+use Rattle.regalloc2_names.specs.Place.{Place, InRegister}
 use Rattle.regalloc2_names.specs.Point.{before}
 use Rattle.regalloc2_function.specs.FunctionValue.{FunctionValue, block_at, inst_at}
-use Rattle.regalloc2_function.specs.OutputValue.{place_at}
-use Rattle.regalloc2_function.specs.SourceRun.{is_def}
 use Rattle.regalloc2_function.specs.WellFormed.{DefinedOnce}
-use Rattle.regalloc2_flow.specs.Listing.{Item, op_at}
-use Rattle.regalloc2_flow.specs.Carry.{Carries, Undefined}
+use Rattle.regalloc2_flow.specs.Carry.{Carries}
 use Rattle.regalloc2_flow.specs.Walked.{at_point, walked, listed}
 use Rattle.regalloc2_flow.specs.Instruction.{Knows}
-use Rattle.regalloc2_flow.specs.Blocks.{IsUnwritten, StandsBefore, StandsAfter}
+use Rattle.regalloc2_flow.specs.Blocks.{IsUnwritten, StandsBefore}
 use Rattle.regalloc2_flow.proofs.Carrying.{carries_weaken}
 use Rattle.regalloc2_flow.proofs.Silent.{Unread}
 use Rattle.regalloc2_flow.proofs.Backward.{Relied}

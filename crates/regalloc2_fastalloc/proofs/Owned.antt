@@ -1,17 +1,17 @@
 -- An instruction leaves a slot to the vreg whose own it is: nothing is written there but that vreg's value.
-use Rattle.std.proofs.Common.{ℕ, zero, suc, ◌≡◌, ◌+◌, ◌<◌, ◌⊎◌, inl, inr, Bool, true, false, List, [], ◌∷◌, length, refl, sym, ap, ◌∙◌, subst, arith}
-use Rattle.std.specs.Prelude.{All, Option, None, Some, slice_index_or}
+use Rattle.std.proofs.Common.{ℕ, suc, ◌≡◌, ◌<◌, ◌⊎◌, inl, inr, true, false, List, [], ◌∷◌, length, refl, sym, ap, subst, arith}
+use Rattle.std.specs.Prelude.{All, Option, Some, slice_index_or}
 use Rattle.std.proofs.lemmas.Bool.{cases_eq}
 use Rattle.regalloc2_names.specs.declared.sets.PRegSet.{PRegSet}
 use Rattle.regalloc2_names.specs.Register.{VirtualRegister}
 use Rattle.regalloc2_names.specs.Operand.{OperandValue}
-use Rattle.regalloc2_names.specs.Place.{Place, NoPlace, InRegister, InSlot}
+use Rattle.regalloc2_names.specs.Place.{Place, InSlot}
 use Rattle.regalloc2_names.specs.Point.{before, after}
 use Rattle.regalloc2_function.specs.Machine.{MachineValue}
 use Rattle.regalloc2_function.specs.OutputValue.{MoveValue, place_at}
 use Rattle.regalloc2_function.specs.SourceRun.{is_def}
 use Rattle.regalloc2_flow.specs.Listing.{op_at, with_moves}
-use Rattle.regalloc2_flow.specs.Carry.{Untouched, is_clobbered}
+use Rattle.regalloc2_flow.specs.Carry.{Untouched}
 use Rattle.regalloc2_flow.specs.Walked.{at_point, listed}
 use Rattle.regalloc2_flow.proofs.Cells.{cases_place}
 use Rattle.regalloc2_flow.proofs.Points.{at_point-here, at_point-other}

@@ -1,22 +1,20 @@
 -- One instruction of a block, for one vreg, as the law of a block that is walked from its end wants it.
-use Rattle.std.proofs.Common.{ℕ, ◌≡◌, ◌+◌, ◌<◌, ◌⊎◌, inl, inr, Bool, true, false, List, ◌++◌, length, refl, sym, ap, ◌∙◌, subst, arith}
-use Rattle.std.specs.Prelude.{Option, None, Some, is_some, slice_index_or}
+use Rattle.std.proofs.Common.{ℕ, ◌≡◌, ◌⊎◌, inl, inr, Bool, true, false, List, refl, sym, ap, subst, arith}
+use Rattle.std.specs.Prelude.{Option, None, Some, is_some}
 use Rattle.regalloc2_names.specs.Register.{VirtualRegister}
-use Rattle.regalloc2_names.specs.Place.{Place, NoPlace}
+use Rattle.regalloc2_names.specs.Place.{Place}
 use Rattle.regalloc2_names.specs.Point.{before, after}
 use Rattle.regalloc2_function.specs.FunctionValue.{FunctionValue, inst_at}
-use Rattle.regalloc2_function.specs.SourceRun.{is_def}
-use Rattle.regalloc2_flow.specs.Listing.{Item, op_at}
+use Rattle.regalloc2_flow.specs.Listing.{Item}
 use Rattle.regalloc2_flow.specs.Carry.{Carries, Undefined}
 use Rattle.regalloc2_flow.specs.Walked.{at_point, walked, listed}
-use Rattle.regalloc2_flow.specs.Placed.{Need, stands, in_slot, made}
+use Rattle.regalloc2_flow.specs.Placed.{stands, in_slot, made}
 use Rattle.regalloc2_flow.proofs.Carrying.{carries_weaken}
 use Rattle.regalloc2_flow.proofs.Silent.{Unread, silent_walked, carries_behind}
 use Rattle.regalloc2_flow.proofs.Keeping.{Keeps, carries_kept_walked}
 use Rattle.regalloc2_flow.proofs.Backward.{StepOf}
 use Rattle.regalloc2_fastalloc.specs.Steps.{Tables}
 use Rattle.regalloc2_fastalloc.proofs.Standing.{stands_at, slots_at}
-use Rattle.regalloc2_fastalloc.proofs.Spanning.{lives_in}
 use Rattle.regalloc2_fastalloc.proofs.Outs.{defined_by, defined_by-at}
 use Rattle.regalloc2_fastalloc.proofs.Alone.{Needed}
 
