@@ -56,7 +56,7 @@ module _ (Known : VirtualRegister → Type 0) (f : FunctionValue) (placesf : ℕ
     pub same : (n : ℕ) → walked (inst_at f) (at_point (listed new.edits)) placesf (i + 1) n ≡ walked (inst_at f) (at_point (listed old.edits)) placesf (i + 1) n
 
   -- nothing is listed behind it
-  carried_nil : (E : VirtualRegister → Place → Type 0) (j : ℕ) (t : Tables) (N : VirtualRegister → Place → Type 0) → ((v : VirtualRegister) (p : Place) → E v p → N v p) →
+  pub carried_nil : (E : VirtualRegister → Place → Type 0) (j : ℕ) (t : Tables) (N : VirtualRegister → Place → Type 0) → ((v : VirtualRegister) (p : Place) → E v p → N v p) →
       (v : VirtualRegister) → Carries v (walked (inst_at f) (at_point (listed t.edits)) placesf j 0) (N v) (E v)
   carried_nil E j t N h v = subst (λ l. Carries v l (N v) (E v)) (sym (walked-none (inst_at f) (at_point (listed t.edits)) placesf j)) (carries_nil v (N v) (E v) (h v))
 

@@ -38,15 +38,15 @@ pub is_there-same : (x : Option Place) (p : Place) → x ≡ Some p → is_there
 is_there-same None p h = absurd cc
 is_there-same (Some q) p h = (let same : q ≡ p = cc in subst (λ y. is_place q y ≡ true) same (is_place-same q))
 
-is_there-none : (x : Option Place) (p : Place) → (x ≡ Some p → ⊥) → is_there x p ≡ false
+pub is_there-none : (x : Option Place) (p : Place) → (x ≡ Some p → ⊥) → is_there x p ≡ false
 is_there-none None p h = refl
 is_there-none (Some q) p h = is_place-other q p (λ e. h (ap Some e))
 
-second_true : (a b : Bool) → (a && b) ≡ true → b ≡ true
+pub second_true : (a b : Bool) → (a && b) ≡ true → b ≡ true
 second_true true b h = h
 second_true false b h = absurd cc
 
-second_false : (a b : Bool) → b ≡ false → (a && b) ≡ false
+pub second_false : (a b : Bool) → b ≡ false → (a && b) ≡ false
 second_false true b h = h
 second_false false b h = refl
 

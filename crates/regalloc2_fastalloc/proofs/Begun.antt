@@ -1,12 +1,13 @@
 -- What the walk begins with, with operands of every kind but `Limit`.
 use Rattle.std.proofs.Common.{ℕ, ◌≡◌, ◌<◌, true, List, [], sym, ap, ◌∙◌, subst, arith}
 use Rattle.std.specs.Prelude.{Bool, Option, None, slice_index_or}
+use Rattle.regalloc2_names.specs.declared.RegClass.{RegClass}
 use Rattle.regalloc2_names.specs.Register.{Register, VirtualRegister, class_code}
 use Rattle.regalloc2_names.specs.RegisterBits.{bits_of_register}
 use Rattle.regalloc2_names.specs.RegisterSet.{has_register}
 use Rattle.regalloc2_names.specs.Place.{NoPlace}
 use Rattle.regalloc2_function.specs.Machine.{MachineValue, is_allocatable, IsFixedStackSlot}
-use Rattle.regalloc2_fastalloc.specs.Tables.{SlotsValue, PlacesValue, nobody_stands, no_slots, stood, holder, slot_name, IsSlotOrNone}
+use Rattle.regalloc2_fastalloc.specs.Tables.{SlotsValue, PlacesValue, nobody_stands, no_slots, stood, holder, slot_name, units_of, IsSlotOrNone}
 use Rattle.regalloc2_fastalloc.specs.Steps.{Tables}
 use Rattle.regalloc2_fastalloc.specs.Sound.{MayStandOrNone, HasMachine, IsSafe}
 use Rattle.regalloc2_fastalloc.proofs.Inverses.{always, no_some}
@@ -30,13 +31,14 @@ begun_machine env t allocatable fixed memory dedicated = record {
 }
 
 -- nobody stands anywhere, nobody has a slot, and no move is pushed
-pub begun_safe : (env : MachineValue) (Known : VirtualRegister → Type 0) (Writes : ℕ → VirtualRegister → ℕ → Type 0) (bound : ℕ) (t : Tables) (n m : ℕ) (sizes : List ℕ) (by_last : Bool) → t.places ≡ nobody_stands n → t.slots ≡ no_slots m sizes by_last → t.edits ≡ [] → HasMachine env t → IsSafe env Known Writes bound t
-begun_safe env Known Writes bound t n m sizes by_last places slots none machine =
+pub begun_safe : (env : MachineValue) (Known : VirtualRegister → Type 0) (Writes : ℕ → VirtualRegister → ℕ → Type 0) (May : ℕ → Type 0) (t : Tables) (n m : ℕ) (sizes : List ℕ) (by_last : Bool) → t.places ≡ nobody_stands n → t.slots ≡ no_slots m sizes by_last → t.edits ≡ [] → ((c : RegClass) → 0 < units_of (no_slots m sizes by_last) c) → HasMachine env t → IsSafe env Known Writes May t
+begun_safe env Known Writes May t n m sizes by_last places slots none units machine =
     let e : IsEmpty t = begun_empty t n places in
     record {
       machine = machine;
       places = λ v known. subst (MayStandOrNone env t.slots v) (sym (e.nowhere v.number)) tt;
       holders = λ r v small held. absurd (no_some v (sym (e.nobody r small) ∙ held));
       slots = λ k. subst (IsSlotOrNone t.slots.count) (sym (ap (λ (s : SlotsValue). slot_name s k) slots ∙ always m k NoPlace)) tt;
+      units = λ c. subst (λ (s : SlotsValue). 0 < units_of s c) (sym slots) (units c);
       edits = rw none (λ k d lt. absurd (omega arith));
     }

@@ -94,7 +94,7 @@ no_register_slot k r e = cc
 pub none_some : {X : Type 0} (x : Option X) (y : X) → x ≡ None → x ≡ Some y → ⊥
 none_some x y a b = no_some y (sym a ∙ b)
 
-slot_number : (count : ℕ) (p : Place) → p ≢ NoPlace → IsSlotOrNone count p → (k : ℕ) × (p ≡ InSlot k)
+pub slot_number : (count : ℕ) (p : Place) → p ≢ NoPlace → IsSlotOrNone count p → (k : ℕ) × (p ≡ InSlot k)
 slot_number count NoPlace d h = absurd (d refl)
 slot_number count (InRegister r) d h = absurd h
 slot_number count (InSlot k) d h = (k, refl)

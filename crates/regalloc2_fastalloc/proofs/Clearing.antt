@@ -30,7 +30,7 @@ kept_then a b c x y = record {
   nowhere = λ v e. y.nowhere v (x.nowhere v e);
   slotted = λ v k e. y.slotted v k (x.slotted v k e);
   unslotted = λ v e. y.unslotted v (x.nowhere v e) ∙ x.unslotted v e;
-  machine = record { allocatable = y.machine.allocatable ∙ x.machine.allocatable; fixed_stack = y.machine.fixed_stack ∙ x.machine.fixed_stack; dedicated = y.machine.dedicated ∙ x.machine.dedicated; sizes = y.machine.sizes ∙ x.machine.sizes; vregs = y.machine.vregs ∙ x.machine.vregs };
+  machine = record { allocatable = y.machine.allocatable ∙ x.machine.allocatable; fixed_stack = y.machine.fixed_stack ∙ x.machine.fixed_stack; dedicated = y.machine.dedicated ∙ x.machine.dedicated; sizes = y.machine.sizes ∙ x.machine.sizes; vregs = y.machine.vregs ∙ x.machine.vregs; lent = y.machine.lent ∙ x.machine.lent };
 }
 
 scratch_of_edits : (t : Tables) (es : List (ℕ × MoveValue)) (c : RegClass) (u : Turn) (b : Register) → IsScratch c u (record t { edits = t.edits ++ es }) b → IsScratch c u t b
@@ -107,7 +107,7 @@ module _ (Known : VirtualRegister → Type 0) (insts : ℕ → InstValue) (place
       let p : Tables = record m { edits = m.edits ++ a_move (after i) s (InRegister r) ∷ [] } in
       let e : Emptied Known insts placesf i n E what here claimed done lived out clob X r old p =
       evict_step Known insts placesf i n E what here claimed done lived out clob X r old p
-      (moved v s lt held gives settles (ap (λ es. es ++ a_move (after i) s (InRegister r) ∷ []) edits) (record { allocatable = machine.allocatable; fixed_stack = machine.fixed_stack; dedicated = machine.dedicated; sizes = machine.sizes; vregs = machine.vregs })) may st o in
+      (moved v s lt held gives settles (ap (λ es. es ++ a_move (after i) s (InRegister r) ∷ []) edits) (record { allocatable = machine.allocatable; fixed_stack = machine.fixed_stack; dedicated = machine.dedicated; sizes = machine.sizes; vregs = machine.vregs; lent = machine.lent })) may st o in
       subst (Cleared what here claimed done lived out clob X r u old) (sym en) (record {
         stands = e.stands;
         owes = e.owes;
@@ -150,7 +150,7 @@ module _ (Known : VirtualRegister → Type 0) (insts : ℕ → InstValue) (place
         owes = done_it;
         held = sb.held;
         emptied = gone;
-        kept = record { slots = all.slots; registers = all.registers; nowhere = all.nowhere; slotted = all.slotted; unslotted = all.unslotted; machine = record { allocatable = all.machine.allocatable; fixed_stack = all.machine.fixed_stack; dedicated = all.machine.dedicated; sizes = all.machine.sizes; vregs = all.machine.vregs } };
+        kept = record { slots = all.slots; registers = all.registers; nowhere = all.nowhere; slotted = all.slotted; unslotted = all.unslotted; machine = record { allocatable = all.machine.allocatable; fixed_stack = all.machine.fixed_stack; dedicated = all.machine.dedicated; sizes = all.machine.sizes; vregs = all.machine.vregs; lent = all.machine.lent } };
         spare = record { idle = λ c b is. let y = spu.idle c b (scratch_of_edits m2 (a_move (after i) (InRegister by) (InRegister r) ∷ a_move (after i) s (InRegister by) ∷ []) c u b is) in record { nobody_stands = y.nobody_stands; clear = y.clear; unclaimed = y.unclaimed }; own = spu.own; early = spu.early; late = spu.late };
       })
 

@@ -97,4 +97,4 @@ clears_more point rs r t u w old m new (none_left v l) c = one_more r [] v w w l
 clears_more point rs r t u w old m new (one_more q qs a b d k l n first rest) c = one_more q (qs ++ r ∷ []) a b w k l new first (clears_more point qs r b d w l n new rest c)
 
 pub machine_then : (a b c : Tables) → SameMachine a b → SameMachine b c → SameMachine a c
-machine_then a b c x y = record { allocatable = y.allocatable ∙ x.allocatable; fixed_stack = y.fixed_stack ∙ x.fixed_stack; dedicated = y.dedicated ∙ x.dedicated; sizes = y.sizes ∙ x.sizes; vregs = y.vregs ∙ x.vregs }
+machine_then a b c x y = record { allocatable = y.allocatable ∙ x.allocatable; fixed_stack = y.fixed_stack ∙ x.fixed_stack; dedicated = y.dedicated ∙ x.dedicated; sizes = y.sizes ∙ x.sizes; vregs = y.vregs ∙ x.vregs; lent = y.lent ∙ x.lent }

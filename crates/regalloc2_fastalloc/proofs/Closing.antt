@@ -4,7 +4,7 @@ use Rattle.std.specs.Prelude.{None, Some, is_some, slice_index_or}
 use Rattle.std.proofs.lemmas.Bool.{cases_Bool}
 use Rattle.regalloc2_names.specs.Register.{VirtualRegister}
 use Rattle.regalloc2_names.specs.Operand.{OperandValue}
-use Rattle.regalloc2_names.specs.Place.{Place, NoPlace}
+use Rattle.regalloc2_names.specs.Place.{Place, NoPlace, InSlot}
 use Rattle.regalloc2_names.specs.Point.{before, after}
 use Rattle.regalloc2_function.specs.FunctionValue.{InstValue}
 use Rattle.regalloc2_function.specs.OutputValue.{place_at}
@@ -20,8 +20,8 @@ use Rattle.regalloc2_flow.proofs.Needing.{claims_weaken}
 use Rattle.regalloc2_fastalloc.specs.declared.turn.Turn.{Turn}
 use Rattle.regalloc2_fastalloc.specs.Steps.{Tables, op_at, MovesUses}
 use Rattle.regalloc2_fastalloc.proofs.Standing.{stands_at, slots_at}
-use Rattle.regalloc2_fastalloc.proofs.Evicting.{kept_all}
-use Rattle.regalloc2_fastalloc.proofs.Scratching.{of_machine}
+use Rattle.regalloc2_fastalloc.proofs.Evicting.{Kept, kept_all}
+use Rattle.regalloc2_fastalloc.proofs.Scratching.{of_machine, Spare}
 use Rattle.regalloc2_fastalloc.proofs.Spanning.{lives_in, cross_stands}
 use Rattle.regalloc2_fastalloc.proofs.Laying.{Orderly, Turned, Laid}
 use Rattle.regalloc2_fastalloc.proofs.Moving.{Moves, moves_done}
@@ -38,6 +38,13 @@ pub record Ended (ops : List OperandValue) (lived : ℕ → Bool) (new : Tables)
   pub gone : (x : ℕ) → defined_by ops x ≡ true → stands_at new x ≡ None
   pub lasts : (x : ℕ) → lived x ≡ true → defined_by ops x ≡ false → stands_at new x ≡ None → ⊥
   pub found : (j : ℕ) → j < length ops → is_reading (op_at ops j) ≡ true → stands_at new (op_at ops j).vreg.number ≡ None → ⊥
+
+-- What is there before it for moves that come yet: idle scratch registers, and operands in slots stand in their own.
+pub record Shown (ops : List OperandValue) (places : List Place) (u : Turn) (old new : Tables) : Type 0 where
+  pub spare : Spare (λ j. NoPlace) (λ j. false) (λ p x. false) u new
+  pub slot_own : (j : ℕ) → j < length ops → is_reading (op_at ops j) ≡ true → (x : ℕ) → slots_at new x ≡ Some (slice_index_or places j NoPlace) → x ≡ (op_at ops j).vreg.number
+  pub slot_below : (j : ℕ) → j < length ops → is_reading (op_at ops j) ≡ true → (k : ℕ) → slice_index_or places j NoPlace ≡ InSlot k → k < new.slots.count
+  pub kept : Kept old new
 
 module _ (Known : VirtualRegister → Type 0) (insts : ℕ → InstValue) (placesf : ℕ → List Place) (E : VirtualRegister → Place → Type 0) (i n : ℕ) where
   -- what holds when all operands are placed and the uses are moved
@@ -118,4 +125,19 @@ module _ (Known : VirtualRegister → Type 0) (insts : ℕ → InstValue) (place
       found = λ j lt reads none. (let c : Counts (insts i).operands j = (lt, inr reads) in
           let p = all_moved.stands.placed.found j (all_done j c) (reads_not_def (op_at (insts i).operands j) reads) in
           let y : None ≡ Some p.0 = sym none ∙ p.1 in cc);
+    }
+
+    pub shown : Shown (insts i).operands places w t new
+    shown = record {
+      spare = record {
+        idle = λ c b is. (let y = all_moved.spare.idle c b is in record { nobody_stands = y.nobody_stands; clear = λ x. refl; unclaimed = λ j z e. cc });
+        own = all_moved.spare.own;
+        early = all_moved.spare.early;
+        late = all_moved.spare.late;
+      };
+      slot_own = λ j lt reads x at. (let d : l.done j ≡ true = all_done j (lt, inr reads) in
+          all_moved.stands.placed.slot_own j x (l.ready.stands.placed.claims j d) (at ∙ ap Some (l.placed j d)));
+      slot_below = λ j lt reads k at. (let d : l.done j ≡ true = all_done j (lt, inr reads) in
+          all_moved.stands.below j k (l.ready.stands.placed.claims j d) (sym (l.placed j d) ∙ at));
+      kept = all_moved.kept;
     }

@@ -10,7 +10,7 @@ use Rattle.regalloc2_function.specs.OutputValue.{MoveValue}
 use Rattle.regalloc2_flow.proofs.Cells.{is_place-same, is_place-other}
 use Rattle.regalloc2_fastalloc.specs.Tables.{PlacesValue, stood, holder, Settles, IsSlotOrNone}
 use Rattle.regalloc2_fastalloc.specs.declared.turn.Turn.{Turn}
-use Rattle.regalloc2_fastalloc.specs.Steps.{Tables, SameMachine, a_move, Evicts, nobody, moved, Scratches, dedicated, had, found, Crosses, direct, through}
+use Rattle.regalloc2_fastalloc.specs.Steps.{Tables, SameMachine, a_move, Evicts, nobody, moved, Scratches, dedicated, had, found, Crosses, direct, through, Clears, empty, cleared}
 
 pub and_true : (a b : Bool) → a ≡ true → b ≡ true → (a && b) ≡ true
 and_true true b d e = e
@@ -63,6 +63,11 @@ pub crosses_empty : (point : ℕ) (class : RegClass) (from to : Place) (t u : Tu
 crosses_empty point class from to t u old new (direct b e f) r lt none = ap (λ (m : Tables). holder m.places r) f ∙ none
 crosses_empty point class from to t u old new (through by m b s e) r lt none = ap (λ (m : Tables). holder m.places r) e ∙ scratches_empty point class t u by old m s r lt none
 
+pub clears_empty : (point : ℕ) (by : Register) (t u : Turn) (old new : Tables) → Clears point by t u old new → (r : Register) → r.number < 64 → holder old.places r ≡ None → holder new.places r ≡ None
+clears_empty point by t u old new (empty h e f) r lt none = ap (λ (m : Tables). holder m.places r) f ∙ none
+clears_empty point by t u old new (cleared v s m small h gives settles edits machine crosses) r lt none =
+    crosses_empty point v.class s (InRegister by) t u m new crosses r lt (settles_empty old.places m.places v s r lt (λ e. subst (IsSlotOrNone m.slots.count) e gives.below) settles none)
+
 pub no_some : {X : Type 0} (o : Option X) → ((x : X) → o ≡ Some x → ⊥) → o ≡ None
 no_some None h = refl
 no_some (Some x) h = absurd (h x refl)
@@ -78,7 +83,7 @@ two_pushed point got by from to es one two e f g =
     g ∙ ap (λ l. l ++ a_move point from got ∷ []) f ∙ append_two es (a_move point got to) (a_move point from got) ∙ ap (λ p. es ++ a_move point p to ∷ a_move point from p ∷ []) e
 
 pub same_of : (a b : Tables) → b ≡ a → SameMachine a b
-same_of a b e = subst (SameMachine a) (sym e) (record { allocatable = refl; fixed_stack = refl; dedicated = refl; sizes = refl; vregs = refl })
+same_of a b e = subst (SameMachine a) (sym e) (record { allocatable = refl; fixed_stack = refl; dedicated = refl; sizes = refl; vregs = refl; lent = refl })
 
 pub same_then : (a b c : Tables) → SameMachine a b → SameMachine b c → SameMachine a c
-same_then a b c f g = record { allocatable = g.allocatable ∙ f.allocatable; fixed_stack = g.fixed_stack ∙ f.fixed_stack; dedicated = g.dedicated ∙ f.dedicated; sizes = g.sizes ∙ f.sizes; vregs = g.vregs ∙ f.vregs }
+same_then a b c f g = record { allocatable = g.allocatable ∙ f.allocatable; fixed_stack = g.fixed_stack ∙ f.fixed_stack; dedicated = g.dedicated ∙ f.dedicated; sizes = g.sizes ∙ f.sizes; vregs = g.vregs ∙ f.vregs; lent = g.lent ∙ f.lent }

@@ -62,7 +62,7 @@ leads_then i a b c x y = record {
   slots = λ v p e. y.slots v p (x.slots v p e);
   registers = λ v q e. x.registers v q (y.registers v q e);
   still_nowhere = λ v e. y.still_nowhere v (x.still_nowhere v e);
-  machine = record { allocatable = y.machine.allocatable ∙ x.machine.allocatable; fixed_stack = y.machine.fixed_stack ∙ x.machine.fixed_stack; dedicated = y.machine.dedicated ∙ x.machine.dedicated; sizes = y.machine.sizes ∙ x.machine.sizes; vregs = y.machine.vregs ∙ x.machine.vregs };
+  machine = record { allocatable = y.machine.allocatable ∙ x.machine.allocatable; fixed_stack = y.machine.fixed_stack ∙ x.machine.fixed_stack; dedicated = y.machine.dedicated ∙ x.machine.dedicated; sizes = y.machine.sizes ∙ x.machine.sizes; vregs = y.machine.vregs ∙ x.machine.vregs; lent = y.machine.lent ∙ x.machine.lent };
   pushes = pushes_then (IsReload (before i)) a.edits b.edits c.edits x.pushes y.pushes;
 }
 

@@ -40,7 +40,7 @@ kept_all t = record {
   nowhere = λ x e. e;
   slotted = λ x k e. e;
   unslotted = λ x e. refl;
-  machine = record { allocatable = refl; fixed_stack = refl; dedicated = refl; sizes = refl; vregs = refl };
+  machine = record { allocatable = refl; fixed_stack = refl; dedicated = refl; sizes = refl; vregs = refl; lent = refl };
 }
 
 pub shift_kept : (old new : Tables) (v : VirtualRegister) (r : Register) (s : Place) → Shifts old new v r s → ((x : ℕ) → x ≢ v.number → place_in new x ≡ place_in old x) → place_in new v.number ≡ s → ((x : ℕ) → x ≢ v.number → slot_in new x ≡ slot_in old x) → SameMachine old new → Kept old new

@@ -19,7 +19,7 @@ use Rattle.regalloc2_fastalloc.specs.declared.choose.Wanted.TheVariants.{At}
 use Rattle.regalloc2_fastalloc.specs.Tables.{SlotsValue, stood}
 use Rattle.regalloc2_fastalloc.specs.Steps.{Tables, op_at, asked_by, asked_as}
 use Rattle.regalloc2_fastalloc.specs.Sound.{IsOfMachine, MayStand, IsSafe, IsSafeTurn}
-use Rattle.regalloc2_fastalloc.proofs.Sound.{SlotsStay, stand_grows}
+use Rattle.regalloc2_fastalloc.proofs.SafeSlots.{SlotsStay, stand_grows}
 use Rattle.regalloc2_fastalloc.proofs.Given.{IsAnswer}
 
 abbrev pub at_place : List Place → ℕ → Place
@@ -137,8 +137,8 @@ abbrev pub FixedAreKnown : MachineValue → List OperandValue → Type 0
 FixedAreKnown env ops = (k : ℕ) (r : Register) → k < length ops → is_fixed_nonallocatable (op_at ops k) ≡ false → (op_at ops k).constraint ≡ FixedReg r → IsOfMachine env r
 
 -- the operands that are done have good places; each other one has none yet, or the one that a reuse chose for it; base: slots that are there at least
-pub record Filled (env : MachineValue) (Known : VirtualRegister → Type 0) (Writes : ℕ → VirtualRegister → ℕ → Type 0) (bound : ℕ) (base : SlotsValue) (ops : List OperandValue) (done : ℕ → Type 0) (there : List Place) (u : Turn) (t : Tables) : Type 0 where
-  pub safe : IsSafe env Known Writes bound t
+pub record Filled (env : MachineValue) (Known : VirtualRegister → Type 0) (Writes : ℕ → VirtualRegister → ℕ → Type 0) (May : ℕ → Type 0) (base : SlotsValue) (ops : List OperandValue) (done : ℕ → Type 0) (there : List Place) (u : Turn) (t : Tables) : Type 0 where
+  pub safe : IsSafe env Known Writes May t
   pub turn : IsSafeTurn env u
   pub stay : SlotsStay base t.slots
   pub long : length there ≡ length ops
@@ -160,10 +160,10 @@ reuse_register env c n p e h = subst (λ x. MeetsAlone env x p) e h
 pub no_place_register : (p : Place) → p ≡ NoPlace → IsInRegister p → ⊥
 no_place_register p e h = subst IsInRegister e h
 
-module _ (env : MachineValue) (Known : VirtualRegister → Type 0) (Writes : ℕ → VirtualRegister → ℕ → Type 0) (bound : ℕ) (base : SlotsValue) (ops : List OperandValue) (tame : IsTame Known ops) where
+module _ (env : MachineValue) (Known : VirtualRegister → Type 0) (Writes : ℕ → VirtualRegister → ℕ → Type 0) (May : ℕ → Type 0) (base : SlotsValue) (ops : List OperandValue) (tame : IsTame Known ops) where
   -- the same operands are done
   pub filled_same : (D E : ℕ → Type 0) (there : List Place) (u : Turn) (t : Tables) → ((j : ℕ) → j < length ops → E j → D j) → ((j : ℕ) → j < length ops → D j → E j)
-      → Filled env Known Writes bound base ops D there u t → Filled env Known Writes bound base ops E there u t
+      → Filled env Known Writes May base ops D there u t → Filled env Known Writes May base ops E there u t
   filled_same D E there u t back forth h = record {
     safe = h.safe;
     turn = h.turn;
@@ -176,9 +176,9 @@ module _ (env : MachineValue) (Known : VirtualRegister → Type 0) (Writes : ℕ
   }
 
   -- other tables, in which all uses that are done still stand somewhere
-  pub filled_on : (D : ℕ → Type 0) (there : List Place) (t u : Turn) (old new : Tables) → IsSafe env Known Writes bound new → IsSafeTurn env u → SlotsStay old.slots new.slots
+  pub filled_on : (D : ℕ → Type 0) (there : List Place) (t u : Turn) (old new : Tables) → IsSafe env Known Writes May new → IsSafeTurn env u → SlotsStay old.slots new.slots
       → ((j : ℕ) → j < length ops → is_reading (op_at ops j) ≡ true → stood old.places (op_at ops j).vreg.number ≢ NoPlace → stood new.places (op_at ops j).vreg.number ≢ NoPlace)
-      → Filled env Known Writes bound base ops D there t old → Filled env Known Writes bound base ops D there u new
+      → Filled env Known Writes May base ops D there t old → Filled env Known Writes May base ops D there u new
   filled_on D there t u old new safe turn stay standing h = record {
     safe = safe;
     turn = turn;
@@ -204,7 +204,7 @@ module _ (env : MachineValue) (Known : VirtualRegister → Type 0) (Writes : ℕ
   pub written : (D E : ℕ → Type 0) (k : ℕ) (p : Place) (here : List Place) (u : Turn) (t : Tables) → k < length ops → OneMore D E k → ((n : ℕ) → (op_at ops k).constraint ≡ Reuse n → ⊥)
       → IsGood env t.slots (op_at ops k) p → (is_reading (op_at ops k) ≡ true → stood t.places (op_at ops k).vreg.number ≢ NoPlace)
       → ((j : ℕ) → j < length ops → D j → (op_at ops j).constraint ≡ Reuse k → p ≡ at_place here k)
-      → Filled env Known Writes bound base ops D here u t → Filled env Known Writes bound base ops E (set here k p) u t
+      → Filled env Known Writes May base ops D here u t → Filled env Known Writes May base ops E (set here k p) u t
   written D E k p here u t lt more no_reuse good found kept h = record {
     safe = h.safe;
     turn = h.turn;
@@ -242,7 +242,7 @@ module _ (env : MachineValue) (Known : VirtualRegister → Type 0) (Writes : ℕ
   -- the place of a reuse, which is that of the use that it names too
   pub written_twice : (D E : ℕ → Type 0) (k n : ℕ) (p : Place) (here : List Place) (u : Turn) (t : Tables) → k < length ops → OneMore D E k → (op_at ops k).constraint ≡ Reuse n → (D n → ⊥)
       → IsGood env t.slots (op_at ops k) p → IsGood env t.slots (op_at ops n) p → IsInRegister p
-      → Filled env Known Writes bound base ops D here u t → Filled env Known Writes bound base ops E (set (set here k p) n p) u t
+      → Filled env Known Writes May base ops D here u t → Filled env Known Writes May base ops E (set (set here k p) n p) u t
   written_twice D E k n p here u t lt more reuses not_n good good_n register h = record {
     safe = h.safe;
     turn = h.turn;

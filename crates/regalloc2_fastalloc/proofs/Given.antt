@@ -1,5 +1,5 @@
 -- An operand that is placed gets a proper place that answers what it asks, and the tables stay safe.
-use Rattle.std.proofs.Common.{ℕ, ◌≡◌, ◌≢◌, ◌+◌, ◌<◌, Bool, true, false, refl, sym, ap, ◌∙◌, ◌⊎◌, inl, inr, subst}
+use Rattle.std.proofs.Common.{ℕ, ◌≡◌, ◌≢◌, ◌<◌, Bool, true, false, refl, sym, ap, ◌∙◌, ◌⊎◌, inl, inr, subst}
 use Rattle.std.specs.Prelude.{All, Some, ◌&&◌, not}
 use Rattle.regalloc2_names.specs.Register.{Register, VirtualRegister}
 use Rattle.regalloc2_names.specs.Place.{Place, NoPlace, InRegister, InSlot, is_place}
@@ -13,7 +13,8 @@ use Rattle.regalloc2_fastalloc.specs.Steps.{Tables, SameMachine, is_stack_in, Su
 use Rattle.regalloc2_fastalloc.specs.Steps.Picks.{stays, fixed, slot, free}
 use Rattle.regalloc2_fastalloc.specs.Steps.Uses.{stays as use_stays, stands}
 use Rattle.regalloc2_fastalloc.specs.Sound.{IsOfMachine, MayStand, MayStandOrNone, IsEndOfMove, IsSafeEdit, HasMachine, IsSafe, IsSafeTurn}
-use Rattle.regalloc2_fastalloc.proofs.Sound.{IsApart, SlotsStay, gives_stay, same_stay, MayBeHeld, StepKept, kept_both, kept_none, clears_but_kept, sends_kept, end_grows, none_grows, slot_end, slot_stands, slot_memory, stand_grows, stand_none, stand_end, stand_there, stand_of_machine, there_stands, machine_kept, settled_places, settled_holders, settled_standing, slots_kept, edits_grow, safe_turn}
+use Rattle.regalloc2_fastalloc.proofs.Sound.{IsApart, MayBeHeld, StepKept, kept_both, kept_none, clears_but_kept, sends_kept, slot_end, slot_stands, slot_memory, stand_none, stand_end, stand_there, stand_of_machine, there_stands, machine_kept, settled_places, settled_holders, settled_standing, slots_kept, same_units, safe_turn}
+use Rattle.regalloc2_fastalloc.proofs.SafeSlots.{SlotsStay, gives_stay, same_stay, end_grows, none_grows, stand_grows, gives_grow, same_grow, edits_grow}
 
 -- a place meets what is asked, in the machine's terms
 abbrev pub IsAnswer : MachineValue → Wanted → Place → Type 0
@@ -56,8 +57,8 @@ register_answer env w p r (inl e) is h = subst (λ x. IsAnswer env x p) (sym e) 
 register_answer env w p r (inr e) is h = subst (λ x. IsAnswer env x p) (sym e) (plain_register env p r is h)
 
 -- the place of an operand, and what its choice keeps
-pub record PlaceKept (env : MachineValue) (Known : VirtualRegister → Type 0) (Writes : ℕ → VirtualRegister → ℕ → Type 0) (bound : ℕ) (v : VirtualRegister) (w : Wanted) (p : Place) (old : Tables) (u : Turn) (new : Tables) : Type 0 where
-  pub kept : StepKept env Known Writes bound old u new
+pub record PlaceKept (env : MachineValue) (Known : VirtualRegister → Type 0) (Writes : ℕ → VirtualRegister → ℕ → Type 0) (May : ℕ → Type 0) (v : VirtualRegister) (w : Wanted) (p : Place) (old : Tables) (u : Turn) (new : Tables) : Type 0 where
+  pub kept : StepKept env Known Writes May old u new
   pub place : MayStand env new.slots v p
   pub answer : IsAnswer env w p
 
@@ -78,15 +79,15 @@ another_there NoPlace q h e = cc
 another_there (InRegister r) q h e = cc
 another_there (InSlot k) q h e = cc
 
-module _ (env : MachineValue) (apart : IsApart env) (Known : VirtualRegister → Type 0) (Writes : ℕ → VirtualRegister → ℕ → Type 0) (same : (v w : VirtualRegister) → Known v → Known w → v.number ≡ w.number → v ≡ w) (bound point : ℕ) (lt : point + 1 < bound) where
-  picks_kept : (t : Turn) (o : Placing) (p : Place) (old new : Tables) → Picks t o p old new → Known o.vreg → AsksWell env o → IsSafe env Known Writes bound old → IsSafeTurn env t → PlaceKept env Known Writes bound o.vreg o.wanted p old t new
-  picks_kept t o p old new (stays there suits en) known asks h ht = subst (PlaceKept env Known Writes bound o.vreg o.wanted p old t) (sym en) (record {
-    kept = kept_none env Known Writes bound old old t t refl refl h ht;
+module _ (env : MachineValue) (apart : IsApart env) (Known : VirtualRegister → Type 0) (Writes : ℕ → VirtualRegister → ℕ → Type 0) (same : (v w : VirtualRegister) → Known v → Known w → v.number ≡ w.number → v ≡ w) (May : ℕ → Type 0) (point : ℕ) (can : May point) where
+  picks_kept : (t : Turn) (o : Placing) (p : Place) (old new : Tables) → Picks t o p old new → Known o.vreg → AsksWell env o → IsSafe env Known Writes May old → IsSafeTurn env t → PlaceKept env Known Writes May o.vreg o.wanted p old t new
+  picks_kept t o p old new (stays there suits en) known asks h ht = subst (PlaceKept env Known Writes May o.vreg o.wanted p old t) (sym en) (record {
+    kept = kept_none env Known Writes May old old t t refl refl h ht;
     place = there_stands env old.slots o.vreg p (suits_there old o.wanted p suits) (subst (MayStandOrNone env old.slots o.vreg) there (h.places o.vreg known));
     answer = suits_answer env old o.wanted p h.machine suits;
   })
-  picks_kept t o p old new (fixed r wants is en) known asks h ht = subst (PlaceKept env Known Writes bound o.vreg o.wanted p old t) (sym en) (record {
-    kept = kept_none env Known Writes bound old old t t refl refl h ht;
+  picks_kept t o p old new (fixed r wants is en) known asks h ht = subst (PlaceKept env Known Writes May o.vreg o.wanted p old t) (sym en) (record {
+    kept = kept_none env Known Writes May old old t t refl refl h ht;
     place = subst (MayStand env old.slots o.vreg) (sym is) (asks r wants);
     answer = subst (λ w. IsAnswer env w p) (sym wants) is;
   })
@@ -97,7 +98,8 @@ module _ (env : MachineValue) (apart : IsApart env) (Known : VirtualRegister →
         places = λ v k. subst (MayStandOrNone env new.slots v) (ap (λ (x : PlacesValue). stood x v.number) (sym places)) (none_grows env old.slots new.slots v (stood old.places v.number) stay (h.places v k));
         holders = subst (λ (x : PlacesValue). (r : Register) (v : VirtualRegister) → r.number < 64 → holder x r ≡ Some v → MayBeHeld env Known r v) (sym places) h.holders;
         slots = slots_kept old.slots new.slots o.vreg p gives h.slots;
-        edits = subst (All (IsSafeEdit env Known Writes new.slots bound)) (sym edits) (edits_grow env Known Writes old.slots new.slots bound old.edits stay h.edits);
+        units = same_units old.slots new.slots gives.sizes h.units;
+        edits = subst (All (IsSafeEdit env Known Writes new.slots May)) (sym edits) (edits_grow env Known Writes old.slots new.slots May old.edits (gives_grow old.slots new.slots o.vreg p gives h.units) h.edits);
       };
       turn = ht;
       stay = stay;
@@ -108,32 +110,32 @@ module _ (env : MachineValue) (apart : IsApart env) (Known : VirtualRegister →
   }
   picks_kept t o p old new (free r wants may is_free is en) known asks h ht =
       let ok : is_allocatable env r.class r ≡ true = h.machine.allocatable r may.small may.allocatable in
-      subst (PlaceKept env Known Writes bound o.vreg o.wanted p old t) (sym en) (record {
-        kept = kept_none env Known Writes bound old old t t refl refl h ht;
+      subst (PlaceKept env Known Writes May o.vreg o.wanted p old t) (sym en) (record {
+        kept = kept_none env Known Writes May old old t t refl refl h ht;
         place = subst (MayStand env old.slots o.vreg) (sym is) (inl ok, may.of_class);
         answer = register_answer env o.wanted p r wants is (apart.slots r ok);
       })
 
-  occupies_kept : (o : Placing) (p : Place) (t u : Turn) (old new : Tables) → Occupies point o p t u old new → IsSafe env Known Writes bound old → IsSafeTurn env t → StepKept env Known Writes bound old u new
-  occupies_kept o p t u old new (in_slot k is sets en) h ht = kept_none env Known Writes bound old new u u en refl h (safe_turn env t u sets.scratch ht)
+  occupies_kept : (o : Placing) (p : Place) (t u : Turn) (old new : Tables) → Occupies point o p t u old new → IsSafe env Known Writes May old → IsSafeTurn env t → StepKept env Known Writes May old u new
+  occupies_kept o p t u old new (in_slot k is sets en) h ht = kept_none env Known Writes May old new u u en refl h (safe_turn env t u sets.scratch ht)
   occupies_kept o p t u old new (in_register r m is clears holds) h ht =
-      let k = clears_but_kept env apart Known Writes bound point lt r o.vreg t m old new clears h ht in
+      let k = clears_but_kept env apart Known Writes May point can r o.vreg t m old new clears h ht in
       record { safe = k.safe; turn = safe_turn env m u holds.scratch k.turn; stay = k.stay; standing = k.standing }
 
-  pub gets_kept : (o : Placing) (p : Place) (t u : Turn) (old new : Tables) → Gets point o p t u old new → Known o.vreg → AsksWell env o → IsSafe env Known Writes bound old → IsSafeTurn env t → PlaceKept env Known Writes bound o.vreg o.wanted p old u new
+  pub gets_kept : (o : Placing) (p : Place) (t u : Turn) (old new : Tables) → Gets point o p t u old new → Known o.vreg → AsksWell env o → IsSafe env Known Writes May old → IsSafeTurn env t → PlaceKept env Known Writes May o.vreg o.wanted p old u new
   gets_kept o p t u old new g known asks h ht =
       let a = picks_kept t o p old g.middle g.picks known asks h ht in
       let b = occupies_kept o p t u g.middle new g.occupies a.kept.safe a.kept.turn in
-      record { kept = kept_both env Known Writes bound old g.middle new t u a.kept b; place = stand_grows env g.middle.slots new.slots o.vreg p b.stay a.place; answer = a.answer }
+      record { kept = kept_both env Known Writes May old g.middle new t u a.kept b; place = stand_grows env g.middle.slots new.slots o.vreg p b.stay a.place; answer = a.answer }
 
   -- a definition leaves the tables
   pub record DefKept (v : VirtualRegister) (old : Tables) (u : Turn) (new : Tables) : Type 0 where
-    pub safe : IsSafe env Known Writes bound new
+    pub safe : IsSafe env Known Writes May new
     pub turn : IsSafeTurn env u
     pub stay : SlotsStay old.slots new.slots
     pub standing : (n : ℕ) → n ≢ v.number → stood old.places n ≢ NoPlace → stood new.places n ≢ NoPlace
 
-  leaves_safe : (v : VirtualRegister) (t u : Tables) → Settles t.places u.places v NoPlace → u.slots ≡ t.slots → u.edits ≡ t.edits → SameMachine t u → IsSafe env Known Writes bound t → IsSafe env Known Writes bound u
+  leaves_safe : (v : VirtualRegister) (t u : Tables) → Settles t.places u.places v NoPlace → u.slots ≡ t.slots → u.edits ≡ t.edits → SameMachine t u → IsSafe env Known Writes May t → IsSafe env Known Writes May u
   leaves_safe v t u settles slots edits machine h =
       let stay : SlotsStay t.slots u.slots = same_stay t.slots u.slots slots in
       record {
@@ -141,23 +143,24 @@ module _ (env : MachineValue) (apart : IsApart env) (Known : VirtualRegister →
         places = settled_places env Known t.slots u.slots t.places u.places v NoPlace stay settles (λ w known e. tt) h.places;
         holders = settled_holders env Known t.places u.places v NoPlace settles (λ r e. absurd cc) h.holders;
         slots = λ n. subst (λ (s : SlotsValue). IsSlotOrNone s.count (slot_name s n)) (sym slots) (h.slots n);
-        edits = subst (All (IsSafeEdit env Known Writes u.slots bound)) (sym edits) (edits_grow env Known Writes t.slots u.slots bound t.edits stay h.edits);
+        units = same_units t.slots u.slots machine.sizes h.units;
+        edits = subst (All (IsSafeEdit env Known Writes u.slots May)) (sym edits) (edits_grow env Known Writes t.slots u.slots May t.edits (same_grow t.slots u.slots slots) h.edits);
       }
 
   pub defines_kept : (v : VirtualRegister) (is_ret : Bool) (p : Place) (t u : Turn) (old new : Tables) → Defines point v is_ret p t u old new → Known v → ((n : ℕ) → Writes point v n) → MayStand env old.slots v p
-      → IsSafe env Known Writes bound old → IsSafeTurn env t → DefKept v old u new
+      → IsSafe env Known Writes May old → IsSafeTurn env t → DefKept v old u new
   defines_kept v is_ret p t u old new d known writes place h ht =
       let stay : SlotsStay old.slots d.left.slots = same_stay old.slots d.left.slots d.slots in
       let w : Place = stood old.places v.number in
       let s : Place = slot_name old.slots v.number in
-      let left : IsSafe env Known Writes bound d.left = leaves_safe v old d.left d.settles d.slots d.edits d.machine h in
+      let left : IsSafe env Known Writes May d.left = leaves_safe v old d.left d.settles d.slots d.edits d.machine h in
       let from : IsEndOfMove env d.left.slots v p = end_grows env old.slots d.left.slots v p stay (stand_end env old.slots v p place) in
-      let a = sends_kept env apart Known Writes bound point lt v (not is_ret && is_another w p) p w t d.turn d.left d.middle d.awaited known
+      let a = sends_kept env apart Known Writes May point can v (not is_ret && is_another w p) p w t d.turn d.left d.middle d.awaited known
       (λ made. let there : w ≢ NoPlace = another_there w p (right_true (not is_ret) (is_another w p) made) in
       (from, end_grows env old.slots d.left.slots v w stay (stand_end env old.slots v w (there_stands env old.slots v w there (h.places v known))), λ n e. writes n))
       left ht in
       let later : SlotsStay old.slots d.middle.slots = λ n k is. a.stay n k (stay n k is) in
-      let b = sends_kept env apart Known Writes bound point lt v (not is_ret && (is_another s p && not (is_place s w))) p s d.turn u d.middle new d.stored known
+      let b = sends_kept env apart Known Writes May point can v (not is_ret && (is_another s p && not (is_place s w))) p s d.turn u d.middle new d.stored known
       (λ made. let there : s ≢ NoPlace = another_there s p (left_true (is_another s p) (not (is_place s w)) (right_true (not is_ret) (is_another s p && not (is_place s w)) made)) in
       (end_grows env d.left.slots d.middle.slots v p a.stay from, end_grows env old.slots d.middle.slots v s later (slot_end env old.slots v s refl there (h.slots v.number)), λ n e. writes n))
       a.safe a.turn in
@@ -174,7 +177,7 @@ module _ (env : MachineValue) (apart : IsApart env) (Known : VirtualRegister →
     pub place : MayStand env new.slots v p
     pub answer : IsAnswer env w p
 
-  pub places_def_kept : (o : Placing) (is_ret : Bool) (p : Place) (t u : Turn) (old new : Tables) → PlacesDef point o is_ret p t u old new → Known o.vreg → ((n : ℕ) → Writes point o.vreg n) → AsksWell env o → IsSafe env Known Writes bound old → IsSafeTurn env t
+  pub places_def_kept : (o : Placing) (is_ret : Bool) (p : Place) (t u : Turn) (old new : Tables) → PlacesDef point o is_ret p t u old new → Known o.vreg → ((n : ℕ) → Writes point o.vreg n) → AsksWell env o → IsSafe env Known Writes May old → IsSafeTurn env t
       → DefPlaced o.vreg o.wanted p old u new
   places_def_kept o is_ret p t u old new d known writes asks h ht =
       let a = gets_kept o p t d.turn old d.middle d.gets known asks h ht in
@@ -187,12 +190,12 @@ module _ (env : MachineValue) (apart : IsApart env) (Known : VirtualRegister →
 
   -- a use is placed, and its vreg stands somewhere
   pub record UsePlaced (v : VirtualRegister) (w : Wanted) (p : Place) (old : Tables) (u : Turn) (new : Tables) : Type 0 where
-    pub given : PlaceKept env Known Writes bound v w p old u new
+    pub given : PlaceKept env Known Writes May v w p old u new
     pub found : stood new.places v.number ≢ NoPlace
 
-  uses_kept : (v : VirtualRegister) (p : Place) (u : Turn) (old new : Tables) → Uses v p old new → Known v → MayStand env old.slots v p → IsSafe env Known Writes bound old → IsSafeTurn env u
-      → StepKept env Known Writes bound old u new × (stood new.places v.number ≢ NoPlace)
-  uses_kept v p u old new (use_stays there en) known place h ht = (kept_none env Known Writes bound old new u u en refl h ht, λ e. there (ap (λ (x : Tables). stood x.places v.number) (sym en) ∙ e))
+  uses_kept : (v : VirtualRegister) (p : Place) (u : Turn) (old new : Tables) → Uses v p old new → Known v → MayStand env old.slots v p → IsSafe env Known Writes May old → IsSafeTurn env u
+      → StepKept env Known Writes May old u new × (stood new.places v.number ≢ NoPlace)
+  uses_kept v p u old new (use_stays there en) known place h ht = (kept_none env Known Writes May old new u u en refl h ht, λ e. there (ap (λ (x : Tables). stood x.places v.number) (sym en) ∙ e))
   uses_kept v p u old new (stands none settles slots edits machine) known place h ht =
       let stay : SlotsStay old.slots new.slots = same_stay old.slots new.slots slots in
       let real : p ≢ NoPlace = stand_there env old.slots v p place in (
@@ -204,7 +207,8 @@ module _ (env : MachineValue) (apart : IsApart env) (Known : VirtualRegister →
                 h.places;
             holders = settled_holders env Known old.places new.places v p settles (λ r e. (let is = stand_of_machine env old.slots v p r place e in (known, is.0, is.1))) h.holders;
             slots = λ n. subst (λ (s : SlotsValue). IsSlotOrNone s.count (slot_name s n)) (sym slots) (h.slots n);
-            edits = subst (All (IsSafeEdit env Known Writes new.slots bound)) (sym edits) (edits_grow env Known Writes old.slots new.slots bound old.edits stay h.edits);
+            units = same_units old.slots new.slots machine.sizes h.units;
+            edits = subst (All (IsSafeEdit env Known Writes new.slots May)) (sym edits) (edits_grow env Known Writes old.slots new.slots May old.edits (same_grow old.slots new.slots slots) h.edits);
           };
           turn = ht;
           stay = stay;
@@ -213,12 +217,12 @@ module _ (env : MachineValue) (apart : IsApart env) (Known : VirtualRegister →
         λ e. real (sym settles.here ∙ e),
       )
 
-  pub places_use_kept : (o : Placing) (p : Place) (t u : Turn) (old new : Tables) → PlacesUse point o p t u old new → Known o.vreg → AsksWell env o → IsSafe env Known Writes bound old → IsSafeTurn env t
+  pub places_use_kept : (o : Placing) (p : Place) (t u : Turn) (old new : Tables) → PlacesUse point o p t u old new → Known o.vreg → AsksWell env o → IsSafe env Known Writes May old → IsSafeTurn env t
       → UsePlaced o.vreg o.wanted p old u new
   places_use_kept o p t u old new d known asks h ht =
       let a = gets_kept o p t u old d.middle d.gets known asks h ht in
       let b = uses_kept o.vreg p u d.middle new d.uses known a.place a.kept.safe a.kept.turn in
       record {
-        given = record { kept = kept_both env Known Writes bound old d.middle new u u a.kept b.0; place = stand_grows env d.middle.slots new.slots o.vreg p b.0.stay a.place; answer = a.answer };
+        given = record { kept = kept_both env Known Writes May old d.middle new u u a.kept b.0; place = stand_grows env d.middle.slots new.slots o.vreg p b.0.stay a.place; answer = a.answer };
         found = b.1;
       }

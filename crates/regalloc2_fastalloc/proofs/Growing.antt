@@ -21,7 +21,7 @@ use Rattle.regalloc2_fastalloc.specs.Steps.Picks.{stays, fixed, slot, free}
 use Rattle.regalloc2_fastalloc.specs.Steps.Uses.{stays as stays_there, stands}
 
 -- a new slot lies at or above the count
-above : (s : SlotsValue) (c : RegClass) → 0 < units_of s c → s.count ≤ new_slot s c
+pub above : (s : SlotsValue) (c : RegClass) → 0 < units_of s c → s.count ≤ new_slot s c
 above s c u = by_test s.by_last
   where
     first : s.count ≤ next_multiple_of s.count (units_of s c)
@@ -43,7 +43,7 @@ pub record Grown (At : ℕ → Type 0) (old new : Tables) : Type 0 where
 no_slot_none : (k : ℕ) → NoPlace ≡ InSlot k → ⊥
 no_slot_none k e = cc
 
-cases_none : (p : Place) → (p ≡ NoPlace) ⊎ (p ≢ NoPlace)
+pub cases_none : (p : Place) → (p ≡ NoPlace) ⊎ (p ≢ NoPlace)
 cases_none NoPlace = inl refl
 cases_none (InRegister r) = inr (λ e. cc)
 cases_none (InSlot k) = inr (λ e. cc)

@@ -17,7 +17,7 @@ use Rattle.regalloc2_fastalloc.specs.declared.turn.Positions.{Positions}
 use Rattle.regalloc2_fastalloc.specs.Tables.{holder}
 use Rattle.regalloc2_fastalloc.specs.Steps.{Tables, op_at, positions_of, Clears, empty, cleared, ClearsBut, own as its_own, others, ClearsFixed, none_cleared, not_fixed, of_fixed, of_reuse, ClearsAll, none_left, one_more, PlacesAt, none_placed, of_other, one_placed, ClaimsFixed, own, named, Allocates}
 use Rattle.regalloc2_fastalloc.proofs.Filled.{at_place, IsTame, not_both, reads_not_def}
-use Rattle.regalloc2_fastalloc.proofs.Calm.{IsEmpty, IsOutside, empty_outside, Asks, claims, chosen, Still, later_none, none_some}
+use Rattle.regalloc2_fastalloc.proofs.Calm.{IsOutside, Asks, claims, chosen, Still, later_none, none_some}
 use Rattle.regalloc2_fastalloc.proofs.Quieting.{NextDone, Calm, one_calm, awaiting_on, early_overlap, late_overlap}
 
 either_way : (b : Bool) → (b || true) ≡ true
@@ -219,8 +219,3 @@ pub calm_end : (Known : VirtualRegister → Type 0) (i : ℕ) (inst : InstValue)
     → ((k : ℕ) → k < length inst.operands → is_def (op_at inst.operands k).kind ≡ true → inst.is_ret ≡ true) → (a : Allocates i inst blank places old new)
     → IsOutside old → a.after_early.edits ≡ old.edits
 calm_end Known i inst blank places old new tame ret a bare = (still_end Known i inst blank places old new tame ret a bare).edits_are
-
--- and where nobody stands anywhere, at a return
-pub calm_last : (Known : VirtualRegister → Type 0) (i : ℕ) (inst : InstValue) (blank places : List Place) (old new : Tables) → IsTame Known inst.operands → inst.is_ret ≡ true → (a : Allocates i inst blank places old new)
-    → IsEmpty old → a.after_early.edits ≡ old.edits
-calm_last Known i inst blank places old new tame ret a bare = calm_end Known i inst blank places old new tame (λ k less def. ret) a (empty_outside old bare)

@@ -12,10 +12,9 @@ use Rattle.regalloc2_fastalloc.specs.Steps.{Tables, Allocates}
 use Rattle.regalloc2_fastalloc.proofs.Spanning.{lives_in}
 use Rattle.regalloc2_fastalloc.proofs.Laying.{Orderly}
 use Rattle.regalloc2_fastalloc.proofs.Turns.{laid_both}
-use Rattle.regalloc2_fastalloc.proofs.Opening.{AvoidClobbers, Carried, CarriedBut, EndsHere, carried_more, opened}
+use Rattle.regalloc2_fastalloc.proofs.Opening.{AvoidClobbers, Carried, CarriedBut, EndsHere, opened}
 use Rattle.regalloc2_fastalloc.proofs.Closing.{Ended, closed, ended}
 use Rattle.regalloc2_fastalloc.proofs.Outs.{defined_by}
-use Rattle.regalloc2_fastalloc.proofs.Rounding.{EachKeeps}
 
 module _ (Known : VirtualRegister → Type 0) (f : FunctionValue) (placesf : ℕ → List Place) (E : VirtualRegister → Place → Type 0)
     (orderly : (i : ℕ) → i < length f.insts → Orderly (inst_at f i).operands) (avoids : (i : ℕ) → i < length f.insts → AvoidClobbers (inst_at f i).operands (inst_at f i).clobbers) where
@@ -42,7 +41,3 @@ module _ (Known : VirtualRegister → Type 0) (f : FunctionValue) (placesf : ℕ
       ended Known (inst_at f) placesf E i n (lives_in old) ret here a.early a.ended a.after_early new (orderly i lt) (knows i lt) are_listed
       (laid_both Known (inst_at f) placesf i n E ops (lives_in old) (is_clobbered (inst_at f i).clobbers) ret (orderly i lt) blank a.half here a.quiet a.late a.early a.after_clobbers a.after_late a.after_early a.lates a.earlies
       (opened Known (inst_at f) placesf E i n (inst_at f i) blank here old new (orderly i lt) (avoids i lt) ends c a)) a.moves
-
-  pub each_keeps : ((i : ℕ) → i < length f.insts → Knows Known (inst_at f i).operands) → EachKeeps Known f placesf E
-  each_keeps knows i n blank here old new lt are_listed ends a c =
-      carried_more Known (inst_at f) placesf E (defined_by (inst_at f i).operands) i (suc n) new (each_exactly knows i n blank here old new lt are_listed ends a c)

@@ -9,6 +9,7 @@ use Rattle.regalloc2_names.specs.RegisterSet.{has_register}
 use Rattle.regalloc2_function.specs.FunctionValue.{FunctionValue}
 use Rattle.regalloc2_function.specs.Machine.{MachineValue, is_allocatable, scratch_of, IsFixedStackSlot}
 use Rattle.regalloc2_function.specs.Fitting.{MachineFits}
+use Rattle.regalloc2_fastalloc.specs.Branches.{AreApart}
 use Rattle.regalloc2_fastalloc.specs.Steps.{Tables}
 use Rattle.regalloc2_fastalloc.proofs.Scratching.{Fit}
 
@@ -36,3 +37,7 @@ machine_fit f env t fits small allocatable fixed dedicated = record {
   where
     slot_apart : (c : RegClass) (r : Register) → IsFixedStackSlot env r → (is_allocatable env c r ≡ false) × (scratch_of env c ≢ Some r) × (r ≢ invalid_register)
     slot_apart c r is = All-contains (λ (q : Register). (is_allocatable env c q ≡ false) × (scratch_of env c ≢ Some q) × (q ≢ invalid_register)) env.fixed_stack_slots r (fits c).slots_apart is
+
+-- no register in memory is allocatable or kept for moves
+pub fit_apart : (t : Tables) → Fit t → AreApart t
+fit_apart t fit = record { allocatable = fit.stack_apart; dedicated = λ c r has. (fit.own_apart c r has).1 }

@@ -42,7 +42,7 @@ stands_edits what here claimed done lived out clob X t es st = record {
 }
 
 pub kept_edits : (s t : Tables) (es : List (ℕ × MoveValue)) → Kept s t → Kept s (record t { edits = es })
-kept_edits s t es k = record { slots = k.slots; registers = k.registers; nowhere = k.nowhere; slotted = k.slotted; unslotted = k.unslotted; machine = record { allocatable = k.machine.allocatable; fixed_stack = k.machine.fixed_stack; dedicated = k.machine.dedicated; sizes = k.machine.sizes; vregs = k.machine.vregs } }
+kept_edits s t es k = record { slots = k.slots; registers = k.registers; nowhere = k.nowhere; slotted = k.slotted; unslotted = k.unslotted; machine = record { allocatable = k.machine.allocatable; fixed_stack = k.machine.fixed_stack; dedicated = k.machine.dedicated; sizes = k.machine.sizes; vregs = k.machine.vregs; lent = k.machine.lent } }
 
 module _ (Known : VirtualRegister → Type 0) (insts : ℕ → InstValue) (placesf : ℕ → List Place) (i n : ℕ) (item : Item) (E : VirtualRegister → Place → Type 0) where
   -- what the listing carries with the instruction in front, while the moves of the uses from k on are not listed

@@ -16,7 +16,7 @@ use Rattle.regalloc2_flow.proofs.Silent.{Unread}
 use Rattle.regalloc2_flow.proofs.Backward.{Relied}
 use Rattle.regalloc2_flow.proofs.Defined.{DefinesAt, ReadsDefined}
 use Rattle.regalloc2_flow.proofs.Order.{reads_later}
-use Rattle.regalloc2_fastalloc.specs.Steps.{Tables, Allocates}
+use Rattle.regalloc2_fastalloc.specs.Steps.{Tables}
 use Rattle.regalloc2_fastalloc.specs.Blocks.{BeginsBlock}
 use Rattle.regalloc2_fastalloc.proofs.Standing.{stands_at, slots_at}
 use Rattle.regalloc2_fastalloc.proofs.Laying.{Orderly}
@@ -73,16 +73,19 @@ module _ (Known : VirtualRegister → Type 0) (f : FunctionValue) (placesf : ℕ
   abbrev pub first_of : ℕ
   first_of = (block_at f b).range.first
 
+  -- each instruction leaves the slots of others that come now or later
+  abbrev pub EachLeaves : ℕ → Tables → Tables → Type 0
+  EachLeaves i t u = (v : VirtualRegister) → Known v → Leaves f placesf F v i t u
+
   -- The walk over the block b: behind its last instruction the tables are begin, before its first one they are middle, and new where it begins.
   pub record Walked (last : ℕ) (begin middle new : Tables) : Type 0 where
     pub end : last + 1 ≡ (block_at f b).range.end
     pub some : first_of ≤ last
     pub within : last < length f.insts
     pub start : Between last begin
-    pub goes : Goes f placesf begin first_of last first_of middle
+    pub goes : Goes f placesf EachLeaves begin first_of last first_of middle
     pub begins : BeginsBlock (before first_of) (block_at f b).params middle new
     pub returns : (i : ℕ) → first_of ≤ i → i < last → (inst_at f i).is_ret ≡ false
-    pub leaves : (v : VirtualRegister) → Known v → (i : ℕ) (t u : Tables) (blank here : List Place) → first_of ≤ i → i < last → Goes f placesf begin first_of last (i + 1) t → Allocates i (inst_at f i) blank here t u → Leaves f placesf F v i t u
     pub stays : (x : ℕ) (p : Place) → slots_at new x ≡ Some p → F x ≡ Some p
 
   module _ (last : ℕ) (begin middle new : Tables) (w : Walked last begin middle new) (v : VirtualRegister) (known : Known v) (E : Place → Type 0) where
@@ -98,11 +101,11 @@ module _ (Known : VirtualRegister → Type 0) (f : FunctionValue) (placesf : ℕ
     block_owes c =
         let some : first_of ≤ last = w.some in
         let within : last < length f.insts = w.within in
-        let between : Between first_of middle = goes_between Known f placesf orderly avoids knows begin first_of last (omega (arith, within)) w.start first_of middle w.goes in
+        let between : Between first_of middle = goes_between Known f placesf orderly avoids knows EachLeaves begin first_of last (omega (arith, within)) w.start first_of middle w.goes in
         let carried : Carries v (walked (inst_at f) (at_point (listed middle.edits)) placesf first_of (suc (last - first_of))) (Relied written written (stands_at middle v.number) (slots_at middle v.number) (F v.number)) E =
-        goes_carried Known f placesf orderly avoids knows begin first_of last (omega (arith, within)) w.start F v known written 1 E w.returns
+        goes_carried Known f placesf orderly avoids knows EachLeaves begin first_of last (omega (arith, within)) w.start F v known written 1 E w.returns
         (λ i ge lt none. defined_from-none f v.number first_of (suc (last - first_of)) none i ge (omega (arith, some)))
-        (w.leaves v known) (λ i n ge lt count d. unread_before f once v i n (omega (arith, within)) (omega (arith, within, count)) (reads i (omega (arith, within))) d)
+        (λ i t u ge lt l. l v known) (λ i n ge lt count d. unread_before f once v i n (omega (arith, within)) (omega (arith, within, count)) (reads i (omega (arith, within))) d)
         c first_of middle w.goes (suc (last - first_of)) (omega (arith, some)) in
         carries_weaken v (walked (inst_at f) (at_point (listed new.edits)) placesf first_of (suc (last - first_of))) (λ p. (written ≡ false) × (F v.number ≡ Some p)) (StandsBefore f (λ u. F u.number) b v) E E
         (λ p h. (unwritten h.0, h.1)) (λ p h. h)

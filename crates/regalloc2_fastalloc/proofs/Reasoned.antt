@@ -10,8 +10,7 @@ use Rattle.regalloc2_function.specs.Reasons.IsShapeFault.{apart, critical, opera
 use Rattle.regalloc2_function.specs.Reasons.IsSoundnessFault.{arguments, definitions, elsewhere, livein, open_end}
 use Rattle.regalloc2_fastalloc.specs.Constraints.{IsFixedFault}
 use Rattle.regalloc2_fastalloc.specs.Lack.{LacksOnly}
-use Rattle.regalloc2_fastalloc.specs.Reason.{units_needed}
-use Rattle.regalloc2_fastalloc.specs.Reasons.{PassesFirst, PassesAll, IsReason}
+use Rattle.regalloc2_fastalloc.specs.Reason.{PassesFirst, PassesAll, IsReason, units_needed}
 use Rattle.regalloc2_fastalloc.specs.Tested.{IsFault}
 use Rattle.regalloc2_fastalloc.specs.Tested.IsFault.{memory, misshapen, unsound, clashing}
 

@@ -10,12 +10,14 @@ use Rattle.std.proofs.lemmas.List.{get_or_read, get_or-set_same, get_or-set_othe
 use Rattle.std.proofs.lemmas.List.Sums.{sum_by-set, count_by-le-length}
 use Rattle.regalloc2_names.specs.declared.RegAllocError.{RegAllocError}
 use Rattle.regalloc2_names.specs.declared.RegAllocError.TheVariants.{CritEdge, SSA, BB, Branch, EntryLivein, DisallowedBranchArg, TooManyLiveRegs, TooManyOperands, Unsupported, TooManySpillSlots, Memory}
+use Rattle.regalloc2_names.specs.declared.RegClass.{RegClass}
 use Rattle.regalloc2_names.specs.declared.RegClass.TheVariants.{Int, Float, Vector}
+use Rattle.regalloc2_names.specs.Register.{class_code}
 use Rattle.regalloc2_names.specs.Place.{Place, NoPlace, InSlot, is_no_place}
 use Rattle.regalloc2_function.specs.FunctionValue.{FunctionValue, slot_size}
 use Rattle.regalloc2_function.specs.OutputValue.{OutputValue}
-use Rattle.regalloc2_fastalloc.specs.Tables.{SlotsValue, AreOwned, AreUpTo, IsSlotOrNone, most_units, owners, slot_name}
-use Rattle.regalloc2_fastalloc.specs.Lack.{LacksOnly, AreFull}
+use Rattle.regalloc2_fastalloc.specs.Tables.{SlotsValue, AreOwned, AreUpTo, IsSlotOrNone, later_end, most_units, owners, slot_name}
+use Rattle.regalloc2_fastalloc.specs.Lack.{LacksOnly, AreFull, AreFullWith}
 use Rattle.regalloc2_fastalloc.specs.Reason.{SlotsAreFew, greatest_slot, units_needed}
 use Rattle.regalloc2_fastalloc.proofs.Setting.{each_of_three}
 use Rattle.regalloc2_fastalloc.proofs.Slotting.{nothing_there, slot_grows}
@@ -58,23 +60,23 @@ no_slot_yet items n p b lt reads h f = sym (get_or_read items n p lt reads NoPla
 
 module _ (s : SlotsValue) (code n start : ℕ) (owned : AreOwned s) (three : code < 3) (lt : n < length s.of_vreg) (none : slot_name s n ≡ NoPlace) (begins : start ≡ next_multiple_of s.count (slice_index s.sizes code)) where
   -- where a new slot ends there is room, if each vreg has as much
-  ends_within : (most : ℕ) → AreUpTo most s.sizes → start + slice_index s.sizes code < (owners s + 1) * (2 * most)
+  ends_within : (most : ℕ) → AreUpTo most s.sizes → start + slice_index s.sizes code < (owners s + s.lent + 1) * (2 * most)
   ends_within most upto =
       let size : ℕ = slice_index s.sizes code in
       let near = end_near s.count size (owned.sizes code three).0 in
-      one_more_fits (owners s) s.count (start + size) size most (owned.room most upto) (omega (arith, near, begins)) (upto code three)
+      one_more_fits (owners s + s.lent) s.count (start + size) size most (owned.room most upto) (omega (arith, near, begins)) (upto code three)
 
   -- slots are full where one more would end past the greatest number of units
   pub full_slots : most_units < start + slice_index s.sizes code → AreFull s
   full_slots past most upto =
       let within = ends_within most upto in
       let less = owners_less s n lt none in
-      let all : (owners s + 1) * (2 * most) ≤ length s.of_vreg * (2 * most) = fewer_fit (owners s + 1) (length s.of_vreg) most (omega (arith, less)) in
+      let all : (owners s + s.lent + 1) * (2 * most) ≤ (length s.of_vreg + s.lent) * (2 * most) = fewer_fit (owners s + s.lent + 1) (length s.of_vreg + s.lent) most (omega (arith, less)) in
       omega (arith, past, within, all)
 
   -- a slot is made, with a name between its start and its end
   pub owned_more : (k : ℕ) → start + slice_index s.sizes code ≤ most_units → start ≤ k → k < start + slice_index s.sizes code
-      → AreOwned (record { of_vreg = set s.of_vreg n (InSlot k); count = start + slice_index s.sizes code; sizes = s.sizes; by_last = s.by_last })
+      → AreOwned (record { of_vreg = set s.of_vreg n (InSlot k); count = start + slice_index s.sizes code; lent = s.lent; sizes = s.sizes; by_last = s.by_last })
   owned_more k limit low high = record {
     three = owned.three;
     sizes = owned.sizes;
@@ -94,8 +96,10 @@ module _ (s : SlotsValue) (code n start : ℕ) (owned : AreOwned s) (three : cod
       ]
     ];
     room = λ most upto.
-        let fits : end < count_by (λ p. not (is_no_place p)) (set s.of_vreg n (InSlot k)) * (2 * most) = subst (λ (x : ℕ). end < x * (2 * most)) (sym (owners_more s n k lt none)) (ends_within most upto) in
+        let within : end < (owners s + 1 + s.lent) * (2 * most) = subst (λ (x : ℕ). end < x * (2 * most)) (omega arith) (ends_within most upto) in
+        let fits : end < (count_by (λ p. not (is_no_place p)) (set s.of_vreg n (InSlot k)) + s.lent) * (2 * most) = subst (λ (x : ℕ). end < (x + s.lent) * (2 * most)) (sym (owners_more s n k lt none)) within in
         omega (arith, fits);
+    some = (let h = owned.some in omega (arith, past, h));
   }
     where
       end : ℕ
@@ -120,6 +124,65 @@ module _ (s : SlotsValue) (code n start : ℕ) (owned : AreOwned s) (three : cod
           let lower : j < s.count = subst (IsSlotOrNone s.count) (sym (other m d) ∙ f) (owned.below m) in
           omega (arith, begins, low, lower, same)
 
+-- new slots that are lent have room, one or two
+one_lent_fits : (owned lent count size most start end : ℕ) → count ≤ (owned + lent) * (2 * most) → start + size < count + 2 * size → size ≤ most → end ≡ start + 1 * size → end ≤ (owned + (lent + 1)) * (2 * most)
+one_lent_fits owned lent count size most start end room near small is = omega (arith, room, near, small, is)
+
+two_lent_fit : (owned lent count size most start end : ℕ) → count ≤ (owned + lent) * (2 * most) → start + size < count + 2 * size → size ≤ most → end ≡ start + 2 * size → end ≤ (owned + (lent + 2)) * (2 * most)
+two_lent_fit owned lent count size most start end room near small is = omega (arith, room, near, small, is)
+
+-- one or two
+by_taken : (P : ℕ → Type 0) → P 1 → P 2 → (taken : ℕ) → 1 ≤ taken → taken ≤ 2 → P taken
+by_taken P one two taken some few = elim (cases_eq taken 1) [
+  | inl e ↦ subst P (sym e) one
+  | inr ne ↦ (let e : 2 ≡ taken = omega (arith, ne, some, few) in subst P e two)
+]
+
+module _ (s : SlotsValue) (code : ℕ) (owned : AreOwned s) (three : code < 3) where
+  -- where so many slots that are lent end
+  lent_room : (taken : ℕ) → 1 ≤ taken → taken ≤ 2 → (most : ℕ) → AreUpTo most s.sizes → (end : ℕ) → end ≡ next_multiple_of s.count (slice_index s.sizes code) + taken * slice_index s.sizes code → end ≤ (owners s + (s.lent + taken)) * (2 * most)
+  lent_room taken some few most upto =
+      let size : ℕ = slice_index s.sizes code in
+      let start : ℕ = next_multiple_of s.count size in
+      let near = end_near s.count size (owned.sizes code three).0 in
+      by_taken (λ t. (end : ℕ) → end ≡ start + t * size → end ≤ (owners s + (s.lent + t)) * (2 * most))
+      (λ end is. one_lent_fits (owners s) s.lent s.count size most start end (owned.room most upto) near (upto code three) is)
+      (λ end is. two_lent_fit (owners s) s.lent s.count size most start end (owned.room most upto) near (upto code three) is)
+      taken some few
+
+  lent_past : (taken : ℕ) → 1 ≤ taken → taken ≤ 2 → (end : ℕ) → end ≡ next_multiple_of s.count (slice_index s.sizes code) + taken * slice_index s.sizes code → s.count + taken ≤ end
+  lent_past taken some few =
+      let size : ℕ = slice_index s.sizes code in
+      let start : ℕ = next_multiple_of s.count size in
+      let least = (owned.sizes code three).0 in
+      by_taken (λ t. (end : ℕ) → end ≡ start + t * size → s.count + t ≤ end) (λ end is. omega (arith, is, least)) (λ end is. omega (arith, is, least)) taken some few
+
+  -- slots are lent
+  pub owned_lent : (taken end : ℕ) → 1 ≤ taken → taken ≤ 2 → end ≡ next_multiple_of s.count (slice_index s.sizes code) + taken * slice_index s.sizes code → end ≤ most_units
+      → AreOwned (record { of_vreg = s.of_vreg; count = end; lent = s.lent + taken; sizes = s.sizes; by_last = s.by_last })
+  owned_lent taken end some few is limit =
+      let past : s.count + taken ≤ end = lent_past taken some few end is in
+      record {
+        three = owned.three;
+        sizes = owned.sizes;
+        few = limit;
+        below = λ n. slot_grows s.count end (slot_name s n) (omega (arith, past)) (owned.below n);
+        own = owned.own;
+        room = λ most upto. lent_room taken some few most upto end is;
+        some = (let h = owned.some in omega (arith, past, h));
+      }
+
+-- what is lent ends within the greatest number of units
+pub lends_within : (s t : SlotsValue) (class : RegClass) (code taken : ℕ) → s ≡ t → code ≡ class_code class → 1 ≤ taken → ((k : ℕ) → taken ≡ k + 1 → later_end t class k ≤ most_units)
+    → next_multiple_of s.count (slice_index s.sizes code) + taken * slice_index s.sizes code ≤ most_units
+lends_within s t class code taken e c some room =
+    let k : ℕ = taken - 1 in
+    let u : ℕ = slice_index s.sizes (class_code class) in
+    let one_more : taken ≡ k + 1 = omega (arith, some) in
+    let all : taken * u ≡ k * u + u = ap (λ (n : ℕ). n * u) one_more ∙ omega arith in
+    let fits : later_end s class k ≤ most_units = subst (λ (x : SlotsValue). later_end x class k ≤ most_units) (sym e) (room k one_more) in
+    subst (λ (z : ℕ). next_multiple_of s.count (slice_index s.sizes z) + taken * slice_index s.sizes z ≤ most_units) (sym c) (omega (arith, all, fits))
+
 -- the sizes of a function's slots
 abbrev pub sizes_of : FunctionValue → List ℕ
 sizes_of f = slot_size f.slot_sizes Int ∷ slot_size f.slot_sizes Float ∷ slot_size f.slot_sizes Vector ∷ []
@@ -132,26 +195,28 @@ up_to_greatest f =
     let rest : max float vector ≤ greatest_slot f = le-max_right int (max float vector) in
     each_of_three (λ n. n ≤ greatest_slot f) int float vector (le-max_left int (max float vector)) (let l = le-max_left float vector in omega (arith, l, rest)) (let r = le-max_right float vector in omega (arith, r, rest))
 
--- what one slot for each vreg takes is within the bound of a function
-within_needed : (most vregs blocks : ℕ) → vregs * (2 * most) ≤ 2 * most * (vregs + 6 * blocks)
-within_needed most vregs blocks = omega arith
+-- what one slot for each vreg and six for each block take is within the bound of a function
+within_needed : (most vregs lent blocks : ℕ) → lent ≤ 6 * blocks → (vregs + lent) * (2 * most) ≤ 2 * most * (vregs + 6 * blocks)
+within_needed most vregs lent blocks few =
+    let all : (vregs + lent) * (2 * most) ≤ (vregs + 6 * blocks) * (2 * most) = fewer_fit (vregs + lent) (vregs + 6 * blocks) most (omega (arith, few)) in
+    omega (arith, all)
 
 -- where slots are full, the function needs too many units
-pub full_needs : (f : FunctionValue) (s : SlotsValue) → s.sizes ≡ sizes_of f → length s.of_vreg ≡ f.num_vregs → AreFull s → 2 ^ 24 < units_needed f
-full_needs f s sizes vregs full =
-    let past : most_units < length s.of_vreg * (2 * greatest_slot f) = full (greatest_slot f) (subst (AreUpTo (greatest_slot f)) (sym sizes) (up_to_greatest f)) in
-    let past2 : most_units < f.num_vregs * (2 * greatest_slot f) = subst (λ (n : ℕ). most_units < n * (2 * greatest_slot f)) vregs past in
-    let w = within_needed (greatest_slot f) f.num_vregs (length f.blocks) in
+pub full_needs : (f : FunctionValue) (s : SlotsValue) (more : ℕ) → s.sizes ≡ sizes_of f → length s.of_vreg ≡ f.num_vregs → more ≤ 6 * length f.blocks → AreFullWith s more → 2 ^ 24 < units_needed f
+full_needs f s more sizes vregs few full =
+    let past : most_units < (length s.of_vreg + more) * (2 * greatest_slot f) = full (greatest_slot f) (subst (AreUpTo (greatest_slot f)) (sym sizes) (up_to_greatest f)) in
+    let past2 : most_units < (f.num_vregs + more) * (2 * greatest_slot f) = subst (λ (n : ℕ). most_units < (n + more) * (2 * greatest_slot f)) vregs past in
+    let w = within_needed (greatest_slot f) f.num_vregs more (length f.blocks) few in
     omega (arith, past2, w)
 
 -- slots take no more units than the function needs
-pub few_slots : (f : FunctionValue) (s : SlotsValue) (out : OutputValue) → out.num_spillslots ≡ s.count → s.sizes ≡ sizes_of f → length s.of_vreg ≡ f.num_vregs → AreOwned s → SlotsAreFew f out
-few_slots f s out count sizes vregs owned =
-    let room : s.count ≤ owners s * (2 * greatest_slot f) = owned.room (greatest_slot f) (subst (AreUpTo (greatest_slot f)) (sym sizes) (up_to_greatest f)) in
+pub few_slots : (f : FunctionValue) (s : SlotsValue) (out : OutputValue) → out.num_spillslots ≡ s.count → s.sizes ≡ sizes_of f → length s.of_vreg ≡ f.num_vregs → s.lent ≤ 6 * length f.blocks → AreOwned s → SlotsAreFew f out
+few_slots f s out count sizes vregs few owned =
+    let room : s.count ≤ (owners s + s.lent) * (2 * greatest_slot f) = owned.room (greatest_slot f) (subst (AreUpTo (greatest_slot f)) (sym sizes) (up_to_greatest f)) in
     let some : owners s ≤ length s.of_vreg = count_by-le-length (λ p. not (is_no_place p)) s.of_vreg in
-    let all : owners s * (2 * greatest_slot f) ≤ f.num_vregs * (2 * greatest_slot f) = fewer_fit (owners s) f.num_vregs (greatest_slot f) (omega (arith, some, vregs)) in
-    let w = within_needed (greatest_slot f) f.num_vregs (length f.blocks) in
-    record { limit = (let few = owned.few in omega (arith, count, few)); needed = omega (arith, count, room, all, w) }
+    let all : (owners s + s.lent) * (2 * greatest_slot f) ≤ (f.num_vregs + s.lent) * (2 * greatest_slot f) = fewer_fit (owners s + s.lent) (f.num_vregs + s.lent) (greatest_slot f) (omega (arith, some, vregs)) in
+    let w = within_needed (greatest_slot f) f.num_vregs s.lent (length f.blocks) few in
+    record { limit = (let most = owned.few in omega (arith, count, most)); needed = omega (arith, count, room, all, w) }
 
 -- what is lacking, where the slots are full only if more holds
 pub lacks_then : (P Q : Type 0) → (P → Q) → (e : RegAllocError) → LacksOnly P e → LacksOnly Q e

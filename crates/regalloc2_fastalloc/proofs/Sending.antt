@@ -44,7 +44,7 @@ kept_edits a t es k = record {
   nowhere = k.nowhere;
   slotted = k.slotted;
   unslotted = k.unslotted;
-  machine = record { allocatable = k.machine.allocatable; fixed_stack = k.machine.fixed_stack; dedicated = k.machine.dedicated; sizes = k.machine.sizes; vregs = k.machine.vregs };
+  machine = record { allocatable = k.machine.allocatable; fixed_stack = k.machine.fixed_stack; dedicated = k.machine.dedicated; sizes = k.machine.sizes; vregs = k.machine.vregs; lent = k.machine.lent };
 }
 
 pub spare_edits : (here : ℕ → Place) (claimed : ℕ → Bool) (X : Place → ℕ → Bool) (u : Turn) (t : Tables) (es : List (ℕ × MoveValue)) → Spare here claimed X u t → Spare here claimed X u (record t { edits = es })

@@ -17,6 +17,11 @@ place_of_register (InRegister q) r e = let same : q ≡ r = cc in ap InRegister 
 place_of_register (InSlot n) r e = absurd cc
 
 -- tests of whether there is a place
+pub nothing : (p : Place) → is_no_place p ≡ true → p ≡ NoPlace
+nothing NoPlace h = refl
+nothing (InRegister r) h = absurd cc
+nothing (InSlot n) h = absurd cc
+
 pub nothing_there : (p : Place) (b : Bool) → (is_no_place p ≡ false → IsTrue b) → b ≡ false → p ≡ NoPlace
 nothing_there NoPlace b h e = refl
 nothing_there (InRegister r) b h e = let t : b ≡ true = h refl in absurd cc

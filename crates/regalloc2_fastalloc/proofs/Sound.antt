@@ -1,5 +1,5 @@
 -- The steps of the walk keep the tables safe, with operands of every kind but `Limit`.
-use Rattle.std.proofs.Common.{ℕ, ◌≡◌, ◌≢◌, ◌+◌, ◌<◌, List, [], ◌∷◌, ◌++◌, Bool, true, false, refl, sym, ap, ◌∙◌, ◌⊎◌, ⊎_elim, inl, inr, subst, arith, length, set, slice_index_or, get_or-set_same}
+use Rattle.std.proofs.Common.{ℕ, ◌≡◌, ◌≢◌, ◌<◌, List, [], ◌∷◌, ◌++◌, Bool, true, false, refl, sym, ap, ◌∙◌, ◌⊎◌, ⊎_elim, inl, inr, subst, arith, length, set, slice_index, slice_index_or, get_or-set_same}
 use Rattle.std.specs.Prelude.{All, Option, None, Some, ◌&&◌}
 use Rattle.std.proofs.lemmas.Bool.{cases_eq}
 use Rattle.std.proofs.lemmas.List.{get_or-set_other}
@@ -15,48 +15,13 @@ use Rattle.regalloc2_function.specs.OutputValue.{MoveValue}
 use Rattle.regalloc2_function.specs.Faithful.{IsStackToStack}
 use Rattle.regalloc2_flow.proofs.Cells.{is_place-true}
 use Rattle.regalloc2_fastalloc.specs.declared.turn.Turn.{Turn}
-use Rattle.regalloc2_fastalloc.specs.Tables.{PlacesValue, SlotsValue, Settles, GivesSlot, IsSlotOrNone, stood, holder, slot_name}
+use Rattle.regalloc2_fastalloc.specs.Tables.{PlacesValue, SlotsValue, Settles, GivesSlot, IsSlotOrNone, stood, holder, slot_name, units_of}
 use Rattle.regalloc2_fastalloc.specs.Steps.{Tables, SameMachine, is_stack_in, Evicts, nobody, moved, Scratches, dedicated, had, found, Crosses, direct, through, Clears, empty, cleared, ClearsBut, own, others, a_move, Sends, sent, unsent}
-use Rattle.regalloc2_fastalloc.specs.Sound.{IsOfMachine, MayStand, MayStandOrNone, IsEndOfMove, IsSafeEdit, HasMachine, IsSafe, IsSafeTurn}
+use Rattle.regalloc2_fastalloc.specs.Sound.{IsOfMachine, MayStand, MayStandOrNone, IsEndOfMove, IsThrough, IsSafeEdit, HasMachine, IsSafe, IsSafeTurn}
 use Rattle.regalloc2_fastalloc.proofs.Falling.{all_push}
+use Rattle.regalloc2_fastalloc.proofs.SafeSlots.{SlotsStay, gives_stay, same_stay, end_grows, none_grows, gives_grow, edits_grow}
 use Rattle.regalloc2_fastalloc.proofs.Inverses.{chosen, no_some}
 use Rattle.regalloc2_fastalloc.proofs.Slotting.{slot_grows}
-
--- slots that are there stay
-abbrev pub SlotsStay : SlotsValue → SlotsValue → Type 0
-SlotsStay old new = (n k : ℕ) → slot_name old n ≡ InSlot k → slot_name new n ≡ InSlot k
-
-pub gives_stay : (old new : SlotsValue) (v : VirtualRegister) (p : Place) → GivesSlot old new v p → SlotsStay old new
-gives_stay old new v p gives n k is = elim (cases_eq n v.number) [
-  | inl e ↦ (let there : slot_name old v.number ≡ InSlot k = ap (slot_name old) (sym e) ∙ is in
-      let had = gives.had (λ none. (let x : InSlot k ≡ NoPlace = sym there ∙ none in cc)) in
-      ap (slot_name new) e ∙ gives.gives ∙ had.0 ∙ there)
-  | inr d ↦ gives.others n d ∙ is
-]
-
-pub same_stay : (old new : SlotsValue) → new ≡ old → SlotsStay old new
-same_stay old new e n k is = ap (λ (s : SlotsValue). slot_name s n) e ∙ is
-
--- what holds with slots holds with those that stay, and more
-pub end_grows : (env : MachineValue) (s t : SlotsValue) (v : VirtualRegister) (p : Place) → SlotsStay s t → IsEndOfMove env s v p → IsEndOfMove env t v p
-end_grows env s t v NoPlace stay h = h
-end_grows env s t v (InRegister r) stay h = h
-end_grows env s t v (InSlot k) stay h = stay v.number k h
-
-pub stand_grows : (env : MachineValue) (s t : SlotsValue) (v : VirtualRegister) (p : Place) → SlotsStay s t → MayStand env s v p → MayStand env t v p
-stand_grows env s t v NoPlace stay h = h
-stand_grows env s t v (InRegister r) stay h = h
-stand_grows env s t v (InSlot k) stay h = stay v.number k h
-
-pub none_grows : (env : MachineValue) (s t : SlotsValue) (v : VirtualRegister) (p : Place) → SlotsStay s t → MayStandOrNone env s v p → MayStandOrNone env t v p
-none_grows env s t v NoPlace stay h = h
-none_grows env s t v (InRegister r) stay h = h
-none_grows env s t v (InSlot k) stay h = stay v.number k h
-
-pub edits_grow : (env : MachineValue) (Known : VirtualRegister → Type 0) (Writes : ℕ → VirtualRegister → ℕ → Type 0) (s t : SlotsValue) (bound : ℕ) (es : List (ℕ × MoveValue)) → SlotsStay s t
-    → All (IsSafeEdit env Known Writes s bound) es → All (IsSafeEdit env Known Writes t bound) es
-edits_grow env Known Writes s t bound es stay h = λ k d lt. let e = h k d lt in
-    record { vreg = e.vreg; known = e.known; from = end_grows env s t e.vreg _ stay e.from; to = end_grows env s t e.vreg _ stay e.to; written = e.written; not_both = e.not_both; point = e.point }
 
 -- a vreg's own slot is an end of moves of its value, and it may stand there; nor is it memory only in name
 pub slot_end : (env : MachineValue) (s : SlotsValue) (v : VirtualRegister) (p : Place) → slot_name s v.number ≡ p → p ≢ NoPlace → IsSlotOrNone s.count p → IsEndOfMove env s v p
@@ -69,7 +34,7 @@ slot_stands env s v NoPlace is d h = d refl
 slot_stands env s v (InRegister r) is d h = absurd h
 slot_stands env s v (InSlot k) is d h = is
 
-slot_none : (env : MachineValue) (s : SlotsValue) (v : VirtualRegister) (p : Place) → slot_name s v.number ≡ p → IsSlotOrNone s.count p → MayStandOrNone env s v p
+pub slot_none : (env : MachineValue) (s : SlotsValue) (v : VirtualRegister) (p : Place) → slot_name s v.number ≡ p → IsSlotOrNone s.count p → MayStandOrNone env s v p
 slot_none env s v NoPlace is h = tt
 slot_none env s v (InRegister r) is h = absurd h
 slot_none env s v (InSlot k) is h = is
@@ -133,10 +98,6 @@ pub record IsApart (env : MachineValue) : Type 0 where
   pub slots : (r : Register) → is_allocatable env r.class r ≡ true → IsFixedStackSlot env r → ⊥
   pub scratch : (c : RegClass) (r : Register) → scratch_of env c ≡ Some r → IsFixedStackSlot env r → ⊥
 
--- a register through which moves of a class go: an allocatable one, or the one that is kept for them
-abbrev pub IsThrough : MachineValue → RegClass → Register → Type 0
-IsThrough env class r = ((is_allocatable env r.class r ≡ true) × (r.class ≡ class)) ⊎ (scratch_of env class ≡ Some r)
-
 through_end : (env : MachineValue) (s : SlotsValue) (v : VirtualRegister) (r : Register) → IsThrough env v.class r → IsEndOfMove env s v (InRegister r)
 through_end env s v r (inl a) = inl (inl a.0, a.1)
 through_end env s v r (inr b) = inr b
@@ -146,11 +107,11 @@ through_apart env apart class r (inl a) is = apart.slots r a.0 is
 through_apart env apart class r (inr b) is = apart.scratch class r b is
 
 -- one more move of a vreg's value
-pushed : (env : MachineValue) (Known : VirtualRegister → Type 0) (Writes : ℕ → VirtualRegister → ℕ → Type 0) (s : SlotsValue) (bound point : ℕ) (v : VirtualRegister) (from to : Place) (es : List (ℕ × MoveValue)) → point + 1 < bound → Known v
+pushed : (env : MachineValue) (Known : VirtualRegister → Type 0) (Writes : ℕ → VirtualRegister → ℕ → Type 0) (s : SlotsValue) (May : ℕ → Type 0) (point : ℕ) (v : VirtualRegister) (from to : Place) (es : List (ℕ × MoveValue)) → May point → Known v
     → IsEndOfMove env s v from → IsEndOfMove env s v to → ((n : ℕ) → to ≡ InSlot n → Writes point v n)
-    → (IsStackToStack env (record { from = from; to = to }) → ⊥) → All (IsSafeEdit env Known Writes s bound) es → All (IsSafeEdit env Known Writes s bound) (es ++ a_move point from to ∷ [])
-pushed env Known Writes s bound point v from to es lt known f t w n h =
-    all_push (IsSafeEdit env Known Writes s bound) es (a_move point from to) h (record { vreg = v; known = known; from = f; to = t; written = w; not_both = n; point = lt })
+    → (IsStackToStack env (record { from = from; to = to }) → ⊥) → All (IsSafeEdit env Known Writes s May) es → All (IsSafeEdit env Known Writes s May) (es ++ a_move point from to ∷ [])
+pushed env Known Writes s May point v from to es can known f t w n h =
+    all_push (IsSafeEdit env Known Writes s May) es (a_move point from to) h (record { moves = inl (record { vreg = v; known = known; from = f; to = t; written = w }); not_both = n; point = can })
 
 -- a register is no slot
 no_write : (P : ℕ → Type 0) (r : Register) (n : ℕ) → InRegister r ≡ InSlot n → P n
@@ -185,6 +146,9 @@ settled_holders env Known t u v p s here h r w small held = elim (settled_holder
   | inl a ↦ subst (MayBeHeld env Known r) a.1 (here r a.0)
   | inr b ↦ h r w small b
 ]
+
+pub same_units : (t u : SlotsValue) → u.sizes ≡ t.sizes → ((c : RegClass) → 0 < units_of t c) → (c : RegClass) → 0 < units_of u c
+same_units t u e h c = subst (λ (l : List ℕ). 0 < slice_index l (class_code c)) (sym e) (h c)
 
 pub slots_kept : (t u : SlotsValue) (v : VirtualRegister) (p : Place) → GivesSlot t u v p → ((n : ℕ) → IsSlotOrNone t.count (slot_name t n)) → (n : ℕ) → IsSlotOrNone u.count (slot_name u n)
 slots_kept t u v p gives h n = elim (cases_eq n v.number) [
@@ -240,75 +204,77 @@ two_more [] x y = refl
 two_more (z ∷ xs) x y = ap (λ l. z ∷ l) (two_more xs x y)
 
 -- what a step keeps
-pub record StepKept (env : MachineValue) (Known : VirtualRegister → Type 0) (Writes : ℕ → VirtualRegister → ℕ → Type 0) (bound : ℕ) (old : Tables) (u : Turn) (new : Tables) : Type 0 where
-  pub safe : IsSafe env Known Writes bound new
+pub record StepKept (env : MachineValue) (Known : VirtualRegister → Type 0) (Writes : ℕ → VirtualRegister → ℕ → Type 0) (May : ℕ → Type 0) (old : Tables) (u : Turn) (new : Tables) : Type 0 where
+  pub safe : IsSafe env Known Writes May new
   pub turn : IsSafeTurn env u
   pub stay : SlotsStay old.slots new.slots
   pub standing : KeepsStanding old new
 
-pub kept_both : (env : MachineValue) (Known : VirtualRegister → Type 0) (Writes : ℕ → VirtualRegister → ℕ → Type 0) (bound : ℕ) (a b c : Tables) (t u : Turn) → StepKept env Known Writes bound a t b → StepKept env Known Writes bound b u c
-    → StepKept env Known Writes bound a u c
-kept_both env Known Writes bound a b c t u x y = record { safe = y.safe; turn = y.turn; stay = λ n k h. y.stay n k (x.stay n k h); standing = λ n h. y.standing n (x.standing n h) }
+pub kept_both : (env : MachineValue) (Known : VirtualRegister → Type 0) (Writes : ℕ → VirtualRegister → ℕ → Type 0) (May : ℕ → Type 0) (a b c : Tables) (t u : Turn) → StepKept env Known Writes May a t b → StepKept env Known Writes May b u c
+    → StepKept env Known Writes May a u c
+kept_both env Known Writes May a b c t u x y = record { safe = y.safe; turn = y.turn; stay = λ n k h. y.stay n k (x.stay n k h); standing = λ n h. y.standing n (x.standing n h) }
 
-pub kept_none : (env : MachineValue) (Known : VirtualRegister → Type 0) (Writes : ℕ → VirtualRegister → ℕ → Type 0) (bound : ℕ) (old new : Tables) (t u : Turn) → new ≡ old → u ≡ t → IsSafe env Known Writes bound old → IsSafeTurn env t
-    → StepKept env Known Writes bound old u new
-kept_none env Known Writes bound old new t u en eu h ht = record {
-  safe = subst (IsSafe env Known Writes bound) (sym en) h;
+pub kept_none : (env : MachineValue) (Known : VirtualRegister → Type 0) (Writes : ℕ → VirtualRegister → ℕ → Type 0) (May : ℕ → Type 0) (old new : Tables) (t u : Turn) → new ≡ old → u ≡ t → IsSafe env Known Writes May old → IsSafeTurn env t
+    → StepKept env Known Writes May old u new
+kept_none env Known Writes May old new t u en eu h ht = record {
+  safe = subst (IsSafe env Known Writes May) (sym en) h;
   turn = subst (IsSafeTurn env) (sym eu) ht;
   stay = same_stay old.slots new.slots (ap (λ (x : Tables). x.slots) en);
   standing = λ n there e. there (ap (λ (x : Tables). stood x.places n) (sym en) ∙ e);
 }
 
-module _ (env : MachineValue) (apart : IsApart env) (Known : VirtualRegister → Type 0) (Writes : ℕ → VirtualRegister → ℕ → Type 0) (bound point : ℕ) (lt : point + 1 < bound) where
+module _ (env : MachineValue) (apart : IsApart env) (Known : VirtualRegister → Type 0) (Writes : ℕ → VirtualRegister → ℕ → Type 0) (May : ℕ → Type 0) (point : ℕ) (can : May point) where
   -- a vreg goes to its slot, and perhaps a move is pushed
-  shifted : (t u : Tables) (v : VirtualRegister) (s : Place) → GivesSlot t.slots u.slots v s → Settles t.places u.places v s → SameMachine t u → All (IsSafeEdit env Known Writes u.slots bound) u.edits
-      → IsSafe env Known Writes bound t → IsSafe env Known Writes bound u
+  pub shifted : (t u : Tables) (v : VirtualRegister) (s : Place) → GivesSlot t.slots u.slots v s → Settles t.places u.places v s → SameMachine t u → All (IsSafeEdit env Known Writes u.slots May) u.edits
+      → IsSafe env Known Writes May t → IsSafe env Known Writes May u
   shifted t u v s gives settles machine edits h = record {
     machine = machine_kept env t u machine h.machine;
     places = settled_places env Known t.slots u.slots t.places u.places v s (gives_stay t.slots u.slots v s gives) settles
         (λ w known e. slot_none env u.slots w s (ap (slot_name u.slots) e ∙ gives.gives) gives.below) h.places;
     holders = settled_holders env Known t.places u.places v s settles (λ r e. absurd (slot_is_none_else u.slots.count s r gives.below e)) h.holders;
     slots = slots_kept t.slots u.slots v s gives h.slots;
+    units = same_units t.slots u.slots gives.sizes h.units;
     edits = edits;
   }
 
   -- an allocatable register is emptied
-  pub evicts_kept : (r : Register) (u : Turn) (old new : Tables) → Evicts point r old new → is_allocatable env r.class r ≡ true → IsSafe env Known Writes bound old → IsSafeTurn env u
-      → StepKept env Known Writes bound old u new
-  evicts_kept r u old new (nobody none same) ok h ht = kept_none env Known Writes bound old new u u same refl h ht
+  pub evicts_kept : (r : Register) (u : Turn) (old new : Tables) → Evicts point r old new → is_allocatable env r.class r ≡ true → IsSafe env Known Writes May old → IsSafeTurn env u
+      → StepKept env Known Writes May old u new
+  evicts_kept r u old new (nobody none same) ok h ht = kept_none env Known Writes May old new u u same refl h ht
   evicts_kept r u old new (moved v s small held gives settles edits machine) ok h ht =
       let was : MayBeHeld env Known r v = h.holders r v small held in
       let stay : SlotsStay old.slots new.slots = gives_stay old.slots new.slots v s gives in
       record {
         safe = shifted old new v s gives settles machine
-            (subst (All (IsSafeEdit env Known Writes new.slots bound)) (sym edits) (pushed env Known Writes new.slots bound point v s (InRegister r) old.edits lt was.0
+            (subst (All (IsSafeEdit env Known Writes new.slots May)) (sym edits) (pushed env Known Writes new.slots May point v s (InRegister r) old.edits can was.0
             (slot_end env new.slots v s gives.gives gives.there gives.below) (inl (was.1, was.2)) (no_write (Writes point v) r)
-            (λ both. apart.slots r ok both.1) (edits_grow env Known Writes old.slots new.slots bound old.edits stay h.edits))) h;
+            (λ both. apart.slots r ok both.1) (edits_grow env Known Writes old.slots new.slots May old.edits (gives_grow old.slots new.slots v s gives h.units) h.edits))) h;
         turn = ht;
         stay = stay;
         standing = settled_standing old.places new.places v s gives.there settles;
       }
 
   -- the register through which moves from stack to stack go
-  pub scratches_kept : (class : RegClass) (t u : Turn) (by : Register) (old new : Tables) → Scratches point class t u by old new → IsSafe env Known Writes bound old → IsSafeTurn env t
-      → StepKept env Known Writes bound old u new × IsThrough env class by
-  scratches_kept class t u by old new (dedicated is eu en) h ht = (kept_none env Known Writes bound old new t u en eu h ht, inr (h.machine.dedicated class by is))
-  scratches_kept class t u by old new (had none is eu en) h ht = (kept_none env Known Writes bound old new t u en eu h ht, inl (ht.scratch class by is))
+  pub scratches_kept : (class : RegClass) (t u : Turn) (by : Register) (old new : Tables) → Scratches point class t u by old new → IsSafe env Known Writes May old → IsSafeTurn env t
+      → StepKept env Known Writes May old u new × IsThrough env class by
+  scratches_kept class t u by old new (dedicated is eu en) h ht = (kept_none env Known Writes May old new t u en eu h ht, inr (h.machine.dedicated class by is))
+  scratches_kept class t u by old new (had none is eu en) h ht = (kept_none env Known Writes May old new t u en eu h ht, inl (ht.scratch class by is))
   scratches_kept class t u by old new (found none fresh may early late early_left late_left scratch evicts) h ht =
       let ok : is_allocatable env by.class by ≡ true = h.machine.allocatable by may.small may.allocatable in
       (evicts_kept by u old new evicts ok h (scratch_set env class by t u (ok, may.of_class) scratch ht), inl (ok, may.of_class))
 
   -- a move of a vreg's value, by way of a register where both ends are in memory
   pub crosses_kept : (v : VirtualRegister) (from to : Place) (t u : Turn) (old new : Tables) → Crosses point v.class from to t u old new → Known v → IsEndOfMove env old.slots v from → IsEndOfMove env old.slots v to
-      → ((n : ℕ) → to ≡ InSlot n → Writes point v n) → IsSafe env Known Writes bound old → IsSafeTurn env t → StepKept env Known Writes bound old u new
+      → ((n : ℕ) → to ≡ InSlot n → Writes point v n) → IsSafe env Known Writes May old → IsSafeTurn env t → StepKept env Known Writes May old u new
   crosses_kept v from to t u old new (direct one eu en) known f g w h ht =
-      subst (StepKept env Known Writes bound old u) (sym en) (record {
+      subst (StepKept env Known Writes May old u) (sym en) (record {
         safe = record {
           machine = record { allocatable = h.machine.allocatable; fixed_stack = h.machine.fixed_stack; memory = h.machine.memory; dedicated = h.machine.dedicated };
           places = h.places;
           holders = h.holders;
           slots = h.slots;
-          edits = pushed env Known Writes old.slots bound point v from to old.edits lt known f g w (one_register env old from to h.machine one) h.edits;
+          units = h.units;
+          edits = pushed env Known Writes old.slots May point v from to old.edits can known f g w (one_register env old from to h.machine one) h.edits;
         };
         turn = subst (IsSafeTurn env) (sym eu) ht;
         stay = λ n k is. is;
@@ -318,18 +284,19 @@ module _ (env : MachineValue) (apart : IsApart env) (Known : VirtualRegister →
       let s = scratches_kept v.class t u by old m scratches h ht in
       let k = s.0 in
       let b : IsEndOfMove env m.slots v (InRegister by) = through_end env m.slots v by s.1 in
-      let first : All (IsSafeEdit env Known Writes m.slots bound) (m.edits ++ a_move point (InRegister by) to ∷ []) =
-      pushed env Known Writes m.slots bound point v (InRegister by) to m.edits lt known b (end_grows env old.slots m.slots v to k.stay g) w (λ x. through_apart env apart v.class by s.1 x.0) k.safe.edits in
-      let second : All (IsSafeEdit env Known Writes m.slots bound) ((m.edits ++ a_move point (InRegister by) to ∷ []) ++ a_move point from (InRegister by) ∷ []) =
-      pushed env Known Writes m.slots bound point v from (InRegister by) (m.edits ++ a_move point (InRegister by) to ∷ []) lt known (end_grows env old.slots m.slots v from k.stay f) b
+      let first : All (IsSafeEdit env Known Writes m.slots May) (m.edits ++ a_move point (InRegister by) to ∷ []) =
+      pushed env Known Writes m.slots May point v (InRegister by) to m.edits can known b (end_grows env old.slots m.slots v to k.stay g) w (λ x. through_apart env apart v.class by s.1 x.0) k.safe.edits in
+      let second : All (IsSafeEdit env Known Writes m.slots May) ((m.edits ++ a_move point (InRegister by) to ∷ []) ++ a_move point from (InRegister by) ∷ []) =
+      pushed env Known Writes m.slots May point v from (InRegister by) (m.edits ++ a_move point (InRegister by) to ∷ []) can known (end_grows env old.slots m.slots v from k.stay f) b
       (no_write (Writes point v) by) (λ x. through_apart env apart v.class by s.1 x.1) first in
-      subst (StepKept env Known Writes bound old u) (sym en) (record {
+      subst (StepKept env Known Writes May old u) (sym en) (record {
         safe = record {
           machine = record { allocatable = k.safe.machine.allocatable; fixed_stack = k.safe.machine.fixed_stack; memory = k.safe.machine.memory; dedicated = k.safe.machine.dedicated };
           places = k.safe.places;
           holders = k.safe.holders;
           slots = k.safe.slots;
-          edits = subst (All (IsSafeEdit env Known Writes m.slots bound)) (two_more m.edits (a_move point (InRegister by) to) (a_move point from (InRegister by))) second;
+          units = k.safe.units;
+          edits = subst (All (IsSafeEdit env Known Writes m.slots May)) (two_more m.edits (a_move point (InRegister by) to) (a_move point from (InRegister by))) second;
         };
         turn = k.turn;
         stay = k.stay;
@@ -341,20 +308,20 @@ module _ (env : MachineValue) (apart : IsApart env) (Known : VirtualRegister →
   MayMove slots v from to = IsEndOfMove env slots v from × IsEndOfMove env slots v to × ((n : ℕ) → to ≡ InSlot n → Writes point v n)
 
   pub sends_kept : (v : VirtualRegister) (is_made : Bool) (from to : Place) (t u : Turn) (old new : Tables) → Sends point v.class is_made from to t u old new → Known v
-      → (is_made ≡ true → MayMove old.slots v from to) → IsSafe env Known Writes bound old → IsSafeTurn env t → StepKept env Known Writes bound old u new
+      → (is_made ≡ true → MayMove old.slots v from to) → IsSafe env Known Writes May old → IsSafeTurn env t → StepKept env Known Writes May old u new
   sends_kept v is_made from to t u old new (sent made crosses) known ends h ht = (let e = ends made in crosses_kept v from to t u old new crosses known e.0 e.1 e.2 h ht)
-  sends_kept v is_made from to t u old new (unsent not_made eu en) known ends h ht = kept_none env Known Writes bound old new t u en eu h ht
+  sends_kept v is_made from to t u old new (unsent not_made eu en) known ends h ht = kept_none env Known Writes May old new t u en eu h ht
 
   -- a register or fixed stack slot is emptied
-  pub clears_kept : (r : Register) (t u : Turn) (old new : Tables) → Clears point r t u old new → IsSafe env Known Writes bound old → IsSafeTurn env t → StepKept env Known Writes bound old u new
-  clears_kept r t u old new (empty none eu en) h ht = kept_none env Known Writes bound old new t u en eu h ht
+  pub clears_kept : (r : Register) (t u : Turn) (old new : Tables) → Clears point r t u old new → IsSafe env Known Writes May old → IsSafeTurn env t → StepKept env Known Writes May old u new
+  clears_kept r t u old new (empty none eu en) h ht = kept_none env Known Writes May old new t u en eu h ht
   clears_kept r t u old new (cleared v s m small held gives settles edits machine crosses) h ht =
       let was : MayBeHeld env Known r v = h.holders r v small held in
       let stay : SlotsStay old.slots m.slots = gives_stay old.slots m.slots v s gives in
-      let safe : IsSafe env Known Writes bound m = shifted old m v s gives settles machine (subst (All (IsSafeEdit env Known Writes m.slots bound)) (sym edits) (edits_grow env Known Writes old.slots m.slots bound old.edits stay h.edits)) h in
-      kept_both env Known Writes bound old m new t u (record { safe = safe; turn = ht; stay = stay; standing = settled_standing old.places m.places v s gives.there settles })
+      let safe : IsSafe env Known Writes May m = shifted old m v s gives settles machine (subst (All (IsSafeEdit env Known Writes m.slots May)) (sym edits) (edits_grow env Known Writes old.slots m.slots May old.edits (gives_grow old.slots m.slots v s gives h.units) h.edits)) h in
+      kept_both env Known Writes May old m new t u (record { safe = safe; turn = ht; stay = stay; standing = settled_standing old.places m.places v s gives.there settles })
       (crosses_kept v s (InRegister r) t u m new crosses was.0 (slot_end env m.slots v s gives.gives gives.there gives.below) (inl (was.1, was.2)) (no_write (Writes point v) r) safe ht)
 
-  pub clears_but_kept : (r : Register) (v : VirtualRegister) (t u : Turn) (old new : Tables) → ClearsBut point r v t u old new → IsSafe env Known Writes bound old → IsSafeTurn env t → StepKept env Known Writes bound old u new
-  clears_but_kept r v t u old new (own w held same eu en) h ht = kept_none env Known Writes bound old new t u en eu h ht
+  pub clears_but_kept : (r : Register) (v : VirtualRegister) (t u : Turn) (old new : Tables) → ClearsBut point r v t u old new → IsSafe env Known Writes May old → IsSafeTurn env t → StepKept env Known Writes May old u new
+  clears_but_kept r v t u old new (own w held same eu en) h ht = kept_none env Known Writes May old new t u en eu h ht
   clears_but_kept r v t u old new (others not_own clears) h ht = clears_kept r t u old new clears h ht

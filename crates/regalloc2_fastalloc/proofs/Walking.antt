@@ -1,24 +1,23 @@
 -- What the walk over all instructions keeps, with operands of every kind but `Limit`.
-use Rattle.std.proofs.Common.{ℕ, zero, suc, ◌≡◌, ◌+◌, ◌-◌, ◌<◌, ◌≤◌, ◌⊎◌, List, [], length, refl, sym, ap, ◌∙◌, inl, inr, subst, arith}
-use Rattle.std.specs.Prelude.{true}
+use Rattle.std.proofs.Common.{ℕ, zero, suc, ◌≡◌, ◌+◌, ◌-◌, ◌<◌, ◌≤◌, ◌⊎◌, List, length, refl, sym, ap, ◌∙◌, inl, inr, subst, arith}
+use Rattle.std.specs.Prelude.{true, slice_index_or}
 use Rattle.std.proofs.lemmas.Bool.{cases_eq}
 use Rattle.std.proofs.lemmas.List.Sums.{sum_by_more}
 use Rattle.regalloc2_names.specs.declared.OperandConstraint.TheVariants.{Reuse}
 use Rattle.regalloc2_names.specs.Register.{VirtualRegister}
 use Rattle.regalloc2_names.specs.Place.{Place, InSlot}
 use Rattle.regalloc2_names.specs.Point.{before, after}
-use Rattle.regalloc2_function.specs.FunctionValue.{FunctionValue, InstValue, inst_at, no_inst}
+use Rattle.regalloc2_function.specs.FunctionValue.{FunctionValue, block_at, inst_at, no_inst}
 use Rattle.regalloc2_function.specs.Machine.{MachineValue}
 use Rattle.regalloc2_function.specs.SourceRun.{is_def, is_reading}
+use Rattle.regalloc2_flow.specs.Blocks.{target_at}
 use Rattle.regalloc2_fastalloc.specs.Tables.{SlotsValue}
+use Rattle.regalloc2_fastalloc.specs.Blocks.{no_vreg}
 use Rattle.regalloc2_fastalloc.specs.Steps.{Tables, op_at}
 use Rattle.regalloc2_fastalloc.specs.Sound.{IsSafe}
-use Rattle.regalloc2_fastalloc.specs.Walks.{AllocatesAt, Walks, untouched, one_more, offset_of}
-use Rattle.regalloc2_fastalloc.proofs.Sound.{IsApart}
+use Rattle.regalloc2_fastalloc.specs.Walks.{AllocatesAt, offset_of}
 use Rattle.regalloc2_fastalloc.proofs.Filled.{at_place, IsTame, IsGood, good_grows, DefsAreWritten, UsesAreWritten}
-use Rattle.regalloc2_fastalloc.proofs.Allocated.{InstKept, allocates_kept, allocates_last_kept}
-use Rattle.regalloc2_fastalloc.proofs.Calm.{IsEmpty}
-use Rattle.regalloc2_fastalloc.proofs.Last.{calm_last}
+use Rattle.regalloc2_fastalloc.proofs.Allocated.{InstKept}
 
 -- offsets rise by the numbers of operands
 pub offset_next : (f : FunctionValue) (i : ℕ) → i < length f.insts → offset_of f (i + 1) ≡ offset_of f i + length (inst_at f i).operands
@@ -37,10 +36,19 @@ abbrev pub place_of : FunctionValue → List Place → ℕ → ℕ → Place
 place_of f places j k = at_place places (offset_of f j + k)
 
 -- what the walk writes to slots: after an instruction those of the vregs that it defines, and before it those in which it reads
-abbrev pub WritesAt : FunctionValue → List Place → ℕ → VirtualRegister → ℕ → Type 0
-WritesAt f places point v n =
+abbrev pub WritesByOperand : FunctionValue → List Place → ℕ → VirtualRegister → ℕ → Type 0
+WritesByOperand f places point v n =
     (i k : ℕ) × (i < length f.insts) × (k < length (inst_at f i).operands) × ((op_at (inst_at f i).operands k).vreg ≡ v)
     × (((point ≡ after i) × (is_def (op_at (inst_at f i).operands k).kind ≡ true)) ⊎ ((point ≡ before i) × (is_reading (op_at (inst_at f i).operands k) ≡ true) × (place_of f places i k ≡ InSlot n)))
+
+-- and before the branch at a block's end those of the parameters of its successors
+abbrev pub WritesByBranch : FunctionValue → ℕ → VirtualRegister → Type 0
+WritesByBranch f point v =
+    (b i k j : ℕ) × (b < length f.blocks) × (i + 1 ≡ (block_at f b).range.end) × ((inst_at f i).is_branch ≡ true) × (point ≡ before i)
+    × (k < length (block_at f b).succs) × (j < length (block_at f (target_at f b k)).params) × (slice_index_or (block_at f (target_at f b k)).params j no_vreg ≡ v)
+
+abbrev pub WritesAt : FunctionValue → List Place → ℕ → VirtualRegister → ℕ → Type 0
+WritesAt f places point v n = WritesByOperand f places point v n ⊎ WritesByBranch f point v
 
 -- an operand has a good place, and a reuse that of the operand that it names
 pub record HasGood (env : MachineValue) (slots : SlotsValue) (f : FunctionValue) (places : List Place) (j k : ℕ) : Type 0 where
@@ -48,17 +56,12 @@ pub record HasGood (env : MachineValue) (slots : SlotsValue) (f : FunctionValue)
   pub shared : (n : ℕ) → (op_at (inst_at f j).operands k).constraint ≡ Reuse n → (n < length (inst_at f j).operands) × (place_of f places j k ≡ place_of f places j n)
 
 -- the tables are safe, and the operands of the instructions from i on have good places; at the walk's end all places are the last ones
-pub record WalkKept (env : MachineValue) (Known : VirtualRegister → Type 0) (f : FunctionValue) (last : List Place) (i : ℕ) (places : List Place) (t : Tables) : Type 0 where
-  pub safe : IsSafe env Known (WritesAt f last) (before (length f.insts)) t
+pub record WalkKept (env : MachineValue) (Known : VirtualRegister → Type 0) (f : FunctionValue) (May : ℕ → Type 0) (last : List Place) (i : ℕ) (places : List Place) (t : Tables) : Type 0 where
+  pub safe : IsSafe env Known (WritesAt f last) May t
   pub good : (j k : ℕ) → i ≤ j → j < length f.insts → k < length (inst_at f j).operands → HasGood env t.slots f places j k
 
--- where all instructions are left, nothing has been done
-at_start : (f : FunctionValue) (blank : List Place) (old : Tables) (i : ℕ) (places : List Place) (t : Tables) → Walks f blank old i places t → i ≡ length f.insts → t ≡ old
-at_start f blank old i places t untouched e = refl
-at_start f blank old i places t (one_more n b p s u lt prev a) e = absurd (omega arith)
-
 -- the places of later instructions stay
-later_same : (f : FunctionValue) (i : ℕ) (b p : List Place) (t u : Tables) → i < length f.insts → AllocatesAt i (inst_at f i) (offset_of f i) b p t u → (j : ℕ) → i + 1 ≤ j → j < length f.insts → (k : ℕ) → place_of f p j k ≡ place_of f b j k
+pub later_same : (f : FunctionValue) (i : ℕ) (b p : List Place) (t u : Tables) → i < length f.insts → AllocatesAt i (inst_at f i) (offset_of f i) b p t u → (j : ℕ) → i + 1 ≤ j → j < length f.insts → (k : ℕ) → place_of f p j k ≡ place_of f b j k
 later_same f i b p t u lt a j le less k =
     let m : ℕ = j - (i + 1) in
     let r = offset_rises f (i + 1) m (omega arith) in
@@ -70,11 +73,10 @@ later_same f i b p t u lt a j le less k =
 abbrev pub AreLast : FunctionValue → List Place → ℕ → List Place → Type 0
 AreLast f last i places = (j k : ℕ) → i ≤ j → j < length f.insts → k < length (inst_at f j).operands → place_of f last j k ≡ place_of f places j k
 
-module _ (env : MachineValue) (apart : IsApart env) (Known : VirtualRegister → Type 0) (f : FunctionValue) (tame : (i : ℕ) → i < length f.insts → IsTame Known (inst_at f i).operands)
-    (returns : (i : ℕ) → i + 1 ≡ length f.insts → (inst_at f i).is_ret ≡ true) (last : List Place) where
+module _ (env : MachineValue) (Known : VirtualRegister → Type 0) (f : FunctionValue) (tame : (i : ℕ) → i < length f.insts → IsTame Known (inst_at f i).operands) (May : ℕ → Type 0) (last : List Place) where
   -- the places of one more instruction
-  more_places : (i : ℕ) (b p : List Place) (t u : Tables) → (lt : i < length f.insts) → (a : AllocatesAt i (inst_at f i) (offset_of f i) b p t u)
-      → InstKept env Known (WritesAt f last) (before (length f.insts)) (inst_at f i).operands a.here t u
+  pub more_places : (i : ℕ) (b p : List Place) (t u : Tables) → (lt : i < length f.insts) → (a : AllocatesAt i (inst_at f i) (offset_of f i) b p t u)
+      → InstKept env Known (WritesAt f last) May (inst_at f i).operands a.here t a.allocates.ended u
       → ((j k : ℕ) → i + 1 ≤ j → j < length f.insts → k < length (inst_at f j).operands → HasGood env t.slots f b j k)
       → (j k : ℕ) → i ≤ j → j < length f.insts → k < length (inst_at f j).operands → HasGood env u.slots f p j k
   more_places i b p t u lt a here rest j k le less within = elim (cases_eq j i) [
@@ -93,29 +95,8 @@ module _ (env : MachineValue) (apart : IsApart env) (Known : VirtualRegister →
   ]
 
   -- what an instruction writes to slots
-  defs_written : (i : ℕ) → i < length f.insts → DefsAreWritten (WritesAt f last) i (inst_at f i).operands
-  defs_written i lt k n less def = (i, k, lt, less, refl, inl (refl, def))
+  pub defs_written : (i : ℕ) → i < length f.insts → DefsAreWritten (WritesAt f last) i (inst_at f i).operands
+  defs_written i lt k n less def = inl (i, k, lt, less, refl, inl (refl, def))
 
-  uses_written : (i : ℕ) (b p : List Place) (t u : Tables) → i < length f.insts → (a : AllocatesAt i (inst_at f i) (offset_of f i) b p t u) → AreLast f last i p → UsesAreWritten (WritesAt f last) i (inst_at f i).operands a.here
-  uses_written i b p t u lt a are_last k n less reads is = (i, k, lt, less, refl, inr (refl, reads, are_last i k (omega arith) lt less ∙ a.inside k less ∙ is))
-
-  pub walk_kept : (blank : List Place) (old : Tables) → IsEmpty old → old.edits ≡ [] → IsSafe env Known (WritesAt f last) (before (length f.insts)) old
-      → (i : ℕ) (places : List Place) (t : Tables) → Walks f blank old i places t → AreLast f last i places → WalkKept env Known f last i places t
-  walk_kept blank old empty none h i places t untouched are_last = record { safe = h; good = λ j k le less within. absurd (omega arith) }
-  walk_kept blank old empty none h i places t (one_more n b p s u lt prev a) are_last =
-      let w = walk_kept blank old empty none h (n + 1) b s prev (λ j k le less within. are_last j k (omega arith) less within ∙ later_same f n b p s u lt a j le less k) in
-      let inst : InstValue = inst_at f n in
-      let defs : DefsAreWritten (WritesAt f last) n inst.operands = defs_written n lt in
-      let uses : UsesAreWritten (WritesAt f last) n inst.operands a.here = uses_written n b p s u lt a are_last in
-      elim (cases_eq (n + 1) (length f.insts)) [
-        | inl e ↦ (
-            let start : s ≡ old = at_start f blank old (n + 1) b s prev e in
-            let nobody : IsEmpty s = subst IsEmpty (sym start) empty in
-            let fresh : s.edits ≡ [] = ap (λ (z : Tables). z.edits) start ∙ none in
-            let still : a.allocates.after_early.edits ≡ s.edits = calm_last Known n inst a.blank a.here s u (tame n lt) (returns n e) a.allocates nobody in
-            let x = allocates_last_kept env apart Known (WritesAt f last) (before (length f.insts)) n inst a.blank a.here s u (omega arith) (tame n lt) defs uses a.allocates fresh (still ∙ fresh) w.safe in
-            record { safe = x.safe; good = more_places n b p s u lt a x w.good })
-        | inr d ↦ (
-            let x = allocates_kept env apart Known (WritesAt f last) (before (length f.insts)) n inst a.blank a.here s u (omega arith) (tame n lt) defs uses a.allocates w.safe in
-            record { safe = x.safe; good = more_places n b p s u lt a x w.good })
-      ]
+  pub uses_written : (i : ℕ) (b p : List Place) (t u : Tables) → i < length f.insts → (a : AllocatesAt i (inst_at f i) (offset_of f i) b p t u) → AreLast f last i p → UsesAreWritten (WritesAt f last) i (inst_at f i).operands a.here
+  uses_written i b p t u lt a are_last k n less reads is = inl (i, k, lt, less, refl, inr (refl, reads, are_last i k (omega arith) lt less ∙ a.inside k less ∙ is))

@@ -1,5 +1,5 @@
 -- What an allocation may lack.
-use Rattle.std.specs.Prelude.{ℕ, ◌*◌, ◌<◌, length}
+use Rattle.std.specs.Prelude.{ℕ, ◌+◌, ◌*◌, ◌<◌, length}
 use Rattle.regalloc2_names.specs.declared.RegAllocError.{RegAllocError}
 use Rattle.regalloc2_names.specs.declared.RegAllocError.TheVariants.{CritEdge, SSA, BB, Branch, EntryLivein, DisallowedBranchArg, TooManyLiveRegs, TooManyOperands, Unsupported, TooManySpillSlots, Memory}
 use Rattle.regalloc2_fastalloc.specs.Tables.{SlotsValue, AreUpTo, most_units}
@@ -18,9 +18,13 @@ LacksOnly Full (Unsupported i) = ⊥
 LacksOnly Full TooManySpillSlots = Full
 LacksOnly Full Memory = Unit {0}
 
--- slots are full only where one for each vreg, aligned, may take more units than there are
+-- slots are full only where one for each vreg and so many more, aligned, may take more units than there are
+abbrev pub AreFullWith : SlotsValue → ℕ → Type 0
+AreFullWith s more = (most : ℕ) → AreUpTo most s.sizes → most_units < (length s.of_vreg + more) * (2 * most)
+
+-- with those that were lent
 abbrev pub AreFull : SlotsValue → Type 0
-AreFull s = (most : ℕ) → AreUpTo most s.sizes → most_units < length s.of_vreg * (2 * most)
+AreFull s = AreFullWith s s.lent
 
 abbrev pub IsLack : SlotsValue → RegAllocError → Type 0
 IsLack s e = LacksOnly (AreFull s) e

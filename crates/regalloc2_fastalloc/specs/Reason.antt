@@ -6,33 +6,32 @@ use Rattle.regalloc2_names.specs.declared.RegClass.TheVariants.{Int, Float, Vect
 use Rattle.regalloc2_function.specs.FunctionValue.{FunctionValue, inst_at, operand_count, slot_size}
 use Rattle.regalloc2_function.specs.OutputValue.{OutputValue}
 use Rattle.regalloc2_function.specs.Machine.{MachineValue}
-use Rattle.regalloc2_function.specs.Reasons.{IsDefinitionFault}
-use Rattle.regalloc2_function.specs.WellFormed.{DefinedOnce, UsesAreDefined, ReusesAreSound, FixedAvoidClobbers, IsWellFormed}
-use Rattle.regalloc2_fastalloc.specs.Profile.{IsStraightBlock}
-use Rattle.regalloc2_fastalloc.specs.Constraints.{AreUnlimited, IsFirst, IsFixedFault}
+use Rattle.regalloc2_function.specs.WellFormed.{IsWellFormed}
+use Rattle.regalloc2_fastalloc.specs.Constraints.{AreUnlimited, BranchDefinesNothing, IsFirst}
+use Rattle.regalloc2_fastalloc.specs.Tested.{IsFault}
 
--- The tests that need no memory come first: fewer than 2^32 operands, and one straight block.
-pub record PassesFirst (f : FunctionValue) : Type 0 where
-  pub few : operand_count f < 2 ^ 32
-  pub straight : IsStraightBlock f
+-- The first test needs no memory: fewer than 2^32 operands.
+abbrev pub PassesFirst : FunctionValue → Type 0
+PassesFirst f = operand_count f < 2 ^ 32
 
--- all tests that are owed, those of a well-formed function where they are asked for
+-- then those of a well-formed function, where they are asked for
+abbrev pub PassesAsked : FunctionValue → MachineValue → Bool → Type 0
+PassesAsked f env asked = asked ≡ true → IsWellFormed env f
+
+-- all tests that are owed
 pub record PassesAll (f : FunctionValue) (env : MachineValue) (asked : Bool) : Type 0 where
   pub first : PassesFirst f
-  pub well_formed : asked ≡ true → IsWellFormed env f
+  pub well_formed : PassesAsked f env asked
   pub unlimited : (i : ℕ) → i < length f.insts → AreUnlimited (inst_at f i)
+  pub branches : (i : ℕ) → i < length f.insts → BranchDefinesNothing (inst_at f i)
 
--- definitions and uses are sound, where that is asked for
-abbrev pub AreDefined : FunctionValue → Type 0
-AreDefined f = DefinedOnce f × UsesAreDefined f
+-- the function isn't well-formed, where that is asked for
+abbrev pub IsAskedFault : FunctionValue → MachineValue → Bool → RegAllocError → Type 0
+IsAskedFault f env asked e = PassesFirst f × (asked ≡ true) × IsFault f env e
 
--- and so are reuses and fixed registers
-abbrev pub AreFixedWell : FunctionValue → MachineValue → Type 0
-AreFixedWell f env = (i : ℕ) → i < length f.insts → ReusesAreSound env (inst_at f i) × FixedAvoidClobbers (inst_at f i)
-
--- The instruction that is refused for what its operands ask: its reuses or its fixed registers aren't sound, where that is asked for, or an operand has `Limit`.
-abbrev pub IsUnsupported : FunctionValue → MachineValue → Bool → ℕ → Type 0
-IsUnsupported f env asked i = ((asked ≡ true) × AreDefined f × IsFixedFault f env (Unsupported i)) ⊎ ((asked ≡ true → AreDefined f × AreFixedWell f env) × IsFirst f AreUnlimited i)
+-- an instruction that the allocator doesn't take: the first that has a `Limit`, or where none has one, the first branch that defines
+abbrev pub IsNotTaken : FunctionValue → ℕ → Type 0
+IsNotTaken f i = IsFirst f AreUnlimited i ⊎ (((j : ℕ) → j < length f.insts → AreUnlimited (inst_at f j)) × IsFirst f BranchDefinesNothing i)
 
 -- how many units the greatest slot takes
 abbrev pub greatest_slot : FunctionValue → ℕ
@@ -44,15 +43,15 @@ units_needed f = 2 * greatest_slot f * (f.num_vregs + 6 * length f.blocks)
 
 -- the reason that an error gives
 abbrev pub IsReason : FunctionValue → MachineValue → Bool → RegAllocError → Type 0
-IsReason f env asked (CritEdge p b) = ⊥
-IsReason f env asked (SSA v i) = PassesFirst f × (asked ≡ true) × IsDefinitionFault f (SSA v i)
-IsReason f env asked (BB b) = (operand_count f < 2 ^ 32) × (IsStraightBlock f → ⊥) × (b ≡ 0)
-IsReason f env asked (Branch i) = ⊥
-IsReason f env asked EntryLivein = ⊥
-IsReason f env asked (DisallowedBranchArg i) = ⊥
+IsReason f env asked (CritEdge p b) = IsAskedFault f env asked (CritEdge p b)
+IsReason f env asked (SSA v i) = IsAskedFault f env asked (SSA v i)
+IsReason f env asked (BB b) = IsAskedFault f env asked (BB b)
+IsReason f env asked (Branch i) = IsAskedFault f env asked (Branch i)
+IsReason f env asked EntryLivein = IsAskedFault f env asked EntryLivein
+IsReason f env asked (DisallowedBranchArg i) = IsAskedFault f env asked (DisallowedBranchArg i)
 IsReason f env asked TooManyLiveRegs = PassesAll f env asked
 IsReason f env asked TooManyOperands = 2 ^ 32 ≤ operand_count f
-IsReason f env asked (Unsupported i) = PassesFirst f × IsUnsupported f env asked i
+IsReason f env asked (Unsupported i) = IsAskedFault f env asked (Unsupported i) ⊎ (PassesFirst f × PassesAsked f env asked × IsNotTaken f i)
 IsReason f env asked TooManySpillSlots = PassesAll f env asked × (2 ^ 24 < units_needed f)
 IsReason f env asked Memory = PassesFirst f
 

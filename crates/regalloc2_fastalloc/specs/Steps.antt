@@ -35,13 +35,14 @@ pub record Tables : Type 0 where
 abbrev pub tables_of : {A : Type 0} → State A → Tables
 tables_of s = record { places = s.places; slots = s.slots; edits = s.edits; allocatable = s.registers.allocatable; fixed_stack = s.registers.fixed_stack; dedicated = s.registers.dedicated }
 
--- the machine's registers stay, and so do the sizes of slots and the number of vregs
+-- the machine's registers stay, and so do the sizes of slots, the number of vregs, and how many slots were lent
 pub record SameMachine (old new : Tables) : Type 0 where
   pub allocatable : new.allocatable ≡ old.allocatable
   pub fixed_stack : new.fixed_stack ≡ old.fixed_stack
   pub dedicated : new.dedicated ≡ old.dedicated
   pub sizes : new.slots.sizes ≡ old.slots.sizes
   pub vregs : length new.slots.of_vreg ≡ length old.slots.of_vreg
+  pub lent : new.slots.lent ≡ old.slots.lent
 
 -- a move at a point
 abbrev pub a_move : ℕ → Place → Place → ℕ × MoveValue

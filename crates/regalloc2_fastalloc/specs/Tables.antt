@@ -53,10 +53,11 @@ pub record Marks (old new : List (Option VirtualRegister)) (p : Place) (v : Opti
 abbrev pub most_units : ℕ
 most_units = 16777216
 
--- the slots of the vregs, by number, and how many units they take; the units of a slot of each class; whether a slot is named by its last unit
+-- the slots of the vregs, by number; how many units all slots take; how many slots were lent to moves, and belong to no vreg; the units of a slot of each class; whether a slot is named by its last unit
 pub record SlotsValue : Type 0 where
   pub of_vreg : List Place
   pub count : ℕ
+  pub lent : ℕ
   pub sizes : List ℕ
   pub by_last : Bool
 
@@ -90,14 +91,15 @@ owners s = count_by (λ p. not (is_no_place p)) s.of_vreg
 abbrev pub AreUpTo : ℕ → List ℕ → Type 0
 AreUpTo most sizes = (c : ℕ) → c < 3 → slice_index sizes c ≤ most
 
--- Each name has one owner, and lies below the count. A slot is aligned to its size, so it takes less than twice as many units.
+-- Each name has one owner, and lies below the count. A slot takes a unit at least, and is aligned to its size, so it takes less than twice as many units.
 pub record AreOwned (s : SlotsValue) : Type 0 where
   pub three : length s.sizes ≡ 3
   pub sizes : (c : ℕ) → c < 3 → 0 < slice_index s.sizes c × slice_index s.sizes c ≤ most_units
   pub few : s.count ≤ most_units
   pub below : (n : ℕ) → IsSlotOrNone s.count (slot_name s n)
   pub own : (m n k : ℕ) → slot_name s m ≡ InSlot k → slot_name s n ≡ InSlot k → m ≡ n
-  pub room : (most : ℕ) → AreUpTo most s.sizes → s.count ≤ owners s * (2 * most)
+  pub room : (most : ℕ) → AreUpTo most s.sizes → s.count ≤ (owners s + s.lent) * (2 * most)
+  pub some : s.lent ≤ s.count
 
 -- the vreg has the slot p, which it had or which is made for it
 pub record GivesSlot (old new : SlotsValue) (v : VirtualRegister) (p : Place) : Type 0 where
@@ -112,9 +114,25 @@ pub record GivesSlot (old new : SlotsValue) (v : VirtualRegister) (p : Place) : 
   pub had : slot_name old v.number ≢ NoPlace → (p ≡ slot_name old v.number) × (new.count ≡ old.count)
   pub made : slot_name old v.number ≡ NoPlace → (p ≡ InSlot (new_slot old v.class)) × (new.count ≡ slot_end old v.class)
 
+-- where a slot of a class ends that comes after so many new ones of the class, and its name
+abbrev pub later_end : SlotsValue → RegClass → ℕ → ℕ
+later_end s class k = next_multiple_of s.count (units_of s class) + k * units_of s class + units_of s class
+
+abbrev pub later_slot : SlotsValue → RegClass → ℕ → ℕ
+later_slot s class k = if s.by_last then later_end s class k - 1 else next_multiple_of s.count (units_of s class) + k * units_of s class
+
+-- so many new slots of a class are lent, and belong to no vreg
+pub record LendsSlots (old new : SlotsValue) (class : RegClass) (taken : ℕ) : Type 0 where
+  pub of_vreg : new.of_vreg ≡ old.of_vreg
+  pub sizes : new.sizes ≡ old.sizes
+  pub by_last : new.by_last ≡ old.by_last
+  pub lent : new.lent ≡ old.lent + taken
+  pub none : taken ≡ 0 → new.count ≡ old.count
+  pub some : (k : ℕ) → taken ≡ k + 1 → new.count ≡ later_end old class k
+
 -- no slots, for so many vregs
 abbrev pub no_slots : ℕ → List ℕ → Bool → SlotsValue
-no_slots n sizes by_last = record { of_vreg = replicate n NoPlace; count = 0; sizes = sizes; by_last = by_last }
+no_slots n sizes by_last = record { of_vreg = replicate n NoPlace; count = 0; lent = 0; sizes = sizes; by_last = by_last }
 
 -- each point is at most those of the moves that were pushed before
 abbrev pub NeverRise : List (ℕ × MoveValue) → Type 0

@@ -1,7 +1,7 @@
-//! The whole walk over a straight block.
+//! The whole walk, and the output.
 
 ghost use Rattle.std.specs.Prelude.{◌≡◌, ◌<◌, ◌^◌, ℕ, length, IfOk, IfErr};
-ghost use Rattle.regalloc2_function.specs.FunctionValue.{operand_count};
+ghost use Rattle.regalloc2_function.specs.FunctionValue.{inst_at, operand_count};
 ghost use Rattle.regalloc2_function.specs.Views.{machine_of, output_of};
 ghost use Rattle.regalloc2_function.specs.OutputValue.{IsInOrder};
 ghost use Rattle.regalloc2_function.specs.Faithful.{ConstraintsMet, EditsAreListed, HasNoStackToStack, IsFaithful};
@@ -9,9 +9,10 @@ ghost use Rattle.regalloc2_function.specs.SourceRun.{IsWrittenFirst};
 ghost use Rattle.regalloc2_function.specs.WellFormed.{IsWellFormed};
 ghost use Rattle.regalloc2_function.specs.Fitting.{MachineFits, PlacesAreProper};
 ghost use Rattle.regalloc2_function.specs.Slots.{SlotsHaveOwners};
+ghost use Rattle.regalloc2_fastalloc.specs.Constraints.{BranchDefinesNothing};
 ghost use Rattle.regalloc2_fastalloc.specs.Lack.{LacksOnly};
 ghost use Rattle.regalloc2_fastalloc.specs.Reason.{SlotsAreFew, units_needed};
-ghost use Rattle.regalloc2_fastalloc.specs.Profile.{IsStraightBlock, AreTaken};
+ghost use Rattle.regalloc2_fastalloc.specs.Profile.{AreTaken};
 
 use super::allocs;
 use super::state::State;
@@ -19,15 +20,15 @@ use regalloc2_function::{Function, MachineEnv, Output, count_operands};
 use regalloc2_names::{Allocation, RegAllocError};
 use std::alloc::Allocator;
 
-/// Allocates registers to the operands of a well-formed function of one straight block, of every kind but `Limit`.
-pub fn allocate_block<A: Allocator + Copy, F: Function, B: Allocator>(
+/// Allocates registers to the operands of a well-formed function, of every kind but `Limit`.
+pub fn allocate<A: Allocator + Copy, F: Function, B: Allocator>(
     alloc: A,
     f: &F,
     env: &MachineEnv<B>,
 ) -> Result<Output<A>, RegAllocError>
     requires machine { MachineFits (F.function f.now) (machine_of env.now) }
-    requires straight { IsStraightBlock (F.function f.now) }
     requires taken { AreTaken (F.function f.now) }
+    requires branches { (i : ℕ) → i < length (F.function f.now).insts → BranchDefinesNothing (inst_at (F.function f.now) i) }
     requires well_formed { IsWellFormed (machine_of env.now) (F.function f.now) }
     requires few { operand_count (F.function f.now) < 2 ^ 32 }
     ensures in_order { IfOk result (λ out. IsInOrder (F.function f.now) (output_of out)) }
@@ -45,7 +46,7 @@ pub fn allocate_block<A: Allocator + Copy, F: Function, B: Allocator>(
     let offsets = allocs::offsets(alloc, f)?;
     let mut allocs = vec![in alloc; Allocation::none(); total as usize]?;
     let mut state = State::new(&alloc, f, env)?;
-    state.allocate_insts(f, &offsets, &mut allocs)?;
+    state.allocate_blocks(&alloc, f, &offsets, &mut allocs)?;
     let edits = state.edits.listed(alloc)?;
     Ok(Output {
         num_spillslots: state.slots.count(),

@@ -1,7 +1,8 @@
 //! The moves that are added.
 
-ghost use Rattle.std.specs.Prelude.{◌≡◌, ◌≤◌, ◌++◌, ◌∷◌, [], All, OnOk, IfOk, IfErr, map, reverse};
+ghost use Rattle.std.specs.Prelude.{◌≡◌, ◌++◌, ◌∷◌, [], OnOk, IfOk, IfErr, map, reverse};
 ghost use Rattle.regalloc2_function.specs.Views.{edit_of};
+ghost use Rattle.regalloc2_fastalloc.specs.Lending.{pushed};
 ghost use Rattle.regalloc2_fastalloc.specs.Tables.{NeverRise, NoneBefore};
 
 use regalloc2_function::Edit;
@@ -52,6 +53,27 @@ impl<A: Allocator> Edits<A> {
         ensures later { NoneBefore point self.new }
     {
         self.pushed.push((point, Edit::Move { from, to }))?;
+        Ok(())
+    }
+
+    /// Moves at a point that comes after none of those that are there, the last one first: so they are listed in their
+    /// order.
+    pub fn push_all(
+        &mut self,
+        point: ProgPoint,
+        moves: &[(Allocation, Allocation, ())],
+    ) -> Result<(), RegAllocError>
+        requires { NoneBefore point self.old }
+        ensures ok { OnOk result (self.new ≡ self.old ++ pushed point moves.now) }
+        ensures err { IfErr result (λ e. e ≡ RegAllocError.Memory) }
+        ensures later { OnOk result (NoneBefore point self.new) }
+    {
+        let mut k = moves.len();
+        while k > 0 {
+            k -= 1;
+            let made = moves[k];
+            self.push(point, made.0, made.1)?;
+        }
         Ok(())
     }
 

@@ -4,16 +4,14 @@ ghost use Rattle.std.specs.Prelude.{◌≡◌, ◌<◌, ◌≤◌, ◌+◌, ◌�
 ghost use Rattle.regalloc2_names.specs.Point.{before, after};
 ghost use Rattle.regalloc2_names.specs.Place.{NoPlace, is_place};
 ghost use Rattle.regalloc2_function.specs.SourceRun.{is_def, is_late, is_reading};
-ghost use Rattle.regalloc2_function.specs.FunctionValue.{inst_at, operand_count};
 ghost use Rattle.regalloc2_fastalloc.specs.Tables.{NoneBefore, stood};
 ghost use Rattle.regalloc2_fastalloc.specs.Lack.{IsLack};
 ghost use Rattle.regalloc2_fastalloc.specs.Steps.{Allocates, tables_of, asked_as, asked_by, def_placing, op_at, reuse_placing, use_placing, InTables, MovesUses, PlacesAt, PlacesOne, SameMachine, Sends};
-ghost use Rattle.regalloc2_fastalloc.specs.Walks.{AllocatesAt, Walks, offset_of};
+ghost use Rattle.regalloc2_fastalloc.specs.Walks.{AllocatesTo, IsFresh};
 
 use super::choose::{Placing, Wanted};
 use super::state::State;
 use super::turn::{Positions, Turn};
-use regalloc2_function::Function;
 use regalloc2_index::Inst;
 use regalloc2_names::{
     Allocation, Operand, OperandConstraint, OperandKind, OperandPos, PRegSet, ProgPoint,
@@ -43,7 +41,7 @@ fn stands_at(operand: Operand, pos: OperandPos) -> bool
 }
 
 /// Whether two places aren't one.
-fn differ(place: Allocation, other: Allocation) -> bool
+pub fn differ(place: Allocation, other: Allocation) -> bool
     ensures { result ≡ not (is_place place other) }
 {
     place != other
@@ -261,6 +259,7 @@ impl<A: Allocator> State<A> {
     /// Allocates an instruction: `here`, which has no place yet, gets those of its operands.
     pub fn allocate_inst(
         &mut self,
+        turn: &mut Turn,
         inst: Inst,
         is_ret: bool,
         operands: &[Operand],
@@ -272,27 +271,28 @@ impl<A: Allocator> State<A> {
         requires in_tables { InTables operands.now (tables_of self.old) }
         requires here_long { length here.old ≡ length operands.now }
         requires no_places { (k : ℕ) → slice_index_or here.old k NoPlace ≡ NoPlace }
-        ensures ok { OnOk result (Allocates inst (record { operands = operands.now; clobbers = clobbers; is_branch = false; is_ret = is_ret }) here.old here.new (tables_of self.old) (tables_of self.new)) }
+        requires fresh { IsFresh turn.old (tables_of self.old) }
+        ensures ok { OnOk result ((a : Allocates inst (record { operands = operands.now; clobbers = clobbers; is_branch = false; is_ret = is_ret }) here.old here.new (tables_of self.old) (tables_of self.new)) × (a.ended ≡ turn.new)) }
         ensures later { OnOk result (NoneBefore (before inst) self.new.edits) }
         ensures long { OnOk result (length self.new.places.stands ≡ length self.old.places.stands) }
         ensures machine { SameMachine (tables_of self.old) (tables_of self.new) }
         ensures err { IfErr result (IsLack self.new.slots) }
     {
-        let mut turn = Turn::new(self.registers.every(), self.registers.spare());
         let point = ProgPoint::after(inst);
-        self.reserve(&mut turn, operands)?;
-        self.hold_clobbers(&mut turn, clobbers);
-        self.evict_fixed(&mut turn, point, operands)?;
-        self.evict_clobbers(&mut turn, point, clobbers)?;
-        self.place_operands(&mut turn, OperandPos::Late, inst, is_ret, operands, here)?;
-        self.place_operands(&mut turn, OperandPos::Early, inst, is_ret, operands, here)?;
-        self.move_reads(&mut turn, ProgPoint::before(inst), operands, here)?;
+        self.reserve(turn, operands)?;
+        self.hold_clobbers(turn, clobbers);
+        self.evict_fixed(turn, point, operands)?;
+        self.evict_clobbers(turn, point, clobbers)?;
+        self.place_operands(turn, OperandPos::Late, inst, is_ret, operands, here)?;
+        self.place_operands(turn, OperandPos::Early, inst, is_ret, operands, here)?;
+        self.move_reads(turn, ProgPoint::before(inst), operands, here)?;
         Ok(())
     }
 
     /// Allocates an instruction whose operands' places begin at `start`.
-    fn allocate_at(
+    pub fn allocate_at(
         &mut self,
+        turn: &mut Turn,
         inst: Inst,
         is_ret: bool,
         operands: &[Operand],
@@ -305,50 +305,22 @@ impl<A: Allocator> State<A> {
         requires in_tables { InTables operands.now (tables_of self.old) }
         requires room { start + length operands.now ≤ length allocs.old }
         requires no_places { (k : ℕ) → k < start + length operands.now → slice_index_or allocs.old k NoPlace ≡ NoPlace }
-        ensures ok { OnOk result (AllocatesAt inst (record { operands = operands.now; clobbers = clobbers; is_branch = false; is_ret = is_ret }) start allocs.old allocs.new (tables_of self.old) (tables_of self.new)) }
+        requires fresh { IsFresh turn.old (tables_of self.old) }
+        ensures ok { OnOk result (AllocatesTo turn.new inst (record { operands = operands.now; clobbers = clobbers; is_branch = false; is_ret = is_ret }) start allocs.old allocs.new (tables_of self.old) (tables_of self.new)) }
         ensures later { OnOk result (NoneBefore (before inst) self.new.edits) }
         ensures long { OnOk result (length self.new.places.stands ≡ length self.old.places.stands) }
         ensures machine { SameMachine (tables_of self.old) (tables_of self.new) }
         ensures err { IfErr result (IsLack self.new.slots) }
     {
         let end = start + operands.len();
-        self.allocate_inst(inst, is_ret, operands, clobbers, &mut allocs[start..end])?;
-        Ok(())
-    }
-
-    /// Allocates all instructions, from the last to the first.
-    pub fn allocate_insts<F: Function>(
-        &mut self,
-        f: &F,
-        offsets: &[u32],
-        allocs: &mut [Allocation],
-    ) -> Result<(), RegAllocError>
-        requires fresh { self.old.edits ≡ [] }
-        requires in_tables { (i : ℕ) → i < length (F.function f.now).insts → InTables (inst_at (F.function f.now) i).operands (tables_of self.old) }
-        requires offsets_long { length offsets.now ≡ length (F.function f.now).insts }
-        requires offsets { (i : ℕ) → i < length (F.function f.now).insts → slice_index offsets.now i ≡ offset_of (F.function f.now) i }
-        requires allocs_long { length allocs.old ≡ operand_count (F.function f.now) }
-        requires no_places { (k : ℕ) → slice_index_or allocs.old k NoPlace ≡ NoPlace }
-        ensures ok { OnOk result (Walks (F.function f.now) allocs.old (tables_of self.old) 0 allocs.new (tables_of self.new)) }
-        ensures machine { SameMachine (tables_of self.old) (tables_of self.new) }
-        ensures err { IfErr result (IsLack self.new.slots) }
-    {
-        let mut i = f.num_insts();
-        while i > 0 {
-            i -= 1;
-            let inst = Inst::new(i);
-            let operands = f.inst_operands(inst);
-            let is_ret = f.is_ret(inst);
-            let clobbers = f.inst_clobbers(inst);
-            self.allocate_at(
-                inst,
-                is_ret,
-                operands,
-                clobbers,
-                offsets[i] as usize,
-                allocs,
-            )?;
-        }
+        self.allocate_inst(
+            turn,
+            inst,
+            is_ret,
+            operands,
+            clobbers,
+            &mut allocs[start..end],
+        )?;
         Ok(())
     }
 }

@@ -18,17 +18,19 @@ ghost use Rattle.regalloc2_fastalloc.specs.Reason.{IsReason, PassesAll, SlotsAre
 
 use regalloc2_function::{Function, MachineEnv, Output, count_operands, reads_the_same_numbers};
 use regalloc2_names::RegAllocError;
-use regalloc2_shape::ssa::test_definitions;
 use std::alloc::{Allocator, Global};
 
 mod allocate;
 mod allocs;
+mod arrivals;
+mod blocks;
+mod branch;
 mod choose;
 mod constraints;
 mod edits;
 mod insts;
+mod lending;
 mod places;
-mod profile;
 mod registers;
 mod reserve;
 mod scratch;
@@ -36,9 +38,10 @@ mod slots;
 mod state;
 mod turn;
 mod validate;
+mod walk;
 
-use constraints::{test_fixed, test_limits};
-use profile::test_straight_block;
+use constraints::{test_branches, test_limits};
+use validate::test_well_formed;
 
 /// An algorithm of register allocation. Upstream has a second one, `Ion`, which is left out.
 #[derive(Clone, Copy, Debug, Default, PartialEq, Eq)]
@@ -88,21 +91,21 @@ impl<A: Allocator + Copy> Ctx<A> {
 /// If no path from the entry reads a virtual register before writing it, the output runs as the function does: along every
 /// path, and whatever the instructions mean, each use reads the function's own value. That premise isn't tested here.
 ///
-/// Refused are, in this order: 2^32 operands or more, by `TooManyOperands`; a function that isn't one straight block, by `BB`
-/// with block 0; where `options.validate_ssa` is true, definitions and then uses that aren't sound, by `SSA` as
-/// `test_definitions` says, and then reuses that aren't sound and registers fixed beside clobbers, by `Unsupported` with the
-/// first such instruction; an operand under `Limit`, by `Unsupported` with the first such instruction. Only after all these
-/// tests comes `TooManyLiveRegs`, where an instruction asks for more registers than there are, or `TooManySpillSlots`, where a
-/// slot would end past 2^24: that happens only where `units_needed` passes 2^24, which is twice the size of the greatest slot,
-/// for each virtual register and six times for each block. Slots take no more units than that, and at most 2^24. `Memory` comes
-/// where memory was refused; the first two tests ask for none.
+/// Refused are, in this order: 2^32 operands or more, by `TooManyOperands`; where `options.validate_ssa` is true, first blocks
+/// and edges that aren't sound, as `CFGInfo::init` says, then an entry, terminators, arguments, definitions or uses that
+/// aren't, as `validate_ssa` says, and then reuses that aren't sound and registers fixed beside clobbers, by `Unsupported`
+/// with the first such instruction; an operand under `Limit`, and then a branch that has a definition, by `Unsupported` with
+/// the first such instruction. Only after all these tests comes `TooManyLiveRegs`, where an instruction asks for more registers
+/// than there are, or `TooManySpillSlots`, where a slot would end past 2^24: that happens only where `units_needed` passes 2^24,
+/// which is twice the size of the greatest slot, for each virtual register and six times for each block. Slots take no more
+/// units than that, and at most 2^24. `Memory` comes where memory was refused; the first test asks for none.
 ///
 /// A reuse is sound where it is a late definition that names an early use, which no other one names, of a virtual register of
 /// its class, in any register or fixed to an allocatable one. No definition, late use or reused operand may be fixed to a
 /// clobber of its instruction.
 ///
 /// The contract doesn't say which registers are chosen, nor how many moves are made. Upstream's `run` makes the same tests in
-/// another order, takes reuses and fixed registers for granted, and takes functions of any blocks.
+/// another order, and takes reuses and fixed registers for granted.
 pub fn run<A: Allocator + Copy, F: Function, B: Allocator>(
     alloc: A,
     f: &F,
@@ -128,15 +131,14 @@ pub fn run<A: Allocator + Copy, F: Function, B: Allocator>(
     if count_operands(f).is_none() {
         return Err(RegAllocError::TooManyOperands);
     }
-    test_straight_block(f)?;
     if options.validate_ssa {
-        test_definitions(alloc, f)?;
-        test_fixed(f, env)?;
+        test_well_formed(alloc, f, env)?;
     }
     test_limits(f)?;
+    test_branches(f)?;
     // a law, which the contract needs: the call does nothing
     reads_the_same_numbers();
-    allocate::allocate_block(alloc, f, env)
+    allocate::allocate(alloc, f, env)
 }
 
 /// Allocates registers to a function, and puts the output into `ctx.output`.

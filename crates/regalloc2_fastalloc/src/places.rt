@@ -1,10 +1,12 @@
 //! Where vregs stand.
 
-ghost use Rattle.std.specs.Prelude.{◌≡◌, ◌≢◌, ℕ, ◌<◌, ◌≤◌, ◌⊎◌, length, IfOk, IfErr, Option};
+ghost use Rattle.std.specs.Prelude.{◌≡◌, ◌≢◌, ℕ, ◌<◌, ◌≤◌, ◌⊎◌, length, IfOk, IfErr, OnOk, Option};
 ghost use Rattle.regalloc2_names.specs.Place.{Place, NoPlace, InRegister, is_place};
 ghost use Rattle.regalloc2_names.specs.Register.{Register};
+ghost use Rattle.regalloc2_fastalloc.specs.Arrived.{IsListed};
 ghost use Rattle.regalloc2_fastalloc.specs.Tables.{IsInverse, stood, holder, Settles, Marks, nobody_stands};
 
+use super::arrivals::{Arrival, Arrivals};
 use regalloc2_names::{Allocation, PReg, RegAllocError, VReg};
 use std::alloc::Allocator;
 use std::marker::Model;
@@ -17,16 +19,19 @@ pub struct Places<A: Allocator> {
     stands: Vec<Allocation, A>,
     /// By register index.
     held: Vec<Option<VReg>, A>,
+    /// The registers in which vregs stand.
+    arrivals: Arrivals<A>,
 }
 
 impl<A: Allocator> Model for Places<A> {
+    ghost use Rattle.regalloc2_fastalloc.specs.Arrived.{HasFilled};
     ghost use Rattle.regalloc2_fastalloc.specs.Tables.{PlacesValue, IsInverse};
 
     ghost Value = { PlacesValue };
 
     ghost view = { λ t. record { stands = t.stands.items; held = t.held.items } };
 
-    ghost invariant = { λ t. IsInverse (record { stands = t.stands.items; held = t.held.items }) };
+    ghost invariant = { λ t. IsInverse (record { stands = t.stands.items; held = t.held.items }) × HasFilled t.arrivals t.held.items };
 }
 
 impl<A: Allocator + Copy> Places<A> {
@@ -37,7 +42,12 @@ impl<A: Allocator + Copy> Places<A> {
     {
         let stands = vec![in alloc; Allocation::none(); vregs]?;
         let held = vec![in alloc; None; PReg::NUM_INDEX]?;
-        Ok(Places { stands, held })
+        let arrivals = Arrivals::new(alloc)?;
+        Ok(Places {
+            stands,
+            held,
+            arrivals,
+        })
     }
 }
 
@@ -71,6 +81,17 @@ impl<A: Allocator> Places<A> {
         self.held[preg.index()]
     }
 
+    /// Lists the registers in which vregs stand, the one to which a vreg came last at the end.
+    pub fn list_filled<B: Allocator>(
+        &self,
+        order: &mut Vec<Arrival, B>,
+    ) -> Result<(), RegAllocError>
+        ensures listed { OnOk result ((r : Register) → r.number < 64 → holder self.now r ≢ None → IsListed order.new.items r) }
+        ensures err { IfErr result (λ e. e ≡ RegAllocError.Memory) }
+    {
+        self.arrivals.list(order)
+    }
+
     /// The vreg stands at the place from now on, and nowhere else.
     pub fn settle(&mut self, vreg: VReg, place: Allocation)
         requires vreg { vreg.number < length self.old.stands }
@@ -82,6 +103,8 @@ impl<A: Allocator> Places<A> {
         let left = self.stands[number];
         mark(&mut self.held, left, None);
         mark(&mut self.held, place, Some(vreg));
+        self.arrivals.leave(left);
+        self.arrivals.come(place);
         self.stands[number] = place;
     }
 }

@@ -1,6 +1,6 @@
 //! The registers that may be allocated.
 
-ghost use Rattle.std.specs.Prelude.{ℕ, ◌≡◌, ◌≢◌, ◌↔◌, ◌<◌, ◌≤◌, ◌∷◌, ◌||◌, ◌⊎◌, true, false, not, filter, Contains, IsTrue, IfSome, IfNone, IfOk, IfErr, None, slice_index, slice_index_or};
+ghost use Rattle.std.specs.Prelude.{ℕ, ◌≡◌, ◌≢◌, ◌↔◌, ◌<◌, ◌≤◌, ◌∷◌, ◌||◌, ◌⊎◌, true, not, filter, Contains, IfSome, IfNone, IfOk, IfErr, None, slice_index, slice_index_or};
 ghost use Rattle.regalloc2_names.specs.declared.RegClass.{RegClass};
 ghost use Rattle.regalloc2_function.specs.Machine.{is_allocatable};
 ghost use Rattle.regalloc2_function.specs.Views.{machine_of};
@@ -127,6 +127,28 @@ impl<A: Allocator> Registers<A> {
         ensures { result ≡ has_register self.now.allocatable preg }
     {
         self.allocatable.contains(preg)
+    }
+
+    /// The registers that are fixed stack slots.
+    pub fn fixed_stack(&self) -> PRegSet
+        ensures { result ≡ self.now.fixed_stack }
+    {
+        self.fixed_stack
+    }
+
+    /// The allocatable register of the class with the greatest number.
+    pub fn greatest(&self, class: RegClass) -> Option<PReg>
+        ensures { IfSome result (λ r. (r.class ≡ class) × (r.number < 64) × (has_register self.now.allocatable r ≡ true)) }
+    {
+        let mut number = PReg::MAX + 1;
+        while number > 0 {
+            number -= 1;
+            let preg = PReg::new(number, class);
+            if self.allocatable.contains(preg) {
+                return Some(preg);
+            }
+        }
+        None
     }
 
     /// Whether the register is a fixed stack slot.

@@ -1,10 +1,10 @@
 //! Spill slots.
 
-ghost use Rattle.std.specs.Prelude.{◌≡◌, ℕ, ◌+◌, ◌-◌, ◌<◌, ◌≤◌, length, IfOk, IfErr, if◌then◌else◌, slice_index};
-ghost use Rattle.std.specs.Int.{next_multiple_of};
+ghost use Rattle.std.specs.Prelude.{◌≡◌, ℕ, ◌+◌, ◌-◌, ◌<◌, ◌≤◌, length, IfOk, IfErr, IfSome, IfNone, if◌then◌else◌, slice_index};
+ghost use Rattle.regalloc2_names.specs.Place.{InSlot};
 ghost use Rattle.regalloc2_names.specs.Register.{class_code};
 ghost use Rattle.regalloc2_fastalloc.specs.Lack.{IsLack};
-ghost use Rattle.regalloc2_fastalloc.specs.Tables.{AreOwned, GivesSlot, no_slots, slot_end, slot_name, most_units};
+ghost use Rattle.regalloc2_fastalloc.specs.Tables.{AreOwned, GivesSlot, LendsSlots, later_end, later_slot, no_slots, slot_end, slot_name, most_units};
 
 use regalloc2_names::{Allocation, RegAllocError, RegClass, SpillSlot, VReg};
 use std::alloc::Allocator;
@@ -17,6 +17,8 @@ pub struct Slots<A: Allocator> {
     of_vreg: Vec<Allocation, A>,
     /// How many units the slots take so far.
     count: usize,
+    /// How many slots were lent to moves, and belong to no vreg.
+    lent: usize,
     /// How many units a slot of each class takes.
     sizes: [usize; 3],
     /// Whether a slot is named by its last unit.
@@ -28,9 +30,9 @@ impl<A: Allocator> Model for Slots<A> {
 
     ghost Value = { SlotsValue };
 
-    ghost view = { λ s. record { of_vreg = s.of_vreg.items; count = s.count; sizes = s.sizes; by_last = s.by_last } };
+    ghost view = { λ s. record { of_vreg = s.of_vreg.items; count = s.count; lent = s.lent; sizes = s.sizes; by_last = s.by_last } };
 
-    ghost invariant = { λ s. AreOwned (record { of_vreg = s.of_vreg.items; count = s.count; sizes = s.sizes; by_last = s.by_last }) };
+    ghost invariant = { λ s. AreOwned (record { of_vreg = s.of_vreg.items; count = s.count; lent = s.lent; sizes = s.sizes; by_last = s.by_last }) };
 }
 
 impl<A: Allocator> Slots<A> {
@@ -49,6 +51,7 @@ impl<A: Allocator> Slots<A> {
         Ok(Slots {
             of_vreg,
             count: 0,
+            lent: 0,
             sizes,
             by_last,
         })
@@ -80,6 +83,7 @@ impl<A: Allocator> Slots<A> {
         ensures lack { IfErr result (IsLack self.new) }
         ensures sizes { self.new.sizes ≡ self.old.sizes }
         ensures vregs { length self.new.of_vreg ≡ length self.old.of_vreg }
+        ensures lent { self.new.lent ≡ self.old.lent }
         ensures owned { AreOwned self.new }
     {
         let number = vreg.vreg();
@@ -97,6 +101,37 @@ impl<A: Allocator> Slots<A> {
         self.of_vreg[number] = slot;
         self.count = end;
         Ok(slot)
+    }
+
+    /// The slot of a class that would come after so many new ones of the class, if there is room.
+    pub fn next(&self, class: RegClass, before: usize) -> Option<Allocation>
+        requires few { before ≤ 1 }
+        ensures slot { IfSome result (λ p. p ≡ InSlot (later_slot self.now class before)) }
+        ensures room { IfSome result (λ p. later_end self.now class before ≤ most_units) }
+        ensures full { IfNone result (most_units < later_end self.now class before) }
+        ensures owned { AreOwned self.now }
+    {
+        let size = self.sizes[size_index(class)];
+        let start = self.count.next_multiple_of(size) + before * size;
+        if start + size > SpillSlot::MAX + 1 {
+            return None;
+        }
+        Some(Allocation::stack(SpillSlot::new(named_unit(start, size, self.by_last))))
+    }
+
+    /// So many new slots of a class are lent, and belong to no vreg.
+    pub fn lend(&mut self, class: RegClass, taken: usize)
+        requires few { taken ≤ 2 }
+        requires room { (k : ℕ) → taken ≡ k + 1 → later_end self.old class k ≤ most_units }
+        ensures lent { LendsSlots self.old self.new class taken }
+        ensures owned { AreOwned self.new }
+    {
+        let size = self.sizes[size_index(class)];
+        if taken == 0 {
+            return;
+        }
+        self.count = self.count.next_multiple_of(size) + taken * size;
+        self.lent += taken;
     }
 }
 

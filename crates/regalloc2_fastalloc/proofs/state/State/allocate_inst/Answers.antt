@@ -1,6 +1,5 @@
-use Rattle.std.proofs.Common.{ℕ, ◌≡◌, List, length, sym, ap, ◌∙◌, subst, rules, arith}
-use Rattle.regalloc2_names.specs.declared.sets.PRegSet.{PRegSet}
-use Rattle.regalloc2_names.specs.RegisterSet.{has_register, registers_of}
+use Rattle.std.proofs.Common.{ℕ, ◌≡◌, List, length, refl, sym, ap, ◌∙◌, subst, rules, arith}
+use Rattle.regalloc2_names.specs.RegisterSet.{registers_of}
 use Rattle.regalloc2_names.specs.Point.{before, after}
 use Rattle.regalloc2_names.specs.Operand.{OperandValue}
 use Rattle.regalloc2_fastalloc.specs.Tables.{NoneBefore}
@@ -60,34 +59,36 @@ returns-clause-ok g c =
     let same : tables_of c.hold_clobbers.new.self ≡ tables_of c.args.self.now = c.hold_clobbers.ensures.same ∙ c.reserve.ensures.same in
     let F : ℕ → Tables → Type 0 = λ p t. ClearsFixed p ops c.hold_clobbers.new.turn t (length ops) c.evict_fixed.new.turn (tables_of c.evict_fixed.new.self) in
     let C : ℕ → Type 0 = λ p. ClearsAll p (registers_of c.args.clobbers) c.evict_fixed.new.turn (tables_of c.evict_fixed.new.self) c.evict_clobbers.new.turn (tables_of c.evict_clobbers.new.self) in
-    let M : ℕ → Type 0 = λ p. MovesUses p ops c.place_operands-2.new.here c.place_operands-2.new.turn (tables_of c.place_operands-2.new.self) (length ops) c.move_reads.new.turn (tables_of c.move_reads.new.self) in
-    record {
-      began = c.new-turn.result;
-      reserved = c.reserve.new.turn;
-      held = c.hold_clobbers.new.turn;
-      cleared = c.evict_fixed.new.turn;
-      quiet = c.evict_clobbers.new.turn;
-      late = c.place_operands.new.turn;
-      early = c.place_operands-2.new.turn;
-      ended = c.move_reads.new.turn;
-      after_fixed = tables_of c.evict_fixed.new.self;
-      after_clobbers = tables_of c.evict_clobbers.new.self;
-      after_late = tables_of c.place_operands.new.self;
-      after_early = tables_of c.place_operands-2.new.self;
-      half = c.place_operands.new.here;
-      long = c.requires.here_long;
-      no_places = c.requires.no_places;
-      begins_early = λ r. ap (λ (s : PRegSet). has_register s r) c.new-turn.ensures.early ∙ c.every.ensures r;
-      begins_late = λ r. ap (λ (s : PRegSet). has_register s r) c.new-turn.ensures.late ∙ c.every.ensures r;
-      begins_scratch = c.new-turn.ensures.scratch;
-      reserves = c.in_ok-reserve.ensures.ok;
-      holds = c.hold_clobbers.ensures.held;
-      fixed = subst (F (after c.args.inst)) same (subst (λ (p : ℕ). F p (tables_of c.hold_clobbers.new.self)) at c.in_ok-evict_fixed.ensures.ok);
-      clobbers = subst C at c.in_ok-evict_clobbers.ensures.ok;
-      lates = c.in_ok-place_operands.ensures.ok;
-      earlies = c.in_ok-place_operands-2.ensures.ok;
-      moves = subst M early c.in_ok-move_reads.ensures.ok;
-    }
+    let M : ℕ → Type 0 = λ p. MovesUses p ops c.place_operands-2.new.here c.place_operands-2.new.turn (tables_of c.place_operands-2.new.self) (length ops) c.move_reads.new.turn (tables_of c.move_reads.new.self) in (
+      record {
+        began = c.args.turn.now;
+        reserved = c.reserve.new.turn;
+        held = c.hold_clobbers.new.turn;
+        cleared = c.evict_fixed.new.turn;
+        quiet = c.evict_clobbers.new.turn;
+        late = c.place_operands.new.turn;
+        early = c.place_operands-2.new.turn;
+        ended = c.move_reads.new.turn;
+        after_fixed = tables_of c.evict_fixed.new.self;
+        after_clobbers = tables_of c.evict_clobbers.new.self;
+        after_late = tables_of c.place_operands.new.self;
+        after_early = tables_of c.place_operands-2.new.self;
+        half = c.place_operands.new.here;
+        long = c.requires.here_long;
+        no_places = c.requires.no_places;
+        begins_early = c.requires.fresh.early;
+        begins_late = c.requires.fresh.late;
+        begins_scratch = c.requires.fresh.scratch;
+        reserves = c.in_ok-reserve.ensures.ok;
+        holds = c.hold_clobbers.ensures.held;
+        fixed = subst (F (after c.args.inst)) same (subst (λ (p : ℕ). F p (tables_of c.hold_clobbers.new.self)) at c.in_ok-evict_fixed.ensures.ok);
+        clobbers = subst C at c.in_ok-evict_clobbers.ensures.ok;
+        lates = c.in_ok-place_operands.ensures.ok;
+        earlies = c.in_ok-place_operands-2.ensures.ok;
+        moves = subst M early c.in_ok-move_reads.ensures.ok;
+      },
+      refl,
+    )
 
 pub returns-clause-later : goal.returns-clause-later
 returns-clause-later g c =

@@ -13,11 +13,11 @@ returns-in-Some g c = record {
   there = λ e. let f : InRegister c.in-Some.preg ≡ NoPlace = sym c.reg-in-Some.ensures ∙ e in absurd cc;
   places = refl;
   edits = refl;
-  machine = record { allocatable = refl; fixed_stack = refl; dedicated = refl; sizes = refl; vregs = refl };
+  machine = record { allocatable = refl; fixed_stack = refl; dedicated = refl; sizes = refl; vregs = refl; lent = refl };
   err = tt;
 }
 
 pub returns-clause-ok : goal.returns-clause-ok
 returns-clause-ok g c = slot
     (wanted_rest c.args.placing.now.wanted c.in_default.not-At (λ e. let t = c.is_any_register.ensures.1 e in let f = c.if-is_any_register.false in absurd cc))
-    c.in_ok-slot.ensures.ok refl refl (record { allocatable = refl; fixed_stack = refl; dedicated = refl; sizes = c.slot_of.ensures.sizes; vregs = c.slot_of.ensures.vregs })
+    c.in_ok-slot.ensures.ok refl refl (record { allocatable = refl; fixed_stack = refl; dedicated = refl; sizes = c.slot_of.ensures.sizes; vregs = c.slot_of.ensures.vregs; lent = c.slot_of.ensures.lent })

@@ -12,7 +12,7 @@ loop-k-init g c = record {
   cleared = none_cleared;
   later = c.requires;
   long = refl;
-  machine = record { allocatable = refl; fixed_stack = refl; dedicated = refl; sizes = refl; vregs = refl };
+  machine = record { allocatable = refl; fixed_stack = refl; dedicated = refl; sizes = refl; vregs = refl; lent = refl };
 }
 
 pub loop-k-preserved : goal.loop-k-preserved

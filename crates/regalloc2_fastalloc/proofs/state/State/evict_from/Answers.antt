@@ -26,7 +26,7 @@ returns-clause-ok g c =
     let m : Tables = record t { places = c.settle.new.self; slots = c.slot_of.new.self } in
     let X : RegClass → Place → Type 0 = λ k p. Crosses c.args.point k c.in_ok-slot.slot p c.args.turn.now c.cross.new.turn m (tables_of c.cross.new.self) in
     let x : X c.in-Some.vreg.class (InRegister c.args.preg) = subst (X c.in-Some.vreg.class) c.reg.ensures (subst (λ (k : RegClass). X k c.reg.result) c.class.ensures c.in_ok-cross.ensures.ok) in
-    cleared c.in-Some.vreg c.in_ok-slot.slot m (omega (arith, c.vreg_in.ensures.in_range)) h c.in_ok-slot.ensures.ok c.settle.ensures.settled refl (record { allocatable = refl; fixed_stack = refl; dedicated = refl; sizes = c.slot_of.ensures.sizes; vregs = c.slot_of.ensures.vregs }) x
+    cleared c.in-Some.vreg c.in_ok-slot.slot m (omega (arith, c.vreg_in.ensures.in_range)) h c.in_ok-slot.ensures.ok c.settle.ensures.settled refl (record { allocatable = refl; fixed_stack = refl; dedicated = refl; sizes = c.slot_of.ensures.sizes; vregs = c.slot_of.ensures.vregs; lent = c.slot_of.ensures.lent }) x
 
 pub returns-clause-empty : goal.returns-clause-empty
 returns-clause-empty g c =

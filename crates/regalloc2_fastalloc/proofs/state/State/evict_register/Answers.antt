@@ -21,4 +21,4 @@ pub returns-clause-ok : goal.returns-clause-ok
 returns-clause-ok g c =
     let h : holder c.args.self.now.places c.args.preg ≡ Some c.in-Some.vreg = sym c.vreg_in.ensures.vreg ∙ c.in-Some.is in
     let one : Place → List (ℕ × MoveValue) = λ p. c.args.self.now.edits ++ (c.args.point, record { from = c.in_ok-slot.slot; to = p }) ∷ [] in
-    moved c.in-Some.vreg c.in_ok-slot.slot (omega (arith, c.vreg_in.ensures.in_range)) h c.in_ok-slot.ensures.ok c.settle.ensures.settled (c.in_ok-push.ensures.ok ∙ ap one c.reg.ensures) (record { allocatable = refl; fixed_stack = refl; dedicated = refl; sizes = c.slot_of.ensures.sizes; vregs = c.slot_of.ensures.vregs })
+    moved c.in-Some.vreg c.in_ok-slot.slot (omega (arith, c.vreg_in.ensures.in_range)) h c.in_ok-slot.ensures.ok c.settle.ensures.settled (c.in_ok-push.ensures.ok ∙ ap one c.reg.ensures) (record { allocatable = refl; fixed_stack = refl; dedicated = refl; sizes = c.slot_of.ensures.sizes; vregs = c.slot_of.ensures.vregs; lent = c.slot_of.ensures.lent })

@@ -31,7 +31,7 @@ returns-clause-ok g c =
       settles = subst (Settles t.places c.settle.new.self c.args.vreg) c.none.ensures c.settle.ensures.settled;
       slots = refl;
       edits = refl;
-      machine = record { allocatable = refl; fixed_stack = refl; dedicated = refl; sizes = refl; vregs = refl };
+      machine = record { allocatable = refl; fixed_stack = refl; dedicated = refl; sizes = refl; vregs = refl; lent = refl };
       awaited = a3;
       stored = s4;
     }

@@ -13,7 +13,7 @@ use Rattle.regalloc2_fastalloc.proofs.state.State.move_reads.Goals as goal
 use Rattle.regalloc2_fastalloc.proofs.state.State.move_reads.Goals.{then-reads+in_ok-move_read, else-reads}
 
 pub loop-k-init : goal.loop-k-init
-loop-k-init g c = record { done = none_moved; later = c.requires.later; long = refl; machine = record { allocatable = refl; fixed_stack = refl; dedicated = refl; sizes = refl; vregs = refl } }
+loop-k-init g c = record { done = none_moved; later = c.requires.later; long = refl; machine = record { allocatable = refl; fixed_stack = refl; dedicated = refl; sizes = refl; vregs = refl; lent = refl } }
 
 pub move_read-requires : goal.move_read-requires
 move_read-requires g c =

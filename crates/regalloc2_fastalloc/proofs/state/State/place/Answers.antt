@@ -1,6 +1,12 @@
+use Rattle.std.proofs.Common.{ℕ, List, sym, subst, rules}
+use Rattle.regalloc2_function.specs.OutputValue.{MoveValue}
 use Rattle.regalloc2_fastalloc.specs.Steps.{tables_of}
+use Rattle.regalloc2_fastalloc.specs.Tables.{NoneBefore}
 use Rattle.regalloc2_fastalloc.proofs.Choosing.{occupies_counted}
 use Rattle.regalloc2_fastalloc.proofs.state.State.place.Goals as goal
+
+pub occupy-requires : goal.occupy-requires
+occupy-requires g c = (search rules, (subst (λ (es : List (ℕ × MoveValue)). NoneBefore c.args.point es) (sym c.picked.ensures.edits) c.requires.later, c.in_ok-place.ensures.there))
 
 pub returns-clause-ok : goal.returns-clause-ok
 returns-clause-ok g c = record {

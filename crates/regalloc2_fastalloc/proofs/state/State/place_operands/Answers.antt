@@ -8,7 +8,7 @@ use Rattle.regalloc2_fastalloc.proofs.state.State.place_operands.Goals as goal
 use Rattle.regalloc2_fastalloc.proofs.state.State.place_operands.Goals.{then-stands_at+in_ok-place_operand, else-stands_at}
 
 pub loop-k-init : goal.loop-k-init
-loop-k-init g c = record { done = none_placed; later = c.requires.later; long = refl; machine = record { allocatable = refl; fixed_stack = refl; dedicated = refl; sizes = refl; vregs = refl } }
+loop-k-init g c = record { done = none_placed; later = c.requires.later; long = refl; machine = record { allocatable = refl; fixed_stack = refl; dedicated = refl; sizes = refl; vregs = refl; lent = refl } }
 
 pub place_operand-requires : goal.place_operand-requires
 place_operand-requires g c = (

@@ -23,5 +23,5 @@ returns-clause-ok g c =
     record {
       middle = tables_of c.place.new.self;
       gets = c.in_ok-place.ensures.ok;
-      uses = stands none c.settle.ensures.settled refl refl (record { allocatable = refl; fixed_stack = refl; dedicated = refl; sizes = refl; vregs = refl });
+      uses = stands none c.settle.ensures.settled refl refl (record { allocatable = refl; fixed_stack = refl; dedicated = refl; sizes = refl; vregs = refl; lent = refl });
     }

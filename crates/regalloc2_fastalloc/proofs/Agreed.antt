@@ -1,0 +1,77 @@
+-- The walk over the blocks of a well-formed function that the allocator takes, from fresh tables to the output: reads agree on every path.
+use Rattle.std.proofs.Common.{ℕ, ◌≡◌, ◌≢◌, ◌-◌, ◌<◌, suc, List, [], ◌∷◌, length, map, nat_eq, refl, ap, arith}
+use Rattle.std.specs.Prelude.{All, Bool, filter}
+use Rattle.std.proofs.lemmas.Bool.{ne_eqb}
+use Rattle.std.proofs.lemmas.List.Elements.{All-get_or}
+use Rattle.regalloc2_names.specs.declared.RegClass.{RegClass}
+use Rattle.regalloc2_names.specs.Place.{Place}
+use Rattle.regalloc2_names.specs.Point.{after}
+use Rattle.regalloc2_function.specs.FunctionValue.{FunctionValue, IsLimited, block_at, inst_at, no_inst}
+use Rattle.regalloc2_function.specs.Fitting.{MachineFits}
+use Rattle.regalloc2_function.specs.Machine.{MachineValue}
+use Rattle.regalloc2_function.specs.OutputValue.{OutputValue, MoveValue, allocs_of}
+use Rattle.regalloc2_function.specs.SourceRun.{IsWrittenFirst}
+use Rattle.regalloc2_function.specs.WellFormed.{IsWellFormed, FixedAvoidClobbers}
+use Rattle.regalloc2_flow.specs.Walked.{EndsQuiet}
+use Rattle.regalloc2_flow.specs.Laws.{ReadsAgreeOnPaths}
+use Rattle.regalloc2_flow.proofs.Points.{rising_by}
+use Rattle.regalloc2_flow.proofs.Defined.{Made, one_made}
+use Rattle.regalloc2_fastalloc.specs.Profile.{AreTaken}
+use Rattle.regalloc2_fastalloc.specs.Constraints.{BranchDefinesNothing}
+use Rattle.regalloc2_fastalloc.specs.Tables.{nobody_stands, no_slots, units_of}
+use Rattle.regalloc2_fastalloc.specs.Sound.{HasMachine}
+use Rattle.regalloc2_fastalloc.specs.Steps.{Tables}
+use Rattle.regalloc2_fastalloc.specs.Walks.{WalksBlocks}
+use Rattle.regalloc2_fastalloc.proofs.Scratching.{Fit}
+use Rattle.regalloc2_fastalloc.proofs.Rounding.{AreListed, Blank}
+use Rattle.regalloc2_fastalloc.proofs.Walking.{WritesAt, WalkKept}
+use Rattle.regalloc2_fastalloc.proofs.Finished.{IsMade, made_in_order, place_is}
+use Rattle.regalloc2_fastalloc.proofs.Owned.{own_written}
+use Rattle.regalloc2_fastalloc.proofs.SafeWalks.{MayInBlocks}
+use Rattle.regalloc2_fastalloc.proofs.SafeFunctions.{made_listed_blocks, walk_blocks_good}
+use Rattle.regalloc2_fastalloc.proofs.Ordering.{orderly, knows}
+use Rattle.regalloc2_fastalloc.proofs.Avoiding.{avoids}
+use Rattle.regalloc2_fastalloc.proofs.Along.{blocks_outside}
+use Rattle.regalloc2_fastalloc.proofs.Branched.{branch_kept}
+use Rattle.regalloc2_fastalloc.proofs.Through.{begin_between}
+use Rattle.regalloc2_fastalloc.proofs.Steady.{passes_between}
+use Rattle.regalloc2_fastalloc.proofs.Sparing.{writes_sound}
+use Rattle.regalloc2_fastalloc.proofs.Forked.{branches_carry}
+use Rattle.regalloc2_fastalloc.proofs.Agreeing.{at_walks_end, paths_agree}
+
+-- where no move stands at a point
+none_there : (q : ℕ) (es : List (ℕ × MoveValue)) → All (λ e. e.0 ≢ q) es → filter (λ e. nat_eq e.0 q) es ≡ []
+none_there q [] h = refl
+none_there q (e ∷ es) h = rw (ne_eqb e.0 q (h 0 e (omega arith))) (none_there q es (λ k d lt. h (suc k) d (omega arith)))
+
+module _ (env : MachineValue) (f : FunctionValue) (limited : IsLimited f) (ok : IsWellFormed env f) (taken : AreTaken f) (nothing : (i : ℕ) → i < length f.insts → BranchDefinesNothing (inst_at f i))
+    (blank : List Place) (begin last : Tables) (out : OutputValue) (empty : Blank begin) (fit : Fit begin) (walks : WalksBlocks f blank begin 0 out.allocs last) (m : IsMade f env (Made f) (MayInBlocks f) last out) where
+  are_listed : AreListed f (allocs_of out) 0 out.allocs
+  are_listed j le lt k less = place_is f env (Made f) (MayInBlocks f) last out m j lt k less
+
+  -- no move stands behind a block's last instruction
+  pub blocks_quiet : (b : ℕ) → b < length f.blocks → EndsQuiet f out b
+  blocks_quiet b lb =
+      let end : ℕ = (block_at f b).range.end in
+      let some : (block_at f b).range.first < end = (ok.follow b lb).0 in
+      let not_at_end = (made_listed_blocks f env (Made f) last out ok.follow m).none_at_end b lb in
+      ap (map (λ e. e.1)) (none_there (after (end - 1)) out.edits (λ k d lt e. not_at_end k d lt (omega (arith, e, some))))
+
+  -- each use finds in its place what the function wrote
+  pub made_blocks_agree : IsWrittenFirst f → ReadsAgreeOnPaths f out
+  made_blocks_agree written =
+      paths_agree env f limited ok (passes_between f) blank begin last out empty fit walks m.edits are_listed (WritesAt f out.allocs)
+      (own_written env (Made f) (one_made f ok.defined_once) (WritesAt f out.allocs) (MayInBlocks f) last (at_walks_end env f limited ok (passes_between f) blank begin last out empty fit walks).whole.own m.kept.safe.edits)
+      (λ j k lt less. m.kept.good j k (omega arith) lt less)
+      (λ b i lb ge less. writes_sound f (allocs_of out) out.allocs are_listed i (((ok.end b lb).1 i ge (omega (arith, less)) less).0))
+      (branches_carry env f limited ok taken nothing (allocs_of out) last) written
+      (rising_by out.edits (made_in_order f env (Made f) (MayInBlocks f) last out m).points_never_fall) blocks_quiet
+
+-- The walk keeps the tables safe, since nobody stands in a register between blocks.
+pub walk_kept_through : (env : MachineValue) (f : FunctionValue) → MachineFits f env → (limited : IsLimited f) (ok : IsWellFormed env f) → AreTaken f → ((i : ℕ) → i < length f.insts → BranchDefinesNothing (inst_at f i))
+    → (blank places : List Place) (begin last : Tables) (n m : ℕ) (sizes : List ℕ) (by_last : Bool) → begin.places ≡ nobody_stands n → begin.slots ≡ no_slots m sizes by_last → begin.edits ≡ [] → ((c : RegClass) → 0 < units_of (no_slots m sizes by_last) c)
+    → HasMachine env begin → Blank begin → Fit begin → WalksBlocks f blank begin 0 places last → WalkKept env (Made f) f (MayInBlocks f) places 0 places last
+walk_kept_through env f fits limited ok taken nothing blank places begin last n m sizes by_last nobody slots none units machine empty fit walks =
+    walk_blocks_good env f fits limited ok taken nothing blank places begin last n m sizes by_last nobody slots none units machine
+    (blocks_outside (Made f) f (orderly env f limited ok) (λ i lt. avoids (inst_at f i) (All-get_or FixedAvoidClobbers f.insts i no_inst lt ok.fixed)) (knows env f limited ok) (branch_kept f ok.counted (passes_between f)) ok.follow blank begin
+    (begin_between f begin empty fit) (record { nowhere = empty.nowhere; nobody = empty.nobody })) walks

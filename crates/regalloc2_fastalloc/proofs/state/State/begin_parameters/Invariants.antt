@@ -1,0 +1,13 @@
+use Rattle.std.proofs.Common.{◌≡◌, length}
+use Rattle.regalloc2_fastalloc.specs.Blocks.{BeginsParameters}
+use Rattle.regalloc2_fastalloc.specs.Steps.{tables_of, SameMachine}
+use Rattle.regalloc2_fastalloc.specs.Tables.{NoneBefore}
+use Rattle.regalloc2_fastalloc.proofs.state.State.begin_parameters.Given as goal
+
+abbrev pub invariant-loop-param : goal.invariant-loop-param
+invariant-loop-param g l = record {
+  done : BeginsParameters l.point l.params l.fn.turn (tables_of l.fn.self) l.param-index l.turn (tables_of l.self);
+  later : NoneBefore l.point l.self.edits;
+  long : length l.self.places.stands ≡ length l.fn.self.places.stands;
+  machine : SameMachine (tables_of l.fn.self) (tables_of l.self);
+}
