@@ -1,8 +1,8 @@
 -- The instructions of a block's listing are instructions of the function.
 use Rattle.std.proofs.Common.{ℕ, zero, suc, ◌≡◌, ◌+◌, ◌-◌, ◌<◌, ◌≤◌, List, ◌∷◌, map, subst, arith}
 use Rattle.std.specs.Prelude.{All}
-use Rattle.std.proofs.lemmas.List.Elements.{All-nil, All-append, All-cons, All-map, All-head, All-tail}
-use Rattle.regalloc2_function.specs.OutputValue.{OutputValue, MoveValue, moves_before}
+use Rattle.std.proofs.lemmas.List.Elements.{All-nil, All-append, All-cons, All-map, All-head}
+use Rattle.regalloc2_function.specs.OutputValue.{OutputValue, moves_before}
 use Rattle.regalloc2_function.specs.Listing.{Listed, ListedInst, ListedMove, listing_from}
 use Rattle.regalloc2_function.specs.Views.{item_of}
 use Rattle.regalloc2_function.specs.declared.listing.InstOrEdit.{InstOrEdit}

@@ -1,7 +1,7 @@
-use Rattle.std.specs.Prelude.{All, length}
+use Rattle.std.specs.Prelude.{length}
 use Rattle.std.proofs.lemmas.List.Elements.{All-tail}
 use Rattle.regalloc2_function.specs.FunctionValue.{block_at}
-use Rattle.regalloc2_function.specs.Views.{output_of, rest_of}
+use Rattle.regalloc2_function.specs.Views.{output_of}
 use Rattle.ra2.proofs.Below.{IsBelow, block_below, first_below}
 use Rattle.ra2.proofs.listing.write_block.Goals as goal
 
