@@ -12,7 +12,7 @@ use std::process::Abort;
 use std::test::Fail;
 
 /// `run_checked` with the tests' options, at a machine that fits.
-fn run_checked_fitting<A: Allocator + Copy, F: Function, B: Allocator>(
+pub fn run_checked_fitting<A: Allocator + Copy, F: Function, B: Allocator>(
     rt: &impl Abort,
     alloc: A,
     f: &F,

@@ -1,4 +1,4 @@
-//! What an output of a straight block owes, seen by a plain look at each place and each move.
+//! What an output owes, seen by a plain look at each place and each move.
 
 use regalloc2::{
     Allocation, Edit, Function, Inst, MachineEnv, Operand, OperandConstraint, Output, PReg,
@@ -102,26 +102,28 @@ fn assert_move(rt: &impl Abort, env: &MachineEnv, out: &Output, edit: Edit) {
     );
 }
 
-/// Asserts that the uses of an instruction read what the function reads there.
-fn assert_reads(
+/// Asserts that the uses of a path's last step read what the function reads there.
+pub fn assert_reads(
     rt: &impl Abort,
     alloc: Global,
     f: &TableFunction,
     out: &Output,
-    inst: usize,
+    ways: &[Option<usize>],
 ) -> Result<(), AllocError> {
-    let ways = vec![in alloc; None; inst]?;
     assert!(rt; out.is_in_order(f));
-    let Some(reads) = reads_at(alloc, f, out, ways.as_slice())? else {
-        assert!(rt; false, "no path to {inst}");
+    let Some(reads) = reads_at(alloc, f, out, ways)? else {
+        assert!(rt; false, "no path {ways:?}");
         return Ok(());
     };
     assert_eq!(rt;
         reads.allocated.as_slice(),
         reads.source.as_slice(),
-        "at {inst}"
+        "at {ways:?}"
     );
-    assert!(rt; reads.source.iter().all(|read| read.is_some()), "at {inst}");
+    assert!(rt;
+        reads.source.iter().all(|read| read.is_some()),
+        "at {ways:?}"
+    );
     Ok(())
 }
 
@@ -148,8 +150,13 @@ fn assert_inst(rt: &impl Abort, f: &TableFunction, env: &MachineEnv, out: &Outpu
     }
 }
 
-/// Asserts that an output of a straight block is sound: each place is proper and meets its constraint, each move has places
-/// for its ends, not both in memory, and none comes after the last instruction.
+/// Whether an instruction is the last of its block.
+fn ends_a_block(f: &TableFunction, inst: usize) -> bool {
+    inst < f.insts.len() && (f.insts[inst].is_branch || f.insts[inst].is_ret)
+}
+
+/// Asserts that an output is sound: each place is proper and meets its constraint, each move has places for its ends, not
+/// both in memory, and none comes after the last instruction of a block.
 pub fn assert_places(rt: &impl Abort, f: &TableFunction, env: &MachineEnv, out: &Output) {
     let count = f.num_insts();
     for inst in 0..count {
@@ -160,8 +167,8 @@ pub fn assert_places(rt: &impl Abort, f: &TableFunction, env: &MachineEnv, out: 
         let is_before = edit.0.pos() == regalloc2::InstPosition::Before;
         assert!(rt; inst < count, "moved at {inst}");
         assert!(rt;
-            is_before || inst.wrapping_add(1) < count,
-            "moved after the last instruction"
+            is_before || !ends_a_block(f, inst),
+            "moved after a last instruction"
         );
         assert_move(rt, env, out, edit.1);
     }
@@ -175,7 +182,8 @@ pub fn assert_values(
     out: &Output,
 ) -> Result<(), AllocError> {
     for inst in 0..f.num_insts() {
-        assert_reads(rt, alloc, f, out, inst)?;
+        let ways = vec![in alloc; None; inst]?;
+        assert_reads(rt, alloc, f, out, ways.as_slice())?;
     }
     Ok(())
 }

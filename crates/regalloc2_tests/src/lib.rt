@@ -9,11 +9,17 @@ mod asserts;
 #[cfg(test)]
 mod blocks;
 #[cfg(test)]
+mod branches;
+#[cfg(test)]
+mod branching;
+#[cfg(test)]
 mod calls;
 #[cfg(test)]
 mod checks;
 #[cfg(test)]
 mod forged;
+#[cfg(test)]
+mod graphs;
 #[cfg(test)]
 mod judged;
 #[cfg(test)]
@@ -30,6 +36,12 @@ mod paths;
 #[cfg(test)]
 mod random;
 #[cfg(test)]
+mod refused;
+#[cfg(test)]
 mod sets;
+#[cfg(test)]
+mod several;
+#[cfg(test)]
+mod shapes;
 #[cfg(test)]
 mod straight;

@@ -3,184 +3,13 @@
 ghost use Rattle.std.specs.Prelude.{◌≡◌, ◌<◌};
 ghost use Rattle.regalloc2_names.specs.Packing.{IsConstraintOf};
 
+use super::shapes::{FIRST_SLOT, Random, Shape, preg};
 use regalloc2::{
-    MachineEnv, Operand, OperandConstraint, OperandKind, OperandPos, PReg, PRegSet, RegClass, VReg,
+    Operand, OperandConstraint, OperandKind, OperandPos, PReg, PRegSet, RegClass, VReg,
 };
 use regalloc2_plain::table::{SlotUnits, TableFunction, TableInst};
 use std::alloc::{AllocError, Global};
 use std::process::Abort;
-
-/// The first fixed stack slot of each class.
-const FIRST_SLOT: usize = 40;
-
-/// The register of each class for moves from stack to stack, where there is one.
-const SCRATCH: usize = 50;
-
-/// Numbers that look random, the same ones for the same seed.
-#[derive(Drop)]
-pub struct Random {
-    state: u64,
-}
-
-impl Random {
-    /// The numbers of a seed.
-    pub fn new(seed: u64) -> Random {
-        Random { state: seed }
-    }
-
-    /// The next number, below `count`.
-    pub fn below(&mut self, count: usize) -> usize
-        requires { 0 < count }
-        ensures { result < count }
-    {
-        self.state = self
-            .state
-            .wrapping_mul(6_364_136_223_846_793_005)
-            .wrapping_add(1_442_695_040_888_963_407);
-        (self.state >> 33) as usize % count
-    }
-
-    /// True once in `count` times.
-    pub fn once_in(&mut self, count: usize) -> bool
-        requires { 0 < count }
-    {
-        self.below(count) == 0
-    }
-
-    /// One of the classes, most often that of integers.
-    fn class(&mut self) -> RegClass {
-        match self.below(4) {
-            0 => RegClass::Float,
-            1 => RegClass::Vector,
-            _ => RegClass::Int,
-        }
-    }
-}
-
-/// The register of that number, of which the lowest six bits count.
-pub fn preg(number: usize, class: RegClass) -> PReg
-    ensures { result.class ≡ class }
-{
-    PReg::new(number % 64, class)
-}
-
-/// The registers of a class from a number up to another.
-fn pregs(class: RegClass, from: usize, to: usize) -> PRegSet {
-    let mut set = PRegSet::empty();
-    for number in from..to {
-        set.add(preg(number, class));
-    }
-    set
-}
-
-/// The registers of a class.
-#[derive(Clone, Copy)]
-pub struct ClassShape {
-    /// How many are preferred.
-    preferred: usize,
-    /// How many there are in all.
-    all: usize,
-    /// How many fixed stack slots there are.
-    slots: usize,
-    /// Whether there is one for moves from stack to stack.
-    has_scratch: bool,
-}
-
-impl ClassShape {
-    /// Some registers.
-    fn any(random: &mut Random) -> ClassShape {
-        let preferred = random.below(4).saturating_add(1);
-        ClassShape {
-            preferred,
-            all: preferred.saturating_add(random.below(4)),
-            slots: random.below(3),
-            has_scratch: random.once_in(2),
-        }
-    }
-
-    /// The preferred registers.
-    fn preferred_of(&self, class: RegClass) -> PRegSet {
-        pregs(class, 0, self.preferred)
-    }
-
-    /// The other ones.
-    fn non_preferred_of(&self, class: RegClass) -> PRegSet {
-        pregs(class, self.preferred, self.all)
-    }
-
-    /// The register for moves.
-    fn scratch_of(&self, class: RegClass) -> Option<PReg> {
-        if self.has_scratch {
-            Some(preg(SCRATCH, class))
-        } else {
-            None
-        }
-    }
-
-    /// Adds the fixed stack slots.
-    fn add_slots(&self, slots: &mut Vec<PReg>, class: RegClass) -> Result<(), AllocError> {
-        for slot in 0..self.slots {
-            slots.push(preg(FIRST_SLOT.wrapping_add(slot), class))?;
-        }
-        Ok(())
-    }
-}
-
-/// The registers of a machine.
-#[derive(Clone, Copy)]
-pub struct Shape {
-    int: ClassShape,
-    float: ClassShape,
-    vector: ClassShape,
-}
-
-impl Shape {
-    /// Some registers of each class.
-    fn any(random: &mut Random) -> Shape {
-        Shape {
-            int: ClassShape::any(random),
-            float: ClassShape::any(random),
-            vector: ClassShape::any(random),
-        }
-    }
-
-    /// The registers of a class.
-    fn of(&self, class: RegClass) -> ClassShape {
-        match class {
-            RegClass::Int => self.int,
-            RegClass::Float => self.float,
-            RegClass::Vector => self.vector,
-        }
-    }
-
-    /// The machine.
-    pub fn machine(&self, alloc: Global) -> Result<MachineEnv, AllocError> {
-        let mut fixed_stack_slots = Vec::new(alloc);
-        self.int.add_slots(&mut fixed_stack_slots, RegClass::Int)?;
-        self.float
-            .add_slots(&mut fixed_stack_slots, RegClass::Float)?;
-        self.vector
-            .add_slots(&mut fixed_stack_slots, RegClass::Vector)?;
-        Ok(MachineEnv {
-            preferred_regs_by_class: [
-                self.int.preferred_of(RegClass::Int),
-                self.float.preferred_of(RegClass::Float),
-                self.vector.preferred_of(RegClass::Vector),
-            ],
-            non_preferred_regs_by_class: [
-                self.int.non_preferred_of(RegClass::Int),
-                self.float.non_preferred_of(RegClass::Float),
-                self.vector.non_preferred_of(RegClass::Vector),
-            ],
-            scratch_by_class: [
-                self.int.scratch_of(RegClass::Int),
-                self.float.scratch_of(RegClass::Float),
-                self.vector.scratch_of(RegClass::Vector),
-            ],
-            fixed_stack_slots,
-        })
-    }
-}
 
 /// An instruction that is being made.
 #[derive(Drop)]
@@ -194,13 +23,29 @@ struct Draft {
     kept: PRegSet,
 }
 
-/// A block that is being made.
+impl Draft {
+    /// No operand yet.
+    fn new(alloc: Global) -> Draft {
+        Draft {
+            operands: Vec::new(alloc),
+            reused: Vec::new(alloc),
+            fixed: PRegSet::empty(),
+            kept: PRegSet::empty(),
+        }
+    }
+}
+
+/// Instructions that are being made.
 #[derive(Drop)]
 pub struct Maker {
-    random: Random,
+    pub random: Random,
     shape: Shape,
-    /// The virtual registers by number.
-    vregs: Vec<VReg>,
+    /// How many virtual registers are named.
+    named: usize,
+    /// Those that may be read.
+    pub known: Vec<VReg>,
+    /// Whether each instruction has few operands, so that many instructions fit.
+    pub has_few: bool,
 }
 
 impl Maker {
@@ -211,7 +56,9 @@ impl Maker {
         Maker {
             random,
             shape,
-            vregs: Vec::new(alloc),
+            named: 0,
+            known: Vec::new(alloc),
+            has_few: false,
         }
     }
 
@@ -220,12 +67,20 @@ impl Maker {
         &self.shape
     }
 
-    /// A virtual register that wasn't named yet.
-    fn fresh(&mut self) -> Result<VReg, AllocError> {
-        let class = self.random.class();
-        let vreg = VReg::new(self.vregs.len() % 1_000_000, class);
-        self.vregs.push(vreg)?;
-        Ok(vreg)
+    /// A number above that of each virtual register.
+    pub fn num_vregs(&self) -> usize
+        ensures { result < 1000000 }
+    {
+        self.named % 1_000_000
+    }
+
+    /// A virtual register of the class that wasn't named yet.
+    pub fn fresh(&mut self, class: RegClass) -> VReg
+        ensures { result.class ≡ class }
+    {
+        let vreg = VReg::new(self.num_vregs(), class);
+        self.named = self.named.wrapping_add(1);
+        vreg
     }
 
     /// An allocatable register or, now and then, a fixed stack slot of the class.
@@ -263,16 +118,16 @@ impl Maker {
         }
     }
 
-    /// A use of one of the virtual registers below a number.
+    /// A use of one of the first virtual registers that may be read.
     fn add_use(&mut self, draft: &mut Draft, defined: usize) -> Result<(), AllocError> {
         if defined == 0 {
             return Ok(());
         }
         let chosen = self.random.below(defined);
-        if chosen >= self.vregs.len() {
+        if chosen >= self.known.len() {
             return Ok(());
         }
-        let vreg = self.vregs[chosen];
+        let vreg = self.known[chosen];
         let pos = if self.random.once_in(3) {
             OperandPos::Late
         } else {
@@ -288,7 +143,9 @@ impl Maker {
 
     /// A definition of a virtual register that wasn't named yet.
     fn add_def(&mut self, draft: &mut Draft) -> Result<(), AllocError> {
-        let vreg = self.fresh()?;
+        let class = self.random.class();
+        let vreg = self.fresh(class);
+        self.known.push(vreg)?;
         let pos = if self.random.once_in(4) {
             OperandPos::Early
         } else {
@@ -315,8 +172,8 @@ impl Maker {
         if let OperandConstraint::FixedReg(fixed) = draft.operands[index].constraint() {
             draft.kept.add(fixed);
         }
-        let vreg = VReg::new(self.vregs.len() % 1_000_000, class);
-        self.vregs.push(vreg)?;
+        let vreg = self.fresh(class);
+        self.known.push(vreg)?;
         draft
             .operands
             .push(Operand::reg_reuse_def(vreg, index % 32))?;
@@ -358,15 +215,11 @@ impl Maker {
     }
 
     /// An instruction of up to six operands.
-    fn inst(&mut self, alloc: Global, is_ret: bool) -> Result<TableInst, AllocError> {
-        let defined = self.vregs.len();
-        let mut draft = Draft {
-            operands: Vec::new(alloc),
-            reused: Vec::new(alloc),
-            fixed: PRegSet::empty(),
-            kept: PRegSet::empty(),
-        };
-        for _ in 0..self.random.below(7) {
+    pub fn inst(&mut self, alloc: Global, is_ret: bool) -> Result<TableInst, AllocError> {
+        let defined = self.known.len();
+        let mut draft = Draft::new(alloc);
+        let most = if self.has_few { 5 } else { 7 };
+        for _ in 0..self.random.below(most) {
             match self.random.below(9) {
                 0 | 1 | 2 => self.add_def(&mut draft)?,
                 3 => self.add_reuse(&mut draft)?,
@@ -388,8 +241,26 @@ impl Maker {
         })
     }
 
+    /// A branch, which has up to two uses if it may have any.
+    pub fn branch(&mut self, alloc: Global, may_use: bool) -> Result<TableInst, AllocError> {
+        let defined = self.known.len();
+        let mut draft = Draft::new(alloc);
+        if may_use {
+            for _ in 0..self.random.below(3) {
+                self.add_use(&mut draft, defined)?;
+            }
+        }
+        let clobbers = self.clobbers(&draft);
+        Ok(TableInst {
+            operands: draft.operands,
+            clobbers,
+            is_branch: true,
+            is_ret: false,
+        })
+    }
+
     /// A size of slots.
-    fn units(&mut self) -> SlotUnits {
+    pub fn units(&mut self) -> SlotUnits {
         if self.random.once_in(3) {
             SlotUnits::two()
         } else {
@@ -407,7 +278,7 @@ impl Maker {
         assert!(rt; insts.len() < 100);
         let slots = (self.units(), self.units(), self.units());
         let named_by_last = self.random.once_in(2);
-        let mut f = TableFunction::straight(alloc, self.vregs.len() % 1_000_000, slots, insts)?;
+        let mut f = TableFunction::straight(alloc, self.num_vregs(), slots, insts)?;
         f.named_by_last_slot = named_by_last;
         Ok(f)
     }
