@@ -1,20 +1,18 @@
--- The walk over the blocks of a well-formed function, from fresh tables to the output: reads agree on every path.
-use Rattle.std.proofs.Common.{ℕ, ◌≡◌, ◌<◌, ◌≤◌, List, length, arith}
+-- The walk over the blocks of a well-formed function, from fresh tables to the output: each block carries what the laws on paths want, and who is used in a block that doesn't write it has a slot.
+use Rattle.std.proofs.Common.{ℕ, ◌≡◌, ◌≢◌, ◌<◌, ◌≤◌, List, length, arith}
 use Rattle.std.specs.Prelude.{All, Some}
 use Rattle.std.proofs.lemmas.List.Elements.{All-get_or}
 use Rattle.regalloc2_names.specs.Register.{VirtualRegister}
-use Rattle.regalloc2_names.specs.Place.{Place, InSlot}
+use Rattle.regalloc2_names.specs.Place.{Place, NoPlace, InSlot}
 use Rattle.regalloc2_function.specs.FunctionValue.{FunctionValue, IsLimited, block_at, inst_at, no_inst}
 use Rattle.regalloc2_function.specs.Machine.{MachineValue}
 use Rattle.regalloc2_function.specs.OutputValue.{OutputValue, allocs_of}
-use Rattle.regalloc2_function.specs.SourceRun.{IsWrittenFirst}
 use Rattle.regalloc2_function.specs.WellFormed.{IsWellFormed, FixedAvoidClobbers, last_of}
-use Rattle.regalloc2_flow.specs.Walked.{listed, Rising, EndsQuiet}
-use Rattle.regalloc2_flow.specs.Laws.{ReadsAgreeOnPaths}
+use Rattle.regalloc2_flow.specs.Walked.{listed, block_walked}
+use Rattle.regalloc2_flow.specs.Blocks.{BlockCarries}
 use Rattle.regalloc2_flow.specs.Instruction.{Knows}
 use Rattle.regalloc2_flow.proofs.Defined.{Made}
-use Rattle.regalloc2_flow.proofs.Paths.{blocks_agree_by_points}
-use Rattle.regalloc2_flow.proofs.Soundness.{well_formed_are_sound}
+use Rattle.regalloc2_flow.proofs.Paths.{UsedSomewhere}
 use Rattle.regalloc2_fastalloc.specs.declared.turn.Turn.{Turn}
 use Rattle.regalloc2_fastalloc.specs.Steps.{Tables}
 use Rattle.regalloc2_fastalloc.specs.Branches.{PassesArguments}
@@ -32,7 +30,9 @@ use Rattle.regalloc2_fastalloc.proofs.Along.{BranchKept, blocks_between}
 use Rattle.regalloc2_fastalloc.proofs.Branched.{branch_kept}
 use Rattle.regalloc2_fastalloc.proofs.Blockwise.{BranchCarries}
 use Rattle.regalloc2_fastalloc.proofs.Sparing.{WritesSound, keeps_slots}
-use Rattle.regalloc2_fastalloc.proofs.Through.{begin_between, first_edge, blocks_agree}
+use Rattle.regalloc2_fastalloc.proofs.Through.{begin_between, first_edge, all_blocks_carry}
+use Rattle.regalloc2_fastalloc.proofs.Dwelling.{used_has_slot}
+use Rattle.regalloc2_fastalloc.proofs.Flowing.{slot_in}
 
 module _ (env : MachineValue) (f : FunctionValue) (limited : IsLimited f) (ok : IsWellFormed env f) where
   -- the operands of a well-formed function
@@ -57,13 +57,19 @@ module _ (env : MachineValue) (f : FunctionValue) (limited : IsLimited f) (ok : 
     pub at_walks_end : Between 0 last
     at_walks_end = blocks_between (Made f) f all_orderly all_avoid all_known branch ok.follow blank begin (begin_between f begin empty fit) 0 out.allocs last walks 0 (first_edge f ok.follow some_block)
 
-    -- If a branch carries what it has to, and moves write only what they may, reads agree on every path.
-    pub paths_agree : out.edits ≡ listed last.edits → AreListed f (allocs_of out) 0 out.allocs → (Writes : ℕ → VirtualRegister → ℕ → Type 0)
+    -- If a branch carries what it has to, and moves write only what they may, each block carries what the laws on paths want.
+    pub blocks_carry : out.edits ≡ listed last.edits → AreListed f (allocs_of out) 0 out.allocs → (Writes : ℕ → VirtualRegister → ℕ → Type 0)
         → ((v : VirtualRegister) → Made f v → (n : ℕ) → slots_at last v.number ≡ Some (InSlot n) → All (λ e. e.1.to ≡ InSlot n → Writes e.0 v n) last.edits)
         → ((j k : ℕ) → j < length f.insts → k < length (inst_at f j).operands → HasGood env last.slots f out.allocs j k)
         → ((b i : ℕ) → b < length f.blocks → (block_at f b).range.first ≤ i → i < last_of (block_at f b) → WritesSound f (allocs_of out) Writes i)
-        → BranchCarries f (allocs_of out) (slots_at last) → IsWrittenFirst f → Rising out.edits → ((b : ℕ) → b < length f.blocks → EndsQuiet f out b) → ReadsAgreeOnPaths f out
-    paths_agree edits are_listed Writes allowed good sound carries written rising quiet =
-        blocks_agree f ok.defined_once ok.follow ok.end ok.uses_defined all_orderly all_avoid all_known branch out last blank begin some_block empty fit walks edits are_listed
+        → BranchCarries f (allocs_of out) (slots_at last) → (b : ℕ) → BlockCarries f (λ u. slots_at last u.number) b (block_walked f out b)
+    blocks_carry edits are_listed Writes allowed good sound carries =
+        all_blocks_carry f ok.defined_once ok.follow ok.end ok.uses_defined all_orderly all_avoid all_known branch out last blank begin some_block empty fit walks edits are_listed
         (keeps_slots env (Made f) f all_orderly all_avoid all_known branch ok.follow ok.end (allocs_of out) last Writes at_walks_end.whole allowed out.allocs are_listed good sound)
-        carries blocks_agree_by_points (well_formed_are_sound env f ok) written rising quiet
+        carries
+
+    -- who is used in a block that doesn't write it has a slot at the walk's end
+    pub used_slots : (v : VirtualRegister) → UsedSomewhere f v → slot_in last v.number ≢ NoPlace
+    used_slots v u =
+        used_has_slot f ok.defined_once ok.follow ok.end ok.uses_defined all_orderly all_avoid all_known branch blank begin (begin_between f begin empty fit) u.block u.within v u.unwritten u.used
+        0 out.allocs last walks (omega arith)

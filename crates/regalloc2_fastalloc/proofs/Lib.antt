@@ -18,6 +18,7 @@ pub mod Clobbered
 pub mod Closing
 pub mod Constraining
 pub mod Defining
+pub mod Dwelling
 pub mod Emptying
 pub mod Ending
 pub mod Ends

@@ -39,7 +39,7 @@ same_slot m n e = cc
 
 module _ (f : FunctionValue) (env : MachineValue) (Known : VirtualRegister → Type 0) (May : ℕ → Type 0) (t : Tables) (o : OutputValue) (m : IsMade f env Known May t o) (owned : AreOwned t.slots) (tame : (i : ℕ) → i < length f.insts → IsTame Known (inst_at f i).operands) where
   -- who stands in a slot is known, and it is its own
-  owner_known : (v : VirtualRegister) (n : ℕ) → StandsInSlot f o v n → Known v × (slot_name t.slots v.number ≡ InSlot n)
+  pub owner_known : (v : VirtualRegister) (n : ℕ) → StandsInSlot f o v n → Known v × (slot_name t.slots v.number ≡ InSlot n)
   owner_known v n (i, k, d, lt, less, names, is) =
       let x : OperandValue = op_at (inst_at f i).operands k in
       let same : x.vreg ≡ v = ap (λ (y : OperandValue). y.vreg) (default_free (inst_at f i).operands k _ d less) ∙ names in

@@ -22,35 +22,10 @@ use Rattle.regalloc2_fastalloc.specs.Branches.SettlesArgument.{in_slot as settle
 use Rattle.regalloc2_fastalloc.proofs.Flowing.{place_in, slot_in, IsWhole, away_holds, away_stands, given, given_own, given_below, given_units}
 use Rattle.regalloc2_fastalloc.proofs.Standing.{opt, opt_some, opt_from, stands_at, slots_at, slots_grow, whole_given}
 use Rattle.regalloc2_fastalloc.proofs.Scratching.{scratch_back, Less, less_same, less_then, scratches_less, fit_same}
-use Rattle.regalloc2_fastalloc.proofs.Growing.{Grown, grown_none, grown_then, grown_slot, clears_grown}
+use Rattle.regalloc2_fastalloc.proofs.Growing.{Grown, cases_none, grown_none, grown_then, grown_slot, clears_grown}
 use Rattle.regalloc2_fastalloc.proofs.Pushes.{Pushes, none_pushed, pushes_then}
+use Rattle.regalloc2_fastalloc.proofs.Lasting.{clears_lasts}
 use Rattle.regalloc2_fastalloc.proofs.Entering.{SpareHere, IsReload, Leads, Reached, clears_reached}
-
--- nobody stops standing
-evicts_lasts : (point : ℕ) (r : Register) (old new : Tables) → Evicts point r old new → (x : ℕ) → place_in new x ≡ NoPlace → place_in old x ≡ NoPlace
-evicts_lasts point r old new (nobody none same) x h = ap (λ (t : Tables). place_in t x) (sym same) ∙ h
-evicts_lasts point r old new (moved v s lt held gives settles edits machine) x h = elim (cases_eq x v.number) [
-  | inl e ↦ absurd (gives.there (sym settles.here ∙ ap (place_in new) (sym e) ∙ h))
-  | inr ne ↦ sym (settles.others x ne) ∙ h
-]
-
-scratches_lasts : (point : ℕ) (class : RegClass) (t u : Turn) (by : Register) (old new : Tables) → Scratches point class t u by old new → (x : ℕ) → place_in new x ≡ NoPlace → place_in old x ≡ NoPlace
-scratches_lasts point class t u by old new (dedicated o eu en) x h = ap (λ (y : Tables). place_in y x) (sym en) ∙ h
-scratches_lasts point class t u by old new (had none o eu en) x h = ap (λ (y : Tables). place_in y x) (sym en) ∙ h
-scratches_lasts point class t u by old new (found none unset may early late less_e less_l set evicts) x h = evicts_lasts point by old new evicts x h
-
-crosses_lasts : (point : ℕ) (class : RegClass) (from to : Place) (t u : Turn) (old new : Tables) → Crosses point class from to t u old new → (x : ℕ) → place_in new x ≡ NoPlace → place_in old x ≡ NoPlace
-crosses_lasts point class from to t u old new (direct flat eu en) x h = ap (λ (y : Tables). place_in y x) (sym en) ∙ h
-crosses_lasts point class from to t u old new (through by m stack scratches en) x h = scratches_lasts point class t u by old m scratches x (ap (λ (y : Tables). place_in y x) (sym en) ∙ h)
-
-pub clears_lasts : (point : ℕ) (r : Register) (t u : Turn) (old new : Tables) → Clears point r t u old new → (x : ℕ) → place_in new x ≡ NoPlace → place_in old x ≡ NoPlace
-clears_lasts point r t u old new (empty none eu en) x h = ap (λ (y : Tables). place_in y x) (sym en) ∙ h
-clears_lasts point r t u old new (cleared v s m lt held gives settles edits machine crosses) x h =
-    let there : place_in m x ≡ NoPlace = crosses_lasts point v.class s (InRegister r) t u m new crosses x h in
-    elim (cases_eq x v.number) [
-      | inl e ↦ absurd (gives.there (sym settles.here ∙ ap (place_in m) (sym e) ∙ there))
-      | inr ne ↦ sym (settles.others x ne) ∙ there
-    ]
 
 -- what was held stays held
 pub crosses_less : (point : ℕ) (class : RegClass) (from to : Place) (t u : Turn) (old new : Tables) → Crosses point class from to t u old new → Less t u
@@ -177,7 +152,7 @@ module _ (Known : VirtualRegister → Type 0) (insts : ℕ → InstValue) (place
         record {
           slots = l.slots;
           registers = l.registers;
-          lasts = clears_lasts (before i) r t u old new c;
+          lasts = λ x none. elim (cases_none (place_in old x)) [ inl e ↦ e | inr there ↦ absurd (clears_lasts x (before i) r t u old new c there none) ];
           grown = clears_grown (λ q. q ≡ before i) (before i) refl r t u old new c;
           machine = l.machine;
           pushes = l.pushes;

@@ -1,4 +1,4 @@
--- All blocks of the walk: each carries what the law on paths wants, so reads agree on every path.
+-- All blocks of the walk: each carries what the law on paths wants.
 use Rattle.std.proofs.Common.{ℕ, ◌≡◌, ◌+◌, ◌-◌, ◌<◌, ◌≤◌, ◌⊎◌, inl, inr, List, [], length, refl, sym, ap, ◌∙◌, subst, arith}
 use Rattle.std.specs.Prelude.{Option}
 use Rattle.std.proofs.lemmas.Bool.{cases_eq}
@@ -9,12 +9,10 @@ use Rattle.regalloc2_names.specs.Point.{before}
 use Rattle.regalloc2_function.specs.FunctionValue.{FunctionValue, BlockValue, block_at, inst_at, no_block}
 use Rattle.regalloc2_function.specs.WellFormed.{BlocksFollow, BlocksEnd, DefinedOnce, UsesAreDefined}
 use Rattle.regalloc2_function.specs.OutputValue.{OutputValue, allocs_of}
-use Rattle.regalloc2_function.specs.SourceRun.{IsWrittenFirst}
 use Rattle.regalloc2_flow.specs.Carry.{Carries}
-use Rattle.regalloc2_flow.specs.Walked.{at_point, walked, block_walked, listed, Rising, EndsQuiet}
+use Rattle.regalloc2_flow.specs.Walked.{at_point, walked, block_walked, listed}
 use Rattle.regalloc2_flow.specs.Instruction.{Knows}
-use Rattle.regalloc2_flow.specs.Laws.{ReadsAgreeOnPaths}
-use Rattle.regalloc2_flow.specs.Blocks.{IsUsed, IsExcused, IsSound, ExcusedAreSilent, StandsBefore, StandsAfter, BlockCarries, BlocksAgreeByPoints}
+use Rattle.regalloc2_flow.specs.Blocks.{IsUsed, IsExcused, ExcusedAreSilent, StandsBefore, StandsAfter, BlockCarries}
 use Rattle.regalloc2_flow.proofs.Carrying.{carries_nil}
 use Rattle.regalloc2_flow.proofs.Walking.{walked-none}
 use Rattle.regalloc2_flow.proofs.Defined.{Made}
@@ -95,12 +93,12 @@ module _ (f : FunctionValue) (once : DefinedOnce f) (follow : BlocksFollow f) (e
       (all_carry f once follow ends uses orderly avoids knows kept (allocs_of out) last whole keeps branches blank begin start (record { nowhere = empty.nowhere; nobody = empty.nobody }) 0 out.allocs last walks 0 (first_edge f follow some) are_listed
       (grown_none (IsBelow 0) last last refl) b (omega arith) lb)
 
-  -- so reads agree on every path
-  pub blocks_agree : BlocksAgreeByPoints → IsSound f → IsWrittenFirst f → Rising out.edits → ((b : ℕ) → b < length f.blocks → EndsQuiet f out b) → ReadsAgreeOnPaths f out
-  blocks_agree law sound written rising quiet = law f out (λ u. slots_at last u.number) sound written rising quiet (λ b reached. elim (cases_lt b (length f.blocks)) [
+  -- and so does each number past the blocks
+  pub all_blocks_carry : (b : ℕ) → BlockCarries f (λ u. slots_at last u.number) b (block_walked f out b)
+  all_blocks_carry b = elim (cases_lt b (length f.blocks)) [
     | inl lt ↦ each_carries b lt
     | inr le ↦ past_carries f out (λ u. slots_at last u.number) b le
-  ])
+  ]
     where
       cases_lt : (m n : ℕ) → (m < n) ⊎ (n ≤ m)
       cases_lt m n = grind (arith)

@@ -11,6 +11,7 @@ ghost use Rattle.regalloc2_function.specs.Fitting.{MachineFits, PlacesAreProper}
 ghost use Rattle.regalloc2_function.specs.Slots.{SlotsHaveOwners};
 ghost use Rattle.regalloc2_fastalloc.specs.Constraints.{BranchDefinesNothing};
 ghost use Rattle.regalloc2_fastalloc.specs.Lack.{LacksOnly};
+ghost use Rattle.regalloc2_fastalloc.specs.Promise.{LiveInSlots};
 ghost use Rattle.regalloc2_fastalloc.specs.Reason.{SlotsAreFew, units_needed};
 ghost use Rattle.regalloc2_fastalloc.specs.Profile.{AreTaken};
 
@@ -38,6 +39,7 @@ pub fn allocate<A: Allocator + Copy, F: Function, B: Allocator>(
     ensures no_stack_to_stack { IfOk result (λ out. HasNoStackToStack (machine_of env.now) (output_of out)) }
     ensures listed { IfOk result (λ out. EditsAreListed (F.function f.now) (output_of out)) }
     ensures faithful { IfOk result (λ out. IsWrittenFirst (F.function f.now) → IsFaithful (F.function f.now) (machine_of env.now) (output_of out)) }
+    ensures live { IfOk result (λ out. IsWrittenFirst (F.function f.now) → LiveInSlots (F.function f.now) (output_of out)) }
     ensures slots { IfOk result (λ out. SlotsAreFew (F.function f.now) (output_of out)) }
     ensures owners { IfOk result (λ out. SlotsHaveOwners (F.function f.now) (output_of out)) }
     ensures err { IfErr result (LacksOnly (2 ^ 24 < units_needed (F.function f.now))) }

@@ -13,7 +13,7 @@ ghost use Rattle.regalloc2_function.specs.SourceRun.{IsWrittenFirst};
 ghost use Rattle.regalloc2_function.specs.WellFormed.{IsWellFormed};
 ghost use Rattle.regalloc2_function.specs.Fitting.{MachineFits, PlacesAreProper};
 ghost use Rattle.regalloc2_function.specs.Slots.{SlotsHaveOwners};
-ghost use Rattle.regalloc2_fastalloc.specs.Promise.{RunsAsTheFunction};
+ghost use Rattle.regalloc2_fastalloc.specs.Promise.{LiveInSlots, RunsAsTheFunction};
 ghost use Rattle.regalloc2_fastalloc.specs.Reason.{IsReason, PassesAll, SlotsAreFew};
 
 use regalloc2_function::{Function, MachineEnv, Output, count_operands, reads_the_same_numbers};
@@ -89,7 +89,8 @@ impl<A: Allocator + Copy> Ctx<A> {
 /// each virtual register has one slot at most.
 ///
 /// If no path from the entry reads a virtual register before writing it, the output runs as the function does: along every
-/// path, and whatever the instructions mean, each use reads the function's own value. That premise isn't tested here.
+/// path, and whatever the instructions mean, each use reads the function's own value. And where a path comes to a block, the
+/// slot of each virtual register that is live there holds its value. That premise isn't tested here.
 ///
 /// Refused are, in this order: 2^32 operands or more, by `TooManyOperands`; where `options.validate_ssa` is true, first blocks
 /// and edges that aren't sound, as `CFGInfo::init` says, then an entry, terminators, arguments, definitions or uses that
@@ -121,6 +122,7 @@ pub fn run<A: Allocator + Copy, F: Function, B: Allocator>(
     ensures no_stack_to_stack { IfOk result (λ out. HasNoStackToStack (machine_of env.now) (output_of out)) }
     ensures listed { IfOk result (λ out. EditsAreListed (F.function f.now) (output_of out)) }
     ensures faithful { IfOk result (λ out. IsWrittenFirst (F.function f.now) → RunsAsTheFunction (F.function f.now) (machine_of env.now) (output_of out)) }
+    ensures live { IfOk result (λ out. IsWrittenFirst (F.function f.now) → LiveInSlots (F.function f.now) (output_of out)) }
     ensures slots { IfOk result (λ out. SlotsAreFew (F.function f.now) (output_of out)) }
     ensures owners { IfOk result (λ out. SlotsHaveOwners (F.function f.now) (output_of out)) }
     ensures tested { OnOk result (IsWellFormed (machine_of env.now) (F.function f.now)) }
@@ -160,6 +162,7 @@ pub fn run_into_ctx<A: Allocator + Copy, F: Function, B: Allocator>(
     ensures no_stack_to_stack { OnOk result (HasNoStackToStack (machine_of env.now) (output_of ctx.new.output)) }
     ensures listed { OnOk result (EditsAreListed (F.function f.now) (output_of ctx.new.output)) }
     ensures faithful { OnOk result (IsWrittenFirst (F.function f.now) → RunsAsTheFunction (F.function f.now) (machine_of env.now) (output_of ctx.new.output)) }
+    ensures live { OnOk result (IsWrittenFirst (F.function f.now) → LiveInSlots (F.function f.now) (output_of ctx.new.output)) }
     ensures slots { OnOk result (SlotsAreFew (F.function f.now) (output_of ctx.new.output)) }
     ensures owners { OnOk result (SlotsHaveOwners (F.function f.now) (output_of ctx.new.output)) }
     ensures tested { OnOk result (IsWellFormed (machine_of env.now) (F.function f.now)) }
@@ -190,6 +193,7 @@ pub fn run_with_ctx<'c, A: Allocator + Copy, F: Function, B: Allocator>(
     ensures no_stack_to_stack { IfOk result (λ out. HasNoStackToStack (machine_of env.now) (output_of out.now)) }
     ensures listed { IfOk result (λ out. EditsAreListed (F.function f.now) (output_of out.now)) }
     ensures faithful { IfOk result (λ out. IsWrittenFirst (F.function f.now) → RunsAsTheFunction (F.function f.now) (machine_of env.now) (output_of out.now)) }
+    ensures live { IfOk result (λ out. IsWrittenFirst (F.function f.now) → LiveInSlots (F.function f.now) (output_of out.now)) }
     ensures slots { IfOk result (λ out. SlotsAreFew (F.function f.now) (output_of out.now)) }
     ensures owners { IfOk result (λ out. SlotsHaveOwners (F.function f.now) (output_of out.now)) }
     ensures tested { OnOk result (IsWellFormed (machine_of env.now) (F.function f.now)) }

@@ -30,3 +30,4 @@ pub mod Order
 pub mod Splitting
 pub mod Silent
 pub mod Keeping
+pub mod Living

@@ -16,6 +16,8 @@ use Rattle.regalloc2_function.specs.Faithful.{ReadsAgree}
 use Rattle.regalloc2_function.specs.Held.{IsReached}
 use Rattle.regalloc2_flow.specs.Listing.{op_at, no_operand, items_by, items_from, block_items, IsReadIn}
 use Rattle.regalloc2_flow.specs.Carry.{CarriesFrom, Carries, Undefined}
+use Rattle.regalloc2_flow.specs.Walked.{block_walked, Rising, EndsQuiet}
+use Rattle.regalloc2_flow.specs.Live.{HasEntered, HoldsValue}
 use Rattle.regalloc2_flow.specs.Blocks.{names, HasEdge, target_at, IsSound, IsUnwritten, IsUsed, IsUsedIn, IsWantedBehind, IsExcused, ExcusedAreSilent, StandsBefore, StandsAfter, BlockCarries, BlocksAgree, BlocksAgreeByPoints}
 use Rattle.regalloc2_flow.proofs.Runs.{after_defs-other}
 use Rattle.regalloc2_flow.proofs.Passing.{passed-other, passed-passes, passes_some, passes_contains}
@@ -23,8 +25,8 @@ use Rattle.regalloc2_flow.proofs.Onwards.{onwards, onwards-block, onwards-inst, 
 use Rattle.regalloc2_flow.proofs.Points.{block_items-walked}
 use Rattle.regalloc2_flow.proofs.Steps.{left_at, Stepped, stepped, reads_agree}
 
--- on some way on from the block's beginning v is read or passed before it is written
-data Live (f : FunctionValue) (v : VirtualRegister) : ℕ → Type 0 where
+-- block by block: on some way on from the block's beginning v is read or passed, and no block up to there writes it
+pub data Live (f : FunctionValue) (v : VirtualRegister) : ℕ → Type 0 where
   read : {b : ℕ} → IsUnwritten f b v → IsReadIn f b v → Live f v b
   passed_on : {b : ℕ} → IsUnwritten f b v → (k : ℕ) → HasEdge f b k → Contains (arguments_at f b k) v → Live f v b
   onward : {b : ℕ} → IsUnwritten f b v → (k : ℕ) → HasEdge f b k → names v (block_at f (target_at f b k)).params ≡ false → Live f v (target_at f b k) → Live f v b
@@ -35,13 +37,13 @@ live_used f v b (passed_on u k edge c) = inr (b, k, edge, c)
 live_used f v b (onward u k edge aside l) = live_used f v (target_at f b k) l
 
 -- some block of the function uses v and does not write it
-record UsedSomewhere (f : FunctionValue) (v : VirtualRegister) : Type 0 where
-  block : ℕ
-  within : block < length f.blocks
-  unwritten : IsUnwritten f block v
-  used : IsUsedIn f block v
+pub record UsedSomewhere (f : FunctionValue) (v : VirtualRegister) : Type 0 where
+  pub block : ℕ
+  pub within : block < length f.blocks
+  pub unwritten : IsUnwritten f block v
+  pub used : IsUsedIn f block v
 
-live_somewhere : (f : FunctionValue) → IsSound f → (v : VirtualRegister) (b : ℕ) → b < length f.blocks → Live f v b → UsedSomewhere f v
+pub live_somewhere : (f : FunctionValue) → IsSound f → (v : VirtualRegister) (b : ℕ) → b < length f.blocks → Live f v b → UsedSomewhere f v
 live_somewhere f ok v b lt (read u r) = record { block = b; within = lt; unwritten = u; used = inl r }
 live_somewhere f ok v b lt (passed_on u k edge c) = record { block = b; within = lt; unwritten = u; used = inr (k, edge, c) }
 live_somewhere f ok v b lt (onward u k edge aside l) = live_somewhere f ok v (target_at f b k) (ok.targets b k edge) l
@@ -86,6 +88,10 @@ through f b i ws e le lt =
 nothing : (x : Option Stamp) → x ≡ None → IsSome x → ⊥
 nothing None e h = absurd cc
 nothing (Some s) e h = absurd cc
+
+some_where : (x : Option Stamp) → (x ≡ None → ⊥) → IsSome x
+some_where None h = absurd (h refl)
+some_where (Some s) h = refl
 
 locations : (b i c j : ℕ) → b ≡ c → i ≡ j → ◌≡◌ {A = Location} (record { block = b; inst = i }) (record { block = c; inst = j })
 locations b i c j d e = rw (d, e) refl
@@ -166,7 +172,7 @@ module _ (f : FunctionValue) (ok : IsSound f) (written : IsWrittenFirst f) where
       live_written v (target_at f b k) (ToSuccessor k ∷ vs) (ok.targets b k edge) (entered_on b k vs block edge t.path t.block_is t.inst_is) l (kept_on k vs v not ∙ after)
 
   -- where the blocks of all paths are
-  block_within : (ws : List Way) → IsPath f ws → (end_of f ws).block < length f.blocks
+  pub block_within : (ws : List Way) → IsPath f ws → (end_of f ws).block < length f.blocks
   block_within [] p = ok.entry
   block_within (Onward ∷ ws) p = block_within ws p.0
   block_within (ToSuccessor k ∷ ws) p = ok.targets (end_of f ws).block k p.1.1
@@ -341,6 +347,19 @@ module _ (f : FunctionValue) (ok : IsSound f) (written : IsWrittenFirst f) where
         (λ v j lt reads early is. (s v (inl ((end_of f ws).block, reading v j lt reads is)) (λ n. read n (reading v j lt reads is))).early j lt reads early is)
         (λ v j lt reads late is. (s v (inl ((end_of f ws).block, reading v j lt reads is)) (λ n. read n (reading v j lt reads is))).late j lt reads late is)
 
+    -- where a path comes to a block, the slot of each virtual register that is live there holds what it has
+    pub holds_live : (ws : List Way) → IsPath f ws → HasEntered f ws → (v : VirtualRegister) (p : Place) → Live f v (end_of f ws).block → slot v ≡ Some p → HoldsValue f out ws p v
+    unfolding source_before cells_before
+    holds_live ws path first v p l s = (
+      some_where (source_before f ws v) (live_written v (end_of f ws).block ws (block_within ws path) (record { path = path; block_is = refl; first_is = first }) l),
+      holds ws path first l,
+    )
+      where
+        holds : (vs : List Way) → IsPath f vs → HasEntered f vs → Live f v (end_of f vs).block → cells_before f out vs p ≡ source_before f vs v
+        holds [] q e m = refl
+        holds (Onward ∷ vs) q e m = (let at = (within_block vs q.0 (rest_on vs q.0)).0 in absurd (omega (arith, at, e)))
+        holds (ToSuccessor k ∷ vs) q e m = edge_stands k vs q (rest_on vs q.0) v p m s
+
 pub blocks_agree : BlocksAgree
 blocks_agree f out slot ok written carries = agree_at f ok written out slot carries
 
@@ -353,8 +372,12 @@ reached_within f ok b (ws, p, e) = subst (λ c. c < length f.blocks) (ap (λ (l 
     within (Onward ∷ vs) q = within vs q.0
     within (ToSuccessor k ∷ vs) q = ok.targets (end_of f vs).block k q.1.1
 
-pub blocks_agree_by_points : BlocksAgreeByPoints
-blocks_agree_by_points f out slot ok written rising quiet carries =
-    blocks_agree f out slot ok written (λ b reached silent v used free.
+-- what a block's listing carries that is put together by points
+pub items_carry : (f : FunctionValue) (out : OutputValue) (slot : VirtualRegister → Option Place) → IsSound f → Rising out.edits → ((b : ℕ) → b < length f.blocks → EndsQuiet f out b) →
+    ((b : ℕ) → IsReached f (first_of f b) → BlockCarries f slot b (block_walked f out b)) → (b : ℕ) → IsReached f (first_of f b) → BlockCarries f slot b (block_items f out b)
+items_carry f out slot ok rising quiet carries b reached = λ silent v used free.
     let within : b < length f.blocks = reached_within f ok b reached in
-    subst (λ l. Carries v l (StandsBefore f slot b v) (StandsAfter f slot b v)) (sym (block_items-walked f out b rising (ok.nonempty b within) (quiet b within))) (carries b reached silent v used free))
+    subst (λ l. Carries v l (StandsBefore f slot b v) (StandsAfter f slot b v)) (sym (block_items-walked f out b rising (ok.nonempty b within) (quiet b within))) (carries b reached silent v used free)
+
+pub blocks_agree_by_points : BlocksAgreeByPoints
+blocks_agree_by_points f out slot ok written rising quiet carries = blocks_agree f out slot ok written (items_carry f out slot ok rising quiet carries)

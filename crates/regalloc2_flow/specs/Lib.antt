@@ -7,3 +7,4 @@ pub mod Blocks
 pub mod Sound
 pub mod Instruction
 pub mod Placed
+pub mod Live

@@ -5,6 +5,7 @@
 
 ghost use Rattle.regalloc2_flow.specs.Blocks.{BlocksAgree, BlocksAgreeByPoints};
 ghost use Rattle.regalloc2_flow.specs.Laws.{AgreeingReadsFindEarlier, FaithfulWhereReadsAgree, ReadsAgreeWhereNumbersDo, WellFormedReadEarlier};
+ghost use Rattle.regalloc2_flow.specs.Live.{LiveStandByPoints, LiveStandWhereBlocksCarry};
 ghost use Rattle.regalloc2_flow.specs.Sound.{WellFormedAreSound};
 ghost use Rattle.regalloc2_flow.specs.Straight.{StraightAgrees, StraightAgreesByPoints};
 
@@ -26,6 +27,13 @@ pub fn agrees_in_a_straight_block()
 pub fn agrees_where_blocks_carry()
     ensures listing { BlocksAgree }
     ensures by_points { BlocksAgreeByPoints }
+{}
+
+/// A law: under the same premises, and where the function is well-formed, on every path that comes to a block the slot of
+/// each virtual register that is live there holds its value, also those of the block's parameters.
+pub fn stands_live_where_blocks_carry()
+    ensures listing { LiveStandWhereBlocksCarry }
+    ensures by_points { LiveStandByPoints }
 {}
 
 /// A law: a well-formed function has what the law on blocks wants.

@@ -19,7 +19,7 @@ use Rattle.regalloc2_fastalloc.specs.Branches.{LendsAtMost}
 use Rattle.regalloc2_fastalloc.specs.Walks.{WalksBlocks}
 use Rattle.regalloc2_fastalloc.specs.Sound.{HasMachine}
 use Rattle.regalloc2_fastalloc.specs.Tables.{PlacesValue, SlotsValue, no_slots, units_of}
-use Rattle.regalloc2_fastalloc.proofs.Agreed.{made_blocks_agree, walk_kept_through}
+use Rattle.regalloc2_fastalloc.proofs.Agreed.{made_blocks_agree, made_in_slots, walk_kept_through}
 use Rattle.regalloc2_fastalloc.proofs.Begun.{begun_machine}
 use Rattle.regalloc2_fastalloc.proofs.Finished.{IsMade, made_in_order, made_constraints, made_proper, made_in_registers}
 use Rattle.regalloc2_fastalloc.proofs.Gathered.{tame_at}
@@ -167,14 +167,24 @@ returns-clause-no_stack_to_stack g c = made_in_registers _ _ _ _ _ _ (made g c)
 pub returns-clause-listed : goal.returns-clause-listed
 returns-clause-listed g c = made_listed_blocks _ _ _ _ _ c.requires.well_formed.follow (made g c)
 
+-- the walk, with the output's places
+walks_out : (g : Over) (c : goal.After-array_drop-state-2 g) → WalksBlocks (g.F.Function.function c.args.f.now) c.deref_mut.result.now (begun g c) 0 (out_of g c).allocs (left g c)
+walks_out g c = subst (λ (ps : List Place). WalksBlocks (g.F.Function.function c.args.f.now) c.deref_mut.result.now (begun g c) 0 ps (left g c)) (sym (places_are g c)) c.in_ok-allocate_blocks.ensures.ok
+
 pub returns-clause-faithful : goal.returns-clause-faithful
 returns-clause-faithful g c = λ written.
     let f : FunctionValue = g.F.Function.function c.args.f.now in
     let env : MachineValue = machine_of c.args.env.now in
     let m : IsMade f env (Made f) (MayInBlocks f) (left g c) (out_of g c) = made g c in
     faithful f env (out_of g c) (made_constraints f env (Made f) (MayInBlocks f) (left g c) (out_of g c) m) (made_in_registers f env (Made f) (MayInBlocks f) (left g c) (out_of g c) m)
-    (made_blocks_agree env f (g.met.F.Function.limited c.args.f.now) c.requires.well_formed c.requires.taken c.requires.branches c.deref_mut.result.now (begun g c) (left g c) (out_of g c) (blank_is g c) (fit_is g c)
-    (subst (λ (ps : List Place). WalksBlocks f c.deref_mut.result.now (begun g c) 0 ps (left g c)) (sym (places_are g c)) c.in_ok-allocate_blocks.ensures.ok) m written)
+    (made_blocks_agree env f (g.met.F.Function.limited c.args.f.now) c.requires.well_formed c.requires.taken c.requires.branches c.deref_mut.result.now (begun g c) (left g c) (out_of g c) (blank_is g c) (fit_is g c) (walks_out g c) m written)
+
+pub returns-clause-live : goal.returns-clause-live
+returns-clause-live g c =
+    let f : FunctionValue = g.F.Function.function c.args.f.now in
+    let env : MachineValue = machine_of c.args.env.now in
+    made_in_slots env f (g.met.F.Function.limited c.args.f.now) c.requires.well_formed c.requires.taken c.requires.branches c.deref_mut.result.now (begun g c) (left g c) (out_of g c) (blank_is g c) (fit_is g c) (walks_out g c) (made g c)
+    c.count.ensures.owned (tame_at env f (g.met.F.Function.limited c.args.f.now) c.requires.well_formed c.requires.taken)
 
 pub returns-clause-owners : goal.returns-clause-owners
 returns-clause-owners g c =
