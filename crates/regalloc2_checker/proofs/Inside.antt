@@ -27,6 +27,3 @@ nonempty f h b l = (h.follow b l).0
 -- an item of a list, as it was read
 pub index_is : (xs ys : List ℕ) (k t : ℕ) → k < length ys → t ≡ get_or ys k t → ys ≡ xs → t ≡ slice_index xs k
 index_is xs ys k t l is e = rw e at (is ∙ get_or_default_zero ys k t l)
-
-pub successor_below : (f : FunctionValue) → IsFramed f → (b k t : ℕ) → b < length f.blocks → k < length (block_at f b).succs → t ≡ slice_index (block_at f b).succs k → t < length f.blocks
-successor_below f h b k t lb lk e = rw e (h.successors.1 b lb k 0 lk)

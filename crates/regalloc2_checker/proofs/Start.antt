@@ -34,13 +34,6 @@ longer : (t : List BlockView) (x : BlockView) → length (t ++ (x ∷ [])) ≡ l
 longer [] x = refl
 longer (y ∷ t) x = (let e = longer t x in omega arith)
 
-pub start_none : (entry : ℕ) (t : List BlockView) → t ≡ [] → IsStart entry t 0
-start_none entry t e = record {
-  size = ap (λ (s : List BlockView). length s) e;
-  marks = λ b less. absurd (omega arith);
-  nothing = λ b less. absurd (omega arith);
-}
-
 pub start_more : (entry : ℕ) (t s : List BlockView) (n : ℕ) (x : BlockView) → IsStart entry t n → s ≡ t ++ (x ∷ []) → x.reached ≡ nat_eq n entry → ((k : ℕ) → x.numbers k ≡ None) → IsStart entry s (n + 1)
 start_more entry t s n x h e m none = record {
   size = ap (λ (u : List BlockView). length u) e ∙ longer t x ∙ ap (λ (k : ℕ). k + 1) h.size;

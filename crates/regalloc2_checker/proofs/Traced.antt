@@ -1,5 +1,5 @@
 -- Each item of a listing decides a fact by one before it, or by none.
-use Rattle.std.proofs.Common.{ℕ, ◌≡◌, ◌+◌, Bool, true, false, cond, List, [], ◌∷◌, refl, sym, ap, ◌∙◌}
+use Rattle.std.proofs.Common.{ℕ, ◌≡◌, ◌+◌, Bool, true, false, cond, List, [], ◌∷◌, refl, sym, ◌∙◌}
 use Rattle.std.specs.Prelude.{◌&&◌, not}
 use Rattle.regalloc2_names.specs.declared.OperandPos.{OperandPos}
 use Rattle.regalloc2_names.specs.declared.OperandPos.TheVariants.{Early, Late}
@@ -35,10 +35,6 @@ traced-then t s h g = record { origin = λ p v. back h.origin (g.origin p v); de
 judged-cond : (b : Bool) (x y : Origin) (F : Facts) → cond b (judged x F) (judged y F) ≡ judged (cond b x y) F
 judged-cond true x y F = refl
 judged-cond false x y F = refl
-
--- the same change, written otherwise
-pub traced-as : (t s : Facts → Facts) → IsTraced t → ((F : Facts) (p : Place) (v : VirtualRegister) → s F p v ≡ t F p v) → IsTraced s
-traced-as t s h e = record { origin = h.origin; decides = λ F p v. e F p v ∙ h.decides F p v }
 
 -- a choice between changes that the facts do not decide
 pub traced-choice : (b : Bool) (t s : Facts → Facts) → IsTraced t → IsTraced s → IsTraced (λ F. cond b (t F) (s F))
@@ -147,18 +143,6 @@ judged-fewer (Held q u) F G e h = e q u h
 -- fewer facts before, fewer facts after
 pub change-fewer : (t : Facts → Facts) → IsTraced t → (F G : Facts) → ((p : Place) (v : VirtualRegister) → F p v ≡ true → G p v ≡ true) → (p : Place) (v : VirtualRegister) → t F p v ≡ true → t G p v ≡ true
 change-fewer t h F G e p v y = h.decides G p v ∙ judged-fewer (h.origin p v) F G e (sym (h.decides F p v) ∙ y)
-
-and-same : (b : Bool) → b ≡ (b && b)
-and-same true = refl
-and-same false = refl
-
-judged-both : (x : Origin) (F G : Facts) → judged x (λ p v. F p v && G p v) ≡ (judged x F && judged x G)
-judged-both (Told b) F G = and-same b
-judged-both (Held q u) F G = refl
-
--- a change of what two sets share is what the two changes share
-pub change-both : (t : Facts → Facts) → IsTraced t → (F G : Facts) (p : Place) (v : VirtualRegister) → t (λ q u. F q u && G q u) p v ≡ (t F p v && t G p v)
-change-both t h F G p v = h.decides _ p v ∙ judged-both (h.origin p v) F G ∙ ap (λ b. b && judged (h.origin p v) G) (sym (h.decides F p v)) ∙ ap (λ b. t F p v && b) (sym (h.decides G p v))
 
 pub facts_are_traced : FactsAreTraced
 facts_are_traced = record {

@@ -7,7 +7,7 @@ use Rattle.regalloc2_function.specs.FunctionValue.{FunctionValue}
 use Rattle.regalloc2_function.specs.OutputValue.{OutputValue}
 use Rattle.regalloc2_checker.specs.declared.settle.BlockValues.{BlockValues}
 use Rattle.regalloc2_checker.specs.Numbers.{Numbers, numbers_of}
-use Rattle.regalloc2_checker.specs.Meeting.{agree, IsWithin, IsCommon, Differ}
+use Rattle.regalloc2_checker.specs.Meeting.{agree, IsCommon, Differ}
 use Rattle.regalloc2_checker.specs.Tables.{BlockView, view_of, views, no_view, view_at, weight, agreeing, all_pairs, keys_end, IsMet, IsSound, IsSolved}
 use Rattle.regalloc2_checker.proofs.Counting.{fewer_agree, at_most_all}
 
@@ -89,13 +89,6 @@ met-less t i passed kept less m c d =
       falls = λ h. falls t i x less (let w = weight-reached (view_at t i) m in let l = meets_less kept (view_at t i).numbers passed c d in omega arith);
     }
 
-met-same : (t : List BlockView) (i : ℕ) (passed : Numbers) → (view_at t i).reached ≡ true → IsWithin (view_at t i).numbers passed → IsMet t t i passed false
-met-same t i passed m w = record {
-  same = λ h. (refl, m, w);
-  updated = λ h. absurd cc;
-  falls = λ h. absurd cc;
-}
-
 -- in the program's own table
 
 module _ {A : Type 0} where
@@ -125,10 +118,6 @@ module _ {A : Type 0} where
       let v = sym (numbers-is t i y less e) in
       subst (λ (s : List BlockView). IsMet (views t) s i passed true) (sym (views-set t i x kept r p))
       (met-less (views t) i passed kept (omega arith) (reached-is t i y true less e m) (subst (λ (z : Numbers). IsCommon kept z passed) v c) (subst (λ (z : Numbers). Differ z passed) v d))
-
-  pub update-same : (t : List (BlockValues A)) (i : ℕ) (y : BlockValues A) (passed : Numbers) → i < length t → y ≡ get_or t i y → y.reached ≡ true → IsWithin (numbers_of y.values) passed → IsMet (views t) (views t) i passed false
-  update-same t i y passed less e m w =
-      met-same (views t) i passed (reached-is t i y true less e m) (subst (λ (z : Numbers). IsWithin z passed) (sym (numbers-is t i y less e)) w)
 
   get_or-any : (t : List (BlockValues A)) (i : ℕ) (x y : BlockValues A) → i < length t → get_or t i x ≡ get_or t i y
   get_or-any [] i x y less = absurd (omega arith)

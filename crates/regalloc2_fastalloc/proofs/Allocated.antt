@@ -42,9 +42,6 @@ clears_all_kept env apart Known Writes May point can rs t u old new (one_more r 
     let p = clears_kept env apart Known Writes May point can r t y old m clears h ht in
     kept_both env Known Writes May old m new y u p (clears_all_kept env apart Known Writes May point can rest y u m new more p.safe p.turn)
 
-not_same : (q p : Place) → p ≢ NoPlace → q ≢ NoPlace → q ≢ NoPlace
-not_same q p a b = b
-
 -- the moves of the uses
 pub moves_kept : (env : MachineValue) (apart : IsApart env) (Known : VirtualRegister → Type 0) (Writes : ℕ → VirtualRegister → ℕ → Type 0) (May : ℕ → Type 0) (point : ℕ) → May point → (ops : List OperandValue) → IsTame Known ops → (here : List Place) (t : Turn) (old : Tables)
     → IsSafe env Known Writes May old → IsSafeTurn env t

@@ -15,14 +15,13 @@ use Rattle.regalloc2_function.specs.FunctionValue.{FunctionValue, block_at}
 use Rattle.regalloc2_function.specs.SourceRun.{arguments_at}
 use Rattle.regalloc2_flow.specs.Blocks.{HasEdge, target_at}
 use Rattle.regalloc2_parts.specs.AtOnce.{Ends, ends_of, HasOneSourceEach}
-use Rattle.regalloc2_function.specs.OutputValue.{MoveValue}
 use Rattle.regalloc2_fastalloc.specs.declared.turn.Turn.{Turn}
 use Rattle.regalloc2_fastalloc.specs.Tables.{PlacesValue, SlotsValue, AreOwned, GivesSlot, IsSlotOrNone, AreUpTo, slot_name}
 use Rattle.regalloc2_fastalloc.specs.Blocks.{no_vreg}
 use Rattle.regalloc2_fastalloc.specs.Lack.{AreFullWith}
 use Rattle.regalloc2_fastalloc.specs.Lending.{Moves}
 use Rattle.regalloc2_fastalloc.specs.Steps.{Tables, SameMachine}
-use Rattle.regalloc2_fastalloc.specs.Branches.{AreBetweenSlots, AreOf, ClassMove, GathersEdge, Gathers, IsSlotBelow, LendsAtMost, Orders, Pushes, AreApart, AreKnown, ParametersDiffer, SettlesArgument, from_register, in_slot, is_class, of_class, none_gathered, one_gathered, no_edge, one_edge}
+use Rattle.regalloc2_fastalloc.specs.Branches.{AreBetweenSlots, AreOf, ClassMove, GathersEdge, Gathers, IsSlotBelow, LendsAtMost, Pushes, AreApart, AreKnown, ParametersDiffer, SettlesArgument, from_register, in_slot, is_class, of_class, none_gathered, one_gathered, no_edge, one_edge}
 use Rattle.regalloc2_fastalloc.proofs.Growing.{Grown, grown_then, grown_slot, clears_grown}
 
 -- one more move of a class
@@ -215,13 +214,6 @@ module _ (f : FunctionValue) (b : ℕ) where
 pub lends_same : (m : ℕ) (a b : Tables) → b ≡ a → LendsAtMost m a b
 lends_same m a b e = subst (LendsAtMost m a) (sym e) (record { allocatable = refl; fixed_stack = refl; dedicated = refl; sizes = refl; vregs = refl; lent = omega arith })
 
-pub ordered_lends : (turn : Turn) (class : RegClass) (given made : Moves) (a b : Tables) (es : List (ℕ × MoveValue)) → Orders turn class given made a b → LendsAtMost 2 a (record b { edits = es })
-ordered_lends turn class given made a b es o =
-    let few : o.lends.0 ≤ 2 = o.lends.1 in
-    let lends = o.lends.2 in
-    let lent : b.slots.lent ≡ a.slots.lent + o.lends.0 = lends.lent in
-    record { allocatable = o.allocatable; fixed_stack = o.fixed_stack; dedicated = o.dedicated; sizes = lends.sizes; vregs = ap length lends.of_vreg; lent = omega (arith, few, lent) }
-
 pub lends_then : (m n : ℕ) (a b c : Tables) → LendsAtMost m a b → LendsAtMost n b c → LendsAtMost (m + n) a c
 lends_then m n a b c f g = record {
   allocatable = g.allocatable ∙ f.allocatable;
@@ -234,9 +226,6 @@ lends_then m n a b c f g = record {
 
 pub lends_none : (a b : Tables) → SameMachine a b → LendsAtMost 0 a b
 lends_none a b f = record { allocatable = f.allocatable; fixed_stack = f.fixed_stack; dedicated = f.dedicated; sizes = f.sizes; vregs = f.vregs; lent = (let x = f.lent in omega (arith, x)) }
-
-pub lends_more : (m n : ℕ) (a b : Tables) → m ≤ n → LendsAtMost m a b → LendsAtMost n a b
-lends_more m n a b le f = record { allocatable = f.allocatable; fixed_stack = f.fixed_stack; dedicated = f.dedicated; sizes = f.sizes; vregs = f.vregs; lent = (let x = f.lent in omega (arith, x, le)) }
 
 -- slots that are full with some more are full with no fewer
 pub full_before : (m n k : ℕ) (a b : Tables) → LendsAtMost m a b → n ≤ b.slots.lent + k → AreFullWith b.slots n → AreFullWith a.slots (a.slots.lent + (m + k))

@@ -10,12 +10,12 @@ use Rattle.regalloc2_names.specs.RegisterSet.{has_register}
 use Rattle.regalloc2_names.specs.Place.{Place, NoPlace, InRegister, InSlot}
 use Rattle.regalloc2_function.specs.OutputValue.{MoveValue}
 use Rattle.regalloc2_function.specs.AllocatedRun.{Cells, after_moves}
-use Rattle.regalloc2_flow.specs.Walked.{AllFrom, at_point, listed}
+use Rattle.regalloc2_flow.specs.Walked.{at_point, listed}
 use Rattle.regalloc2_fastalloc.specs.declared.turn.Turn.{Turn}
 use Rattle.regalloc2_fastalloc.specs.Lending.{Moves, pushed}
 use Rattle.regalloc2_fastalloc.specs.Steps.{Tables}
 use Rattle.regalloc2_fastalloc.specs.Branches.{IsSpare, Orders, Pushes, ClassMove, of_class}
-use Rattle.regalloc2_fastalloc.proofs.Passing.{moves_of, at_pushed, other_pushed, later_pushed, after_append, came_from, AreThereEnds, after_made, came_own}
+use Rattle.regalloc2_fastalloc.proofs.Passing.{moves_of, at_pushed, other_pushed, after_append, came_from, AreThereEnds, after_made, came_own}
 
 -- a slot, if it is one, lies below a count
 abbrev pub IsLow : ℕ → Place → Type 0
@@ -114,12 +114,6 @@ module _ (point : ℕ) (turn : Turn) (given : List ClassMove) (g ints floats new
       ∙ ap (λ es. at_point (listed es) q) float.edits ∙ other_pushed point q float.made ints.edits ne
       ∙ ap (λ es. at_point (listed es) q) int.edits ∙ other_pushed point q int.made g.edits ne
 
-  pub all_later : (n : ℕ) → n ≤ point → AllFrom n (listed g.edits) → AllFrom n (listed new.edits)
-  all_later n le h =
-      subst (λ es. AllFrom n (listed es)) (sym vector.edits) (later_pushed n point vector.made floats.edits le
-      (subst (λ es. AllFrom n (listed es)) (sym float.edits) (later_pushed n point float.made ints.edits le
-      (subst (λ es. AllFrom n (listed es)) (sym int.edits) (later_pushed n point int.made g.edits le h)))))
-
   -- no move of any class goes to the place
   abbrev pub IsNeverTarget : Place → Type 0
   IsNeverTarget q = (class : RegClass) → IsNoTarget (of_class class given) q
@@ -189,18 +183,6 @@ module _ (point : ℕ) (turn : Turn) (given : List ClassMove) (g ints floats new
 
   pub all_slots : new.slots.of_vreg ≡ g.slots.of_vreg
   all_slots = vector.of_vreg ∙ float.of_vreg ∙ int.of_vreg
-
-  pub all_sizes : new.slots.sizes ≡ g.slots.sizes
-  all_sizes = vector.sizes ∙ float.sizes ∙ int.sizes
-
-  pub all_allocatable : new.allocatable ≡ g.allocatable
-  all_allocatable = vector.allocatable ∙ float.allocatable ∙ int.allocatable
-
-  pub all_fixed_stack : new.fixed_stack ≡ g.fixed_stack
-  all_fixed_stack = vector.fixed_stack ∙ float.fixed_stack ∙ int.fixed_stack
-
-  pub all_dedicated : new.dedicated ≡ g.dedicated
-  all_dedicated = vector.dedicated ∙ float.dedicated ∙ int.dedicated
 
   pub all_grow : g.slots.count ≤ new.slots.count
   all_grow =

@@ -31,9 +31,6 @@ pub record IsOutside (t : Tables) : Type 0 where
   pub no_register : (n : ℕ) (r : Register) → stood t.places n ≡ InRegister r → ⊥
   pub nobody : (r : Register) → r.number < 64 → holder t.places r ≡ None
 
-pub empty_outside : (t : Tables) → IsEmpty t → IsOutside t
-empty_outside t e = record { no_register = λ n r h. (let x : NoPlace ≡ InRegister r = sym (e.nowhere n) ∙ h in cc); nobody = e.nobody }
-
 -- two operands hold their registers at one time
 abbrev pub Overlap : Positions → Positions → Type 0
 Overlap p q = ((p.early && q.early) || (p.late && q.late)) ≡ true

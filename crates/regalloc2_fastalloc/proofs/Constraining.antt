@@ -5,27 +5,17 @@ use Rattle.std.proofs.lemmas.Bool.{cases_eq}
 use Rattle.std.proofs.lemmas.List.{get_or-set_other}
 use Rattle.regalloc2_names.specs.declared.OperandConstraint.{OperandConstraint}
 use Rattle.regalloc2_names.specs.declared.OperandConstraint.TheVariants.{Reuse}
-use Rattle.regalloc2_names.specs.declared.OperandKind.TheVariants.{Def}
-use Rattle.regalloc2_names.specs.declared.OperandPos.TheVariants.{Late}
 use Rattle.regalloc2_names.specs.declared.sets.PRegSet.{PRegSet}
 use Rattle.regalloc2_names.specs.Operand.{OperandValue}
 use Rattle.regalloc2_function.specs.FunctionValue.{InstValue}
 use Rattle.regalloc2_function.specs.Machine.{MachineValue}
-use Rattle.regalloc2_function.specs.WellFormed.{MayBeReused, ReusesAreSound, FixedAvoidClobbers}
+use Rattle.regalloc2_function.specs.WellFormed.{MayBeReused, ReusesAreSound}
 use Rattle.regalloc2_fastalloc.specs.Steps.{op_at, no_operand}
 use Rattle.regalloc2_fastalloc.specs.Constraints.{IsReused, IsTarget, IsSoundReuse, AreApart, AvoidsClobbers, IsClear}
 use Rattle.regalloc2_fastalloc.proofs.Setting.{default_free}
 
 same_index : (m n : ℕ) (c : OperandConstraint) → c ≡ Reuse m → c ≡ Reuse n → m ≡ n
 same_index m n c a b = let e : Reuse m ≡ Reuse n = sym a ∙ b in cc
-
--- a reuse of a known index
-pub sound_by : (env : MachineValue) (ops : List OperandValue) (o : OperandValue) (n : ℕ) (b : Bool) → o.constraint ≡ Reuse n
-    → (IsTrue b ↔ ((o.kind ≡ Def) × (o.position ≡ Late) × (n < length ops) × IsTarget env o.vreg.class (op_at ops n))) → IsTrue b ↔ IsSoundReuse env ops o
-sound_by env ops o n b is h = (
-  λ t m e. let same : m ≡ n = same_index m n o.constraint e is in subst (λ k. (o.kind ≡ Def) × (o.position ≡ Late) × (k < length ops) × IsTarget env o.vreg.class (op_at ops k)) (sym same) (h.0 t),
-  λ s. h.1 (s n is),
-)
 
 -- the first k operands name these
 pub AreNamed : List OperandValue → ℕ → List Bool → Type 0
@@ -120,22 +110,6 @@ sound_reuses env i s k lt n is =
 
 pub apart_reuses : (env : MachineValue) (i : InstValue) → ReusesAreSound env i → AreApart i.operands (length i.operands)
 apart_reuses env i s j k n lj lk a b = s.apart j k n no_operand no_operand lj lk a b
-
-pub clear_all : (i : InstValue) → ((k : ℕ) → k < length i.operands → IsClear i.clobbers i.operands k) → FixedAvoidClobbers i
-clear_all i each k d lt r is why =
-    let same = default_free i.operands k no_operand d lt in
-    each k lt r (ap (λ (o : OperandValue). o.constraint) same ∙ is) (elim why [
-      | inl a ↦ inl (ap (λ (o : OperandValue). o.kind) same ∙ a)
-      | inr (inl a) ↦ inr (inl (ap (λ (o : OperandValue). o.position) same ∙ a))
-      | inr (inr a) ↦ inr (inr (a.0, a.2, ap (λ (o : OperandValue). o.constraint) (default_free i.operands a.0 no_operand a.1 a.2) ∙ a.3))
-    ])
-
-pub all_clear : (i : InstValue) → FixedAvoidClobbers i → (k : ℕ) → k < length i.operands → IsClear i.clobbers i.operands k
-all_clear i h k lt r is why = h k no_operand lt r is (elim why [
-  | inl a ↦ inl a
-  | inr (inl a) ↦ inr (inl a)
-  | inr (inr a) ↦ inr (inr (a.0, no_operand, a.1, a.2))
-])
 
 -- by the test whether the operand is reused
 pub clear_by : (clobbers : PRegSet) (ops : List OperandValue) (k : ℕ) (b : Bool) → (IsTrue b → IsReused ops k) → (IsReused ops k → IsTrue b) → AvoidsClobbers clobbers (op_at ops k) b ↔ IsClear clobbers ops k

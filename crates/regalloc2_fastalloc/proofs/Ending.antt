@@ -1,14 +1,14 @@
 -- A branch at the end of its block, with its own moves: what it carries, and the slots that it leaves alone.
 use Rattle.std.proofs.Common.{ℕ, ◌≡◌, ◌+◌, ◌<◌, ◌≤◌, ◌⊎◌, inl, inr, Bool, true, false, List, ◌++◌, length, refl, sym, ap, ◌∙◌, subst, arith}
 use Rattle.std.specs.Prelude.{Option, None, Some, ◌||◌, slice_index_or}
-use Rattle.regalloc2_names.specs.Register.{Register, VirtualRegister}
+use Rattle.regalloc2_names.specs.Register.{VirtualRegister}
 use Rattle.regalloc2_names.specs.Place.{Place, NoPlace, InRegister, InSlot}
 use Rattle.regalloc2_names.specs.Point.{before, after}
 use Rattle.regalloc2_function.specs.FunctionValue.{FunctionValue, inst_at}
 use Rattle.regalloc2_function.specs.OutputValue.{place_at}
 use Rattle.regalloc2_function.specs.SourceRun.{is_def, is_reading}
 use Rattle.regalloc2_flow.specs.Listing.{Item, op_at}
-use Rattle.regalloc2_flow.specs.Carry.{Carries, Undefined}
+use Rattle.regalloc2_flow.specs.Carry.{Carries}
 use Rattle.regalloc2_flow.specs.Walked.{at_point, walked, listed}
 use Rattle.regalloc2_flow.specs.Instruction.{Knows}
 use Rattle.regalloc2_flow.proofs.Keeping.{NoMoveTo, IsReadAt, Keeps}
@@ -18,9 +18,8 @@ use Rattle.regalloc2_flow.proofs.Walking.{walked-none}
 use Rattle.regalloc2_flow.proofs.Backward.{Relied, step_carried}
 use Rattle.regalloc2_fastalloc.specs.Steps.{Tables, Allocates}
 use Rattle.regalloc2_fastalloc.specs.declared.turn.Turn.{Turn}
-use Rattle.regalloc2_fastalloc.specs.Tables.{slot_name, units_of, holder}
-use Rattle.regalloc2_fastalloc.proofs.Flowing.{place_in, slot_in, IsWhole}
-use Rattle.regalloc2_fastalloc.proofs.Calm.{IsOutside}
+use Rattle.regalloc2_fastalloc.specs.Tables.{slot_name, units_of}
+use Rattle.regalloc2_fastalloc.proofs.Flowing.{slot_in, IsWhole}
 use Rattle.regalloc2_fastalloc.proofs.Standing.{opt, opt_from, opt_real, opt_none, stands_at, slots_at, no_register_slot, slot_below}
 use Rattle.regalloc2_fastalloc.proofs.Laying.{Orderly}
 use Rattle.regalloc2_fastalloc.proofs.Opening.{AvoidClobbers}
@@ -43,29 +42,6 @@ pub slot_there : (t : Tables) → IsWhole t → (x : ℕ) (p : Place) → slots_
 slot_there t w x NoPlace at = absurd (opt_real (slot_in t x) NoPlace at refl)
 slot_there t w x (InRegister r) at = absurd (no_register_slot t.slots.count (slot_in t x) r (w.below x) (opt_from (slot_in t x) (InRegister r) at))
 slot_there t w x (InSlot n) at = (n, refl, slot_below t.slots.count (slot_in t x) n (w.below x) (opt_from (slot_in t x) (InSlot n) at))
-
--- at the end of the walk
-pub to_come-end : (t : Tables) → IsWhole t → ToCome (slots_at t) t
-to_come-end t w = record {
-  only = λ x p at. (let s = slot_there t w x p at in (s.0, s.1));
-  own = λ x y n m o. w.own x y n (opt_from (slot_in t x) (InSlot n) m) (opt_from (slot_in t y) (InSlot n) o);
-  stays = λ x p at. at;
-  fresh = λ x n comes none. (let z : None ≡ Some (InSlot n) = sym none ∙ comes in absurd cc);
-}
-
--- where each vreg stands in its slot or nowhere, no register is in use
-pub settled_outside : (t : Tables) → IsWhole t → ((x : ℕ) → (place_in t x ≡ NoPlace) ⊎ ((k : ℕ) × (place_in t x ≡ InSlot k) × (slot_in t x ≡ InSlot k))) → IsOutside t
-settled_outside t w settled = record { no_register = none; nobody = λ r lt. by_holder r lt (holder t.places r) refl }
-  where
-    none : (x : ℕ) (r : Register) → place_in t x ≡ InRegister r → ⊥
-    none x r at = elim (settled x) [
-      | inl nowhere ↦ (let z : NoPlace ≡ InRegister r = sym nowhere ∙ at in cc)
-      | inr k ↦ (let z : InSlot k.0 ≡ InRegister r = sym k.1 ∙ at in cc)
-    ]
-
-    by_holder : (r : Register) → r.number < 64 → (h : Option VirtualRegister) → holder t.places r ≡ h → h ≡ None
-    by_holder r lt None is = refl
-    by_holder r lt (Some v) is = absurd (none v.number r (w.holds r v lt is))
 
 -- slots that are there stay
 pub grown_slots : (At : ℕ → Type 0) (a b : Tables) → Grown At a b → (x : ℕ) (p : Place) → slots_at a x ≡ Some p → slots_at b x ≡ Some p
@@ -97,9 +73,6 @@ module _ (Known : VirtualRegister → Type 0) (f : FunctionValue) (placesf : ℕ
     (are_listed : (k : ℕ) → k < length (inst_at f last).operands → place_at (placesf last) k ≡ slice_index_or here k NoPlace)
     (no_defs : (k : ℕ) → k < length (inst_at f last).operands → is_def (op_at (inst_at f last).operands k).kind ≡ true → ⊥)
     (between : Between (last + 1) old) (a : Allocates last (inst_at f last) blank here old middle) (u : Turn) (br : Branched Known f placesf orderly avoids knows last here u old middle) where
-  -- it writes nobody
-  pub undefined_here : (v : VirtualRegister) → Undefined (inst_at f last).operands v
-  undefined_here v j lt d e = no_defs j lt d
 
   -- whose slot an operand stands in
   pub reads_own : ToCome F middle → (v : VirtualRegister) → Known v → (n j : ℕ) → F v.number ≡ Some (InSlot n) → j < length (inst_at f last).operands → is_reading (op_at (inst_at f last).operands j) ≡ true → InSlot n ≡ slice_index_or here j NoPlace →

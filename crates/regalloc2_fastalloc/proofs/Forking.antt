@@ -1,8 +1,7 @@
 -- A branch at the end of its block: what it carries of each vreg, and where the vregs stand before it.
-use Rattle.std.proofs.Common.{ℕ, zero, suc, ◌≡◌, ◌≢◌, ◌+◌, ◌<◌, ◌≤◌, ◌⊎◌, inl, inr, Bool, true, false, List, [], ◌∷◌, ◌++◌, length, refl, sym, ap, ◌∙◌, subst, arith}
-use Rattle.std.specs.Prelude.{Option, None, Some, is_some, slice_index_or}
+use Rattle.std.proofs.Common.{ℕ, zero, suc, ◌≡◌, ◌≢◌, ◌+◌, ◌<◌, ◌≤◌, ◌⊎◌, inl, inr, Bool, true, false, List, length, refl, sym, ap, ◌∙◌, subst, arith}
+use Rattle.std.specs.Prelude.{Option, None, Some, slice_index_or}
 use Rattle.std.proofs.lemmas.Bool.{cases_Bool, cases_eq}
-use Rattle.std.proofs.lemmas.List.{append_assoc, append-nil}
 use Rattle.regalloc2_names.specs.declared.sets.PRegSet.{PRegSet}
 use Rattle.regalloc2_names.specs.declared.RegClass.{RegClass}
 use Rattle.regalloc2_names.specs.declared.RegClass.TheVariants.{Int, Float, Vector}
@@ -12,7 +11,7 @@ use Rattle.regalloc2_names.specs.Place.{Place, NoPlace, InRegister, InSlot}
 use Rattle.regalloc2_names.specs.Point.{before, after}
 use Rattle.regalloc2_function.specs.FunctionValue.{FunctionValue, block_at, inst_at}
 use Rattle.regalloc2_function.specs.OutputValue.{MoveValue, place_at}
-use Rattle.regalloc2_function.specs.SourceRun.{arguments_at, is_def, is_reading}
+use Rattle.regalloc2_function.specs.SourceRun.{arguments_at, is_def}
 use Rattle.regalloc2_function.specs.AllocatedRun.{Cells, after_moves}
 use Rattle.regalloc2_flow.specs.Listing.{Item, op_at, with_moves, writes}
 use Rattle.regalloc2_flow.specs.Carry.{Carries, Spares, Undefined, Untouched}
@@ -26,26 +25,25 @@ use Rattle.regalloc2_flow.proofs.Slots.{PassedTo, pass_arguments}
 use Rattle.regalloc2_flow.proofs.Backward.{Relied}
 use Rattle.regalloc2_fastalloc.specs.declared.turn.Turn.{Turn}
 use Rattle.regalloc2_fastalloc.specs.Tables.{PlacesValue, IsSlotOrNone, stood, holder}
-use Rattle.regalloc2_fastalloc.specs.Lending.{Moves, pushed}
 use Rattle.regalloc2_fastalloc.specs.Steps.{Tables, Allocates}
 use Rattle.regalloc2_fastalloc.specs.Branches.{of_class, PassesArguments}
 use Rattle.regalloc2_fastalloc.proofs.Flowing.{place_in, slot_in, IsWhole}
-use Rattle.regalloc2_fastalloc.proofs.Standing.{opt, opt_some, stands_at, slots_at}
+use Rattle.regalloc2_fastalloc.proofs.Standing.{opt, stands_at, slots_at}
 use Rattle.regalloc2_fastalloc.proofs.Scratching.{of_machine, Fit}
 use Rattle.regalloc2_fastalloc.proofs.Laying.{Orderly}
 use Rattle.regalloc2_fastalloc.proofs.Opening.{AvoidClobbers}
 use Rattle.regalloc2_fastalloc.proofs.Filled.{IsTame}
-use Rattle.regalloc2_fastalloc.proofs.Growing.{Grown, IsAt, allocates_grown}
+use Rattle.regalloc2_fastalloc.proofs.Growing.{IsAt, allocates_grown}
 use Rattle.regalloc2_fastalloc.proofs.Outs.{defined_by, defined_by-some}
 use Rattle.regalloc2_fastalloc.proofs.Calm.{IsOutside}
-use Rattle.regalloc2_fastalloc.proofs.Pushes.{Pushes, none_pushed, one_pushed, pushes_then, pushes_weaken, pushed_list}
+use Rattle.regalloc2_fastalloc.proofs.Pushes.{Pushes, pushes_then, pushes_weaken}
 use Rattle.regalloc2_fastalloc.proofs.Alone.{Between, Alone, alone}
 use Rattle.regalloc2_fastalloc.proofs.Going.{defined_from}
 use Rattle.regalloc2_fastalloc.proofs.Owing.{defined_from-some}
 use Rattle.regalloc2_fastalloc.proofs.Ends.{OwedOwn, owed_there}
 use Rattle.regalloc2_fastalloc.proofs.Entering.{IsReload}
 use Rattle.regalloc2_fastalloc.proofs.Passing.{walked_made}
-use Rattle.regalloc2_fastalloc.proofs.Branching.{Stepped, stepped, all_moves, all_at, all_other, all_later, all_places, all_slots, all_sizes, all_allocatable, all_fixed_stack, all_dedicated, all_grow}
+use Rattle.regalloc2_fastalloc.proofs.Branching.{Stepped, stepped, all_moves, all_at, all_other, all_places, all_slots, all_grow}
 use Rattle.regalloc2_fastalloc.proofs.Gathering.{passes_at, argument_at, params_on}
 use Rattle.regalloc2_fastalloc.proofs.Showing.{IsHeldHere, IsUseMove, Branched, branched, unmoved, none_below}
 use Rattle.regalloc2_fastalloc.proofs.Ending.{ToCome, grown_slots, to_come-back, reads_own, leaves_own, own_moves}
@@ -74,16 +72,6 @@ fit_like old new a s d f = record {
   stack_apart = λ r e. ap (λ (l : PRegSet). has_register l r) s ∙ f.stack_apart r (ap (λ (l : PRegSet). has_register l r) (sym a) ∙ e);
   own_apart = λ c q e. let x = f.own_apart c q (ap (λ l. slice_index_or l (class_code c) None) (sym d) ∙ e) in (ap (λ (l : PRegSet). has_register l q) a ∙ x.0, ap (λ (l : PRegSet). has_register l q) s ∙ x.1);
 }
-
--- the moves of a class are pushed at one point
-made_pushes : (point : ℕ) (made : Moves) (es : List (ℕ × MoveValue)) → Pushes (λ d. d.0 ≡ point) es (es ++ pushed point made)
-made_pushes point [] es = subst (Pushes (λ d. d.0 ≡ point) es) (sym (append-nil es)) none_pushed
-made_pushes point (m ∷ made) es =
-    let e : ℕ × MoveValue = (point, record { from = m.0; to = m.1 }) in
-    subst (Pushes (λ d. d.0 ≡ point) es) (append_assoc es (pushed point made) (e ∷ [])) (one_pushed (es ++ pushed point made) e (made_pushes point made es) refl)
-
-class_pushes : (point : ℕ) (u : Turn) (c : RegClass) (given : Moves) (t w : Tables) → Stepped point u c given t w → Pushes (λ d. d.0 ≡ point) t.edits w.edits
-class_pushes point u c given t w s = subst (Pushes (λ d. d.0 ≡ point) t.edits) (sym s.edits) (made_pushes point s.made t.edits)
 
 none_or : (p : Place) → (p ≡ NoPlace) ⊎ (p ≢ NoPlace)
 none_or NoPlace = inl refl
@@ -173,69 +161,11 @@ module _ (Known : VirtualRegister → Type 0) (f : FunctionValue) (placesf : ℕ
   apart : (c : RegClass) (r : Register) → slice_index_or p.gathered.dedicated (class_code c) None ≡ Some r → (x : ℕ) → place_in p.gathered x ≡ InRegister r → ⊥
   apart c r at = (part.stage.spare.idle c r (of_machine at)).nobody_stands
 
-  -- the tables before it
-  pub branch_between : Between last new
-  branch_between = record {
-    whole = whole_like p.gathered new same_places same_slots (all_sizes (before last) turn p.given p.gathered p.ints p.floats new ints floats vectors) more_slots part.stage.whole;
-    later = all_later (before last) turn p.given p.gathered p.ints p.floats new ints floats vectors (before last) (omega arith) part.stage.later;
-    fit = fit_like p.gathered new (all_allocatable (before last) turn p.given p.gathered p.ints p.floats new ints floats vectors) (all_fixed_stack (before last) turn p.given p.gathered p.ints p.floats new ints floats vectors)
-        (all_dedicated (before last) turn p.given p.gathered p.ints p.floats new ints floats vectors) part.stage.fit;
-    apart = λ c r at x e. apart c r (ap (λ l. slice_index_or l (class_code c) None) (sym (all_dedicated (before last) turn p.given p.gathered p.ints p.floats new ints floats vectors)) ∙ at) x (ap (λ (y : PlacesValue). stood y x) (sym same_places) ∙ e);
-  }
-
   undefined : (x : ℕ) → defined_by (inst_at f last).operands x ≡ false
   undefined x = elim (cases_Bool (defined_by (inst_at f last).operands x)) [
     | inl is ↦ (let d = defined_by-some (inst_at f last).operands x is in absurd (no_defs d.0 d.1 d.2))
     | inr not ↦ not
   ]
-
-  -- nobody who stood behind it stops standing
-  pub branch_lasts : (x : ℕ) → place_in old x ≢ NoPlace → place_in new x ≢ NoPlace
-  branch_lasts x there none =
-      let at : place_in p.gathered x ≡ NoPlace = ap (λ (y : PlacesValue). stood y x) (sym same_places) ∙ none in
-      by_itself.ends.lasts x (ap is_some (opt_some (place_in old x) there)) (undefined x) (ap opt (part.comes.lasts x at))
-
-  -- who is read stands somewhere
-  pub branch_found : (j : ℕ) → j < length (inst_at f last).operands → is_reading (op_at (inst_at f last).operands j) ≡ true → place_in new (op_at (inst_at f last).operands j).vreg.number ≢ NoPlace
-  branch_found j lt reads none =
-      let x : ℕ = (op_at (inst_at f last).operands j).vreg.number in
-      let at : place_in p.gathered x ≡ NoPlace = ap (λ (y : PlacesValue). stood y x) (sym same_places) ∙ none in
-      by_itself.ends.found j lt reads (ap opt (part.comes.lasts x at))
-
-  -- and so does each argument
-  pub branch_arguments : (e j : ℕ) → HasEdge f b e → j < length (params_on f b e) → place_in new (argument_at (arguments_at f b e) j).number ≢ NoPlace
-  branch_arguments e j edge lt none = part.there e j edge lt (ap (λ (y : PlacesValue). stood y (argument_at (arguments_at f b e) j).number) (sym same_places) ∙ none)
-
-  -- its moves stand before it
-  pub branch_pushes : Pushes (λ d. d.0 ≡ before last) old.edits new.edits
-  branch_pushes =
-      let P : (ℕ × MoveValue) → Type 0 = λ d. d.0 ≡ before last in
-      pushes_then P old.edits p.gathered.edits new.edits
-      (pushes_then P old.edits middle.edits p.gathered.edits (pushes_weaken (IsUseMove last (inst_at f last).operands here) P old.edits middle.edits (λ d x. x.0) br.pushes) (pushes_weaken (IsReload (before last)) P middle.edits p.gathered.edits (λ d x. x.0) part.comes.pushes))
-      (pushes_then P p.gathered.edits p.floats.edits new.edits
-      (pushes_then P p.gathered.edits p.ints.edits p.floats.edits (class_pushes (before last) turn Int (of_class Int p.given) p.gathered p.ints ints) (class_pushes (before last) turn Float (of_class Float p.given) p.ints p.floats floats))
-      (class_pushes (before last) turn Vector (of_class Vector p.given) p.floats new vectors))
-
-  -- slots stay, and new ones lie above
-  pub branch_grown : Grown (λ q. q ≡ before last) old new
-  branch_grown =
-      let x : Grown (IsAt last) old middle = allocates_grown last (inst_at f last) blank here old middle a in
-      let y : Grown (λ q. q ≡ before last) middle p.gathered = part.comes.grown in
-      let l = pushed_list (λ d. d.0 ≡ before last) old.edits new.edits branch_pushes in
-      record {
-        count = (let s : old.slots.count ≤ middle.slots.count = x.count in let m : middle.slots.count ≤ p.gathered.slots.count = y.count in let n : p.gathered.slots.count ≤ new.slots.count = more_slots in omega (arith, s, m, n));
-        sizes = all_sizes (before last) turn p.given p.gathered p.ints p.floats new ints floats vectors ∙ y.sizes ∙ x.sizes;
-        stay = λ n there. ap (λ o. slice_index_or o n NoPlace) same_slots ∙ y.stay n (λ e. there (sym (x.stay n there) ∙ e)) ∙ x.stay n there;
-        fresh = λ units n k none is.
-            let at : slot_in p.gathered n ≡ InSlot k = ap (λ o. slice_index_or o n NoPlace) (sym same_slots) ∙ is in
-            elim (none_or (slot_in middle n)) [
-              | inl later ↦ (let m : middle.slots.count ≤ k = y.fresh by_itself.between.whole.units n k later at in let s : old.slots.count ≤ middle.slots.count = x.count in omega (arith, m, s))
-              | inr now ↦ x.fresh units n k none (sym (y.stay n now) ∙ at)
-            ];
-        moves = l.0;
-        pushed = l.1;
-        there = l.2;
-      }
 
   -- what was walked before the moves of the arguments
   abbrev L : List Item

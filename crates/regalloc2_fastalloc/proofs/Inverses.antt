@@ -1,13 +1,13 @@
 -- The two tables of places stay inverse.
 use Rattle.std.proofs.Common.{ℕ, zero, suc, ◌≡◌, ◌≢◌, ◌<◌, Bool, true, false, cond, List, length, refl, sym, ap, ◌∙◌, ◌⊎◌, inl, inr, ⊎_elim, nat_eq, eqb-true, eq-eqb, replicate, slice_index_or, set, subst, get_or-set_same}
 use Rattle.std.specs.Prelude.{Option, None, Some}
-use Rattle.std.proofs.lemmas.List.{get_or-set_other, length-replicate}
+use Rattle.std.proofs.lemmas.List.{get_or-set_other}
 use Rattle.std.proofs.Math.ListN.{length-set}
 use Rattle.regalloc2_names.specs.Register.{Register, VirtualRegister}
 use Rattle.regalloc2_names.specs.RegisterBits.{bits_of_register}
 use Rattle.regalloc2_names.specs.Place.{Place, NoPlace, InRegister, is_place}
 use Rattle.regalloc2_flow.proofs.Cells.{is_place-true, is_place-same, is_place-other}
-use Rattle.regalloc2_fastalloc.specs.Tables.{PlacesValue, IsInverse, Settles, Marks, stood, holder, nobody_stands}
+use Rattle.regalloc2_fastalloc.specs.Tables.{PlacesValue, IsInverse, Settles, Marks, stood, holder}
 
 -- a test is true or false
 pub whether : (b : Bool) → (b ≡ true) ⊎ (b ≡ false)
@@ -123,19 +123,3 @@ pub inverse_marked : (T : List Place) (H H1 H2 : List (Option VirtualRegister)) 
 inverse_marked T H H1 H2 v n p q e known left m1 m2 small alone i =
     inverse_kept (record { stands = T; held = H }) (record { stands = set T n p; held = H2 }) v p (rw (← e) known) (m2.long ∙ m1.long ∙ i.registers) small alone i
     (settles_by_marks T H H1 H2 v n p q e known left m1 m2)
-
--- where nobody stands, the tables are inverse
-pub inverse_empty : (n : ℕ) → IsInverse (nobody_stands n)
-inverse_empty n = record {
-  registers = length-replicate {A = Option VirtualRegister} 256 None;
-  small = λ k r e. absurd (nowhere k r e);
-  known = λ r w lt h. absurd (nobody r w h);
-  holds = λ r w lt h. absurd (nobody r w h);
-  stands = λ k r e. absurd (nowhere k r e);
-}
-  where
-    nowhere : (k : ℕ) (r : Register) → slice_index_or (replicate n NoPlace) k NoPlace ≡ InRegister r → ⊥
-    nowhere k r e = let z : slice_index_or (replicate n NoPlace) k NoPlace ≡ NoPlace = always n k NoPlace in cc
-
-    nobody : (r : Register) (w : VirtualRegister) → slice_index_or (replicate 256 None) (bits_of_register r) None ≡ Some w → ⊥
-    nobody r w h = no_some w (sym (always 256 (bits_of_register r) None) ∙ h)

@@ -1,5 +1,5 @@
 -- The set of the registers of a list, and a list of three.
-use Rattle.std.proofs.Common.{ℕ, ◌≡◌, ◌≢◌, ◌+◌, ◌<◌, ⊎_elim, Bool, true, false, List, [], ◌∷◌, length, refl, sym, ◌∙◌, subst, arith, slice_index_or}
+use Rattle.std.proofs.Common.{ℕ, ◌≡◌, ◌≢◌, ◌+◌, ◌<◌, ⊎_elim, Bool, true, false, List, length, refl, sym, ◌∙◌, subst, arith, slice_index_or}
 use Rattle.std.specs.Prelude.{◌↔◌, ◌||◌}
 use Rattle.regalloc2_names.specs.declared.sets.PRegSet.{PRegSet}
 use Rattle.regalloc2_names.specs.Register.{Register, is_register}
@@ -44,11 +44,3 @@ has_more set new regs k q lt at members old = λ r. (forth r, back r)
         members r ∙ or_true (is_register q r) (has_register set r) (subst (λ (y : Register). is_register q y ≡ true) same (is_register-same q)))
         (λ (n : x.0 ≢ k). members r ∙ or_second (is_register q r) (has_register set r) ((old r).1 (x.0, omega (arith, x.1, n), x.2)))
         (same_number x.0 k)
-
--- three items are the list that they were read from
-pub three_read : {X : Type 0} (xs : List X) (a b c : X) → length xs ≡ 3 → a ≡ slice_index_or xs 0 a → b ≡ slice_index_or xs 1 b → c ≡ slice_index_or xs 2 c → ◌≡◌ {A = List X} (a ∷ b ∷ c ∷ []) xs
-three_read [] a b c n d e f = absurd cc
-three_read (x ∷ []) a b c n d e f = absurd cc
-three_read (x ∷ y ∷ []) a b c n d e f = absurd cc
-three_read (x ∷ y ∷ z ∷ []) a b c n d e f = rw (d, e, f) refl
-three_read (x ∷ y ∷ z ∷ w ∷ ws) a b c n d e f = absurd (omega arith)

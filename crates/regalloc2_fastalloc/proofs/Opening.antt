@@ -16,8 +16,7 @@ use Rattle.regalloc2_function.specs.SourceRun.{is_def, is_late}
 use Rattle.regalloc2_flow.specs.Carry.{is_clobbered}
 use Rattle.regalloc2_flow.specs.Instruction.{Claims}
 use Rattle.regalloc2_flow.specs.Walked.{AllFrom, at_point, walked, listed}
-use Rattle.regalloc2_flow.specs.Placed.{What, what_of, Need, stands, in_slot, made}
-use Rattle.regalloc2_flow.proofs.Needing.{claims_weaken}
+use Rattle.regalloc2_flow.specs.Placed.{What, what_of, Need}
 use Rattle.regalloc2_flow.proofs.Walking.{after_part-clean}
 use Rattle.regalloc2_fastalloc.specs.declared.turn.Turn.{Turn}
 use Rattle.regalloc2_fastalloc.specs.declared.turn.Positions.{Positions}
@@ -105,16 +104,6 @@ module _ (Known : VirtualRegister → Type 0) (insts : ℕ → InstValue) (place
   -- from every slot
   abbrev pub Carried : ℕ → ℕ → Tables → Type 0
   Carried = CarriedBut (λ x. false)
-
-  pub carried_more : (out : ℕ → Bool) (i n : ℕ) (t : Tables) → CarriedBut out i n t → Carried i n t
-  carried_more out i n t c = record {
-    whole = c.whole;
-    later = c.later;
-    claims = claims_weaken Known E (walked insts (at_point (listed t.edits)) placesf i n) (Need (lives_in t) out (λ p x. false) (stands_at t) (slots_at t)) (Need (lives_in t) (λ x. false) (λ p x. false) (stands_at t) (slots_at t))
-        (λ x p h. elim h [ stands l at ↦ stands l at | in_slot o at ↦ in_slot refl at | made m ↦ made m ]) c.claims;
-    fit = c.fit;
-    apart = c.apart;
-  }
 
   -- What is listed behind a return carries each known vreg from nowhere.
   abbrev pub EndsHere : ℕ → ℕ → Bool → Tables → Type 0

@@ -1,5 +1,5 @@
 -- What a well-formed function's instructions bring to the laws on placing operands.
-use Rattle.std.proofs.Common.{ℕ, ◌≡◌, ◌<◌, Bool, true, false, ◌&&◌, List, length, refl, arith, ap, subst, inl, inr, ◌⊎◌, nat_eq}
+use Rattle.std.proofs.Common.{ℕ, ◌≡◌, ◌<◌, Bool, true, false, ◌&&◌, List, length, refl, arith, ap, inl, inr, ◌⊎◌, nat_eq}
 use Rattle.std.proofs.lemmas.Bool.{ne_eqb}
 use Rattle.std.proofs.lemmas.List.Elements.{All-get_or}
 use Rattle.regalloc2_names.specs.declared.OperandConstraint.{OperandConstraint}
@@ -8,7 +8,7 @@ use Rattle.regalloc2_names.specs.declared.RegClass.{RegClass}
 use Rattle.regalloc2_names.specs.Register.{Register}
 use Rattle.regalloc2_names.specs.Operand.{OperandValue}
 use Rattle.regalloc2_function.specs.FunctionValue.{FunctionValue, IsLimited, inst_at, no_inst}
-use Rattle.regalloc2_function.specs.Machine.{MachineValue, is_allocatable}
+use Rattle.regalloc2_function.specs.Machine.{MachineValue}
 use Rattle.regalloc2_function.specs.SourceRun.{is_def, is_late, is_fixed}
 use Rattle.regalloc2_function.specs.WellFormed.{IsWellFormed, MayBeReused, ReusesAreSound}
 use Rattle.regalloc2_flow.specs.Instruction.{Knows}
@@ -59,10 +59,3 @@ module _ (env : MachineValue) (f : FunctionValue) (limited : IsLimited f) (ok : 
 
   pub knows : Knows (Made f) (inst_at f i).operands
   knows = knows_at f ok.defined_once i lt reads
-
-  -- a fixed register that a reuse shares is allocatable
-  pub named_allocatable : (d m : ℕ) (r : Register) → d < length (inst_at f i).operands → (op_at (inst_at f i).operands d).constraint ≡ Reuse m → (op_at (inst_at f i).operands m).constraint ≡ FixedReg r
-      → is_allocatable env (op_at (inst_at f i).operands m).vreg.class r ≡ true
-  named_allocatable d m r less e g =
-      let t = reuses.targets d no_operand less m no_operand e in
-      subst (MayBeReused env (op_at (inst_at f i).operands m).vreg.class) g t.1.4

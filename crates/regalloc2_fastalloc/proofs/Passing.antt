@@ -1,5 +1,5 @@
 -- The moves of a branch's arguments, as they are pushed: what they do to the listing and to the places.
-use Rattle.std.proofs.Common.{ℕ, suc, ◌≡◌, ◌≢◌, ◌≤◌, Bool, true, false, cond, List, [], ◌∷◌, ◌++◌, refl, sym, ap, ◌∙◌, subst, arith}
+use Rattle.std.proofs.Common.{ℕ, suc, ◌≡◌, ◌≢◌, Bool, true, false, cond, List, [], ◌∷◌, ◌++◌, refl, sym, ap, ◌∙◌, arith}
 use Rattle.std.specs.List.{All}
 use Rattle.std.proofs.lemmas.List.{append_assoc, append-nil}
 use Rattle.regalloc2_names.specs.Place.{Place, NoPlace, InRegister, InSlot, is_place}
@@ -8,7 +8,7 @@ use Rattle.regalloc2_function.specs.FunctionValue.{InstValue}
 use Rattle.regalloc2_function.specs.OutputValue.{MoveValue}
 use Rattle.regalloc2_function.specs.AllocatedRun.{Cells, stored, after_moves}
 use Rattle.regalloc2_flow.specs.Listing.{Item, executed, with_moves}
-use Rattle.regalloc2_flow.specs.Walked.{AllFrom, at_point, walked, listed}
+use Rattle.regalloc2_flow.specs.Walked.{at_point, walked, listed}
 use Rattle.regalloc2_flow.proofs.Cells.{is_place-other}
 use Rattle.regalloc2_flow.proofs.Points.{at_point-here, at_point-other, with_moves-append}
 use Rattle.regalloc2_flow.proofs.Pushing.{listed-push}
@@ -41,15 +41,6 @@ other_pushed point q (m ∷ ms) es ne =
     ∙ ap (λ l. at_point l q) (listed-push (es ++ pushed point ms) e)
     ∙ at_point-other point q (record { from = m.0; to = m.1 }) (listed (es ++ pushed point ms)) ne
     ∙ other_pushed point q ms es ne
-
--- none stands before the point
-pub later_pushed : (n point : ℕ) (made : Moves) (es : List (ℕ × MoveValue)) → n ≤ point → AllFrom n (listed es) → AllFrom n (listed (es ++ pushed point made))
-unfolding AllFrom
-later_pushed n point [] es le h = subst (λ l. AllFrom n (listed l)) (sym (append-nil es)) h
-later_pushed n point (m ∷ ms) es le h =
-    let e : ℕ × MoveValue = (point, record { from = m.0; to = m.1 }) in
-    subst (λ l. AllFrom n (listed l)) (append_assoc es (pushed point ms) (e ∷ []))
-    (subst (AllFrom n) (sym (listed-push (es ++ pushed point ms) e)) (le, later_pushed n point ms es le h))
 
 -- moves after moves
 pub after_append : (ms ns : List MoveValue) (c : Cells) (q : Place) → after_moves (ms ++ ns) c q ≡ after_moves ns (after_moves ms c) q

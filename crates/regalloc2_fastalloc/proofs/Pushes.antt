@@ -1,6 +1,6 @@
 -- Each step leaves the moves that were pushed before, and pushes its own at its point.
-use Rattle.std.proofs.Common.{ℕ, ◌≡◌, ◌<◌, List, [], ◌∷◌, ◌++◌, refl, arith, sym, ap, ◌∙◌, subst}
-use Rattle.std.specs.Prelude.{Bool, All}
+use Rattle.std.proofs.Common.{ℕ, ◌≡◌, ◌<◌, List, [], ◌∷◌, ◌++◌, refl, sym, ap, ◌∙◌, subst}
+use Rattle.std.specs.Prelude.{Bool}
 use Rattle.std.proofs.lemmas.List.{append_assoc}
 use Rattle.regalloc2_names.specs.declared.RegClass.{RegClass}
 use Rattle.regalloc2_names.specs.Register.{Register, VirtualRegister}
@@ -17,7 +17,6 @@ use Rattle.regalloc2_fastalloc.specs.declared.choose.Placing.{Placing}
 use Rattle.regalloc2_fastalloc.specs.Steps.{Tables, a_move, Evicts, nobody, moved, Scratches, dedicated, had, found, Crosses, direct, through, Clears, empty, cleared, ClearsBut, own, others, Picks, Occupies, in_slot, in_register, Gets, Sends, sent, unsent, Defines, Uses, PlacesDef, PlacesUse, PlacesOne, a_register, a_use, a_def, a_reuse, PlacesAt, none_placed, of_other, one_placed, MovesUses, none_moved, not_moved, one_moved, ClearsFixed, none_cleared, not_fixed, of_fixed, of_reuse, ClearsAll, none_left, one_more, Allocates}
 use Rattle.regalloc2_fastalloc.specs.Steps.Picks.{stays, fixed, slot, free}
 use Rattle.regalloc2_fastalloc.specs.Steps.Uses.{stays as use_stays, stands}
-use Rattle.regalloc2_fastalloc.proofs.Falling.{all_push}
 
 -- moves are pushed, one after another, of each of which P holds
 pub data Pushes (P : (ℕ × MoveValue) → Type 0) (old : List (ℕ × MoveValue)) : List (ℕ × MoveValue) → Type 0 where
@@ -31,17 +30,6 @@ pushes_then P a b c x (one_pushed es e y h) = one_pushed es e (pushes_then P a b
 pub pushes_weaken : (P Q : (ℕ × MoveValue) → Type 0) (a b : List (ℕ × MoveValue)) → ((e : ℕ × MoveValue) → P e → Q e) → Pushes P a b → Pushes Q a b
 pushes_weaken P Q a b h none_pushed = none_pushed
 pushes_weaken P Q a b h (one_pushed es e x p) = one_pushed es e (pushes_weaken P Q a es h x) (h e p)
-
--- the moves that are pushed, as a list
-pub pushed_list : (P : (ℕ × MoveValue) → Type 0) (a b : List (ℕ × MoveValue)) → Pushes P a b → (es : List (ℕ × MoveValue)) × (b ≡ a ++ es) × All P es
-pushed_list P a b none_pushed = ([], sym (append_none a), λ k d lt. absurd (omega arith))
-  where
-    append_none : (xs : List (ℕ × MoveValue)) → xs ++ [] ≡ xs
-    append_none [] = refl
-    append_none (x ∷ xs) = ap (λ l. x ∷ l) (append_none xs)
-pushed_list P a b (one_pushed es e x p) =
-    let r = pushed_list P a es x in
-    (r.0 ++ e ∷ [], ap (λ l. l ++ e ∷ []) r.1 ∙ append_assoc a r.0 (e ∷ []), all_push P r.0 e r.2 p)
 
 -- moves at other points are as before
 pub pushed_at : (P : (ℕ × MoveValue) → Type 0) (q : ℕ) (a b : List (ℕ × MoveValue)) → ((e : ℕ × MoveValue) → P e → e.0 ≡ q → ⊥) → Pushes P a b → at_point (listed b) q ≡ at_point (listed a) q

@@ -1,5 +1,5 @@
 -- Operands that the code reads.
-use Rattle.std.proofs.Common.{ℕ, ◌≡◌, ◌<◌, List, length, ap, ◌∙◌, arith, slice_index_or}
+use Rattle.std.proofs.Common.{ℕ, ◌≡◌, ◌<◌, List, length, ap, ◌∙◌, slice_index_or}
 use Rattle.std.proofs.lemmas.List.{get_or_read}
 use Rattle.regalloc2_names.specs.Register.{VirtualRegister}
 use Rattle.regalloc2_names.specs.Operand.{OperandValue}
@@ -12,9 +12,3 @@ read_operand ops k o lt e = get_or_read ops k o lt e no_operand
 -- and so is its vreg
 pub read_vreg : (ops : List OperandValue) (k : ℕ) (o : OperandValue) (v : VirtualRegister) → k < length ops → o ≡ slice_index_or ops k o → v ≡ o.vreg → v ≡ (op_at ops k).vreg
 read_vreg ops k o v lt e f = f ∙ ap (λ (x : OperandValue). x.vreg) (read_operand ops k o lt e)
-
-pub read_in_tables : (ops : List OperandValue) (k n m : ℕ) (o : OperandValue) (v : VirtualRegister) → k < length ops → o ≡ slice_index_or ops k o → v ≡ o.vreg
-    → ((j : ℕ) → j < length ops → (op_at ops j).vreg.number < n) → m ≡ n → v.number < m
-read_in_tables ops k n m o v lt e f within same =
-    let w : v.number ≡ (op_at ops k).vreg.number = ap (λ (x : VirtualRegister). x.number) (read_vreg ops k o v lt e f) in
-    omega (arith, within k lt)

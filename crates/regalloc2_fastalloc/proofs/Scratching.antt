@@ -6,16 +6,14 @@ use Rattle.regalloc2_names.specs.declared.RegClass.{RegClass}
 use Rattle.regalloc2_names.specs.Register.{Register, VirtualRegister, class_code, is_register}
 use Rattle.regalloc2_names.specs.RegisterSet.{has_register}
 use Rattle.regalloc2_names.specs.Place.{Place, NoPlace, InRegister, InSlot}
-use Rattle.regalloc2_names.specs.Point.{after}
 use Rattle.regalloc2_function.specs.FunctionValue.{InstValue}
 use Rattle.regalloc2_flow.specs.Placed.{What, Held}
-use Rattle.regalloc2_flow.proofs.Between.{FreeAt, scratch_idle}
 use Rattle.regalloc2_flow.proofs.Cells.{is_register-same}
 use Rattle.regalloc2_fastalloc.specs.declared.turn.Turn.{Turn}
 use Rattle.regalloc2_fastalloc.specs.Steps.{Tables, SameMachine, Scratches, dedicated, had, found}
 use Rattle.regalloc2_fastalloc.proofs.Flowing.{place_in}
 use Rattle.regalloc2_fastalloc.proofs.Standing.{stands_at, slots_at, Stands, Owes}
-use Rattle.regalloc2_fastalloc.proofs.Evicting.{held_early, held_late, Kept, kept_all, Emptied, evict_step}
+use Rattle.regalloc2_fastalloc.proofs.Evicting.{held_early, held_late, Kept, kept_all}
 
 -- nobody stands in the register, no definition is placed there, and no operand claims it
 pub record IsIdle (here : ℕ → Place) (claimed : ℕ → Bool) (X : Place → ℕ → Bool) (by : Register) (t : Tables) : Type 0 where
@@ -194,25 +192,3 @@ module _ (Known : VirtualRegister → Type 0) (insts : ℕ → InstValue) (place
         kept = kept_all old;
         others = λ x g. refl;
       })
-
-  pub scratch_step : (what : ℕ → What) (here : ℕ → Place) (claimed done lived out : ℕ → Bool) (clob : Place → Bool) (X : Place → ℕ → Bool) (class : RegClass) (t u : Turn) (by : Register) (old new : Tables) → Scratches (after i) class t u by old new →
-      ((b : Register) → IsScratch class t old b → IsIdle here claimed X b old) → Held what here claimed (held_early t) (held_late t) →
-      Stands what here claimed done lived out clob X old → Owes Known insts placesf i n E lived out X (stands_at old) (slots_at old) old.edits →
-      Scratched what here claimed done lived out clob X u by old new
-  scratch_step what here claimed done lived out clob X class t u by old new (dedicated own eu en) idle h st o =
-      stayed what here claimed done lived out clob X t u by old new eu en (idle by (of_machine own)) h st o
-  scratch_step what here claimed done lived out clob X class t u by old new (had none own eu en) idle h st o =
-      stayed what here claimed done lived out clob X t u by old new eu en (idle by (taken own)) h st o
-  scratch_step what here claimed done lived out clob X class t u by old new (found none unset may early late less_e less_l set evicts) idle h st o =
-      let free : FreeAt (held_early t) (held_late t) true true (InRegister by) = record { free_early = λ x. ap not early; free_late = λ x. ap not late } in
-      let s = scratch_idle what here claimed done lived out clob X (stands_at old) (slots_at old) (held_early t) (held_late t) (InRegister by) h free st.placed in
-      let e : Emptied Known insts placesf i n E what here claimed done lived out clob X by old new =
-      evict_step Known insts placesf i n E what here claimed done lived out clob X by old new evicts (λ x at. (s.0 x at, s.1)) st o in
-      record {
-        stands = e.stands;
-        owes = e.owes;
-        held = held_keeps what here claimed (held_early t) (held_late t) (held_early u) (held_late u) (less_early t u by less_e) (less_late t u by less_l) h;
-        idle = record { nobody_stands = e.empty; clear = s.1; unclaimed = free_unclaimed what here claimed t by early late h };
-        kept = e.kept;
-        others = e.others;
-      }

@@ -70,11 +70,6 @@ module _ (Known : VirtualRegister → Type 0) (insts : ℕ → InstValue) (place
     pub within : (j : ℕ) → claimed j ≡ true → Counts ops j
     pub small : (j : ℕ) (r : Register) → claimed j ≡ true → here j ≡ InRegister r → r.number < 64
 
-  pub steady_of : (ops : List OperandValue) (here : ℕ → Place) (claimed done lived out : ℕ → Bool) (clob : Place → Bool) (X : Place → ℕ → Bool) (ret : Bool) (u : Turn) (t : Tables) →
-      Ready Known insts placesf i n E ops here claimed done lived out clob X ret u t → Steady ops here claimed done lived out clob X ret u t
-  steady_of ops here claimed done lived out clob X ret u t s =
-      record { stands = s.stands; nothing = s.nothing; held = s.held; spare = s.spare; fit = s.fit; clobbers = s.clobbers; within = s.within; small = s.small }
-
   pub ready_of : (ops : List OperandValue) (here : ℕ → Place) (claimed done lived out : ℕ → Bool) (clob : Place → Bool) (X : Place → ℕ → Bool) (ret : Bool) (u : Turn) (t : Tables) →
       Steady ops here claimed done lived out clob X ret u t → Owes Known insts placesf i n E lived out X (stands_at t) (slots_at t) t.edits → Ready Known insts placesf i n E ops here claimed done lived out clob X ret u t
   ready_of ops here claimed done lived out clob X ret u t s o =

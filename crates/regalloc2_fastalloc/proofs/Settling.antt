@@ -16,7 +16,7 @@ use Rattle.regalloc2_flow.specs.Placed.{Need, stands, in_slot, made}
 use Rattle.regalloc2_flow.proofs.Needing.{claims_weaken, need_slot}
 use Rattle.regalloc2_fastalloc.specs.declared.turn.Turn.{Turn}
 use Rattle.regalloc2_fastalloc.specs.Tables.{PlacesValue, stood, slot_name, Settles, GivesSlot}
-use Rattle.regalloc2_fastalloc.specs.Steps.{Tables, SameMachine, Evicts, nobody, moved, Scratches, dedicated, had, found, Crosses, direct, through, Clears, empty, cleared}
+use Rattle.regalloc2_fastalloc.specs.Steps.{Tables, SameMachine, Crosses, direct, through, Clears, empty, cleared}
 use Rattle.regalloc2_fastalloc.specs.Branches.{SettlesArgument, from_register}
 use Rattle.regalloc2_fastalloc.specs.Branches.SettlesArgument.{in_slot as settled_in_slot}
 use Rattle.regalloc2_fastalloc.proofs.Flowing.{place_in, slot_in, IsWhole, away_holds, away_stands, given, given_own, given_below, given_units}

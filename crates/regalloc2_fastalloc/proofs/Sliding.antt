@@ -1,5 +1,5 @@
 -- The moves of a branch's arguments: which places of a vreg they leave alone, and what they bring to the parameters.
-use Rattle.std.proofs.Common.{ℕ, zero, suc, ◌≡◌, ◌≢◌, ◌<◌, ◌≤◌, ◌⊎◌, inl, inr, Bool, true, false, List, [], ◌∷◌, length, refl, sym, ap, ◌∙◌, subst, arith}
+use Rattle.std.proofs.Common.{ℕ, zero, suc, ◌≡◌, ◌≢◌, ◌<◌, ◌≤◌, inl, inr, Bool, true, false, List, [], ◌∷◌, length, refl, sym, ap, ◌∙◌, subst, arith}
 use Rattle.std.specs.Prelude.{Option, None, Some, ◌||◌, Contains, slice_index_or}
 use Rattle.regalloc2_names.specs.declared.RegClass.{RegClass}
 use Rattle.regalloc2_names.specs.declared.RegClass.TheVariants.{Int, Float, Vector}
@@ -38,17 +38,6 @@ names_at (p ∷ ps) (suc j) v lt e = or_second (is_vreg p v) (names v ps) (names
     or_second : (x y : Bool) → y ≡ true → (x || y) ≡ true
     or_second true y h = refl
     or_second false y h = h
-
-cases_class : (c d : RegClass) → (c ≡ d) ⊎ (c ≢ d)
-cases_class Int Int = inl refl
-cases_class Int Float = inr (λ e. cc)
-cases_class Int Vector = inr (λ e. cc)
-cases_class Float Int = inr (λ e. cc)
-cases_class Float Float = inl refl
-cases_class Float Vector = inr (λ e. cc)
-cases_class Vector Int = inr (λ e. cc)
-cases_class Vector Float = inr (λ e. cc)
-cases_class Vector Vector = inl refl
 
 one_slot : (m n : ℕ) → InSlot m ≡ InSlot n → m ≡ n
 one_slot m n e = cc

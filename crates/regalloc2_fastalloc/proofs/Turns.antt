@@ -1,9 +1,9 @@
 -- All operands have their turns: the late ones, then the early ones.
 use Rattle.std.proofs.Common.{ℕ, ◌≡◌, ◌+◌, ◌<◌, ◌≤◌, Bool, true, false, List, length, refl, arith, sym, subst, inl, inr}
-use Rattle.std.specs.Prelude.{slice_index_or, slice_set}
+use Rattle.std.specs.Prelude.{slice_set}
 use Rattle.regalloc2_names.specs.Register.{VirtualRegister}
 use Rattle.regalloc2_names.specs.Operand.{OperandValue}
-use Rattle.regalloc2_names.specs.Place.{Place, NoPlace, InRegister}
+use Rattle.regalloc2_names.specs.Place.{Place, InRegister}
 use Rattle.regalloc2_function.specs.FunctionValue.{InstValue}
 use Rattle.regalloc2_function.specs.SourceRun.{is_late, is_fixed_nonallocatable}
 use Rattle.regalloc2_flow.specs.Placed.{Counts}
@@ -82,8 +82,3 @@ module _ (Known : VirtualRegister → Type 0) (insts : ℕ → InstValue) (place
       PlacesAt i ret false ops half late middle (length ops) places early after_it → LaidAt true 0 blank quiet before → LaidAt false (length ops) places early after_it
   laid_both blank half places quiet late early before middle after_it a b L =
       laid_all false half late middle (length ops) places early after_it b (omega arith) (laid_over half late middle (laid_all true blank quiet before (length ops) half late middle a (omega arith) L))
-
-  -- all operands that count are placed, where the list says
-  pub laid_done : (list : List Place) (u : Turn) (t : Tables) (L : LaidAt false (length ops) list u t) → (j : ℕ) → Counts ops j → (L.done j ≡ true) × (slice_index_or list j NoPlace ≡ L.here j)
-  laid_done list u t L j c =
-      let d : L.done j ≡ true = L.all j c (inr (refl, inr c.0)) in (d, L.placed j d)

@@ -1,12 +1,8 @@
 -- From one boundary of instructions to the next, and what is held at the two positions.
-use Rattle.std.proofs.Common.{◌≡◌, ℕ, ◌<◌, Bool, true, false, List, Option, Some, is_some, ◌⊎◌, ⊎_elim, refl, sym, ap, ◌∙◌, arith}
+use Rattle.std.proofs.Common.{◌≡◌, ℕ, Bool, true, false, Option, Some, is_some, ◌⊎◌, ⊎_elim, refl, sym, ap, ◌∙◌}
 use Rattle.std.proofs.lemmas.Bool.{cases_Bool}
-use Rattle.regalloc2_names.specs.Register.{VirtualRegister}
 use Rattle.regalloc2_names.specs.Place.{Place}
-use Rattle.regalloc2_flow.specs.Listing.{Item}
-use Rattle.regalloc2_flow.specs.Instruction.{Claims}
-use Rattle.regalloc2_flow.specs.Placed.{What, Need, stands, in_slot, Pending, still, slotted, used, Placed, Held, Free}
-use Rattle.regalloc2_flow.proofs.Needing.{claims_weaken}
+use Rattle.regalloc2_flow.specs.Placed.{What, Placed, Held, Free}
 
 -- when an instruction begins: what stands lives, and nothing is placed
 pub begin_all : (what : ℕ → What) (here : ℕ → Place) (lived : ℕ → Bool) (T S : ℕ → Option Place) → ((w : ℕ) → lived w ≡ is_some (T w)) →
@@ -27,41 +23,6 @@ begin_all what here lived T S is = record {
   defined = λ w o. absurd cc;
   outs = λ j d f. absurd cc;
   makes = λ p w x. absurd cc;
-}
-
--- all uses are moved: what is needed then is needed at the boundary, in the words of the instruction before
-pub end_all : (Known : VirtualRegister → Type 0) (E : VirtualRegister → Place → Type 0) (L : List Item) (what : ℕ → What) (here : ℕ → Place) (done out lived : ℕ → Bool) (T S : ℕ → Option Place) (m : ℕ) →
-    ((w : ℕ) → lived w ≡ is_some (T w)) → ((j : ℕ) → done j ≡ true → j < m) → Claims Known L (Pending what here done out T S m) E → Claims Known L (Need lived (λ w. false) (λ p w. false) T S) E
-end_all Known E L what here done out lived T S m is within =
-    claims_weaken Known E L (Pending what here done out T S m) (Need lived (λ w. false) (λ p w. false) T S)
-    (λ n p o. elim o [
-      | still e ↦ stands (is n ∙ ap is_some e) e
-      | slotted f e ↦ in_slot refl e
-      | used j le d u i e ↦ (let lt = within j d in absurd (omega arith))
-    ])
-
--- a clobber where nobody stands, and which no definition and no late use has claimed
-pub step_clobber : (what : ℕ → What) (here : ℕ → Place) (claimed done lived out : ℕ → Bool) (clob clob2 : Place → Bool) (X : Place → ℕ → Bool) (T S : ℕ → Option Place) (c : Place)
-    → ((w : ℕ) → T w ≡ Some c → ⊥)
-    → ((j : ℕ) → claimed j ≡ true → ((what j).is_def ≡ true) ⊎ ((what j).is_late ≡ true) → here j ≡ c → ⊥)
-    → ((q : Place) → (q ≡ c → ⊥) → clob q ≡ false → clob2 q ≡ false)
-    → Placed what here claimed done lived out clob X T S → Placed what here claimed done lived out clob2 X T S
-step_clobber what here claimed done lived out clob clob2 X T S c nobody apart not s = record {
-  there = s.there;
-  apart = s.apart;
-  def_alone = s.def_alone;
-  use_alone = s.use_alone;
-  slot_own = s.slot_own;
-  kept = λ j cj h. not (here j) (λ e. apart j cj h e) (s.kept j cj h);
-  cleared = λ w p l e. not p (λ i. nobody w (e ∙ ap Some i)) (s.cleared w p l e);
-  claims = s.claims;
-  found = s.found;
-  newly = s.newly;
-  lives = s.lives;
-  gone = s.gone;
-  defined = s.defined;
-  outs = s.outs;
-  makes = s.makes;
 }
 
 -- the positions are those of the operand, at least

@@ -30,17 +30,6 @@ pub carries_weaken : (v : VirtualRegister) (L : List Item) (P R E F : Place → 
 unfolding Carries
 carries_weaken v L P R E F relied owed g = λ s c n holds. from_weaken v L E F s c n owed (g s c n (λ p w. holds p (relied p w)))
 
--- two claims on one virtual register
-from_join : (v : VirtualRegister) (L : List Item) (E F : Place → Type 0) (s : Source) (c : Cells) (n : ℕ) → CarriesFrom v E L s c n → CarriesFrom v F L s c n → CarriesFrom v (λ p. E p ⊎ F p) L s c n
-unfolding CarriesFrom
-from_join v [] E F s c n g h = λ p f. elim f [ inl x ↦ g p x | inr y ↦ h p y ]
-from_join v (Move m ∷ L) E F s c n g h = from_join v L E F s _ n g h
-from_join v (Exec ops places clobbers ∷ L) E F s c n g h = (g.0, g.1, from_join v L E F _ _ (suc n) g.2 h.2)
-
-pub carries_join : (v : VirtualRegister) (L : List Item) (P R E F : Place → Type 0) → Carries v L P E → Carries v L R F → Carries v L (λ p. P p ⊎ R p) (λ p. E p ⊎ F p)
-unfolding Carries
-carries_join v L P R E F g h = λ s c n holds. from_join v L E F s c n (g s c n (λ p w. holds p (inl w))) (h s c n (λ p w. holds p (inr w)))
-
 -- a move before
 pub carries_move : (v : VirtualRegister) (m : MoveValue) (L : List Item) (P R E : Place → Type 0) → (m.to ≡ NoPlace → ⊥) →
     (P m.to → R m.from) → ((p : Place) → (p ≡ m.to → ⊥) → P p → R p) → Carries v L P E → Carries v (Move m ∷ L) R E
@@ -83,12 +72,6 @@ pub carries_moves : (v : VirtualRegister) (ms : List MoveValue) (L : List Item) 
     Carries v L P E → Carries v (with_moves ms L) R E
 unfolding Carries
 carries_moves v ms L P R E hold g = λ s c n holds. from_moves ms v E L s c n (g s (after_moves ms c) n (hold s c holds))
-
--- the same, where each of those places ends with what some place had at first, as after a resolver's list
-pub carries_assigned : (v : VirtualRegister) (ms : List MoveValue) (L : List Item) (P R E : Place → Type 0) →
-    ((p : Place) → P p → (q : Place) × ((c : Cells) → after_moves ms c p ≡ c q) × R q) →
-    Carries v L P E → Carries v (with_moves ms L) R E
-carries_assigned v ms L P R E from g = carries_moves v ms L P R E (λ s c holds p w. let a = from p w in a.1 c ∙ holds a.0 a.2) g
 
 -- an instruction
 pub carries_exec : (v : VirtualRegister) (ops : List OperandValue) (places : List Place) (clobbers : PRegSet) (L : List Item) (P R E : Place → Type 0) →

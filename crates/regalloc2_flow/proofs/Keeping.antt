@@ -1,7 +1,7 @@
 -- Places that hold what a virtual register has all through: those that nothing writes, and those that are written for its own uses.
-use Rattle.std.proofs.Common.{ℕ, zero, suc, ◌≡◌, ◌+◌, ◌<◌, ◌≤◌, Bool, true, false, List, [], ◌∷◌, ◌++◌, length, refl, arith, sym, ◌∙◌, inl, inr, ◌⊎◌, subst}
-use Rattle.std.specs.Prelude.{◌&&◌, slice_index_or}
-use Rattle.std.proofs.lemmas.Bool.{cases_Bool, cases_eq}
+use Rattle.std.proofs.Common.{ℕ, zero, suc, ◌≡◌, ◌+◌, ◌<◌, ◌≤◌, Bool, true, false, List, [], ◌∷◌, length, refl, arith, sym, ◌∙◌, inl, inr, ◌⊎◌, subst}
+use Rattle.std.specs.Prelude.{◌&&◌}
+use Rattle.std.proofs.lemmas.Bool.{cases_Bool}
 use Rattle.regalloc2_names.specs.declared.sets.PRegSet.{PRegSet}
 use Rattle.regalloc2_names.specs.Register.{VirtualRegister, is_vreg}
 use Rattle.regalloc2_names.specs.Operand.{OperandValue}
@@ -12,39 +12,16 @@ use Rattle.regalloc2_function.specs.OutputValue.{MoveValue, place_at}
 use Rattle.regalloc2_function.specs.SourceRun.{Source, is_def, is_late, is_reading, after_defs}
 use Rattle.regalloc2_function.specs.AllocatedRun.{Cells, stored, after_moves}
 use Rattle.regalloc2_flow.specs.Listing.{Item, op_at, executed, with_moves, defines, writes}
-use Rattle.regalloc2_flow.specs.Listing.Item.{Move, Exec}
-use Rattle.regalloc2_flow.specs.Walked.{at_point, walked}
+use Rattle.regalloc2_flow.specs.Listing.Item.{Exec}
+use Rattle.regalloc2_flow.specs.Walked.{walked}
 use Rattle.regalloc2_flow.specs.Carry.{CarriesFrom, Carries, Finds, early_cells, late_cells, Spares, Undefined, Untouched}
 use Rattle.regalloc2_flow.proofs.Cells.{is_vreg-true, stored-other}
 use Rattle.regalloc2_flow.proofs.Runs.{after_defs-other, early-other, late-spared}
-use Rattle.regalloc2_flow.proofs.Points.{at_point-here, at_point-other}
-use Rattle.regalloc2_flow.proofs.Carrying.{from_moves, after_their_moves, from_fresh, carries_fresh, carries_append}
-
--- what a part leaves alone is carried through it to what relies on it
-pub carries_untouched : (v : VirtualRegister) (K L : List Item) (P E R F : Place → Type 0) → ((p : Place) → R p → Untouched p K) → writes v K ≡ false →
-    Carries v K P E → Carries v L (λ p. E p ⊎ R p) F → Carries v (K ++ L) (λ p. P p ⊎ R p) F
-carries_untouched v K L P E R F untouched unwritten g h =
-    carries_append v K L (λ p. P p ⊎ R p) (λ p. E p ⊎ R p) F (carries_fresh v K P E R untouched unwritten g) h
+use Rattle.regalloc2_flow.proofs.Carrying.{from_moves, after_their_moves, from_fresh}
 
 -- no move of a list goes to the place
 abbrev pub NoMoveTo : Place → List MoveValue → Type 0
 NoMoveTo p ms = Untouched p (with_moves ms [])
-
-pub no_move_to : (p : Place) (ms : List MoveValue) → ((k : ℕ) (d : MoveValue) → k < length ms → (slice_index_or ms k d).to ≡ p → ⊥) → NoMoveTo p ms
-unfolding Untouched with_moves
-no_move_to p [] h = tt
-no_move_to p (m ∷ ms) h = (λ e. h 0 m (omega arith) (sym e), no_move_to p ms (λ k d lt. h (suc k) d (omega arith)))
-
--- nor of those at a point
-pub no_move_at : (p : Place) (q : ℕ) (es : List (ℕ × MoveValue)) → ((k : ℕ) (d : ℕ × MoveValue) → k < length es → (slice_index_or es k d).0 ≡ q → (slice_index_or es k d).1.to ≡ p → ⊥) → NoMoveTo p (at_point es q)
-unfolding Untouched with_moves
-no_move_at p q [] h = tt
-no_move_at p q (e ∷ es) h =
-    let rest : NoMoveTo p (at_point es q) = no_move_at p q es (λ k d lt. h (suc k) d (omega arith)) in
-    elim (cases_eq e.0 q) [
-      | inl is ↦ subst (NoMoveTo p) (sym (subst (λ x. at_point (e ∷ es) x ≡ e.1 ∷ at_point es x) is (at_point-here e.0 e.1 es))) (λ d. h 0 e (omega arith) is (sym d), rest)
-      | inr not ↦ subst (NoMoveTo p) (sym (at_point-other e.0 q e.1 es not)) rest
-    ]
 
 pub moves_kept : (p : Place) (ms : List MoveValue) (c : Cells) → NoMoveTo p ms → after_moves ms c p ≡ c p
 unfolding Untouched with_moves after_moves
@@ -55,12 +32,6 @@ pub untouched_moves : (p : Place) (ms : List MoveValue) (L : List Item) → NoMo
 unfolding Untouched with_moves
 untouched_moves p [] L h g = g
 untouched_moves p (m ∷ ms) L h g = (h.0, untouched_moves p ms L h.1 g)
-
-pub untouched_append : (p : Place) (K L : List Item) → Untouched p K → Untouched p L → Untouched p (K ++ L)
-unfolding Untouched
-untouched_append p [] L h g = g
-untouched_append p (Move m ∷ K) L h g = (h.0, untouched_append p K L h.1 g)
-untouched_append p (Exec ops places clobbers ∷ K) L h g = (h.0, untouched_append p K L h.1 g)
 
 pub untouched_walked : (p : Place) (insts : ℕ → InstValue) (at : ℕ → List MoveValue) (places : ℕ → List Place) (i n : ℕ) →
     ((q : ℕ) → before i ≤ q → q < before (i + n) → NoMoveTo p (at q)) → ((j : ℕ) → i ≤ j → j < i + n → Spares (insts j).operands (places j) (insts j).clobbers p) →
@@ -143,13 +114,6 @@ module _ (v : VirtualRegister) (ops : List OperandValue) (places : List Place) (
             (λ p r. late-spared n ops places clobbers (after_moves sooner c) p (keeps p r).spared ∙ kept_before p s c n (keeps p r) (holds p (inr r)) x.0 x.1 ∙ sym (after_defs-other ops n 0 s v undefined))
             x.2,
       )
-
-  -- one such place, as v's own slot
-  pub carries_own_slot : (P E : Place → Type 0) (p : Place) → Spares ops places clobbers p → NoMoveTo p later → (NoMoveTo p sooner ⊎ IsReadAt ops places v p) →
-      Carries v (with_moves sooner (Exec ops places clobbers ∷ with_moves later [])) P E →
-      Carries v (with_moves sooner (Exec ops places clobbers ∷ with_moves later [])) (λ q. P q ⊎ (q ≡ p)) (λ q. E q ⊎ (q ≡ p))
-  carries_own_slot P E p spared after_it before_it g =
-      carries_kept P E (λ q. q ≡ p) (λ q e. subst (Keeps ops places clobbers sooner later v) (sym e) (record { spared = spared; no_move_later = after_it; before_it = before_it })) g
 
 -- the same of an instruction that was walked
 pub carries_kept_walked : (v : VirtualRegister) (insts : ℕ → InstValue) (at : ℕ → List MoveValue) (places : ℕ → List Place) (i : ℕ) (P E R : Place → Type 0) → Undefined (insts i).operands v →

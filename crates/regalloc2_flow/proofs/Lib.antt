@@ -10,13 +10,10 @@ pub mod Passing
 pub mod Onwards
 pub mod Paths
 pub mod Pushing
-pub mod Tables
 pub mod Slots
 pub mod Soundness
 pub mod Earlier
-pub mod Sending
 pub mod Operands
-pub mod Placing
 pub mod Crossing
 pub mod Sharing
 pub mod Claiming

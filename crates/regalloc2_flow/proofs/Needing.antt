@@ -1,5 +1,5 @@
 -- What the moves around an instruction do to what each number needs.
-use Rattle.std.proofs.Common.{◌≡◌, ◌≢◌, ℕ, ◌+◌, Bool, true, false, List, ◌∷◌, Option, Some, ◌⊎◌, ⊎_elim, sym, ap, ◌∙◌, arith}
+use Rattle.std.proofs.Common.{◌≡◌, ◌≢◌, ℕ, ◌+◌, Bool, true, false, List, ◌∷◌, Option, Some, ⊎_elim, sym, ap, ◌∙◌, arith}
 use Rattle.std.proofs.lemmas.Bool.{cases_eq}
 use Rattle.regalloc2_names.specs.Register.{VirtualRegister}
 use Rattle.regalloc2_names.specs.Place.{Place, NoPlace}
@@ -65,66 +65,10 @@ module _ (Known : VirtualRegister → Type 0) (E : VirtualRegister → Place →
         | made x ↦ made x
       ])
 
-  -- the definition of d at a, which stands there or nowhere
-  pub need_leave : (lived out out2 : ℕ → Bool) (X Y : Place → ℕ → Bool) (T U S : ℕ → Option Place) (d : ℕ) (a : Place)
-      → ((p : Place) → T d ≡ Some p → p ≡ a) → ((x : ℕ) → (x ≡ d → ⊥) → U x ≡ T x)
-      → Y a d ≡ true → ((p : Place) (x : ℕ) → X p x ≡ true → Y p x ≡ true)
-      → ((x : ℕ) (p : Place) → out x ≡ false → S x ≡ Some p → (out2 x ≡ false) ⊎ (Y p x ≡ true))
-      → Claims Known L (Need lived out X T S) E → Claims Known L (Need lived out2 Y U S) E
-  need_leave lived out out2 X Y T U S d a only same at_a grows rest =
-      claims_weaken Known E L (Need lived out X T S) (Need lived out2 Y U S)
-      (λ v q o. elim o [
-        | stands l e ↦ ⊎_elim
-            (λ (i : v ≡ d). let b : q ≡ a = only q (ap T (sym i) ∙ e) in made (ap (λ (x : Place). Y x v) b ∙ ap (λ (x : ℕ). Y a x) i ∙ at_a))
-            (λ (n : v ≡ d → ⊥). stands l (same v n ∙ e))
-            (cases_eq v d)
-        | in_slot n e ↦ ⊎_elim (λ z. in_slot z e) (λ z. made z) (rest v q n e)
-        | made x ↦ made (grows q v x)
-      ])
-
--- what the move a -> c does, where d is awaited at c
-module _ (lived out out2 : ℕ → Bool) (X Y : Place → ℕ → Bool) (T U S : ℕ → Option Place) (d : ℕ) (a c : Place) (there : c ≢ NoPlace) (stood : T d ≡ Some c)
-    (same : (x : ℕ) → (x ≡ d → ⊥) → U x ≡ T x)
-    (alone : (x : ℕ) → T x ≡ Some c → x ≡ d) (own : (x : ℕ) → S x ≡ Some c → x ≡ d) (clear : (x : ℕ) → X c x ≡ false)
-    (at_a : Y a d ≡ true) (grows : (p : Place) (x : ℕ) → X p x ≡ true → Y p x ≡ true)
-    (rest : (x : ℕ) (p : Place) → out x ≡ false → S x ≡ Some p → (p ≡ c → ⊥) → (out2 x ≡ false) ⊎ (Y p x ≡ true)) where
-  sent_here : (v : ℕ) → Need lived out X T S v c → Need lived out2 Y U S v a
-  sent_here v o = elim o [
-    | stands l e ↦ made (ap (Y a) (alone v e) ∙ at_a)
-    | in_slot n e ↦ made (ap (Y a) (own v e) ∙ at_a)
-    | made x ↦ let b = clear v in absurd cc
-  ]
-
-  sent_there : (v : ℕ) (q : Place) → (q ≡ c → ⊥) → Need lived out X T S v q → Need lived out2 Y U S v q
-  sent_there v q ne o = elim o [
-    | stands l e ↦ stands l (same v (λ i. let b : T d ≡ Some q = ap T (sym i) ∙ e in let y : Some c ≡ Some q = sym stood ∙ b in let z : q ≡ c = cc in ne z) ∙ e)
-    | in_slot n e ↦ ⊎_elim (λ z. in_slot z e) (λ z. made z) (rest v q n e ne)
-    | made x ↦ made (grows q v x)
-  ]
-
-  pub need_send : (Known : VirtualRegister → Type 0) (E : VirtualRegister → Place → Type 0) (L : List Item)
-      → Claims Known L (Need lived out X T S) E → Claims Known (Move (record { from = a; to = c }) ∷ L) (Need lived out2 Y U S) E
-  need_send Known E L = claims_move Known E L (Need lived out X T S) (Need lived out2 Y U S) a c there sent_here sent_there
-
-  -- by way of a scratch register, where nobody is needed
-  pub need_send_through : (by : Place) (Known : VirtualRegister → Type 0) (E : VirtualRegister → Place → Type 0) (L : List Item)
-      → by ≢ NoPlace → ((x : ℕ) → T x ≡ Some by → ⊥) → ((x : ℕ) → S x ≡ Some by → ⊥) → ((x : ℕ) → X by x ≡ false)
-      → Claims Known L (Need lived out X T S) E → Claims Known (Move (record { from = a; to = by }) ∷ (Move (record { from = by; to = c }) ∷ L)) (Need lived out2 Y U S) E
-  need_send_through by Known E L real nobody no_slot none =
-      claims_through Known E L (Need lived out X T S) (Need lived out2 Y U S) a by c real there
-      (λ v o. elim o [ stands l e ↦ nobody v e | in_slot n e ↦ no_slot v e | made x ↦ let b = none v in absurd cc ])
-      sent_here sent_there
-
 -- what the store a -> s does, where s is the slot of d, which has left the table
 module _ (lived out out2 : ℕ → Bool) (X : Place → ℕ → Bool) (T S : ℕ → Option Place) (d : ℕ) (a s : Place) (there : s ≢ NoPlace) (slot : S d ≡ Some s)
     (alone : (x : ℕ) → T x ≡ Some s → ⊥) (own : (x : ℕ) → S x ≡ Some s → x ≡ d) (mine : (x : ℕ) → X s x ≡ true → x ≡ d)
     (at_a : X a d ≡ true) (outs : (x : ℕ) → out x ≡ false → (x ≡ d → ⊥) → out2 x ≡ false) where
-  stored_here : (v : ℕ) → Need lived out X T S v s → Need lived out2 X T S v a
-  stored_here v o = elim o [
-    | stands l e ↦ absurd (alone v e)
-    | in_slot n e ↦ made (ap (X a) (own v e) ∙ at_a)
-    | made x ↦ made (ap (X a) (mine v x) ∙ at_a)
-  ]
 
   stored_there : (v : ℕ) (q : Place) → (q ≡ s → ⊥) → Need lived out X T S v q → Need lived out2 X T S v q
   stored_there v q ne o = elim o [
@@ -132,18 +76,6 @@ module _ (lived out out2 : ℕ → Bool) (X : Place → ℕ → Bool) (T S : ℕ
     | in_slot n e ↦ in_slot (outs v n (λ i. let b : S d ≡ Some q = ap S (sym i) ∙ e in let y : Some s ≡ Some q = sym slot ∙ b in let z : q ≡ s = cc in ne z)) e
     | made x ↦ made x
   ]
-
-  pub need_store : (Known : VirtualRegister → Type 0) (E : VirtualRegister → Place → Type 0) (L : List Item)
-      → Claims Known L (Need lived out X T S) E → Claims Known (Move (record { from = a; to = s }) ∷ L) (Need lived out2 X T S) E
-  need_store Known E L = claims_move Known E L (Need lived out X T S) (Need lived out2 X T S) a s there stored_here stored_there
-
-  pub need_store_through : (by : Place) (Known : VirtualRegister → Type 0) (E : VirtualRegister → Place → Type 0) (L : List Item)
-      → by ≢ NoPlace → ((x : ℕ) → T x ≡ Some by → ⊥) → ((x : ℕ) → S x ≡ Some by → ⊥) → ((x : ℕ) → X by x ≡ false)
-      → Claims Known L (Need lived out X T S) E → Claims Known (Move (record { from = a; to = by }) ∷ (Move (record { from = by; to = s }) ∷ L)) (Need lived out2 X T S) E
-  need_store_through by Known E L real nobody no_slot none =
-      claims_through Known E L (Need lived out X T S) (Need lived out2 X T S) a by s real there
-      (λ v o. elim o [ stands l e ↦ nobody v e | in_slot n e ↦ no_slot v e | made x ↦ let b = none v in absurd cc ])
-      stored_here stored_there
 
 -- before the instruction: the move of the use k from c, where its number stands, to its place
 module _ (what : ℕ → What) (here : ℕ → Place) (done out : ℕ → Bool) (T S : ℕ → Option Place) (k : ℕ) (c : Place) (there : here k ≢ NoPlace) (is_use : (what k).is_def ≡ false)

@@ -127,10 +127,6 @@ module _ (f : FunctionValue) (ok : IsSound f) (written : IsWrittenFirst f) where
       let y : (end_of f vs).inst ≡ (block_at f b).range.end - 1 = i in
       (omega arith, subst (λ c. HasEdge f c k) (sym e) edge)
 
-  -- the block of an entered path is one
-  nonempty_at : (b : ℕ) → b < length f.blocks → (block_at f b).range.first < (block_at f b).range.end
-  nonempty_at b lt = ok.nonempty b lt
-
   -- a path through the whole block, at its last instruction
   at_last : (b : ℕ) (ws : List Way) → b < length f.blocks → Entered f b ws → Through f b (last_of f b) ws (onwards (last_of f b - (block_at f b).range.first) ws)
   at_last b ws block e = let h : (block_at f b).range.first < (block_at f b).range.end = ok.nonempty b block in through f b (last_of f b) ws e (omega arith) (omega arith)

@@ -7,7 +7,7 @@ use Rattle.std.proofs.lemmas.List.Elements.{filter_agree}
 use Rattle.regalloc2_names.specs.Place.{Place}
 use Rattle.regalloc2_names.specs.Point.{before, after}
 use Rattle.regalloc2_function.specs.FunctionValue.{FunctionValue, InstValue, block_at, inst_at}
-use Rattle.regalloc2_function.specs.OutputValue.{OutputValue, MoveValue, allocs_of, moves_before, is_listed_at, IsInOrder}
+use Rattle.regalloc2_function.specs.OutputValue.{OutputValue, MoveValue, allocs_of, moves_before, is_listed_at}
 use Rattle.regalloc2_flow.specs.Listing.{Item, executed, with_moves, items_by, items_from, block_items}
 use Rattle.regalloc2_flow.specs.Listing.Item.{Move}
 use Rattle.regalloc2_flow.specs.Walked.{at_point, walked, block_walked, AllFrom, Rising, EndsQuiet}
@@ -23,10 +23,6 @@ pub all_from-less : (m n : ℕ) (es : List (ℕ × MoveValue)) → m ≤ n → A
 unfolding AllFrom
 all_from-less m n [] le h = tt
 all_from-less m n (e ∷ es) le h = (omega (arith, h.0), all_from-less m n es le h.1)
-
-pub rising-push : (e d : ℕ × MoveValue) (es : List (ℕ × MoveValue)) → e.0 ≤ d.0 → Rising (d ∷ es) → Rising (e ∷ (d ∷ es))
-unfolding Rising AllFrom
-rising-push e d es le h = ((le, all_from-less e.0 d.0 es le h.0), h)
 
 -- no move stands at a point below all
 none_at : (q : ℕ) (es : List (ℕ × MoveValue)) → AllFrom (suc q) es → filter (λ e. nat_eq e.0 q) es ≡ []
@@ -150,23 +146,6 @@ pub rising_by : (es : List (ℕ × MoveValue)) → IsNonDecreasingBy (λ e. e.0)
 unfolding Rising
 rising_by [] h = tt
 rising_by (e ∷ es) h = (all_from e.0 es (λ k d lt. h 0 (suc k) d (omega arith) (omega arith)), rising_by es (λ j k d le lt. h (suc j) (suc k) d (omega arith) (omega arith)))
-
-pub in_order-rising : (f : FunctionValue) (o : OutputValue) → IsInOrder f o → Rising o.edits
-in_order-rising f o h = rising_by o.edits h.points_never_fall
-
-all_from-at : (n : ℕ) (es : List (ℕ × MoveValue)) (k : ℕ) (d : ℕ × MoveValue) → AllFrom n es → k < length es → n ≤ (slice_index_or es k d).0
-unfolding AllFrom
-all_from-at n [] k d h lt = absurd (omega arith)
-all_from-at n (e ∷ es) zero d h lt = h.0
-all_from-at n (e ∷ es) (suc k) d h lt = all_from-at n es k d h.1 (omega arith)
-
-pub rising-in_order : (es : List (ℕ × MoveValue)) → Rising es → IsNonDecreasingBy (λ e. e.0) es
-unfolding Rising
-rising-in_order [] r j k d le lt = absurd (omega arith)
-rising-in_order (e ∷ es) r zero zero d le lt = omega arith
-rising-in_order (e ∷ es) r zero (suc k) d le lt = all_from-at e.0 es k d r.0 (omega arith)
-rising-in_order (e ∷ es) r (suc j) zero d le lt = absurd (omega arith)
-rising-in_order (e ∷ es) r (suc j) (suc k) d le lt = rising-in_order es r.1 j k d (omega arith) (omega arith)
 
 -- a listing by points depends on its own points and instructions alone
 pub walked-same : (insts : ℕ → InstValue) (at to : ℕ → List MoveValue) (places others : ℕ → List Place) (i count : ℕ) → ((q : ℕ) → before i ≤ q → q < before (i + count) → at q ≡ to q) → ((j : ℕ) → i ≤ j → j < i + count → places j ≡ others j) →

@@ -24,12 +24,6 @@ Silent v [] = Unit {0}
 Silent v (Move m ∷ items) = Silent v items
 Silent v (Exec operands places clobbers ∷ items) = Unread operands v × Silent v items
 
-pub silent_append : (v : VirtualRegister) (K L : List Item) → Silent v K → Silent v L → Silent v (K ++ L)
-unfolding Silent
-silent_append v [] L h g = g
-silent_append v (Move m ∷ K) L h g = silent_append v K L h g
-silent_append v (Exec ops places clobbers ∷ K) L h g = (h.0, silent_append v K L h.1 g)
-
 pub silent_moves : (v : VirtualRegister) (ms : List MoveValue) (L : List Item) → Silent v L → Silent v (with_moves ms L)
 unfolding Silent with_moves
 silent_moves v [] L h = h

@@ -9,7 +9,7 @@ use Rattle.regalloc2_function.specs.SourceRun.{arguments_at}
 use Rattle.regalloc2_function.specs.AllocatedRun.{Cells, after_moves}
 use Rattle.regalloc2_flow.specs.Listing.{Item, with_moves, writes}
 use Rattle.regalloc2_flow.specs.Carry.{Carries, Untouched}
-use Rattle.regalloc2_flow.specs.Blocks.{names, HasEdge, target_at, IsUnwritten, IsWantedBehind, Passes, StandsBefore, StandsAfter, BlockCarries}
+use Rattle.regalloc2_flow.specs.Blocks.{names, HasEdge, target_at, IsWantedBehind, Passes, StandsAfter}
 use Rattle.regalloc2_flow.proofs.Cells.{cases_vreg, is_vreg-same}
 use Rattle.regalloc2_flow.proofs.Carrying.{carries_weaken, carries_fresh, carries_moves}
 
@@ -64,17 +64,6 @@ module _ (f : FunctionValue) (slot new : VirtualRegister → Option Place) (w : 
             ])
             k
       ]
-
-  -- a block that was walked before
-  pub block_new_slot : AddsSlot → (L : List Item) → Untouched s L → writes w L ≡ false → IsUnwritten f b w → BlockCarries f slot b L → BlockCarries f new b L
-  block_new_slot a L untouched unwritten none k silent v used free =
-      carries_weaken v L (λ p. StandsBefore f slot b v p ⊎ ((v ≡ w) × (p ≡ s))) (StandsBefore f new b v) (StandsAfter f new b v) (StandsAfter f new b v)
-      (λ p h. elim h [
-        | inl x ↦ (x.0, elim (cases_vreg v w) [ inl e ↦ (let i : slot v ≡ None = ap slot e ∙ a.before in let j = x.1 in absurd cc) | inr n ↦ a.others v n ∙ x.1 ])
-        | inr i ↦ (subst (IsUnwritten f b) (sym i.0) none, ap new i.0 ∙ a.here ∙ ap Some (sym i.1))
-      ])
-      (λ q h. h)
-      (new_slot a L untouched unwritten v (StandsBefore f slot b v) (k silent v used free))
 
 -- the slots of the parameters that v is passed to
 abbrev pub PassedTo : FunctionValue → (VirtualRegister → Option Place) → ℕ → VirtualRegister → Place → Type 0

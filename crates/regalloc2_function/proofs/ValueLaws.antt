@@ -46,8 +46,3 @@ reads_give_numbers f out h meaning ws p =
 -- a faithful output reads the function's numbers
 pub same_numbers : (f : FunctionValue) (env : MachineValue) (out : OutputValue) → IsFaithful f env out → SameNumbers f out
 same_numbers f env out h = reads_give_numbers f out (λ ws p. (h ws p).reads)
-
--- what holds at the start, and is kept by each step and each way on, holds on every path
-pub along_paths : (f : FunctionValue) (P : List Way → Type 0) → P [] → ((w : Way) (ws : List Way) → IsPath f (w ∷ ws) → P ws → P (w ∷ ws)) → (ws : List Way) → IsPath f ws → P ws
-along_paths f P base more [] p = base
-along_paths f P base more (w ∷ ws) p = more w ws p (along_paths f P base more ws p.0)

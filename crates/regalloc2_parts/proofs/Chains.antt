@@ -142,10 +142,6 @@ goes_on old st k s other within had j n e = ⊎_elim
     (λ differs. had j n (sym (set_there st k j s differs) ∙ e))
     (cases_eq j k)
 
--- a pop takes the last number
-pub pops : (old new : List ℕ) (k : ℕ) → old ≡ new ++ k ∷ [] → length old ≡ length new + 1
-pops old new k e = ap length e ∙ length_push new k
-
 pub last_within : (nexts : List ℕ) (st : List State) (chain : List ℕ) (k : ℕ) → IsChain nexts st (chain ++ k ∷ []) → k < length nexts
 last_within nexts st chain k is =
     let more : length (chain ++ k ∷ []) ≡ length chain + 1 = length_push chain k in
@@ -155,12 +151,6 @@ pub last_leads : (nexts : List ℕ) (chain : List ℕ) (k stop : ℕ) → LeadsT
 last_leads nexts chain k stop leads =
     let more : length (chain ++ k ∷ []) ≡ length chain + 1 = length_push chain k in
     ap (λ x. number_at nexts x) (sym (at_end chain k)) ∙ leads (length chain) (omega arith)
-
--- a chain that is not empty, of which a move is pending
-pub not_empty : (nexts : List ℕ) (st : List State) (chain : List ℕ) (k : ℕ) → IsChain nexts st chain → length chain ≡ 0 → k < length nexts → state_at st k ≡ Pending → ⊥
-not_empty nexts st chain k is none within pends =
-    let at : (i : ℕ) × (i < length chain) × (number_at chain i ≡ k) = is.only k within pends in
-    let low : at.0 < length chain = at.1 in omega arith
 
 pub ends_settled : (nexts : List ℕ) (st : List State) (chain : List ℕ) → IsChain nexts st chain → length chain ≡ 0 → length st ≡ length nexts → IsSettled st
 ends_settled nexts st chain is empty same k r pends =

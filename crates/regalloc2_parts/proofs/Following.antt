@@ -1,11 +1,11 @@
 -- Lemmas on following a chain.
-use Rattle.std.proofs.Common.{◌≡◌, ℕ, ◌+◌, ◌<◌, cond, List, [], ◌∷◌, ◌++◌, length, set, ◌⊎◌, refl, sym, ap, ◌∙◌, inl, inr, ⊎_elim, arith}
+use Rattle.std.proofs.Common.{◌≡◌, ℕ, ◌+◌, ◌<◌, cond, List, [], ◌∷◌, ◌++◌, length, set, ◌⊎◌, refl, sym, ap, ◌∙◌, inr, ⊎_elim, arith}
 use Rattle.std.proofs.lemmas.Bool.{cases_eq}
 use Rattle.std.proofs.lemmas.List.Sums.{sum_by-set}
 use Rattle.std.specs.List.{count_by}
 use Rattle.regalloc2_parts.specs.declared.moves.order.State.{State}
 use Rattle.regalloc2_parts.specs.declared.moves.order.State.TheVariants.{Todo, Pending}
-use Rattle.regalloc2_parts.specs.Giving.{state_at, number_at, IsChain, LeadsTo, HasGoneOn, AreSameDone, IsSettled}
+use Rattle.regalloc2_parts.specs.Giving.{state_at, number_at, IsChain, LeadsTo, HasGoneOn, AreSameDone}
 use Rattle.regalloc2_parts.proofs.Chains.{is_todo, set_here, set_there, at_last, length_push, chain_push, goes_on, todo_pending, todo_done, pending_done}
 
 -- how many moves are still to be done
@@ -27,23 +27,6 @@ pub record IsFollowing (nexts : List ℕ) (old st : List State) (chain : List �
   pub same : AreSameDone old st
   pub on : HasGoneOn old st
   pub begun : (at ≡ start) ⊎ (state_at st start ≡ Todo → ⊥)
-
-pub follows_none : (nexts : List ℕ) (old : List State) (chain : List ℕ) (start : ℕ) → chain ≡ [] → length old ≡ length nexts → IsSettled old → IsFollowing nexts old old chain start start
-follows_none nexts old chain start e many settled =
-    let none : length chain ≡ 0 = ap length e in
-    record {
-      is_chain = record {
-        inside = λ i r. absurd (omega arith);
-        pending = λ i r. absurd (omega arith);
-        differ = λ i j o r f. absurd (omega arith);
-        linked = λ i r. absurd (omega arith);
-        only = λ k r was. absurd (settled k (omega arith) was);
-      };
-      link = λ i f. absurd (omega arith);
-      same = record { stays = λ k h. h; was = λ k h. h };
-      on = λ k n. n;
-      begun = inl refl;
-    }
 
 pub follows_more : (nexts : List ℕ) (old st : List State) (chain : List ℕ) (start at : ℕ) → IsFollowing nexts old st chain start at → length st ≡ length nexts → at < length nexts → state_at st at ≡ Todo → IsFollowing nexts old (set st at Pending) (chain ++ at ∷ []) start (number_at nexts at)
 follows_more nexts old st chain start at had many within todo =

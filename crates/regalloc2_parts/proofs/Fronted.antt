@@ -1,5 +1,5 @@
 -- A member of a list of distinct registers that goes to the front.
-use Rattle.std.proofs.Common.{ℕ, zero, suc, ◌≡◌, ◌+◌, ◌-◌, ◌<◌, ◌∙◌, refl, arith, sym, ap, List, [], ◌∷◌, ◌++◌, false, not, length, take, drop, slice_index_or}
+use Rattle.std.proofs.Common.{ℕ, zero, suc, ◌≡◌, ◌+◌, ◌-◌, ◌<◌, ◌∙◌, refl, arith, ap, List, [], ◌∷◌, ◌++◌, false, not, length, take, drop, slice_index_or}
 use Rattle.std.specs.Prelude.{filter}
 use Rattle.std.specs.List.{IsDistinct, AllByRecursion}
 use Rattle.std.proofs.lemmas.Map.Keys.{IsDistinct-head, IsDistinct-tail}

@@ -1,11 +1,11 @@
 -- A list whose member goes to the front.
-use Rattle.std.proofs.Common.{zero, suc, ◌≡◌, ◌<◌, refl, arith, sym, subst, List, [], ◌∷◌, Bool, true, false, not, cond, length}
+use Rattle.std.proofs.Common.{zero, suc, ◌≡◌, refl, arith, sym, subst, List, [], ◌∷◌, Bool, true, false, not, cond}
 use Rattle.std.specs.Prelude.{Contains, filter, ◌↔◌}
 use Rattle.std.specs.List.{IsDistinct}
 use Rattle.std.proofs.lemmas.List.Elements.{All-filter, All-contains, All-contains_itself, All-weaker, filter_passes, recursion_from_All}
 use Rattle.std.proofs.lemmas.Map.Keys.{IsDistinct-cons}
 use Rattle.regalloc2_names.specs.Register.{Register, is_register}
-use Rattle.regalloc2_parts.proofs.RegisterLaws.{is_register-refl, is_register-true, filter-le, filter-distinct}
+use Rattle.regalloc2_parts.proofs.RegisterLaws.{is_register-true, filter-distinct}
 
 past : (b : Bool) (x r : Register) (xs : List Register) → Contains xs r → Contains (cond b (x ∷ xs) xs) r
 past true x r xs (k, less, at) = (suc k, omega arith, at)
@@ -22,18 +22,6 @@ kept test (x ∷ xs) r (suc k, less, at) e = past (test x) x r (filter test xs) 
 -- what is in a filter was in its list
 pub was_there : (test : Register → Bool) (xs : List Register) (r : Register) → Contains (filter test xs) r → Contains xs r
 was_there test xs r h = All-contains (Contains xs) (filter test xs) r (All-filter test (Contains xs) xs (All-contains_itself xs)) h
-
-shorter_by : (b : Bool) (x : Register) (xs ys : List Register) → length ys < length xs → length (cond b (x ∷ ys) ys) < suc (length xs)
-shorter_by true x xs ys fewer = omega arith
-shorter_by false x xs ys fewer = omega arith
-
--- without a member a list is shorter
-pub shorter : (p : Register) (xs : List Register) → Contains xs p → length (filter (λ r. not (is_register p r)) xs) < length xs
-shorter p [] (k, less, at) = absurd (omega arith)
-shorter p (x ∷ xs) (zero, less, at) =
-    let here : is_register p x ≡ true = subst (λ (y : Register). is_register p y ≡ true) (sym at) (is_register-refl p) in
-    rw here (omega (arith, filter-le (λ r. not (is_register p r)) xs))
-shorter p (x ∷ xs) (suc k, less, at) = shorter_by (not (is_register p x)) x xs (filter (λ r. not (is_register p r)) xs) (shorter p xs (k, omega arith, at))
 
 -- with its member in front it has the same members
 pub same_members : (p : Register) (xs : List Register) → Contains xs p → (r : Register) → Contains (p ∷ filter (λ r. not (is_register p r)) xs) r ↔ Contains xs r

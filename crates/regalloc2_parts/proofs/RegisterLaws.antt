@@ -55,11 +55,6 @@ by_test : (t : Bool) (x : Register) (xs : List Register) → length (cond t (x �
 by_test true x xs = omega arith
 by_test false x xs = omega arith
 
--- a filter keeps no more than there is
-pub filter-le : (test : Register → Bool) (xs : List Register) → length (filter test xs) ≤ length xs
-filter-le test [] = omega arith
-filter-le test (x ∷ xs) = omega (arith, by_test (test x) x (filter test xs), filter-le test xs)
-
 -- registers that differ still do where some are left out
 pub filter-distinct : (test : Register → Bool) (xs : List Register) → IsDistinct is_register xs → IsDistinct is_register (filter test xs)
 filter-distinct test [] d = d

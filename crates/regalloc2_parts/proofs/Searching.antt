@@ -1,5 +1,5 @@
 -- Lemmas on the search for the move that writes a place.
-use Rattle.std.proofs.Common.{◌≡◌, ℕ, ◌+◌, ◌<◌, ◌≤◌, List, [], ◌∷◌, ◌++◌, length, get_or, Ok, Err, refl, sym, ap, ◌∙◌, subst, ⊎_elim, arith}
+use Rattle.std.proofs.Common.{◌≡◌, ℕ, ◌+◌, ◌<◌, ◌≤◌, List, [], ◌∷◌, ◌++◌, length, get_or, Ok, Err, sym, ap, ◌∙◌, subst, ⊎_elim, arith}
 use Rattle.std.specs.List.Sorted.{IsBinarySearchResult, IsNonDecreasingBy}
 use Rattle.std.specs.Ordering.{nat_cmp, ordering_index}
 use Rattle.std.proofs.lemmas.Cmp.{ranked}
@@ -10,7 +10,7 @@ use Rattle.std.proofs.lemmas.List.Elements.{Contains-get_or}
 use Rattle.regalloc2_names.specs.Place.{Place}
 use Rattle.regalloc2_names.specs.PlaceBits.{bits_of_place}
 use Rattle.regalloc2_parts.specs.AtOnce.{Ends, ends, ends_of, IsPlace, no_move}
-use Rattle.regalloc2_parts.specs.Giving.{from_at, to_at, number_at, IsWriterOf, AreNexts, AreProper}
+use Rattle.regalloc2_parts.specs.Giving.{from_at, to_at, number_at, IsWriterOf, AreProper}
 use Rattle.regalloc2_parts.proofs.Chains.{length_push, at_left, at_last}
 use Rattle.regalloc2_parts.proofs.Lists.{length_ends}
 use Rattle.regalloc2_parts.proofs.Places.{same_word}
@@ -64,9 +64,6 @@ pub record AreNextsTo (ms : List Ends) (nexts : List ℕ) (end : ℕ) : Type 0 w
   pub as_many : length nexts ≡ end
   pub each : (k : ℕ) → k < end → IsWriterOf ms (from_at ms k) (number_at nexts k)
 
-pub nexts_none : (ms : List Ends) → AreNextsTo ms [] 0
-nexts_none ms = record { as_many = refl; each = λ k r. absurd (omega arith) }
-
 pub nexts_more : (ms : List Ends) (nexts : List ℕ) (end next : ℕ) → AreNextsTo ms nexts end → IsWriterOf ms (from_at ms end) next → AreNextsTo ms (nexts ++ next ∷ []) (end + 1)
 nexts_more ms nexts end next had is =
     let many : length nexts ≡ end = had.as_many in
@@ -79,10 +76,3 @@ nexts_more ms nexts end next had is =
           (subst (λ x. IsWriterOf ms (from_at ms x) next) (sym e) is))
           (cases_lt k end);
     }
-
-pub nexts_all : (ms : List Ends) (nexts : List ℕ) → AreNextsTo ms nexts (length ms) → AreNexts ms nexts
-nexts_all ms nexts had = record {
-  as_many = had.as_many;
-  found = λ k r l. (had.each k r).writes l;
-  absent = λ k r n. (had.each k r).absent n;
-}

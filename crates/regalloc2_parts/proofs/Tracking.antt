@@ -9,7 +9,7 @@ use Rattle.regalloc2_parts.specs.declared.moves.passing.Held.{Held}
 use Rattle.regalloc2_parts.specs.declared.moves.passing.Held.TheVariants.{Free, InRegister, InBoth, InSave}
 use Rattle.regalloc2_parts.specs.AtOnce.{Ends, ends, ends_of, no_move, Cells, moved, in_turn}
 use Rattle.regalloc2_parts.specs.Giving.{from_at, to_at}
-use Rattle.regalloc2_parts.specs.Tracking.{Tracks, Fits, CanPass, IsFirst, IsAside, IsThrough, IsStep, IsMade, stands}
+use Rattle.regalloc2_parts.specs.Tracking.{Tracks, Fits, CanPass, IsAside, IsThrough, IsStep, IsMade, stands}
 use Rattle.regalloc2_parts.proofs.Places.{cases_place, moved_here, moved_other}
 use Rattle.regalloc2_parts.proofs.Lists.{ends_push}
 
@@ -49,10 +49,6 @@ module _ (r s : Place) where
   restores_pushed c d old new m from to e had =
       subst (λ x. Tracks r s InBoth c x) (sym (pushed old new m e d ∙ ap (λ p. moved (in_turn (ends_of old) d) m.1 (in_turn (ends_of old) d p)) from ∙ ap (λ p. moved (in_turn (ends_of old) d) p (in_turn (ends_of old) d s)) to))
       (restores c (in_turn (ends_of old) d) had)
-
-  -- what is in both is in the save slot
-  pub in_save : (c d : Cells Place) → Tracks r s InBoth c d → Tracks r s InSave c d
-  in_save c d had = record { fits = had.fits; others = had.others; borrowed = had.borrowed.1 }
 
   -- the register is filled with what passes through it
   fills : (h : Held) (c d : Cells Place) (v : Place) → CanPass h → Tracks r s h c d → Tracks r s h c (moved d r v)
@@ -138,13 +134,6 @@ module _ (r s : Place) where
   -- the first moves are made
   abbrev pub Follows : {T : Type 0} → Held → List (Place × Place × T) → List (Place × Place × T) → ℕ → Type 0
   Follows h ms out i = (d : Cells Place) → Tracks r s h (in_turn (take i (ends_of ms)) d) (in_turn (ends_of out) d)
-
-  pub follows_none : {T : Type 0} (h : Held) (ms : List (Place × Place × T)) → Fits h r s → IsFirst h → Follows h ms [] 0
-  unfolding in_turn
-  follows_none Free ms fits first d = record { fits = fits; others = λ q n m. refl; borrowed = tt }
-  follows_none InRegister ms fits first d = record { fits = fits; others = λ q n m. refl; borrowed = refl }
-  follows_none InBoth ms fits first d = absurd first
-  follows_none InSave ms fits first d = absurd first
 
   pub follows_more : {T : Type 0} (h after : Held) (ms old new : List (Place × Place × T)) (i : ℕ) (m : Place × Place × T) → i < length (ends_of ms) → m.0 ≡ from_at (ends_of ms) i → m.1 ≡ to_at (ends_of ms) i → Follows h ms old i → ((c d : Cells Place) → Tracks r s h c (in_turn (ends_of old) d) → Tracks r s after (moved c m.1 (c m.0)) (in_turn (ends_of new) d)) → Follows after ms new (i + 1)
   follows_more h after ms old new i m low from to had step d =

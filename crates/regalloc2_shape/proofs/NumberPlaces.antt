@@ -9,9 +9,6 @@ use Rattle.regalloc2_shape.specs.NumberWords.{Lacks, KeysApart, IsPlaceFor}
 pub nat_eq-apart : (a b : ℕ) → a ≢ b → nat_eq a b ≡ false
 nat_eq-apart a b ne = grind (arith, nat_tests)
 
-apart-nat_eq : (a b : ℕ) → nat_eq a b ≡ false → a ≢ b
-apart-nat_eq a b e = grind (arith, nat_tests)
-
 apart-flip : (a b : ℕ) → nat_eq a b ≡ false → nat_eq b a ≡ false
 apart-flip a b e = grind (arith, nat_tests)
 

@@ -6,12 +6,11 @@ use Rattle.std.proofs.lemmas.List.Elements.{All-cons, All-contains}
 use Rattle.regalloc2_names.specs.declared.RegAllocError.{RegAllocError}
 use Rattle.regalloc2_names.specs.declared.RegAllocError.TheVariants.{Memory, SSA}
 use Rattle.regalloc2_function.specs.FunctionValue.{FunctionValue, BlockValue}
-use Rattle.regalloc2_function.specs.Reasons.{HasShape, IsDefinitionFault, IsShapeFault, IsSound, IsSoundnessFault}
+use Rattle.regalloc2_function.specs.Reasons.{HasShape, IsDefinitionFault, IsShapeFault, IsSoundnessFault}
 use Rattle.regalloc2_function.specs.Reasons.IsShapeFault.{apart, critical, operands, outside, unlisted}
-use Rattle.regalloc2_function.specs.Reasons.IsSoundnessFault.{arguments, definitions, elsewhere, livein, open_end}
-use Rattle.regalloc2_function.specs.WellFormed.{ArgumentsCounted, ArgumentsFit, BlocksEnd, BlocksFollow, EntryIsFirst, SuccessorsAreBlocks}
+use Rattle.regalloc2_function.specs.Reasons.IsSoundnessFault.{definitions}
+use Rattle.regalloc2_function.specs.WellFormed.{ArgumentsCounted, ArgumentsFit, BlocksEnd, EntryIsFirst, SuccessorsAreBlocks}
 use Rattle.regalloc2_shape.proofs.Bridges.{numbered}
-use Rattle.regalloc2_shape.proofs.Faults.{only_memory}
 use Rattle.regalloc2_shape.proofs.Members.{all_members, from_flat}
 use Rattle.regalloc2_shape.proofs.Parts.{first_not_all}
 
@@ -32,19 +31,6 @@ shape_refused f shape (apart b blocks h) = h.1 (shape.follow b h.0)
 shape_refused f shape (unlisted b blocks follow h) = h.1 (shape.predecessors b h.0)
 shape_refused f shape (critical b p blocks follow agree h fork) = h.1 (shape.no_critical_edge b h.0)
 shape_refused f shape (operands b blocks follow agree edges h) = h.1 (shape.no_operands_into_joins b h.0)
-
-pub only_memory_shape : (f : FunctionValue) (e : RegAllocError) → HasShape f → (e ≡ Memory) ⊎ IsShapeFault f e → e ≡ Memory
-only_memory_shape f e shape h = elim h [ inl m ↦ m | inr fault ↦ absurd (shape_refused f shape fault) ]
-
-sound_refused : (f : FunctionValue) {e : RegAllocError} → BlocksFollow f → 0 < length f.blocks → IsSound f → IsSoundnessFault f e → ⊥
-sound_refused f follow some sound (elsewhere ne) = ne sound.entry.0
-sound_refused f follow some sound (livein z ne) = ne sound.entry.1
-sound_refused f follow some sound (open_end b entry h) = h.1 (sound.end b h.0)
-sound_refused f follow some sound (arguments b entry end h) = h.1 (sound.classes b h.0)
-sound_refused f follow some sound (definitions v i entry end fit h) = let q : SSA v i ≡ Memory = only_memory f follow some sound.defined_once sound.uses_defined (SSA v i) h in cc
-
-pub only_memory_sound : (f : FunctionValue) (e : RegAllocError) → BlocksFollow f → 0 < length f.blocks → IsSound f → (e ≡ Memory) ⊎ IsSoundnessFault f e → e ≡ Memory
-only_memory_sound f e follow some sound h = elim h [ inl m ↦ m | inr fault ↦ absurd (sound_refused f follow some sound fault) ]
 
 -- a fault of definitions is one of soundness, where the tests before pass
 pub definition_fault : (f : FunctionValue) → EntryIsFirst f → BlocksEnd f → ArgumentsFit f → (e : RegAllocError) → IsDefinitionFault f e → (e ≡ Memory) ⊎ IsSoundnessFault f e

@@ -1,9 +1,9 @@
 -- Lists of blocks that are filled one position at a time.
-use Rattle.std.proofs.Common.{ℕ, zero, suc, ◌≡◌, ◌≢◌, ◌+◌, ◌<◌, ◌≤◌, Bool, true, false, List, [], ◌∷◌, ◌++◌, length, get_or, set, take, refl, sym, ap, ◌∙◌, subst, eq-eqb, add-zero, zero-add, inl, inr, ◌⊎◌, arith}
+use Rattle.std.proofs.Common.{ℕ, ◌≡◌, ◌≢◌, ◌+◌, ◌<◌, ◌≤◌, Bool, true, false, List, [], ◌∷◌, ◌++◌, length, get_or, set, take, sym, ap, ◌∙◌, subst, eq-eqb, add-zero, zero-add, inl, inr, ◌⊎◌, arith}
 use Rattle.std.specs.Prelude.{All, cond, map, nat_eq}
 use Rattle.std.proofs.lemmas.Bool.{cases_Bool, cases_eq}
 use Rattle.std.proofs.lemmas.Bool.Decides.{Decides-eqb}
-use Rattle.std.proofs.lemmas.List.{get_or-map, get_or-set_other, get_or-set_same, get_or_past, length-map, map-append, map-set}
+use Rattle.std.proofs.lemmas.List.{get_or-map, get_or-set_other, get_or-set_same, get_or_past, length-map, map-set}
 use Rattle.std.proofs.lemmas.List.Sums.{count_by_more_yes, sum_by_more, sum_by_push}
 use Rattle.std.specs.declared.vec.Vec.{Vec}
 use Rattle.regalloc2_function.specs.FunctionValue.{FunctionValue, block_at, no_block}
@@ -47,19 +47,6 @@ ways_more before old s b i d w succs there short is grown so_far n p =
     add_one : (t : Bool) (new old before now next : ℕ) → old ≡ before + cond t now 0 → new ≡ old + cond t 1 0 → next ≡ now + 1 → new ≡ before + cond t next 0
     add_one true new old before now next h one more = omega arith
     add_one false new old before now next h one more = omega arith
-
--- lists with an empty one more
-pub listed_push : {A : Type 0} (ws : List (Vec ℕ A)) (w : Vec ℕ A) → ((n : ℕ) → listed_of ws n ≡ []) → w.items ≡ [] → (n : ℕ) → listed_of (ws ++ w ∷ []) n ≡ []
-listed_push ws w none empty n = go (map (λ w. w.items) ws) n none (λ m. ap (λ l. get_or l m []) (map-append (λ w. w.items) ws (w ∷ []) ∙ ap (λ x. map (λ w. w.items) ws ++ x ∷ []) empty))
-  where
-    past : (xs : List (List ℕ)) (n : ℕ) → ((m : ℕ) → get_or xs m [] ≡ []) → get_or (xs ++ [] ∷ []) n [] ≡ []
-    past [] zero h = refl
-    past [] (suc n) h = refl
-    past (x ∷ xs) zero h = h 0
-    past (x ∷ xs) (suc n) h = past xs n (λ m. h (suc m))
-
-    go : (xs : List (List ℕ)) (n : ℕ) → ((m : ℕ) → get_or xs m [] ≡ []) → ((m : ℕ) → listed_of (ws ++ w ∷ []) m ≡ get_or (xs ++ [] ∷ []) m []) → listed_of (ws ++ w ∷ []) n ≡ []
-    go xs n h e = e n ∙ past xs n h
 
 -- a number that is no block has no successors
 no_succs : (f : FunctionValue) (p : ℕ) → length f.blocks ≤ p → (block_at f p).succs ≡ []

@@ -1,5 +1,5 @@
 -- Lists that are walked side by side.
-use Rattle.std.proofs.Common.{◌≡◌, ◌∙◌, ℕ, ◌+◌, ◌<◌, List, [], ◌∷◌, ◌++◌, length, map, take, get_or, ap, sym, subst, refl, arith}
+use Rattle.std.proofs.Common.{◌≡◌, ◌∙◌, ℕ, ◌+◌, ◌<◌, List, [], ◌∷◌, ◌++◌, length, map, take, get_or, ap, sym, subst, refl}
 use Rattle.std.specs.List.{AllZip}
 use Rattle.std.specs.Prelude.{All}
 use Rattle.std.proofs.lemmas.List.Elements.{All-map}
@@ -26,24 +26,6 @@ pub zip-more : {X Y Z : Type 0} (R : X → Y → Type 0) (f : Z → Y) (xs : Lis
     i < length xs → x ≡ get_or xs i x → AllZip R (take i xs) (map f zs) → R x (f z) → AllZip R (take (i + 1) xs) (map f (zs ++ z ∷ []))
 zip-more R f xs zs i x z less is before here =
     rw (take_more xs i x less, ← is, map-append f zs (z ∷ [])) (all_zipped_more R (take i xs) (map f zs) x (f z) before here)
-
--- three members
-pub zip-three : {X Y : Type 0} (R : X → Y → Type 0) (xs : List X) (x y z : X) (a b d : Y) → length xs ≡ 3 →
-    x ≡ get_or xs 0 x → y ≡ get_or xs 1 y → z ≡ get_or xs 2 z → R x a → R y b → R z d → AllZip R xs (a ∷ b ∷ d ∷ [])
-zip-three R [] x y z a b d long ix iy iz ra rb rd = absurd (omega (arith, long))
-zip-three R (p ∷ []) x y z a b d long ix iy iz ra rb rd = absurd (omega (arith, long))
-zip-three R (p ∷ q ∷ []) x y z a b d long ix iy iz ra rb rd = absurd (omega (arith, long))
-zip-three R (p ∷ q ∷ r ∷ []) x y z a b d long ix iy iz ra rb rd =
-    (subst (λ w. R w a) ix ra, (subst (λ w. R w b) iy rb, (subst (λ w. R w d) iz rd, tt)))
-zip-three R (p ∷ q ∷ r ∷ s ∷ ss) x y z a b d long ix iy iz ra rb rd = absurd (omega (arith, long))
-
-pub map-three : {X Y : Type 0} (f : X → Y) (xs : List X) (x y z : X) → length xs ≡ 3 →
-    x ≡ get_or xs 0 x → y ≡ get_or xs 1 y → z ≡ get_or xs 2 z → (f x ∷ f y ∷ f z ∷ []) ≡ map f xs
-map-three f [] x y z long ix iy iz = absurd (omega (arith, long))
-map-three f (p ∷ []) x y z long ix iy iz = absurd (omega (arith, long))
-map-three f (p ∷ q ∷ []) x y z long ix iy iz = absurd (omega (arith, long))
-map-three f (p ∷ q ∷ r ∷ []) x y z long ix iy iz = rw (ix, iy, iz) refl
-map-three f (p ∷ q ∷ r ∷ s ∷ ss) x y z long ix iy iz = absurd (omega (arith, long))
 
 -- what each has under one view, each has under another that gives the same list
 pub all-under : {X Y Z : Type 0} (P : Y → Type 0) (f : X → Y) (h : Z → Y) (xs : List X) (zs : List Z) →
