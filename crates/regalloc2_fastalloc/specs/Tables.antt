@@ -179,6 +179,10 @@ pub record IsFoundIn (t : RegistersValue) (class : RegClass) (free : PRegSet) (r
 abbrev pub NoneIsFoundIn : RegistersValue → RegClass → PRegSet → Type 0
 NoneIsFoundIn t class free = (r : Register) → r.number < 64 → r.class ≡ class → has_register t.allocatable r ≡ true → has_register free r ≡ false
 
+-- no register of the class whose number is at or above a bound is in the set
+abbrev pub NoneIsFrom : PRegSet → RegClass → ℕ → Type 0
+NoneIsFrom set class bound = (r : Register) → r.class ≡ class → bound ≤ r.number → r.number < 64 → has_register set r ≡ false
+
 -- the registers of a class in a set whose numbers are below a bound, each once
 pub record AreThoseBelow (set : PRegSet) (class : RegClass) (bound : ℕ) (regs : List Register) : Type 0 where
   pub distinct : AreDistinctOf class regs

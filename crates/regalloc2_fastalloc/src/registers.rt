@@ -1,12 +1,12 @@
 //! The registers that may be allocated.
 
-ghost use Rattle.std.specs.Prelude.{ℕ, ◌≡◌, ◌≢◌, ◌↔◌, ◌<◌, ◌≤◌, ◌∷◌, ◌||◌, ◌⊎◌, true, not, filter, Contains, IfSome, IfNone, IfOk, IfErr, None, slice_index, slice_index_or};
+ghost use Rattle.std.specs.Prelude.{ℕ, ◌≡◌, ◌≢◌, ◌+◌, ◌↔◌, ◌<◌, ◌≤◌, ◌∷◌, ◌||◌, ◌⊎◌, true, not, filter, Contains, IfSome, IfNone, IfOk, IfErr, None, slice_index, slice_index_or};
 ghost use Rattle.regalloc2_names.specs.declared.RegClass.{RegClass};
 ghost use Rattle.regalloc2_function.specs.Machine.{is_allocatable};
 ghost use Rattle.regalloc2_function.specs.Views.{machine_of};
 ghost use Rattle.regalloc2_names.specs.Register.{Register, class_code, is_register};
 ghost use Rattle.regalloc2_names.specs.RegisterSet.{has_register};
-ghost use Rattle.regalloc2_fastalloc.specs.Tables.{IsFoundIn, NoneIsFoundIn, AreThoseBelow, SameRegisters, ring_of};
+ghost use Rattle.regalloc2_fastalloc.specs.Tables.{IsFoundIn, NoneIsFoundIn, NoneIsFrom, AreThoseBelow, SameRegisters, ring_of};
 
 use regalloc2_function::MachineEnv;
 use regalloc2_names::{PReg, PRegSet, RegAllocError, RegClass};
@@ -138,7 +138,9 @@ impl<A: Allocator> Registers<A> {
 
     /// The allocatable register of the class with the greatest number.
     pub fn greatest(&self, class: RegClass) -> Option<PReg>
-        ensures { IfSome result (λ r. (r.class ≡ class) × (r.number < 64) × (has_register self.now.allocatable r ≡ true)) }
+        ensures found { IfSome result (λ r. (r.class ≡ class) × (r.number < 64) × (has_register self.now.allocatable r ≡ true)) }
+        ensures greatest { IfSome result (λ r. NoneIsFrom self.now.allocatable class (r.number + 1)) }
+        ensures none { IfNone result (NoneIsFrom self.now.allocatable class 0) }
     {
         let mut number = PReg::MAX + 1;
         while number > 0 {

@@ -19,7 +19,7 @@ pub compute-requires : goal.compute-requires
 compute-requires g c =
     let l : Lending = record { registers = c.lent_registers.result; slots = c.lent_slots.result; fixed_stack = c.fixed_stack.result; borrowed = c.in-Some.borrowed } in
     let old : Tables = tables_of c.args.self.now in
-    let held : MayHold old c.args.class c.in-Some.borrowed = record { of_class = c.in-Some.ensures.0; small = c.in-Some.ensures.1; allocatable = c.in-Some.ensures.2 } in (
+    let held : MayHold old c.args.class c.in-Some.borrowed = record { of_class = c.in-Some.ensures.found.0; small = c.in-Some.ensures.found.1; allocatable = c.in-Some.ensures.found.2 } in (
       omega arith,
       (
         serves_given c.args.turn.now c.args.class old l c.args.moves c.requires.apart c.requires.ends c.lent_registers.ensures.spare c.lent_registers.ensures.differ c.lent_slots.ensures c.fixed_stack.ensures held
@@ -44,7 +44,7 @@ returns-clause-ok g c =
     let s = c.args.self.now in
     let old : Tables = tables_of s in
     let new : Tables = record { places = s.places; slots = c.lend.new.self; edits = s.edits; allocatable = s.registers.allocatable; fixed_stack = s.registers.fixed_stack; dedicated = s.registers.dedicated } in
-    let held : MayHold old c.args.class c.in-Some.borrowed = record { of_class = c.in-Some.ensures.0; small = c.in-Some.ensures.1; allocatable = c.in-Some.ensures.2 } in
+    let held : MayHold old c.args.class c.in-Some.borrowed = record { of_class = c.in-Some.ensures.found.0; small = c.in-Some.ensures.found.1; allocatable = c.in-Some.ensures.found.2 } in
     orders c.args.turn.now c.args.class old l c.args.moves c.requires.apart c.requires.ends c.lent_registers.ensures.spare c.lent_registers.ensures.differ c.lent_slots.ensures c.fixed_stack.ensures held
     new c.in_ok-made.made.slots c.lend.ensures.lent c.in_ok-made.ensures.there.0 (has_scratch c.in_ok-resolved.resolved) (listed c.in_ok-resolved.resolved) c.in_ok-made.made.moves.items c.in_ok-resolved.ensures.resolved c.in_ok-made.ensures.made
     refl refl refl refl refl
