@@ -73,7 +73,6 @@ module _ (Known : VirtualRegister → Type 0) (f : FunctionValue) (placesf : ℕ
     (are_listed : (k : ℕ) → k < length (inst_at f last).operands → place_at (placesf last) k ≡ slice_index_or here k NoPlace)
     (no_defs : (k : ℕ) → k < length (inst_at f last).operands → is_def (op_at (inst_at f last).operands k).kind ≡ true → ⊥)
     (between : Between (last + 1) old) (a : Allocates last (inst_at f last) blank here old middle) (u : Turn) (br : Branched Known f placesf orderly avoids knows last here u old middle) where
-
   -- whose slot an operand stands in
   pub reads_own : ToCome F middle → (v : VirtualRegister) → Known v → (n j : ℕ) → F v.number ≡ Some (InSlot n) → j < length (inst_at f last).operands → is_reading (op_at (inst_at f last).operands j) ≡ true → InSlot n ≡ slice_index_or here j NoPlace →
       (op_at (inst_at f last).operands j).vreg ≡ v

@@ -69,7 +69,6 @@ module _ (Known : VirtualRegister → Type 0) (E : VirtualRegister → Place →
 module _ (lived out out2 : ℕ → Bool) (X : Place → ℕ → Bool) (T S : ℕ → Option Place) (d : ℕ) (a s : Place) (there : s ≢ NoPlace) (slot : S d ≡ Some s)
     (alone : (x : ℕ) → T x ≡ Some s → ⊥) (own : (x : ℕ) → S x ≡ Some s → x ≡ d) (mine : (x : ℕ) → X s x ≡ true → x ≡ d)
     (at_a : X a d ≡ true) (outs : (x : ℕ) → out x ≡ false → (x ≡ d → ⊥) → out2 x ≡ false) where
-
   stored_there : (v : ℕ) (q : Place) → (q ≡ s → ⊥) → Need lived out X T S v q → Need lived out2 X T S v q
   stored_there v q ne o = elim o [
     | stands l e ↦ stands l e

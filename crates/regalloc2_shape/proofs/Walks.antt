@@ -207,7 +207,6 @@ walked_start succs num entry vs ws fs out e less w f o =
     })
 
 module _ (succs : ℕ → List ℕ) (num entry : ℕ) (vs : List Bool) (out : List ℕ) (before popped : List Frame) (f : Frame) (xs : List ℕ) (top : before ≡ popped ++ f ∷ []) (is : xs ≡ succs f.block) (w : Walked succs num entry vs before out) where
-
   pub again_step : (pushed : List Frame) (x : ℕ) → pushed ≡ popped ++ record { block = f.block; next = f.next + 1 } ∷ [] → f.next < length xs → get_or xs f.next 0 ≡ x → x < num → get_or vs x false ≡ true → Walked succs num entry vs pushed out
   again_step pushed x p less at within m = rw p (record {
     long = w.long;
