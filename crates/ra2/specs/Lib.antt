@@ -3,3 +3,5 @@ pub mod Input
 pub mod Outcome
 pub mod Framed
 pub mod Refusal
+pub mod Text
+pub mod Findings

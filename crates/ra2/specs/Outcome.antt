@@ -1,5 +1,5 @@
--- What the program's status says.
-use Rattle.std.specs.Prelude.{ℕ, ◌≡◌, Bool, true, false, List, Option}
+-- What the program's status says, and its text.
+use Rattle.std.specs.Prelude.{ℕ, ◌≡◌, Bool, true, false, List, ◌++◌, Option}
 use Rattle.regalloc2_names.specs.declared.RegAllocError.{RegAllocError}
 use Rattle.regalloc2_function.specs.FunctionValue.{FunctionValue}
 use Rattle.regalloc2_function.specs.Machine.{MachineValue}
@@ -9,7 +9,9 @@ use Rattle.regalloc2_function.specs.Faithful.{IsFaithful}
 use Rattle.regalloc2_function.specs.WellFormed.{IsWellFormed}
 use Rattle.regalloc2_fastalloc.specs.Promise.{RunsAsTheFunction}
 use Rattle.regalloc2_fastalloc.specs.Reason.{IsReason}
+use Rattle.ra2.specs.Findings.{IsUnaccepted}
 use Rattle.ra2.specs.Input.{IsGiven}
+use Rattle.ra2.specs.Text.{refusal_line, checked_line}
 use Rattle.ra2.specs.declared.task.Task.{Task}
 use Rattle.ra2.specs.declared.task.Task.TheVariants.{Check}
 
@@ -19,20 +21,20 @@ pub record IsAllocated (f : FunctionValue) (env : MachineValue) (out : OutputVal
   pub in_order : IsInOrder f out
   pub runs : IsWrittenFirst f → RunsAsTheFunction f env out
 
--- the task is done: there is such an output, and where it is to be checked it is faithful
-abbrev pub IsDone : Task → FunctionValue → MachineValue → Type 0
-IsDone task f env = (out : OutputValue) × IsAllocated f env out × (task ≡ Check → IsFaithful f env out)
+-- the task is done: there is such an output, and where it is to be checked it is faithful, and the text that is written ends by saying so
+abbrev pub IsDone : Task → FunctionValue → MachineValue → (List ℕ → Type 0) → Type 0
+IsDone task f env IsWritten = (out : OutputValue) × IsAllocated f env out × (task ≡ Check → IsFaithful f env out × (listing : List ℕ) × IsWritten (listing ++ checked_line))
 
--- it isn't done: the function is refused, for a reason; or there is such an output, but the checker doesn't accept it, for its faults or for want of memory
-pub data IsTurnedDown (task : Task) (f : FunctionValue) (env : MachineValue) : Type 0 where
-  refused : (e : RegAllocError) → IsReason f env true e → IsTurnedDown task f env
-  unaccepted : (out : OutputValue) → IsAllocated f env out → task ≡ Check → IsTurnedDown task f env
+-- it isn't done: the function is refused, for a reason, and the reason's line is written; or there is such an output, but the checker doesn't accept it, and the text that is written ends with what it finds
+pub data IsTurnedDown (task : Task) (f : FunctionValue) (env : MachineValue) (IsWritten : List ℕ → Type 0) : Type 0 where
+  refused : (e : RegAllocError) → IsReason f env true e → IsWritten (refusal_line e) → IsTurnedDown task f env IsWritten
+  unaccepted : (out : OutputValue) → IsAllocated f env out → task ≡ Check → (listing : List ℕ) → IsUnaccepted f env out (λ text. IsWritten (listing ++ text)) → IsTurnedDown task f env IsWritten
 
 -- what is accepted is done, and what isn't is turned down
-abbrev pub IsOutcome : Task → FunctionValue → MachineValue → Bool → Type 0
-IsOutcome task f env true = IsDone task f env
-IsOutcome task f env false = IsTurnedDown task f env
+abbrev pub IsOutcome : Task → FunctionValue → MachineValue → (List ℕ → Type 0) → Bool → Type 0
+IsOutcome task f env IsWritten true = IsDone task f env IsWritten
+IsOutcome task f env IsWritten false = IsTurnedDown task f env IsWritten
 
 -- what bytes and a task have for an outcome, for the function and the machine that the bytes name
-abbrev pub HasOutcome : Option (List ℕ) → Task → Bool → Type 0
-HasOutcome bytes task accepted = (f : FunctionValue) × (env : MachineValue) × IsGiven bytes f env × IsOutcome task f env accepted
+abbrev pub HasOutcome : Option (List ℕ) → Task → (List ℕ → Type 0) → Bool → Type 0
+HasOutcome bytes task IsWritten accepted = (f : FunctionValue) × (env : MachineValue) × IsGiven bytes f env × IsOutcome task f env IsWritten accepted

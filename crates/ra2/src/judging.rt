@@ -1,12 +1,15 @@
 //! An allocation, and what the checker finds of it, in text.
 
-ghost use Rattle.std.specs.Prelude.{◌≡◌, true, IfOk};
+ghost use Rattle.std.specs.Prelude.{◌≡◌, true, false, IfOk};
+ghost use Rattle.std.specs.Io.KnownBytes.{Appends};
 ghost use Rattle.regalloc2_function.specs.Faithful.{IsFaithful};
 ghost use Rattle.regalloc2_function.specs.Views.{machine_of, output_of};
 ghost use Rattle.regalloc2_function.specs.WellFormed.{IsFramed};
 ghost use Rattle.regalloc2_function.specs.Fitting.{MachineFits};
+ghost use Rattle.ra2.specs.Findings.{IsUnaccepted};
 ghost use Rattle.ra2.specs.Outcome.{IsOutcome};
 ghost use Rattle.ra2.specs.Refusal.{refusal_number};
+ghost use Rattle.ra2.specs.Text.{checked_line};
 
 use super::listing::write_listing;
 use super::task::Task;
@@ -50,6 +53,8 @@ fn judge<F: Function, O: Write>(
 ) -> io::Result<bool>
     requires framed { IsFramed (F.function f.now) }
     ensures accepted { IfOk result (λ b. b ≡ true → IsFaithful (F.function f.now) (machine_of env.now) (output_of output.now)) }
+    ensures text { IfOk result (λ b. b ≡ true → Appends (O.contents out.old) (O.contents out.new) checked_line) }
+    ensures faults { IfOk result (λ b. b ≡ false → IsUnaccepted (F.function f.now) (machine_of env.now) (output_of output.now) (Appends (O.contents out.old) (O.contents out.new))) }
 {
     let mut checker = match Checker::new(alloc, f, env) {
         Ok(checker) => checker,
@@ -86,7 +91,7 @@ pub fn show<F: Function, O: Write>(
     out: &mut O,
 ) -> io::Result<bool>
     requires machine { MachineFits (F.function f.now) (machine_of env.now) }
-    ensures { IfOk result (IsOutcome task (F.function f.now) (machine_of env.now)) }
+    ensures { IfOk result (IsOutcome task (F.function f.now) (machine_of env.now) (Appends (O.contents out.old) (O.contents out.new))) }
 {
     match run(alloc, f, env, &OPTIONS) {
         Ok(output) => {

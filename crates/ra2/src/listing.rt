@@ -1,9 +1,10 @@
 //! The listing of an allocated function.
 
-ghost use Rattle.std.specs.Prelude.{◌<◌, length};
+ghost use Rattle.std.specs.Prelude.{◌<◌, Some, OnOk, length};
 ghost use Rattle.regalloc2_function.specs.OutputValue.{IsInOrder};
 ghost use Rattle.regalloc2_function.specs.Views.{output_of};
 ghost use Rattle.ra2.specs.Framed.{BlocksAreWithin};
+ghost use Rattle.ra2.specs.Text.{point_text, Lengthens};
 
 use regalloc2::{
     Allocation, Block, Edit, Function, Inst, InstOrEdit, InstPosition, Output, ProgPoint,
@@ -17,6 +18,8 @@ use std::io::{self, Write};
 struct PointText(ProgPoint);
 
 impl fmt::Display for PointText {
+    ghost output = { λ p. Some (point_text p.0) };
+
     fn fmt<W: fmt::Write>(&self, f: &mut fmt::Formatter<W>) -> fmt::Result {
         let inst = self.0.inst().index();
         match self.0.pos() {
@@ -35,6 +38,7 @@ fn write_inst<F: Function, A: Allocator, W: Write>(
 ) -> io::Result<()>
     requires in_order { IsInOrder (F.function f.now) (output_of output.now) }
     requires inst { inst < length (F.function f.now).insts }
+    ensures { OnOk result (Lengthens (W.contents writer.old) (W.contents writer.new)) }
 {
     let number = inst.index();
     let name = if f.is_branch(inst) {
@@ -64,6 +68,7 @@ fn write_block<F: Function, A: Allocator, W: Write>(
     requires in_order { IsInOrder (F.function f.now) (output_of output.now) }
     requires blocks { BlocksAreWithin (F.function f.now) }
     requires block { block < length (F.function f.now).blocks }
+    ensures { OnOk result (Lengthens (W.contents writer.old) (W.contents writer.new)) }
 {
     let number = block.index();
     writeln!(writer, "block{number}:")?;
@@ -90,6 +95,7 @@ pub fn write_listing<F: Function, A: Allocator, W: Write>(
 ) -> io::Result<()>
     requires in_order { IsInOrder (F.function f.now) (output_of output.now) }
     requires blocks { BlocksAreWithin (F.function f.now) }
+    ensures { OnOk result (Lengthens (W.contents writer.old) (W.contents writer.new)) }
 {
     for b in 0..f.num_blocks() {
         write_block(f, output, Block::new(b), writer)?;

@@ -1,6 +1,7 @@
 //! What the program does with its words.
 
 ghost use Rattle.std.specs.Prelude.{◌≡◌, ◌≤◌, None, Some, true, false};
+ghost use Rattle.std.specs.Io.KnownBytes.{Appends};
 ghost use Rattle.ra2.specs.Words.{task_of};
 ghost use Rattle.ra2.specs.Outcome.{HasOutcome};
 
@@ -33,8 +34,8 @@ fn perform<R: Read + Drop, O: Write, E: Write>(
     err: &mut E,
 ) -> u8
     ensures status { result ≤ 2 }
-    ensures done { result ≡ 0 → HasOutcome (R.remaining input) task true }
-    ensures turned_down { result ≡ 1 → HasOutcome (R.remaining input) task false }
+    ensures done { result ≡ 0 → HasOutcome (R.remaining input) task (Appends (O.contents out.old) (O.contents out.new)) true }
+    ensures turned_down { result ≡ 1 → HasOutcome (R.remaining input) task (Appends (O.contents out.old) (O.contents out.new)) false }
 {
     let f = match function_from(alloc, input) {
         Ok(f) => f,
@@ -67,8 +68,8 @@ pub fn answer<R: Read + Drop, O: Write, E: Write>(
 ) -> u8
     ensures status { result ≤ 2 }
     ensures bad_words { task_of words.now ≡ None → result ≡ 2 }
-    ensures done { result ≡ 0 → (t : Task) × (task_of words.now ≡ Some t) × HasOutcome (R.remaining input) t true }
-    ensures turned_down { result ≡ 1 → (t : Task) × (task_of words.now ≡ Some t) × HasOutcome (R.remaining input) t false }
+    ensures done { result ≡ 0 → (t : Task) × (task_of words.now ≡ Some t) × HasOutcome (R.remaining input) t (Appends (O.contents out.old) (O.contents out.new)) true }
+    ensures turned_down { result ≡ 1 → (t : Task) × (task_of words.now ≡ Some t) × HasOutcome (R.remaining input) t (Appends (O.contents out.old) (O.contents out.new)) false }
 {
     match Task::of(words) {
         Some(task) => perform(alloc, task, input, out, err),

@@ -1,9 +1,10 @@
 //! The function and the machine that the program is given.
 
-ghost use Rattle.std.specs.Prelude.{◌≡◌, IfOk, IfErr, IfSome};
+ghost use Rattle.std.specs.Prelude.{◌≡◌, Some, IfOk, IfErr, IfSome};
 ghost use Rattle.regalloc2_function.specs.Views.{machine_of};
 ghost use Rattle.regalloc2_stored.specs.Tables.{function_of};
 ghost use Rattle.ra2.specs.Input.{IsTextOf, IsGiven, IsInputFault, fault_number};
+ghost use Rattle.ra2.specs.Text.{input_text};
 
 use regalloc2::machine_fits;
 use regalloc2::serialize::{SerializableFunction, StoredFault, StoredFunction};
@@ -25,6 +26,8 @@ pub enum InputError {
 
 /// As `input unreadable`, `bad function 2` or `bad machine`.
 impl fmt::Display for InputError {
+    ghost output = { λ e. Some (input_text e) };
+
     fn fmt<W: fmt::Write>(&self, f: &mut fmt::Formatter<W>) -> fmt::Result {
         match self {
             InputError::Unreadable => write!(f, "input unreadable"),

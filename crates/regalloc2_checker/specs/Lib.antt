@@ -12,3 +12,4 @@ pub mod Found
 pub mod Report
 pub mod Judged
 pub mod Blocks
+pub mod Text

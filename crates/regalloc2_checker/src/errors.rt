@@ -1,7 +1,9 @@
 //! What a check finds.
 
-ghost use Rattle.std.specs.Prelude.{◌≡◌, ◌<◌, length};
+ghost use Rattle.std.specs.Prelude.{◌≡◌, ◌<◌, Some, length};
+ghost use Rattle.std.specs.Fmt.{WritesOnOk};
 ghost use Rattle.std.specs.Vec.{vec_len};
+ghost use Rattle.regalloc2_checker.specs.Text.{operand_fault_text, fault_text};
 
 use regalloc2_index::Inst;
 use regalloc2_names::{Allocation, Operand, VReg};
@@ -128,7 +130,9 @@ fn write_fault<W: fmt::Write>(
     inst: Inst,
     op: Operand,
     place: Allocation,
-) -> fmt::Result {
+) -> fmt::Result
+    ensures { WritesOnOk W.write_str_gives f.old result (operand_fault_text number inst op place) f.new }
+{
     let index = inst.index();
     write!(f, "error {number} inst{index} {op} [{place}]")
 }
@@ -136,6 +140,8 @@ fn write_fault<W: fmt::Write>(
 /// As `error 2 inst1 Use: v0i reg [p8i]`, `error 10 stack0 -> stack1`, `error 12` or `error 13`: the number stands for
 /// the kind of fault, in the order of the variants but with `AllocationOutsideLimit` as 11.
 impl<A: Allocator> fmt::Display for CheckerError<A> {
+    ghost output = { λ e. Some (fault_text e) };
+
     fn fmt<W: fmt::Write>(&self, f: &mut fmt::Formatter<W>) -> fmt::Result {
         match self {
             CheckerError::MissingAllocation { inst, op } => {

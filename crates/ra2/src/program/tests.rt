@@ -1,7 +1,7 @@
 //! What the program answers to words and texts, and where a read or a write fails.
 
 use super::*;
-use crate::texts::{TEXT, TOO_MANY};
+use crate::texts::{TEXT, TOO_MANY, TWO_BLOCKS};
 use std::alloc::AllocError;
 use std::io::{self, ErrorKind};
 use std::test::Fail;
@@ -11,6 +11,8 @@ const LISTING: &str =
 
 const CHECKED: &str =
     "block0:\n  inst0 op: Def: v0i reg [p9i]\n  inst1 ret: Use: v0i reg [p9i]\nslots 0\nchecked\n";
+
+const BLOCKS_CHECKED: &str = "block0:\n  inst0 branch\nblock1:\n  inst1 ret\nslots 0\nchecked\n";
 
 const UNREADABLE: &str = "ra2: input unreadable\n";
 
@@ -116,6 +118,7 @@ fn functions_are_allocated(rt: HostRuntime) -> Result<(), Fail> {
     let rows = [
         ("run", TEXT, LISTING, 0),
         ("check", TEXT, CHECKED, 0),
+        ("check", TWO_BLOCKS, BLOCKS_CHECKED, 0),
         ("run", TOO_MANY, "refused 7\n", 1),
         ("check", TOO_MANY, "refused 7\n", 1),
     ];
