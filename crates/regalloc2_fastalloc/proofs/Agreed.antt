@@ -23,33 +23,33 @@ use Rattle.regalloc2_flow.proofs.Defined.{Made, one_made}
 use Rattle.regalloc2_flow.proofs.Soundness.{well_formed_are_sound}
 use Rattle.regalloc2_flow.proofs.Paths.{blocks_agree_by_points}
 use Rattle.regalloc2_flow.proofs.Living.{live_is_used, live_stand_by_points}
-use Rattle.regalloc2_fastalloc.specs.Profile.{AreTaken}
-use Rattle.regalloc2_fastalloc.specs.Constraints.{BranchDefinesNothing}
-use Rattle.regalloc2_fastalloc.specs.Tables.{AreOwned, IsSlotOrNone, nobody_stands, no_slots, units_of}
+use Rattle.regalloc2_validate.specs.Profile.{AreTaken}
+use Rattle.regalloc2_validate.specs.Constraints.{BranchDefinesNothing}
+use Rattle.regalloc2_tables.specs.Tables.{AreOwned, IsSlotOrNone, nobody_stands, no_slots, units_of}
 use Rattle.regalloc2_fastalloc.specs.Promise.{LiveInSlots}
-use Rattle.regalloc2_fastalloc.specs.Sound.{HasMachine}
-use Rattle.regalloc2_fastalloc.specs.Steps.{Tables}
-use Rattle.regalloc2_fastalloc.specs.Walks.{WalksBlocks}
-use Rattle.regalloc2_fastalloc.proofs.Scratching.{Fit}
-use Rattle.regalloc2_fastalloc.proofs.Rounding.{AreListed, Blank}
-use Rattle.regalloc2_fastalloc.proofs.Walking.{WritesAt, WalkKept}
-use Rattle.regalloc2_fastalloc.proofs.Finished.{IsMade, made_in_order, place_is}
-use Rattle.regalloc2_fastalloc.proofs.Owned.{own_written}
-use Rattle.regalloc2_fastalloc.proofs.SafeWalks.{MayInBlocks}
-use Rattle.regalloc2_fastalloc.proofs.SafeFunctions.{made_listed_blocks, walk_blocks_good}
-use Rattle.regalloc2_fastalloc.proofs.Ordering.{orderly, knows}
-use Rattle.regalloc2_fastalloc.proofs.Avoiding.{avoids}
-use Rattle.regalloc2_fastalloc.proofs.Along.{blocks_outside}
-use Rattle.regalloc2_fastalloc.proofs.Branched.{branch_kept}
-use Rattle.regalloc2_fastalloc.proofs.Through.{begin_between}
-use Rattle.regalloc2_fastalloc.proofs.Steady.{passes_between}
-use Rattle.regalloc2_fastalloc.proofs.Sparing.{writes_sound}
-use Rattle.regalloc2_fastalloc.proofs.Forked.{branches_carry}
-use Rattle.regalloc2_fastalloc.proofs.Flowing.{slot_in}
-use Rattle.regalloc2_fastalloc.proofs.Standing.{slots_at, opt_some}
-use Rattle.regalloc2_fastalloc.proofs.Filled.{IsTame}
-use Rattle.regalloc2_fastalloc.proofs.Owning.{owner_known}
-use Rattle.regalloc2_fastalloc.proofs.Agreeing.{at_walks_end, blocks_carry, used_slots}
+use Rattle.regalloc2_steps.specs.Sound.{HasMachine}
+use Rattle.regalloc2_steps.specs.Steps.{Tables}
+use Rattle.regalloc2_steps.specs.Walks.{WalksBlocks}
+use Rattle.regalloc2_steps.proofs.Scratching.{Fit}
+use Rattle.regalloc2_steps.proofs.Rounding.{AreListed, Blank}
+use Rattle.regalloc2_steps.proofs.Walking.{WritesAt, WalkKept}
+use Rattle.regalloc2_steps.proofs.Finished.{IsMade, made_in_order, place_is}
+use Rattle.regalloc2_steps.proofs.Owned.{own_written}
+use Rattle.regalloc2_steps.proofs.SafeWalks.{MayInBlocks}
+use Rattle.regalloc2_steps.proofs.SafeFunctions.{made_listed_blocks, walk_blocks_good}
+use Rattle.regalloc2_steps.proofs.Ordering.{orderly, knows}
+use Rattle.regalloc2_steps.proofs.Avoiding.{avoids}
+use Rattle.regalloc2_steps.proofs.Along.{blocks_outside}
+use Rattle.regalloc2_steps.proofs.Branched.{branch_kept}
+use Rattle.regalloc2_steps.proofs.Through.{begin_between}
+use Rattle.regalloc2_steps.proofs.Steady.{passes_between}
+use Rattle.regalloc2_steps.proofs.Sparing.{writes_sound}
+use Rattle.regalloc2_steps.proofs.Forked.{branches_carry}
+use Rattle.regalloc2_steps.proofs.Flowing.{slot_in}
+use Rattle.regalloc2_steps.proofs.Standing.{slots_at, opt_some}
+use Rattle.regalloc2_steps.proofs.Filled.{IsTame}
+use Rattle.regalloc2_steps.proofs.Owning.{owner_known}
+use Rattle.regalloc2_steps.proofs.Agreeing.{at_walks_end, blocks_carry, used_slots}
 
 -- where no move stands at a point
 none_there : (q : ℕ) (es : List (ℕ × MoveValue)) → All (λ e. e.0 ≢ q) es → filter (λ e. nat_eq e.0 q) es ≡ []

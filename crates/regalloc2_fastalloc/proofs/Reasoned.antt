@@ -8,11 +8,11 @@ use Rattle.regalloc2_function.specs.Machine.{MachineValue}
 use Rattle.regalloc2_function.specs.Reasons.{HasShape, IsShapeFault, IsSound, IsSoundnessFault}
 use Rattle.regalloc2_function.specs.Reasons.IsShapeFault.{apart, critical, operands, outside, unlisted}
 use Rattle.regalloc2_function.specs.Reasons.IsSoundnessFault.{arguments, definitions, elsewhere, livein, open_end}
-use Rattle.regalloc2_fastalloc.specs.Constraints.{IsFixedFault}
-use Rattle.regalloc2_fastalloc.specs.Lack.{LacksOnly}
+use Rattle.regalloc2_validate.specs.Constraints.{IsFixedFault}
+use Rattle.regalloc2_tables.specs.Lack.{LacksOnly}
 use Rattle.regalloc2_fastalloc.specs.Reason.{PassesFirst, PassesAll, IsReason, units_needed}
-use Rattle.regalloc2_fastalloc.specs.Tested.{IsFault}
-use Rattle.regalloc2_fastalloc.specs.Tested.IsFault.{memory, misshapen, unsound, clashing}
+use Rattle.regalloc2_validate.specs.Tested.{IsFault}
+use Rattle.regalloc2_validate.specs.Tested.IsFault.{memory, misshapen, unsound, clashing}
 
 shape_reason : (f : FunctionValue) (env : MachineValue) (asked : Bool) {e : RegAllocError} → PassesFirst f → asked ≡ true → IsShapeFault f e → IsReason f env asked e
 shape_reason f env asked p on (outside s h) = (p, on, misshapen (outside s h))

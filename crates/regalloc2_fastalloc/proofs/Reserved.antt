@@ -6,10 +6,11 @@ use Rattle.regalloc2_names.specs.Register.{Register, is_register}
 use Rattle.regalloc2_names.specs.RegisterSet.{has_register}
 use Rattle.regalloc2_names.specs.Operand.{OperandValue}
 use Rattle.regalloc2_flow.proofs.Cells.{is_register-same}
-use Rattle.regalloc2_fastalloc.specs.declared.turn.Positions.{Positions}
-use Rattle.regalloc2_fastalloc.specs.declared.turn.Turn.{Turn}
+use Rattle.regalloc2_tables.specs.declared.turn.Positions.{Positions}
+use Rattle.regalloc2_tables.specs.declared.turn.Turn.{Turn}
 use Rattle.regalloc2_fastalloc.specs.declared.reserve.Claims.{Claims}
-use Rattle.regalloc2_fastalloc.specs.Steps.{Tables, Holds, SameSets, ClaimsFixed, Reserves}
+use Rattle.regalloc2_tables.specs.Turns.{Holds, SameSets}
+use Rattle.regalloc2_steps.specs.Steps.{Tables, ClaimsFixed, Reserves}
 use Rattle.regalloc2_fastalloc.specs.Reserving.{IsKnown, Shrinks, Grows, IsClaimed, IsReserved, ReservesOne}
 
 pub shrinks_none : (t : Turn) → Shrinks t t

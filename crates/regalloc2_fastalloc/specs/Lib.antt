@@ -1,15 +1,4 @@
-pub mod Arrived
-pub mod Blocks
-pub mod Constraints
-pub mod Walks
-pub mod Steps
-pub mod Branches
-pub mod Lack
-pub mod Lending
-pub mod Profile
 pub mod Promise
 pub mod Reason
 pub mod Reserving
-pub mod Sound
-pub mod Tested
-pub mod Tables
+pub mod States

@@ -7,8 +7,8 @@ use Rattle.regalloc2_function.specs.FunctionValue.{FunctionValue, inst_at, opera
 use Rattle.regalloc2_function.specs.OutputValue.{OutputValue}
 use Rattle.regalloc2_function.specs.Machine.{MachineValue}
 use Rattle.regalloc2_function.specs.WellFormed.{IsWellFormed}
-use Rattle.regalloc2_fastalloc.specs.Constraints.{AreUnlimited, BranchDefinesNothing, IsFirst}
-use Rattle.regalloc2_fastalloc.specs.Tested.{IsFault}
+use Rattle.regalloc2_validate.specs.Constraints.{AreUnlimited, BranchDefinesNothing, IsFirst}
+use Rattle.regalloc2_validate.specs.Tested.{IsFault}
 
 -- The first test needs no memory: fewer than 2^32 operands.
 abbrev pub PassesFirst : FunctionValue → Type 0

@@ -3,10 +3,10 @@ use Rattle.std.specs.Prelude.{ℕ, ◌≡◌, ◌⊎◌, true, false, List}
 use Rattle.regalloc2_names.specs.Register.{Register}
 use Rattle.regalloc2_names.specs.RegisterSet.{has_register}
 use Rattle.regalloc2_names.specs.Operand.{OperandValue}
-use Rattle.regalloc2_fastalloc.specs.declared.turn.Positions.{Positions}
-use Rattle.regalloc2_fastalloc.specs.declared.turn.Turn.{Turn}
+use Rattle.regalloc2_tables.specs.declared.turn.Positions.{Positions}
+use Rattle.regalloc2_tables.specs.declared.turn.Turn.{Turn}
 use Rattle.regalloc2_fastalloc.specs.declared.reserve.Claims.{Claims}
-use Rattle.regalloc2_fastalloc.specs.Steps.{Tables, ClaimsFixed}
+use Rattle.regalloc2_steps.specs.Steps.{Tables, ClaimsFixed}
 
 -- one of the machine's registers or fixed stack slots
 abbrev pub IsKnown : Tables → Register → Type 0

@@ -9,11 +9,11 @@ ghost use Rattle.regalloc2_function.specs.SourceRun.{IsWrittenFirst};
 ghost use Rattle.regalloc2_function.specs.WellFormed.{IsWellFormed};
 ghost use Rattle.regalloc2_function.specs.Fitting.{MachineFits, PlacesAreProper};
 ghost use Rattle.regalloc2_function.specs.Slots.{SlotsHaveOwners};
-ghost use Rattle.regalloc2_fastalloc.specs.Constraints.{BranchDefinesNothing};
-ghost use Rattle.regalloc2_fastalloc.specs.Lack.{LacksOnly};
+ghost use Rattle.regalloc2_validate.specs.Constraints.{BranchDefinesNothing};
+ghost use Rattle.regalloc2_tables.specs.Lack.{LacksOnly};
 ghost use Rattle.regalloc2_fastalloc.specs.Promise.{LiveInSlots};
 ghost use Rattle.regalloc2_fastalloc.specs.Reason.{SlotsAreFew, units_needed};
-ghost use Rattle.regalloc2_fastalloc.specs.Profile.{AreTaken};
+ghost use Rattle.regalloc2_validate.specs.Profile.{AreTaken};
 
 use super::allocs;
 use super::state::State;

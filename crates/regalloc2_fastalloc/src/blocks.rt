@@ -3,17 +3,18 @@
 ghost use Rattle.std.specs.Prelude.{ℕ, ◌≡◌, ◌<◌, All, length, None, OnOk, IfErr};
 ghost use Rattle.regalloc2_names.specs.Point.{before};
 ghost use Rattle.regalloc2_names.specs.Register.{Register};
-ghost use Rattle.regalloc2_fastalloc.specs.Blocks.{BeginsBlock, BeginsParameter, BeginsParameters, Empties};
-ghost use Rattle.regalloc2_fastalloc.specs.Lack.{IsLack};
-ghost use Rattle.regalloc2_fastalloc.specs.Steps.{tables_of, SameMachine};
-ghost use Rattle.regalloc2_fastalloc.specs.Tables.{NoneBefore, holder};
+ghost use Rattle.regalloc2_steps.specs.Blocks.{BeginsBlock, BeginsParameter, BeginsParameters, Empties};
+ghost use Rattle.regalloc2_tables.specs.Lack.{IsLack};
+ghost use Rattle.regalloc2_steps.specs.Steps.{SameMachine};
+ghost use Rattle.regalloc2_fastalloc.specs.States.{tables_of};
+ghost use Rattle.regalloc2_tables.specs.Tables.{NoneBefore, holder};
 
-use super::arrivals::Arrival;
 use super::insts::differ;
 use super::state::State;
-use super::turn::Turn;
 use regalloc2_index::Inst;
 use regalloc2_names::{Allocation, ProgPoint, RegAllocError, VReg};
+use regalloc2_tables::arrivals::Arrival;
+use regalloc2_tables::turn::Turn;
 use std::alloc::Allocator;
 
 impl<A: Allocator> State<A> {

@@ -7,19 +7,20 @@ ghost use Rattle.regalloc2_names.specs.Register.{Register, class_code};
 ghost use Rattle.regalloc2_function.specs.FunctionValue.{block_at};
 ghost use Rattle.regalloc2_parts.specs.AtOnce.{ends_of, HasOneSourceEach};
 ghost use Rattle.regalloc2_parts.specs.Resolved.{has_scratch, listed, with_place, IsResolution, IsRunnable};
-ghost use Rattle.regalloc2_fastalloc.specs.Branches.{AreApart, AreBetweenSlots, AreKnown, AreNext, AreOf, ClassMove, Gathers, GathersEdge, IsSpare, LendsAtMost, MayBeAtOnce, MayPass, Orders, ParametersDiffer, PassesArguments, Pushes, PushesEach, SettlesArgument};
-ghost use Rattle.regalloc2_fastalloc.specs.Lack.{AreFullWith, IsLack, LacksOnly};
-ghost use Rattle.regalloc2_fastalloc.specs.Lending.{DoDiffer, IsLent};
-ghost use Rattle.regalloc2_fastalloc.specs.Steps.{tables_of, SameMachine};
-ghost use Rattle.regalloc2_fastalloc.specs.Tables.{AreOwned, IsFoundIn, NoneBefore};
+ghost use Rattle.regalloc2_steps.specs.Branches.{AreApart, AreBetweenSlots, AreKnown, AreNext, AreOf, ClassMove, Gathers, GathersEdge, IsSpare, LendsAtMost, MayBeAtOnce, MayPass, Orders, ParametersDiffer, PassesArguments, Pushes, PushesEach, SettlesArgument};
+ghost use Rattle.regalloc2_tables.specs.Lack.{AreFullWith, IsLack, LacksOnly};
+ghost use Rattle.regalloc2_tables.specs.Lending.{DoDiffer, IsLent};
+ghost use Rattle.regalloc2_steps.specs.Steps.{SameMachine};
+ghost use Rattle.regalloc2_fastalloc.specs.States.{tables_of};
+ghost use Rattle.regalloc2_tables.specs.Tables.{AreOwned, IsFoundIn, NoneBefore};
 
-use super::lending::{Lending, Lent};
 use super::state::State;
-use super::turn::{Positions, Turn};
 use regalloc2_function::Function;
 use regalloc2_index::{Block, Inst};
 use regalloc2_names::{Allocation, PReg, PRegSet, ProgPoint, RegAllocError, RegClass, VReg};
 use regalloc2_parts::moves::{MoveVec, MoveVecWithScratch, ParallelMoves};
+use regalloc2_tables::lending::{Lending, Lent};
+use regalloc2_tables::turn::{Positions, Turn};
 use std::alloc::Allocator;
 
 /// A register as a place.

@@ -3,36 +3,17 @@
 ghost use Rattle.std.specs.Prelude.{◌≡◌, ◌≢◌, ◌<◌, ◌↔◌, ◌⊎◌, ◌&&◌, ℕ, length, not, None, OnOk, IfOk, IfErr, IfSome, IsTrue};
 ghost use Rattle.regalloc2_names.specs.Register.{Register};
 ghost use Rattle.regalloc2_names.specs.Place.{NoPlace, InRegister, is_place};
-ghost use Rattle.regalloc2_fastalloc.specs.Tables.{NoneBefore, holder, stood};
-ghost use Rattle.regalloc2_fastalloc.specs.Lack.{IsLack};
-ghost use Rattle.regalloc2_fastalloc.specs.Steps.{tables_of, is_another, Defines, Gets, IsFreeAt, MayHold, Occupies, Picks, PlacesDef, PlacesUse, SameMachine, SameSets, Sends, Suits, Uses};
+ghost use Rattle.regalloc2_tables.specs.Tables.{NoneBefore, holder, stood};
+ghost use Rattle.regalloc2_tables.specs.Lack.{IsLack};
+ghost use Rattle.regalloc2_tables.specs.Turns.{IsFreeAt, SameSets};
+ghost use Rattle.regalloc2_steps.specs.Steps.{is_another, Defines, Gets, MayHold, Occupies, Picks, PlacesDef, PlacesUse, SameMachine, Sends, Suits, Uses};
+ghost use Rattle.regalloc2_fastalloc.specs.States.{tables_of};
 
 use super::state::State;
-use super::turn::{Positions, Turn};
 use regalloc2_names::{Allocation, PReg, ProgPoint, RegAllocError, RegClass, VReg};
+use regalloc2_tables::placing::{Placing, Wanted};
+use regalloc2_tables::turn::{Positions, Turn};
 use std::alloc::Allocator;
-
-/// What an operand asks of its place, once it is known where the operand that a reuse names stands.
-#[derive(Clone, Copy)]
-pub enum Wanted {
-    /// Any place.
-    Anywhere,
-    /// A register that is no fixed stack slot.
-    AnyRegister,
-    /// A place in memory.
-    Memory,
-    /// That register, or fixed stack slot.
-    At(PReg),
-}
-
-/// An operand that is to be placed.
-#[derive(Clone, Copy)]
-pub struct Placing {
-    pub vreg: VReg,
-    pub wanted: Wanted,
-    pub positions: Positions,
-    pub is_def: bool,
-}
 
 /// Whether a place is there, and isn't that other one.
 fn is_another(place: Allocation, other: Allocation) -> bool

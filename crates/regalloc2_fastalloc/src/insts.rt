@@ -4,19 +4,21 @@ ghost use Rattle.std.specs.Prelude.{◌≡◌, ◌<◌, ◌≤◌, ◌+◌, ◌�
 ghost use Rattle.regalloc2_names.specs.Point.{before, after};
 ghost use Rattle.regalloc2_names.specs.Place.{NoPlace, is_place};
 ghost use Rattle.regalloc2_function.specs.SourceRun.{is_def, is_late, is_reading};
-ghost use Rattle.regalloc2_fastalloc.specs.Tables.{NoneBefore, stood};
-ghost use Rattle.regalloc2_fastalloc.specs.Lack.{IsLack};
-ghost use Rattle.regalloc2_fastalloc.specs.Steps.{Allocates, tables_of, asked_as, asked_by, def_placing, op_at, reuse_placing, use_placing, InTables, MovesUses, PlacesAt, PlacesOne, SameMachine, Sends};
-ghost use Rattle.regalloc2_fastalloc.specs.Walks.{AllocatesTo, IsFresh};
+ghost use Rattle.regalloc2_tables.specs.Tables.{NoneBefore, stood};
+ghost use Rattle.regalloc2_tables.specs.Lack.{IsLack};
+ghost use Rattle.regalloc2_validate.specs.Constraints.{op_at};
+ghost use Rattle.regalloc2_steps.specs.Steps.{Allocates, asked_as, asked_by, def_placing, reuse_placing, use_placing, InTables, MovesUses, PlacesAt, PlacesOne, SameMachine, Sends};
+ghost use Rattle.regalloc2_fastalloc.specs.States.{tables_of};
+ghost use Rattle.regalloc2_steps.specs.Walks.{AllocatesTo, IsFresh};
 
-use super::choose::{Placing, Wanted};
 use super::state::State;
-use super::turn::{Positions, Turn};
 use regalloc2_index::Inst;
 use regalloc2_names::{
     Allocation, Operand, OperandConstraint, OperandKind, OperandPos, PRegSet, ProgPoint,
     RegAllocError,
 };
+use regalloc2_tables::placing::{Placing, Wanted};
+use regalloc2_tables::turn::{Positions, Turn};
 use std::alloc::Allocator;
 
 /// Whether an operand defines its vreg.
@@ -88,10 +90,11 @@ fn use_placing(operand: Operand, place: Allocation) -> Placing
         Some(preg) => Wanted::At(preg),
         None => asked_by(operand.constraint()),
     };
+    let positions = Positions::of(operand);
     Placing {
         vreg: operand.vreg(),
         wanted,
-        positions: Positions::of(operand),
+        positions,
         is_def: false,
     }
 }

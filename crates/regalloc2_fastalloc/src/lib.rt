@@ -18,30 +18,20 @@ ghost use Rattle.regalloc2_fastalloc.specs.Reason.{IsReason, PassesAll, SlotsAre
 
 use regalloc2_function::{Function, MachineEnv, Output, count_operands, reads_the_same_numbers};
 use regalloc2_names::RegAllocError;
+use regalloc2_validate::constraints::{test_branches, test_limits};
+use regalloc2_validate::test_well_formed;
 use std::alloc::{Allocator, Global};
 
 mod allocate;
 mod allocs;
-mod arrivals;
 mod blocks;
 mod branch;
 mod choose;
-mod constraints;
-mod edits;
 mod insts;
-mod lending;
-mod places;
-mod registers;
 mod reserve;
 mod scratch;
-mod slots;
 mod state;
-mod turn;
-mod validate;
 mod walk;
-
-use constraints::{test_branches, test_limits};
-use validate::test_well_formed;
 
 /// An algorithm of register allocation. Upstream has a second one, `Ion`, which is left out.
 #[derive(Clone, Copy, Debug, Default, PartialEq, Eq)]

@@ -3,14 +3,16 @@
 ghost use Rattle.std.specs.Prelude.{ℕ, ◌≡◌, ◌<◌, length, true, false, OnOk, IfSome, IfNone, IfErr, Some};
 ghost use Rattle.regalloc2_names.specs.Register.{Register};
 ghost use Rattle.regalloc2_names.specs.RegisterSet.{has_register, registers_of};
-ghost use Rattle.regalloc2_fastalloc.specs.Tables.{NoneBefore};
-ghost use Rattle.regalloc2_fastalloc.specs.Lack.{IsLack};
-ghost use Rattle.regalloc2_fastalloc.specs.Steps.{tables_of, op_at, SameMachine, ClaimsFixed, Reserves, HoldsClobbers, ClearsFixed, ClearsAll};
+ghost use Rattle.regalloc2_tables.specs.Tables.{NoneBefore};
+ghost use Rattle.regalloc2_tables.specs.Lack.{IsLack};
+ghost use Rattle.regalloc2_validate.specs.Constraints.{op_at};
+ghost use Rattle.regalloc2_steps.specs.Steps.{SameMachine, ClaimsFixed, Reserves, HoldsClobbers, ClearsFixed, ClearsAll};
+ghost use Rattle.regalloc2_fastalloc.specs.States.{tables_of};
 ghost use Rattle.regalloc2_fastalloc.specs.Reserving.{IsClaimed, IsReserved, Grows, Shrinks, ReservesOne};
 
 use super::state::State;
-use super::turn::{Positions, Turn};
 use regalloc2_names::{Operand, OperandConstraint, PReg, PRegSet, ProgPoint, RegAllocError};
+use regalloc2_tables::turn::{Positions, Turn};
 use std::alloc::Allocator;
 
 /// The fixed registers of an instruction's operands so far, by position, and those that were poked.

@@ -2,13 +2,14 @@
 
 ghost use Rattle.std.specs.Prelude.{◌≡◌, length, OnOk, IfOk, IfErr, None};
 ghost use Rattle.regalloc2_names.specs.Place.{NoPlace};
-ghost use Rattle.regalloc2_fastalloc.specs.Tables.{NoneBefore, holder, stood};
-ghost use Rattle.regalloc2_fastalloc.specs.Lack.{IsLack};
-ghost use Rattle.regalloc2_fastalloc.specs.Steps.{tables_of, is_stack_in, SameMachine, Evicts, Scratches, Crosses, Clears, ClearsBut};
+ghost use Rattle.regalloc2_tables.specs.Tables.{NoneBefore, holder, stood};
+ghost use Rattle.regalloc2_tables.specs.Lack.{IsLack};
+ghost use Rattle.regalloc2_steps.specs.Steps.{is_stack_in, SameMachine, Evicts, Scratches, Crosses, Clears, ClearsBut};
+ghost use Rattle.regalloc2_fastalloc.specs.States.{tables_of};
 
 use super::state::State;
-use super::turn::{Positions, Turn};
 use regalloc2_names::{Allocation, PReg, ProgPoint, RegAllocError, RegClass, VReg};
+use regalloc2_tables::turn::{Positions, Turn};
 use std::alloc::Allocator;
 
 impl<A: Allocator> State<A> {

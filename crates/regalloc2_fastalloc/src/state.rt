@@ -7,14 +7,14 @@ ghost use Rattle.regalloc2_function.specs.FunctionValue.{slot_size};
 ghost use Rattle.regalloc2_function.specs.Machine.{is_allocatable, IsFixedStackSlot};
 ghost use Rattle.regalloc2_function.specs.Fitting.{MachineFits};
 ghost use Rattle.regalloc2_function.specs.Views.{machine_of};
-ghost use Rattle.regalloc2_fastalloc.specs.Tables.{nobody_stands, no_slots};
+ghost use Rattle.regalloc2_tables.specs.Tables.{nobody_stands, no_slots};
 
-use super::edits::Edits;
-use super::places::Places;
-use super::registers::Registers;
-use super::slots::Slots;
 use regalloc2_function::{Function, MachineEnv};
 use regalloc2_names::{RegAllocError, RegClass};
+use regalloc2_tables::edits::Edits;
+use regalloc2_tables::places::Places;
+use regalloc2_tables::registers::Registers;
+use regalloc2_tables::slots::Slots;
 use std::alloc::Allocator;
 
 /// The tables of the walk over the instructions, which goes from the last to the first.

@@ -4,17 +4,17 @@ ghost use Rattle.std.specs.Prelude.{◌≡◌, ◌<◌, ◌≤◌, ◌+◌, ◌*
 ghost use Rattle.regalloc2_names.specs.Point.{before, after};
 ghost use Rattle.regalloc2_names.specs.Place.{NoPlace};
 ghost use Rattle.regalloc2_function.specs.FunctionValue.{block_at, operand_count};
-ghost use Rattle.regalloc2_fastalloc.specs.Tables.{NoneBefore};
-ghost use Rattle.regalloc2_fastalloc.specs.Branches.{AreApart, LendsAtMost};
-ghost use Rattle.regalloc2_fastalloc.specs.Lack.{AreFullWith, LacksOnly};
-ghost use Rattle.regalloc2_fastalloc.specs.Steps.{tables_of};
-ghost use Rattle.regalloc2_fastalloc.specs.Walks.{AllocatesIn, MayBeAllocated, WalksBlocks, WalksIn, lent_at, offset_of};
+ghost use Rattle.regalloc2_tables.specs.Tables.{NoneBefore};
+ghost use Rattle.regalloc2_steps.specs.Branches.{AreApart, LendsAtMost};
+ghost use Rattle.regalloc2_tables.specs.Lack.{AreFullWith, LacksOnly};
+ghost use Rattle.regalloc2_fastalloc.specs.States.{tables_of};
+ghost use Rattle.regalloc2_steps.specs.Walks.{AllocatesIn, MayBeAllocated, WalksBlocks, WalksIn, lent_at, offset_of};
 
 use super::state::State;
-use super::turn::Turn;
 use regalloc2_function::Function;
 use regalloc2_index::{Block, Inst};
 use regalloc2_names::{Allocation, RegAllocError};
+use regalloc2_tables::turn::Turn;
 use std::alloc::Allocator;
 
 impl<A: Allocator + Copy> State<A> {

@@ -6,7 +6,7 @@ use Rattle.regalloc2_function.specs.OutputValue.{IsInOrder}
 use Rattle.regalloc2_function.specs.Views.{machine_of, output_of}
 use Rattle.regalloc2_function.specs.Faithful.{IsFaithful}
 use Rattle.regalloc2_function.specs.SourceRun.{IsWrittenFirst}
-use Rattle.regalloc2_fastalloc.specs.Lack.{LacksOnly}
+use Rattle.regalloc2_tables.specs.Lack.{LacksOnly}
 use Rattle.regalloc2_fastalloc.specs.Promise.{RunsAsTheFunction}
 use Rattle.regalloc2_fastalloc.specs.Reason.{IsReason, PassesFirst, PassesAll, PassesAsked, units_needed}
 use Rattle.regalloc2_fastalloc.proofs.Numbers.{reads_numbers}

@@ -12,28 +12,30 @@ use Rattle.regalloc2_function.specs.OutputValue.{DebugLocation, OutputValue}
 use Rattle.regalloc2_function.specs.Views.{edit_of, machine_of}
 use Rattle.regalloc2_flow.proofs.Defined.{Made}
 use Rattle.regalloc2_flow.proofs.Faithful.{faithful}
-use Rattle.regalloc2_fastalloc.specs.Lack.{LacksOnly, AreFullWith}
+use Rattle.regalloc2_tables.specs.Lack.{LacksOnly, AreFullWith}
 use Rattle.regalloc2_fastalloc.specs.Reason.{units_needed}
-use Rattle.regalloc2_fastalloc.specs.Steps.{Tables, tables_of}
-use Rattle.regalloc2_fastalloc.specs.Branches.{LendsAtMost}
-use Rattle.regalloc2_fastalloc.specs.Walks.{WalksBlocks}
-use Rattle.regalloc2_fastalloc.specs.Sound.{HasMachine}
-use Rattle.regalloc2_fastalloc.specs.Tables.{PlacesValue, SlotsValue, no_slots, units_of}
+use Rattle.regalloc2_steps.specs.Steps.{Tables}
+use Rattle.regalloc2_fastalloc.specs.States.{tables_of}
+use Rattle.regalloc2_steps.specs.Branches.{LendsAtMost}
+use Rattle.regalloc2_steps.specs.Walks.{WalksBlocks}
+use Rattle.regalloc2_steps.specs.Sound.{HasMachine}
+use Rattle.regalloc2_tables.specs.Tables.{PlacesValue, SlotsValue, no_slots, units_of}
 use Rattle.regalloc2_fastalloc.proofs.Agreed.{made_blocks_agree, made_in_slots, walk_kept_through}
-use Rattle.regalloc2_fastalloc.proofs.Begun.{begun_machine}
-use Rattle.regalloc2_fastalloc.proofs.Finished.{IsMade, made_in_order, made_constraints, made_proper, made_in_registers}
-use Rattle.regalloc2_fastalloc.proofs.Gathered.{tame_at}
-use Rattle.regalloc2_fastalloc.proofs.Inverses.{always}
-use Rattle.regalloc2_fastalloc.proofs.Keeping.{none_lends}
-use Rattle.regalloc2_fastalloc.proofs.Launching.{fresh_blank, some_units, fresh_fit}
-use Rattle.regalloc2_fastalloc.proofs.Machines.{fit_apart}
-use Rattle.regalloc2_fastalloc.proofs.Owning.{made_owners}
-use Rattle.regalloc2_fastalloc.proofs.Rooming.{sizes_of, few_slots, full_needs, lacks_then}
-use Rattle.regalloc2_fastalloc.proofs.Rounding.{Blank}
-use Rattle.regalloc2_fastalloc.proofs.SafeFunctions.{made_listed_blocks}
-use Rattle.regalloc2_fastalloc.proofs.SafeWalks.{MayInBlocks}
-use Rattle.regalloc2_fastalloc.proofs.Scratching.{Fit}
-use Rattle.regalloc2_fastalloc.proofs.Walking.{WalkKept}
+use Rattle.regalloc2_steps.proofs.Begun.{begun_machine}
+use Rattle.regalloc2_steps.proofs.Finished.{IsMade, made_in_order, made_constraints, made_proper, made_in_registers}
+use Rattle.regalloc2_steps.proofs.Gathered.{tame_at}
+use Rattle.regalloc2_tables.proofs.Inverses.{always}
+use Rattle.regalloc2_steps.proofs.Keeping.{none_lends}
+use Rattle.regalloc2_steps.proofs.Launching.{fresh_blank, some_units, fresh_fit}
+use Rattle.regalloc2_steps.proofs.Machines.{fit_apart}
+use Rattle.regalloc2_steps.proofs.Owning.{made_owners}
+use Rattle.regalloc2_tables.proofs.Rooming.{lacks_then}
+use Rattle.regalloc2_fastalloc.proofs.Needing.{sizes_of, few_slots, full_needs}
+use Rattle.regalloc2_steps.proofs.Rounding.{Blank}
+use Rattle.regalloc2_steps.proofs.SafeFunctions.{made_listed_blocks}
+use Rattle.regalloc2_steps.proofs.SafeWalks.{MayInBlocks}
+use Rattle.regalloc2_steps.proofs.Scratching.{Fit}
+use Rattle.regalloc2_steps.proofs.Walking.{WalkKept}
 use Rattle.regalloc2_fastalloc.proofs.allocate.allocate.Given.{Over}
 use Rattle.regalloc2_fastalloc.proofs.allocate.allocate.Goals as goal
 

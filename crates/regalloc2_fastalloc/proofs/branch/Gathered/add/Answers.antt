@@ -1,8 +1,8 @@
 use Rattle.std.proofs.Common.{◌++◌, ◌∷◌, [], List, subst, sym}
 use Rattle.std.proofs.lemmas.Result.{on_ok_weaker}
 use Rattle.regalloc2_names.specs.declared.RegClass.{RegClass}
-use Rattle.regalloc2_fastalloc.specs.Branches.{AreOf, ClassMove}
-use Rattle.regalloc2_fastalloc.proofs.Arguments.{are_of_int, are_of_float, are_of_vector}
+use Rattle.regalloc2_steps.specs.Branches.{AreOf, ClassMove}
+use Rattle.regalloc2_steps.proofs.Arguments.{are_of_int, are_of_float, are_of_vector}
 use Rattle.regalloc2_fastalloc.proofs.branch.Gathered.add.Goals as goal
 
 pub returns-in-Int-clause-ok : goal.returns-in-Int-clause-ok

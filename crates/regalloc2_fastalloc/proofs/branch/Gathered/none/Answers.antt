@@ -1,4 +1,4 @@
-use Rattle.regalloc2_fastalloc.proofs.Arguments.{are_of_none}
+use Rattle.regalloc2_steps.proofs.Arguments.{are_of_none}
 use Rattle.regalloc2_fastalloc.proofs.branch.Gathered.none.Goals as goal
 
 pub returns : goal.returns

@@ -6,12 +6,13 @@ use Rattle.regalloc2_names.specs.Point.{before}
 use Rattle.regalloc2_names.specs.Register.{VirtualRegister}
 use Rattle.regalloc2_function.specs.OutputValue.{MoveValue}
 use Rattle.regalloc2_function.specs.FunctionValue.{FunctionValue, block_at}
-use Rattle.regalloc2_fastalloc.specs.Blocks.{BeginsBlock}
-use Rattle.regalloc2_fastalloc.specs.Lack.{LacksOnly, AreFullWith}
-use Rattle.regalloc2_fastalloc.specs.Tables.{NoneBefore}
-use Rattle.regalloc2_fastalloc.specs.Steps.{Tables, tables_of}
-use Rattle.regalloc2_fastalloc.specs.Walks.{WalksIn, WalksBlocks, all_left, one_block, offset_of}
-use Rattle.regalloc2_fastalloc.proofs.Keeping.{none_lends, same_lends, lends_then, apart_kept, lacks_all, lack_all, block_within, joins_at, params_known}
+use Rattle.regalloc2_steps.specs.Blocks.{BeginsBlock}
+use Rattle.regalloc2_tables.specs.Lack.{LacksOnly, AreFullWith}
+use Rattle.regalloc2_tables.specs.Tables.{NoneBefore}
+use Rattle.regalloc2_steps.specs.Steps.{Tables}
+use Rattle.regalloc2_fastalloc.specs.States.{tables_of}
+use Rattle.regalloc2_steps.specs.Walks.{WalksIn, WalksBlocks, all_left, one_block, offset_of}
+use Rattle.regalloc2_steps.proofs.Keeping.{none_lends, same_lends, lends_then, apart_kept, lacks_all, lack_all, block_within, joins_at, params_known}
 use Rattle.regalloc2_fastalloc.proofs.state.State.allocate_blocks.Goals as goal
 
 pub loop-b-init : goal.loop-b-init

@@ -6,14 +6,15 @@ use Rattle.regalloc2_names.specs.Operand.{OperandValue}
 use Rattle.regalloc2_names.specs.RegisterSet.{has_register}
 use Rattle.regalloc2_function.specs.FunctionValue.{FunctionValue, InstValue, block_at, inst_at, no_inst}
 use Rattle.regalloc2_function.specs.Machine.{MachineValue}
-use Rattle.regalloc2_fastalloc.specs.declared.turn.Turn.{Turn}
-use Rattle.regalloc2_fastalloc.specs.Branches.{PassesArguments}
-use Rattle.regalloc2_fastalloc.specs.Lack.{LacksOnly, AreFullWith}
-use Rattle.regalloc2_fastalloc.specs.Steps.{Tables, tables_of, InTables}
-use Rattle.regalloc2_fastalloc.specs.Walks.{AllocatesTo, offset_of, lent_at}
-use Rattle.regalloc2_fastalloc.proofs.Keeping.{same_lends, lends_then, apart_kept, ends_in_branch, lack_all, lacks_all, lent_six, to_inst}
-use Rattle.regalloc2_fastalloc.proofs.Launching.{all_in_tables}
-use Rattle.regalloc2_fastalloc.proofs.Passable.{may_pass, parameters_differ}
+use Rattle.regalloc2_tables.specs.declared.turn.Turn.{Turn}
+use Rattle.regalloc2_steps.specs.Branches.{PassesArguments}
+use Rattle.regalloc2_tables.specs.Lack.{LacksOnly, AreFullWith}
+use Rattle.regalloc2_steps.specs.Steps.{Tables, InTables}
+use Rattle.regalloc2_fastalloc.specs.States.{tables_of}
+use Rattle.regalloc2_steps.specs.Walks.{AllocatesTo, offset_of, lent_at}
+use Rattle.regalloc2_steps.proofs.Keeping.{same_lends, lends_then, apart_kept, ends_in_branch, lack_all, lacks_all, lent_six, to_inst}
+use Rattle.regalloc2_steps.proofs.Launching.{all_in_tables}
+use Rattle.regalloc2_steps.proofs.Passable.{may_pass, parameters_differ}
 use Rattle.regalloc2_fastalloc.proofs.state.State.allocate_in.Goals as goal
 
 pub allocate_at-requires : goal.allocate_at-requires

@@ -2,9 +2,10 @@ use Rattle.std.proofs.Common.{ℕ, ◌≡◌, List, length, refl, sym, ap, ◌�
 use Rattle.regalloc2_names.specs.RegisterSet.{registers_of}
 use Rattle.regalloc2_names.specs.Point.{before, after}
 use Rattle.regalloc2_names.specs.Operand.{OperandValue}
-use Rattle.regalloc2_fastalloc.specs.Tables.{NoneBefore}
-use Rattle.regalloc2_fastalloc.specs.Steps.{Tables, tables_of, ClearsFixed, ClearsAll, MovesUses}
-use Rattle.regalloc2_fastalloc.proofs.Emptying.{same_of, same_then}
+use Rattle.regalloc2_tables.specs.Tables.{NoneBefore}
+use Rattle.regalloc2_steps.specs.Steps.{Tables, ClearsFixed, ClearsAll, MovesUses}
+use Rattle.regalloc2_fastalloc.specs.States.{tables_of}
+use Rattle.regalloc2_steps.proofs.Emptying.{same_of, same_then}
 use Rattle.regalloc2_fastalloc.proofs.state.State.allocate_inst.Goals as goal
 
 pub evict_fixed-requires : goal.evict_fixed-requires

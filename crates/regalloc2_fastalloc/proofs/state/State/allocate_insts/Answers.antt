@@ -4,12 +4,13 @@ use Rattle.std.proofs.lemmas.Result.{err_from_is_err_and}
 use Rattle.regalloc2_names.specs.Point.{before}
 use Rattle.regalloc2_index.specs.Range.{Span}
 use Rattle.regalloc2_function.specs.FunctionValue.{FunctionValue, block_at, inst_at, no_inst}
-use Rattle.regalloc2_fastalloc.specs.Lack.{LacksOnly, AreFullWith}
-use Rattle.regalloc2_fastalloc.specs.Tables.{NoneBefore}
-use Rattle.regalloc2_fastalloc.specs.Steps.{Tables, tables_of}
-use Rattle.regalloc2_fastalloc.specs.Branches.{LendsAtMost}
-use Rattle.regalloc2_fastalloc.specs.Walks.{AllocatesIn, WalksIn, at_end, one_in, lent_at, offset_of}
-use Rattle.regalloc2_fastalloc.proofs.Keeping.{none_lends, lends_then, apart_kept, lacks_all, block_within, lent_so_far}
+use Rattle.regalloc2_tables.specs.Lack.{LacksOnly, AreFullWith}
+use Rattle.regalloc2_tables.specs.Tables.{NoneBefore}
+use Rattle.regalloc2_steps.specs.Steps.{Tables}
+use Rattle.regalloc2_fastalloc.specs.States.{tables_of}
+use Rattle.regalloc2_steps.specs.Branches.{LendsAtMost}
+use Rattle.regalloc2_steps.specs.Walks.{AllocatesIn, WalksIn, at_end, one_in, lent_at, offset_of}
+use Rattle.regalloc2_steps.proofs.Keeping.{none_lends, lends_then, apart_kept, lacks_all, block_within, lent_so_far}
 use Rattle.regalloc2_fastalloc.proofs.state.State.allocate_insts.Goals as goal
 
 pub first-requires : goal.first-requires

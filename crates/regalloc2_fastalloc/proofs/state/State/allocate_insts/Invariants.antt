@@ -2,10 +2,10 @@ use Rattle.std.proofs.Common.{ℕ, ◌≡◌, ◌<◌, ◌≤◌, ◌-◌, lengt
 use Rattle.regalloc2_names.specs.Place.{NoPlace}
 use Rattle.regalloc2_names.specs.Point.{before}
 use Rattle.regalloc2_function.specs.FunctionValue.{block_at}
-use Rattle.regalloc2_fastalloc.specs.Tables.{NoneBefore}
-use Rattle.regalloc2_fastalloc.specs.Steps.{tables_of}
-use Rattle.regalloc2_fastalloc.specs.Branches.{LendsAtMost}
-use Rattle.regalloc2_fastalloc.specs.Walks.{WalksIn, offset_of}
+use Rattle.regalloc2_tables.specs.Tables.{NoneBefore}
+use Rattle.regalloc2_fastalloc.specs.States.{tables_of}
+use Rattle.regalloc2_steps.specs.Branches.{LendsAtMost}
+use Rattle.regalloc2_steps.specs.Walks.{WalksIn, offset_of}
 use Rattle.regalloc2_fastalloc.proofs.state.State.allocate_insts.Given as goal
 
 abbrev pub invariant-loop-i : goal.invariant-loop-i

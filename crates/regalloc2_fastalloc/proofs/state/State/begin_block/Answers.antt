@@ -2,9 +2,9 @@ use Rattle.std.proofs.Common.{ℕ, ◌≡◌, length, sym, ap, ◌∙◌, subst,
 use Rattle.regalloc2_names.specs.declared.sets.PRegSet.{PRegSet}
 use Rattle.regalloc2_names.specs.Point.{before}
 use Rattle.regalloc2_names.specs.RegisterSet.{has_register}
-use Rattle.regalloc2_fastalloc.specs.Blocks.{BeginsParameters, Empties}
-use Rattle.regalloc2_fastalloc.specs.Steps.{tables_of}
-use Rattle.regalloc2_fastalloc.specs.Tables.{NoneBefore}
+use Rattle.regalloc2_steps.specs.Blocks.{BeginsParameters, Empties}
+use Rattle.regalloc2_fastalloc.specs.States.{tables_of}
+use Rattle.regalloc2_tables.specs.Tables.{NoneBefore}
 use Rattle.regalloc2_fastalloc.proofs.state.State.begin_block.Goals as goal
 
 pub begin_parameters-requires : goal.begin_parameters-requires

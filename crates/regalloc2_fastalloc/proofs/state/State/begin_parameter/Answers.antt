@@ -2,11 +2,12 @@ use Rattle.std.proofs.Common.{◌≢◌, Bool, refl, sym, ◌∙◌, subst}
 use Rattle.std.specs.Prelude.{not}
 use Rattle.regalloc2_names.specs.declared.RegClass.{RegClass}
 use Rattle.regalloc2_names.specs.Place.{Place, NoPlace, is_place}
-use Rattle.regalloc2_fastalloc.specs.Tables.{stood, Settles}
-use Rattle.regalloc2_fastalloc.specs.Steps.{Tables, tables_of, Sends}
-use Rattle.regalloc2_fastalloc.specs.Blocks.{nowhere, comes}
-use Rattle.regalloc2_fastalloc.proofs.Slotting.{something_there}
-use Rattle.regalloc2_fastalloc.proofs.Slotting.{nothing}
+use Rattle.regalloc2_tables.specs.Tables.{stood, Settles}
+use Rattle.regalloc2_steps.specs.Steps.{Tables, Sends}
+use Rattle.regalloc2_fastalloc.specs.States.{tables_of}
+use Rattle.regalloc2_steps.specs.Blocks.{nowhere, comes}
+use Rattle.regalloc2_tables.proofs.Slotting.{something_there}
+use Rattle.regalloc2_tables.proofs.Slotting.{nothing}
 use Rattle.regalloc2_fastalloc.proofs.state.State.begin_parameter.Goals as goal
 
 pub returns-then-is_none-clause-ok : goal.returns-then-is_none-clause-ok

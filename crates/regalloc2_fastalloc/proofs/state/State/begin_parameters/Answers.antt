@@ -2,9 +2,10 @@ use Rattle.std.proofs.Common.{ℕ, ◌≡◌, ◌<◌, List, length, refl, sym, 
 use Rattle.std.proofs.lemmas.List.{get_or_read}
 use Rattle.std.proofs.lemmas.List.Elements.{All-get_or}
 use Rattle.regalloc2_names.specs.Register.{VirtualRegister}
-use Rattle.regalloc2_fastalloc.specs.Blocks.{BeginsParameter, BeginsParameters, no_vreg, none_begun, one_begun}
-use Rattle.regalloc2_fastalloc.specs.Steps.{Tables, tables_of}
-use Rattle.regalloc2_fastalloc.proofs.Emptying.{same_then}
+use Rattle.regalloc2_steps.specs.Blocks.{BeginsParameter, BeginsParameters, no_vreg, none_begun, one_begun}
+use Rattle.regalloc2_steps.specs.Steps.{Tables}
+use Rattle.regalloc2_fastalloc.specs.States.{tables_of}
+use Rattle.regalloc2_steps.proofs.Emptying.{same_then}
 use Rattle.regalloc2_fastalloc.proofs.state.State.begin_parameters.Goals as goal
 
 pub loop-param-init : goal.loop-param-init

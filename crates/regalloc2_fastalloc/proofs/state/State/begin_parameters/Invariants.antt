@@ -1,7 +1,8 @@
 use Rattle.std.proofs.Common.{◌≡◌, length}
-use Rattle.regalloc2_fastalloc.specs.Blocks.{BeginsParameters}
-use Rattle.regalloc2_fastalloc.specs.Steps.{tables_of, SameMachine}
-use Rattle.regalloc2_fastalloc.specs.Tables.{NoneBefore}
+use Rattle.regalloc2_steps.specs.Blocks.{BeginsParameters}
+use Rattle.regalloc2_steps.specs.Steps.{SameMachine}
+use Rattle.regalloc2_fastalloc.specs.States.{tables_of}
+use Rattle.regalloc2_tables.specs.Tables.{NoneBefore}
 use Rattle.regalloc2_fastalloc.proofs.state.State.begin_parameters.Given as goal
 
 abbrev pub invariant-loop-param : goal.invariant-loop-param

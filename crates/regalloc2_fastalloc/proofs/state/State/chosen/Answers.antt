@@ -1,7 +1,7 @@
 use Rattle.std.proofs.Common.{◌≡◌, refl, sym, ◌∙◌}
 use Rattle.regalloc2_names.specs.Place.{NoPlace, InRegister}
-use Rattle.regalloc2_fastalloc.specs.Steps.{fixed, free, slot}
-use Rattle.regalloc2_fastalloc.proofs.Choosing.{wanted_rest}
+use Rattle.regalloc2_steps.specs.Steps.{fixed, free, slot}
+use Rattle.regalloc2_steps.proofs.Choosing.{wanted_rest}
 use Rattle.regalloc2_fastalloc.proofs.state.State.chosen.Goals as goal
 
 pub returns-in-At-clause-ok : goal.returns-in-At-clause-ok

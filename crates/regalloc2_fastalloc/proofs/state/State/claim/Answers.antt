@@ -1,9 +1,10 @@
 use Rattle.std.proofs.Common.{◌≡◌, refl, sym, subst}
 use Rattle.std.specs.Prelude.{None}
 use Rattle.regalloc2_names.specs.Place.{NoPlace}
-use Rattle.regalloc2_fastalloc.specs.Tables.{NoneBefore, holder, stood}
-use Rattle.regalloc2_fastalloc.specs.Steps.{Tables, tables_of, ClearsBut, in_register}
-use Rattle.regalloc2_fastalloc.proofs.Choosing.{holds_counted}
+use Rattle.regalloc2_tables.specs.Tables.{NoneBefore, holder, stood}
+use Rattle.regalloc2_steps.specs.Steps.{Tables, ClearsBut, in_register}
+use Rattle.regalloc2_fastalloc.specs.States.{tables_of}
+use Rattle.regalloc2_steps.proofs.Choosing.{holds_counted}
 use Rattle.regalloc2_fastalloc.proofs.state.State.claim.Goals as goal
 
 pub returns-clause-ok : goal.returns-clause-ok

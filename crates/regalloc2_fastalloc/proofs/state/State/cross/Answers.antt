@@ -2,8 +2,9 @@ use Rattle.std.proofs.Common.{ℕ, ◌≡◌, Bool, false, List, refl, sym, ◌�
 use Rattle.std.specs.Prelude.{◌&&◌}
 use Rattle.regalloc2_names.specs.Place.{InRegister}
 use Rattle.regalloc2_function.specs.OutputValue.{MoveValue}
-use Rattle.regalloc2_fastalloc.specs.Steps.{Tables, tables_of, is_stack_in, direct, through}
-use Rattle.regalloc2_fastalloc.proofs.Emptying.{and_true, and_no_first, and_no_second, two_pushed}
+use Rattle.regalloc2_steps.specs.Steps.{Tables, is_stack_in, direct, through}
+use Rattle.regalloc2_fastalloc.specs.States.{tables_of}
+use Rattle.regalloc2_steps.proofs.Emptying.{and_true, and_no_first, and_no_second, two_pushed}
 use Rattle.regalloc2_fastalloc.proofs.state.State.cross.Goals as goal
 use Rattle.regalloc2_fastalloc.proofs.state.State.cross.Goals.{else-is_stack_place-via-then-is_stack_place+else-is_stack_place-2, else-is_stack_place-via-else-is_stack_place}
 

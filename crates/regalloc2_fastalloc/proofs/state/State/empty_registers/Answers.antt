@@ -1,12 +1,13 @@
 use Rattle.std.proofs.Common.{◌≡◌, refl, sym, ◌∙◌, arith, subst, ⊎_elim, false, true}
 use Rattle.std.specs.Prelude.{None, is_some}
 use Rattle.regalloc2_names.specs.Register.{Register}
-use Rattle.regalloc2_fastalloc.specs.Arrived.{IsListed}
-use Rattle.regalloc2_fastalloc.specs.Blocks.{none_emptied, one_emptied}
-use Rattle.regalloc2_fastalloc.specs.Steps.{Tables, tables_of}
-use Rattle.regalloc2_fastalloc.specs.Tables.{holder}
-use Rattle.regalloc2_fastalloc.proofs.Emptying.{clears_empty, same_then, no_some}
-use Rattle.regalloc2_fastalloc.proofs.Listing.{without_last, none_in, nobody_there, somebody_there}
+use Rattle.regalloc2_tables.specs.Arrived.{IsListed}
+use Rattle.regalloc2_steps.specs.Blocks.{none_emptied, one_emptied}
+use Rattle.regalloc2_steps.specs.Steps.{Tables}
+use Rattle.regalloc2_fastalloc.specs.States.{tables_of}
+use Rattle.regalloc2_tables.specs.Tables.{holder}
+use Rattle.regalloc2_steps.proofs.Emptying.{clears_empty, same_then, no_some}
+use Rattle.regalloc2_tables.proofs.Listing.{without_last, none_in, nobody_there, somebody_there}
 use Rattle.regalloc2_fastalloc.proofs.state.State.empty_registers.Goals as goal
 
 pub loop-arrival-init : goal.loop-arrival-init

@@ -1,10 +1,11 @@
 use Rattle.std.proofs.Common.{◌≡◌, ◌≢◌, ◌<◌, length}
 use Rattle.std.specs.Prelude.{None}
 use Rattle.regalloc2_names.specs.Register.{Register}
-use Rattle.regalloc2_fastalloc.specs.Arrived.{IsListed}
-use Rattle.regalloc2_fastalloc.specs.Blocks.{Empties}
-use Rattle.regalloc2_fastalloc.specs.Steps.{tables_of, SameMachine}
-use Rattle.regalloc2_fastalloc.specs.Tables.{NoneBefore, holder}
+use Rattle.regalloc2_tables.specs.Arrived.{IsListed}
+use Rattle.regalloc2_steps.specs.Blocks.{Empties}
+use Rattle.regalloc2_steps.specs.Steps.{SameMachine}
+use Rattle.regalloc2_fastalloc.specs.States.{tables_of}
+use Rattle.regalloc2_tables.specs.Tables.{NoneBefore, holder}
 use Rattle.regalloc2_fastalloc.proofs.state.State.empty_registers.Given as goal
 
 abbrev pub invariant-loop-arrival : goal.invariant-loop-arrival

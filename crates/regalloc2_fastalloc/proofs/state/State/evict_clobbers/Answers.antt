@@ -1,7 +1,8 @@
 use Rattle.std.proofs.Common.{append_assoc, refl, ◌∙◌, rules}
 use Rattle.regalloc2_names.specs.RegisterSet.{registers_of}
-use Rattle.regalloc2_fastalloc.specs.Steps.{tables_of, none_left}
-use Rattle.regalloc2_fastalloc.proofs.Clobbered.{clears_all, clears_more}
+use Rattle.regalloc2_steps.specs.Steps.{none_left}
+use Rattle.regalloc2_fastalloc.specs.States.{tables_of}
+use Rattle.regalloc2_steps.proofs.Clobbered.{clears_all, clears_more}
 use Rattle.regalloc2_fastalloc.proofs.state.State.evict_clobbers.Goals as goal
 
 pub loop-preg-init : goal.loop-preg-init

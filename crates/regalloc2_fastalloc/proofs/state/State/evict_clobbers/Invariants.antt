@@ -1,7 +1,8 @@
 use Rattle.std.proofs.Common.{◌≡◌, ◌++◌, length}
 use Rattle.regalloc2_names.specs.RegisterSet.{registers_of}
-use Rattle.regalloc2_fastalloc.specs.Steps.{tables_of, SameMachine, ClearsAll}
-use Rattle.regalloc2_fastalloc.specs.Tables.{NoneBefore}
+use Rattle.regalloc2_steps.specs.Steps.{SameMachine, ClearsAll}
+use Rattle.regalloc2_fastalloc.specs.States.{tables_of}
+use Rattle.regalloc2_tables.specs.Tables.{NoneBefore}
 use Rattle.regalloc2_fastalloc.proofs.state.State.evict_clobbers.Given as goal
 
 abbrev pub invariant-loop-preg : goal.invariant-loop-preg

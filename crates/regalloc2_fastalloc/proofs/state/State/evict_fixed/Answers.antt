@@ -1,9 +1,11 @@
 use Rattle.std.proofs.Common.{ℕ, ◌≡◌, List, length, refl, sym, ap, ◌∙◌, subst, arith}
 use Rattle.regalloc2_names.specs.Register.{VirtualRegister}
 use Rattle.regalloc2_names.specs.Operand.{OperandValue}
-use Rattle.regalloc2_fastalloc.specs.Steps.{Tables, tables_of, op_at, ClearsBut, ClearsFixed, none_cleared, not_fixed, of_fixed, of_reuse}
-use Rattle.regalloc2_fastalloc.proofs.Clobbered.{machine_then}
-use Rattle.regalloc2_fastalloc.proofs.Reading.{read_operand, read_vreg}
+use Rattle.regalloc2_validate.specs.Constraints.{op_at}
+use Rattle.regalloc2_steps.specs.Steps.{Tables, ClearsBut, ClearsFixed, none_cleared, not_fixed, of_fixed, of_reuse}
+use Rattle.regalloc2_fastalloc.specs.States.{tables_of}
+use Rattle.regalloc2_steps.proofs.Clobbered.{machine_then}
+use Rattle.regalloc2_validate.proofs.Reading.{read_operand, read_vreg}
 use Rattle.regalloc2_fastalloc.proofs.state.State.evict_fixed.Goals as goal
 use Rattle.regalloc2_fastalloc.proofs.state.State.evict_fixed.Goals.{in-Some+in_ok-evict_others, in_default+in-Some-reused_register+in_ok-evict_from, in_default+in_default-reused_register}
 

@@ -1,6 +1,7 @@
 use Rattle.std.proofs.Common.{◌≡◌, length}
-use Rattle.regalloc2_fastalloc.specs.Steps.{tables_of, SameMachine, ClearsFixed}
-use Rattle.regalloc2_fastalloc.specs.Tables.{NoneBefore}
+use Rattle.regalloc2_steps.specs.Steps.{SameMachine, ClearsFixed}
+use Rattle.regalloc2_fastalloc.specs.States.{tables_of}
+use Rattle.regalloc2_tables.specs.Tables.{NoneBefore}
 use Rattle.regalloc2_fastalloc.proofs.state.State.evict_fixed.Given as goal
 
 abbrev pub invariant-loop-k : goal.invariant-loop-k

@@ -2,10 +2,11 @@ use Rattle.std.proofs.Common.{◌≡◌, ◌<◌, refl, sym, ◌∙◌, arith, s
 use Rattle.std.specs.Prelude.{Some}
 use Rattle.regalloc2_names.specs.declared.RegClass.{RegClass}
 use Rattle.regalloc2_names.specs.Place.{Place, InRegister}
-use Rattle.regalloc2_fastalloc.specs.Tables.{holder, stood}
-use Rattle.regalloc2_fastalloc.specs.Steps.{Tables, tables_of, Crosses, cleared}
-use Rattle.regalloc2_fastalloc.proofs.Emptying.{crosses_empty, settled_empty}
-use Rattle.regalloc2_fastalloc.proofs.Slotting.{slot_is_no_register}
+use Rattle.regalloc2_tables.specs.Tables.{holder, stood}
+use Rattle.regalloc2_steps.specs.Steps.{Tables, Crosses, cleared}
+use Rattle.regalloc2_fastalloc.specs.States.{tables_of}
+use Rattle.regalloc2_steps.proofs.Emptying.{crosses_empty, settled_empty}
+use Rattle.regalloc2_tables.proofs.Slotting.{slot_is_no_register}
 use Rattle.regalloc2_fastalloc.proofs.state.State.evict_from.Goals as goal
 
 pub slot_of-requires : goal.slot_of-requires

@@ -1,9 +1,9 @@
 use Rattle.std.proofs.Common.{ℕ, ◌≡◌, refl, sym, ◌∙◌, ap, arith}
 use Rattle.std.specs.Prelude.{None, Some}
 use Rattle.regalloc2_names.specs.Place.{NoPlace, InRegister}
-use Rattle.regalloc2_fastalloc.specs.Tables.{holder, stood}
-use Rattle.regalloc2_fastalloc.specs.Steps.{own, others}
-use Rattle.regalloc2_fastalloc.proofs.Emptying.{same_held}
+use Rattle.regalloc2_tables.specs.Tables.{holder, stood}
+use Rattle.regalloc2_steps.specs.Steps.{own, others}
+use Rattle.regalloc2_steps.proofs.Emptying.{same_held}
 use Rattle.regalloc2_fastalloc.proofs.state.State.evict_others.Goals as goal
 use Rattle.regalloc2_fastalloc.proofs.state.State.evict_others.Goals.{in-Some+else-vreg, in_default}
 

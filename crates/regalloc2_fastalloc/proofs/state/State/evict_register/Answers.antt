@@ -2,8 +2,8 @@ use Rattle.std.proofs.Common.{ℕ, ◌≡◌, ◌<◌, List, [], ◌∷◌, ◌+
 use Rattle.std.specs.Prelude.{Some}
 use Rattle.regalloc2_names.specs.Place.{Place}
 use Rattle.regalloc2_function.specs.OutputValue.{MoveValue}
-use Rattle.regalloc2_fastalloc.specs.Tables.{holder}
-use Rattle.regalloc2_fastalloc.specs.Steps.{moved}
+use Rattle.regalloc2_tables.specs.Tables.{holder}
+use Rattle.regalloc2_steps.specs.Steps.{moved}
 use Rattle.regalloc2_fastalloc.proofs.state.State.evict_register.Goals as goal
 
 pub slot_of-requires : goal.slot_of-requires

@@ -1,4 +1,4 @@
-use Rattle.regalloc2_fastalloc.proofs.Arranging.{found_or}
+use Rattle.regalloc2_steps.proofs.Arranging.{found_or}
 use Rattle.regalloc2_fastalloc.proofs.state.State.first_lent.Goals as goal
 
 pub returns-in-None : goal.returns-in-None

@@ -5,11 +5,12 @@ use Rattle.regalloc2_names.specs.Register.{VirtualRegister}
 use Rattle.regalloc2_function.specs.FunctionValue.{block_at}
 use Rattle.regalloc2_function.specs.SourceRun.{arguments_at}
 use Rattle.regalloc2_flow.specs.Blocks.{target_at}
-use Rattle.regalloc2_fastalloc.specs.Branches.{Gathers, no_edge, one_edge}
-use Rattle.regalloc2_fastalloc.specs.Steps.{Tables, tables_of}
-use Rattle.regalloc2_fastalloc.specs.Tables.{NoneBefore}
-use Rattle.regalloc2_fastalloc.proofs.Arguments.{known_still, edge_at}
-use Rattle.regalloc2_fastalloc.proofs.Emptying.{same_then}
+use Rattle.regalloc2_steps.specs.Branches.{Gathers, no_edge, one_edge}
+use Rattle.regalloc2_steps.specs.Steps.{Tables}
+use Rattle.regalloc2_fastalloc.specs.States.{tables_of}
+use Rattle.regalloc2_tables.specs.Tables.{NoneBefore}
+use Rattle.regalloc2_steps.proofs.Arguments.{known_still, edge_at}
+use Rattle.regalloc2_steps.proofs.Emptying.{same_then}
 use Rattle.regalloc2_fastalloc.proofs.state.State.gather.Goals as goal
 
 pub loop-k-init : goal.loop-k-init

@@ -1,8 +1,9 @@
 use Rattle.std.proofs.Common.{◌≡◌, List, length}
 use Rattle.regalloc2_names.specs.Point.{before}
-use Rattle.regalloc2_fastalloc.specs.Branches.{AreOf, ClassMove, Gathers}
-use Rattle.regalloc2_fastalloc.specs.Steps.{tables_of, SameMachine}
-use Rattle.regalloc2_fastalloc.specs.Tables.{NoneBefore}
+use Rattle.regalloc2_steps.specs.Branches.{AreOf, ClassMove, Gathers}
+use Rattle.regalloc2_steps.specs.Steps.{SameMachine}
+use Rattle.regalloc2_fastalloc.specs.States.{tables_of}
+use Rattle.regalloc2_tables.specs.Tables.{NoneBefore}
 use Rattle.regalloc2_fastalloc.proofs.state.State.gather.Given as goal
 
 abbrev pub invariant-loop-k : goal.invariant-loop-k

@@ -4,12 +4,13 @@ use Rattle.std.proofs.lemmas.List.Elements.{All-get_or}
 use Rattle.regalloc2_names.specs.declared.RegClass.{RegClass}
 use Rattle.regalloc2_names.specs.Place.{Place}
 use Rattle.regalloc2_names.specs.Register.{VirtualRegister}
-use Rattle.regalloc2_fastalloc.specs.Blocks.{no_vreg}
-use Rattle.regalloc2_fastalloc.specs.Branches.{AreOf, ClassMove, GathersEdge, SettlesArgument, none_gathered, one_gathered}
-use Rattle.regalloc2_fastalloc.specs.Steps.{Tables, tables_of}
-use Rattle.regalloc2_fastalloc.specs.Tables.{GivesSlot}
-use Rattle.regalloc2_fastalloc.proofs.Arguments.{settled_slot}
-use Rattle.regalloc2_fastalloc.proofs.Emptying.{same_then}
+use Rattle.regalloc2_steps.specs.Blocks.{no_vreg}
+use Rattle.regalloc2_steps.specs.Branches.{AreOf, ClassMove, GathersEdge, SettlesArgument, none_gathered, one_gathered}
+use Rattle.regalloc2_steps.specs.Steps.{Tables}
+use Rattle.regalloc2_fastalloc.specs.States.{tables_of}
+use Rattle.regalloc2_tables.specs.Tables.{GivesSlot}
+use Rattle.regalloc2_steps.proofs.Arguments.{settled_slot}
+use Rattle.regalloc2_steps.proofs.Emptying.{same_then}
 use Rattle.regalloc2_fastalloc.proofs.state.State.gather_edge.Goals as goal
 
 pub loop-j-init : goal.loop-j-init

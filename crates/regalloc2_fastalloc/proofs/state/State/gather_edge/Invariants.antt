@@ -1,7 +1,8 @@
 use Rattle.std.proofs.Common.{◌≡◌, List, length}
-use Rattle.regalloc2_fastalloc.specs.Branches.{AreOf, ClassMove, GathersEdge}
-use Rattle.regalloc2_fastalloc.specs.Steps.{tables_of, SameMachine}
-use Rattle.regalloc2_fastalloc.specs.Tables.{NoneBefore}
+use Rattle.regalloc2_steps.specs.Branches.{AreOf, ClassMove, GathersEdge}
+use Rattle.regalloc2_steps.specs.Steps.{SameMachine}
+use Rattle.regalloc2_fastalloc.specs.States.{tables_of}
+use Rattle.regalloc2_tables.specs.Tables.{NoneBefore}
 use Rattle.regalloc2_fastalloc.proofs.state.State.gather_edge.Given as goal
 
 abbrev pub invariant-loop-j : goal.invariant-loop-j

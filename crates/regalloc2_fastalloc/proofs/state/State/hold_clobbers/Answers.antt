@@ -1,5 +1,5 @@
 use Rattle.std.proofs.Common.{append_assoc}
-use Rattle.regalloc2_fastalloc.proofs.Clobbered.{holds_none, holds_more, holds_all, held_counted}
+use Rattle.regalloc2_steps.proofs.Clobbered.{holds_none, holds_more, holds_all, held_counted}
 use Rattle.regalloc2_fastalloc.proofs.state.State.hold_clobbers.Goals as goal
 
 pub loop-preg-init : goal.loop-preg-init

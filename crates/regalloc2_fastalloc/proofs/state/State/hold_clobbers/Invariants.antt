@@ -2,7 +2,7 @@ use Rattle.std.proofs.Common.{◌≡◌, ◌++◌}
 use Rattle.std.specs.Prelude.{◌↔◌, Contains, true}
 use Rattle.regalloc2_names.specs.Register.{Register}
 use Rattle.regalloc2_names.specs.RegisterSet.{has_register}
-use Rattle.regalloc2_fastalloc.proofs.Clobbered.{HoldsLate}
+use Rattle.regalloc2_steps.proofs.Clobbered.{HoldsLate}
 use Rattle.regalloc2_fastalloc.proofs.state.State.hold_clobbers.Given as goal
 
 abbrev pub invariant-loop-preg : goal.invariant-loop-preg

@@ -2,8 +2,9 @@ use Rattle.std.proofs.Common.{Bool, refl, subst}
 use Rattle.std.specs.Prelude.{not, ◌&&◌}
 use Rattle.regalloc2_names.specs.declared.RegClass.{RegClass}
 use Rattle.regalloc2_names.specs.Place.{Place, is_place}
-use Rattle.regalloc2_fastalloc.specs.Tables.{Settles, stood, slot_name}
-use Rattle.regalloc2_fastalloc.specs.Steps.{Tables, tables_of, Sends, is_another}
+use Rattle.regalloc2_tables.specs.Tables.{Settles, stood, slot_name}
+use Rattle.regalloc2_steps.specs.Steps.{Tables, Sends, is_another}
+use Rattle.regalloc2_fastalloc.specs.States.{tables_of}
 use Rattle.regalloc2_fastalloc.proofs.state.State.leave.Goals as goal
 
 pub returns-clause-ok : goal.returns-clause-ok

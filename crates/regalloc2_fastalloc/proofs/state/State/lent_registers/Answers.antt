@@ -1,7 +1,8 @@
 use Rattle.std.proofs.Common.{refl, subst}
-use Rattle.regalloc2_fastalloc.specs.Steps.{IsFreeAt, tables_of}
-use Rattle.regalloc2_fastalloc.specs.declared.turn.Positions.{Positions}
-use Rattle.regalloc2_fastalloc.proofs.Arranging.{spare_of, differ_of}
+use Rattle.regalloc2_tables.specs.Turns.{IsFreeAt}
+use Rattle.regalloc2_fastalloc.specs.States.{tables_of}
+use Rattle.regalloc2_tables.specs.declared.turn.Positions.{Positions}
+use Rattle.regalloc2_steps.proofs.Arranging.{spare_of, differ_of}
 use Rattle.regalloc2_fastalloc.proofs.state.State.lent_registers.Goals as goal
 
 pub returns-clause-spare : goal.returns-clause-spare

@@ -1,4 +1,4 @@
-use Rattle.regalloc2_fastalloc.proofs.Arranging.{are_next}
+use Rattle.regalloc2_steps.proofs.Arranging.{are_next}
 use Rattle.regalloc2_fastalloc.proofs.state.State.lent_slots.Goals as goal
 
 pub returns : goal.returns

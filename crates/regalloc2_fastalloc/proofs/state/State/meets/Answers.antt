@@ -1,5 +1,5 @@
-use Rattle.regalloc2_fastalloc.specs.Steps.{tables_of}
-use Rattle.regalloc2_fastalloc.proofs.Choosing.{suits_anywhere, suits_any, suits_memory, suits_at}
+use Rattle.regalloc2_fastalloc.specs.States.{tables_of}
+use Rattle.regalloc2_steps.proofs.Choosing.{suits_anywhere, suits_any, suits_memory, suits_at}
 use Rattle.regalloc2_fastalloc.proofs.state.State.meets.Goals as goal
 
 pub returns-in-Anywhere : goal.returns-in-Anywhere

@@ -3,8 +3,9 @@ use Rattle.std.specs.Prelude.{not}
 use Rattle.regalloc2_names.specs.declared.RegClass.{RegClass}
 use Rattle.regalloc2_names.specs.Register.{VirtualRegister}
 use Rattle.regalloc2_names.specs.Place.{Place, is_place}
-use Rattle.regalloc2_fastalloc.specs.Tables.{stood}
-use Rattle.regalloc2_fastalloc.specs.Steps.{tables_of, Sends}
+use Rattle.regalloc2_tables.specs.Tables.{stood}
+use Rattle.regalloc2_steps.specs.Steps.{Sends}
+use Rattle.regalloc2_fastalloc.specs.States.{tables_of}
 use Rattle.regalloc2_fastalloc.proofs.state.State.move_read.Goals as goal
 
 pub returns-clause-ok : goal.returns-clause-ok

@@ -4,11 +4,13 @@ use Rattle.std.proofs.lemmas.List.{get_or_read}
 use Rattle.regalloc2_names.specs.Place.{Place, NoPlace, is_place}
 use Rattle.regalloc2_names.specs.Operand.{OperandValue}
 use Rattle.regalloc2_function.specs.SourceRun.{is_reading}
-use Rattle.regalloc2_fastalloc.specs.Tables.{stood}
-use Rattle.regalloc2_fastalloc.specs.Steps.{tables_of, op_at, none_moved, not_moved, one_moved, MovesUses, Sends}
-use Rattle.regalloc2_fastalloc.proofs.Reading.{read_operand}
-use Rattle.regalloc2_fastalloc.proofs.Emptying.{same_then}
-use Rattle.regalloc2_fastalloc.proofs.Operands.{read_is_marked}
+use Rattle.regalloc2_tables.specs.Tables.{stood}
+use Rattle.regalloc2_validate.specs.Constraints.{op_at}
+use Rattle.regalloc2_steps.specs.Steps.{none_moved, not_moved, one_moved, MovesUses, Sends}
+use Rattle.regalloc2_fastalloc.specs.States.{tables_of}
+use Rattle.regalloc2_validate.proofs.Reading.{read_operand}
+use Rattle.regalloc2_steps.proofs.Emptying.{same_then}
+use Rattle.regalloc2_steps.proofs.Operands.{read_is_marked}
 use Rattle.regalloc2_fastalloc.proofs.state.State.move_reads.Goals as goal
 use Rattle.regalloc2_fastalloc.proofs.state.State.move_reads.Goals.{then-reads+in_ok-move_read, else-reads}
 

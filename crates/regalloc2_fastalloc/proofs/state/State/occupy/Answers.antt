@@ -2,10 +2,11 @@ use Rattle.std.proofs.Common.{◌≡◌, refl, sym, ◌∙◌, subst}
 use Rattle.std.specs.Prelude.{None}
 use Rattle.regalloc2_names.specs.Register.{Register}
 use Rattle.regalloc2_names.specs.Place.{Place, NoPlace, InRegister}
-use Rattle.regalloc2_fastalloc.specs.Tables.{holder, stood}
-use Rattle.regalloc2_fastalloc.specs.Steps.{tables_of, Occupies, in_slot}
-use Rattle.regalloc2_fastalloc.proofs.Choosing.{slot_place}
-use Rattle.regalloc2_fastalloc.proofs.Slotting.{place_of_register, same_register}
+use Rattle.regalloc2_tables.specs.Tables.{holder, stood}
+use Rattle.regalloc2_steps.specs.Steps.{Occupies, in_slot}
+use Rattle.regalloc2_fastalloc.specs.States.{tables_of}
+use Rattle.regalloc2_steps.proofs.Choosing.{slot_place}
+use Rattle.regalloc2_tables.proofs.Slotting.{place_of_register, same_register}
 use Rattle.regalloc2_fastalloc.proofs.state.State.occupy.Goals as goal
 
 pub returns-in_default-clause-ok : goal.returns-in_default-clause-ok

@@ -2,12 +2,13 @@ use Rattle.std.proofs.Common.{◌+◌, refl, sym, ap, ◌∙◌, subst, arith}
 use Rattle.std.proofs.lemmas.Result.{err_from_is_err_and}
 use Rattle.regalloc2_names.specs.Place.{Place}
 use Rattle.regalloc2_parts.specs.Resolved.{listed, has_scratch, with_place}
-use Rattle.regalloc2_fastalloc.specs.declared.lending.Lending.{Lending}
-use Rattle.regalloc2_fastalloc.specs.Lack.{LacksOnly, AreFullWith}
-use Rattle.regalloc2_fastalloc.specs.Lending.{IsShort}
-use Rattle.regalloc2_fastalloc.specs.Steps.{Tables, MayHold, tables_of}
-use Rattle.regalloc2_fastalloc.proofs.Arranging.{orders, orders_none, serves_given, short_full, taken_fits}
-use Rattle.regalloc2_fastalloc.proofs.Rooming.{lacks_then}
+use Rattle.regalloc2_tables.specs.declared.lending.Lending.{Lending}
+use Rattle.regalloc2_tables.specs.Lack.{LacksOnly, AreFullWith}
+use Rattle.regalloc2_tables.specs.Lending.{IsShort}
+use Rattle.regalloc2_steps.specs.Steps.{Tables, MayHold}
+use Rattle.regalloc2_fastalloc.specs.States.{tables_of}
+use Rattle.regalloc2_steps.proofs.Arranging.{orders, orders_none, serves_given, short_full, taken_fits}
+use Rattle.regalloc2_tables.proofs.Rooming.{lacks_then}
 use Rattle.regalloc2_fastalloc.proofs.state.State.order.Goals as goal
 
 pub returns-then-are_none-clause-ok : goal.returns-then-are_none-clause-ok

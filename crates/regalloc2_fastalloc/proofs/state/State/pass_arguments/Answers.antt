@@ -4,13 +4,14 @@ use Rattle.regalloc2_names.specs.declared.RegClass.{RegClass}
 use Rattle.regalloc2_names.specs.declared.RegClass.TheVariants.{Int, Float, Vector}
 use Rattle.regalloc2_names.specs.Point.{before}
 use Rattle.regalloc2_function.specs.FunctionValue.{block_at}
-use Rattle.regalloc2_fastalloc.specs.Branches.{MayBeAtOnce, of_class}
-use Rattle.regalloc2_fastalloc.specs.Lack.{AreFull, AreFullWith, LacksOnly}
-use Rattle.regalloc2_fastalloc.specs.Lending.{Moves}
-use Rattle.regalloc2_fastalloc.specs.Steps.{Tables, tables_of}
-use Rattle.regalloc2_fastalloc.specs.Tables.{NoneBefore}
-use Rattle.regalloc2_fastalloc.proofs.Arguments.{apart_lent, full_before, gathered_below, gathered_sources, lends_none, pushes_at, pushes_long}
-use Rattle.regalloc2_fastalloc.proofs.Rooming.{lacks_then}
+use Rattle.regalloc2_steps.specs.Branches.{MayBeAtOnce, of_class}
+use Rattle.regalloc2_tables.specs.Lack.{AreFull, AreFullWith, LacksOnly}
+use Rattle.regalloc2_tables.specs.Lending.{Moves}
+use Rattle.regalloc2_steps.specs.Steps.{Tables}
+use Rattle.regalloc2_fastalloc.specs.States.{tables_of}
+use Rattle.regalloc2_tables.specs.Tables.{NoneBefore}
+use Rattle.regalloc2_steps.proofs.Arguments.{apart_lent, full_before, gathered_below, gathered_sources, lends_none, pushes_at, pushes_long}
+use Rattle.regalloc2_tables.proofs.Rooming.{lacks_then}
 use Rattle.regalloc2_fastalloc.proofs.state.State.pass_arguments.Goals as goal
 
 pub push_gathered-requires : goal.push_gathered-requires

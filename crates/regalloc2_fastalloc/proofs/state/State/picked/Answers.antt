@@ -1,5 +1,5 @@
-use Rattle.regalloc2_fastalloc.specs.Steps.{tables_of}
-use Rattle.regalloc2_fastalloc.proofs.Choosing.{suits_there}
+use Rattle.regalloc2_fastalloc.specs.States.{tables_of}
+use Rattle.regalloc2_steps.proofs.Choosing.{suits_there}
 use Rattle.regalloc2_fastalloc.proofs.state.State.picked.Goals as goal
 
 pub returns-in-Some-clause-there : goal.returns-in-Some-clause-there

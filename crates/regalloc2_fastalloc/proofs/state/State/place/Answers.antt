@@ -1,8 +1,8 @@
 use Rattle.std.proofs.Common.{ℕ, List, sym, subst, rules}
 use Rattle.regalloc2_function.specs.OutputValue.{MoveValue}
-use Rattle.regalloc2_fastalloc.specs.Steps.{tables_of}
-use Rattle.regalloc2_fastalloc.specs.Tables.{NoneBefore}
-use Rattle.regalloc2_fastalloc.proofs.Choosing.{occupies_counted}
+use Rattle.regalloc2_fastalloc.specs.States.{tables_of}
+use Rattle.regalloc2_tables.specs.Tables.{NoneBefore}
+use Rattle.regalloc2_steps.proofs.Choosing.{occupies_counted}
 use Rattle.regalloc2_fastalloc.proofs.state.State.place.Goals as goal
 
 pub occupy-requires : goal.occupy-requires

@@ -4,11 +4,12 @@ use Rattle.regalloc2_names.specs.Place.{NoPlace}
 use Rattle.regalloc2_names.specs.Point.{after}
 use Rattle.regalloc2_names.specs.Operand.{OperandValue}
 use Rattle.regalloc2_function.specs.SourceRun.{is_fixed_nonallocatable}
-use Rattle.regalloc2_fastalloc.specs.Tables.{NoneBefore}
-use Rattle.regalloc2_fastalloc.specs.declared.choose.Placing.{Placing}
-use Rattle.regalloc2_fastalloc.specs.Steps.{tables_of, op_at}
-use Rattle.regalloc2_fastalloc.proofs.Reading.{read_operand}
-use Rattle.regalloc2_fastalloc.proofs.Operands.{is_unmarked, op_in_tables, use_in_tables, one_register, one_use, one_def, one_reuse}
+use Rattle.regalloc2_tables.specs.Tables.{NoneBefore}
+use Rattle.regalloc2_tables.specs.declared.placing.Placing.{Placing}
+use Rattle.regalloc2_validate.specs.Constraints.{op_at}
+use Rattle.regalloc2_fastalloc.specs.States.{tables_of}
+use Rattle.regalloc2_validate.proofs.Reading.{read_operand}
+use Rattle.regalloc2_steps.proofs.Operands.{is_unmarked, op_in_tables, use_in_tables, one_register, one_use, one_def, one_reuse}
 use Rattle.regalloc2_fastalloc.proofs.state.State.place_operand.Goals as goal
 
 pub returns-in-Some-clause-ok : goal.returns-in-Some-clause-ok

@@ -1,9 +1,11 @@
 use Rattle.std.proofs.Common.{ℕ, ◌≡◌, List, length, refl, sym, ap, ◌∙◌, subst, arith, rules}
 use Rattle.regalloc2_names.specs.Operand.{OperandValue}
 use Rattle.regalloc2_function.specs.SourceRun.{is_late}
-use Rattle.regalloc2_fastalloc.specs.Steps.{tables_of, op_at, none_placed, of_other, one_placed, PlacesAt}
-use Rattle.regalloc2_fastalloc.proofs.Reading.{read_operand}
-use Rattle.regalloc2_fastalloc.proofs.Emptying.{same_then}
+use Rattle.regalloc2_validate.specs.Constraints.{op_at}
+use Rattle.regalloc2_steps.specs.Steps.{none_placed, of_other, one_placed, PlacesAt}
+use Rattle.regalloc2_fastalloc.specs.States.{tables_of}
+use Rattle.regalloc2_validate.proofs.Reading.{read_operand}
+use Rattle.regalloc2_steps.proofs.Emptying.{same_then}
 use Rattle.regalloc2_fastalloc.proofs.state.State.place_operands.Goals as goal
 use Rattle.regalloc2_fastalloc.proofs.state.State.place_operands.Goals.{then-stands_at+in_ok-place_operand, else-stands_at}
 

@@ -1,8 +1,9 @@
 use Rattle.std.proofs.Common.{◌≡◌, length}
 use Rattle.regalloc2_names.specs.Point.{after}
 use Rattle.regalloc2_function.specs.SourceRun.{is_late}
-use Rattle.regalloc2_fastalloc.specs.Tables.{NoneBefore}
-use Rattle.regalloc2_fastalloc.specs.Steps.{tables_of, PlacesAt, SameMachine}
+use Rattle.regalloc2_tables.specs.Tables.{NoneBefore}
+use Rattle.regalloc2_steps.specs.Steps.{PlacesAt, SameMachine}
+use Rattle.regalloc2_fastalloc.specs.States.{tables_of}
 use Rattle.regalloc2_fastalloc.proofs.state.State.place_operands.Given as goal
 
 abbrev pub invariant-loop-k : goal.invariant-loop-k

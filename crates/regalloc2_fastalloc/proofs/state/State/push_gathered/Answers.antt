@@ -1,10 +1,11 @@
 use Rattle.std.proofs.Common.{◌+◌, ◌≤◌, refl, sym, subst, arith, rules}
 use Rattle.std.proofs.lemmas.Result.{err_from_is_err_and}
 use Rattle.regalloc2_names.specs.declared.RegClass.TheVariants.{Int, Float}
-use Rattle.regalloc2_fastalloc.specs.Lack.{AreFullWith, LacksOnly}
-use Rattle.regalloc2_fastalloc.specs.Steps.{Tables, tables_of}
-use Rattle.regalloc2_fastalloc.proofs.Arguments.{apart_lent, between_more, full_before, lends_same, lends_then, pushes_grow}
-use Rattle.regalloc2_fastalloc.proofs.Rooming.{lacks_then}
+use Rattle.regalloc2_tables.specs.Lack.{AreFullWith, LacksOnly}
+use Rattle.regalloc2_steps.specs.Steps.{Tables}
+use Rattle.regalloc2_fastalloc.specs.States.{tables_of}
+use Rattle.regalloc2_steps.proofs.Arguments.{apart_lent, between_more, full_before, lends_same, lends_then, pushes_grow}
+use Rattle.regalloc2_tables.proofs.Rooming.{lacks_then}
 use Rattle.regalloc2_fastalloc.proofs.state.State.push_gathered.Goals as goal
 
 pub push_moves-requires : goal.push_moves-requires

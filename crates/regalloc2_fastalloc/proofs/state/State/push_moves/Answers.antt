@@ -1,7 +1,8 @@
 use Rattle.std.proofs.Common.{ℕ, List, ◌++◌, ap, ◌∙◌}
 use Rattle.regalloc2_function.specs.OutputValue.{MoveValue}
-use Rattle.regalloc2_fastalloc.specs.Lending.{Moves, pushed}
-use Rattle.regalloc2_fastalloc.specs.Steps.{Tables, tables_of}
+use Rattle.regalloc2_tables.specs.Lending.{Moves, pushed}
+use Rattle.regalloc2_steps.specs.Steps.{Tables}
+use Rattle.regalloc2_fastalloc.specs.States.{tables_of}
 use Rattle.regalloc2_fastalloc.proofs.state.State.push_moves.Goals as goal
 
 pub returns-clause-ok : goal.returns-clause-ok

@@ -1,5 +1,6 @@
 use Rattle.std.proofs.Common.{◌≡◌, length, refl, ◌∙◌, subst, arith}
-use Rattle.regalloc2_fastalloc.specs.Steps.{Tables, tables_of}
+use Rattle.regalloc2_steps.specs.Steps.{Tables}
+use Rattle.regalloc2_fastalloc.specs.States.{tables_of}
 use Rattle.regalloc2_fastalloc.specs.Reserving.{ReservesOne}
 use Rattle.regalloc2_fastalloc.proofs.Reserved.{reserving_none, reserving_more, reserves_all}
 use Rattle.regalloc2_fastalloc.proofs.state.State.reserve.Goals as goal

@@ -1,5 +1,5 @@
 use Rattle.std.proofs.Common.{◌≡◌}
-use Rattle.regalloc2_fastalloc.specs.Steps.{tables_of}
+use Rattle.regalloc2_fastalloc.specs.States.{tables_of}
 use Rattle.regalloc2_fastalloc.proofs.Reserved.{Reserving}
 use Rattle.regalloc2_fastalloc.proofs.state.State.reserve.Given as goal
 

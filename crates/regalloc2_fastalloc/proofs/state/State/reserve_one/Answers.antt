@@ -1,7 +1,8 @@
 use Rattle.std.proofs.Common.{◌≡◌, List, refl, sym, ◌∙◌}
 use Rattle.std.specs.Prelude.{None, Some}
 use Rattle.regalloc2_names.specs.Operand.{OperandValue}
-use Rattle.regalloc2_fastalloc.specs.Steps.{Tables, tables_of}
+use Rattle.regalloc2_steps.specs.Steps.{Tables}
+use Rattle.regalloc2_fastalloc.specs.States.{tables_of}
 use Rattle.regalloc2_fastalloc.specs.Reserving.{ReservesOne}
 use Rattle.regalloc2_fastalloc.proofs.Reserved.{shrinks_none, shrinks_same, reserves_nothing, reserves_it, reserves_then, same_claim}
 use Rattle.regalloc2_fastalloc.proofs.state.State.reserve_one.Given.{Over}

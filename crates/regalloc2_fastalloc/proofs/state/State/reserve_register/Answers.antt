@@ -1,6 +1,6 @@
 use Rattle.regalloc2_names.specs.RegisterSet.{has_register}
 use Rattle.std.proofs.Common.{sym, ◌∙◌}
-use Rattle.regalloc2_fastalloc.specs.Steps.{tables_of}
+use Rattle.regalloc2_fastalloc.specs.States.{tables_of}
 use Rattle.regalloc2_fastalloc.proofs.Reserved.{shrinks_held, reserved_held, known_of}
 use Rattle.regalloc2_fastalloc.proofs.state.State.reserve_register.Goals as goal
 

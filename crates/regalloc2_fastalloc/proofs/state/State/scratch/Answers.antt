@@ -1,9 +1,10 @@
 use Rattle.std.proofs.Common.{List, sym, ◌∙◌, ap}
 use Rattle.std.specs.Prelude.{Option, slice_set, Some}
 use Rattle.regalloc2_names.specs.Register.{Register, class_code}
-use Rattle.regalloc2_fastalloc.specs.declared.turn.Positions.{Positions}
-use Rattle.regalloc2_fastalloc.specs.Steps.{found, IsFreeAt}
-use Rattle.regalloc2_fastalloc.proofs.Emptying.{left_of_both}
+use Rattle.regalloc2_tables.specs.declared.turn.Positions.{Positions}
+use Rattle.regalloc2_tables.specs.Turns.{IsFreeAt}
+use Rattle.regalloc2_steps.specs.Steps.{found}
+use Rattle.regalloc2_steps.proofs.Emptying.{left_of_both}
 use Rattle.regalloc2_fastalloc.proofs.state.State.scratch.Goals as goal
 
 pub returns-clause-ok : goal.returns-clause-ok

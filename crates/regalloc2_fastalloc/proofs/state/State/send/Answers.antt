@@ -1,4 +1,4 @@
-use Rattle.regalloc2_fastalloc.specs.Steps.{sent}
+use Rattle.regalloc2_steps.specs.Steps.{sent}
 use Rattle.regalloc2_fastalloc.proofs.state.State.send.Goals as goal
 
 pub returns-clause-ok : goal.returns-clause-ok

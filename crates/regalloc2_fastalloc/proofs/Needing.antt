@@ -1,0 +1,48 @@
+-- How many units the slots of a function need.
+use Rattle.std.proofs.Common.{ℕ, ◌≡◌, ◌+◌, ◌*◌, ◌^◌, ◌<◌, ◌≤◌, List, [], ◌∷◌, length, sym, subst, arith}
+use Rattle.std.specs.Prelude.{max, not}
+use Rattle.std.proofs.Math.Nat.{le-max_left, le-max_right, mul-le-mul_right}
+use Rattle.std.proofs.lemmas.List.Sums.{count_by-le-length}
+use Rattle.regalloc2_names.specs.declared.RegClass.TheVariants.{Int, Float, Vector}
+use Rattle.regalloc2_names.specs.Place.{is_no_place}
+use Rattle.regalloc2_function.specs.FunctionValue.{FunctionValue, slot_size}
+use Rattle.regalloc2_function.specs.OutputValue.{OutputValue}
+use Rattle.regalloc2_tables.specs.Tables.{SlotsValue, AreOwned, AreUpTo, most_units, owners}
+use Rattle.regalloc2_tables.specs.Lack.{AreFullWith}
+use Rattle.regalloc2_tables.proofs.Setting.{each_of_three}
+use Rattle.regalloc2_fastalloc.specs.Reason.{SlotsAreFew, greatest_slot, units_needed}
+
+-- the sizes of a function's slots
+abbrev pub sizes_of : FunctionValue → List ℕ
+sizes_of f = slot_size f.slot_sizes Int ∷ slot_size f.slot_sizes Float ∷ slot_size f.slot_sizes Vector ∷ []
+
+up_to_greatest : (f : FunctionValue) → AreUpTo (greatest_slot f) (sizes_of f)
+up_to_greatest f =
+    let int : ℕ = slot_size f.slot_sizes Int in
+    let float : ℕ = slot_size f.slot_sizes Float in
+    let vector : ℕ = slot_size f.slot_sizes Vector in
+    let rest : max float vector ≤ greatest_slot f = le-max_right int (max float vector) in
+    each_of_three (λ n. n ≤ greatest_slot f) int float vector (le-max_left int (max float vector)) (let l = le-max_left float vector in omega (arith, l, rest)) (let r = le-max_right float vector in omega (arith, r, rest))
+
+-- what one slot for each vreg and six for each block take is within the bound of a function
+within_needed : (most vregs lent blocks : ℕ) → lent ≤ 6 * blocks → (vregs + lent) * (2 * most) ≤ 2 * most * (vregs + 6 * blocks)
+within_needed most vregs lent blocks few =
+    let all : (vregs + lent) * (2 * most) ≤ (vregs + 6 * blocks) * (2 * most) = mul-le-mul_right (2 * most) (omega (arith, few)) in
+    omega (arith, all)
+
+-- where slots are full, the function needs too many units
+pub full_needs : (f : FunctionValue) (s : SlotsValue) (more : ℕ) → s.sizes ≡ sizes_of f → length s.of_vreg ≡ f.num_vregs → more ≤ 6 * length f.blocks → AreFullWith s more → 2 ^ 24 < units_needed f
+full_needs f s more sizes vregs few full =
+    let past : most_units < (length s.of_vreg + more) * (2 * greatest_slot f) = full (greatest_slot f) (subst (AreUpTo (greatest_slot f)) (sym sizes) (up_to_greatest f)) in
+    let past2 : most_units < (f.num_vregs + more) * (2 * greatest_slot f) = subst (λ (n : ℕ). most_units < (n + more) * (2 * greatest_slot f)) vregs past in
+    let w = within_needed (greatest_slot f) f.num_vregs more (length f.blocks) few in
+    omega (arith, past2, w)
+
+-- slots take no more units than the function needs
+pub few_slots : (f : FunctionValue) (s : SlotsValue) (out : OutputValue) → out.num_spillslots ≡ s.count → s.sizes ≡ sizes_of f → length s.of_vreg ≡ f.num_vregs → s.lent ≤ 6 * length f.blocks → AreOwned s → SlotsAreFew f out
+few_slots f s out count sizes vregs few owned =
+    let room : s.count ≤ (owners s + s.lent) * (2 * greatest_slot f) = owned.room (greatest_slot f) (subst (AreUpTo (greatest_slot f)) (sym sizes) (up_to_greatest f)) in
+    let some : owners s ≤ length s.of_vreg = count_by-le-length (λ p. not (is_no_place p)) s.of_vreg in
+    let all : (owners s + s.lent) * (2 * greatest_slot f) ≤ (f.num_vregs + s.lent) * (2 * greatest_slot f) = mul-le-mul_right (2 * greatest_slot f) (omega (arith, some, vregs)) in
+    let w = within_needed (greatest_slot f) f.num_vregs s.lent (length f.blocks) few in
+    record { limit = (let most = owned.few in omega (arith, count, most)); needed = omega (arith, count, room, all, w) }

@@ -1,6 +1,0 @@
-use Rattle.std.proofs.Common.{ℕ, ◌<◌}
-use Rattle.regalloc2_fastalloc.specs.Constraints.{IsClear}
-use Rattle.regalloc2_fastalloc.proofs.constraints.avoid_clobbers.Given as goal
-
-abbrev pub invariant-loop-k : goal.invariant-loop-k
-invariant-loop-k l = record { so_far : (n : ℕ) → n < l.k → IsClear l.fn.clobbers l.operands n }

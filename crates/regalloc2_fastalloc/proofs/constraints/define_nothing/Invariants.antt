@@ -1,7 +1,0 @@
-use Rattle.std.proofs.Common.{ℕ, ◌<◌, ◌≡◌, false}
-use Rattle.regalloc2_function.specs.SourceRun.{is_def}
-use Rattle.regalloc2_fastalloc.specs.Steps.{op_at}
-use Rattle.regalloc2_fastalloc.proofs.constraints.define_nothing.Given as goal
-
-abbrev pub invariant-loop-k : goal.invariant-loop-k
-invariant-loop-k l = record { so_far : (n : ℕ) → n < l.k → is_def (op_at l.operands n).kind ≡ false }

@@ -1,0 +1,101 @@
+-- The walk over an instruction's clobbers.
+use Rattle.std.proofs.Common.{ℕ, zero, suc, ◌≡◌, Bool, true, false, List, [], ◌∷◌, ◌++◌, refl, arith, sym, ap, ◌∙◌, subst, append-nil}
+use Rattle.std.specs.Prelude.{not, ◌&&◌, ◌||◌, Contains, ◌↔◌}
+use Rattle.regalloc2_names.specs.declared.sets.PRegSet.{PRegSet}
+use Rattle.regalloc2_names.specs.Register.{Register, is_register}
+use Rattle.regalloc2_names.specs.RegisterSet.{has_register}
+use Rattle.regalloc2_flow.proofs.Cells.{is_register-same, is_register-true}
+use Rattle.regalloc2_tables.specs.declared.turn.Turn.{Turn}
+use Rattle.regalloc2_tables.specs.Turns.{Holds, SameSets}
+use Rattle.regalloc2_steps.specs.Steps.{Tables, SameMachine, HoldsClobbers, Clears, ClearsAll, none_left, one_more}
+
+-- whether a register is in a list
+abbrev pub listed : Register → List Register → Bool
+listed r [] = false
+listed r (x ∷ xs) = is_register x r || listed r xs
+
+pub listed-more : (r x : Register) (xs : List Register) → listed r (xs ++ x ∷ []) ≡ is_register x r || listed r xs
+listed-more r x [] = refl
+listed-more r x (y ∷ ys) = ap (λ b. is_register y r || b) (listed-more r x ys) ∙ swapped (is_register y r) (is_register x r) (listed r ys)
+  where
+    swapped : (a b c : Bool) → (a || (b || c)) ≡ (b || (a || c))
+    swapped true true c = refl
+    swapped true false c = refl
+    swapped false b c = refl
+
+in_front : (x y : Register) (xs : List Register) → Contains xs x → Contains (y ∷ xs) x
+in_front x y xs (k, less, at) = (suc k, omega arith, at)
+
+listed-in : (r : Register) (xs : List Register) → listed r xs ≡ true → Contains xs r
+listed-in r [] h = absurd cc
+listed-in r (x ∷ xs) h = by_test (listed-in r xs) (is_register x r) refl h
+  where
+    by_test : (listed r xs ≡ true → Contains xs r) → (b : Bool) → is_register x r ≡ b → (b || listed r xs) ≡ true → Contains (x ∷ xs) r
+    by_test further true e g = (0, omega arith, is_register-true x r e)
+    by_test further false e g = in_front r x xs (further g)
+
+in-listed : (r : Register) (xs : List Register) → Contains xs r → listed r xs ≡ true
+in-listed r [] (k, less, at) = absurd (omega arith)
+in-listed r (x ∷ xs) (zero, less, at) = subst (λ y. (is_register y r || listed r xs) ≡ true) (sym at) (ap (λ b. b || listed r xs) (is_register-same r))
+in-listed r (x ∷ xs) (suc k, less, at) = ap (λ b. is_register x r || b) (in-listed r xs (k, omega arith, at)) ∙ always (is_register x r)
+  where
+    always : (b : Bool) → (b || true) ≡ true
+    always true = refl
+    always false = refl
+
+pub listed-all : (s : PRegSet) (xs : List Register) → ((r : Register) → (has_register s r ≡ true) ↔ Contains xs r) → (r : Register) → listed r xs ≡ has_register s r
+listed-all s xs members r = by_test (listed r xs) (has_register s r) refl refl
+  where
+    by_test : (a b : Bool) → listed r xs ≡ a → has_register s r ≡ b → a ≡ b
+    by_test true true e f = refl
+    by_test true false e f = let h : has_register s r ≡ true = (members r).1 (listed-in r xs e) in cc
+    by_test false true e f = let h : listed r xs ≡ true = in-listed r xs ((members r).0 f) in cc
+    by_test false false e f = refl
+
+-- the registers of a list are held while late operands are there
+pub record HoldsLate (xs : List Register) (t u : Turn) : Type 0 where
+  pub late : (r : Register) → has_register u.late r ≡ not (listed r xs) && has_register t.late r
+  pub early : (r : Register) → has_register u.early r ≡ has_register t.early r
+  pub scratch : u.scratch ≡ t.scratch
+
+pub holds_none : (t : Turn) → HoldsLate [] t t
+holds_none t = record { late = λ r. refl; early = λ r. refl; scratch = refl }
+
+pub holds_more : (xs : List Register) (x : Register) (t u w : Turn) → HoldsLate xs t u → Holds u w x (record { early = false; late = true }) → HoldsLate (xs ++ x ∷ []) t w
+holds_more xs x t u w h s = record {
+  late = λ r. s.late r ∙ ap (λ b. not (is_register x r) && b) (h.late r) ∙ both (is_register x r) (listed r xs) (has_register t.late r) ∙ ap (λ b. not b && has_register t.late r) (sym (listed-more r x xs));
+  early = λ r. s.early r ∙ h.early r;
+  scratch = s.scratch ∙ h.scratch;
+}
+  where
+    both : (a b c : Bool) → (not a && (not b && c)) ≡ (not (a || b) && c)
+    both true b c = refl
+    both false b c = refl
+
+-- what counts registers says nothing of that
+pub held_counted : (xs : List Register) (t u w : Turn) → SameSets u w → HoldsLate xs t u → HoldsLate xs t w
+held_counted xs t u w s h = record {
+  late = λ r. ap (λ x. has_register x r) s.late ∙ h.late r;
+  early = λ r. ap (λ x. has_register x r) s.early ∙ h.early r;
+  scratch = s.scratch ∙ h.scratch;
+}
+
+pub holds_all : (s : PRegSet) (xs rest : List Register) (t u : Turn) → rest ≡ [] → ((r : Register) → (has_register s r ≡ true) ↔ Contains (xs ++ rest) r) → HoldsLate xs t u → HoldsClobbers s t u
+holds_all s xs rest t u none members h =
+    let all : xs ++ rest ≡ xs = ap (λ ys. xs ++ ys) none ∙ append-nil xs in
+    let own : (r : Register) → (has_register s r ≡ true) ↔ Contains xs r = subst (λ ys. (r : Register) → (has_register s r ≡ true) ↔ Contains ys r) all members in
+    record {
+      late = λ r. h.late r ∙ ap (λ b. not b && has_register t.late r) (listed-all s xs own r);
+      early = h.early;
+      scratch = h.scratch;
+    }
+
+pub clears_all : (point : ℕ) (xs rest rs : List Register) (t u : Turn) (old new : Tables) → rest ≡ [] → xs ++ rest ≡ rs → ClearsAll point xs t old u new → ClearsAll point rs t old u new
+clears_all point xs rest rs t u old new none e h = subst (λ ys. ClearsAll point ys t old u new) (sym (ap (λ ys. xs ++ ys) none ∙ append-nil xs) ∙ e) h
+
+pub clears_more : (point : ℕ) (rs : List Register) (r : Register) (t u w : Turn) (old m new : Tables) → ClearsAll point rs t old u m → Clears point r u w m new → ClearsAll point (rs ++ r ∷ []) t old w new
+clears_more point rs r t u w old m new (none_left v l) c = one_more r [] v w w l new new c (none_left w new)
+clears_more point rs r t u w old m new (one_more q qs a b d k l n first rest) c = one_more q (qs ++ r ∷ []) a b w k l new first (clears_more point qs r b d w l n new rest c)
+
+pub machine_then : (a b c : Tables) → SameMachine a b → SameMachine b c → SameMachine a c
+machine_then a b c x y = record { allocatable = y.allocatable ∙ x.allocatable; fixed_stack = y.fixed_stack ∙ x.fixed_stack; dedicated = y.dedicated ∙ x.dedicated; sizes = y.sizes ∙ x.sizes; vregs = y.vregs ∙ x.vregs; lent = y.lent ∙ x.lent }

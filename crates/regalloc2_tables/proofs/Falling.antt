@@ -1,0 +1,44 @@
+-- Points that never rise.
+use Rattle.std.proofs.Common.{ℕ, ◌≡◌, ◌≢◌, ◌+◌, ◌-◌, ◌<◌, ◌≤◌, List, [], ◌∷◌, ◌++◌, reverse, map, refl, sym, ap, ◌∙◌, length, ◌⊎◌, ⊎_elim, inl, inr, arith, subst}
+use Rattle.std.specs.Prelude.{All}
+use Rattle.std.specs.List.Sorted.{IsNonDecreasingBy}
+use Rattle.std.proofs.lemmas.List.{reverse-append, map-append, get_or_append_left, get_or_push, get_or-reverse, length_push, length-reverse}
+use Rattle.regalloc2_function.specs.OutputValue.{MoveValue}
+use Rattle.regalloc2_tables.specs.Tables.{NeverRise, NoneBefore}
+use Rattle.regalloc2_tables.proofs.Inverses.{same_number}
+
+-- an index of a list with one more element is an old one or the last
+pub split_push : {X : Type 0} (xs : List X) (k : ℕ) (x : X) → k < length (xs ++ x ∷ []) → (k < length xs) ⊎ (k ≡ length xs)
+split_push xs k x h =
+    let n : length (xs ++ x ∷ []) ≡ length xs + 1 = length_push xs x in
+    ⊎_elim (λ (e : k ≡ length xs). inr e) (λ (d : k ≢ length xs). inl (omega arith)) (same_number k (length xs))
+
+-- what holds of each element of a list, and of one more
+pub all_push : {X : Type 0} (P : X → Type 0) (xs : List X) (x : X) → All P xs → P x → All P (xs ++ x ∷ [])
+all_push {X} P xs x h p = λ k d lt. ⊎_elim
+    (λ (w : k < length xs). subst P (sym (get_or_append_left xs (x ∷ []) d k w)) (h k d w))
+    (λ (e : k ≡ length xs). subst P (sym (get_or_push xs x d k (sym e))) p)
+    (split_push xs k x lt)
+
+pub none_before_push : (es : List (ℕ × MoveValue)) (p : ℕ) (x : ℕ × MoveValue) → NoneBefore p es → p ≤ x.0 → NoneBefore p (es ++ x ∷ [])
+none_before_push es p x later le = all_push (λ e. p ≤ e.0) es x later le
+
+pub never_rise_push : (es : List (ℕ × MoveValue)) (x : ℕ × MoveValue) → NeverRise es → NoneBefore x.0 es → NeverRise (es ++ x ∷ [])
+never_rise_push es x falls later = λ i j d le lt. ⊎_elim
+    (λ (w : j < length es). rw (get_or_append_left es (x ∷ []) d j w, get_or_append_left es (x ∷ []) d i (omega arith)) (falls i j d le w))
+    (λ (e : j ≡ length es). ⊎_elim
+    (λ (v : i < length es). rw (get_or_push es x d j (sym e), get_or_append_left es (x ∷ []) d i v) (later i d v))
+    (λ (f : i ≡ length es). rw (get_or_push es x d j (sym e), get_or_push es x d i (sym f)) (omega arith))
+    (split_push es i x (omega arith)))
+    (split_push es j x lt)
+
+-- listed the other way round, they never fall
+pub rising_reverse : (es : List (ℕ × MoveValue)) → NeverRise es → IsNonDecreasingBy (λ e. e.0) (reverse es)
+rising_reverse es falls = λ i j d le lt.
+    let n : length (reverse es) ≡ length es = length-reverse es in
+    rw (get_or-reverse es i d (omega arith), get_or-reverse es j d (omega arith)) (falls (length es - 1 - j) (length es - 1 - i) d (omega arith) (omega arith))
+
+pub map_reverse : {X Y : Type 0} (f : X → Y) (xs : List X) → map f (reverse xs) ≡ reverse (map f xs)
+map_reverse f [] = refl
+map_reverse f (x ∷ xs) =
+    ap (map f) (reverse-append (x ∷ []) xs) ∙ map-append f (reverse xs) (x ∷ []) ∙ ap (λ l. l ++ f x ∷ []) (map_reverse f xs) ∙ sym (reverse-append (f x ∷ []) (map f xs))

@@ -1,0 +1,11 @@
+pub mod Falling
+pub mod Filling
+pub mod Handing
+pub mod Inverses
+pub mod Listing
+pub mod Numbered
+pub mod Pushing
+pub mod Rings
+pub mod Rooming
+pub mod Setting
+pub mod Slotting

@@ -1,0 +1,41 @@
+use Rattle.std.proofs.Common.{◌≡◌, rules, of_calls}
+use Rattle.regalloc2_parts.specs.Resolved.{listed, has_scratch}
+use Rattle.regalloc2_parts.specs.declared.moves.MoveFault.TheVariants.{NoSlot}
+use Rattle.regalloc2_tables.specs.Lending.{IsShort}
+use Rattle.regalloc2_tables.proofs.Handing.{owes_lent, made_with, is_short}
+use Rattle.regalloc2_tables.proofs.Rooming.{lacks_then}
+use Rattle.regalloc2_tables.proofs.lending.compute_lent.Goals as goal
+
+pub compute_by_ref-requires : goal.compute_by_ref-requires
+compute_by_ref-requires g c = (
+  search rules,
+  (
+    search rules,
+    (
+      search (of_calls, c.requires.registers),
+      (
+        search (of_calls, c.requires.slots),
+        (
+          c.requires.stack,
+          (
+            c.requires.runnable,
+            owes_lent g.R.FnMut g.S.FnMut g.M.Fn c.args.resolver.find_free_reg c.args.resolver.get_stackslot c.args.resolver.is_stack_alloc c.args.lending.now (listed c.args.moves)
+                c.requires.first c.requires.second c.requires.tells c.requires.serves c.args.resolver.borrowed_scratch_reg c.requires.borrowed,
+          ),
+        ),
+      ),
+    ),
+  ),
+)
+
+pub returns-in-Ok-clause-made : goal.returns-in-Ok-clause-made
+returns-in-Ok-clause-made g c =
+    let x = c.in-Ok.ensures.computed in
+    made_with g.R.FnMut g.S.FnMut g.M.Fn c.args.resolver.find_free_reg c.args.resolver.get_stackslot c.args.resolver.is_stack_alloc c.args.lending.now (listed c.args.moves)
+    c.requires.first c.requires.second c.requires.tells c.requires.serves c.requires.may_tell c.get_stackslot-next.result c.taken_before.result _ _ _ x.0 x.1
+    c.get_stackslot-next.ensures c.taken_before.ensures.none c.taken_before.ensures.one c.args.resolver.borrowed_scratch_reg c.requires.borrowed (has_scratch c.args.moves) c.in-Ok.moves.items x.2
+
+pub returns-clause-err : goal.returns-clause-err
+returns-clause-err g c =
+    let x = c.in-Err.ensures.computed in
+    lacks_then (c.in-Err.fault ≡ NoSlot) (IsShort c.args.lending.now.slots) (λ e. is_short g.S.FnMut c.args.resolver.get_stackslot c.args.lending.now.slots c.requires.second _ x.1 (x.2 e)) c.refusal_of.result c.refusal_of.ensures

@@ -1,0 +1,5 @@
+pub mod Arrived
+pub mod Lack
+pub mod Lending
+pub mod Tables
+pub mod Turns

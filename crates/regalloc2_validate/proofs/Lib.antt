@@ -1,0 +1,3 @@
+pub mod Constraining
+pub mod Reading
+pub mod Tested

@@ -1,0 +1,12 @@
+use Rattle.std.proofs.Common.{◌≡◌}
+use Rattle.std.specs.Prelude.{length}
+use Rattle.regalloc2_validate.specs.Constraints.{AreApart}
+use Rattle.regalloc2_validate.proofs.Constraining.{AreNamed}
+use Rattle.regalloc2_validate.proofs.constraints.are_apart.Given as goal
+
+abbrev pub invariant-loop-k : goal.invariant-loop-k
+invariant-loop-k l = record {
+  long : length l.named ≡ 32;
+  named : AreNamed l.operands l.k l.named;
+  apart : AreApart l.operands l.k;
+}

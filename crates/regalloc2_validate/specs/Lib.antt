@@ -1,0 +1,3 @@
+pub mod Constraints
+pub mod Profile
+pub mod Tested

@@ -1,0 +1,313 @@
+//! The tests of operands' constraints: reuses, fixed registers beside clobbers, limits, and definitions on branches.
+
+ghost use Rattle.std.specs.Prelude.{ℕ, ◌≡◌, ◌<◌, ◌⊎◌, ◌↔◌, All, length, true, false, IsTrue, IsOk, OnOk, IfSome, IfNone, IfErr, slice_index_or};
+ghost use Rattle.regalloc2_function.specs.FunctionValue.{inst_at};
+ghost use Rattle.regalloc2_function.specs.Views.{machine_of};
+ghost use Rattle.regalloc2_function.specs.WellFormed.{MayBeReused, ReusesAreSound, FixedAvoidClobbers};
+ghost use Rattle.regalloc2_names.specs.Packing.{IsConstraintOf};
+ghost use Rattle.regalloc2_validate.specs.Profile.{IsTaken, AreTaken};
+ghost use Rattle.regalloc2_validate.specs.Constraints.{op_at, IsReused, IsTarget, IsSoundReuse, AreApart, AvoidsClobbers, IsClear, IsUnlimited, AreUnlimited, BranchDefinesNothing, IsFirst, IsFixedFault};
+ghost use Rattle.regalloc2_function.specs.SourceRun.{is_def};
+
+use regalloc2_function::{Function, MachineEnv};
+use regalloc2_index::Inst;
+use regalloc2_names::{
+    Operand, OperandConstraint, OperandKind, OperandPos, PRegSet, RegAllocError, RegClass,
+};
+use regalloc2_tables::registers::allocatable_of;
+use std::alloc::Allocator;
+
+/// Which operand a reuse names. The index fits five bits.
+fn reused_index(operand: Operand) -> Option<usize>
+    ensures some { IfSome result (λ n. operand.constraint ≡ OperandConstraint.Reuse n) }
+    ensures small { IfSome result (λ n. n < 32) }
+    ensures none { IfNone result ((n : ℕ) → operand.constraint ≡ OperandConstraint.Reuse n → ⊥) }
+{
+    match operand.constraint() {
+        OperandConstraint::Reuse(index) => Some(index),
+        _ => None,
+    }
+}
+
+/// Whether an operand under that constraint may be reused by a definition of the class: it stands in any register, or in an
+/// allocatable one.
+fn may_be_reused<B: Allocator>(
+    env: &MachineEnv<B>,
+    class: RegClass,
+    constraint: OperandConstraint,
+) -> bool
+    ensures { IsTrue result ↔ MayBeReused (machine_of env.now) class constraint }
+{
+    match constraint {
+        OperandConstraint::Reg => true,
+        OperandConstraint::FixedReg(preg) => allocatable_of(env, class).contains(preg),
+        _ => false,
+    }
+}
+
+/// Whether an operand may be reused by a definition of the class: an early use that reads a vreg of the class, under such a
+/// constraint.
+fn is_target<B: Allocator>(env: &MachineEnv<B>, class: RegClass, operand: Operand) -> bool
+    ensures { IsTrue result ↔ IsTarget (machine_of env.now) class operand }
+{
+    if operand.kind() != OperandKind::Use || operand.pos() != OperandPos::Early {
+        return false;
+    }
+    if operand.as_fixed_nonallocatable().is_some() || operand.class() != class {
+        return false;
+    }
+    may_be_reused(env, class, operand.constraint())
+}
+
+/// Whether an operand is a late definition, and that index is one of an operand that it may reuse.
+fn names_target<B: Allocator>(
+    env: &MachineEnv<B>,
+    operands: &[Operand],
+    operand: Operand,
+    index: usize,
+) -> bool
+    ensures { IsTrue result ↔ ((operand.kind ≡ OperandKind.Def) × (operand.position ≡ OperandPos.Late) × (index < length operands.now) × IsTarget (machine_of env.now) operand.vreg.class (op_at operands.now index)) }
+{
+    let is_late_def = operand.kind() == OperandKind::Def && operand.pos() == OperandPos::Late;
+    is_late_def && index < operands.len() && is_target(env, operand.class(), operands[index])
+}
+
+/// Whether an operand is no reuse, or a late definition that names such an operand.
+fn is_sound_reuse<B: Allocator>(env: &MachineEnv<B>, operands: &[Operand], operand: Operand) -> bool
+    ensures { IsTrue result ↔ IsSoundReuse (machine_of env.now) operands.now operand }
+{
+    match reused_index(operand) {
+        Some(index) => names_target(env, operands, operand, index),
+        None => true,
+    }
+}
+
+/// Whether all reuses are sound.
+fn are_sound_reuses<B: Allocator>(env: &MachineEnv<B>, operands: &[Operand]) -> bool
+    ensures { IsTrue result ↔ ((k : ℕ) → k < length operands.now → IsSoundReuse (machine_of env.now) operands.now (op_at operands.now k)) }
+{
+    for k in 0..operands.len() {
+        if !is_sound_reuse(env, operands, operands[k]) {
+            return false;
+        }
+    }
+    true
+}
+
+/// Which operands reuses name, by index.
+fn named_by_reuses(operands: &[Operand]) -> [bool; 32]
+    ensures { (k : ℕ) → IsTrue (slice_index_or result k false) ↔ IsReused operands.now k }
+{
+    let mut named = [false; 32];
+    for k in 0..operands.len() {
+        if let Some(index) = reused_index(operands[k]) {
+            named[index] = true;
+        }
+    }
+    named
+}
+
+/// Whether the operand k is among those; past the end none is.
+fn is_named(named: &[bool], k: usize) -> bool
+    ensures { result ≡ slice_index_or named.now k false }
+{
+    if k < named.len() { named[k] } else { false }
+}
+
+/// Whether no two reuses name one operand.
+fn are_apart(operands: &[Operand]) -> bool
+    ensures { IsTrue result ↔ AreApart operands.now (length operands.now) }
+{
+    let mut named = [false; 32];
+    for k in 0..operands.len() {
+        if let Some(index) = reused_index(operands[k]) {
+            if named[index] {
+                return false;
+            }
+            named[index] = true;
+        }
+    }
+    true
+}
+
+/// Whether an instruction's reuses are late definitions of early uses, each of its own.
+fn has_sound_reuses<F: Function, B: Allocator>(f: &F, env: &MachineEnv<B>, inst: Inst) -> bool
+    requires { inst < length (F.function f.now).insts }
+    ensures { IsTrue result ↔ ReusesAreSound (machine_of env.now) (inst_at (F.function f.now) inst) }
+{
+    let operands = f.inst_operands(inst);
+    are_sound_reuses(env, operands) && are_apart(operands)
+}
+
+/// Whether an operand is fixed to no clobber, if it is a definition, a late use or reused.
+fn avoids_clobbers(clobbers: PRegSet, operand: Operand, is_reused: bool) -> bool
+    ensures { IsTrue result ↔ AvoidsClobbers clobbers operand is_reused }
+{
+    let OperandConstraint::FixedReg(preg) = operand.constraint() else {
+        return true;
+    };
+    let is_early_use = operand.kind() == OperandKind::Use && operand.pos() == OperandPos::Early;
+    if is_early_use && !is_reused {
+        return true;
+    }
+    !clobbers.contains(preg)
+}
+
+/// Whether no definition, late use or reused operand is fixed to a clobber.
+fn avoid_clobbers(operands: &[Operand], clobbers: PRegSet) -> bool
+    ensures { IsTrue result ↔ ((k : ℕ) → k < length operands.now → IsClear clobbers operands.now k) }
+{
+    let named = named_by_reuses(operands);
+    for k in 0..operands.len() {
+        let is_reused = is_named(&named, k);
+        if !avoids_clobbers(clobbers, operands[k], is_reused) {
+            return false;
+        }
+    }
+    true
+}
+
+/// Whether no definition, late use or reused operand of an instruction is fixed to a clobber.
+fn has_no_clash<F: Function>(f: &F, inst: Inst) -> bool
+    requires { inst < length (F.function f.now).insts }
+    ensures { IsTrue result ↔ FixedAvoidClobbers (inst_at (F.function f.now) inst) }
+{
+    avoid_clobbers(f.inst_operands(inst), f.inst_clobbers(inst))
+}
+
+/// Whether an operand has no `Limit`.
+fn is_unlimited(operand: Operand) -> bool
+    ensures unlimited { IsTrue result ↔ IsUnlimited operand }
+    ensures of_class { IsConstraintOf operand.vreg.class operand.constraint }
+{
+    !matches!(operand.constraint(), OperandConstraint::Limit(_))
+}
+
+/// Whether no operand has `Limit`.
+fn are_unlimited(operands: &[Operand]) -> bool
+    ensures unlimited { IsTrue result ↔ ((k : ℕ) → k < length operands.now → IsUnlimited (op_at operands.now k)) }
+    ensures taken { IsTrue result → (k : ℕ) → k < length operands.now → IsTaken (op_at operands.now k) }
+{
+    for k in 0..operands.len() {
+        if !is_unlimited(operands[k]) {
+            return false;
+        }
+    }
+    true
+}
+
+/// Whether no operand of an instruction has `Limit`.
+fn has_no_limit<F: Function>(f: &F, inst: Inst) -> bool
+    requires { inst < length (F.function f.now).insts }
+    ensures unlimited { IsTrue result ↔ AreUnlimited (inst_at (F.function f.now) inst) }
+    ensures taken { IsTrue result → All IsTaken (inst_at (F.function f.now) inst).operands }
+{
+    are_unlimited(f.inst_operands(inst))
+}
+
+/// Tests reuses. Else the first instruction at fault is refused by `Unsupported`.
+fn test_reuses<F: Function, B: Allocator>(f: &F, env: &MachineEnv<B>) -> Result<(), RegAllocError>
+    ensures ok { IsOk result ↔ ((i : ℕ) → i < length (F.function f.now).insts → ReusesAreSound (machine_of env.now) (inst_at (F.function f.now) i)) }
+    ensures first { IfErr result (λ e. (i : ℕ) × (e ≡ RegAllocError.Unsupported i) × IsFirst (F.function f.now) (ReusesAreSound (machine_of env.now)) i) }
+{
+    for i in 0..f.num_insts() {
+        let inst = Inst::new(i);
+        if !has_sound_reuses(f, env, inst) {
+            return Err(RegAllocError::Unsupported(inst));
+        }
+    }
+    Ok(())
+}
+
+/// Tests fixed registers beside clobbers. Else the first instruction at fault is refused by `Unsupported`.
+fn test_clashes<F: Function>(f: &F) -> Result<(), RegAllocError>
+    ensures ok { IsOk result ↔ ((i : ℕ) → i < length (F.function f.now).insts → FixedAvoidClobbers (inst_at (F.function f.now) i)) }
+    ensures first { IfErr result (λ e. (i : ℕ) × (e ≡ RegAllocError.Unsupported i) × IsFirst (F.function f.now) (FixedAvoidClobbers) i) }
+{
+    for i in 0..f.num_insts() {
+        let inst = Inst::new(i);
+        if !has_no_clash(f, inst) {
+            return Err(RegAllocError::Unsupported(inst));
+        }
+    }
+    Ok(())
+}
+
+/// Tests reuses, and then fixed registers beside clobbers.
+///
+/// A reuse is a late definition; it names an early use that reads a vreg of its class, in any register or fixed to an
+/// allocatable one; and no two reuses name one operand. No definition, late use or reused operand is fixed to a clobber of its
+/// instruction. The first instruction that breaks the first rule, else the first that breaks the second, is refused by
+/// `Unsupported`. Upstream takes both for granted.
+pub fn test_fixed<F: Function, B: Allocator>(
+    f: &F,
+    env: &MachineEnv<B>,
+) -> Result<(), RegAllocError>
+    ensures reuses { OnOk result ((i : ℕ) → i < length (F.function f.now).insts → ReusesAreSound (machine_of env.now) (inst_at (F.function f.now) i)) }
+    ensures fixed { OnOk result ((i : ℕ) → i < length (F.function f.now).insts → FixedAvoidClobbers (inst_at (F.function f.now) i)) }
+    ensures refused { IfErr result (IsFixedFault (F.function f.now) (machine_of env.now)) }
+{
+    test_reuses(f, env)?;
+    test_clashes(f)?;
+    Ok(())
+}
+
+/// Tests that no operand has `Limit`. Else the first instruction that has one is refused by `Unsupported`.
+///
+/// Upstream's fast allocator stops the program there.
+pub fn test_limits<F: Function>(f: &F) -> Result<(), RegAllocError>
+    ensures ok { IsOk result ↔ ((i : ℕ) → i < length (F.function f.now).insts → AreUnlimited (inst_at (F.function f.now) i)) }
+    ensures taken { OnOk result (AreTaken (F.function f.now)) }
+    ensures first { IfErr result (λ e. (i : ℕ) × (e ≡ RegAllocError.Unsupported i) × IsFirst (F.function f.now) (AreUnlimited) i) }
+{
+    for i in 0..f.num_insts() {
+        let inst = Inst::new(i);
+        if !has_no_limit(f, inst) {
+            return Err(RegAllocError::Unsupported(inst));
+        }
+    }
+    Ok(())
+}
+
+/// Whether an operand defines its vreg.
+fn defines(operand: Operand) -> bool
+    ensures { result ≡ is_def operand.kind }
+{
+    operand.kind() == OperandKind::Def
+}
+
+/// Whether no operand defines.
+fn define_nothing(operands: &[Operand]) -> bool
+    ensures { IsTrue result ↔ ((k : ℕ) → k < length operands.now → is_def (op_at operands.now k).kind ≡ false) }
+{
+    for k in 0..operands.len() {
+        if defines(operands[k]) {
+            return false;
+        }
+    }
+    true
+}
+
+/// Whether an instruction is no branch, or defines nothing.
+fn is_sound_branch<F: Function>(f: &F, inst: Inst) -> bool
+    requires { inst < length (F.function f.now).insts }
+    ensures { IsTrue result ↔ BranchDefinesNothing (inst_at (F.function f.now) inst) }
+{
+    !f.is_branch(inst) || define_nothing(f.inst_operands(inst))
+}
+
+/// Tests that no branch has a definition. Else the first one that has is refused by `Unsupported`.
+///
+/// A value that a branch defines would have to be moved behind it. Upstream's fast allocator stops the program there.
+pub fn test_branches<F: Function>(f: &F) -> Result<(), RegAllocError>
+    ensures ok { IsOk result ↔ ((i : ℕ) → i < length (F.function f.now).insts → BranchDefinesNothing (inst_at (F.function f.now) i)) }
+    ensures first { IfErr result (λ e. (i : ℕ) × (e ≡ RegAllocError.Unsupported i) × IsFirst (F.function f.now) (BranchDefinesNothing) i) }
+{
+    for i in 0..f.num_insts() {
+        let inst = Inst::new(i);
+        if !is_sound_branch(f, inst) {
+            return Err(RegAllocError::Unsupported(inst));
+        }
+    }
+    Ok(())
+}

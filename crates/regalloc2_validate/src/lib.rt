@@ -1,0 +1,33 @@
+//! The tests that the allocator makes before it walks: that a function is well-formed, and that it takes the function's operands.
+#![tactic(auto)]
+
+ghost use Rattle.std.specs.Prelude.{IfErr, OnOk};
+ghost use Rattle.regalloc2_function.specs.Views.{machine_of};
+ghost use Rattle.regalloc2_function.specs.WellFormed.{IsWellFormed};
+ghost use Rattle.regalloc2_validate.specs.Tested.{IsFault};
+
+use regalloc2_function::{Function, MachineEnv};
+use regalloc2_names::RegAllocError;
+use regalloc2_shape::cfg::CFGInfo;
+use regalloc2_shape::ssa::validate_ssa;
+use std::alloc::Allocator;
+
+pub mod constraints;
+
+use constraints::test_fixed;
+
+/// Tests that a function is well-formed: as [`CFGInfo::new`] says, then as [`validate_ssa`], then as [`test_fixed`].
+///
+/// The first test that fails decides. `Memory` comes where memory was refused.
+pub fn test_well_formed<A: Allocator + Copy, F: Function, B: Allocator>(
+    alloc: A,
+    f: &F,
+    env: &MachineEnv<B>,
+) -> Result<(), RegAllocError>
+    ensures ok { OnOk result (IsWellFormed (machine_of env.now) (F.function f.now)) }
+    ensures refused { IfErr result (IsFault (F.function f.now) (machine_of env.now)) }
+{
+    let cfginfo = CFGInfo::new(alloc, f)?;
+    validate_ssa(alloc, f, &cfginfo)?;
+    test_fixed(f, env)
+}
