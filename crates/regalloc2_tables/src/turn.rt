@@ -41,7 +41,7 @@ impl Positions {
     }
 }
 
-/// What decides when registers lack. No contract speaks of it: another count would make other choices, all as good.
+/// What decides when registers lack. No contract says how it changes: another count would make other choices, all as good.
 #[derive(Clone, Copy)]
 struct Counts {
     /// The allocatable registers that are taken at some position.
