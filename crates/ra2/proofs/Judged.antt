@@ -7,10 +7,11 @@ use Rattle.regalloc2_function.specs.FunctionValue.{FunctionValue}
 use Rattle.regalloc2_function.specs.Machine.{MachineValue}
 use Rattle.regalloc2_function.specs.OutputValue.{OutputValue}
 use Rattle.regalloc2_function.specs.Faithful.{IsFaithful}
+use Rattle.regalloc2_tool.specs.Text.{Grows}
 use Rattle.ra2.specs.Findings.{IsUnaccepted, findings_text}
 use Rattle.ra2.specs.Input.{IsGiven}
 use Rattle.ra2.specs.Outcome.{IsAllocated, IsOutcome, HasOutcome, refused, unaccepted}
-use Rattle.ra2.specs.Text.{Grows, refusal_line, checked_line}
+use Rattle.ra2.specs.Text.{refusal_line, checked_line}
 use Rattle.ra2.specs.declared.task.Task.{Task}
 use Rattle.ra2.specs.declared.task.Task.TheVariants.{Check}
 

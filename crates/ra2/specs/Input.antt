@@ -6,8 +6,6 @@ use Rattle.serde_json.specs.Read.{read}
 use Rattle.regalloc2_function.specs.FunctionValue.{FunctionValue}
 use Rattle.regalloc2_function.specs.Machine.{MachineValue}
 use Rattle.regalloc2_function.specs.Fitting.{MachineFits}
-use Rattle.regalloc2_function.specs.declared.serialize.StoredFault.{StoredFault}
-use Rattle.regalloc2_function.specs.declared.serialize.StoredFault.TheVariants.{Lengths, Index, Bits, Limit, Memory, Shape}
 use Rattle.regalloc2_stored.specs.Faults.{IsSound, IsFaultOf}
 use Rattle.regalloc2_stored.specs.Named.{NamesFunction, NamesMachine}
 use Rattle.regalloc2_stored.specs.Value.{IsFunctionAt}
@@ -32,17 +30,8 @@ pub record IsGiven (bytes : Option (List ℕ)) (f : FunctionValue) (env : Machin
   pub named : IsNamed bytes f env
   pub fits : MachineFits f env
 
--- why the bytes give none; a failed read, and want of memory, leave any bytes unreadable
+-- why the bytes give none; a failed read, and running out of memory, leave any bytes unreadable
 abbrev pub IsInputFault : Option (List ℕ) → InputError → Type 0
 IsInputFault bytes Unreadable = Unit {0}
 IsInputFault bytes (BadFunction fault) = (s : StoredFunction Global) × IsTextOf bytes s × IsFaultOf s fault
 IsInputFault bytes BadMachine = (f : FunctionValue) × (env : MachineValue) × IsNamed bytes f env × (MachineFits f env → ⊥)
-
--- the numbers of faults, as the program prints them
-abbrev pub fault_number : StoredFault → ℕ
-fault_number Lengths = 1
-fault_number Index = 2
-fault_number Bits = 3
-fault_number Limit = 4
-fault_number Memory = 5
-fault_number Shape = 6

@@ -1,7 +1,5 @@
 pub mod Words
 pub mod Input
 pub mod Outcome
-pub mod Framed
-pub mod Refusal
 pub mod Text
 pub mod Findings

@@ -3,11 +3,10 @@ use Rattle.std.specs.Prelude.{ℕ, ◌≡◌, Bool, true, false, List, ◌++◌,
 use Rattle.regalloc2_names.specs.declared.RegAllocError.{RegAllocError}
 use Rattle.regalloc2_function.specs.FunctionValue.{FunctionValue}
 use Rattle.regalloc2_function.specs.Machine.{MachineValue}
-use Rattle.regalloc2_function.specs.OutputValue.{OutputValue, IsInOrder}
-use Rattle.regalloc2_function.specs.SourceRun.{IsWrittenFirst}
+use Rattle.regalloc2_function.specs.OutputValue.{OutputValue}
 use Rattle.regalloc2_function.specs.Faithful.{IsFaithful}
 use Rattle.regalloc2_function.specs.WellFormed.{IsWellFormed}
-use Rattle.regalloc2_fastalloc.specs.Promise.{RunsAsTheFunction}
+use Rattle.regalloc2_fastalloc.specs.Promise.{IsAllocation}
 use Rattle.regalloc2_fastalloc.specs.Reason.{IsReason}
 use Rattle.ra2.specs.Findings.{IsUnaccepted}
 use Rattle.ra2.specs.Input.{IsGiven}
@@ -15,11 +14,10 @@ use Rattle.ra2.specs.Text.{refusal_line, checked_line}
 use Rattle.ra2.specs.declared.task.Task.{Task}
 use Rattle.ra2.specs.declared.task.Task.TheVariants.{Check}
 
--- an output for a well-formed function, which runs as the function does
+-- an output for a well-formed function, of which all holds that `run` promises
 pub record IsAllocated (f : FunctionValue) (env : MachineValue) (out : OutputValue) : Type 0 where
   pub well_formed : IsWellFormed env f
-  pub in_order : IsInOrder f out
-  pub runs : IsWrittenFirst f → RunsAsTheFunction f env out
+  pub allocation : IsAllocation f env out
 
 -- the task is done: there is such an output, and where it is to be checked it is faithful, and the text that is written ends by saying so
 abbrev pub IsDone : Task → FunctionValue → MachineValue → (List ℕ → Type 0) → Type 0

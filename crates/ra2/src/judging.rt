@@ -8,13 +8,13 @@ ghost use Rattle.regalloc2_function.specs.WellFormed.{IsFramed};
 ghost use Rattle.regalloc2_function.specs.Fitting.{MachineFits};
 ghost use Rattle.ra2.specs.Findings.{IsUnaccepted};
 ghost use Rattle.ra2.specs.Outcome.{IsOutcome};
-ghost use Rattle.ra2.specs.Refusal.{refusal_number};
 ghost use Rattle.ra2.specs.Text.{checked_line};
 
-use super::listing::write_listing;
 use super::task::Task;
 use regalloc2::checker::Checker;
-use regalloc2::{Algorithm, Function, MachineEnv, Output, RegAllocError, RegallocOptions, run};
+use regalloc2::{Algorithm, Function, MachineEnv, Output, RegallocOptions, run};
+use regalloc2_tool::listing::write_listing;
+use regalloc2_tool::refusal::number_of;
 use std::alloc::Global;
 use std::io::{self, Write};
 
@@ -23,25 +23,6 @@ const OPTIONS: RegallocOptions = RegallocOptions {
     validate_ssa: true,
     algorithm: Algorithm::Fastalloc,
 };
-
-/// The number of a refusal, counted from 1 in the order in which `RegAllocError` lists them.
-fn number_of(error: RegAllocError) -> u8
-    ensures { result ≡ refusal_number error }
-{
-    match error {
-        RegAllocError::CritEdge(..) => 1,
-        RegAllocError::SSA(..) => 2,
-        RegAllocError::BB(_) => 3,
-        RegAllocError::Branch(_) => 4,
-        RegAllocError::EntryLivein => 5,
-        RegAllocError::DisallowedBranchArg(_) => 6,
-        RegAllocError::TooManyLiveRegs => 7,
-        RegAllocError::TooManyOperands => 8,
-        RegAllocError::Unsupported(_) => 9,
-        RegAllocError::TooManySpillSlots => 10,
-        RegAllocError::Memory => 11,
-    }
-}
 
 /// Writes `checked`, or the faults that the checker finds of an output. Whether there are none.
 fn judge<F: Function, O: Write>(

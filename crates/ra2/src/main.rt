@@ -6,7 +6,6 @@
 #![tactic(auto)]
 
 mod judging;
-mod listing;
 mod program;
 mod reading;
 mod task;

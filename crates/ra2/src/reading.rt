@@ -1,13 +1,14 @@
 //! The function and the machine that the program is given.
 
-ghost use Rattle.std.specs.Prelude.{◌≡◌, Some, IfOk, IfErr, IfSome};
+ghost use Rattle.std.specs.Prelude.{Some, IfOk, IfErr, IfSome};
 ghost use Rattle.regalloc2_function.specs.Views.{machine_of};
 ghost use Rattle.regalloc2_stored.specs.Tables.{function_of};
-ghost use Rattle.ra2.specs.Input.{IsTextOf, IsGiven, IsInputFault, fault_number};
+ghost use Rattle.ra2.specs.Input.{IsTextOf, IsGiven, IsInputFault};
 ghost use Rattle.ra2.specs.Text.{input_text};
 
 use regalloc2::machine_fits;
 use regalloc2::serialize::{SerializableFunction, StoredFault, StoredFunction};
+use regalloc2_tool::stored_fault::number_of;
 use serde_json::Value;
 use std::alloc::Global;
 use std::fmt;
@@ -37,20 +38,6 @@ impl fmt::Display for InputError {
             }
             InputError::BadMachine => write!(f, "bad machine"),
         }
-    }
-}
-
-/// The number of a fault of stored numbers, counted from 1 in the order in which `StoredFault` lists them.
-fn number_of(fault: StoredFault) -> u8
-    ensures { result ≡ fault_number fault }
-{
-    match fault {
-        StoredFault::Lengths => 1,
-        StoredFault::Index => 2,
-        StoredFault::Bits => 3,
-        StoredFault::Limit => 4,
-        StoredFault::Memory => 5,
-        StoredFault::Shape => 6,
     }
 }
 

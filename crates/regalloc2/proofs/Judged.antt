@@ -3,8 +3,9 @@ use Rattle.std.proofs.Common.{◌≡◌, List, [], ◌∷◌, inl, inr, subst}
 use Rattle.std.specs.Prelude.{◌⊎◌, Bool}
 use Rattle.regalloc2_function.specs.FunctionValue.{FunctionValue}
 use Rattle.regalloc2_function.specs.Machine.{MachineValue}
-use Rattle.regalloc2_function.specs.OutputValue.{OutputValue, IsInOrder}
+use Rattle.regalloc2_function.specs.OutputValue.{OutputValue}
 use Rattle.regalloc2_function.specs.Faithful.{IsFaithful}
+use Rattle.regalloc2_fastalloc.specs.Promise.{IsAllocation}
 use Rattle.regalloc2_fastalloc.specs.Reason.{PassesAll}
 use Rattle.regalloc2_checker.specs.declared.errors.CheckerError.{CheckerError}
 use Rattle.regalloc2_checker.specs.declared.errors.CheckerError.TheVariants.{Memory}
@@ -28,9 +29,9 @@ told f env out es e (inl m) (inr h) = absurd (h.0 m)
 told f env out es e (inr r) (inr h) = inr (es, h.1, r.0, r.1)
 
 -- the reason that they give
-pub reason : {A : Type 0} (f : FunctionValue) (env : MachineValue) (asked : Bool) (out : OutputValue) (e : CheckedRunError A) → IsInOrder f out → PassesAll f env asked → IsFound f env out e → IsCheckedReason f env asked e
-reason f env asked out e order owed (inl h) = rw h owed
-reason f env asked out e order owed (inr h) = rw h.1 (out, order, h.2, h.3)
+pub reason : {A : Type 0} (f : FunctionValue) (env : MachineValue) (asked : Bool) (out : OutputValue) (e : CheckedRunError A) → IsAllocation f env out → PassesAll f env asked → IsFound f env out e → IsCheckedReason f env asked e
+reason f env asked out e made owed (inl h) = rw h owed
+reason f env asked out e made owed (inr h) = rw h.1 (out, made, owed, h.2, h.3)
 
 -- what the checker finds of a function and a machine it finds of the same under other names
 pub same_found : {F A : Type 0} (value : F → FunctionValue) (x y : F) (m n : MachineValue) (out : OutputValue) (es : List (CheckerError A)) → x ≡ y → m ≡ n →

@@ -2,8 +2,9 @@
 use Rattle.std.specs.Prelude.{Bool}
 use Rattle.regalloc2_function.specs.FunctionValue.{FunctionValue}
 use Rattle.regalloc2_function.specs.Machine.{MachineValue}
-use Rattle.regalloc2_function.specs.OutputValue.{OutputValue, IsInOrder}
+use Rattle.regalloc2_function.specs.OutputValue.{OutputValue}
 use Rattle.regalloc2_function.specs.Faithful.{IsFaithful}
+use Rattle.regalloc2_fastalloc.specs.Promise.{IsAllocation}
 use Rattle.regalloc2_fastalloc.specs.Reason.{IsReason, PassesAll}
 use Rattle.regalloc2_checker.specs.Found.{errors_of}
 use Rattle.regalloc2_checker.specs.Report.{IsReport}
@@ -16,8 +17,8 @@ IsFault (Refused r) = ⊥
 IsFault (Faults es) = Unit {0}
 IsFault Unjudged = ⊥
 
--- the reason that an error gives: that of the refusal, or the errors of an output that isn't faithful
+-- the reason that an error gives: that of the allocator's error, or the faults of what it allocated, which isn't faithful
 abbrev pub IsCheckedReason : {A : Type 0} → FunctionValue → MachineValue → Bool → CheckedRunError A → Type 0
 IsCheckedReason f env asked (Refused r) = IsReason f env asked r
-IsCheckedReason f env asked (Faults es) = (out : OutputValue) × IsInOrder f out × (IsFaithful f env out → ⊥) × IsReport f env out (errors_of es)
+IsCheckedReason f env asked (Faults es) = (out : OutputValue) × IsAllocation f env out × PassesAll f env asked × (IsFaithful f env out → ⊥) × IsReport f env out (errors_of es)
 IsCheckedReason f env asked Unjudged = PassesAll f env asked

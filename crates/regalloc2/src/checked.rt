@@ -1,12 +1,14 @@
 //! Allocating with the checker behind.
 
-ghost use Rattle.std.specs.Prelude.{◌≡◌, ◌<◌, ◌⊎◌, ◌∷◌, ℕ, [], false, length, IfErr, IfOk, OnOk};
+ghost use Rattle.std.specs.Prelude.{◌≡◌, ◌⊎◌, ◌∷◌, [], false, IfErr, IfOk, OnOk};
 ghost use Rattle.regalloc2_function.specs.Views.{machine_of, output_of};
 ghost use Rattle.regalloc2_function.specs.OutputValue.{IsInOrder};
 ghost use Rattle.regalloc2_function.specs.SourceRun.{IsWrittenFirst};
-ghost use Rattle.regalloc2_function.specs.Faithful.{ConstraintsMet, EditsAreListed, HasNoStackToStack, IsFaithful};
-ghost use Rattle.regalloc2_function.specs.Fitting.{MachineFits, PlacesAreProper};
+ghost use Rattle.regalloc2_function.specs.Faithful.{IsFaithful};
+ghost use Rattle.regalloc2_function.specs.Fitting.{MachineFits};
 ghost use Rattle.regalloc2_function.specs.WellFormed.{IsFramed, IsWellFormed};
+ghost use Rattle.regalloc2_fastalloc.specs.Promise.{IsAllocation};
+ghost use Rattle.regalloc2_fastalloc.specs.Reason.{PassesAll};
 ghost use Rattle.regalloc2_checker.specs.Found.{errors_of};
 ghost use Rattle.regalloc2_checker.specs.Report.{IsReport};
 ghost use Rattle.regalloc2.specs.Judged.{IsCheckedReason, IsFault};
@@ -66,9 +68,9 @@ fn judge<A: Allocator + Copy, F: Function, B: Allocator>(
 
 /// Allocates registers to a function as [`run`] does, and gives the output only where the checker accepts it.
 ///
-/// The conditions are those of `run`, and so is what is said of the output; besides, it is faithful. If no path from the
-/// entry reads a virtual register before writing it, the checker finds no fault, so the output is refused by it for want
-/// of memory alone.
+/// The conditions are those of `run`, and so is all that is said of the output; besides, it is faithful, whether or not a path
+/// reads a virtual register before writing it. If none does, the checker finds no fault, so the only error that it adds is
+/// `Unjudged`. The faults of an error are those of an output of which `run` promises what it always does.
 pub fn run_checked<A: Allocator + Copy, F: Function, B: Allocator>(
     alloc: A,
     f: &F,
@@ -77,13 +79,10 @@ pub fn run_checked<A: Allocator + Copy, F: Function, B: Allocator>(
 ) -> Result<Output<A>, CheckedRunError<A>>
     requires machine { MachineFits (F.function f.now) (machine_of env.now) }
     requires well_formed { options.now.validate_ssa ≡ false → IsWellFormed (machine_of env.now) (F.function f.now) }
-    ensures in_order { IfOk result (λ out. IsInOrder (F.function f.now) (output_of out)) }
-    ensures constraints { IfOk result (λ out. (i : ℕ) → i < length (F.function f.now).insts →
-        ConstraintsMet (F.function f.now) (machine_of env.now) (output_of out) i) }
-    ensures proper { IfOk result (λ out. PlacesAreProper (F.function f.now) (machine_of env.now) (output_of out)) }
-    ensures no_stack_to_stack { IfOk result (λ out. HasNoStackToStack (machine_of env.now) (output_of out)) }
-    ensures listed { IfOk result (λ out. EditsAreListed (F.function f.now) (output_of out)) }
+    ensures allocation { IfOk result (λ out. IsAllocation (F.function f.now) (machine_of env.now) (output_of out)) }
     ensures faithful { IfOk result (λ out. IsFaithful (F.function f.now) (machine_of env.now) (output_of out)) }
+    ensures tested { OnOk result (IsWellFormed (machine_of env.now) (F.function f.now)) }
+    ensures owed { OnOk result (PassesAll (F.function f.now) (machine_of env.now) options.now.validate_ssa) }
     ensures accepted { IsWrittenFirst (F.function f.now) → IfErr result (λ e. IsFault e → ⊥) }
     ensures refused { IfErr result (IsCheckedReason (F.function f.now) (machine_of env.now) options.now.validate_ssa) }
 {

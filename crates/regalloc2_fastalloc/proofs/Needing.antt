@@ -10,7 +10,8 @@ use Rattle.regalloc2_function.specs.OutputValue.{OutputValue}
 use Rattle.regalloc2_tables.specs.Tables.{SlotsValue, AreOwned, AreUpTo, most_units, owners}
 use Rattle.regalloc2_tables.specs.Lack.{AreFullWith}
 use Rattle.regalloc2_tables.proofs.Setting.{each_of_three}
-use Rattle.regalloc2_fastalloc.specs.Reason.{SlotsAreFew, greatest_slot, units_needed}
+use Rattle.regalloc2_fastalloc.specs.Promise.{SlotsAreFew}
+use Rattle.regalloc2_fastalloc.specs.Reason.{greatest_slot, units_needed}
 
 -- the sizes of a function's slots
 abbrev pub sizes_of : FunctionValue → List ℕ

@@ -1,10 +1,9 @@
--- Why a function is refused: the first test that fails, and the first place where it does.
+-- Why `run` returns an error: the first test that fails, and the first place where it does. The tests stand in regalloc2_validate/specs, by the definitions of regalloc2_function/specs.
 use Rattle.std.specs.Prelude.{ℕ, ◌≡◌, ◌+◌, ◌*◌, ◌<◌, ◌≤◌, ◌^◌, ◌⊎◌, max, Bool, true, length}
 use Rattle.regalloc2_names.specs.declared.RegAllocError.{RegAllocError}
 use Rattle.regalloc2_names.specs.declared.RegAllocError.TheVariants.{CritEdge, SSA, BB, Branch, EntryLivein, DisallowedBranchArg, TooManyLiveRegs, TooManyOperands, Unsupported, TooManySpillSlots, Memory}
 use Rattle.regalloc2_names.specs.declared.RegClass.TheVariants.{Int, Float, Vector}
 use Rattle.regalloc2_function.specs.FunctionValue.{FunctionValue, inst_at, operand_count, slot_size}
-use Rattle.regalloc2_function.specs.OutputValue.{OutputValue}
 use Rattle.regalloc2_function.specs.Machine.{MachineValue}
 use Rattle.regalloc2_function.specs.WellFormed.{IsWellFormed}
 use Rattle.regalloc2_validate.specs.Constraints.{AreUnlimited, BranchDefinesNothing, IsFirst}
@@ -41,7 +40,7 @@ greatest_slot f = max (slot_size f.slot_sizes Int) (max (slot_size f.slot_sizes 
 abbrev pub units_needed : FunctionValue → ℕ
 units_needed f = 2 * greatest_slot f * (f.num_vregs + 6 * length f.blocks)
 
--- the reason that an error gives
+-- The reason that an error gives. Not yet promised: that `TooManyLiveRegs` comes only where an instruction has too few registers (`Fits` in regalloc2_function/specs/Fitting is to say so), and `Memory` only where memory ran out. Of these two it says which tests pass.
 abbrev pub IsReason : FunctionValue → MachineValue → Bool → RegAllocError → Type 0
 IsReason f env asked (CritEdge p b) = IsAskedFault f env asked (CritEdge p b)
 IsReason f env asked (SSA v i) = IsAskedFault f env asked (SSA v i)
@@ -54,8 +53,3 @@ IsReason f env asked TooManyOperands = 2 ^ 32 ≤ operand_count f
 IsReason f env asked (Unsupported i) = IsAskedFault f env asked (Unsupported i) ⊎ (PassesFirst f × PassesAsked f env asked × IsNotTaken f i)
 IsReason f env asked TooManySpillSlots = PassesAll f env asked × (2 ^ 24 < units_needed f)
 IsReason f env asked Memory = PassesFirst f
-
--- the slots of an output take no more units than these bounds
-pub record SlotsAreFew (f : FunctionValue) (out : OutputValue) : Type 0 where
-  pub limit : out.num_spillslots ≤ 2 ^ 24
-  pub needed : out.num_spillslots ≤ units_needed f

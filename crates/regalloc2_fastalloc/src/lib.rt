@@ -4,19 +4,15 @@
 //! [`run`] allocates a function. Upstream's module `fastalloc` does the same, reached by its crate's `run`.
 #![tactic(auto)]
 
-ghost use Rattle.std.specs.Prelude.{◌≡◌, ◌<◌, ◌≤◌, ◌^◌, ◌↔◌, ℕ, [], false, length, IfErr, IfOk, OnErr, OnOk};
+ghost use Rattle.std.specs.Prelude.{◌≡◌, ◌≤◌, ◌^◌, ◌↔◌, [], false, IfErr, IfOk, OnErr, OnOk};
 ghost use Rattle.regalloc2_function.specs.FunctionValue.{operand_count};
 ghost use Rattle.regalloc2_function.specs.Views.{machine_of, output_of};
-ghost use Rattle.regalloc2_function.specs.OutputValue.{IsInOrder};
-ghost use Rattle.regalloc2_function.specs.Faithful.{ConstraintsMet, EditsAreListed, HasNoStackToStack};
-ghost use Rattle.regalloc2_function.specs.SourceRun.{IsWrittenFirst};
 ghost use Rattle.regalloc2_function.specs.WellFormed.{IsWellFormed};
-ghost use Rattle.regalloc2_function.specs.Fitting.{MachineFits, PlacesAreProper};
-ghost use Rattle.regalloc2_function.specs.Slots.{SlotsHaveOwners};
-ghost use Rattle.regalloc2_fastalloc.specs.Promise.{LiveInSlots, RunsAsTheFunction};
-ghost use Rattle.regalloc2_fastalloc.specs.Reason.{IsReason, PassesAll, SlotsAreFew};
+ghost use Rattle.regalloc2_function.specs.Fitting.{MachineFits};
+ghost use Rattle.regalloc2_fastalloc.specs.Promise.{IsAllocation};
+ghost use Rattle.regalloc2_fastalloc.specs.Reason.{IsReason, PassesAll};
 
-use regalloc2_function::{Function, MachineEnv, Output, count_operands, reads_the_same_numbers};
+use regalloc2_function::{Function, MachineEnv, Output, count_operands};
 use regalloc2_names::RegAllocError;
 use regalloc2_validate::constraints::{test_branches, test_limits};
 use regalloc2_validate::test_well_formed;
@@ -76,7 +72,8 @@ impl<A: Allocator + Copy> Ctx<A> {
 /// well-formed; else that is tested. The output is in order; each operand's place is proper and meets its constraint, also in
 /// instructions that no path reaches; each end of a move is proper, and no move goes from a place in memory to another; and
 /// each move is listed, none after the last instruction of a block. Operands that share a slot name one virtual register, and
-/// each virtual register has one slot at most.
+/// each virtual register has one slot at most. All that is promised of an output is one record, `IsAllocation`, in
+/// `specs/Promise.antt`.
 ///
 /// If no path from the entry reads a virtual register before writing it, the output runs as the function does: along every
 /// path, and whatever the instructions mean, each use reads the function's own value. And where a path comes to a block, the
@@ -86,10 +83,13 @@ impl<A: Allocator + Copy> Ctx<A> {
 /// and edges that aren't sound, as `CFGInfo::init` says, then an entry, terminators, arguments, definitions or uses that
 /// aren't, as `validate_ssa` says, and then reuses that aren't sound and registers fixed beside clobbers, by `Unsupported`
 /// with the first such instruction; an operand under `Limit`, and then a branch that has a definition, by `Unsupported` with
-/// the first such instruction. Only after all these tests comes `TooManyLiveRegs`, where an instruction asks for more registers
-/// than there are, or `TooManySpillSlots`, where a slot would end past 2^24: that happens only where `units_needed` passes 2^24,
-/// which is twice the size of the greatest slot, for each virtual register and six times for each block. Slots take no more
-/// units than that, and at most 2^24. `Memory` comes where memory was refused; the first test asks for none.
+/// the first such instruction. Only after all these tests comes `TooManyLiveRegs`, when no register is found for an operand,
+/// or `TooManySpillSlots`, when a slot would end past 2^24: that happens only where `units_needed` passes 2^24, which is twice
+/// the size of the greatest slot, for each virtual register and six times for each block. Slots take no more units than that,
+/// and at most 2^24. `Memory` comes when memory runs out, never from the first test, which asks for none.
+///
+/// Not promised yet: that `TooManyLiveRegs` comes only where an instruction asks for more registers than there are, and
+/// `Memory` only where memory ran out. The contract says of the one that all tests pass, of the other that the first does.
 ///
 /// A reuse is sound where it is a late definition that names an early use, which no other one names, of a virtual register of
 /// its class, in any register or fixed to an allocatable one. No definition, late use or reused operand may be fixed to a
@@ -105,16 +105,7 @@ pub fn run<A: Allocator + Copy, F: Function, B: Allocator>(
 ) -> Result<Output<A>, RegAllocError>
     requires machine { MachineFits (F.function f.now) (machine_of env.now) }
     requires well_formed { options.now.validate_ssa ≡ false → IsWellFormed (machine_of env.now) (F.function f.now) }
-    ensures in_order { IfOk result (λ out. IsInOrder (F.function f.now) (output_of out)) }
-    ensures constraints { IfOk result (λ out. (i : ℕ) → i < length (F.function f.now).insts →
-        ConstraintsMet (F.function f.now) (machine_of env.now) (output_of out) i) }
-    ensures proper { IfOk result (λ out. PlacesAreProper (F.function f.now) (machine_of env.now) (output_of out)) }
-    ensures no_stack_to_stack { IfOk result (λ out. HasNoStackToStack (machine_of env.now) (output_of out)) }
-    ensures listed { IfOk result (λ out. EditsAreListed (F.function f.now) (output_of out)) }
-    ensures faithful { IfOk result (λ out. IsWrittenFirst (F.function f.now) → RunsAsTheFunction (F.function f.now) (machine_of env.now) (output_of out)) }
-    ensures live { IfOk result (λ out. IsWrittenFirst (F.function f.now) → LiveInSlots (F.function f.now) (output_of out)) }
-    ensures slots { IfOk result (λ out. SlotsAreFew (F.function f.now) (output_of out)) }
-    ensures owners { IfOk result (λ out. SlotsHaveOwners (F.function f.now) (output_of out)) }
+    ensures allocation { IfOk result (λ out. IsAllocation (F.function f.now) (machine_of env.now) (output_of out)) }
     ensures tested { OnOk result (IsWellFormed (machine_of env.now) (F.function f.now)) }
     ensures owed { OnOk result (PassesAll (F.function f.now) (machine_of env.now) options.now.validate_ssa) }
     ensures refused { IfErr result (IsReason (F.function f.now) (machine_of env.now) options.now.validate_ssa) }
@@ -128,8 +119,6 @@ pub fn run<A: Allocator + Copy, F: Function, B: Allocator>(
     }
     test_limits(f)?;
     test_branches(f)?;
-    // a law, which the contract needs: the call does nothing
-    reads_the_same_numbers();
     allocate::allocate(alloc, f, env)
 }
 
@@ -145,16 +134,7 @@ pub fn run_into_ctx<A: Allocator + Copy, F: Function, B: Allocator>(
 ) -> Result<(), RegAllocError>
     requires machine { MachineFits (F.function f.now) (machine_of env.now) }
     requires well_formed { options.now.validate_ssa ≡ false → IsWellFormed (machine_of env.now) (F.function f.now) }
-    ensures in_order { OnOk result (IsInOrder (F.function f.now) (output_of ctx.new.output)) }
-    ensures constraints { OnOk result ((i : ℕ) → i < length (F.function f.now).insts →
-        ConstraintsMet (F.function f.now) (machine_of env.now) (output_of ctx.new.output) i) }
-    ensures proper { OnOk result (PlacesAreProper (F.function f.now) (machine_of env.now) (output_of ctx.new.output)) }
-    ensures no_stack_to_stack { OnOk result (HasNoStackToStack (machine_of env.now) (output_of ctx.new.output)) }
-    ensures listed { OnOk result (EditsAreListed (F.function f.now) (output_of ctx.new.output)) }
-    ensures faithful { OnOk result (IsWrittenFirst (F.function f.now) → RunsAsTheFunction (F.function f.now) (machine_of env.now) (output_of ctx.new.output)) }
-    ensures live { OnOk result (IsWrittenFirst (F.function f.now) → LiveInSlots (F.function f.now) (output_of ctx.new.output)) }
-    ensures slots { OnOk result (SlotsAreFew (F.function f.now) (output_of ctx.new.output)) }
-    ensures owners { OnOk result (SlotsHaveOwners (F.function f.now) (output_of ctx.new.output)) }
+    ensures allocation { OnOk result (IsAllocation (F.function f.now) (machine_of env.now) (output_of ctx.new.output)) }
     ensures tested { OnOk result (IsWellFormed (machine_of env.now) (F.function f.now)) }
     ensures owed { OnOk result (PassesAll (F.function f.now) (machine_of env.now) options.now.validate_ssa) }
     ensures refused { IfErr result (IsReason (F.function f.now) (machine_of env.now) options.now.validate_ssa) }
@@ -176,16 +156,7 @@ pub fn run_with_ctx<'c, A: Allocator + Copy, F: Function, B: Allocator>(
 ) -> Result<&'c Output<A>, RegAllocError>
     requires machine { MachineFits (F.function f.now) (machine_of env.now) }
     requires well_formed { options.now.validate_ssa ≡ false → IsWellFormed (machine_of env.now) (F.function f.now) }
-    ensures in_order { IfOk result (λ out. IsInOrder (F.function f.now) (output_of out.now)) }
-    ensures constraints { IfOk result (λ out. (i : ℕ) → i < length (F.function f.now).insts →
-        ConstraintsMet (F.function f.now) (machine_of env.now) (output_of out.now) i) }
-    ensures proper { IfOk result (λ out. PlacesAreProper (F.function f.now) (machine_of env.now) (output_of out.now)) }
-    ensures no_stack_to_stack { IfOk result (λ out. HasNoStackToStack (machine_of env.now) (output_of out.now)) }
-    ensures listed { IfOk result (λ out. EditsAreListed (F.function f.now) (output_of out.now)) }
-    ensures faithful { IfOk result (λ out. IsWrittenFirst (F.function f.now) → RunsAsTheFunction (F.function f.now) (machine_of env.now) (output_of out.now)) }
-    ensures live { IfOk result (λ out. IsWrittenFirst (F.function f.now) → LiveInSlots (F.function f.now) (output_of out.now)) }
-    ensures slots { IfOk result (λ out. SlotsAreFew (F.function f.now) (output_of out.now)) }
-    ensures owners { IfOk result (λ out. SlotsHaveOwners (F.function f.now) (output_of out.now)) }
+    ensures allocation { IfOk result (λ out. IsAllocation (F.function f.now) (machine_of env.now) (output_of out.now)) }
     ensures tested { OnOk result (IsWellFormed (machine_of env.now) (F.function f.now)) }
     ensures owed { OnOk result (PassesAll (F.function f.now) (machine_of env.now) options.now.validate_ssa) }
     ensures refused { IfErr result (IsReason (F.function f.now) (machine_of env.now) options.now.validate_ssa) }

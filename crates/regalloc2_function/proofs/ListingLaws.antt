@@ -1,14 +1,15 @@
 -- What an iterator over a listing gives is the listing that the definitions have.
 use Rattle.std.proofs.Common.{◌≡◌, ℕ, zero, suc, ◌+◌, ◌-◌, ◌<◌, ◌≤◌, Bool, List, [], ◌∷◌, length, get_or, true, false, refl, sym, ap, ◌∙◌, map, take, drop, arith}
-use Rattle.std.specs.Prelude.{nat_le, nat_lt, filter}
+use Rattle.std.specs.Prelude.{nat_le, nat_lt, filter, All}
 use Rattle.std.specs.List.Sorted.{IsNonDecreasingBy, IsPartitionPoint}
 use Rattle.std.proofs.lemmas.Bool.Decides.{nat_tests}
 use Rattle.std.proofs.lemmas.List.{length-map, length-drop, drop-map, take_all}
+use Rattle.std.proofs.lemmas.List.Elements.{All-append, All-map, All-nil, All-cons}
 use Rattle.regalloc2_names.specs.Point.{before}
 use Rattle.regalloc2_function.specs.declared.listing.Edit.{Edit}
 use Rattle.regalloc2_function.specs.Views.{edit_of}
-use Rattle.regalloc2_function.specs.OutputValue.{OutputValue, MoveValue, is_listed_at}
-use Rattle.regalloc2_function.specs.Listing.{Listed, ListedInst, listing_from, listing_left}
+use Rattle.regalloc2_function.specs.OutputValue.{OutputValue, MoveValue, is_listed_at, moves_before}
+use Rattle.regalloc2_function.specs.Listing.{Listed, ListedInst, ListedMove, IsListedWithin, listing_from, listing_left}
 
 -- an output with other edits
 abbrev with_edits : OutputValue → List (ℕ × MoveValue) → OutputValue
@@ -135,3 +136,17 @@ listing_of_items o items first n k t e sorted s l point =
     rw e (grind (arith, nat_tests)) in
     let whole : listing_left (drop k o.edits) first n ≡ listing_from o first first n = listing_is o first n k sorted (omega arith) below above in
     rw (all, ← drop-map edit_of k items, ← e) whole
+
+moves_within : (first end : ℕ) (ms : List MoveValue) → All (λ m. IsListedWithin first end (ListedMove m)) ms
+moves_within first end [] = All-nil _
+moves_within first end (m ∷ ms) = All-cons (λ x. IsListedWithin first end (ListedMove x)) m ms tt (moves_within first end ms)
+
+-- a listing of so many instructions from i on has no others
+pub listed_within : (o : OutputValue) (first end begin i n : ℕ) → first ≤ i → i + n ≤ end → All (IsListedWithin first end) (listing_from o begin i n)
+unfolding listing_from
+listed_within o first end begin i zero f e = All-nil _
+listed_within o first end begin i (suc n) f e =
+    let moves = moves_before o begin i in
+    All-append (IsListedWithin first end) (map (λ m. ListedMove m) moves) (ListedInst i ∷ listing_from o begin (i + 1) n)
+    (All-map (IsListedWithin first end) (λ m. ListedMove m) moves (moves_within first end moves))
+    (All-cons (IsListedWithin first end) (ListedInst i) (listing_from o begin (i + 1) n) (f, omega arith) (listed_within o first end begin (i + 1) n (omega arith) (omega arith)))

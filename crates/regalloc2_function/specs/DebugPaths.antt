@@ -1,5 +1,6 @@
 -- Where the value of a labelled virtual register stands along a path.
 -- Upstream's locations say from where to where; that the value really stands there is this project's own definition.
+-- Not yet promised by any contract: `run` gives no debug locations.
 use Rattle.std.specs.Prelude.{ℕ, ◌≡◌, ◌⊎◌, false, List, ◌∷◌, Contains, slice_index, Some}
 use Rattle.regalloc2_names.specs.Register.{VirtualRegister}
 use Rattle.regalloc2_names.specs.Place.{Place}

@@ -13,6 +13,7 @@ use Rattle.regalloc2_function.specs.Machine.{MachineValue, is_allocatable, is_pr
 use Rattle.regalloc2_function.specs.OutputValue.{OutputValue, allocs_of, place_at}
 use Rattle.regalloc2_function.specs.SourceRun.{is_def, is_late, is_fixed_nonallocatable}
 use Rattle.regalloc2_function.specs.WellFormed.{EachOperand}
+use Rattle.regalloc2_function.specs.DebugPoints.{IsKept}
 
 -- the arguments of a block that is nonempty and within the instructions name a virtual register of the class
 abbrev pub NamesByArgument : FunctionValue → ℕ → RegClass → Type 0
@@ -49,14 +50,16 @@ IsProperPlace env out class (InSlot n) = n < out.num_spillslots
 abbrev pub IsMoveEnd : MachineValue → OutputValue → Place → Type 0
 IsMoveEnd env out p = (c : RegClass) × (IsProperPlace env out c p ⊎ ((r : Register) × (scratch_of env c ≡ Some r) × (p ≡ InRegister r)))
 
--- the places of all operands, moves and debug locations are proper
+-- the places of all operands, moves and debug locations are proper; a debug location's is of the class of its own label, which has its number, and whose virtual register has its points
 pub record PlacesAreProper (f : FunctionValue) (env : MachineValue) (out : OutputValue) : Type 0 where
   pub operands : (i : ℕ) → i < length f.insts → EachOperand (inst_at f i) (λ k o.
       is_fixed_nonallocatable o ≡ false → IsProperPlace env out o.vreg.class (place_at (allocs_of out i) k))
   pub nonallocatable : (i : ℕ) → i < length f.insts → EachOperand (inst_at f i) (λ k o.
       (r : Register) → nonallocatable_register o ≡ Some r → place_at (allocs_of out i) k ≡ InRegister r)
   pub moves : All (λ e. IsMoveEnd env out e.1.from × IsMoveEnd env out e.1.to) out.edits
-  pub debug_locations : All (λ d. SomeIn (λ l. (l.label ≡ d.label) × IsProperPlace env out l.vreg.class d.place) f.labels) out.debug_locations
+  pub debug_locations : All (λ d. SomeIn (λ l. (l.label ≡ d.label) × IsKept f l d.start d.end × IsProperPlace env out l.vreg.class d.place) f.labels) out.debug_locations
+
+-- Not yet promised by any contract: what follows, up to `Fits`. `TooManyLiveRegs` is to come only where an instruction doesn't fit.
 
 -- an operand holds the early, or the late, part of its instruction; a use that is reused holds both
 abbrev pub IsReused : InstValue → ℕ → Type 0

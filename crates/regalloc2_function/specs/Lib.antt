@@ -11,10 +11,8 @@ pub mod Laws
 pub mod WellFormed
 pub mod Values
 pub mod Fitting
-pub mod Moves
 pub mod Held
 pub mod Reasons
-pub mod Refusals
 pub mod Slots
 pub mod DebugPoints
 pub mod DebugPaths

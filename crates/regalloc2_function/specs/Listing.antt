@@ -1,6 +1,6 @@
 -- A block's listing: its instructions, each after the moves that run before it.
 -- The order is that of upstream's `OutputIter`.
-use Rattle.std.specs.Prelude.{ℕ, zero, suc, ◌+◌, ◌-◌, nat_le, if◌then◌else◌, List, [], ◌∷◌, ◌++◌, map}
+use Rattle.std.specs.Prelude.{ℕ, zero, suc, ◌+◌, ◌-◌, ◌<◌, ◌≤◌, nat_le, if◌then◌else◌, List, [], ◌∷◌, ◌++◌, map}
 use Rattle.regalloc2_names.specs.Point.{before}
 use Rattle.regalloc2_function.specs.FunctionValue.{FunctionValue, block_at}
 use Rattle.regalloc2_function.specs.OutputValue.{OutputValue, MoveValue, moves_before}
@@ -18,6 +18,11 @@ listing_from o first i (suc n) = map (λ m. ListedMove m) (moves_before o first 
 -- the listing of a block
 abbrev pub block_listing : FunctionValue → OutputValue → ℕ → List Listed
 block_listing f o b = listing_from o (block_at f b).range.first (block_at f b).range.first ((block_at f b).range.end - (block_at f b).range.first)
+
+-- an item is a move, or an instruction from first on and before end
+abbrev pub IsListedWithin : ℕ → ℕ → Listed → Type 0
+IsListedWithin first end (ListedInst i) = (first ≤ i) × (i < end)
+IsListedWithin first end (ListedMove m) = Unit {0}
 
 -- what is left of a listing where these edits and so many instructions from one on are left
 unfoldable pub listing_left : List (ℕ × MoveValue) → ℕ → ℕ → List Listed

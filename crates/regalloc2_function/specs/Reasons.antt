@@ -99,7 +99,7 @@ uses_in f = flat_map (block_uses f) f.blocks
 abbrev pub IsFirstUndefined : FunctionValue → VirtualRegister → ℕ → Type 0
 IsFirstUndefined f v i = IsFirstIn (λ u. IsDefinedBefore f u.vreg u.inst) (uses_in f) (record { vreg = v; inst = i })
 
--- why the definitions of a function are refused: want of memory, or else the first repeat, or where there is none the first use that is not defined before
+-- why the definitions of a function are refused: out of memory, or else the first repeat, or where there is none the first use that is not defined before
 abbrev pub IsDefinitionFault : FunctionValue → RegAllocError → Type 0
 IsDefinitionFault f Memory = Unit {0}
 IsDefinitionFault f (SSA v i) = IsFirstRepeat f v i ⊎ (DefinedOnce f × IsFirstUndefined f v i)

@@ -7,7 +7,7 @@ ghost use Rattle.regalloc2_names.specs.Point.{before};
 ghost use Rattle.regalloc2_names.specs.Place.{NoPlace};
 ghost use Rattle.regalloc2_function.specs.FunctionValue.{block_at, inst_at};
 ghost use Rattle.regalloc2_function.specs.OutputValue.{OutputValue, OffsetsInOrder, IsInOrder, alloc_start, alloc_end, allocs_of};
-ghost use Rattle.regalloc2_function.specs.Listing.{block_listing};
+ghost use Rattle.regalloc2_function.specs.Listing.{block_listing, IsListedWithin};
 ghost use Rattle.regalloc2_function.specs.Views.{output_of, move_of, item_of, rest_of};
 
 use super::Function;
@@ -41,7 +41,7 @@ impl Edit {
 /// What an allocation gives.
 ///
 /// Fields and names are those of upstream's `Output`, without its statistics.
-#[derive(Drop)]
+#[derive(Debug, Drop)]
 pub struct Output<A: Allocator = Global> {
     /// How many units the spill slots take.
     pub num_spillslots: usize,
@@ -67,7 +67,7 @@ pub enum InstOrEdit<'a> {
 /// A block's listing, in order: before its first instruction the edits at that one's Before point, before each other
 /// one those at the After point of the instruction before and at its own Before point. It ends with the block's last
 /// instruction.
-#[derive(Drop)]
+#[derive(Clone, Debug, Drop)]
 pub struct OutputIter<'a> {
     edits: &'a [(ProgPoint, Edit)],
     inst_range: InstRange,
@@ -156,12 +156,13 @@ impl<A: Allocator> Output<A> {
         &self.allocs[start..end]
     }
 
-    /// A block's listing: its instructions, each after the edits that run before it.
+    /// A block's listing: its instructions, each after the edits that run before it. Each instruction listed is the block's.
     pub fn block_insts_and_edits<F: Function>(&self, func: &F, block: Block) -> OutputIter<'_>
         requires in_order { IsInOrder (F.function func.now) (output_of self.now) }
         requires block { block < length (F.function func.now).blocks }
         requires nonempty { (block_at (F.function func.now) block).range.first < (block_at (F.function func.now) block).range.end }
-        ensures { rest_of result ≡ block_listing (F.function func.now) (output_of self.now) block }
+        ensures items { rest_of result ≡ block_listing (F.function func.now) (output_of self.now) block }
+        ensures within { All (IsListedWithin (block_at (F.function func.now) block).range.first (block_at (F.function func.now) block).range.end) (rest_of result) }
     {
         let inst_range = func.block_insns(block);
         let first = 2 * u64::from(inst_range.first().0);

@@ -19,7 +19,7 @@ use std::alloc::{Allocator, Global};
 /// The registers of a machine, by class: integer, float and vector registers in this order.
 ///
 /// Fields and names are those of upstream's `MachineEnv`.
-#[derive(Drop)]
+#[derive(Debug, Drop)]
 pub struct MachineEnv<A: Allocator = Global> {
     /// The registers of each class that are taken first.
     pub preferred_regs_by_class: [PRegSet; 3],

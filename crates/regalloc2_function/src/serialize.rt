@@ -229,8 +229,8 @@ fn words_of_locations<A: Allocator>(
 impl<A: Allocator + Copy> Output<A> {
     /// The output that stored numbers name.
     ///
-    /// `Bits` exactly where a number is that of no point or place, and `Memory` where a growth was refused; no other fault
-    /// comes. Whether the output is in order is tested by [`Output::is_in_order`].
+    /// `Bits` exactly where a number is that of no point or place; `Memory` only where each number is one, and memory ran out;
+    /// no other fault comes. Whether the output is in order is tested by [`Output::is_in_order`].
     pub fn from_stored<B: Allocator>(
         alloc: A,
         stored: &StoredOutput<B>,
@@ -238,6 +238,7 @@ impl<A: Allocator + Copy> Output<A> {
         ensures output { IfOk result (λ output. output_of output ≡ output_of_stored stored.now) }
         ensures names { IfOk result (λ output. NamesValues stored.now) }
         ensures bits { IfErr result (λ e. e ≡ StoredFault.Bits → NamesValues stored.now → ⊥) }
+        ensures memory { IfErr result (λ e. e ≡ StoredFault.Memory → NamesValues stored.now) }
         ensures faults { IfErr result (λ e. (e ≡ StoredFault.Bits) ⊎ (e ≡ StoredFault.Memory)) }
     {
         if !stored.names_values() {
@@ -257,15 +258,16 @@ impl<A: Allocator + Copy> Output<A> {
     }
 }
 
-impl<A: Allocator> Output<A> {
-    /// The numbers of this output, which [`Output::from_stored`] takes back.
+impl<A: Allocator + Copy> Output<A> {
+    /// The numbers of this output, which [`Output::from_stored`] takes back, made with the output's own allocator.
     ///
-    /// `Memory` where a growth was refused, and nothing else.
-    pub fn stored<B: Allocator + Copy>(&self, alloc: B) -> Result<StoredOutput<B>, RegAllocError>
+    /// `Memory` where memory ran out, and nothing else.
+    pub fn stored(&self) -> Result<StoredOutput<A>, RegAllocError>
         ensures output { IfOk result (λ stored. output_of_stored stored ≡ output_of self.now) }
         ensures names { IfOk result (λ stored. NamesValues stored) }
         ensures memory { IfErr result (λ e. e ≡ RegAllocError.Memory) }
     {
+        let alloc = *self.allocs.allocator();
         let edits = words_of_moves(alloc, self.edits.as_slice())?;
         let allocs = words_of_places(alloc, self.allocs.as_slice())?;
         let inst_alloc_offsets = numbers_from(alloc, self.inst_alloc_offsets.as_slice())?;

@@ -46,7 +46,7 @@ impl PReg {
     pub const INVALID: u8 = 63;
 
     /// The register with that number in the register file of that class.
-    pub fn new(hw_enc: usize, class: RegClass) -> Self
+    pub const fn new(hw_enc: usize, class: RegClass) -> Self
         requires { hw_enc ≤ PReg.MAX }
         ensures { result ≡ record { number = hw_enc; class = class } }
     {
@@ -56,7 +56,7 @@ impl PReg {
     }
 
     /// The number in the class's register file.
-    pub fn hw_enc(self) -> usize
+    pub const fn hw_enc(self) -> usize
         ensures number { result ≡ self.number }
         ensures small { result ≤ PReg.MAX }
     {
@@ -64,7 +64,7 @@ impl PReg {
     }
 
     /// The class of the register file.
-    pub fn class(self) -> RegClass
+    pub const fn class(self) -> RegClass
         ensures { result ≡ self.class }
     {
         match (self.bits >> 6) & 0b11 {
@@ -76,12 +76,12 @@ impl PReg {
     }
 
     /// The place among all registers: those of the class `Int` first, then `Float`, then `Vector`.
-    pub fn index(self) -> usize
+    pub const fn index(self) -> usize
         ensures index { result ≡ bits_of_register self }
         ensures small { result < 192 }
         ensures valid { IsRegister self }
     {
-        usize::from(self.bits)
+        self.bits as usize
     }
 
     /// Whether a number is the index of a register.
@@ -92,7 +92,7 @@ impl PReg {
     }
 
     /// The register of that index, which `is_index` accepts.
-    pub fn from_index(index: usize) -> Self
+    pub const fn from_index(index: usize) -> Self
         requires { IsRegisterIndex index }
         ensures register { result ≡ register_of_bits index }
         ensures back { bits_of_register result ≡ index }
@@ -101,7 +101,7 @@ impl PReg {
     }
 
     /// The register that stands for none: number 63 of the class `Int`.
-    pub fn invalid() -> Self
+    pub const fn invalid() -> Self
         ensures { result ≡ invalid_register }
     {
         PReg {
@@ -110,10 +110,10 @@ impl PReg {
     }
 
     /// The register itself, or `None` for the invalid one.
-    pub fn as_valid(self) -> Option<PReg>
+    pub const fn as_valid(self) -> Option<PReg>
         ensures { MatchOption result (self ≡ invalid_register) (λ r. (r ≡ self) × (self ≢ invalid_register)) }
     {
-        if self == Self::invalid() {
+        if self.bits == Self::INVALID {
             None
         } else {
             Some(self)

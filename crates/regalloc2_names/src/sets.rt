@@ -22,13 +22,13 @@ pub struct PRegSet {
 #[tactic(auto, unfolding(crate::specs::RegisterSet::has_register))]
 impl PRegSet {
     /// The set of no register.
-    pub fn empty() -> Self
+    pub const fn empty() -> Self
         ensures { (r : Register) → has_register result r ≡ false }
     {
         PRegSet { bits: [0; 3] }
     }
 
-    fn split_index(reg: PReg) -> (usize, usize)
+    const fn split_index(reg: PReg) -> (usize, usize)
         ensures word { result.0 ≡ class_code reg.class }
         ensures bit { result.1 ≡ reg.number }
         ensures word_small { result.0 < 3 }
@@ -47,7 +47,7 @@ impl PRegSet {
     }
 
     /// Puts the register into the set.
-    pub fn add(&mut self, reg: PReg)
+    pub const fn add(&mut self, reg: PReg)
         ensures members { (r : Register) → has_register self.new r ≡ is_register reg r || has_register self.old r }
         ensures in_range { reg.number ≤ PReg.MAX }
     {
@@ -56,7 +56,7 @@ impl PRegSet {
     }
 
     /// The set and that register.
-    pub fn with(self, reg: PReg) -> Self
+    pub const fn with(self, reg: PReg) -> Self
         ensures members { (r : Register) → has_register result r ≡ is_register reg r || has_register self r }
         ensures in_range { reg.number ≤ PReg.MAX }
     {

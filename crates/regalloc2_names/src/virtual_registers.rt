@@ -40,7 +40,7 @@ impl VReg {
     pub const MAX: usize = (1 << 30) - 1;
 
     /// The virtual register with that number and class.
-    pub fn new(virt_reg: usize, class: RegClass) -> Self
+    pub const fn new(virt_reg: usize, class: RegClass) -> Self
         requires { virt_reg ≤ VReg.MAX }
         ensures { result ≡ record { number = virt_reg; class = class } }
     {
@@ -50,7 +50,7 @@ impl VReg {
     }
 
     /// The number.
-    pub fn vreg(self) -> usize
+    pub const fn vreg(self) -> usize
         ensures number { result ≡ self.number }
         ensures small { result ≤ VReg.MAX }
     {
@@ -58,7 +58,7 @@ impl VReg {
     }
 
     /// The class of the values.
-    pub fn class(self) -> RegClass
+    pub const fn class(self) -> RegClass
         ensures { result ≡ self.class }
     {
         match self.bits & 0b11 {
@@ -70,14 +70,14 @@ impl VReg {
     }
 
     /// The virtual register that stands for none: the greatest number, of the class `Int`.
-    pub fn invalid() -> Self
+    pub const fn invalid() -> Self
         ensures { result ≡ invalid_vreg }
     {
         VReg::new(Self::MAX, RegClass::Int)
     }
 
     /// The word that holds the number and, in the lower two bits, the class; it gives the virtual register back.
-    pub fn bits(self) -> usize
+    pub const fn bits(self) -> usize
         ensures bits { result ≡ bits_of_vreg self }
         ensures word { IsVRegBits result }
         ensures vreg { vreg_of_bits result ≡ self }
@@ -95,7 +95,7 @@ impl VReg {
     }
 
     /// The virtual register of that word, which `is_bits` accepts.
-    pub fn from_bits(bits: u32) -> Self
+    pub const fn from_bits(bits: u32) -> Self
         requires { IsVRegBits bits }
         ensures vreg { result ≡ vreg_of_bits bits }
         ensures back { bits_of_vreg result ≡ bits }

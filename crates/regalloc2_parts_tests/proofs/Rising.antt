@@ -2,6 +2,8 @@
 use Rattle.std.proofs.Common.{◌≡◌, ℕ, ◌+◌, ◌-◌, ◌<◌, ◌≤◌, List, length, get_or, refl, sym, ap, ◌∙◌, subst, inl, inr, ⊎_elim, arith}
 use Rattle.std.proofs.lemmas.Bool.{cases_lt, cases_eq}
 use Rattle.std.proofs.lemmas.List.{get_or_default}
+use Rattle.std.proofs.lemmas.List.Sorted.{Contains-permutation, IsPermutation-map}
+use Rattle.std.specs.List.Sorted.{IsPermutation}
 use Rattle.regalloc2_names.specs.Place.{Place}
 use Rattle.regalloc2_names.specs.PlaceBits.{bits_of_place}
 use Rattle.regalloc2_parts.specs.AtOnce.{Ends, ends, ends_of, no_move, HasOneSourceEach}
@@ -65,3 +67,9 @@ rises_step xs at x y least low had read_x read_y step =
     (rises_more (ends_of xs) (at - 1) (subst (λ k. RisesTo (ends_of xs) k) (sym back) had)
     (subst (λ k. IsBefore (move_at (ends_of xs) (at - 1)) (move_at (ends_of xs) k)) (sym back)
     (subst (λ z. IsBefore z (move_at (ends_of xs) at)) (sym before) (subst (λ z. IsBefore (ends x) z) (sym here) step))))
+
+-- moves that change places keep their sources
+pub sources_permuted : {T : Type 0} (xs ys : List (Place × Place × T)) → IsPermutation xs ys → HasOneSourceEach (ends_of ys) → HasOneSourceEach (ends_of xs)
+sources_permuted xs ys p had a b ha hb e =
+    had a b (Contains-permutation (ends_of xs) (ends_of ys) a (IsPermutation-map ends xs ys p) ha)
+    (Contains-permutation (ends_of xs) (ends_of ys) b (IsPermutation-map ends xs ys p) hb) e

@@ -24,11 +24,15 @@ DoDiffer lent = (p q : Place) → Some p ≡ lent.0 → Some q ≡ lent.1 → p 
 abbrev pub AreFree : {T : Type 0} → Option Place × Option Place → List (Place × Place × T) → Type 0
 AreFree lent ms = (p : Place) → IsOneOf lent p → (p ≢ NoPlace) × IsUnnamed p ms
 
+-- the two are slots or registers as said, or are none
+abbrev pub AreAll : Option Place × Option Place → Bool → Type 0
+AreAll lent are_slots = (p : Place) → IsOneOf lent p → is_in_slot p ≡ are_slots
+
 -- the two registers and the two slots serve the moves
 pub record AreLent {T : Type 0} (registers slots : Option Place × Option Place) (ms : List (Place × Place × T)) : Type 0 where
   pub free : AreFree registers ms
   pub unused : AreFree slots ms
   pub registers_differ : DoDiffer registers
   pub slots_differ : DoDiffer slots
-  pub no_slots : (p : Place) → IsOneOf registers p → is_in_slot p ≡ false
-  pub all_slots : (p : Place) → IsOneOf slots p → is_in_slot p ≡ true
+  pub no_slots : AreAll registers false
+  pub all_slots : AreAll slots true

@@ -1,78 +1,71 @@
-//! Moves that are added one by one, beside their list.
+//! Moves between places by their numbers, beside their list, by which it is seen that no two into one place have two sources.
 
-ghost use Rattle.std.specs.Prelude.{◌≡◌, ◌≢◌, ◌<◌, IsTrue, IfOk, IfSome};
+ghost use Rattle.std.specs.Prelude.{◌≢◌, IsTrue, IfOk, IfSome};
 ghost use Rattle.regalloc2_names.specs.Place.{NoPlace};
 ghost use Rattle.regalloc2_parts.specs.AtOnce.{ends, ends_of, HasOneSourceEach};
 ghost use Rattle.regalloc2_parts.specs.Giving.{IsBefore};
 ghost use Rattle.regalloc2_parts.specs.Resolved.{IsRunnable};
 
-use super::moves::place;
-use regalloc2_names::Allocation;
+use regalloc2_names::{Allocation, PReg, RegClass, SpillSlot};
 use regalloc2_parts::moves::{MoveFault, MoveVecWithScratch, ParallelMoves};
 use std::alloc::{Allocator, Global};
 
-/// Moves that are to be made at once, and the list of them, by which it is seen that no two have one destination.
-#[derive(Drop)]
-pub struct Listed<'a, A: Allocator> {
-    moves: ParallelMoves<u32, &'a A>,
-    list: Vec<(Allocation, Allocation, u32)>,
-    ghost same: { moves ≡ list.items },
+/// A move from a place to a place.
+pub type Move = (Allocation, Allocation, u32);
+
+/// The number of the first spill slot.
+pub const SLOT: usize = 64;
+
+/// The place of a number: registers below 64, then slots.
+pub fn place(number: usize) -> Allocation
+    ensures { result ≢ NoPlace }
+{
+    if number < SLOT {
+        Allocation::reg(PReg::new(number, RegClass::Int))
+    } else {
+        Allocation::stack(SpillSlot::new((number - SLOT) % 1000000))
+    }
 }
 
-impl<'a, A: Allocator> Listed<'a, A> {
-    /// No moves. The list takes its memory from the first allocator.
-    pub fn new(global: Global, alloc: &'a A) -> Self {
-        Listed {
-            moves: ParallelMoves::new(alloc),
-            list: Vec::new(global),
-        }
+/// What moves between places of these numbers resolve to, or none where two into one place have two sources.
+pub fn resolved<'a, A: Allocator>(
+    global: Global,
+    alloc: &'a A,
+    pairs: &[(usize, usize)],
+) -> Result<Option<MoveVecWithScratch<u32, &'a A>>, MoveFault>
+    ensures { IfOk result (λ answer. IfSome answer (λ moves. IsRunnable moves)) }
+{
+    let mut moves = ParallelMoves::new(alloc);
+    let mut list = Vec::new(global);
+    for (from, to) in pairs {
+        let m = (place(*from), place(*to), 7u32);
+        moves.add(m.0, m.1, m.2)?;
+        list.push(m)?;
     }
+    if !has_one_source_each(list.as_mut_slice()) {
+        return Ok(None);
+    }
+    Ok(Some(moves.resolve()?))
+}
 
-    /// Adds a move.
-    pub fn add(&mut self, from: Allocation, to: Allocation) -> Result<(), MoveFault>
-        requires from { from ≢ NoPlace }
-        requires to { to ≢ NoPlace }
-    {
-        self.list.reserve(1)?;
-        self.moves.add(from, to, 7)?;
-        self.list.push((from, to, 7)).unwrap();
-        Ok(())
-    }
-
-    /// Adds moves between places of these numbers.
-    pub fn add_all(&mut self, pairs: &[(usize, usize)]) -> Result<(), MoveFault> {
-        for (from, to) in pairs {
-            if *from < 1000000 && *to < 1000000 {
-                self.add(place(*from), place(*to))?;
-            }
-        }
-        Ok(())
-    }
-
-    /// The moves resolved, where their destinations rise.
-    pub fn resolved(self) -> Option<Result<MoveVecWithScratch<u32, &'a A>, MoveFault>>
-        ensures { IfSome result (λ answer. IfOk answer (λ moves. IsRunnable moves)) }
-    {
-        let Self { moves, list } = self;
-        if list_rises(list.as_slice()) {
-            return Some(moves.resolve());
-        }
-        None
-    }
+/// Whether no two moves into one place have two sources. Sorts them.
+fn has_one_source_each(list: &mut [Move]) -> bool
+    ensures { IsTrue result → HasOneSourceEach (ends_of list.old) }
+{
+    list.sort_unstable_by_key(|m| u64::from(m.1.bits()) << 32 | u64::from(m.0.bits()));
+    list_rises(list)
 }
 
 /// Whether one move comes before another, or is the same.
-fn is_before(a: (Allocation, Allocation, u32), b: (Allocation, Allocation, u32)) -> bool
+fn is_before(a: Move, b: Move) -> bool
     ensures { IsTrue result → IsBefore (ends a) (ends b) }
 {
-    let from = a.0.bits() == b.0.bits();
-    let to = a.1.bits();
-    let next = b.1.bits();
-    to < next || (from && to == next)
+    let (to, next) = (a.1.bits(), b.1.bits());
+    to < next || (a.0.bits() == b.0.bits() && to == next)
 }
 
 /// Whether the destinations rise, repeats aside.
-fn list_rises(list: &[(Allocation, Allocation, u32)]) -> bool
+fn list_rises(list: &[Move]) -> bool
     ensures { IsTrue result → HasOneSourceEach (ends_of list.now) }
 {
     for at in 1..list.len() {

@@ -1,4 +1,4 @@
--- A function that passes the tests is refused for want of memory alone.
+-- A function that passes the tests is refused only where memory ran out.
 use Rattle.std.proofs.Common.{ℕ, ◌≡◌, ◌<◌, ◌⊎◌, List, ◌∷◌, length, refl, sym, ap, ◌∙◌, subst, inl, inr, Ok, Err}
 use Rattle.std.specs.Prelude.{All, Contains, OnOk, Result, flat_map}
 use Rattle.std.proofs.lemmas.List.{length-map}

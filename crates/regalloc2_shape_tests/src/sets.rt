@@ -1,15 +1,14 @@
 //! Sparse sets of numbers.
 
-use super::asserts::{holds, same};
+use super::shapes::write_row;
 use regalloc2_refusing::Refusing;
 use regalloc2_shape::indexset::{IndexSet, SetBitsIter};
-use std::alloc::Allocator;
-use std::test::Fail;
+use std::alloc::{AllocError, Allocator, Global};
+use std::io::{self, Write};
 
 /// How many members a set has, and their sum.
 fn count_and_sum<A: Allocator + Copy>(set: &IndexSet<A>) -> (usize, usize) {
-    let mut count = 0usize;
-    let mut sum = 0usize;
+    let (mut count, mut sum) = (0usize, 0usize);
     for number in set.iter() {
         count = count.wrapping_add(1);
         sum = sum.wrapping_add(number);
@@ -17,98 +16,84 @@ fn count_and_sum<A: Allocator + Copy>(set: &IndexSet<A>) -> (usize, usize) {
     (count, sum)
 }
 
-#[test]
-fn twelve_words_stand_inline(rt: HostRuntime) -> Result<(), Fail> {
-    let alloc = Refusing::new(rt.alloc(), 1);
+/// Writes a set that stays within its twelve words, where the first growth is refused, and then goes past them.
+pub fn write_inline<W: Write>(global: Global, out: &mut W) -> io::Result<()> {
+    let alloc = Refusing::new(global, 1);
     let mut set = IndexSet::new(&alloc);
     for word in 0..12usize {
         set.set(64 * word, true)?;
     }
     set.set(64 * 5, false)?;
     set.set(64 * 100, true)?;
-    same(&rt, count_and_sum(&set), (12, 64 * 161));
     let mut other = IndexSet::new(&alloc);
     other.assign(&set)?;
-    holds(&rt, !other.union_with(&set)?);
-    holds(&rt, !alloc.has_refused());
-
-    holds(&rt, set.set(64 * 200, true).is_err());
-    holds(&rt, alloc.has_refused());
-    same(&rt, count_and_sum(&set), (12, 64 * 161));
+    write_row(
+        out,
+        "twelve words",
+        &(count_and_sum(&set), alloc.has_refused()),
+    )?;
+    write_row(out, "the same added", &other.union_with(&set).ok())?;
+    let is_refused = set.set(64 * 200, true).is_err();
+    write_row(
+        out,
+        "the thirteenth refused",
+        &(is_refused, count_and_sum(&set)),
+    )?;
     set.set(64 * 200, true)?;
-    holds(&rt, set.get(64 * 200));
-    same(&rt, count_and_sum(&set), (13, 64 * 361));
-    Ok(())
+    write_row(out, "thirteen", &(count_and_sum(&set), set.get(64 * 200)))
 }
 
-#[test]
-fn members_are_given_once(rt: HostRuntime) -> Result<(), Fail> {
-    let mut set = IndexSet::new(rt.alloc());
+/// Writes the multiples of 17, a union, and the bits of a word.
+pub fn write_members<W: Write>(alloc: Global, out: &mut W) -> io::Result<()> {
+    let mut set = IndexSet::new(alloc);
     for number in 0..1024usize {
         if number % 17 == 0 {
             set.set(number, true)?;
         }
     }
-    same(&rt, count_and_sum(&set), (61, 31110));
-    holds(&rt, set.get(17));
-    holds(&rt, !set.get(18));
+    write_row(
+        out,
+        "multiples of 17",
+        &(count_and_sum(&set), set.get(17), set.get(18)),
+    )?;
+    let mut small = IndexSet::new(alloc);
+    small.set(17, true)?;
+    let added = (
+        small.union_with(&set).ok(),
+        small.union_with(&set).ok(),
+        set.union_with(&small).ok(),
+    );
+    write_row(out, "added", &(added, count_and_sum(&small)))?;
+    for bit in SetBitsIter::new(1 << 63 | 0b101) {
+        write_row(out, "bit", &bit)?;
+    }
     Ok(())
 }
 
-#[test]
-fn each_refusal_leaves_a_set(rt: HostRuntime) -> Result<(), Fail> {
-    let mut large = IndexSet::new(rt.alloc());
+/// Whether a set of forty words that is assigned stays as it was where that is refused, and is assigned where it is not, or again.
+fn is_assigned(alloc: &Refusing<Global>) -> Result<bool, AllocError> {
+    let mut source = IndexSet::new(alloc);
     for word in 0..40usize {
-        large.set(64 * word + 3, true)?;
+        if source.set(64 * word, true).is_err() {
+            source.set(64 * word, true)?;
+        }
     }
-    let mut met = 0u32;
+    let mut target = IndexSet::new(alloc);
+    let mut is_kept = true;
+    if target.assign(&source).is_err() {
+        is_kept = count_and_sum(&target) == (0, 0);
+        target.assign(&source)?;
+    }
+    Ok(is_kept && count_and_sum(&target) == (40, 64 * 780))
+}
+
+/// Writes whether each refusal leaves a set as it was.
+pub fn write_assigned<W: Write>(global: Global, out: &mut W) -> io::Result<()> {
+    let mut others = 0u32;
     for nth in 1..100u64 {
-        let alloc = Refusing::new(rt.alloc(), nth);
-        let mut source = IndexSet::new(&alloc);
-        let mut target = IndexSet::new(&alloc);
-        let mut filled = true;
-        for word in 0..40usize {
-            if source.set(64 * word + 3, true).is_err() {
-                filled = false;
-                source.set(64 * word + 3, true)?;
-            }
+        if is_assigned(&Refusing::new(global, nth)) != Ok(true) {
+            others = others.wrapping_add(1);
         }
-        if filled && target.assign(&source).is_err() {
-            same(&rt, count_and_sum(&target), (0, 0));
-            target.assign(&source)?;
-        } else if filled {
-            same(&rt, count_and_sum(&target), count_and_sum(&large));
-        }
-        if !alloc.has_refused() {
-            break;
-        }
-        met = met.wrapping_add(1);
     }
-    holds(&rt, met > 1);
-    Ok(())
-}
-
-#[test]
-fn a_union_says_whether_it_added(rt: HostRuntime) -> Result<(), Fail> {
-    let mut small = IndexSet::new(rt.alloc());
-    small.set(7, true)?;
-    let mut large = IndexSet::new(rt.alloc());
-    for word in 0..20usize {
-        large.set(64 * word + 7, true)?;
-    }
-    holds(&rt, small.union_with(&large)?);
-    holds(&rt, !small.union_with(&large)?);
-    holds(&rt, !large.union_with(&small)?);
-    same(&rt, count_and_sum(&small), count_and_sum(&large));
-    Ok(())
-}
-
-#[test]
-fn bits_rise(rt: HostRuntime) -> Result<(), Fail> {
-    let mut bits = SetBitsIter::new(1 << 63 | 0b101);
-    same(&rt, bits.next(), Some(0));
-    same(&rt, bits.next(), Some(2));
-    same(&rt, bits.next(), Some(63));
-    same(&rt, bits.next(), None);
-    Ok(())
+    write_row(out, "refused growths that leave another set", &others)
 }

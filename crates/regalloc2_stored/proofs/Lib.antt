@@ -3,3 +3,4 @@ pub mod Indexes
 pub mod Shown
 pub mod Blocks
 pub mod Copied
+pub mod Whole

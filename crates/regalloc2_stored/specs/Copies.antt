@@ -1,5 +1,5 @@
 -- What a stored function keeps of a function.
-use Rattle.std.specs.Prelude.{ℕ, ◌<◌, ◌≤◌, ◌&&◌, not, [], length, map, slice_index_or}
+use Rattle.std.specs.Prelude.{ℕ, ◌≡◌, ◌<◌, ◌≤◌, ◌&&◌, true, false, not, [], All, length, map, slice_index_or}
 use Rattle.std.specs.List.{range_with_len}
 use Rattle.regalloc2_function.specs.FunctionValue.{FunctionValue, BlockValue, InstValue, block_at}
 
@@ -33,3 +33,8 @@ shown_function f = record {
   labels = f.labels;
   allows_multiple_defs = f.allows_multiple_defs;
 }
+
+-- what a stored function keeps is the whole function: no instruction is both a branch and a return, and each block has a list of
+-- arguments for each successor
+abbrev pub IsKeptWhole : FunctionValue → Type 0
+IsKeptWhole f = All (λ i. i.is_branch ≡ true → i.is_ret ≡ false) f.insts × All (λ b. length b.arguments ≡ length b.succs) f.blocks

@@ -77,7 +77,7 @@ pub record IsSound {A : Type 0} (s : StoredFunction A) : Type 0 where
   pub names : NamesAll s
   pub limits : KeepsLimits s
 
--- the fault that a stored function is refused by: the first of four, or want of memory where it has none
+-- the fault that a stored function is refused by: the first of four, or out of memory where it has none
 abbrev pub IsFaultOf : {A : Type 0} → StoredFunction A → StoredFault → Type 0
 IsFaultOf s Lengths = HasLengths s → ⊥
 IsFaultOf s Index = HasLengths s × (IsWithin s → ⊥)

@@ -4,7 +4,7 @@ ghost use Rattle.std.specs.Prelude.{◌≡◌, ℕ, ◌+◌, ◌<◌, ◌≤◌,
 ghost use Rattle.std.specs.Int.{is_power_of_two};
 ghost use Rattle.regalloc2_function.specs.FunctionValue.{block_at, inst_at, slot_size};
 ghost use Rattle.regalloc2_function.specs.Views.{machine_of};
-ghost use Rattle.regalloc2_stored.specs.Copies.{shown_block, shown_inst, shown_function, HasNonemptyBlocks};
+ghost use Rattle.regalloc2_stored.specs.Copies.{shown_block, shown_inst, shown_function, HasNonemptyBlocks, IsKeptWhole};
 ghost use Rattle.regalloc2_stored.specs.Tables.{inst_of, block_of, function_of};
 
 use super::data::InstOpcode;
@@ -122,7 +122,8 @@ fn copied_units<F: Function>(f: &F, class: RegClass) -> SlotUnits
 impl<A: Allocator + Copy> SerializableFunction<A> {
     /// A function and the machine that it is for, to be stored. Each block has instructions, which are among the function's.
     ///
-    /// Stored data have no instruction that is both a branch and a return: it is kept as a branch. All else is kept.
+    /// Stored data have no instruction that is both a branch and a return: it is kept as a branch. All else is kept, so that
+    /// without such an instruction the value is `f`'s own.
     /// `Memory` where a growth was refused, and nothing else.
     pub fn new<F: Function>(
         alloc: A,
@@ -131,6 +132,7 @@ impl<A: Allocator + Copy> SerializableFunction<A> {
     ) -> Result<SerializableFunction<A>, RegAllocError>
         requires { HasNonemptyBlocks (F.function f.now) }
         ensures function { IfOk result (λ s. function_of s ≡ shown_function (F.function f.now)) }
+        ensures whole { IsKeptWhole (F.function f.now) → IfOk result (λ s. function_of s ≡ F.function f.now) }
         ensures machine { IfOk result (λ s. machine_of s.machine ≡ machine_of env) }
         ensures memory { IfErr result (λ e. e ≡ RegAllocError.Memory) }
     {

@@ -272,16 +272,17 @@ fn arguments_of<A: Allocator, B: Allocator + Copy>(
     Ok(arguments)
 }
 
-impl<A: Allocator> SerializableFunction<A> {
+impl<A: Allocator + Copy> SerializableFunction<A> {
     /// The numbers of this function and its machine, which [`SerializableFunction::from_stored`] takes back where they
-    /// pass its tests.
+    /// pass its tests. They are made with the function's own allocator.
     ///
-    /// `Memory` where a growth was refused, and nothing else.
-    pub fn stored<B: Allocator + Copy>(&self, alloc: B) -> Result<StoredFunction<B>, RegAllocError>
+    /// `Memory` where memory ran out, and nothing else.
+    pub fn stored(&self) -> Result<StoredFunction<A>, RegAllocError>
         ensures function { IfOk result (λ s. NamesFunction s (function_of self.now)) }
         ensures machine { IfOk result (λ s. NamesMachine s.machine_env (machine_of self.now.machine)) }
         ensures memory { IfErr result (λ e. e ≡ RegAllocError.Memory) }
     {
+        let alloc = *self.blocks.allocator();
         let tables = self.blocks.as_slice();
         let machine_env = numbers_of_machine(alloc, &self.machine)?;
         let insts = numbers_of_insts(alloc, self.insts.as_slice())?;

@@ -163,39 +163,6 @@ where
     }
 }
 
-/// The moves that are made where closures lend these places.
-fn compute_with<R, S, A: Allocator + Copy>(
-    find_free_reg: R,
-    get_stackslot: S,
-    lending: &Lending,
-    moves: MoveVecWithScratch<(), A>,
-) -> Result<Made<A>, RegAllocError>
-where
-    R: FnMut() -> Option<Allocation>,
-    S: FnMut() -> Option<Allocation>,
-    requires registers { (f : _) → R.pre f }
-    requires slots { (f : _) → S.pre f }
-    requires first { HandsOut R.FnMut find_free_reg lending.now.registers }
-    requires second { HandsOut S.FnMut get_stackslot lending.now.slots }
-    requires serves { Serves lending.now (listed moves) }
-    requires runnable { IsRunnable moves }
-    ensures made { IfOk result (λ m. IsMadeWith lending.now m.slots (listed moves) m.moves.items) }
-    ensures there { IfOk result (λ m. AreThere lending.now.slots m.slots) }
-    ensures err { IfErr result (LacksOnly (IsShort lending.now.slots)) }
-{
-    let fixed_stack = lending.fixed_stack;
-    let is_stack_alloc = |place: Allocation|
-        ensures told { result ≡ is_memory fixed_stack place }
-    { is_memory(fixed_stack, place) };
-    let resolver = MoveAndScratchResolver {
-        find_free_reg,
-        get_stackslot,
-        is_stack_alloc,
-        borrowed_scratch_reg: lending.borrowed,
-    };
-    compute_lent(resolver, lending, moves)
-}
-
 impl Lending {
     /// The moves that are made with what is lent.
     pub fn compute<A: Allocator + Copy>(
@@ -208,8 +175,17 @@ impl Lending {
         ensures there { IfOk result (λ m. AreThere self.now.slots m.slots) }
         ensures err { IfErr result (LacksOnly (IsShort self.now.slots)) }
     {
+        let fixed_stack = self.fixed_stack;
         let mut registers = self.registers;
         let mut slots = self.slots;
-        compute_with(move || registers.lend(), move || slots.lend(), self, moves)
+        let resolver = MoveAndScratchResolver {
+            find_free_reg: move || registers.lend(),
+            get_stackslot: move || slots.lend(),
+            is_stack_alloc: |place: Allocation|
+                ensures told { result ≡ is_memory fixed_stack place }
+            { is_memory(fixed_stack, place) },
+            borrowed_scratch_reg: self.borrowed,
+        };
+        compute_lent(resolver, self, moves)
     }
 }

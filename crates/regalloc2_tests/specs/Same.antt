@@ -1,11 +1,10 @@
 -- The function that lends the same operands for each of its instructions.
-use Rattle.std.specs.Prelude.{ℕ, List, [], ◌∷◌, ◌<◌, ◌^◌, ◌-◌, ◌≡◌, false, length, replicate}
+use Rattle.std.specs.Prelude.{[], ◌∷◌, false, replicate}
 use Rattle.std.proofs.Common.{lit<, lit≤, refl, arith}
 use Rattle.std.proofs.lemmas.List.{length-replicate}
 use Rattle.std.proofs.lemmas.List.Elements.{All-nil}
-use Rattle.regalloc2_names.specs.declared.RegClass.{RegClass}
 use Rattle.regalloc2_names.specs.declared.RegClass.TheVariants.{Int, Float, Vector}
-use Rattle.regalloc2_function.specs.FunctionValue.{FunctionValue, BlockValue, InstValue, IsLimited, IsSlotSize, slot_size}
+use Rattle.regalloc2_function.specs.FunctionValue.{FunctionValue, IsLimited, IsSlotSize, slot_size}
 use Rattle.regalloc2_tests.specs.declared.adversary.Same.{Same}
 
 abbrev pub same_function : Same → FunctionValue

@@ -2,11 +2,15 @@
 
 ghost use Rattle.std.specs.Prelude.{◌<◌, ◌^◌};
 
+use super::calls::run_fitting;
+use super::random::integer_machine;
+use regalloc2::count_operands;
 use regalloc2_function::Function;
 use regalloc2_index::{Block, Inst, InstRange};
-use regalloc2_names::{Operand, PRegSet, RegClass, VReg};
+use regalloc2_names::{Operand, PRegSet, RegAllocError, RegClass, VReg};
+use std::alloc::Global;
 
-/// So many instructions, each with the same operands, in one block that passes nothing to those that it may go to.
+/// So many instructions, each with the same operands, in one block.
 #[derive(Drop)]
 pub struct Same<'a> {
     /// What each instruction does.
@@ -15,7 +19,7 @@ pub struct Same<'a> {
     pub clobbers: PRegSet,
     /// How many instructions there are.
     pub insts: usize,
-    /// Where the block may go.
+    /// Where each block goes: nowhere, where `lend` makes it.
     pub succs: &'a [Block],
     pub ghost few: { insts < 2 ^ 30 },
 }
@@ -96,33 +100,18 @@ impl Function for Same<'_> {
     ghost limited = { limited_same };
 }
 
-#[cfg(test)]
-mod tests {
-    use super::*;
-    use crate::asserts::same;
-    use crate::blocks::run_fitting;
-    use crate::machines::whole_machine;
-    use regalloc2::{RegAllocError, count_operands};
-    use std::test::Fail;
-
-    /// A list of 2^15 operands that is lent 2^17 times makes 2^32 operands, which no list holds. That is refused
-    /// before anything is allocated, and without a look at each of them.
-    #[test]
-    fn too_many_operands_are_refused_at_once(rt: HostRuntime) -> Result<(), Fail> {
-        let alloc = rt.alloc();
-        let operands = vec![in alloc; Operand::reg_use(VReg::new(0, RegClass::Int)); 32768]?;
-        let mut f = Same {
-            operands: operands.as_slice(),
-            clobbers: PRegSet::empty(),
-            insts: 131_071,
-            succs: &[],
-        };
-        same(&rt, count_operands(&f), Some(4_294_934_528));
-        f.insts = 131_072;
-        same(&rt, count_operands(&f), None);
-        let env = whole_machine(alloc, 2);
-        let refused = run_fitting(&rt, alloc, &f, &env).err();
-        same(&rt, refused, Some(RegAllocError::TooManyOperands));
-        Ok(())
-    }
+/// A list of 2^15 operands that is lent so many times: how many operands that makes, and how a run is refused. 2^32 of them, which no
+/// list holds, are refused before anything is allocated, and without a look at each of them.
+pub fn lend(alloc: Global, insts: usize) -> Option<(Option<u32>, Option<RegAllocError>)>
+    requires { insts < 2 ^ 30 }
+{
+    let operands = vec![in alloc; Operand::reg_use(VReg::new(0, RegClass::Int)); 32768].ok()?;
+    let f = Same {
+        operands: operands.as_slice(),
+        clobbers: PRegSet::empty(),
+        insts,
+        succs: &[],
+    };
+    let refused = run_fitting(alloc, &f, &integer_machine(alloc, 2))?.err();
+    Some((count_operands(&f), refused))
 }

@@ -1,163 +1,109 @@
-//! The calls on functions and outputs, on what they take and on what they refuse.
+//! The calls, of functions that may be handed to them.
 
-use super::asserts::{holds, same};
-use super::blocks::{def, reads, reg, smallest, spilling, stack, straight};
-use super::outputs::{after, fork, output, swapping_loop};
+use regalloc2::checker::{Checker, CheckerError, CheckerErrors};
 use regalloc2::{
-    Allocation, Block, Edit, Function, Inst, InstOrEdit, InstRange, Output, is_framed,
+    Algorithm, CheckedRunError, Ctx, Function, MachineEnv, Output, RegAllocError, RegallocOptions,
+    is_framed, machine_fits, run, run_checked, run_into_ctx, run_with_ctx,
 };
-use regalloc2_plain::build::{branch, op, ret};
-use regalloc2_plain::table::{SlotUnits, TableBlock, TableFunction};
-use std::alloc::{AllocError, Global};
-use std::process::Abort;
-use std::test::Fail;
+use std::alloc::{Allocator, Global};
 
-/// A block that goes on to another with one argument, which the other takes or not, and which returns or not.
-fn two_blocks(alloc: Global, takes: bool, returns: bool) -> Result<TableFunction, AllocError> {
-    let mut insts = Vec::new(alloc);
-    insts.push(branch(alloc, &[def(0)])?)?;
-    insts.push(if returns {
-        ret(alloc, &[])?
+/// The options, with all tests of the function.
+const OPTIONS: RegallocOptions = RegallocOptions {
+    validate_ssa: true,
+    algorithm: Algorithm::Fastalloc,
+};
+
+/// `run`, at a machine that fits.
+pub fn run_fitting<A: Allocator + Copy, F: Function, B: Allocator>(
+    alloc: A,
+    f: &F,
+    env: &MachineEnv<B>,
+) -> Option<Result<Output<A>, RegAllocError>> {
+    if machine_fits(f, env) {
+        Some(run(alloc, f, env, &OPTIONS))
     } else {
-        op(alloc, &[])?
-    })?;
-    let (zero, one, two) = (Inst::new(0), Inst::new(1), Inst::new(2));
-    let argument = [def(0).vreg()];
-    let first = TableBlock::alone(alloc, InstRange::new(zero, one)).passing(
-        alloc,
-        Block::new(1),
-        &argument,
-    )?;
-    let second = TableBlock::alone(alloc, InstRange::new(one, two)).after(Block::new(0))?;
-    let mut blocks = Vec::new(alloc);
-    blocks.push(first)?;
-    blocks.push(if takes {
-        second.taking(alloc, &[reads(1).vreg()])?
-    } else {
-        second
-    })?;
-    let slots = (SlotUnits::one(), SlotUnits::one(), SlotUnits::one());
-    Ok(TableFunction::of_blocks(2, slots, blocks, insts))
-}
-
-#[test]
-fn framed_functions(rt: HostRuntime) -> Result<(), Fail> {
-    let alloc = rt.alloc();
-    holds(&rt, is_framed(&smallest(alloc)?));
-    holds(&rt, is_framed(&swapping_loop(alloc)?));
-    holds(&rt, is_framed(&fork(alloc, 0)?));
-    holds(&rt, is_framed(&two_blocks(alloc, true, true)?));
-    assert!(rt;
-        !is_framed(&two_blocks(alloc, false, true)?),
-        "an argument too many"
-    );
-    assert!(rt; !is_framed(&two_blocks(alloc, true, false)?), "no end");
-    let mut insts = Vec::new(alloc);
-    insts.push(ret(alloc, &[])?)?;
-    insts.push(ret(alloc, &[])?)?;
-    assert!(rt; !is_framed(&straight(alloc, 0, insts)?), "an end too early");
-    assert!(rt;
-        !is_framed(&straight(alloc, 0, Vec::new(alloc))?),
-        "an empty block"
-    );
-    let mut elsewhere = smallest(alloc)?;
-    elsewhere.entry = Block::new(1);
-    assert!(rt; !is_framed(&elsewhere), "no such entry");
-    Ok(())
-}
-
-#[test]
-fn outputs_in_order(rt: HostRuntime) -> Result<(), Fail> {
-    let alloc = rt.alloc();
-    let f = smallest(alloc)?;
-    let places = [reg(0), reg(0)];
-    let edits = [after(0, reg(0), stack(0)), after(0, stack(0), reg(0))];
-    holds(
-        &rt,
-        output(alloc, 1, &edits, &places, &[0, 1])?.is_in_order(&f),
-    );
-    holds(
-        &rt,
-        output(alloc, 0, &[], &places[..1], &[0, 1])?.is_in_order(&f),
-    );
-    holds(
-        &rt,
-        !output(alloc, 0, &[], &places, &[0, 3])?.is_in_order(&f),
-    );
-    holds(
-        &rt,
-        !output(alloc, 0, &[], &places, &[0, 0])?.is_in_order(&f),
-    );
-    holds(&rt, !output(alloc, 0, &[], &places, &[0])?.is_in_order(&f));
-    let falling = [after(1, reg(0), stack(0)), after(0, stack(0), reg(0))];
-    holds(
-        &rt,
-        !output(alloc, 1, &falling, &places, &[0, 1])?.is_in_order(&f),
-    );
-    Ok(())
-}
-
-/// The listing of the entry, of a framed function and an output in order: its instructions, and its moves, each with how
-/// many instructions come before it.
-fn listing_of(
-    rt: &impl Abort,
-    alloc: Global,
-    f: &TableFunction,
-    out: &Output,
-) -> Result<(Vec<Inst>, Vec<(usize, Edit)>), AllocError> {
-    assert!(rt; is_framed(f));
-    assert!(rt; out.is_in_order(f));
-    let mut insts = Vec::new(alloc);
-    let mut moves = Vec::new(alloc);
-    for item in out.block_insts_and_edits(f, f.entry_block()) {
-        match &item {
-            InstOrEdit::Inst(inst) => insts.push(*inst)?,
-            InstOrEdit::Edit(edit) => moves.push((insts.len(), **edit))?,
-        }
+        None
     }
-    Ok((insts, moves))
 }
 
-#[test]
-fn lists_a_block(rt: HostRuntime) -> Result<(), Fail> {
-    let alloc = rt.alloc();
-    let f = spilling(alloc)?;
-    let edits = [after(0, reg(0), stack(0)), after(2, stack(0), reg(0))];
-    let places = [reg(0), reg(0), reg(0), reg(0)];
-    let out = output(alloc, 1, &edits, &places, &[0, 1, 2, 3])?;
-    let (insts, moves) = listing_of(&rt, alloc, &f, &out)?;
-    let numbers = [Inst::new(0), Inst::new(1), Inst::new(2), Inst::new(3)];
-    same(&rt, insts.as_slice(), numbers.as_slice());
-    let listed = [(1, edits[0].1), (3, edits[1].1)];
-    same(&rt, moves.as_slice(), listed.as_slice());
-    Ok(())
+/// `run_checked`, at a machine that fits.
+pub fn run_checked_fitting<A: Allocator + Copy, F: Function, B: Allocator>(
+    alloc: A,
+    f: &F,
+    env: &MachineEnv<B>,
+) -> Option<Result<Output<A>, CheckedRunError<A>>> {
+    if machine_fits(f, env) {
+        Some(run_checked(alloc, f, env, &OPTIONS))
+    } else {
+        None
+    }
 }
 
-/// The places of an instruction's operands, of an output in order.
-fn places_of<'o>(
-    rt: &impl Abort,
-    f: &TableFunction,
-    out: &'o Output,
-    inst: usize,
-) -> &'o [Allocation] {
-    assert!(rt; out.is_in_order(f));
-    assert!(rt; inst < f.num_insts());
-    out.inst_allocs(Inst::new(inst))
+/// The slots that `run_with_ctx` gives, at a machine that fits.
+pub fn run_with_ctx_fitting<A: Allocator + Copy, F: Function, B: Allocator>(
+    f: &F,
+    env: &MachineEnv<B>,
+    ctx: &mut Ctx<A>,
+) -> Option<Result<usize, RegAllocError>> {
+    if machine_fits(f, env) {
+        Some(run_with_ctx(f, env, &OPTIONS, ctx).map(|out| out.num_spillslots))
+    } else {
+        None
+    }
 }
 
-#[test]
-fn lends_the_places_of_an_instruction(rt: HostRuntime) -> Result<(), Fail> {
-    let alloc = rt.alloc();
-    let f = swapping_loop(alloc)?;
-    let places = [reg(5), reg(6), reg(7), reg(9), reg(8)];
-    let out = output(alloc, 0, &[], &places, &[0, 1, 2, 2, 3, 3, 3])?;
-    same(&rt, places_of(&rt, &f, &out, 0), [reg(5)].as_slice());
-    holds(&rt, places_of(&rt, &f, &out, 2).is_empty());
-    same(&rt, places_of(&rt, &f, &out, 3), [reg(7)].as_slice());
-    same(
-        &rt,
-        places_of(&rt, &f, &out, 6),
-        [reg(9), reg(8)].as_slice(),
-    );
-    Ok(())
+/// `run_into_ctx`, at a machine that fits.
+pub fn run_into_ctx_fitting<A: Allocator + Copy, F: Function, B: Allocator>(
+    f: &F,
+    env: &MachineEnv<B>,
+    ctx: &mut Ctx<A>,
+) -> Option<Result<(), RegAllocError>> {
+    if machine_fits(f, env) {
+        Some(run_into_ctx(f, env, &OPTIONS, ctx))
+    } else {
+        None
+    }
+}
+
+/// Why a checker doesn't accept an output.
+#[derive(Clone, Copy, Debug, PartialEq, Eq)]
+pub enum Verdict {
+    /// It was refused memory, and says nothing else.
+    Memory,
+    /// The output isn't in order, or there is none.
+    Malformed,
+    /// It finds faults.
+    Faulty,
+}
+
+/// The verdict that stands in a list of errors.
+pub fn verdict_of<A: Allocator>(answer: Result<(), CheckerErrors<A>>) -> Result<(), Verdict> {
+    match answer {
+        Ok(()) => Ok(()),
+        Err(errors) => match errors.errors() {
+            [CheckerError::Memory] => Err(Verdict::Memory),
+            [CheckerError::MalformedOutput] => Err(Verdict::Malformed),
+            _ => Err(Verdict::Faulty),
+        },
+    }
+}
+
+/// What a checker says of an output, of a function that is framed.
+pub fn check<A: Allocator + Copy, F: Function>(
+    alloc: A,
+    f: &F,
+    env: &MachineEnv,
+    out: &Output,
+) -> Result<(), Verdict> {
+    if !is_framed(f) {
+        return Err(Verdict::Malformed);
+    }
+    let Ok(mut checker) = Checker::new(alloc, f, env) else {
+        return Err(Verdict::Memory);
+    };
+    match checker.prepare(out) {
+        Ok(()) => verdict_of(checker.run()),
+        Err(CheckerError::Memory) => Err(Verdict::Memory),
+        Err(_) => Err(Verdict::Malformed),
+    }
 }

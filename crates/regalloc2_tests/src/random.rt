@@ -1,285 +1,114 @@
-//! Straight blocks at random: well-formed, with operands of every kind but `Limit`.
+//! Numbers that look random, and machines.
 
 ghost use Rattle.std.specs.Prelude.{◌≡◌, ◌<◌};
-ghost use Rattle.regalloc2_names.specs.Packing.{IsConstraintOf};
 
-use super::shapes::{FIRST_SLOT, Random, Shape, preg};
-use regalloc2::{
-    Operand, OperandConstraint, OperandKind, OperandPos, PReg, PRegSet, RegClass, VReg,
-};
-use regalloc2_plain::table::{SlotUnits, TableFunction, TableInst};
-use std::alloc::{AllocError, Global};
-use std::process::Abort;
+use regalloc2::{MachineEnv, PReg, PRegSet, RegClass};
+use std::alloc::Global;
 
-/// An instruction that is being made.
+/// The classes.
+pub const CLASSES: [RegClass; 3] = [RegClass::Int, RegClass::Float, RegClass::Vector];
+
+/// The first fixed stack slot of each class; the registers that are allocated have lower numbers.
+pub const FIRST_SLOT: usize = 40;
+
+/// The register of each class for moves from stack to stack, where there is one.
+const SCRATCH: usize = 50;
+
+/// Numbers that look random, the same ones for the same seed.
 #[derive(Drop)]
-struct Draft {
-    operands: Vec<Operand>,
-    /// Which operands were reused.
-    reused: Vec<usize>,
-    /// The registers that operands are fixed to.
-    fixed: PRegSet,
-    /// Those among them that no clobber may be.
-    kept: PRegSet,
+pub struct Random {
+    state: u64,
 }
 
-impl Draft {
-    /// No operand yet.
-    fn new(alloc: Global) -> Draft {
-        Draft {
-            operands: Vec::new(alloc),
-            reused: Vec::new(alloc),
-            fixed: PRegSet::empty(),
-            kept: PRegSet::empty(),
+impl Random {
+    /// The numbers of a seed.
+    pub fn new(seed: u64) -> Random {
+        Random { state: seed }
+    }
+
+    /// The next number, below `count`.
+    pub fn below(&mut self, count: usize) -> usize
+        requires { 0 < count }
+        ensures { result < count }
+    {
+        self.state = self
+            .state
+            .wrapping_mul(6_364_136_223_846_793_005)
+            .wrapping_add(1_442_695_040_888_963_407);
+        (self.state >> 33) as usize % count
+    }
+
+    /// True once in `count` times.
+    pub fn once_in(&mut self, count: usize) -> bool
+        requires { 0 < count }
+    {
+        self.below(count) == 0
+    }
+
+    /// One of the classes, most often that of integers.
+    pub fn class(&mut self) -> RegClass {
+        match self.below(4) {
+            0 => RegClass::Float,
+            1 => RegClass::Vector,
+            _ => RegClass::Int,
         }
     }
 }
 
-/// Instructions that are being made.
-#[derive(Drop)]
-pub struct Maker {
-    pub random: Random,
-    shape: Shape,
-    /// How many virtual registers are named.
-    named: usize,
-    /// Those that may be read.
-    pub known: Vec<VReg>,
-    /// Whether each instruction has few operands, so that many instructions fit.
-    pub has_few: bool,
+/// The register of that number, of which the lowest six bits count.
+pub fn preg(number: usize, class: RegClass) -> PReg
+    ensures { result.class ≡ class }
+{
+    PReg::new(number % 64, class)
 }
 
-impl Maker {
-    /// No instruction yet.
-    pub fn new(alloc: Global, seed: u64) -> Maker {
-        let mut random = Random::new(seed);
-        let shape = Shape::any(&mut random);
-        Maker {
-            random,
-            shape,
-            named: 0,
-            known: Vec::new(alloc),
-            has_few: false,
-        }
+/// The registers of a class from a number up to another.
+fn pregs(class: RegClass, from: usize, to: usize) -> PRegSet {
+    let mut set = PRegSet::empty();
+    for number in from..to {
+        set.add(preg(number, class));
     }
+    set
+}
 
-    /// The shape of the machine.
-    pub fn shape(&self) -> &Shape {
-        &self.shape
+/// A machine without registers.
+fn no_machine(alloc: Global) -> MachineEnv {
+    MachineEnv {
+        preferred_regs_by_class: [PRegSet::empty(); 3],
+        non_preferred_regs_by_class: [PRegSet::empty(); 3],
+        scratch_by_class: [None; 3],
+        fixed_stack_slots: Vec::new(alloc),
     }
+}
 
-    /// A number above that of each virtual register.
-    pub fn num_vregs(&self) -> usize
-        ensures { result < 1000000 }
-    {
-        self.named % 1_000_000
-    }
+/// A machine whose only registers are so many preferred ones for integers.
+pub fn integer_machine(alloc: Global, count: usize) -> MachineEnv {
+    let mut env = no_machine(alloc);
+    env.preferred_regs_by_class[0] = pregs(RegClass::Int, 0, count);
+    env
+}
 
-    /// A virtual register of the class that wasn't named yet.
-    pub fn fresh(&mut self, class: RegClass) -> VReg
-        ensures { result.class ≡ class }
-    {
-        let vreg = VReg::new(self.num_vregs(), class);
-        self.named = self.named.wrapping_add(1);
-        vreg
-    }
-
-    /// An allocatable register or, now and then, a fixed stack slot of the class.
-    fn any_register(&mut self, class: RegClass) -> PReg
-        ensures { result.class ≡ class }
-    {
-        let shape = self.shape.of(class);
-        let slots = shape.slots;
-        if slots > 0 && self.random.once_in(4) {
-            return preg(FIRST_SLOT.wrapping_add(self.random.below(slots)), class);
-        }
-        preg(self.random.below(shape.all.max(1)), class)
-    }
-
-    /// A constraint of an operand of the class. A register that an operand is fixed to is most often one that no other is
-    /// fixed to.
-    fn constraint(&mut self, draft: &mut Draft, class: RegClass, is_kept: bool) -> OperandConstraint
-        ensures { IsConstraintOf class result }
-    {
-        match self.random.below(8) {
-            0 | 1 => OperandConstraint::Any,
-            2 => OperandConstraint::Stack,
-            3 | 4 => {
-                let fixed = self.any_register(class);
-                if draft.fixed.contains(fixed) && !self.random.once_in(30) {
-                    return OperandConstraint::Any;
-                }
-                draft.fixed.add(fixed);
-                if is_kept {
-                    draft.kept.add(fixed);
-                }
-                OperandConstraint::FixedReg(fixed)
-            }
-            _ => OperandConstraint::Reg,
+/// A machine: of each class up to seven registers, of which some aren't preferred, with or without two fixed stack slots and a
+/// register for moves. It comes with how many registers of each class an instruction may ask for.
+pub fn any_machine(alloc: Global, random: &mut Random) -> Option<(MachineEnv, [usize; 3])> {
+    let mut env = no_machine(alloc);
+    let mut most = [0usize; 3];
+    for class in CLASSES {
+        let at = class as usize;
+        let has_slots = random.once_in(2);
+        let has_scratch = random.once_in(2);
+        let preferred = random.below(4).saturating_add(1);
+        let count = preferred.saturating_add(random.below(4));
+        most[at] = count.saturating_sub(usize::from(has_slots && !has_scratch));
+        env.preferred_regs_by_class[at] = pregs(class, 0, preferred);
+        env.non_preferred_regs_by_class[at] = pregs(class, preferred, count);
+        env.scratch_by_class[at] = has_scratch.then_some(preg(SCRATCH, class));
+        if has_slots {
+            env.fixed_stack_slots.push(preg(FIRST_SLOT, class)).ok()?;
+            env.fixed_stack_slots
+                .push(preg(FIRST_SLOT + 1, class))
+                .ok()?;
         }
     }
-
-    /// A use of one of the first virtual registers that may be read.
-    fn add_use(&mut self, draft: &mut Draft, defined: usize) -> Result<(), AllocError> {
-        if defined == 0 {
-            return Ok(());
-        }
-        let chosen = self.random.below(defined);
-        if chosen >= self.known.len() {
-            return Ok(());
-        }
-        let vreg = self.known[chosen];
-        let pos = if self.random.once_in(3) {
-            OperandPos::Late
-        } else {
-            OperandPos::Early
-        };
-        let is_kept = pos == OperandPos::Late;
-        let constraint = self.constraint(draft, vreg.class(), is_kept);
-        draft
-            .operands
-            .push(Operand::new(vreg, constraint, OperandKind::Use, pos))?;
-        Ok(())
-    }
-
-    /// A definition of a virtual register that wasn't named yet.
-    fn add_def(&mut self, draft: &mut Draft) -> Result<(), AllocError> {
-        let class = self.random.class();
-        let vreg = self.fresh(class);
-        self.known.push(vreg)?;
-        let pos = if self.random.once_in(4) {
-            OperandPos::Early
-        } else {
-            OperandPos::Late
-        };
-        let constraint = self.constraint(draft, vreg.class(), true);
-        draft
-            .operands
-            .push(Operand::new(vreg, constraint, OperandKind::Def, pos))?;
-        Ok(())
-    }
-
-    /// A reuse of one of the operands, if that may be reused.
-    fn add_reuse(&mut self, draft: &mut Draft) -> Result<(), AllocError> {
-        let count = draft.operands.len().min(32);
-        if count == 0 {
-            return Ok(());
-        }
-        let index = self.random.below(count);
-        let Some(class) = self.reusable(draft, index) else {
-            return Ok(());
-        };
-        draft.reused.push(index)?;
-        if let OperandConstraint::FixedReg(fixed) = draft.operands[index].constraint() {
-            draft.kept.add(fixed);
-        }
-        let vreg = self.fresh(class);
-        self.known.push(vreg)?;
-        draft
-            .operands
-            .push(Operand::reg_reuse_def(vreg, index % 32))?;
-        Ok(())
-    }
-
-    /// The class of an operand that may be reused.
-    fn reusable(&self, draft: &Draft, index: usize) -> Option<RegClass> {
-        if index >= draft.operands.len() || draft.reused.contains(&index) {
-            return None;
-        }
-        let operand = draft.operands[index];
-        let is_early_use = operand.kind() == OperandKind::Use && operand.pos() == OperandPos::Early;
-        if !is_early_use || operand.as_fixed_nonallocatable().is_some() {
-            return None;
-        }
-        let class = operand.class();
-        match operand.constraint() {
-            OperandConstraint::Reg => Some(class),
-            OperandConstraint::FixedReg(fixed) if fixed.hw_enc() < FIRST_SLOT => Some(class),
-            _ => None,
-        }
-    }
-
-    /// Clobbers that no operand is fixed to at the late position.
-    fn clobbers(&mut self, draft: &Draft) -> PRegSet {
-        let mut set = PRegSet::empty();
-        if self.random.once_in(2) {
-            return set;
-        }
-        for _ in 0..3 {
-            let class = self.random.class();
-            let clobber = self.any_register(class);
-            if !draft.kept.contains(clobber) {
-                set.add(clobber);
-            }
-        }
-        set
-    }
-
-    /// An instruction of up to six operands.
-    pub fn inst(&mut self, alloc: Global, is_ret: bool) -> Result<TableInst, AllocError> {
-        let defined = self.known.len();
-        let mut draft = Draft::new(alloc);
-        let most = if self.has_few { 5 } else { 7 };
-        for _ in 0..self.random.below(most) {
-            match self.random.below(9) {
-                0 | 1 | 2 => self.add_def(&mut draft)?,
-                3 => self.add_reuse(&mut draft)?,
-                4 => {
-                    let class = self.random.class();
-                    draft
-                        .operands
-                        .push(Operand::fixed_nonallocatable(preg(60, class)))?;
-                }
-                _ => self.add_use(&mut draft, defined)?,
-            }
-        }
-        let clobbers = self.clobbers(&draft);
-        Ok(TableInst {
-            operands: draft.operands,
-            clobbers,
-            is_branch: false,
-            is_ret,
-        })
-    }
-
-    /// A branch, which has up to two uses if it may have any.
-    pub fn branch(&mut self, alloc: Global, may_use: bool) -> Result<TableInst, AllocError> {
-        let defined = self.known.len();
-        let mut draft = Draft::new(alloc);
-        if may_use {
-            for _ in 0..self.random.below(3) {
-                self.add_use(&mut draft, defined)?;
-            }
-        }
-        let clobbers = self.clobbers(&draft);
-        Ok(TableInst {
-            operands: draft.operands,
-            clobbers,
-            is_branch: true,
-            is_ret: false,
-        })
-    }
-
-    /// A size of slots.
-    pub fn units(&mut self) -> SlotUnits {
-        if self.random.once_in(3) {
-            SlotUnits::two()
-        } else {
-            SlotUnits::one()
-        }
-    }
-
-    /// A block of up to nine instructions.
-    pub fn block(&mut self, rt: &impl Abort, alloc: Global) -> Result<TableFunction, AllocError> {
-        let mut insts = Vec::new(alloc);
-        for _ in 0..self.random.below(9) {
-            insts.push(self.inst(alloc, false)?)?;
-        }
-        insts.push(self.inst(alloc, true)?)?;
-        assert!(rt; insts.len() < 100);
-        let slots = (self.units(), self.units(), self.units());
-        let named_by_last = self.random.once_in(2);
-        let mut f = TableFunction::straight(alloc, self.num_vregs(), slots, insts)?;
-        f.named_by_last_slot = named_by_last;
-        Ok(f)
-    }
+    Some((env, most))
 }

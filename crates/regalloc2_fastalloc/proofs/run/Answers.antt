@@ -2,14 +2,10 @@ use Rattle.std.proofs.Common.{◌<◌, ◌^◌, Bool, refl, sym, subst, rules}
 use Rattle.std.proofs.lemmas.Result.{IfErr-weaker, IfOk-weaker, err_from_is_err_and}
 use Rattle.regalloc2_function.specs.FunctionValue.{FunctionValue}
 use Rattle.regalloc2_function.specs.Machine.{MachineValue}
-use Rattle.regalloc2_function.specs.OutputValue.{IsInOrder}
 use Rattle.regalloc2_function.specs.Views.{machine_of, output_of}
-use Rattle.regalloc2_function.specs.Faithful.{IsFaithful}
-use Rattle.regalloc2_function.specs.SourceRun.{IsWrittenFirst}
 use Rattle.regalloc2_tables.specs.Lack.{LacksOnly}
-use Rattle.regalloc2_fastalloc.specs.Promise.{RunsAsTheFunction}
+use Rattle.regalloc2_fastalloc.specs.Promise.{IsAllocation}
 use Rattle.regalloc2_fastalloc.specs.Reason.{IsReason, PassesFirst, PassesAll, PassesAsked, units_needed}
-use Rattle.regalloc2_fastalloc.proofs.Numbers.{reads_numbers}
 use Rattle.regalloc2_fastalloc.proofs.Reasoned.{fault_is_reason, lack_is_a_reason, counted_alone}
 use Rattle.regalloc2_fastalloc.proofs.run.Given.{Over}
 use Rattle.regalloc2_fastalloc.proofs.run.Goals as goal
@@ -43,17 +39,11 @@ passed g c =
     ] in
     record { first = search rules; well_formed = owed; unlimited = c.in_ok-test_limits.ensures.ok.0 refl; branches = c.in_ok-test_branches.ensures.ok.0 refl }
 
-pub returns-clause-faithful : goal.returns-clause-faithful
-returns-clause-faithful g c =
-    let f : FunctionValue = g.F.Function.function c.args.f.now in
-    let env : MachineValue = machine_of c.args.env.now in
-    IfOk-weaker c.allocate.result (λ out. IsWrittenFirst f → IsFaithful f env (output_of out)) (λ out. IsWrittenFirst f → RunsAsTheFunction f env (output_of out))
-    (λ out h. λ written. record { faithful = h written; reads_numbers = reads_numbers f env (output_of out) (h written); same_numbers = c.reads_the_same_numbers.ensures f env (output_of out) (h written) }) c.allocate.ensures.faithful
-
 pub returns-clause-owed : goal.returns-clause-owed
 returns-clause-owed g c =
     let f : FunctionValue = g.F.Function.function c.args.f.now in
-    IfOk-weaker c.allocate.result (λ out. IsInOrder f (output_of out)) (λ out. PassesAll f (machine_of c.args.env.now) c.args.options.now.validate_ssa) (λ out h. passed g c) c.allocate.ensures.in_order
+    let env : MachineValue = machine_of c.args.env.now in
+    IfOk-weaker c.allocate.result (λ out. IsAllocation f env (output_of out)) (λ out. PassesAll f env c.args.options.now.validate_ssa) (λ out h. passed g c) c.allocate.ensures.allocation
 
 pub returns-clause-refused : goal.returns-clause-refused
 returns-clause-refused g c =

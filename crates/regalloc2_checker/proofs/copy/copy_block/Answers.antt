@@ -8,7 +8,7 @@ use Rattle.regalloc2_checker.proofs.copy.copy_block.Goals as goal
 pub loop-item-init : goal.loop-item-init
 loop-item-init g c =
     copying_starts (g.F.Function.function c.args.f.now) (output_of c.args.out.now) c.requires.framed c.args.block c.requires.block c.new-moves.result.items (rest_of c.into_iter-item-iterator.result) c.args.listing.now.items
-    c.requires.before c.new-moves.ensures.items (ap rest_of c.into_iter-item-iterator.ensures.into_iter_gives ∙ c.block_insts_and_edits-item-items.ensures)
+    c.requires.before c.new-moves.ensures.items (ap rest_of c.into_iter-item-iterator.ensures.into_iter_gives ∙ c.block_insts_and_edits-item-items.ensures.items)
 
 pub loop-item-preserved-in-Continue-1 : goal.loop-item-preserved-in-Continue-1
 loop-item-preserved-in-Continue-1 g c =

@@ -9,10 +9,14 @@ use Rattle.regalloc2_names.specs.Place.{Place, NoPlace}
 use Rattle.regalloc2_function.specs.FunctionValue.{FunctionValue, IsLimited, slot_size, operand_count}
 use Rattle.regalloc2_function.specs.Machine.{MachineValue}
 use Rattle.regalloc2_function.specs.OutputValue.{DebugLocation, OutputValue}
+use Rattle.regalloc2_function.specs.SourceRun.{IsWrittenFirst}
+use Rattle.regalloc2_function.specs.Faithful.{IsFaithful}
+use Rattle.regalloc2_function.specs.Slots.{SlotsHaveOwners}
 use Rattle.regalloc2_function.specs.Views.{edit_of, machine_of}
 use Rattle.regalloc2_flow.proofs.Defined.{Made}
 use Rattle.regalloc2_flow.proofs.Faithful.{faithful}
 use Rattle.regalloc2_tables.specs.Lack.{LacksOnly, AreFullWith}
+use Rattle.regalloc2_fastalloc.specs.Promise.{LiveInSlots, SlotsAreFew}
 use Rattle.regalloc2_fastalloc.specs.Reason.{units_needed}
 use Rattle.regalloc2_steps.specs.Steps.{Tables}
 use Rattle.regalloc2_fastalloc.specs.States.{tables_of}
@@ -30,6 +34,7 @@ use Rattle.regalloc2_steps.proofs.Launching.{fresh_blank, some_units, fresh_fit}
 use Rattle.regalloc2_steps.proofs.Machines.{fit_apart}
 use Rattle.regalloc2_steps.proofs.Owning.{made_owners}
 use Rattle.regalloc2_tables.proofs.Rooming.{lacks_then}
+use Rattle.regalloc2_fastalloc.proofs.Numbers.{reads_numbers}
 use Rattle.regalloc2_fastalloc.proofs.Needing.{sizes_of, few_slots, full_needs}
 use Rattle.regalloc2_steps.proofs.Rounding.{Blank}
 use Rattle.regalloc2_steps.proofs.SafeFunctions.{made_listed_blocks}
@@ -154,42 +159,28 @@ made g c =
       kept = subst (λ (ps : List Place). WalkKept env (Made f) f (MayInBlocks f) ps 0 ps (left g c)) (sym (places_are g c)) (walked g c);
     }
 
-pub returns-clause-in_order : goal.returns-clause-in_order
-returns-clause-in_order g c = made_in_order _ _ _ _ _ _ (made g c)
-
-pub returns-clause-constraints : goal.returns-clause-constraints
-returns-clause-constraints g c = made_constraints _ _ _ _ _ _ (made g c)
-
-pub returns-clause-proper : goal.returns-clause-proper
-returns-clause-proper g c = made_proper _ _ _ _ _ _ (made g c)
-
-pub returns-clause-no_stack_to_stack : goal.returns-clause-no_stack_to_stack
-returns-clause-no_stack_to_stack g c = made_in_registers _ _ _ _ _ _ (made g c)
-
-pub returns-clause-listed : goal.returns-clause-listed
-returns-clause-listed g c = made_listed_blocks _ _ _ _ _ c.requires.well_formed.follow (made g c)
-
 -- the walk, with the output's places
 walks_out : (g : Over) (c : goal.After-array_drop-state-2 g) → WalksBlocks (g.F.Function.function c.args.f.now) c.deref_mut.result.now (begun g c) 0 (out_of g c).allocs (left g c)
 walks_out g c = subst (λ (ps : List Place). WalksBlocks (g.F.Function.function c.args.f.now) c.deref_mut.result.now (begun g c) 0 ps (left g c)) (sym (places_are g c)) c.in_ok-allocate_blocks.ensures.ok
 
-pub returns-clause-faithful : goal.returns-clause-faithful
-returns-clause-faithful g c = λ written.
+-- where no path reads before writing, the output is faithful
+faithful_is : (g : Over) (c : goal.After-array_drop-state-2 g) → IsWrittenFirst (g.F.Function.function c.args.f.now) → IsFaithful (g.F.Function.function c.args.f.now) (machine_of c.args.env.now) (out_of g c)
+faithful_is g c = λ written.
     let f : FunctionValue = g.F.Function.function c.args.f.now in
     let env : MachineValue = machine_of c.args.env.now in
     let m : IsMade f env (Made f) (MayInBlocks f) (left g c) (out_of g c) = made g c in
     faithful f env (out_of g c) (made_constraints f env (Made f) (MayInBlocks f) (left g c) (out_of g c) m) (made_in_registers f env (Made f) (MayInBlocks f) (left g c) (out_of g c) m)
     (made_blocks_agree env f (g.met.F.Function.limited c.args.f.now) c.requires.well_formed c.requires.taken c.requires.branches c.deref_mut.result.now (begun g c) (left g c) (out_of g c) (blank_is g c) (fit_is g c) (walks_out g c) m written)
 
-pub returns-clause-live : goal.returns-clause-live
-returns-clause-live g c =
+live_is : (g : Over) (c : goal.After-array_drop-state-2 g) → IsWrittenFirst (g.F.Function.function c.args.f.now) → LiveInSlots (g.F.Function.function c.args.f.now) (out_of g c)
+live_is g c =
     let f : FunctionValue = g.F.Function.function c.args.f.now in
     let env : MachineValue = machine_of c.args.env.now in
     made_in_slots env f (g.met.F.Function.limited c.args.f.now) c.requires.well_formed c.requires.taken c.requires.branches c.deref_mut.result.now (begun g c) (left g c) (out_of g c) (blank_is g c) (fit_is g c) (walks_out g c) (made g c)
     c.count.ensures.owned (tame_at env f (g.met.F.Function.limited c.args.f.now) c.requires.well_formed c.requires.taken)
 
-pub returns-clause-owners : goal.returns-clause-owners
-returns-clause-owners g c =
+owners_are : (g : Over) (c : goal.After-array_drop-state-2 g) → SlotsHaveOwners (g.F.Function.function c.args.f.now) (out_of g c)
+owners_are g c =
     let f : FunctionValue = g.F.Function.function c.args.f.now in
     let env : MachineValue = machine_of c.args.env.now in
     made_owners f env (Made f) (MayInBlocks f) (left g c) (out_of g c) (made g c) c.count.ensures.owned (tame_at env f (g.met.F.Function.limited c.args.f.now) c.requires.well_formed c.requires.taken)
@@ -208,8 +199,8 @@ few_lent f begun left by_last most slots machine =
     let lent = machine.lent in
     omega (arith, none, lent)
 
-pub returns-clause-slots : goal.returns-clause-slots
-returns-clause-slots g c =
+slots_are : (g : Over) (c : goal.After-array_drop-state-2 g) → SlotsAreFew (g.F.Function.function c.args.f.now) (out_of g c)
+slots_are g c =
     let f : FunctionValue = g.F.Function.function c.args.f.now in
     let begin : Tables = tables_of c.in_ok-state.state in
     let last : Tables = tables_of c.allocate_blocks.new.self in
@@ -217,6 +208,27 @@ returns-clause-slots g c =
     let slots = c.in_ok-state.ensures.slots in
     few_slots f last.slots (out_of g c) c.count.ensures.count (sizes_kept f begin last f.named_by_last_slot _ slots machine) (vregs_kept f begin last f.named_by_last_slot _ slots machine)
     (few_lent f begin last f.named_by_last_slot _ slots machine) c.count.ensures.owned
+
+pub returns-clause-allocation : goal.returns-clause-allocation
+returns-clause-allocation g c =
+    let f : FunctionValue = g.F.Function.function c.args.f.now in
+    let env : MachineValue = machine_of c.args.env.now in
+    let m : IsMade f env (Made f) (MayInBlocks f) (left g c) (out_of g c) = made g c in
+    record {
+      in_order = made_in_order _ _ _ _ _ _ m;
+      constraints = made_constraints _ _ _ _ _ _ m;
+      proper = made_proper _ _ _ _ _ _ m;
+      no_stack_to_stack = made_in_registers _ _ _ _ _ _ m;
+      listed = made_listed_blocks _ _ _ _ _ c.requires.well_formed.follow m;
+      faithful = λ written. record {
+        faithful = faithful_is g c written;
+        reads_numbers = reads_numbers f env (out_of g c) (faithful_is g c written);
+        same_numbers = c.reads_the_same_numbers.ensures f env (out_of g c) (faithful_is g c written);
+      };
+      live = live_is g c;
+      slots = slots_are g c;
+      owners = owners_are g c;
+    }
 
 pub returns-in_err-allocate_blocks-clause-err : goal.returns-in_err-allocate_blocks-clause-err
 returns-in_err-allocate_blocks-clause-err g c =

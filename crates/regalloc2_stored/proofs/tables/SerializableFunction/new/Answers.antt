@@ -5,6 +5,7 @@ use Rattle.regalloc2_function.specs.FunctionValue.{FunctionValue, IsLimited, lab
 use Rattle.regalloc2_stored.specs.Tables.{block_of, inst_of}
 use Rattle.regalloc2_stored.proofs.Copied.{same-function}
 use Rattle.regalloc2_stored.proofs.Lists.{all-under}
+use Rattle.regalloc2_stored.proofs.Whole.{kept-whole}
 use Rattle.regalloc2_stored.proofs.tables.SerializableFunction.new.Goals as goal
 
 pub invariant_of-result : goal.invariant_of-result
@@ -29,3 +30,6 @@ returns-clause-function g c =
     (map label_of c.in_ok-labels.labels.items) c.allow_multiple_vreg_defs.result
     c.in_ok-blocks.ensures.blocks c.in_ok-insts.ensures.insts c.entry_block.ensures c.num_vregs.ensures.count c.copied_units.ensures c.copied_units-2.ensures
     c.copied_units-3.ensures c.multi_spillslot_named_by_last_slot.ensures same c.allow_multiple_vreg_defs.ensures
+
+pub returns-clause-whole : goal.returns-clause-whole
+returns-clause-whole g c = λ h. returns-clause-function g c ∙ kept-whole (g.F.Function.function c.args.f.now) h

@@ -11,7 +11,7 @@ use Rattle.regalloc2_stored.proofs.tables.SerializableFunction.stored.Goals as g
 pub returns-clause-machine : goal.returns-clause-machine
 returns-clause-machine g c = c.in_ok-machine_env.ensures
 
-abbrev numbers : (g : Over) (c : goal.After-raw_u32 g) → StoredFunction g.row.B.Denot
+abbrev numbers : (g : Over) (c : goal.After-raw_u32 g) → StoredFunction g.row.A.Denot
 numbers g c = record {
   machine_env = c.in_ok-machine_env.machine_env;
   entry_block = c.raw_u32.result;

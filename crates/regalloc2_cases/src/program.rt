@@ -1,0 +1,146 @@
+//! Cases that are run, and what comes of them.
+
+use super::case_file::{Case, Expectation, cases_of};
+use regalloc2_text::TextError;
+use regalloc2_tool::call::{Call, CallError, answer};
+use regalloc2_tool::reading::read_text;
+use std::alloc::Global;
+use std::fmt;
+use std::io::Write;
+
+/// How many files were run, and how many of their calls passed and failed.
+#[derive(Clone, Copy, Debug, Default)]
+pub struct Tally {
+    files: u64,
+    passed: u64,
+    failed: u64,
+}
+
+impl Tally {
+    /// Whether no call failed.
+    pub fn has_passed(&self) -> bool {
+        self.failed == 0
+    }
+
+    /// Counts a call.
+    fn count(&mut self, has_passed: bool) {
+        if has_passed {
+            self.passed = self.passed.saturating_add(1);
+        } else {
+            self.failed = self.failed.saturating_add(1);
+        }
+    }
+}
+
+/// As `15 files, 58 calls passed, 0 failed`.
+impl fmt::Display for Tally {
+    fn fmt<W: fmt::Write>(&self, f: &mut fmt::Formatter<W>) -> fmt::Result {
+        let Tally {
+            files,
+            passed,
+            failed,
+        } = self;
+        write!(f, "{files} files, {passed} calls passed, {failed} failed")
+    }
+}
+
+/// What is wanted or came at one place of an answer.
+#[derive(Clone, Copy)]
+struct Shown<'a>(Option<&'a str>);
+
+/// The line in quotes, or that the answer has ended.
+impl fmt::Display for Shown<'_> {
+    fn fmt<W: fmt::Write>(&self, f: &mut fmt::Formatter<W>) -> fmt::Result {
+        match self.0 {
+            Some(line) => write!(f, "`{line}`"),
+            None => write!(f, "no more lines"),
+        }
+    }
+}
+
+/// The answer to a call of a case.
+fn answer_of(alloc: Global, case: &Case<'_>, name: &str) -> Result<Vec<u8>, CallError> {
+    let mut to = Vec::new(alloc);
+    let Some(call) = Call::named(name) else {
+        writeln!(&mut to, "no such call")?;
+        return Ok(to);
+    };
+    match read_text(alloc, case.text.as_str(), case.first_line) {
+        Ok(text) => {
+            answer(alloc, call, &text.function, text.output.as_ref(), &mut to)?;
+        }
+        Err(TextError::Fault(fault)) => writeln!(&mut to, "bad text {fault}")?,
+        Err(TextError::Memory) => return Err(CallError::Memory),
+    }
+    Ok(to)
+}
+
+/// The first line at which an answer differs: what is wanted and what came.
+fn first_difference<'a>(wanted: &[&'a str], came: &'a str) -> Option<(Shown<'a>, Shown<'a>)> {
+    let mut lines = came.lines();
+    for line in wanted {
+        let next = lines.next();
+        if !next.is_some_and(|text| text == *line) {
+            return Some((Shown(Some(*line)), Shown(next)));
+        }
+    }
+    let next = lines.next()?;
+    Some((Shown(None), Shown(Some(next))))
+}
+
+/// Runs a call of a case, and writes how its answer differs from the one that is wanted. Whether it doesn't.
+fn run_call<O: Write>(
+    alloc: Global,
+    path: &str,
+    case: &Case<'_>,
+    wanted: &Expectation<'_>,
+    out: &mut O,
+) -> Result<bool, CallError> {
+    let bytes = answer_of(alloc, case, wanted.call)?;
+    let came = String::from_utf8_lossy(alloc, bytes.as_slice())?;
+    let Some((want, got)) = first_difference(wanted.answer.as_slice(), came.as_str()) else {
+        return Ok(true);
+    };
+    let line = wanted.line;
+    let call = wanted.call;
+    let title = case.title;
+    writeln!(out, "{path}:{line}: {title}: {call}")?;
+    writeln!(out, "  wanted {want}")?;
+    writeln!(out, "  got    {got}")?;
+    Ok(false)
+}
+
+/// Runs the calls of a case, and counts them.
+fn run_case<O: Write>(
+    alloc: Global,
+    path: &str,
+    case: &Case<'_>,
+    tally: &mut Tally,
+    out: &mut O,
+) -> Result<(), CallError> {
+    for wanted in case.calls.iter() {
+        tally.count(run_call(alloc, path, case, wanted, out)?);
+    }
+    Ok(())
+}
+
+/// Runs the cases of a file, writes what differs, and counts the file and its calls.
+///
+/// For each call whose answer differs the first such line is written, as it is wanted and as it came, under the file, the
+/// line of the call, the title of its case and its name.
+pub fn run_file<O: Write>(
+    alloc: Global,
+    path: &str,
+    text: &str,
+    tally: &mut Tally,
+    out: &mut O,
+) -> Result<(), CallError> {
+    for case in cases_of(alloc, text)?.iter() {
+        run_case(alloc, path, case, tally, out)?;
+    }
+    tally.files = tally.files.saturating_add(1);
+    Ok(())
+}
+
+#[cfg(test)]
+mod tests;

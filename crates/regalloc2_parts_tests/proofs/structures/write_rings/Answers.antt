@@ -1,0 +1,25 @@
+use Rattle.std.proofs.Common.{refl}
+use Rattle.regalloc2_names.specs.declared.RegClass.TheVariants.{Int}
+use Rattle.regalloc2_parts_tests.proofs.MadeRings.{none, one_more}
+use Rattle.regalloc2_parts_tests.proofs.structures.write_rings.Goals as goal
+
+pub write_pokes-requires : goal.write_pokes-requires
+write_pokes-requires g c =
+    rw (c.preg-5.ensures, c.preg-6.ensures, c.preg-7.ensures)
+    (one_more Int _ _ refl (refl, (refl, tt)) (one_more Int _ _ refl (refl, tt) (one_more Int _ _ refl tt (none Int))))
+
+pub write_pokes-requires-2 : goal.write_pokes-requires-2
+write_pokes-requires-2 g c =
+    rw (c.preg-8.ensures, c.preg-9.ensures, c.preg-10.ensures)
+    (one_more Int _ _ refl (refl, (refl, tt)) (one_more Int _ _ refl (refl, tt) (one_more Int _ _ refl tt (none Int))))
+
+pub write_pokes-requires-3 : goal.write_pokes-requires-3
+write_pokes-requires-3 g c =
+    rw (c.preg-11.ensures, c.preg-12.ensures, c.preg-13.ensures, c.preg-14.ensures)
+    (one_more Int _ _ refl (refl, (refl, (refl, tt))) (one_more Int _ _ refl (refl, (refl, tt)) (one_more Int _ _ refl (refl, tt) (one_more Int _ _ refl tt (none Int)))))
+
+pub write_pokes-requires-4 : goal.write_pokes-requires-4
+write_pokes-requires-4 g c = rw c.preg-15.ensures (one_more Int _ _ refl tt (none Int))
+
+pub write_pokes-requires-5 : goal.write_pokes-requires-5
+write_pokes-requires-5 g c = none Int

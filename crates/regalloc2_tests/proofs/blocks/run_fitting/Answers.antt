@@ -1,5 +1,0 @@
-use Rattle.std.proofs.Common.{refl}
-use Rattle.regalloc2_tests.proofs.blocks.run_fitting.Goals as goal
-
-pub run-requires-clause-machine : goal.run-requires-clause-machine
-run-requires-clause-machine g c = c.if-assert.ensures.0 refl

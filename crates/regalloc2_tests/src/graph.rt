@@ -1,0 +1,112 @@
+//! Graphs of blocks at random, without critical edges: with forks, loops, and blocks that nothing leads to now and then.
+
+use super::random::Random;
+use regalloc2::{Block, Inst, InstRange, VReg};
+use regalloc2_plain::table::TableBlock;
+use std::alloc::Global;
+
+/// What is known of a block among others.
+#[derive(Drop)]
+pub struct Node {
+    /// A block of a lower number by which each path comes that leads here from the entry.
+    pub above: usize,
+    /// Whether blocks with no other successor may go on here.
+    is_join: bool,
+    /// What may be read behind it.
+    pub known: Vec<VReg>,
+}
+
+/// The blocks of a function by number.
+#[derive(Drop)]
+pub struct Graph {
+    pub nodes: Vec<Node>,
+    pub blocks: Vec<TableBlock>,
+}
+
+impl Graph {
+    /// Adds a block below another one.
+    fn add(&mut self, alloc: Global, above: usize, is_join: bool) -> Option<()> {
+        let range = InstRange::new(Inst::new(0), Inst::new(0));
+        self.blocks.push(TableBlock::alone(alloc, range)).ok()?;
+        let known = Vec::new(alloc);
+        self.nodes
+            .push(Node {
+                above,
+                is_join,
+                known,
+            })
+            .ok()
+    }
+
+    /// One block goes on to another.
+    fn link(&mut self, from: usize, to: usize) -> Option<()> {
+        let (pred, succ) = (Block::new(from % 100), Block::new(to % 100));
+        self.blocks.get_mut(from)?.succs.push(succ).ok()?;
+        self.blocks.get_mut(to)?.preds.push(pred).ok()
+    }
+
+    /// Whether a block without successors may go on to another one: a join, and each path comes by the block above that.
+    fn may_join(&self, from: usize, to: usize) -> Option<bool> {
+        let join = self.nodes.get(to)?;
+        let mut at = from;
+        for _ in 0..self.nodes.len() {
+            if at == join.above {
+                return Some(join.is_join);
+            }
+            at = self.nodes.get(at)?.above;
+        }
+        Some(false)
+    }
+
+    /// Lets a block without successors go on somewhere, if that may be.
+    fn close(&mut self, random: &mut Random, block: usize) -> Option<()> {
+        for _ in 0..8 {
+            let to = random.below(self.nodes.len().max(1));
+            if self.may_join(block, to)? {
+                return self.link(block, to);
+            }
+        }
+        Some(())
+    }
+
+    /// Up to twelve blocks, of which each is a join or entered from the one above it.
+    fn tree(alloc: Global, random: &mut Random) -> Option<Graph> {
+        let (nodes, blocks) = (Vec::new(alloc), Vec::new(alloc));
+        let mut graph = Graph { nodes, blocks };
+        graph.add(alloc, 0, true)?;
+        for count in 1..random.below(12).saturating_add(1) {
+            let above = if random.once_in(2) {
+                count - 1
+            } else {
+                random.below(count)
+            };
+            let is_join = random.once_in(3);
+            graph.add(alloc, above, is_join)?;
+            if !is_join && !random.once_in(15) {
+                graph.link(above, count)?;
+            }
+        }
+        Some(graph)
+    }
+
+    /// A graph of up to twelve blocks.
+    pub fn any(alloc: Global, random: &mut Random) -> Option<Graph> {
+        let mut graph = Graph::tree(alloc, random)?;
+        for block in 0..graph.blocks.len() {
+            if graph.blocks.get(block)?.succs.is_empty() && !random.once_in(6) {
+                graph.close(random, block)?;
+            }
+        }
+        Some(graph)
+    }
+
+    /// Whether a branch of the block may have operands: it leads to blocks that are entered in one way.
+    pub fn may_use(&self, block: usize) -> Option<bool> {
+        for succ in &self.blocks.get(block)?.succs {
+            if self.nodes.get(succ.index())?.is_join {
+                return Some(false);
+            }
+        }
+        Some(true)
+    }
+}

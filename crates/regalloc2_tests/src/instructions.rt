@@ -1,0 +1,180 @@
+//! An instruction at random that fits: there are registers enough for its operands and clobbers.
+
+ghost use Rattle.std.specs.Prelude.{◌≡◌};
+ghost use Rattle.regalloc2_names.specs.Packing.{IsConstraintOf};
+
+use super::random::{FIRST_SLOT, Random, preg};
+use regalloc2::{
+    Operand, OperandConstraint, OperandKind, OperandPos, PReg, PRegSet, RegClass, VReg,
+};
+use regalloc2_plain::table::TableInst;
+use std::alloc::Global;
+
+/// A register of the class, which not every machine has, or a fixed stack slot.
+fn any_register(random: &mut Random, class: RegClass) -> PReg
+    ensures { result.class ≡ class }
+{
+    let number = random.below(8);
+    preg(
+        if number < 6 {
+            number
+        } else {
+            FIRST_SLOT + (number - 6)
+        },
+        class,
+    )
+}
+
+/// An instruction that is being made.
+#[derive(Drop)]
+pub struct Draft {
+    pub operands: Vec<Operand>,
+    /// The registers and fixed stack slots of the machine.
+    usable: PRegSet,
+    /// How many registers of each class the instruction may still ask for.
+    left: [usize; 3],
+    /// Registers of fixed operands at the early position.
+    early: PRegSet,
+    /// Registers of fixed operands at the late position, and clobbers.
+    late: PRegSet,
+    /// Which operands are reused.
+    reused: Vec<usize>,
+}
+
+impl Draft {
+    /// No operand yet.
+    pub fn new(alloc: Global, usable: PRegSet, left: [usize; 3]) -> Draft {
+        Draft {
+            operands: Vec::new(alloc),
+            usable,
+            left,
+            early: PRegSet::empty(),
+            late: PRegSet::empty(),
+            reused: Vec::new(alloc),
+        }
+    }
+
+    /// Whether a register of the class was left, which is taken.
+    fn takes_one(&mut self, class: RegClass) -> bool {
+        let at = class as usize;
+        let has_one = self.left[at] > 0;
+        self.left[at] = self.left[at].saturating_sub(1);
+        has_one
+    }
+
+    /// Whether the machine has a register that was free at these positions, at which it is taken.
+    fn takes(&mut self, fixed: PReg, is_early: bool, is_late: bool) -> bool {
+        let (has_early, has_late) = (self.early.contains(fixed), self.late.contains(fixed));
+        if is_early && has_early || is_late && has_late || !self.usable.contains(fixed) {
+            return false;
+        }
+        let is_new = !has_early && !has_late && fixed.hw_enc() < FIRST_SLOT;
+        if is_new && !self.takes_one(fixed.class()) {
+            return false;
+        }
+        if is_early {
+            self.early.add(fixed);
+        }
+        if is_late {
+            self.late.add(fixed);
+        }
+        true
+    }
+
+    /// A constraint of an operand of the class that is held at these positions.
+    fn constraint(
+        &mut self,
+        random: &mut Random,
+        class: RegClass,
+        is_early: bool,
+        is_late: bool,
+    ) -> OperandConstraint
+        ensures { IsConstraintOf class result }
+    {
+        match random.below(8) {
+            0 | 1 => OperandConstraint::Any,
+            2 => OperandConstraint::Stack,
+            3 | 4 => {
+                let fixed = any_register(random, class);
+                if self.takes(fixed, is_early, is_late) {
+                    OperandConstraint::FixedReg(fixed)
+                } else {
+                    OperandConstraint::Any
+                }
+            }
+            _ => {
+                if self.takes_one(class) {
+                    OperandConstraint::Reg
+                } else {
+                    OperandConstraint::Any
+                }
+            }
+        }
+    }
+
+    /// Adds an operand: an early use or a late definition, most often.
+    pub fn add(&mut self, random: &mut Random, vreg: VReg, kind: OperandKind) -> Option<()> {
+        let is_use = kind == OperandKind::Use;
+        let pos = if is_use != random.once_in(3) {
+            OperandPos::Early
+        } else {
+            OperandPos::Late
+        };
+        let is_early = is_use || pos == OperandPos::Early;
+        let is_late = !is_use || pos == OperandPos::Late;
+        let constraint = self.constraint(random, vreg.class(), is_early, is_late);
+        self.operands
+            .push(Operand::new(vreg, constraint, kind, pos))
+            .ok()
+    }
+
+    /// The position and class of an early use that may be reused, and now is.
+    pub fn reused(&mut self, random: &mut Random) -> Option<(usize, RegClass)> {
+        let index = random.below(32);
+        let operand = *self.operands.get(index)?;
+        let is_early_use = operand.kind() == OperandKind::Use && operand.pos() == OperandPos::Early;
+        if !is_early_use || operand.as_fixed_nonallocatable().is_some() {
+            return None;
+        }
+        match operand.constraint() {
+            OperandConstraint::Reg => {}
+            OperandConstraint::FixedReg(fixed) if fixed.hw_enc() < FIRST_SLOT => {
+                if !self.takes(fixed, false, true) {
+                    return None;
+                }
+            }
+            _ => return None,
+        }
+        if self.reused.contains(&index) {
+            return None;
+        }
+        self.reused.push(index).ok()?;
+        Some((index, operand.class()))
+    }
+
+    /// The instruction, with clobbers that are free at the late position.
+    pub fn finish(mut self, random: &mut Random, is_branch: bool, is_ret: bool) -> TableInst {
+        let mut clobbers = PRegSet::empty();
+        for _ in 0..random.below(4) {
+            let class = random.class();
+            let clobber = any_register(random, class);
+            if self.takes(clobber, false, true) {
+                clobbers.add(clobber);
+            }
+        }
+        let Draft {
+            operands,
+            usable: _,
+            left: _,
+            early: _,
+            late: _,
+            reused: _,
+        } = self;
+        TableInst {
+            operands,
+            clobbers,
+            is_branch,
+            is_ret,
+        }
+    }
+}

@@ -1,0 +1,86 @@
+//! `regalloc2_tests`: calls the allocator and the checker as no case file can, and prints what they answer. The file `stdout` says
+//! what must come.
+//!
+//! Functions at random, from fixed seeds, have up to twelve blocks, operands of every kind but `Limit`, and registers enough for
+//! each of their instructions; on no path is a value read before it is written.
+#![tactic(auto)]
+
+mod adversary;
+mod calls;
+mod functions;
+mod graph;
+mod instructions;
+mod judge;
+mod large;
+mod maker;
+mod memory;
+mod random;
+mod rows;
+
+use maker::Maker;
+use memory::{Call, Given};
+use std::alloc::Global;
+use std::fmt::Debug;
+use std::io::{self, Write};
+
+/// Writes what a call answers.
+fn show<W: Write, T: Debug + Drop>(out: &mut W, name: &str, value: T) -> io::Result<()> {
+    writeln!(out, "{name}: {value:?}")
+}
+
+/// Whether the function of a seed is allocated and judged as it should be.
+fn is_right(alloc: Global, seed: u64) -> Option<bool> {
+    let mut maker = Maker::new(alloc, seed)?;
+    let f = maker.function(alloc)?;
+    judge::is_right(alloc, &f, &maker.env, &mut maker.random)
+}
+
+/// How many of so many functions at random fail.
+fn failures(alloc: Global, count: u64) -> u64 {
+    let mut failed = 0u64;
+    for seed in 0..count {
+        if is_right(alloc, seed) != Some(true) {
+            failed = failed.wrapping_add(1);
+        }
+    }
+    failed
+}
+
+/// Whether each growth of a call, refused, is told as such, of the functions of a few seeds.
+fn is_each_told(alloc: Global, call: Call) -> Option<bool> {
+    for seed in 0..8 {
+        let mut maker = Maker::new(alloc, seed)?;
+        let f = maker.function(alloc)?;
+        let out = calls::run_fitting(alloc, &f, &maker.env)?.ok()?;
+        let given = Given {
+            f: &f,
+            env: &maker.env,
+            out: &out,
+        };
+        if !given.is_each_told(alloc, call) {
+            return Some(false);
+        }
+    }
+    Some(true)
+}
+
+fn main(rt: HostRuntime) -> io::Result<()> {
+    let alloc = rt.alloc();
+    let out = &mut rt.stdout();
+    show(out, "the loop reads", rows::reads_of_a_loop(alloc))?;
+    show(out, "the fork reads", rows::reads_of_a_fork(alloc))?;
+    show(out, "slots and refusals", rows::slots_and_refusals(alloc))?;
+    show(out, "verdicts", rows::verdicts(alloc))?;
+    show(out, "2^32 - 2^15 operands", adversary::lend(alloc, 131_071))?;
+    show(out, "2^32 operands", adversary::lend(alloc, 131_072))?;
+    show(out, "failures of 3000 functions", failures(alloc, 3000))?;
+    show(out, "large functions", large::are_allocated(alloc))?;
+    for call in [Call::Run, Call::RunWithCtx, Call::Check] {
+        writeln!(
+            out,
+            "each growth of {call:?} is told: {:?}",
+            is_each_told(alloc, call)
+        )?;
+    }
+    Ok(())
+}

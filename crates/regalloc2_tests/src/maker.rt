@@ -1,0 +1,243 @@
+//! Functions at random: well-formed, each instruction fits, and each use comes after the definition on every path.
+
+ghost use Rattle.std.specs.Prelude.{◌≡◌, ◌<◌};
+
+use super::graph::Graph;
+use super::instructions::Draft;
+use super::random::{CLASSES, Random, any_machine, preg};
+use regalloc2::{Inst, InstRange, MachineEnv, Operand, OperandKind, PRegSet, RegClass, VReg};
+use regalloc2_plain::build::op;
+use regalloc2_plain::table::{SlotUnits, TableFunction, TableInst};
+use std::alloc::Global;
+
+/// A function that is being made, and its machine.
+#[derive(Drop)]
+pub struct Maker {
+    pub random: Random,
+    pub env: MachineEnv,
+    /// The registers and fixed stack slots of the machine.
+    usable: PRegSet,
+    /// How many registers of each class an instruction may ask for.
+    most: [usize; 3],
+    /// How many virtual registers are named.
+    named: usize,
+    /// Those that may be read.
+    known: Vec<VReg>,
+}
+
+impl Maker {
+    /// A machine, and no instruction yet.
+    pub fn new(alloc: Global, seed: u64) -> Option<Maker> {
+        let mut random = Random::new(seed);
+        let (env, most) = any_machine(alloc, &mut random)?;
+        let mut usable = PRegSet::from(&env);
+        for slot in &env.fixed_stack_slots {
+            usable.add(*slot);
+        }
+        let known = Vec::new(alloc);
+        Some(Maker {
+            random,
+            env,
+            usable,
+            most,
+            named: 0,
+            known,
+        })
+    }
+
+    /// A number above that of each virtual register.
+    fn num_vregs(&self) -> usize
+        ensures { result < 1000000 }
+    {
+        self.named % 1_000_000
+    }
+
+    /// A virtual register of the class that wasn't named yet.
+    fn fresh(&mut self, class: RegClass) -> VReg
+        ensures { result.class ≡ class }
+    {
+        let vreg = VReg::new(self.num_vregs(), class);
+        self.named = self.named.wrapping_add(1);
+        vreg
+    }
+
+    /// Adds a use of one of the first virtual registers that may be read.
+    fn add_use(&mut self, draft: &mut Draft, defined: usize) -> Option<()> {
+        if defined == 0 {
+            return Some(());
+        }
+        let vreg = *self.known.get(self.random.below(defined))?;
+        draft.add(&mut self.random, vreg, OperandKind::Use)
+    }
+
+    /// Adds a definition of a virtual register that wasn't named yet.
+    fn add_def(&mut self, draft: &mut Draft) -> Option<()> {
+        let class = self.random.class();
+        let vreg = self.fresh(class);
+        self.known.push(vreg).ok()?;
+        draft.add(&mut self.random, vreg, OperandKind::Def)
+    }
+
+    /// Adds a definition that reuses one of the operands, if one may be reused.
+    fn add_reuse(&mut self, draft: &mut Draft) -> Option<()> {
+        let Some((index, class)) = draft.reused(&mut self.random) else {
+            return Some(());
+        };
+        let vreg = self.fresh(class);
+        self.known.push(vreg).ok()?;
+        let operand = Operand::reg_reuse_def(vreg, index % 32);
+        draft.operands.push(operand).ok()
+    }
+
+    /// An instruction of fewer than so many operands.
+    fn inst(&mut self, alloc: Global, below: usize, is_ret: bool) -> Option<TableInst>
+        requires { 0 < below }
+    {
+        let defined = self.known.len();
+        let mut draft = Draft::new(alloc, self.usable, self.most);
+        for _ in 0..self.random.below(below) {
+            match self.random.below(9) {
+                0 | 1 | 2 => self.add_def(&mut draft)?,
+                3 | 4 => self.add_reuse(&mut draft)?,
+                5 => {
+                    let fixed = preg(60, self.random.class());
+                    let operand = Operand::fixed_nonallocatable(fixed);
+                    draft.operands.push(operand).ok()?
+                }
+                _ => self.add_use(&mut draft, defined)?,
+            }
+        }
+        Some(draft.finish(&mut self.random, false, is_ret))
+    }
+
+    /// A branch, which has up to two uses if it may have any.
+    fn branch(&mut self, alloc: Global, may_use: bool) -> Option<TableInst> {
+        let defined = self.known.len();
+        let mut draft = Draft::new(alloc, self.usable, self.most);
+        for _ in 0..self.random.below(if may_use { 3 } else { 1 }) {
+            self.add_use(&mut draft, defined)?;
+        }
+        Some(draft.finish(&mut self.random, true, false))
+    }
+
+    /// Definitions of the first virtual register of each class.
+    fn bases(&mut self, alloc: Global) -> Option<TableInst> {
+        let mut operands = Vec::new(alloc);
+        for class in CLASSES {
+            let vreg = self.fresh(class);
+            self.known.push(vreg).ok()?;
+            operands.push(Operand::any_def(vreg)).ok()?;
+        }
+        op(alloc, operands.as_slice()).ok()
+    }
+
+    /// Names up to three parameters of each block but the entry.
+    fn name_parameters(&mut self, graph: &mut Graph) -> Option<()> {
+        for number in 3..3 * graph.blocks.len().min(100) {
+            if self.random.once_in(2) {
+                let class = self.random.class();
+                let param = self.fresh(class);
+                graph.blocks.get_mut(number / 3)?.params.push(param).ok()?;
+            }
+        }
+        Some(())
+    }
+
+    /// An argument of a class: a virtual register that may be read.
+    fn argument(&mut self, class: RegClass) -> Option<VReg> {
+        for _ in 0..12 {
+            let vreg = *self.known.get(self.random.below(self.known.len().max(1)))?;
+            if vreg.class() == class {
+                return Some(vreg);
+            }
+        }
+        Some(VReg::new(class as usize, class))
+    }
+
+    /// The arguments for a block.
+    fn arguments(&mut self, alloc: Global, graph: &Graph, to: usize) -> Option<Vec<VReg>> {
+        let mut arguments = Vec::new(alloc);
+        for param in &graph.blocks.get(to)?.params {
+            arguments.push(self.argument(param.class())?).ok()?;
+        }
+        Some(arguments)
+    }
+
+    /// Passes arguments to the successors of a block.
+    fn pass(&mut self, alloc: Global, graph: &mut Graph, block: usize) -> Option<()> {
+        let succs = graph.blocks.get(block)?.succs.to_vec(alloc).ok()?;
+        for succ in &succs {
+            let arguments = self.arguments(alloc, graph, succ.index())?;
+            graph.blocks.get_mut(block)?.arguments.push(arguments).ok()?;
+        }
+        Some(())
+    }
+
+    /// What may be read at the beginning of a block but the entry: what may behind the one above it, and its parameters.
+    fn enter(&mut self, alloc: Global, graph: &Graph, block: usize) -> Option<()> {
+        let above = graph.nodes.get(block)?.above;
+        self.known = graph.nodes.get(above)?.known.to_vec(alloc).ok()?;
+        let params = &graph.blocks.get(block)?.params;
+        self.known.extend_from_slice(params).ok()
+    }
+
+    /// The last instruction of a block: a return where no other block comes next, most often.
+    fn ending(&mut self, alloc: Global, graph: &Graph, block: usize) -> Option<TableInst> {
+        if graph.blocks.get(block)?.succs.is_empty() && !self.random.once_in(20) {
+            self.inst(alloc, 5, true)
+        } else {
+            self.branch(alloc, graph.may_use(block)?)
+        }
+    }
+
+    /// Fills a block, which begins at an instruction. A function of one block has longer instructions.
+    fn fill(
+        &mut self,
+        alloc: Global,
+        graph: &mut Graph,
+        block: usize,
+        insts: &mut Vec<TableInst>,
+        start: usize,
+    ) -> Option<()> {
+        let (count, below) = if graph.blocks.len() == 1 {
+            (9, 7)
+        } else {
+            (4, 5)
+        };
+        for _ in 0..self.random.below(count) {
+            insts.push(self.inst(alloc, below, false)?).ok()?;
+        }
+        insts.push(self.ending(alloc, graph, block)?).ok()?;
+        let end = insts.len();
+        if start > end || end >= 1000 {
+            return None;
+        }
+        let range = InstRange::new(Inst::new(start), Inst::new(end));
+        graph.blocks.get_mut(block)?.range = range;
+        graph.nodes.get_mut(block)?.known = self.known.to_vec(alloc).ok()?;
+        self.pass(alloc, graph, block)
+    }
+
+    /// A function of up to twelve blocks.
+    pub fn function(&mut self, alloc: Global) -> Option<TableFunction> {
+        let mut graph = Graph::any(alloc, &mut self.random)?;
+        let mut insts = Vec::new(alloc);
+        insts.push(self.bases(alloc)?).ok()?;
+        self.name_parameters(&mut graph)?;
+        for block in 0..graph.blocks.len() {
+            let start = if block == 0 { 0 } else { insts.len() };
+            if block > 0 {
+                self.enter(alloc, &graph, block)?;
+            }
+            self.fill(alloc, &mut graph, block, &mut insts, start)?;
+        }
+        let Graph { nodes: _, blocks } = graph;
+        if insts.len() >= 1000 || blocks.len() >= 1000 {
+            return None;
+        }
+        let slots = (SlotUnits::one(), SlotUnits::two(), SlotUnits::one());
+        let mut f = TableFunction::of_blocks(self.num_vregs(), slots, blocks, insts);
+        f.named_by_last_slot = self.random.once_in(2);
+        Some(f)
+    }
+}

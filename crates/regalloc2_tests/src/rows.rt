@@ -1,0 +1,146 @@
+//! A loop and a fork, and what calls answer of them that no listing shows.
+
+use super::calls::{Verdict, run_fitting, run_into_ctx_fitting, run_with_ctx_fitting, verdict_of};
+use super::functions::{block, def, function, read, vreg};
+use super::judge::reads;
+use super::random::integer_machine;
+use regalloc2::checker::Checker;
+use regalloc2::{Block, Ctx, Output, RegAllocError, VReg, is_framed};
+use regalloc2_plain::build::{branch, op, ret};
+use regalloc2_plain::logs::Stamp;
+use regalloc2_plain::table::TableFunction;
+use std::alloc::Global;
+
+/// A loop whose two parameters change places on each turn, and then a return that reads both.
+pub fn swapping_loop(alloc: Global) -> Option<TableFunction> {
+    let [v0, v1, v2, v3] = [vreg(0), vreg(1), vreg(2), vreg(3)];
+    let (start, head, body, end) = (Block(0), Block(1), Block(2), Block(3));
+    let mut insts = Vec::new(alloc);
+    insts.push(op(alloc, &[def(0)]).ok()?).ok()?;
+    insts.push(op(alloc, &[def(1)]).ok()?).ok()?;
+    insts.push(branch(alloc, &[]).ok()?).ok()?;
+    insts.push(op(alloc, &[read(2)]).ok()?).ok()?;
+    insts.push(branch(alloc, &[]).ok()?).ok()?;
+    insts.push(branch(alloc, &[]).ok()?).ok()?;
+    insts.push(ret(alloc, &[read(2), read(3)]).ok()?).ok()?;
+    let forth: [(Block, &[VReg]); 1] = [(head, &[v0, v1])];
+    let on: [(Block, &[VReg]); 2] = [(body, &[]), (end, &[])];
+    let back: [(Block, &[VReg]); 1] = [(head, &[v3, v2])];
+    let mut blocks = Vec::new(alloc);
+    blocks.push(block(alloc, (0, 3), &[], &[], &forth)?).ok()?;
+    blocks
+        .push(block(alloc, (3, 5), &[start, body], &[v2, v3], &on)?)
+        .ok()?;
+    blocks
+        .push(block(alloc, (5, 6), &[head], &[], &back)?)
+        .ok()?;
+    blocks.push(block(alloc, (6, 7), &[head], &[], &[])?).ok()?;
+    function(4, blocks, insts)
+}
+
+/// A fork that passes its value on one edge to a parameter, which is read on the other edge too.
+fn fork(alloc: Global) -> Option<TableFunction> {
+    let (start, one, other) = (Block(0), Block(1), Block(2));
+    let (value, param) = ([vreg(0)], [vreg(1)]);
+    let on: [(Block, &[VReg]); 2] = [(one, &value), (other, &[])];
+    let mut insts = Vec::new(alloc);
+    insts.push(op(alloc, &[def(0)]).ok()?).ok()?;
+    insts.push(branch(alloc, &[]).ok()?).ok()?;
+    insts.push(ret(alloc, &[read(1)]).ok()?).ok()?;
+    insts.push(ret(alloc, &[read(1)]).ok()?).ok()?;
+    let mut blocks = Vec::new(alloc);
+    blocks.push(block(alloc, (0, 2), &[], &[], &on)?).ok()?;
+    blocks
+        .push(block(alloc, (2, 3), &[start], &param, &[])?)
+        .ok()?;
+    blocks.push(block(alloc, (3, 4), &[start], &[], &[])?).ok()?;
+    function(4, blocks, insts)
+}
+
+/// What is allocated to a function on ten registers.
+pub fn allocated(alloc: Global, f: &TableFunction) -> Option<Output> {
+    run_fitting(alloc, f, &integer_machine(alloc, 10))?.ok()
+}
+
+/// What the first use at the end of a path reads, in the function and in what it is given: the step that wrote it.
+fn first_read(
+    alloc: Global,
+    f: &TableFunction,
+    out: &Output,
+    ways: &[Option<usize>],
+) -> Option<(Option<usize>, Option<usize>)> {
+    let found = reads(alloc, f, out, ways)?;
+    let step = |stamp: &Option<Stamp>| stamp.map(|write| write.step);
+    Some((step(found.source.get(0)?), step(found.allocated.get(0)?)))
+}
+
+/// What the head of the loop reads on its first three turns, and on the second turn where one of the slots is copied before the
+/// other one is read.
+pub fn reads_of_a_loop(alloc: Global) -> Option<[(Option<usize>, Option<usize>); 4]> {
+    let f = swapping_loop(alloc)?;
+    let mut out = allocated(alloc, &f)?;
+    let (on, back) = (None, Some(0));
+    let first = first_read(alloc, &f, &out, &[back, on, on])?;
+    let second = first_read(alloc, &f, &out, &[back, back, on, back, on, on])?;
+    let third = [back, back, on, back, back, on, back, on, on];
+    let third = first_read(alloc, &f, &out, &third)?;
+    if out.edits.len() != 13 {
+        return None;
+    }
+    let kept = out.edits.remove(7);
+    out.edits.insert(9, kept).ok()?;
+    let wrong = first_read(alloc, &f, &out, &[back, back, on, back, on, on])?;
+    Some([first, second, third, wrong])
+}
+
+/// What is read of the fork's parameter on either edge, of which only the first one passes it.
+pub fn reads_of_a_fork(alloc: Global) -> Option<[(Option<usize>, Option<usize>); 2]> {
+    let f = fork(alloc)?;
+    let out = allocated(alloc, &f)?;
+    let passed = first_read(alloc, &f, &out, &[Some(0), None])?;
+    Some([passed, first_read(alloc, &f, &out, &[Some(1), None])?])
+}
+
+/// The slots that each call gives the loop. Then how it is refused where it has too few registers, where it goes on to no block, and
+/// where it starts at none; whether it is framed in the last two cases; and the slots in the context, which held an output before.
+pub fn slots_and_refusals(
+    alloc: Global,
+) -> Option<([usize; 3], [Option<RegAllocError>; 3], [bool; 2], usize)> {
+    let mut f = swapping_loop(alloc)?;
+    let (env, few) = (integer_machine(alloc, 10), integer_machine(alloc, 1));
+    let mut ctx = Ctx::new(alloc);
+    run_into_ctx_fitting(&f, &env, &mut ctx)?.ok()?;
+    let kept = ctx.output.num_spillslots;
+    let lent = run_with_ctx_fitting(&f, &env, &mut ctx)?.ok()?;
+    let slots = [allocated(alloc, &f)?.num_spillslots, kept, lent];
+    let lacks = run_into_ctx_fitting(&f, &few, &mut ctx)?.err();
+    *f.blocks.get_mut(2)?.succs.get_mut(0)? = Block(8);
+    let leads_nowhere = run_into_ctx_fitting(&f, &env, &mut ctx)?.err();
+    let is_framed_so = is_framed(&f);
+    f.entry = Block(9);
+    let starts_nowhere = run_into_ctx_fitting(&f, &env, &mut ctx)?.err();
+    let answers = [lacks, leads_nowhere, starts_nowhere];
+    let framed = [is_framed_so, is_framed(&f)];
+    Some((slots, answers, framed, ctx.output.num_spillslots))
+}
+
+/// What a checker says that has no output; that was given one which isn't in order, after a right one; and that was given the right
+/// one last.
+pub fn verdicts(alloc: Global) -> Option<[Result<(), Verdict>; 3]> {
+    let f = swapping_loop(alloc)?;
+    let (out, mut bad) = (allocated(alloc, &f)?, allocated(alloc, &f)?);
+    let env = integer_machine(alloc, 10);
+    bad.inst_alloc_offsets.clear();
+    if !is_framed(&f) {
+        return None;
+    }
+    let mut given_both = Checker::new(alloc, &f, &env).ok()?;
+    given_both.prepare(&out).ok()?;
+    given_both.prepare(&bad).err()?;
+    let mut given_right = Checker::new(alloc, &f, &env).ok()?;
+    given_right.prepare(&bad).err()?;
+    given_right.prepare(&out).ok()?;
+    let unprepared = Checker::new(alloc, &f, &env).ok()?;
+    let answers = [unprepared.run(), given_both.run(), given_right.run()];
+    Some(answers.map(|answer| verdict_of(answer)))
+}

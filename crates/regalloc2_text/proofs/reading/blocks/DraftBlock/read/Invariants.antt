@@ -1,0 +1,5 @@
+use Rattle.regalloc2_text.specs.Cursor.{tokens_left}
+use Rattle.regalloc2_text.proofs.reading.blocks.DraftBlock.read.Given as goal
+
+abbrev pub decreases-parts : goal.decreases-parts
+decreases-parts g l = tokens_left l.cursor

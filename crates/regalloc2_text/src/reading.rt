@@ -1,0 +1,117 @@
+//! A function, its machine and an output from a text.
+
+ghost use Rattle.std.specs.Prelude.{ℕ, ◌+◌, ◌<◌, ◌≤◌, length, IfErr, IfSome};
+ghost use Rattle.regalloc2_text.specs.Lines.{IsOnLineBetween};
+
+mod blocks;
+mod draft;
+mod function;
+mod insts;
+mod machine;
+mod output;
+mod settings;
+mod stored;
+
+use super::TextError;
+use super::error::{Expected, Flaw, Found};
+use super::token::{Token, tokenize};
+use draft::{Draft, LineEffect, is_numbered};
+use regalloc2_function::StoredOutput;
+use regalloc2_stored::StoredFunction;
+use std::alloc::{Allocator, Global};
+
+/// A function with its machine, and an output where the text has one.
+#[derive(Debug, Drop)]
+pub struct Text<A: Allocator = Global> {
+    /// The function and its machine.
+    pub function: StoredFunction<A>,
+    /// What an allocation put out for it.
+    pub output: Option<StoredOutput<A>>,
+}
+
+/// The first line of a text, and what follows its line feed, where it has one.
+fn split_line(text: &str) -> (&str, Option<&str>)
+    ensures { IfSome result.1 (λ after. length after.now < length text.now) }
+{
+    match text.split_once('\n') {
+        Some((line, after)) => (line, Some(after)),
+        None => (text, None),
+    }
+}
+
+/// Whether a line of those tokens is that of a block.
+fn begins_block(tokens: &[Token<'_>]) -> bool {
+    match tokens.first() {
+        Some(token) => is_numbered(token.text, "block"),
+        None => false,
+    }
+}
+
+/// The line of the last move without a point after a line of that effect, where it was `before` up to there.
+fn last_move(effect: LineEffect, line: usize, before: usize) -> usize
+    ensures low { before ≤ line → before ≤ result }
+    ensures high { before ≤ line → result ≤ line }
+{
+    if effect == LineEffect::Waits {
+        line
+    } else {
+        before
+    }
+}
+
+/// No instruction of its block follows the move on that line.
+fn no_inst_after<'t>(line: usize) -> TextError<'t>
+    ensures { (first : ℕ) → (last : ℕ) → first ≤ line → line ≤ last → IsOnLineBetween first last result }
+{
+    let expected = Expected::Words(
+        "an instruction of the block after this move (or `at` and a point)",
+    );
+    Flaw::new(1, expected, Found::Nothing).on_line(line)
+}
+
+/// What a text says, whose first line has the number `first_line`.
+///
+/// The first line that can't be read is named in the error, or `Memory` is answered where a growth was refused.
+/// A fault stands on a line of the text and names a column from 1 on; the contract bounds its line by the text's length
+/// in bytes. Whether the function and the output are well formed is not looked at, nor does the contract say what is read.
+pub fn read<'t, A: Allocator + Copy>(
+    alloc: A,
+    text: &'t str,
+    first_line: usize,
+) -> Result<Text<A>, TextError<'t>>
+    ensures { IfErr result (λ e. IsOnLineBetween first_line (first_line + length text.now) e) }
+{
+    let mut draft = Draft::new(alloc);
+    let mut tokens = Vec::new(alloc);
+    let mut rest = text;
+    let mut line = first_line;
+    // Whether an instruction is to follow the move on the line `move_line`.
+    let mut waits = false;
+    let mut move_line = first_line;
+    'lines: loop {
+        let (content, after) = split_line(rest);
+        if let Err(flaw) = tokenize(content, &mut tokens) {
+            return Err(flaw.on_line(line));
+        }
+        if waits && begins_block(tokens.as_slice()) {
+            return Err(no_inst_after(move_line));
+        }
+        let effect = match draft.read_line(alloc, tokens.as_slice()) {
+            Ok(effect) => effect,
+            Err(flaw) => return Err(flaw.on_line(line)),
+        };
+        move_line = last_move(effect, line, move_line);
+        waits = effect == LineEffect::Waits || (waits && effect == LineEffect::Nothing);
+        let Some(after) = after else { break };
+        rest = after;
+        line = line.saturating_add(1);
+    }
+    if waits {
+        return Err(no_inst_after(move_line));
+    }
+    let text = match draft.finish(alloc) {
+        Ok(text) => text,
+        Err(flaw) => return Err(flaw.on_line(line)),
+    };
+    Ok(text)
+}

@@ -1,0 +1,131 @@
+//! What the lines of a text say, and the function and the output that they make.
+
+use super::Text;
+use super::function::DraftFunction;
+use super::insts::opcode_named;
+use super::output::DraftOutput;
+use super::stored::StoredLists;
+use crate::cursor::Cursor;
+use crate::error::{Expected, Flaw};
+use crate::token::Token;
+use std::alloc::Allocator;
+
+/// What a line leaves to the lines after it.
+#[derive(Clone, Copy, Debug, PartialEq, Eq)]
+pub(super) enum LineEffect {
+    /// A move without a point, which an instruction is to follow.
+    Waits,
+    /// An instruction.
+    Inst,
+    /// Nothing.
+    Nothing,
+}
+
+/// What the lines so far say.
+#[derive(Drop)]
+pub(super) struct Draft<A: Allocator> {
+    function: DraftFunction<A>,
+    output: DraftOutput<A>,
+    lists: StoredLists<A>,
+}
+
+/// Whether a word is made of `name` and digits.
+pub(super) fn is_numbered(word: &str, name: &str) -> bool {
+    match word.strip_prefix(name) {
+        Some(digits) => !digits.is_empty() && digits.bytes().all(|byte| byte.is_ascii_digit()),
+        None => false,
+    }
+}
+
+impl<A: Allocator + Copy> Draft<A> {
+    /// Nothing is said.
+    pub(super) fn new(alloc: A) -> Self {
+        Draft {
+            function: DraftFunction::new(alloc),
+            output: DraftOutput::new(alloc),
+            lists: StoredLists::new(),
+        }
+    }
+
+    /// Reads a line of those tokens.
+    pub(super) fn read_line<'t>(
+        &mut self,
+        alloc: A,
+        tokens: &[Token<'t>],
+    ) -> Result<LineEffect, Flaw<'t>> {
+        let Some(first) = tokens.first() else {
+            return Ok(LineEffect::Nothing);
+        };
+        let mut cursor = Cursor::new(tokens, self.function.num_vregs);
+        let effect = self.read_kind(alloc, first.text, &mut cursor)?;
+        cursor.done()?;
+        self.function.num_vregs = cursor.num_vregs();
+        Ok(effect)
+    }
+
+    /// Reads a line whose first word is `word`.
+    fn read_kind<'t>(
+        &mut self,
+        alloc: A,
+        word: &str,
+        cursor: &mut Cursor<'_, 't>,
+    ) -> Result<LineEffect, Flaw<'t>> {
+        if is_numbered(word, "block") {
+            self.function.read_block(alloc, cursor)?;
+            return Ok(LineEffect::Nothing);
+        }
+        if is_numbered(word, "inst") || opcode_named(word).is_some() {
+            self.function.read_inst(alloc, cursor, &mut self.output)?;
+            return Ok(LineEffect::Inst);
+        }
+        cursor.advance();
+        if word == "move" {
+            let next = self.function.next_inst(cursor)?;
+            let waits = self.output.read_move(cursor, next)?;
+            return Ok(if waits {
+                LineEffect::Waits
+            } else {
+                LineEffect::Nothing
+            });
+        }
+        self.read_other(alloc, word, cursor)?;
+        Ok(LineEffect::Nothing)
+    }
+
+    /// Reads what follows the first word of a line that is no block's, instruction's or move's.
+    fn read_other<'t>(
+        &mut self,
+        alloc: A,
+        word: &str,
+        cursor: &mut Cursor<'_, 't>,
+    ) -> Result<(), Flaw<'t>> {
+        match word {
+            "regs" => self.function.machine.read_preferred(alloc, cursor),
+            "others" => self.function.machine.read_others(alloc, cursor),
+            "scratch" => self.function.machine.read_scratch(alloc, cursor),
+            "stack" => self.function.machine.read_stack(alloc, cursor),
+            "entry" => self.function.settings.read_entry(cursor),
+            "vregs" => self.function.settings.read_num_vregs(cursor),
+            "sizes" => self.function.settings.read_sizes(cursor),
+            "flags" => self.function.settings.read_flags(cursor),
+            "label" => self.function.read_label(cursor),
+            "slots" => self.output.read_slots(cursor),
+            "debug" => self.output.read_debug(cursor),
+            "stored" => self.lists.read(alloc, cursor),
+            _ => Err(cursor.fault_before(Expected::LineBeginning(None))),
+        }
+    }
+
+    /// What the lines of the whole text say.
+    pub(super) fn finish<'t>(self, alloc: A) -> Result<Text<A>, Flaw<'t>> {
+        let Draft {
+            function,
+            output,
+            lists,
+        } = self;
+        let mut function = function.finish(alloc)?;
+        let (allocs, offsets) = lists.replace(&mut function);
+        let output = output.finish(allocs, offsets)?;
+        Ok(Text { function, output })
+    }
+}

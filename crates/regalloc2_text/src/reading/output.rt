@@ -1,0 +1,126 @@
+//! The places, moves, slots and debug locations of an output.
+
+ghost use Rattle.std.specs.Prelude.{◌≡◌, ◌≤◌};
+ghost use Rattle.regalloc2_text.specs.Cursor.{tokens_left};
+
+use super::settings::first_of_kind;
+use crate::cursor::Cursor;
+use crate::error::{Expected, Flaw, Found};
+use regalloc2_function::StoredOutput;
+use std::alloc::Allocator;
+
+/// What is said where numbers of 32 bits don't count that much.
+pub(super) const TOO_MANY: &str = "fewer instructions and places";
+
+/// What the lines so far say of an output.
+#[derive(Drop)]
+pub(super) struct DraftOutput<A: Allocator> {
+    /// Whether a line says something of it.
+    is_named: bool,
+    num_spillslots: Option<u64>,
+    edits: Vec<(u32, u32, u32), A>,
+    allocs: Vec<u32, A>,
+    inst_alloc_offsets: Vec<u32, A>,
+    debug_locations: Vec<(u32, u32, u32, u32), A>,
+}
+
+impl<A: Allocator + Copy> DraftOutput<A> {
+    /// Nothing is said.
+    pub(super) fn new(alloc: A) -> Self {
+        DraftOutput {
+            is_named: false,
+            num_spillslots: None,
+            edits: Vec::new(alloc),
+            allocs: Vec::new(alloc),
+            inst_alloc_offsets: Vec::new(alloc),
+            debug_locations: Vec::new(alloc),
+        }
+    }
+
+    /// Adds the places of the next instruction, after all of its line is read.
+    pub(super) fn add_places<'t>(
+        &mut self,
+        places: &[u32],
+        cursor: &Cursor<'_, 't>,
+    ) -> Result<(), Flaw<'t>> {
+        let Ok(offset) = u32::try_from(self.allocs.len()) else {
+            return Err(cursor.misfit(TOO_MANY));
+        };
+        if !places.is_empty() {
+            self.is_named = true;
+        }
+        self.inst_alloc_offsets.push(offset)?;
+        self.allocs.extend_from_slice(places)?;
+        Ok(())
+    }
+
+    /// Reads what follows `move`, before the instruction of number `next`. Answers whether it says no point.
+    pub(super) fn read_move<'t>(
+        &mut self,
+        cursor: &mut Cursor<'_, 't>,
+        next: u32,
+    ) -> Result<bool, Flaw<'t>> {
+        self.is_named = true;
+        let from = cursor.place_bits()?;
+        cursor.want("->")?;
+        let to = cursor.place_bits()?;
+        if cursor.has("at") {
+            let point = cursor.point_bits()?;
+            self.edits.push((point, from, to))?;
+            return Ok(false);
+        }
+        let Some(point) = next.checked_mul(2) else {
+            return Err(cursor.misfit(TOO_MANY));
+        };
+        self.edits.push((point, from, to))?;
+        Ok(true)
+    }
+
+    /// Reads what follows `slots`.
+    pub(super) fn read_slots<'t>(&mut self, cursor: &mut Cursor<'_, 't>) -> Result<(), Flaw<'t>> {
+        first_of_kind(cursor, self.num_spillslots.is_some(), "slots")?;
+        self.num_spillslots = Some(cursor.number(u64::MAX)?);
+        Ok(())
+    }
+
+    /// Reads what follows `debug`.
+    pub(super) fn read_debug<'t>(&mut self, cursor: &mut Cursor<'_, 't>) -> Result<(), Flaw<'t>> {
+        self.is_named = true;
+        let label = cursor.word()?;
+        let from = cursor.point_bits()?;
+        let until = cursor.point_bits()?;
+        let place = cursor.place_bits()?;
+        self.debug_locations.push((label, from, until, place))?;
+        Ok(())
+    }
+
+    /// The output, where lines say something of it, with those lists in place of its own.
+    pub(super) fn finish<'t>(
+        self,
+        stored_allocs: Option<Vec<u32, A>>,
+        stored_offsets: Option<Vec<u32, A>>,
+    ) -> Result<Option<StoredOutput<A>>, Flaw<'t>> {
+        let DraftOutput {
+            is_named,
+            num_spillslots,
+            edits,
+            allocs,
+            inst_alloc_offsets,
+            debug_locations,
+        } = self;
+        let Some(num_spillslots) = num_spillslots else {
+            if is_named || stored_allocs.is_some() || stored_offsets.is_some() {
+                let expected = Expected::Words("a line `slots N`, since the text has places");
+                return Err(Flaw::new(1, expected, Found::TextEnd));
+            }
+            return Ok(None);
+        };
+        Ok(Some(StoredOutput {
+            num_spillslots,
+            edits,
+            allocs: stored_allocs.unwrap_or(allocs),
+            inst_alloc_offsets: stored_offsets.unwrap_or(inst_alloc_offsets),
+            debug_locations,
+        }))
+    }
+}

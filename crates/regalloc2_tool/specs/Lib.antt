@@ -1,0 +1,4 @@
+pub mod Framed
+pub mod Refusal
+pub mod Fault
+pub mod Text
