@@ -20,7 +20,7 @@ under-at {Z = Z} f h xs ys i d e less same =
     let long : length xs ≡ length ys = sym (long-map f xs) ∙ ap length same ∙ long-map h ys in
     sym (get_or-map f xs i d (h e) (omega (arith, less, long))) ∙ ap (λ (l : List Z). get_or l i (h e)) same ∙ get_or-map h ys i e (h e) less
 
-same-block : (b : BlockValue) (r : Span) (ss ps : List ℕ) (vs : List VirtualRegister) (args : List (List VirtualRegister)) →
+pub same-block : (b : BlockValue) (r : Span) (ss ps : List ℕ) (vs : List VirtualRegister) (args : List (List VirtualRegister)) →
     r ≡ b.range → ss ≡ b.succs → ps ≡ b.preds → vs ≡ b.params → args ≡ b.arguments →
     b ≡ record { range = r; succs = ss; preds = ps; params = vs; arguments = args }
 same-block b r ss ps vs args hr hs hp hv ha = rw (hr, hs, hp, hv, ha) refl

@@ -1,4 +1,5 @@
 pub mod Lists
+pub mod Given
 pub mod Indexes
 pub mod Shown
 pub mod Blocks

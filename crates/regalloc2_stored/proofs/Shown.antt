@@ -1,12 +1,16 @@
--- What lists of numbers show is the lists themselves.
+-- What is read from JSON: lists of numbers are shown as themselves, and a missing member refuses the whole.
 use Rattle.std.proofs.Common.{◌≡◌, ◌∙◌, ℕ, List, [], ◌∷◌, map, ap, refl, Option, None, Some}
 use Rattle.std.specs.Option.{option_map}
-use Rattle.std.specs.Prelude.{codes, IsSome}
+use Rattle.std.specs.Prelude.{◌⊎◌, codes, IsSome, Result, IfOk, IfErr, IsErrAnd}
 use Rattle.std.proofs.lemmas.List.{map-id}
+use Rattle.std.proofs.lemmas.Result.{err_from_is_err_and}
 use Rattle.std.proofs.lemmas.Iterator.Adapters.{option_map_id}
 use Rattle.serde_json.specs.Data.{Data}
+use Rattle.regalloc2_function.specs.declared.serialize.StoredFault.{StoredFault}
+use Rattle.regalloc2_function.specs.declared.serialize.StoredFault.TheVariants.{Memory, Shape}
 use Rattle.regalloc2_stored.specs.Reading.{byte, or_null, list, member}
-use Rattle.regalloc2_stored.specs.Value.{machine}
+use Rattle.regalloc2_stored.specs.Value.{machine, HasShape, IsFunctionAt}
+use Rattle.regalloc2_stored.specs.declared.data.StoredFunction.{StoredFunction}
 
 pub map-same : {X Y : Type 0} (f g : X → Y) → ((x : X) → f x ≡ g x) → (xs : List X) → map f xs ≡ map g xs
 map-same f g same [] = refl
@@ -52,3 +56,14 @@ machine-read items d p n s f hp hn hs hf =
 pub none-some : {X : Type 0} (o : Option X) → o ≡ None → IsSome o → ⊥
 none-some None e h = absurd cc
 none-some (Some x) e h = absurd cc
+
+-- a member that isn't there, or that memory failed, refuses the whole function
+pub not-function : {A X : Type 0} (d : Data) (r : Result (StoredFunction A) StoredFault) (e : StoredFault) (o : Option X) →
+    IsErrAnd r (λ y. y ≡ e) → (HasShape d → IsSome o) → (e ≡ Shape → o ≡ None) → (e ≡ Shape) ⊎ (e ≡ Memory) → record {
+      fields : IfOk r (λ s. IsFunctionAt d s);
+      shape : IfErr r (λ y. y ≡ Shape → HasShape d → ⊥);
+      faults : IfErr r (λ y. (y ≡ Shape) ⊎ (y ≡ Memory));
+    }
+not-function d r e o refused some none which =
+    let p = err_from_is_err_and r refused in
+    rw (p.1, p.2) (record { fields = tt; shape = λ is has. none-some o (none is) (some has); faults = which })

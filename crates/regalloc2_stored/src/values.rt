@@ -115,19 +115,20 @@ impl<A: Allocator + Copy> StoredFunction<A> {
         ensures shape { IfErr result (λ e. e ≡ StoredFault.Shape → HasShape (view value.now) → ⊥) }
         ensures faults { IfErr result (λ e. (e ≡ StoredFault.Shape) ⊎ (e ≡ StoredFault.Memory)) }
     {
-        let machine_env = member_from(alloc, value, "machine_env")?;
+        // Numbers come first and the machine last: each refusal drops what was read before it.
         let entry_block = member_from(alloc, value, "entry_block")?;
-        let insts = member_from(alloc, value, "insts")?;
+        let num_vregs = member_from(alloc, value, "num_vregs")?;
+        let by_last_slot = member_from(alloc, value, "multi_spillslot_named_by_last_slot")?;
+        let multiple_defs = member_from(alloc, value, "allow_multiple_vreg_defs")?;
+        let spillslot_size = member_from(alloc, value, "spillslot_size")?;
+        let debug_value_labels = member_from(alloc, value, "debug_value_labels")?;
         let blocks = member_from(alloc, value, "blocks")?;
         let block_preds = member_from(alloc, value, "block_preds")?;
         let block_succs = member_from(alloc, value, "block_succs")?;
         let block_params_in = member_from(alloc, value, "block_params_in")?;
         let block_params_out = member_from(alloc, value, "block_params_out")?;
-        let num_vregs = member_from(alloc, value, "num_vregs")?;
-        let debug_value_labels = member_from(alloc, value, "debug_value_labels")?;
-        let spillslot_size = member_from(alloc, value, "spillslot_size")?;
-        let by_last_slot = member_from(alloc, value, "multi_spillslot_named_by_last_slot")?;
-        let multiple_defs = member_from(alloc, value, "allow_multiple_vreg_defs")?;
+        let insts = member_from(alloc, value, "insts")?;
+        let machine_env = member_from(alloc, value, "machine_env")?;
         Ok(StoredFunction {
             machine_env,
             entry_block,
