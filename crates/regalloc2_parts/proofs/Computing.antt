@@ -12,8 +12,11 @@ use Rattle.regalloc2_parts.specs.declared.moves.resolved.MoveVecWithScratch.{Mov
 use Rattle.regalloc2_parts.specs.declared.moves.resolved.MoveVecWithScratch.TheVariants.{NoScratch, Scratch}
 use Rattle.regalloc2_parts.specs.AtOnce.{ends_of, names, in_turn, WritesNoneFirst}
 use Rattle.regalloc2_parts.specs.Resolved.{listed, has_scratch, with_place, place_or, filled, IsRunnable, IsUnnamed, AreBetweenPlaces}
-use Rattle.regalloc2_parts.specs.Tracking.{IsMade, IsOneOf}
-use Rattle.regalloc2_parts.specs.Computed.{Asked, Owes, IsHanding, IsRefusing, IsChoice, IsAnswered, IsComputed, AreApartInMemory}
+use Rattle.regalloc2_parts.specs.declared.moves.passing.Held.{Held}
+use Rattle.regalloc2_parts.specs.declared.moves.passing.Held.TheVariants.{Free, InRegister}
+use Rattle.regalloc2_parts.specs.declared.moves.passing.Way.{Way}
+use Rattle.regalloc2_parts.specs.Tracking.{CanExpand, IsExpanded, IsMade, IsOneOf, IsFirst, Fits}
+use Rattle.regalloc2_parts.specs.Computed.{Asked, MayBeAskedTwice, Owes, IsHanding, IsRefusing, IsWay, IsChoice, IsAnswered, IsComputed, AreApartInMemory, AreSeenApart}
 use Rattle.regalloc2_parts.proofs.Filling.{fills_same, fills_real, or_some, or_none}
 use Rattle.regalloc2_parts.proofs.Places.{cases_place}
 
@@ -66,7 +69,7 @@ module _ {F G T : Type 0} (registers : F → Option Place → F → Type 0) (slo
     pub targets : (x : Place × Place × T) → Contains made x → IsAnswered rs ss x.1 ⊎ ((n : Place × Place × T) × Contains given n × (x.1 ≡ n.1) × (x.2 ≡ n.2))
     pub plain : scratch ≡ false → made ≡ given
     pub free : (r : Place) (t : F) → registers f' (Some r) t → (r ≢ NoPlace) × IsUnnamed r made × (stack r true → ⊥)
-    pub unused : (r : Place) (t : G) → slots g' (Some r) t → (r ≢ NoPlace) × IsUnnamed r made × (r ≢ borrowed)
+    pub unused : (r : Place) (t : G) → slots g' (Some r) t → (r ≢ NoPlace) × IsUnnamed r made
 
   -- none was needed
   chosen_none : (given made : List (Place × Place × T)) (f f' : F) (g g' : G) → Owes registers slots stack borrowed given f g → AreBetweenPlaces given → f' ≡ f → g' ≡ g → made ≡ given → Chosen given false f f' g g' made
@@ -89,7 +92,7 @@ module _ {F G T : Type 0} (registers : F → Option Place → F → Type 0) (slo
     unused = λ r t step.
         let first : slots g (Some r) t = subst (λ x. slots x (Some r) t) eg step in
         let was = owes.unused r (inl (t, first)) in
-        (was.0, subst (λ x. IsUnnamed r x) (sym e) was.1, owes.no_slot r (inl (t, first)));
+        (was.0, subst (λ x. IsUnnamed r x) (sym e) was.1);
   }
 
   -- the ends of what was filled with an answered place
@@ -138,7 +141,7 @@ module _ {F G T : Type 0} (registers : F → Option Place → F → Type 0) (slo
         unused = λ r t next.
             let now : slots g (Some r) t = subst (λ x. slots x (Some r) t) eg next in
             let free = owes.unused r (inl (t, now)) in
-            (free.0, subst (λ x. IsUnnamed r x) (sym e) (fills_unnamed s r given (λ h. owes.apart s r (inl (f', step)) (inl (t, now)) (sym h)) free.1), owes.no_slot r (inl (t, now)));
+            (free.0, subst (λ x. IsUnnamed r x) (sym e) (fills_unnamed s r given (λ h. owes.apart s r (inl (f', step)) (inl (t, now)) (sym h)) free.1));
       }
 
   -- a slot was chosen
@@ -165,7 +168,7 @@ module _ {F G T : Type 0} (registers : F → Option Place → F → Type 0) (slo
         unused = λ r t next.
             let later = inr (Some s, g', t, step, next) in
             let free = owes.unused r later in
-            (free.0, subst (λ x. IsUnnamed r x) (sym e) (fills_unnamed s r given (λ h. owes.slots_differ s r g' t step next (sym h)) free.1), owes.no_slot r later);
+            (free.0, subst (λ x. IsUnnamed r x) (sym e) (fills_unnamed s r given (λ h. owes.slots_differ s r g' t step next (sym h)) free.1));
       }
 
   pub chosen : {A : Type 0} (moves : MoveVecWithScratch T A) (made : List (Place × Place × T)) (f f' : F) (g g' : G) → Owes registers slots stack borrowed (listed moves) f g → IsRunnable moves → IsChoice registers slots f f' g g' moves made → Chosen (listed moves) (has_scratch moves) f f' g g' made
@@ -176,14 +179,14 @@ module _ {F G T : Type 0} (registers : F → Option Place → F → Type 0) (slo
   chosen (Scratch ms) made f f' g g' owes run (inr (Slot s, e, h, m)) = chosen_slot ms.items made f f' g g' s owes run h.0 h.1 m
 
   -- no move goes from memory to memory, and so the moves stay
-  pub computed_at_once : (given made : List (Place × Place × T)) (scratch : Bool) (f f' : F) (g g' : G) (c : Chosen given scratch f f' g g' made) → AreApartInMemory stack made → IsComputed stack borrowed (IsAnswered c.rs c.ss) scratch given made
+  computed_at_once : (given made : List (Place × Place × T)) (scratch : Bool) (f f' : F) (g g' : G) (c : Chosen given scratch f f' g g' made) → AreSeenApart stack made → IsComputed stack borrowed (IsAnswered c.rs c.ss) scratch given made
   computed_at_once given made scratch f f' g g' c apart = record {
     same = c.same;
     each = λ k d low.
         let x : Place × Place × T = get_or made k d in
         let h : Contains made x = Contains-get_or made k d low in
         record {
-          apart = apart k d low;
+          apart = ⊎_elim (λ a. inl (inl a)) (λ a. inr (inl a)) (apart k d low);
           between = c.between k d low;
           source = ⊎_elim (λ a. inl (inl a)) (λ n. inr n) (c.sources x h);
           target = ⊎_elim (λ a. inl (inl a)) (λ n. inr n) (c.targets x h);
@@ -192,7 +195,7 @@ module _ {F G T : Type 0} (registers : F → Option Place → F → Type 0) (slo
   }
 
   -- moves were made by way of a register
-  pub computed_by_way : (given made out : List (Place × Place × T)) (scratch : Bool) (f f' : F) (g g' : G) (c : Chosen given scratch f f' g g' made) (qs ts : List (Option Place)) (register save : Place) → (IsAnswered (c.rs ++ qs) (c.ss ++ ts) register ⊎ (register ≡ borrowed)) → IsAnswered (c.rs ++ qs) (c.ss ++ ts) save → (AreApartInMemory stack made → ⊥) → ((q : Place) → q ≢ save → in_turn (ends_of out) names q ≡ in_turn (ends_of made) names q) → All (IsMade stack register save made) out → IsComputed stack borrowed (IsAnswered (c.rs ++ qs) (c.ss ++ ts)) scratch given out
+  computed_by_way : (given made out : List (Place × Place × T)) (scratch : Bool) (f f' : F) (g g' : G) (c : Chosen given scratch f f' g g' made) (qs ts : List (Option Place)) (register save : Place) → (IsAnswered (c.rs ++ qs) (c.ss ++ ts) register ⊎ (register ≡ borrowed)) → IsAnswered (c.rs ++ qs) (c.ss ++ ts) save → (AreApartInMemory stack made → ⊥) → ((q : Place) → q ≢ save → in_turn (ends_of out) names q ≡ in_turn (ends_of made) names q) → All (IsMade stack register save made) out → IsComputed stack borrowed (IsAnswered (c.rs ++ qs) (c.ss ++ ts)) scratch given out
   computed_by_way given made out scratch f f' g g' c qs ts register save lent_register lent_save some same each =
       let Lent : Place → Type 0 = λ p. IsAnswered (c.rs ++ qs) (c.ss ++ ts) p ⊎ (p ≡ borrowed) in
       let lent : (p : Place) → IsOneOf register save p → Lent p = λ p h. ⊎_elim
@@ -225,20 +228,20 @@ module _ {F G T : Type 0} (registers : F → Option Place → F → Type 0) (slo
       }
 
   -- what was asked at the first time, and at the second
-  abbrev pub asked_registers : (given made : List (Place × Place × T)) (scratch : Bool) (f f' : F) (g g' : G) → Chosen given scratch f f' g g' made → Asked registers f f'
+  abbrev asked_registers : (given made : List (Place × Place × T)) (scratch : Bool) (f f' : F) (g g' : G) → Chosen given scratch f f' g g' made → Asked registers f f'
   asked_registers given made scratch f f' g g' c = record { answers = c.rs; few = let few : length c.rs ≤ 1 = c.rs_few in omega arith; calls = c.rs_calls }
 
-  abbrev pub asked_slots : (given made : List (Place × Place × T)) (scratch : Bool) (f f' : F) (g g' : G) → Chosen given scratch f f' g g' made → Asked slots g g'
+  abbrev asked_slots : (given made : List (Place × Place × T)) (scratch : Bool) (f f' : F) (g g' : G) → Chosen given scratch f f' g g' made → Asked slots g g'
   asked_slots given made scratch f f' g g' c = record { answers = c.ss; few = let few : length c.ss ≤ 1 = c.ss_few in omega arith; calls = c.ss_calls }
 
-  abbrev pub more_registers : (given made : List (Place × Place × T)) (scratch : Bool) (f f' f'' : F) (g g' : G) (c : Chosen given scratch f f' g g' made) (r : Option Place) → registers f' r f'' → Asked registers f f''
+  abbrev more_registers : (given made : List (Place × Place × T)) (scratch : Bool) (f f' f'' : F) (g g' : G) (c : Chosen given scratch f f' g g' made) (r : Option Place) → registers f' r f'' → Asked registers f f''
   more_registers given made scratch f f' f'' g g' c r step = record {
     answers = c.rs ++ r ∷ [];
     few = let few : length c.rs ≤ 1 = c.rs_few in let more : length (c.rs ++ r ∷ []) ≡ length c.rs + 1 = length-append c.rs (r ∷ []) in omega arith;
     calls = FoldsTo-push registers f c.rs f' r f'' c.rs_calls step;
   }
 
-  abbrev pub more_slots : (given made : List (Place × Place × T)) (scratch : Bool) (f f' : F) (g g' g'' : G) (c : Chosen given scratch f f' g g' made) (r : Option Place) → slots g' r g'' → Asked slots g g''
+  abbrev more_slots : (given made : List (Place × Place × T)) (scratch : Bool) (f f' : F) (g g' g'' : G) (c : Chosen given scratch f f' g g' made) (r : Option Place) → slots g' r g'' → Asked slots g g''
   more_slots given made scratch f f' g g' g'' c r step = record {
     answers = c.ss ++ r ∷ [];
     few = let few : length c.ss ≤ 1 = c.ss_few in let more : length (c.ss ++ r ∷ []) ≡ length c.ss + 1 = length-append c.ss (r ∷ []) in omega arith;
@@ -246,7 +249,7 @@ module _ {F G T : Type 0} (registers : F → Option Place → F → Type 0) (slo
   }
 
   -- no slot was asked for at the second time
-  abbrev pub no_more_slots : (given made : List (Place × Place × T)) (scratch : Bool) (f f' : F) (g g' g'' : G) (c : Chosen given scratch f f' g g' made) → g'' ≡ g' → Asked slots g g''
+  abbrev no_more_slots : (given made : List (Place × Place × T)) (scratch : Bool) (f f' : F) (g g' g'' : G) (c : Chosen given scratch f f' g g' made) → g'' ≡ g' → Asked slots g g''
   no_more_slots given made scratch f f' g g' g'' c e = record {
     answers = c.ss ++ [];
     few = let few : length c.ss ≤ 1 = c.ss_few in let same : length (c.ss ++ []) ≡ length c.ss = ap length (append-nil c.ss) in omega arith;
@@ -254,7 +257,7 @@ module _ {F G T : Type 0} (registers : F → Option Place → F → Type 0) (slo
   }
 
   -- all that was asked for and made: nothing more than a scratch place
-  pub computes_at_once : (given made : List (Place × Place × T)) (scratch : Bool) (f f' : F) (g g' : G) → Chosen given scratch f f' g g' made → AreApartInMemory stack made → (a : Asked registers f f') × (b : Asked slots g g') × IsComputed stack borrowed (IsAnswered a.answers b.answers) scratch given made
+  pub computes_at_once : (given made : List (Place × Place × T)) (scratch : Bool) (f f' : F) (g g' : G) → Chosen given scratch f f' g g' made → AreSeenApart stack made → (a : Asked registers f f') × (b : Asked slots g g') × IsComputed stack borrowed (IsAnswered a.answers b.answers) scratch given made
   computes_at_once given made scratch f f' g g' c apart =
       (asked_registers given made scratch f f' g g' c, asked_slots given made scratch f f' g g' c, computed_at_once given made scratch f f' g g' c apart)
 
@@ -263,26 +266,51 @@ module _ {F G T : Type 0} (registers : F → Option Place → F → Type 0) (slo
   computes_refused given made scratch f f' f'' g g' g'' c h =
       (more_registers given made scratch f f' f'' g g' c None h.0, more_slots given made scratch f f' g g' g'' c None h.1, Contains-push c.ss None)
 
-  -- a register was handed out, or a slot
-  pub asked_more : (given made : List (Place × Place × T)) (scratch : Bool) (f f' f'' : F) (g g' g'' : G) → Chosen given scratch f f' g g' made → (h : Handed) → IsHanding registers slots f' f'' g' g'' h → Asked registers f f'' × Asked slots g g''
-  asked_more given made scratch f f' f'' g g' g'' c (Register r) h =
-      (more_registers given made scratch f f' f'' g g' c (Some r) h.0, no_more_slots given made scratch f f' g g' g'' c h.1)
-  asked_more given made scratch f f' f'' g g' g'' c (Slot s) h =
-      (more_registers given made scratch f f' f'' g g' c None h.0, more_slots given made scratch f f' g g' g'' c (Some s) h.1)
+  -- moves can be made by way of what was handed out
+  pub can_expand : (given made : List (Place × Place × T)) (scratch : Bool) (f f' f'' : F) (g g' g'' : G) → Chosen given scratch f f' g g' made → (stack borrowed true → ⊥) → borrowed ≢ NoPlace → (h : Handed) → IsHanding registers slots f' f'' g' g'' h → (way : Way) (first : Held) → IsWay h borrowed way first → CanExpand stack way.register way.save first made
+  can_expand given made scratch f f' f'' g g' g'' c away real (Register p) h way first is =
+      let was = c.free p f'' h.0 in
+      record {
+        no_memory = λ x. was.2 (subst (λ q. stack q true) is.0 x);
+        first = subst (λ x. IsFirst x) (sym is.2) tt;
+        fits = λ e. is.0 ∙ sym is.1;
+        unnamed = subst (λ q. IsUnnamed q made) (sym is.1) was.1;
+        real = ((λ e. was.0 (sym is.0 ∙ e)), (λ e. was.0 (sym is.1 ∙ e)));
+        between = c.between;
+      }
+  can_expand given made scratch f f' f'' g g' g'' c away real (Slot p) h way first is =
+      let was = c.unused p g'' h.1 in
+      record {
+        no_memory = λ x. away (subst (λ q. stack q true) is.0 x);
+        first = subst (λ x. IsFirst x) (sym is.2) tt;
+        fits = λ e. let no : InRegister ≡ Free = sym is.2 ∙ e in absurd cc;
+        unnamed = subst (λ q. IsUnnamed q made) (sym is.1) was.1;
+        real = ((λ e. real (sym is.0 ∙ e)), (λ e. was.0 (sym is.1 ∙ e)));
+        between = c.between;
+      }
 
-  pub computes_by_register : (given made out : List (Place × Place × T)) (scratch : Bool) (f f' f'' : F) (g g' g'' : G) → Chosen given scratch f f' g g' made → (r : Place) → registers f' (Some r) f'' → g'' ≡ g' → (AreApartInMemory stack made → ⊥) → ((q : Place) → q ≢ r → in_turn (ends_of out) names q ≡ in_turn (ends_of made) names q) → All (IsMade stack r r made) out → (a : Asked registers f f'') × (b : Asked slots g g'') × IsComputed stack borrowed (IsAnswered a.answers b.answers) scratch given out
-  computes_by_register given made out scratch f f' f'' g g' g'' c r step e some same each = (
-    more_registers given made scratch f f' f'' g g' c (Some r) step,
-    no_more_slots given made scratch f f' g g' g'' c e,
-    computed_by_way given made out scratch f f' g g' c (Some r ∷ []) [] r r (inl (inl (Contains-push c.rs (Some r)))) (inl (Contains-push c.rs (Some r))) some same each,
+  -- all that was asked for, and what was made by way of what was handed out
+  pub computes_by_way : (given made : List (Place × Place × T)) (scratch : Bool) (f f' f'' : F) (g g' g'' : G) → Chosen given scratch f f' g g' made → (AreApartInMemory stack made → ⊥) → (h : Handed) → IsHanding registers slots f' f'' g' g'' h → (way : Way) (first : Held) → IsWay h borrowed way first
+      → (a : Asked registers f f'') × (b : Asked slots g g'') × ((out : List (Place × Place × T)) → IsExpanded stack way.register way.save made out → IsComputed stack borrowed (IsAnswered a.answers b.answers) scratch given out)
+  computes_by_way given made scratch f f' f'' g g' g'' c some (Register p) h way first is =
+      let answered : (q : Place) → q ≡ p → IsAnswered (c.rs ++ Some p ∷ []) (c.ss ++ []) q = λ q e. inl (subst (λ x. Contains (c.rs ++ Some p ∷ []) (Some x)) (sym e) (Contains-push c.rs (Some p))) in (
+        more_registers given made scratch f f' f'' g g' c (Some p) h.0,
+        no_more_slots given made scratch f f' g g' g'' c h.1,
+        (λ out x. computed_by_way given made out scratch f f' g g' c (Some p ∷ []) [] way.register way.save (inl (answered way.register is.0)) (answered way.save is.1) some x.same x.each),
+      )
+  computes_by_way given made scratch f f' f'' g g' g'' c some (Slot p) h way first is = (
+    more_registers given made scratch f f' f'' g g' c None h.0,
+    more_slots given made scratch f f' g g' g'' c (Some p) h.1,
+    (λ out x. computed_by_way given made out scratch f f' g g' c (None ∷ []) (Some p ∷ []) way.register way.save (inr is.0)
+      (inr (subst (λ y. Contains (c.ss ++ Some p ∷ []) (Some y)) (sym is.1) (Contains-push c.ss (Some p)))) some x.same x.each),
   )
 
-  pub computes_by_slot : (given made out : List (Place × Place × T)) (scratch : Bool) (f f' f'' : F) (g g' g'' : G) → Chosen given scratch f f' g g' made → (register save : Place) → register ≡ borrowed → registers f' None f'' → slots g' (Some save) g'' → (AreApartInMemory stack made → ⊥) → ((q : Place) → q ≢ save → in_turn (ends_of out) names q ≡ in_turn (ends_of made) names q) → All (IsMade stack register save made) out → (a : Asked registers f f'') × (b : Asked slots g g'') × IsComputed stack borrowed (IsAnswered a.answers b.answers) scratch given out
-  computes_by_slot given made out scratch f f' f'' g g' g'' c register save is none step some same each = (
-    more_registers given made scratch f f' f'' g g' c None none,
-    more_slots given made scratch f f' g g' g'' c (Some save) step,
-    computed_by_way given made out scratch f f' g g' c (None ∷ []) (Some save ∷ []) register save (inr is) (inr (Contains-push c.ss (Some save))) some same each,
-  )
+-- what may be asked twice may be asked again once a scratch place is chosen
+pub may_ask_again : {F G T A : Type 0} (registers : F → Option Place → F → Type 0) (slots : G → Option Place → G → Type 0) (pre : F → Type 0) (slots_pre : G → Type 0) (moves : MoveVecWithScratch T A) (made : List (Place × Place × T)) (f f' : F) (g g' : G)
+    → MayBeAskedTwice registers pre f → MayBeAskedTwice slots slots_pre g → IsChoice registers slots f f' g g' moves made → pre f' × slots_pre g'
+may_ask_again registers slots pre slots_pre moves made f f' g g' a b (inl c) = (subst pre (sym c.1) a.0, subst slots_pre (sym c.2) b.0)
+may_ask_again registers slots pre slots_pre moves made f f' g g' a b (inr (Register p, e, h, m)) = (a.1 (Some p) f' h.0, subst slots_pre (sym h.1) b.0)
+may_ask_again registers slots pre slots_pre moves made f f' g g' a b (inr (Slot p, e, h, m)) = (a.1 None f' h.0, b.1 (Some p) g' h.1)
 
 -- neither a register nor a slot was there for a scratch place
 pub refused_first : {F G : Type 0} (registers : F → Option Place → F → Type 0) (slots : G → Option Place → G → Type 0) (f f' : F) (g g' : G) → IsRefusing registers slots f f' g g' → (a : Asked registers f f') × (b : Asked slots g g') × Contains b.answers None

@@ -9,7 +9,7 @@ use Rattle.regalloc2_parts.specs.declared.moves.passing.Held.{Held}
 use Rattle.regalloc2_parts.specs.declared.moves.passing.Held.TheVariants.{Free, InRegister, InBoth, InSave}
 use Rattle.regalloc2_parts.specs.AtOnce.{Ends, ends, ends_of, no_move, Cells, moved, in_turn}
 use Rattle.regalloc2_parts.specs.Giving.{from_at, to_at}
-use Rattle.regalloc2_parts.specs.Tracking.{Tracks, Fits, CanPass, IsAside, IsThrough, IsStep, IsMade, stands}
+use Rattle.regalloc2_parts.specs.Tracking.{Tracks, Fits, CanPass, IsFirst, IsAside, IsThrough, IsStep, IsMade, stands}
 use Rattle.regalloc2_parts.proofs.Places.{cases_place, moved_here, moved_other}
 use Rattle.regalloc2_parts.proofs.Lists.{ends_push}
 
@@ -27,9 +27,9 @@ module _ (r s : Place) where
   -- the register is saved
   saves : (c d : Cells Place) → Tracks r s InRegister c d → Tracks r s InSave c (moved d s (d r))
   saves c d had = record {
-    fits = had.fits;
+    fits = λ e. absurd cc;
     others = λ q n m. moved_other d s q (d r) (λ e. m (sym e)) ∙ had.others q n m;
-    borrowed = moved_here d s s (d r) refl ∙ had.borrowed;
+    borrowed = λ differ. moved_here d s s (d r) refl ∙ had.borrowed differ;
   }
 
   pub saves_pushed : {T : Type 0} (c d : Cells Place) (old new : List (Place × Place × T)) (m : Place × Place × T) → m.0 ≡ r → m.1 ≡ s → new ≡ old ++ m ∷ [] → Tracks r s InRegister c (in_turn (ends_of old) d) → Tracks r s InSave c (in_turn (ends_of new) d)
@@ -40,9 +40,9 @@ module _ (r s : Place) where
   -- the register is restored
   restores : (c d : Cells Place) → Tracks r s InSave c d → Tracks r s InBoth c (moved d r (d s))
   restores c d had = record {
-    fits = had.fits;
+    fits = λ e. absurd cc;
     others = λ q n m. moved_other d r q (d s) (λ e. n (sym e)) ∙ had.others q n m;
-    borrowed = (moved_here d r r (d s) refl ∙ had.borrowed, moved_other d r s (d s) had.fits ∙ had.borrowed);
+    borrowed = λ differ. (moved_here d r r (d s) refl ∙ had.borrowed differ, moved_other d r s (d s) differ ∙ had.borrowed differ);
   }
 
   pub restores_pushed : {T : Type 0} (c d : Cells Place) (old new : List (Place × Place × T)) (m : Place × Place × T) → m.0 ≡ s → m.1 ≡ r → new ≡ old ++ m ∷ [] → Tracks r s InSave c (in_turn (ends_of old) d) → Tracks r s InBoth c (in_turn (ends_of new) d)
@@ -55,12 +55,12 @@ module _ (r s : Place) where
   fills Free c d v can had = record {
     fits = had.fits;
     others = λ q n m. moved_other d r q v (λ e. n (sym e)) ∙ had.others q n m;
-    borrowed = tt;
+    borrowed = λ differ. tt;
   }
   fills InSave c d v can had = record {
     fits = had.fits;
     others = λ q n m. moved_other d r q v (λ e. n (sym e)) ∙ had.others q n m;
-    borrowed = moved_other d r s v had.fits ∙ had.borrowed;
+    borrowed = λ differ. moved_other d r s v differ ∙ had.borrowed differ;
   }
   fills InRegister c d v can had = absurd can
   fills InBoth c d v can had = absurd can
@@ -83,16 +83,16 @@ module _ (r s : Place) where
             (λ same. moved_here d a q v same ∙ e ∙ sym (moved_here c a q w same))
             (λ differs. moved_other d a q v differs ∙ had.others q n m ∙ sym (moved_other c a q w differs))
             (cases_place a q);
-        borrowed = stands_along h (d r ≡ c r) (d s ≡ c r) (moved d a v r ≡ moved c a w r) (moved d a v s ≡ moved c a w r)
-            (λ x. here ∙ x ∙ sym was) (λ x. there ∙ x ∙ sym was) had.borrowed;
+        borrowed = λ differ. stands_along h (d r ≡ c r) (d s ≡ c r) (moved d a v r ≡ moved c a w r) (moved d a v s ≡ moved c a w r)
+            (λ x. here ∙ x ∙ sym was) (λ x. there ∙ x ∙ sym was) (had.borrowed differ);
       }
 
   -- a move into the register
-  copies_into : (h : Held) (c d : Cells Place) (v w : Place) → r ≢ s → v ≡ w → Tracks r s h c d → Tracks r s InRegister (moved c r w) (moved d r v)
-  copies_into h c d v w differ e had = record {
-    fits = differ;
+  copies_into : (h : Held) (c d : Cells Place) (v w : Place) → v ≡ w → Tracks r s h c d → Tracks r s InRegister (moved c r w) (moved d r v)
+  copies_into h c d v w e had = record {
+    fits = λ f. absurd cc;
     others = λ q n m. moved_other d r q v (λ f. n (sym f)) ∙ had.others q n m ∙ sym (moved_other c r q w (λ f. n (sym f)));
-    borrowed = moved_here d r r v refl ∙ e ∙ sym (moved_here c r r w refl);
+    borrowed = λ differ. moved_here d r r v refl ∙ e ∙ sym (moved_here c r r w refl);
   }
 
   -- a move by way of the register
@@ -109,14 +109,10 @@ module _ (r s : Place) where
 
   -- what a place that is no save slot holds, where the register holds its own
   reads : (h : Held) (c d : Cells Place) (a : Place) → a ≢ s → (a ≡ r → h ≢ InSave) → Tracks r s h c d → d a ≡ c a
-  reads Free c d a n ready had = had.others a (λ e. n (e ∙ had.fits)) n
-  reads InRegister c d a n ready had = ⊎_elim (λ e. ap d e ∙ had.borrowed ∙ ap c (sym e)) (λ m. had.others a m n) (cases_place a r)
-  reads InBoth c d a n ready had = ⊎_elim (λ e. ap d e ∙ had.borrowed.0 ∙ ap c (sym e)) (λ m. had.others a m n) (cases_place a r)
+  reads Free c d a n ready had = had.others a (λ e. n (e ∙ had.fits refl)) n
+  reads InRegister c d a n ready had = ⊎_elim (λ e. ap d e ∙ had.borrowed (λ f. n (e ∙ f)) ∙ ap c (sym e)) (λ m. had.others a m n) (cases_place a r)
+  reads InBoth c d a n ready had = ⊎_elim (λ e. ap d e ∙ (had.borrowed (λ f. n (e ∙ f))).0 ∙ ap c (sym e)) (λ m. had.others a m n) (cases_place a r)
   reads InSave c d a n ready had = had.others a (λ e. ready e refl) n
-
-  -- a register that a move names is not a free one
-  apart_where_named : (h : Held) (a : Place) → Fits h r s → a ≡ r → a ≢ s → r ≢ s
-  apart_where_named h a f e n g = n (e ∙ g)
 
   pub copies_pushed : {T : Type 0} (h : Held) (c d : Cells Place) (m : Place × Place × T) (old new : List (Place × Place × T)) → (m.0 ≢ s) × (m.1 ≢ s) → (m.0 ≡ r → h ≢ InSave) → m.1 ≢ r → new ≡ old ++ m ∷ [] → Tracks r s h c (in_turn (ends_of old) d) → Tracks r s h (moved c m.1 (c m.0)) (in_turn (ends_of new) d)
   copies_pushed h c d m old new unnamed ready other e had =
@@ -129,11 +125,18 @@ module _ (r s : Place) where
       let x = in_turn (ends_of old) d in
       subst (λ z. Tracks r s InRegister (moved c m.1 (c m.0)) z) (sym (pushed old new m e d))
       (subst (λ p. Tracks r s InRegister (moved c p (c m.0)) (moved x p (x m.0))) (sym into)
-      (copies_into h c x (x m.0) (c m.0) (apart_where_named h m.1 had.fits into unnamed.1) (reads h c x m.0 unnamed.0 ready had) had))
+      (copies_into h c x (x m.0) (c m.0) (reads h c x m.0 unnamed.0 ready had) had))
 
   -- the first moves are made
   abbrev pub Follows : {T : Type 0} → Held → List (Place × Place × T) → List (Place × Place × T) → ℕ → Type 0
   Follows h ms out i = (d : Cells Place) → Tracks r s h (in_turn (take i (ends_of ms)) d) (in_turn (ends_of out) d)
+
+  -- none is made yet
+  pub follows_none : {T : Type 0} (h : Held) (ms out : List (Place × Place × T)) → IsFirst h → Fits h r s → out ≡ [] → Follows h ms out 0
+  follows_none Free ms out first fits e d = record { fits = fits; others = λ q n m. ap (λ xs. in_turn (ends_of xs) d q) e; borrowed = λ differ. tt }
+  follows_none InRegister ms out first fits e d = record { fits = fits; others = λ q n m. ap (λ xs. in_turn (ends_of xs) d q) e; borrowed = λ differ. ap (λ xs. in_turn (ends_of xs) d r) e }
+  follows_none InBoth ms out first fits e d = absurd first
+  follows_none InSave ms out first fits e d = absurd first
 
   pub follows_more : {T : Type 0} (h after : Held) (ms old new : List (Place × Place × T)) (i : ℕ) (m : Place × Place × T) → i < length (ends_of ms) → m.0 ≡ from_at (ends_of ms) i → m.1 ≡ to_at (ends_of ms) i → Follows h ms old i → ((c d : Cells Place) → Tracks r s h c (in_turn (ends_of old) d) → Tracks r s after (moved c m.1 (c m.0)) (in_turn (ends_of new) d)) → Follows after ms new (i + 1)
   follows_more h after ms old new i m low from to had step d =
@@ -169,13 +172,13 @@ added_through {T} r s x m old one two three was e f h =
 module _ {T : Type 0} (stack : Place → Bool → Type 0) (r s : Place) (no_stack : stack r true → ⊥) (real : (r ≢ NoPlace) × (s ≢ NoPlace)) (ms : List (Place × Place × T)) where
   made_aside : (x : Place × Place × T) → IsAside r s x → IsMade stack r s ms x
   made_aside x (inl h) = record {
-    apart = λ a b. no_stack (subst (λ p. stack p true) h.0 a);
+    apart = inl (inr (λ a. no_stack (subst (λ p. stack p true) h.0 a)));
     between = ((λ e. real.0 (sym h.0 ∙ e)), (λ e. real.1 (sym h.1 ∙ e)));
     source = inl (inl h.0);
     target = inl (inr h.1);
   }
   made_aside x (inr h) = record {
-    apart = λ a b. no_stack (subst (λ p. stack p true) h.1 b);
+    apart = inr (inr (λ a. no_stack (subst (λ p. stack p true) h.1 a)));
     between = ((λ e. real.1 (sym h.0 ∙ e)), (λ e. real.0 (sym h.1 ∙ e)));
     source = inl (inr h.0);
     target = inl (inl h.1);
@@ -183,27 +186,27 @@ module _ {T : Type 0} (stack : Place → Bool → Type 0) (r s : Place) (no_stac
 
   made_through : (m x : Place × Place × T) → Contains ms m → (m.0 ≢ NoPlace) × (m.1 ≢ NoPlace) → IsThrough r m x → IsMade stack r s ms x
   made_through m x inside ends (inl h) = record {
-    apart = λ a b. no_stack (subst (λ p. stack p true) h.1 b);
+    apart = inr (inr (λ a. no_stack (subst (λ p. stack p true) h.1 a)));
     between = ((λ e. ends.0 (sym h.0 ∙ e)), (λ e. real.0 (sym h.1 ∙ e)));
     source = inr (m, inside, h.0);
     target = inl (inl h.1);
   }
   made_through m x inside ends (inr h) = record {
-    apart = λ a b. no_stack (subst (λ p. stack p true) h.0 a);
+    apart = inl (inr (λ a. no_stack (subst (λ p. stack p true) h.0 a)));
     between = ((λ e. real.0 (sym h.0 ∙ e)), (λ e. ends.1 (sym h.1 ∙ e)));
     source = inl (inl h.0);
     target = inr (m, inside, h.1, h.2);
   }
 
-  made_itself : (m x : Place × Place × T) → Contains ms m → (m.0 ≢ NoPlace) × (m.1 ≢ NoPlace) → (stack m.0 true → stack m.1 true → ⊥) → x ≡ m → IsMade stack r s ms x
+  made_itself : (m x : Place × Place × T) → Contains ms m → (m.0 ≢ NoPlace) × (m.1 ≢ NoPlace) → stack m.0 false ⊎ stack m.1 false → x ≡ m → IsMade stack r s ms x
   made_itself m x inside ends apart e = subst (λ y. IsMade stack r s ms y) (sym e) (record {
-    apart = apart;
+    apart = ⊎_elim (λ a. inl (inl a)) (λ a. inr (inl a)) apart;
     between = ends;
     source = inr (m, inside, refl);
     target = inr (m, inside, refl, refl);
   })
 
-  made_step : (passing : Bool) (m x : Place × Place × T) → Contains ms m → (m.0 ≢ NoPlace) × (m.1 ≢ NoPlace) → (passing ≡ false → stack m.0 true → stack m.1 true → ⊥) → IsStep r passing m x → IsMade stack r s ms x
+  made_step : (passing : Bool) (m x : Place × Place × T) → Contains ms m → (m.0 ≢ NoPlace) × (m.1 ≢ NoPlace) → (passing ≡ false → stack m.0 false ⊎ stack m.1 false) → IsStep r passing m x → IsMade stack r s ms x
   made_step true m x inside ends apart h = made_through m x inside ends h
   made_step false m x inside ends apart h = made_itself m x inside ends (apart refl) h
 
@@ -213,7 +216,7 @@ module _ {T : Type 0} (stack : Place → Bool → Type 0) (r s : Place) (no_stac
       (λ a. made_aside (get_or new k d) a)
       (added (get_or new k d) (Contains-get_or new k d low))
 
-  pub made_more : (passing : Bool) (m : Place × Place × T) (old new : List (Place × Place × T)) → Contains ms m → (m.0 ≢ NoPlace) × (m.1 ≢ NoPlace) → (passing ≡ false → stack m.0 true → stack m.1 true → ⊥) → All (IsMade stack r s ms) old → ((x : Place × Place × T) → Contains new x → (Contains old x ⊎ IsAside r s x) ⊎ IsStep r passing m x) → All (IsMade stack r s ms) new
+  pub made_more : (passing : Bool) (m : Place × Place × T) (old new : List (Place × Place × T)) → Contains ms m → (m.0 ≢ NoPlace) × (m.1 ≢ NoPlace) → (passing ≡ false → stack m.0 false ⊎ stack m.1 false) → All (IsMade stack r s ms) old → ((x : Place × Place × T) → Contains new x → (Contains old x ⊎ IsAside r s x) ⊎ IsStep r passing m x) → All (IsMade stack r s ms) new
   made_more passing m old new inside ends apart had added k d low = ⊎_elim
       (λ l. ⊎_elim
       (λ o. All-contains (IsMade stack r s ms) old (get_or new k d) had o)

@@ -7,6 +7,9 @@ use Rattle.regalloc2_parts.specs.declared.moves.MoveFault.{MoveFault}
 use Rattle.regalloc2_parts.specs.declared.moves.MoveFault.TheVariants.{NoSlot}
 use Rattle.regalloc2_parts.specs.declared.moves.scratch.Handed.{Handed}
 use Rattle.regalloc2_parts.specs.declared.moves.scratch.Handed.TheVariants.{Register, Slot}
+use Rattle.regalloc2_parts.specs.declared.moves.passing.Held.{Held}
+use Rattle.regalloc2_parts.specs.declared.moves.passing.Held.TheVariants.{Free, InRegister}
+use Rattle.regalloc2_parts.specs.declared.moves.passing.Way.{Way}
 use Rattle.regalloc2_parts.specs.declared.moves.resolved.MoveVecWithScratch.{MoveVecWithScratch}
 use Rattle.regalloc2_parts.specs.AtOnce.{ends_of, names, in_turn}
 use Rattle.regalloc2_parts.specs.Resolved.{listed, has_scratch, with_place, IsUnnamed}
@@ -18,6 +21,10 @@ module _ {G : Type 0} (step : G → Option Place → G → Type 0) where
     pub few : length answers ≤ 2
     pub calls : FoldsTo step old answers new
 
+  -- it may be called in the state s, and once more after that, where pre says in which states it may be called
+  abbrev pub MayBeAskedTwice : (G → Type 0) → G → Type 0
+  MayBeAskedTwice pre s = pre s × ((a : Option Place) (t : G) → step s a t → pre t)
+
   -- the place is what the first or the second call from the state s on answers
   abbrev pub MayAnswer : G → Place → Type 0
   MayAnswer s p =
@@ -28,10 +35,6 @@ module _ {G : Type 0} (step : G → Option Place → G → Type 0) where
   abbrev pub AnswersDiffer : G → Type 0
   AnswersDiffer s = (p q : Place) (middle next : G) → step s (Some p) middle → step middle (Some q) next → p ≢ q
 
--- Whether a place is in memory has one answer.
-abbrev pub HasOneAnswer : (Place → Bool → Type 0) → Type 0
-HasOneAnswer stack = (p : Place) (a b : Bool) → stack p a → stack p b → a ≡ b
-
 -- What the closures owe to the moves: registers and slots that no move names and that differ, none of the registers in memory.
 pub record Owes {F G T : Type 0} (registers : F → Option Place → F → Type 0) (slots : G → Option Place → G → Type 0) (stack : Place → Bool → Type 0) (borrowed : Place) (ms : List (Place × Place × T)) (f : F) (g : G) : Type 0 where
   -- what is answered is a place that no move names
@@ -41,11 +44,9 @@ pub record Owes {F G T : Type 0} (registers : F → Option Place → F → Type 
   pub registers_differ : AnswersDiffer registers f
   pub slots_differ : AnswersDiffer slots g
   pub apart : (p q : Place) → MayAnswer registers f p → MayAnswer slots g q → p ≢ q
-  -- no register stands for memory, and the borrowed one is no slot
-  pub one_answer : HasOneAnswer stack
+  -- no register stands for memory
   pub no_memory : (p : Place) → MayAnswer registers f p → stack p true → ⊥
   pub borrowed_no_memory : stack borrowed true → ⊥
-  pub no_slot : (p : Place) → MayAnswer slots g p → p ≢ borrowed
 
 -- the register or, where there is none, the slot that was handed out
 abbrev pub IsHanding : {F G : Type 0} → (F → Option Place → F → Type 0) → (G → Option Place → G → Type 0) → F → F → G → G → Handed → Type 0
@@ -55,6 +56,11 @@ IsHanding registers slots f f' g g' (Slot p) = registers f None f' × slots g (S
 -- neither was there
 abbrev pub IsRefusing : {F G : Type 0} → (F → Option Place → F → Type 0) → (G → Option Place → G → Type 0) → F → F → G → G → Type 0
 IsRefusing registers slots f f' g g' = registers f None f' × slots g None g'
+
+-- the register through which moves go, and the slot in which it is saved: a free register needs none, and stands for its own
+abbrev pub IsWay : Handed → Place → Way → Held → Type 0
+IsWay (Register p) borrowed way held = (way.register ≡ p) × (way.save ≡ p) × (held ≡ Free)
+IsWay (Slot p) borrowed way held = (way.register ≡ borrowed) × (way.save ≡ p) × (held ≡ InRegister)
 
 abbrev pub handed_place : Handed → Place
 handed_place (Register p) = p
@@ -70,10 +76,18 @@ IsChoice registers slots f f' g g' moves made =
 abbrev pub IsAnswered : List (Option Place) → List (Option Place) → Place → Type 0
 IsAnswered registers slots p = Contains registers (Some p) ⊎ Contains slots (Some p)
 
+-- the place isn't in memory: a call of the closure said so, or none can say that it is
+abbrev pub IsAway : (Place → Bool → Type 0) → Place → Type 0
+IsAway stack p = stack p false ⊎ (stack p true → ⊥)
+
+-- one of two places isn't in memory
+abbrev pub IsEitherAway : (Place → Bool → Type 0) → Place → Place → Type 0
+IsEitherAway stack p q = IsAway stack p ⊎ IsAway stack q
+
 -- A move of those that were made of the given ones.
-pub record IsComputedMove {T : Type 0} (stack : Place → Bool → Type 0) (lent : Place → Type 0) (given : List (Place × Place × T)) (m : Place × Place × T) : Type 0 where
+pub record IsComputedMove {T : Type 0} (are_apart : Place → Place → Type 0) (lent : Place → Type 0) (given : List (Place × Place × T)) (m : Place × Place × T) : Type 0 where
   -- it is from a place to a place, one of them no place in memory
-  pub apart : stack m.0 true → stack m.1 true → ⊥
+  pub apart : are_apart m.0 m.1
   pub between : (m.0 ≢ NoPlace) × (m.1 ≢ NoPlace)
   -- its ends are those of given moves, or what was lent; where it ends as a given move does, it carries that one's value
   pub source : lent m.0 ⊎ ((n : Place × Place × T) × Contains given n × (m.0 ≡ n.0))
@@ -83,11 +97,15 @@ pub record IsComputedMove {T : Type 0} (stack : Place → Bool → Type 0) (lent
 abbrev pub AreApartInMemory : {T : Type 0} → (Place → Bool → Type 0) → List (Place × Place × T) → Type 0
 AreApartInMemory stack ms = All (λ m. stack m.0 true → stack m.1 true → ⊥) ms
 
+-- of one end of each move a call of the closure said that it isn't in memory
+abbrev pub AreSeenApart : {T : Type 0} → (Place → Bool → Type 0) → List (Place × Place × T) → Type 0
+AreSeenApart stack ms = All (λ m. stack m.0 false ⊎ stack m.1 false) ms
+
 -- The moves `made`, one after another, do what the given ones do, without going from memory to memory.
 pub record IsComputed {T : Type 0} (stack : Place → Bool → Type 0) (borrowed : Place) (handed : Place → Type 0) (scratch : Bool) (given made : List (Place × Place × T)) : Type 0 where
   -- each place but those that were handed out ends as the given moves leave it, the borrowed register too
   pub same : (q : Place) → q ≢ NoPlace → (handed q → ⊥) → in_turn (ends_of made) names q ≡ in_turn (ends_of given) names q
-  pub each : All (IsComputedMove stack (λ p. handed p ⊎ (p ≡ borrowed)) given) made
+  pub each : All (IsComputedMove (IsEitherAway stack) (λ p. handed p ⊎ (p ≡ borrowed)) given) made
   -- where there is nothing to do they come back as they are
   pub plain : scratch ≡ false → AreApartInMemory stack given → made ≡ given
 

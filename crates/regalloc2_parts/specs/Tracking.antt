@@ -1,16 +1,16 @@
 -- Moves from stack to stack by way of a register, which may have to hold something else meanwhile.
 use Rattle.std.specs.Prelude.{◌≡◌, ◌≢◌, ◌⊎◌, Bool, true, false, List, Contains}
+use Rattle.std.specs.List.{All}
 use Rattle.regalloc2_names.specs.Place.{Place, NoPlace}
 use Rattle.regalloc2_parts.specs.declared.moves.passing.Held.{Held}
 use Rattle.regalloc2_parts.specs.declared.moves.passing.Held.TheVariants.{Free, InRegister, InBoth, InSave}
-use Rattle.regalloc2_parts.specs.AtOnce.{Cells}
+use Rattle.regalloc2_parts.specs.AtOnce.{Cells, ends_of, names, in_turn}
+use Rattle.regalloc2_parts.specs.Resolved.{IsUnnamed, AreBetweenPlaces}
+use Rattle.regalloc2_parts.specs.Computed.{IsEitherAway}
 
--- a free register needs no slot to be saved in, and stands for its own; any other is saved elsewhere
+-- a free register needs no slot to be saved in, and stands for its own
 abbrev pub Fits : Held → Place → Place → Type 0
-Fits Free register save = register ≡ save
-Fits InRegister register save = register ≢ save
-Fits InBoth register save = register ≢ save
-Fits InSave register save = register ≢ save
+Fits held register save = held ≡ Free → register ≡ save
 
 -- where it stands what the moves say is in the register
 abbrev pub stands : Held → Type 0 → Type 0 → Type 0
@@ -19,11 +19,12 @@ stands InRegister here there = here
 stands InBoth here there = here × there
 stands InSave here there = there
 
--- d is c, what the moves make, but for the save slot and for what passes through the register
+-- d is c, what the moves make, but for the save slot and for what passes through the register; a register that is its own save slot
+-- counts as that
 pub record Tracks (register save : Place) (held : Held) (c d : Cells Place) : Type 0 where
   pub fits : Fits held register save
   pub others : (q : Place) → q ≢ register → q ≢ save → d q ≡ c q
-  pub borrowed : stands held (d register ≡ c register) (d save ≡ c register)
+  pub borrowed : register ≢ save → stands held (d register ≡ c register) (d save ≡ c register)
 
 -- the register may be filled with something else
 abbrev pub CanPass : Held → Type 0
@@ -58,7 +59,21 @@ IsStep register false m x = x ≡ m
 
 -- A move that is made for the moves ms, none of them from stack to stack.
 pub record IsMade {T : Type 0} (stack : Place → Bool → Type 0) (register save : Place) (ms : List (Place × Place × T)) (m : Place × Place × T) : Type 0 where
-  pub apart : stack m.0 true → stack m.1 true → ⊥
+  pub apart : IsEitherAway stack m.0 m.1
   pub between : (m.0 ≢ NoPlace) × (m.1 ≢ NoPlace)
   pub source : IsOneOf register save m.0 ⊎ ((n : Place × Place × T) × Contains ms n × (m.0 ≡ n.0))
   pub target : IsOneOf register save m.1 ⊎ ((n : Place × Place × T) × Contains ms n × (m.1 ≡ n.1) × (m.2 ≡ n.2))
+
+-- the moves can be made by way of the register, which the closure never takes for a place in memory, and the slot, which no move names
+pub record CanExpand {T : Type 0} (stack : Place → Bool → Type 0) (register save : Place) (held : Held) (ms : List (Place × Place × T)) : Type 0 where
+  pub no_memory : stack register true → ⊥
+  pub first : IsFirst held
+  pub fits : Fits held register save
+  pub unnamed : IsUnnamed save ms
+  pub real : (register ≢ NoPlace) × (save ≢ NoPlace)
+  pub between : AreBetweenPlaces ms
+
+-- The moves `made` do what the moves ms do, but for the slot, and none of them goes from memory to memory.
+pub record IsExpanded {T : Type 0} (stack : Place → Bool → Type 0) (register save : Place) (ms made : List (Place × Place × T)) : Type 0 where
+  pub same : (q : Place) → q ≢ save → in_turn (ends_of made) names q ≡ in_turn (ends_of ms) names q
+  pub each : All (IsMade stack register save ms) made

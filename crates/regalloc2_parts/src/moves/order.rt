@@ -158,11 +158,9 @@ fn give_from<'a, T: Copy + Default, A: Allocator + Copy, B: Allocator>(
     let stop = follow(start, nexts, state, chain)?;
     if stop < moves.len() && matches!(state[stop], State::Pending) {
         let cut = open_ring(moves, nexts, state, chain, given, stop)?;
-        give_chain(moves, nexts, state, chain, given, cut, stop)?;
-        return Ok(());
+        return give_chain(moves, nexts, state, chain, given, cut, stop);
     }
-    give_chain(moves, nexts, state, chain, given, moves.len(), moves.len())?;
-    Ok(())
+    give_chain(moves, nexts, state, chain, given, moves.len(), moves.len())
 }
 
 /// The moves from the last to the first.

@@ -1,18 +1,16 @@
 //! A scratch place for cycles, and a register for moves from stack to stack.
 
-ghost use Rattle.std.specs.Prelude.{◌≡◌, ◌≢◌, ◌↔◌, ◌⊎◌, true, false, Option, None, Some, Contains, IsTrue, IsOk, IfOk, IfErr, MatchResult};
-ghost use Rattle.std.specs.List.{All};
-ghost use Rattle.regalloc2_names.specs.Place.{Place, NoPlace, InRegister};
-ghost use Rattle.regalloc2_parts.specs.AtOnce.{ends_of, names, in_turn};
-ghost use Rattle.regalloc2_parts.specs.Resolved.{listed, has_scratch, IsRunnable, IsUnnamed, AreBetweenPlaces};
-ghost use Rattle.regalloc2_parts.specs.Tracking.{Fits, IsFirst, IsMade};
-ghost use Rattle.regalloc2_parts.specs.Computed.{Owes, HasOneAnswer, IsHanding, IsRefusing, IsChoice, Computes, AreApartInMemory};
+ghost use Rattle.std.specs.Prelude.{◌≡◌, ◌⊎◌, true, false, IsTrue, IsOk, IfOk, IfErr, MatchResult};
+ghost use Rattle.regalloc2_names.specs.Place.{InRegister};
+ghost use Rattle.regalloc2_parts.specs.Resolved.{listed, has_scratch, IsRunnable};
+ghost use Rattle.regalloc2_parts.specs.Tracking.{CanExpand, IsExpanded};
+ghost use Rattle.regalloc2_parts.specs.Computed.{Owes, MayBeAskedTwice, IsHanding, IsRefusing, IsWay, IsChoice, Computes, AreApartInMemory, AreSeenApart};
 
 use super::passing::{self, Held, Way};
 use super::{MoveFault, MoveVec, MoveVecWithScratch};
 use regalloc2_names::{Allocation, PReg};
 use smallvec::SmallVec;
-use std::alloc::{AllocError, Allocator};
+use std::alloc::Allocator;
 
 /// Finds the scratch places that resolved moves need, and a register for those of them that go from stack to stack.
 ///
@@ -41,6 +39,30 @@ enum Handed {
     Slot(Allocation),
 }
 
+impl Handed {
+    /// The way through this place: a free register stands for its own slot, and in a slot the borrowed register is saved.
+    fn way(self, borrowed: PReg) -> (Way, Held)
+        ensures { IsWay self (InRegister borrowed) result.0 result.1 }
+    {
+        match self {
+            Handed::Register(register) => (
+                Way {
+                    register,
+                    save: register,
+                },
+                Held::Free,
+            ),
+            Handed::Slot(save) => (
+                Way {
+                    register: Allocation::reg(borrowed),
+                    save,
+                },
+                Held::InRegister,
+            ),
+        }
+    }
+}
+
 impl<GetReg, GetStackSlot, IsStackAlloc> MoveAndScratchResolver<GetReg, GetStackSlot, IsStackAlloc>
 where
     GetReg: FnMut() -> Option<Allocation>,
@@ -49,15 +71,12 @@ where
 {
     /// A free register, or a slot where none is free.
     fn hand_out(&mut self) -> Result<Handed, MoveFault>
-        requires registers { GetReg.IsAlwaysCallable self.old.find_free_reg }
-        requires slots { GetStackSlot.IsAlwaysCallable self.old.get_stackslot }
-        ensures registers { GetReg.IsAlwaysCallable self.new.find_free_reg }
-        ensures slots { GetStackSlot.IsAlwaysCallable self.new.get_stackslot }
+        requires registers { GetReg.pre self.old.find_free_reg }
+        requires slots { GetStackSlot.pre self.old.get_stackslot }
         ensures stack { self.new.is_stack_alloc ≡ self.old.is_stack_alloc }
         ensures borrowed { self.new.borrowed_scratch_reg ≡ self.old.borrowed_scratch_reg }
         ensures handed { IfOk result (λ h. IsHanding (λ s a t. GetReg.step s a t) (λ s a t. GetStackSlot.step s a t) self.old.find_free_reg self.new.find_free_reg self.old.get_stackslot self.new.get_stackslot h) }
-        ensures none { IfErr result (λ e. IsRefusing (λ s a t. GetReg.step s a t) (λ s a t. GetStackSlot.step s a t) self.old.find_free_reg self.new.find_free_reg self.old.get_stackslot self.new.get_stackslot) }
-        ensures fault { IfErr result (λ e. e ≡ MoveFault.NoSlot) }
+        ensures none { IfErr result (λ e. (e ≡ MoveFault.NoSlot) × IsRefusing (λ s a t. GetReg.step s a t) (λ s a t. GetStackSlot.step s a t) self.old.find_free_reg self.new.find_free_reg self.old.get_stackslot self.new.get_stackslot) }
     {
         if let Some(register) = (self.find_free_reg)() {
             return Ok(Handed::Register(register));
@@ -71,8 +90,8 @@ where
     /// Whether a move goes from memory to memory.
     fn is_stack_to_stack(&self, from: Allocation, to: Allocation) -> bool
         requires callable { IsStackAlloc.IsAlwaysCallable self.now.is_stack_alloc }
-        requires one_answer { HasOneAnswer (λ p b. IsStackAlloc.post self.now.is_stack_alloc p b) }
-        ensures { IsTrue result ↔ (IsStackAlloc.post self.now.is_stack_alloc from true × IsStackAlloc.post self.now.is_stack_alloc to true) }
+        ensures both { result ≡ true → IsStackAlloc.post self.now.is_stack_alloc from true × IsStackAlloc.post self.now.is_stack_alloc to true }
+        ensures one { result ≡ false → IsStackAlloc.post self.now.is_stack_alloc from false ⊎ IsStackAlloc.post self.now.is_stack_alloc to false }
     {
         (self.is_stack_alloc)(from) && (self.is_stack_alloc)(to)
     }
@@ -80,8 +99,7 @@ where
     /// Whether one of the moves goes from memory to memory.
     fn has_stack_to_stack<T: Copy + Default>(&self, moves: &[(Allocation, Allocation, T)]) -> bool
         requires callable { IsStackAlloc.IsAlwaysCallable self.now.is_stack_alloc }
-        requires one_answer { HasOneAnswer (λ p b. IsStackAlloc.post self.now.is_stack_alloc p b) }
-        ensures none { result ≡ false → AreApartInMemory (λ p b. IsStackAlloc.post self.now.is_stack_alloc p b) moves.now }
+        ensures none { result ≡ false → AreSeenApart (λ p b. IsStackAlloc.post self.now.is_stack_alloc p b) moves.now }
         ensures some { AreApartInMemory (λ p b. IsStackAlloc.post self.now.is_stack_alloc p b) moves.now → result ≡ false }
     {
         for m in moves {
@@ -97,16 +115,12 @@ where
         &mut self,
         moves: MoveVecWithScratch<T, A>,
     ) -> Result<MoveVec<T, A>, MoveFault>
-        requires registers { GetReg.IsAlwaysCallable self.old.find_free_reg }
-        requires slots { GetStackSlot.IsAlwaysCallable self.old.get_stackslot }
-        ensures registers { GetReg.IsAlwaysCallable self.new.find_free_reg }
-        ensures slots { GetStackSlot.IsAlwaysCallable self.new.get_stackslot }
+        requires registers { GetReg.pre self.old.find_free_reg }
+        requires slots { GetStackSlot.pre self.old.get_stackslot }
         ensures stack { self.new.is_stack_alloc ≡ self.old.is_stack_alloc }
         ensures borrowed { self.new.borrowed_scratch_reg ≡ self.old.borrowed_scratch_reg }
         ensures chosen { IfOk result (λ made. IsChoice (λ s a t. GetReg.step s a t) (λ s a t. GetStackSlot.step s a t) self.old.find_free_reg self.new.find_free_reg self.old.get_stackslot self.new.get_stackslot moves made.items) }
-        ensures none { IfErr result (λ e. IsRefusing (λ s a t. GetReg.step s a t) (λ s a t. GetStackSlot.step s a t) self.old.find_free_reg self.new.find_free_reg self.old.get_stackslot self.new.get_stackslot) }
-        ensures fault { IfErr result (λ e. e ≡ MoveFault.NoSlot) }
-        ensures needed { IfErr result (λ e. has_scratch moves ≡ true) }
+        ensures none { IfErr result (λ e. (e ≡ MoveFault.NoSlot) × (has_scratch moves ≡ true) × IsRefusing (λ s a t. GetReg.step s a t) (λ s a t. GetStackSlot.step s a t) self.old.find_free_reg self.new.find_free_reg self.old.get_stackslot self.new.get_stackslot) }
     {
         if !moves.needs_scratch() {
             return Ok(moves.with_scratch(Allocation::none()));
@@ -124,17 +138,10 @@ where
         moves: &[(Allocation, Allocation, T)],
         way: &Way,
         first: Held,
-    ) -> Result<MoveVec<T, A>, AllocError>
+    ) -> Result<MoveVec<T, A>, MoveFault>
         requires callable { IsStackAlloc.IsAlwaysCallable self.now.is_stack_alloc }
-        requires one_answer { HasOneAnswer (λ p b. IsStackAlloc.post self.now.is_stack_alloc p b) }
-        requires register { IsStackAlloc.post self.now.is_stack_alloc way.now.register true → ⊥ }
-        requires first { IsFirst first }
-        requires fits { Fits first way.now.register way.now.save }
-        requires unnamed { IsUnnamed way.now.save moves.now }
-        requires real { (way.now.register ≢ NoPlace) × (way.now.save ≢ NoPlace) }
-        requires between { AreBetweenPlaces moves.now }
-        ensures same { IfOk result (λ out. (q : Place) → q ≢ way.now.save → in_turn (ends_of out.items) names q ≡ in_turn (ends_of moves.now) names q) }
-        ensures made { IfOk result (λ out. All (IsMade (λ p b. IsStackAlloc.post self.now.is_stack_alloc p b) way.now.register way.now.save moves.now) out.items) }
+        requires can { CanExpand (λ p b. IsStackAlloc.post self.now.is_stack_alloc p b) way.now.register way.now.save first moves.now }
+        ensures expanded { MatchResult result (λ out. IsExpanded (λ p b. IsStackAlloc.post self.now.is_stack_alloc p b) way.now.register way.now.save moves.now out.items) (λ e. e ≡ MoveFault.Memory) }
     {
         let mut held = first;
         let mut out = SmallVec::new(alloc);
@@ -151,8 +158,8 @@ where
         &mut self,
         moves: MoveVecWithScratch<T, A>,
     ) -> Result<MoveVec<T, A>, MoveFault>
-        requires registers { GetReg.IsAlwaysCallable self.old.find_free_reg }
-        requires slots { GetStackSlot.IsAlwaysCallable self.old.get_stackslot }
+        requires registers { MayBeAskedTwice (λ s a t. GetReg.step s a t) (λ s. GetReg.pre s) self.old.find_free_reg }
+        requires slots { MayBeAskedTwice (λ s a t. GetStackSlot.step s a t) (λ s. GetStackSlot.pre s) self.old.get_stackslot }
         requires stack { IsStackAlloc.IsAlwaysCallable self.old.is_stack_alloc }
         requires runnable { IsRunnable moves }
         requires owes { Owes (λ s a t. GetReg.step s a t) (λ s a t. GetStackSlot.step s a t) (λ p b. IsStackAlloc.post self.old.is_stack_alloc p b) (InRegister self.old.borrowed_scratch_reg) (listed moves) self.old.find_free_reg self.old.get_stackslot }
@@ -166,21 +173,8 @@ where
         if !self.has_stack_to_stack(list) {
             return Ok(chosen);
         }
-        let alloc = *chosen.allocator();
-        match self.hand_out()? {
-            Handed::Register(register) => {
-                let way = Way {
-                    register,
-                    save: register,
-                };
-                Ok(self.expand(alloc, list, &way, Held::Free)?)
-            }
-            Handed::Slot(save) => {
-                let register = Allocation::reg(self.borrowed_scratch_reg);
-                let way = Way { register, save };
-                Ok(self.expand(alloc, list, &way, Held::InRegister)?)
-            }
-        }
+        let (way, first) = self.hand_out()?.way(self.borrowed_scratch_reg);
+        self.expand(*chosen.allocator(), list, &way, first)
     }
 
     /// The moves with the scratch places that they need, none of them from memory to memory. A cycle goes through a free
@@ -189,7 +183,10 @@ where
     ///
     /// `moves` are to be as `ParallelMoves::resolve` gives them: without `Allocation::none()`, or with it written before it is
     /// read. The closures owe registers and slots that no move names and that all differ; no register, the borrowed one
-    /// neither, is in memory; the borrowed register is no slot; and whether a place is in memory has one answer.
+    /// neither, is in memory.
+    ///
+    /// `find_free_reg` and `get_stackslot` need only bear two calls each, and so are asked at most twice. They are dropped
+    /// in the states that these calls left them in, of which `computed` speaks as `f` and `g`. `compute_by_ref` keeps them.
     ///
     /// Refused with `NoSlot` only where `get_stackslot` answered none, and with `Memory` where a growth was refused.
     /// The contract leaves open in which order the moves come, and how many they are.
@@ -197,8 +194,8 @@ where
         mut self,
         moves: MoveVecWithScratch<T, A>,
     ) -> Result<MoveVec<T, A>, MoveFault>
-        requires registers { GetReg.IsAlwaysCallable self.find_free_reg }
-        requires slots { GetStackSlot.IsAlwaysCallable self.get_stackslot }
+        requires registers { MayBeAskedTwice (λ s a t. GetReg.step s a t) (λ s. GetReg.pre s) self.find_free_reg }
+        requires slots { MayBeAskedTwice (λ s a t. GetStackSlot.step s a t) (λ s. GetStackSlot.pre s) self.get_stackslot }
         requires stack { IsStackAlloc.IsAlwaysCallable self.is_stack_alloc }
         requires runnable { IsRunnable moves }
         requires owes { Owes (λ s a t. GetReg.step s a t) (λ s a t. GetStackSlot.step s a t) (λ p b. IsStackAlloc.post self.is_stack_alloc p b) (InRegister self.borrowed_scratch_reg) (listed moves) self.find_free_reg self.get_stackslot }

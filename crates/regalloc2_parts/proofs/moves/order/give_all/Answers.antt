@@ -1,6 +1,8 @@
-use Rattle.std.proofs.Common.{◌≡◌, ◌<◌, length, replicate, rules, arith, sym, ap, ◌∙◌, subst}
+use Rattle.std.proofs.Common.{◌≡◌, ℕ, ◌<◌, length, replicate, rules, arith, lit<, sym, ap, ◌∙◌, subst}
+use borrow.Author.Count.{falls}
 use Rattle.std.specs.List.{All}
 use Rattle.std.proofs.lemmas.List.Elements.{All-nil}
+use Rattle.std.proofs.lemmas.Result.{err_from_is_err_and}
 use Rattle.regalloc2_parts.specs.declared.moves.order.State.TheVariants.{Todo}
 use Rattle.regalloc2_parts.specs.AtOnce.{ends_of, IsOfMoves}
 use Rattle.regalloc2_parts.specs.Giving.{state_at}
@@ -53,3 +55,28 @@ returns-clause-order g c =
     let end : c.loop-start.start ≡ length (ends_of c.args.moves.now) = omega arith in
     given_whole (ends_of c.args.moves.now) c.args.nexts.now c.loop-start.state (ends_of c.loop-start.given.items) c.loop-start.chain.items (c.requires.indexed ∙ sym many)
     (subst (λ n. HasGivenTo (ends_of c.args.moves.now) c.args.nexts.now c.loop-start.state (ends_of c.loop-start.given.items) c.loop-start.chain.items n) end c.loop-start.invariant.given)
+
+pub returns-clause-of_moves : goal.returns-clause-of_moves
+returns-clause-of_moves g c = c.loop-start.invariant.of_moves
+
+pub returns-in_err-states : goal.returns-in_err-states
+returns-in_err-states g c =
+    let p = err_from_is_err_and c.from_residual.result c.from_residual.ensures.1 in
+    rw p.1 (record { order = tt; of_moves = tt })
+
+pub returns-in_err-give_from : goal.returns-in_err-give_from
+returns-in_err-give_from g c =
+    let p = err_from_is_err_and c.from_residual-in_err-give_from.result c.from_residual-in_err-give_from.ensures.1 in
+    rw p.1 (record { order = tt; of_moves = tt })
+
+pub bounds : goal.bounds
+bounds g c = subst (λ (n : ℕ). c.loop-start.start < n) (sym (c.loop-start.invariant.given.as_many ∙ length_ends c.args.moves.now)) c.loop-start-test.true
+
+pub from_elem-requires : goal.from_elem-requires
+from_elem-requires g c = lit< tt
+
+pub as_mut_slice-state-requires : goal.as_mut_slice-state-requires
+as_mut_slice-state-requires g c = lit< tt
+
+pub loop-start-smaller : goal.loop-start-smaller
+loop-start-smaller g c = falls (length c.args.moves.now) c.loop-start.start c.loop-start-test.true

@@ -1,4 +1,5 @@
-use Rattle.std.proofs.Common.{◌≡◌, ℕ, ◌<◌, length, rules, arith, sym, ◌∙◌, subst}
+use Rattle.std.proofs.Common.{◌≡◌, ℕ, ◌<◌, length, rules, arith, lit<, sym, ◌∙◌, subst}
+use Rattle.std.proofs.lemmas.Result.{err_from_is_err_and, on_ok_weaker}
 use Rattle.regalloc2_parts.specs.declared.moves.order.State.TheVariants.{Pending}
 use Rattle.regalloc2_parts.specs.AtOnce.{ends_of}
 use Rattle.regalloc2_parts.specs.Giving.{state_at, HasRings, AreRingsDone, HasGivenWhole, IsGiving}
@@ -8,6 +9,17 @@ use Rattle.regalloc2_parts.proofs.Rounds.{gives_start}
 use Rattle.regalloc2_parts.proofs.Whole.{whole_along, start_ready}
 use Rattle.regalloc2_parts.proofs.moves.order.give_from.Goals as goal
 use Rattle.regalloc2_parts.proofs.moves.order.give_from.Goals.{else-stop-moves-via-then-stop-moves+else-matches, in-Pending, in_default, else-stop-moves-via-else-stop-moves}
+
+pub follow-requires : goal.follow-requires
+follow-requires g c = (lit< tt, (c.requires.as_many ∙ sym c.requires.indexed, (c.requires.settled, (c.requires.empty, (c.requires.start, subst (λ (n : ℕ). c.args.start < n) (sym c.requires.indexed) c.requires.within)))))
+
+pub returns-in_err-stop : goal.returns-in_err-stop
+returns-in_err-stop g c =
+    let p = err_from_is_err_and c.from_residual.result c.from_residual.ensures.1 in
+    rw p.1 (record { had = tt; settled = tt; empty = tt; goes_on = tt; begun = tt; of_moves = tt })
+
+pub bounds : goal.bounds
+bounds g c = subst (λ (n : ℕ). c.in_ok-stop.stop < n) (sym (c.follow.auto.state ∙ c.requires.as_many)) c.if-stop-moves.true
 
 pub open_ring-requires : goal.open_ring-requires
 open_ring-requires g c =
@@ -43,11 +55,38 @@ open_ring-requires g c =
       ),
     )
 
-pub returns-then-matches-clause-goes_on : goal.returns-then-matches-clause-goes_on
-returns-then-matches-clause-goes_on g c k n = c.in_ok-give_chain.ensures.goes_on k (c.in_ok-cut.ensures.goes_on k (c.in_ok-stop.ensures.goes_on k n))
+pub returns-in_err-cut : goal.returns-in_err-cut
+returns-in_err-cut g c =
+    let p = err_from_is_err_and c.from_residual-in_err-cut.result c.from_residual-in_err-cut.ensures.1 in
+    rw p.1 (record { had = tt; settled = tt; empty = tt; goes_on = tt; begun = tt; of_moves = tt })
 
-pub returns-then-matches-clause-begun : goal.returns-then-matches-clause-begun
-returns-then-matches-clause-begun g c = c.in_ok-give_chain.ensures.goes_on c.args.start (c.in_ok-cut.ensures.goes_on c.args.start c.in_ok-stop.ensures.begun)
+pub give_chain-requires : goal.give_chain-requires
+give_chain-requires g c = (
+  lit< tt,
+  (
+    search rules,
+    (
+      c.requires.apart,
+      (
+        c.requires.nexts,
+        (
+          c.open_ring.auto.state ∙ c.follow.auto.state ∙ c.requires.as_many,
+          (c.requires.indexed, (c.in_ok-cut.ensures.giving, c.in_ok-cut.ensures.of_moves)),
+        ),
+      ),
+    ),
+  ),
+)
+
+pub returns-then-matches : goal.returns-then-matches
+returns-then-matches g c = record {
+  had = c.give_chain.ensures.had;
+  settled = c.give_chain.ensures.settled;
+  empty = c.give_chain.ensures.empty;
+  goes_on = on_ok_weaker c.give_chain.result (λ h k n. h k (c.in_ok-cut.ensures.goes_on k (c.in_ok-stop.ensures.goes_on k n))) c.give_chain.ensures.goes_on;
+  begun = on_ok_weaker c.give_chain.result (λ h. h c.args.start (c.in_ok-cut.ensures.goes_on c.args.start c.in_ok-stop.ensures.begun)) c.give_chain.ensures.goes_on;
+  of_moves = c.give_chain.ensures.of_moves;
+}
 
 pub give_chain-requires-2 : goal.give_chain-requires-2
 give_chain-requires-2 g c =
@@ -84,8 +123,12 @@ give_chain-requires-2 g c =
       ),
     )
 
-pub returns-clause-goes_on : goal.returns-clause-goes_on
-returns-clause-goes_on g c k n = c.in_ok-give_chain-2.ensures.goes_on k (c.in_ok-stop.ensures.goes_on k n)
-
-pub returns-clause-begun : goal.returns-clause-begun
-returns-clause-begun g c = c.in_ok-give_chain-2.ensures.goes_on c.args.start c.in_ok-stop.ensures.begun
+pub returns : goal.returns
+returns g c = record {
+  had = c.give_chain-2.ensures.had;
+  settled = c.give_chain-2.ensures.settled;
+  empty = c.give_chain-2.ensures.empty;
+  goes_on = on_ok_weaker c.give_chain-2.result (λ h k n. h k (c.in_ok-stop.ensures.goes_on k n)) c.give_chain-2.ensures.goes_on;
+  begun = on_ok_weaker c.give_chain-2.result (λ h. h c.args.start c.in_ok-stop.ensures.begun) c.give_chain-2.ensures.goes_on;
+  of_moves = c.give_chain-2.ensures.of_moves;
+}
