@@ -1,6 +1,6 @@
 -- Where a misfit is named, the machine doesn't fit.
 use Rattle.std.proofs.Common.{◌≡◌, ◌<◌, false, length, slice_index_or, refl}
-use Rattle.std.specs.Prelude.{◌≢◌, Some, Result, Ok, Err, IsOk, IsErr, OnOk, IfErr, ◌↔◌}
+use Rattle.std.specs.Prelude.{◌≢◌, Some, Result, Ok, Err, IsOk, OnOk, OnErr, IfErr, ◌↔◌}
 use Rattle.std.proofs.lemmas.List.Elements.{All-contains}
 use Rattle.regalloc2_names.specs.Register.{Register, invalid_register}
 use Rattle.regalloc2_names.specs.declared.RegClass.{RegClass}
@@ -30,12 +30,17 @@ misfit_fails f env (SlotAllocatable class r) h fits = true_is_not_false _ h.2 (t
 misfit_fails f env (SlotIsScratch class r) h fits = (taken env class r (λ s. (is_allocatable env class s ≡ false) × (scratch_of env class ≢ Some s) × (s ≢ invalid_register)) (fits class).slots_apart h.1).1 h.3
 misfit_fails f env (NoRegister class) h fits = let r = (fits class).has_a_register h.2 in true_is_not_false _ r.1 (h.3 r.0)
 
--- a result isn't both
-pub never_both : {T E : Type 0} (r : Result T E) → IsOk r → IsErr r → ⊥
-never_both (Ok x) ok err = cc
-never_both (Err e) ok err = cc
+-- what always holds is said of an error
+pub always : {T E : Type 0} (r : Result T E) (P : Type 0) → P → OnErr r P
+always (Ok x) P p = tt
+always (Err e) P p = p
+
+-- errors that deny a fact
+pub denies : {T E : Type 0} (r : Result T E) (P : Type 0) (Q : E → Type 0) → IfErr r Q → ((e : E) → Q e → P → ⊥) → OnErr r (P → ⊥)
+denies (Ok x) P Q q denied = tt
+denies (Err e) P Q q denied = denied e q
 
 -- a test answers yes exactly where a fact holds, if its errors deny that fact
-pub ok_iff : {T E : Type 0} (r : Result T E) (P : Type 0) (Q : E → Type 0) → OnOk r P → IfErr r Q → ((e : E) → Q e → P → ⊥) → IsOk r ↔ P
-ok_iff (Ok x) P Q p q denied = (λ _. p, λ _. refl)
-ok_iff (Err e) P Q p q denied = (λ ok. absurd cc, λ h. absurd (denied e q h))
+pub ok_iff : {T E : Type 0} (r : Result T E) (P : Type 0) → OnOk r P → OnErr r (P → ⊥) → IsOk r ↔ P
+ok_iff (Ok x) P p denied = (λ _. p, λ _. refl)
+ok_iff (Err e) P p denied = (λ ok. absurd cc, λ h. absurd (denied h))

@@ -1,6 +1,6 @@
 //! The registers of a machine.
 
-ghost use Rattle.std.specs.Prelude.{◌≡◌, ◌≢◌, ℕ, ◌<◌, ◌+◌, ◌&&◌, ◌↔◌, IsTrue, IsOk, IfErr, OnOk, MatchOption, ◌⊎◌, All, Any, Contains, Some, true, false, length, slice_index_or, []};
+ghost use Rattle.std.specs.Prelude.{◌≡◌, ◌≢◌, ℕ, ◌<◌, ◌+◌, ◌&&◌, ◌↔◌, IsTrue, IfErr, OnErr, OnOk, MatchOption, ◌⊎◌, All, Any, Contains, Some, true, false, length, slice_index_or, []};
 ghost use Rattle.std.specs.Bool.{OnTrue, OnFalse};
 ghost use Rattle.regalloc2_names.specs.Register.{Register, class_code, invalid_register};
 ghost use Rattle.regalloc2_names.specs.RegisterSet.{has_register};
@@ -287,7 +287,8 @@ pub fn test_machine<F: Function, A: Allocator>(
     f: &F,
     env: &MachineEnv<A>,
 ) -> Result<(), MachineMisfit>
-    ensures fits { IsOk result ↔ MachineFits (F.function f.now) (machine_of env.now) }
+    ensures ok { OnOk result (MachineFits (F.function f.now) (machine_of env.now)) }
+    ensures err { OnErr result (MachineFits (F.function f.now) (machine_of env.now) → ⊥) }
     ensures misfit { IfErr result (IsMisfit (F.function f.now) (machine_of env.now)) }
 {
     if env.has_invalid_slot() {
