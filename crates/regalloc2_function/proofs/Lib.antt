@@ -8,3 +8,4 @@ pub mod ListingLaws
 pub mod Tests
 pub mod OrderLaws
 pub mod Following
+pub mod Misfits

@@ -17,3 +17,5 @@ pub mod Slots
 pub mod DebugPoints
 pub mod DebugPaths
 pub mod Stored
+pub mod Misfit
+pub mod SingleUnits

@@ -14,12 +14,14 @@ mod framed;
 mod laws;
 mod listing;
 mod machine;
+mod misfit;
 mod serialize;
 
 pub use framed::{is_framed, test_blocks, test_ends};
 pub use laws::{agrees_where_numbers_do, finds_earlier_writes, reads_the_same_numbers};
 pub use listing::{Edit, InstOrEdit, Output, OutputIter};
-pub use machine::{MachineEnv, machine_fits};
+pub use machine::{MachineEnv, machine_fits, test_machine};
+pub use misfit::MachineMisfit;
 pub use serialize::{StoredFault, StoredOutput};
 
 /// A function as a client of the allocator describes it: blocks of instructions, and what each instruction does with

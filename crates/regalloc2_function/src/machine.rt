@@ -1,17 +1,19 @@
 //! The registers of a machine.
 
-ghost use Rattle.std.specs.Prelude.{◌≡◌, ◌≢◌, ℕ, ◌<◌, ◌+◌, ◌↔◌, IsTrue, ◌⊎◌, All, Any, Contains, Some, true, false, length, slice_index_or, []};
+ghost use Rattle.std.specs.Prelude.{◌≡◌, ◌≢◌, ℕ, ◌<◌, ◌+◌, ◌&&◌, ◌↔◌, IsTrue, IfErr, OnErr, OnOk, MatchOption, ◌⊎◌, All, Any, Contains, Some, true, false, length, slice_index_or, []};
 ghost use Rattle.std.specs.Bool.{OnTrue, OnFalse};
 ghost use Rattle.regalloc2_names.specs.Register.{Register, class_code, invalid_register};
 ghost use Rattle.regalloc2_names.specs.RegisterSet.{has_register};
 ghost use Rattle.regalloc2_names.specs.declared.RegClass.{RegClass};
-ghost use Rattle.regalloc2_function.specs.FunctionValue.{block_at, inst_at};
+ghost use Rattle.regalloc2_function.specs.FunctionValue.{FunctionValue, block_at, inst_at};
 ghost use Rattle.regalloc2_function.specs.Machine.{is_allocatable, is_preferred, is_non_preferred, scratch_of};
 ghost use Rattle.regalloc2_function.specs.SourceRun.{is_fixed_nonallocatable};
 ghost use Rattle.regalloc2_function.specs.Fitting.{MachineFits, ClassFits, NamesClass, NamesByArgument};
+ghost use Rattle.regalloc2_function.specs.Misfit.{AreSlotsValid, FitsBefore, AreRegistersSound, IsScratchSound, IsSlotApart, PassesRegisters, PassesScratch, IsMisfit};
 ghost use Rattle.regalloc2_function.specs.Views.{machine_of};
 
 use super::Function;
+use super::misfit::MachineMisfit;
 use regalloc2_index::{Block, Inst};
 use regalloc2_names::{Operand, PReg, PRegSet, RegClass, VReg};
 use std::alloc::{Allocator, Global};
@@ -38,22 +40,24 @@ fn is_class(a: RegClass, b: RegClass) -> bool
     a as usize == b as usize
 }
 
-/// Whether a set has no register at all.
-fn is_no_set(set: PRegSet) -> bool
-    ensures { IsTrue result ↔ ((r : Register) → has_register set r ≡ false) }
+/// A register of a set, if it has one.
+fn register_in(set: PRegSet) -> Option<PReg>
+    ensures { MatchOption result ((r : Register) → has_register set r ≡ false) (λ reg. has_register set reg ≡ true) }
 {
-    set.is_empty(RegClass::Int) && set.is_empty(RegClass::Float) && set.is_empty(RegClass::Vector)
+    set.into_iter().next()
 }
 
-/// Whether a set has registers of one class alone.
-fn is_of_class(set: PRegSet, class: RegClass) -> bool
-    ensures { IsTrue result ↔ ((r : Register) → has_register set r ≡ true → r.class ≡ class) }
+/// A register of a set that isn't of a class, if there is one.
+fn of_other_class(set: PRegSet, class: RegClass) -> Option<PReg>
+    ensures { MatchOption result ((r : Register) → has_register set r ≡ true → r.class ≡ class)
+        (λ reg. (has_register set reg ≡ true) × (reg.class ≢ class)) }
 {
-    match class {
-        RegClass::Int => set.is_empty(RegClass::Float) && set.is_empty(RegClass::Vector),
-        RegClass::Float => set.is_empty(RegClass::Int) && set.is_empty(RegClass::Vector),
-        RegClass::Vector => set.is_empty(RegClass::Int) && set.is_empty(RegClass::Float),
+    for reg in set {
+        if !is_class(reg.class(), class) {
+            return Some(reg);
+        }
     }
+    None
 }
 
 /// Whether a register is another one.
@@ -72,69 +76,84 @@ impl<A: Allocator> MachineEnv<A> {
         self.preferred_regs_by_class[index] | self.non_preferred_regs_by_class[index]
     }
 
-    /// Whether the sets for a class have valid registers of that class, each once.
-    fn are_sets_sound(&self, class: RegClass) -> bool
-        ensures { IsTrue result ↔ (((r : Register) → is_allocatable (machine_of self.now) class r ≡ true → r.class ≡ class)
-            × ((r : Register) → is_preferred (machine_of self.now) class r ≡ true → is_non_preferred (machine_of self.now) class r ≡ false)
-            × (is_allocatable (machine_of self.now) class invalid_register ≡ false)) }
+    /// The registers that are listed for a class as preferred and as non-preferred.
+    fn listed_twice(&self, class: RegClass) -> PRegSet
+        ensures { (r : Register) → has_register result r ≡ is_preferred (machine_of self.now) class r && is_non_preferred (machine_of self.now) class r }
     {
         let index = class as usize;
-        let both = self.preferred_regs_by_class[index] & self.non_preferred_regs_by_class[index];
-        let allocatable = self.allocatable(class);
-        is_of_class(allocatable, class) && is_no_set(both) && !allocatable.contains(PReg::invalid())
+        self.preferred_regs_by_class[index] & self.non_preferred_regs_by_class[index]
     }
 
-    /// Whether a register is valid and not allocatable for a class.
-    fn is_apart(&self, class: RegClass, reg: PReg) -> bool
-        ensures { IsTrue result ↔ ((is_allocatable (machine_of self.now) class reg ≡ false) × (reg ≢ invalid_register)) }
+    /// Tests the registers that are listed for a class.
+    fn test_registers(&self, class: RegClass) -> Result<(), MachineMisfit>
+        ensures ok { OnOk result (AreRegistersSound (machine_of self.now) class) }
+        ensures misfit { IfErr result (λ m. (f : FunctionValue) → FitsBefore f (machine_of self.now) class → IsMisfit f (machine_of self.now) m) }
     {
-        !self.allocatable(class).contains(reg) && is_other(reg, PReg::invalid())
+        let allocatable = self.allocatable(class);
+        if let Some(reg) = of_other_class(allocatable, class) {
+            return Err(MachineMisfit::OtherClass(class, reg));
+        }
+        if let Some(reg) = register_in(self.listed_twice(class)) {
+            return Err(MachineMisfit::ListedTwice(class, reg));
+        }
+        if allocatable.contains(PReg::invalid()) {
+            return Err(MachineMisfit::InvalidRegister(class));
+        }
+        Ok(())
     }
 
-    /// Whether the register of a class that is set aside for moves, if there is one, is valid, of that class and not
-    /// allocatable.
-    fn is_scratch_sound(&self, class: RegClass) -> bool
-        ensures { IsTrue result ↔ ((r : Register) → scratch_of (machine_of self.now) class ≡ Some r →
-            (r.class ≡ class) × (is_allocatable (machine_of self.now) class r ≡ false) × (r ≢ invalid_register)) }
+    /// Tests the register of a class that is set aside for moves, if there is one.
+    fn test_scratch(&self, class: RegClass) -> Result<(), MachineMisfit>
+        ensures ok { OnOk result (IsScratchSound (machine_of self.now) class) }
+        ensures misfit { IfErr result (λ m. (f : FunctionValue) → PassesRegisters f (machine_of self.now) class → IsMisfit f (machine_of self.now) m) }
     {
         let Some(scratch) = self.scratch_by_class[class as usize] else {
-            return true;
+            return Ok(());
         };
-        is_class(scratch.class(), class) && self.is_apart(class, scratch)
+        if !is_class(scratch.class(), class) {
+            return Err(MachineMisfit::ScratchOfOtherClass(class, scratch));
+        }
+        if self.allocatable(class).contains(scratch) {
+            return Err(MachineMisfit::ScratchAllocatable(class, scratch));
+        }
+        match scratch.as_valid() {
+            Some(_) => Ok(()),
+            None => Err(MachineMisfit::InvalidScratch(class)),
+        }
     }
 
-    /// Whether a fixed stack slot is valid and no register that serves a class.
-    fn is_slot_apart(&self, class: RegClass, slot: PReg) -> bool
-        ensures { IsTrue result ↔ ((is_allocatable (machine_of self.now) class slot ≡ false)
-            × (scratch_of (machine_of self.now) class ≢ Some slot) × (slot ≢ invalid_register)) }
+    /// Whether a fixed stack slot is the invalid register.
+    fn has_invalid_slot(&self) -> bool
+        ensures some { OnTrue result (Contains (machine_of self.now).fixed_stack_slots invalid_register) }
+        ensures none { OnFalse result (AreSlotsValid (machine_of self.now)) }
     {
-        let is_scratch = match self.scratch_by_class[class as usize] {
-            Some(scratch) => !is_other(scratch, slot),
-            None => false,
-        };
-        !is_scratch && self.is_apart(class, slot)
+        self.fixed_stack_slots.contains(&PReg::invalid())
     }
 
-    /// Whether each fixed stack slot is valid and no register that serves a class.
-    fn are_slots_apart(&self, class: RegClass) -> bool
-        ensures { IsTrue result ↔ All (λ slot. (is_allocatable (machine_of self.now) class slot ≡ false)
-            × (scratch_of (machine_of self.now) class ≢ Some slot) × (slot ≢ invalid_register)) (machine_of self.now).fixed_stack_slots }
+    /// Whether a register is the one of a class that is set aside for moves.
+    fn is_scratch(&self, class: RegClass, reg: PReg) -> bool
+        ensures { IsTrue result ↔ (scratch_of (machine_of self.now) class ≡ Some reg) }
     {
-        self.fixed_stack_slots
-            .as_slice()
-            .iter()
-            .all(|slot| self.is_slot_apart(class, *slot))
-    }
-
-    /// Whether a class has a register that may be allocated.
-    fn has_allocatable(&self, class: RegClass) -> bool
-        ensures some { OnTrue result ((r : Register) × (is_allocatable (machine_of self.now) class r ≡ true)) }
-        ensures none { OnFalse result ((r : Register) → is_allocatable (machine_of self.now) class r ≡ false) }
-    {
-        match self.allocatable(class).into_iter().next() {
-            Some(_) => true,
+        match self.scratch_by_class[class as usize] {
+            Some(scratch) => !is_other(scratch, reg),
             None => false,
         }
+    }
+
+    /// Tests that no fixed stack slot is a register that serves a class.
+    fn test_slots(&self, class: RegClass) -> Result<(), MachineMisfit>
+        ensures ok { OnOk result (All (IsSlotApart (machine_of self.now) class) (machine_of self.now).fixed_stack_slots) }
+        ensures misfit { IfErr result (λ m. (f : FunctionValue) → PassesScratch f (machine_of self.now) class → IsMisfit f (machine_of self.now) m) }
+    {
+        for slot in self.fixed_stack_slots.as_slice() {
+            if self.allocatable(class).contains(*slot) {
+                return Err(MachineMisfit::SlotAllocatable(class, *slot));
+            }
+            if self.is_scratch(class, *slot) {
+                return Err(MachineMisfit::SlotIsScratch(class, *slot));
+            }
+        }
+        Ok(())
     }
 }
 
@@ -232,23 +251,27 @@ fn names_class<F: Function>(f: &F, class: RegClass) -> bool
     insts_name(f, class) || blocks_name(f, class)
 }
 
-/// Whether a machine suits what a function has of one class.
-fn class_fits<F: Function, A: Allocator>(f: &F, env: &MachineEnv<A>, class: RegClass) -> bool
-    ensures { IsTrue result ↔ ClassFits (F.function f.now) (machine_of env.now) class }
+/// Tests that a machine suits what a function has of one class.
+fn test_class<F: Function, A: Allocator>(
+    f: &F,
+    env: &MachineEnv<A>,
+    class: RegClass,
+) -> Result<(), MachineMisfit>
+    requires valid { AreSlotsValid (machine_of env.now) }
+    requires before { FitsBefore (F.function f.now) (machine_of env.now) class }
+    ensures ok { OnOk result (ClassFits (F.function f.now) (machine_of env.now) class) }
+    ensures misfit { IfErr result (IsMisfit (F.function f.now) (machine_of env.now)) }
 {
-    if !env.are_sets_sound(class) {
-        return false;
+    env.test_registers(class)?;
+    env.test_scratch(class)?;
+    env.test_slots(class)?;
+    if register_in(env.allocatable(class)).is_none() && names_class(f, class) {
+        return Err(MachineMisfit::NoRegister(class));
     }
-    if !env.is_scratch_sound(class) {
-        return false;
-    }
-    if !env.are_slots_apart(class) {
-        return false;
-    }
-    env.has_allocatable(class) || !names_class(f, class)
+    Ok(())
 }
 
-/// Whether a machine suits a function, as an allocation wants it.
+/// Tests that a machine suits a function, as an allocation wants it, and names the first condition that fails.
 ///
 /// Each class's registers, its scratch register too, are of that class; preferred, non-preferred and scratch registers
 /// and fixed stack slots are apart, and none is `PReg::invalid()`; and each class of which an operand, a parameter or an
@@ -256,15 +279,29 @@ fn class_fits<F: Function, A: Allocator>(f: &F, env: &MachineEnv<A>, class: RegC
 /// slots. Arguments of a block that is empty or not within the instructions don't count, nor do operands that name a
 /// register which is not allocated.
 ///
+/// That no slot is invalid is tested first, and then each class in turn: `Int`, `Float`, `Vector`. The conditions of a
+/// class come in the order of the variants of [`MachineMisfit`].
+///
 /// Upstream takes this for granted.
+pub fn test_machine<F: Function, A: Allocator>(
+    f: &F,
+    env: &MachineEnv<A>,
+) -> Result<(), MachineMisfit>
+    ensures ok { OnOk result (MachineFits (F.function f.now) (machine_of env.now)) }
+    ensures err { OnErr result (MachineFits (F.function f.now) (machine_of env.now) → ⊥) }
+    ensures misfit { IfErr result (IsMisfit (F.function f.now) (machine_of env.now)) }
+{
+    if env.has_invalid_slot() {
+        return Err(MachineMisfit::InvalidSlot);
+    }
+    test_class(f, env, RegClass::Int)?;
+    test_class(f, env, RegClass::Float)?;
+    test_class(f, env, RegClass::Vector)
+}
+
+/// Whether a machine suits a function, as [`test_machine`] tests it.
 pub fn machine_fits<F: Function, A: Allocator>(f: &F, env: &MachineEnv<A>) -> bool
     ensures { IsTrue result ↔ MachineFits (F.function f.now) (machine_of env.now) }
 {
-    if !class_fits(f, env, RegClass::Int) {
-        return false;
-    }
-    if !class_fits(f, env, RegClass::Float) {
-        return false;
-    }
-    class_fits(f, env, RegClass::Vector)
+    test_machine(f, env).is_ok()
 }

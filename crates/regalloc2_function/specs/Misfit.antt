@@ -1,0 +1,71 @@
+-- Why a machine doesn't suit a function: the first condition of `MachineFits` that fails.
+-- First come the fixed stack slots, none of which is invalid; then the classes, Int, Float and Vector in this order, and of each class the conditions in the order of `MachineMisfit`'s variants.
+use Rattle.std.specs.Prelude.{ℕ, ◌≡◌, ◌≢◌, ◌<◌, true, false, All, Contains, length, slice_index_or, take, Some}
+use Rattle.regalloc2_names.specs.Register.{Register, invalid_register}
+use Rattle.regalloc2_names.specs.declared.RegClass.{RegClass}
+use Rattle.regalloc2_names.specs.declared.RegClass.TheVariants.{Int, Float, Vector}
+use Rattle.regalloc2_function.specs.FunctionValue.{FunctionValue}
+use Rattle.regalloc2_function.specs.Machine.{MachineValue, is_allocatable, is_preferred, is_non_preferred, scratch_of}
+use Rattle.regalloc2_function.specs.Fitting.{ClassFits, NamesClass}
+use Rattle.regalloc2_function.specs.declared.misfit.MachineMisfit.{MachineMisfit}
+use Rattle.regalloc2_function.specs.declared.misfit.MachineMisfit.TheVariants.{InvalidSlot, OtherClass, ListedTwice, InvalidRegister, ScratchOfOtherClass, ScratchAllocatable, InvalidScratch, SlotAllocatable, SlotIsScratch, NoRegister}
+
+-- no fixed stack slot is the invalid register
+abbrev pub AreSlotsValid : MachineValue → Type 0
+AreSlotsValid env = All (λ r. r ≢ invalid_register) env.fixed_stack_slots
+
+-- what is tested before a class: the slots, or the classes before it
+abbrev pub FitsBefore : FunctionValue → MachineValue → RegClass → Type 0
+FitsBefore f env Int = AreSlotsValid env
+FitsBefore f env Float = ClassFits f env Int
+FitsBefore f env Vector = ClassFits f env Int × ClassFits f env Float
+
+-- the registers that are listed for a class are of that class, and none is both preferred and non-preferred
+abbrev pub AreOfClass : MachineValue → RegClass → Type 0
+AreOfClass env class = (r : Register) → is_allocatable env class r ≡ true → r.class ≡ class
+
+abbrev pub AreListedOnce : MachineValue → RegClass → Type 0
+AreListedOnce env class = (r : Register) → is_preferred env class r ≡ true → is_non_preferred env class r ≡ false
+
+-- all conditions on them
+pub record AreRegistersSound (env : MachineValue) (class : RegClass) : Type 0 where
+  pub of_class : AreOfClass env class
+  pub listed_once : AreListedOnce env class
+  pub valid : is_allocatable env class invalid_register ≡ false
+
+-- the scratch register of a class, if there is one, is of that class, not allocatable, and valid
+abbrev pub IsScratchSound : MachineValue → RegClass → Type 0
+IsScratchSound env class = (r : Register) → scratch_of env class ≡ Some r → (r.class ≡ class) × (is_allocatable env class r ≡ false) × (r ≢ invalid_register)
+
+-- a fixed stack slot is no register that serves a class
+abbrev pub IsSlotApart : MachineValue → RegClass → Register → Type 0
+IsSlotApart env class slot = (is_allocatable env class slot ≡ false) × (scratch_of env class ≢ Some slot)
+
+-- what is tested before the scratch register of a class, and before the slots
+pub record PassesRegisters (f : FunctionValue) (env : MachineValue) (class : RegClass) : Type 0 where
+  pub before : FitsBefore f env class
+  pub registers : AreRegistersSound env class
+
+pub record PassesScratch (f : FunctionValue) (env : MachineValue) (class : RegClass) : Type 0 where
+  pub before : FitsBefore f env class
+  pub registers : AreRegistersSound env class
+  pub scratch : IsScratchSound env class
+
+-- the first fixed stack slot that serves a class
+abbrev pub IsFirstTaken : MachineValue → RegClass → Register → Type 0
+IsFirstTaken env class r =
+    (k : ℕ) × (k < length env.fixed_stack_slots) × (slice_index_or env.fixed_stack_slots k r ≡ r) × All (IsSlotApart env class) (take k env.fixed_stack_slots)
+
+-- the condition that a misfit names fails, and those that are tested before it hold
+abbrev pub IsMisfit : FunctionValue → MachineValue → MachineMisfit → Type 0
+IsMisfit f env InvalidSlot = Contains env.fixed_stack_slots invalid_register
+IsMisfit f env (OtherClass class r) = FitsBefore f env class × (is_allocatable env class r ≡ true) × (r.class ≢ class)
+IsMisfit f env (ListedTwice class r) = FitsBefore f env class × AreOfClass env class × (is_preferred env class r ≡ true) × (is_non_preferred env class r ≡ true)
+IsMisfit f env (InvalidRegister class) = FitsBefore f env class × AreOfClass env class × AreListedOnce env class × (is_allocatable env class invalid_register ≡ true)
+IsMisfit f env (ScratchOfOtherClass class r) = PassesRegisters f env class × (scratch_of env class ≡ Some r) × (r.class ≢ class)
+IsMisfit f env (ScratchAllocatable class r) = PassesRegisters f env class × (scratch_of env class ≡ Some r) × (r.class ≡ class) × (is_allocatable env class r ≡ true)
+IsMisfit f env (InvalidScratch class) = PassesRegisters f env class × (scratch_of env class ≡ Some invalid_register) × (Int ≡ class)
+IsMisfit f env (SlotAllocatable class r) = PassesScratch f env class × IsFirstTaken env class r × (is_allocatable env class r ≡ true)
+IsMisfit f env (SlotIsScratch class r) = PassesScratch f env class × IsFirstTaken env class r × (is_allocatable env class r ≡ false) × (scratch_of env class ≡ Some r)
+IsMisfit f env (NoRegister class) =
+    PassesScratch f env class × All (IsSlotApart env class) env.fixed_stack_slots × NamesClass f class × ((r : Register) → is_allocatable env class r ≡ false)
