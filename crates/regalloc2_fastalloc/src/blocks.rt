@@ -17,7 +17,7 @@ use regalloc2_tables::arrivals::Arrival;
 use regalloc2_tables::turn::Turn;
 use std::alloc::Allocator;
 
-impl<A: Allocator> State<A> {
+impl<'a, A: Allocator> State<'a, A> {
     /// A parameter of the block that begins: it comes in its slot, from where it is moved to where it is awaited, and
     /// stands nowhere before.
     fn begin_parameter(

@@ -116,7 +116,7 @@ impl<'b, B: Allocator> Gathered<'b, B> {
     }
 }
 
-impl<A: Allocator + Copy> State<A> {
+impl<'a, A: Allocator> State<'a, A> {
     /// The first register that may be lent to moves of a class: that of the machine, else the oldest one in the set.
     fn first_lent(&self, class: RegClass, free: PRegSet) -> Option<PReg>
         ensures { IfSome result (λ r. (slice_index_or self.now.registers.dedicated (class_code class) None ≡ Some r) ⊎ IsFoundIn self.now.registers class free r) }
@@ -212,7 +212,7 @@ impl<A: Allocator + Copy> State<A> {
     }
 }
 
-impl<A: Allocator + Copy> State<A> {
+impl<'a, A: Allocator> State<'a, A> {
     /// An argument stands in its slot from now on, and is moved from there to where it was awaited.
     fn settle_argument(
         &mut self,

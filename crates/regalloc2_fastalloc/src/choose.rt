@@ -47,7 +47,7 @@ fn note_placed(turn: &mut Turn, placing: &Placing)
 
 // The steps that place an operand, and the moves of `scratch`, are inlined into one: calls between them would cost about a
 // tenth of a whole allocation.
-impl<A: Allocator> State<A> {
+impl<'a, A: Allocator> State<'a, A> {
     /// Whether a place meets what is asked.
     fn meets(&self, wanted: Wanted, place: Allocation) -> bool
         requires { place ≢ NoPlace }

@@ -137,7 +137,7 @@ fn set_place(places: &mut [Allocation], index: usize, place: Allocation)
     }
 }
 
-impl<A: Allocator> State<A> {
+impl<'a, A: Allocator> State<'a, A> {
     /// Places the operand k. The place of a reuse is that of the operand that it names too.
     fn place_operand(
         &mut self,
@@ -258,7 +258,7 @@ impl<A: Allocator> State<A> {
     }
 }
 
-impl<A: Allocator> State<A> {
+impl<'a, A: Allocator> State<'a, A> {
     /// Allocates an instruction: `here`, which has no place yet, gets those of its operands.
     pub fn allocate_inst(
         &mut self,

@@ -99,7 +99,7 @@ fn claimed_by(operands: &[Operand], k: usize) -> Option<(PReg, Positions)>
     Some((preg, positions))
 }
 
-impl<A: Allocator> State<A> {
+impl<'a, A: Allocator> State<'a, A> {
     /// Reserves a register at the positions. Refused where it isn't one of the machine's, or an earlier operand claimed it
     /// at one of them.
     fn reserve_register(

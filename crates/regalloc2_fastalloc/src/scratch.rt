@@ -12,7 +12,7 @@ use regalloc2_names::{Allocation, PReg, ProgPoint, RegAllocError, RegClass, VReg
 use regalloc2_tables::turn::{Positions, Turn};
 use std::alloc::Allocator;
 
-impl<A: Allocator> State<A> {
+impl<'a, A: Allocator> State<'a, A> {
     /// Whether a place is a spill slot or a fixed stack slot.
     pub fn is_stack_place(&self, place: Allocation) -> bool
         ensures { result ≡ is_stack_in (tables_of self.now) place }

@@ -19,18 +19,18 @@ use std::alloc::Allocator;
 
 /// The tables of the walk over the instructions, which goes from the last to the first.
 #[derive(Drop)]
-pub struct State<A: Allocator> {
-    pub places: Places<A>,
-    pub slots: Slots<A>,
-    pub edits: Edits<A>,
-    pub registers: Registers<A>,
+pub struct State<'a, A: Allocator> {
+    pub places: Places<&'a A>,
+    pub slots: Slots<&'a A>,
+    pub edits: Edits<&'a A>,
+    pub registers: Registers<&'a A>,
     pub ghost same_long: { length slots.of_vreg ≡ length places.stands },
 }
 
-impl<A: Allocator + Copy> State<A> {
+impl<'a, A: Allocator> State<'a, A> {
     /// The tables before the walk.
     pub fn new<F: Function, B: Allocator>(
-        alloc: A,
+        alloc: &'a A,
         f: &F,
         env: &MachineEnv<B>,
     ) -> Result<Self, RegAllocError>

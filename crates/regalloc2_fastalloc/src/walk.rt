@@ -17,7 +17,7 @@ use regalloc2_names::{Allocation, RegAllocError};
 use regalloc2_tables::turn::Turn;
 use std::alloc::Allocator;
 
-impl<A: Allocator + Copy> State<A> {
+impl<'a, A: Allocator> State<'a, A> {
     /// Allocates an instruction of a block, whose operands' places begin at `start`. A branch passes its arguments.
     fn allocate_in<F: Function, B: Allocator>(
         &mut self,
