@@ -7,10 +7,10 @@ mod sets;
 mod texts;
 mod words;
 
-use std::io;
+use std::io::{self, BufWriter, Write};
 
 fn main(rt: HostRuntime) -> io::Result<()> {
-    let out = &mut rt.stdout();
+    let out = &mut BufWriter::new(rt.alloc(), rt.stdout())?;
     words::write_places(out)?;
     words::write_registers(out)?;
     words::write_operands(out)?;
@@ -20,5 +20,6 @@ fn main(rt: HostRuntime) -> io::Result<()> {
     sets::write_changes(out)?;
     sets::write_counts(out)?;
     sets::write_ranges(out)?;
-    sets::write_collected(rt.alloc(), out)
+    sets::write_collected(rt.alloc(), out)?;
+    out.flush()
 }
