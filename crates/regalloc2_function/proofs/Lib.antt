@@ -7,4 +7,3 @@ pub mod Steps
 pub mod ListingLaws
 pub mod Tests
 pub mod OrderLaws
-pub mod Following
