@@ -9,7 +9,7 @@ use Rattle.regalloc2_function.specs.FunctionValue.{FunctionValue, slot_size}
 use Rattle.regalloc2_function.specs.OutputValue.{OutputValue}
 use Rattle.regalloc2_tables.specs.Tables.{SlotsValue, AreOwned, AreUpTo, most_units, owners}
 use Rattle.regalloc2_tables.specs.Lack.{AreFullWith}
-use Rattle.regalloc2_tables.proofs.Setting.{each_of_three}
+use Rattle.regalloc2_flow.proofs.Plain.{each_of_three}
 use Rattle.regalloc2_fastalloc.specs.Promise.{SlotsAreFew}
 use Rattle.regalloc2_fastalloc.specs.Reason.{greatest_slot, units_needed}
 

@@ -28,3 +28,5 @@ pub mod Splitting
 pub mod Silent
 pub mod Keeping
 pub mod Living
+pub mod Plain
+pub mod Forms

@@ -7,5 +7,4 @@ pub mod Steps
 pub mod ListingLaws
 pub mod Tests
 pub mod OrderLaws
-pub mod Following
 pub mod Misfits

@@ -9,6 +9,7 @@ pub mod Faithful
 pub mod Views
 pub mod Laws
 pub mod WellFormed
+pub mod Following
 pub mod Values
 pub mod Fitting
 pub mod Held

@@ -3,7 +3,6 @@ pub mod SetBits
 pub mod Members
 pub mod Words
 pub mod EmptyWord
-pub mod Collected
 pub mod TextLaws
 pub mod Counted
 pub mod Highest

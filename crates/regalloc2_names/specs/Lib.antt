@@ -7,5 +7,6 @@ pub mod Operand
 pub mod Packing
 pub mod RegisterSet
 pub mod Same
+pub mod Collected
 pub mod Listed
 pub mod Text

@@ -1,7 +1,7 @@
 -- Lemmas on moves whose destinations rise.
 use Rattle.std.proofs.Common.{◌≡◌, ℕ, ◌+◌, ◌-◌, ◌<◌, ◌≤◌, List, length, get_or, refl, sym, ap, ◌∙◌, subst, inl, inr, ⊎_elim, arith}
 use Rattle.std.proofs.lemmas.Bool.{cases_lt, cases_eq}
-use Rattle.std.proofs.lemmas.List.{get_or_default}
+use Rattle.std.proofs.lemmas.List.{get_or_default, get_or-map}
 use Rattle.std.proofs.lemmas.List.Sorted.{Contains-permutation, IsPermutation-map}
 use Rattle.std.specs.List.Sorted.{IsPermutation}
 use Rattle.regalloc2_names.specs.Place.{Place}
@@ -9,7 +9,6 @@ use Rattle.regalloc2_names.specs.PlaceBits.{bits_of_place}
 use Rattle.regalloc2_parts.specs.AtOnce.{Ends, ends, ends_of, no_move, HasOneSourceEach}
 use Rattle.regalloc2_parts.specs.Cycles.{move_at}
 use Rattle.regalloc2_parts.specs.Giving.{IsBefore}
-use Rattle.regalloc2_parts.proofs.Lists.{read_ends}
 
 -- of the first moves each comes before the later ones
 abbrev pub RisesTo : List Ends → ℕ → Type 0
@@ -61,8 +60,8 @@ rises_all ms n had long a b ha hb e =
 pub rises_step : {T : Type 0} (xs : List (Place × Place × T)) (at : ℕ) (x y : Place × Place × T) → 1 ≤ at → at < length xs → RisesTo (ends_of xs) at → x ≡ get_or xs (at - 1) x → y ≡ get_or xs at y → IsBefore (ends x) (ends y) → RisesTo (ends_of xs) (at + 1)
 rises_step xs at x y least low had read_x read_y step =
     let back : at - 1 + 1 ≡ at = omega arith in
-    let before : get_or (ends_of xs) (at - 1) no_move ≡ ends x = read_ends xs (at - 1) x (omega arith) read_x in
-    let here : get_or (ends_of xs) at no_move ≡ ends y = read_ends xs at y low read_y in
+    let before : get_or (ends_of xs) (at - 1) no_move ≡ ends x = get_or-map ends xs (at - 1) x no_move (omega arith) ∙ ap ends (sym read_x) in
+    let here : get_or (ends_of xs) at no_move ≡ ends y = get_or-map ends xs at y no_move low ∙ ap ends (sym read_y) in
     subst (λ k. RisesTo (ends_of xs) (k + 1)) back
     (rises_more (ends_of xs) (at - 1) (subst (λ k. RisesTo (ends_of xs) k) (sym back) had)
     (subst (λ k. IsBefore (move_at (ends_of xs) (at - 1)) (move_at (ends_of xs) k)) (sym back)

@@ -12,7 +12,8 @@ use Rattle.regalloc2_function.specs.SourceRun.{is_def}
 use Rattle.regalloc2_function.specs.WellFormed.{BlocksFollow, defines}
 use Rattle.regalloc2_function.specs.Reasons.{DefinitionSite, param_definition, operand_definition, inst_definitions, block_definitions, definitions_among}
 use Rattle.regalloc2_shape.proofs.Parts.{numbers_more, flat_more}
-use Rattle.regalloc2_shape.proofs.Ranges.{first_after, end_within, block_is}
+use Rattle.regalloc2_function.specs.Following.{end_within}
+use Rattle.regalloc2_shape.proofs.Ranges.{first_after, block_is}
 
 -- among two lists of definitions
 pub among_append : (n : ℕ) (xs ys : List DefinitionSite) → definitions_among (xs ++ ys) n ≡ definitions_among xs n + definitions_among ys n

@@ -25,7 +25,7 @@ use Rattle.regalloc2_steps.specs.Steps.{Tables, MayHold}
 use Rattle.regalloc2_tables.specs.Lending.{Moves, is_memory, IsLent, IsTaken, DoDiffer, Serves, IsMadeWith, IsShort, AreThere}
 use Rattle.regalloc2_steps.specs.Branches.{AreNext, MayBeLent, IsSpare, AreApart, IsSlotBelow, AreBetweenSlots, IsLentPlace, IsInHand, IsOrdered, Orders}
 use Rattle.regalloc2_flow.proofs.Cells.{is_register-same}
-use Rattle.regalloc2_tables.proofs.Rooming.{end_near}
+use Rattle.regalloc2_flow.proofs.Plain.{end_near}
 
 -- the code of a class is below three
 class_small : (c : RegClass) → class_code c < 3

@@ -10,7 +10,7 @@ use Rattle.regalloc2_function.specs.Machine.{MachineValue, is_allocatable, IsFix
 use Rattle.regalloc2_tables.specs.Tables.{SlotsValue, PlacesValue, nobody_stands, no_slots, stood, holder, slot_name, units_of, IsSlotOrNone}
 use Rattle.regalloc2_steps.specs.Steps.{Tables}
 use Rattle.regalloc2_steps.specs.Sound.{MayStandOrNone, HasMachine, IsSafe}
-use Rattle.regalloc2_tables.proofs.Inverses.{always, no_some}
+use Rattle.regalloc2_flow.proofs.Plain.{always, no_some}
 use Rattle.regalloc2_steps.proofs.Calm.{IsEmpty}
 
 -- nobody stands anywhere

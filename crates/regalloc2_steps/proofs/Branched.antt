@@ -12,14 +12,14 @@ use Rattle.regalloc2_function.specs.OutputValue.{MoveValue}
 use Rattle.regalloc2_function.specs.WellFormed.{ArgumentsCounted}
 use Rattle.regalloc2_function.specs.SourceRun.{arguments_at}
 use Rattle.regalloc2_flow.specs.Blocks.{target_at}
-use Rattle.regalloc2_tables.proofs.Setting.{default_free}
+use Rattle.std.proofs.lemmas.List.{get_or_default}
 use Rattle.regalloc2_tables.specs.declared.turn.Turn.{Turn}
 use Rattle.regalloc2_tables.specs.Tables.{PlacesValue, SlotsValue, stood, slot_name}
 use Rattle.regalloc2_steps.specs.Blocks.{no_vreg}
 use Rattle.regalloc2_tables.specs.Lending.{Moves, pushed}
 use Rattle.regalloc2_steps.specs.Steps.{Tables}
 use Rattle.regalloc2_steps.specs.Branches.{Pushes, SettlesArgument, from_register, in_slot, ClassMove, of_class, GathersEdge, none_gathered, one_gathered, Gathers, no_edge, one_edge, PassesArguments}
-use Rattle.regalloc2_tables.proofs.Falling.{all_push}
+use Rattle.std.proofs.lemmas.List.Elements.{All-push}
 use Rattle.regalloc2_steps.proofs.Growing.{Grown, grown_none, grown_then, grown_slot, clears_grown}
 use Rattle.regalloc2_steps.proofs.Lasting.{settled_lasts, clears_lasts}
 use Rattle.regalloc2_steps.proofs.Alone.{Between}
@@ -44,7 +44,7 @@ module _ (At : ℕ → Type 0) (point : ℕ) (here : At point) where
 
   pushed_there : (ms : Moves) → All (λ e. At e.0) (pushed point ms)
   pushed_there [] = λ k d lt. absurd (omega arith)
-  pushed_there (m ∷ ms) = all_push (λ e. At e.0) (pushed point ms) (point, record { from = m.0; to = m.1 }) (pushed_there ms) here
+  pushed_there (m ∷ ms) = All-push (λ e. At e.0) (pushed point ms) (point, record { from = m.0; to = m.1 }) (pushed_there ms) here
 
   class_grown : (u : Turn) (class : RegClass) (given : Moves) (old new : Tables) → Pushes point u class given old new → Grown At old new
   class_grown u class given old new p =
@@ -130,7 +130,7 @@ pub passes_stand : (f : FunctionValue) (b i : ℕ) (t u : Turn) (old new : Table
     (v : VirtualRegister) → Contains (arguments_at f b k) v → stood new.places v.number ≢ NoPlace
 passes_stand f b i t u old new p k lt long v has =
     let args : List VirtualRegister = arguments_at f b k in
-    let is : slice_index_or args has.0 no_vreg ≡ v = default_free args has.0 no_vreg v has.1 ∙ has.2 in
+    let is : slice_index_or args has.0 no_vreg ≡ v = get_or_default args has.0 no_vreg v has.1 ∙ has.2 in
     subst (λ (w : VirtualRegister). stood new.places w.number ≢ NoPlace) is
     (moved_last (slice_index_or args has.0 no_vreg).number f b i t u old new p
     (edges_stand (before i) f b t old (length (block_at f b).succs) u p.gathered p.given p.gathers k has.0 lt (omega (arith, has.1, long))))

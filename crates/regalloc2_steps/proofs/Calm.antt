@@ -20,7 +20,7 @@ use Rattle.regalloc2_validate.specs.Constraints.{op_at}
 use Rattle.regalloc2_steps.specs.Steps.{Tables, empty, cleared, ClearsBut, own, others, Picks, Occupies, in_slot, in_register, Gets, Sends, sent, unsent, Defines, ClaimsFixed}
 use Rattle.regalloc2_steps.specs.Steps.Picks.{stays, fixed, slot, free}
 use Rattle.regalloc2_steps.proofs.Given.{suits_there}
-use Rattle.regalloc2_tables.proofs.Inverses.{no_some}
+use Rattle.regalloc2_flow.proofs.Plain.{no_some}
 use Rattle.regalloc2_steps.proofs.Filled.{at_place}
 
 -- nobody stands anywhere

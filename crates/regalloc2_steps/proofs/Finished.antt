@@ -26,7 +26,7 @@ use Rattle.regalloc2_steps.specs.Walks.{offset_of}
 use Rattle.regalloc2_tables.proofs.Falling.{rising_reverse}
 use Rattle.regalloc2_steps.proofs.Filled.{MeetsAlone, IsGood}
 use Rattle.regalloc2_steps.proofs.Sound.{IsApart}
-use Rattle.regalloc2_tables.proofs.Setting.{default_free}
+use Rattle.std.proofs.lemmas.List.{get_or_default}
 use Rattle.regalloc2_steps.proofs.Walking.{WalkKept, WritesAt, offset_next, offset_rises}
 
 -- what the machine keeps apart
@@ -138,7 +138,7 @@ meets_all env count places (Limit n) p h s = absurd h
 pub made_constraints : (f : FunctionValue) (env : MachineValue) (Known : VirtualRegister → Type 0) (May : ℕ → Type 0) (t : Tables) (o : OutputValue) → IsMade f env Known May t o → (i : ℕ) → i < length f.insts → ConstraintsMet f env o i
 made_constraints f env Known May t o m i lt k d less =
     let ops : List OperandValue = (inst_at f i).operands in
-    let same : op_at ops k ≡ slice_index_or ops k d = default_free ops k _ d less in
+    let same : op_at ops k ≡ slice_index_or ops k d = get_or_default ops k _ d less in
     let shared = (m.kept.good i k (omega arith) lt less).shared in
     subst (λ (x : OperandValue). Meets env (length ops) (allocs_of o i) x.constraint (place_at (allocs_of o i) k)) same
     (meets_all env (length ops) (allocs_of o i) (op_at ops k).constraint (place_at (allocs_of o i) k) (operand_good f env Known May t o m i lt k less).meets
@@ -189,12 +189,12 @@ pub made_proper : (f : FunctionValue) (env : MachineValue) (Known : VirtualRegis
 made_proper f env Known May t o m = record {
   operands = λ i lt k d less named.
       let ops : List OperandValue = (inst_at f i).operands in
-      let same : slice_index_or ops k d ≡ op_at ops k = default_free ops k d _ less in
+      let same : slice_index_or ops k d ≡ op_at ops k = get_or_default ops k d _ less in
       subst (λ (x : OperandValue). IsProperPlace env o x.vreg.class (place_at (allocs_of o i) k)) (sym same)
       (proper_place env o t.slots (op_at ops k).vreg (place_at (allocs_of o i) k) (slots_below f env Known May t o m) ((operand_good f env Known May t o m i lt k less).place (ap is_fixed_nonallocatable (sym same) ∙ named)));
   nonallocatable = λ i lt k d less r names.
       let ops : List OperandValue = (inst_at f i).operands in
-      let same : slice_index_or ops k d ≡ op_at ops k = default_free ops k d _ less in
+      let same : slice_index_or ops k d ≡ op_at ops k = get_or_default ops k d _ less in
       let x : OperandValue = op_at ops k in
       let fixed : x.constraint ≡ FixedReg r = names_register (nat_eq x.vreg.number 1073741823) x.constraint r (ap nonallocatable_register (sym same) ∙ names) in
       subst (λ (c : OperandConstraint). MeetsAlone env c (place_at (allocs_of o i) k)) fixed (operand_good f env Known May t o m i lt k less).meets;

@@ -17,7 +17,7 @@ use Rattle.regalloc2_tables.specs.Tables.{PlacesValue, SlotsValue, stood, holder
 use Rattle.regalloc2_validate.specs.Constraints.{op_at}
 use Rattle.regalloc2_steps.specs.Steps.{Tables, InTables}
 use Rattle.regalloc2_steps.specs.Sound.{HasMachine}
-use Rattle.regalloc2_tables.proofs.Inverses.{always}
+use Rattle.regalloc2_flow.proofs.Plain.{always}
 use Rattle.regalloc2_steps.proofs.Scratching.{Fit}
 use Rattle.regalloc2_steps.proofs.Fixing.{counts_by}
 use Rattle.regalloc2_steps.proofs.Ordering.{knows}

@@ -17,7 +17,7 @@ use Rattle.regalloc2_steps.specs.Steps.{Tables}
 use Rattle.regalloc2_steps.specs.Sound.{MayStand}
 use Rattle.regalloc2_steps.proofs.Filled.{IsTame, MeetsAlone, IsGood}
 use Rattle.regalloc2_steps.proofs.Finished.{IsMade, operand_good}
-use Rattle.regalloc2_tables.proofs.Setting.{default_free}
+use Rattle.std.proofs.lemmas.List.{get_or_default}
 
 -- an operand that is fixed to a register has no slot
 fixed_no_slot : (env : MachineValue) (c : OperandConstraint) (b : Bool) (n : ℕ) → (is_fixed c && b) ≡ true → MeetsAlone env c (InSlot n) → ⊥
@@ -43,7 +43,7 @@ module _ (f : FunctionValue) (env : MachineValue) (Known : VirtualRegister → T
   pub owner_known : (v : VirtualRegister) (n : ℕ) → StandsInSlot f o v n → Known v × (slot_name t.slots v.number ≡ InSlot n)
   owner_known v n (i, k, d, lt, less, names, is) =
       let x : OperandValue = op_at (inst_at f i).operands k in
-      let same : x.vreg ≡ v = ap (λ (y : OperandValue). y.vreg) (default_free (inst_at f i).operands k _ d less) ∙ names in
+      let same : x.vreg ≡ v = ap (λ (y : OperandValue). y.vreg) (get_or_default (inst_at f i).operands k _ d less) ∙ names in
       let own = own_slot env t.slots x (place_at (allocs_of o i) k) n (operand_good f env Known May t o m i lt k less) is in
       subst (λ (w : VirtualRegister). Known w × (slot_name t.slots w.number ≡ InSlot n)) same ((tame i lt).known k less own.0, own.1)
 

@@ -9,7 +9,7 @@ use Rattle.regalloc2_function.specs.FunctionValue.{FunctionValue, block_at}
 use Rattle.regalloc2_function.specs.Machine.{MachineValue}
 use Rattle.regalloc2_function.specs.SourceRun.{arguments_at}
 use Rattle.regalloc2_function.specs.WellFormed.{IsWellFormed, times_in, ways_into, last_of}
-use Rattle.regalloc2_function.proofs.Following.{end_within}
+use Rattle.regalloc2_function.specs.Following.{end_within}
 use Rattle.regalloc2_flow.specs.Blocks.{HasEdge, target_at, IsSound}
 use Rattle.regalloc2_flow.proofs.Defined.{TakesAt, one_param, taken_small, made_before, is_made, made_small}
 use Rattle.regalloc2_flow.proofs.Soundness.{count_at, well_formed_are_sound}

@@ -23,7 +23,7 @@ use Rattle.regalloc2_steps.specs.Branches.{SettlesArgument, from_register, in_sl
 use Rattle.regalloc2_steps.specs.Sound.{MayStandOrNone, HasMachine, IsThrough, IsEndOfPass, IsSafe, IsSafeEdit, IsSafeTurn}
 use Rattle.regalloc2_steps.proofs.Sound.{IsApart, StepKept, MayBeHeld, kept_both, kept_none, same_units, settled_standing, shifted, clears_kept}
 use Rattle.regalloc2_steps.proofs.SafeSlots.{SlotsStay, SlotsGrow, gives_stay, edits_grow, none_grows}
-use Rattle.regalloc2_tables.proofs.Falling.{all_push}
+use Rattle.std.proofs.lemmas.List.Elements.{All-push}
 use Rattle.regalloc2_steps.proofs.Calm.{slot_number}
 use Rattle.regalloc2_tables.proofs.Slotting.{slot_grows}
 use Rattle.regalloc2_steps.proofs.SafeBeginnings.{given_edits, given_safe}
@@ -75,7 +75,7 @@ of_class_all P c (g ∷ gs) h = perhaps_all P (is_class c g.class) (g.from, g.to
 -- what holds of each move that is made holds of each that is pushed
 pushed_all : (P : ℕ × MoveValue → Type 0) (point : ℕ) (ms : Moves) → All (λ m. P (point, record { from = m.0; to = m.1 })) ms → All P (pushed point ms)
 pushed_all P point [] h = λ k d lt. absurd (omega arith)
-pushed_all P point (m ∷ ms) h = all_push P (pushed point ms) (point, record { from = m.0; to = m.1 }) (pushed_all P point ms (λ k d lt. h (suc k) d (omega arith))) (h 0 m (omega arith))
+pushed_all P point (m ∷ ms) h = All-push P (pushed point ms) (point, record { from = m.0; to = m.1 }) (pushed_all P point ms (λ k d lt. h (suc k) d (omega arith))) (h 0 m (omega arith))
 
 -- memory, as the tables see it
 in_memory : (env : MachineValue) (t : Tables) (p : Place) → HasMachine env t → IsStackPlace env p → is_memory t.fixed_stack p ≡ true
@@ -145,7 +145,7 @@ module _ (env : MachineValue) (apart : IsApart env) (Known : VirtualRegister →
         let number = slot_number n.slots.count to gives.there gives.below in
         let both : StepKept env Known Writes May m u new = kept_both env Known Writes May m n new w u first second.kept in (
           kept_both env Known Writes May old m new w u p.0 both,
-          all_push (λ (g : ClassMove). IsGiven Known Passed new.slots g.from g.to) some (record { class = a.class; from = from; to = to })
+          All-push (λ (g : ClassMove). IsGiven Known Passed new.slots g.from g.to) some (record { class = a.class; from = from; to = to })
               (all_given_stay Known Passed m.slots new.slots some both.stay p.1)
               (record {
                 source = second.number;

@@ -13,7 +13,7 @@ use Rattle.regalloc2_function.specs.SourceRun.{is_def}
 use Rattle.regalloc2_function.specs.Faithful.{EditsAreListed}
 use Rattle.regalloc2_function.specs.Fitting.{MachineFits}
 use Rattle.regalloc2_function.specs.WellFormed.{IsWellFormed, BlocksFollow, EndsBlock, last_of}
-use Rattle.regalloc2_function.proofs.Following.{end_within}
+use Rattle.regalloc2_function.specs.Following.{end_within}
 use Rattle.regalloc2_flow.proofs.Defined.{Made}
 use Rattle.regalloc2_flow.proofs.Soundness.{cases_within}
 use Rattle.regalloc2_flow.proofs.Order.{ends_before}

@@ -8,7 +8,7 @@ use Rattle.regalloc2_function.specs.FunctionValue.{FunctionValue, InstValue, blo
 use Rattle.regalloc2_function.specs.Machine.{MachineValue}
 use Rattle.regalloc2_function.specs.SourceRun.{is_def}
 use Rattle.regalloc2_function.specs.WellFormed.{BlocksFollow}
-use Rattle.regalloc2_function.proofs.Following.{end_within}
+use Rattle.regalloc2_function.specs.Following.{end_within}
 use Rattle.regalloc2_flow.specs.Blocks.{target_at}
 use Rattle.regalloc2_tables.specs.declared.turn.Turn.{Turn}
 use Rattle.regalloc2_validate.specs.Constraints.{op_at}

@@ -18,9 +18,9 @@ use Rattle.regalloc2_tables.specs.declared.turn.Turn.{Turn}
 use Rattle.regalloc2_tables.specs.Tables.{PlacesValue, SlotsValue, Settles, GivesSlot, IsSlotOrNone, stood, holder, slot_name, units_of}
 use Rattle.regalloc2_steps.specs.Steps.{Tables, SameMachine, is_stack_in, Evicts, nobody, moved, Scratches, dedicated, had, found, Crosses, direct, through, Clears, empty, cleared, ClearsBut, own, others, a_move, Sends, sent, unsent}
 use Rattle.regalloc2_steps.specs.Sound.{IsOfMachine, MayStand, MayStandOrNone, IsEndOfMove, IsThrough, IsSafeEdit, HasMachine, IsSafe, IsSafeTurn}
-use Rattle.regalloc2_tables.proofs.Falling.{all_push}
+use Rattle.std.proofs.lemmas.List.Elements.{All-push}
 use Rattle.regalloc2_steps.proofs.SafeSlots.{SlotsStay, gives_stay, same_stay, end_grows, none_grows, gives_grow, edits_grow}
-use Rattle.regalloc2_tables.proofs.Inverses.{chosen, no_some}
+use Rattle.regalloc2_flow.proofs.Plain.{chosen, no_some}
 use Rattle.regalloc2_tables.proofs.Slotting.{slot_grows}
 
 -- a vreg's own slot is an end of moves of its value, and it may stand there; nor is it memory only in name
@@ -111,7 +111,7 @@ pushed : (env : MachineValue) (Known : VirtualRegister → Type 0) (Writes : ℕ
     → IsEndOfMove env s v from → IsEndOfMove env s v to → ((n : ℕ) → to ≡ InSlot n → Writes point v n)
     → (IsStackToStack env (record { from = from; to = to }) → ⊥) → All (IsSafeEdit env Known Writes s May) es → All (IsSafeEdit env Known Writes s May) (es ++ a_move point from to ∷ [])
 pushed env Known Writes s May point v from to es can known f t w n h =
-    all_push (IsSafeEdit env Known Writes s May) es (a_move point from to) h (record { moves = inl (record { vreg = v; known = known; from = f; to = t; written = w }); not_both = n; point = can })
+    All-push (IsSafeEdit env Known Writes s May) es (a_move point from to) h (record { moves = inl (record { vreg = v; known = known; from = f; to = t; written = w }); not_both = n; point = can })
 
 -- a register is no slot
 no_write : (P : ℕ → Type 0) (r : Register) (n : ℕ) → InRegister r ≡ InSlot n → P n

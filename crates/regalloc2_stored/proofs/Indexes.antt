@@ -6,7 +6,7 @@ use Rattle.regalloc2_names.specs.Register.{Register, is_register}
 use Rattle.regalloc2_names.specs.RegisterBits.{register_of_bits}
 use Rattle.regalloc2_names.specs.RegisterSet.{has_register}
 use Rattle.regalloc2_names.specs.declared.sets.PRegSet.{PRegSet}
-use Rattle.regalloc2_names.proofs.Collected.{collected}
+use Rattle.regalloc2_names.specs.Collected.{collected}
 use Rattle.regalloc2_stored.specs.Named.{HasIndexes}
 
 pub indexes-more : (old new : PRegSet) (xs : List ℕ) (i x : ℕ) → i < length xs → x ≡ get_or xs i x → HasIndexes (take i xs) old →

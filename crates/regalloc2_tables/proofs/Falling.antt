@@ -1,8 +1,8 @@
 -- Points that never rise.
-use Rattle.std.proofs.Common.{ℕ, ◌≡◌, ◌≢◌, ◌+◌, ◌-◌, ◌<◌, ◌≤◌, List, [], ◌∷◌, ◌++◌, reverse, map, refl, sym, ap, ◌∙◌, length, ◌⊎◌, ⊎_elim, inl, inr, arith, subst}
-use Rattle.std.specs.Prelude.{All}
+use Rattle.std.proofs.Common.{ℕ, ◌≡◌, ◌≢◌, ◌+◌, ◌-◌, ◌<◌, ◌≤◌, List, [], ◌∷◌, ◌++◌, reverse, map, refl, sym, ap, ◌∙◌, length, ◌⊎◌, ⊎_elim, inl, inr, arith}
 use Rattle.std.specs.List.Sorted.{IsNonDecreasingBy}
 use Rattle.std.proofs.lemmas.List.{reverse-append, map-append, get_or_append_left, get_or_push, get_or-reverse, length_push, length-reverse}
+use Rattle.std.proofs.lemmas.List.Elements.{All-push}
 use Rattle.regalloc2_function.specs.OutputValue.{MoveValue}
 use Rattle.regalloc2_tables.specs.Tables.{NeverRise, NoneBefore}
 use Rattle.regalloc2_tables.proofs.Inverses.{same_number}
@@ -13,15 +13,8 @@ split_push xs k x h =
     let n : length (xs ++ x ∷ []) ≡ length xs + 1 = length_push xs x in
     ⊎_elim (λ (e : k ≡ length xs). inr e) (λ (d : k ≢ length xs). inl (omega arith)) (same_number k (length xs))
 
--- what holds of each element of a list, and of one more
-pub all_push : {X : Type 0} (P : X → Type 0) (xs : List X) (x : X) → All P xs → P x → All P (xs ++ x ∷ [])
-all_push {X} P xs x h p = λ k d lt. ⊎_elim
-    (λ (w : k < length xs). subst P (sym (get_or_append_left xs (x ∷ []) d k w)) (h k d w))
-    (λ (e : k ≡ length xs). subst P (sym (get_or_push xs x d k (sym e))) p)
-    (split_push xs k x lt)
-
 pub none_before_push : (es : List (ℕ × MoveValue)) (p : ℕ) (x : ℕ × MoveValue) → NoneBefore p es → p ≤ x.0 → NoneBefore p (es ++ x ∷ [])
-none_before_push es p x later le = all_push (λ e. p ≤ e.0) es x later le
+none_before_push es p x later le = All-push (λ e. p ≤ e.0) es x later le
 
 pub never_rise_push : (es : List (ℕ × MoveValue)) (x : ℕ × MoveValue) → NeverRise es → NoneBefore x.0 es → NeverRise (es ++ x ∷ [])
 never_rise_push es x falls later = λ i j d le lt. ⊎_elim

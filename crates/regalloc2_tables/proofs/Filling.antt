@@ -12,7 +12,7 @@ use Rattle.regalloc2_names.specs.RegisterSet.{has_register}
 use Rattle.regalloc2_flow.proofs.Cells.{is_register-true}
 use Rattle.regalloc2_parts.specs.Ring.{IsNewRing}
 use Rattle.regalloc2_tables.specs.Tables.{AreThoseBelow, AreRings, IsRingOf}
-use Rattle.regalloc2_tables.proofs.Falling.{all_push}
+use Rattle.std.proofs.lemmas.List.Elements.{All-push}
 use Rattle.regalloc2_tables.proofs.Inverses.{whether, same_number}
 
 -- a list whose members differ, with one more
@@ -39,11 +39,11 @@ pub those_more : (set : PRegSet) (class : RegClass) (n : ℕ) (regs : List Regis
     → AreThoseBelow set class n regs → AreThoseBelow set class (n + 1) (regs ++ r ∷ [])
 those_more set class n regs r number of_class has h = record {
   distinct = record {
-    of_class = all_push (λ q. q.class ≡ class) regs r h.distinct.of_class of_class;
+    of_class = All-push (λ q. q.class ≡ class) regs r h.distinct.of_class of_class;
     distinct = distinct_push regs r h.distinct.distinct (λ k d lt. differ (slice_index_or regs k d) (h.small k d lt));
   };
-  small = all_push (λ q. q.number < n + 1) regs r (λ k d lt. let s = h.small k d lt in omega arith) (omega arith);
-  has = all_push (λ q. has_register set q ≡ true) regs r h.has has;
+  small = All-push (λ q. q.number < n + 1) regs r (λ k d lt. let s = h.small k d lt in omega arith) (omega arith);
+  has = All-push (λ q. has_register set q ≡ true) regs r h.has has;
   all = λ q lt c e. ⊎_elim
       (λ (s : q.number ≡ n). subst (λ (x : Register). Contains (regs ++ r ∷ []) x) (same_registers r q (number ∙ sym s) (of_class ∙ sym c)) (Contains-append_right regs (r ∷ []) r (0, omega arith, refl)))
       (λ (d : q.number ≢ n). Contains-append_left regs (r ∷ []) q (h.all q (omega arith) c e))

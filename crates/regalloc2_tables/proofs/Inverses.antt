@@ -1,5 +1,5 @@
 -- The two tables of places stay inverse.
-use Rattle.std.proofs.Common.{ℕ, zero, suc, ◌≡◌, ◌≢◌, ◌<◌, Bool, true, false, cond, List, length, refl, sym, ap, ◌∙◌, ◌⊎◌, inl, inr, ⊎_elim, nat_eq, eqb-true, eq-eqb, replicate, slice_index_or, set, subst, get_or-set_same}
+use Rattle.std.proofs.Common.{ℕ, ◌≡◌, ◌≢◌, ◌<◌, Bool, true, false, cond, List, length, refl, sym, ap, ◌∙◌, ◌⊎◌, inl, inr, ⊎_elim, nat_eq, eqb-true, eq-eqb, slice_index_or, set, subst, get_or-set_same}
 use Rattle.std.specs.Prelude.{Option, None, Some}
 use Rattle.std.proofs.lemmas.List.{get_or-set_other}
 use Rattle.std.proofs.Math.ListN.{length-set}
@@ -7,6 +7,7 @@ use Rattle.regalloc2_names.specs.Register.{Register, VirtualRegister}
 use Rattle.regalloc2_names.specs.RegisterBits.{bits_of_register}
 use Rattle.regalloc2_names.specs.Place.{Place, NoPlace, InRegister, is_place}
 use Rattle.regalloc2_flow.proofs.Cells.{is_place-true, is_place-same, is_place-other}
+use Rattle.regalloc2_flow.proofs.Plain.{chosen, no_some}
 use Rattle.regalloc2_tables.specs.Tables.{PlacesValue, IsInverse, Settles, Marks, stood, holder}
 
 -- a test is true or false
@@ -14,24 +15,8 @@ pub whether : (b : Bool) → (b ≡ true) ⊎ (b ≡ false)
 whether true = inl refl
 whether false = inr refl
 
--- which way a choice between three went
-pub chosen : {X : Type 0} (a b : Bool) (x y z q : X) → cond a x (cond b y z) ≡ q
-    → ((a ≡ true) × (x ≡ q)) ⊎ (((a ≡ false) × (b ≡ true) × (y ≡ q)) ⊎ ((a ≡ false) × (b ≡ false) × (z ≡ q)))
-chosen true b x y z q h = inl (refl, h)
-chosen false true x y z q h = inr (inl (refl, refl, h))
-chosen false false x y z q h = inr (inr (refl, refl, h))
-
 pub same_some : {X : Type 0} (x y : X) → Some x ≡ Some y → x ≡ y
 same_some x y h = cc
-
-pub no_some : {X : Type 0} (x : X) → None ≡ Some x → ⊥
-no_some x h = cc
-
--- a list of one value has it everywhere
-pub always : {X : Type 0} (n k : ℕ) (x : X) → slice_index_or (replicate n x) k x ≡ x
-always zero k x = refl
-always (suc n) zero x = refl
-always (suc n) (suc k) x = always n k x
 
 pub same_number : (n m : ℕ) → (n ≡ m) ⊎ (n ≢ m)
 same_number n m = ⊎_elim

@@ -1,6 +1,6 @@
 -- The registers in which vregs stand, as they are listed and emptied.
 use Rattle.std.proofs.Common.{zero, suc, ◌≡◌, ◌≢◌, ◌⊎◌, inl, inr, Bool, true, false, cond, List, [], ◌∷◌, ◌++◌, length, refl, sym, ap, ◌∙◌, subst, arith, ⊎_elim, slice_index_or}
-use Rattle.std.specs.Prelude.{Contains, IsPermutation, Option, None, Some, is_some, not, ◌&&◌, ◌||◌}
+use Rattle.std.specs.Prelude.{Contains, IsPermutation, Option, None, Some, not, ◌&&◌, ◌||◌}
 use Rattle.std.proofs.lemmas.List.Elements.{Contains-append_left, Contains-append_right, Contains-append_cases}
 use Rattle.std.proofs.lemmas.List.Sorted.{Contains-permutation}
 use Rattle.regalloc2_names.specs.Register.{Register, VirtualRegister}
@@ -58,12 +58,3 @@ filled_kept H H1 H2 v p q s s1 s2 m1 m2 left came has r lt there =
     came r ∙ ap (λ (b : Bool). is_place p (InRegister r) || b) (left r)
     ∙ filled (is_place p (InRegister r)) (is_place q (InRegister r)) (has_register s r) (slice_index_or H (bits_of_register r) None) v (has r lt)
     (λ e. there (m2.each r lt ∙ ap (λ (x : Option VirtualRegister). cond (is_place p (InRegister r)) (Some v) x) (m1.each r lt) ∙ e))
-
--- tests of whether somebody is there
-pub nobody_there : {X : Type 0} (o : Option X) → is_some o ≡ false → o ≡ None
-nobody_there None h = refl
-nobody_there (Some x) h = absurd cc
-
-pub somebody_there : {X : Type 0} (o : Option X) → is_some o ≡ true → o ≢ None
-somebody_there None h = λ e. cc
-somebody_there (Some x) h = λ e. cc

@@ -6,7 +6,7 @@ use Rattle.regalloc2_names.specs.Register.{Register, is_register}
 use Rattle.regalloc2_names.specs.RegisterSet.{has_register}
 use Rattle.regalloc2_flow.proofs.Cells.{is_register-true, is_register-same}
 use Rattle.regalloc2_tables.proofs.Inverses.{whether, same_number}
-use Rattle.regalloc2_tables.proofs.Setting.{default_free}
+use Rattle.std.proofs.lemmas.List.{get_or_default}
 
 -- a set has the first k registers of a list, and no others
 abbrev pub HasUpTo : PRegSet → List Register → ℕ → Type 0
@@ -40,7 +40,7 @@ has_more set new regs k q lt at members old = λ r. (forth r, back r)
     back : (r : Register) → ((j : ℕ) × (j < k + 1) × (slice_index_or regs j r ≡ r)) → has_register new r ≡ true
     back r x = ⊎_elim
         (λ (e : x.0 ≡ k).
-        let same : q ≡ r = at ∙ default_free regs k q r lt ∙ subst (λ (j : ℕ). slice_index_or regs j r ≡ r) e x.2 in
+        let same : q ≡ r = at ∙ get_or_default regs k q r lt ∙ subst (λ (j : ℕ). slice_index_or regs j r ≡ r) e x.2 in
         members r ∙ or_true (is_register q r) (has_register set r) (subst (λ (y : Register). is_register q y ≡ true) same (is_register-same q)))
         (λ (n : x.0 ≢ k). members r ∙ or_second (is_register q r) (has_register set r) ((old r).1 (x.0, omega (arith, x.1, n), x.2)))
         (same_number x.0 k)

@@ -1,10 +1,9 @@
 -- How many units slots take.
-use Rattle.std.proofs.Common.{ℕ, ◌≡◌, ◌≢◌, inl, inr, ◌+◌, ◌-◌, ◌*◌, ◌%◌, ◌<◌, ◌≤◌, Bool, true, false, cond, List, length, refl, sym, ap, ◌∙◌, subst, arith}
+use Rattle.std.proofs.Common.{ℕ, ◌≡◌, ◌≢◌, inl, inr, ◌+◌, ◌-◌, ◌*◌, ◌<◌, ◌≤◌, Bool, true, false, cond, List, length, refl, sym, ap, ◌∙◌, subst, arith}
 use Rattle.std.specs.Prelude.{IsTrue, not, set, slice_index, slice_index_or}
 use Rattle.std.specs.Int.{next_multiple_of}
 use Rattle.std.specs.List.{count_by}
 use Rattle.std.proofs.Math.Nat.{mul-le-mul_right}
-use Rattle.std.proofs.lemmas.Nat.{mod_below}
 use Rattle.std.proofs.lemmas.Bool.{cases_eq}
 use Rattle.std.proofs.lemmas.List.{get_or_read, get_or-set_same, get_or-set_other, length-set}
 use Rattle.std.proofs.lemmas.List.Sums.{sum_by-set, count_by-le-length}
@@ -15,11 +14,9 @@ use Rattle.regalloc2_names.specs.Register.{class_code}
 use Rattle.regalloc2_names.specs.Place.{Place, NoPlace, InSlot, is_no_place}
 use Rattle.regalloc2_tables.specs.Tables.{SlotsValue, AreOwned, AreUpTo, IsSlotOrNone, later_end, most_units, owners, slot_name}
 use Rattle.regalloc2_tables.specs.Lack.{LacksOnly, AreFull}
-use Rattle.regalloc2_tables.proofs.Slotting.{nothing_there, slot_grows}
-
--- a new slot ends less than twice its size past the count
-pub end_near : (count size : ℕ) → 0 < size → next_multiple_of count size + size < count + 2 * size
-end_near count size some = let h : (size - count % size) % size < size = mod_below (size - count % size) size some in omega (arith, h)
+use Rattle.regalloc2_flow.proofs.Forms.{nothing_there}
+use Rattle.regalloc2_flow.proofs.Plain.{end_near}
+use Rattle.regalloc2_tables.proofs.Slotting.{slot_grows}
 
 -- one more element passes the test
 counted_more : {X : Type 0} (p : X → Bool) (xs : List X) (k : ℕ) (y d : X) → k < length xs → p (slice_index_or xs k d) ≡ false → p y ≡ true → count_by p (set xs k y) ≡ count_by p xs + 1

@@ -12,7 +12,7 @@ use Rattle.regalloc2_function.specs.Machine.{MachineValue}
 use Rattle.regalloc2_function.specs.WellFormed.{MayBeReused, ReusesAreSound}
 use Rattle.regalloc2_validate.specs.Constraints.{op_at, no_operand}
 use Rattle.regalloc2_validate.specs.Constraints.{IsReused, IsTarget, IsSoundReuse, AreApart, AvoidsClobbers, IsClear}
-use Rattle.regalloc2_tables.proofs.Setting.{default_free}
+use Rattle.std.proofs.lemmas.List.{get_or_default}
 
 same_index : (m n : ℕ) (c : OperandConstraint) → c ≡ Reuse m → c ≡ Reuse n → m ≡ n
 same_index m n c a b = let e : Reuse m ≡ Reuse n = sym a ∙ b in cc
@@ -91,15 +91,15 @@ apart_more ops k m is none h i j n li lj a b = elim (cases_eq i k) [
 -- an instruction's reuses
 pub reuses_sound : (env : MachineValue) (i : InstValue) → ((k : ℕ) → k < length i.operands → IsSoundReuse env i.operands (op_at i.operands k)) → AreApart i.operands (length i.operands) → ReusesAreSound env i
 reuses_sound env i each apart = record {
-  definitions = λ k d lt n e. let s = each k lt n (ap (λ (o : OperandValue). o.constraint) (default_free i.operands k no_operand d lt) ∙ e) in
-      (ap (λ (o : OperandValue). o.kind) (default_free i.operands k d no_operand lt) ∙ s.0, ap (λ (o : OperandValue). o.position) (default_free i.operands k d no_operand lt) ∙ s.1);
+  definitions = λ k d lt n e. let s = each k lt n (ap (λ (o : OperandValue). o.constraint) (get_or_default i.operands k no_operand d lt) ∙ e) in
+      (ap (λ (o : OperandValue). o.kind) (get_or_default i.operands k d no_operand lt) ∙ s.0, ap (λ (o : OperandValue). o.position) (get_or_default i.operands k d no_operand lt) ∙ s.1);
   targets = λ k d lt n e is.
-      let same = default_free i.operands k no_operand d lt in
+      let same = get_or_default i.operands k no_operand d lt in
       let s = each k lt n (ap (λ (o : OperandValue). o.constraint) same ∙ is) in
-      let t : IsTarget env (op_at i.operands k).vreg.class (slice_index_or i.operands n e) = subst (IsTarget env (op_at i.operands k).vreg.class) (default_free i.operands n no_operand e s.2) s.3 in
+      let t : IsTarget env (op_at i.operands k).vreg.class (slice_index_or i.operands n e) = subst (IsTarget env (op_at i.operands k).vreg.class) (get_or_default i.operands n no_operand e s.2) s.3 in
       let class = ap (λ (o : OperandValue). o.vreg.class) same in
       (s.2, (t.is_use, t.is_early, t.reads, t.same_class ∙ class, subst (λ c. MayBeReused env c (slice_index_or i.operands n e).constraint) (sym t.same_class) t.may_be));
-  apart = λ j k n d e lj lk a b. apart j k n lj lk (ap (λ (o : OperandValue). o.constraint) (default_free i.operands j no_operand d lj) ∙ a) (ap (λ (o : OperandValue). o.constraint) (default_free i.operands k no_operand e lk) ∙ b);
+  apart = λ j k n d e lj lk a b. apart j k n lj lk (ap (λ (o : OperandValue). o.constraint) (get_or_default i.operands j no_operand d lj) ∙ a) (ap (λ (o : OperandValue). o.constraint) (get_or_default i.operands k no_operand e lk) ∙ b);
 }
 
 pub sound_reuses : (env : MachineValue) (i : InstValue) → ReusesAreSound env i → (k : ℕ) → k < length i.operands → IsSoundReuse env i.operands (op_at i.operands k)

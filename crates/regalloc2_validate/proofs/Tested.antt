@@ -1,5 +1,6 @@
 -- A function that passes the tests is well-formed, and each refusal by them has its reason.
-use Rattle.std.proofs.Common.{ℕ, ◌≡◌, ◌<◌, ◌⊎◌, length, inl, inr}
+use Rattle.std.proofs.Common.{ℕ, ◌≡◌, ◌<◌, ◌⊎◌, length, inl, inr, Ok, Err}
+use Rattle.std.specs.Prelude.{OnOk, Result}
 use Rattle.std.proofs.lemmas.List.Elements.{All-from_get_or}
 use Rattle.regalloc2_names.specs.declared.RegAllocError.{RegAllocError}
 use Rattle.regalloc2_names.specs.declared.RegAllocError.TheVariants.{Memory}
@@ -27,6 +28,12 @@ tested_well_formed f env shape sound reuses fixed = record {
   reuses = All-from_get_or (ReusesAreSound env) f.insts no_inst reuses;
   fixed = All-from_get_or FixedAvoidClobbers f.insts no_inst fixed;
 }
+
+-- the same where the last of the tests answers for the instructions
+pub tested_on_ok : {T E : Type 0} (f : FunctionValue) (env : MachineValue) (r : Result T E) → HasShape f → IsSound f → OnOk r ((i : ℕ) → i < length f.insts → ReusesAreSound env (inst_at f i))
+    → OnOk r ((i : ℕ) → i < length f.insts → FixedAvoidClobbers (inst_at f i)) → OnOk r (IsWellFormed env f)
+tested_on_ok f env (Ok x) shape sound reuses fixed = tested_well_formed f env shape sound reuses fixed
+tested_on_ok f env (Err e) shape sound reuses fixed = tt
 
 -- the refusals of the first two tests
 pub shape_fault : (f : FunctionValue) (env : MachineValue) (e : RegAllocError) → (e ≡ Memory) ⊎ IsShapeFault f e → IsFault f env e

@@ -3,11 +3,10 @@ use Rattle.std.proofs.lemmas.Result.{IfErr-weaker, err_from_is_err_and}
 use Rattle.regalloc2_function.specs.FunctionValue.{FunctionValue}
 use Rattle.regalloc2_function.specs.Machine.{MachineValue}
 use Rattle.regalloc2_function.specs.Views.{machine_of}
-use Rattle.regalloc2_shape.proofs.Refused.{on_ok_both}
 use Rattle.regalloc2_validate.specs.Constraints.{IsFixedFault}
 use Rattle.regalloc2_validate.specs.Tested.{IsFault}
 use Rattle.regalloc2_validate.specs.Tested.IsFault.{clashing}
-use Rattle.regalloc2_validate.proofs.Tested.{tested_well_formed, shape_fault, soundness_fault}
+use Rattle.regalloc2_validate.proofs.Tested.{tested_on_ok, shape_fault, soundness_fault}
 use Rattle.regalloc2_validate.proofs.test_well_formed.Goals as goal
 
 pub returns-in_err-cfginfo-clause-refused : goal.returns-in_err-cfginfo-clause-refused
@@ -25,7 +24,7 @@ returns-in_err-validate_ssa-clause-refused g c =
     rw p.1 (subst (IsFault f env) (sym p.2) (soundness_fault f env _ c.in_ok-cfginfo.ensures.ok.shape c.in_err-validate_ssa.ensures.refused))
 
 pub returns-clause-ok : goal.returns-clause-ok
-returns-clause-ok g c = on_ok_both c.test_fixed.result (tested_well_formed (g.F.Function.function c.args.f.now) (machine_of c.args.env.now) c.in_ok-cfginfo.ensures.ok.shape c.in_ok-validate_ssa.ensures.sound) c.test_fixed.ensures.reuses c.test_fixed.ensures.fixed
+returns-clause-ok g c = tested_on_ok (g.F.Function.function c.args.f.now) (machine_of c.args.env.now) c.test_fixed.result c.in_ok-cfginfo.ensures.ok.shape c.in_ok-validate_ssa.ensures.sound c.test_fixed.ensures.reuses c.test_fixed.ensures.fixed
 
 pub returns-clause-refused : goal.returns-clause-refused
 returns-clause-refused g c =

@@ -1,12 +1,14 @@
 use Rattle.std.proofs.Common.{rules}
-use Rattle.regalloc2_function.specs.Views.{machine_of, output_of}
+use Rattle.regalloc2_function.specs.Following.{end_within}
+use Rattle.regalloc2_function.specs.Views.{output_of}
 use Rattle.ra2.specs.Outcome.{refused}
-use Rattle.regalloc2_tool.proofs.Frames.{within}
 use Rattle.ra2.proofs.Judged.{judged}
 use Rattle.ra2.proofs.judging.show.Goals as goal
 
 pub write_listing-requires-clause-blocks : goal.write_listing-requires-clause-blocks
-write_listing-requires-clause-blocks g c = within (g.F.Function.function c.args.f.now) (machine_of c.args.env.now) c.in-Ok.ensures.tested
+write_listing-requires-clause-blocks g c =
+    let tested = c.in-Ok.ensures.tested in
+    λ b less. ((tested.follow b less).0, end_within (g.F.Function.function c.args.f.now) tested.follow b less)
 
 pub returns-in-Ok : goal.returns-in-Ok
 returns-in-Ok g c = judged _ _ _ (output_of c.in-Ok.output) _ _ _ c.judge.result c.in-Check.is

@@ -28,7 +28,7 @@ use Rattle.regalloc2_fastalloc.proofs.Agreed.{made_blocks_agree, made_in_slots, 
 use Rattle.regalloc2_steps.proofs.Begun.{begun_machine}
 use Rattle.regalloc2_steps.proofs.Finished.{IsMade, made_in_order, made_constraints, made_proper, made_in_registers}
 use Rattle.regalloc2_steps.proofs.Gathered.{tame_at}
-use Rattle.regalloc2_tables.proofs.Inverses.{always}
+use Rattle.regalloc2_flow.proofs.Plain.{always}
 use Rattle.regalloc2_steps.proofs.Keeping.{none_lends}
 use Rattle.regalloc2_steps.proofs.Launching.{fresh_blank, some_units, fresh_fit}
 use Rattle.regalloc2_steps.proofs.Machines.{fit_apart}

@@ -1,6 +1,6 @@
 use Rattle.std.proofs.Common.{◌≡◌, length, arith}
-use Rattle.regalloc2_parts.specs.AtOnce.{ends_of}
-use Rattle.regalloc2_parts.proofs.Lists.{length_ends}
+use Rattle.std.proofs.lemmas.List.{length-map}
+use Rattle.regalloc2_parts.specs.AtOnce.{ends, ends_of}
 use Rattle.regalloc2_parts_tests.proofs.Rising.{rises_step, rises_all}
 use Rattle.regalloc2_parts_tests.proofs.listed.list_rises.Goals as goal
 
@@ -11,5 +11,5 @@ loop-at-preserved c =
 
 pub returns : goal.returns
 returns c = λ y.
-    let many : length (ends_of c.args.list.now) ≡ length c.args.list.now = length_ends c.args.list.now in
+    let many : length (ends_of c.args.list.now) ≡ length c.args.list.now = length-map c.args.list.now ends in
     rises_all (ends_of c.args.list.now) c.loop-at.at c.loop-at.invariant (omega arith)

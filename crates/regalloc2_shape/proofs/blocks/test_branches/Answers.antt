@@ -2,7 +2,7 @@ use Rattle.std.proofs.Common.{◌≡◌, ◌<◌, ◌≤◌, length, refl, ap, b
 use Rattle.regalloc2_names.specs.declared.RegAllocError.TheVariants.{DisallowedBranchArg}
 use Rattle.regalloc2_function.specs.FunctionValue.{FunctionValue, block_at}
 use Rattle.regalloc2_function.specs.WellFormed.{NoOperandsAt, last_of}
-use Rattle.regalloc2_shape.proofs.Ranges.{end_within}
+use Rattle.regalloc2_function.specs.Following.{end_within}
 use Rattle.regalloc2_shape.proofs.blocks.test_branches.Goals as goal
 
 pub may_branch-requires-clause-within : goal.may_branch-requires-clause-within

@@ -3,7 +3,8 @@ use Rattle.regalloc2_names.specs.Point.{after, before, invalid_inst}
 use Rattle.regalloc2_function.specs.FunctionValue.{FunctionValue, block_at}
 use Rattle.regalloc2_function.specs.WellFormed.{last_of}
 use Rattle.regalloc2_shape.specs.Tables.{entry_point, exit_point}
-use Rattle.regalloc2_shape.proofs.Ranges.{block_is, end_within}
+use Rattle.regalloc2_function.specs.Following.{end_within}
+use Rattle.regalloc2_shape.proofs.Ranges.{block_is}
 use Rattle.regalloc2_shape.proofs.Tabled.{points_more}
 use Rattle.regalloc2_shape.proofs.cfg.list_points.Goals as goal
 

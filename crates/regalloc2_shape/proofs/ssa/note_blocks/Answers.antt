@@ -5,7 +5,8 @@ use Rattle.regalloc2_function.specs.FunctionValue.{FunctionValue, block_at}
 use Rattle.regalloc2_function.specs.Reasons.{block_definitions, definitions_in}
 use Rattle.regalloc2_shape.specs.Definitions.Notes.{none}
 use Rattle.regalloc2_shape.proofs.Parts.{flat_split, flat_more}
-use Rattle.regalloc2_shape.proofs.Ranges.{end_within, block_is}
+use Rattle.regalloc2_function.specs.Following.{end_within}
+use Rattle.regalloc2_shape.proofs.Ranges.{block_is}
 use Rattle.regalloc2_shape.proofs.Noted.{names_in_part, notes_append}
 use Rattle.regalloc2_shape.proofs.ssa.note_blocks.Goals as goal
 

@@ -6,7 +6,8 @@ use Rattle.regalloc2_function.specs.FunctionValue.{FunctionValue, block_at}
 use Rattle.regalloc2_function.specs.Reasons.{block_uses, uses_in}
 use Rattle.regalloc2_shape.specs.Definitions.{IsUsable}
 use Rattle.regalloc2_shape.proofs.Parts.{flat_split, flat_more, flat_taken}
-use Rattle.regalloc2_shape.proofs.Ranges.{end_within, block_is}
+use Rattle.regalloc2_function.specs.Following.{end_within}
+use Rattle.regalloc2_shape.proofs.Ranges.{block_is}
 use Rattle.regalloc2_shape.proofs.Noted.{unusable_in_part}
 use Rattle.regalloc2_shape.proofs.ssa.test_blocks.Goals as goal
 

@@ -1,5 +1,5 @@
 use Rattle.std.proofs.Common.{refl}
-use Rattle.regalloc2_function.proofs.Following.{end_within}
+use Rattle.regalloc2_function.specs.Following.{end_within}
 use Rattle.regalloc2_stored.specs.Tables.{function_of}
 use Rattle.regalloc2_stored_tests.proofs.reading.copied.Goals as goal
 

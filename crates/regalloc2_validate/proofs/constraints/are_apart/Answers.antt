@@ -1,7 +1,7 @@
 use Rattle.std.proofs.Common.{ℕ, ◌≡◌, List, false, length, length-set, refl, sym, ap, ◌∙◌, subst, arith}
 use Rattle.regalloc2_names.specs.Operand.{OperandValue}
 use Rattle.regalloc2_validate.specs.Constraints.{AreApart}
-use Rattle.regalloc2_tables.proofs.Inverses.{always}
+use Rattle.regalloc2_flow.proofs.Plain.{always}
 use Rattle.regalloc2_validate.proofs.Constraining.{named_none, named_same, named_more, one_named, not_named, apart_none, apart_same, apart_more}
 use Rattle.regalloc2_validate.proofs.Reading.{read_operand}
 use Rattle.regalloc2_validate.proofs.constraints.are_apart.Goals as goal

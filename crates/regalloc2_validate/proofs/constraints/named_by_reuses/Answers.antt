@@ -1,6 +1,6 @@
 use Rattle.std.proofs.Common.{ℕ, List, false, length-set, refl, sym, ap, ◌∙◌, arith}
 use Rattle.regalloc2_names.specs.Operand.{OperandValue}
-use Rattle.regalloc2_tables.proofs.Inverses.{always}
+use Rattle.regalloc2_flow.proofs.Plain.{always}
 use Rattle.regalloc2_validate.proofs.Constraining.{named_none, named_same, named_more, all_named}
 use Rattle.regalloc2_validate.proofs.Reading.{read_operand}
 use Rattle.regalloc2_validate.proofs.constraints.named_by_reuses.Goals as goal

@@ -2,7 +2,7 @@ use Rattle.std.proofs.Common.{ℕ, ◌≡◌, ◌+◌, ◌-◌, ◌≤◌, ◌<�
 use Rattle.std.proofs.lemmas.List.{length-take}
 use Rattle.regalloc2_names.specs.Place.{Place, NoPlace}
 use Rattle.regalloc2_steps.proofs.Parts.{blank_part}
-use Rattle.regalloc2_tables.proofs.Setting.{inside_part, below_part, above_part, length_part}
+use Rattle.regalloc2_flow.proofs.Plain.{inside_part, below_part, above_part, length_part}
 use Rattle.regalloc2_fastalloc.proofs.state.State.allocate_at.Goals as goal
 
 pub allocate_inst-requires : goal.allocate_inst-requires

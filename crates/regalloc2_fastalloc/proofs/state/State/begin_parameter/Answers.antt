@@ -6,8 +6,7 @@ use Rattle.regalloc2_tables.specs.Tables.{stood, Settles}
 use Rattle.regalloc2_steps.specs.Steps.{Tables, Sends}
 use Rattle.regalloc2_fastalloc.specs.States.{tables_of}
 use Rattle.regalloc2_steps.specs.Blocks.{nowhere, comes}
-use Rattle.regalloc2_tables.proofs.Slotting.{something_there}
-use Rattle.regalloc2_tables.proofs.Slotting.{nothing}
+use Rattle.regalloc2_flow.proofs.Forms.{nothing, something_there}
 use Rattle.regalloc2_fastalloc.proofs.state.State.begin_parameter.Goals as goal
 
 pub returns-then-is_none-clause-ok : goal.returns-then-is_none-clause-ok

@@ -7,7 +7,8 @@ use Rattle.regalloc2_steps.specs.Steps.{Tables}
 use Rattle.regalloc2_fastalloc.specs.States.{tables_of}
 use Rattle.regalloc2_tables.specs.Tables.{holder}
 use Rattle.regalloc2_steps.proofs.Emptying.{clears_empty, same_then, no_some}
-use Rattle.regalloc2_tables.proofs.Listing.{without_last, none_in, nobody_there, somebody_there}
+use Rattle.regalloc2_flow.proofs.Plain.{nobody_there, somebody_there}
+use Rattle.regalloc2_tables.proofs.Listing.{without_last, none_in}
 use Rattle.regalloc2_fastalloc.proofs.state.State.empty_registers.Goals as goal
 
 pub loop-arrival-init : goal.loop-arrival-init

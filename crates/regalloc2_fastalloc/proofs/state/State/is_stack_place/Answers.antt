@@ -2,7 +2,7 @@ use Rattle.std.proofs.Common.{◌≡◌, sym, ap, ◌∙◌}
 use Rattle.regalloc2_names.specs.Place.{InRegister}
 use Rattle.regalloc2_steps.specs.Steps.{is_stack_in}
 use Rattle.regalloc2_fastalloc.specs.States.{tables_of}
-use Rattle.regalloc2_tables.proofs.Slotting.{place_of_register}
+use Rattle.regalloc2_flow.proofs.Forms.{place_of_register}
 use Rattle.regalloc2_fastalloc.proofs.state.State.is_stack_place.Goals as goal
 
 pub returns-in-Some : goal.returns-in-Some

@@ -1,6 +1,6 @@
 use Rattle.std.proofs.Common.{◌<◌, ◌≤◌, ◌∙◌, ap, rules, arith}
 use Rattle.regalloc2_tables.specs.Tables.{nobody_stands, most_units}
-use Rattle.regalloc2_tables.proofs.Setting.{each_of_three}
+use Rattle.regalloc2_flow.proofs.Plain.{each_of_three}
 use Rattle.regalloc2_fastalloc.proofs.state.State.new.Goals as goal
 
 pub new-requires-2 : goal.new-requires-2

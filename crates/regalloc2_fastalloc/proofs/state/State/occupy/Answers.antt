@@ -6,7 +6,7 @@ use Rattle.regalloc2_tables.specs.Tables.{holder, stood}
 use Rattle.regalloc2_steps.specs.Steps.{Occupies, in_slot}
 use Rattle.regalloc2_fastalloc.specs.States.{tables_of}
 use Rattle.regalloc2_steps.proofs.Choosing.{slot_place}
-use Rattle.regalloc2_tables.proofs.Slotting.{place_of_register, same_register}
+use Rattle.regalloc2_flow.proofs.Forms.{place_of_register, same_register}
 use Rattle.regalloc2_fastalloc.proofs.state.State.occupy.Goals as goal
 
 pub returns-in_default-clause-ok : goal.returns-in_default-clause-ok

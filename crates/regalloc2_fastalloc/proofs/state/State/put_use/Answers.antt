@@ -3,7 +3,7 @@ use Rattle.regalloc2_names.specs.Place.{NoPlace}
 use Rattle.regalloc2_tables.specs.Tables.{stood}
 use Rattle.regalloc2_steps.specs.Steps.{stays, stands}
 use Rattle.regalloc2_fastalloc.specs.States.{tables_of}
-use Rattle.regalloc2_tables.proofs.Slotting.{nothing_there, something_there}
+use Rattle.regalloc2_flow.proofs.Forms.{nothing_there, something_there}
 use Rattle.regalloc2_fastalloc.proofs.state.State.put_use.Goals as goal
 
 pub returns-then-is_some-clause-ok : goal.returns-then-is_some-clause-ok

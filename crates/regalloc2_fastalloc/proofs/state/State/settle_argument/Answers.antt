@@ -3,7 +3,7 @@ use Rattle.regalloc2_names.specs.Place.{InRegister}
 use Rattle.regalloc2_steps.specs.Branches.{from_register}
 use Rattle.regalloc2_steps.specs.Steps.{Tables}
 use Rattle.regalloc2_fastalloc.specs.States.{tables_of}
-use Rattle.regalloc2_tables.proofs.Slotting.{place_of_register}
+use Rattle.regalloc2_flow.proofs.Forms.{place_of_register}
 use Rattle.regalloc2_fastalloc.proofs.state.State.settle_argument.Goals as goal
 
 pub returns-in-Some-clause-ok : goal.returns-in-Some-clause-ok

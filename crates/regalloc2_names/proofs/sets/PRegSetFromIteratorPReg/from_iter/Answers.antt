@@ -1,4 +1,4 @@
-use Rattle.regalloc2_names.proofs.Collected.{collected}
+use Rattle.regalloc2_names.specs.Collected.{collected}
 use Rattle.regalloc2_names.proofs.sets.PRegSetFromIteratorPReg.from_iter.Goals as goal
 
 pub loop-reg-preserved : goal.loop-reg-preserved
