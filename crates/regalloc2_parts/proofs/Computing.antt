@@ -15,7 +15,7 @@ use Rattle.regalloc2_parts.specs.Resolved.{listed, has_scratch, with_place, plac
 use Rattle.regalloc2_parts.specs.declared.moves.passing.Held.{Held}
 use Rattle.regalloc2_parts.specs.declared.moves.passing.Held.TheVariants.{Free, InRegister}
 use Rattle.regalloc2_parts.specs.declared.moves.passing.Way.{Way}
-use Rattle.regalloc2_parts.specs.Tracking.{CanExpand, IsExpanded, IsMade, IsOneOf, IsFirst, Fits}
+use Rattle.regalloc2_parts.specs.Tracking.{CanExpand, IsExpanded, IsMade, IsOneOf, IsFirst}
 use Rattle.regalloc2_parts.specs.Computed.{Asked, MayBeAskedTwice, Owes, IsHanding, IsRefusing, IsWay, IsChoice, IsAnswered, IsComputed, AreApartInMemory, AreSeenApart}
 use Rattle.regalloc2_parts.proofs.Filling.{fills_same, fills_real, or_some, or_none}
 use Rattle.regalloc2_parts.proofs.Places.{cases_place}
@@ -302,7 +302,7 @@ module _ {F G T : Type 0} (registers : F → Option Place → F → Type 0) (slo
     more_registers given made scratch f f' f'' g g' c None h.0,
     more_slots given made scratch f f' g g' g'' c (Some p) h.1,
     (λ out x. computed_by_way given made out scratch f f' g g' c (None ∷ []) (Some p ∷ []) way.register way.save (inr is.0)
-      (inr (subst (λ y. Contains (c.ss ++ Some p ∷ []) (Some y)) (sym is.1) (Contains-push c.ss (Some p)))) some x.same x.each),
+        (inr (subst (λ y. Contains (c.ss ++ Some p ∷ []) (Some y)) (sym is.1) (Contains-push c.ss (Some p)))) some x.same x.each),
   )
 
 -- what may be asked twice may be asked again once a scratch place is chosen

@@ -8,7 +8,7 @@ use Rattle.regalloc2_names.specs.Place.{Place, NoPlace}
 use Rattle.regalloc2_parts.specs.AtOnce.{Ends, WritesNoneFirst}
 use Rattle.regalloc2_parts.specs.declared.moves.order.State.{State}
 use Rattle.regalloc2_parts.specs.declared.moves.order.State.TheVariants.{Todo, Pending, Done}
-use Rattle.regalloc2_parts.specs.Giving.{state_at, number_at, origin, HasGiven, HasGivenWhole, HasRings, IsOrder, is_done, IsNextDone, LeadsTo, HasGoneOn, AreSameDone, IsSettled, TakesFrom}
+use Rattle.regalloc2_parts.specs.Giving.{state_at, number_at, origin, HasGiven, HasGivenWhole, HasRings, IsOrder, is_done, IsNextDone, LeadsTo, HasGoneOn, IsGivenOut, AreSameDone, IsSettled, TakesFrom}
 use Rattle.regalloc2_parts.proofs.Orders.{source_other, gives_none}
 use Rattle.regalloc2_parts.proofs.Chains.{todo_done, todo_pending, is_done_else}
 use Rattle.regalloc2_parts.proofs.Rings.{rings_same, rings_none, count_same, count_all}
@@ -119,3 +119,10 @@ given_whole ms nexts st given chain many was =
       written = was.had.written;
       plain = λ e. was.had.plain (omega arith);
     }
+
+-- what was not to be done before a chain is given out still isn't
+pub given_on : {T : Type 0} (moves : List (Place × Place × T)) (nexts : List ℕ) (old mid new : List State) (chain : List ℕ) (given : List (Place × Place × T)) (start : ℕ) → HasGoneOn old mid → (state_at mid start ≡ Todo → ⊥) → IsGivenOut moves nexts mid new chain given → IsGivenOut moves nexts old new chain given × (state_at new start ≡ Todo → ⊥)
+given_on moves nexts old mid new chain given start on begun h = (
+  record { had = h.had; settled = h.settled; empty = h.empty; goes_on = λ k n. h.goes_on k (on k n); of_moves = h.of_moves },
+  h.goes_on start begun,
+)

@@ -1,15 +1,16 @@
 -- What the closures of a resolver of scratch places answer and owe, and what it makes of moves.
-use Rattle.std.specs.Prelude.{◌≡◌, ◌≢◌, ◌⊎◌, ◌≤◌, Bool, true, false, List, length, Contains, Option, None, Some, Result, MatchResult}
+use Rattle.std.specs.Prelude.{◌≡◌, ◌≢◌, ◌⊎◌, ◌≤◌, Bool, true, false, List, length, Contains, Option, None, Some, Result, MatchResult, IsOk}
 use Rattle.std.specs.List.{All, FoldsTo}
 use Rattle.smallvec.specs.SmallVec.{SmallVec}
-use Rattle.regalloc2_names.specs.Place.{Place, NoPlace}
+use Rattle.regalloc2_names.specs.Place.{Place, NoPlace, InRegister}
 use Rattle.regalloc2_parts.specs.declared.moves.MoveFault.{MoveFault}
 use Rattle.regalloc2_parts.specs.declared.moves.MoveFault.TheVariants.{NoSlot}
 use Rattle.regalloc2_parts.specs.declared.moves.scratch.Handed.{Handed}
 use Rattle.regalloc2_parts.specs.declared.moves.scratch.Handed.TheVariants.{Register, Slot}
 use Rattle.regalloc2_parts.specs.declared.moves.passing.Held.{Held}
-use Rattle.regalloc2_parts.specs.declared.moves.passing.Held.TheVariants.{Free, InRegister}
+use Rattle.regalloc2_parts.specs.declared.moves.passing.Held.TheVariants.{Free, InRegister as Borrowed}
 use Rattle.regalloc2_parts.specs.declared.moves.passing.Way.{Way}
+use Rattle.regalloc2_parts.specs.declared.moves.scratch.MoveAndScratchResolver.{MoveAndScratchResolver}
 use Rattle.regalloc2_parts.specs.declared.moves.resolved.MoveVecWithScratch.{MoveVecWithScratch}
 use Rattle.regalloc2_parts.specs.AtOnce.{ends_of, names, in_turn}
 use Rattle.regalloc2_parts.specs.Resolved.{listed, has_scratch, with_place, IsUnnamed}
@@ -60,7 +61,7 @@ IsRefusing registers slots f f' g g' = registers f None f' × slots g None g'
 -- the register through which moves go, and the slot in which it is saved: a free register needs none, and stands for its own
 abbrev pub IsWay : Handed → Place → Way → Held → Type 0
 IsWay (Register p) borrowed way held = (way.register ≡ p) × (way.save ≡ p) × (held ≡ Free)
-IsWay (Slot p) borrowed way held = (way.register ≡ borrowed) × (way.save ≡ p) × (held ≡ InRegister)
+IsWay (Slot p) borrowed way held = (way.register ≡ borrowed) × (way.save ≡ p) × (held ≡ Borrowed)
 
 abbrev pub handed_place : Handed → Place
 handed_place (Register p) = p
@@ -109,10 +110,15 @@ pub record IsComputed {T : Type 0} (stack : Place → Bool → Type 0) (borrowed
   -- where there is nothing to do they come back as they are
   pub plain : scratch ≡ false → AreApartInMemory stack given → made ≡ given
 
--- what the resolver asked for, and the moves that it made of the given ones or why it made none
-abbrev pub Computes : {F G T A : Type 0} → (F → Option Place → F → Type 0) → (G → Option Place → G → Type 0) → (Place → Bool → Type 0) → Place → F → F → G → G → MoveVecWithScratch T A → Result (SmallVec (Place × Place × T)) MoveFault → Type 0
-Computes registers slots stack borrowed f f' g g' moves result =
-    (asked : Asked registers f f') × (slots_asked : Asked slots g g')
-    × MatchResult result
-    (λ made. IsComputed stack borrowed (IsAnswered asked.answers slots_asked.answers) (has_scratch moves) (listed moves) made.items)
-    (λ fault. fault ≡ NoSlot → Contains slots_asked.answers None)
+-- What the resolver asked for as it went from the state old to the state new, and the moves that it made of the given ones or why it made none.
+pub record Computes {F G H T A : Type 0} (registers : F → Option Place → F → Type 0) (slots : G → Option Place → G → Type 0) (stack : Place → Bool → Type 0) (old new : MoveAndScratchResolver F G H) (moves : MoveVecWithScratch T A) (result : Result (SmallVec (Place × Place × T)) MoveFault) : Type 0 where
+  pub asked : Asked registers old.find_free_reg new.find_free_reg
+  pub slots_asked : Asked slots old.get_stackslot new.get_stackslot
+  pub stack_kept : new.is_stack_alloc ≡ old.is_stack_alloc
+  pub borrowed_kept : new.borrowed_scratch_reg ≡ old.borrowed_scratch_reg
+  -- the moves that are made, or why there are none
+  pub outcome : MatchResult result
+      (λ made. IsComputed stack (InRegister old.borrowed_scratch_reg) (IsAnswered asked.answers slots_asked.answers) (has_scratch moves) (listed moves) made.items)
+      (λ fault. fault ≡ NoSlot → Contains slots_asked.answers None)
+  -- where nothing is needed nothing fails
+  pub plain : has_scratch moves ≡ false → AreApartInMemory stack (listed moves) → IsOk result

@@ -3,7 +3,7 @@ use Rattle.std.specs.Prelude.{ℕ, ◌≡◌, ◌<◌, ◌≤◌, ◌+◌, ◌==
 use Rattle.regalloc2_names.specs.Place.{Place, NoPlace, is_place}
 use Rattle.std.specs.List.{All, AllPairs}
 use Rattle.regalloc2_names.specs.PlaceBits.{bits_of_place}
-use Rattle.regalloc2_parts.specs.AtOnce.{Ends, no_move, WritesNoneFirst, IsPlace}
+use Rattle.regalloc2_parts.specs.AtOnce.{Ends, ends_of, no_move, WritesNoneFirst, IsOfMoves, IsPlace}
 use Rattle.regalloc2_parts.specs.declared.moves.order.State.{State}
 use Rattle.regalloc2_parts.specs.declared.moves.order.State.TheVariants.{Todo, Pending, Done}
 
@@ -164,6 +164,14 @@ HasGoneOn old new = (k : ℕ) → (state_at old k ≡ Todo → ⊥) → state_at
 pub record AreSameDone (old new : List State) : Type 0 where
   pub stays : (k : ℕ) → state_at old k ≡ Done → state_at new k ≡ Done
   pub was : (k : ℕ) → state_at new k ≡ Done → state_at old k ≡ Done
+
+-- a chain was given out to its first move, no other is begun, and what is given was made of the moves
+pub record IsGivenOut {T : Type 0} (moves : List (Place × Place × T)) (nexts : List ℕ) (old new : List State) (chain : List ℕ) (given : List (Place × Place × T)) : Type 0 where
+  pub had : HasGivenWhole (ends_of moves) nexts new (ends_of given)
+  pub settled : IsSettled new
+  pub empty : chain ≡ []
+  pub goes_on : HasGoneOn old new
+  pub of_moves : All (IsOfMoves moves) given
 
 -- p is the place from which what comes to stand at q is taken, where all moves are made at once
 pub record TakesFrom (ms : List Ends) (q p : Place) : Type 0 where

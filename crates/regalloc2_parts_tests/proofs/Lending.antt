@@ -27,8 +27,6 @@ module _ {F G H T : Type 0} (r : Mut F (Unit {0}) (Option Place)) (s : Mut G (Un
     registers_differ = differ r f registers i l.registers_differ;
     slots_differ = differ s g slots j l.slots_differ;
     apart = λ p q a b e. one_form (is_in_slot q) (sym (ap is_in_slot e) ∙ l.no_slots p (answered r f registers i p a)) (l.all_slots q (answered s g slots j q b));
-    one_answer = λ p a b x y. k p a x ∙ sym (k p b y);
     no_memory = λ p a x. one_form (is_in_slot p) (l.no_slots p (answered r f registers i p a)) (sym (k p true x));
     borrowed_no_memory = λ x. one_form true (k (InRegister borrowed) true x) refl;
-    no_slot = λ p a e. one_form (is_in_slot p) (ap is_in_slot e) (l.all_slots p (answered s g slots j p a));
   }

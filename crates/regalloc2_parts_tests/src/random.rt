@@ -8,6 +8,7 @@ use super::rows::write_row;
 use regalloc2_names::Allocation;
 use regalloc2_parts::moves::MoveFault;
 use std::alloc::{AllocError, Global};
+use std::array;
 use std::io::{self, Write};
 
 /// The number of a place, and 199 for none.
@@ -25,11 +26,7 @@ fn cell(place: Allocation) -> usize
 
 /// Each cell with its own number.
 fn own_numbers() -> [u32; 200] {
-    let mut cells = [0u32; 200];
-    for at in 0..200usize {
-        cells[at] = at as u32;
-    }
-    cells
+    array::from_fn(|at| at as u32)
 }
 
 /// Whether the moves, one by one, leave in all cells below 199 what the pairs of numbers do at once, but for the lent cells.
@@ -44,12 +41,10 @@ fn are_made(moves: &[Move], pairs: &[(usize, usize)], lent: &[Option<Allocation>
     for m in moves {
         cells[cell(m.1)] = cells[cell(m.0)];
     }
-    (0..199usize).all(|at| {
-        cells[at] == wanted[at]
-            || lent
-                .iter()
-                .any(|l| l.is_some_and(|place| cell(place) == at))
-    })
+    for place in lent.iter().flatten() {
+        cells[cell(*place)] = wanted[cell(*place)];
+    }
+    (0..199usize).all(|at| cells[at] == wanted[at])
 }
 
 /// Whether each of the moves is from a place to a place, one of them no slot.
@@ -59,11 +54,8 @@ fn are_apart(moves: &[Move]) -> bool {
 
 /// One of the first 8 registers or of the first 8 slots.
 fn number(index: usize) -> usize {
-    if index % 16 < 8 {
-        index % 16
-    } else {
-        SLOT - 8 + index % 16
-    }
+    let n = index % 16;
+    if n < 8 { n } else { SLOT - 8 + n }
 }
 
 /// Moves of a seed: into some of the first 8 registers and 8 slots, from any of them; some listed twice.
@@ -130,11 +122,8 @@ pub fn write_random<W: Write>(alloc: Global, out: &mut W) -> io::Result<()> {
             counts[3] = counts[3].wrapping_add(u32::from(is_lacking));
         }
     }
-    write_row(
-        out,
-        "resolved, with scratch, computed, without a slot",
-        &counts,
-    )
+    let name = "resolved, with scratch, computed, without a slot";
+    write_row(out, name, &counts)
 }
 
 /// Writes how many moves come of a chain of 50,000 and a cycle of 50,001.

@@ -38,15 +38,8 @@ fn write_ring<W: Write, A: Allocator>(
         write!(out, " {preg}")?;
     }
     writeln!(out)?;
-    write_row(
-        out,
-        "is",
-        &(
-            ring.is_empty(),
-            ring.pop(),
-            ring.last_satisfying(|preg| preg.hw_enc() != 0),
-        ),
-    )
+    let not_first = ring.last_satisfying(|preg| preg.hw_enc() != 0);
+    write_row(out, "is", &(ring.is_empty(), ring.pop(), not_first))
 }
 
 /// Writes a new ring, and the ring after each poke; then how often it asked for memory.
@@ -77,18 +70,11 @@ pub fn write_rings<W: Write>(alloc: Global, out: &mut W) -> io::Result<()> {
     let all = [preg(0), preg(1), preg(2), preg(3)];
     write_pokes(alloc, out, &[preg(0), preg(1), preg(2)], &[all[1], all[2]])?;
     write_pokes(alloc, out, &[preg(9), preg(63), preg(0)], &[])?;
-    write_pokes(
-        alloc,
-        out,
-        &[preg(0), preg(1), preg(2), preg(3)],
-        &[all[2], all[2], all[0], all[3]],
-    )?;
+    write_pokes(alloc, out, &all, &[all[2], all[2], all[0], all[3]])?;
     write_pokes(alloc, out, &[preg(7)], &[preg(7)])?;
     write_pokes(alloc, out, &[], &[])?;
-    let parted = PartedByRegClass {
-        items: [7u32, 8, 9],
-    };
-    writeln!(out, "parted: {parted}")
+    let items = [7u32, 8, 9];
+    writeln!(out, "parted: {}", PartedByRegClass { items })
 }
 
 /// Rings of two, one and one registers.
@@ -111,8 +97,7 @@ fn write_list<W: Write, A: Allocator>(out: &mut W, live: &VRegSet<A>) -> io::Res
     for v in live.iter() {
         write!(out, " {v}")?;
     }
-    writeln!(out)?;
-    write_row(out, "none", &live.is_empty())
+    writeln!(out, "\nnone: {}", live.is_empty())
 }
 
 /// Writes a list of all classes before and after removals.
@@ -181,9 +166,6 @@ pub fn write_picks<W: Write>(out: &mut W) -> io::Result<()> {
     write_walk(out, "any_reg", operands.any_reg())?;
     write_walk(out, "late", operands.late())?;
     write_walk(out, "early", operands.early())?;
-    write_walk(
-        out,
-        "matches",
-        operands.matches(|operand| operand.vreg().vreg() != 1),
-    )
+    let others = operands.matches(|operand| operand.vreg().vreg() != 1);
+    write_walk(out, "matches", others)
 }

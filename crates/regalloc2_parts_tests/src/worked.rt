@@ -5,7 +5,8 @@ use super::listed::{Move, SLOT, place, resolved};
 use super::rows::write_row;
 use super::structures::three_rings;
 use regalloc2_names::RegAllocError;
-use regalloc2_parts::moves::{MoveFault, MoveVecWithScratch};
+use regalloc2_parts::moves::MoveFault;
+use regalloc2_parts::moves::MoveVecWithScratch::{NoScratch, Scratch};
 use regalloc2_parts::vregset::VRegSet;
 use regalloc2_refusing::Refusing;
 use std::alloc::Global;
@@ -74,10 +75,8 @@ pub fn write_resolved<W: Write>(alloc: Global, out: &mut W) -> io::Result<()> {
     for pairs in RESOLVED {
         write_added(out, pairs)?;
         match resolved(alloc, &alloc, pairs) {
-            Ok(Some(MoveVecWithScratch::NoScratch(m))) => write_moves(out, "gives", m.as_slice())?,
-            Ok(Some(MoveVecWithScratch::Scratch(m))) => {
-                write_moves(out, "with scratch", m.as_slice())?
-            }
+            Ok(Some(NoScratch(m))) => write_moves(out, "gives", m.as_slice())?,
+            Ok(Some(Scratch(m))) => write_moves(out, "with scratch", m.as_slice())?,
             _ => write_row(out, "gives", &"nothing")?,
         }
     }

@@ -7,7 +7,7 @@ use Rattle.std.proofs.lemmas.Bool.{cases_eq}
 use Rattle.regalloc2_names.specs.declared.sets.PRegSet.{PRegSet}
 use Rattle.regalloc2_names.specs.Place.{Place, NoPlace, InRegister, InSlot}
 use Rattle.regalloc2_names.specs.Register.{Register}
-use Rattle.regalloc2_parts.specs.Computed.{Asked, Owes, MayAnswer, AnswersDiffer, IsAnswered, IsComputed}
+use Rattle.regalloc2_parts.specs.Computed.{Asked, Owes, MayAnswer, AnswersDiffer, IsAnswered, IsAway, IsComputed}
 use Rattle.regalloc2_tables.specs.declared.lending.Lent.{Lent}
 use Rattle.regalloc2_tables.specs.declared.lending.Lending.{Lending}
 use Rattle.regalloc2_tables.specs.Lending.{Moves, is_memory, IsLent, IsTaken, DoDiffer, HandsOut, Tells, MayTell, Serves, IsMadeWith, IsShort}
@@ -102,14 +102,17 @@ module _ {F G H : Type 0} (r : Mut F (Unit {0}) (Option Place)) (s : Mut G (Unit
         let x = serves.free p (answered r f l.registers i p a) in
         let y = serves.unused q (answered s g l.slots j q b) in
         not_both (is_memory l.fixed_stack q) (memory_slot l.fixed_stack q y.1.0 y.1.1) (ap (is_memory l.fixed_stack) (sym e) ∙ x.2);
-    one_answer = λ p a b x y. tells p a x ∙ sym (tells p b y);
     no_memory = λ p a x. not_both (is_memory l.fixed_stack p) (sym (tells p true x)) (serves.free p (answered r f l.registers i p a)).2;
     borrowed_no_memory = λ x. not_both (is_memory l.fixed_stack (InRegister borrowed)) (sym (tells (InRegister borrowed) true x)) (ap (λ b. is_memory l.fixed_stack (InRegister b)) is ∙ serves.borrowed);
-    no_slot = λ p a e. let y = serves.unused p (answered s g l.slots j p a) in (let no : InSlot y.1.0 ≡ InRegister borrowed = sym y.1.1 ∙ e in cc);
   }
 
   module _ (may_tell : MayTell m h l.fixed_stack) (next : Option Place) (taken : ℕ) (f' : F) (g' g'' : G) (asked : Asked (λ x a y. Called r x tt a y) f f') (slots_asked : Asked (λ x a y. Called s x tt a y) g g')
       (after : Called s g' tt next g'') (none : taken ≡ 0 → (l.slots.first ≡ None) ⊎ (next ≡ l.slots.first)) (one : taken ≡ 1 → (l.slots.second ≡ None) ⊎ (next ≡ l.slots.second)) where
+    -- what the closure says isn't in memory, or can't say otherwise of, is none
+    away : (p : Place) → IsAway (λ q b. m.post h (q, tt) b) p → true ≡ is_memory l.fixed_stack p → ⊥
+    away p (inl n) so = let no : false ≡ true = tells p false n ∙ sym so in cc
+    away p (inr n) so = n (subst (λ t. m.post h (p, tt) t) (sym so) (may_tell p))
+
     registers_handed : (p : Place) → Contains asked.answers (Some p) → IsLent l.registers p
     registers_handed p c = ⊎_elim (λ e. inl (sym e)) (λ e. inr (sym e)) (which r f l.registers i asked.answers f' asked.few asked.calls (Some p) c)
 
@@ -130,7 +133,7 @@ module _ {F G H : Type 0} (r : Mut F (Unit {0}) (Option Place)) (s : Mut G (Unit
           let x = computed.each k d lt in
           let mv = get_or made k d in
           record {
-            apart = λ a b. x.apart (subst (λ t. m.post h (mv.0, tt) t) (sym a) (may_tell mv.0)) (subst (λ t. m.post h (mv.1, tt) t) (sym b) (may_tell mv.1));
+            apart = λ a b. ⊎_elim (λ y. away mv.0 y a) (λ y. away mv.1 y b) x.apart;
             between = x.between;
             source = ⊎_elim (λ a. inl (lent_end borrowed is mv.0 a)) (λ a. inr a) x.source;
             target = ⊎_elim (λ a. inl (lent_end borrowed is mv.1 a)) (λ a. inr a) x.target;

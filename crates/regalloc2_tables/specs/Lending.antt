@@ -53,6 +53,10 @@ Tells g f fixed_stack = (p : Place) (b : Bool) → g.post f (p, tt) b → b ≡ 
 abbrev pub MayTell : {H : Type 0} → Shared H (Place × Unit {0}) Bool → H → PRegSet → Type 0
 MayTell g f fixed_stack = (p : Place) → g.post f (p, tt) (is_memory fixed_stack p)
 
+-- not both places are in memory
+abbrev pub AreApart : PRegSet → Place → Place → Type 0
+AreApart fixed_stack p q = true ≡ is_memory fixed_stack p → true ≡ is_memory fixed_stack q → ⊥
+
 -- registers and slots that serve the moves: no move names them, they differ, and of registers none is in memory
 pub record Serves (l : Lending) (ms : Moves) : Type 0 where
   pub free : (p : Place) → IsLent l.registers p → (p ≢ NoPlace) × IsUnnamed p ms × (is_memory l.fixed_stack p ≡ false)
@@ -65,7 +69,7 @@ pub record Serves (l : Lending) (ms : Moves) : Type 0 where
 -- The moves `made`, one after another, do what the given ones do, but for what was lent: all registers, and the first so many slots.
 pub record IsMadeWith (l : Lending) (taken : ℕ) (given made : Moves) : Type 0 where
   pub same : (q : Place) → q ≢ NoPlace → (IsLent l.registers q → ⊥) → (IsTaken l.slots taken q → ⊥) → in_turn (ends_of made) names q ≡ in_turn (ends_of given) names q
-  pub each : All (IsComputedMove (λ p b. b ≡ is_memory l.fixed_stack p) (λ p. IsLent l.registers p ⊎ (IsTaken l.slots taken p ⊎ (p ≡ InRegister l.borrowed))) given) made
+  pub each : All (IsComputedMove (AreApart l.fixed_stack) (λ p. IsLent l.registers p ⊎ (IsTaken l.slots taken p ⊎ (p ≡ InRegister l.borrowed))) given) made
 
 -- one of the two isn't there
 abbrev pub IsShort : Lent → Type 0

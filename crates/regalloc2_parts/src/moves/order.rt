@@ -1,12 +1,12 @@
 //! The order in which moves that overlap are made.
 
-ghost use Rattle.std.specs.Prelude.{◌≡◌, ◌≢◌, ◌↔◌, ℕ, ◌+◌, ◌<◌, ◌≤◌, length, reverse, slice_index, [], Contains, EachIndex, IsTrue, IsOk, IfOk, IfErr, OnOk};
+ghost use Rattle.std.specs.Prelude.{◌≡◌, ◌≢◌, ◌↔◌, true, false, ◌+◌, ◌<◌, ◌≤◌, length, reverse, slice_index, [], Contains, EachIndex, IsTrue, IsOk, IfOk, IfErr, OnOk};
 ghost use Rattle.std.specs.List.{All};
 ghost use Rattle.std.specs.List.Sorted.{IsPermutation, IsNonDecreasingBy};
-ghost use Rattle.regalloc2_names.specs.Place.{Place, NoPlace};
+ghost use Rattle.regalloc2_names.specs.Place.{Place};
 ghost use Rattle.regalloc2_names.specs.PlaceBits.{bits_of_place};
 ghost use Rattle.regalloc2_parts.specs.AtOnce.{ends_of, AreReal, HasOneSourceEach, IsOfMoves, IsPlace};
-ghost use Rattle.regalloc2_parts.specs.Giving.{AreFair, AreProper, IsTidied, IsWriterOf, AreApart, AreNexts, HasGivenWhole, IsOrder, IsChain, IsGiving, LeadsTo, IsSettled, HasGoneOn, AreSameDone, AreRingsDone, HasRings, state_at};
+ghost use Rattle.regalloc2_parts.specs.Giving.{AreFair, AreProper, IsTidied, IsWriterOf, AreApart, AreNexts, HasGivenWhole, IsOrder, IsChain, IsGiving, LeadsTo, IsSettled, HasGoneOn, IsGivenOut, AreSameDone, AreRingsDone, HasRings, state_at};
 ghost use Rattle.regalloc2_parts.specs.Resolved.{listed, has_scratch, IsResolution, IsRunnable};
 ghost use Rattle.regalloc2_parts.specs.declared.moves.order.State.TheVariants.{Todo, Pending, Done};
 
@@ -59,16 +59,24 @@ fn follow<'a, B: Allocator>(
     Ok(at)
 }
 
-/// Opens the ring at a chain's end: its last move is given out as one from no place. Answers that move, which `give_chain`
-/// makes up for once the ring's first move is given out.
-fn open_ring<'a, T: Copy + Default, A: Allocator + Copy, B: Allocator>(
+/// Whether a move stands on the chain that is followed. No move past the end does.
+fn is_pending(state: &[State], at: usize) -> bool
+    ensures yes { result ≡ true → (at < length state.now) × (state_at state.now at ≡ Pending) }
+    ensures no { result ≡ false → at < length state.now → state_at state.now at ≢ Pending }
+{
+    at < state.len() && matches!(state[at], State::Pending)
+}
+
+/// Opens the ring that a chain closes: its last move is given out as one from no place. Answers that move, which `give_chain`
+/// makes up for once the ring's first move is given out, and the first move; past the end for both where there is no ring.
+fn open_ring<'a, T: Copy + Default, A: Allocator + Copy>(
     moves: &[(Allocation, Allocation, T)],
     nexts: &[usize],
     state: &mut [State],
-    chain: &mut Indexes<'a, B>,
+    chain: &mut Indexes<'a, A>,
     given: &mut MoveVec<T, A>,
-    first: usize,
-) -> Result<usize, AllocError>
+    stop: usize,
+) -> Result<(usize, usize), AllocError>
     requires apart { AreApart (ends_of moves.now) }
     requires nexts { AreNexts (ends_of moves.now) nexts.now }
     requires as_many { length state.old ≡ length moves.now }
@@ -76,30 +84,30 @@ fn open_ring<'a, T: Copy + Default, A: Allocator + Copy, B: Allocator>(
     requires had { HasGivenWhole (ends_of moves.now) nexts.now state.old (ends_of given.old.items) }
     requires rings { (had : HasRings nexts.now state.old (length given.old.items)) × AreRingsDone state.old had.rings }
     requires chain { IsChain nexts.now state.old chain.old.items }
-    requires link { LeadsTo nexts.now chain.old.items first }
-    requires within { first < length moves.now }
-    requires pending { state_at state.old first ≡ Pending }
+    requires link { LeadsTo nexts.now chain.old.items stop }
+    requires stops { stop < length nexts.now → state_at state.old stop ≢ Todo }
     requires of_moves { All (IsOfMoves moves.now) given.old.items }
-    ensures giving { IfOk result (λ cut. IsGiving (ends_of moves.now) nexts.now state.new chain.new.items (ends_of given.new.items) cut first) }
-    ensures goes_on { OnOk result (HasGoneOn state.old state.new) }
-    ensures of_moves { OnOk result (All (IsOfMoves moves.now) given.new.items) }
+    ensures giving { IfOk result (λ ring. IsGiving (ends_of moves.now) nexts.now state.new chain.new.items (ends_of given.new.items) ring.0 ring.1 × HasGoneOn state.old state.new × All (IsOfMoves moves.now) given.new.items) }
 {
+    if !is_pending(state, stop) {
+        return Ok((moves.len(), moves.len()));
+    }
     let Some(last) = chain.pop() else {
-        return Ok(moves.len());
+        return Ok((moves.len(), moves.len()));
     };
     let end = moves[last];
     given.push((Allocation::none(), end.1, end.2))?;
     state[last] = State::Done;
-    Ok(last)
+    Ok((last, stop))
 }
 
 /// Gives out the moves of a chain from its end on. Where it holds a ring, that is down to `first`, what the ring's last move,
 /// `cut`, reads is then put aside; where it holds none, both are past the end.
-fn give_chain<'a, T: Copy + Default, A: Allocator + Copy, B: Allocator>(
+fn give_chain<'a, T: Copy + Default, A: Allocator + Copy>(
     moves: &[(Allocation, Allocation, T)],
     nexts: &[usize],
     state: &mut [State],
-    chain: &mut Indexes<'a, B>,
+    chain: &mut Indexes<'a, A>,
     given: &mut MoveVec<T, A>,
     mut cut: usize,
     mut first: usize,
@@ -110,11 +118,7 @@ fn give_chain<'a, T: Copy + Default, A: Allocator + Copy, B: Allocator>(
     requires indexed { length nexts.now ≡ length moves.now }
     requires giving { IsGiving (ends_of moves.now) nexts.now state.old chain.old.items (ends_of given.old.items) cut first }
     requires of_moves { All (IsOfMoves moves.now) given.old.items }
-    ensures had { OnOk result (HasGivenWhole (ends_of moves.now) nexts.now state.new (ends_of given.new.items)) }
-    ensures settled { OnOk result (IsSettled state.new) }
-    ensures empty { OnOk result (chain.new.items ≡ []) }
-    ensures goes_on { OnOk result (HasGoneOn state.old state.new) }
-    ensures of_moves { OnOk result (All (IsOfMoves moves.now) given.new.items) }
+    ensures given { OnOk result (IsGivenOut moves.now nexts.now state.old state.new chain.new.items given.new.items) }
 {
     while let Some(top) = chain.pop() {
         given.push(moves[top])?;
@@ -130,11 +134,11 @@ fn give_chain<'a, T: Copy + Default, A: Allocator + Copy, B: Allocator>(
 }
 
 /// Gives out the chain that begins at a move.
-fn give_from<'a, T: Copy + Default, A: Allocator + Copy, B: Allocator>(
+fn give_from<'a, T: Copy + Default, A: Allocator + Copy>(
     moves: &[(Allocation, Allocation, T)],
     nexts: &[usize],
     state: &mut [State],
-    chain: &mut Indexes<'a, B>,
+    chain: &mut Indexes<'a, A>,
     given: &mut MoveVec<T, A>,
     start: usize,
 ) -> Result<(), AllocError>
@@ -148,19 +152,11 @@ fn give_from<'a, T: Copy + Default, A: Allocator + Copy, B: Allocator>(
     requires start { state_at state.old start ≡ Todo }
     requires within { start < length moves.now }
     requires of_moves { All (IsOfMoves moves.now) given.old.items }
-    ensures had { OnOk result (HasGivenWhole (ends_of moves.now) nexts.now state.new (ends_of given.new.items)) }
-    ensures settled { OnOk result (IsSettled state.new) }
-    ensures empty { OnOk result (chain.new.items ≡ []) }
-    ensures goes_on { OnOk result (HasGoneOn state.old state.new) }
-    ensures begun { OnOk result (state_at state.new start ≢ Todo) }
-    ensures of_moves { OnOk result (All (IsOfMoves moves.now) given.new.items) }
+    ensures given { OnOk result (IsGivenOut moves.now nexts.now state.old state.new chain.new.items given.new.items × (state_at state.new start ≢ Todo)) }
 {
     let stop = follow(start, nexts, state, chain)?;
-    if stop < moves.len() && matches!(state[stop], State::Pending) {
-        let cut = open_ring(moves, nexts, state, chain, given, stop)?;
-        return give_chain(moves, nexts, state, chain, given, cut, stop);
-    }
-    give_chain(moves, nexts, state, chain, given, moves.len(), moves.len())
+    let (cut, first) = open_ring(moves, nexts, state, chain, given, stop)?;
+    give_chain(moves, nexts, state, chain, given, cut, first)
 }
 
 /// The moves from the last to the first.
@@ -172,8 +168,7 @@ fn give_all<T: Copy + Default, A: Allocator + Copy>(
     requires apart { AreApart (ends_of moves.now) }
     requires nexts { AreNexts (ends_of moves.now) nexts.now }
     requires indexed { length nexts.now ≡ length moves.now }
-    ensures order { IfOk result (λ given. IsOrder (ends_of moves.now) nexts.now (ends_of given.items)) }
-    ensures of_moves { IfOk result (λ given. All (IsOfMoves moves.now) given.items) }
+    ensures order { IfOk result (λ given. IsOrder (ends_of moves.now) nexts.now (ends_of given.items) × All (IsOfMoves moves.now) given.items) }
 {
     let mut given = SmallVec::new(alloc);
     let mut chain: Indexes<'_, A> = SmallVec::new(&alloc);

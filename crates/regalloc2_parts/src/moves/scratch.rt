@@ -1,6 +1,6 @@
 //! A scratch place for cycles, and a register for moves from stack to stack.
 
-ghost use Rattle.std.specs.Prelude.{◌≡◌, ◌⊎◌, true, false, IsTrue, IsOk, IfOk, IfErr, MatchResult};
+ghost use Rattle.std.specs.Prelude.{◌≡◌, ◌⊎◌, true, false, IfOk, IfErr, MatchResult};
 ghost use Rattle.regalloc2_names.specs.Place.{InRegister};
 ghost use Rattle.regalloc2_parts.specs.Resolved.{listed, has_scratch, IsRunnable};
 ghost use Rattle.regalloc2_parts.specs.Tracking.{CanExpand, IsExpanded};
@@ -163,10 +163,7 @@ where
         requires stack { IsStackAlloc.IsAlwaysCallable self.old.is_stack_alloc }
         requires runnable { IsRunnable moves }
         requires owes { Owes (λ s a t. GetReg.step s a t) (λ s a t. GetStackSlot.step s a t) (λ p b. IsStackAlloc.post self.old.is_stack_alloc p b) (InRegister self.old.borrowed_scratch_reg) (listed moves) self.old.find_free_reg self.old.get_stackslot }
-        ensures stack { self.new.is_stack_alloc ≡ self.old.is_stack_alloc }
-        ensures borrowed { self.new.borrowed_scratch_reg ≡ self.old.borrowed_scratch_reg }
-        ensures computed { Computes (λ s a t. GetReg.step s a t) (λ s a t. GetStackSlot.step s a t) (λ p b. IsStackAlloc.post self.old.is_stack_alloc p b) (InRegister self.old.borrowed_scratch_reg) self.old.find_free_reg self.new.find_free_reg self.old.get_stackslot self.new.get_stackslot moves result }
-        ensures plain { has_scratch moves ≡ false → AreApartInMemory (λ p b. IsStackAlloc.post self.old.is_stack_alloc p b) (listed moves) → IsOk result }
+        ensures computed { Computes (λ s a t. GetReg.step s a t) (λ s a t. GetStackSlot.step s a t) (λ p b. IsStackAlloc.post self.old.is_stack_alloc p b) self.old self.new moves result }
     {
         let chosen = self.choose_scratch(moves)?;
         let list = chosen.as_slice();
@@ -185,8 +182,8 @@ where
     /// read. The closures owe registers and slots that no move names and that all differ; no register, the borrowed one
     /// neither, is in memory.
     ///
-    /// `find_free_reg` and `get_stackslot` need only bear two calls each, and so are asked at most twice. They are dropped
-    /// in the states that these calls left them in, of which `computed` speaks as `f` and `g`. `compute_by_ref` keeps them.
+    /// `find_free_reg` and `get_stackslot` need only bear two calls each, and so are asked at most twice. They are dropped as
+    /// these calls left them, in the resolver that `computed` calls `after`; `compute_by_ref` keeps it.
     ///
     /// Refused with `NoSlot` only where `get_stackslot` answered none, and with `Memory` where a growth was refused.
     /// The contract leaves open in which order the moves come, and how many they are.
@@ -199,8 +196,7 @@ where
         requires stack { IsStackAlloc.IsAlwaysCallable self.is_stack_alloc }
         requires runnable { IsRunnable moves }
         requires owes { Owes (λ s a t. GetReg.step s a t) (λ s a t. GetStackSlot.step s a t) (λ p b. IsStackAlloc.post self.is_stack_alloc p b) (InRegister self.borrowed_scratch_reg) (listed moves) self.find_free_reg self.get_stackslot }
-        ensures computed { (f : _) × (g : _) × Computes (λ s a t. GetReg.step s a t) (λ s a t. GetStackSlot.step s a t) (λ p b. IsStackAlloc.post self.is_stack_alloc p b) (InRegister self.borrowed_scratch_reg) self.find_free_reg f self.get_stackslot g moves result }
-        ensures plain { has_scratch moves ≡ false → AreApartInMemory (λ p b. IsStackAlloc.post self.is_stack_alloc p b) (listed moves) → IsOk result }
+        ensures computed { (after : MoveAndScratchResolver GetReg GetStackSlot IsStackAlloc) × Computes (λ s a t. GetReg.step s a t) (λ s a t. GetStackSlot.step s a t) (λ p b. IsStackAlloc.post self.is_stack_alloc p b) self after moves result }
     {
         self.compute_by_ref(moves)
     }

@@ -1,4 +1,4 @@
-use Rattle.std.proofs.Common.{rules, of_calls}
+use Rattle.std.proofs.Common.{rules}
 use Rattle.regalloc2_parts.specs.Resolved.{listed}
 use Rattle.regalloc2_parts_tests.proofs.Lending.{owes_lent}
 use Rattle.regalloc2_parts_tests.proofs.computed.compute_lent.Goals as goal
@@ -9,9 +9,9 @@ compute-requires g c = (
   (
     search rules,
     (
-      search (of_calls, c.requires.registers),
+      (c.requires.registers _, (λ a t k. c.requires.registers t)),
       (
-        search (of_calls, c.requires.slots),
+        (c.requires.slots _, (λ a t k. c.requires.slots t)),
         (
           c.requires.stack,
           (

@@ -15,11 +15,11 @@ write_pokes-requires-2 g c =
 
 pub write_pokes-requires-3 : goal.write_pokes-requires-3
 write_pokes-requires-3 g c =
-    rw (c.preg-11.ensures, c.preg-12.ensures, c.preg-13.ensures, c.preg-14.ensures)
+    rw (c.preg.ensures, c.preg-2.ensures, c.preg-3.ensures, c.preg-4.ensures)
     (one_more Int _ _ refl (refl, (refl, (refl, tt))) (one_more Int _ _ refl (refl, (refl, tt)) (one_more Int _ _ refl (refl, tt) (one_more Int _ _ refl tt (none Int)))))
 
 pub write_pokes-requires-4 : goal.write_pokes-requires-4
-write_pokes-requires-4 g c = rw c.preg-15.ensures (one_more Int _ _ refl tt (none Int))
+write_pokes-requires-4 g c = rw c.preg-11.ensures (one_more Int _ _ refl tt (none Int))
 
 pub write_pokes-requires-5 : goal.write_pokes-requires-5
 write_pokes-requires-5 g c = none Int

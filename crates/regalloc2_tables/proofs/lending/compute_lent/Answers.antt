@@ -1,4 +1,4 @@
-use Rattle.std.proofs.Common.{◌≡◌, rules, of_calls}
+use Rattle.std.proofs.Common.{◌≡◌, rules}
 use Rattle.regalloc2_parts.specs.Resolved.{listed, has_scratch}
 use Rattle.regalloc2_parts.specs.declared.moves.MoveFault.TheVariants.{NoSlot}
 use Rattle.regalloc2_tables.specs.Lending.{IsShort}
@@ -12,9 +12,9 @@ compute_by_ref-requires g c = (
   (
     search rules,
     (
-      search (of_calls, c.requires.registers),
+      (c.requires.registers _, (λ a t k. c.requires.registers t)),
       (
-        search (of_calls, c.requires.slots),
+        (c.requires.slots _, (λ a t k. c.requires.slots t)),
         (
           c.requires.stack,
           (
@@ -32,10 +32,10 @@ pub returns-in-Ok-clause-made : goal.returns-in-Ok-clause-made
 returns-in-Ok-clause-made g c =
     let x = c.in-Ok.ensures.computed in
     made_with g.R.FnMut g.S.FnMut g.M.Fn c.args.resolver.find_free_reg c.args.resolver.get_stackslot c.args.resolver.is_stack_alloc c.args.lending.now (listed c.args.moves)
-    c.requires.first c.requires.second c.requires.tells c.requires.serves c.requires.may_tell c.get_stackslot-next.result c.taken_before.result _ _ _ x.0 x.1
-    c.get_stackslot-next.ensures c.taken_before.ensures.none c.taken_before.ensures.one c.args.resolver.borrowed_scratch_reg c.requires.borrowed (has_scratch c.args.moves) c.in-Ok.moves.items x.2
+    c.requires.first c.requires.second c.requires.tells c.requires.serves c.requires.may_tell c.get_stackslot-next.result c.taken_before.result _ _ _ x.asked x.slots_asked
+    c.get_stackslot-next.ensures c.taken_before.ensures.none c.taken_before.ensures.one c.args.resolver.borrowed_scratch_reg c.requires.borrowed (has_scratch c.args.moves) c.in-Ok.moves.items x.outcome
 
 pub returns-clause-err : goal.returns-clause-err
 returns-clause-err g c =
     let x = c.in-Err.ensures.computed in
-    lacks_then (c.in-Err.fault ≡ NoSlot) (IsShort c.args.lending.now.slots) (λ e. is_short g.S.FnMut c.args.resolver.get_stackslot c.args.lending.now.slots c.requires.second _ x.1 (x.2 e)) c.refusal_of.result c.refusal_of.ensures
+    lacks_then (c.in-Err.fault ≡ NoSlot) (IsShort c.args.lending.now.slots) (λ e. is_short g.S.FnMut c.args.resolver.get_stackslot c.args.lending.now.slots c.requires.second _ x.slots_asked (x.outcome e)) c.refusal_of.result c.refusal_of.ensures

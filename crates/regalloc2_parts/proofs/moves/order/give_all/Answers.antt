@@ -38,8 +38,8 @@ loop-start-preserved g c =
           let whole : length w.give_from.new.state ≡ length (ends_of c.args.moves.now) = omega arith in
           rw (w.state-is, w.given-is, w.chain-is) (record {
             given = given_more (ends_of c.args.moves.now) c.args.nexts.now c.loop-start.state w.give_from.new.state (ends_of c.loop-start.given.items) w.give_from.new.chain.items c.loop-start.chain.items c.loop-start.start (ends_of w.give_from.new.given.items) c.loop-start.invariant.given whole
-                w.in_ok-give_from.ensures.had w.in_ok-give_from.ensures.settled w.in_ok-give_from.ensures.empty w.in_ok-give_from.ensures.goes_on w.in_ok-give_from.ensures.begun;
-            of_moves = w.in_ok-give_from.ensures.of_moves;
+                w.in_ok-give_from.ensures.given.0.had w.in_ok-give_from.ensures.given.0.settled w.in_ok-give_from.ensures.given.0.empty w.in_ok-give_from.ensures.given.0.goes_on w.in_ok-give_from.ensures.given.1;
+            of_moves = w.in_ok-give_from.ensures.given.0.of_moves;
           })
       | else-matches w ↦
           let none : state_at c.loop-start.state c.loop-start.start ≡ Todo → ⊥ = elim c.match-matches.branch [ in-Todo v ↦ absurd (grind arith) | in_default v ↦ v.in_default.not-Todo ] in
@@ -49,25 +49,27 @@ loop-start-preserved g c =
           })
     ]
 
-pub returns-clause-order : goal.returns-clause-order
-returns-clause-order g c =
+pub returns : goal.returns
+returns g c =
     let many : length (ends_of c.args.moves.now) ≡ length c.args.moves.now = length_ends c.args.moves.now in
     let end : c.loop-start.start ≡ length (ends_of c.args.moves.now) = omega arith in
-    given_whole (ends_of c.args.moves.now) c.args.nexts.now c.loop-start.state (ends_of c.loop-start.given.items) c.loop-start.chain.items (c.requires.indexed ∙ sym many)
-    (subst (λ n. HasGivenTo (ends_of c.args.moves.now) c.args.nexts.now c.loop-start.state (ends_of c.loop-start.given.items) c.loop-start.chain.items n) end c.loop-start.invariant.given)
-
-pub returns-clause-of_moves : goal.returns-clause-of_moves
-returns-clause-of_moves g c = c.loop-start.invariant.of_moves
+    record {
+      order = (
+        given_whole (ends_of c.args.moves.now) c.args.nexts.now c.loop-start.state (ends_of c.loop-start.given.items) c.loop-start.chain.items (c.requires.indexed ∙ sym many)
+            (subst (λ n. HasGivenTo (ends_of c.args.moves.now) c.args.nexts.now c.loop-start.state (ends_of c.loop-start.given.items) c.loop-start.chain.items n) end c.loop-start.invariant.given),
+        c.loop-start.invariant.of_moves,
+      );
+    }
 
 pub returns-in_err-states : goal.returns-in_err-states
 returns-in_err-states g c =
     let p = err_from_is_err_and c.from_residual.result c.from_residual.ensures.1 in
-    rw p.1 (record { order = tt; of_moves = tt })
+    rw p.1 (record { order = tt })
 
 pub returns-in_err-give_from : goal.returns-in_err-give_from
 returns-in_err-give_from g c =
     let p = err_from_is_err_and c.from_residual-in_err-give_from.result c.from_residual-in_err-give_from.ensures.1 in
-    rw p.1 (record { order = tt; of_moves = tt })
+    rw p.1 (record { order = tt })
 
 pub bounds : goal.bounds
 bounds g c = subst (λ (n : ℕ). c.loop-start.start < n) (sym (c.loop-start.invariant.given.as_many ∙ length_ends c.args.moves.now)) c.loop-start-test.true

@@ -1,4 +1,4 @@
-use Rattle.std.proofs.Common.{◌≡◌, ℕ, ◌<◌, ◌∷◌, ◌++◌, [], length, slice_set, arith, sym, ap, ◌∙◌, subst, refl}
+use Rattle.std.proofs.Common.{◌≡◌, ℕ, ◌<◌, ◌∷◌, ◌++◌, [], length, slice_set, arith, sym, ap, ◌∙◌, subst, refl, rules}
 use Rattle.std.specs.List.{All}
 use Rattle.std.proofs.lemmas.List.{length-set}
 use Rattle.std.proofs.lemmas.List.Elements.{All-push}
@@ -35,15 +35,18 @@ bounds-moves-cut g c =
     (let e : c.in-Some.top ≡ c.loop-top.first = c.if-top-first.true in omega arith) in
     omega arith
 
-pub returns-clause-had : goal.returns-clause-had
-returns-clause-had g c =
+pub returns : goal.returns
+returns g c =
     let empty : length c.loop-top.chain.items ≡ 0 = grind arith in
-    ends_whole (ends_of c.args.moves.now) c.args.nexts.now c.loop-top.state c.loop-top.chain.items (ends_of c.loop-top.given.items) c.loop-top.cut c.loop-top.first c.loop-top.invariant.giving empty
-
-pub returns-clause-settled : goal.returns-clause-settled
-returns-clause-settled g c =
-    let empty : length c.loop-top.chain.items ≡ 0 = grind arith in
-    ends_settled c.args.nexts.now c.loop-top.state c.loop-top.chain.items c.loop-top.invariant.giving.is_chain empty (c.loop-top.invariant.as_many ∙ sym c.requires.indexed)
+    record {
+      given = record {
+        had = ends_whole (ends_of c.args.moves.now) c.args.nexts.now c.loop-top.state c.loop-top.chain.items (ends_of c.loop-top.given.items) c.loop-top.cut c.loop-top.first c.loop-top.invariant.giving empty;
+        settled = ends_settled c.args.nexts.now c.loop-top.state c.loop-top.chain.items c.loop-top.invariant.giving.is_chain empty (c.loop-top.invariant.as_many ∙ sym c.requires.indexed);
+        empty = search rules;
+        goes_on = c.loop-top.invariant.on;
+        of_moves = c.loop-top.invariant.of_moves;
+      };
+    }
 
 pub loop-top-preserved-then-top-first : goal.loop-top-preserved-then-top-first
 loop-top-preserved-then-top-first g c =

@@ -2,12 +2,13 @@ use Rattle.std.proofs.Common.{◌≡◌, ℕ, ◌<◌, ◌∷◌, ◌++◌, [], 
 use Rattle.std.specs.List.{All}
 use Rattle.std.proofs.lemmas.List.Elements.{All-push}
 use Rattle.regalloc2_names.specs.Place.{Place}
-use Rattle.regalloc2_parts.specs.declared.moves.order.State.TheVariants.{Done}
+use Rattle.regalloc2_parts.specs.declared.moves.order.State.TheVariants.{Pending, Done}
 use Rattle.regalloc2_parts.specs.AtOnce.{ends, ends_of, IsOfMoves}
-use Rattle.regalloc2_parts.specs.Giving.{IsGiving, IsChain, LeadsTo, HasRings, AreRingsDone}
+use Rattle.regalloc2_parts.specs.Giving.{state_at, IsGiving, IsChain, LeadsTo, HasRings, AreRingsDone}
 use Rattle.regalloc2_parts.proofs.Lists.{length_ends, ends_push, read_to, read_in, of_end}
-use Rattle.regalloc2_parts.proofs.Chains.{last_leads, last_within}
-use Rattle.regalloc2_parts.proofs.Rounds.{gives_ring}
+use Rattle.regalloc2_parts.proofs.Chains.{last_leads, last_within, goes_on, todo_done}
+use Rattle.regalloc2_parts.proofs.Rounds.{gives_ring, gives_start}
+use Rattle.regalloc2_parts.proofs.Whole.{start_ready}
 use Rattle.regalloc2_parts.proofs.moves.order.open_ring.Goals as goal
 
 pub bounds-moves-last : goal.bounds-moves-last
@@ -31,32 +32,48 @@ bounds-state-last g c =
     let within : c.in-Some.last < length c.args.nexts.now = last_within c.args.nexts.now c.args.state.now c.pop.new.self.items c.in-Some.last chain in
     omega arith
 
-pub returns-clause-giving : goal.returns-clause-giving
-returns-clause-giving g c =
+pub returns-then-not-is_pending : goal.returns-then-not-is_pending
+returns-then-not-is_pending g c =
+    let given = c.args.given.now.items in
+    let st = c.args.state.now in
+    let ms = ends_of c.args.moves.now in
+    let many : length ms ≡ length c.args.moves.now = length_ends c.args.moves.now in
+    let no_pending : c.args.stop < length c.args.nexts.now → state_at st c.args.stop ≡ Pending → ⊥ = λ low e. c.is_pending.ensures.no c.if-not-is_pending.true (let as_many : length st ≡ length c.args.moves.now = c.requires.as_many in omega arith) e in
+    let giving : IsGiving ms c.args.nexts.now st c.args.chain.now.items (ends_of given) (length ms) (length ms) =
+    gives_start ms c.args.nexts.now c.requires.apart c.requires.nexts st c.args.chain.now.items (ends_of given) c.requires.had c.requires.chain
+    (start_ready c.args.nexts.now st c.args.chain.now.items c.args.stop c.requires.link c.requires.stops no_pending) in
+    record {
+      giving = (
+        subst (λ (n : ℕ). IsGiving ms c.args.nexts.now st c.args.chain.now.items (ends_of given) n n) many giving,
+        (λ k n. n),
+        c.requires.of_moves,
+      );
+    }
+
+pub returns : goal.returns
+returns g c =
     let last : ℕ = c.in-Some.last in
     let ms = ends_of c.args.moves.now in
+    let here = c.is_pending.ensures.yes c.if-not-is_pending.false in
     let chain : IsChain c.args.nexts.now c.args.state.now (c.pop.new.self.items ++ last ∷ []) =
     subst (λ x. IsChain c.args.nexts.now c.args.state.now x) c.in-Some.ensures.items c.requires.chain in
-    let link : LeadsTo c.args.nexts.now (c.pop.new.self.items ++ last ∷ []) c.args.first =
-    subst (λ x. LeadsTo c.args.nexts.now x c.args.first) c.in-Some.ensures.items c.requires.link in
+    let link : LeadsTo c.args.nexts.now (c.pop.new.self.items ++ last ∷ []) c.args.stop =
+    subst (λ x. LeadsTo c.args.nexts.now x c.args.stop) c.in-Some.ensures.items c.requires.link in
     let within : last < length c.args.nexts.now = last_within c.args.nexts.now c.args.state.now c.pop.new.self.items last chain in
     let many : length ms ≡ length c.args.moves.now = length_ends c.args.moves.now in
     let m : Place × Place × g.row.T.Denot = (c.none.result, c.index-moves-last.result.1, c.index-moves-last.result.2) in
     let e : ends_of c.push.new.self.items ≡ ends_of c.args.given.now.items ++ ends m ∷ [] = ap ends_of c.in_ok-push.ensures.ok ∙ ends_push c.args.given.now.items m in
     let rings : (had : HasRings c.args.nexts.now c.args.state.now (length (ends_of c.args.given.now.items))) × AreRingsDone c.args.state.now had.rings =
     subst (λ x. (had : HasRings c.args.nexts.now c.args.state.now x) × AreRingsDone c.args.state.now had.rings) (sym (length_ends c.args.given.now.items)) c.requires.rings in
-    subst (λ x. IsGiving ms c.args.nexts.now (slice_set c.args.state.now last Done) c.pop.new.self.items x last c.args.first) (sym e)
-    (gives_ring ms c.args.nexts.now c.requires.apart c.requires.nexts c.args.state.now c.pop.new.self.items (ends_of c.args.given.now.items) last c.args.first (ends m)
-    c.requires.had.had rings.0 rings.1 chain (c.requires.as_many ∙ sym many) (last_leads c.args.nexts.now c.pop.new.self.items last c.args.first link) (subst (λ x. c.args.first < x) (sym many) c.requires.within) c.requires.pending
-    (read_to c.args.moves.now last c.index-moves-last.result (omega arith) c.index-moves-last.is) c.none.ensures)
-
-pub returns-clause-of_moves : goal.returns-clause-of_moves
-returns-clause-of_moves g c =
-    let last : ℕ = c.in-Some.last in
-    let m : Place × Place × g.row.T.Denot = (c.none.result, c.index-moves-last.result.1, c.index-moves-last.result.2) in
-    let chain : IsChain c.args.nexts.now c.args.state.now (c.pop.new.self.items ++ last ∷ []) =
-    subst (λ x. IsChain c.args.nexts.now c.args.state.now x) c.in-Some.ensures.items c.requires.chain in
-    let within : last < length c.args.nexts.now = last_within c.args.nexts.now c.args.state.now c.pop.new.self.items last chain in
-    subst (λ x. All (IsOfMoves c.args.moves.now) x) (sym c.in_ok-push.ensures.ok)
-    (All-push (IsOfMoves c.args.moves.now) c.args.given.now.items m c.requires.of_moves
-    (of_end c.args.moves.now m c.index-moves-last.result (read_in c.args.moves.now last c.index-moves-last.result (omega arith) c.index-moves-last.is) c.none.ensures refl refl))
+    record {
+      giving = (
+        subst (λ x. IsGiving ms c.args.nexts.now (slice_set c.args.state.now last Done) c.pop.new.self.items x last c.args.stop) (sym e)
+            (gives_ring ms c.args.nexts.now c.requires.apart c.requires.nexts c.args.state.now c.pop.new.self.items (ends_of c.args.given.now.items) last c.args.stop (ends m)
+            c.requires.had.had rings.0 rings.1 chain (c.requires.as_many ∙ sym many) (last_leads c.args.nexts.now c.pop.new.self.items last c.args.stop link) (subst (λ x. c.args.stop < x) (c.requires.as_many ∙ sym many) here.0) here.1
+            (read_to c.args.moves.now last c.index-moves-last.result (omega arith) c.index-moves-last.is) c.none.ensures),
+        goes_on c.args.state.now c.args.state.now last Done (λ d. todo_done Done d refl) (omega arith) (λ k n. n),
+        subst (λ x. All (IsOfMoves c.args.moves.now) x) (sym c.in_ok-push.ensures.ok)
+            (All-push (IsOfMoves c.args.moves.now) c.args.given.now.items m c.requires.of_moves
+            (of_end c.args.moves.now m c.index-moves-last.result (read_in c.args.moves.now last c.index-moves-last.result (omega arith) c.index-moves-last.is) c.none.ensures refl refl)),
+      );
+    }

@@ -77,8 +77,8 @@ returns-then-len-clause-resolved g c =
     let ns : AreNexts (ends_of new) nexts = subst (λ (xs : List (Place × Place × g.row.T.Denot)). AreNexts (ends_of xs) nexts) c.as_slice.ensures c.in_ok-nexts.ensures.ok in
     let order : IsOrder (ends_of new) nexts (ends_of c.in_ok-given.given.items) =
     subst (λ (ks : List ℕ). IsOrder (ends_of new) ks (ends_of c.in_ok-given.given.items)) c.as_slice-4.ensures
-    (subst (λ (xs : List (Place × Place × g.row.T.Denot)). IsOrder (ends_of xs) c.as_slice-4.result.now (ends_of c.in_ok-given.given.items)) c.as_slice-3.ensures c.in_ok-given.ensures.order) in
-    let of_moves : All (IsOfMoves new) c.in_ok-given.given.items = subst (λ (xs : List (Place × Place × g.row.T.Denot)). All (IsOfMoves xs) c.in_ok-given.given.items) c.as_slice-3.ensures c.in_ok-given.ensures.of_moves in
+    (subst (λ (xs : List (Place × Place × g.row.T.Denot)). IsOrder (ends_of xs) c.as_slice-4.result.now (ends_of c.in_ok-given.given.items)) c.as_slice-3.ensures c.in_ok-given.ensures.order.0) in
+    let of_moves : All (IsOfMoves new) c.in_ok-given.given.items = subst (λ (xs : List (Place × Place × g.row.T.Denot)). All (IsOfMoves xs) c.in_ok-given.given.items) c.as_slice-3.ensures c.in_ok-given.ensures.order.1 in
     resolves_order old new c.in_ok-given.given.items c.turn_round.new.moves.items nexts true c.requires.one_source c.requires.real (omega arith) c.tidy.ensures.tidied c.tidy.ensures.given ns order of_moves c.turn_round.ensures (λ e. omega arith) (λ e. absurd cc)
 
 pub returns-then-len-clause-runnable : goal.returns-then-len-clause-runnable
@@ -89,8 +89,8 @@ returns-then-len-clause-runnable g c =
     let ns : AreNexts (ends_of new) nexts = subst (λ (xs : List (Place × Place × g.row.T.Denot)). AreNexts (ends_of xs) nexts) c.as_slice.ensures c.in_ok-nexts.ensures.ok in
     let order : IsOrder (ends_of new) nexts (ends_of c.in_ok-given.given.items) =
     subst (λ (ks : List ℕ). IsOrder (ends_of new) ks (ends_of c.in_ok-given.given.items)) c.as_slice-4.ensures
-    (subst (λ (xs : List (Place × Place × g.row.T.Denot)). IsOrder (ends_of xs) c.as_slice-4.result.now (ends_of c.in_ok-given.given.items)) c.as_slice-3.ensures c.in_ok-given.ensures.order) in
-    let of_moves : All (IsOfMoves new) c.in_ok-given.given.items = subst (λ (xs : List (Place × Place × g.row.T.Denot)). All (IsOfMoves xs) c.in_ok-given.given.items) c.as_slice-3.ensures c.in_ok-given.ensures.of_moves in
+    (subst (λ (xs : List (Place × Place × g.row.T.Denot)). IsOrder (ends_of xs) c.as_slice-4.result.now (ends_of c.in_ok-given.given.items)) c.as_slice-3.ensures c.in_ok-given.ensures.order.0) in
+    let of_moves : All (IsOfMoves new) c.in_ok-given.given.items = subst (λ (xs : List (Place × Place × g.row.T.Denot)). All (IsOfMoves xs) c.in_ok-given.given.items) c.as_slice-3.ensures c.in_ok-given.ensures.order.1 in
     (resolves_order old new c.in_ok-given.given.items c.turn_round.new.moves.items nexts true c.requires.one_source c.requires.real (omega arith) c.tidy.ensures.tidied c.tidy.ensures.given ns order of_moves c.turn_round.ensures (λ e. omega arith) (λ e. absurd cc)).written
 
 pub returns-clause-resolved : goal.returns-clause-resolved
@@ -101,8 +101,8 @@ returns-clause-resolved g c =
     let ns : AreNexts (ends_of new) nexts = subst (λ (xs : List (Place × Place × g.row.T.Denot)). AreNexts (ends_of xs) nexts) c.as_slice.ensures c.in_ok-nexts.ensures.ok in
     let order : IsOrder (ends_of new) nexts (ends_of c.in_ok-given.given.items) =
     subst (λ (ks : List ℕ). IsOrder (ends_of new) ks (ends_of c.in_ok-given.given.items)) c.as_slice-4.ensures
-    (subst (λ (xs : List (Place × Place × g.row.T.Denot)). IsOrder (ends_of xs) c.as_slice-4.result.now (ends_of c.in_ok-given.given.items)) c.as_slice-3.ensures c.in_ok-given.ensures.order) in
-    let of_moves : All (IsOfMoves new) c.in_ok-given.given.items = subst (λ (xs : List (Place × Place × g.row.T.Denot)). All (IsOfMoves xs) c.in_ok-given.given.items) c.as_slice-3.ensures c.in_ok-given.ensures.of_moves in
+    (subst (λ (xs : List (Place × Place × g.row.T.Denot)). IsOrder (ends_of xs) c.as_slice-4.result.now (ends_of c.in_ok-given.given.items)) c.as_slice-3.ensures c.in_ok-given.ensures.order.0) in
+    let of_moves : All (IsOfMoves new) c.in_ok-given.given.items = subst (λ (xs : List (Place × Place × g.row.T.Denot)). All (IsOfMoves xs) c.in_ok-given.given.items) c.as_slice-3.ensures c.in_ok-given.ensures.order.1 in
     resolves_order old new c.in_ok-given.given.items c.turn_round.new.moves.items nexts false c.requires.one_source c.requires.real (omega arith) c.tidy.ensures.tidied c.tidy.ensures.given ns order of_moves c.turn_round.ensures (λ e. absurd cc) (λ e. omega arith)
 
 pub returns-clause-runnable : goal.returns-clause-runnable
@@ -113,6 +113,6 @@ returns-clause-runnable g c =
     let ns : AreNexts (ends_of new) nexts = subst (λ (xs : List (Place × Place × g.row.T.Denot)). AreNexts (ends_of xs) nexts) c.as_slice.ensures c.in_ok-nexts.ensures.ok in
     let order : IsOrder (ends_of new) nexts (ends_of c.in_ok-given.given.items) =
     subst (λ (ks : List ℕ). IsOrder (ends_of new) ks (ends_of c.in_ok-given.given.items)) c.as_slice-4.ensures
-    (subst (λ (xs : List (Place × Place × g.row.T.Denot)). IsOrder (ends_of xs) c.as_slice-4.result.now (ends_of c.in_ok-given.given.items)) c.as_slice-3.ensures c.in_ok-given.ensures.order) in
-    let of_moves : All (IsOfMoves new) c.in_ok-given.given.items = subst (λ (xs : List (Place × Place × g.row.T.Denot)). All (IsOfMoves xs) c.in_ok-given.given.items) c.as_slice-3.ensures c.in_ok-given.ensures.of_moves in
+    (subst (λ (xs : List (Place × Place × g.row.T.Denot)). IsOrder (ends_of xs) c.as_slice-4.result.now (ends_of c.in_ok-given.given.items)) c.as_slice-3.ensures c.in_ok-given.ensures.order.0) in
+    let of_moves : All (IsOfMoves new) c.in_ok-given.given.items = subst (λ (xs : List (Place × Place × g.row.T.Denot)). All (IsOfMoves xs) c.in_ok-given.given.items) c.as_slice-3.ensures c.in_ok-given.ensures.order.1 in
     (resolves_order old new c.in_ok-given.given.items c.turn_round.new.moves.items nexts false c.requires.one_source c.requires.real (omega arith) c.tidy.ensures.tidied c.tidy.ensures.given ns order of_moves c.turn_round.ensures (λ e. absurd cc) (λ e. omega arith)).plain refl

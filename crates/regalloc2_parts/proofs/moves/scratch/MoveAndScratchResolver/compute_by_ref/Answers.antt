@@ -1,4 +1,4 @@
-use Rattle.std.proofs.Common.{◌≡◌, ◌≢◌, Bool, true, false, Option, rules, refl, sym, ap, ◌∙◌, subst}
+use Rattle.std.proofs.Common.{◌≡◌, Bool, true, false, Option, rules, refl, sym, ◌∙◌, subst}
 use Rattle.std.proofs.lemmas.Result.{err_from_is_err_and, MatchResult-weaker}
 use Rattle.regalloc2_parts.specs.declared.moves.MoveFault.TheVariants.{NoSlot, Memory}
 use Rattle.regalloc2_names.specs.Place.{Place, NoPlace, InRegister}
@@ -17,10 +17,14 @@ returns-in_err-chosen g c =
     let h = refused_first (λ s a t. goal.GetReg-step g s a t) (λ s a t. goal.GetStackSlot-step g s a t) c.args.self.now.find_free_reg c.choose_scratch.new.self.find_free_reg c.args.self.now.get_stackslot c.choose_scratch.new.self.get_stackslot none.2 in
     let p = err_from_is_err_and c.from_residual.result c.from_residual.ensures.1 in
     record {
-      stack = c.choose_scratch.ensures.stack;
-      borrowed = c.choose_scratch.ensures.borrowed;
-      computed = rw p.1 (h.0, h.1, (λ e. h.2));
-      plain = λ f a. let no : true ≡ false = sym none.1 ∙ f in absurd cc;
+      computed = rw p.1 (record {
+        asked = h.0;
+        slots_asked = h.1;
+        stack_kept = c.choose_scratch.ensures.stack;
+        borrowed_kept = c.choose_scratch.ensures.borrowed;
+        outcome = λ e. h.2;
+        plain = λ f a. let no : true ≡ false = sym none.1 ∙ f in absurd cc;
+      });
     }
 
 pub has_stack_to_stack-requires : goal.has_stack_to_stack-requires
@@ -37,14 +41,18 @@ returns-then-not-has_stack_to_stack g c =
     let apart : AreSeenApart stack made =
     subst (λ xs. AreSeenApart stack xs) c.as_slice-list.ensures
     (subst (λ f. AreSeenApart (λ p b. goal.IsStackAlloc-post g f p b) c.as_slice-list.result.now) c.in_ok-chosen.ensures.stack (c.if-not-has_stack_to_stack.ensures.none refl)) in
+    let h = computes_at_once reg slots stack (InRegister self.borrowed_scratch_reg) (listed c.args.moves) made (has_scratch c.args.moves) self.find_free_reg after.find_free_reg self.get_stackslot after.get_stackslot
+    (chosen reg slots stack (InRegister self.borrowed_scratch_reg) c.args.moves made self.find_free_reg after.find_free_reg self.get_stackslot after.get_stackslot c.requires.owes c.requires.runnable c.in_ok-chosen.ensures.chosen)
+    apart in
     record {
-      stack = c.in_ok-chosen.ensures.stack;
-      borrowed = c.in_ok-chosen.ensures.borrowed;
-      computed =
-          computes_at_once reg slots stack (InRegister self.borrowed_scratch_reg) (listed c.args.moves) made (has_scratch c.args.moves) self.find_free_reg after.find_free_reg self.get_stackslot after.get_stackslot
-          (chosen reg slots stack (InRegister self.borrowed_scratch_reg) c.args.moves made self.find_free_reg after.find_free_reg self.get_stackslot after.get_stackslot c.requires.owes c.requires.runnable c.in_ok-chosen.ensures.chosen)
-          apart;
-      plain = λ f a. refl;
+      computed = record {
+        asked = h.0;
+        slots_asked = h.1;
+        stack_kept = c.in_ok-chosen.ensures.stack;
+        borrowed_kept = c.in_ok-chosen.ensures.borrowed;
+        outcome = h.2;
+        plain = λ f a. refl;
+      };
     }
 
 pub hand_out-requires : goal.hand_out-requires
@@ -71,10 +79,14 @@ returns-in_err-hand_out g c =
     let some : AreApartInMemory stack made → ⊥ =
     not_apart (λ (f : g.row.IsStackAlloc.Denot) (p : Place) (b : Bool). goal.IsStackAlloc-post g f p b) mid.is_stack_alloc self.is_stack_alloc c.as_slice-list.result.now made c.in_ok-chosen.ensures.stack c.as_slice-list.ensures c.if-not-has_stack_to_stack.ensures.some in
     record {
-      stack = c.hand_out.ensures.stack ∙ c.in_ok-chosen.ensures.stack;
-      borrowed = c.hand_out.ensures.borrowed ∙ c.in_ok-chosen.ensures.borrowed;
-      computed = rw p.1 (h.0, h.1, (λ e. h.2));
-      plain = λ f a. absurd (some (subst (λ xs. AreApartInMemory stack xs) (sym (ch.plain f)) a));
+      computed = rw p.1 (record {
+        asked = h.0;
+        slots_asked = h.1;
+        stack_kept = c.hand_out.ensures.stack ∙ c.in_ok-chosen.ensures.stack;
+        borrowed_kept = c.hand_out.ensures.borrowed ∙ c.in_ok-chosen.ensures.borrowed;
+        outcome = λ e. h.2;
+        plain = λ f a. absurd (some (subst (λ xs. AreApartInMemory stack xs) (sym (ch.plain f)) a));
+      });
     }
 
 pub expand-requires : goal.expand-requires
@@ -127,15 +139,16 @@ returns g c =
     let by = computes_by_way reg slots stack (InRegister self.borrowed_scratch_reg) (listed c.args.moves) made (has_scratch c.args.moves) self.find_free_reg mid.find_free_reg last.find_free_reg self.get_stackslot mid.get_stackslot last.get_stackslot ch some
     handed c.in_ok-hand_out.ensures.handed way first is in
     record {
-      stack = same;
-      borrowed = borrowed;
-      computed = (
-        by.0,
-        by.1,
-        MatchResult-weaker c.expand.result c.expand.ensures.expanded
+      computed = record {
+        asked = by.0;
+        slots_asked = by.1;
+        stack_kept = same;
+        borrowed_kept = borrowed;
+        outcome =
+            MatchResult-weaker c.expand.result c.expand.ensures.expanded
             (λ out x. by.2 out.items (subst (λ xs. IsExpanded stack way.register way.save xs out.items) c.as_slice-list.ensures
             (subst (λ f. IsExpanded (λ p b. goal.IsStackAlloc-post g f p b) way.register way.save c.as_slice-list.result.now out.items) same x)))
-            (λ fault memory slot. let no : Memory ≡ NoSlot = sym memory ∙ slot in absurd cc),
-      );
-      plain = λ f a. absurd (some (subst (λ xs. AreApartInMemory stack xs) (sym (ch.plain f)) a));
+            (λ fault memory slot. let no : Memory ≡ NoSlot = sym memory ∙ slot in absurd cc);
+        plain = λ f a. absurd (some (subst (λ xs. AreApartInMemory stack xs) (sym (ch.plain f)) a));
+      };
     }
