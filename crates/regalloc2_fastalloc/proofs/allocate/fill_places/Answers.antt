@@ -1,0 +1,216 @@
+use Rattle.std.proofs.Common.{ℕ, ◌≡◌, ◌+◌, ◌*◌, ◌<◌, ◌≤◌, ◌^◌, [], map, length, refl, sym, ap, ◌∙◌, subst, arith, rules}
+use Rattle.std.specs.Prelude.{Bool}
+use Rattle.std.proofs.lemmas.List.{length-replicate}
+use Rattle.std.proofs.lemmas.Result.{err_from_is_err_and}
+use Rattle.regalloc2_names.specs.declared.RegClass.{RegClass}
+use Rattle.regalloc2_names.specs.declared.RegClass.TheVariants.{Int, Float, Vector}
+use Rattle.regalloc2_names.specs.Place.{NoPlace}
+use Rattle.regalloc2_function.specs.FunctionValue.{FunctionValue, IsLimited, slot_size}
+use Rattle.regalloc2_function.specs.Machine.{MachineValue}
+use Rattle.regalloc2_function.specs.OutputValue.{OutputValue}
+use Rattle.regalloc2_function.specs.SourceRun.{IsWrittenFirst}
+use Rattle.regalloc2_function.specs.Faithful.{IsFaithful}
+use Rattle.regalloc2_function.specs.Slots.{SlotsHaveOwners}
+use Rattle.regalloc2_function.specs.Views.{edit_of, machine_of}
+use Rattle.regalloc2_flow.proofs.Defined.{Made}
+use Rattle.regalloc2_flow.proofs.Faithful.{faithful}
+use Rattle.regalloc2_tables.specs.Lack.{LacksOnly, AreFullWith}
+use Rattle.regalloc2_fastalloc.specs.Promise.{LiveInSlots, SlotsAreFew}
+use Rattle.regalloc2_fastalloc.specs.Reason.{units_needed}
+use Rattle.regalloc2_steps.specs.Steps.{Tables}
+use Rattle.regalloc2_fastalloc.specs.States.{tables_of}
+use Rattle.regalloc2_steps.specs.Branches.{LendsAtMost}
+use Rattle.regalloc2_steps.specs.Sound.{HasMachine}
+use Rattle.regalloc2_tables.specs.Tables.{PlacesValue, SlotsValue, no_slots, units_of}
+use Rattle.regalloc2_fastalloc.proofs.Agreed.{made_blocks_agree, made_in_slots, walk_kept_through}
+use Rattle.regalloc2_steps.proofs.Begun.{begun_machine}
+use Rattle.regalloc2_steps.proofs.Finished.{IsMade, made_in_order, made_constraints, made_proper, made_in_registers}
+use Rattle.regalloc2_steps.proofs.Gathered.{tame_at}
+use Rattle.regalloc2_steps.proofs.Keeping.{none_lends}
+use Rattle.regalloc2_steps.proofs.Launching.{fresh_blank, some_units, fresh_fit}
+use Rattle.regalloc2_steps.proofs.Machines.{fit_apart}
+use Rattle.regalloc2_steps.proofs.Owning.{made_owners}
+use Rattle.regalloc2_tables.proofs.Rooming.{lacks_then}
+use Rattle.regalloc2_fastalloc.proofs.Numbers.{reads_numbers}
+use Rattle.regalloc2_fastalloc.proofs.Needing.{sizes_of, few_slots, full_needs}
+use Rattle.regalloc2_steps.proofs.Rounding.{Blank}
+use Rattle.regalloc2_steps.proofs.SafeFunctions.{made_listed_blocks}
+use Rattle.regalloc2_steps.proofs.SafeWalks.{MayInBlocks}
+use Rattle.regalloc2_steps.proofs.Scratching.{Fit}
+use Rattle.regalloc2_steps.proofs.Walking.{WalkKept}
+use Rattle.regalloc2_fastalloc.proofs.allocate.fill_places.Given.{Over}
+use Rattle.regalloc2_fastalloc.proofs.allocate.fill_places.Goals as goal
+
+pub new-requires : goal.new-requires
+new-requires g c = (search rules, c.requires.machine)
+
+pub allocate_blocks-requires : goal.allocate_blocks-requires
+allocate_blocks-requires g c =
+    let f : FunctionValue = g.F.Function.function c.args.f.now in
+    let env : MachineValue = machine_of c.args.env.now in
+    let t : Tables = tables_of c.in_ok-state.state in
+    let e = c.in_ok-state.ensures in
+    let machine : HasMachine env t = begun_machine env t e.registers (λ r. (e.fixed_stack r).0) (λ r. (e.fixed_stack r).1) e.dedicated in
+    let long : length t.places.stands ≡ f.num_vregs = ap (λ (p : PlacesValue). length p.stands) e.places ∙ length-replicate f.num_vregs NoPlace in (
+      search rules,
+      (
+        e.edits,
+        (
+          (env, c.requires.well_formed),
+          (
+            long,
+            (
+              fit_apart t (fresh_fit f env t c.requires.machine machine e.small),
+              (
+                c.requires.offsets_long,
+                (c.requires.offsets, (c.requires.allocs_long, c.requires.no_places)),
+              ),
+            ),
+          ),
+        ),
+      ),
+    )
+
+-- the output as contracts see it
+abbrev out_of : (g : Over) (c : goal.After-array_drop-state-2 g) → OutputValue
+out_of g c = record {
+  num_spillslots = c.count.result;
+  edits = map edit_of c.in_ok-edits.edits.items;
+  allocs = c.allocate_blocks.new.allocs;
+  offsets = c.args.offsets.now;
+  debug_locations = [];
+}
+
+-- the tables at the walk's start and at its end
+abbrev begun : (g : Over) (c : goal.After-array_drop-state-2 g) → Tables
+begun g c = tables_of c.in_ok-state.state
+
+abbrev left : (g : Over) (c : goal.After-array_drop-state-2 g) → Tables
+left g c = tables_of c.allocate_blocks.new.self
+
+-- the machine's registers in the fresh tables
+machine_is : (g : Over) (c : goal.After-array_drop-state-2 g) → HasMachine (machine_of c.args.env.now) (begun g c)
+machine_is g c =
+    let e = c.in_ok-state.ensures in
+    begun_machine (machine_of c.args.env.now) (begun g c) e.registers (λ r. (e.fixed_stack r).0) (λ r. (e.fixed_stack r).1) e.dedicated
+
+-- a slot of each class takes some units
+units_are : (g : Over) (c : goal.After-array_drop-state-2 g) → (class : RegClass) →
+    0 < units_of (no_slots (g.F.Function.function c.args.f.now).num_vregs (sizes_of (g.F.Function.function c.args.f.now)) (g.F.Function.function c.args.f.now).named_by_last_slot) class
+units_are g c =
+    let f : FunctionValue = g.F.Function.function c.args.f.now in
+    let limited : IsLimited f = g.met.F.Function.limited c.args.f.now in
+    some_units f.num_vregs (slot_size f.slot_sizes Int) (slot_size f.slot_sizes Float) (slot_size f.slot_sizes Vector) f.named_by_last_slot (limited.slot_sizes Int).positive (limited.slot_sizes Float).positive (limited.slot_sizes Vector).positive
+
+-- the fresh tables are blank
+blank_is : (g : Over) (c : goal.After-array_drop-state-2 g) → Blank (begun g c)
+blank_is g c = (let f : FunctionValue = g.F.Function.function c.args.f.now in let e = c.in_ok-state.ensures in
+    fresh_blank (begun g c) f.num_vregs (sizes_of f) f.named_by_last_slot e.places e.slots e.edits (units_are g c))
+
+fit_is : (g : Over) (c : goal.After-array_drop-state-2 g) → Fit (begun g c)
+fit_is g c = fresh_fit (g.F.Function.function c.args.f.now) (machine_of c.args.env.now) (begun g c) c.requires.machine (machine_is g c) c.in_ok-state.ensures.small
+
+-- what the walk left
+walked : (g : Over) (c : goal.After-array_drop-state-2 g) →
+    WalkKept (machine_of c.args.env.now) (Made (g.F.Function.function c.args.f.now)) (g.F.Function.function c.args.f.now) (MayInBlocks (g.F.Function.function c.args.f.now)) c.allocate_blocks.new.allocs 0 c.allocate_blocks.new.allocs (left g c)
+walked g c =
+    let f : FunctionValue = g.F.Function.function c.args.f.now in
+    let e = c.in_ok-state.ensures in
+    walk_kept_through (machine_of c.args.env.now) f c.requires.machine (g.met.F.Function.limited c.args.f.now) c.requires.well_formed c.requires.taken c.requires.branches
+    c.args.allocs.now c.allocate_blocks.new.allocs (begun g c) (left g c) f.num_vregs f.num_vregs (sizes_of f) f.named_by_last_slot e.places e.slots e.edits
+    (units_are g c) (machine_is g c) (blank_is g c) (fit_is g c) c.in_ok-allocate_blocks.ensures.ok
+
+made : (g : Over) (c : goal.After-array_drop-state-2 g) →
+    IsMade (g.F.Function.function c.args.f.now) (machine_of c.args.env.now) (Made (g.F.Function.function c.args.f.now)) (MayInBlocks (g.F.Function.function c.args.f.now)) (left g c) (out_of g c)
+made g c =
+    let f : FunctionValue = g.F.Function.function c.args.f.now in
+    let env : MachineValue = machine_of c.args.env.now in
+    record {
+      count = c.count.ensures.count;
+      edits = c.in_ok-edits.ensures.listed;
+      falling = c.in_ok-edits.ensures.falling;
+      long = c.requires.offsets_long;
+      offsets = λ i lt. c.requires.offsets i lt;
+      allocs_long = c.allocate_blocks.auto.allocs ∙ c.requires.allocs_long;
+      debug = refl;
+      kept = walked g c;
+    }
+
+-- where no path reads before writing, the output is faithful
+faithful_is : (g : Over) (c : goal.After-array_drop-state-2 g) → IsWrittenFirst (g.F.Function.function c.args.f.now) → IsFaithful (g.F.Function.function c.args.f.now) (machine_of c.args.env.now) (out_of g c)
+faithful_is g c = λ written.
+    let f : FunctionValue = g.F.Function.function c.args.f.now in
+    let env : MachineValue = machine_of c.args.env.now in
+    let m : IsMade f env (Made f) (MayInBlocks f) (left g c) (out_of g c) = made g c in
+    faithful f env (out_of g c) (made_constraints f env (Made f) (MayInBlocks f) (left g c) (out_of g c) m) (made_in_registers f env (Made f) (MayInBlocks f) (left g c) (out_of g c) m)
+    (made_blocks_agree env f (g.met.F.Function.limited c.args.f.now) c.requires.well_formed c.requires.taken c.requires.branches c.args.allocs.now (begun g c) (left g c) (out_of g c) (blank_is g c) (fit_is g c) c.in_ok-allocate_blocks.ensures.ok m written)
+
+live_is : (g : Over) (c : goal.After-array_drop-state-2 g) → IsWrittenFirst (g.F.Function.function c.args.f.now) → LiveInSlots (g.F.Function.function c.args.f.now) (out_of g c)
+live_is g c =
+    let f : FunctionValue = g.F.Function.function c.args.f.now in
+    let env : MachineValue = machine_of c.args.env.now in
+    made_in_slots env f (g.met.F.Function.limited c.args.f.now) c.requires.well_formed c.requires.taken c.requires.branches c.args.allocs.now (begun g c) (left g c) (out_of g c) (blank_is g c) (fit_is g c) c.in_ok-allocate_blocks.ensures.ok (made g c)
+    c.count.ensures.owned (tame_at env f (g.met.F.Function.limited c.args.f.now) c.requires.well_formed c.requires.taken)
+
+owners_are : (g : Over) (c : goal.After-array_drop-state-2 g) → SlotsHaveOwners (g.F.Function.function c.args.f.now) (out_of g c)
+owners_are g c =
+    let f : FunctionValue = g.F.Function.function c.args.f.now in
+    let env : MachineValue = machine_of c.args.env.now in
+    made_owners f env (Made f) (MayInBlocks f) (left g c) (out_of g c) (made g c) c.count.ensures.owned (tame_at env f (g.met.F.Function.limited c.args.f.now) c.requires.well_formed c.requires.taken)
+
+-- the slots that the walk leaves have the sizes that the function asks for, and as many vregs
+sizes_kept : (f : FunctionValue) (begun left : Tables) (by_last : Bool) (most : ℕ) → begun.slots ≡ no_slots f.num_vregs (sizes_of f) by_last → LendsAtMost most begun left → left.slots.sizes ≡ sizes_of f
+sizes_kept f begun left by_last most slots machine = machine.sizes ∙ ap (λ (s : SlotsValue). s.sizes) slots
+
+vregs_kept : (f : FunctionValue) (begun left : Tables) (by_last : Bool) (most : ℕ) → begun.slots ≡ no_slots f.num_vregs (sizes_of f) by_last → LendsAtMost most begun left → length left.slots.of_vreg ≡ f.num_vregs
+vregs_kept f begun left by_last most slots machine = machine.vregs ∙ ap (λ (s : SlotsValue). length s.of_vreg) slots ∙ length-replicate f.num_vregs NoPlace
+
+-- few slots were lent
+few_lent : (f : FunctionValue) (begun left : Tables) (by_last : Bool) (most : ℕ) → begun.slots ≡ no_slots f.num_vregs (sizes_of f) by_last → LendsAtMost most begun left → left.slots.lent ≤ most
+few_lent f begun left by_last most slots machine =
+    let none : begun.slots.lent ≡ 0 = ap (λ (s : SlotsValue). s.lent) slots in
+    let lent = machine.lent in
+    omega (arith, none, lent)
+
+slots_are : (g : Over) (c : goal.After-array_drop-state-2 g) → SlotsAreFew (g.F.Function.function c.args.f.now) (out_of g c)
+slots_are g c =
+    let f : FunctionValue = g.F.Function.function c.args.f.now in
+    let begin : Tables = tables_of c.in_ok-state.state in
+    let last : Tables = tables_of c.allocate_blocks.new.self in
+    let machine = c.allocate_blocks.ensures.machine in
+    let slots = c.in_ok-state.ensures.slots in
+    few_slots f last.slots (out_of g c) c.count.ensures.count (sizes_kept f begin last f.named_by_last_slot _ slots machine) (vregs_kept f begin last f.named_by_last_slot _ slots machine)
+    (few_lent f begin last f.named_by_last_slot _ slots machine) c.count.ensures.owned
+
+pub returns-clause-allocation : goal.returns-clause-allocation
+returns-clause-allocation g c =
+    let f : FunctionValue = g.F.Function.function c.args.f.now in
+    let env : MachineValue = machine_of c.args.env.now in
+    let m : IsMade f env (Made f) (MayInBlocks f) (left g c) (out_of g c) = made g c in
+    record {
+      in_order = made_in_order _ _ _ _ _ _ m;
+      constraints = made_constraints _ _ _ _ _ _ m;
+      proper = made_proper _ _ _ _ _ _ m;
+      no_stack_to_stack = made_in_registers _ _ _ _ _ _ m;
+      listed = made_listed_blocks _ _ _ _ _ c.requires.well_formed.follow m;
+      faithful = λ written. record {
+        faithful = faithful_is g c written;
+        reads_numbers = reads_numbers f env (out_of g c) (faithful_is g c written);
+        same_numbers = c.reads_the_same_numbers.ensures f env (out_of g c) (faithful_is g c written);
+      };
+      live = live_is g c;
+      slots = slots_are g c;
+      owners = owners_are g c;
+    }
+
+pub returns-in_err-allocate_blocks-clause-err : goal.returns-in_err-allocate_blocks-clause-err
+returns-in_err-allocate_blocks-clause-err g c =
+    let f : FunctionValue = g.F.Function.function c.args.f.now in
+    let begin : Tables = tables_of c.in_ok-state.state in
+    let slots = c.in_ok-state.ensures.slots in
+    let most : ℕ = begin.slots.lent + 6 * length f.blocks in
+    let none : begin.slots.lent ≡ 0 = ap (λ (s : SlotsValue). s.lent) slots in
+    let same : LendsAtMost 0 begin begin = none_lends 0 begin in
+    let p = err_from_is_err_and c.from_residual-in_err-allocate_blocks.result c.from_residual-in_err-allocate_blocks.ensures.1 in
+    let more : AreFullWith begin.slots most → 2 ^ 24 < units_needed f = full_needs f begin.slots most (sizes_kept f begin begin f.named_by_last_slot 0 slots same) (vregs_kept f begin begin f.named_by_last_slot 0 slots same) (omega (arith, none)) in
+    rw p.1 (subst (LacksOnly (2 ^ 24 < units_needed f)) (sym p.2) (lacks_then (AreFullWith begin.slots most) (2 ^ 24 < units_needed f) more _ c.in_err-allocate_blocks.ensures.err))
