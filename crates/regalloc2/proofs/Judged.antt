@@ -14,7 +14,7 @@ use Rattle.regalloc2_checker.specs.Found.{errors_of}
 use Rattle.regalloc2_checker.specs.Report.{IsReport}
 use Rattle.regalloc2.specs.declared.checked.CheckedRunError.{CheckedRunError}
 use Rattle.regalloc2.specs.declared.checked.CheckedRunError.TheVariants.{Faults, Unjudged}
-use Rattle.regalloc2.specs.Judged.{IsCheckedReason}
+use Rattle.regalloc2.specs.Judged.{IsCheckedReason, IsFault}
 
 -- what is said of an output that isn't accepted
 abbrev pub IsFound : {A : Type 0} → FunctionValue → MachineValue → OutputValue → CheckedRunError A → Type 0
@@ -39,3 +39,8 @@ pub same_found : {F A : Type 0} (value : F → FunctionValue) (x y : F) (m n : M
 same_found {F = F} value x y m n out es p q h =
     subst (λ (z : F). (es ≡ Memory ∷ []) ⊎ ((IsFaithful (value z) n out → ⊥) × IsReport (value z) n out es)) p
     (subst (λ (k : MachineValue). (es ≡ Memory ∷ []) ⊎ ((IsFaithful (value x) k out → ⊥) × IsReport (value x) k out es)) q h)
+
+-- of a faithful output no fault is found
+pub no_fault : {A : Type 0} (f : FunctionValue) (env : MachineValue) (out : OutputValue) (e : CheckedRunError A) → IsFaithful f env out → IsFound f env out e → IsFault e → ⊥
+no_fault f env out e faithful (inl h) fault = rw h at fault
+no_fault f env out e faithful (inr h) fault = h.2 faithful

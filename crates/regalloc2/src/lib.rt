@@ -8,14 +8,15 @@
 
 mod checked;
 mod laws;
+mod tested;
 
 pub use checked::{CheckedRunError, run_checked};
 pub use laws::accepts_what_is_promised;
 pub use regalloc2_fastalloc::{Algorithm, Ctx, RegallocOptions, run, run_into_ctx, run_with_ctx};
 pub use regalloc2_function::{
-    Edit, Function, InstOrEdit, MachineEnv, Output, OutputIter, StoredFault, StoredOutput,
-    agrees_where_numbers_do, count_operands, finds_earlier_writes, is_framed, machine_fits,
-    reads_the_same_numbers, test_blocks, test_ends,
+    Edit, Function, InstOrEdit, MachineEnv, MachineMisfit, Output, OutputIter, StoredFault,
+    StoredOutput, agrees_where_numbers_do, count_operands, finds_earlier_writes, is_framed,
+    machine_fits, reads_the_same_numbers, test_blocks, test_ends, test_machine,
 };
 pub use regalloc2_index::{
     Block, ContainerComparator, ContainerIndex, Inst, InstRange, InstRangeIter,
@@ -26,6 +27,7 @@ pub use regalloc2_names::{
 };
 pub use regalloc2_parts::moves;
 pub use regalloc2_shape::{cfg, indexset, postorder, ssa};
+pub use tested::{AllocateError, allocate, allocate_without_checker};
 
 /// The checker of allocations.
 pub mod checker {

@@ -1,0 +1,19 @@
+-- What a checked run's error says as an error of `allocate`.
+use Rattle.std.specs.Prelude.{true}
+use Rattle.regalloc2_function.specs.FunctionValue.{FunctionValue}
+use Rattle.regalloc2_function.specs.Machine.{MachineValue}
+use Rattle.regalloc2_function.specs.Fitting.{MachineFits}
+use Rattle.regalloc2.specs.Judged.{IsCheckedReason, IsFault}
+use Rattle.regalloc2.specs.Allocated.{allocate_error, IsAllocateFault, IsAllocateReason}
+use Rattle.regalloc2.specs.declared.checked.CheckedRunError.{CheckedRunError}
+use Rattle.regalloc2.specs.declared.checked.CheckedRunError.TheVariants.{Refused, Faults, Unjudged}
+
+pub reason_told : {A : Type 0} (f : FunctionValue) (env : MachineValue) (e : CheckedRunError A) → MachineFits f env → IsCheckedReason f env true e → IsAllocateReason f env (allocate_error e)
+reason_told f env (Refused r) fits h = (fits, h)
+reason_told f env (Faults es) fits h = (fits, h)
+reason_told f env Unjudged fits h = (fits, h)
+
+pub fault_told : {A : Type 0} (e : CheckedRunError A) → (IsFault e → ⊥) → IsAllocateFault (allocate_error e) → ⊥
+fault_told (Refused r) h = h
+fault_told (Faults es) h = h
+fault_told Unjudged h = h

@@ -1,0 +1,122 @@
+//! Allocating whatever the function and the machine are: both are tested first.
+
+ghost use Rattle.std.specs.Prelude.{◌≡◌, true, IfErr, IfOk, OnOk};
+ghost use Rattle.regalloc2_function.specs.Views.{machine_of, output_of};
+ghost use Rattle.regalloc2_function.specs.SourceRun.{IsWrittenFirst};
+ghost use Rattle.regalloc2_function.specs.Faithful.{IsFaithful};
+ghost use Rattle.regalloc2_function.specs.Fitting.{MachineFits};
+ghost use Rattle.regalloc2_function.specs.WellFormed.{IsWellFormed};
+ghost use Rattle.regalloc2_fastalloc.specs.Promise.{IsAllocation};
+ghost use Rattle.regalloc2_fastalloc.specs.Reason.{PassesAll};
+ghost use Rattle.regalloc2.specs.Allocated.{allocate_error, IsAllocateFault, IsAllocateReason, IsTestedReason};
+
+use super::checked::{CheckedRunError, run_checked};
+use regalloc2_checker::CheckerErrors;
+use regalloc2_fastalloc::{Algorithm, RegallocOptions, run};
+use regalloc2_function::{Function, MachineEnv, MachineMisfit, Output, test_machine};
+use regalloc2_names::RegAllocError;
+use std::alloc::{Allocator, Global};
+use std::error::Error;
+use std::fmt;
+
+/// Why no registers were allocated.
+#[derive(Debug, Drop)]
+pub enum AllocateError<A: Allocator = Global> {
+    /// The machine doesn't suit the function.
+    Misfit(MachineMisfit),
+    /// The function was refused, or registers, slots or memory ran out.
+    Refused(RegAllocError),
+    /// The checker found these faults in what was allocated.
+    Faults(CheckerErrors<A>),
+    /// The checker was refused memory.
+    Unjudged,
+}
+
+impl<A: Allocator> fmt::Display for AllocateError<A> {
+    fn fmt<W: fmt::Write>(&self, f: &mut fmt::Formatter<W>) -> fmt::Result {
+        match self {
+            AllocateError::Misfit(misfit) => {
+                write!(f, "the machine doesn't suit the function: {misfit}")
+            }
+            AllocateError::Refused(error) => write!(f, "no registers were allocated: {error}"),
+            AllocateError::Faults(_) => write!(f, "the checker found faults in the output"),
+            AllocateError::Unjudged => write!(f, "the checker had no memory"),
+        }
+    }
+}
+
+impl<A: Allocator + fmt::Debug> Error for AllocateError<A> {}
+
+/// With all tests of the function.
+const TESTED: RegallocOptions = RegallocOptions {
+    validate_ssa: true,
+    algorithm: Algorithm::Fastalloc,
+};
+
+/// The error that a checked run's is.
+fn error_from<A: Allocator>(error: CheckedRunError<A>) -> AllocateError<A>
+    ensures { result ≡ allocate_error error }
+{
+    match error {
+        CheckedRunError::Refused(error) => AllocateError::Refused(error),
+        CheckedRunError::Faults(errors) => AllocateError::Faults(errors),
+        CheckedRunError::Unjudged => AllocateError::Unjudged,
+    }
+}
+
+/// Allocates registers to any function for any machine, and gives an output that the checker accepts.
+///
+/// This is the call to start with: it has no conditions. It tests that the machine suits the function, as [`test_machine`]
+/// does, and then makes a [`run_checked`] with all tests of the function. The output is faithful: along every path each use
+/// reads the function's own value, every constraint is met, and no move goes from a place in memory to another; and it has
+/// all that [`run`] promises.
+///
+/// An error is the first condition of a fitting machine that fails, the first test of the function that fails, or want of
+/// registers, slots or memory. If no path from the entry reads a virtual register before writing it, it is never `Faults`.
+///
+/// The checker takes several times as long as the allocation. [`allocate_without_checker`] does without it.
+pub fn allocate<A: Allocator + Copy, F: Function, B: Allocator>(
+    alloc: A,
+    f: &F,
+    env: &MachineEnv<B>,
+) -> Result<Output<A>, AllocateError<A>>
+    ensures allocation { IfOk result (λ out. IsAllocation (F.function f.now) (machine_of env.now) (output_of out)) }
+    ensures faithful { IfOk result (λ out. IsFaithful (F.function f.now) (machine_of env.now) (output_of out)) }
+    ensures fitting { OnOk result (MachineFits (F.function f.now) (machine_of env.now)) }
+    ensures tested { OnOk result (IsWellFormed (machine_of env.now) (F.function f.now)) }
+    ensures owed { OnOk result (PassesAll (F.function f.now) (machine_of env.now) true) }
+    ensures accepted { IsWrittenFirst (F.function f.now) → IfErr result (λ e. IsAllocateFault e → ⊥) }
+    ensures refused { IfErr result (IsAllocateReason (F.function f.now) (machine_of env.now)) }
+{
+    if let Err(misfit) = test_machine(f, env) {
+        return Err(AllocateError::Misfit(misfit));
+    }
+    match run_checked(alloc, f, env, &TESTED) {
+        Ok(out) => Ok(out),
+        Err(error) => Err(error_from(error)),
+    }
+}
+
+/// Allocates registers to any function for any machine, as [`allocate`] does, and leaves the checker out.
+///
+/// Tests and errors are those of [`allocate`], but never `Faults` or `Unjudged`. The output has all that [`run`] promises:
+/// it is faithful if no path from the entry reads a virtual register before writing it.
+pub fn allocate_without_checker<A: Allocator + Copy, F: Function, B: Allocator>(
+    alloc: A,
+    f: &F,
+    env: &MachineEnv<B>,
+) -> Result<Output<A>, AllocateError<A>>
+    ensures allocation { IfOk result (λ out. IsAllocation (F.function f.now) (machine_of env.now) (output_of out)) }
+    ensures fitting { OnOk result (MachineFits (F.function f.now) (machine_of env.now)) }
+    ensures tested { OnOk result (IsWellFormed (machine_of env.now) (F.function f.now)) }
+    ensures owed { OnOk result (PassesAll (F.function f.now) (machine_of env.now) true) }
+    ensures refused { IfErr result (IsTestedReason (F.function f.now) (machine_of env.now)) }
+{
+    if let Err(misfit) = test_machine(f, env) {
+        return Err(AllocateError::Misfit(misfit));
+    }
+    match run(alloc, f, env, &TESTED) {
+        Ok(out) => Ok(out),
+        Err(error) => Err(AllocateError::Refused(error)),
+    }
+}
