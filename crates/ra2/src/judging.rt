@@ -1,17 +1,16 @@
 //! An allocation, and what the checker finds of it, in text.
 
-ghost use Rattle.std.specs.Prelude.{◌≡◌, true, false, IfOk};
+ghost use Rattle.std.specs.Prelude.{◌≡◌, true, false, [], ◌∷◌, IfOk};
 ghost use Rattle.std.specs.Io.KnownBytes.{Appends};
-ghost use Rattle.regalloc2_function.specs.Faithful.{IsFaithful};
 ghost use Rattle.regalloc2_function.specs.Views.{machine_of, output_of};
 ghost use Rattle.regalloc2_function.specs.WellFormed.{IsFramed};
 ghost use Rattle.regalloc2_function.specs.Fitting.{MachineFits};
-ghost use Rattle.ra2.specs.Findings.{IsUnaccepted};
+ghost use Rattle.ra2.specs.Findings.{IsJudged, findings_text};
 ghost use Rattle.ra2.specs.Outcome.{IsOutcome};
 ghost use Rattle.ra2.specs.Text.{checked_line};
 
 use super::task::Task;
-use regalloc2::checker::Checker;
+use regalloc2::checker::{Checker, CheckerError};
 use regalloc2::{Algorithm, Function, MachineEnv, Output, RegallocOptions, run};
 use regalloc2_tool::listing::write_listing;
 use regalloc2_tool::refusal::number_of;
@@ -24,6 +23,32 @@ const OPTIONS: RegallocOptions = RegallocOptions {
     algorithm: Algorithm::Fastalloc,
 };
 
+/// Writes an error's line. The output isn't accepted.
+fn write_finding<O: Write>(error: &CheckerError, out: &mut O) -> io::Result<bool>
+    ensures { IfOk result (λ b. (b ≡ false) × Appends (O.contents out.old) (O.contents out.new) (findings_text (error.now ∷ []))) }
+{
+    writeln!(out, "{error}")?;
+    Ok(false)
+}
+
+/// Writes a line for each error. The output isn't accepted.
+fn write_findings<O: Write>(errors: &[CheckerError], out: &mut O) -> io::Result<bool>
+    ensures { IfOk result (λ b. (b ≡ false) × Appends (O.contents out.old) (O.contents out.new) (findings_text errors.now)) }
+{
+    for error in errors {
+        write_finding(error, out)?;
+    }
+    Ok(false)
+}
+
+/// Writes that the output is accepted.
+fn write_checked<O: Write>(out: &mut O) -> io::Result<bool>
+    ensures { IfOk result (λ b. (b ≡ true) × Appends (O.contents out.old) (O.contents out.new) checked_line) }
+{
+    writeln!(out, "checked")?;
+    Ok(true)
+}
+
 /// Writes `checked`, or the faults that the checker finds of an output. Whether there are none.
 fn judge<F: Function, O: Write>(
     alloc: Global,
@@ -33,32 +58,18 @@ fn judge<F: Function, O: Write>(
     out: &mut O,
 ) -> io::Result<bool>
     requires framed { IsFramed (F.function f.now) }
-    ensures accepted { IfOk result (λ b. b ≡ true → IsFaithful (F.function f.now) (machine_of env.now) (output_of output.now)) }
-    ensures text { IfOk result (λ b. b ≡ true → Appends (O.contents out.old) (O.contents out.new) checked_line) }
-    ensures faults { IfOk result (λ b. b ≡ false → IsUnaccepted (F.function f.now) (machine_of env.now) (output_of output.now) (Appends (O.contents out.old) (O.contents out.new))) }
+    ensures { IfOk result (IsJudged (F.function f.now) (machine_of env.now) (output_of output.now) (Appends (O.contents out.old) (O.contents out.new))) }
 {
     let mut checker = match Checker::new(alloc, f, env) {
         Ok(checker) => checker,
-        Err(error) => {
-            writeln!(out, "{error}")?;
-            return Ok(false);
-        }
+        Err(error) => return write_finding(&error, out),
     };
     if let Err(error) = checker.prepare(output) {
-        writeln!(out, "{error}")?;
-        return Ok(false);
+        return write_finding(&error, out);
     }
     match checker.run() {
-        Ok(()) => {
-            writeln!(out, "checked")?;
-            Ok(true)
-        }
-        Err(errors) => {
-            for error in errors.errors() {
-                writeln!(out, "{error}")?;
-            }
-            Ok(false)
-        }
+        Ok(()) => write_checked(out),
+        Err(errors) => write_findings(errors.errors(), out),
     }
 }
 

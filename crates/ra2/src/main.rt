@@ -13,6 +13,7 @@ mod task;
 mod texts;
 
 use std::env::{self, Env};
+use std::io::BufWriter;
 use std::process::ExitCode;
 
 /// The words after the program's name.
@@ -28,11 +29,15 @@ fn main(rt: HostRuntime) -> ExitCode {
     let Ok(words) = words(&rt) else {
         return ExitCode::from(program::refuse_words(&mut rt.stderr()));
     };
-    ExitCode::from(program::answer(
+    let Ok(out) = BufWriter::new(rt.alloc(), rt.stdout()) else {
+        return ExitCode::from(program::UNUSABLE);
+    };
+    let (status, _) = program::answer(
         rt.alloc(),
         words.as_slice(),
         rt.stdin(),
-        &mut rt.stdout(),
+        out,
         &mut rt.stderr(),
-    ))
+    );
+    ExitCode::from(status)
 }

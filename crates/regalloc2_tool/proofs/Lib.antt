@@ -1,3 +1,4 @@
 pub mod Below
 pub mod Frames
-pub mod Grown
+pub mod Written
+pub mod Lines

@@ -1,7 +1,6 @@
 -- The texts that the programs share.
-use Rattle.std.specs.Prelude.{ℕ, ◌<◌, codes, List, ◌++◌, length, Option, nat_eq, if◌then◌else◌}
+use Rattle.std.specs.Prelude.{ℕ, codes, List, ◌++◌, nat_eq, if◌then◌else◌}
 use Rattle.std.specs.Fmt.{decimal}
-use Rattle.std.specs.Io.KnownBytes.{Appends}
 use Rattle.regalloc2_names.specs.Point.{inst_of_point, position_of_point}
 use Rattle.regalloc2_names.specs.Register.{VirtualRegister}
 use Rattle.regalloc2_names.specs.Text.{class_letter, position_ending, vreg_text}
@@ -33,11 +32,3 @@ fault_reason fault.Shape = codes "a value has another shape"
 -- a fault with its number, as 3: a word names nothing
 abbrev pub fault_text : StoredFault → List ℕ
 fault_text e = decimal (fault_number e) ++ codes ": " ++ fault_reason e
-
--- a writer's bytes, where they are known, grow by some text
-abbrev pub Grows : Option (List ℕ) → Option (List ℕ) → Type 0
-Grows old new = (text : List ℕ) × Appends old new text
-
--- and not by nothing
-abbrev pub Lengthens : Option (List ℕ) → Option (List ℕ) → Type 0
-Lengthens old new = (text : List ℕ) × Appends old new text × (0 < length text)

@@ -1,14 +1,17 @@
 //! The listing of an allocated function.
 
-ghost use Rattle.std.specs.Prelude.{◌<◌, Some, OnOk, length};
-ghost use Rattle.regalloc2_function.specs.OutputValue.{IsInOrder};
-ghost use Rattle.regalloc2_function.specs.Views.{output_of};
+ghost use Rattle.std.specs.Prelude.{◌≡◌, ◌<◌, Some, OnOk, length};
+ghost use Rattle.std.specs.Io.KnownBytes.{Appends};
+ghost use Rattle.regalloc2_function.specs.FunctionValue.{inst_at};
+ghost use Rattle.regalloc2_function.specs.OutputValue.{IsInOrder, place_at};
+ghost use Rattle.regalloc2_function.specs.Views.{move_of, output_of};
 ghost use Rattle.regalloc2_tool.specs.Framed.{BlocksAreWithin};
-ghost use Rattle.regalloc2_tool.specs.Text.{point_text, Lengthens};
+ghost use Rattle.regalloc2_tool.specs.Listing.{opcode_text, separator_text, placed_text, operands_text, inst_line, move_line, block_text, blocks_text, debug_line, debug_text, listing_text};
+ghost use Rattle.regalloc2_tool.specs.Text.{point_text};
 
 use regalloc2_function::{Edit, Function, InstOrEdit, Output};
 use regalloc2_index::{Block, Inst};
-use regalloc2_names::{Allocation, InstPosition, ProgPoint};
+use regalloc2_names::{Allocation, InstPosition, Operand, ProgPoint};
 use std::alloc::Allocator;
 use std::fmt;
 use std::io::{self, Write};
@@ -29,6 +32,66 @@ impl fmt::Display for PointText {
     }
 }
 
+/// What an instruction is, as `op`, `branch` or `ret`.
+fn opcode_name<F: Function>(f: &F, inst: Inst) -> &'static str
+    requires { inst < length (F.function f.now).insts }
+    ensures { result.now ≡ opcode_text (inst_at (F.function f.now) inst) }
+{
+    if f.is_branch(inst) {
+        "branch"
+    } else if f.is_ret(inst) {
+        "ret"
+    } else {
+        "op"
+    }
+}
+
+/// What stands before an operand.
+fn separator(k: usize) -> &'static str
+    ensures { result.now ≡ separator_text k }
+{
+    if k == 0 { ": " } else { ", " }
+}
+
+/// The place of an operand; `none` where the list ends before.
+fn place_at(places: &[Allocation], k: usize) -> Allocation
+    ensures { result ≡ place_at places.now k }
+{
+    if k < places.len() {
+        places[k]
+    } else {
+        Allocation::none()
+    }
+}
+
+/// Writes an instruction's operand with its place.
+#[tactic(auto, unfolding(crate::specs::Listing::placed_text))]
+fn write_operand<W: Write>(
+    k: usize,
+    operand: Operand,
+    place: Allocation,
+    writer: &mut W,
+) -> io::Result<()>
+    ensures { OnOk result (Appends (W.contents writer.old) (W.contents writer.new) (placed_text k operand place)) }
+{
+    let before = separator(k);
+    write!(writer, "{before}{operand} [{place}]")
+}
+
+/// Writes an instruction's operands, each with its place.
+fn write_operands<W: Write>(
+    operands: &[Operand],
+    places: &[Allocation],
+    writer: &mut W,
+) -> io::Result<()>
+    ensures { OnOk result (Appends (W.contents writer.old) (W.contents writer.new) (operands_text places.now 0 operands.now)) }
+{
+    for k in 0..operands.len() {
+        write_operand(k, operands[k], place_at(places, k), writer)?;
+    }
+    Ok(())
+}
+
 /// Writes an instruction with its operands, each with its place.
 fn write_inst<F: Function, A: Allocator, W: Write>(
     f: &F,
@@ -38,24 +101,22 @@ fn write_inst<F: Function, A: Allocator, W: Write>(
 ) -> io::Result<()>
     requires in_order { IsInOrder (F.function f.now) (output_of output.now) }
     requires inst { inst < length (F.function f.now).insts }
-    ensures { OnOk result (Lengthens (W.contents writer.old) (W.contents writer.new)) }
+    ensures { OnOk result (Appends (W.contents writer.old) (W.contents writer.new) (inst_line (F.function f.now) (output_of output.now) inst)) }
 {
     let number = inst.index();
-    let name = if f.is_branch(inst) {
-        "branch"
-    } else if f.is_ret(inst) {
-        "ret"
-    } else {
-        "op"
-    };
+    let name = opcode_name(f, inst);
     write!(writer, "  inst{number} {name}")?;
-    let places = output.inst_allocs(inst);
-    for (k, operand) in f.inst_operands(inst).iter().enumerate() {
-        let before = if k == 0 { ": " } else { ", " };
-        let place = places.get(k).copied().unwrap_or(Allocation::none());
-        write!(writer, "{before}{operand} [{place}]")?;
-    }
+    write_operands(f.inst_operands(inst), output.inst_allocs(inst), writer)?;
     writeln!(writer)
+}
+
+/// Writes a move.
+#[tactic(auto, unfolding(crate::specs::Listing::move_line))]
+fn write_move<W: Write>(edit: Edit, writer: &mut W) -> io::Result<()>
+    ensures { OnOk result (Appends (W.contents writer.old) (W.contents writer.new) (move_line (move_of edit))) }
+{
+    let (from, to) = edit.places();
+    writeln!(writer, "  move {from} -> {to}")
 }
 
 /// Writes a block's instructions, each after the moves that run before it.
@@ -68,26 +129,64 @@ fn write_block<F: Function, A: Allocator, W: Write>(
     requires in_order { IsInOrder (F.function f.now) (output_of output.now) }
     requires blocks { BlocksAreWithin (F.function f.now) }
     requires block { block < length (F.function f.now).blocks }
-    ensures { OnOk result (Lengthens (W.contents writer.old) (W.contents writer.new)) }
+    ensures { OnOk result (Appends (W.contents writer.old) (W.contents writer.new) (block_text (F.function f.now) (output_of output.now) block)) }
 {
     let number = block.index();
     writeln!(writer, "block{number}:")?;
     for item in output.block_insts_and_edits(f, block) {
         match &item {
             InstOrEdit::Inst(inst) => write_inst(f, output, *inst, writer)?,
-            InstOrEdit::Edit(edit) => {
-                let Edit::Move { from, to } = **edit;
-                writeln!(writer, "  move {from} -> {to}")?;
-            }
+            InstOrEdit::Edit(edit) => write_move(**edit, writer)?,
         }
+    }
+    Ok(())
+}
+
+/// Writes the listings of all blocks.
+fn write_blocks<F: Function, A: Allocator, W: Write>(
+    f: &F,
+    output: &Output<A>,
+    writer: &mut W,
+) -> io::Result<()>
+    requires in_order { IsInOrder (F.function f.now) (output_of output.now) }
+    requires blocks { BlocksAreWithin (F.function f.now) }
+    ensures { OnOk result (Appends (W.contents writer.old) (W.contents writer.new) (blocks_text (F.function f.now) (output_of output.now))) }
+{
+    for b in 0..f.num_blocks() {
+        write_block(f, output, Block::new(b), writer)?;
+    }
+    Ok(())
+}
+
+/// Writes where a labelled value stands.
+#[tactic(auto, unfolding(crate::specs::Listing::debug_line))]
+fn write_debug_location<W: Write>(
+    location: (u32, ProgPoint, ProgPoint, Allocation),
+    writer: &mut W,
+) -> io::Result<()>
+    ensures { OnOk result (Appends (W.contents writer.old) (W.contents writer.new) (debug_line (record { label = location.0; start = location.1; end = location.2; place = location.3 }))) }
+{
+    let (label, from, to, place) = location;
+    let from = PointText(from);
+    let to = PointText(to);
+    writeln!(writer, "debug {label} {from} {to} {place}")
+}
+
+/// Writes where labelled values stand.
+fn write_debug_locations<A: Allocator, W: Write>(
+    output: &Output<A>,
+    writer: &mut W,
+) -> io::Result<()>
+    ensures { OnOk result (Appends (W.contents writer.old) (W.contents writer.new) (debug_text (output_of output.now))) }
+{
+    for location in &output.debug_locations {
+        write_debug_location(*location, writer)?;
     }
     Ok(())
 }
 
 /// Writes the listing of a function that was allocated: block by block its instructions, each with its operands and
 /// their places, and the moves that run before it; then how many units the slots take, and where labelled values stand.
-///
-/// Its text is shown by tests.
 pub fn write_listing<F: Function, A: Allocator, W: Write>(
     f: &F,
     output: &Output<A>,
@@ -95,17 +194,10 @@ pub fn write_listing<F: Function, A: Allocator, W: Write>(
 ) -> io::Result<()>
     requires in_order { IsInOrder (F.function f.now) (output_of output.now) }
     requires blocks { BlocksAreWithin (F.function f.now) }
-    ensures { OnOk result (Lengthens (W.contents writer.old) (W.contents writer.new)) }
+    ensures { OnOk result (Appends (W.contents writer.old) (W.contents writer.new) (listing_text (F.function f.now) (output_of output.now))) }
 {
-    for b in 0..f.num_blocks() {
-        write_block(f, output, Block::new(b), writer)?;
-    }
+    write_blocks(f, output, writer)?;
     let slots = output.num_spillslots;
     writeln!(writer, "slots {slots}")?;
-    for (label, from, to, place) in &output.debug_locations {
-        let from = PointText(*from);
-        let to = PointText(*to);
-        writeln!(writer, "debug {label} {from} {to} {place}")?;
-    }
-    Ok(())
+    write_debug_locations(output, writer)
 }

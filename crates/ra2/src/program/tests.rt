@@ -3,7 +3,7 @@
 use super::*;
 use crate::texts::{TEXT, TOO_MANY, TWO_BLOCKS};
 use std::alloc::AllocError;
-use std::io::{self, ErrorKind};
+use std::io::{self, BufWriter, ErrorKind};
 use std::test::Fail;
 
 const LISTING: &str =
@@ -33,12 +33,14 @@ impl Read for Failing<'_> {
     }
 }
 
-/// A writer over memory. The write that comes after so many others fails, once, and so may each flush.
+/// A writer over memory. The write that comes after so many others fails, once, and so may each flush. It sees whether a write
+/// came after the failed one.
 #[derive(Drop)]
 struct Faulty {
     text: Vec<u8>,
     sound_writes: u32,
     has_failed: bool,
+    is_written_again: bool,
     flushes: bool,
 }
 
@@ -48,6 +50,7 @@ impl Faulty {
             text: Vec::new(alloc),
             sound_writes,
             has_failed: false,
+            is_written_again: false,
             flushes,
         }
     }
@@ -59,6 +62,7 @@ impl Write for Faulty {
             self.has_failed = true;
             return Err(io::Error::from(ErrorKind::BrokenPipe));
         }
+        self.is_written_again = self.has_failed;
         self.sound_writes = self.sound_writes.saturating_sub(1);
         if self.text.extend_from_slice(buf).is_err() {
             return Err(io::Error::from(ErrorKind::OutOfMemory));
@@ -95,9 +99,9 @@ fn words(alloc: Global, line: &[&str]) -> Result<Vec<String>, AllocError> {
 /// Whether the program answers so to one word and a text.
 fn answers(alloc: Global, line: &[&str], text: &[u8], want: Answer) -> Result<bool, Fail> {
     let words = words(alloc, line)?;
-    let mut out = Vec::new(alloc);
+    let out = BufWriter::new(alloc, Vec::new(alloc))?;
     let mut err = Vec::new(alloc);
-    let status = answer(alloc, words.as_slice(), text, &mut out, &mut err);
+    let (status, out) = answer(alloc, words.as_slice(), text, out, &mut err);
     Ok(
         status == want.status
             && out.as_slice() == want.out.as_bytes()
@@ -222,9 +226,9 @@ fn failed_reads_are_refused(rt: HostRuntime) -> Result<(), Fail> {
             text: TEXT.as_bytes(),
             sound_reads,
         };
-        let mut out = Vec::new(rt.alloc());
+        let out = BufWriter::new(rt.alloc(), Vec::new(rt.alloc()))?;
         let mut err = Vec::new(rt.alloc());
-        let status = answer(rt.alloc(), words.as_slice(), input, &mut out, &mut err);
+        let (status, out) = answer(rt.alloc(), words.as_slice(), input, out, &mut err);
         assert_eq!(rt; status, 2, "after {sound_reads}");
         assert!(rt; out.is_empty(), "after {sound_reads}");
         assert_eq!(rt;
@@ -236,33 +240,44 @@ fn failed_reads_are_refused(rt: HostRuntime) -> Result<(), Fail> {
     Ok(())
 }
 
-#[test]
-fn a_failed_write_ends_it(rt: HostRuntime) -> Result<(), Fail> {
-    let words = words(rt.alloc(), &["check"])?;
-    let mut failures = 0u32;
+/// What the program writes and answers where the write that comes after so many others fails, over a buffer of so many bytes.
+fn answer_to_faulty(
+    alloc: Global,
+    capacity: usize,
+    sound_writes: u32,
+) -> Result<(u8, Faulty), Fail> {
+    let words = words(alloc, &["check"])?;
+    let out = Faulty::new(alloc, sound_writes, true);
+    let out = BufWriter::with_capacity(alloc, capacity, out)?;
+    let mut err = Vec::new(alloc);
+    let (status, out) = answer(alloc, words.as_slice(), TEXT.as_bytes(), out, &mut err);
+    if !err.is_empty() {
+        return Ok((u8::MAX, out));
+    }
+    Ok((status, out))
+}
+
+/// How many writes there are over a buffer of so many bytes, where each of them ends the program if it fails.
+fn fatal_writes(alloc: Global, capacity: usize) -> Result<Option<u32>, Fail> {
     for sound_writes in 0..1000u32 {
-        let mut out = Faulty::new(rt.alloc(), sound_writes, true);
-        let mut err = Vec::new(rt.alloc());
-        let status = answer(
-            rt.alloc(),
-            words.as_slice(),
-            TEXT.as_bytes(),
-            &mut out,
-            &mut err,
-        );
-        assert!(rt; err.is_empty(), "after {sound_writes}");
+        let (status, out) = answer_to_faulty(alloc, capacity, sound_writes)?;
         if !out.has_failed {
-            assert_eq!(rt; status, 0, "after {sound_writes}");
+            let is_whole = status == 0 && out.text.as_slice() == CHECKED.as_bytes();
+            return Ok(is_whole.then_some(sound_writes));
+        }
+        let is_ended = status == 2 && !out.is_written_again;
+        if !is_ended || !CHECKED.as_bytes().starts_with(out.text.as_slice()) {
             break;
         }
-        assert_eq!(rt; status, 2, "after {sound_writes}");
-        assert!(rt;
-            CHECKED.as_bytes().starts_with(out.text.as_slice()),
-            "after {sound_writes}"
-        );
-        failures = failures.wrapping_add(1);
     }
-    assert!(rt; failures > 4);
+    Ok(None)
+}
+
+#[test]
+fn a_failed_write_ends_it(rt: HostRuntime) -> Result<(), Fail> {
+    assert!(rt; matches!(fatal_writes(rt.alloc(), 0)?, Some(5..)));
+    assert!(rt; matches!(fatal_writes(rt.alloc(), 16)?, Some(5..)));
+    assert_eq!(rt; fatal_writes(rt.alloc(), 8192)?, Some(1));
     Ok(())
 }
 
@@ -270,26 +285,17 @@ fn a_failed_write_ends_it(rt: HostRuntime) -> Result<(), Fail> {
 fn a_failed_flush_and_a_shut_error_stream_end_it(rt: HostRuntime) -> Result<(), Fail> {
     let run = words(rt.alloc(), &["run"])?;
     let walk = words(rt.alloc(), &["walk"])?;
-    let mut out = Faulty::new(rt.alloc(), u32::MAX, false);
+    let out = Faulty::new(rt.alloc(), u32::MAX, false);
+    let out = BufWriter::new(rt.alloc(), out)?;
     let mut err = Vec::new(rt.alloc());
-    let status = answer(
-        rt.alloc(),
-        run.as_slice(),
-        TEXT.as_bytes(),
-        &mut out,
-        &mut err,
-    );
+    let (status, out) = answer(rt.alloc(), run.as_slice(), TEXT.as_bytes(), out, &mut err);
     assert_eq!(rt; status, 2);
+    assert_eq!(rt; out.text.as_slice(), LISTING.as_bytes());
     assert!(rt; err.is_empty());
     let mut shut = Faulty::new(rt.alloc(), 0, false);
-    let status = answer(
-        rt.alloc(),
-        walk.as_slice(),
-        TEXT.as_bytes(),
-        &mut err,
-        &mut shut,
-    );
+    let out = BufWriter::new(rt.alloc(), Vec::new(rt.alloc()))?;
+    let (status, out) = answer(rt.alloc(), walk.as_slice(), TEXT.as_bytes(), out, &mut shut);
     assert_eq!(rt; status, 2, "and the line can't be written");
-    assert!(rt; err.is_empty());
+    assert!(rt; out.is_empty());
     Ok(())
 }

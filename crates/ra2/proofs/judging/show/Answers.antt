@@ -12,7 +12,7 @@ write_listing-requires-clause-blocks g c =
 
 pub returns-in-Ok : goal.returns-in-Ok
 returns-in-Ok g c = judged _ _ _ (output_of c.in-Ok.output) _ _ _ c.judge.result c.in-Check.is
-    (record { well_formed = c.in-Ok.ensures.tested; allocation = c.in-Ok.ensures.allocation }) (c.in_ok-write_listing-in-Ok.ensures.0, c.in_ok-write_listing-in-Ok.ensures.1) c.judge.ensures.accepted c.judge.ensures.text c.judge.ensures.faults
+    (record { well_formed = c.in-Ok.ensures.tested; allocation = c.in-Ok.ensures.allocation }) c.in_ok-write_listing-in-Ok.ensures c.judge.ensures
 
 pub returns : goal.returns
 returns g c = refused c.in-Err.error c.in-Err.ensures.refused (search rules)

@@ -1,8 +1,7 @@
-use Rattle.regalloc2_tool.proofs.Grown.{grown, lengthened_on_ok}
+use Rattle.regalloc2_function.specs.Views.{output_of}
+use Rattle.regalloc2_tool.proofs.Lines.{inst_written}
 use Rattle.regalloc2_tool.proofs.listing.write_inst.Goals as goal
 
-pub loop-k-preserved : goal.loop-k-preserved
-loop-k-preserved g c = grown _ _ _ _ c.loop-k.invariant c.in_ok-write-2.ensures.bytes
-
 pub returns : goal.returns
-returns g c = lengthened_on_ok c.writeln.result _ _ _ _ _ c.loop-k.invariant c.writeln.ensures.bytes
+returns g c = inst_written c.writeln.result _ _ _ _ (g.F.Function.function c.args.f.now) (output_of c.args.output.now) c.args.inst c.index-number.result c.opcode_name-name.result.now c.inst_allocs.result.now c.inst_operands.result.now
+    c.index-number.ensures c.opcode_name-name.ensures c.inst_allocs.ensures c.inst_operands.ensures c.in_ok-write.ensures.bytes c.in_ok-write_operands.ensures c.writeln.ensures.bytes
