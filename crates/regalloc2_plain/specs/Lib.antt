@@ -1,5 +1,3 @@
-pub mod Table
-pub mod TableLimits
 pub mod Logs
 pub mod Ways
 pub mod Inside

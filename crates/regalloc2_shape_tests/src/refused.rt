@@ -2,9 +2,9 @@
 
 use super::shapes::{LOOP, function_of, order, write_row};
 use regalloc2_names::RegAllocError;
-use regalloc2_plain::table::TableFunction;
 use regalloc2_refusing::Refusing;
 use regalloc2_shape::cfg::{CFGInfo, CFGInfoCtx};
+use regalloc2_table::TableFunction;
 use std::alloc::Global;
 use std::io::{self, Write};
 
@@ -34,26 +34,24 @@ fn is_named_by_order(alloc: &Refusing<Global>, f: &TableFunction) -> Option<bool
     Some(answer == Err(RegAllocError::Memory) && is_empty && is_done)
 }
 
+/// What `init` and the order of blocks each say where the nth growth is refused.
+fn are_named(global: Global, f: &TableFunction, nth: u64) -> (Option<bool>, Option<bool>) {
+    let by_init = is_named_by_init(&Refusing::new(global, nth), f);
+    (by_init, is_named_by_order(&Refusing::new(global, nth), f))
+}
+
 /// Writes of both whether they answer each growth that is refused.
 pub fn write_refusals<W: Write>(global: Global, out: &mut W) -> io::Result<()> {
     let Some(f) = function_of(global, 0, LOOP, "oobobbr") else {
         return write_row(out, "refused", &"no function");
     };
-    let (mut by_init, mut by_order) = (0u32, 0u32);
+    let (mut init, mut order) = (0u32, 0u32);
     for nth in 1..100u64 {
-        if is_named_by_init(&Refusing::new(global, nth), &f) == Some(false) {
-            by_init = by_init.wrapping_add(1);
-        }
-        if is_named_by_order(&Refusing::new(global, nth), &f) == Some(false) {
-            by_order = by_order.wrapping_add(1);
-        }
+        let (by_init, by_order) = are_named(global, &f, nth);
+        init = init.wrapping_add(u32::from(by_init == Some(false)));
+        order = order.wrapping_add(u32::from(by_order == Some(false)));
     }
-    let first = is_named_by_init(&Refusing::new(global, 1), &f);
-    let order = is_named_by_order(&Refusing::new(global, 1), &f);
-    write_row(
-        out,
-        "refused growths that init and order don't name",
-        &(by_init, by_order),
-    )?;
-    write_row(out, "the first", &(first, order))
+    let unnamed = "refused growths that init and order don't name";
+    write_row(out, unnamed, &(init, order))?;
+    write_row(out, "the first", &are_named(global, &f, 1))
 }

@@ -27,18 +27,12 @@ pub fn write_inline<W: Write>(global: Global, out: &mut W) -> io::Result<()> {
     set.set(64 * 100, true)?;
     let mut other = IndexSet::new(&alloc);
     other.assign(&set)?;
-    write_row(
-        out,
-        "twelve words",
-        &(count_and_sum(&set), alloc.has_refused()),
-    )?;
+    let row = (count_and_sum(&set), alloc.has_refused());
+    write_row(out, "twelve words", &row)?;
     write_row(out, "the same added", &other.union_with(&set).ok())?;
     let is_refused = set.set(64 * 200, true).is_err();
-    write_row(
-        out,
-        "the thirteenth refused",
-        &(is_refused, count_and_sum(&set)),
-    )?;
+    let row = (is_refused, count_and_sum(&set));
+    write_row(out, "the thirteenth refused", &row)?;
     set.set(64 * 200, true)?;
     write_row(out, "thirteen", &(count_and_sum(&set), set.get(64 * 200)))
 }
@@ -46,23 +40,15 @@ pub fn write_inline<W: Write>(global: Global, out: &mut W) -> io::Result<()> {
 /// Writes the multiples of 17, a union, and the bits of a word.
 pub fn write_members<W: Write>(alloc: Global, out: &mut W) -> io::Result<()> {
     let mut set = IndexSet::new(alloc);
-    for number in 0..1024usize {
-        if number % 17 == 0 {
-            set.set(number, true)?;
-        }
+    for multiple in 0..61usize {
+        set.set(17 * multiple, true)?;
     }
-    write_row(
-        out,
-        "multiples of 17",
-        &(count_and_sum(&set), set.get(17), set.get(18)),
-    )?;
+    let row = (count_and_sum(&set), set.get(17), set.get(18));
+    write_row(out, "multiples of 17", &row)?;
     let mut small = IndexSet::new(alloc);
     small.set(17, true)?;
-    let added = (
-        small.union_with(&set).ok(),
-        small.union_with(&set).ok(),
-        set.union_with(&small).ok(),
-    );
+    let (first, again) = (small.union_with(&set).ok(), small.union_with(&set).ok());
+    let added = (first, again, set.union_with(&small).ok());
     write_row(out, "added", &(added, count_and_sum(&small)))?;
     for bit in SetBitsIter::new(1 << 63 | 0b101) {
         write_row(out, "bit", &bit)?;
@@ -89,11 +75,7 @@ fn is_assigned(alloc: &Refusing<Global>) -> Result<bool, AllocError> {
 
 /// Writes whether each refusal leaves a set as it was.
 pub fn write_assigned<W: Write>(global: Global, out: &mut W) -> io::Result<()> {
-    let mut others = 0u32;
-    for nth in 1..100u64 {
-        if is_assigned(&Refusing::new(global, nth)) != Ok(true) {
-            others = others.wrapping_add(1);
-        }
-    }
+    let is_other = |nth: &u64| is_assigned(&Refusing::new(global, *nth)) != Ok(true);
+    let others = (1..100u64).filter(is_other).count();
     write_row(out, "refused growths that leave another set", &others)
 }

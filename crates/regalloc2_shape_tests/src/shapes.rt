@@ -3,10 +3,10 @@
 use regalloc2_function::Function;
 use regalloc2_index::{Block, Inst, InstRange};
 use regalloc2_names::{PRegSet, RegAllocError};
-use regalloc2_plain::table::{SlotUnits, TableBlock, TableFunction, TableInst};
 use regalloc2_shape::cfg::{CFGInfo, CFGInfoCtx};
 use regalloc2_shape::postorder::calculate;
 use regalloc2_shape::ssa::validate_ssa;
+use regalloc2_table::{BuildError, SlotUnits, TableBlock, TableBuilder, TableFunction, TableInst};
 use std::alloc::{Allocator, Global};
 use std::fmt::Debug;
 use std::io::{self, Write};
@@ -58,22 +58,15 @@ pub fn write_row<W: Write, T: Debug>(out: &mut W, name: &str, value: &T) -> io::
 }
 
 /// A block of the instructions from the first on and below the end. None where there is no memory for it.
-fn block_of(
-    alloc: Global,
-    (first, end): (u32, u32),
-    preds: &[u32],
-    succs: &[u32],
-) -> Option<TableBlock> {
+fn block_of(alloc: Global, (first, end, preds, succs): BlockShape) -> Option<TableBlock> {
     if first > end {
         return None;
     }
     let mut block = TableBlock::alone(alloc, InstRange::new(Inst(first), Inst(end)));
-    for pred in preds {
-        block.preds.push(Block(*pred)).ok()?;
-    }
-    for succ in succs {
-        block.succs.push(Block(*succ)).ok()?;
-    }
+    let preds = preds.iter().map(|pred| Block(*pred));
+    let succs = succs.iter().map(|succ| Block(*succ));
+    block.preds.extend(preds).ok()?;
+    block.succs.extend(succs).ok()?;
     Some(block)
 }
 
@@ -87,23 +80,6 @@ fn inst_of(alloc: Global, letter: u8) -> TableInst {
     }
 }
 
-/// The function that starts at that block, if it is small enough.
-fn finish(blocks: Vec<TableBlock>, insts: Vec<TableInst>, entry: u32) -> Option<TableFunction> {
-    if blocks.len() > 2000000 || insts.len() > 2000000 {
-        return None;
-    }
-    Some(TableFunction {
-        blocks,
-        insts,
-        entry: Block(entry),
-        num_vregs: 0,
-        int_slot: SlotUnits::one(),
-        float_slot: SlotUnits::one(),
-        vector_slot: SlotUnits::one(),
-        named_by_last_slot: false,
-    })
-}
-
 /// The function of a shape.
 pub fn function_of(
     alloc: Global,
@@ -112,15 +88,18 @@ pub fn function_of(
     letters: &str,
 ) -> Option<TableFunction> {
     let (mut blocks, mut insts) = (Vec::new(alloc), Vec::new(alloc));
-    for (first, end, preds, succs) in shapes {
-        blocks
-            .push(block_of(alloc, (*first, *end), preds, succs)?)
-            .ok()?;
+    for shape in shapes {
+        blocks.push(block_of(alloc, *shape)?).ok()?;
     }
-    for letter in letters.bytes() {
-        insts.push(inst_of(alloc, letter)).ok()?;
+    let added = letters.bytes().map(|letter| inst_of(alloc, letter));
+    insts.extend(added).ok()?;
+    if blocks.len() > 100 || insts.len() > 100 {
+        return None;
     }
-    finish(blocks, insts, entry)
+    let slots = (SlotUnits::one(), SlotUnits::one(), SlotUnits::one());
+    let mut f = TableFunction::of_blocks(0, slots, blocks, insts);
+    f.entry = Block(entry);
+    Some(f)
 }
 
 /// The order of a function's blocks, asked for by a closure.
@@ -162,42 +141,33 @@ pub fn write_shapes<W: Write>(alloc: Global, out: &mut W) -> io::Result<()> {
 }
 
 /// A function of so many blocks of one instruction, each of which goes on to the next.
-fn chain(alloc: Global, num: u32) -> Option<TableFunction> {
-    let (mut blocks, mut insts) = (Vec::new(alloc), Vec::new(alloc));
-    for b in 0..num {
-        let after = b.wrapping_add(1);
-        let around = [b.wrapping_sub(1), after];
-        let first = if b > 0 { 0 } else { 1 };
-        let end = if after < num { 2 } else { 1 };
-        let block = block_of(alloc, (b, after), &around[first..1], &around[1..end])?;
-        blocks.push(block).ok()?;
-        let letter = if after < num { b'b' } else { b'r' };
-        insts.push(inst_of(alloc, letter)).ok()?;
+fn chain(alloc: Global, count: u32) -> Result<TableFunction, BuildError> {
+    let mut f = TableBuilder::new(alloc);
+    let mut last = f.block(&[])?;
+    for _ in 1..count {
+        let next = f.block(&[])?;
+        f.branch(last, &[])?;
+        f.succ(last, next, &[])?;
+        last = next;
     }
-    finish(blocks, insts, 0)
+    f.ret(last, &[])?;
+    f.finish(0)
 }
 
 /// Writes the order of a hundred thousand blocks, and whether they pass the tests.
 pub fn write_chain<W: Write>(alloc: Global, out: &mut W) -> io::Result<()> {
-    let Some(f) = chain(alloc, 100000) else {
+    let Ok(f) = chain(alloc, 100000) else {
         return write_row(out, "chain", &"none");
     };
     let mut blocks = Vec::new(alloc);
     let answer = order(alloc, &f, &mut blocks);
-    write_row(
-        out,
-        "chain",
-        &(answer, blocks.len(), blocks.first(), blocks.last()),
-    )?;
-    match CFGInfo::new(alloc, &f) {
-        Ok(info) => {
-            let is_same = info.postorder.as_slice() == blocks.as_slice();
-            write_row(
-                out,
-                "same order, validate_ssa",
-                &(is_same, validate_ssa(alloc, &f, &info)),
-            )
-        }
-        Err(refusal) => write_row(out, "chain", &refusal),
-    }
+    let row = (answer, blocks.len(), blocks.first(), blocks.last());
+    write_row(out, "chain", &row)?;
+    let info = match CFGInfo::new(alloc, &f) {
+        Ok(info) => info,
+        Err(refusal) => return write_row(out, "chain", &refusal),
+    };
+    let is_same = info.postorder.as_slice() == blocks.as_slice();
+    let row = (is_same, validate_ssa(alloc, &f, &info));
+    write_row(out, "same order, validate_ssa", &row)
 }

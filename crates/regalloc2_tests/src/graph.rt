@@ -1,8 +1,7 @@
 //! Graphs of blocks at random, without critical edges: with forks, loops, and blocks that nothing leads to now and then.
 
 use super::random::Random;
-use regalloc2::{Block, Inst, InstRange, VReg};
-use regalloc2_plain::table::TableBlock;
+use regalloc2::{Block, VReg};
 use std::alloc::Global;
 
 /// What is known of a block among others.
@@ -12,6 +11,10 @@ pub struct Node {
     pub above: usize,
     /// Whether blocks with no other successor may go on here.
     is_join: bool,
+    /// What takes the arguments.
+    pub params: Vec<VReg>,
+    /// Where it goes on.
+    pub succs: Vec<Block>,
     /// What may be read behind it.
     pub known: Vec<VReg>,
 }
@@ -20,29 +23,26 @@ pub struct Node {
 #[derive(Drop)]
 pub struct Graph {
     pub nodes: Vec<Node>,
-    pub blocks: Vec<TableBlock>,
 }
 
 impl Graph {
     /// Adds a block below another one.
     fn add(&mut self, alloc: Global, above: usize, is_join: bool) -> Option<()> {
-        let range = InstRange::new(Inst::new(0), Inst::new(0));
-        self.blocks.push(TableBlock::alone(alloc, range)).ok()?;
-        let known = Vec::new(alloc);
         self.nodes
             .push(Node {
                 above,
                 is_join,
-                known,
+                params: Vec::new(alloc),
+                succs: Vec::new(alloc),
+                known: Vec::new(alloc),
             })
             .ok()
     }
 
     /// One block goes on to another.
     fn link(&mut self, from: usize, to: usize) -> Option<()> {
-        let (pred, succ) = (Block::new(from % 100), Block::new(to % 100));
-        self.blocks.get_mut(from)?.succs.push(succ).ok()?;
-        self.blocks.get_mut(to)?.preds.push(pred).ok()
+        let succs = &mut self.nodes.get_mut(from)?.succs;
+        succs.push(Block::new(to % 100)).ok()
     }
 
     /// Whether a block without successors may go on to another one: a join, and each path comes by the block above that.
@@ -71,8 +71,8 @@ impl Graph {
 
     /// Up to twelve blocks, of which each is a join or entered from the one above it.
     fn tree(alloc: Global, random: &mut Random) -> Option<Graph> {
-        let (nodes, blocks) = (Vec::new(alloc), Vec::new(alloc));
-        let mut graph = Graph { nodes, blocks };
+        let nodes = Vec::new(alloc);
+        let mut graph = Graph { nodes };
         graph.add(alloc, 0, true)?;
         for count in 1..random.below(12).saturating_add(1) {
             let above = if random.once_in(2) {
@@ -92,8 +92,8 @@ impl Graph {
     /// A graph of up to twelve blocks.
     pub fn any(alloc: Global, random: &mut Random) -> Option<Graph> {
         let mut graph = Graph::tree(alloc, random)?;
-        for block in 0..graph.blocks.len() {
-            if graph.blocks.get(block)?.succs.is_empty() && !random.once_in(6) {
+        for block in 0..graph.nodes.len() {
+            if graph.nodes.get(block)?.succs.is_empty() && !random.once_in(6) {
                 graph.close(random, block)?;
             }
         }
@@ -102,7 +102,7 @@ impl Graph {
 
     /// Whether a branch of the block may have operands: it leads to blocks that are entered in one way.
     pub fn may_use(&self, block: usize) -> Option<bool> {
-        for succ in &self.blocks.get(block)?.succs {
+        for succ in &self.nodes.get(block)?.succs {
             if self.nodes.get(succ.index())?.is_join {
                 return Some(false);
             }

@@ -7,22 +7,17 @@ use super::random::{FIRST_SLOT, Random, preg};
 use regalloc2::{
     Operand, OperandConstraint, OperandKind, OperandPos, PReg, PRegSet, RegClass, VReg,
 };
-use regalloc2_plain::table::TableInst;
+use regalloc2_table::TableInst;
 use std::alloc::Global;
 
-/// A register of the class, which not every machine has, or a fixed stack slot.
+/// The numbers of registers, which not every machine has, and of fixed stack slots.
+const NUMBERS: [usize; 8] = [0, 1, 2, 3, 4, 5, FIRST_SLOT, FIRST_SLOT + 1];
+
+/// A register or a fixed stack slot of the class.
 fn any_register(random: &mut Random, class: RegClass) -> PReg
     ensures { result.class ≡ class }
 {
-    let number = random.below(8);
-    preg(
-        if number < 6 {
-            number
-        } else {
-            FIRST_SLOT + (number - 6)
-        },
-        class,
-    )
+    preg(NUMBERS[random.below(8)], class)
 }
 
 /// An instruction that is being made.
@@ -102,13 +97,8 @@ impl Draft {
                     OperandConstraint::Any
                 }
             }
-            _ => {
-                if self.takes_one(class) {
-                    OperandConstraint::Reg
-                } else {
-                    OperandConstraint::Any
-                }
-            }
+            _ if self.takes_one(class) => OperandConstraint::Reg,
+            _ => OperandConstraint::Any,
         }
     }
 
@@ -123,9 +113,8 @@ impl Draft {
         let is_early = is_use || pos == OperandPos::Early;
         let is_late = !is_use || pos == OperandPos::Late;
         let constraint = self.constraint(random, vreg.class(), is_early, is_late);
-        self.operands
-            .push(Operand::new(vreg, constraint, kind, pos))
-            .ok()
+        let operand = Operand::new(vreg, constraint, kind, pos);
+        self.operands.push(operand).ok()
     }
 
     /// The position and class of an early use that may be reused, and now is.
@@ -136,16 +125,14 @@ impl Draft {
         if !is_early_use || operand.as_fixed_nonallocatable().is_some() {
             return None;
         }
-        match operand.constraint() {
-            OperandConstraint::Reg => {}
+        let may_be_reused = match operand.constraint() {
+            OperandConstraint::Reg => true,
             OperandConstraint::FixedReg(fixed) if fixed.hw_enc() < FIRST_SLOT => {
-                if !self.takes(fixed, false, true) {
-                    return None;
-                }
+                self.takes(fixed, false, true)
             }
-            _ => return None,
-        }
-        if self.reused.contains(&index) {
+            _ => false,
+        };
+        if !may_be_reused || self.reused.contains(&index) {
             return None;
         }
         self.reused.push(index).ok()?;
@@ -162,14 +149,7 @@ impl Draft {
                 clobbers.add(clobber);
             }
         }
-        let Draft {
-            operands,
-            usable: _,
-            left: _,
-            early: _,
-            late: _,
-            reused: _,
-        } = self;
+        let Draft { operands, .. } = self;
         TableInst {
             operands,
             clobbers,

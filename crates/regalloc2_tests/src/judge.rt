@@ -4,7 +4,7 @@ use super::calls::{check, run_checked_fitting};
 use super::random::Random;
 use regalloc2::{MachineEnv, Output};
 use regalloc2_plain::reads::{Reads, reads_at};
-use regalloc2_plain::table::TableFunction;
+use regalloc2_table::TableFunction;
 use std::alloc::Global;
 
 /// What the uses at the end of a path read, whose ways stand newest first. None where there is no such path.

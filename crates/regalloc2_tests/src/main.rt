@@ -7,7 +7,6 @@
 
 mod adversary;
 mod calls;
-mod functions;
 mod graph;
 mod instructions;
 mod judge;
@@ -31,26 +30,21 @@ fn show<W: Write, T: Debug + Drop>(out: &mut W, name: &str, value: T) -> io::Res
 /// Whether the function of a seed is allocated and judged as it should be.
 fn is_right(alloc: Global, seed: u64) -> Option<bool> {
     let mut maker = Maker::new(alloc, seed)?;
-    let f = maker.function(alloc)?;
+    let f = maker.function()?;
     judge::is_right(alloc, &f, &maker.env, &mut maker.random)
 }
 
 /// How many of so many functions at random fail.
-fn failures(alloc: Global, count: u64) -> u64 {
-    let mut failed = 0u64;
-    for seed in 0..count {
-        if is_right(alloc, seed) != Some(true) {
-            failed = failed.wrapping_add(1);
-        }
-    }
-    failed
+fn failures(alloc: Global, count: u64) -> usize {
+    let is_failed = |seed: &u64| is_right(alloc, *seed) != Some(true);
+    (0..count).filter(is_failed).count()
 }
 
 /// Whether each growth of a call, refused, is told as such, of the functions of a few seeds.
 fn is_each_told(alloc: Global, call: Call) -> Option<bool> {
     for seed in 0..8 {
         let mut maker = Maker::new(alloc, seed)?;
-        let f = maker.function(alloc)?;
+        let f = maker.function()?;
         let out = calls::run_fitting(alloc, &f, &maker.env)?.ok()?;
         let given = Given {
             f: &f,
@@ -76,11 +70,8 @@ fn main(rt: HostRuntime) -> io::Result<()> {
     show(out, "failures of 3000 functions", failures(alloc, 3000))?;
     show(out, "large functions", large::are_allocated(alloc))?;
     for call in [Call::Run, Call::RunWithCtx, Call::Check] {
-        writeln!(
-            out,
-            "each growth of {call:?} is told: {:?}",
-            is_each_told(alloc, call)
-        )?;
+        let is_told = is_each_told(alloc, call);
+        writeln!(out, "each growth of {call:?} is told: {is_told:?}")?;
     }
     Ok(())
 }

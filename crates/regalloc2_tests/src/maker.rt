@@ -5,14 +5,14 @@ ghost use Rattle.std.specs.Prelude.{◌≡◌, ◌<◌};
 use super::graph::Graph;
 use super::instructions::Draft;
 use super::random::{CLASSES, Random, any_machine, preg};
-use regalloc2::{Inst, InstRange, MachineEnv, Operand, OperandKind, PRegSet, RegClass, VReg};
-use regalloc2_plain::build::op;
-use regalloc2_plain::table::{SlotUnits, TableFunction, TableInst};
+use regalloc2::{Block, MachineEnv, Operand, OperandKind, PRegSet, RegClass, VReg};
+use regalloc2_table::{SlotUnits, TableBuilder, TableFunction, TableInst};
 use std::alloc::Global;
 
 /// A function that is being made, and its machine.
 #[derive(Drop)]
 pub struct Maker {
+    alloc: Global,
     pub random: Random,
     pub env: MachineEnv,
     /// The registers and fixed stack slots of the machine.
@@ -34,14 +34,14 @@ impl Maker {
         for slot in &env.fixed_stack_slots {
             usable.add(*slot);
         }
-        let known = Vec::new(alloc);
         Some(Maker {
+            alloc,
             random,
             env,
             usable,
             most,
             named: 0,
-            known,
+            known: Vec::new(alloc),
         })
     }
 
@@ -90,11 +90,11 @@ impl Maker {
     }
 
     /// An instruction of fewer than so many operands.
-    fn inst(&mut self, alloc: Global, below: usize, is_ret: bool) -> Option<TableInst>
+    fn inst(&mut self, below: usize, is_ret: bool) -> Option<TableInst>
         requires { 0 < below }
     {
         let defined = self.known.len();
-        let mut draft = Draft::new(alloc, self.usable, self.most);
+        let mut draft = Draft::new(self.alloc, self.usable, self.most);
         for _ in 0..self.random.below(below) {
             match self.random.below(9) {
                 0 | 1 | 2 => self.add_def(&mut draft)?,
@@ -111,33 +111,30 @@ impl Maker {
     }
 
     /// A branch, which has up to two uses if it may have any.
-    fn branch(&mut self, alloc: Global, may_use: bool) -> Option<TableInst> {
+    fn branch(&mut self, may_use: bool) -> Option<TableInst> {
         let defined = self.known.len();
-        let mut draft = Draft::new(alloc, self.usable, self.most);
+        let mut draft = Draft::new(self.alloc, self.usable, self.most);
         for _ in 0..self.random.below(if may_use { 3 } else { 1 }) {
             self.add_use(&mut draft, defined)?;
         }
         Some(draft.finish(&mut self.random, true, false))
     }
 
-    /// Definitions of the first virtual register of each class.
-    fn bases(&mut self, alloc: Global) -> Option<TableInst> {
-        let mut operands = Vec::new(alloc);
-        for class in CLASSES {
-            let vreg = self.fresh(class);
-            self.known.push(vreg).ok()?;
-            operands.push(Operand::any_def(vreg)).ok()?;
-        }
-        op(alloc, operands.as_slice()).ok()
+    /// Adds an instruction that defines the first virtual register of each class.
+    fn add_bases(&mut self, f: &mut TableBuilder) -> Option<()> {
+        let bases = CLASSES.map(|class| self.fresh(class));
+        self.known.extend_from_slice(&bases).ok()?;
+        f.op(Block(0), &bases.map(|vreg| Operand::any_def(vreg)))
+            .ok()
     }
 
     /// Names up to three parameters of each block but the entry.
     fn name_parameters(&mut self, graph: &mut Graph) -> Option<()> {
-        for number in 3..3 * graph.blocks.len().min(100) {
+        for number in 3..3 * graph.nodes.len().min(100) {
             if self.random.once_in(2) {
                 let class = self.random.class();
                 let param = self.fresh(class);
-                graph.blocks.get_mut(number / 3)?.params.push(param).ok()?;
+                graph.nodes.get_mut(number / 3)?.params.push(param).ok()?;
             }
         }
         Some(())
@@ -155,88 +152,71 @@ impl Maker {
     }
 
     /// The arguments for a block.
-    fn arguments(&mut self, alloc: Global, graph: &Graph, to: usize) -> Option<Vec<VReg>> {
-        let mut arguments = Vec::new(alloc);
-        for param in &graph.blocks.get(to)?.params {
+    fn arguments(&mut self, graph: &Graph, to: usize) -> Option<Vec<VReg>> {
+        let mut arguments = Vec::new(self.alloc);
+        for param in &graph.nodes.get(to)?.params {
             arguments.push(self.argument(param.class())?).ok()?;
         }
         Some(arguments)
     }
 
-    /// Passes arguments to the successors of a block.
-    fn pass(&mut self, alloc: Global, graph: &mut Graph, block: usize) -> Option<()> {
-        let succs = graph.blocks.get(block)?.succs.to_vec(alloc).ok()?;
-        for succ in &succs {
-            let arguments = self.arguments(alloc, graph, succ.index())?;
-            graph.blocks.get_mut(block)?.arguments.push(arguments).ok()?;
+    /// Lets a block go on to its successors, with arguments.
+    fn pass(&mut self, graph: &Graph, f: &mut TableBuilder, block: Block) -> Option<()> {
+        for succ in &graph.nodes.get(block.index())?.succs {
+            let arguments = self.arguments(graph, succ.index())?;
+            f.succ(block, *succ, &arguments).ok()?;
         }
         Some(())
     }
 
     /// What may be read at the beginning of a block but the entry: what may behind the one above it, and its parameters.
-    fn enter(&mut self, alloc: Global, graph: &Graph, block: usize) -> Option<()> {
-        let above = graph.nodes.get(block)?.above;
-        self.known = graph.nodes.get(above)?.known.to_vec(alloc).ok()?;
-        let params = &graph.blocks.get(block)?.params;
-        self.known.extend_from_slice(params).ok()
+    fn enter(&mut self, graph: &Graph, number: usize) -> Option<()> {
+        let node = graph.nodes.get(number)?;
+        self.known = graph.nodes.get(node.above)?.known.to_vec(self.alloc).ok()?;
+        self.known.extend_from_slice(&node.params).ok()
     }
 
     /// The last instruction of a block: a return where no other block comes next, most often.
-    fn ending(&mut self, alloc: Global, graph: &Graph, block: usize) -> Option<TableInst> {
-        if graph.blocks.get(block)?.succs.is_empty() && !self.random.once_in(20) {
-            self.inst(alloc, 5, true)
+    fn ending(&mut self, graph: &Graph, number: usize) -> Option<TableInst> {
+        if graph.nodes.get(number)?.succs.is_empty() && !self.random.once_in(20) {
+            self.inst(5, true)
         } else {
-            self.branch(alloc, graph.may_use(block)?)
+            self.branch(graph.may_use(number)?)
         }
     }
 
-    /// Fills a block, which begins at an instruction. A function of one block has longer instructions.
-    fn fill(
-        &mut self,
-        alloc: Global,
-        graph: &mut Graph,
-        block: usize,
-        insts: &mut Vec<TableInst>,
-        start: usize,
-    ) -> Option<()> {
-        let (count, below) = if graph.blocks.len() == 1 {
+    /// Fills a block. A function of one block has longer instructions.
+    fn fill(&mut self, graph: &mut Graph, f: &mut TableBuilder, number: usize) -> Option<()> {
+        let block = Block::new(number % 100);
+        let (count, below) = if graph.nodes.len() == 1 {
             (9, 7)
         } else {
             (4, 5)
         };
         for _ in 0..self.random.below(count) {
-            insts.push(self.inst(alloc, below, false)?).ok()?;
+            f.inst(block, self.inst(below, false)?).ok()?;
         }
-        insts.push(self.ending(alloc, graph, block)?).ok()?;
-        let end = insts.len();
-        if start > end || end >= 1000 {
-            return None;
-        }
-        let range = InstRange::new(Inst::new(start), Inst::new(end));
-        graph.blocks.get_mut(block)?.range = range;
-        graph.nodes.get_mut(block)?.known = self.known.to_vec(alloc).ok()?;
-        self.pass(alloc, graph, block)
+        f.inst(block, self.ending(graph, number)?).ok()?;
+        graph.nodes.get_mut(number)?.known = self.known.to_vec(self.alloc).ok()?;
+        self.pass(graph, f, block)
     }
 
     /// A function of up to twelve blocks.
-    pub fn function(&mut self, alloc: Global) -> Option<TableFunction> {
-        let mut graph = Graph::any(alloc, &mut self.random)?;
-        let mut insts = Vec::new(alloc);
-        insts.push(self.bases(alloc)?).ok()?;
+    pub fn function(&mut self) -> Option<TableFunction> {
+        let mut graph = Graph::any(self.alloc, &mut self.random)?;
+        let mut f = TableBuilder::new(self.alloc);
+        f.block(&[]).ok()?;
+        self.add_bases(&mut f)?;
         self.name_parameters(&mut graph)?;
-        for block in 0..graph.blocks.len() {
-            let start = if block == 0 { 0 } else { insts.len() };
-            if block > 0 {
-                self.enter(alloc, &graph, block)?;
+        for number in 0..graph.nodes.len() {
+            if number > 0 {
+                f.block(&graph.nodes.get(number)?.params).ok()?;
+                self.enter(&graph, number)?;
             }
-            self.fill(alloc, &mut graph, block, &mut insts, start)?;
+            self.fill(&mut graph, &mut f, number)?;
         }
-        let Graph { nodes: _, blocks } = graph;
-        if insts.len() >= 1000 || blocks.len() >= 1000 {
-            return None;
-        }
-        let slots = (SlotUnits::one(), SlotUnits::two(), SlotUnits::one());
-        let mut f = TableFunction::of_blocks(self.num_vregs(), slots, blocks, insts);
+        let mut f = f.finish(self.num_vregs()).ok()?;
+        f.float_slot = SlotUnits::two();
         f.named_by_last_slot = self.random.once_in(2);
         Some(f)
     }

@@ -104,10 +104,8 @@ pub fn any_machine(alloc: Global, random: &mut Random) -> Option<(MachineEnv, [u
         env.non_preferred_regs_by_class[at] = pregs(class, preferred, count);
         env.scratch_by_class[at] = has_scratch.then_some(preg(SCRATCH, class));
         if has_slots {
-            env.fixed_stack_slots.push(preg(FIRST_SLOT, class)).ok()?;
-            env.fixed_stack_slots
-                .push(preg(FIRST_SLOT + 1, class))
-                .ok()?;
+            let slots = [preg(FIRST_SLOT, class), preg(FIRST_SLOT + 1, class)];
+            env.fixed_stack_slots.extend_from_slice(&slots).ok()?;
         }
     }
     Some((env, most))

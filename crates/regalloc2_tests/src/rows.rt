@@ -1,60 +1,65 @@
 //! A loop and a fork, and what calls answer of them that no listing shows.
 
+ghost use Rattle.std.specs.Prelude.{◌≡◌};
+ghost use Rattle.regalloc2_names.specs.declared.RegClass.{RegClass};
+
 use super::calls::{Verdict, run_fitting, run_into_ctx_fitting, run_with_ctx_fitting, verdict_of};
-use super::functions::{block, def, function, read, vreg};
 use super::judge::reads;
 use super::random::integer_machine;
 use regalloc2::checker::Checker;
-use regalloc2::{Block, Ctx, Output, RegAllocError, VReg, is_framed};
-use regalloc2_plain::build::{branch, op, ret};
+use regalloc2::{Block, Ctx, Operand, Output, RegAllocError, RegClass, VReg, is_framed};
 use regalloc2_plain::logs::Stamp;
-use regalloc2_plain::table::TableFunction;
+use regalloc2_table::{BuildError, TableBuilder, TableFunction};
 use std::alloc::Global;
 
+/// An integer virtual register, whose number is taken below 2^20.
+pub fn vreg(number: usize) -> VReg
+    ensures { result.class ≡ RegClass.Int }
+{
+    VReg::new(number % 1_048_576, RegClass::Int)
+}
+
+/// A definition of an integer virtual register in a register.
+pub fn def(number: usize) -> Operand {
+    Operand::reg_def(vreg(number))
+}
+
+/// A use of an integer virtual register in a register.
+pub fn read(number: usize) -> Operand {
+    Operand::reg_use(vreg(number))
+}
+
 /// A loop whose two parameters change places on each turn, and then a return that reads both.
-pub fn swapping_loop(alloc: Global) -> Option<TableFunction> {
-    let [v0, v1, v2, v3] = [vreg(0), vreg(1), vreg(2), vreg(3)];
-    let (start, head, body, end) = (Block(0), Block(1), Block(2), Block(3));
-    let mut insts = Vec::new(alloc);
-    insts.push(op(alloc, &[def(0)]).ok()?).ok()?;
-    insts.push(op(alloc, &[def(1)]).ok()?).ok()?;
-    insts.push(branch(alloc, &[]).ok()?).ok()?;
-    insts.push(op(alloc, &[read(2)]).ok()?).ok()?;
-    insts.push(branch(alloc, &[]).ok()?).ok()?;
-    insts.push(branch(alloc, &[]).ok()?).ok()?;
-    insts.push(ret(alloc, &[read(2), read(3)]).ok()?).ok()?;
-    let forth: [(Block, &[VReg]); 1] = [(head, &[v0, v1])];
-    let on: [(Block, &[VReg]); 2] = [(body, &[]), (end, &[])];
-    let back: [(Block, &[VReg]); 1] = [(head, &[v3, v2])];
-    let mut blocks = Vec::new(alloc);
-    blocks.push(block(alloc, (0, 3), &[], &[], &forth)?).ok()?;
-    blocks
-        .push(block(alloc, (3, 5), &[start, body], &[v2, v3], &on)?)
-        .ok()?;
-    blocks
-        .push(block(alloc, (5, 6), &[head], &[], &back)?)
-        .ok()?;
-    blocks.push(block(alloc, (6, 7), &[head], &[], &[])?).ok()?;
-    function(4, blocks, insts)
+fn swapping_loop(alloc: Global) -> Result<TableFunction, BuildError> {
+    let mut f = TableBuilder::new(alloc);
+    let (start, head) = (f.block(&[])?, f.block(&[vreg(2), vreg(3)])?);
+    let (body, end) = (f.block(&[])?, f.block(&[])?);
+    f.op(start, &[def(0)])?;
+    f.op(start, &[def(1)])?;
+    f.branch(start, &[])?;
+    f.succ(start, head, &[vreg(0), vreg(1)])?;
+    f.op(head, &[read(2)])?;
+    f.branch(head, &[])?;
+    f.succ(head, body, &[])?;
+    f.succ(head, end, &[])?;
+    f.branch(body, &[])?;
+    f.succ(body, head, &[vreg(3), vreg(2)])?;
+    f.ret(end, &[read(2), read(3)])?;
+    f.finish(4)
 }
 
 /// A fork that passes its value on one edge to a parameter, which is read on the other edge too.
-fn fork(alloc: Global) -> Option<TableFunction> {
-    let (start, one, other) = (Block(0), Block(1), Block(2));
-    let (value, param) = ([vreg(0)], [vreg(1)]);
-    let on: [(Block, &[VReg]); 2] = [(one, &value), (other, &[])];
-    let mut insts = Vec::new(alloc);
-    insts.push(op(alloc, &[def(0)]).ok()?).ok()?;
-    insts.push(branch(alloc, &[]).ok()?).ok()?;
-    insts.push(ret(alloc, &[read(1)]).ok()?).ok()?;
-    insts.push(ret(alloc, &[read(1)]).ok()?).ok()?;
-    let mut blocks = Vec::new(alloc);
-    blocks.push(block(alloc, (0, 2), &[], &[], &on)?).ok()?;
-    blocks
-        .push(block(alloc, (2, 3), &[start], &param, &[])?)
-        .ok()?;
-    blocks.push(block(alloc, (3, 4), &[start], &[], &[])?).ok()?;
-    function(4, blocks, insts)
+fn fork(alloc: Global) -> Result<TableFunction, BuildError> {
+    let mut f = TableBuilder::new(alloc);
+    let start = f.block(&[])?;
+    let (one, other) = (f.block(&[vreg(1)])?, f.block(&[])?);
+    f.op(start, &[def(0)])?;
+    f.branch(start, &[])?;
+    f.succ(start, one, &[vreg(0)])?;
+    f.succ(start, other, &[])?;
+    f.ret(one, &[read(1)])?;
+    f.ret(other, &[read(1)])?;
+    f.finish(4)
 }
 
 /// What is allocated to a function on ten registers.
@@ -77,7 +82,7 @@ fn first_read(
 /// What the head of the loop reads on its first three turns, and on the second turn where one of the slots is copied before the
 /// other one is read.
 pub fn reads_of_a_loop(alloc: Global) -> Option<[(Option<usize>, Option<usize>); 4]> {
-    let f = swapping_loop(alloc)?;
+    let f = swapping_loop(alloc).ok()?;
     let mut out = allocated(alloc, &f)?;
     let (on, back) = (None, Some(0));
     let first = first_read(alloc, &f, &out, &[back, on, on])?;
@@ -95,7 +100,7 @@ pub fn reads_of_a_loop(alloc: Global) -> Option<[(Option<usize>, Option<usize>);
 
 /// What is read of the fork's parameter on either edge, of which only the first one passes it.
 pub fn reads_of_a_fork(alloc: Global) -> Option<[(Option<usize>, Option<usize>); 2]> {
-    let f = fork(alloc)?;
+    let f = fork(alloc).ok()?;
     let out = allocated(alloc, &f)?;
     let passed = first_read(alloc, &f, &out, &[Some(0), None])?;
     Some([passed, first_read(alloc, &f, &out, &[Some(1), None])?])
@@ -106,7 +111,7 @@ pub fn reads_of_a_fork(alloc: Global) -> Option<[(Option<usize>, Option<usize>);
 pub fn slots_and_refusals(
     alloc: Global,
 ) -> Option<([usize; 3], [Option<RegAllocError>; 3], [bool; 2], usize)> {
-    let mut f = swapping_loop(alloc)?;
+    let mut f = swapping_loop(alloc).ok()?;
     let (env, few) = (integer_machine(alloc, 10), integer_machine(alloc, 1));
     let mut ctx = Ctx::new(alloc);
     run_into_ctx_fitting(&f, &env, &mut ctx)?.ok()?;
@@ -127,7 +132,7 @@ pub fn slots_and_refusals(
 /// What a checker says that has no output; that was given one which isn't in order, after a right one; and that was given the right
 /// one last.
 pub fn verdicts(alloc: Global) -> Option<[Result<(), Verdict>; 3]> {
-    let f = swapping_loop(alloc)?;
+    let f = swapping_loop(alloc).ok()?;
     let (out, mut bad) = (allocated(alloc, &f)?, allocated(alloc, &f)?);
     let env = integer_machine(alloc, 10);
     bad.inst_alloc_offsets.clear();

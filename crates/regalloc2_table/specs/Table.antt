@@ -1,10 +1,10 @@
 -- The function that a table stands for.
 use Rattle.std.specs.Prelude.{ℕ, List, map, length, [], ◌∷◌, false}
 use Rattle.regalloc2_function.specs.FunctionValue.{FunctionValue, BlockValue, InstValue, SlotSizes}
-use Rattle.regalloc2_plain.specs.declared.table.TableBlock.{TableBlock}
-use Rattle.regalloc2_plain.specs.declared.table.TableInst.{TableInst}
-use Rattle.regalloc2_plain.specs.declared.table.SlotUnits.{SlotUnits}
-use Rattle.regalloc2_plain.specs.declared.table.TableFunction.{TableFunction}
+use Rattle.regalloc2_table.specs.declared.table.TableBlock.{TableBlock}
+use Rattle.regalloc2_table.specs.declared.table.TableInst.{TableInst}
+use Rattle.regalloc2_table.specs.declared.table.SlotUnits.{SlotUnits}
+use Rattle.regalloc2_table.specs.declared.table.TableFunction.{TableFunction}
 
 abbrev pub inst_of : {A : Type 0} → TableInst A → InstValue
 inst_of i = record { operands = i.operands.items; clobbers = i.clobbers; is_branch = i.is_branch; is_ret = i.is_ret }

@@ -71,8 +71,8 @@ pub struct TableFunction<A: Allocator = Global> {
 }
 
 impl<A: Allocator> Function for TableFunction<A> {
-    ghost use Rattle.regalloc2_plain.specs.Table.{function_of};
-    ghost use Rattle.regalloc2_plain.specs.TableLimits.{limited_table};
+    ghost use Rattle.regalloc2_table.specs.Table.{function_of};
+    ghost use Rattle.regalloc2_table.specs.TableLimits.{limited_table};
 
     ghost function = { function_of };
 

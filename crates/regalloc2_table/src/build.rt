@@ -4,7 +4,7 @@ ghost use Rattle.std.specs.Prelude.{◌≡◌, ◌<◌, ◌≤◌, ◌^◌, ◌-
 ghost use Rattle.std.specs.Int.{is_power_of_two};
 ghost use Rattle.regalloc2_names.specs.Register.{Register};
 ghost use Rattle.regalloc2_names.specs.RegisterSet.{has_register};
-ghost use Rattle.regalloc2_plain.specs.Table.{function_of, inst_of, block_of, sizes_of, straight_function};
+ghost use Rattle.regalloc2_table.specs.Table.{function_of, inst_of, block_of, sizes_of, straight_function};
 
 use super::table::{SlotUnits, TableBlock, TableFunction, TableInst};
 use regalloc2_index::{Block, Inst, InstRange};
@@ -77,36 +77,6 @@ impl<A: Allocator + Copy> TableBlock<A> {
             arguments: Vec::new(alloc),
         }
     }
-
-    /// The same block with one more predecessor.
-    pub fn after(mut self, pred: Block) -> Result<TableBlock<A>, AllocError>
-        ensures { IfOk result (λ b. block_of b ≡ record (block_of self) { preds = (block_of self).preds ++ pred ∷ [] }) }
-    {
-        self.preds.push(pred)?;
-        Ok(self)
-    }
-
-    /// The same block with these parameters.
-    pub fn taking(mut self, alloc: A, params: &[VReg]) -> Result<TableBlock<A>, AllocError>
-        ensures { IfOk result (λ b. block_of b ≡ record (block_of self) { params = params.now }) }
-    {
-        self.params = params.to_vec(alloc)?;
-        Ok(self)
-    }
-
-    /// The same block with one more successor, to which it passes these arguments.
-    pub fn passing(
-        mut self,
-        alloc: A,
-        succ: Block,
-        arguments: &[VReg],
-    ) -> Result<TableBlock<A>, AllocError>
-        ensures { IfOk result (λ b. block_of b ≡ record (block_of self) { succs = (block_of self).succs ++ succ ∷ []; arguments = (block_of self).arguments ++ arguments.now ∷ [] }) }
-    {
-        self.succs.push(succ)?;
-        self.arguments.push(arguments.to_vec(alloc)?)?;
-        Ok(self)
-    }
 }
 
 impl SlotUnits {
@@ -165,25 +135,5 @@ impl<A: Allocator> TableFunction<A> {
             vector_slot,
             named_by_last_slot: false,
         }
-    }
-}
-
-impl<A: Allocator + Copy> TableFunction<A> {
-    /// The function of one block that has these instructions, with slots of those sizes for integers, floating-point
-    /// numbers and vectors, and virtual registers below `num_vregs`. There are fewer than 2^30 instructions.
-    pub fn straight(
-        alloc: A,
-        num_vregs: usize,
-        slots: (SlotUnits, SlotUnits, SlotUnits),
-        insts: Vec<TableInst<A>, A>,
-    ) -> Result<TableFunction<A>, AllocError>
-        requires insts { vec_len insts < 2 ^ 30 }
-        requires vregs { num_vregs < 2 ^ 30 }
-        ensures { IfOk result (λ f. function_of f ≡ straight_function num_vregs (sizes_of slots.0 slots.1 slots.2) (map inst_of insts.items)) }
-    {
-        let end = Inst::new(insts.len());
-        let mut blocks = Vec::new(alloc);
-        blocks.push(TableBlock::alone(alloc, InstRange::new(Inst::new(0), end)))?;
-        Ok(TableFunction::of_blocks(num_vregs, slots, blocks, insts))
     }
 }

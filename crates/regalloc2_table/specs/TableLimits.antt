@@ -4,9 +4,9 @@ use Rattle.std.proofs.lemmas.List.{length-map}
 use Rattle.std.proofs.lemmas.List.Elements.{All-nil}
 use Rattle.regalloc2_function.specs.FunctionValue.{IsLimited, IsSlotSize, slot_size}
 use Rattle.regalloc2_names.specs.declared.RegClass.TheVariants.{Int, Float, Vector}
-use Rattle.regalloc2_plain.specs.Table.{function_of}
-use Rattle.regalloc2_plain.specs.declared.table.SlotUnits.{SlotUnits}
-use Rattle.regalloc2_plain.specs.declared.table.TableFunction.{TableFunction}
+use Rattle.regalloc2_table.specs.Table.{function_of}
+use Rattle.regalloc2_table.specs.declared.table.SlotUnits.{SlotUnits}
+use Rattle.regalloc2_table.specs.declared.table.TableFunction.{TableFunction}
 
 pub size_of_units : (s : SlotUnits) → IsSlotSize s.units
 size_of_units s = record { positive = s.positive; at_most = s.at_most; power_of_two = s.power_of_two }
