@@ -63,3 +63,15 @@ pub use Rattle.regalloc2_stored.specs.Named
 pub use Rattle.regalloc2_stored.specs.Reading
 pub use Rattle.regalloc2_stored.specs.Tables as StoredTables
 pub use Rattle.regalloc2_stored.specs.Value
+-- and the types that they match on
+pub use Rattle.regalloc2_names.specs.declared.RegClass
+pub use Rattle.regalloc2_names.specs.declared.OperandConstraint
+pub use Rattle.regalloc2_names.specs.declared.OperandKind
+pub use Rattle.regalloc2_names.specs.declared.OperandPos
+pub use Rattle.regalloc2_names.specs.declared.RegAllocError
+pub use Rattle.regalloc2_names.specs.declared.sets.PRegSet
+pub use Rattle.regalloc2_function.specs.declared.machine.MachineEnv
+pub use Rattle.regalloc2_function.specs.declared.misfit.MachineMisfit
+pub use Rattle.regalloc2_function.specs.declared.listing.Output
+pub use Rattle.regalloc2_checker.specs.declared.errors.CheckerError
+pub use Rattle.regalloc2_checker.specs.declared.errors.CheckerErrors

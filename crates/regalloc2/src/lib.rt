@@ -2,8 +2,10 @@
 //! of the crate `regalloc2`.
 //!
 //! A client describes its function by an implementation of [`Function`] and its machine by a [`MachineEnv`], calls
-//! [`run`], and reads the [`Output`], which a [`checker::Checker`] judges. What each item promises stands where it is
-//! declared.
+//! [`allocate`], and reads the [`Output`]. That call has no conditions: it tests the machine and the function, and the checker
+//! accepts what it gives. [`allocate_without_checker`] is the faster one. [`run`] and [`run_checked`] make no test of the
+//! machine, which their caller proves to fit; a [`checker::Checker`] judges any output. What each item promises stands where
+//! it is declared, in words of this crate's `specs`, which passes on those of the crates below.
 #![tactic(auto)]
 
 mod checked;
