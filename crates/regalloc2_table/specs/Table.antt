@@ -1,5 +1,5 @@
 -- The function that a table stands for.
-use Rattle.std.specs.Prelude.{ℕ, List, map, length, [], ◌∷◌, false}
+use Rattle.std.specs.Prelude.{map, [], false}
 use Rattle.regalloc2_function.specs.FunctionValue.{FunctionValue, BlockValue, InstValue, SlotSizes}
 use Rattle.regalloc2_table.specs.declared.table.TableBlock.{TableBlock}
 use Rattle.regalloc2_table.specs.declared.table.TableInst.{TableInst}
@@ -20,19 +20,6 @@ function_of f = record {
   num_vregs = f.num_vregs;
   slot_sizes = record { int = f.int_slot.units; float = f.float_slot.units; vector = f.vector_slot.units };
   named_by_last_slot = f.named_by_last_slot;
-  labels = [];
-  allows_multiple_defs = false;
-}
-
--- the function of one block that has these instructions
-abbrev pub straight_function : ℕ → SlotSizes → List InstValue → FunctionValue
-straight_function num_vregs sizes insts = record {
-  blocks = record { range = record { first = 0; end = length insts }; succs = []; preds = []; params = []; arguments = [] } ∷ [];
-  insts = insts;
-  entry = 0;
-  num_vregs = num_vregs;
-  slot_sizes = sizes;
-  named_by_last_slot = false;
   labels = [];
   allows_multiple_defs = false;
 }

@@ -4,7 +4,7 @@ ghost use Rattle.std.specs.Prelude.{◌≡◌, ◌<◌, ◌≤◌, ◌^◌, ◌-
 ghost use Rattle.std.specs.Int.{is_power_of_two};
 ghost use Rattle.regalloc2_names.specs.Register.{Register};
 ghost use Rattle.regalloc2_names.specs.RegisterSet.{has_register};
-ghost use Rattle.regalloc2_table.specs.Table.{function_of, inst_of, block_of, sizes_of, straight_function};
+ghost use Rattle.regalloc2_table.specs.Table.{function_of, inst_of, block_of, sizes_of};
 
 use super::table::{SlotUnits, TableBlock, TableFunction, TableInst};
 use regalloc2_index::{Block, Inst, InstRange};
