@@ -11,6 +11,8 @@ use super::table::{SlotUnits, TableBlock, TableFunction, TableInst};
 use regalloc2_index::{Block, Inst, InstRange};
 use regalloc2_names::{Operand, PRegSet, VReg};
 use std::alloc::{AllocError, AllocFailed, Allocator, Global};
+use std::error::Error;
+use std::fmt;
 
 /// A function has fewer instructions, and fewer virtual registers.
 const LIMIT: usize = 1 << 30;
@@ -18,20 +20,35 @@ const LIMIT: usize = 1 << 30;
 /// A function has fewer blocks.
 const BLOCK_LIMIT: usize = 0xffff_ffff;
 
-/// Why a builder refuses a call.
+/// Why a builder returns an error.
 #[derive(Clone, Copy, Debug, PartialEq, Eq)]
 pub enum BuildError {
-    /// Memory is lacking.
+    /// Memory ran out.
     Memory,
     /// This block wasn't declared.
     NoBlock(Block),
-    /// There are 2^32 - 1 blocks.
+    /// There are 2^32 - 1 blocks or more.
     TooManyBlocks,
-    /// There are 2^30 instructions.
+    /// There are 2^30 instructions or more.
     TooManyInsts,
-    /// There are 2^30 virtual registers.
+    /// There are 2^30 virtual registers or more.
     TooManyVRegs,
 }
+
+/// As `block3 isn't declared`.
+impl fmt::Display for BuildError {
+    fn fmt<W: fmt::Write>(&self, f: &mut fmt::Formatter<W>) -> fmt::Result {
+        match *self {
+            Self::Memory => write!(f, "out of memory"),
+            Self::NoBlock(block) => write!(f, "block{} isn't declared", block.index()),
+            Self::TooManyBlocks => write!(f, "there are 2^32 - 1 blocks or more"),
+            Self::TooManyInsts => write!(f, "there are 2^30 instructions or more"),
+            Self::TooManyVRegs => write!(f, "there are 2^30 virtual registers or more"),
+        }
+    }
+}
+
+impl Error for BuildError {}
 
 impl From<AllocError> for BuildError {
     ghost use Rattle.std.specs.Prelude.{◌≡◌};
