@@ -30,7 +30,10 @@ fn words(rt: &(impl Env + AllocGlobal)) -> io::Result<Vec<String>> {
 fn perform(rt: &HostRuntime, task: Task<'_>) -> io::Result<u8> {
     let input = File::open(rt, task.path)?;
     let mut out = BufWriter::new(rt.alloc(), rt.stdout())?;
-    Ok(program::answer(rt.alloc(), task, input, &mut out, &mut rt.stderr()))
+    let status = program::answer(rt.alloc(), task, input, &mut out, &mut rt.stderr());
+    // a buffer that is dropped would write once more what a failed write left in it
+    let _ = out.into_parts();
+    Ok(status)
 }
 
 fn main(rt: HostRuntime) -> ExitCode {

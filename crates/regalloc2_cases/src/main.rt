@@ -58,7 +58,10 @@ fn run_folder<R: Runtime + AllocGlobal, O: Write>(
 fn run_named(rt: &HostRuntime) -> Result<Tally, CallError> {
     let folder = folder_of(rt)?;
     let mut out = BufWriter::new(rt.alloc(), rt.stdout())?;
-    run_folder(rt, folder.as_str(), &mut out)
+    let tally = run_folder(rt, folder.as_str(), &mut out);
+    // a buffer that is dropped would write once more what a failed write left in it
+    let _ = out.into_parts();
+    tally
 }
 
 fn main(rt: HostRuntime) -> ExitCode {
