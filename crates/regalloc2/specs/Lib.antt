@@ -32,6 +32,9 @@ pub use Rattle.regalloc2_function.specs.Reasons
 pub use Rattle.regalloc2_function.specs.Slots
 pub use Rattle.regalloc2_function.specs.Stored
 pub use Rattle.regalloc2_function.specs.Laws
+pub use Rattle.regalloc2_table.specs.Table
+pub use Rattle.regalloc2_table.specs.Draft
+pub use Rattle.regalloc2_table.specs.Built
 pub use Rattle.regalloc2_flow.specs.Live
 pub use Rattle.regalloc2_validate.specs.Constraints
 pub use Rattle.regalloc2_validate.specs.Tested

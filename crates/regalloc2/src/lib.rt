@@ -44,6 +44,13 @@ pub mod fastalloc {
     pub use regalloc2_parts::{iter, lru, vregset};
 }
 
+/// A function that is kept in tables, and its builder, for clients that have no type of their own for one.
+pub mod table {
+    pub use regalloc2_table::{
+        BlockDraft, BuildError, SlotUnits, TableBlock, TableBuilder, TableFunction, TableInst,
+    };
+}
+
 /// Functions and outputs as plain data, and as they are read from JSON.
 pub mod serialize {
     pub use regalloc2_function::{StoredFault, StoredOutput};

@@ -9,11 +9,11 @@ mod rows;
 mod structures;
 mod worked;
 
-use std::io;
+use std::io::{self, BufWriter, Write};
 
 fn main(rt: HostRuntime) -> io::Result<()> {
     let alloc = rt.alloc();
-    let out = &mut rt.stdout();
+    let out = &mut BufWriter::new(alloc, rt.stdout())?;
     structures::write_rings(alloc, out)?;
     // A list that can't be made leaves its rows out.
     let _ = structures::write_removals(alloc, out);
@@ -23,5 +23,6 @@ fn main(rt: HostRuntime) -> io::Result<()> {
     worked::write_computed(alloc, out)?;
     random::write_random(alloc, out)?;
     random::write_long(alloc, out)?;
-    worked::write_refusals(alloc, out)
+    worked::write_refusals(alloc, out)?;
+    out.flush()
 }

@@ -6,15 +6,16 @@ mod refused;
 mod sets;
 mod shapes;
 
-use std::io;
+use std::io::{self, BufWriter, Write};
 
 fn main(rt: HostRuntime) -> io::Result<()> {
     let alloc = rt.alloc();
-    let out = &mut rt.stdout();
+    let out = &mut BufWriter::new(alloc, rt.stdout())?;
     shapes::write_shapes(alloc, out)?;
     shapes::write_chain(alloc, out)?;
     sets::write_inline(alloc, out)?;
     sets::write_members(alloc, out)?;
     sets::write_assigned(alloc, out)?;
-    refused::write_refusals(alloc, out)
+    refused::write_refusals(alloc, out)?;
+    out.flush()
 }

@@ -9,12 +9,13 @@ mod lines;
 mod reading;
 mod refused;
 
-use std::io;
+use std::io::{self, BufWriter, Write};
 
 fn main(rt: HostRuntime) -> io::Result<()> {
     let alloc = rt.alloc();
     let text = io::read_to_string(alloc, rt.stdin())?;
-    let out = &mut rt.stdout();
+    let out = &mut BufWriter::new(alloc, rt.stdout())?;
     lines::write_answers(alloc, text.as_str(), out)?;
-    refused::write_refusals(alloc, text.as_str(), out)
+    refused::write_refusals(alloc, text.as_str(), out)?;
+    out.flush()
 }

@@ -20,7 +20,7 @@ use maker::Maker;
 use memory::{Call, Given};
 use std::alloc::Global;
 use std::fmt::Debug;
-use std::io::{self, Write};
+use std::io::{self, BufWriter, Write};
 
 /// Writes what a call answers.
 fn show<W: Write, T: Debug + Drop>(out: &mut W, name: &str, value: T) -> io::Result<()> {
@@ -60,7 +60,7 @@ fn is_each_told(alloc: Global, call: Call) -> Option<bool> {
 
 fn main(rt: HostRuntime) -> io::Result<()> {
     let alloc = rt.alloc();
-    let out = &mut rt.stdout();
+    let out = &mut BufWriter::new(alloc, rt.stdout())?;
     show(out, "the loop reads", rows::reads_of_a_loop(alloc))?;
     show(out, "the fork reads", rows::reads_of_a_fork(alloc))?;
     show(out, "slots and refusals", rows::slots_and_refusals(alloc))?;
@@ -73,5 +73,5 @@ fn main(rt: HostRuntime) -> io::Result<()> {
         let is_told = is_each_told(alloc, call);
         writeln!(out, "each growth of {call:?} is told: {is_told:?}")?;
     }
-    Ok(())
+    out.flush()
 }
