@@ -17,7 +17,7 @@ use std::alloc::{Allocator, Global};
 /// Checks what an allocation gave for one function on one machine.
 ///
 /// It judges the output that [`Checker::prepare`] was last given, of which it holds a copy.
-#[derive(Drop)]
+#[derive(Debug, Drop)]
 pub struct Checker<'a, F: Function, A: Allocator = Global, B: Allocator = Global> {
     f: &'a F,
     env: &'a MachineEnv<B>,

@@ -9,6 +9,7 @@ ghost use Rattle.regalloc2_shape.specs.NumberWords.{Lacks, KeysApart, IsPlaceFor
 
 use std::alloc::{AllocError, Allocator, Global};
 use std::collections::{HashMap, hash_map};
+use std::fmt;
 use std::hash::{BuildHasherDefault, FoldHasher};
 use std::marker::Model;
 
@@ -480,5 +481,12 @@ impl<A: Allocator + Copy> IndexSet<A> {
             bits: 0,
             words: self.words(),
         }
+    }
+}
+
+impl<A: Allocator + Copy> fmt::Debug for IndexSet<A> {
+    /// The members, in the order of `iter`.
+    fn fmt<W: fmt::Write>(&self, f: &mut fmt::Formatter<W>) -> fmt::Result {
+        f.debug_list().entries(self.iter()).finish()
     }
 }

@@ -10,7 +10,7 @@ use regalloc2_names::{Operand, PRegSet, RegClass, VReg};
 use std::alloc::{Allocator, Global};
 
 /// An instruction.
-#[derive(Drop)]
+#[derive(Debug, Drop)]
 pub struct InstTable<A: Allocator = Global> {
     /// What it does with virtual registers.
     pub operands: Vec<Operand, A>,
@@ -21,7 +21,7 @@ pub struct InstTable<A: Allocator = Global> {
 }
 
 /// A block.
-#[derive(Drop)]
+#[derive(Debug, Drop)]
 pub struct BlockTable<A: Allocator = Global> {
     /// Its first instruction.
     pub first: Inst,
@@ -39,7 +39,7 @@ pub struct BlockTable<A: Allocator = Global> {
 }
 
 /// How many units a spill slot takes: a power of two from 1 to 2^24.
-#[derive(Drop)]
+#[derive(Debug, Drop)]
 pub struct SlotUnits {
     /// How many.
     pub units: usize,
@@ -49,7 +49,7 @@ pub struct SlotUnits {
 }
 
 /// The sizes of spill slots by class.
-#[derive(Drop)]
+#[derive(Debug, Drop)]
 pub struct SlotTable {
     /// For an integer.
     pub int: SlotUnits,
@@ -62,7 +62,7 @@ pub struct SlotTable {
 /// A function that was stored, or is to be stored, with the machine that it is for.
 ///
 /// Upstream's type of this name, without its traits of `serde`.
-#[derive(Drop)]
+#[derive(Debug, Drop)]
 pub struct SerializableFunction<A: Allocator = Global> {
     pub(crate) machine: MachineEnv<A>,
     pub(crate) blocks: Vec<BlockTable<A>, A>,

@@ -11,7 +11,7 @@ use std::alloc::{Allocator, Global};
 
 /// Moves in the order in which they are made. Where they have a cycle, one place is still to be chosen: until then
 /// `Allocation::none()` stands for it.
-#[derive(Drop)]
+#[derive(Debug, Drop)]
 pub enum MoveVecWithScratch<T: Drop, A: Allocator = Global> {
     /// No move names `Allocation::none()`.
     NoScratch(MoveVec<T, A>),
