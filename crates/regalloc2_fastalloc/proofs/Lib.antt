@@ -2,4 +2,3 @@ pub mod Agreed
 pub mod Needing
 pub mod Numbers
 pub mod Reasoned
-pub mod Reserved

@@ -1,4 +1,2 @@
 pub mod Promise
 pub mod Reason
-pub mod Reserving
-pub mod States

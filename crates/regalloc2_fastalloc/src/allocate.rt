@@ -14,11 +14,11 @@ ghost use Rattle.regalloc2_validate.specs.Profile.{AreTaken};
 ghost use Rattle.regalloc2_steps.specs.Walks.{offset_of};
 
 use super::allocs;
-use super::state::State;
 use regalloc2_function::{
     Edit, Function, MachineEnv, Output, count_operands, reads_the_same_numbers,
 };
 use regalloc2_names::{Allocation, ProgPoint, RegAllocError};
+use regalloc2_walk::state::State;
 use std::alloc::Allocator;
 
 /// The walk over fresh tables fills in the place of each operand. What comes back is how many units slots take, and the moves as

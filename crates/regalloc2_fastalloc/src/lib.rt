@@ -1,7 +1,8 @@
 //! The fast allocator: one walk from the last instruction to the first, which gives a register to each operand as it meets
 //! it, and moves virtual registers to spill slots where registers run out.
 //!
-//! [`run`] allocates a function. Upstream's module `fastalloc` does the same, reached by its crate's `run`.
+//! [`run`] allocates a function: it makes the tests, walks by `regalloc2_walk`, and assembles the output. Upstream's module
+//! `fastalloc` does the same, reached by its crate's `run`.
 #![tactic(auto)]
 
 ghost use Rattle.std.specs.Prelude.{◌≡◌, ◌≤◌, ◌^◌, ◌↔◌, [], false, IfErr, IfOk, OnErr, OnOk};
@@ -20,14 +21,6 @@ use std::alloc::{Allocator, Global};
 
 mod allocate;
 mod allocs;
-mod blocks;
-mod branch;
-mod choose;
-mod insts;
-mod reserve;
-mod scratch;
-mod state;
-mod walk;
 
 /// An algorithm of register allocation. Upstream has a second one, `Ion`, which is left out.
 #[derive(Clone, Copy, Debug, Default, PartialEq, Eq)]

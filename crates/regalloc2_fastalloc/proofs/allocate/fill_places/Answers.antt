@@ -18,7 +18,7 @@ use Rattle.regalloc2_tables.specs.Lack.{LacksOnly, AreFullWith}
 use Rattle.regalloc2_fastalloc.specs.Promise.{LiveInSlots, SlotsAreFew}
 use Rattle.regalloc2_fastalloc.specs.Reason.{units_needed}
 use Rattle.regalloc2_steps.specs.Steps.{Tables}
-use Rattle.regalloc2_fastalloc.specs.States.{tables_of}
+use Rattle.regalloc2_walk.specs.States.{tables_of}
 use Rattle.regalloc2_steps.specs.Branches.{LendsAtMost}
 use Rattle.regalloc2_steps.specs.Sound.{HasMachine}
 use Rattle.regalloc2_tables.specs.Tables.{PlacesValue, SlotsValue, no_slots, units_of}

@@ -1,0 +1,119 @@
+use Rattle.std.proofs.Common.{ℕ, ◌≡◌, List, length, refl, sym, ap, ◌∙◌, subst, rules, arith}
+use Rattle.regalloc2_names.specs.RegisterSet.{registers_of}
+use Rattle.regalloc2_names.specs.Point.{before, after}
+use Rattle.regalloc2_names.specs.Operand.{OperandValue}
+use Rattle.regalloc2_tables.specs.Tables.{NoneBefore}
+use Rattle.regalloc2_steps.specs.Steps.{Tables, ClearsFixed, ClearsAll, MovesUses}
+use Rattle.regalloc2_walk.specs.States.{tables_of}
+use Rattle.regalloc2_steps.proofs.Emptying.{same_of, same_then}
+use Rattle.regalloc2_walk.proofs.state.State.allocate_inst.Goals as goal
+
+pub evict_fixed-requires : goal.evict_fixed-requires
+evict_fixed-requires g c =
+    let at : c.after-point.result ≡ after c.args.inst = c.after-point.ensures.point (λ e. omega (arith, c.requires.inst)) in
+    let same : tables_of c.hold_clobbers.new.self ≡ tables_of c.args.self.now = c.hold_clobbers.ensures.same ∙ c.reserve.ensures.same in
+    (search rules, subst (λ (t : Tables). NoneBefore c.after-point.result t.edits) (sym same) (subst (λ (p : ℕ). NoneBefore p c.args.self.now.edits) (sym at) c.requires.later))
+
+pub place_operands-requires : goal.place_operands-requires
+place_operands-requires g c =
+    let at : c.after-point.result ≡ after c.args.inst = c.after-point.ensures.point (λ e. omega (arith, c.requires.inst)) in
+    let same : tables_of c.hold_clobbers.new.self ≡ tables_of c.args.self.now = c.hold_clobbers.ensures.same ∙ c.reserve.ensures.same in
+    let long : length c.evict_clobbers.new.self.places.stands ≡ length c.args.self.now.places.stands =
+    c.in_ok-evict_clobbers.ensures.long ∙ c.in_ok-evict_fixed.ensures.long ∙ ap (λ (t : Tables). length t.places.stands) same in (
+      search rules,
+      (
+        c.requires.inst,
+        (
+          subst (λ (p : ℕ). NoneBefore p c.evict_clobbers.new.self.edits) at c.in_ok-evict_clobbers.ensures.later,
+          (λ k lt f. let w = c.requires.in_tables k lt f in omega (arith, w, long), c.requires.here_long),
+        ),
+      ),
+    )
+
+pub place_operands-requires-2 : goal.place_operands-requires-2
+place_operands-requires-2 g c =
+    let same : tables_of c.hold_clobbers.new.self ≡ tables_of c.args.self.now = c.hold_clobbers.ensures.same ∙ c.reserve.ensures.same in
+    let long : length c.place_operands.new.self.places.stands ≡ length c.args.self.now.places.stands =
+    c.in_ok-place_operands.ensures.long ∙ c.in_ok-evict_clobbers.ensures.long ∙ c.in_ok-evict_fixed.ensures.long ∙ ap (λ (t : Tables). length t.places.stands) same in (
+      search rules,
+      (c.requires.inst, (c.in_ok-place_operands.ensures.later, (λ k lt f. let w = c.requires.in_tables k lt f in omega (arith, w, long), c.place_operands.auto.here ∙ c.requires.here_long))),
+    )
+
+pub move_reads-requires : goal.move_reads-requires
+move_reads-requires g c =
+    let at : c.before-2.result ≡ before c.args.inst = c.before-2.ensures.point (λ e. omega (arith, c.requires.inst)) in
+    let same : tables_of c.hold_clobbers.new.self ≡ tables_of c.args.self.now = c.hold_clobbers.ensures.same ∙ c.reserve.ensures.same in
+    let long : length c.place_operands-2.new.self.places.stands ≡ length c.args.self.now.places.stands =
+    c.in_ok-place_operands-2.ensures.long ∙ c.in_ok-place_operands.ensures.long ∙ c.in_ok-evict_clobbers.ensures.long ∙ c.in_ok-evict_fixed.ensures.long ∙ ap (λ (t : Tables). length t.places.stands) same in (
+      search rules,
+      (
+        λ k d lt. let w = c.in_ok-place_operands-2.ensures.later k d lt in omega (arith, w, at),
+        (λ k lt f. let w = c.requires.in_tables k lt f in omega (arith, w, long), c.place_operands-2.auto.here ∙ c.place_operands.auto.here ∙ c.requires.here_long),
+      ),
+    )
+
+pub returns-clause-ok : goal.returns-clause-ok
+returns-clause-ok g c =
+    let ops : List OperandValue = c.args.operands.now in
+    let at : c.after-point.result ≡ after c.args.inst = c.after-point.ensures.point (λ e. omega (arith, c.requires.inst)) in
+    let early : c.before-2.result ≡ before c.args.inst = c.before-2.ensures.point (λ e. omega (arith, c.requires.inst)) in
+    let same : tables_of c.hold_clobbers.new.self ≡ tables_of c.args.self.now = c.hold_clobbers.ensures.same ∙ c.reserve.ensures.same in
+    let F : ℕ → Tables → Type 0 = λ p t. ClearsFixed p ops c.hold_clobbers.new.turn t (length ops) c.evict_fixed.new.turn (tables_of c.evict_fixed.new.self) in
+    let C : ℕ → Type 0 = λ p. ClearsAll p (registers_of c.args.clobbers) c.evict_fixed.new.turn (tables_of c.evict_fixed.new.self) c.evict_clobbers.new.turn (tables_of c.evict_clobbers.new.self) in
+    let M : ℕ → Type 0 = λ p. MovesUses p ops c.place_operands-2.new.here c.place_operands-2.new.turn (tables_of c.place_operands-2.new.self) (length ops) c.move_reads.new.turn (tables_of c.move_reads.new.self) in (
+      record {
+        began = c.args.turn.now;
+        reserved = c.reserve.new.turn;
+        held = c.hold_clobbers.new.turn;
+        cleared = c.evict_fixed.new.turn;
+        quiet = c.evict_clobbers.new.turn;
+        late = c.place_operands.new.turn;
+        early = c.place_operands-2.new.turn;
+        ended = c.move_reads.new.turn;
+        after_fixed = tables_of c.evict_fixed.new.self;
+        after_clobbers = tables_of c.evict_clobbers.new.self;
+        after_late = tables_of c.place_operands.new.self;
+        after_early = tables_of c.place_operands-2.new.self;
+        half = c.place_operands.new.here;
+        long = c.requires.here_long;
+        no_places = c.requires.no_places;
+        begins_early = c.requires.fresh.early;
+        begins_late = c.requires.fresh.late;
+        begins_scratch = c.requires.fresh.scratch;
+        reserves = c.in_ok-reserve.ensures.ok;
+        holds = c.hold_clobbers.ensures.held;
+        fixed = subst (F (after c.args.inst)) same (subst (λ (p : ℕ). F p (tables_of c.hold_clobbers.new.self)) at c.in_ok-evict_fixed.ensures.ok);
+        clobbers = subst C at c.in_ok-evict_clobbers.ensures.ok;
+        lates = c.in_ok-place_operands.ensures.ok;
+        earlies = c.in_ok-place_operands-2.ensures.ok;
+        moves = subst M early c.in_ok-move_reads.ensures.ok;
+      },
+      refl,
+    )
+
+pub returns-clause-later : goal.returns-clause-later
+returns-clause-later g c =
+    let early : c.before-2.result ≡ before c.args.inst = c.before-2.ensures.point (λ e. omega (arith, c.requires.inst)) in
+    subst (λ (p : ℕ). NoneBefore p c.move_reads.new.self.edits) early c.in_ok-move_reads.ensures.later
+
+-- the machine stays, wherever the walk stops
+pub returns-in_err-reserve-clause-machine : goal.returns-in_err-reserve-clause-machine
+returns-in_err-reserve-clause-machine g c = same_of _ _ c.reserve.ensures.same
+
+pub returns-in_err-evict_fixed-clause-machine : goal.returns-in_err-evict_fixed-clause-machine
+returns-in_err-evict_fixed-clause-machine g c = same_then _ _ _ (same_of _ _ (c.hold_clobbers.ensures.same ∙ c.reserve.ensures.same)) c.evict_fixed.ensures.machine
+
+pub returns-in_err-evict_clobbers-clause-machine : goal.returns-in_err-evict_clobbers-clause-machine
+returns-in_err-evict_clobbers-clause-machine g c = same_then _ _ _ (same_then _ _ _ (same_of _ _ (c.hold_clobbers.ensures.same ∙ c.reserve.ensures.same)) c.evict_fixed.ensures.machine) c.evict_clobbers.ensures.machine
+
+pub returns-in_err-place_operands-clause-machine : goal.returns-in_err-place_operands-clause-machine
+returns-in_err-place_operands-clause-machine g c = same_then _ _ _ (same_then _ _ _ (same_then _ _ _ (same_of _ _ (c.hold_clobbers.ensures.same ∙ c.reserve.ensures.same)) c.evict_fixed.ensures.machine) c.evict_clobbers.ensures.machine) c.place_operands.ensures.machine
+
+pub returns-in_err-place_operands-2-clause-machine : goal.returns-in_err-place_operands-2-clause-machine
+returns-in_err-place_operands-2-clause-machine g c = same_then _ _ _ (same_then _ _ _ (same_then _ _ _ (same_then _ _ _ (same_of _ _ (c.hold_clobbers.ensures.same ∙ c.reserve.ensures.same)) c.evict_fixed.ensures.machine) c.evict_clobbers.ensures.machine) c.place_operands.ensures.machine) c.place_operands-2.ensures.machine
+
+pub returns-in_err-move_reads-clause-machine : goal.returns-in_err-move_reads-clause-machine
+returns-in_err-move_reads-clause-machine g c = same_then _ _ _ (same_then _ _ _ (same_then _ _ _ (same_then _ _ _ (same_then _ _ _ (same_of _ _ (c.hold_clobbers.ensures.same ∙ c.reserve.ensures.same)) c.evict_fixed.ensures.machine) c.evict_clobbers.ensures.machine) c.place_operands.ensures.machine) c.place_operands-2.ensures.machine) c.move_reads.ensures.machine
+
+pub returns-clause-machine : goal.returns-clause-machine
+returns-clause-machine g c = same_then _ _ _ (same_then _ _ _ (same_then _ _ _ (same_then _ _ _ (same_then _ _ _ (same_of _ _ (c.hold_clobbers.ensures.same ∙ c.reserve.ensures.same)) c.evict_fixed.ensures.machine) c.evict_clobbers.ensures.machine) c.place_operands.ensures.machine) c.place_operands-2.ensures.machine) c.move_reads.ensures.machine

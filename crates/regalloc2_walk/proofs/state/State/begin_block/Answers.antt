@@ -1,0 +1,36 @@
+use Rattle.std.proofs.Common.{ℕ, ◌≡◌, length, sym, ap, ◌∙◌, subst, arith, rules}
+use Rattle.regalloc2_names.specs.declared.sets.PRegSet.{PRegSet}
+use Rattle.regalloc2_names.specs.Point.{before}
+use Rattle.regalloc2_names.specs.RegisterSet.{has_register}
+use Rattle.regalloc2_steps.specs.Blocks.{BeginsParameters, Empties}
+use Rattle.regalloc2_walk.specs.States.{tables_of}
+use Rattle.regalloc2_tables.specs.Tables.{NoneBefore}
+use Rattle.regalloc2_walk.proofs.state.State.begin_block.Goals as goal
+
+pub begin_parameters-requires : goal.begin_parameters-requires
+begin_parameters-requires g c =
+    let at : c.before-point.result ≡ before c.args.first = c.before-point.ensures.point (λ e. omega (arith, c.requires.inst)) in
+    (search rules, (subst (λ (p : ℕ). NoneBefore p c.args.self.now.edits) (sym at) c.requires.later, c.requires.known))
+
+pub returns-clause-ok : goal.returns-clause-ok
+returns-clause-ok g c =
+    let at : c.before-point.result ≡ before c.args.first = c.before-point.ensures.point (λ e. omega (arith, c.requires.inst)) in
+    let m = tables_of c.begin_parameters.new.self in
+    let n = tables_of c.empty_registers.new.self in
+    record {
+      began = c.new-turn.result;
+      begun = c.begin_parameters.new.turn;
+      ended = c.empty_registers.new.turn;
+      middle = m;
+      begins_early = λ r. ap (λ (s : PRegSet). has_register s r) c.new-turn.ensures.early ∙ c.every.ensures r;
+      begins_late = λ r. ap (λ (s : PRegSet). has_register s r) c.new-turn.ensures.late ∙ c.every.ensures r;
+      begins_scratch = c.new-turn.ensures.scratch;
+      parameters = subst (λ (p : ℕ). BeginsParameters p c.args.params.now c.new-turn.result (tables_of c.args.self.now) (length c.args.params.now) c.begin_parameters.new.turn m) at c.in_ok-begin_parameters.ensures.ok;
+      empties = subst (λ (p : ℕ). Empties p c.begin_parameters.new.turn m c.empty_registers.new.turn n) at c.in_ok-empty_registers.ensures.ok;
+      emptied = c.in_ok-empty_registers.ensures.emptied;
+    }
+
+pub returns-clause-later : goal.returns-clause-later
+returns-clause-later g c =
+    let at : c.before-point.result ≡ before c.args.first = c.before-point.ensures.point (λ e. omega (arith, c.requires.inst)) in
+    subst (λ (p : ℕ). NoneBefore p c.empty_registers.new.self.edits) at c.in_ok-empty_registers.ensures.later

@@ -1,0 +1,38 @@
+use Rattle.std.proofs.Common.{Bool, refl, subst}
+use Rattle.std.specs.Prelude.{not, ◌&&◌}
+use Rattle.regalloc2_names.specs.declared.RegClass.{RegClass}
+use Rattle.regalloc2_names.specs.Place.{Place, is_place}
+use Rattle.regalloc2_tables.specs.Tables.{Settles, stood, slot_name}
+use Rattle.regalloc2_steps.specs.Steps.{Tables, Sends, is_another}
+use Rattle.regalloc2_walk.specs.States.{tables_of}
+use Rattle.regalloc2_walk.proofs.state.State.leave.Goals as goal
+
+pub returns-clause-ok : goal.returns-clause-ok
+returns-clause-ok g c =
+    let t : Tables = tables_of c.args.self.now in
+    let p : Place = c.args.place in
+    let left : Tables = record t { places = c.settle.new.self } in
+    let middle : Tables = tables_of c.send.new.self in
+    let ret : Bool = c.args.is_ret in
+    let awaited : Place = stood t.places c.args.vreg.number in
+    let A : RegClass → Bool → Place → Type 0 = λ k b q. Sends c.args.point k b p q c.args.turn.now c.send.new.turn left middle in
+    let a1 : A c.args.vreg.class c.is_awaited-is_awaited.result c.place_of-awaited.result = subst (λ (k : RegClass). A k c.is_awaited-is_awaited.result c.place_of-awaited.result) c.class-class.ensures c.in_ok-send.ensures.ok in
+    let a2 : A c.args.vreg.class (not ret && is_another c.place_of-awaited.result p) c.place_of-awaited.result = subst (λ (b : Bool). A c.args.vreg.class b c.place_of-awaited.result) c.is_awaited-is_awaited.ensures a1 in
+    let a3 : A c.args.vreg.class (not ret && is_another awaited p) awaited = subst (λ (q : Place). A c.args.vreg.class (not ret && is_another q p) q) c.place_of-awaited.ensures.place a2 in
+    let S : RegClass → Bool → Place → Type 0 = λ k b q. Sends c.args.point k b p q c.send.new.turn c.send-2.new.turn middle (tables_of c.send-2.new.self) in
+    let s1 : S c.args.vreg.class c.is_stored-is_stored.result c.find-slot.result = subst (λ (k : RegClass). S k c.is_stored-is_stored.result c.find-slot.result) c.class-class.ensures c.in_ok-send-2.ensures.ok in
+    let s2 = subst (λ (b : Bool). S c.args.vreg.class b c.find-slot.result) c.is_stored-is_stored.ensures s1 in
+    let s3 = subst (λ (q : Place). S c.args.vreg.class (not ret && (is_another q p && not (is_place q c.place_of-awaited.result))) q) c.find-slot.ensures.slot s2 in
+    let s : Place = slot_name t.slots c.args.vreg.number in
+    let s4 = subst (λ (q : Place). S c.args.vreg.class (not ret && (is_another s p && not (is_place s q))) s) c.place_of-awaited.ensures.place s3 in
+    record {
+      left = left;
+      turn = c.send.new.turn;
+      middle = middle;
+      settles = subst (Settles t.places c.settle.new.self c.args.vreg) c.none.ensures c.settle.ensures.settled;
+      slots = refl;
+      edits = refl;
+      machine = record { allocatable = refl; fixed_stack = refl; dedicated = refl; sizes = refl; vregs = refl; lent = refl };
+      awaited = a3;
+      stored = s4;
+    }

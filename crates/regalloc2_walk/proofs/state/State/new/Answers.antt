@@ -1,0 +1,18 @@
+use Rattle.std.proofs.Common.{◌<◌, ◌≤◌, ◌∙◌, ap, rules, arith}
+use Rattle.regalloc2_tables.specs.Tables.{nobody_stands, most_units}
+use Rattle.regalloc2_flow.proofs.Plain.{each_of_three}
+use Rattle.regalloc2_walk.proofs.state.State.new.Goals as goal
+
+pub new-requires-2 : goal.new-requires-2
+new-requires-2 g c = record {
+  sizes = each_of_three (λ n. (0 < n) × (n ≤ most_units)) _ _ _
+      (omega (arith, c.spillslot_size.ensures.limit.0), omega (arith, c.spillslot_size.ensures.limit.1))
+      (omega (arith, c.spillslot_size-2.ensures.limit.0), omega (arith, c.spillslot_size-2.ensures.limit.1))
+      (omega (arith, c.spillslot_size-3.ensures.limit.0), omega (arith, c.spillslot_size-3.ensures.limit.1));
+}
+
+pub new-requires-3 : goal.new-requires-3
+new-requires-3 g c = (search rules, λ k r h. (c.requires k).of_class r h)
+
+pub returns-clause-places : goal.returns-clause-places
+returns-clause-places g c = c.in_ok-places.ensures.empty ∙ ap nobody_stands c.num_vregs-vregs.ensures.count

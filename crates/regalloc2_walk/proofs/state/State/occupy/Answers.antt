@@ -1,0 +1,27 @@
+use Rattle.std.proofs.Common.{◌≡◌, refl, sym, ◌∙◌, subst}
+use Rattle.std.specs.Prelude.{None}
+use Rattle.regalloc2_names.specs.Register.{Register}
+use Rattle.regalloc2_names.specs.Place.{Place, NoPlace, InRegister}
+use Rattle.regalloc2_tables.specs.Tables.{holder, stood}
+use Rattle.regalloc2_steps.specs.Steps.{Occupies, in_slot}
+use Rattle.regalloc2_walk.specs.States.{tables_of}
+use Rattle.regalloc2_steps.proofs.Choosing.{slot_place}
+use Rattle.regalloc2_flow.proofs.Forms.{place_of_register, same_register}
+use Rattle.regalloc2_walk.proofs.state.State.occupy.Goals as goal
+
+pub returns-in_default-clause-ok : goal.returns-in_default-clause-ok
+returns-in_default-clause-ok g c =
+    let s = slot_place c.args.place c.requires.there (sym c.as_reg.ensures ∙ c.in_default.is) in
+    in_slot s.0 s.1 (record { early = refl; late = refl; scratch = refl }) refl
+
+pub returns-clause-ok : goal.returns-clause-ok
+returns-clause-ok g c =
+    let e : c.args.place ≡ InRegister c.in-Some.preg = place_of_register c.args.place c.in-Some.preg (sym c.as_reg.ensures ∙ c.in-Some.is) in
+    let P : Place → Type 0 = λ p. Occupies c.args.point c.args.placing.now p c.args.turn.now c.claim.new.turn (tables_of c.args.self.now) (tables_of c.claim.new.self) in
+    subst P (sym e) c.in_ok-claim.ensures.ok
+
+pub returns-clause-alone : goal.returns-clause-alone
+returns-clause-alone g c = λ r f.
+    let e : c.args.place ≡ InRegister c.in-Some.preg = place_of_register c.args.place c.in-Some.preg (sym c.as_reg.ensures ∙ c.in-Some.is) in
+    let P : Register → Type 0 = λ q. stood c.claim.new.self.places c.args.placing.now.vreg.number ≡ NoPlace → holder c.claim.new.self.places q ≡ None in
+    subst P (same_register c.in-Some.preg r (sym e ∙ f)) c.in_ok-claim.ensures.alone

@@ -1,0 +1,16 @@
+use Rattle.std.proofs.Common.{ℕ, List, sym, subst, rules}
+use Rattle.regalloc2_function.specs.OutputValue.{MoveValue}
+use Rattle.regalloc2_walk.specs.States.{tables_of}
+use Rattle.regalloc2_tables.specs.Tables.{NoneBefore}
+use Rattle.regalloc2_steps.proofs.Choosing.{occupies_counted}
+use Rattle.regalloc2_walk.proofs.state.State.place.Goals as goal
+
+pub occupy-requires : goal.occupy-requires
+occupy-requires g c = (search rules, (subst (λ (es : List (ℕ × MoveValue)). NoneBefore c.args.point es) (sym c.picked.ensures.edits) c.requires.later, c.in_ok-place.ensures.there))
+
+pub returns-clause-ok : goal.returns-clause-ok
+returns-clause-ok g c = record {
+  middle = tables_of c.picked.new.self;
+  picks = c.in_ok-place.ensures.ok;
+  occupies = occupies_counted c.args.point c.args.placing.now c.in_ok-place.place c.args.turn.now c.occupy.new.turn c.note_placed.new.turn (tables_of c.picked.new.self) (tables_of c.occupy.new.self) c.in_ok-occupy.ensures.ok c.note_placed.ensures;
+}

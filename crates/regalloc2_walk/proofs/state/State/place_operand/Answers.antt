@@ -1,0 +1,99 @@
+use Rattle.std.proofs.Common.{ℕ, ◌≡◌, ◌<◌, List, length, refl, sym, ◌∙◌, subst, arith, rules, false, slice_index_or}
+use Rattle.std.proofs.lemmas.List.{get_or_read}
+use Rattle.regalloc2_names.specs.Place.{NoPlace}
+use Rattle.regalloc2_names.specs.Point.{after}
+use Rattle.regalloc2_names.specs.Operand.{OperandValue}
+use Rattle.regalloc2_function.specs.SourceRun.{is_fixed_nonallocatable}
+use Rattle.regalloc2_tables.specs.Tables.{NoneBefore}
+use Rattle.regalloc2_tables.specs.declared.placing.Placing.{Placing}
+use Rattle.regalloc2_validate.specs.Constraints.{op_at}
+use Rattle.regalloc2_walk.specs.States.{tables_of}
+use Rattle.regalloc2_validate.proofs.Reading.{read_operand}
+use Rattle.regalloc2_steps.proofs.Operands.{is_unmarked, op_in_tables, use_in_tables, one_register, one_use, one_def, one_reuse}
+use Rattle.regalloc2_walk.proofs.state.State.place_operand.Goals as goal
+
+pub returns-in-Some-clause-ok : goal.returns-in-Some-clause-ok
+returns-in-Some-clause-ok g c =
+    let ops : List OperandValue = c.args.operands.now in
+    let o : c.index-operands-k.result ≡ op_at ops c.args.k = read_operand ops c.args.k c.index-operands-k.result c.requires.inside c.index-operands-k.is in
+    one_register c.args.inst c.args.is_ret ops c.args.k c.args.here.now c.args.turn.now (tables_of c.args.self.now) c.index-operands-k.result c.in-Some.preg c.reg.result o (sym c.as_fixed_nonallocatable.ensures ∙ c.in-Some.is) c.reg.ensures
+
+pub put_use-requires : goal.put_use-requires
+put_use-requires g c =
+    let ops : List OperandValue = c.args.operands.now in
+    let o : c.index-operands-k.result ≡ op_at ops c.args.k = read_operand ops c.args.k c.index-operands-k.result c.requires.inside c.index-operands-k.is in
+    let not_it : is_fixed_nonallocatable c.index-operands-k.result ≡ false = is_unmarked c.index-operands-k.result (sym c.as_fixed_nonallocatable.ensures ∙ c.in_default.is) in
+    let at : c.after-point.result ≡ after c.args.inst = c.after-point.ensures.point (λ e. omega (arith, c.requires.inst)) in (
+      search rules,
+      (
+        subst (λ (p : ℕ). NoneBefore p c.args.self.now.edits) (sym at) c.requires.later,
+        use_in_tables ops c.args.k c.index-operands-k.result c.index-here-k.result c.use_placing-placing.result (tables_of c.args.self.now) c.requires.inside o c.use_placing-placing.ensures not_it c.requires.in_tables,
+      ),
+    )
+
+pub returns-then-not-defines-clause-ok : goal.returns-then-not-defines-clause-ok
+returns-then-not-defines-clause-ok g c =
+    let ops : List OperandValue = c.args.operands.now in
+    let o : c.index-operands-k.result ≡ op_at ops c.args.k = read_operand ops c.args.k c.index-operands-k.result c.requires.inside c.index-operands-k.is in
+    let not_it : is_fixed_nonallocatable c.index-operands-k.result ≡ false = is_unmarked c.index-operands-k.result (sym c.as_fixed_nonallocatable.ensures ∙ c.in_default.is) in
+    let at : c.after-point.result ≡ after c.args.inst = c.after-point.ensures.point (λ e. omega (arith, c.requires.inst)) in
+    let h : c.index-here-k.result ≡ slice_index_or c.args.here.now c.args.k NoPlace = get_or_read c.args.here.now c.args.k c.index-here-k.result (omega (arith, c.requires.inside, c.requires.here_long)) c.index-here-k.is NoPlace in
+    one_use c.args.inst c.args.is_ret ops c.args.k c.args.here.now c.args.turn.now c.put_use.new.turn (tables_of c.args.self.now) (tables_of c.put_use.new.self) c.index-operands-k.result c.index-here-k.result c.use_placing-placing.result
+    c.after-point.result c.in_ok-here.field-0 o h c.use_placing-placing.ensures at not_it (sym c.defines.ensures ∙ c.if-not-defines.true) c.in_ok-here.ensures.ok
+
+pub returns-then-not-defines-clause-later : goal.returns-then-not-defines-clause-later
+returns-then-not-defines-clause-later g c =
+    let at : c.after-point.result ≡ after c.args.inst = c.after-point.ensures.point (λ e. omega (arith, c.requires.inst)) in
+    subst (λ (p : ℕ). NoneBefore p c.put_use.new.self.edits) at c.in_ok-here.ensures.later
+
+pub put_def-requires : goal.put_def-requires
+put_def-requires g c =
+    let ops : List OperandValue = c.args.operands.now in
+    let o : c.index-operands-k.result ≡ op_at ops c.args.k = read_operand ops c.args.k c.index-operands-k.result c.requires.inside c.index-operands-k.is in
+    let not_it : is_fixed_nonallocatable c.index-operands-k.result ≡ false = is_unmarked c.index-operands-k.result (sym c.as_fixed_nonallocatable.ensures ∙ c.in_default.is) in
+    let at : c.after-point.result ≡ after c.args.inst = c.after-point.ensures.point (λ e. omega (arith, c.requires.inst)) in (
+      search rules,
+      (
+        subst (λ (p : ℕ). NoneBefore p c.args.self.now.edits) (sym at) c.requires.later,
+        subst (λ (x : Placing). x.vreg.number < length c.args.self.now.places.stands) (sym c.reuse_placing-placing.ensures) (op_in_tables ops c.args.k c.index-operands-k.result (tables_of c.args.self.now) c.requires.inside o not_it c.requires.in_tables),
+      ),
+    )
+
+pub returns-in-Some-reused-clause-ok : goal.returns-in-Some-reused-clause-ok
+returns-in-Some-reused-clause-ok g c =
+    let ops : List OperandValue = c.args.operands.now in
+    let o : c.index-operands-k.result ≡ op_at ops c.args.k = read_operand ops c.args.k c.index-operands-k.result c.requires.inside c.index-operands-k.is in
+    let at : c.after-point.result ≡ after c.args.inst = c.after-point.ensures.point (λ e. omega (arith, c.requires.inst)) in
+    one_reuse c.args.inst c.args.is_ret ops c.args.k c.args.here.now c.set_place.new.places c.args.turn.now c.put_def.new.turn (tables_of c.args.self.now) (tables_of c.put_def.new.self) c.index-operands-k.result c.in-Some-reused.index
+    c.reuse_placing-placing.result c.after-point.result c.in_ok-place.place o c.reuse_placing-placing.ensures at (sym c.defines.ensures ∙ c.if-not-defines.false) c.in-Some-reused.ensures.some c.set_place.ensures c.in_ok-place.ensures.ok
+
+pub returns-in-Some-reused-clause-later : goal.returns-in-Some-reused-clause-later
+returns-in-Some-reused-clause-later g c =
+    let at : c.after-point.result ≡ after c.args.inst = c.after-point.ensures.point (λ e. omega (arith, c.requires.inst)) in
+    subst (λ (p : ℕ). NoneBefore p c.put_def.new.self.edits) at c.in_ok-place.ensures.later
+
+pub put_def-requires-2 : goal.put_def-requires-2
+put_def-requires-2 g c =
+    let ops : List OperandValue = c.args.operands.now in
+    let o : c.index-operands-k.result ≡ op_at ops c.args.k = read_operand ops c.args.k c.index-operands-k.result c.requires.inside c.index-operands-k.is in
+    let not_it : is_fixed_nonallocatable c.index-operands-k.result ≡ false = is_unmarked c.index-operands-k.result (sym c.as_fixed_nonallocatable.ensures ∙ c.in_default.is) in
+    let at : c.after-point.result ≡ after c.args.inst = c.after-point.ensures.point (λ e. omega (arith, c.requires.inst)) in (
+      search rules,
+      (
+        subst (λ (p : ℕ). NoneBefore p c.args.self.now.edits) (sym at) c.requires.later,
+        subst (λ (x : Placing). x.vreg.number < length c.args.self.now.places.stands) (sym c.def_placing.ensures) (op_in_tables ops c.args.k c.index-operands-k.result (tables_of c.args.self.now) c.requires.inside o not_it c.requires.in_tables),
+      ),
+    )
+
+pub returns-clause-ok : goal.returns-clause-ok
+returns-clause-ok g c =
+    let ops : List OperandValue = c.args.operands.now in
+    let o : c.index-operands-k.result ≡ op_at ops c.args.k = read_operand ops c.args.k c.index-operands-k.result c.requires.inside c.index-operands-k.is in
+    let at : c.after-point.result ≡ after c.args.inst = c.after-point.ensures.point (λ e. omega (arith, c.requires.inst)) in
+    one_def c.args.inst c.args.is_ret ops c.args.k c.args.here.now c.args.turn.now c.put_def-2.new.turn (tables_of c.args.self.now) (tables_of c.put_def-2.new.self) c.index-operands-k.result
+    c.def_placing.result c.after-point.result c.in_ok-here-2.field-0 o c.def_placing.ensures at (sym c.defines.ensures ∙ c.if-not-defines.false) (c.in_default-reused.ensures.none refl) c.in_ok-here-2.ensures.ok
+
+pub returns-clause-later : goal.returns-clause-later
+returns-clause-later g c =
+    let at : c.after-point.result ≡ after c.args.inst = c.after-point.ensures.point (λ e. omega (arith, c.requires.inst)) in
+    subst (λ (p : ℕ). NoneBefore p c.put_def-2.new.self.edits) at c.in_ok-here-2.ensures.later

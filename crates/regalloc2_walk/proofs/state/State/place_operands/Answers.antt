@@ -1,0 +1,53 @@
+use Rattle.std.proofs.Common.{ℕ, ◌≡◌, List, length, refl, sym, ap, ◌∙◌, subst, arith, rules}
+use Rattle.regalloc2_names.specs.Operand.{OperandValue}
+use Rattle.regalloc2_function.specs.SourceRun.{is_late}
+use Rattle.regalloc2_validate.specs.Constraints.{op_at}
+use Rattle.regalloc2_steps.specs.Steps.{none_placed, of_other, one_placed, PlacesAt}
+use Rattle.regalloc2_walk.specs.States.{tables_of}
+use Rattle.regalloc2_validate.proofs.Reading.{read_operand}
+use Rattle.regalloc2_steps.proofs.Emptying.{same_then}
+use Rattle.regalloc2_walk.proofs.state.State.place_operands.Goals as goal
+use Rattle.regalloc2_walk.proofs.state.State.place_operands.Goals.{then-stands_at+in_ok-place_operand, else-stands_at}
+
+pub loop-k-init : goal.loop-k-init
+loop-k-init g c = record { done = none_placed; later = c.requires.later; long = refl; machine = record { allocatable = refl; fixed_stack = refl; dedicated = refl; sizes = refl; vregs = refl; lent = refl } }
+
+pub place_operand-requires : goal.place_operand-requires
+place_operand-requires g c = (
+  search rules,
+  (
+    c.loop-k-test.true,
+    (
+      c.requires.inst,
+      (c.loop-k.invariant.later, (λ k lt f. let w = c.requires.in_tables k lt f in omega (arith, w, c.loop-k.invariant.long), omega (arith, c.requires.here_long, c.loop-k.auto.here))),
+    ),
+  ),
+)
+
+pub loop-k-preserved : goal.loop-k-preserved
+loop-k-preserved g c =
+    let ops : List OperandValue = c.args.operands.now in
+    let k : ℕ = c.loop-k.k in
+    let o : c.index-operands-k.result ≡ op_at ops k = read_operand ops k c.index-operands-k.result c.loop-k-test.true c.index-operands-k.is in
+    let late : is_late (op_at ops k).position ≡ is_late c.index-operands-k.result.position = sym (ap (λ (x : OperandValue). is_late x.position) o) in
+    elim c.if-stands_at.branch [
+      | then-stands_at+in_ok-place_operand w ↦ rw (w.self-is, w.turn-is, w.here-is) (record {
+        done = one_placed k c.loop-k.here w.place_operand.new.here c.loop-k.turn w.place_operand.new.turn (tables_of c.loop-k.self) (tables_of w.place_operand.new.self) c.loop-k.invariant.done
+            (late ∙ c.stands_at.ensures.0 w.if-stands_at.true) w.in_ok-place_operand.ensures.ok;
+        later = w.in_ok-place_operand.ensures.later;
+        long = w.in_ok-place_operand.ensures.long ∙ c.loop-k.invariant.long;
+        machine = same_then (tables_of c.args.self.now) (tables_of c.loop-k.self) (tables_of w.place_operand.new.self) c.loop-k.invariant.machine w.in_ok-place_operand.ensures.machine;
+      })
+      | else-stands_at w ↦ rw (w.self-is, w.turn-is, w.here-is) (record {
+        done = of_other k c.loop-k.here c.loop-k.turn (tables_of c.loop-k.self) c.loop-k.invariant.done (λ e. let t = c.stands_at.ensures.1 (sym late ∙ e) in let f = w.if-stands_at.false in absurd cc);
+        later = c.loop-k.invariant.later;
+        long = c.loop-k.invariant.long;
+        machine = c.loop-k.invariant.machine;
+      })
+    ]
+
+pub returns-clause-ok : goal.returns-clause-ok
+returns-clause-ok g c =
+    let e : c.loop-k.k ≡ length c.args.operands.now = omega arith in
+    let P : ℕ → Type 0 = λ k. PlacesAt c.args.inst c.args.is_ret (is_late c.args.pos) c.args.operands.now c.args.here.now c.args.turn.now (tables_of c.args.self.now) k c.loop-k.here c.loop-k.turn (tables_of c.loop-k.self) in
+    subst P e c.loop-k.invariant.done

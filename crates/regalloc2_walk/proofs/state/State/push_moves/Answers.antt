@@ -1,0 +1,16 @@
+use Rattle.std.proofs.Common.{ℕ, List, ◌++◌, ap, ◌∙◌}
+use Rattle.regalloc2_function.specs.OutputValue.{MoveValue}
+use Rattle.regalloc2_tables.specs.Lending.{Moves, pushed}
+use Rattle.regalloc2_steps.specs.Steps.{Tables}
+use Rattle.regalloc2_walk.specs.States.{tables_of}
+use Rattle.regalloc2_walk.proofs.state.State.push_moves.Goals as goal
+
+pub returns-clause-ok : goal.returns-clause-ok
+returns-clause-ok g c =
+    let middle : Tables = tables_of c.order.new.self in
+    record {
+      made = c.in_ok-made.made.items;
+      middle = middle;
+      orders = c.in_ok-made.ensures.ok;
+      pushes = ap (λ (es : List (ℕ × MoveValue)). record middle { edits = es }) (c.in_ok-push_all.ensures.ok ∙ ap (λ (ms : Moves). middle.edits ++ pushed c.args.point ms) c.as_slice.ensures);
+    }

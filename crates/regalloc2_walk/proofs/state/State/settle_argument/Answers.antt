@@ -1,0 +1,14 @@
+use Rattle.std.proofs.Common.{◌≡◌, refl, sym, ◌∙◌}
+use Rattle.regalloc2_names.specs.Place.{InRegister}
+use Rattle.regalloc2_steps.specs.Branches.{from_register}
+use Rattle.regalloc2_steps.specs.Steps.{Tables}
+use Rattle.regalloc2_walk.specs.States.{tables_of}
+use Rattle.regalloc2_flow.proofs.Forms.{place_of_register}
+use Rattle.regalloc2_walk.proofs.state.State.settle_argument.Goals as goal
+
+pub returns-in-Some-clause-ok : goal.returns-in-Some-clause-ok
+returns-in-Some-clause-ok g c =
+    let e : c.place_of.result ≡ InRegister c.in-Some.preg = place_of_register c.place_of.result c.in-Some.preg (sym c.as_reg.ensures ∙ c.in-Some.is) in
+    let m : Tables = record (tables_of c.args.self.now) { slots = c.slot_of.new.self } in
+    from_register c.in-Some.preg m (sym c.place_of.ensures.place ∙ e) c.in_ok-slot.ensures.ok refl refl
+    (record { allocatable = refl; fixed_stack = refl; dedicated = refl; sizes = c.slot_of.ensures.sizes; vregs = c.slot_of.ensures.vregs; lent = c.slot_of.ensures.lent }) c.in_ok-evict_from.ensures.ok

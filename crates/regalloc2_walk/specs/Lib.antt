@@ -1,0 +1,2 @@
+pub mod Reserving
+pub mod States

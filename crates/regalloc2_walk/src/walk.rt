@@ -1,0 +1,126 @@
+//! The walk over all blocks, from the last to the first, and over the instructions of each.
+
+ghost use Rattle.std.specs.Prelude.{◌≡◌, ◌<◌, ◌≤◌, ◌+◌, ◌*◌, [], length, slice_index, slice_index_or, ℕ, OnOk, IfErr};
+ghost use Rattle.regalloc2_names.specs.Point.{before, after};
+ghost use Rattle.regalloc2_names.specs.Place.{NoPlace};
+ghost use Rattle.regalloc2_function.specs.FunctionValue.{block_at, operand_count};
+ghost use Rattle.regalloc2_tables.specs.Tables.{NoneBefore};
+ghost use Rattle.regalloc2_steps.specs.Branches.{AreApart, LendsAtMost};
+ghost use Rattle.regalloc2_tables.specs.Lack.{AreFullWith, LacksOnly};
+ghost use Rattle.regalloc2_walk.specs.States.{tables_of};
+ghost use Rattle.regalloc2_steps.specs.Walks.{AllocatesIn, MayBeAllocated, WalksBlocks, WalksIn, lent_at, offset_of};
+
+use super::state::State;
+use regalloc2_function::Function;
+use regalloc2_index::{Block, Inst};
+use regalloc2_names::{Allocation, RegAllocError};
+use regalloc2_tables::turn::Turn;
+use std::alloc::Allocator;
+
+impl<'a, A: Allocator> State<'a, A> {
+    /// Allocates an instruction of a block, whose operands' places begin at `start`. A branch passes its arguments.
+    fn allocate_in<F: Function, B: Allocator>(
+        &mut self,
+        alloc: &B,
+        f: &F,
+        block: Block,
+        inst: Inst,
+        start: usize,
+        allocs: &mut [Allocation],
+    ) -> Result<(), RegAllocError>
+        requires block { block < length (F.function f.now).blocks }
+        requires inst { inst < length (F.function f.now).insts }
+        requires first { (block_at (F.function f.now) block).range.first ≤ inst }
+        requires end { inst < (block_at (F.function f.now) block).range.end }
+        requires well_formed { MayBeAllocated (F.function f.now) }
+        requires long { length self.old.places.stands ≡ (F.function f.now).num_vregs }
+        requires apart { AreApart (tables_of self.old) }
+        requires later { NoneBefore (after inst) self.old.edits }
+        requires start { start ≡ offset_of (F.function f.now) inst }
+        requires allocs_long { length allocs.old ≡ operand_count (F.function f.now) }
+        requires no_places { (k : ℕ) → k < offset_of (F.function f.now) (inst + 1) → slice_index_or allocs.old k NoPlace ≡ NoPlace }
+        ensures ok { OnOk result (AllocatesIn (F.function f.now) block inst allocs.old allocs.new (tables_of self.old) (tables_of self.new)) }
+        ensures later { OnOk result (NoneBefore (before inst) self.new.edits) }
+        ensures long { OnOk result (length self.new.places.stands ≡ length self.old.places.stands) }
+        ensures machine { LendsAtMost (lent_at (F.function f.now) inst) (tables_of self.old) (tables_of self.new) }
+        ensures err { IfErr result (LacksOnly (AreFullWith self.old.slots (self.old.slots.lent + lent_at (F.function f.now) inst))) }
+    {
+        let mut turn = Turn::new(self.registers.every(), self.registers.spare());
+        let operands = f.inst_operands(inst);
+        let clobbers = f.inst_clobbers(inst);
+        let is_ret = f.is_ret(inst);
+        self.allocate_at(&mut turn, inst, is_ret, operands, clobbers, start, allocs)?;
+        if !f.is_branch(inst) {
+            return Ok(());
+        }
+        self.pass_arguments(&mut turn, alloc, f, block, inst)?;
+        Ok(())
+    }
+
+    /// Allocates the instructions of a block, from the last to the first.
+    fn allocate_insts<F: Function, B: Allocator>(
+        &mut self,
+        alloc: &B,
+        f: &F,
+        block: Block,
+        offsets: &[u32],
+        allocs: &mut [Allocation],
+    ) -> Result<(), RegAllocError>
+        requires block { block < length (F.function f.now).blocks }
+        requires well_formed { MayBeAllocated (F.function f.now) }
+        requires long { length self.old.places.stands ≡ (F.function f.now).num_vregs }
+        requires apart { AreApart (tables_of self.old) }
+        requires later { NoneBefore (before (block_at (F.function f.now) block).range.end) self.old.edits }
+        requires offsets_long { length offsets.now ≡ length (F.function f.now).insts }
+        requires offsets { (i : ℕ) → i < length (F.function f.now).insts → slice_index offsets.now i ≡ offset_of (F.function f.now) i }
+        requires allocs_long { length allocs.old ≡ operand_count (F.function f.now) }
+        requires no_places { (k : ℕ) → k < offset_of (F.function f.now) (block_at (F.function f.now) block).range.end → slice_index_or allocs.old k NoPlace ≡ NoPlace }
+        ensures ok { OnOk result (WalksIn (F.function f.now) block allocs.old (tables_of self.old) (block_at (F.function f.now) block).range.first allocs.new (tables_of self.new)) }
+        ensures no_places { OnOk result ((k : ℕ) → k < offset_of (F.function f.now) (block_at (F.function f.now) block).range.first → slice_index_or allocs.new k NoPlace ≡ NoPlace) }
+        ensures later { OnOk result (NoneBefore (before (block_at (F.function f.now) block).range.first) self.new.edits) }
+        ensures long { OnOk result (length self.new.places.stands ≡ length self.old.places.stands) }
+        ensures machine { LendsAtMost 6 (tables_of self.old) (tables_of self.new) }
+        ensures err { IfErr result (LacksOnly (AreFullWith self.old.slots (self.old.slots.lent + 6))) }
+    {
+        let range = f.block_insns(block);
+        let first = range.first().index();
+        let mut i = range.end().index();
+        while i > first {
+            i -= 1;
+            self.allocate_in(alloc, f, block, Inst::new(i), offsets[i] as usize, allocs)?;
+        }
+        Ok(())
+    }
+
+    /// Allocates all instructions, from the last block to the first.
+    pub fn allocate_blocks<F: Function, B: Allocator>(
+        &mut self,
+        alloc: &B,
+        f: &F,
+        offsets: &[u32],
+        allocs: &mut [Allocation],
+    ) -> Result<(), RegAllocError>
+        requires fresh { self.old.edits ≡ [] }
+        requires well_formed { MayBeAllocated (F.function f.now) }
+        requires long { length self.old.places.stands ≡ (F.function f.now).num_vregs }
+        requires apart { AreApart (tables_of self.old) }
+        requires offsets_long { length offsets.now ≡ length (F.function f.now).insts }
+        requires offsets { (i : ℕ) → i < length (F.function f.now).insts → slice_index offsets.now i ≡ offset_of (F.function f.now) i }
+        requires allocs_long { length allocs.old ≡ operand_count (F.function f.now) }
+        requires no_places { (k : ℕ) → slice_index_or allocs.old k NoPlace ≡ NoPlace }
+        ensures ok { OnOk result (WalksBlocks (F.function f.now) allocs.old (tables_of self.old) 0 allocs.new (tables_of self.new)) }
+        ensures machine { LendsAtMost (6 * length (F.function f.now).blocks) (tables_of self.old) (tables_of self.new) }
+        ensures err { IfErr result (LacksOnly (AreFullWith self.old.slots (self.old.slots.lent + 6 * length (F.function f.now).blocks))) }
+    {
+        let mut order = Vec::new(alloc);
+        let mut b = f.num_blocks();
+        while b > 0 {
+            b -= 1;
+            let block = Block::new(b);
+            self.allocate_insts(alloc, f, block, offsets, allocs)?;
+            let first = f.block_insns(block).first();
+            self.begin_block(first, f.block_params(block), &mut order)?;
+        }
+        Ok(())
+    }
+}
