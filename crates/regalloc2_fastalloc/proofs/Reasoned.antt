@@ -9,8 +9,8 @@ use Rattle.regalloc2_function.specs.Reasons.{HasShape, IsShapeFault, IsSound, Is
 use Rattle.regalloc2_function.specs.Reasons.IsShapeFault.{apart, critical, operands, outside, unlisted}
 use Rattle.regalloc2_function.specs.Reasons.IsSoundnessFault.{arguments, definitions, elsewhere, livein, open_end}
 use Rattle.regalloc2_validate.specs.Constraints.{IsFixedFault}
-use Rattle.regalloc2_tables.specs.Lack.{LacksOnly}
-use Rattle.regalloc2_fastalloc.specs.Reason.{PassesFirst, PassesAll, IsReason, units_needed}
+use Rattle.regalloc2_tables.specs.Lack.{Lacks, LacksOnly}
+use Rattle.regalloc2_fastalloc.specs.Reason.{PassesFirst, PassesAll, IsReason, SomeDoesNotFit, units_needed}
 use Rattle.regalloc2_validate.specs.Tested.{IsFault}
 use Rattle.regalloc2_validate.specs.Tested.IsFault.{memory, misshapen, unsound, clashing}
 
@@ -38,15 +38,29 @@ fault_is_reason f env asked p on (misshapen h) = shape_reason f env asked p on h
 fault_is_reason f env asked p on (unsound shape h) = soundness_reason f env asked p on shape h
 fault_is_reason f env asked {e} p on (clashing shape sound h) = fixed_reason f env asked e p on shape sound h
 
+-- what the walk lacks, where it says when registers and slots do
+pub lacks_where : (R P Q : Type 0) → (P → Q) → (e : RegAllocError) → LacksOnly P e → (e ≡ TooManyLiveRegs → R) → Lacks R Q e
+lacks_where R P Q more (CritEdge a b) h where_it = h
+lacks_where R P Q more (SSA v i) h where_it = h
+lacks_where R P Q more (BB b) h where_it = h
+lacks_where R P Q more (Branch i) h where_it = h
+lacks_where R P Q more EntryLivein h where_it = h
+lacks_where R P Q more (DisallowedBranchArg i) h where_it = h
+lacks_where R P Q more TooManyLiveRegs h where_it = where_it refl
+lacks_where R P Q more TooManyOperands h where_it = h
+lacks_where R P Q more (Unsupported i) h where_it = h
+lacks_where R P Q more TooManySpillSlots h where_it = more h
+lacks_where R P Q more Memory h where_it = h
+
 -- and what may be lacking is one, after all tests
-pub lack_is_a_reason : (f : FunctionValue) (env : MachineValue) (asked : Bool) → PassesAll f env asked → (e : RegAllocError) → LacksOnly (2 ^ 24 < units_needed f) e → IsReason f env asked e
+pub lack_is_a_reason : (f : FunctionValue) (env : MachineValue) (asked : Bool) → PassesAll f env asked → (e : RegAllocError) → Lacks (SomeDoesNotFit f env) (2 ^ 24 < units_needed f) e → IsReason f env asked e
 lack_is_a_reason f env asked p (CritEdge a b) h = absurd h
 lack_is_a_reason f env asked p (SSA v i) h = absurd h
 lack_is_a_reason f env asked p (BB b) h = absurd h
 lack_is_a_reason f env asked p (Branch i) h = absurd h
 lack_is_a_reason f env asked p EntryLivein h = absurd h
 lack_is_a_reason f env asked p (DisallowedBranchArg i) h = absurd h
-lack_is_a_reason f env asked p TooManyLiveRegs h = p
+lack_is_a_reason f env asked p TooManyLiveRegs h = (p, h)
 lack_is_a_reason f env asked p TooManyOperands h = absurd h
 lack_is_a_reason f env asked p (Unsupported i) h = absurd h
 lack_is_a_reason f env asked p TooManySpillSlots h = (p, h)

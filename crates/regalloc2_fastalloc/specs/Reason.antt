@@ -4,6 +4,7 @@ use Rattle.regalloc2_names.specs.declared.RegAllocError.{RegAllocError}
 use Rattle.regalloc2_names.specs.declared.RegAllocError.TheVariants.{CritEdge, SSA, BB, Branch, EntryLivein, DisallowedBranchArg, TooManyLiveRegs, TooManyOperands, Unsupported, TooManySpillSlots, Memory}
 use Rattle.regalloc2_names.specs.declared.RegClass.TheVariants.{Int, Float, Vector}
 use Rattle.regalloc2_function.specs.FunctionValue.{FunctionValue, inst_at, operand_count, slot_size}
+use Rattle.regalloc2_function.specs.Fitting.{Fits}
 use Rattle.regalloc2_function.specs.Machine.{MachineValue}
 use Rattle.regalloc2_function.specs.WellFormed.{IsWellFormed}
 use Rattle.regalloc2_validate.specs.Constraints.{AreUnlimited, BranchDefinesNothing, IsFirst}
@@ -32,6 +33,10 @@ IsAskedFault f env asked e = PassesFirst f × (asked ≡ true) × IsFault f env 
 abbrev pub IsNotTaken : FunctionValue → ℕ → Type 0
 IsNotTaken f i = IsFirst f AreUnlimited i ⊎ (((j : ℕ) → j < length f.insts → AreUnlimited (inst_at f j)) × IsFirst f BranchDefinesNothing i)
 
+-- an instruction has too few registers
+abbrev pub SomeDoesNotFit : FunctionValue → MachineValue → Type 0
+SomeDoesNotFit f env = (i : ℕ) × (i < length f.insts) × (Fits f env (inst_at f i) → ⊥)
+
 -- how many units the greatest slot takes
 abbrev pub greatest_slot : FunctionValue → ℕ
 greatest_slot f = max (slot_size f.slot_sizes Int) (max (slot_size f.slot_sizes Float) (slot_size f.slot_sizes Vector))
@@ -40,7 +45,7 @@ greatest_slot f = max (slot_size f.slot_sizes Int) (max (slot_size f.slot_sizes 
 abbrev pub units_needed : FunctionValue → ℕ
 units_needed f = 2 * greatest_slot f * (f.num_vregs + 6 * length f.blocks)
 
--- The reason that an error gives. Not yet promised: that `TooManyLiveRegs` comes only where an instruction has too few registers (`Fits` in regalloc2_function/specs/Fitting is to say so), and `Memory` only where memory ran out. Of these two it says which tests pass.
+-- The reason that an error gives. Not promised: that `Memory` comes only where memory ran out, of which it says which tests pass; nor that `TooManyLiveRegs` comes wherever an instruction doesn't fit.
 abbrev pub IsReason : FunctionValue → MachineValue → Bool → RegAllocError → Type 0
 IsReason f env asked (CritEdge p b) = IsAskedFault f env asked (CritEdge p b)
 IsReason f env asked (SSA v i) = IsAskedFault f env asked (SSA v i)
@@ -48,7 +53,7 @@ IsReason f env asked (BB b) = IsAskedFault f env asked (BB b)
 IsReason f env asked (Branch i) = IsAskedFault f env asked (Branch i)
 IsReason f env asked EntryLivein = IsAskedFault f env asked EntryLivein
 IsReason f env asked (DisallowedBranchArg i) = IsAskedFault f env asked (DisallowedBranchArg i)
-IsReason f env asked TooManyLiveRegs = PassesAll f env asked
+IsReason f env asked TooManyLiveRegs = PassesAll f env asked × SomeDoesNotFit f env
 IsReason f env asked TooManyOperands = 2 ^ 32 ≤ operand_count f
 IsReason f env asked (Unsupported i) = IsAskedFault f env asked (Unsupported i) ⊎ (PassesFirst f × PassesAsked f env asked × IsNotTaken f i)
 IsReason f env asked TooManySpillSlots = PassesAll f env asked × (2 ^ 24 < units_needed f)

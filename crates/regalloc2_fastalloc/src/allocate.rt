@@ -7,9 +7,9 @@ ghost use Rattle.regalloc2_function.specs.Views.{edit_of, machine_of, output_of}
 ghost use Rattle.regalloc2_function.specs.WellFormed.{IsWellFormed};
 ghost use Rattle.regalloc2_function.specs.Fitting.{MachineFits};
 ghost use Rattle.regalloc2_validate.specs.Constraints.{BranchDefinesNothing};
-ghost use Rattle.regalloc2_tables.specs.Lack.{LacksOnly};
+ghost use Rattle.regalloc2_tables.specs.Lack.{Lacks};
 ghost use Rattle.regalloc2_fastalloc.specs.Promise.{IsAllocation};
-ghost use Rattle.regalloc2_fastalloc.specs.Reason.{units_needed};
+ghost use Rattle.regalloc2_fastalloc.specs.Reason.{SomeDoesNotFit, units_needed};
 ghost use Rattle.regalloc2_validate.specs.Profile.{AreTaken};
 ghost use Rattle.regalloc2_steps.specs.Walks.{offset_of};
 
@@ -39,7 +39,7 @@ fn fill_places<A: Allocator + Copy, F: Function, B: Allocator>(
     requires allocs_long { length allocs.old ≡ operand_count (F.function f.now) }
     requires no_places { (k : ℕ) → slice_index_or allocs.old k NoPlace ≡ NoPlace }
     ensures allocation { IfOk result (λ made. IsAllocation (F.function f.now) (machine_of env.now) (record { num_spillslots = made.0; edits = map edit_of made.1.items; allocs = allocs.new; offsets = offsets.now; debug_locations = [] })) }
-    ensures err { IfErr result (LacksOnly (2 ^ 24 < units_needed (F.function f.now))) }
+    ensures err { IfErr result (Lacks (SomeDoesNotFit (F.function f.now) (machine_of env.now)) (2 ^ 24 < units_needed (F.function f.now))) }
 {
     let mut state = State::new(&alloc, f, env)?;
     state.allocate_blocks(&alloc, f, offsets, allocs)?;
@@ -61,7 +61,7 @@ pub fn allocate<A: Allocator + Copy, F: Function, B: Allocator>(
     requires well_formed { IsWellFormed (machine_of env.now) (F.function f.now) }
     requires few { operand_count (F.function f.now) < 2 ^ 32 }
     ensures allocation { IfOk result (λ out. IsAllocation (F.function f.now) (machine_of env.now) (output_of out)) }
-    ensures err { IfErr result (LacksOnly (2 ^ 24 < units_needed (F.function f.now))) }
+    ensures err { IfErr result (Lacks (SomeDoesNotFit (F.function f.now) (machine_of env.now)) (2 ^ 24 < units_needed (F.function f.now))) }
 {
     let total = count_operands(f).unwrap();
     let offsets = allocs::offsets(alloc, f)?;

@@ -72,17 +72,19 @@ impl<A: Allocator + Copy> Ctx<A> {
 /// path, and whatever the instructions mean, each use reads the function's own value. And where a path comes to a block, the
 /// slot of each virtual register that is live there holds its value. That premise isn't tested here.
 ///
-/// Refused are, in this order: 2^32 operands or more, by `TooManyOperands`; where `options.validate_ssa` is true, first blocks
-/// and edges that aren't sound, as `CFGInfo::init` says, then an entry, terminators, arguments, definitions or uses that
-/// aren't, as `validate_ssa` says, and then reuses that aren't sound and registers fixed beside clobbers, by `Unsupported`
-/// with the first such instruction; an operand under `Limit`, and then a branch that has a definition, by `Unsupported` with
-/// the first such instruction. Only after all these tests comes `TooManyLiveRegs`, when no register is found for an operand,
-/// or `TooManySpillSlots`, when a slot would end past 2^24: that happens only where `units_needed` passes 2^24, which is twice
-/// the size of the greatest slot, for each virtual register and six times for each block. Slots take no more units than that,
-/// and at most 2^24. `Memory` comes when memory runs out, never from the first test, which asks for none.
+/// Refused are, in this order: 2^32 operands or more, by `TooManyOperands`; where `options.validate_ssa` is true, first
+/// blocks and edges that aren't sound, as `CFGInfo::init` says, then an entry, terminators, arguments, definitions or uses
+/// that aren't, as `validate_ssa` says, and then reuses that aren't sound and registers fixed beside clobbers, by
+/// `Unsupported` with the first such instruction; an operand under `Limit`, and then a branch that has a definition, by
+/// `Unsupported` with the first such instruction. Only after all these tests comes `TooManyLiveRegs`, when no register is
+/// found for an operand or a move: that happens only where some instruction doesn't fit, by `Fits`: it asks for more
+/// registers of a class than there are, or for a fixed one that the machine lacks or another operand holds. Or
+/// `TooManySpillSlots`, when a slot would end past 2^24: that happens only where `units_needed` passes 2^24, which is twice
+/// the size of the greatest slot, for each virtual register and six times for each block. Slots take no more units than
+/// that, and at most 2^24. `Memory` comes when memory runs out, never from the first test, which asks for none.
 ///
-/// Not promised yet: that `TooManyLiveRegs` comes only where an instruction asks for more registers than there are, and
-/// `Memory` only where memory ran out. The contract says of the one that all tests pass, of the other that the first does.
+/// Not promised: that `TooManyLiveRegs` comes wherever an instruction doesn't fit, nor that `Memory` comes only where memory ran
+/// out, of which the contract says that the first test passes.
 ///
 /// A reuse is sound where it is a late definition that names an early use, which no other one names, of a virtual register of
 /// its class, in any register or fixed to an allocatable one. No definition, late use or reused operand may be fixed to a

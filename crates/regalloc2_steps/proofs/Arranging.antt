@@ -101,27 +101,18 @@ module _ (s : SlotsValue) (class : RegClass) (lent : Lent) (next : AreNext s cla
     ]
 
     -- and one that is taken lies below the new count
-    pub taken_below : (p : Place) → IsTaken lent taken p → (k : ℕ) × (p ≡ InSlot k) × (s.count ≤ k) × (k < new.count)
-    taken_below p (inl (a, some)) = (
-      later_slot s class 0,
-      (next.first p a).0,
-      later_past s class next.owned 0,
-      (
-          let low = (later_from s class next.owned 0).1 in
-          elim (cases_eq taken 1) [
-            | inl one ↦ (let e = lends.some 0 (omega (arith, one)) in omega (arith, e, low))
-            | inr other ↦ (let e = lends.some 1 (omega (arith, other, some, few)) in let more = first_end s class next.owned in omega (arith, e, low, more))
-          ]),
-    )
-    taken_below p (inr (a, some)) = (
-      later_slot s class 1,
-      (next.second p a).0,
-      later_past s class next.owned 1,
-      (
-          let low = (later_from s class next.owned 1).1 in
-          let e = lends.some 1 (omega (arith, some, few)) in
-          omega (arith, e, low)),
-    )
+    pub taken_below : (p : Place) → IsTaken lent taken p → (k : ℕ) × (p ≡ InSlot k) × (s.count ≤ k) × (k < new.count) × (j : ℕ) × (k ≡ later_slot s class j) × (later_end s class j ≤ new.count)
+    taken_below p (inl (a, some)) =
+        let low = (later_from s class next.owned 0).1 in
+        let upto : later_end s class 0 ≤ new.count = elim (cases_eq taken 1) [
+          | inl one ↦ (let e = lends.some 0 (omega (arith, one)) in omega (arith, e))
+          | inr other ↦ (let e = lends.some 1 (omega (arith, other, some, few)) in let more = first_end s class next.owned in omega (arith, e, more))
+        ] in
+        (later_slot s class 0, (next.first p a).0, later_past s class next.owned 0, omega (arith, low, upto), 0, refl, upto)
+    taken_below p (inr (a, some)) =
+        let low = (later_from s class next.owned 1).1 in
+        let e = lends.some 1 (omega (arith, some, few)) in
+        (later_slot s class 1, (next.second p a).0, later_past s class next.owned 1, omega (arith, e, low), 1, refl, omega (arith, e))
 
 -- the slots that the tables give next
 if_some : {T : Type 0} (P : T → Type 0) (o : Option T) (x : T) → IfSome o P → o ≡ Some x → P x

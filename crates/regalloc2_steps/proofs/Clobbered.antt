@@ -6,7 +6,7 @@ use Rattle.regalloc2_names.specs.Register.{Register, is_register}
 use Rattle.regalloc2_names.specs.RegisterSet.{has_register}
 use Rattle.regalloc2_flow.proofs.Cells.{is_register-same, is_register-true}
 use Rattle.regalloc2_tables.specs.declared.turn.Turn.{Turn}
-use Rattle.regalloc2_tables.specs.Turns.{Holds, SameSets}
+use Rattle.regalloc2_tables.specs.Turns.{Holds}
 use Rattle.regalloc2_steps.specs.Steps.{Tables, SameMachine, HoldsClobbers, Clears, ClearsAll, none_left, one_more}
 
 -- whether a register is in a list
@@ -57,28 +57,22 @@ pub record HoldsLate (xs : List Register) (t u : Turn) : Type 0 where
   pub late : (r : Register) → has_register u.late r ≡ not (listed r xs) && has_register t.late r
   pub early : (r : Register) → has_register u.early r ≡ has_register t.early r
   pub scratch : u.scratch ≡ t.scratch
+  pub awaited : u.awaited ≡ t.awaited
 
 pub holds_none : (t : Turn) → HoldsLate [] t t
-holds_none t = record { late = λ r. refl; early = λ r. refl; scratch = refl }
+holds_none t = record { late = λ r. refl; early = λ r. refl; scratch = refl; awaited = refl }
 
-pub holds_more : (xs : List Register) (x : Register) (t u w : Turn) → HoldsLate xs t u → Holds u w x (record { early = false; late = true }) → HoldsLate (xs ++ x ∷ []) t w
-holds_more xs x t u w h s = record {
+pub holds_more : (xs : List Register) (x : Register) (t u w : Turn) → HoldsLate xs t u → Holds u w x (record { early = false; late = true }) → w.awaited ≡ u.awaited → HoldsLate (xs ++ x ∷ []) t w
+holds_more xs x t u w h s awaited = record {
   late = λ r. s.late r ∙ ap (λ b. not (is_register x r) && b) (h.late r) ∙ both (is_register x r) (listed r xs) (has_register t.late r) ∙ ap (λ b. not b && has_register t.late r) (sym (listed-more r x xs));
   early = λ r. s.early r ∙ h.early r;
   scratch = s.scratch ∙ h.scratch;
+  awaited = awaited ∙ h.awaited;
 }
   where
     both : (a b c : Bool) → (not a && (not b && c)) ≡ (not (a || b) && c)
     both true b c = refl
     both false b c = refl
-
--- what counts registers says nothing of that
-pub held_counted : (xs : List Register) (t u w : Turn) → SameSets u w → HoldsLate xs t u → HoldsLate xs t w
-held_counted xs t u w s h = record {
-  late = λ r. ap (λ x. has_register x r) s.late ∙ h.late r;
-  early = λ r. ap (λ x. has_register x r) s.early ∙ h.early r;
-  scratch = s.scratch ∙ h.scratch;
-}
 
 pub holds_all : (s : PRegSet) (xs rest : List Register) (t u : Turn) → rest ≡ [] → ((r : Register) → (has_register s r ≡ true) ↔ Contains (xs ++ rest) r) → HoldsLate xs t u → HoldsClobbers s t u
 holds_all s xs rest t u none members h =
@@ -88,6 +82,7 @@ holds_all s xs rest t u none members h =
       late = λ r. h.late r ∙ ap (λ b. not b && has_register t.late r) (listed-all s xs own r);
       early = h.early;
       scratch = h.scratch;
+      awaited = h.awaited;
     }
 
 pub clears_all : (point : ℕ) (xs rest rs : List Register) (t u : Turn) (old new : Tables) → rest ≡ [] → xs ++ rest ≡ rs → ClearsAll point xs t old u new → ClearsAll point rs t old u new

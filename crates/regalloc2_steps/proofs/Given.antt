@@ -135,7 +135,7 @@ module _ (env : MachineValue) (apart : IsApart env) (Known : VirtualRegister →
     pub stay : SlotsStay old.slots new.slots
     pub standing : (n : ℕ) → n ≢ v.number → stood old.places n ≢ NoPlace → stood new.places n ≢ NoPlace
 
-  leaves_safe : (v : VirtualRegister) (t u : Tables) → Settles t.places u.places v NoPlace → u.slots ≡ t.slots → u.edits ≡ t.edits → SameMachine t u → IsSafe env Known Writes May t → IsSafe env Known Writes May u
+  pub leaves_safe : (v : VirtualRegister) (t u : Tables) → Settles t.places u.places v NoPlace → u.slots ≡ t.slots → u.edits ≡ t.edits → SameMachine t u → IsSafe env Known Writes May t → IsSafe env Known Writes May u
   leaves_safe v t u settles slots edits machine h =
       let stay : SlotsStay t.slots u.slots = same_stay t.slots u.slots slots in
       record {

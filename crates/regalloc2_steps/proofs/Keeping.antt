@@ -154,6 +154,7 @@ to_inst turn i v start before_it places old new ops clobbers b ret e f g h =
         begins_early = a.begins_early;
         begins_late = a.begins_late;
         begins_scratch = a.begins_scratch;
+        awaited = a.awaited;
         reserves = a.reserves;
         holds = a.holds;
         fixed = a.fixed;

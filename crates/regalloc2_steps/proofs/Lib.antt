@@ -37,6 +37,7 @@ pub mod Going
 pub mod Growing
 pub mod Joining
 pub mod Keeping
+pub mod Laid
 pub mod Last
 pub mod Lasting
 pub mod Launching
@@ -52,6 +53,7 @@ pub mod Outs
 pub mod Owing
 pub mod Owned
 pub mod Owning
+pub mod OwnedOutputs
 pub mod Parting
 pub mod Parts
 pub mod Passable
@@ -74,6 +76,7 @@ pub mod Sending
 pub mod Settling
 pub mod Showing
 pub mod Sliding
+pub mod SlotOwners
 pub mod Sooner
 pub mod Sound
 pub mod Spanning

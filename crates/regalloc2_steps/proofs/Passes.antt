@@ -142,7 +142,7 @@ module _ (env : MachineValue) (apart : IsApart env) (Known : VirtualRegister →
   not_false true h = refl
   not_false false h = absurd (h refl)
 
-  late_more : (k : ℕ) → is_late (op_at ops k).position ≡ true → OneMore env Known Writes May base ops tame (InLate k) (InLate (k + 1)) k
+  pub late_more : (k : ℕ) → is_late (op_at ops k).position ≡ true → OneMore env Known Writes May base ops tame (InLate k) (InLate (k + 1)) k
   late_more k late = record {
     before_it = λ d. (let a = d.0 in omega arith);
     at_it = (omega arith, late);
@@ -153,7 +153,7 @@ module _ (env : MachineValue) (apart : IsApart env) (Known : VirtualRegister →
     forth = λ j d. ((let a = d.0 in omega arith), d.1);
   }
 
-  early_more : (k : ℕ) → is_late (op_at ops k).position ≡ false → OneMore env Known Writes May base ops tame (InEarly k) (InEarly (k + 1)) k
+  pub early_more : (k : ℕ) → is_late (op_at ops k).position ≡ false → OneMore env Known Writes May base ops tame (InEarly k) (InEarly (k + 1)) k
   early_more k early = record {
     before_it = λ d. elim d [
       | inl late ↦ not_both (is_late (op_at ops k).position) late early

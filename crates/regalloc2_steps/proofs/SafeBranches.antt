@@ -190,7 +190,7 @@ module _ (env : MachineValue) (apart : IsApart env) (Known : VirtualRegister →
       in_hand_end : (p : Place) → IsInHand turn old middle class p → IsEndOfPass env middle.slots class p
       in_hand_end p (inl (r, is, inl lent)) = subst (IsEndOfPass env middle.slots class) (sym is) (lent_through env turn old class r h.machine lent)
       in_hand_end p (inl (r, is, inr borrowed)) = subst (IsEndOfPass env middle.slots class) (sym is) (inl (h.machine.allocatable r borrowed.small borrowed.allocatable, borrowed.of_class))
-      in_hand_end p (inr (k, is, above_it, below)) = subst (IsEndOfPass env middle.slots class) (sym is) below
+      in_hand_end p (inr (k, is, above_it, below, j, which, ends)) = subst (IsEndOfPass env middle.slots class) (sym is) below
 
       named_end : (x k : ℕ) (p : Place) → slot_name old.slots x ≡ InSlot k → p ≡ InSlot k → IsEndOfPass env middle.slots class p
       named_end x k p own is =
@@ -215,7 +215,7 @@ module _ (env : MachineValue) (apart : IsApart env) (Known : VirtualRegister →
 
       target_written : (p : Place) → IsInHand turn old middle class p ⊎ ((x : Place × Place × Unit {0}) × Contains given x × (p ≡ x.1)) → (n : ℕ) → p ≡ InSlot n → IsOwnedOrNone n
       target_written p (inl (inl (r, is, held))) n at = (let x : InRegister r ≡ InSlot n = sym is ∙ at in absurd cc)
-      target_written p (inl (inr (k, is, above_it, below))) n at = inr (λ v known own.
+      target_written p (inl (inr (k, is, above_it, below, j, which, ends))) n at = inr (λ v known own.
           let x : InSlot k ≡ InSlot n = sym is ∙ at in
           let same : k ≡ n = cc in
           let low = below_count old.slots.count (slot_name old.slots v.number) n (h.slots v.number) (sym (same_names v.number) ∙ own) in

@@ -49,11 +49,11 @@ AreBetweenSlots count ms = All (λ m. IsSlotBelow count m.0 × IsSlotBelow count
 abbrev pub IsLentPlace : Turn → Tables → RegClass → Place → Type 0
 IsLentPlace turn old class p = IsSpare turn old class p ⊎ ((k : ℕ) × (p ≡ InSlot k) × (old.slots.count ≤ k))
 
--- a place through which values go: a register that was lent or borrowed, or a slot that was lent
+-- a place through which values go: a register that was lent or borrowed, or a slot that was lent, one of the next ones of the class
 abbrev pub IsInHand : Turn → Tables → Tables → RegClass → Place → Type 0
 IsInHand turn old new class p =
     ((r : Register) × (p ≡ InRegister r) × (MayBeLent turn old class r ⊎ MayHold old class r))
-    ⊎ ((k : ℕ) × (p ≡ InSlot k) × (old.slots.count ≤ k) × (k < new.slots.count))
+    ⊎ ((k : ℕ) × (p ≡ InSlot k) × (old.slots.count ≤ k) × (k < new.slots.count) × (j : ℕ) × (k ≡ later_slot old.slots class j) × (later_end old.slots class j ≤ new.slots.count))
 
 -- a move that is made for the given ones
 pub record IsOrdered (turn : Turn) (class : RegClass) (given : Moves) (old new : Tables) (m : Place × Place × Unit {0}) : Type 0 where

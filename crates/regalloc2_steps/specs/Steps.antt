@@ -1,5 +1,5 @@
 -- What the steps of the walk do to the tables, with operands of every kind but `Limit`.
-use Rattle.std.specs.Prelude.{ℕ, ◌≡◌, ◌≢◌, ◌+◌, ◌<◌, ◌⊎◌, Bool, true, false, not, ◌&&◌, ◌||◌, List, [], ◌∷◌, ◌++◌, length, Option, None, Some, slice_index_or, slice_set}
+use Rattle.std.specs.Prelude.{ℕ, ◌≡◌, ◌≢◌, ◌+◌, ◌<◌, ◌⊎◌, Bool, true, false, not, ◌&&◌, ◌||◌, List, [], ◌∷◌, ◌++◌, length, Option, None, Some, slice_index, slice_index_or, slice_set, ◌-◌, ◌≤◌, nat_eq, is_none, if◌then◌else◌}
 use Rattle.regalloc2_names.specs.declared.RegClass.{RegClass}
 use Rattle.regalloc2_names.specs.declared.OperandConstraint.{OperandConstraint}
 use Rattle.regalloc2_names.specs.declared.OperandConstraint.TheVariants.{Any, Reg, Stack, FixedReg, Reuse, Limit}
@@ -9,11 +9,13 @@ use Rattle.regalloc2_names.specs.RegisterSet.{has_register, registers_of}
 use Rattle.regalloc2_names.specs.Place.{Place, NoPlace, InRegister, InSlot, is_place}
 use Rattle.regalloc2_names.specs.Operand.{OperandValue}
 use Rattle.regalloc2_names.specs.Point.{before, after}
+use Rattle.std.specs.List.{count_by}
+use Rattle.regalloc2_function.specs.Fitting.{is_under_reg}
 use Rattle.regalloc2_function.specs.FunctionValue.{InstValue}
 use Rattle.regalloc2_function.specs.OutputValue.{MoveValue}
 use Rattle.regalloc2_function.specs.SourceRun.{is_def, is_late, is_reading, is_fixed_nonallocatable}
-use Rattle.regalloc2_tables.specs.Tables.{PlacesValue, SlotsValue, stood, holder, Settles, GivesSlot, slot_name}
-use Rattle.regalloc2_tables.specs.Turns.{IsFreeAt, Holds, SameSets, positions_of, both}
+use Rattle.regalloc2_tables.specs.Tables.{PlacesValue, SlotsValue, stood, holder, Settles, GivesSlot, slot_name, wants_spare}
+use Rattle.regalloc2_tables.specs.Turns.{IsFreeAt, Holds, SameSets, positions_of, both, awaited_of, free_count, is_free, is_free_throughout}
 use Rattle.regalloc2_validate.specs.Constraints.{op_at}
 use Rattle.regalloc2_tables.specs.declared.turn.Turn.{Turn}
 use Rattle.regalloc2_tables.specs.declared.turn.Positions.{Positions}
@@ -101,6 +103,21 @@ pub data Picks (turn : Turn) (o : Placing) (p : Place) (old new : Tables) : Type
   slot : (o.wanted ≡ Anywhere) ⊎ (o.wanted ≡ Memory) → GivesSlot old.slots new.slots o.vreg p → new.places ≡ old.places → new.edits ≡ old.edits → SameMachine old new → Picks turn o p old new
   free : (r : Register) → (o.wanted ≡ Anywhere) ⊎ (o.wanted ≡ AnyRegister) → MayHold old o.vreg.class r → IsFreeAt turn o.positions r → p ≡ InRegister r → new ≡ old → Picks turn o p old new
 
+-- how many registers of a class are still kept for a move from stack to stack: none once one was taken for such moves
+abbrev pub spare_left : PRegSet → List (Option Register) → Turn → RegClass → ℕ
+spare_left stack kept turn class = if wants_spare stack kept class && is_none (slice_index_or turn.scratch (class_code class) None) then 1 else 0
+
+-- if a register that is free at both positions is taken, enough are left for the operands that ask for any register and for a move from stack to stack
+abbrev pub IsAffordable : Turn → Tables → Register → Type 0
+IsAffordable turn t r = is_free t.allocatable turn r ≡ true → awaited_of turn r.class + spare_left t.fixed_stack t.dedicated turn r.class + 1 ≤ free_count t.allocatable turn r.class
+
+-- how many operands of each class still ask for any register, once one that asked so is placed
+abbrev pub awaited_less : Wanted → RegClass → List ℕ → List ℕ
+awaited_less Anywhere class awaited = awaited
+awaited_less AnyRegister class awaited = slice_set awaited (class_code class) (slice_index awaited (class_code class) - 1)
+awaited_less Memory class awaited = awaited
+awaited_less (At r) class awaited = awaited
+
 -- a place is claimed: a register is emptied of others, and is held
 pub data Occupies (point : ℕ) (o : Placing) (p : Place) (t u : Turn) (old new : Tables) : Type 0 where
   in_slot : (k : ℕ) → p ≡ InSlot k → SameSets t u → new ≡ old → Occupies point o p t u old new
@@ -111,6 +128,7 @@ pub record Gets (point : ℕ) (o : Placing) (p : Place) (t u : Turn) (old new : 
   pub middle : Tables
   pub picks : Picks t o p old middle
   pub occupies : Occupies point o p t u middle new
+  pub affordable : o.wanted ≡ Anywhere → (r : Register) → p ≡ InRegister r → IsAffordable t old r
 
 -- a move that is made unless it goes nowhere
 pub data Sends (point : ℕ) (class : RegClass) (is_made : Bool) (from to : Place) (t u : Turn) (old new : Tables) : Type 0 where
@@ -144,11 +162,13 @@ pub record PlacesDef (point : ℕ) (o : Placing) (is_ret : Bool) (p : Place) (t 
   pub middle : Tables
   pub gets : Gets point o p t turn old middle
   pub defines : Defines point o.vreg is_ret p turn u middle new
+  pub awaited : u.awaited ≡ awaited_less o.wanted o.vreg.class t.awaited
 
 pub record PlacesUse (point : ℕ) (o : Placing) (p : Place) (t u : Turn) (old new : Tables) : Type 0 where
   pub middle : Tables
   pub gets : Gets point o p t u old middle
   pub uses : Uses o.vreg p middle new
+  pub awaited : u.awaited ≡ awaited_less o.wanted o.vreg.class t.awaited
 
 -- each operand that reads or defines names a vreg of the tables
 abbrev pub InTables : List OperandValue → Tables → Type 0
@@ -215,6 +235,17 @@ pub data ClaimsFixed (operands : List OperandValue) (k : ℕ) (r : Register) (p 
   own : is_fixed_nonallocatable (op_at operands k) ≡ false → (op_at operands k).constraint ≡ FixedReg r → p ≡ positions_of (op_at operands k) → ClaimsFixed operands k r p
   named : (n : ℕ) → (op_at operands k).constraint ≡ Reuse n → n < length operands → (op_at operands n).constraint ≡ FixedReg r → p ≡ record { early = false; late = true } → ClaimsFixed operands k r p
 
+-- whether an operand asks for any register of a class, and how many do
+abbrev pub asks : RegClass → OperandValue → Bool
+asks class o = is_under_reg o.constraint && nat_eq (class_code o.vreg.class) (class_code class)
+
+abbrev pub asking : List OperandValue → RegClass → ℕ
+asking operands class = count_by (asks class) operands
+
+-- an operand is fixed to the register
+abbrev pub IsFixedIn : List OperandValue → Register → Type 0
+IsFixedIn operands r = (k : ℕ) × (k < length operands) × ((op_at operands k).constraint ≡ FixedReg r)
+
 -- the registers that operands claim before they are placed are held, and differ where they share a position; no table changes
 pub record Reserves (operands : List OperandValue) (t u : Turn) (old : Tables) : Type 0 where
   pub known : (k : ℕ) (r : Register) (p : Positions) → k < length operands → ClaimsFixed operands k r p → (has_register old.allocatable r ≡ true) ⊎ (has_register old.fixed_stack r ≡ true)
@@ -224,12 +255,15 @@ pub record Reserves (operands : List OperandValue) (t u : Turn) (old : Tables) :
   pub early : (r : Register) → has_register u.early r ≡ true → has_register t.early r ≡ true
   pub late : (r : Register) → has_register u.late r ≡ true → has_register t.late r ≡ true
   pub scratch : u.scratch ≡ t.scratch
+  pub only : (r : Register) → is_free_throughout t r ≡ true → is_free_throughout u r ≡ false → IsFixedIn operands r
+  pub awaited : t.awaited ≡ 0 ∷ 0 ∷ 0 ∷ [] → (c : RegClass) → awaited_of u c ≡ asking operands c
 
 -- the clobbers are held while late operands are there
 pub record HoldsClobbers (clobbers : PRegSet) (t u : Turn) : Type 0 where
   pub late : (r : Register) → has_register u.late r ≡ not (has_register clobbers r) && has_register t.late r
   pub early : (r : Register) → has_register u.early r ≡ has_register t.early r
   pub scratch : u.scratch ≡ t.scratch
+  pub awaited : u.awaited ≡ t.awaited
 
 -- the fixed registers of the first k operands are emptied of all vregs but each operand's own, and those that reuses share with fixed uses of all
 pub data ClearsFixed (point : ℕ) (operands : List OperandValue) (t : Turn) (old : Tables) : ℕ → Turn → Tables → Type 0 where
@@ -265,6 +299,7 @@ pub record Allocates (i : ℕ) (inst : InstValue) (blank places : List Place) (o
   pub begins_early : (r : Register) → has_register began.early r ≡ (has_register old.allocatable r || has_register old.fixed_stack r)
   pub begins_late : (r : Register) → has_register began.late r ≡ (has_register old.allocatable r || has_register old.fixed_stack r)
   pub begins_scratch : began.scratch ≡ None ∷ None ∷ None ∷ []
+  pub awaited : (c : RegClass) → awaited_of quiet c ≡ asking inst.operands c
   pub reserves : Reserves inst.operands began reserved old
   pub holds : HoldsClobbers inst.clobbers reserved held
   pub fixed : ClearsFixed (after i) inst.operands held old (length inst.operands) cleared after_fixed

@@ -29,11 +29,12 @@ pub record AllocatesAt (i : ℕ) (inst : InstValue) (start : ℕ) (before_it pla
 abbrev pub AllocatesTo : Turn → ℕ → InstValue → ℕ → List Place → List Place → Tables → Tables → Type 0
 AllocatesTo turn i inst start before_it places old new = (a : AllocatesAt i inst start before_it places old new) × (a.allocates.ended ≡ turn)
 
--- all registers of the machine are free, and none is kept for moves yet
+-- all registers of the machine are free, none is kept for moves yet, and no operand asks for one
 pub record IsFresh (turn : Turn) (t : Tables) : Type 0 where
   pub early : (r : Register) → has_register turn.early r ≡ (has_register t.allocatable r || has_register t.fixed_stack r)
   pub late : (r : Register) → has_register turn.late r ≡ (has_register t.allocatable r || has_register t.fixed_stack r)
   pub scratch : turn.scratch ≡ None ∷ None ∷ None ∷ []
+  pub awaited : turn.awaited ≡ 0 ∷ 0 ∷ 0 ∷ []
 
 -- how many slots an instruction lends to moves, at most: two for each class, where it is a branch
 abbrev pub lent_at : FunctionValue → ℕ → ℕ

@@ -11,7 +11,7 @@ use Rattle.regalloc2_names.specs.Register.{Register, class_code, is_register}
 use Rattle.regalloc2_names.specs.RegisterSet.{has_register}
 use Rattle.regalloc2_flow.proofs.Cells.{is_register-true}
 use Rattle.regalloc2_parts.specs.Ring.{IsNewRing}
-use Rattle.regalloc2_tables.specs.Tables.{AreThoseBelow, AreRings, IsRingOf}
+use Rattle.regalloc2_tables.specs.Tables.{AreThoseBelow, AreRings, AreSplit, IsRingOf}
 use Rattle.std.proofs.lemmas.List.Elements.{All-push}
 use Rattle.regalloc2_tables.proofs.Inverses.{whether, same_number}
 
@@ -156,3 +156,28 @@ rings_from all int float vector ints floats vectors rings u ti tf tv three ni nf
     (ring_is all vector Vector vectors (slice_index_or rings 2 []) tv nv
     (λ r h. u.same r ∙ or_third (has_register int r) (has_register float r) (has_register vector r) h)
     (λ r c h. by_class all int float vector (has_register vector r ≡ true) r u h (λ x. absurd (let e = sym c ∙ u.int_class r x in cc)) (λ x. absurd (let e = sym c ∙ u.float_class r x in cc)) (λ x. x)))
+
+-- a member of the set of its class is one of the union
+pub in_union : (all int float vector : PRegSet) → ((r : Register) → has_register all r ≡ ((has_register int r || has_register float r) || has_register vector r)) → (r : Register)
+    → (r.class ≡ Int → has_register int r ≡ true) → (r.class ≡ Float → has_register float r ≡ true) → (r.class ≡ Vector → has_register vector r ≡ true) → has_register all r ≡ true
+in_union all int float vector same r a b c = by_test r.class refl
+  where
+    by_test : (k : RegClass) → r.class ≡ k → has_register all r ≡ true
+    by_test Int e = same r ∙ or_first (has_register int r) (has_register float r) (has_register vector r) (a e)
+    by_test Float e = same r ∙ or_second (has_register int r) (has_register float r) (has_register vector r) (b e)
+    by_test Vector e = same r ∙ or_third (has_register int r) (has_register float r) (has_register vector r) (c e)
+
+-- three sets, each of its class, split their union
+pub split_from : (all int float vector : PRegSet) → IsUnion all int float vector → AreSplit all (int ∷ float ∷ vector ∷ [])
+split_from all int float vector u Int r = (
+  λ h. (u.int_class r h, u.same r ∙ or_first (has_register int r) (has_register float r) (has_register vector r) h),
+  λ h. by_class all int float vector (has_register int r ≡ true) r u h.1 (λ x. x) (λ x. absurd (let e = sym h.0 ∙ u.float_class r x in cc)) (λ x. absurd (let e = sym h.0 ∙ u.vector_class r x in cc)),
+)
+split_from all int float vector u Float r = (
+  λ h. (u.float_class r h, u.same r ∙ or_second (has_register int r) (has_register float r) (has_register vector r) h),
+  λ h. by_class all int float vector (has_register float r ≡ true) r u h.1 (λ x. absurd (let e = sym h.0 ∙ u.int_class r x in cc)) (λ x. x) (λ x. absurd (let e = sym h.0 ∙ u.vector_class r x in cc)),
+)
+split_from all int float vector u Vector r = (
+  λ h. (u.vector_class r h, u.same r ∙ or_third (has_register int r) (has_register float r) (has_register vector r) h),
+  λ h. by_class all int float vector (has_register vector r ≡ true) r u h.1 (λ x. absurd (let e = sym h.0 ∙ u.int_class r x in cc)) (λ x. absurd (let e = sym h.0 ∙ u.float_class r x in cc)) (λ x. x),
+)

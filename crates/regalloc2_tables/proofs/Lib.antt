@@ -1,11 +1,14 @@
+pub mod Counted
 pub mod Falling
 pub mod Filling
 pub mod Handing
 pub mod Inverses
 pub mod Listing
+pub mod Members
 pub mod Numbered
 pub mod Pushing
 pub mod Rings
 pub mod Rooming
 pub mod Setting
 pub mod Slotting
+pub mod Sparing

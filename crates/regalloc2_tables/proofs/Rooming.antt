@@ -13,7 +13,7 @@ use Rattle.regalloc2_names.specs.declared.RegClass.{RegClass}
 use Rattle.regalloc2_names.specs.Register.{class_code}
 use Rattle.regalloc2_names.specs.Place.{Place, NoPlace, InSlot, is_no_place}
 use Rattle.regalloc2_tables.specs.Tables.{SlotsValue, AreOwned, AreUpTo, IsSlotOrNone, later_end, most_units, owners, slot_name}
-use Rattle.regalloc2_tables.specs.Lack.{LacksOnly, AreFull}
+use Rattle.regalloc2_tables.specs.Lack.{LacksOnly, LacksSlots, AreFull}
 use Rattle.regalloc2_flow.proofs.Forms.{nothing_there}
 use Rattle.regalloc2_flow.proofs.Plain.{end_near}
 use Rattle.regalloc2_tables.proofs.Slotting.{slot_grows}
@@ -188,3 +188,33 @@ lacks_then P Q more TooManyOperands h = h
 lacks_then P Q more (Unsupported i) h = h
 lacks_then P Q more TooManySpillSlots h = more h
 lacks_then P Q more Memory h = h
+
+-- and where registers don't
+pub slots_then : (P Q : Type 0) → (P → Q) → (e : RegAllocError) → LacksSlots P e → LacksSlots Q e
+slots_then P Q more (CritEdge a b) h = h
+slots_then P Q more (SSA v i) h = h
+slots_then P Q more (BB b) h = h
+slots_then P Q more (Branch i) h = h
+slots_then P Q more EntryLivein h = h
+slots_then P Q more (DisallowedBranchArg i) h = h
+slots_then P Q more TooManyLiveRegs h = h
+slots_then P Q more TooManyOperands h = h
+slots_then P Q more (Unsupported i) h = h
+slots_then P Q more TooManySpillSlots h = more h
+slots_then P Q more Memory h = h
+
+pub lacks_slots : (P Q : Type 0) → (P → Q) → (e : RegAllocError) → LacksSlots P e → LacksOnly Q e
+lacks_slots P Q more (CritEdge a b) h = h
+lacks_slots P Q more (SSA v i) h = h
+lacks_slots P Q more (BB b) h = h
+lacks_slots P Q more (Branch i) h = h
+lacks_slots P Q more EntryLivein h = h
+lacks_slots P Q more (DisallowedBranchArg i) h = h
+lacks_slots P Q more TooManyLiveRegs h = tt
+lacks_slots P Q more TooManyOperands h = h
+lacks_slots P Q more (Unsupported i) h = h
+lacks_slots P Q more TooManySpillSlots h = more h
+lacks_slots P Q more Memory h = h
+
+pub no_register : (P : Type 0) (e : RegAllocError) → LacksSlots P e → e ≡ TooManyLiveRegs → ⊥
+no_register P e h same = subst (LacksSlots P) same h

@@ -4,19 +4,27 @@ use Rattle.regalloc2_names.specs.declared.RegAllocError.{RegAllocError}
 use Rattle.regalloc2_names.specs.declared.RegAllocError.TheVariants.{CritEdge, SSA, BB, Branch, EntryLivein, DisallowedBranchArg, TooManyLiveRegs, TooManyOperands, Unsupported, TooManySpillSlots, Memory}
 use Rattle.regalloc2_tables.specs.Tables.{SlotsValue, AreUpTo, most_units}
 
+-- what may be lacking: registers or spill slots, where these lack, or memory
+abbrev pub Lacks : Type 0 → Type 0 → RegAllocError → Type 0
+Lacks Registers Slots (CritEdge p b) = ⊥
+Lacks Registers Slots (SSA v i) = ⊥
+Lacks Registers Slots (BB b) = ⊥
+Lacks Registers Slots (Branch i) = ⊥
+Lacks Registers Slots EntryLivein = ⊥
+Lacks Registers Slots (DisallowedBranchArg i) = ⊥
+Lacks Registers Slots TooManyLiveRegs = Registers
+Lacks Registers Slots TooManyOperands = ⊥
+Lacks Registers Slots (Unsupported i) = ⊥
+Lacks Registers Slots TooManySpillSlots = Slots
+Lacks Registers Slots Memory = Unit {0}
+
 -- what the walk may lack: registers, memory, or spill slots where these are full
 abbrev pub LacksOnly : Type 0 → RegAllocError → Type 0
-LacksOnly Full (CritEdge p b) = ⊥
-LacksOnly Full (SSA v i) = ⊥
-LacksOnly Full (BB b) = ⊥
-LacksOnly Full (Branch i) = ⊥
-LacksOnly Full EntryLivein = ⊥
-LacksOnly Full (DisallowedBranchArg i) = ⊥
-LacksOnly Full TooManyLiveRegs = Unit {0}
-LacksOnly Full TooManyOperands = ⊥
-LacksOnly Full (Unsupported i) = ⊥
-LacksOnly Full TooManySpillSlots = Full
-LacksOnly Full Memory = Unit {0}
+LacksOnly Full e = Lacks (Unit {0}) Full e
+
+-- no register is lacking, but memory, or spill slots where these are full
+abbrev pub LacksSlots : Type 0 → RegAllocError → Type 0
+LacksSlots Full e = Lacks ⊥ Full e
 
 -- slots are full only where one for each vreg and so many more, aligned, may take more units than there are
 abbrev pub AreFullWith : SlotsValue → ℕ → Type 0

@@ -1,10 +1,12 @@
 -- The allocator's tables, as contracts see them.
-use Rattle.std.specs.Prelude.{ℕ, ◌≡◌, ◌≢◌, ◌+◌, ◌-◌, ◌*◌, ◌<◌, ◌≤◌, Bool, true, false, not, List, [], All, Contains, length, replicate, slice_index, slice_index_or, Option, None, Some, if◌then◌else◌}
+use Rattle.std.specs.Prelude.{ℕ, ◌≡◌, ◌≢◌, ◌+◌, ◌-◌, ◌*◌, ◌<◌, ◌≤◌, Bool, true, false, not, List, [], All, Contains, length, replicate, slice_index, slice_index_or, Option, None, Some, if◌then◌else◌, ◌&&◌, ◌↔◌, nat_lt, is_none}
 use Rattle.std.specs.Int.{next_multiple_of}
 use Rattle.std.specs.List.{count_by}
 use Rattle.regalloc2_names.specs.declared.RegClass.{RegClass}
 use Rattle.regalloc2_names.specs.Register.{class_code}
 use Rattle.regalloc2_parts.specs.Ring.{AreDistinctOf}
+use Rattle.regalloc2_function.specs.Fitting.{count_below, register_number}
+use Rattle.regalloc2_function.specs.Machine.{empty_set}
 use Rattle.regalloc2_function.specs.OutputValue.{MoveValue}
 use Rattle.regalloc2_names.specs.Register.{Register, VirtualRegister}
 use Rattle.regalloc2_names.specs.RegisterBits.{bits_of_register}
@@ -142,21 +144,26 @@ NeverRise es = (i j : ℕ) (d : ℕ × MoveValue) → i ≤ j → j < length es 
 abbrev pub NoneBefore : ℕ → List (ℕ × MoveValue) → Type 0
 NoneBefore point es = All (λ e. point ≤ e.0) es
 
--- The allocatable registers, and for each class the order of their use, the newest first; those that are fixed stack slots; the register of each class that is kept for moves from stack to stack;
--- how many of each class may be allocated.
+-- The allocatable registers, and for each class the order of their use, the newest first; those that are fixed stack slots; the register of each class that is kept for moves from stack to stack.
 pub record RegistersValue : Type 0 where
   pub allocatable : PRegSet
   pub rings : List (List Register)
   pub fixed_stack : PRegSet
   pub dedicated : List (Option Register)
-  pub counts : List ℕ
 
 -- what the machine has stays, in whatever order its registers were used
 pub record SameRegisters (old new : RegistersValue) : Type 0 where
   pub allocatable : new.allocatable ≡ old.allocatable
   pub fixed_stack : new.fixed_stack ≡ old.fixed_stack
   pub dedicated : new.dedicated ≡ old.dedicated
-  pub counts : new.counts ≡ old.counts
+
+-- whether there are fixed stack slots of a class, and no register that the machine keeps for moves from stack to stack
+abbrev pub wants_spare : PRegSet → List (Option Register) → RegClass → Bool
+wants_spare stack dedicated class = nat_lt 0 (count_below (λ n. has_register stack (register_number class n)) 64) && is_none (slice_index_or dedicated (class_code class) None)
+
+-- how many registers of the class are to be kept for moves from stack to stack
+abbrev pub spare_for : PRegSet → List (Option Register) → RegClass → ℕ
+spare_for stack dedicated class = if wants_spare stack dedicated class then 1 else 0
 
 abbrev pub ring_of : RegistersValue → RegClass → List Register
 ring_of t class = slice_index_or t.rings (class_code class) []
@@ -168,7 +175,15 @@ pub record AreRings (allocatable : PRegSet) (rings : List (List Register)) : Typ
   pub has : (c : RegClass) (r : Register) → Contains (slice_index_or rings (class_code c) []) r → has_register allocatable r ≡ true
   pub all : (r : Register) → r.number < 64 → has_register allocatable r ≡ true → Contains (slice_index_or rings (class_code r.class) []) r
 
--- the register is the oldest of its class in a set
+-- the sets of the allocatable registers of each class
+abbrev pub AreSplit : PRegSet → List PRegSet → Type 0
+AreSplit allocatable sets = (c : RegClass) (r : Register) → (has_register (slice_index_or sets (class_code c) empty_set) r ≡ true) ↔ (r.class ≡ c) × (has_register allocatable r ≡ true)
+
+-- all registers of a set have the number of one
+abbrev pub HasSmall : PRegSet → Type 0
+HasSmall set = (r : Register) → has_register set r ≡ true → r.number < 64
+
+-- an allocatable register of the class that is in a set
 pub record IsFoundIn (t : RegistersValue) (class : RegClass) (free : PRegSet) (r : Register) : Type 0 where
   pub of_class : r.class ≡ class
   pub small : r.number < 64

@@ -1,9 +1,12 @@
 -- The registers of one instruction, and the positions at which its operands hold theirs.
-use Rattle.std.specs.Prelude.{◌≡◌, true, not, ◌&&◌, ◌||◌}
-use Rattle.regalloc2_names.specs.Register.{Register, is_register}
+use Rattle.std.specs.Prelude.{ℕ, ◌≡◌, Bool, true, not, ◌&&◌, ◌||◌, slice_index}
+use Rattle.regalloc2_names.specs.declared.RegClass.{RegClass}
+use Rattle.regalloc2_names.specs.declared.sets.PRegSet.{PRegSet}
+use Rattle.regalloc2_names.specs.Register.{Register, class_code, is_register}
 use Rattle.regalloc2_names.specs.RegisterSet.{has_register}
 use Rattle.regalloc2_names.specs.Operand.{OperandValue}
 use Rattle.regalloc2_function.specs.SourceRun.{is_def, is_late}
+use Rattle.regalloc2_function.specs.Fitting.{count_below, register_number}
 use Rattle.regalloc2_tables.specs.declared.turn.Turn.{Turn}
 use Rattle.regalloc2_tables.specs.declared.turn.Positions.{Positions}
 
@@ -12,13 +15,29 @@ pub record IsFreeAt (turn : Turn) (p : Positions) (r : Register) : Type 0 where
   pub early : p.early ≡ true → has_register turn.early r ≡ true
   pub late : p.late ≡ true → has_register turn.late r ≡ true
 
--- a register is held at the positions from now on; what counts the registers isn't said here
+-- how many operands of a class that ask for any register are still to be placed
+abbrev pub awaited_of : Turn → RegClass → ℕ
+awaited_of turn class = slice_index turn.awaited (class_code class)
+
+-- a register is free at both positions
+abbrev pub is_free_throughout : Turn → Register → Bool
+is_free_throughout turn r = has_register turn.early r && has_register turn.late r
+
+-- and is one of a set
+abbrev pub is_free : PRegSet → Turn → Register → Bool
+is_free set turn r = has_register set r && is_free_throughout turn r
+
+-- how many of a class there are
+abbrev pub free_count : PRegSet → Turn → RegClass → ℕ
+free_count set turn class = count_below (λ n. is_free set turn (register_number class n)) 64
+
+-- a register is held at the positions from now on; how many operands are still to be placed isn't said here
 pub record Holds (old new : Turn) (r : Register) (p : Positions) : Type 0 where
   pub early : (q : Register) → has_register new.early q ≡ not (p.early && is_register r q) && has_register old.early q
   pub late : (q : Register) → has_register new.late q ≡ not (p.late && is_register r q) && has_register old.late q
   pub scratch : new.scratch ≡ old.scratch
 
--- nothing but counts changes
+-- nothing changes but how many operands are still to be placed
 pub record SameSets (old new : Turn) : Type 0 where
   pub early : new.early ≡ old.early
   pub late : new.late ≡ old.late

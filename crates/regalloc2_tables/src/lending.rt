@@ -2,7 +2,7 @@
 
 ghost use Rattle.std.specs.Prelude.{◌≡◌, ◌⊎◌, None, Some, IsTrue, IfOk, IfErr};
 ghost use Rattle.regalloc2_parts.specs.Resolved.{listed, IsRunnable};
-ghost use Rattle.regalloc2_tables.specs.Lack.{LacksOnly};
+ghost use Rattle.regalloc2_tables.specs.Lack.{LacksSlots};
 ghost use Rattle.regalloc2_tables.specs.Lending.{is_memory, HandsOut, Tells, MayTell, Serves, IsMadeWith, IsShort, AreThere};
 
 use regalloc2_names::{Allocation, PReg, PRegSet, RegAllocError};
@@ -52,7 +52,7 @@ fn is_memory(fixed_stack: PRegSet, place: Allocation) -> bool
 
 /// A fault of moves as a refusal.
 fn refusal_of(fault: MoveFault) -> RegAllocError
-    ensures { LacksOnly (fault ≡ MoveFault.NoSlot) result }
+    ensures { LacksSlots (fault ≡ MoveFault.NoSlot) result }
 {
     match fault {
         MoveFault::NoSlot => RegAllocError::TooManySpillSlots,
@@ -149,7 +149,7 @@ where
     requires runnable { IsRunnable moves }
     ensures made { IfOk result (λ m. IsMadeWith lending.now m.slots (listed moves) m.moves.items) }
     ensures there { IfOk result (λ m. AreThere lending.now.slots m.slots) }
-    ensures err { IfErr result (LacksOnly (IsShort lending.now.slots)) }
+    ensures err { IfErr result (LacksSlots (IsShort lending.now.slots)) }
 {
     match resolver.compute_by_ref(moves) {
         Ok(moves) => {
@@ -173,7 +173,7 @@ impl Lending {
         requires runnable { IsRunnable moves }
         ensures made { IfOk result (λ m. IsMadeWith self.now m.slots (listed moves) m.moves.items) }
         ensures there { IfOk result (λ m. AreThere self.now.slots m.slots) }
-        ensures err { IfErr result (LacksOnly (IsShort self.now.slots)) }
+        ensures err { IfErr result (LacksSlots (IsShort self.now.slots)) }
     {
         let fixed_stack = self.fixed_stack;
         let mut registers = self.registers;

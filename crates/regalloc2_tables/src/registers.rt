@@ -1,12 +1,12 @@
 //! The registers that may be allocated.
 
-ghost use Rattle.std.specs.Prelude.{ℕ, ◌≡◌, ◌≢◌, ◌+◌, ◌↔◌, ◌<◌, ◌≤◌, ◌∷◌, ◌||◌, ◌⊎◌, true, not, filter, Contains, IfSome, IfNone, IfOk, IfErr, None, slice_index, slice_index_or};
+ghost use Rattle.std.specs.Prelude.{ℕ, ◌≡◌, ◌≢◌, ◌+◌, ◌↔◌, ◌<◌, ◌≤◌, ◌∷◌, ◌||◌, ◌⊎◌, true, not, filter, find, reverse, Contains, IfSome, IfNone, IfOk, IfErr, None, slice_index_or};
 ghost use Rattle.regalloc2_names.specs.declared.RegClass.{RegClass};
 ghost use Rattle.regalloc2_function.specs.Machine.{is_allocatable};
 ghost use Rattle.regalloc2_function.specs.Views.{machine_of};
 ghost use Rattle.regalloc2_names.specs.Register.{Register, class_code, is_register};
 ghost use Rattle.regalloc2_names.specs.RegisterSet.{has_register};
-ghost use Rattle.regalloc2_tables.specs.Tables.{IsFoundIn, NoneIsFoundIn, NoneIsFrom, AreThoseBelow, SameRegisters, ring_of};
+ghost use Rattle.regalloc2_tables.specs.Tables.{IsFoundIn, NoneIsFoundIn, NoneIsFrom, AreThoseBelow, SameRegisters, ring_of, spare_for};
 
 use regalloc2_function::MachineEnv;
 use regalloc2_names::{PReg, PRegSet, RegAllocError, RegClass};
@@ -23,18 +23,18 @@ pub struct Registers<A: Allocator> {
     fixed_stack: PRegSet,
     /// The register of each class that is kept for moves from stack to stack.
     dedicated: [Option<PReg>; 3],
-    /// How many of each class may be allocated.
-    counts: [usize; 3],
+    /// The allocatable registers of each class.
+    of_class: [PRegSet; 3],
 }
 
 impl<A: Allocator> Model for Registers<A> {
-    ghost use Rattle.regalloc2_tables.specs.Tables.{RegistersValue, AreRings};
+    ghost use Rattle.regalloc2_tables.specs.Tables.{RegistersValue, AreRings, AreSplit, HasSmall};
 
     ghost Value = { RegistersValue };
 
-    ghost view = { λ t. record { allocatable = t.allocatable; rings = t.rings.items; fixed_stack = t.fixed_stack; dedicated = t.dedicated; counts = t.counts } };
+    ghost view = { λ t. record { allocatable = t.allocatable; rings = t.rings.items; fixed_stack = t.fixed_stack; dedicated = t.dedicated } };
 
-    ghost invariant = { λ t. AreRings t.allocatable t.rings.items };
+    ghost invariant = { λ t. AreRings t.allocatable t.rings.items × AreSplit t.allocatable t.of_class × HasSmall t.fixed_stack };
 }
 
 /// Where the ring of a class stands.
@@ -88,6 +88,7 @@ impl<A: Allocator + Copy> Registers<A> {
     pub fn new<B: Allocator>(alloc: A, env: &MachineEnv<B>) -> Result<Self, RegAllocError>
         requires { (c : RegClass) (r : Register) → is_allocatable (machine_of env.now) c r ≡ true → r.class ≡ c }
         ensures ok { IfOk result (λ t. (r : Register) → r.number < 64 → has_register t.allocatable r ≡ true → is_allocatable (machine_of env.now) r.class r ≡ true) }
+        ensures all { IfOk result (λ t. (r : Register) → is_allocatable (machine_of env.now) r.class r ≡ true → has_register t.allocatable r ≡ true) }
         ensures fixed_stack { IfOk result (λ t. (r : Register) → (has_register t.fixed_stack r ≡ true) ↔ Contains (machine_of env.now).fixed_stack_slots r) }
         ensures dedicated { IfOk result (λ t. t.dedicated ≡ (machine_of env.now).scratch) }
         ensures small { IfOk result (λ t. (r : Register) → (has_register t.allocatable r ≡ true) ⊎ (has_register t.fixed_stack r ≡ true) → r.number < 64) }
@@ -109,7 +110,7 @@ impl<A: Allocator + Copy> Registers<A> {
                 env.scratch_by_class[1],
                 env.scratch_by_class[2],
             ],
-            counts: [int_regs.len(), float_regs.len(), vector_regs.len()],
+            of_class: [int, float, vector],
         })
     }
 }
@@ -167,17 +168,17 @@ impl<A: Allocator> Registers<A> {
         self.dedicated[ring_index(class)]
     }
 
-    /// How many registers of the class may be allocated.
-    pub fn count(&self, class: RegClass) -> usize
-        ensures { result ≡ slice_index self.now.counts (class_code class) }
+    /// The allocatable registers of the class.
+    pub fn of_class(&self, class: RegClass) -> PRegSet
+        ensures { (r : Register) → (has_register result r ≡ true) ↔ (r.class ≡ class) × (has_register self.now.allocatable r ≡ true) }
     {
-        self.counts[ring_index(class)]
+        self.of_class[ring_index(class)]
     }
 
     /// How many registers of the class are to be kept for moves from stack to stack: one where there are fixed stack
     /// slots of the class, and no register for such moves.
-    fn spare_of(&self, class: RegClass) -> usize
-        ensures { result ≤ 1 }
+    pub fn spare_of(&self, class: RegClass) -> usize
+        ensures { result ≡ spare_for self.now.fixed_stack self.now.dedicated class }
     {
         if self.fixed_stack.is_empty(class) || self.dedicated(class).is_some() {
             0
@@ -186,19 +187,9 @@ impl<A: Allocator> Registers<A> {
         }
     }
 
-    /// How many registers of each class are to be kept for moves from stack to stack.
-    pub fn spare(&self) -> [usize; 3]
-        ensures { (c : ℕ) → slice_index result c ≤ 1 }
-    {
-        [
-            self.spare_of(RegClass::Int),
-            self.spare_of(RegClass::Float),
-            self.spare_of(RegClass::Vector),
-        ]
-    }
-
     /// The register of the class in the set that was used longest ago.
     pub fn oldest(&self, class: RegClass, free: PRegSet) -> Option<PReg>
+        ensures oldest { result ≡ find (has_register free) (reverse (ring_of self.now class)) }
         ensures found { IfSome result (λ r. IsFoundIn self.now class free r) }
         ensures none { IfNone result (NoneIsFoundIn self.now class free) }
     {

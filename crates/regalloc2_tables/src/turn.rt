@@ -1,9 +1,9 @@
-//! The registers of one instruction: which are free at its two positions, and what decides when registers lack.
+//! The registers of one instruction: which are free at its two positions, and how many are still asked for.
 
-ghost use Rattle.std.specs.Prelude.{◌≡◌, ◌≤◌, ◌&&◌, ◌||◌, ◌∷◌, [], true, None, Some, not, slice_index, slice_index_or, slice_set};
+ghost use Rattle.std.specs.Prelude.{◌≡◌, ◌+◌, ◌-◌, ◌&&◌, ◌||◌, ◌∷◌, [], true, None, Some, not, length, min, slice_index_or, slice_set};
 ghost use Rattle.regalloc2_names.specs.Register.{Register, class_code, is_register};
 ghost use Rattle.regalloc2_names.specs.RegisterSet.{has_register};
-ghost use Rattle.regalloc2_tables.specs.Turns.{Holds, IsFreeAt, SameSets, both, positions_of};
+ghost use Rattle.regalloc2_tables.specs.Turns.{Holds, IsFreeAt, SameSets, awaited_of, both, is_free_throughout, positions_of};
 
 use regalloc2_names::{Operand, OperandKind, OperandPos, PReg, PRegSet, RegClass};
 
@@ -41,19 +41,6 @@ impl Positions {
     }
 }
 
-/// What decides when registers lack. No contract says how it changes: another count would make other choices, all as good.
-#[derive(Clone, Copy)]
-struct Counts {
-    /// The allocatable registers that are taken at some position.
-    taken: PRegSet,
-    /// How many of those there are of each class.
-    taken_by_class: [usize; 3],
-    /// How many operands of each class that ask for any register are still to be placed.
-    pending: [usize; 3],
-    /// How many registers of each class are kept for a move from stack to stack.
-    spare: [usize; 3],
-}
-
 /// The registers of one instruction, while its operands are placed.
 #[derive(Clone, Copy)]
 pub struct Turn {
@@ -63,7 +50,8 @@ pub struct Turn {
     late: PRegSet,
     /// Through which moves of each class from stack to stack go, once one was taken.
     scratch: [Option<PReg>; 3],
-    counts: Counts,
+    /// How many operands of each class that ask for any register are still to be placed.
+    awaited: [usize; 3],
 }
 
 /// The set, without the register if it is taken.
@@ -79,27 +67,24 @@ fn left_of(set: PRegSet, preg: PReg, is_taken: bool) -> PRegSet
 
 impl Turn {
     /// All of these are free, and nothing is taken yet.
-    pub fn new(every: PRegSet, spare: [usize; 3]) -> Turn
+    pub fn new(every: PRegSet) -> Turn
         ensures early { result.early ≡ every }
         ensures late { result.late ≡ every }
         ensures scratch { result.scratch ≡ None ∷ None ∷ None ∷ [] }
+        ensures awaited { result.awaited ≡ 0 ∷ 0 ∷ 0 ∷ [] }
     {
         Turn {
             early: every,
             late: every,
             scratch: [None; 3],
-            counts: Counts {
-                taken: PRegSet::empty(),
-                taken_by_class: [0; 3],
-                pending: [0; 3],
-                spare,
-            },
+            awaited: [0; 3],
         }
     }
 
     /// The registers that are free at the positions.
     pub fn free_at(&self, positions: Positions) -> PRegSet
         ensures free { (r : Register) → has_register result r ≡ true → IsFreeAt self.now positions r }
+        ensures throughout { (r : Register) → is_free_throughout self.now r ≡ true → has_register result r ≡ true }
         ensures all { (r : Register) → (positions.early || positions.late) ≡ true → IsFreeAt self.now positions r → has_register result r ≡ true }
     {
         if positions.early && positions.late {
@@ -113,56 +98,44 @@ impl Turn {
 
     /// The register is held at the positions from now on.
     pub fn hold(&mut self, preg: PReg, positions: Positions)
-        ensures { Holds self.old self.new preg positions }
+        ensures held { Holds self.old self.new preg positions }
+        ensures awaited { self.new.awaited ≡ self.old.awaited }
     {
         self.early = left_of(self.early, preg, positions.early);
         self.late = left_of(self.late, preg, positions.late);
     }
 
-    /// The allocatable register counts as taken from now on.
-    pub fn count(&mut self, preg: PReg)
-        ensures { SameSets self.old self.new }
-    {
-        let class = preg.class() as usize;
-        if !self.counts.taken.contains(preg) {
-            self.counts.taken.add(preg);
-            let taken = self.counts.taken_by_class[class];
-            self.counts.taken_by_class[class] = taken.saturating_add(1);
-        }
-    }
-
     /// One more operand of the class asks for any register.
     pub fn await_one(&mut self, class: RegClass)
-        ensures { SameSets self.old self.new }
+        ensures sets { SameSets self.old self.new }
+        ensures long { length self.old.awaited ≡ 3 }
+        ensures awaited { self.new.awaited ≡ slice_set self.old.awaited (class_code class) (min (awaited_of self.old class + 1) 18446744073709551615) }
     {
-        let pending = self.counts.pending[class as usize];
-        self.counts.pending[class as usize] = pending.saturating_add(1);
+        let awaited = self.awaited[class as usize];
+        self.awaited[class as usize] = awaited.saturating_add(1);
     }
 
     /// An operand of the class that asked for any register is placed.
     pub fn placed_one(&mut self, class: RegClass)
-        ensures { SameSets self.old self.new }
+        ensures sets { SameSets self.old self.new }
+        ensures awaited { self.new.awaited ≡ slice_set self.old.awaited (class_code class) (awaited_of self.old class - 1) }
     {
-        let pending = self.counts.pending[class as usize];
-        self.counts.pending[class as usize] = pending.saturating_sub(1);
+        let awaited = self.awaited[class as usize];
+        self.awaited[class as usize] = awaited.saturating_sub(1);
     }
 
-    /// How many registers of its class are taken or owed, if this one is taken too.
-    pub fn demand_with(&self, preg: PReg) -> usize
-        ensures taken { slice_index self.now.counts.taken_by_class (class_code preg.class) ≤ result }
-        ensures awaited { slice_index self.now.counts.pending (class_code preg.class) ≤ result }
-        ensures spare { slice_index self.now.counts.spare (class_code preg.class) ≤ result }
+    /// How many operands of the class that ask for any register are still to be placed.
+    pub fn awaited(&self, class: RegClass) -> usize
+        ensures { result ≡ awaited_of self.now class }
     {
-        let class = preg.class() as usize;
-        let more = if self.counts.taken.contains(preg) {
-            0
-        } else {
-            1
-        };
-        self.counts.taken_by_class[class]
-            .saturating_add(more)
-            .saturating_add(self.counts.pending[class])
-            .saturating_add(self.counts.spare[class])
+        self.awaited[class as usize]
+    }
+
+    /// Whether the register is free at both positions.
+    pub fn is_free(&self, preg: PReg) -> bool
+        ensures { result ≡ is_free_throughout self.now preg }
+    {
+        self.early.contains(preg) && self.late.contains(preg)
     }
 
     /// The register through which moves of the class go, if one was taken.
@@ -177,8 +150,8 @@ impl Turn {
         ensures early { self.new.early ≡ self.old.early }
         ensures late { self.new.late ≡ self.old.late }
         ensures scratch { self.new.scratch ≡ slice_set self.old.scratch (class_code class) (Some preg) }
+        ensures awaited { self.new.awaited ≡ self.old.awaited }
     {
-        self.counts.spare[class as usize] = 0;
         self.scratch[class as usize] = Some(preg);
     }
 }

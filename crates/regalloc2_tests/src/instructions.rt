@@ -117,6 +117,21 @@ impl Draft {
         self.operands.push(operand).ok()
     }
 
+    /// Adds a use under `Reg`, early most often, if a register of its class is left.
+    pub fn add_if_left(&mut self, random: &mut Random, vreg: VReg) -> Option<()> {
+        if !self.takes_one(vreg.class()) {
+            return Some(());
+        }
+        let pos = if random.once_in(3) {
+            OperandPos::Late
+        } else {
+            OperandPos::Early
+        };
+        let constraint = OperandConstraint::Reg;
+        let operand = Operand::new(vreg, constraint, OperandKind::Use, pos);
+        self.operands.push(operand).ok()
+    }
+
     /// The position and class of an early use that may be reused, and now is.
     pub fn reused(&mut self, random: &mut Random) -> Option<(usize, RegClass)> {
         let index = random.below(32);

@@ -23,11 +23,13 @@ pub struct Maker {
     named: usize,
     /// Those that may be read.
     known: Vec<VReg>,
+    /// Whether instructions ask for registers as long as there are any.
+    is_filled: bool,
 }
 
 impl Maker {
     /// A machine, and no instruction yet.
-    pub fn new(alloc: Global, seed: u64) -> Option<Maker> {
+    pub fn new(alloc: Global, seed: u64, is_filled: bool) -> Option<Maker> {
         let mut random = Random::new(seed);
         let (env, most) = any_machine(alloc, &mut random)?;
         let mut usable = PRegSet::from(&env);
@@ -42,6 +44,7 @@ impl Maker {
             most,
             named: 0,
             known: Vec::new(alloc),
+            is_filled,
         })
     }
 
@@ -68,6 +71,18 @@ impl Maker {
         }
         let vreg = *self.known.get(self.random.below(defined))?;
         draft.add(&mut self.random, vreg, OperandKind::Use)
+    }
+
+    /// Adds uses of the first virtual registers that may be read, as long as registers are left for them.
+    fn fill_up(&mut self, draft: &mut Draft, defined: usize) -> Option<()> {
+        if defined == 0 || !self.is_filled {
+            return Some(());
+        }
+        for _ in 0..32 {
+            let vreg = *self.known.get(self.random.below(defined))?;
+            draft.add_if_left(&mut self.random, vreg)?;
+        }
+        Some(())
     }
 
     /// Adds a definition of a virtual register that wasn't named yet.
@@ -107,6 +122,7 @@ impl Maker {
                 _ => self.add_use(&mut draft, defined)?,
             }
         }
+        self.fill_up(&mut draft, defined)?;
         Some(draft.finish(&mut self.random, false, is_ret))
     }
 

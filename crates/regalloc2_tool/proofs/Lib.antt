@@ -1,4 +1,3 @@
 pub mod Below
-pub mod Frames
 pub mod Written
 pub mod Lines

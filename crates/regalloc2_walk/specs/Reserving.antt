@@ -1,12 +1,15 @@
 -- What one operand reserves before operands are placed.
-use Rattle.std.specs.Prelude.{ℕ, ◌≡◌, ◌⊎◌, true, false, List}
-use Rattle.regalloc2_names.specs.Register.{Register}
+use Rattle.std.specs.Prelude.{ℕ, ◌≡◌, ◌+◌, ◌<◌, ◌⊎◌, ◌&&◌, ◌||◌, true, false, if◌then◌else◌, List}
+use Rattle.regalloc2_names.specs.declared.RegClass.{RegClass}
+use Rattle.regalloc2_names.specs.Register.{Register, is_register}
 use Rattle.regalloc2_names.specs.RegisterSet.{has_register}
 use Rattle.regalloc2_names.specs.Operand.{OperandValue}
 use Rattle.regalloc2_tables.specs.declared.turn.Positions.{Positions}
 use Rattle.regalloc2_tables.specs.declared.turn.Turn.{Turn}
+use Rattle.regalloc2_tables.specs.Turns.{awaited_of, is_free_throughout}
+use Rattle.regalloc2_validate.specs.Constraints.{op_at}
 use Rattle.regalloc2_walk.specs.declared.reserve.Claims.{Claims}
-use Rattle.regalloc2_steps.specs.Steps.{Tables, ClaimsFixed}
+use Rattle.regalloc2_steps.specs.Steps.{Tables, ClaimsFixed, IsFixedIn, asks}
 
 -- one of the machine's registers or fixed stack slots
 abbrev pub IsKnown : Tables → Register → Type 0
@@ -18,10 +21,37 @@ pub record Shrinks (t u : Turn) : Type 0 where
   pub late : (r : Register) → has_register u.late r ≡ true → has_register t.late r ≡ true
   pub scratch : u.scratch ≡ t.scratch
 
+-- no other register than this one is taken
+pub record TakesOnly (by : Register) (t u : Turn) : Type 0 where
+  pub early : (r : Register) → is_register by r ≡ false → has_register u.early r ≡ has_register t.early r
+  pub late : (r : Register) → is_register by r ≡ false → has_register u.late r ≡ has_register t.late r
+
+-- registers that are taken now, and were free at both positions, are those that operands are fixed to
+abbrev pub TakesFixed : List OperandValue → Turn → Turn → Type 0
+TakesFixed operands t u = (r : Register) → is_free_throughout t r ≡ true → is_free_throughout u r ≡ false → IsFixedIn operands r
+
+-- the operand k is awaited if it asks for any register
+abbrev pub AwaitsOne : List OperandValue → ℕ → Turn → Turn → Type 0
+AwaitsOne operands k t u = (class : RegClass) → awaited_of t class < 18446744073709551615 → awaited_of u class ≡ awaited_of t class + (if asks class (op_at operands k) then 1 else 0)
+
 -- claims are kept
 pub record Grows (c d : Claims) : Type 0 where
   pub early : (r : Register) → has_register c.early r ≡ true → has_register d.early r ≡ true
   pub late : (r : Register) → has_register c.late r ≡ true → has_register d.late r ≡ true
+
+-- no other register than this one is claimed now, and at these positions
+pub record ClaimsOnly (c d : Claims) (by : Register) (p : Positions) : Type 0 where
+  pub early : (r : Register) → has_register d.early r ≡ true → (has_register c.early r ≡ true) ⊎ ((r ≡ by) × (p.early ≡ true))
+  pub late : (r : Register) → has_register d.late r ≡ true → (has_register c.late r ≡ true) ⊎ ((r ≡ by) × (p.late ≡ true))
+
+-- nor than what the operand k claims
+pub record OperandClaims (operands : List OperandValue) (k : ℕ) (c d : Claims) : Type 0 where
+  pub early : (r : Register) → has_register d.early r ≡ true → (has_register c.early r ≡ true) ⊎ ((p : Positions) × ClaimsFixed operands k r p × (p.early ≡ true))
+  pub late : (r : Register) → has_register d.late r ≡ true → (has_register c.late r ≡ true) ⊎ ((p : Positions) × ClaimsFixed operands k r p × (p.late ≡ true))
+
+-- the register is claimed at one of the positions
+abbrev pub IsClaimedAt : Claims → Register → Positions → Type 0
+IsClaimedAt c r p = ((p.early && has_register c.early r) || (p.late && has_register c.late r)) ≡ true
 
 -- the register is claimed at the positions, where nobody claimed it
 pub record IsClaimed (c d : Claims) (r : Register) (p : Positions) : Type 0 where
@@ -41,4 +71,13 @@ pub record IsReserved (t : Tables) (r : Register) (p : Positions) (u : Turn) (c 
 pub record ReservesOne (operands : List OperandValue) (k : ℕ) (t u : Turn) (c d : Claims) (old : Tables) : Type 0 where
   pub shrinks : Shrinks t u
   pub grows : Grows c d
+  pub takes : TakesFixed operands t u
+  pub claims : OperandClaims operands k c d
   pub reserved : (r : Register) (p : Positions) → ClaimsFixed operands k r p → IsReserved old r p u c d
+
+-- the operand k claims a register that isn't the machine's, or that is claimed at a position of its own
+pub record StopsClaim (operands : List OperandValue) (k : ℕ) (c : Claims) (old : Tables) : Type 0 where
+  pub register : Register
+  pub positions : Positions
+  pub claims : ClaimsFixed operands k register positions
+  pub stops : ((has_register old.allocatable register || has_register old.fixed_stack register) ≡ false) ⊎ IsClaimedAt c register positions

@@ -6,6 +6,7 @@ ghost use Rattle.regalloc2_names.specs.Register.{Register};
 ghost use Rattle.regalloc2_steps.specs.Blocks.{BeginsBlock, BeginsParameter, BeginsParameters, Empties};
 ghost use Rattle.regalloc2_tables.specs.Lack.{IsLack};
 ghost use Rattle.regalloc2_steps.specs.Steps.{SameMachine};
+ghost use Rattle.regalloc2_steps.specs.Stops.{OnlyWhere, StopsBegin, StopsEmpties, StopsParameter, StopsParameters};
 ghost use Rattle.regalloc2_walk.specs.States.{tables_of};
 ghost use Rattle.regalloc2_tables.specs.Tables.{NoneBefore, holder};
 
@@ -33,6 +34,7 @@ impl<'a, A: Allocator> State<'a, A> {
         ensures long { OnOk result (length self.new.places.stands ≡ length self.old.places.stands) }
         ensures machine { SameMachine (tables_of self.old) (tables_of self.new) }
         ensures err { IfErr result (IsLack self.new.slots) }
+        ensures stops { IfErr result (OnlyWhere (StopsParameter param turn.old (tables_of self.old))) }
     {
         let stood = self.places.place_of(param);
         if stood.is_none() {
@@ -59,6 +61,7 @@ impl<'a, A: Allocator> State<'a, A> {
         ensures long { OnOk result (length self.new.places.stands ≡ length self.old.places.stands) }
         ensures machine { SameMachine (tables_of self.old) (tables_of self.new) }
         ensures err { IfErr result (IsLack self.new.slots) }
+        ensures stops { IfErr result (OnlyWhere (StopsParameters point params.now turn.old (tables_of self.old))) }
     {
         for param in params {
             self.begin_parameter(turn, point, *param)?;
@@ -81,6 +84,7 @@ impl<'a, A: Allocator> State<'a, A> {
         ensures long { OnOk result (length self.new.places.stands ≡ length self.old.places.stands) }
         ensures machine { SameMachine (tables_of self.old) (tables_of self.new) }
         ensures err { IfErr result (IsLack self.new.slots) }
+        ensures stops { IfErr result (OnlyWhere (StopsEmpties point turn.old (tables_of self.old))) }
     {
         self.places.list_filled(order)?;
         while let Some(arrival) = order.pop() {
@@ -107,8 +111,9 @@ impl<'a, A: Allocator> State<'a, A> {
         ensures long { OnOk result (length self.new.places.stands ≡ length self.old.places.stands) }
         ensures machine { SameMachine (tables_of self.old) (tables_of self.new) }
         ensures err { IfErr result (IsLack self.new.slots) }
+        ensures stops { IfErr result (OnlyWhere (StopsBegin (before first) params.now (tables_of self.old))) }
     {
-        let mut turn = Turn::new(self.registers.every(), self.registers.spare());
+        let mut turn = Turn::new(self.registers.every());
         let point = ProgPoint::before(first);
         self.begin_parameters(&mut turn, point, params)?;
         self.empty_registers(&mut turn, point, order)?;

@@ -1,6 +1,6 @@
 //! The moves of a branch: each argument goes to the slots of the parameters that it is given for.
 
-ghost use Rattle.std.specs.Prelude.{ℕ, List, ◌≡◌, ◌≢◌, ◌<◌, ◌≤◌, ◌+◌, ◌++◌, ◌∷◌, ◌⊎◌, [], None, Some, length, IsTrue, IfOk, IfSome, IfErr, OnOk, OnErr, slice_index_or};
+ghost use Rattle.std.specs.Prelude.{ℕ, List, ◌≡◌, ◌↔◌, ◌≢◌, ◌<◌, ◌≤◌, ◌+◌, ◌++◌, ◌∷◌, ◌⊎◌, [], None, Some, length, IsTrue, IfOk, IfSome, IfErr, OnOk, OnErr, slice_index_or};
 ghost use Rattle.regalloc2_names.specs.Place.{Place, NoPlace, InRegister};
 ghost use Rattle.regalloc2_names.specs.Point.{before};
 ghost use Rattle.regalloc2_names.specs.Register.{Register, class_code};
@@ -11,6 +11,7 @@ ghost use Rattle.regalloc2_steps.specs.Branches.{AreApart, AreBetweenSlots, AreK
 ghost use Rattle.regalloc2_tables.specs.Lack.{AreFullWith, IsLack, LacksOnly};
 ghost use Rattle.regalloc2_tables.specs.Lending.{DoDiffer, IsLent};
 ghost use Rattle.regalloc2_steps.specs.Steps.{SameMachine};
+ghost use Rattle.regalloc2_steps.specs.Stops.{OnlyWhere, StopsEdge, StopsGather, StopsOrder, StopsPass, StopsSettle};
 ghost use Rattle.regalloc2_walk.specs.States.{tables_of};
 ghost use Rattle.regalloc2_tables.specs.Tables.{AreOwned, IsFoundIn, NoneBefore};
 
@@ -36,11 +37,11 @@ fn as_place(preg: Option<PReg>) -> Option<Allocation>
 /// Whether there are no moves.
 fn are_none<A: Allocator + Copy>(moves: &MoveVecWithScratch<(), A>) -> bool
     ensures same { IsTrue result → with_place NoPlace moves.now ≡ listed moves.now }
-    ensures none { IsTrue result → listed moves.now ≡ [] }
+    ensures none { IsTrue result ↔ (listed moves.now ≡ []) }
 {
     match moves {
         MoveVecWithScratch::NoScratch(list) => list.is_empty(),
-        MoveVecWithScratch::Scratch(_) => false,
+        MoveVecWithScratch::Scratch(list) => list.is_empty(),
     }
 }
 
@@ -170,6 +171,7 @@ impl<'a, A: Allocator> State<'a, A> {
         ensures ok { IfOk result (λ made. Orders turn.now class moves.entry made.items (tables_of self.old) (tables_of self.new)) }
         ensures unchanged { OnErr result (tables_of self.new ≡ tables_of self.old) }
         ensures err { IfErr result (LacksOnly (AreFullWith self.old.slots (self.old.slots.lent + 2))) }
+        ensures stops { IfErr result (OnlyWhere (StopsOrder class moves.entry (tables_of self.old))) }
     {
         let resolved = resolve(moves)?;
         if are_none(&resolved) {
@@ -205,6 +207,7 @@ impl<'a, A: Allocator> State<'a, A> {
         ensures later { OnOk result (NoneBefore point self.new.edits) }
         ensures machine { LendsAtMost 2 (tables_of self.old) (tables_of self.new) }
         ensures err { IfErr result (LacksOnly (AreFullWith self.old.slots (self.old.slots.lent + 2))) }
+        ensures stops { IfErr result (OnlyWhere (StopsOrder class moves.entry (tables_of self.old))) }
     {
         let made = self.order(turn, class, moves)?;
         self.edits.push_all(point, made.as_slice())?;
@@ -227,6 +230,7 @@ impl<'a, A: Allocator> State<'a, A> {
         ensures long { OnOk result (length self.new.places.stands ≡ length self.old.places.stands) }
         ensures machine { SameMachine (tables_of self.old) (tables_of self.new) }
         ensures err { IfErr result (IsLack self.new.slots) }
+        ensures stops { IfErr result (OnlyWhere (StopsSettle argument turn.old (tables_of self.old))) }
     {
         let slot = self.slots.slot_of(argument)?;
         if let Some(preg) = self.places.place_of(argument).as_reg() {
@@ -256,6 +260,7 @@ impl<'a, A: Allocator> State<'a, A> {
         ensures long { OnOk result (length self.new.places.stands ≡ length self.old.places.stands) }
         ensures machine { SameMachine (tables_of self.old) (tables_of self.new) }
         ensures err { IfErr result (IsLack self.new.slots) }
+        ensures stops { IfErr result (OnlyWhere ((given : List ClassMove) → AreOf moves.old.int moves.old.float moves.old.vector given → StopsEdge point params.now arguments.now turn.old (tables_of self.old) given)) }
     {
         for j in 0..params.len() {
             let to = self.slots.slot_of(params[j])?;
@@ -287,6 +292,7 @@ impl<'a, A: Allocator> State<'a, A> {
         ensures long { OnOk result (length self.new.places.stands ≡ length self.old.places.stands) }
         ensures machine { SameMachine (tables_of self.old) (tables_of self.new) }
         ensures err { IfErr result (IsLack self.new.slots) }
+        ensures stops { IfErr result (OnlyWhere (StopsGather (F.function f.now) block (before inst) turn.old (tables_of self.old))) }
     {
         let point = ProgPoint::before(inst);
         let succs = f.block_succs(block);
@@ -315,6 +321,7 @@ impl<'a, A: Allocator> State<'a, A> {
         ensures later { OnOk result (NoneBefore point self.new.edits) }
         ensures machine { LendsAtMost 6 (tables_of self.old) (tables_of self.new) }
         ensures err { IfErr result (LacksOnly (AreFullWith self.old.slots (self.old.slots.lent + 6))) }
+        ensures stops { IfErr result (OnlyWhere (StopsOrder RegClass.Int moves.entry.int (tables_of self.old) ⊎ (StopsOrder RegClass.Float moves.entry.float (tables_of self.old) ⊎ StopsOrder RegClass.Vector moves.entry.vector (tables_of self.old)))) }
     {
         let Gathered { int, float, vector } = moves;
         self.push_moves(turn, point, RegClass::Int, int)?;
@@ -352,6 +359,7 @@ impl<'a, A: Allocator> State<'a, A> {
         ensures long { OnOk result (length self.new.places.stands ≡ length self.old.places.stands) }
         ensures machine { LendsAtMost 6 (tables_of self.old) (tables_of self.new) }
         ensures err { IfErr result (LacksOnly (AreFullWith self.old.slots (self.old.slots.lent + 6))) }
+        ensures stops { IfErr result (OnlyWhere (StopsPass (F.function f.now) block inst turn.old (tables_of self.old))) }
     {
         let moves = self.gather(turn, alloc, f, block, inst)?;
         self.have_owners();

@@ -1,12 +1,13 @@
 //! The place of an operand.
 
-ghost use Rattle.std.specs.Prelude.{◌≡◌, ◌≢◌, ◌<◌, ◌↔◌, ◌⊎◌, ◌&&◌, ℕ, length, not, None, OnOk, IfOk, IfErr, IfSome, IsTrue};
+ghost use Rattle.std.specs.Prelude.{◌≡◌, ◌≢◌, ◌<◌, ◌≤◌, ◌↔◌, ◌⊎◌, ◌&&◌, ℕ, length, not, None, OnOk, IfOk, IfErr, IfNone, IfSome, IsTrue};
 ghost use Rattle.regalloc2_names.specs.Register.{Register};
 ghost use Rattle.regalloc2_names.specs.Place.{NoPlace, InRegister, is_place};
 ghost use Rattle.regalloc2_tables.specs.Tables.{NoneBefore, holder, stood};
 ghost use Rattle.regalloc2_tables.specs.Lack.{IsLack};
-ghost use Rattle.regalloc2_tables.specs.Turns.{IsFreeAt, SameSets};
-ghost use Rattle.regalloc2_steps.specs.Steps.{is_another, Defines, Gets, MayHold, Occupies, Picks, PlacesDef, PlacesUse, SameMachine, Sends, Suits, Uses};
+ghost use Rattle.regalloc2_tables.specs.Turns.{IsFreeAt, SameSets, free_count};
+ghost use Rattle.regalloc2_steps.specs.Steps.{awaited_less, is_another, spare_left, Defines, Gets, IsAffordable, MayHold, Occupies, Picks, PlacesDef, PlacesUse, SameMachine, Sends, Suits, Uses};
+ghost use Rattle.regalloc2_steps.specs.Stops.{NoneIsFree, OnlyWhere, StopsClear, StopsDef, StopsDefine, StopsGet, StopsPick, StopsSend};
 ghost use Rattle.regalloc2_walk.specs.States.{tables_of};
 
 use super::state::State;
@@ -38,7 +39,8 @@ fn is_any_register(wanted: Wanted) -> bool
 
 /// An operand that asked for any register is placed.
 fn note_placed(turn: &mut Turn, placing: &Placing)
-    ensures { SameSets turn.old turn.new }
+    ensures sets { SameSets turn.old turn.new }
+    ensures awaited { turn.new.awaited ≡ awaited_less placing.now.wanted placing.now.vreg.class turn.old.awaited }
 {
     if is_any_register(placing.wanted) {
         turn.placed_one(placing.vreg.class());
@@ -61,13 +63,40 @@ impl<'a, A: Allocator> State<'a, A> {
         }
     }
 
+    /// How many allocatable registers of the class are free at both positions.
+    fn free_count(&self, turn: &Turn, class: RegClass) -> usize
+        ensures count { result ≡ free_count self.now.registers.allocatable turn.now class }
+        ensures small { result ≤ 192 }
+    {
+        let free = turn.free_at(Positions::both()) & self.registers.of_class(class);
+        free.len() as usize
+    }
+
+    /// How many registers of the class are still kept for a move from stack to stack.
+    fn spare_left(&self, turn: &Turn, class: RegClass) -> usize
+        ensures left { result ≡ spare_left self.now.registers.fixed_stack self.now.registers.dedicated turn.now class }
+        ensures small { result ≤ 1 }
+    {
+        match turn.scratch_of(class) {
+            Some(_) => 0,
+            None => self.registers.spare_of(class),
+        }
+    }
+
     /// Whether enough registers are left for the operands that ask for any register, once this one is taken too.
-    fn is_enough(&self, turn: &Turn, preg: PReg) -> bool {
-        turn.demand_with(preg) <= self.registers.count(preg.class())
+    fn is_enough(&self, turn: &Turn, preg: PReg) -> bool
+        ensures enough { IsTrue result → IsAffordable turn.now (tables_of self.now) preg }
+    {
+        let class = preg.class();
+        let taken = if turn.is_free(preg) { 1 } else { 0 };
+        let kept = self.spare_left(turn, class) + taken;
+        turn.awaited(class).saturating_add(kept) <= self.free_count(turn, class)
     }
 
     /// Whether an operand that may stand anywhere may hold the place.
-    fn is_affordable(&self, turn: &Turn, wanted: Wanted, place: Allocation) -> bool {
+    fn is_affordable(&self, turn: &Turn, wanted: Wanted, place: Allocation) -> bool
+        ensures { IsTrue result → wanted ≡ Wanted.Anywhere → (r : Register) → place ≡ InRegister r → IsAffordable turn.now (tables_of self.now) r }
+    {
         match (wanted, place.as_reg()) {
             (Wanted::Anywhere, Some(preg)) => {
                 !self.registers.is_allocatable(preg) || self.is_enough(turn, preg)
@@ -80,7 +109,8 @@ impl<'a, A: Allocator> State<'a, A> {
     #[inline(always)]
     fn kept(&self, turn: &Turn, placing: &Placing) -> Option<Allocation>
         requires { placing.now.vreg.number < length self.now.places.stands }
-        ensures { IfSome result (λ p. (stood self.now.places placing.now.vreg.number ≡ p) × Suits (tables_of self.now) placing.now.wanted p) }
+        ensures suits { IfSome result (λ p. (stood self.now.places placing.now.vreg.number ≡ p) × Suits (tables_of self.now) placing.now.wanted p) }
+        ensures affordable { IfSome result (λ p. placing.now.wanted ≡ Wanted.Anywhere → (r : Register) → p ≡ InRegister r → IsAffordable turn.now (tables_of self.now) r) }
     {
         let stands = self.places.place_of(placing.vreg);
         if stands.is_none() || !self.meets(placing.wanted, stands) {
@@ -97,6 +127,7 @@ impl<'a, A: Allocator> State<'a, A> {
     /// isn't one that is defined and awaited nowhere.
     fn prefers_register(&self, turn: &Turn, placing: &Placing, preg: PReg) -> bool
         requires { placing.now.vreg.number < length self.now.places.stands }
+        ensures { IsTrue result → IsAffordable turn.now (tables_of self.now) preg }
     {
         if placing.is_def && self.places.place_of(placing.vreg).is_none() {
             return false;
@@ -111,6 +142,8 @@ impl<'a, A: Allocator> State<'a, A> {
         ensures asks { IfSome result (λ r. (placing.now.wanted ≡ Wanted.Anywhere) ⊎ (placing.now.wanted ≡ Wanted.AnyRegister)) }
         ensures may_hold { IfSome result (λ r. MayHold (tables_of self.now) placing.now.vreg.class r) }
         ensures free { IfSome result (λ r. IsFreeAt turn.now placing.now.positions r) }
+        ensures affordable { IfSome result (λ r. placing.now.wanted ≡ Wanted.Anywhere → IsAffordable turn.now (tables_of self.now) r) }
+        ensures none { IfNone result (placing.now.wanted ≡ Wanted.AnyRegister → NoneIsFree placing.now.vreg.class turn.now (tables_of self.now)) }
     {
         let free = turn.free_at(placing.positions);
         let preg = self.registers.oldest(placing.vreg.class(), free)?;
@@ -126,11 +159,13 @@ impl<'a, A: Allocator> State<'a, A> {
     fn chosen(&mut self, turn: &Turn, placing: &Placing) -> Result<Allocation, RegAllocError>
         requires { placing.now.vreg.number < length self.old.places.stands }
         ensures ok { IfOk result (λ p. Picks turn.now placing.now p (tables_of self.old) (tables_of self.new)) }
+        ensures affordable { IfOk result (λ p. placing.now.wanted ≡ Wanted.Anywhere → (r : Register) → p ≡ InRegister r → IsAffordable turn.now (tables_of self.old) r) }
         ensures there { IfOk result (λ p. p ≢ NoPlace) }
         ensures places { self.new.places ≡ self.old.places }
         ensures edits { self.new.edits ≡ self.old.edits }
         ensures machine { SameMachine (tables_of self.old) (tables_of self.new) }
         ensures err { IfErr result (IsLack self.new.slots) }
+        ensures stops { IfErr result (OnlyWhere (StopsPick placing.now turn.now (tables_of self.old))) }
     {
         if let Wanted::At(preg) = placing.wanted {
             return Ok(Allocation::reg(preg));
@@ -150,11 +185,13 @@ impl<'a, A: Allocator> State<'a, A> {
     fn picked(&mut self, turn: &Turn, placing: &Placing) -> Result<Allocation, RegAllocError>
         requires { placing.now.vreg.number < length self.old.places.stands }
         ensures ok { IfOk result (λ p. Picks turn.now placing.now p (tables_of self.old) (tables_of self.new)) }
+        ensures affordable { IfOk result (λ p. placing.now.wanted ≡ Wanted.Anywhere → (r : Register) → p ≡ InRegister r → IsAffordable turn.now (tables_of self.old) r) }
         ensures there { IfOk result (λ p. p ≢ NoPlace) }
         ensures places { self.new.places ≡ self.old.places }
         ensures edits { self.new.edits ≡ self.old.edits }
         ensures machine { SameMachine (tables_of self.old) (tables_of self.new) }
         ensures err { IfErr result (IsLack self.new.slots) }
+        ensures stops { IfErr result (OnlyWhere (StopsPick placing.now turn.now (tables_of self.old))) }
     {
         if let Some(stands) = self.kept(turn, placing) {
             return Ok(stands);
@@ -163,15 +200,13 @@ impl<'a, A: Allocator> State<'a, A> {
         Ok(place)
     }
 
-    /// The register counts as taken, and as used just now if it wasn't asked for by name.
-    fn note_taken(&mut self, turn: &mut Turn, wanted: Wanted, preg: PReg)
+    /// An allocatable register counts as used just now if it wasn't asked for by name.
+    fn note_taken(&mut self, wanted: Wanted, preg: PReg)
         ensures tables { tables_of self.new ≡ tables_of self.old }
-        ensures sets { SameSets turn.old turn.new }
     {
         if !self.registers.is_allocatable(preg) {
             return;
         }
-        turn.count(preg);
         if matches!(wanted, Wanted::Anywhere | Wanted::AnyRegister) {
             self.registers.poke(preg);
         }
@@ -188,15 +223,17 @@ impl<'a, A: Allocator> State<'a, A> {
     ) -> Result<(), RegAllocError>
         requires { NoneBefore point self.old.edits }
         ensures ok { OnOk result (Occupies point placing.now (InRegister preg) turn.old turn.new (tables_of self.old) (tables_of self.new)) }
+        ensures awaited { turn.new.awaited ≡ turn.old.awaited }
         ensures alone { OnOk result (stood self.new.places placing.now.vreg.number ≡ NoPlace → holder self.new.places preg ≡ None) }
         ensures later { OnOk result (NoneBefore point self.new.edits) }
         ensures long { OnOk result (length self.new.places.stands ≡ length self.old.places.stands) }
         ensures machine { SameMachine (tables_of self.old) (tables_of self.new) }
         ensures err { IfErr result (IsLack self.new.slots) }
+        ensures stops { IfErr result (OnlyWhere (StopsClear preg turn.old (tables_of self.old))) }
     {
         self.evict_others(turn, point, preg, placing.vreg)?;
         turn.hold(preg, placing.positions);
-        self.note_taken(turn, placing.wanted, preg);
+        self.note_taken(placing.wanted, preg);
         Ok(())
     }
 
@@ -212,11 +249,13 @@ impl<'a, A: Allocator> State<'a, A> {
         requires later { NoneBefore point self.old.edits }
         requires there { place ≢ NoPlace }
         ensures ok { OnOk result (Occupies point placing.now place turn.old turn.new (tables_of self.old) (tables_of self.new)) }
+        ensures awaited { turn.new.awaited ≡ turn.old.awaited }
         ensures alone { OnOk result ((r : Register) → place ≡ InRegister r → stood self.new.places placing.now.vreg.number ≡ NoPlace → holder self.new.places r ≡ None) }
         ensures later { OnOk result (NoneBefore point self.new.edits) }
         ensures long { OnOk result (length self.new.places.stands ≡ length self.old.places.stands) }
         ensures machine { SameMachine (tables_of self.old) (tables_of self.new) }
         ensures err { IfErr result (IsLack self.new.slots) }
+        ensures stops { IfErr result (OnlyWhere ((r : Register) × (place ≡ InRegister r) × StopsClear r turn.old (tables_of self.old))) }
     {
         let Some(preg) = place.as_reg() else {
             return Ok(());
@@ -236,11 +275,13 @@ impl<'a, A: Allocator> State<'a, A> {
         requires later { NoneBefore point self.old.edits }
         requires vreg { placing.now.vreg.number < length self.old.places.stands }
         ensures ok { IfOk result (λ p. Gets point placing.now p turn.old turn.new (tables_of self.old) (tables_of self.new)) }
+        ensures awaited { OnOk result (turn.new.awaited ≡ awaited_less placing.now.wanted placing.now.vreg.class turn.old.awaited) }
         ensures alone { IfOk result (λ p. (r : Register) → p ≡ InRegister r → stood self.new.places placing.now.vreg.number ≡ NoPlace → holder self.new.places r ≡ None) }
         ensures later { OnOk result (NoneBefore point self.new.edits) }
         ensures long { OnOk result (length self.new.places.stands ≡ length self.old.places.stands) }
         ensures machine { SameMachine (tables_of self.old) (tables_of self.new) }
         ensures err { IfErr result (IsLack self.new.slots) }
+        ensures stops { IfErr result (OnlyWhere (StopsGet placing.now turn.old (tables_of self.old))) }
     {
         let place = self.picked(turn, placing)?;
         self.occupy(turn, point, placing, place)?;
@@ -261,10 +302,12 @@ impl<'a, A: Allocator> State<'a, A> {
     ) -> Result<(), RegAllocError>
         requires { NoneBefore point self.old.edits }
         ensures ok { OnOk result (Sends point class is_made from to turn.old turn.new (tables_of self.old) (tables_of self.new)) }
+        ensures awaited { turn.new.awaited ≡ turn.old.awaited }
         ensures later { OnOk result (NoneBefore point self.new.edits) }
         ensures long { OnOk result (length self.new.places.stands ≡ length self.old.places.stands) }
         ensures machine { SameMachine (tables_of self.old) (tables_of self.new) }
         ensures err { IfErr result (IsLack self.new.slots) }
+        ensures stops { IfErr result (OnlyWhere (StopsSend class is_made from to turn.old (tables_of self.old))) }
     {
         if !is_made {
             return Ok(());
@@ -287,10 +330,12 @@ impl<'a, A: Allocator> State<'a, A> {
         requires later { NoneBefore point self.old.edits }
         requires vreg { vreg.number < length self.old.places.stands }
         ensures ok { OnOk result (Defines point vreg is_ret place turn.old turn.new (tables_of self.old) (tables_of self.new)) }
+        ensures awaited { turn.new.awaited ≡ turn.old.awaited }
         ensures later { OnOk result (NoneBefore point self.new.edits) }
         ensures long { OnOk result (length self.new.places.stands ≡ length self.old.places.stands) }
         ensures machine { SameMachine (tables_of self.old) (tables_of self.new) }
         ensures err { IfErr result (IsLack self.new.slots) }
+        ensures stops { IfErr result (OnlyWhere (StopsDefine point vreg is_ret place turn.old (tables_of self.old))) }
     {
         let class = vreg.class();
         let awaited = self.places.place_of(vreg);
@@ -320,6 +365,7 @@ impl<'a, A: Allocator> State<'a, A> {
         ensures long { OnOk result (length self.new.places.stands ≡ length self.old.places.stands) }
         ensures machine { SameMachine (tables_of self.old) (tables_of self.new) }
         ensures err { IfErr result (IsLack self.new.slots) }
+        ensures stops { IfErr result (OnlyWhere (StopsDef point placing.now is_ret turn.old (tables_of self.old))) }
     {
         let place = self.place(turn, point, placing)?;
         self.leave(turn, point, placing.vreg, is_ret, place)?;
@@ -340,6 +386,7 @@ impl<'a, A: Allocator> State<'a, A> {
         ensures long { OnOk result (length self.new.places.stands ≡ length self.old.places.stands) }
         ensures machine { SameMachine (tables_of self.old) (tables_of self.new) }
         ensures err { IfErr result (IsLack self.new.slots) }
+        ensures stops { IfErr result (OnlyWhere (StopsGet placing.now turn.old (tables_of self.old))) }
     {
         let place = self.place(turn, point, placing)?;
         if self.places.place_of(placing.vreg).is_some() {

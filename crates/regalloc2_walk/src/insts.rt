@@ -1,13 +1,14 @@
 //! The operands of one instruction, of every kind but `Limit`.
 
-ghost use Rattle.std.specs.Prelude.{◌≡◌, ◌<◌, ◌≤◌, ◌+◌, ◌↔◌, [], length, not, false, slice_set, slice_index, slice_index_or, ℕ, OnOk, IfErr, IfSome, IsNone, IsTrue};
+ghost use Rattle.std.specs.Prelude.{◌≡◌, ◌<◌, ◌≤◌, ◌+◌, ◌↔◌, [], length, not, false, slice_set, slice_index, slice_index_or, ℕ, OnOk, IfErr, IfSome, IsNone, IsTrue, List};
 ghost use Rattle.regalloc2_names.specs.Point.{before, after};
-ghost use Rattle.regalloc2_names.specs.Place.{NoPlace, is_place};
+ghost use Rattle.regalloc2_names.specs.Place.{Place, NoPlace, is_place};
 ghost use Rattle.regalloc2_function.specs.SourceRun.{is_def, is_late, is_reading};
 ghost use Rattle.regalloc2_tables.specs.Tables.{NoneBefore, stood};
 ghost use Rattle.regalloc2_tables.specs.Lack.{IsLack};
 ghost use Rattle.regalloc2_validate.specs.Constraints.{op_at};
 ghost use Rattle.regalloc2_steps.specs.Steps.{Allocates, asked_as, asked_by, def_placing, reuse_placing, use_placing, InTables, MovesUses, PlacesAt, PlacesOne, SameMachine, Sends};
+ghost use Rattle.regalloc2_steps.specs.Stops.{OnlyWhere, StopsAt, StopsInst, StopsMoves, StopsOne, StopsSend};
 ghost use Rattle.regalloc2_walk.specs.States.{tables_of};
 ghost use Rattle.regalloc2_steps.specs.Walks.{AllocatesTo, IsFresh};
 
@@ -158,6 +159,7 @@ impl<'a, A: Allocator> State<'a, A> {
         ensures long { OnOk result (length self.new.places.stands ≡ length self.old.places.stands) }
         ensures machine { SameMachine (tables_of self.old) (tables_of self.new) }
         ensures err { IfErr result (IsLack self.new.slots) }
+        ensures stops { IfErr result (OnlyWhere (StopsOne inst is_ret operands.now k here.old turn.old (tables_of self.old))) }
     {
         let operand = operands[k];
         let point = ProgPoint::after(inst);
@@ -200,6 +202,7 @@ impl<'a, A: Allocator> State<'a, A> {
         ensures long { OnOk result (length self.new.places.stands ≡ length self.old.places.stands) }
         ensures machine { SameMachine (tables_of self.old) (tables_of self.new) }
         ensures err { IfErr result (IsLack self.new.slots) }
+        ensures stops { IfErr result (OnlyWhere (StopsAt inst is_ret (is_late pos) operands.now here.old turn.old (tables_of self.old))) }
     {
         for k in 0..operands.len() {
             if stands_at(operands[k], pos) {
@@ -225,6 +228,7 @@ impl<'a, A: Allocator> State<'a, A> {
         ensures long { OnOk result (length self.new.places.stands ≡ length self.old.places.stands) }
         ensures machine { SameMachine (tables_of self.old) (tables_of self.new) }
         ensures err { IfErr result (IsLack self.new.slots) }
+        ensures stops { IfErr result (OnlyWhere (StopsSend operand.vreg.class (not (is_place (stood self.old.places operand.vreg.number) place)) (stood self.old.places operand.vreg.number) place turn.old (tables_of self.old))) }
     {
         let stands = self.places.place_of(operand.vreg());
         let is_moved = differ(stands, place);
@@ -248,6 +252,7 @@ impl<'a, A: Allocator> State<'a, A> {
         ensures long { OnOk result (length self.new.places.stands ≡ length self.old.places.stands) }
         ensures machine { SameMachine (tables_of self.old) (tables_of self.new) }
         ensures err { IfErr result (IsLack self.new.slots) }
+        ensures stops { IfErr result (OnlyWhere (StopsMoves point operands.now here.now turn.old (tables_of self.old))) }
     {
         for k in 0..operands.len() {
             if reads(operands[k]) {
@@ -280,6 +285,7 @@ impl<'a, A: Allocator> State<'a, A> {
         ensures long { OnOk result (length self.new.places.stands ≡ length self.old.places.stands) }
         ensures machine { SameMachine (tables_of self.old) (tables_of self.new) }
         ensures err { IfErr result (IsLack self.new.slots) }
+        ensures stops { IfErr result (OnlyWhere (StopsInst inst is_ret operands.now clobbers here.old turn.old (tables_of self.old))) }
     {
         let point = ProgPoint::after(inst);
         self.reserve(turn, operands)?;
@@ -314,6 +320,7 @@ impl<'a, A: Allocator> State<'a, A> {
         ensures long { OnOk result (length self.new.places.stands ≡ length self.old.places.stands) }
         ensures machine { SameMachine (tables_of self.old) (tables_of self.new) }
         ensures err { IfErr result (IsLack self.new.slots) }
+        ensures stops { IfErr result (OnlyWhere ((blank : List Place) × (length blank ≡ length operands.now) × ((k : ℕ) → slice_index_or blank k NoPlace ≡ NoPlace) × StopsInst inst is_ret operands.now clobbers blank turn.old (tables_of self.old))) }
     {
         let end = start + operands.len();
         self.allocate_inst(

@@ -1,14 +1,15 @@
 //! What an instruction takes before its operands are placed: fixed registers and clobbers.
 
-ghost use Rattle.std.specs.Prelude.{ℕ, ◌≡◌, ◌<◌, length, true, false, OnOk, IfSome, IfNone, IfErr, Some};
+ghost use Rattle.std.specs.Prelude.{ℕ, ◌≡◌, ◌<◌, ◌⊎◌, ◌||◌, length, true, false, OnOk, IfSome, IfNone, IfErr, Some};
 ghost use Rattle.regalloc2_names.specs.Register.{Register};
 ghost use Rattle.regalloc2_names.specs.RegisterSet.{has_register, registers_of};
 ghost use Rattle.regalloc2_tables.specs.Tables.{NoneBefore};
 ghost use Rattle.regalloc2_tables.specs.Lack.{IsLack};
 ghost use Rattle.regalloc2_validate.specs.Constraints.{op_at};
 ghost use Rattle.regalloc2_steps.specs.Steps.{SameMachine, ClaimsFixed, Reserves, HoldsClobbers, ClearsFixed, ClearsAll};
+ghost use Rattle.regalloc2_steps.specs.Stops.{OnlyWhere, StopsClobbers, StopsFixed, StopsReserve};
 ghost use Rattle.regalloc2_walk.specs.States.{tables_of};
-ghost use Rattle.regalloc2_walk.specs.Reserving.{IsClaimed, IsReserved, Grows, Shrinks, ReservesOne};
+ghost use Rattle.regalloc2_walk.specs.Reserving.{AwaitsOne, ClaimsOnly, IsClaimed, IsClaimedAt, IsReserved, Grows, Shrinks, ReservesOne, StopsClaim, TakesOnly};
 
 use super::state::State;
 use regalloc2_names::{Operand, OperandConstraint, PReg, PRegSet, ProgPoint, RegAllocError};
@@ -25,7 +26,10 @@ struct Claims {
 
 impl Claims {
     /// None.
-    fn none() -> Claims {
+    fn none() -> Claims
+        ensures early { (r : Register) → has_register result.early r ≡ false }
+        ensures late { (r : Register) → has_register result.late r ≡ false }
+    {
         Claims {
             early: PRegSet::empty(),
             late: PRegSet::empty(),
@@ -37,7 +41,10 @@ impl Claims {
     fn claim(&mut self, preg: PReg, positions: Positions) -> Result<(), RegAllocError>
         ensures ok { OnOk result (IsClaimed self.old self.new preg positions) }
         ensures grows { Grows self.old self.new }
+        ensures only { ClaimsOnly self.old self.new preg positions }
         ensures err { IfErr result (λ e. e ≡ RegAllocError.TooManyLiveRegs) }
+        ensures claimed { IfErr result (λ e. IsClaimedAt self.old preg positions) }
+        ensures unchanged { IfErr result (λ e. self.new ≡ self.old) }
     {
         let is_early = positions.early && self.early.contains(preg);
         let is_late = positions.late && self.late.contains(preg);
@@ -82,7 +89,8 @@ fn reused_register(operand: Operand, operands: &[Operand]) -> Option<PReg>
 /// reuse that of the operand that it names, while late operands are there.
 fn claimed_by(operands: &[Operand], k: usize) -> Option<(PReg, Positions)>
     requires { k < length operands.now }
-    ensures { (r : Register) (p : Positions) → ClaimsFixed operands.now k r p → result ≡ Some (r, p) }
+    ensures some { IfSome result (λ c. ClaimsFixed operands.now k c.0 c.1) }
+    ensures all { (r : Register) (p : Positions) → ClaimsFixed operands.now k r p → result ≡ Some (r, p) }
 {
     let operand = operands[k];
     if let Some(preg) = fixed_register(operand) {
@@ -111,8 +119,12 @@ impl<'a, A: Allocator> State<'a, A> {
     ) -> Result<(), RegAllocError>
         ensures ok { OnOk result (IsReserved (tables_of self.now) preg positions turn.new claims.old claims.new) }
         ensures shrinks { Shrinks turn.old turn.new }
+        ensures takes { TakesOnly preg turn.old turn.new }
+        ensures awaited { turn.new.awaited ≡ turn.old.awaited }
         ensures grows { Grows claims.old claims.new }
+        ensures only { ClaimsOnly claims.old claims.new preg positions }
         ensures err { IfErr result (IsLack self.now.slots) }
+        ensures stops { IfErr result (OnlyWhere (((has_register self.now.registers.allocatable preg || has_register self.now.registers.fixed_stack preg) ≡ false) ⊎ IsClaimedAt claims.old preg positions)) }
     {
         if !self.registers.every().contains(preg) {
             return Err(RegAllocError::TooManyLiveRegs);
@@ -122,16 +134,17 @@ impl<'a, A: Allocator> State<'a, A> {
         Ok(())
     }
 
-    /// Holds and counts a fixed register, and pokes it once, if it may be allocated.
+    /// Holds a fixed register, and pokes it once, if it may be allocated.
     fn hold_fixed(&mut self, turn: &mut Turn, claims: &mut Claims, preg: PReg, positions: Positions)
         ensures same { tables_of self.new ≡ tables_of self.old }
         ensures shrinks { Shrinks turn.old turn.new }
+        ensures takes { TakesOnly preg turn.old turn.new }
+        ensures awaited { turn.new.awaited ≡ turn.old.awaited }
         ensures early { claims.new.early ≡ claims.old.early }
         ensures late { claims.new.late ≡ claims.old.late }
     {
         turn.hold(preg, positions);
         if self.registers.is_allocatable(preg) {
-            turn.count(preg);
             if !claims.poked.contains(preg) {
                 claims.poked.add(preg);
                 self.registers.poke(preg);
@@ -149,8 +162,10 @@ impl<'a, A: Allocator> State<'a, A> {
     ) -> Result<(), RegAllocError>
         requires { k < length operands.now }
         ensures ok { OnOk result (ReservesOne operands.now k turn.old turn.new claims.old claims.new (tables_of self.old)) }
+        ensures awaited { OnOk result (AwaitsOne operands.now k turn.old turn.new) }
         ensures same { tables_of self.new ≡ tables_of self.old }
         ensures err { IfErr result (IsLack self.new.slots) }
+        ensures stops { IfErr result (OnlyWhere (StopsClaim operands.now k claims.old (tables_of self.old))) }
     {
         let operand = operands[k];
         if let Some(claim) = claimed_by(operands, k) {
@@ -171,6 +186,7 @@ impl<'a, A: Allocator> State<'a, A> {
         ensures ok { OnOk result (Reserves operands.now turn.old turn.new (tables_of self.old)) }
         ensures same { tables_of self.new ≡ tables_of self.old }
         ensures err { IfErr result (IsLack self.new.slots) }
+        ensures stops { IfErr result (OnlyWhere (StopsReserve operands.now (tables_of self.old))) }
     {
         let mut claims = Claims::none();
         for k in 0..operands.len() {
@@ -190,9 +206,6 @@ impl<'a, A: Allocator> State<'a, A> {
         };
         for preg in clobbers {
             turn.hold(preg, late);
-            if self.registers.is_allocatable(preg) {
-                turn.count(preg);
-            }
         }
     }
 
@@ -205,10 +218,12 @@ impl<'a, A: Allocator> State<'a, A> {
     ) -> Result<(), RegAllocError>
         requires { NoneBefore point self.old.edits }
         ensures ok { OnOk result (ClearsFixed point operands.now turn.old (tables_of self.old) (length operands.now) turn.new (tables_of self.new)) }
+        ensures awaited { turn.new.awaited ≡ turn.old.awaited }
         ensures later { OnOk result (NoneBefore point self.new.edits) }
         ensures long { OnOk result (length self.new.places.stands ≡ length self.old.places.stands) }
         ensures machine { SameMachine (tables_of self.old) (tables_of self.new) }
         ensures err { IfErr result (IsLack self.new.slots) }
+        ensures stops { IfErr result (OnlyWhere (StopsFixed point operands.now turn.old (tables_of self.old))) }
     {
         for k in 0..operands.len() {
             let operand = operands[k];
@@ -230,10 +245,12 @@ impl<'a, A: Allocator> State<'a, A> {
     ) -> Result<(), RegAllocError>
         requires { NoneBefore point self.old.edits }
         ensures ok { OnOk result (ClearsAll point (registers_of clobbers) turn.old (tables_of self.old) turn.new (tables_of self.new)) }
+        ensures awaited { turn.new.awaited ≡ turn.old.awaited }
         ensures later { OnOk result (NoneBefore point self.new.edits) }
         ensures long { OnOk result (length self.new.places.stands ≡ length self.old.places.stands) }
         ensures machine { SameMachine (tables_of self.old) (tables_of self.new) }
         ensures err { IfErr result (IsLack self.new.slots) }
+        ensures stops { IfErr result (OnlyWhere (StopsClobbers point turn.old (tables_of self.old))) }
     {
         for preg in clobbers {
             self.evict_from(turn, point, preg)?;

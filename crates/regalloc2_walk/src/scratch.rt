@@ -5,6 +5,7 @@ ghost use Rattle.regalloc2_names.specs.Place.{NoPlace};
 ghost use Rattle.regalloc2_tables.specs.Tables.{NoneBefore, holder, stood};
 ghost use Rattle.regalloc2_tables.specs.Lack.{IsLack};
 ghost use Rattle.regalloc2_steps.specs.Steps.{is_stack_in, SameMachine, Evicts, Scratches, Crosses, Clears, ClearsBut};
+ghost use Rattle.regalloc2_steps.specs.Stops.{OnlyWhere, StopsClear, StopsCross, StopsScratch};
 ghost use Rattle.regalloc2_walk.specs.States.{tables_of};
 
 use super::state::State;
@@ -32,6 +33,7 @@ impl<'a, A: Allocator> State<'a, A> {
         ensures long { OnOk result (length self.new.places.stands ≡ length self.old.places.stands) }
         ensures machine { SameMachine (tables_of self.old) (tables_of self.new) }
         ensures err { IfErr result (IsLack self.new.slots) }
+        ensures stops { IfErr result (OnlyWhere (⊥)) }
     {
         let Some(vreg) = self.places.vreg_in(preg) else {
             return Ok(());
@@ -52,10 +54,12 @@ impl<'a, A: Allocator> State<'a, A> {
     ) -> Result<PReg, RegAllocError>
         requires { NoneBefore point self.old.edits }
         ensures ok { IfOk result (λ r. Scratches point class turn.old turn.new r (tables_of self.old) (tables_of self.new)) }
+        ensures awaited { turn.new.awaited ≡ turn.old.awaited }
         ensures later { OnOk result (NoneBefore point self.new.edits) }
         ensures long { OnOk result (length self.new.places.stands ≡ length self.old.places.stands) }
         ensures machine { SameMachine (tables_of self.old) (tables_of self.new) }
         ensures err { IfErr result (IsLack self.new.slots) }
+        ensures stops { IfErr result (OnlyWhere (StopsScratch class turn.old (tables_of self.old))) }
     {
         if let Some(preg) = self.registers.dedicated(class) {
             return Ok(preg);
@@ -68,7 +72,6 @@ impl<'a, A: Allocator> State<'a, A> {
             return Err(RegAllocError::TooManyLiveRegs);
         };
         turn.hold(preg, Positions::both());
-        turn.count(preg);
         turn.set_scratch(class, preg);
         self.evict_register(point, preg)?;
         Ok(preg)
@@ -86,10 +89,12 @@ impl<'a, A: Allocator> State<'a, A> {
     ) -> Result<(), RegAllocError>
         requires { NoneBefore point self.old.edits }
         ensures ok { OnOk result (Crosses point class from to turn.old turn.new (tables_of self.old) (tables_of self.new)) }
+        ensures awaited { turn.new.awaited ≡ turn.old.awaited }
         ensures later { OnOk result (NoneBefore point self.new.edits) }
         ensures long { OnOk result (length self.new.places.stands ≡ length self.old.places.stands) }
         ensures machine { SameMachine (tables_of self.old) (tables_of self.new) }
         ensures err { IfErr result (IsLack self.new.slots) }
+        ensures stops { IfErr result (OnlyWhere (StopsCross class from to turn.old (tables_of self.old))) }
     {
         if self.is_stack_place(from) && self.is_stack_place(to) {
             let by = Allocation::reg(self.scratch(turn, point, class)?);
@@ -112,11 +117,13 @@ impl<'a, A: Allocator> State<'a, A> {
     ) -> Result<(), RegAllocError>
         requires { NoneBefore point self.old.edits }
         ensures ok { OnOk result (Clears point preg turn.old turn.new (tables_of self.old) (tables_of self.new)) }
+        ensures awaited { turn.new.awaited ≡ turn.old.awaited }
         ensures empty { OnOk result (holder self.new.places preg ≡ None) }
         ensures later { OnOk result (NoneBefore point self.new.edits) }
         ensures long { OnOk result (length self.new.places.stands ≡ length self.old.places.stands) }
         ensures machine { SameMachine (tables_of self.old) (tables_of self.new) }
         ensures err { IfErr result (IsLack self.new.slots) }
+        ensures stops { IfErr result (OnlyWhere (StopsClear preg turn.old (tables_of self.old))) }
     {
         let Some(vreg) = self.places.vreg_in(preg) else {
             return Ok(());
@@ -138,11 +145,13 @@ impl<'a, A: Allocator> State<'a, A> {
     ) -> Result<(), RegAllocError>
         requires { NoneBefore point self.old.edits }
         ensures ok { OnOk result (ClearsBut point preg vreg turn.old turn.new (tables_of self.old) (tables_of self.new)) }
+        ensures awaited { turn.new.awaited ≡ turn.old.awaited }
         ensures alone { OnOk result (stood self.new.places vreg.number ≡ NoPlace → holder self.new.places preg ≡ None) }
         ensures later { OnOk result (NoneBefore point self.new.edits) }
         ensures long { OnOk result (length self.new.places.stands ≡ length self.old.places.stands) }
         ensures machine { SameMachine (tables_of self.old) (tables_of self.new) }
         ensures err { IfErr result (IsLack self.new.slots) }
+        ensures stops { IfErr result (OnlyWhere (StopsClear preg turn.old (tables_of self.old))) }
     {
         if let Some(held) = self.places.vreg_in(preg) {
             if held.vreg() == vreg.vreg() {

@@ -40,6 +40,7 @@ impl<'a, A: Allocator> State<'a, A> {
             s.slots ≡ no_slots (F.function f.now).num_vregs (slot_size sizes RegClass.Int ∷ slot_size sizes RegClass.Float ∷ slot_size sizes RegClass.Vector ∷ []) (F.function f.now).named_by_last_slot)) }
         ensures edits { IfOk result (λ s. s.edits ≡ []) }
         ensures registers { IfOk result (λ s. (r : Register) → r.number < 64 → has_register s.registers.allocatable r ≡ true → is_allocatable (machine_of env.now) r.class r ≡ true) }
+        ensures all { IfOk result (λ s. (r : Register) → is_allocatable (machine_of env.now) r.class r ≡ true → has_register s.registers.allocatable r ≡ true) }
         ensures fixed_stack { IfOk result (λ s. (r : Register) → (has_register s.registers.fixed_stack r ≡ true) ↔ IsFixedStackSlot (machine_of env.now) r) }
         ensures dedicated { IfOk result (λ s. s.registers.dedicated ≡ (machine_of env.now).scratch) }
         ensures small { IfOk result (λ s. (r : Register) → (has_register s.registers.allocatable r ≡ true) ⊎ (has_register s.registers.fixed_stack r ≡ true) → r.number < 64) }

@@ -7,6 +7,7 @@ ghost use Rattle.regalloc2_function.specs.FunctionValue.{block_at, operand_count
 ghost use Rattle.regalloc2_tables.specs.Tables.{NoneBefore};
 ghost use Rattle.regalloc2_steps.specs.Branches.{AreApart, LendsAtMost};
 ghost use Rattle.regalloc2_tables.specs.Lack.{AreFullWith, LacksOnly};
+ghost use Rattle.regalloc2_steps.specs.Stops.{OnlyWhere, StopsBlocks, StopsIn, StopsInsts};
 ghost use Rattle.regalloc2_walk.specs.States.{tables_of};
 ghost use Rattle.regalloc2_steps.specs.Walks.{AllocatesIn, MayBeAllocated, WalksBlocks, WalksIn, lent_at, offset_of};
 
@@ -44,8 +45,9 @@ impl<'a, A: Allocator> State<'a, A> {
         ensures long { OnOk result (length self.new.places.stands ≡ length self.old.places.stands) }
         ensures machine { LendsAtMost (lent_at (F.function f.now) inst) (tables_of self.old) (tables_of self.new) }
         ensures err { IfErr result (LacksOnly (AreFullWith self.old.slots (self.old.slots.lent + lent_at (F.function f.now) inst))) }
+        ensures stops { IfErr result (OnlyWhere (StopsIn (F.function f.now) block inst allocs.old (tables_of self.old))) }
     {
-        let mut turn = Turn::new(self.registers.every(), self.registers.spare());
+        let mut turn = Turn::new(self.registers.every());
         let operands = f.inst_operands(inst);
         let clobbers = f.inst_clobbers(inst);
         let is_ret = f.is_ret(inst);
@@ -81,6 +83,7 @@ impl<'a, A: Allocator> State<'a, A> {
         ensures long { OnOk result (length self.new.places.stands ≡ length self.old.places.stands) }
         ensures machine { LendsAtMost 6 (tables_of self.old) (tables_of self.new) }
         ensures err { IfErr result (LacksOnly (AreFullWith self.old.slots (self.old.slots.lent + 6))) }
+        ensures stops { IfErr result (OnlyWhere (StopsInsts (F.function f.now) block allocs.old (tables_of self.old))) }
     {
         let range = f.block_insns(block);
         let first = range.first().index();
@@ -111,6 +114,7 @@ impl<'a, A: Allocator> State<'a, A> {
         ensures ok { OnOk result (WalksBlocks (F.function f.now) allocs.old (tables_of self.old) 0 allocs.new (tables_of self.new)) }
         ensures machine { LendsAtMost (6 * length (F.function f.now).blocks) (tables_of self.old) (tables_of self.new) }
         ensures err { IfErr result (LacksOnly (AreFullWith self.old.slots (self.old.slots.lent + 6 * length (F.function f.now).blocks))) }
+        ensures stops { IfErr result (OnlyWhere (StopsBlocks (F.function f.now) allocs.old (tables_of self.old))) }
     {
         let mut order = Vec::new(alloc);
         let mut b = f.num_blocks();

@@ -3,9 +3,9 @@ use Rattle.std.proofs.lemmas.Result.{IfErr-weaker, IfOk-weaker, err_from_is_err_
 use Rattle.regalloc2_function.specs.FunctionValue.{FunctionValue}
 use Rattle.regalloc2_function.specs.Machine.{MachineValue}
 use Rattle.regalloc2_function.specs.Views.{machine_of, output_of}
-use Rattle.regalloc2_tables.specs.Lack.{LacksOnly}
+use Rattle.regalloc2_tables.specs.Lack.{Lacks}
 use Rattle.regalloc2_fastalloc.specs.Promise.{IsAllocation}
-use Rattle.regalloc2_fastalloc.specs.Reason.{IsReason, PassesFirst, PassesAll, PassesAsked, units_needed}
+use Rattle.regalloc2_fastalloc.specs.Reason.{IsReason, PassesFirst, PassesAll, PassesAsked, SomeDoesNotFit, units_needed}
 use Rattle.regalloc2_fastalloc.proofs.Reasoned.{fault_is_reason, lack_is_a_reason, counted_alone}
 use Rattle.regalloc2_fastalloc.proofs.run.Given.{Over}
 use Rattle.regalloc2_fastalloc.proofs.run.Goals as goal
@@ -50,4 +50,4 @@ returns-clause-refused g c =
     let f : FunctionValue = g.F.Function.function c.args.f.now in
     let env : MachineValue = machine_of c.args.env.now in
     let asked : Bool = c.args.options.now.validate_ssa in
-    IfErr-weaker c.allocate.result (LacksOnly (2 ^ 24 < units_needed f)) (IsReason f env asked) (lack_is_a_reason f env asked (passed g c)) c.allocate.ensures.err
+    IfErr-weaker c.allocate.result (Lacks (SomeDoesNotFit f env) (2 ^ 24 < units_needed f)) (IsReason f env asked) (lack_is_a_reason f env asked (passed g c)) c.allocate.ensures.err

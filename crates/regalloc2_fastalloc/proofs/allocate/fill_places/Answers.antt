@@ -14,9 +14,9 @@ use Rattle.regalloc2_function.specs.Slots.{SlotsHaveOwners}
 use Rattle.regalloc2_function.specs.Views.{edit_of, machine_of}
 use Rattle.regalloc2_flow.proofs.Defined.{Made}
 use Rattle.regalloc2_flow.proofs.Faithful.{faithful}
-use Rattle.regalloc2_tables.specs.Lack.{LacksOnly, AreFullWith}
+use Rattle.regalloc2_tables.specs.Lack.{Lacks, AreFullWith}
 use Rattle.regalloc2_fastalloc.specs.Promise.{LiveInSlots, SlotsAreFew}
-use Rattle.regalloc2_fastalloc.specs.Reason.{units_needed}
+use Rattle.regalloc2_fastalloc.specs.Reason.{SomeDoesNotFit, units_needed}
 use Rattle.regalloc2_steps.specs.Steps.{Tables}
 use Rattle.regalloc2_walk.specs.States.{tables_of}
 use Rattle.regalloc2_steps.specs.Branches.{LendsAtMost}
@@ -30,7 +30,8 @@ use Rattle.regalloc2_steps.proofs.Keeping.{none_lends}
 use Rattle.regalloc2_steps.proofs.Launching.{fresh_blank, some_units, fresh_fit}
 use Rattle.regalloc2_steps.proofs.Machines.{fit_apart}
 use Rattle.regalloc2_steps.proofs.Owning.{made_owners}
-use Rattle.regalloc2_tables.proofs.Rooming.{lacks_then}
+use Rattle.regalloc2_lacks.proofs.Lacks.{walk_stops}
+use Rattle.regalloc2_fastalloc.proofs.Reasoned.{lacks_where}
 use Rattle.regalloc2_fastalloc.proofs.Numbers.{reads_numbers}
 use Rattle.regalloc2_fastalloc.proofs.Needing.{sizes_of, few_slots, full_needs}
 use Rattle.regalloc2_steps.proofs.Rounding.{Blank}
@@ -213,4 +214,12 @@ returns-in_err-allocate_blocks-clause-err g c =
     let same : LendsAtMost 0 begin begin = none_lends 0 begin in
     let p = err_from_is_err_and c.from_residual-in_err-allocate_blocks.result c.from_residual-in_err-allocate_blocks.ensures.1 in
     let more : AreFullWith begin.slots most → 2 ^ 24 < units_needed f = full_needs f begin.slots most (sizes_kept f begin begin f.named_by_last_slot 0 slots same) (vregs_kept f begin begin f.named_by_last_slot 0 slots same) (omega (arith, none)) in
-    rw p.1 (subst (LacksOnly (2 ^ 24 < units_needed f)) (sym p.2) (lacks_then (AreFullWith begin.slots most) (2 ^ 24 < units_needed f) more _ c.in_err-allocate_blocks.ensures.err))
+    let env : MachineValue = machine_of c.args.env.now in
+    let e = c.in_ok-state.ensures in
+    let limited : IsLimited f = g.met.F.Function.limited c.args.f.now in
+    let machine : HasMachine env begin = begun_machine env begin e.registers (λ r. (e.fixed_stack r).0) (λ r. (e.fixed_stack r).1) e.dedicated in
+    let units = some_units f.num_vregs (slot_size f.slot_sizes Int) (slot_size f.slot_sizes Float) (slot_size f.slot_sizes Vector) f.named_by_last_slot (limited.slot_sizes Int).positive (limited.slot_sizes Float).positive (limited.slot_sizes Vector).positive in
+    rw p.1 (subst (Lacks (SomeDoesNotFit f env) (2 ^ 24 < units_needed f)) (sym p.2)
+    (lacks_where (SomeDoesNotFit f env) (AreFullWith begin.slots most) (2 ^ 24 < units_needed f) more _ c.in_err-allocate_blocks.ensures.err
+    (λ lacks. walk_stops f env c.requires.machine limited c.requires.well_formed c.requires.taken c.args.allocs.now begin f.num_vregs f.num_vregs (sizes_of f) f.named_by_last_slot e.places e.slots e.edits units
+    machine (fresh_fit f env begin c.requires.machine machine e.small) e.all e.dedicated (c.in_err-allocate_blocks.ensures.stops lacks))))

@@ -3,7 +3,7 @@ use Rattle.regalloc2_parts.specs.Resolved.{listed, has_scratch}
 use Rattle.regalloc2_parts.specs.declared.moves.MoveFault.TheVariants.{NoSlot}
 use Rattle.regalloc2_tables.specs.Lending.{IsShort}
 use Rattle.regalloc2_tables.proofs.Handing.{owes_lent, made_with, is_short}
-use Rattle.regalloc2_tables.proofs.Rooming.{lacks_then}
+use Rattle.regalloc2_tables.proofs.Rooming.{slots_then}
 use Rattle.regalloc2_tables.proofs.lending.compute_lent.Goals as goal
 
 pub compute_by_ref-requires : goal.compute_by_ref-requires
@@ -38,4 +38,4 @@ returns-in-Ok-clause-made g c =
 pub returns-clause-err : goal.returns-clause-err
 returns-clause-err g c =
     let x = c.in-Err.ensures.computed in
-    lacks_then (c.in-Err.fault ≡ NoSlot) (IsShort c.args.lending.now.slots) (λ e. is_short g.S.FnMut c.args.resolver.get_stackslot c.args.lending.now.slots c.requires.second _ x.slots_asked (x.outcome e)) c.refusal_of.result c.refusal_of.ensures
+    slots_then (c.in-Err.fault ≡ NoSlot) (IsShort c.args.lending.now.slots) (λ e. is_short g.S.FnMut c.args.resolver.get_stackslot c.args.lending.now.slots c.requires.second _ x.slots_asked (x.outcome e)) c.refusal_of.result c.refusal_of.ensures

@@ -9,7 +9,7 @@ use Rattle.regalloc2_names.specs.Listed.{has_register-small}
 use Rattle.regalloc2_function.specs.Machine.{is_allocatable}
 use Rattle.regalloc2_function.specs.Views.{machine_of}
 use Rattle.regalloc2_parts.specs.Ring.{IsNewRing}
-use Rattle.regalloc2_tables.proofs.Filling.{IsUnion, by_class, rings_from}
+use Rattle.regalloc2_tables.proofs.Filling.{IsUnion, by_class, rings_from, split_from, in_union}
 use Rattle.regalloc2_tables.proofs.registers.Registers.new.Goals as goal
 
 pub invariant_of-result : goal.invariant_of-result
@@ -24,12 +24,15 @@ invariant_of-result g c =
       float_class = λ r h. c.requires Float r (sym (c.allocatable_of-float.ensures r) ∙ h);
       vector_class = λ r h. c.requires Vector r (sym (c.allocatable_of-vector.ensures r) ∙ h);
     } in
-    let rings : List (List Register) = c.in_ok-rings.rings.items in
-    rings_from c.bitor-2.result int float vector c.in_ok-int_regs.int_regs.items c.in_ok-float_regs.float_regs.items c.in_ok-vector_regs.vector_regs.items rings u
-    c.in_ok-int_regs.ensures.ok c.in_ok-float_regs.ensures.ok c.in_ok-vector_regs.ensures.ok c.in_ok-rings.ensures.three
-    (subst (λ (l : List Register). IsNewRing l (slice_index_or rings 0 [])) c.deref.ensures.value c.in_ok-rings.ensures.int)
-    (subst (λ (l : List Register). IsNewRing l (slice_index_or rings 1 [])) c.deref-2.ensures.value c.in_ok-rings.ensures.float)
-    (subst (λ (l : List Register). IsNewRing l (slice_index_or rings 2 [])) c.deref-3.ensures.value c.in_ok-rings.ensures.vector)
+    let rings : List (List Register) = c.in_ok-rings.rings.items in (
+      rings_from c.bitor-2.result int float vector c.in_ok-int_regs.int_regs.items c.in_ok-float_regs.float_regs.items c.in_ok-vector_regs.vector_regs.items rings u
+          c.in_ok-int_regs.ensures.ok c.in_ok-float_regs.ensures.ok c.in_ok-vector_regs.ensures.ok c.in_ok-rings.ensures.three
+          (subst (λ (l : List Register). IsNewRing l (slice_index_or rings 0 [])) c.deref.ensures.value c.in_ok-rings.ensures.int)
+          (subst (λ (l : List Register). IsNewRing l (slice_index_or rings 1 [])) c.deref-2.ensures.value c.in_ok-rings.ensures.float)
+          (subst (λ (l : List Register). IsNewRing l (slice_index_or rings 2 [])) c.deref-3.ensures.value c.in_ok-rings.ensures.vector),
+      split_from c.bitor-2.result int float vector u,
+      λ r h. has_register-small c.set_of.result (λ i. search rules) r h,
+    )
 
 pub returns-clause-ok : goal.returns-clause-ok
 returns-clause-ok g c = λ r lt h.
@@ -57,3 +60,14 @@ returns-clause-small g c =
       | inl a ↦ has_register-small c.bitor-2.result every_fits r a
       | inr b ↦ has_register-small c.set_of.result fixed_fits r b
     ]
+
+pub returns-clause-all : goal.returns-clause-all
+returns-clause-all g c = λ r h.
+    let env = machine_of c.args.env.now in
+    let int : PRegSet = c.allocatable_of-int.result in
+    let float : PRegSet = c.allocatable_of-float.result in
+    let vector : PRegSet = c.allocatable_of-vector.result in
+    in_union c.bitor-2.result int float vector (λ q. c.bitor-2.ensures q ∙ ap (λ (b : Bool). b || has_register vector q) (c.bitor.ensures q)) r
+    (λ e. c.allocatable_of-int.ensures r ∙ ap (λ (k : RegClass). is_allocatable env k r) (sym e) ∙ h)
+    (λ e. c.allocatable_of-float.ensures r ∙ ap (λ (k : RegClass). is_allocatable env k r) (sym e) ∙ h)
+    (λ e. c.allocatable_of-vector.ensures r ∙ ap (λ (k : RegClass). is_allocatable env k r) (sym e) ∙ h)

@@ -10,10 +10,13 @@ use Rattle.regalloc2_tables.proofs.registers.Registers.poke.Goals as goal
 pub invariant_of-self : goal.invariant_of-self
 invariant_of-self g c =
     let rings : List (List Register) = c.self.inside.rings.items in
-    let lt : c.ring_index.result < length rings = omega (arith, c.self.invariant.three, c.ring_index.ensures.small) in
+    let lt : c.ring_index.result < length rings = omega (arith, c.self.invariant.0.three, c.ring_index.ensures.small) in
     let ring : c.index-self-ring_index.result ≡ slice_index_or rings c.ring_index.result [] = get_or_read rings _ _ lt c.index-self-ring_index.is [] in
-    let P : List Register → Type 0 = λ l. (r : Register) → Contains c.poke.new.self r ↔ Contains l r in
-    rings_kept c.self.inside.allocatable rings c.ring_index.result c.poke.new.self lt (subst P (sym c.index-self-ring_index.is ∙ ring) c.poke.ensures.members) c.self.invariant
+    let P : List Register → Type 0 = λ l. (r : Register) → Contains c.poke.new.self r ↔ Contains l r in (
+      rings_kept c.self.inside.allocatable rings c.ring_index.result c.poke.new.self lt (subst P (sym c.index-self-ring_index.is ∙ ring) c.poke.ensures.members) c.self.invariant.0,
+      c.self.invariant.1,
+      c.self.invariant.2,
+    )
 
 -- the ring of the register's class is the one that was indexed
 index_is : (g : Over) (c : goal.After-poke g) → c.ring_index.result ≡ class_code c.args.preg.class
@@ -22,7 +25,7 @@ index_is g c = c.ring_index.ensures.code ∙ ap class_code c.class.ensures
 pub returns-clause-newest : goal.returns-clause-newest
 returns-clause-newest g c =
     let rings : List (List Register) = c.self.inside.rings.items in
-    let lt : c.ring_index.result < length rings = omega (arith, c.self.invariant.three, c.ring_index.ensures.small) in
+    let lt : c.ring_index.result < length rings = omega (arith, c.self.invariant.0.three, c.ring_index.ensures.small) in
     let ring : c.index-self-ring_index.result ≡ slice_index_or rings c.ring_index.result [] = get_or_read rings _ _ lt c.index-self-ring_index.is [] in
     let moved : List Register → List Register = λ l. c.args.preg ∷ filter (λ r. not (is_register c.args.preg r)) l in
     ring_replaced rings c.ring_index.result c.poke.new.self c.args.preg.class lt (index_is g c)

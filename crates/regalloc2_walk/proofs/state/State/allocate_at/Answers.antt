@@ -1,5 +1,6 @@
 use Rattle.std.proofs.Common.{ℕ, ◌≡◌, ◌+◌, ◌-◌, ◌≤◌, ◌<◌, ⊎_elim, List, length, take, drop, sym, ◌∙◌, arith, rules, length-drop}
 use Rattle.std.proofs.lemmas.List.{length-take}
+use Rattle.std.proofs.lemmas.Result.{err_from_is_err_and}
 use Rattle.regalloc2_names.specs.Place.{Place, NoPlace}
 use Rattle.regalloc2_steps.proofs.Parts.{blank_part}
 use Rattle.regalloc2_flow.proofs.Plain.{inside_part, below_part, above_part, length_part}
@@ -37,3 +38,13 @@ returns-clause-ok g c =
       },
       c.in_ok-allocate_inst.ensures.ok.1,
     )
+
+pub returns-in_err-allocate_inst-clause-stops : goal.returns-in_err-allocate_inst-clause-stops
+returns-in_err-allocate_inst-clause-stops g c =
+    let xs : List Place = c.args.allocs.now in
+    let a : ℕ = c.args.start in
+    let n : ℕ = length c.args.operands.now in
+    let k : ℕ = (a + n) - a in
+    let blank : length (take k (drop a xs)) ≡ n = length-take k (drop a xs) ∙ omega (arith, length-drop a xs, c.requires.room) in
+    let e = err_from_is_err_and c.from_residual.result c.from_residual.ensures.1 in
+    rw e.1 (λ lacks. (take k (drop a xs), blank, blank_part xs a k NoPlace (λ j lt. c.requires.no_places j (omega arith)), c.in_err-allocate_inst.ensures.stops (sym e.2 ∙ lacks)))

@@ -10,6 +10,7 @@ use Rattle.regalloc2_steps.specs.Blocks.{BeginsBlock}
 use Rattle.regalloc2_tables.specs.Lack.{LacksOnly, AreFullWith}
 use Rattle.regalloc2_tables.specs.Tables.{NoneBefore}
 use Rattle.regalloc2_steps.specs.Steps.{Tables}
+use Rattle.regalloc2_steps.specs.Stops.{StopsInsts, StopsBegin, in_block, at_beginning}
 use Rattle.regalloc2_walk.specs.States.{tables_of}
 use Rattle.regalloc2_steps.specs.Walks.{WalksIn, WalksBlocks, all_left, one_block, offset_of}
 use Rattle.regalloc2_steps.proofs.Keeping.{none_lends, same_lends, lends_then, apart_kept, lacks_all, lack_all, block_within, joins_at, params_known}
@@ -175,3 +176,32 @@ returns-clause-machine g c =
     let f : FunctionValue = g.F.Function.function c.args.f.now in
     let t : Tables = tables_of c.loop-b.self in
     lends_then (6 * (length f.blocks - c.loop-b.b)) 0 (6 * length f.blocks) (tables_of c.args.self.now) t t (omega arith) c.loop-b.invariant.machine (none_lends 0 t)
+
+-- where it stops
+pub returns-in_err-allocate_insts-clause-stops : goal.returns-in_err-allocate_insts-clause-stops
+returns-in_err-allocate_insts-clause-stops g c =
+    let f : FunctionValue = g.F.Function.function c.args.f.now in
+    let b : ℕ = c.loop-b.b - 1 in
+    let t : Tables = tables_of c.loop-b.self in
+    let next : c.loop-b.b ≡ b + 1 = omega (arith, c.loop-b-test.true) in
+    let P : ℕ → Type 0 = λ n. WalksBlocks f c.args.allocs.now (tables_of c.args.self.now) n c.loop-b.allocs t in
+    let e = err_from_is_err_and c.from_residual.result c.from_residual.ensures.1 in
+    rw e.1 (λ lacks. in_block b c.loop-b.allocs t (omega (arith, next, c.loop-b.invariant.within)) (subst P next c.loop-b.invariant.walks)
+    (subst (λ (n : ℕ). StopsInsts f n c.loop-b.allocs t) c.new-block.ensures (c.in_err-allocate_insts.ensures.stops (sym e.2 ∙ lacks))))
+
+pub returns-in_err-begin_block-clause-stops : goal.returns-in_err-begin_block-clause-stops
+returns-in_err-begin_block-clause-stops g c =
+    let f : FunctionValue = g.F.Function.function c.args.f.now in
+    let b : ℕ = c.loop-b.b - 1 in
+    let d : ℕ = c.new-block.result in
+    let t : Tables = tables_of c.loop-b.self in
+    let u : Tables = tables_of c.allocate_insts.new.self in
+    let same : d ≡ b = c.new-block.ensures in
+    let next : c.loop-b.b ≡ b + 1 = omega (arith, c.loop-b-test.true) in
+    let first : c.first-first.result ≡ (block_at f b).range.first = c.first-first.ensures ∙ ap (λ (r : Span). r.first) c.block_insns.ensures ∙ ap (λ (n : ℕ). (block_at f n).range.first) same in
+    let P : ℕ → Type 0 = λ n. WalksBlocks f c.args.allocs.now (tables_of c.args.self.now) n c.loop-b.allocs t in
+    let I : ℕ → Type 0 = λ n. WalksIn f n c.loop-b.allocs t (block_at f n).range.first c.allocate_insts.new.allocs u in
+    let e = err_from_is_err_and c.from_residual-in_err-begin_block.result c.from_residual-in_err-begin_block.ensures.1 in
+    rw e.1 (λ lacks. at_beginning b c.loop-b.allocs c.allocate_insts.new.allocs t u (omega (arith, next, c.loop-b.invariant.within)) (subst P next c.loop-b.invariant.walks) (subst I same c.in_ok-allocate_insts.ensures.ok)
+    (subst (λ (n : ℕ). StopsBegin (before n) (block_at f b).params u) first
+    (subst (λ (vs : List VirtualRegister). StopsBegin (before c.first-first.result) vs u) (c.block_params.ensures ∙ ap (λ (n : ℕ). (block_at f n).params) same) (c.in_err-begin_block.ensures.stops (sym e.2 ∙ lacks)))))

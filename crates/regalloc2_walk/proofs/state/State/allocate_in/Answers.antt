@@ -1,4 +1,4 @@
-use Rattle.std.proofs.Common.{ℕ, ◌≡◌, ◌+◌, List, true, false, length, refl, sym, ap, ◌∙◌, subst, rules, arith}
+use Rattle.std.proofs.Common.{ℕ, ◌≡◌, ◌+◌, List, Bool, true, false, length, refl, sym, ap, ◌∙◌, subst, rules, arith}
 use Rattle.std.proofs.lemmas.List.Sums.{sum_by_more, sum_by_more_le}
 use Rattle.std.proofs.lemmas.Result.{err_from_is_err_and}
 use Rattle.regalloc2_names.specs.declared.sets.PRegSet.{PRegSet}
@@ -10,6 +10,8 @@ use Rattle.regalloc2_tables.specs.declared.turn.Turn.{Turn}
 use Rattle.regalloc2_steps.specs.Branches.{PassesArguments}
 use Rattle.regalloc2_tables.specs.Lack.{LacksOnly, AreFullWith}
 use Rattle.regalloc2_steps.specs.Steps.{Tables, InTables}
+use Rattle.regalloc2_steps.specs.Stops.{StopsInst, StopsPass, in_inst, in_pass}
+use Rattle.regalloc2_names.specs.Place.{Place}
 use Rattle.regalloc2_walk.specs.States.{tables_of}
 use Rattle.regalloc2_steps.specs.Walks.{AllocatesTo, offset_of, lent_at}
 use Rattle.regalloc2_steps.proofs.Keeping.{same_lends, lends_then, apart_kept, ends_in_branch, lack_all, lacks_all, lent_six, to_inst}
@@ -41,6 +43,7 @@ allocate_at-requires g c =
                   early = λ r. ap (λ (s : PRegSet). has_register s r) c.new-turn.ensures.early ∙ c.every.ensures r;
                   late = λ r. ap (λ (s : PRegSet). has_register s r) c.new-turn.ensures.late ∙ c.every.ensures r;
                   scratch = c.new-turn.ensures.scratch;
+                  awaited = c.new-turn.ensures.awaited;
                 },
               ),
             ),
@@ -149,3 +152,36 @@ returns-in_err-pass_arguments-clause-err g c =
     let m : Tables = tables_of c.allocate_at.new.self in
     let p = err_from_is_err_and c.from_residual-in_err-pass_arguments.result c.from_residual-in_err-pass_arguments.ensures.1 in
     rw p.1 (subst (LacksOnly (AreFullWith a.slots (a.slots.lent + n))) (sym p.2) (lacks_all 0 6 n a m (same_lends 0 a m c.allocate_at.ensures.machine) (omega (arith, few)) _ c.in_err-pass_arguments.ensures.err))
+
+-- where it stops
+pub returns-in_err-allocate_at-clause-stops : goal.returns-in_err-allocate_at-clause-stops
+returns-in_err-allocate_at-clause-stops g c =
+    let v : InstValue = inst_at (g.F.Function.function c.args.f.now) c.args.inst in
+    let t : Tables = tables_of c.args.self.now in
+    let e = err_from_is_err_and c.from_residual.result c.from_residual.ensures.1 in
+    rw e.1 (λ lacks.
+    let s = c.in_err-allocate_at.ensures.stops (sym e.2 ∙ lacks) in
+    let X : Bool → List OperandValue → PRegSet → Type 0 = λ r o k. StopsInst c.args.inst r o k s.0 c.new-turn.result t in
+    in_inst c.new-turn.result s.0 (record {
+      early = λ r. ap (λ (x : PRegSet). has_register x r) c.new-turn.ensures.early ∙ c.every.ensures r;
+      late = λ r. ap (λ (x : PRegSet). has_register x r) c.new-turn.ensures.late ∙ c.every.ensures r;
+      scratch = c.new-turn.ensures.scratch;
+      awaited = c.new-turn.ensures.awaited;
+    }) (s.1 ∙ ap length c.inst_operands-operands.ensures) s.2
+    (subst (λ (r : Bool). X r v.operands v.clobbers) c.is_ret-is_ret.ensures (subst (λ (k : PRegSet). X c.is_ret-is_ret.result v.operands k) c.inst_clobbers-clobbers.ensures
+    (subst (λ (o : List OperandValue). X c.is_ret-is_ret.result o c.inst_clobbers-clobbers.result) c.inst_operands-operands.ensures s.3))))
+
+pub returns-in_err-pass_arguments-clause-stops : goal.returns-in_err-pass_arguments-clause-stops
+returns-in_err-pass_arguments-clause-stops g c =
+    let f : FunctionValue = g.F.Function.function c.args.f.now in
+    let i : ℕ = c.args.inst in
+    let v : InstValue = inst_at f i in
+    let m : Tables = tables_of c.allocate_at.new.self in
+    let P : ℕ → Type 0 = λ s. AllocatesTo c.allocate_at.new.turn i v s c.args.allocs.now c.allocate_at.new.allocs (tables_of c.args.self.now) m in
+    let h : P (offset_of f i) = subst P c.requires.start
+    (to_inst c.allocate_at.new.turn i v c.args.start c.args.allocs.now c.allocate_at.new.allocs (tables_of c.args.self.now) m c.inst_operands-operands.result.now c.inst_clobbers-clobbers.result _ c.is_ret-is_ret.result
+    c.inst_operands-operands.ensures c.inst_clobbers-clobbers.ensures c.is_ret-is_ret.ensures c.in_ok-allocate_at.ensures.ok) in
+    let on : c.is_branch.result ≡ true = c.if-not-is_branch.false in
+    let e = err_from_is_err_and c.from_residual-in_err-pass_arguments.result c.from_residual-in_err-pass_arguments.ensures.1 in
+    rw e.1 (λ lacks. in_pass c.allocate_at.new.allocs m h.0 (sym c.is_branch.ensures ∙ on)
+    (subst (λ (t : Turn). StopsPass f c.args.block i t m) (sym h.1) (c.in_err-pass_arguments.ensures.stops (sym e.2 ∙ lacks))))

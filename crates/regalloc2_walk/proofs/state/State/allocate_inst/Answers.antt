@@ -1,9 +1,13 @@
-use Rattle.std.proofs.Common.{ℕ, ◌≡◌, List, length, refl, sym, ap, ◌∙◌, subst, rules, arith}
+use Rattle.std.proofs.Common.{ℕ, ◌≡◌, List, length, refl, sym, ap, ◌∙◌, subst, rules, arith, slice_index}
+use Rattle.regalloc2_names.specs.declared.RegClass.{RegClass}
+use Rattle.regalloc2_names.specs.Register.{class_code}
 use Rattle.regalloc2_names.specs.RegisterSet.{registers_of}
 use Rattle.regalloc2_names.specs.Point.{before, after}
 use Rattle.regalloc2_names.specs.Operand.{OperandValue}
 use Rattle.regalloc2_tables.specs.Tables.{NoneBefore}
 use Rattle.regalloc2_steps.specs.Steps.{Tables, ClearsFixed, ClearsAll, MovesUses}
+use Rattle.regalloc2_steps.specs.Stops.{Readies, StopsFixed, StopsClobbers, StopsMoves, in_reserve, in_fixed, in_clobbers, in_lates, in_earlies, in_moves}
+use Rattle.std.proofs.lemmas.Result.{err_from_is_err_and}
 use Rattle.regalloc2_walk.specs.States.{tables_of}
 use Rattle.regalloc2_steps.proofs.Emptying.{same_of, same_then}
 use Rattle.regalloc2_walk.proofs.state.State.allocate_inst.Goals as goal
@@ -80,6 +84,8 @@ returns-clause-ok g c =
         begins_early = c.requires.fresh.early;
         begins_late = c.requires.fresh.late;
         begins_scratch = c.requires.fresh.scratch;
+        awaited = λ class. ap (λ (xs : List ℕ). slice_index xs (class_code class)) (c.evict_clobbers.ensures.awaited ∙ c.evict_fixed.ensures.awaited ∙ c.hold_clobbers.ensures.held.awaited)
+            ∙ c.in_ok-reserve.ensures.ok.awaited c.requires.fresh.awaited class;
         reserves = c.in_ok-reserve.ensures.ok;
         holds = c.hold_clobbers.ensures.held;
         fixed = subst (F (after c.args.inst)) same (subst (λ (p : ℕ). F p (tables_of c.hold_clobbers.new.self)) at c.in_ok-evict_fixed.ensures.ok);
@@ -117,3 +123,113 @@ returns-in_err-move_reads-clause-machine g c = same_then _ _ _ (same_then _ _ _ 
 
 pub returns-clause-machine : goal.returns-clause-machine
 returns-clause-machine g c = same_then _ _ _ (same_then _ _ _ (same_then _ _ _ (same_then _ _ _ (same_then _ _ _ (same_of _ _ (c.hold_clobbers.ensures.same ∙ c.reserve.ensures.same)) c.evict_fixed.ensures.machine) c.evict_clobbers.ensures.machine) c.place_operands.ensures.machine) c.place_operands-2.ensures.machine) c.move_reads.ensures.machine
+
+-- where an instruction stops
+pub returns-in_err-reserve-clause-stops : goal.returns-in_err-reserve-clause-stops
+returns-in_err-reserve-clause-stops g c =
+    let e = err_from_is_err_and c.from_residual.result c.from_residual.ensures.1 in
+    rw e.1 (λ lacks. in_reserve (c.in_err-reserve.ensures.stops (sym e.2 ∙ lacks)))
+
+pub returns-in_err-evict_fixed-clause-stops : goal.returns-in_err-evict_fixed-clause-stops
+returns-in_err-evict_fixed-clause-stops g c =
+    let ops : List OperandValue = c.args.operands.now in
+    let i : ℕ = c.args.inst in
+    let at : c.after-point.result ≡ after i = c.after-point.ensures.point (λ e. omega (arith, c.requires.inst)) in
+    let old : Tables = tables_of c.args.self.now in
+    let same : tables_of c.hold_clobbers.new.self ≡ old = c.hold_clobbers.ensures.same ∙ c.reserve.ensures.same in
+    let X : ℕ → Tables → Type 0 = λ p t. StopsFixed p ops c.hold_clobbers.new.turn t in
+    let e = err_from_is_err_and c.from_residual-in_err-evict_fixed.result c.from_residual-in_err-evict_fixed.ensures.1 in
+    rw e.1 (λ lacks. in_fixed c.reserve.new.turn c.hold_clobbers.new.turn c.in_ok-reserve.ensures.ok c.hold_clobbers.ensures.held
+    (subst (X (after i)) same (subst (λ (p : ℕ). X p (tables_of c.hold_clobbers.new.self)) at (c.in_err-evict_fixed.ensures.stops (sym e.2 ∙ lacks)))))
+
+pub returns-in_err-evict_clobbers-clause-stops : goal.returns-in_err-evict_clobbers-clause-stops
+returns-in_err-evict_clobbers-clause-stops g c =
+    let ops : List OperandValue = c.args.operands.now in
+    let i : ℕ = c.args.inst in
+    let at : c.after-point.result ≡ after i = c.after-point.ensures.point (λ e. omega (arith, c.requires.inst)) in
+    let old : Tables = tables_of c.args.self.now in
+    let same : tables_of c.hold_clobbers.new.self ≡ old = c.hold_clobbers.ensures.same ∙ c.reserve.ensures.same in
+    let F : ℕ → Tables → Type 0 = λ p t. ClearsFixed p ops c.hold_clobbers.new.turn t (length ops) c.evict_fixed.new.turn (tables_of c.evict_fixed.new.self) in
+    let fixed : F (after i) old = subst (F (after i)) same (subst (λ (p : ℕ). F p (tables_of c.hold_clobbers.new.self)) at c.in_ok-evict_fixed.ensures.ok) in
+    let e = err_from_is_err_and c.from_residual-in_err-evict_clobbers.result c.from_residual-in_err-evict_clobbers.ensures.1 in
+    rw e.1 (λ lacks. in_clobbers c.reserve.new.turn c.hold_clobbers.new.turn c.evict_fixed.new.turn (tables_of c.evict_fixed.new.self) c.in_ok-reserve.ensures.ok c.hold_clobbers.ensures.held fixed
+    (subst (λ (p : ℕ). StopsClobbers p c.evict_fixed.new.turn (tables_of c.evict_fixed.new.self)) at (c.in_err-evict_clobbers.ensures.stops (sym e.2 ∙ lacks))))
+
+pub returns-in_err-place_operands-clause-stops : goal.returns-in_err-place_operands-clause-stops
+returns-in_err-place_operands-clause-stops g c =
+    let ops : List OperandValue = c.args.operands.now in
+    let i : ℕ = c.args.inst in
+    let at : c.after-point.result ≡ after i = c.after-point.ensures.point (λ e. omega (arith, c.requires.inst)) in
+    let old : Tables = tables_of c.args.self.now in
+    let same : tables_of c.hold_clobbers.new.self ≡ old = c.hold_clobbers.ensures.same ∙ c.reserve.ensures.same in
+    let F : ℕ → Tables → Type 0 = λ p t. ClearsFixed p ops c.hold_clobbers.new.turn t (length ops) c.evict_fixed.new.turn (tables_of c.evict_fixed.new.self) in
+    let fixed : F (after i) old = subst (F (after i)) same (subst (λ (p : ℕ). F p (tables_of c.hold_clobbers.new.self)) at c.in_ok-evict_fixed.ensures.ok) in
+    let C : ℕ → Type 0 = λ p. ClearsAll p (registers_of c.args.clobbers) c.evict_fixed.new.turn (tables_of c.evict_fixed.new.self) c.evict_clobbers.new.turn (tables_of c.evict_clobbers.new.self) in
+    let ready : Readies i ops c.args.clobbers c.args.turn.now c.evict_clobbers.new.turn old (tables_of c.evict_clobbers.new.self) = record {
+      reserved = c.reserve.new.turn;
+      held = c.hold_clobbers.new.turn;
+      cleared = c.evict_fixed.new.turn;
+      middle = tables_of c.evict_fixed.new.self;
+      reserves = c.in_ok-reserve.ensures.ok;
+      holds = c.hold_clobbers.ensures.held;
+      fixed = fixed;
+      emptied = subst C at c.in_ok-evict_clobbers.ensures.ok;
+      awaited = λ class. ap (λ (xs : List ℕ). slice_index xs (class_code class)) (c.evict_clobbers.ensures.awaited ∙ c.evict_fixed.ensures.awaited ∙ c.hold_clobbers.ensures.held.awaited)
+          ∙ c.in_ok-reserve.ensures.ok.awaited c.requires.fresh.awaited class;
+    } in
+    let e = err_from_is_err_and c.from_residual-in_err-place_operands.result c.from_residual-in_err-place_operands.ensures.1 in
+    rw e.1 (λ lacks. in_lates c.evict_clobbers.new.turn (tables_of c.evict_clobbers.new.self) ready (c.in_err-place_operands.ensures.stops (sym e.2 ∙ lacks)))
+
+pub returns-in_err-place_operands-2-clause-stops : goal.returns-in_err-place_operands-2-clause-stops
+returns-in_err-place_operands-2-clause-stops g c =
+    let ops : List OperandValue = c.args.operands.now in
+    let i : ℕ = c.args.inst in
+    let at : c.after-point.result ≡ after i = c.after-point.ensures.point (λ e. omega (arith, c.requires.inst)) in
+    let old : Tables = tables_of c.args.self.now in
+    let same : tables_of c.hold_clobbers.new.self ≡ old = c.hold_clobbers.ensures.same ∙ c.reserve.ensures.same in
+    let F : ℕ → Tables → Type 0 = λ p t. ClearsFixed p ops c.hold_clobbers.new.turn t (length ops) c.evict_fixed.new.turn (tables_of c.evict_fixed.new.self) in
+    let fixed : F (after i) old = subst (F (after i)) same (subst (λ (p : ℕ). F p (tables_of c.hold_clobbers.new.self)) at c.in_ok-evict_fixed.ensures.ok) in
+    let C : ℕ → Type 0 = λ p. ClearsAll p (registers_of c.args.clobbers) c.evict_fixed.new.turn (tables_of c.evict_fixed.new.self) c.evict_clobbers.new.turn (tables_of c.evict_clobbers.new.self) in
+    let ready : Readies i ops c.args.clobbers c.args.turn.now c.evict_clobbers.new.turn old (tables_of c.evict_clobbers.new.self) = record {
+      reserved = c.reserve.new.turn;
+      held = c.hold_clobbers.new.turn;
+      cleared = c.evict_fixed.new.turn;
+      middle = tables_of c.evict_fixed.new.self;
+      reserves = c.in_ok-reserve.ensures.ok;
+      holds = c.hold_clobbers.ensures.held;
+      fixed = fixed;
+      emptied = subst C at c.in_ok-evict_clobbers.ensures.ok;
+      awaited = λ class. ap (λ (xs : List ℕ). slice_index xs (class_code class)) (c.evict_clobbers.ensures.awaited ∙ c.evict_fixed.ensures.awaited ∙ c.hold_clobbers.ensures.held.awaited)
+          ∙ c.in_ok-reserve.ensures.ok.awaited c.requires.fresh.awaited class;
+    } in
+    let e = err_from_is_err_and c.from_residual-in_err-place_operands-2.result c.from_residual-in_err-place_operands-2.ensures.1 in
+    rw e.1 (λ lacks. in_earlies c.evict_clobbers.new.turn c.place_operands.new.turn (tables_of c.evict_clobbers.new.self) (tables_of c.place_operands.new.self) c.place_operands.new.here ready c.in_ok-place_operands.ensures.ok
+    (c.in_err-place_operands-2.ensures.stops (sym e.2 ∙ lacks)))
+
+pub returns-in_err-move_reads-clause-stops : goal.returns-in_err-move_reads-clause-stops
+returns-in_err-move_reads-clause-stops g c =
+    let ops : List OperandValue = c.args.operands.now in
+    let i : ℕ = c.args.inst in
+    let at : c.after-point.result ≡ after i = c.after-point.ensures.point (λ e. omega (arith, c.requires.inst)) in
+    let old : Tables = tables_of c.args.self.now in
+    let same : tables_of c.hold_clobbers.new.self ≡ old = c.hold_clobbers.ensures.same ∙ c.reserve.ensures.same in
+    let F : ℕ → Tables → Type 0 = λ p t. ClearsFixed p ops c.hold_clobbers.new.turn t (length ops) c.evict_fixed.new.turn (tables_of c.evict_fixed.new.self) in
+    let fixed : F (after i) old = subst (F (after i)) same (subst (λ (p : ℕ). F p (tables_of c.hold_clobbers.new.self)) at c.in_ok-evict_fixed.ensures.ok) in
+    let C : ℕ → Type 0 = λ p. ClearsAll p (registers_of c.args.clobbers) c.evict_fixed.new.turn (tables_of c.evict_fixed.new.self) c.evict_clobbers.new.turn (tables_of c.evict_clobbers.new.self) in
+    let ready : Readies i ops c.args.clobbers c.args.turn.now c.evict_clobbers.new.turn old (tables_of c.evict_clobbers.new.self) = record {
+      reserved = c.reserve.new.turn;
+      held = c.hold_clobbers.new.turn;
+      cleared = c.evict_fixed.new.turn;
+      middle = tables_of c.evict_fixed.new.self;
+      reserves = c.in_ok-reserve.ensures.ok;
+      holds = c.hold_clobbers.ensures.held;
+      fixed = fixed;
+      emptied = subst C at c.in_ok-evict_clobbers.ensures.ok;
+      awaited = λ class. ap (λ (xs : List ℕ). slice_index xs (class_code class)) (c.evict_clobbers.ensures.awaited ∙ c.evict_fixed.ensures.awaited ∙ c.hold_clobbers.ensures.held.awaited)
+          ∙ c.in_ok-reserve.ensures.ok.awaited c.requires.fresh.awaited class;
+    } in
+    let early : c.before-2.result ≡ before i = c.before-2.ensures.point (λ e. omega (arith, c.requires.inst)) in
+    let e = err_from_is_err_and c.from_residual-in_err-move_reads.result c.from_residual-in_err-move_reads.ensures.1 in
+    rw e.1 (λ lacks. in_moves c.evict_clobbers.new.turn c.place_operands.new.turn c.place_operands-2.new.turn (tables_of c.evict_clobbers.new.self) (tables_of c.place_operands.new.self) (tables_of c.place_operands-2.new.self)
+    c.place_operands.new.here c.place_operands-2.new.here ready c.in_ok-place_operands.ensures.ok c.in_ok-place_operands-2.ensures.ok
+    (subst (λ (p : ℕ). StopsMoves p ops c.place_operands-2.new.here c.place_operands-2.new.turn (tables_of c.place_operands-2.new.self)) early (c.in_err-move_reads.ensures.stops (sym e.2 ∙ lacks))))

@@ -7,6 +7,7 @@ use Rattle.regalloc2_function.specs.FunctionValue.{FunctionValue, block_at, inst
 use Rattle.regalloc2_tables.specs.Lack.{LacksOnly, AreFullWith}
 use Rattle.regalloc2_tables.specs.Tables.{NoneBefore}
 use Rattle.regalloc2_steps.specs.Steps.{Tables}
+use Rattle.regalloc2_steps.specs.Stops.{StopsIn}
 use Rattle.regalloc2_walk.specs.States.{tables_of}
 use Rattle.regalloc2_steps.specs.Branches.{LendsAtMost}
 use Rattle.regalloc2_steps.specs.Walks.{AllocatesIn, WalksIn, at_end, one_in, lent_at, offset_of}
@@ -156,3 +157,19 @@ returns-clause-later g c =
     let f : FunctionValue = g.F.Function.function c.args.f.now in
     let at_first : c.loop-i.i ≡ (block_at f c.args.block).range.first = omega (arith, c.loop-i-test.false, c.loop-i.invariant.from, c.loop-i.invariant.first) in
     subst (λ (n : ℕ). NoneBefore (before n) c.loop-i.self.edits) at_first c.loop-i.invariant.later
+
+pub returns-in_err-allocate_in-clause-stops : goal.returns-in_err-allocate_in-clause-stops
+returns-in_err-allocate_in-clause-stops g c =
+    let f : FunctionValue = g.F.Function.function c.args.f.now in
+    let i : ℕ = c.loop-i.i - 1 in
+    let next : c.loop-i.i ≡ i + 1 = omega (arith, c.loop-i-test.true) in
+    let m : Tables = tables_of c.loop-i.self in
+    let e = err_from_is_err_and c.from_residual.result c.from_residual.ensures.1 in
+    rw e.1 (λ lacks. record {
+      index = i;
+      places = c.loop-i.allocs;
+      middle = m;
+      inside = omega (arith, next, c.loop-i.invariant.within);
+      walks = subst (λ (n : ℕ). WalksIn f c.args.block c.args.allocs.now (tables_of c.args.self.now) n c.loop-i.allocs m) next c.loop-i.invariant.walks;
+      stops = subst (λ (n : ℕ). StopsIn f c.args.block n c.loop-i.allocs m) c.new.ensures (c.in_err-allocate_in.ensures.stops (sym e.2 ∙ lacks));
+    })

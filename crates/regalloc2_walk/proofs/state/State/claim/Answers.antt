@@ -4,14 +4,13 @@ use Rattle.regalloc2_names.specs.Place.{NoPlace}
 use Rattle.regalloc2_tables.specs.Tables.{NoneBefore, holder, stood}
 use Rattle.regalloc2_steps.specs.Steps.{Tables, ClearsBut, in_register}
 use Rattle.regalloc2_walk.specs.States.{tables_of}
-use Rattle.regalloc2_steps.proofs.Choosing.{holds_counted}
 use Rattle.regalloc2_walk.proofs.state.State.claim.Goals as goal
 
 pub returns-clause-ok : goal.returns-clause-ok
 returns-clause-ok g c =
     let P : Tables → Type 0 = λ t. ClearsBut c.args.point c.args.preg c.args.placing.now.vreg c.args.turn.now c.evict_others.new.turn (tables_of c.args.self.now) t in
     in_register c.args.preg c.evict_others.new.turn refl (subst P (sym c.note_taken.ensures.tables) c.in_ok-evict_others.ensures.ok)
-    (holds_counted c.evict_others.new.turn c.hold.new.self c.note_taken.new.turn c.args.preg c.args.placing.now.positions c.hold.ensures c.note_taken.ensures.sets)
+    c.hold.ensures.held
 
 pub returns-clause-alone : goal.returns-clause-alone
 returns-clause-alone g c =

@@ -9,6 +9,7 @@ pub loop-preg-init : goal.loop-preg-init
 loop-preg-init g c = record {
   left = c.into_iter-preg-iterator.ensures.into_iter_gives.list;
   cleared = none_left c.args.turn.now (tables_of c.args.self.now);
+  awaited = refl;
   later = c.requires;
   long = refl;
   machine = record { allocatable = refl; fixed_stack = refl; dedicated = refl; sizes = refl; vregs = refl; lent = refl };
@@ -22,6 +23,7 @@ loop-preg-preserved g c = record {
   left = rw (append_assoc, ← c.in-Some.ensures.steps) c.loop-preg.invariant.left;
   cleared = clears_more c.args.point c.loop-preg.yielded c.in-Some.preg c.args.turn.now c.loop-preg.turn c.evict_from.new.turn (tables_of c.args.self.now) (tables_of c.loop-preg.self) (tables_of c.evict_from.new.self)
       c.loop-preg.invariant.cleared c.in_ok-evict_from.ensures.ok;
+  awaited = c.evict_from.ensures.awaited ∙ c.loop-preg.invariant.awaited;
   later = c.in_ok-evict_from.ensures.later;
   long = c.in_ok-evict_from.ensures.long ∙ c.loop-preg.invariant.long;
   machine = (let a = c.loop-preg.invariant.machine in let b = c.in_ok-evict_from.ensures.machine in record { allocatable = b.allocatable ∙ a.allocatable; fixed_stack = b.fixed_stack ∙ a.fixed_stack; dedicated = b.dedicated ∙ a.dedicated; sizes = b.sizes ∙ a.sizes; vregs = b.vregs ∙ a.vregs; lent = b.lent ∙ a.lent });

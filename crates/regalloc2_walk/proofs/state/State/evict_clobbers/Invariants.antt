@@ -9,6 +9,7 @@ abbrev pub invariant-loop-preg : goal.invariant-loop-preg
 invariant-loop-preg g l = record {
   left : l.yielded ++ l.preg-iterator ≡ registers_of l.fn.clobbers;
   cleared : ClearsAll l.point l.yielded l.fn.turn (tables_of l.fn.self) l.turn (tables_of l.self);
+  awaited : l.turn.awaited ≡ l.fn.turn.awaited;
   later : NoneBefore l.point l.self.edits;
   long : length l.self.places.stands ≡ length l.fn.self.places.stands;
   machine : SameMachine (tables_of l.fn.self) (tables_of l.self);

@@ -12,6 +12,7 @@ use Rattle.regalloc2_walk.proofs.state.State.evict_fixed.Goals.{in-Some+in_ok-ev
 pub loop-k-init : goal.loop-k-init
 loop-k-init g c = record {
   cleared = none_cleared;
+  awaited = refl;
   later = c.requires;
   long = refl;
   machine = record { allocatable = refl; fixed_stack = refl; dedicated = refl; sizes = refl; vregs = refl; lent = refl };
@@ -34,6 +35,7 @@ loop-k-preserved g c =
           record {
             cleared = of_fixed k w.in-Some.preg c.loop-k.turn w.evict_others.new.turn m n h.cleared (asks ∙ w.in-Some.ensures.some)
                 (subst P (read_vreg ops k o w.vreg.result c.loop-k-test.true c.index-operands-k.is w.vreg.ensures) w.in_ok-evict_others.ensures.ok);
+            awaited = w.evict_others.ensures.awaited ∙ h.awaited;
             later = w.in_ok-evict_others.ensures.later;
             long = w.in_ok-evict_others.ensures.long ∙ h.long;
             machine = machine_then begin m n h.machine w.in_ok-evict_others.ensures.machine;
@@ -43,12 +45,14 @@ loop-k-preserved g c =
           let named = w.in-Some-reused_register.ensures.some in
           record {
             cleared = of_reuse k named.0 w.in-Some-reused_register.preg c.loop-k.turn w.evict_from.new.turn m n h.cleared (asks ∙ named.1) named.2 named.3 w.in_ok-evict_from.ensures.ok;
+            awaited = w.evict_from.ensures.awaited ∙ h.awaited;
             later = w.in_ok-evict_from.ensures.later;
             long = w.in_ok-evict_from.ensures.long ∙ h.long;
             machine = machine_then begin m n h.machine w.in_ok-evict_from.ensures.machine;
           })
       | in_default+in_default-reused_register w ↦ rw (w.self-is, w.turn-is) (record {
         cleared = not_fixed k c.loop-k.turn m h.cleared (λ r e. w.in_default.ensures.none r (sym asks ∙ e)) (λ n r e less named. w.in_default-reused_register.ensures.none n r (sym asks ∙ e) less named);
+        awaited = h.awaited;
         later = h.later;
         long = h.long;
         machine = h.machine;

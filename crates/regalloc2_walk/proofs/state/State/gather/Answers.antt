@@ -7,6 +7,8 @@ use Rattle.regalloc2_function.specs.SourceRun.{arguments_at}
 use Rattle.regalloc2_flow.specs.Blocks.{target_at}
 use Rattle.regalloc2_steps.specs.Branches.{Gathers, no_edge, one_edge}
 use Rattle.regalloc2_steps.specs.Steps.{Tables}
+use Rattle.std.proofs.lemmas.Result.{err_from_is_err_and}
+use Rattle.regalloc2_steps.specs.Stops.{StopsEdge}
 use Rattle.regalloc2_walk.specs.States.{tables_of}
 use Rattle.regalloc2_tables.specs.Tables.{NoneBefore}
 use Rattle.regalloc2_steps.proofs.Arguments.{known_still, edge_at}
@@ -86,3 +88,28 @@ returns-clause-ok g c =
     let e : c.loop-k.k ≡ length (block_at f c.args.block).succs = omega (arith, ap (λ (l : List ℕ). length l) c.block_succs-succs.ensures) in
     let x = c.loop-k.invariant.done in
     (x.0, x.1, subst (λ (n : ℕ). Gathers f c.args.block (before c.args.inst) c.args.turn.now (tables_of c.args.self.now) n c.loop-k.turn (tables_of c.loop-k.self) x.0) e x.2)
+
+pub returns-in_err-gather_edge-clause-stops : goal.returns-in_err-gather_edge-clause-stops
+returns-in_err-gather_edge-clause-stops g c =
+    let f = g.F.Function.function c.args.f.now in
+    let k : ℕ = c.loop-k.k in
+    let at : c.before-point.result ≡ before c.args.inst = c.before-point.ensures.point (λ e. omega (arith, c.requires.inst)) in
+    let succs : c.block_succs-succs.result.now ≡ (block_at f c.args.block).succs = c.block_succs-succs.ensures in
+    let lt : k < length (block_at f c.args.block).succs = subst (λ (l : List ℕ). k < length l) succs c.loop-k-test.true in
+    let read : c.index-succs-k.result ≡ target_at f c.args.block k = get_or_read c.block_succs-succs.result.now k c.index-succs-k.result c.loop-k-test.true c.index-succs-k.is 0 ∙ ap (λ (l : List ℕ). slice_index l k) succs in
+    let ps : c.block_params-params.result.now ≡ (block_at f (target_at f c.args.block k)).params = c.block_params-params.ensures ∙ ap (λ (n : ℕ). (block_at f n).params) read in
+    let xs : c.branch_blockparams-arguments.result.now ≡ arguments_at f c.args.block k = c.branch_blockparams-arguments.ensures in
+    let m : Tables = tables_of c.loop-k.self in
+    let x = c.loop-k.invariant.done in
+    let p = err_from_is_err_and c.from_residual.result c.from_residual.ensures.1 in
+    rw p.1 (λ same. record {
+      index = k;
+      turn = c.loop-k.turn;
+      middle = m;
+      given = x.0;
+      inside = lt;
+      gathers = x.2;
+      stops = subst (λ (q : ℕ). StopsEdge q (block_at f (target_at f c.args.block k)).params (arguments_at f c.args.block k) c.loop-k.turn m x.0) at
+          (subst (λ (l : List VirtualRegister). StopsEdge c.before-point.result l (arguments_at f c.args.block k) c.loop-k.turn m x.0) ps
+          (subst (λ (l : List VirtualRegister). StopsEdge c.before-point.result c.block_params-params.result.now l c.loop-k.turn m x.0) xs (c.in_err-gather_edge.ensures.stops (sym p.2 ∙ same) x.0 x.1)));
+    })

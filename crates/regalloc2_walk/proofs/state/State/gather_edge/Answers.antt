@@ -7,6 +7,8 @@ use Rattle.regalloc2_names.specs.Register.{VirtualRegister}
 use Rattle.regalloc2_steps.specs.Blocks.{no_vreg}
 use Rattle.regalloc2_steps.specs.Branches.{AreOf, ClassMove, GathersEdge, SettlesArgument, none_gathered, one_gathered}
 use Rattle.regalloc2_steps.specs.Steps.{Tables}
+use Rattle.std.proofs.lemmas.Result.{err_from_is_err_and}
+use Rattle.regalloc2_steps.specs.Stops.{StopsSettle}
 use Rattle.regalloc2_walk.specs.States.{tables_of}
 use Rattle.regalloc2_tables.specs.Tables.{GivesSlot}
 use Rattle.regalloc2_steps.proofs.Arguments.{settled_slot}
@@ -78,3 +80,23 @@ returns-clause-ok g c = λ given is.
     let e : c.loop-j.j ≡ length c.args.params.now = omega arith in
     let x = c.loop-j.invariant.done given is in
     (x.0, x.1, subst (λ k. GathersEdge c.args.point c.args.params.now c.args.arguments.now c.args.turn.now (tables_of c.args.self.now) given k c.loop-j.turn (tables_of c.loop-j.self) x.0) e x.2)
+
+pub returns-in_err-from-clause-stops : goal.returns-in_err-from-clause-stops
+returns-in_err-from-clause-stops g c =
+    let vs : List VirtualRegister = c.args.arguments.now in
+    let lt : c.loop-j.j < length vs = omega (arith, c.loop-j-test.true, c.requires.counted) in
+    let argument : c.index-arguments-j.result ≡ slice_index_or vs c.loop-j.j no_vreg = get_or_read vs c.loop-j.j c.index-arguments-j.result lt c.index-arguments-j.is no_vreg in
+    let m : Tables = tables_of c.loop-j.self in
+    let n : Tables = record m { slots = c.slot_of.new.self } in
+    let e = err_from_is_err_and c.from_residual-in_err-from.result c.from_residual-in_err-from.ensures.1 in
+    rw e.1 (λ same given is. let x = c.loop-j.invariant.done given is in record {
+      index = c.loop-j.j;
+      turn = c.loop-j.turn;
+      middle = m;
+      new = n;
+      given = x.0;
+      gathers = x.2;
+      places = refl;
+      machine = record { allocatable = refl; fixed_stack = refl; dedicated = refl; sizes = c.slot_of.ensures.sizes; vregs = c.slot_of.ensures.vregs; lent = c.slot_of.ensures.lent };
+      stops = subst (λ (v : VirtualRegister). StopsSettle v c.loop-j.turn n) argument (c.in_err-from.ensures.stops (sym e.2 ∙ same));
+    })

@@ -1,13 +1,20 @@
-use Rattle.regalloc2_walk.proofs.Reserved.{shrinks_held, shrinks_same}
+use Rattle.regalloc2_walk.proofs.Reserved.{shrinks_held, takes_held}
 use Rattle.regalloc2_walk.proofs.state.State.hold_fixed.Goals as goal
 
 pub returns-then-not-contains-clause-shrinks : goal.returns-then-not-contains-clause-shrinks
-returns-then-not-contains-clause-shrinks g c =
-    shrinks_same c.args.turn.now c.hold.new.self c.count.new.self (shrinks_held c.args.turn.now c.hold.new.self c.args.preg c.args.positions c.hold.ensures) c.count.ensures
+returns-then-not-contains-clause-shrinks g c = shrinks_held c.args.turn.now c.hold.new.self c.args.preg c.args.positions c.hold.ensures.held
+
+pub returns-then-not-contains-clause-takes : goal.returns-then-not-contains-clause-takes
+returns-then-not-contains-clause-takes g c = takes_held c.args.turn.now c.hold.new.self c.args.preg c.args.positions c.hold.ensures.held
 
 pub returns-else-not-contains-clause-shrinks : goal.returns-else-not-contains-clause-shrinks
-returns-else-not-contains-clause-shrinks g c =
-    shrinks_same c.args.turn.now c.hold.new.self c.count.new.self (shrinks_held c.args.turn.now c.hold.new.self c.args.preg c.args.positions c.hold.ensures) c.count.ensures
+returns-else-not-contains-clause-shrinks g c = shrinks_held c.args.turn.now c.hold.new.self c.args.preg c.args.positions c.hold.ensures.held
+
+pub returns-else-not-contains-clause-takes : goal.returns-else-not-contains-clause-takes
+returns-else-not-contains-clause-takes g c = takes_held c.args.turn.now c.hold.new.self c.args.preg c.args.positions c.hold.ensures.held
 
 pub returns-else-is_allocatable-clause-shrinks : goal.returns-else-is_allocatable-clause-shrinks
-returns-else-is_allocatable-clause-shrinks g c = shrinks_held c.args.turn.now c.hold.new.self c.args.preg c.args.positions c.hold.ensures
+returns-else-is_allocatable-clause-shrinks g c = shrinks_held c.args.turn.now c.hold.new.self c.args.preg c.args.positions c.hold.ensures.held
+
+pub returns-else-is_allocatable-clause-takes : goal.returns-else-is_allocatable-clause-takes
+returns-else-is_allocatable-clause-takes g c = takes_held c.args.turn.now c.hold.new.self c.args.preg c.args.positions c.hold.ensures.held

@@ -1,4 +1,4 @@
-use Rattle.std.proofs.Common.{◌+◌, refl, sym, ap, ◌∙◌, subst, arith}
+use Rattle.std.proofs.Common.{◌≡◌, ◌+◌, [], refl, sym, ap, ◌∙◌, subst, arith}
 use Rattle.std.proofs.lemmas.Result.{err_from_is_err_and}
 use Rattle.regalloc2_names.specs.Place.{Place}
 use Rattle.regalloc2_parts.specs.Resolved.{listed, has_scratch, with_place}
@@ -8,12 +8,12 @@ use Rattle.regalloc2_tables.specs.Lending.{IsShort}
 use Rattle.regalloc2_steps.specs.Steps.{Tables, MayHold}
 use Rattle.regalloc2_walk.specs.States.{tables_of}
 use Rattle.regalloc2_steps.proofs.Arranging.{orders, orders_none, serves_given, short_full, taken_fits}
-use Rattle.regalloc2_tables.proofs.Rooming.{lacks_then}
+use Rattle.regalloc2_tables.proofs.Rooming.{lacks_slots, no_register}
 use Rattle.regalloc2_walk.proofs.state.State.order.Goals as goal
 
 pub returns-then-are_none-clause-ok : goal.returns-then-are_none-clause-ok
 returns-then-are_none-clause-ok g c =
-    orders_none c.args.turn.now c.args.class (tables_of c.args.self.now) c.args.moves (listed c.in_ok-resolved.resolved) c.with_scratch.result.items (has_scratch c.in_ok-resolved.resolved) c.in_ok-resolved.ensures.resolved (c.if-are_none.ensures.none refl)
+    orders_none c.args.turn.now c.args.class (tables_of c.args.self.now) c.args.moves (listed c.in_ok-resolved.resolved) c.with_scratch.result.items (has_scratch c.in_ok-resolved.resolved) c.in_ok-resolved.ensures.resolved ((c.if-are_none.ensures.none.0 refl))
     (c.with_scratch.ensures.items ∙ ap (λ (p : Place). with_place p c.in_ok-resolved.resolved) c.none.ensures ∙ c.if-are_none.ensures.same refl)
 
 pub compute-requires : goal.compute-requires
@@ -34,7 +34,7 @@ returns-in_err-made-clause-err g c =
     let s = c.args.self.now.slots in
     let p = err_from_is_err_and c.from_residual-in_err-made.result c.from_residual-in_err-made.ensures.1 in
     rw p.1 (subst (LacksOnly (AreFullWith s (s.lent + 2))) (sym p.2)
-    (lacks_then (IsShort c.lent_slots.result) (AreFullWith s (s.lent + 2)) (short_full s c.args.class c.lent_slots.result c.lent_slots.ensures) _ c.in_err-made.ensures.err))
+    (lacks_slots (IsShort c.lent_slots.result) (AreFullWith s (s.lent + 2)) (short_full s c.args.class c.lent_slots.result c.lent_slots.ensures) _ c.in_err-made.ensures.err))
 
 pub lend-requires-clause-room : goal.lend-requires-clause-room
 lend-requires-clause-room g c = taken_fits c.args.self.now.slots c.args.class c.lent_slots.result c.lent_slots.ensures c.in_ok-made.made.slots c.in_ok-made.ensures.there
@@ -49,3 +49,16 @@ returns-clause-ok g c =
     orders c.args.turn.now c.args.class old l c.args.moves c.requires.apart c.requires.ends c.lent_registers.ensures.spare c.lent_registers.ensures.differ c.lent_slots.ensures c.fixed_stack.ensures held
     new c.in_ok-made.made.slots c.lend.ensures.lent c.in_ok-made.ensures.there.0 (has_scratch c.in_ok-resolved.resolved) (listed c.in_ok-resolved.resolved) c.in_ok-made.made.moves.items c.in_ok-resolved.ensures.resolved c.in_ok-made.ensures.made
     refl refl refl refl refl
+
+-- moves of a class that has no allocatable register
+pub returns-in_default-clause-stops : goal.returns-in_default-clause-stops
+returns-in_default-clause-stops g c = λ lacks. (
+  λ none. let short : listed c.in_ok-resolved.resolved ≡ [] = c.in_ok-resolved.ensures.resolved.short (rw none (omega arith)) ∙ none in
+      let yes = c.are_none.ensures.none.1 short in let no = c.if-are_none.false in cc,
+  c.in_default.ensures.none,
+)
+
+pub returns-in_err-made-clause-stops : goal.returns-in_err-made-clause-stops
+returns-in_err-made-clause-stops g c =
+    let p = err_from_is_err_and c.from_residual-in_err-made.result c.from_residual-in_err-made.ensures.1 in
+    rw p.1 (λ same. absurd (no_register (IsShort c.lent_slots.result) _ c.in_err-made.ensures.err (sym p.2 ∙ same)))

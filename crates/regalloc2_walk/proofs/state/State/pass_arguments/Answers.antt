@@ -1,4 +1,4 @@
-use Rattle.std.proofs.Common.{ℕ, ◌≡◌, ◌+◌, ◌≤◌, length, sym, ◌∙◌, subst, arith, rules}
+use Rattle.std.proofs.Common.{ℕ, ◌≡◌, ◌+◌, ◌≤◌, length, refl, inl, inr, sym, ◌∙◌, subst, arith, rules}
 use Rattle.std.proofs.lemmas.Result.{err_from_is_err_and}
 use Rattle.regalloc2_names.specs.declared.RegClass.{RegClass}
 use Rattle.regalloc2_names.specs.declared.RegClass.TheVariants.{Int, Float, Vector}
@@ -8,6 +8,7 @@ use Rattle.regalloc2_steps.specs.Branches.{MayBeAtOnce, of_class}
 use Rattle.regalloc2_tables.specs.Lack.{AreFull, AreFullWith, LacksOnly}
 use Rattle.regalloc2_tables.specs.Lending.{Moves}
 use Rattle.regalloc2_steps.specs.Steps.{Tables}
+use Rattle.regalloc2_steps.specs.Stops.{StopsOrder, in_order}
 use Rattle.regalloc2_walk.specs.States.{tables_of}
 use Rattle.regalloc2_tables.specs.Tables.{NoneBefore}
 use Rattle.regalloc2_steps.proofs.Arguments.{apart_lent, full_before, gathered_below, gathered_sources, lends_none, pushes_at, pushes_long}
@@ -95,3 +96,16 @@ returns-in_err-push_gathered-clause-err g c =
     let Full : Type 0 = AreFullWith old.slots (old.slots.lent + 6) in
     rw p.1 (subst (LacksOnly Full) (sym p.2)
     (lacks_then (AreFullWith b.slots (b.slots.lent + 6)) Full (full_before 0 (b.slots.lent + 6) 6 old b (lends_none old b c.gather.ensures.machine) (omega arith)) _ c.in_err-push_gathered.ensures.err))
+
+-- moves of a class that has no register
+pub returns-in_err-push_gathered-clause-stops : goal.returns-in_err-push_gathered-clause-stops
+returns-in_err-push_gathered-clause-stops g c =
+    let u = c.gather.new.turn in
+    let m : Tables = tables_of c.gather.new.self in
+    let x = c.in_ok-moves.ensures.ok in
+    let p = err_from_is_err_and c.from_residual-in_err-push_gathered.result c.from_residual-in_err-push_gathered.ensures.1 in
+    rw p.1 (λ same. elim (c.in_err-push_gathered.ensures.stops (sym p.2 ∙ same)) [
+      | inl a ↦ in_order Int u m m x.0 x.2 refl (subst (λ (ms : Moves). StopsOrder Int ms m) x.1.int a)
+      | inr (inl a) ↦ in_order Float u m m x.0 x.2 refl (subst (λ (ms : Moves). StopsOrder Float ms m) x.1.float a)
+      | inr (inr a) ↦ in_order Vector u m m x.0 x.2 refl (subst (λ (ms : Moves). StopsOrder Vector ms m) x.1.vector a)
+    ])

@@ -7,6 +7,8 @@ use Rattle.regalloc2_function.specs.SourceRun.{is_fixed_nonallocatable}
 use Rattle.regalloc2_tables.specs.Tables.{NoneBefore}
 use Rattle.regalloc2_tables.specs.declared.placing.Placing.{Placing}
 use Rattle.regalloc2_validate.specs.Constraints.{op_at}
+use Rattle.std.proofs.lemmas.Result.{err_from_is_err_and}
+use Rattle.regalloc2_walk.proofs.Stopping.{stop_use, stop_def, stop_reuse}
 use Rattle.regalloc2_walk.specs.States.{tables_of}
 use Rattle.regalloc2_validate.proofs.Reading.{read_operand}
 use Rattle.regalloc2_steps.proofs.Operands.{is_unmarked, op_in_tables, use_in_tables, one_register, one_use, one_def, one_reuse}
@@ -97,3 +99,32 @@ pub returns-clause-later : goal.returns-clause-later
 returns-clause-later g c =
     let at : c.after-point.result ≡ after c.args.inst = c.after-point.ensures.point (λ e. omega (arith, c.requires.inst)) in
     subst (λ (p : ℕ). NoneBefore p c.put_def-2.new.self.edits) at c.in_ok-here-2.ensures.later
+
+-- an operand gets no place
+pub returns-in_err-here-clause-stops : goal.returns-in_err-here-clause-stops
+returns-in_err-here-clause-stops g c =
+    let ops : List OperandValue = c.args.operands.now in
+    let o : c.index-operands-k.result ≡ op_at ops c.args.k = read_operand ops c.args.k c.index-operands-k.result c.requires.inside c.index-operands-k.is in
+    let not_it : is_fixed_nonallocatable c.index-operands-k.result ≡ false = is_unmarked c.index-operands-k.result (sym c.as_fixed_nonallocatable.ensures ∙ c.in_default.is) in
+    let h : c.index-here-k.result ≡ slice_index_or c.args.here.now c.args.k NoPlace = get_or_read c.args.here.now c.args.k c.index-here-k.result (omega (arith, c.requires.inside, c.requires.here_long)) c.index-here-k.is NoPlace in
+    let e = err_from_is_err_and c.from_residual.result c.from_residual.ensures.1 in
+    rw e.1 (λ same. stop_use c.args.inst c.args.is_ret ops c.args.k c.args.here.now c.args.turn.now (tables_of c.args.self.now) c.index-operands-k.result c.index-here-k.result c.use_placing-placing.result
+    o h c.use_placing-placing.ensures not_it (sym c.defines.ensures ∙ c.if-not-defines.true) (c.in_err-here.ensures.stops (sym e.2 ∙ same)))
+
+pub returns-in_err-place-clause-stops : goal.returns-in_err-place-clause-stops
+returns-in_err-place-clause-stops g c =
+    let ops : List OperandValue = c.args.operands.now in
+    let o : c.index-operands-k.result ≡ op_at ops c.args.k = read_operand ops c.args.k c.index-operands-k.result c.requires.inside c.index-operands-k.is in
+    let at : c.after-point.result ≡ after c.args.inst = c.after-point.ensures.point (λ e. omega (arith, c.requires.inst)) in
+    let e = err_from_is_err_and c.from_residual-in_err-place.result c.from_residual-in_err-place.ensures.1 in
+    rw e.1 (λ same. stop_reuse c.args.inst c.args.is_ret ops c.args.k c.args.here.now c.args.turn.now (tables_of c.args.self.now) c.index-operands-k.result c.in-Some-reused.index c.reuse_placing-placing.result
+    c.after-point.result o c.reuse_placing-placing.ensures at (sym c.defines.ensures ∙ c.if-not-defines.false) c.in-Some-reused.ensures.some (c.in_err-place.ensures.stops (sym e.2 ∙ same)))
+
+pub returns-in_err-here-2-clause-stops : goal.returns-in_err-here-2-clause-stops
+returns-in_err-here-2-clause-stops g c =
+    let ops : List OperandValue = c.args.operands.now in
+    let o : c.index-operands-k.result ≡ op_at ops c.args.k = read_operand ops c.args.k c.index-operands-k.result c.requires.inside c.index-operands-k.is in
+    let at : c.after-point.result ≡ after c.args.inst = c.after-point.ensures.point (λ e. omega (arith, c.requires.inst)) in
+    let e = err_from_is_err_and c.from_residual-in_err-here-2.result c.from_residual-in_err-here-2.ensures.1 in
+    rw e.1 (λ same. stop_def c.args.inst c.args.is_ret ops c.args.k c.args.here.now c.args.turn.now (tables_of c.args.self.now) c.index-operands-k.result c.def_placing.result
+    c.after-point.result o c.def_placing.ensures at (sym c.defines.ensures ∙ c.if-not-defines.false) (c.in_default-reused.ensures.none refl) (c.in_err-here-2.ensures.stops (sym e.2 ∙ same)))

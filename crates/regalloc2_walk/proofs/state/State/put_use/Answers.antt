@@ -11,6 +11,7 @@ returns-then-is_some-clause-ok g c = record {
   middle = tables_of c.place.new.self;
   gets = c.in_ok-place.ensures.ok;
   uses = stays (λ e. something_there _ (c.place_of.ensures.place ∙ e) (c.is_some.ensures.0 c.if-is_some.true)) refl;
+  awaited = c.in_ok-place.ensures.awaited;
 }
 
 pub settle-requires-clause-alone : goal.settle-requires-clause-alone
@@ -25,4 +26,5 @@ returns-clause-ok g c =
       middle = tables_of c.place.new.self;
       gets = c.in_ok-place.ensures.ok;
       uses = stands none c.settle.ensures.settled refl refl (record { allocatable = refl; fixed_stack = refl; dedicated = refl; sizes = refl; vregs = refl; lent = refl });
+      awaited = c.in_ok-place.ensures.awaited;
     }

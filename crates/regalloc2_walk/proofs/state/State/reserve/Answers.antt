@@ -1,25 +1,34 @@
-use Rattle.std.proofs.Common.{◌≡◌, length, refl, ◌∙◌, subst, arith}
+use Rattle.std.proofs.Common.{◌≡◌, length, refl, sym, ◌∙◌, subst, arith}
+use Rattle.std.proofs.lemmas.Result.{err_from_is_err_and}
 use Rattle.regalloc2_steps.specs.Steps.{Tables}
 use Rattle.regalloc2_walk.specs.States.{tables_of}
-use Rattle.regalloc2_walk.specs.Reserving.{ReservesOne}
-use Rattle.regalloc2_walk.proofs.Reserved.{reserving_none, reserving_more, reserves_all}
+use Rattle.regalloc2_walk.specs.Reserving.{ReservesOne, StopsClaim}
+use Rattle.regalloc2_walk.proofs.Reserved.{awaiting_none, awaiting_more, reserving_none, reserving_more, reserves_all, stops_reserve}
 use Rattle.regalloc2_walk.proofs.state.State.reserve.Goals as goal
 
 pub loop-k-init : goal.loop-k-init
-loop-k-init g c = record { reserving = reserving_none c.args.operands.now c.args.turn.now c.none-claims.result (tables_of c.args.self.now); same = refl }
+loop-k-init g c = record { reserving = reserving_none c.args.operands.now c.args.turn.now c.none-claims.result (tables_of c.args.self.now) c.none-claims.ensures.early c.none-claims.ensures.late; awaiting = awaiting_none c.args.operands.now c.args.turn.now; same = refl }
 
 pub loop-k-preserved : goal.loop-k-preserved
 loop-k-preserved g c = record {
   reserving = reserving_more c.args.operands.now c.loop-k.k c.args.turn.now c.loop-k.turn c.reserve_one.new.turn c.loop-k.claims c.reserve_one.new.claims (tables_of c.args.self.now) c.loop-k.invariant.reserving
       (subst (λ (t : Tables). ReservesOne c.args.operands.now c.loop-k.k c.loop-k.turn c.reserve_one.new.turn c.loop-k.claims c.reserve_one.new.claims t) c.loop-k.invariant.same c.in_ok-reserve_one.ensures.ok);
+  awaiting = awaiting_more c.args.operands.now c.loop-k.k c.args.turn.now c.loop-k.turn c.reserve_one.new.turn (omega arith) (omega arith) c.in_ok-reserve_one.ensures.awaited c.loop-k.invariant.awaiting;
   same = c.reserve_one.ensures.same ∙ c.loop-k.invariant.same;
 }
 
 pub returns-clause-ok : goal.returns-clause-ok
-returns-clause-ok g c = let e : c.loop-k.k ≡ length c.args.operands.now = omega arith in reserves_all c.args.operands.now c.loop-k.k c.args.turn.now c.loop-k.turn c.loop-k.claims (tables_of c.args.self.now) e c.loop-k.invariant.reserving
+returns-clause-ok g c = let e : c.loop-k.k ≡ length c.args.operands.now = omega arith in reserves_all c.args.operands.now c.loop-k.k c.args.turn.now c.loop-k.turn c.loop-k.claims (tables_of c.args.self.now) e c.loop-k.invariant.awaiting c.loop-k.invariant.reserving
 
 pub returns-clause-same : goal.returns-clause-same
 returns-clause-same g c = c.loop-k.invariant.same
 
 pub returns-in_err-reserve_one-clause-same : goal.returns-in_err-reserve_one-clause-same
 returns-in_err-reserve_one-clause-same g c = c.reserve_one.ensures.same ∙ c.loop-k.invariant.same
+
+pub returns-in_err-reserve_one-clause-stops : goal.returns-in_err-reserve_one-clause-stops
+returns-in_err-reserve_one-clause-stops g c =
+    let ops = c.args.operands.now in
+    let e = err_from_is_err_and c.from_residual.result c.from_residual.ensures.1 in
+    rw e.1 (λ lacks. stops_reserve ops c.loop-k.k c.args.turn.now c.loop-k.turn c.loop-k.claims (tables_of c.args.self.now) (omega arith) c.loop-k.invariant.reserving
+    (subst (λ (t : Tables). StopsClaim ops c.loop-k.k c.loop-k.claims t) c.loop-k.invariant.same (c.in_err-reserve_one.ensures.stops (sym e.2 ∙ lacks))))

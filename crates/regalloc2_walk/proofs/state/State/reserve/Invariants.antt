@@ -1,10 +1,11 @@
 use Rattle.std.proofs.Common.{◌≡◌}
 use Rattle.regalloc2_walk.specs.States.{tables_of}
-use Rattle.regalloc2_walk.proofs.Reserved.{Reserving}
+use Rattle.regalloc2_walk.proofs.Reserved.{Awaiting, Reserving}
 use Rattle.regalloc2_walk.proofs.state.State.reserve.Given as goal
 
 abbrev pub invariant-loop-k : goal.invariant-loop-k
 invariant-loop-k g l = record {
   reserving : Reserving l.operands l.k l.fn.turn l.turn l.claims (tables_of l.fn.self);
+  awaiting : Awaiting l.operands l.k l.fn.turn l.turn;
   same : tables_of l.self ≡ tables_of l.fn.self;
 }

@@ -1,7 +1,7 @@
 use Rattle.regalloc2_names.specs.RegisterSet.{has_register}
 use Rattle.std.proofs.Common.{sym, ◌∙◌}
 use Rattle.regalloc2_walk.specs.States.{tables_of}
-use Rattle.regalloc2_walk.proofs.Reserved.{shrinks_held, reserved_held, known_of}
+use Rattle.regalloc2_walk.proofs.Reserved.{shrinks_held, takes_held, reserved_held, known_of}
 use Rattle.regalloc2_walk.proofs.state.State.reserve_register.Goals as goal
 
 pub returns-clause-ok : goal.returns-clause-ok
@@ -10,7 +10,10 @@ returns-clause-ok g c =
     let t = tables_of c.args.self.now in
     reserved_held t r c.args.positions c.args.turn.now c.hold.new.self c.args.claims.now c.claim.new.self
     (known_of (has_register t.allocatable r) (has_register t.fixed_stack r) (sym c.if-not-contains.false ∙ c.contains.ensures.member ∙ c.every.ensures r))
-    c.in_ok-claim.ensures.ok c.hold.ensures
+    c.in_ok-claim.ensures.ok c.hold.ensures.held
 
 pub returns-clause-shrinks : goal.returns-clause-shrinks
-returns-clause-shrinks g c = shrinks_held c.args.turn.now c.hold.new.self c.args.preg c.args.positions c.hold.ensures
+returns-clause-shrinks g c = shrinks_held c.args.turn.now c.hold.new.self c.args.preg c.args.positions c.hold.ensures.held
+
+pub returns-clause-takes : goal.returns-clause-takes
+returns-clause-takes g c = takes_held c.args.turn.now c.hold.new.self c.args.preg c.args.positions c.hold.ensures.held

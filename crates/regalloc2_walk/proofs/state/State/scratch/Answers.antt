@@ -16,7 +16,7 @@ returns-clause-ok g c =
     (record { of_class = f.of_class; small = f.small; allocatable = f.allocatable })
     (free.early (ap (λ (p : Positions). p.early) c.both.ensures))
     (free.late (ap (λ (p : Positions). p.late) c.both.ensures))
-    (left_of_both c.args.turn.now.early c.hold.new.self.early c.set_scratch.new.self.early r c.both-2.result.early (ap (λ (p : Positions). p.early) c.both-2.ensures) c.hold.ensures.early (c.set_scratch.ensures.early ∙ c.count.ensures.early))
-    (left_of_both c.args.turn.now.late c.hold.new.self.late c.set_scratch.new.self.late r c.both-2.result.late (ap (λ (p : Positions). p.late) c.both-2.ensures) c.hold.ensures.late (c.set_scratch.ensures.late ∙ c.count.ensures.late))
-    (c.set_scratch.ensures.scratch ∙ ap (λ (l : List (Option Register)). slice_set l (class_code c.args.class) (Some r)) (c.count.ensures.scratch ∙ c.hold.ensures.scratch))
+    (left_of_both c.args.turn.now.early c.hold.new.self.early c.set_scratch.new.self.early r c.both-2.result.early (ap (λ (p : Positions). p.early) c.both-2.ensures) c.hold.ensures.held.early c.set_scratch.ensures.early)
+    (left_of_both c.args.turn.now.late c.hold.new.self.late c.set_scratch.new.self.late r c.both-2.result.late (ap (λ (p : Positions). p.late) c.both-2.ensures) c.hold.ensures.held.late c.set_scratch.ensures.late)
+    (c.set_scratch.ensures.scratch ∙ ap (λ (l : List (Option Register)). slice_set l (class_code c.args.class) (Some r)) c.hold.ensures.held.scratch)
     c.in_ok-evict_register.ensures.ok

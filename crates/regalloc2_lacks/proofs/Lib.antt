@@ -1,0 +1,17 @@
+pub mod Begun
+pub mod Clearing
+pub mod Instructions
+pub mod Lacks
+pub mod Losing
+pub mod Machine
+pub mod Operands
+pub mod Passed
+pub mod Passing
+pub mod Paying
+pub mod Placed
+pub mod Placing
+pub mod Reserving
+pub mod Starting
+pub mod Stepping
+pub mod Waiting
+pub mod Walked

@@ -1,0 +1,133 @@
+-- The steps of the walk keep the machine's registers.
+use Rattle.std.proofs.Common.{ℕ, ◌≡◌, Bool, true, List, refl, sym, ap, ◌∙◌, subst}
+use Rattle.std.specs.Prelude.{Option, None, slice_index_or}
+use Rattle.regalloc2_names.specs.declared.RegClass.{RegClass}
+use Rattle.regalloc2_names.specs.declared.sets.PRegSet.{PRegSet}
+use Rattle.regalloc2_names.specs.Register.{Register, VirtualRegister, class_code}
+use Rattle.regalloc2_names.specs.RegisterSet.{has_register}
+use Rattle.regalloc2_names.specs.Operand.{OperandValue}
+use Rattle.regalloc2_names.specs.Place.{Place, InRegister}
+use Rattle.regalloc2_function.specs.Machine.{MachineValue, is_allocatable}
+use Rattle.regalloc2_tables.specs.declared.turn.Turn.{Turn}
+use Rattle.regalloc2_tables.specs.declared.placing.Placing.{Placing}
+use Rattle.regalloc2_steps.specs.Steps.{Tables, SameMachine, Evicts, nobody, moved, Scratches, dedicated, had, found, Crosses, direct, through, Clears, empty, cleared, ClearsBut, own, others, Picks, Occupies, in_slot, in_register, Gets, Sends, sent, unsent, Defines, Uses, PlacesDef, PlacesUse, PlacesOne, a_register, a_use, a_def, a_reuse, PlacesAt, none_placed, of_other, one_placed, MovesUses, none_moved, not_moved, one_moved, ClearsFixed, none_cleared, not_fixed, of_fixed, of_reuse, ClearsAll, none_left, one_more}
+use Rattle.regalloc2_steps.specs.Steps.Picks.{stays, fixed, slot, free}
+use Rattle.regalloc2_steps.specs.Steps.Uses.{stays as use_stays, stands}
+use Rattle.regalloc2_steps.specs.Sound.{HasMachine}
+use Rattle.regalloc2_steps.proofs.Forking.{fit_like}
+use Rattle.regalloc2_steps.proofs.Scratching.{Fit}
+
+-- the machine's registers stay
+pub record KeepsMachine (old new : Tables) : Type 0 where
+  pub allocatable : new.allocatable ≡ old.allocatable
+  pub fixed_stack : new.fixed_stack ≡ old.fixed_stack
+  pub dedicated : new.dedicated ≡ old.dedicated
+
+pub keeps_of : (old new : Tables) → SameMachine old new → KeepsMachine old new
+keeps_of old new m = record { allocatable = m.allocatable; fixed_stack = m.fixed_stack; dedicated = m.dedicated }
+
+pub keeps_same : (old new : Tables) → new ≡ old → KeepsMachine old new
+keeps_same old new e = record { allocatable = ap (λ (t : Tables). t.allocatable) e; fixed_stack = ap (λ (t : Tables). t.fixed_stack) e; dedicated = ap (λ (t : Tables). t.dedicated) e }
+
+pub keeps_then : (a b c : Tables) → KeepsMachine a b → KeepsMachine b c → KeepsMachine a c
+keeps_then a b c x y = record { allocatable = y.allocatable ∙ x.allocatable; fixed_stack = y.fixed_stack ∙ x.fixed_stack; dedicated = y.dedicated ∙ x.dedicated }
+
+-- the tables have the machine's registers, all of them
+pub record HasAll (env : MachineValue) (t : Tables) : Type 0 where
+  pub machine : HasMachine env t
+  pub fit : Fit t
+  pub allocatable : (r : Register) → is_allocatable env r.class r ≡ true → has_register t.allocatable r ≡ true
+  pub dedicated : t.dedicated ≡ env.scratch
+
+pub all_kept : (env : MachineValue) (old new : Tables) → KeepsMachine old new → HasAll env old → HasAll env new
+all_kept env old new k h = record {
+  machine = record {
+    allocatable = λ r small has. h.machine.allocatable r small (subst (λ (a : PRegSet). has_register a r ≡ true) k.allocatable has);
+    fixed_stack = λ r has. h.machine.fixed_stack r (subst (λ (a : PRegSet). has_register a r ≡ true) k.fixed_stack has);
+    memory = λ r is. subst (λ (a : PRegSet). has_register a r ≡ true) (sym k.fixed_stack) (h.machine.memory r is);
+    dedicated = λ c r has. h.machine.dedicated c r (ap (λ (l : List (Option Register)). slice_index_or l (class_code c) None) (sym k.dedicated) ∙ has);
+  };
+  fit = fit_like old new k.allocatable k.fixed_stack k.dedicated h.fit;
+  allocatable = λ r is. ap (λ (a : PRegSet). has_register a r) k.allocatable ∙ h.allocatable r is;
+  dedicated = k.dedicated ∙ h.dedicated;
+}
+
+pub evicts_keeps : (point : ℕ) (r : Register) (old new : Tables) → Evicts point r old new → KeepsMachine old new
+evicts_keeps point r old new (nobody none same) = keeps_same old new same
+evicts_keeps point r old new (moved v s lt held gives settles edits machine) = keeps_of old new machine
+
+pub scratches_keeps : (point : ℕ) (class : RegClass) (t u : Turn) (by : Register) (old new : Tables) → Scratches point class t u by old new → KeepsMachine old new
+scratches_keeps point class t u by old new (dedicated o eu en) = keeps_same old new en
+scratches_keeps point class t u by old new (had none o eu en) = keeps_same old new en
+scratches_keeps point class t u by old new (found none unset may early late less_e less_l set evicts) = evicts_keeps point by old new evicts
+
+pub crosses_keeps : (point : ℕ) (class : RegClass) (from to : Place) (t u : Turn) (old new : Tables) → Crosses point class from to t u old new → KeepsMachine old new
+crosses_keeps point class from to t u old new (direct one eu en) = subst (KeepsMachine old) (sym en) (record { allocatable = refl; fixed_stack = refl; dedicated = refl })
+crosses_keeps point class from to t u old new (through by n two scratches en) =
+    let s = scratches_keeps point class t u by old n scratches in
+    subst (KeepsMachine old) (sym en) (record { allocatable = s.allocatable; fixed_stack = s.fixed_stack; dedicated = s.dedicated })
+
+pub clears_keeps : (point : ℕ) (r : Register) (t u : Turn) (old new : Tables) → Clears point r t u old new → KeepsMachine old new
+clears_keeps point r t u old new (empty none eu en) = keeps_same old new en
+clears_keeps point r t u old new (cleared v s m lt held gives settles edits machine crosses) = keeps_then old m new (keeps_of old m machine) (crosses_keeps point v.class s (InRegister r) t u m new crosses)
+
+pub clears_but_keeps : (point : ℕ) (r : Register) (v : VirtualRegister) (t u : Turn) (old new : Tables) → ClearsBut point r v t u old new → KeepsMachine old new
+clears_but_keeps point r v t u old new (own w held same eu en) = keeps_same old new en
+clears_but_keeps point r v t u old new (others not_own clears) = clears_keeps point r t u old new clears
+
+pub sends_keeps : (point : ℕ) (class : RegClass) (is_made : Bool) (from to : Place) (t u : Turn) (old new : Tables) → Sends point class is_made from to t u old new → KeepsMachine old new
+sends_keeps point class is_made from to t u old new (sent made crosses) = crosses_keeps point class from to t u old new crosses
+sends_keeps point class is_made from to t u old new (unsent not_made eu en) = keeps_same old new en
+
+pub picks_keeps : (t : Turn) (o : Placing) (p : Place) (old new : Tables) → Picks t o p old new → KeepsMachine old new
+picks_keeps t o p old new (stays there suits en) = keeps_same old new en
+picks_keeps t o p old new (fixed r wants is en) = keeps_same old new en
+picks_keeps t o p old new (slot wants gives places edits machine) = keeps_of old new machine
+picks_keeps t o p old new (free r wants may is_free is en) = keeps_same old new en
+
+pub occupies_keeps : (point : ℕ) (o : Placing) (p : Place) (t u : Turn) (old new : Tables) → Occupies point o p t u old new → KeepsMachine old new
+occupies_keeps point o p t u old new (in_slot k is sets en) = keeps_same old new en
+occupies_keeps point o p t u old new (in_register r m is clears holds) = clears_but_keeps point r o.vreg t m old new clears
+
+pub gets_keeps : (point : ℕ) (o : Placing) (p : Place) (t u : Turn) (old new : Tables) → Gets point o p t u old new → KeepsMachine old new
+gets_keeps point o p t u old new g = keeps_then old g.middle new (picks_keeps t o p old g.middle g.picks) (occupies_keeps point o p t u g.middle new g.occupies)
+
+pub defines_keeps : (point : ℕ) (v : VirtualRegister) (is_ret : Bool) (p : Place) (t u : Turn) (old new : Tables) → Defines point v is_ret p t u old new → KeepsMachine old new
+defines_keeps point v is_ret p t u old new d =
+    keeps_then old d.left new (keeps_of old d.left d.machine) (keeps_then d.left d.middle new (sends_keeps point v.class _ p _ t d.turn d.left d.middle d.awaited) (sends_keeps point v.class _ p _ d.turn u d.middle new d.stored))
+
+pub uses_keeps : (v : VirtualRegister) (p : Place) (old new : Tables) → Uses v p old new → KeepsMachine old new
+uses_keeps v p old new (use_stays there en) = keeps_same old new en
+uses_keeps v p old new (stands none settles slots edits machine) = keeps_of old new machine
+
+pub places_def_keeps : (point : ℕ) (o : Placing) (is_ret : Bool) (p : Place) (t u : Turn) (old new : Tables) → PlacesDef point o is_ret p t u old new → KeepsMachine old new
+places_def_keeps point o is_ret p t u old new d = keeps_then old d.middle new (gets_keeps point o p t d.turn old d.middle d.gets) (defines_keeps point o.vreg is_ret p d.turn u d.middle new d.defines)
+
+pub places_use_keeps : (point : ℕ) (o : Placing) (p : Place) (t u : Turn) (old new : Tables) → PlacesUse point o p t u old new → KeepsMachine old new
+places_use_keeps point o p t u old new d = keeps_then old d.middle new (gets_keeps point o p t u old d.middle d.gets) (uses_keeps o.vreg p d.middle new d.uses)
+
+pub one_keeps : (i : ℕ) (is_ret : Bool) (ops : List OperandValue) (k : ℕ) (here there : List Place) (t u : Turn) (old new : Tables) → PlacesOne i is_ret ops k here there t u old new → KeepsMachine old new
+one_keeps i is_ret ops k here there t u old new (a_register r silent is written eu en) = keeps_same old new en
+one_keeps i is_ret ops k here there t u old new (a_use p reads places written) = places_use_keeps _ _ p t u old new places
+one_keeps i is_ret ops k here there t u old new (a_def p def no_reuse places written) = places_def_keeps _ _ is_ret p t u old new places
+one_keeps i is_ret ops k here there t u old new (a_reuse n p def reuses places written) = places_def_keeps _ _ is_ret p t u old new places
+
+pub places_keep : (i : ℕ) (is_ret late : Bool) (ops : List OperandValue) (here : List Place) (t : Turn) (old : Tables) (k : ℕ) (there : List Place) (u : Turn) (new : Tables) → PlacesAt i is_ret late ops here t old k there u new → KeepsMachine old new
+places_keep i is_ret late ops here t old k there u new none_placed = keeps_same old old refl
+places_keep i is_ret late ops here t old k there u new (of_other j l w m prev other) = places_keep i is_ret late ops here t old j l w m prev
+places_keep i is_ret late ops here t old k there u new (one_placed j l next w x m n prev at one) = keeps_then old m new (places_keep i is_ret late ops here t old j l w m prev) (one_keeps i is_ret ops j l there w u m new one)
+
+pub moves_keep : (point : ℕ) (ops : List OperandValue) (here : List Place) (t : Turn) (old : Tables) (k : ℕ) (u : Turn) (new : Tables) → MovesUses point ops here t old k u new → KeepsMachine old new
+moves_keep point ops here t old k u new none_moved = keeps_same old old refl
+moves_keep point ops here t old k u new (not_moved j w m prev silent) = moves_keep point ops here t old j w m prev
+moves_keep point ops here t old k u new (one_moved j w x m n prev reads sends) = keeps_then old m new (moves_keep point ops here t old j w m prev) (sends_keeps point _ _ _ _ w u m new sends)
+
+pub clears_fixed_keep : (point : ℕ) (ops : List OperandValue) (t : Turn) (old : Tables) (k : ℕ) (u : Turn) (new : Tables) → ClearsFixed point ops t old k u new → KeepsMachine old new
+clears_fixed_keep point ops t old k u new none_cleared = keeps_same old old refl
+clears_fixed_keep point ops t old k u new (not_fixed j w m prev a b) = clears_fixed_keep point ops t old j w m prev
+clears_fixed_keep point ops t old k u new (of_fixed j r w x m n prev is clears) = keeps_then old m new (clears_fixed_keep point ops t old j w m prev) (clears_but_keeps point r _ w u m new clears)
+clears_fixed_keep point ops t old k u new (of_reuse j l r w x m n prev a b c clears) = keeps_then old m new (clears_fixed_keep point ops t old j w m prev) (clears_keeps point r w u m new clears)
+
+pub clears_all_keep : (point : ℕ) (rs : List Register) (t u : Turn) (old new : Tables) → ClearsAll point rs t old u new → KeepsMachine old new
+clears_all_keep point rs t u old new (none_left w m) = keeps_same old old refl
+clears_all_keep point rs t u old new (one_more r rest x w y a m b clears more) = keeps_then old m new (clears_keeps point r t w old m clears) (clears_all_keep point rest w u m new more)

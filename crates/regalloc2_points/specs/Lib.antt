@@ -1,0 +1,3 @@
+pub mod LiveRanges
+pub mod Ends
+pub mod Walked

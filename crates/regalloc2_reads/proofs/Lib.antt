@@ -1,0 +1,6 @@
+pub mod Blocks
+pub mod Closing
+pub mod Deciding
+pub mod Listed
+pub mod Walking
+pub mod Ways

@@ -1,0 +1,2 @@
+pub mod InSlots
+pub mod Written
