@@ -6,7 +6,7 @@ use regalloc2_calls::call::Call;
 use std::alloc::Global;
 
 /// The words that name what is to be done.
-const NAMES: [&str; 5] = ["run", "check", "replay", "text", "json"];
+const NAMES: [&str; 6] = ["run", "check", "replay", "text", "reads", "json"];
 
 /// What the help says of them.
 const HELP: &str = "\
@@ -16,6 +16,8 @@ run     allocate registers, and write the function with its machine and output a
 check   allocate registers, and write `checked` or what the checker finds wrong
 replay  check the output that FILE gives with the function
 text    the same as run
+reads   write whether each read and each argument comes after a write on every path: `written
+        first` or `read before written`
 json    write the function in FILE with its machine as JSON, for ra2
 
 A refused function or output is one line with its number and the reason. The status is then 1,

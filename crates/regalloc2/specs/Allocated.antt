@@ -4,12 +4,15 @@ use Rattle.regalloc2_function.specs.FunctionValue.{FunctionValue}
 use Rattle.regalloc2_function.specs.Machine.{MachineValue}
 use Rattle.regalloc2_function.specs.Fitting.{MachineFits}
 use Rattle.regalloc2_function.specs.Misfit.{IsMisfit}
+use Rattle.regalloc2_function.specs.SourceRun.{IsWrittenFirst}
 use Rattle.regalloc2_fastalloc.specs.Reason.{IsReason, PassesAll}
 use Rattle.regalloc2.specs.Judged.{IsCheckedReason}
 use Rattle.regalloc2.specs.declared.checked.CheckedRunError.{CheckedRunError}
 use Rattle.regalloc2.specs.declared.checked.CheckedRunError.TheVariants.{Refused as RunRefused, Faults as RunFaults, Unjudged as RunUnjudged}
 use Rattle.regalloc2.specs.declared.tested.AllocateError.{AllocateError}
 use Rattle.regalloc2.specs.declared.tested.AllocateError.TheVariants.{Misfit, Refused, Faults, Unjudged}
+use Rattle.regalloc2.specs.declared.tested.TestedRunError.{TestedRunError}
+use Rattle.regalloc2.specs.declared.tested.TestedRunError.TheVariants.{Misfit as RunMisfit, Refused as TestRefused, ReadBeforeWritten}
 
 -- the error that a checked run's is
 abbrev pub allocate_error : {A : Type 0} → CheckedRunError A → AllocateError A
@@ -37,3 +40,9 @@ IsTestedReason f env (Misfit m) = IsMisfit f env m × (MachineFits f env → ⊥
 IsTestedReason f env (Refused r) = MachineFits f env × IsReason f env true r
 IsTestedReason f env (Faults es) = ⊥
 IsTestedReason f env Unjudged = ⊥
+
+-- why a run that tests everything gives no output: where no condition of a fitting machine fails, what a run says of the function, and last that some path reads or passes a virtual register before writing it
+abbrev pub IsTestedRunReason : FunctionValue → MachineValue → TestedRunError → Type 0
+IsTestedRunReason f env (RunMisfit m) = IsMisfit f env m × (MachineFits f env → ⊥)
+IsTestedRunReason f env (TestRefused r) = MachineFits f env × IsReason f env true r
+IsTestedRunReason f env ReadBeforeWritten = MachineFits f env × PassesAll f env true × (IsWrittenFirst f → ⊥)

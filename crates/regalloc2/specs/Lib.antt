@@ -29,6 +29,8 @@ pub use Rattle.regalloc2_function.specs.Values
 pub use Rattle.regalloc2_function.specs.Held
 pub use Rattle.regalloc2_function.specs.WellFormed
 pub use Rattle.regalloc2_function.specs.Reasons
+pub use Rattle.regalloc2_function.specs.DebugPoints
+pub use Rattle.regalloc2_function.specs.DebugPaths
 pub use Rattle.regalloc2_function.specs.Slots
 pub use Rattle.regalloc2_function.specs.Stored
 pub use Rattle.regalloc2_function.specs.Laws

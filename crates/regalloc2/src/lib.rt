@@ -3,9 +3,10 @@
 //!
 //! A client describes its function by an implementation of [`Function`] and its machine by a [`MachineEnv`], calls
 //! [`allocate`], and reads the [`Output`]. That call has no conditions: it tests the machine and the function, and the checker
-//! accepts what it gives. [`allocate_without_checker`] is the faster one. [`run`] and [`run_checked`] make no test of the
-//! machine, which their caller proves to fit; a [`checker::Checker`] judges any output. What each item promises stands where
-//! it is declared, in words of this crate's `specs`, which passes on those of the crates below.
+//! accepts what it gives. [`run_tested`] has none either: it tests that no path reads before writing, and then its output needs
+//! no checker. [`allocate_without_checker`] makes neither test. [`run`] and [`run_checked`] make no test of the machine, which
+//! their caller proves to fit; a [`checker::Checker`] judges any output. What each item promises stands where it is declared,
+//! in words of this crate's `specs`, which passes on those of the crates below.
 #![tactic(auto)]
 
 mod checked;
@@ -28,8 +29,8 @@ pub use regalloc2_names::{
     PReg, PRegSet, PRegSetIter, ProgPoint, RegAllocError, RegClass, SpillSlot, VReg,
 };
 pub use regalloc2_parts::moves;
-pub use regalloc2_shape::{cfg, indexset, postorder, ssa};
-pub use tested::{AllocateError, allocate, allocate_without_checker};
+pub use regalloc2_shape::{cfg, indexset, postorder};
+pub use tested::{AllocateError, TestedRunError, allocate, allocate_without_checker, run_tested};
 
 /// The checker of allocations.
 pub mod checker {
@@ -42,6 +43,12 @@ pub mod checker {
 pub mod fastalloc {
     pub use regalloc2_fastalloc::run;
     pub use regalloc2_parts::{iter, lru, vregset};
+}
+
+/// Tests of what a function defines and reads.
+pub mod ssa {
+    pub use regalloc2_reads::reads_written;
+    pub use regalloc2_shape::ssa::{test_definitions, validate_ssa};
 }
 
 /// A function that is kept in tables, and its builder, for clients that have no type of their own for one.

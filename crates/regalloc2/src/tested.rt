@@ -6,15 +6,16 @@ ghost use Rattle.regalloc2_function.specs.SourceRun.{IsWrittenFirst};
 ghost use Rattle.regalloc2_function.specs.Faithful.{IsFaithful};
 ghost use Rattle.regalloc2_function.specs.Fitting.{MachineFits};
 ghost use Rattle.regalloc2_function.specs.WellFormed.{IsWellFormed};
-ghost use Rattle.regalloc2_fastalloc.specs.Promise.{IsAllocation};
+ghost use Rattle.regalloc2_fastalloc.specs.Promise.{IsAllocation, LiveInSlots, RunsAsTheFunction};
 ghost use Rattle.regalloc2_fastalloc.specs.Reason.{PassesAll};
-ghost use Rattle.regalloc2.specs.Allocated.{allocate_error, IsAllocateFault, IsAllocateReason, IsTestedReason};
+ghost use Rattle.regalloc2.specs.Allocated.{allocate_error, IsAllocateFault, IsAllocateReason, IsTestedReason, IsTestedRunReason};
 
 use super::checked::{CheckedRunError, run_checked};
 use regalloc2_checker::CheckerErrors;
 use regalloc2_fastalloc::{Algorithm, RegallocOptions, run};
 use regalloc2_function::{Function, MachineEnv, MachineMisfit, Output, test_machine};
 use regalloc2_names::RegAllocError;
+use regalloc2_reads::reads_written;
 use std::alloc::{Allocator, Global};
 use std::error::Error;
 use std::fmt;
@@ -46,6 +47,33 @@ impl<A: Allocator> fmt::Display for AllocateError<A> {
 }
 
 impl<A: Allocator + fmt::Debug> Error for AllocateError<A> {}
+
+/// Why a run that tests everything gives no output.
+#[derive(Debug, Drop)]
+pub enum TestedRunError {
+    /// The machine doesn't suit the function.
+    Misfit(MachineMisfit),
+    /// The function was refused, or registers, slots or memory ran out.
+    Refused(RegAllocError),
+    /// Some path from the entry reads or passes a virtual register before writing it.
+    ReadBeforeWritten,
+}
+
+impl fmt::Display for TestedRunError {
+    fn fmt<W: fmt::Write>(&self, f: &mut fmt::Formatter<W>) -> fmt::Result {
+        match self {
+            TestedRunError::Misfit(misfit) => {
+                write!(f, "the machine doesn't suit the function: {misfit}")
+            }
+            TestedRunError::Refused(error) => write!(f, "no registers were allocated: {error}"),
+            TestedRunError::ReadBeforeWritten => {
+                write!(f, "a virtual register is read before it is written")
+            }
+        }
+    }
+}
+
+impl Error for TestedRunError {}
 
 /// With all tests of the function.
 const TESTED: RegallocOptions = RegallocOptions {
@@ -119,4 +147,47 @@ pub fn allocate_without_checker<A: Allocator + Copy, F: Function, B: Allocator>(
         Ok(out) => Ok(out),
         Err(error) => Err(AllocateError::Refused(error)),
     }
+}
+
+/// Allocates registers to any function for any machine, and tests all that the promise of [`run`] rests on.
+///
+/// It tests that the machine suits the function, as [`test_machine`] does, makes a `run` with all tests of the function, and
+/// asks [`reads_written`] whether some path from the entry reads or passes a virtual register before writing it. So nothing is
+/// left to assume: the output runs as the function does, along every path and whatever the instructions mean, and where a
+/// path comes to a block, the slot of each virtual register that is live there holds its value.
+///
+/// An error is the first condition of a fitting machine that fails, else what `run` says of the function, else
+/// `ReadBeforeWritten`. The checker isn't asked: [`allocate`] asks it, and takes functions that read before writing where it
+/// accepts the output.
+///
+/// Not promised: that `Memory` comes only where memory was refused.
+pub fn run_tested<A: Allocator + Copy, F: Function, B: Allocator>(
+    alloc: A,
+    f: &F,
+    env: &MachineEnv<B>,
+) -> Result<Output<A>, TestedRunError>
+    ensures allocation { IfOk result (λ out. IsAllocation (F.function f.now) (machine_of env.now) (output_of out)) }
+    ensures runs { IfOk result (λ out. RunsAsTheFunction (F.function f.now) (machine_of env.now) (output_of out)) }
+    ensures live { IfOk result (λ out. LiveInSlots (F.function f.now) (output_of out)) }
+    ensures fitting { OnOk result (MachineFits (F.function f.now) (machine_of env.now)) }
+    ensures tested { OnOk result (IsWellFormed (machine_of env.now) (F.function f.now)) }
+    ensures owed { OnOk result (PassesAll (F.function f.now) (machine_of env.now) true) }
+    ensures written { OnOk result (IsWrittenFirst (F.function f.now)) }
+    ensures refused { IfErr result (IsTestedRunReason (F.function f.now) (machine_of env.now)) }
+{
+    if let Err(misfit) = test_machine(f, env) {
+        return Err(TestedRunError::Misfit(misfit));
+    }
+    let out = match run(alloc, f, env, &TESTED) {
+        Ok(out) => out,
+        Err(error) => return Err(TestedRunError::Refused(error)),
+    };
+    let written = match reads_written(alloc, f) {
+        Ok(written) => written,
+        Err(error) => return Err(TestedRunError::Refused(error)),
+    };
+    if !written {
+        return Err(TestedRunError::ReadBeforeWritten);
+    }
+    Ok(out)
 }

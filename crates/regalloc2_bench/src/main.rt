@@ -2,7 +2,8 @@
 //! one time costs.
 //!
 //! Words: the task, and how many times. `allocate` allocates without testing that the function is well-formed, `test` with
-//! those tests, and `check` judges the output. The function comes on standard input. `docs/BENCH.md` says how to measure.
+//! those tests, `check` judges the output, and `reads` asks whether reads come after writes. The function comes on standard
+//! input. `docs/BENCH.md` says how to measure.
 #![tactic(auto)]
 
 mod input;

@@ -5,7 +5,10 @@ ghost use Rattle.regalloc2_function.specs.Views.{machine_of};
 ghost use Rattle.regalloc2_function.specs.WellFormed.{IsWellFormed};
 
 use regalloc2::checker::Checker;
-use regalloc2::{Algorithm, Function, MachineEnv, Output, RegallocOptions, machine_fits, run};
+use regalloc2::ssa::reads_written;
+use regalloc2::{
+    Algorithm, Function, MachineEnv, Output, RegallocOptions, is_framed, machine_fits, run,
+};
 use std::alloc::Global;
 
 /// What is done with a function that was allocated once.
@@ -17,6 +20,8 @@ pub enum Task {
     Test,
     /// To judge the output.
     Check,
+    /// To ask whether reads come after writes.
+    Reads,
 }
 
 impl Task {
@@ -26,6 +31,7 @@ impl Task {
             "allocate" => Some(Task::Allocate),
             "test" => Some(Task::Test),
             "check" => Some(Task::Check),
+            "reads" => Some(Task::Reads),
             _ => None,
         }
     }
@@ -53,6 +59,11 @@ fn is_accepted<F: Function>(alloc: Global, f: &F, env: &MachineEnv, output: &Out
     checker.prepare(output).is_ok() && checker.run().is_ok()
 }
 
+/// Whether it was found out whether reads come after writes.
+fn is_asked<F: Function>(alloc: Global, f: &F) -> bool {
+    is_framed(f) && reads_written(alloc, f).is_ok()
+}
+
 /// Whether a task was done with a function that was allocated.
 fn is_done<F: Function>(alloc: Global, task: Task, f: &F, env: &MachineEnv, output: &Output) -> bool
     requires machine { MachineFits (F.function f.now) (machine_of env.now) }
@@ -62,6 +73,7 @@ fn is_done<F: Function>(alloc: Global, task: Task, f: &F, env: &MachineEnv, outp
         Task::Allocate => run(alloc, f, env, &UNTESTED).is_ok(),
         Task::Test => run(alloc, f, env, &TESTED).is_ok(),
         Task::Check => is_accepted(alloc, f, env, output),
+        Task::Reads => is_asked(alloc, f),
     }
 }
 

@@ -2,6 +2,7 @@
 
 ghost use Rattle.std.specs.Prelude.{◌≡◌, true, IfOk};
 ghost use Rattle.regalloc2_function.specs.Faithful.{IsFaithful};
+ghost use Rattle.regalloc2_function.specs.SourceRun.{IsWrittenFirst};
 ghost use Rattle.regalloc2_function.specs.Views.{machine_of, output_of};
 ghost use Rattle.regalloc2_function.specs.WellFormed.{IsFramed};
 
@@ -11,6 +12,7 @@ use regalloc2_function::{
     Function, MachineEnv, Output, StoredFault, StoredOutput, is_framed, machine_fits,
 };
 use regalloc2_names::RegAllocError;
+use regalloc2_reads::reads_written;
 use regalloc2_stored::{SerializableFunction, StoredFunction};
 use regalloc2_text::{WriteError, write};
 use regalloc2_tool::findings::FindingText;
@@ -39,16 +41,19 @@ pub enum Call {
     Replay,
     /// To allocate registers; the answer is the text of the function with its output.
     Text,
+    /// To say whether each read and each argument comes after a write, on every path.
+    Reads,
 }
 
 impl Call {
-    /// The call that a word names: `run`, `check`, `replay` or `text`.
+    /// The call that a word names: `run`, `check`, `replay`, `text` or `reads`.
     pub fn named(word: &str) -> Option<Call> {
         match word {
             "run" => Some(Call::Run),
             "check" => Some(Call::Check),
             "replay" => Some(Call::Replay),
             "text" => Some(Call::Text),
+            "reads" => Some(Call::Reads),
             _ => None,
         }
     }
@@ -174,6 +179,25 @@ fn replay<F: Function, W: Write>(
     judge(alloc, f, env, &output, to)
 }
 
+/// Writes whether each read and each argument comes after a write, on every path. Whether so.
+fn judge_reads<F: Function, W: Write>(alloc: Global, f: &F, to: &mut W) -> Result<bool, CallError>
+    ensures written { IfOk result (λ b. b ≡ true → IsWrittenFirst (F.function f.now)) }
+{
+    if !is_framed(f) {
+        writeln!(to, "not framed")?;
+        return Ok(false);
+    }
+    let Ok(are_written) = reads_written(alloc, f) else {
+        return Err(CallError::Memory);
+    };
+    if !are_written {
+        writeln!(to, "read before written")?;
+        return Ok(false);
+    }
+    writeln!(to, "written first")?;
+    Ok(true)
+}
+
 /// Writes the text of a function with an output.
 fn write_text<W: Write>(
     alloc: Global,
@@ -189,8 +213,8 @@ fn write_text<W: Write>(
     Ok(())
 }
 
-/// Allocates registers to a function, of which the stored one is given too, and answers a call, `Replay` as `Check`. Whether
-/// nothing was refused, and no fault found.
+/// Allocates registers to a function, of which the stored one is given too, and answers a call, `Replay` and `Reads` as
+/// `Check`. Whether nothing was refused, and no fault found.
 fn allocate<F: Function, W: Write>(
     alloc: Global,
     call: Call,
@@ -213,7 +237,7 @@ fn allocate<F: Function, W: Write>(
         }
     };
     match call {
-        Call::Check | Call::Replay => return judge(alloc, f, env, &output, to),
+        Call::Check | Call::Replay | Call::Reads => return judge(alloc, f, env, &output, to),
         Call::Run => write_listing(f, &output, to)?,
         Call::Text => write_text(alloc, function, &output, to)?,
     }
@@ -223,8 +247,9 @@ fn allocate<F: Function, W: Write>(
 /// Does a call for a stored function and the output that is given with it, and writes the answer. Whether nothing was
 /// refused, and no fault found.
 ///
-/// The answer is the listing, the text, `checked`, or a line for each fault that the checker finds. What turns the function
-/// or the output down is one line: `bad function 2: ..`, `bad machine`, `bad output 3: ..`, `not framed` or `refused 5: ..`.
+/// The answer is the listing, the text, `checked`, a line for each fault that the checker finds, `written first`, or
+/// `read before written`, which counts as a fault. What turns the function or the output down is one line:
+/// `bad function 2: ..`, `bad machine`, `bad output 3: ..`, `not framed` or `refused 5: ..`.
 /// The numbers are those of `number_of` in [`crate::refusal`] and [`crate::stored_fault`], a fault's its own.
 ///
 /// The contract doesn't say what is written: that is shown by tests.
@@ -246,6 +271,7 @@ pub fn answer<W: Write>(
     };
     match call {
         Call::Replay => replay(alloc, &f, f.machine_env(), output, to),
+        Call::Reads => judge_reads(alloc, &f, to),
         _ => allocate(alloc, call, &f, f.machine_env(), function, to),
     }
 }

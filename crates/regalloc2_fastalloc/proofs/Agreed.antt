@@ -7,7 +7,8 @@ use Rattle.regalloc2_names.specs.declared.RegClass.{RegClass}
 use Rattle.regalloc2_names.specs.Register.{VirtualRegister}
 use Rattle.regalloc2_names.specs.Place.{Place, NoPlace, InRegister, InSlot}
 use Rattle.regalloc2_names.specs.Point.{after}
-use Rattle.regalloc2_function.specs.FunctionValue.{FunctionValue, IsLimited, block_at, inst_at, no_inst}
+use Rattle.regalloc2_function.specs.DebugPaths.{HoldsValue as ShowsValue}
+use Rattle.regalloc2_function.specs.FunctionValue.{FunctionValue, IsLimited, Label, block_at, inst_at, no_inst}
 use Rattle.regalloc2_function.specs.Fitting.{MachineFits}
 use Rattle.regalloc2_function.specs.Machine.{MachineValue}
 use Rattle.regalloc2_function.specs.OutputValue.{OutputValue, MoveValue, allocs_of}
@@ -25,7 +26,11 @@ use Rattle.regalloc2_flow.proofs.Paths.{blocks_agree_by_points}
 use Rattle.regalloc2_flow.proofs.Living.{live_is_used, live_stand_by_points}
 use Rattle.regalloc2_validate.specs.Profile.{AreTaken}
 use Rattle.regalloc2_validate.specs.Constraints.{BranchDefinesNothing}
-use Rattle.regalloc2_tables.specs.Tables.{AreOwned, IsSlotOrNone, nobody_stands, no_slots, units_of}
+use Rattle.regalloc2_tables.specs.Tables.{AreOwned, IsSlotOrNone, nobody_stands, no_slots, slot_name, units_of}
+use Rattle.regalloc2_points.specs.declared.LiveRange.{LiveRange}
+use Rattle.regalloc2_points.specs.LiveRanges.{IsKeptRange}
+use Rattle.regalloc2_showing.specs.Places.{shown_place}
+use Rattle.regalloc2_showing.proofs.Labels.{label_shown}
 use Rattle.regalloc2_fastalloc.specs.Promise.{LiveInSlots}
 use Rattle.regalloc2_steps.specs.Sound.{HasMachine}
 use Rattle.regalloc2_steps.specs.Steps.{Tables}
@@ -115,6 +120,11 @@ module _ (env : MachineValue) (f : FunctionValue) (limited : IsLimited f) (ok : 
         let whole = (at_walks_end env f limited ok (passes_between f) blank begin last out empty fit walks).whole in
         subst (λ q. HoldsValue f out ws q v) (is_numbered last.slots.count p (whole.below v.number) there) (made_live_stand written ws path entered v p live (opt_some p there));
   }
+
+  -- the place by which a label's virtual register is shown holds its value
+  pub made_label_shown : AreOwned last.slots → ((i : ℕ) → i < length f.insts → IsTame (Made f) (inst_at f i).operands) → IsWrittenFirst f → (l : Label) (r : LiveRange) → IsKeptRange f l r →
+      ShowsValue f out l.vreg (shown_place out (slot_name last.slots r.vreg.number) r.by)
+  made_label_shown owned tame written l r k = (label_shown env f limited ok blank begin last out empty fit walks m written owned tame (made_blocks_agree written) (made_live_stand written) l r k).1
 
 -- The walk keeps the tables safe, since nobody stands in a register between blocks.
 pub walk_kept_through : (env : MachineValue) (f : FunctionValue) → MachineFits f env → (limited : IsLimited f) (ok : IsWellFormed env f) → AreTaken f → ((i : ℕ) → i < length f.insts → BranchDefinesNothing (inst_at f i))

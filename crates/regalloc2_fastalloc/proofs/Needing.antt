@@ -1,13 +1,14 @@
 -- How many units the slots of a function need.
-use Rattle.std.proofs.Common.{ℕ, ◌≡◌, ◌+◌, ◌*◌, ◌^◌, ◌<◌, ◌≤◌, List, [], ◌∷◌, length, sym, subst, arith}
-use Rattle.std.specs.Prelude.{max, not}
+use Rattle.std.proofs.Common.{ℕ, ◌≡◌, ◌+◌, ◌*◌, ◌^◌, ◌<◌, ◌≤◌, List, [], ◌∷◌, length, sym, ap, subst, arith}
+use Rattle.std.specs.Prelude.{max, not, slice_index}
 use Rattle.std.proofs.Math.Nat.{le-max_left, le-max_right, mul-le-mul_right}
 use Rattle.std.proofs.lemmas.List.Sums.{count_by-le-length}
+use Rattle.regalloc2_names.specs.declared.RegClass.{RegClass}
 use Rattle.regalloc2_names.specs.declared.RegClass.TheVariants.{Int, Float, Vector}
 use Rattle.regalloc2_names.specs.Place.{is_no_place}
 use Rattle.regalloc2_function.specs.FunctionValue.{FunctionValue, slot_size}
 use Rattle.regalloc2_function.specs.OutputValue.{OutputValue}
-use Rattle.regalloc2_tables.specs.Tables.{SlotsValue, AreOwned, AreUpTo, most_units, owners}
+use Rattle.regalloc2_tables.specs.Tables.{SlotsValue, AreOwned, AreUpTo, most_units, owners, units_of}
 use Rattle.regalloc2_tables.specs.Lack.{AreFullWith}
 use Rattle.regalloc2_flow.proofs.Plain.{each_of_three}
 use Rattle.regalloc2_fastalloc.specs.Promise.{SlotsAreFew}
@@ -16,6 +17,12 @@ use Rattle.regalloc2_fastalloc.specs.Reason.{greatest_slot, units_needed}
 -- the sizes of a function's slots
 abbrev pub sizes_of : FunctionValue → List ℕ
 sizes_of f = slot_size f.slot_sizes Int ∷ slot_size f.slot_sizes Float ∷ slot_size f.slot_sizes Vector ∷ []
+
+-- slots of such sizes take as many units as the function asks for
+pub sizes_agree : (f : FunctionValue) (s : SlotsValue) → s.sizes ≡ sizes_of f → (c : RegClass) → slot_size f.slot_sizes c ≡ units_of s c
+sizes_agree f s e Int = sym (ap (λ (l : List ℕ). slice_index l 0) e)
+sizes_agree f s e Float = sym (ap (λ (l : List ℕ). slice_index l 1) e)
+sizes_agree f s e Vector = sym (ap (λ (l : List ℕ). slice_index l 2) e)
 
 up_to_greatest : (f : FunctionValue) → AreUpTo (greatest_slot f) (sizes_of f)
 up_to_greatest f =

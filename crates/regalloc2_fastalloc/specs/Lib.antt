@@ -1,2 +1,3 @@
 pub mod Promise
 pub mod Reason
+pub mod Located

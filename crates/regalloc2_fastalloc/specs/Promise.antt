@@ -1,16 +1,24 @@
 -- What `run` promises of its outputs: the main theorem's conclusion. Its words stand in regalloc2_function/specs: paths in Path, what both runs read in SourceRun and AllocatedRun, outputs in OutputValue, faithful ones in Faithful, proper places in Fitting, slots in Slots, numbers in Values.
-use Rattle.std.specs.Prelude.{ℕ, ◌≡◌, ◌<◌, ◌≤◌, ◌^◌, List, All, IsSome, length}
-use Rattle.regalloc2_names.specs.Register.{VirtualRegister}
-use Rattle.regalloc2_names.specs.Place.{InSlot}
-use Rattle.regalloc2_function.specs.FunctionValue.{FunctionValue}
+use Rattle.std.specs.Prelude.{ℕ, ◌≡◌, ◌<◌, ◌≤◌, ◌^◌, ◌⊎◌, List, All, IsSome, length, slice_index_or, Bool, false, [], nat_eq}
+use Rattle.regalloc2_names.specs.Register.{VirtualRegister, Register}
+use Rattle.regalloc2_names.specs.Operand.{OperandValue}
+use Rattle.regalloc2_names.specs.Place.{Place, InSlot}
+use Rattle.std.specs.List.{IsDistinct}
+use Rattle.regalloc2_names.specs.declared.OperandConstraint.TheVariants.{Reg}
+use Rattle.regalloc2_names.specs.declared.RegClass.{RegClass}
+use Rattle.regalloc2_names.specs.RegisterSet.{has_register}
+use Rattle.regalloc2_function.specs.FunctionValue.{FunctionValue, inst_at}
 use Rattle.regalloc2_function.specs.Machine.{MachineValue}
-use Rattle.regalloc2_function.specs.OutputValue.{OutputValue, IsInOrder}
+use Rattle.regalloc2_function.specs.OutputValue.{OutputValue, IsInOrder, allocs_of, place_at}
 use Rattle.regalloc2_function.specs.Path.{Way, end_of, IsPath}
 use Rattle.regalloc2_function.specs.SourceRun.{IsWrittenFirst}
 use Rattle.regalloc2_function.specs.Faithful.{ConstraintsMet, EditsAreListed, HasNoStackToStack, IsFaithful}
-use Rattle.regalloc2_function.specs.Fitting.{PlacesAreProper}
-use Rattle.regalloc2_function.specs.Slots.{SlotsHaveOwners, StandsInSlot}
+use Rattle.regalloc2_function.specs.DebugPaths.{HoldsValue as ShowsValue}
+use Rattle.regalloc2_function.specs.DebugPoints.{AreDebugLocations}
+use Rattle.regalloc2_function.specs.Fitting.{IsProperPlace, PlacesAreProper, allocatable_count}
+use Rattle.regalloc2_function.specs.Slots.{AreSlotsOwned, StandsInSlot}
 use Rattle.regalloc2_function.specs.Values.{Meaning, SameNumbers, numbers, source_reads}
+use Rattle.regalloc2_validate.specs.Constraints.{op_at}
 use Rattle.regalloc2_flow.specs.Live.{IsLive, HasEntered, HoldsValue}
 use Rattle.regalloc2_fastalloc.specs.Reason.{units_needed}
 
@@ -35,7 +43,33 @@ pub record SlotsAreFew (f : FunctionValue) (out : OutputValue) : Type 0 where
   pub limit : out.num_spillslots ≤ 2 ^ 24
   pub needed : out.num_spillslots ≤ units_needed f
 
--- The whole promise about an output. Only `faithful` and `live` have a premise: that no path from the entry reads a virtual register before writing it.
+-- an operand names the virtual register, and stands in the place
+abbrev pub StandsIn : FunctionValue → OutputValue → VirtualRegister → Place → Type 0
+StandsIn f out v p = (i k : ℕ) × (d : OperandValue) × (i < length f.insts) × (k < length (inst_at f i).operands) × ((slice_index_or (inst_at f i).operands k d).vreg ≡ v) × (place_at (allocs_of out i) k ≡ p)
+
+-- A place of a virtual register: an operand that names it stands there, or it is a slot in which no operand of another one stands.
+abbrev pub IsPlaceOf : FunctionValue → OutputValue → VirtualRegister → Place → Type 0
+IsPlaceOf f out v p = StandsIn f out v p ⊎ ((n : ℕ) × (p ≡ InSlot n) × ((w : VirtualRegister) → StandsInSlot f out w n → w ≡ v))
+
+-- The debug locations are those of the labels that are kept, each from its virtual register's first point to its last one, by rising label, and as listed where labels are equal. Each place is proper, and one of that virtual register; and where no path from the entry reads a virtual register before writing it, it holds that one's value.
+abbrev pub ShowsLabels : FunctionValue → MachineValue → OutputValue → Type 0
+ShowsLabels f env out = AreDebugLocations f (λ l d. IsProperPlace env out l.vreg.class d.place × IsPlaceOf f out l.vreg d.place × (IsWrittenFirst f → ShowsValue f out l.vreg d.place)) out
+
+-- an operand of the function names the virtual register
+abbrev pub IsNamed : FunctionValue → VirtualRegister → Type 0
+IsNamed f v = (i k : ℕ) × (i < length f.insts) × (k < length (inst_at f i).operands) × ((op_at (inst_at f i).operands k).vreg ≡ v)
+
+abbrev pub have_same_number : VirtualRegister → VirtualRegister → Bool
+have_same_number v w = nat_eq v.number w.number
+
+-- A function of one block, all of whose operands are under `Reg`, without clobbers, which names no more virtual registers of a class than registers of it may be allocated.
+pub record HasRegistersForAll (f : FunctionValue) (env : MachineValue) : Type 0 where
+  pub one_block : length f.blocks ≡ 1
+  pub under_reg : (i k : ℕ) → i < length f.insts → k < length (inst_at f i).operands → (op_at (inst_at f i).operands k).constraint ≡ Reg
+  pub no_clobbers : (i : ℕ) (r : Register) → i < length f.insts → has_register (inst_at f i).clobbers r ≡ false
+  pub enough : (class : RegClass) (vs : List VirtualRegister) → IsDistinct have_same_number vs → All (λ v. (v.class ≡ class) × IsNamed f v) vs → length vs ≤ allocatable_count env class
+
+-- The whole promise about an output. Only `faithful`, `live` and the last part of `labels` have a premise: that no path from the entry reads a virtual register before writing it.
 --     in_order            offsets and moves are in order, and no move names a missing place
 --     constraints         each operand's place meets its constraint, whether a path reaches it or not
 --     proper              each operand's place, and each end of a move, is one of the machine's or a slot below the count
@@ -44,7 +78,9 @@ pub record SlotsAreFew (f : FunctionValue) (out : OutputValue) : Type 0 where
 --     faithful            the output runs as the function does
 --     live                values that are live between blocks are in their slots
 --     slots               slots take few units
---     owners              operands that share a slot name one virtual register, and each virtual register has one slot at most
+--     unspilled           where each virtual register can have a register of its own, there are no moves and no slots
+--     owners              slots are memory: each that is named has one owner, a virtual register or a branch, and units of its own, of its owner's class
+--     labels              debug locations are those of the labels that are kept, and name places of their virtual registers, which hold their values
 pub record IsAllocation (f : FunctionValue) (env : MachineValue) (out : OutputValue) : Type 0 where
   pub in_order : IsInOrder f out
   pub constraints : (i : ℕ) → i < length f.insts → ConstraintsMet f env out i
@@ -54,4 +90,6 @@ pub record IsAllocation (f : FunctionValue) (env : MachineValue) (out : OutputVa
   pub faithful : IsWrittenFirst f → RunsAsTheFunction f env out
   pub live : IsWrittenFirst f → LiveInSlots f out
   pub slots : SlotsAreFew f out
-  pub owners : SlotsHaveOwners f out
+  pub unspilled : HasRegistersForAll f env → (out.edits ≡ []) × (out.num_spillslots ≡ 0)
+  pub owners : AreSlotsOwned f out
+  pub labels : ShowsLabels f env out

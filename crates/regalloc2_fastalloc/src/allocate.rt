@@ -1,8 +1,9 @@
 //! The whole walk, and the output.
 
-ghost use Rattle.std.specs.Prelude.{◌≡◌, ◌<◌, ◌^◌, ℕ, [], length, map, slice_index, slice_index_or, IfOk, IfErr};
+ghost use Rattle.std.specs.Prelude.{◌≡◌, ◌<◌, ◌^◌, ℕ, length, map, slice_index, slice_index_or, IfOk, IfErr};
 ghost use Rattle.regalloc2_names.specs.Place.{NoPlace};
 ghost use Rattle.regalloc2_function.specs.FunctionValue.{inst_at, operand_count};
+ghost use Rattle.regalloc2_function.specs.Stored.{location_of};
 ghost use Rattle.regalloc2_function.specs.Views.{edit_of, machine_of, output_of};
 ghost use Rattle.regalloc2_function.specs.WellFormed.{IsWellFormed};
 ghost use Rattle.regalloc2_function.specs.Fitting.{MachineFits};
@@ -13,7 +14,7 @@ ghost use Rattle.regalloc2_fastalloc.specs.Reason.{SomeDoesNotFit, units_needed}
 ghost use Rattle.regalloc2_validate.specs.Profile.{AreTaken};
 ghost use Rattle.regalloc2_steps.specs.Walks.{offset_of};
 
-use super::allocs;
+use super::{allocs, debug};
 use regalloc2_function::{
     Edit, Function, MachineEnv, Output, count_operands, reads_the_same_numbers,
 };
@@ -21,15 +22,22 @@ use regalloc2_names::{Allocation, ProgPoint, RegAllocError};
 use regalloc2_walk::state::State;
 use std::alloc::Allocator;
 
-/// The walk over fresh tables fills in the place of each operand. What comes back is how many units slots take, and the moves as
-/// they are listed: with those places, a whole output.
+/// What an output has beside the places: how many units slots take, the moves as they are listed, and the debug locations.
+#[derive(Drop)]
+struct Rest<A: Allocator> {
+    num_spillslots: usize,
+    edits: Vec<(ProgPoint, Edit), A>,
+    debug_locations: Vec<(u32, ProgPoint, ProgPoint, Allocation), A>,
+}
+
+/// The walk over fresh tables fills in the place of each operand. What comes back is the rest of a whole output.
 fn fill_places<A: Allocator + Copy, F: Function, B: Allocator>(
     alloc: A,
     f: &F,
     env: &MachineEnv<B>,
     offsets: &[u32],
     allocs: &mut [Allocation],
-) -> Result<(usize, Vec<(ProgPoint, Edit), A>), RegAllocError>
+) -> Result<Rest<A>, RegAllocError>
     requires machine { MachineFits (F.function f.now) (machine_of env.now) }
     requires taken { AreTaken (F.function f.now) }
     requires branches { (i : ℕ) → i < length (F.function f.now).insts → BranchDefinesNothing (inst_at (F.function f.now) i) }
@@ -38,15 +46,20 @@ fn fill_places<A: Allocator + Copy, F: Function, B: Allocator>(
     requires offsets { (i : ℕ) → i < length (F.function f.now).insts → slice_index offsets.now i ≡ offset_of (F.function f.now) i }
     requires allocs_long { length allocs.old ≡ operand_count (F.function f.now) }
     requires no_places { (k : ℕ) → slice_index_or allocs.old k NoPlace ≡ NoPlace }
-    ensures allocation { IfOk result (λ made. IsAllocation (F.function f.now) (machine_of env.now) (record { num_spillslots = made.0; edits = map edit_of made.1.items; allocs = allocs.new; offsets = offsets.now; debug_locations = [] })) }
+    ensures allocation { IfOk result (λ rest. IsAllocation (F.function f.now) (machine_of env.now) (record { num_spillslots = rest.num_spillslots; edits = map edit_of rest.edits.items; allocs = allocs.new; offsets = offsets.now; debug_locations = map location_of rest.debug_locations.items })) }
     ensures err { IfErr result (Lacks (SomeDoesNotFit (F.function f.now) (machine_of env.now)) (2 ^ 24 < units_needed (F.function f.now))) }
 {
     let mut state = State::new(&alloc, f, env)?;
     state.allocate_blocks(&alloc, f, offsets, allocs)?;
     let edits = state.edits.listed(alloc)?;
+    let debug_locations = debug::locations(alloc, f, &state.slots, offsets, allocs)?;
     // a law, which the contract needs: the call does nothing
     reads_the_same_numbers();
-    Ok((state.slots.count(), edits))
+    Ok(Rest {
+        num_spillslots: state.slots.count(),
+        edits,
+        debug_locations,
+    })
 }
 
 /// Allocates registers to the operands of a well-formed function, of every kind but `Limit`.
@@ -66,12 +79,12 @@ pub fn allocate<A: Allocator + Copy, F: Function, B: Allocator>(
     let total = count_operands(f).unwrap();
     let offsets = allocs::offsets(alloc, f)?;
     let mut allocs = vec![in alloc; Allocation::none(); total as usize]?;
-    let (num_spillslots, edits) = fill_places(alloc, f, env, &offsets, &mut allocs)?;
+    let rest = fill_places(alloc, f, env, &offsets, &mut allocs)?;
     Ok(Output {
-        num_spillslots,
-        edits,
+        num_spillslots: rest.num_spillslots,
+        edits: rest.edits,
         allocs,
         inst_alloc_offsets: offsets,
-        debug_locations: Vec::new(alloc),
+        debug_locations: rest.debug_locations,
     })
 }

@@ -21,6 +21,7 @@ use std::alloc::{Allocator, Global};
 
 mod allocate;
 mod allocs;
+mod debug;
 
 /// An algorithm of register allocation. Upstream has a second one, `Ion`, which is left out.
 #[derive(Clone, Copy, Debug, Default, PartialEq, Eq)]
@@ -64,13 +65,17 @@ impl<A: Allocator + Copy> Ctx<A> {
 /// The machine suits the function (`machine_fits` tests that). Where `options.validate_ssa` is false the function is
 /// well-formed; else that is tested. The output is in order; each operand's place is proper and meets its constraint, also in
 /// instructions that no path reaches; each end of a move is proper, and no move goes from a place in memory to another; and
-/// each move is listed, none after the last instruction of a block. Operands that share a slot name one virtual register, and
-/// each virtual register has one slot at most. All that is promised of an output is one record, `IsAllocation`, in
-/// `specs/Promise.antt`.
+/// each move is listed, none after the last instruction of a block. Slots are memory: each that the output names belongs to
+/// one virtual register, and is where its operands stand that stand in slots, or to one branch, whose moves put values aside there. It
+/// takes as many units as its owner's class wants, aligned to that number, below the count, and no other slot has one of them; and both
+/// ends of a move are of one class. The debug locations are those of the labels that are kept: each from the first point of its
+/// virtual register to the last one, in a proper place of that, by rising label. All that is promised of an output is one
+/// record, `IsAllocation`, in `specs/Promise.antt`.
 ///
 /// If no path from the entry reads a virtual register before writing it, the output runs as the function does: along every
-/// path, and whatever the instructions mean, each use reads the function's own value. And where a path comes to a block, the
-/// slot of each virtual register that is live there holds its value. That premise isn't tested here.
+/// path, and whatever the instructions mean, each use reads the function's own value. Where a path comes to a block, the slot of
+/// each virtual register that is live there holds its value. And the place of each debug location holds its virtual register's
+/// value, from where that is given up to each step that uses it, at all steps but branches. That premise isn't tested here.
 ///
 /// Refused are, in this order: 2^32 operands or more, by `TooManyOperands`; where `options.validate_ssa` is true, first
 /// blocks and edges that aren't sound, as `CFGInfo::init` says, then an entry, terminators, arguments, definitions or uses
@@ -90,8 +95,10 @@ impl<A: Allocator + Copy> Ctx<A> {
 /// its class, in any register or fixed to an allocatable one. No definition, late use or reused operand may be fixed to a
 /// clobber of its instruction.
 ///
-/// The contract doesn't say which registers are chosen, nor how many moves are made. Upstream's `run` makes the same tests in
-/// another order, and takes reuses and fixed registers for granted.
+/// The contract doesn't say which registers are chosen, nor how many moves are made, but for one kind of function: where there is
+/// one block, all operands are under `Reg`, nothing is clobbered and each virtual register can have a register of its own, there
+/// are no moves and no slots. Upstream's `run` makes the same tests in another order, and takes reuses and fixed registers for
+/// granted.
 pub fn run<A: Allocator + Copy, F: Function, B: Allocator>(
     alloc: A,
     f: &F,

@@ -1,17 +1,15 @@
 -- Where the value of a labelled virtual register stands along a path.
 -- Upstream's locations say from where to where; that the value really stands there is this project's own definition.
--- Not yet promised by any contract: `run` gives no debug locations.
+-- `run` promises it of each debug location, where no path reads a virtual register before writing it (`ShowsLabels`).
 use Rattle.std.specs.Prelude.{ℕ, ◌≡◌, ◌⊎◌, false, List, ◌∷◌, Contains, slice_index, Some}
 use Rattle.regalloc2_names.specs.Register.{VirtualRegister}
 use Rattle.regalloc2_names.specs.Place.{Place}
 use Rattle.regalloc2_function.specs.FunctionValue.{FunctionValue, block_at, inst_at}
-use Rattle.regalloc2_function.specs.Machine.{MachineValue}
 use Rattle.regalloc2_function.specs.OutputValue.{OutputValue}
 use Rattle.regalloc2_function.specs.Path.{Way, Onward, ToSuccessor, end_of, IsPath}
 use Rattle.regalloc2_function.specs.SourceRun.{Stamp, source_before}
 use Rattle.regalloc2_function.specs.AllocatedRun.{after_moves, moves_at, cells_before}
-use Rattle.regalloc2_function.specs.Fitting.{IsProperPlace}
-use Rattle.regalloc2_function.specs.DebugPoints.{DefinesAt, UsesAt, AreDebugLocations}
+use Rattle.regalloc2_function.specs.DebugPoints.{DefinesAt, UsesAt}
 
 -- a way on from a block gives v what its argument has: v is a parameter of the block that it leads to
 abbrev pub IsTakenOver : FunctionValue → VirtualRegister → ℕ → Way → Type 0
@@ -32,7 +30,3 @@ abbrev pub HoldsValue : FunctionValue → OutputValue → VirtualRegister → Pl
 HoldsValue f out v p = (given : List Way) (w : Way) (here used : List Way) (s : Stamp) →
     IsPath f used → IsGiven f v given w → source_before f (w ∷ given) v ≡ Some s → GoesOn f v (w ∷ given) here → GoesOn f v here used → UsesAt f v (end_of f used).inst →
     (inst_at f (end_of f here).inst).is_branch ≡ false → after_moves (moves_at f out (end_of f here)) (cells_before f out here) p ≡ Some s
-
--- each debug location names a place that is proper for its label's virtual register, and that holds its value
-abbrev pub DebugLocationsHold : FunctionValue → MachineValue → OutputValue → Type 0
-DebugLocationsHold f env out = AreDebugLocations f (λ l d. IsProperPlace env out l.vreg.class d.place × HoldsValue f out l.vreg d.place) out

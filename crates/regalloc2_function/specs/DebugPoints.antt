@@ -1,6 +1,6 @@
 -- From where to where a virtual register's value can be shown, and the debug locations that an output has to give.
 -- The points are those of upstream's `vreg_to_live_inst_range`.
--- Not yet promised by any contract, but that a debug location has a label's points (`PlacesAreProper`): `run` gives no debug locations.
+-- `run` promises `AreDebugLocations`, with proper places of the labels' virtual registers that hold their values (`ShowsLabels`).
 use Rattle.std.specs.Prelude.{ℕ, ◌≡◌, ◌+◌, ◌/◌, ◌<◌, ◌≤◌, ◌⊎◌, true, List, [], ◌∷◌, Contains, length, IsPermutation, slice_index_or}
 use Rattle.std.specs.Ordering.{nat_cmp}
 use Rattle.std.specs.List.Sorted.{IsNonDecreasingBy, IsStableByKey}

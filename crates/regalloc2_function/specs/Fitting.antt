@@ -59,7 +59,7 @@ pub record PlacesAreProper (f : FunctionValue) (env : MachineValue) (out : Outpu
   pub moves : All (λ e. IsMoveEnd env out e.1.from × IsMoveEnd env out e.1.to) out.edits
   pub debug_locations : All (λ d. SomeIn (λ l. (l.label ≡ d.label) × IsKept f l d.start d.end × IsProperPlace env out l.vreg.class d.place) f.labels) out.debug_locations
 
--- Not yet promised by any contract: what follows, up to `Fits`. `TooManyLiveRegs` is to come only where an instruction doesn't fit.
+-- `Fits`, and what it is made of: `TooManyLiveRegs` comes only where an instruction does not fit.
 
 -- an operand holds the early, or the late, part of its instruction; a use that is reused holds both
 abbrev pub IsReused : InstValue → ℕ → Type 0

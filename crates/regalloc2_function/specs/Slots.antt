@@ -35,10 +35,11 @@ IsOfClass owner NoPlace class = ⊥
 IsOfClass owner (InRegister r) class = r.class ≡ class
 IsOfClass owner (InSlot n) class = class_of_owner (owner n) ≡ class
 
--- Not yet promised by any contract: each slot has an owner of its own; it stands for as many units as its owner's class takes, aligned to that number and below the count; the units of two slots are apart; operands stand in their own virtual register's slot; and moves keep to a class
+-- Each slot has an owner of its own, a virtual register or a branch; it stands for as many units as its owner's class takes, aligned to that number and below the count; the units of two slots are apart; operands stand in their own virtual register's slot; and both ends of a move are of one class.
 pub record AreSlotsOwned (f : FunctionValue) (out : OutputValue) : Type 0 where
   pub owner : ℕ → Owner
   pub own : (m n : ℕ) → IsSlotOf f out m → IsSlotOf f out n → owner m ≡ owner n → m ≡ n
+  pub branches : (n i : ℕ) (class : RegClass) (time : ℕ) → IsSlotOf f out n → owner n ≡ OfBranch i class time → (i < length f.insts) × ((inst_at f i).is_branch ≡ true)
   pub operands : (i : ℕ) → i < length f.insts → EachOperand (inst_at f i) (λ k o. (n : ℕ) → place_at (allocs_of out i) k ≡ InSlot n → owner n ≡ OfVReg o.vreg)
   pub named : (n : ℕ) → IsSlotOf f out n → f.named_by_last_slot ≡ true → units_of f (owner n) ≤ n + 1
   pub aligned : (n : ℕ) → IsSlotOf f out n → first_unit f (owner n) n % units_of f (owner n) ≡ 0
@@ -51,8 +52,3 @@ pub record AreSlotsOwned (f : FunctionValue) (out : OutputValue) : Type 0 where
 abbrev pub StandsInSlot : FunctionValue → OutputValue → VirtualRegister → ℕ → Type 0
 StandsInSlot f out v n =
     (i k : ℕ) × (d : OperandValue) × (i < length f.insts) × (k < length (inst_at f i).operands) × ((slice_index_or (inst_at f i).operands k d).vreg ≡ v) × (place_at (allocs_of out i) k ≡ InSlot n)
-
--- what is promised of this: operands that share a slot name one virtual register, and each virtual register has one slot at most
-pub record SlotsHaveOwners (f : FunctionValue) (out : OutputValue) : Type 0 where
-  pub one_owner : (v w : VirtualRegister) (n : ℕ) → StandsInSlot f out v n → StandsInSlot f out w n → v ≡ w
-  pub one_slot : (v : VirtualRegister) (m n : ℕ) → StandsInSlot f out v m → StandsInSlot f out v n → m ≡ n

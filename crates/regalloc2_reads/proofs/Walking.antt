@@ -19,7 +19,7 @@ use Rattle.regalloc2_flow.specs.Listing.{op_at, no_operand, defines}
 use Rattle.regalloc2_flow.proofs.Cells.{is_vreg-true, is_vreg-same}
 use Rattle.regalloc2_flow.proofs.Keeping.{defines_none}
 use Rattle.regalloc2_reads.specs.Needed.{IsReadAt, IsRead}
-use Rattle.regalloc2_reads.specs.Pairs.{Pair, lists, Gains, Grows}
+use Rattle.regalloc2_reads.specs.Pairs.{Pair, BlockSets, holds, Gains, Grows}
 use Rattle.regalloc2_reads.specs.Walked.{is_position, reads, asks}
 use Rattle.regalloc2_reads.proofs.Listed.{and_true, or_true, or_none, not_true, grows_more, same_number}
 
@@ -41,23 +41,23 @@ reads_more : (pos : OperandPos) (v : VirtualRegister) (ops : List OperandValue) 
 unfolding reads is_read
 reads_more pos v ops i o lt is = list_any_more (λ x. is_reading x && is_position pos x.position && is_vreg x.vreg v) ops i o lt ∙ ap (λ x. reads pos v (take i ops) || (is_reading x && is_position pos x.position && is_vreg x.vreg v)) (sym is)
 
-pub reads_none : (pos : OperandPos) (written : List Pair) (b : ℕ) (v : VirtualRegister) → (reads pos v [] && not (lists written (b, v))) ≡ false
+pub reads_none : (pos : OperandPos) (written : BlockSets) (b : ℕ) (v : VirtualRegister) → (reads pos v [] && not (holds written (b, v))) ≡ false
 unfolding reads
 reads_none pos written b v = refl
 
-pub reads_yes : (pos : OperandPos) (ops : List OperandValue) (i : ℕ) (o : OperandValue) (written : List Pair) (b : ℕ) → i < length ops → o ≡ get_or ops i o → (is_reading o && is_position pos o.position) ≡ true → (v : VirtualRegister) →
-    (reads pos v (take (i + 1) ops) && not (lists written (b, v))) ≡ ((reads pos v (take i ops) && not (lists written (b, v))) || (is_vreg o.vreg v && not (lists written (b, v))))
+pub reads_yes : (pos : OperandPos) (ops : List OperandValue) (i : ℕ) (o : OperandValue) (written : BlockSets) (b : ℕ) → i < length ops → o ≡ get_or ops i o → (is_reading o && is_position pos o.position) ≡ true → (v : VirtualRegister) →
+    (reads pos v (take (i + 1) ops) && not (holds written (b, v))) ≡ ((reads pos v (take i ops) && not (holds written (b, v))) || (is_vreg o.vreg v && not (holds written (b, v))))
 unfolding is_read
 reads_yes pos ops i o written b lt is does v =
     let here : is_read pos v o ≡ is_vreg o.vreg v = rw does refl in
-    rw (reads_more pos v ops i o lt is, here) (or_last (reads pos v (take i ops)) (is_vreg o.vreg v) (not (lists written (b, v))))
+    rw (reads_more pos v ops i o lt is, here) (or_last (reads pos v (take i ops)) (is_vreg o.vreg v) (not (holds written (b, v))))
 
-pub reads_no : (pos : OperandPos) (ops : List OperandValue) (i : ℕ) (o : OperandValue) (written : List Pair) (b : ℕ) → i < length ops → o ≡ get_or ops i o → (is_reading o && is_position pos o.position) ≡ false → (v : VirtualRegister) →
-    (reads pos v (take (i + 1) ops) && not (lists written (b, v))) ≡ (reads pos v (take i ops) && not (lists written (b, v)))
+pub reads_no : (pos : OperandPos) (ops : List OperandValue) (i : ℕ) (o : OperandValue) (written : BlockSets) (b : ℕ) → i < length ops → o ≡ get_or ops i o → (is_reading o && is_position pos o.position) ≡ false → (v : VirtualRegister) →
+    (reads pos v (take (i + 1) ops) && not (holds written (b, v))) ≡ (reads pos v (take i ops) && not (holds written (b, v)))
 unfolding is_read
 reads_no pos ops i o written b lt is not_so v =
     let here : is_read pos v o ≡ false = rw not_so refl in
-    rw (reads_more pos v ops i o lt is, here) (or_no (reads pos v (take i ops)) (not (lists written (b, v))))
+    rw (reads_more pos v ops i o lt is, here) (or_no (reads pos v (take i ops)) (not (holds written (b, v))))
 
 defines_is : (v : VirtualRegister) (ops : List OperandValue) → defines v ops ≡ list_any (λ o. is_def o.kind && is_vreg o.vreg v) ops
 unfolding defines
@@ -97,9 +97,9 @@ pub names_more : (xs : List VirtualRegister) (i : ℕ) (x : VirtualRegister) →
 names_more xs i x lt is v =
     names_is v (take (i + 1) xs) ∙ list_any_more (λ y. is_vreg y v) xs i x lt ∙ ap (λ y. list_any (λ z. is_vreg z v) (take i xs) || is_vreg y v) (sym is) ∙ ap (λ y. y || is_vreg x v) (sym (names_is v (take i xs)))
 
-pub names_asked : (xs : List VirtualRegister) (i : ℕ) (x : VirtualRegister) (written : List Pair) (b : ℕ) → i < length xs → x ≡ get_or xs i x → (v : VirtualRegister) →
-    (names v (take (i + 1) xs) && not (lists written (b, v))) ≡ ((names v (take i xs) && not (lists written (b, v))) || (is_vreg x v && not (lists written (b, v))))
-names_asked xs i x written b lt is v = rw (names_more xs i x lt is v) (or_last (names v (take i xs)) (is_vreg x v) (not (lists written (b, v))))
+pub names_asked : (xs : List VirtualRegister) (i : ℕ) (x : VirtualRegister) (written : BlockSets) (b : ℕ) → i < length xs → x ≡ get_or xs i x → (v : VirtualRegister) →
+    (names v (take (i + 1) xs) && not (holds written (b, v))) ≡ ((names v (take i xs) && not (holds written (b, v))) || (is_vreg x v && not (holds written (b, v))))
+names_asked xs i x written b lt is v = rw (names_more xs i x lt is v) (or_last (names v (take i xs)) (is_vreg x v) (not (holds written (b, v))))
 
 -- tests and what they stand for
 reads_found : (pos : OperandPos) (v : VirtualRegister) (ops : List OperandValue) → reads pos v ops ≡ true → IsReadAt pos v ops
@@ -150,11 +150,11 @@ pub names_there : (v : VirtualRegister) (xs : List VirtualRegister) → Contains
 names_there v xs (k, lt, is) = names_is v xs ∙ list_any_at (λ y. is_vreg y v) xs k v lt (subst (λ (w : VirtualRegister). is_vreg w v ≡ true) (sym is) (is_vreg-same v))
 
 -- an instruction asks for what it reads and the block didn't write before
-pub asked_read : (ops : List OperandValue) (written : List Pair) (b : ℕ) (v : VirtualRegister) → asks ops written b v ≡ true → (lists written (b, v) ≡ false) × IsRead v ops
-asked_read ops written b v h = elim (or_true (reads Early v ops && not (lists written (b, v))) (reads Late v ops && not (lists written (b, v) || defines v ops)) h) [
-  | inl early ↦ (let s = and_true (reads Early v ops) (not (lists written (b, v))) early in (not_true (lists written (b, v)) s.1, inl (reads_found Early v ops s.0)))
-  | inr late ↦ (let s = and_true (reads Late v ops) (not (lists written (b, v) || defines v ops)) late in
-      let t = or_none (lists written (b, v)) (defines v ops) (not_true (lists written (b, v) || defines v ops) s.1) in
+pub asked_read : (ops : List OperandValue) (written : BlockSets) (b : ℕ) (v : VirtualRegister) → asks ops written b v ≡ true → (holds written (b, v) ≡ false) × IsRead v ops
+asked_read ops written b v h = elim (or_true (reads Early v ops && not (holds written (b, v))) (reads Late v ops && not (holds written (b, v) || defines v ops)) h) [
+  | inl early ↦ (let s = and_true (reads Early v ops) (not (holds written (b, v))) early in (not_true (holds written (b, v)) s.1, inl (reads_found Early v ops s.0)))
+  | inr late ↦ (let s = and_true (reads Late v ops) (not (holds written (b, v) || defines v ops)) late in
+      let t = or_none (holds written (b, v)) (defines v ops) (not_true (holds written (b, v) || defines v ops) s.1) in
       (t.0, inr (defines_not ops v t.1, reads_found Late v ops s.0)))
 ]
 
@@ -162,17 +162,17 @@ pub or_right : (a b : Bool) → b ≡ true → (a || b) ≡ true
 or_right true b h = refl
 or_right false b h = h
 
-pub read_asked : (ops : List OperandValue) (written : List Pair) (b : ℕ) (v : VirtualRegister) → lists written (b, v) ≡ false → IsRead v ops → asks ops written b v ≡ true
+pub read_asked : (ops : List OperandValue) (written : BlockSets) (b : ℕ) (v : VirtualRegister) → holds written (b, v) ≡ false → IsRead v ops → asks ops written b v ≡ true
 read_asked ops written b v free (inl early) = rw (reads_there Early v ops early, free) refl
 read_asked ops written b v free (inr (undefined, late)) =
-    or_right (reads Early v ops && not (lists written (b, v))) (reads Late v ops && not (lists written (b, v) || defines v ops)) (rw (reads_there Late v ops late, free, defines_none ops v undefined) refl)
+    or_right (reads Early v ops && not (holds written (b, v))) (reads Late v ops && not (holds written (b, v) || defines v ops)) (rw (reads_there Late v ops late, free, defines_none ops v undefined) refl)
 
 -- what an instruction asks for, early and late
-pub asks_twice : (ops : List OperandValue) (old mid : List Pair) (b : ℕ) (needs asked new : List Pair) → Gains b (λ v. defines v ops) old mid →
-    Grows b (λ v. reads Early v ops && not (lists old (b, v))) needs asked → Grows b (λ v. reads Late v ops && not (lists mid (b, v))) asked new → Grows b (asks ops old b) needs new
+pub asks_twice : (ops : List OperandValue) (old mid : BlockSets) (b : ℕ) (needs asked new : List Pair) → Gains b (λ v. defines v ops) (holds old) (holds mid) →
+    Grows b (λ v. reads Early v ops && not (holds old (b, v))) needs asked → Grows b (λ v. reads Late v ops && not (holds mid (b, v))) asked new → Grows b (asks ops old b) needs new
 asks_twice ops old mid b needs asked new wrote early late =
-    grows_more b (λ v. reads Early v ops && not (lists old (b, v))) (λ v. reads Late v ops && not (lists mid (b, v))) (asks ops old b) needs asked new early late
-    (λ v. let e : lists mid (b, v) ≡ (lists old (b, v) || defines v ops) = wrote (b, v) ∙ ap (λ x. lists old (b, v) || (x && defines v ops)) (same_number b) in rw e refl)
+    grows_more b (λ v. reads Early v ops && not (holds old (b, v))) (λ v. reads Late v ops && not (holds mid (b, v))) (asks ops old b) needs asked new early late
+    (λ v. let e : holds mid (b, v) ≡ (holds old (b, v) || defines v ops) = wrote (b, v) ∙ ap (λ x. holds old (b, v) || (x && defines v ops)) (same_number b) in rw e refl)
 
 -- a definition reads nothing
 pub definition_reads : (o : OperandValue) → o.kind ≡ Def → false ≡ is_reading o

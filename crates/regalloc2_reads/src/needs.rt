@@ -2,7 +2,7 @@
 
 ghost use Rattle.std.specs.Prelude.{◌≡◌, ◌≢◌, ◌<◌, ◌↔◌, All, not, ◌&&◌, ◌||◌, ◌++◌, ◌∷◌, [], length, slice_index_or, if◌then◌else◌, IsTrue, OnErr, OnOk};
 ghost use Rattle.regalloc2_names.specs.Register.{is_vreg};
-ghost use Rattle.regalloc2_reads.specs.Pairs.{Grows, lists};
+ghost use Rattle.regalloc2_reads.specs.Pairs.{Grows, holds, lists};
 
 use crate::sets::BlockVRegs;
 use regalloc2_index::Block;
@@ -21,13 +21,13 @@ pub struct Needs<A: Allocator> {
 impl<A: Allocator> Model for Needs<A> {
     ghost use Rattle.std.specs.Prelude.{◌≡◌, ℕ, List};
     ghost use Rattle.regalloc2_names.specs.Register.{VirtualRegister};
-    ghost use Rattle.regalloc2_reads.specs.Pairs.{lists};
+    ghost use Rattle.regalloc2_reads.specs.Pairs.{holds, lists};
 
     ghost Value = { List (ℕ × VirtualRegister) };
 
     ghost view = { λ n. n.found.items };
 
-    ghost invariant = { λ n. (p : ℕ × VirtualRegister) → lists n.known p ≡ lists n.found.items p };
+    ghost invariant = { λ n. (p : ℕ × VirtualRegister) → holds n.known p ≡ lists n.found.items p };
 }
 
 impl<A: Allocator + Copy> Needs<A> {
@@ -79,8 +79,8 @@ impl<A: Allocator + Copy> Needs<A> {
         block: Block,
         vreg: VReg,
     ) -> Result<(), AllocError>
-        ensures ok { OnOk result (self.new ≡ (if lists written.now (block, vreg) || lists self.old (block, vreg) then self.old else self.old ++ (block, vreg) ∷ [])) }
-        ensures grows { OnOk result (Grows block (λ v. is_vreg vreg v && not (lists written.now (block, v))) self.old self.new) }
+        ensures ok { OnOk result (self.new ≡ (if holds written.now (block, vreg) || lists self.old (block, vreg) then self.old else self.old ++ (block, vreg) ∷ [])) }
+        ensures grows { OnOk result (Grows block (λ v. is_vreg vreg v && not (holds written.now (block, v))) self.old self.new) }
         ensures err { OnErr result (self.new ≡ self.old) }
     {
         if written.has(block, vreg) {

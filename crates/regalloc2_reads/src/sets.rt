@@ -1,29 +1,28 @@
 //! Sets of virtual registers, one for each block.
 
-ghost use Rattle.std.specs.Prelude.{◌≡◌, [], OnErr, OnOk};
+ghost use Rattle.std.specs.Prelude.{◌≡◌, ◌+◌, ◌<◌, [], length, OnErr, OnOk};
 ghost use Rattle.regalloc2_names.specs.Register.{is_vreg};
-ghost use Rattle.regalloc2_reads.specs.Pairs.{Gains, lists};
+ghost use Rattle.regalloc2_reads.specs.Pairs.{Gains, Pair, holds};
 
 use regalloc2_index::Block;
 use regalloc2_names::VReg;
+use regalloc2_shape::indexset::IndexSet;
 use std::alloc::{AllocError, Allocator};
-use std::collections::HashSet;
-use std::hash::{BuildHasherDefault, FoldHasher};
 use std::marker::Model;
 
-/// A set of virtual registers for each block. Contracts see it as a list of pairs, and say which ones it has.
+/// A set of virtual registers for each block, by their words. Sets are made as blocks come.
 #[derive(Drop)]
 pub struct BlockVRegs<A: Allocator> {
-    pairs: HashSet<(Block, VReg), BuildHasherDefault<FoldHasher>, A>,
+    sets: Vec<IndexSet<A>, A>,
+    alloc: A,
 }
 
 impl<A: Allocator> Model for BlockVRegs<A> {
     ghost use Rattle.std.specs.Prelude.{ℕ, List};
-    ghost use Rattle.regalloc2_names.specs.Register.{VirtualRegister};
 
-    ghost Value = { List (ℕ × VirtualRegister) };
+    ghost Value = { List (List (ℕ × ℕ)) };
 
-    ghost view = { λ s. s.pairs.keys };
+    ghost view = { λ s. s.sets.items };
 }
 
 impl<A: Allocator + Copy> BlockVRegs<A> {
@@ -32,23 +31,38 @@ impl<A: Allocator + Copy> BlockVRegs<A> {
         ensures { result ≡ [] }
     {
         BlockVRegs {
-            pairs: HashSet::new(alloc),
+            sets: Vec::new(alloc),
+            alloc,
         }
     }
 
     /// Whether a block's set has a virtual register.
     pub fn has(&self, block: Block, vreg: VReg) -> bool
-        ensures { result ≡ lists self.now (block, vreg) }
+        ensures { result ≡ holds self.now (block, vreg) }
     {
-        self.pairs.contains(&(block, vreg))
+        if block.index() >= self.sets.len() {
+            return false;
+        }
+        self.sets[block.index()].get(vreg.bits())
     }
 
-    /// Adds a virtual register to a block's set. Where memory is refused the sets stay as they were.
-    pub fn add(&mut self, block: Block, vreg: VReg) -> Result<(), AllocError>
-        ensures ok { OnOk result (Gains block (is_vreg vreg) self.old self.new) }
-        ensures err { OnErr result (self.new ≡ self.old) }
+    /// Makes empty sets up to a block's.
+    fn reach(&mut self, block: Block) -> Result<(), AllocError>
+        ensures reached { OnOk result (block < length self.new) }
+        ensures same { (p : Pair) → holds self.new p ≡ holds self.old p }
     {
-        self.pairs.insert((block, vreg))?;
+        while self.sets.len() <= block.index() {
+            self.sets.push(IndexSet::new(self.alloc))?;
+        }
         Ok(())
+    }
+
+    /// Adds a virtual register to a block's set. Where memory is refused no set gains or loses one.
+    pub fn add(&mut self, block: Block, vreg: VReg) -> Result<(), AllocError>
+        ensures ok { OnOk result (Gains block (is_vreg vreg) (holds self.old) (holds self.new)) }
+        ensures err { OnErr result ((p : Pair) → holds self.new p ≡ holds self.old p) }
+    {
+        self.reach(block)?;
+        self.sets[block.index()].set(vreg.bits(), true)
     }
 }

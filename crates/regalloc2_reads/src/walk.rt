@@ -7,7 +7,7 @@ ghost use Rattle.regalloc2_function.specs.SourceRun.{is_reading, is_def};
 ghost use Rattle.regalloc2_function.specs.WellFormed.{IsFramed};
 ghost use Rattle.regalloc2_flow.specs.Blocks.{names};
 ghost use Rattle.regalloc2_flow.specs.Listing.{defines};
-ghost use Rattle.regalloc2_reads.specs.Pairs.{Gains, Grows, lists};
+ghost use Rattle.regalloc2_reads.specs.Pairs.{Gains, Grows, holds};
 ghost use Rattle.regalloc2_reads.specs.Walked.{is_position, reads, asks, IsWalkedTo, IsWalked, AreWrites, AreAsked, Passes, AreParameters};
 
 use crate::needs::Needs;
@@ -56,7 +56,7 @@ fn ask_reads<A: Allocator + Copy>(
     written: &BlockVRegs<A>,
     needs: &mut Needs<A>,
 ) -> Result<(), AllocError>
-    ensures { OnOk result (Grows block (λ v. reads pos v operands.now && not (lists written.now (block, v))) needs.old needs.new) }
+    ensures { OnOk result (Grows block (λ v. reads pos v operands.now && not (holds written.now (block, v))) needs.old needs.new) }
 {
     for operand in operands {
         if reads_at(*operand, pos) {
@@ -72,7 +72,7 @@ fn write_definitions<A: Allocator + Copy>(
     block: Block,
     written: &mut BlockVRegs<A>,
 ) -> Result<(), AllocError>
-    ensures { OnOk result (Gains block (λ v. defines v operands.now) written.old written.new) }
+    ensures { OnOk result (Gains block (λ v. defines v operands.now) (holds written.old) (holds written.new)) }
 {
     for operand in operands {
         if writes(*operand) {
@@ -89,7 +89,7 @@ fn walk_inst<A: Allocator + Copy>(
     written: &mut BlockVRegs<A>,
     needs: &mut Needs<A>,
 ) -> Result<(), AllocError>
-    ensures written { OnOk result (Gains block (λ v. defines v operands.now) written.old written.new) }
+    ensures written { OnOk result (Gains block (λ v. defines v operands.now) (holds written.old) (holds written.new)) }
     ensures needs { OnOk result (Grows block (asks operands.now written.old block) needs.old needs.new) }
 {
     ask_reads(operands, OperandPos::Early, block, written, needs)?;
@@ -106,7 +106,7 @@ fn walk_insts<A: Allocator + Copy, F: Function>(
 ) -> Result<(), AllocError>
     requires framed { IsFramed (F.function f.now) }
     requires block { block < length (F.function f.now).blocks }
-    requires fresh { (v : VirtualRegister) → lists written.old (block, v) ≡ false }
+    requires fresh { (v : VirtualRegister) → holds written.old (block, v) ≡ false }
     ensures { OnOk result (IsWalkedTo (F.function f.now) block (block_at (F.function f.now) block).range.end written.old needs.old written.new needs.new) }
 {
     let range = f.block_insns(block);
@@ -123,7 +123,7 @@ fn ask_arguments<A: Allocator + Copy>(
     written: &BlockVRegs<A>,
     needs: &mut Needs<A>,
 ) -> Result<(), AllocError>
-    ensures { OnOk result (Grows block (λ v. names v arguments.now && not (lists written.now (block, v))) needs.old needs.new) }
+    ensures { OnOk result (Grows block (λ v. names v arguments.now && not (holds written.now (block, v))) needs.old needs.new) }
 {
     for argument in arguments {
         needs.ask(written, block, *argument)?;
@@ -158,7 +158,7 @@ fn walk_block<A: Allocator + Copy, F: Function>(
 ) -> Result<(), AllocError>
     requires framed { IsFramed (F.function f.now) }
     requires block { block < length (F.function f.now).blocks }
-    requires fresh { (v : VirtualRegister) → lists written.old (block, v) ≡ false }
+    requires fresh { (v : VirtualRegister) → holds written.old (block, v) ≡ false }
     ensures { OnOk result (IsWalked (F.function f.now) block written.old needs.old written.new needs.new) }
 {
     walk_insts(f, block, written, needs)?;
@@ -189,7 +189,7 @@ fn note_params<A: Allocator + Copy>(
     block: Block,
     noted: &mut BlockVRegs<A>,
 ) -> Result<(), AllocError>
-    ensures { OnOk result (Gains block (λ v. names v params.now) noted.old noted.new) }
+    ensures { OnOk result (Gains block (λ v. names v params.now) (holds noted.old) (holds noted.new)) }
 {
     for param in params {
         noted.add(block, *param)?;

@@ -23,12 +23,12 @@ pub record IsPlain (f : FunctionValue) (v : VirtualRegister) : Type 0 where
 
 module _ (f : FunctionValue) (out : OutputValue) (v : VirtualRegister) (plain : IsPlain f v) where
   -- a path that goes on from another has it as its beginning
-  start_path : (start ws : List Way) → GoesOn f v start ws → IsPath f ws → IsPath f start
+  pub start_path : (start ws : List Way) → GoesOn f v start ws → IsPath f ws → IsPath f start
   start_path start ws there path = path
   start_path start ws (further w us g not) path = start_path start us g path.0
 
   -- v is live all the way to where it is
-  goes_live : (start ws : List Way) → GoesOn f v start ws → IsPath f ws → IsLive f v (end_of f ws) → IsLive f v (end_of f start)
+  pub goes_live : (start ws : List Way) → GoesOn f v start ws → IsPath f ws → IsLive f v (end_of f ws) → IsLive f v (end_of f start)
   goes_live start ws there path live = live
   goes_live start ws (further w us g not) path live = goes_live start us g path.0 (later (end_of f us) w path.1 (plain.undefined us w path not) (plain.aside us w path not) live)
 
@@ -38,7 +38,7 @@ module _ (f : FunctionValue) (out : OutputValue) (v : VirtualRegister) (plain : 
   goes_undefined start ws (further w us g not) path h = goes_undefined start us g path.0 (plain.undefined us w path not)
 
   -- and its last write stays
-  goes_source : (start ws : List Way) → GoesOn f v start ws → IsPath f ws → source_before f ws v ≡ source_before f start v
+  pub goes_source : (start ws : List Way) → GoesOn f v start ws → IsPath f ws → source_before f ws v ≡ source_before f start v
   goes_source start ws there path = refl
   goes_source start ws (further w us g not) path = source_on f us w v (plain.undefined us w path not) (plain.aside us w path not) ∙ goes_source start us g path.0
 

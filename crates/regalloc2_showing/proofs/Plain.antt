@@ -24,12 +24,12 @@ use Rattle.regalloc2_flow.proofs.Soundness.{well_formed_are_sound}
 use Rattle.regalloc2_showing.proofs.Forward.{IsPlain}
 
 -- within a list the default doesn't matter
-any_default : {X : Type 0} (xs : List X) (i : ℕ) (d e : X) → i < length xs → slice_index_or xs i d ≡ slice_index_or xs i e
+pub any_default : {X : Type 0} (xs : List X) (i : ℕ) (d e : X) → i < length xs → slice_index_or xs i d ≡ slice_index_or xs i e
 any_default [] i d e lt = absurd (omega arith)
 any_default (x ∷ xs) zero d e lt = refl
 any_default (x ∷ xs) (suc i) d e lt = any_default xs i d e (omega arith)
 
-op_is : (ops : List OperandValue) (k : ℕ) (o : OperandValue) → k < length ops → slice_index_or ops k o ≡ o → op_at ops k ≡ o
+pub op_is : (ops : List OperandValue) (k : ℕ) (o : OperandValue) → k < length ops → slice_index_or ops k o ≡ o → op_at ops k ≡ o
 op_is ops k o lt is = any_default ops k no_operand o lt ∙ is
 
 -- a list names what it has
@@ -54,11 +54,11 @@ module _ (env : MachineValue) (f : FunctionValue) (ok : IsWellFormed env f) (wri
   sound : IsSound f
   sound = well_formed_are_sound env f ok
 
-  within : (ws : List Way) → IsPath f ws → (end_of f ws).block < length f.blocks
+  pub within : (ws : List Way) → IsPath f ws → (end_of f ws).block < length f.blocks
   within ws path = block_within f sound written ws path
 
   -- where the instructions of all paths are
-  inst_in : (ws : List Way) → IsPath f ws → ((block_at f (end_of f ws).block).range.first ≤ (end_of f ws).inst) × ((end_of f ws).inst < (block_at f (end_of f ws).block).range.end)
+  pub inst_in : (ws : List Way) → IsPath f ws → ((block_at f (end_of f ws).block).range.first ≤ (end_of f ws).inst) × ((end_of f ws).inst < (block_at f (end_of f ws).block).range.end)
   inst_in [] path = (omega arith, (ok.follow f.entry (within [] path)).0)
   inst_in (Onward ∷ ws) path = (let h = inst_in ws path.0 in let ge = h.0 in (omega (arith, ge), path.1))
   inst_in (ToSuccessor k ∷ ws) path = (omega arith, (ok.follow (target_at f (end_of f ws).block k) (within (ToSuccessor k ∷ ws) path)).0)

@@ -58,7 +58,7 @@ module _ (f : FunctionValue) (out : OutputValue) (v : VirtualRegister) (p : Plac
   unfolding Untouched with_moves
   no_moves = tt
 
-  moves_fine : (first i : ℕ) → (inst_at f i).is_branch ≡ false → Quiet first i → (es : List (ℕ × MoveValue)) → All (λ e. e.1.to ≡ p → MayWrite f out v p e.0) es → Fine i (map (λ e. e.1) (filter (λ e. is_listed_at first i e.0) es))
+  pub moves_fine : (first i : ℕ) → (inst_at f i).is_branch ≡ false → Quiet first i → (es : List (ℕ × MoveValue)) → All (λ e. e.1.to ≡ p → MayWrite f out v p e.0) es → Fine i (map (λ e. e.1) (filter (λ e. is_listed_at first i e.0) es))
   moves_fine first i plain quiet [] h = inl no_moves
   moves_fine first i plain quiet (e ∷ es) h = by (is_listed_at first i e.0) refl (moves_fine first i plain quiet es (λ k d lt. h (suc k) d (omega arith)))
     where

@@ -1,2 +1,3 @@
 pub mod InSlots
+pub mod Places
 pub mod Written

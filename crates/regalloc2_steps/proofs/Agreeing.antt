@@ -1,12 +1,13 @@
--- The walk over the blocks of a well-formed function, from fresh tables to the output: each block carries what the laws on paths want, and who is used in a block that doesn't write it has a slot.
+-- The walk over the blocks of a well-formed function, from fresh tables to the output: each block carries what the laws on paths want, and who is used in a block that doesn't write it, or passed as an argument, has a slot.
 use Rattle.std.proofs.Common.{ℕ, ◌≡◌, ◌≢◌, ◌<◌, ◌≤◌, List, length, arith}
-use Rattle.std.specs.Prelude.{All, Some}
+use Rattle.std.specs.Prelude.{All, Contains, Some}
 use Rattle.std.proofs.lemmas.List.Elements.{All-get_or}
 use Rattle.regalloc2_names.specs.Register.{VirtualRegister}
 use Rattle.regalloc2_names.specs.Place.{Place, NoPlace, InSlot}
 use Rattle.regalloc2_function.specs.FunctionValue.{FunctionValue, IsLimited, block_at, inst_at, no_inst}
 use Rattle.regalloc2_function.specs.Machine.{MachineValue}
 use Rattle.regalloc2_function.specs.OutputValue.{OutputValue, allocs_of}
+use Rattle.regalloc2_function.specs.SourceRun.{arguments_at}
 use Rattle.regalloc2_function.specs.WellFormed.{IsWellFormed, FixedAvoidClobbers, last_of}
 use Rattle.regalloc2_flow.specs.Walked.{listed, block_walked}
 use Rattle.regalloc2_flow.specs.Blocks.{BlockCarries}
@@ -32,6 +33,7 @@ use Rattle.regalloc2_steps.proofs.Blockwise.{BranchCarries}
 use Rattle.regalloc2_steps.proofs.Sparing.{WritesSound, keeps_slots}
 use Rattle.regalloc2_steps.proofs.Through.{begin_between, first_edge, all_blocks_carry}
 use Rattle.regalloc2_steps.proofs.Dwelling.{used_has_slot}
+use Rattle.regalloc2_steps.proofs.Handing.{handed_has_slot}
 use Rattle.regalloc2_steps.proofs.Flowing.{slot_in}
 
 module _ (env : MachineValue) (f : FunctionValue) (limited : IsLimited f) (ok : IsWellFormed env f) where
@@ -73,3 +75,8 @@ module _ (env : MachineValue) (f : FunctionValue) (limited : IsLimited f) (ok : 
     used_slots v u =
         used_has_slot f ok.defined_once ok.follow ok.end ok.uses_defined all_orderly all_avoid all_known branch blank begin (begin_between f begin empty fit) u.block u.within v u.unwritten u.used
         0 out.allocs last walks (omega arith)
+
+    -- and so has who is passed as an argument
+    pub handed_slots : (v : VirtualRegister) (b k : ℕ) → b < length f.blocks → k < length (block_at f b).succs → Contains (arguments_at f b k) v → slot_in last v.number ≢ NoPlace
+    handed_slots v b k lb edge has =
+        handed_has_slot f ok.counted ok.follow ok.end all_orderly all_avoid all_known branch b lb k edge v has blank begin 0 out.allocs last walks (omega arith)

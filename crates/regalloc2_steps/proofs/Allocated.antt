@@ -69,7 +69,7 @@ moves_kept env apart Known Writes May point can ops tame here t old h ht writes 
     p.safe p.turn)
 
 -- no class has a scratch register at first
-no_scratch : (c : RegClass) (r : Register) (l : List (Option Register)) → l ≡ None ∷ None ∷ None ∷ [] → slice_index_or l (class_code c) None ≡ Some r → ⊥
+pub no_scratch : (c : RegClass) (r : Register) (l : List (Option Register)) → l ≡ None ∷ None ∷ None ∷ [] → slice_index_or l (class_code c) None ≡ Some r → ⊥
 no_scratch Int r l e h = (let x : None ≡ Some r = ap (λ (y : List (Option Register)). slice_index_or y 0 None) (sym e) ∙ h in cc)
 no_scratch Float r l e h = (let x : None ≡ Some r = ap (λ (y : List (Option Register)). slice_index_or y 1 None) (sym e) ∙ h in cc)
 no_scratch Vector r l e h = (let x : None ≡ Some r = ap (λ (y : List (Option Register)). slice_index_or y 2 None) (sym e) ∙ h in cc)

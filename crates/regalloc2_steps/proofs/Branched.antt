@@ -26,11 +26,11 @@ use Rattle.regalloc2_steps.proofs.Alone.{Between}
 use Rattle.regalloc2_steps.proofs.Along.{BranchKept}
 
 module _ (At : ℕ → Type 0) (point : ℕ) (here : At point) where
-  argument_grown : (a : VirtualRegister) (s : Place) (t u : Turn) (old new : Tables) → SettlesArgument point a s t u old new → Grown At old new
+  pub argument_grown : (a : VirtualRegister) (s : Place) (t u : Turn) (old new : Tables) → SettlesArgument point a s t u old new → Grown At old new
   argument_grown a s t u old new (from_register r m at gives places edits machine clears) = grown_then At old m new (grown_slot At old m a s gives edits) (clears_grown At point here r t u m new clears)
   argument_grown a s t u old new (in_slot not gives settles edits machine eu) = grown_slot At old new a s gives edits
 
-  edge_grown : (params arguments : List VirtualRegister) (t : Turn) (old : Tables) (given : List ClassMove) (j : ℕ) (u : Turn) (m : Tables) (more : List ClassMove) → GathersEdge point params arguments t old given j u m more → Grown At old m
+  pub edge_grown : (params arguments : List VirtualRegister) (t : Turn) (old : Tables) (given : List ClassMove) (j : ℕ) (u : Turn) (m : Tables) (more : List ClassMove) → GathersEdge point params arguments t old given j u m more → Grown At old m
   edge_grown params arguments t old given j u m more none_gathered = grown_none At old old refl
   edge_grown params arguments t old given j u m more (one_gathered l some to from x w s n o lt prev gives places edits machine settles) =
       grown_then At old s o (edge_grown params arguments t old given l x s some prev)
@@ -46,7 +46,7 @@ module _ (At : ℕ → Type 0) (point : ℕ) (here : At point) where
   pushed_there [] = λ k d lt. absurd (omega arith)
   pushed_there (m ∷ ms) = All-push (λ e. At e.0) (pushed point ms) (point, record { from = m.0; to = m.1 }) (pushed_there ms) here
 
-  class_grown : (u : Turn) (class : RegClass) (given : Moves) (old new : Tables) → Pushes point u class given old new → Grown At old new
+  pub class_grown : (u : Turn) (class : RegClass) (given : Moves) (old new : Tables) → Pushes point u class given old new → Grown At old new
   class_grown u class given old new p =
       let slots : new.slots ≡ p.middle.slots = ap (λ (x : Tables). x.slots) p.pushes in
       let same : (n : ℕ) → slot_name new.slots n ≡ slot_name old.slots n = λ n. ap (λ (s : SlotsValue). slot_name s n) slots ∙ ap (λ (l : List Place). slice_index_or l n NoPlace) p.orders.lends.2.of_vreg in

@@ -31,7 +31,7 @@ use Rattle.regalloc2_steps.proofs.Outs.{defined_by, defined_by-some, defined_by-
 use Rattle.regalloc2_steps.proofs.Filled.{reads_not_def}
 
 -- after both passes each operand had its turn
-turned_all : (ops : List OperandValue) (j : ℕ) → Counts ops j → Turned ops false (length ops) j
+pub turned_all : (ops : List OperandValue) (j : ℕ) → Counts ops j → Turned ops false (length ops) j
 turned_all ops j c = inr (refl, ⊎_elim (λ (l : is_late (op_at ops j).position ≡ true). inl l) (λ (e : is_late (op_at ops j).position ≡ false). inr c.0) (cases_Bool (is_late (op_at ops j).position)))
 
 -- where the vregs stand before an instruction

@@ -34,7 +34,7 @@ abbrev Dwells : ℕ → Tables → Type 0
 Dwells x t = (place_in t x ≢ NoPlace) ⊎ (slot_in t x ≢ NoPlace)
 
 -- slots stay
-slot_stays : (At : ℕ → Type 0) (x : ℕ) (t u : Tables) → Grown At t u → slot_in t x ≢ NoPlace → slot_in u x ≢ NoPlace
+pub slot_stays : (At : ℕ → Type 0) (x : ℕ) (t u : Tables) → Grown At t u → slot_in t x ≢ NoPlace → slot_in u x ≢ NoPlace
 slot_stays At x t u g has none = has (sym (g.stay x has) ∙ none)
 
 module _ (x point : ℕ) where

@@ -1,6 +1,6 @@
 -- What the walk's end gives, with operands of every kind but `Limit`.
-use Rattle.std.proofs.Common.{ℕ, ◌≡◌, ◌≢◌, ◌+◌, ◌-◌, ◌<◌, ◌≤◌, ⊎_elim, inl, inr, Bool, true, false, cond, List, [], length, drop, reverse, refl, sym, ap, ◌∙◌, subst, arith, nat_eq, eq-eqb, slice_index_or, slice_index}
-use Rattle.std.specs.Prelude.{All, None, Some, sum_by}
+use Rattle.std.proofs.Common.{ℕ, ◌≡◌, ◌≢◌, ◌+◌, ◌-◌, ◌<◌, ◌≤◌, ⊎_elim, inl, inr, Bool, true, false, cond, List, length, drop, reverse, refl, sym, ap, ◌∙◌, subst, arith, nat_eq, eq-eqb, slice_index_or, slice_index}
+use Rattle.std.specs.Prelude.{All, Any as SomeIn, None, Some, sum_by}
 use Rattle.std.specs.List.Sorted.{IsNonDecreasingBy}
 use Rattle.std.proofs.lemmas.Bool.{ne_eqb, cases_eq}
 use Rattle.std.proofs.lemmas.List.{get_or-take, get_or-drop, get_or-reverse, length-reverse, take_all}
@@ -14,7 +14,8 @@ use Rattle.regalloc2_names.specs.Place.{Place, NoPlace, InRegister, InSlot}
 use Rattle.regalloc2_names.specs.Operand.{OperandValue, fixed_register, nonallocatable_register}
 use Rattle.regalloc2_function.specs.FunctionValue.{FunctionValue, inst_at, operand_count}
 use Rattle.regalloc2_function.specs.Machine.{MachineValue, is_allocatable, scratch_of, IsFixedStackSlot}
-use Rattle.regalloc2_function.specs.OutputValue.{OutputValue, MoveValue, IsInOrder, alloc_start, alloc_end, allocs_of, place_at}
+use Rattle.regalloc2_function.specs.OutputValue.{OutputValue, DebugLocation, MoveValue, IsInOrder, alloc_start, alloc_end, allocs_of, place_at}
+use Rattle.regalloc2_function.specs.DebugPoints.{IsKept}
 use Rattle.regalloc2_function.specs.SourceRun.{is_fixed_nonallocatable}
 use Rattle.regalloc2_function.specs.Faithful.{ConstraintsMet, HasNoStackToStack, IsStackToStack, Meets}
 use Rattle.regalloc2_function.specs.Fitting.{MachineFits, PlacesAreProper, IsProperPlace, IsMoveEnd}
@@ -39,6 +40,10 @@ machine_apart f env fits = record {
     at_slot : (c : RegClass) (r : Register) → IsFixedStackSlot env r → (is_allocatable env c r ≡ false) × (scratch_of env c ≡ Some r → ⊥) × (r ≡ invalid_register → ⊥)
     at_slot c r is = All-contains (λ (q : Register). (is_allocatable env c q ≡ false) × (scratch_of env c ≢ Some q) × (q ≢ invalid_register)) env.fixed_stack_slots r (fits c).slots_apart is
 
+-- a debug location is that of a label that is kept, and stands where the label's virtual register may
+abbrev pub IsOfLabel : FunctionValue → MachineValue → (VirtualRegister → Type 0) → SlotsValue → DebugLocation → Type 0
+IsOfLabel f env Known slots d = SomeIn (λ l. (l.label ≡ d.label) × IsKept f l d.start d.end × Known l.vreg × MayStand env slots l.vreg d.place) f.labels
+
 -- an output that is made of the walk's tables
 pub record IsMade (f : FunctionValue) (env : MachineValue) (Known : VirtualRegister → Type 0) (May : ℕ → Type 0) (t : Tables) (o : OutputValue) : Type 0 where
   pub count : o.num_spillslots ≡ t.slots.count
@@ -47,7 +52,7 @@ pub record IsMade (f : FunctionValue) (env : MachineValue) (Known : VirtualRegis
   pub long : length o.offsets ≡ length f.insts
   pub offsets : (i : ℕ) → i < length f.insts → slice_index o.offsets i ≡ offset_of f i
   pub allocs_long : length o.allocs ≡ operand_count f
-  pub debug : o.debug_locations ≡ []
+  pub debug : All (IsOfLabel f env Known t.slots) o.debug_locations
   pub kept : WalkKept env Known f May o.allocs 0 o.allocs t
 
 -- what holds of each element holds the other way round
@@ -145,7 +150,7 @@ made_constraints f env Known May t o m i lt k d less =
     (λ n is. let s = shared n is in (s.0, place_is f env Known May t o m i lt k less ∙ s.1 ∙ sym (place_is f env Known May t o m i lt n s.0))))
 
 -- the slots below a count
-abbrev AreBelow : SlotsValue → ℕ → Type 0
+abbrev pub AreBelow : SlotsValue → ℕ → Type 0
 AreBelow s count = (n : ℕ) → IsSlotOrNone count (slot_name s n)
 
 own_below : (s : SlotsValue) (count n k : ℕ) → AreBelow s count → slot_name s n ≡ InSlot k → k < count
@@ -165,14 +170,14 @@ pass_end env o s class (InRegister r) count (inl a) = (r.class, inl (inl a.0))
 pass_end env o s class (InRegister r) count (inr own) = (class, inr (r, own, refl))
 pass_end env o s class (InSlot k) count h = (class, inl (omega arith))
 
-proper_place : (env : MachineValue) (o : OutputValue) (s : SlotsValue) (v : VirtualRegister) (p : Place) → AreBelow s o.num_spillslots → MayStand env s v p → IsProperPlace env o v.class p
+pub proper_place : (env : MachineValue) (o : OutputValue) (s : SlotsValue) (v : VirtualRegister) (p : Place) → AreBelow s o.num_spillslots → MayStand env s v p → IsProperPlace env o v.class p
 proper_place env o s v NoPlace below h = h
 proper_place env o s v (InRegister r) below (inl a, same) = inl (subst (λ (c : RegClass). is_allocatable env c r ≡ true) same a)
 proper_place env o s v (InRegister r) below (inr is, same) = inr (is, same)
 proper_place env o s v (InSlot k) below h = own_below s o.num_spillslots v.number k below h
 
 -- the slots of a made output
-slots_below : (f : FunctionValue) (env : MachineValue) (Known : VirtualRegister → Type 0) (May : ℕ → Type 0) (t : Tables) (o : OutputValue) → IsMade f env Known May t o → AreBelow t.slots o.num_spillslots
+pub slots_below : (f : FunctionValue) (env : MachineValue) (Known : VirtualRegister → Type 0) (May : ℕ → Type 0) (t : Tables) (o : OutputValue) → IsMade f env Known May t o → AreBelow t.slots o.num_spillslots
 slots_below f env Known May t o m = subst (AreBelow t.slots) (sym m.count) m.kept.safe.slots
 
 -- the register of an operand that names no virtual register
@@ -202,7 +207,9 @@ made_proper f env Known May t o m = record {
     | inl v ↦ (move_end env o t.slots v.vreg e.1.from (slots_below f env Known May t o m) v.from, move_end env o t.slots v.vreg e.1.to (slots_below f env Known May t o m) v.to)
     | inr a ↦ (pass_end env o t.slots a.class e.1.from (sym m.count) a.from, pass_end env o t.slots a.class e.1.to (sym m.count) a.to)
   ]);
-  debug_locations = rw m.debug (λ k d lt. absurd (omega arith));
+  debug_locations = λ k d lt.
+      let h = m.debug k d lt in
+      (h.0, h.1, h.2, h.3, (h.4.0, h.4.1, proper_place env o t.slots h.1.vreg _ (slots_below f env Known May t o m) h.4.3));
 }
 
 pub made_in_registers : (f : FunctionValue) (env : MachineValue) (Known : VirtualRegister → Type 0) (May : ℕ → Type 0) (t : Tables) (o : OutputValue) → IsMade f env Known May t o → HasNoStackToStack env o

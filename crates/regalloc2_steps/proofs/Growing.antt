@@ -166,7 +166,7 @@ module _ (At : ℕ → Type 0) where
     gets_grown : (o : Placing) (p : Place) (t u : Turn) (old new : Tables) → Gets point o p t u old new → Grown At old new
     gets_grown o p t u old new g = grown_then old g.middle new (picks_grown t o p old g.middle g.picks) (occupies_grown o p t u g.middle new g.occupies)
 
-    defines_grown : (v : VirtualRegister) (ret : Bool) (p : Place) (t u : Turn) (old new : Tables) → Defines point v ret p t u old new → Grown At old new
+    pub defines_grown : (v : VirtualRegister) (ret : Bool) (p : Place) (t u : Turn) (old new : Tables) → Defines point v ret p t u old new → Grown At old new
     defines_grown v ret p t u old new d =
         grown_then old d.left new (grown_still old d.left d.slots d.edits)
         (grown_then d.left d.middle new (sends_grown _ _ _ _ t d.turn d.left d.middle d.awaited) (sends_grown _ _ _ _ d.turn u d.middle new d.stored))
@@ -192,7 +192,7 @@ module _ (At : ℕ → Type 0) where
     all_grown rs t u old new (one_more r rest x y w a m b clears more) = grown_then old m new (clears_grown r t y old m clears) (all_grown rest y u m new more)
 
   module _ (i : ℕ) (here : At (after i)) where
-    one_grown : (ret : Bool) (ops : List OperandValue) (k : ℕ) (places next : List Place) (t u : Turn) (old new : Tables) → PlacesOne i ret ops k places next t u old new → Grown At old new
+    pub one_grown : (ret : Bool) (ops : List OperandValue) (k : ℕ) (places next : List Place) (t u : Turn) (old new : Tables) → PlacesOne i ret ops k places next t u old new → Grown At old new
     one_grown ret ops k places next t u old new (a_register r silent is at eu en) = grown_none old new en
     one_grown ret ops k places next t u old new (a_use p reads d at) = grown_then old d.middle new (gets_grown (after i) here _ p t u old d.middle d.gets) (uses_grown (after i) here _ p d.middle new d.uses)
     one_grown ret ops k places next t u old new (a_def p def no_reuse d at) = grown_then old d.middle new (gets_grown (after i) here _ p t d.turn old d.middle d.gets) (defines_grown (after i) here _ ret p d.turn u d.middle new d.defines)

@@ -121,10 +121,11 @@ owner_vreg v w e = cc
 slot_same : (m n : ℕ) → InSlot m ≡ InSlot n → m ≡ n
 slot_same m n e = cc
 
-module _ (Known : VirtualRegister → Type 0) (same : (v w : VirtualRegister) → Known v → Known w → v.number ≡ w.number → v ≡ w) where
+module _ (Known : VirtualRegister → Type 0) (same : (v w : VirtualRegister) → Known v → Known w → v.number ≡ w.number → v ≡ w) (Holds : OwnedSlot → Type 0) where
   -- a known vreg has a slot, which it had or which is made
-  pub gives_laid : (s t : SlotsValue) (v : VirtualRegister) (p : Place) (made : List OwnedSlot) → Known v → GivesSlot s t v p → ((c : RegClass) → 0 < units_of s c) → AreLaid Known s made → Lays Known t made
-  gives_laid s t v p made known gives units h = ⊎_elim
+  pub gives_laid : (s t : SlotsValue) (v : VirtualRegister) (p : Place) (made : List OwnedSlot) → Known v → GivesSlot s t v p → ((c : RegClass) → 0 < units_of s c) → AreLaid Known s made
+      → ((n : ℕ) → Holds (record { owner = OfVReg v; name = n })) → All Holds made → Lays Known Holds t made
+  gives_laid s t v p made known gives units h holds all = ⊎_elim
       (λ (none : slot_name s v.number ≡ NoPlace).
       let m = gives.made none in
       let n : ℕ = later_slot s v.class 0 in
@@ -144,6 +145,7 @@ module _ (Known : VirtualRegister → Type 0) (same : (v w : VirtualRegister) �
             (λ w e. ap (λ (x : VirtualRegister). slot_name t x.number) (sym (owner_vreg v w e)) ∙ at)
             (λ k d lt w e. gives_stay s t v p gives w.number _ (h.own k d lt w e));
         kept = λ x is. later_of c x made is;
+        all = all_more Holds c made (holds n) all;
       })
       (λ (there : slot_name s v.number ≢ NoPlace).
       let had = gives.had there in
@@ -151,6 +153,7 @@ module _ (Known : VirtualRegister → Type 0) (same : (v w : VirtualRegister) �
         made = made;
         laid = still_laid Known s t made gives.sizes gives.by_last gives.grows h (λ n. ⊎_elim (λ (e : n ≡ v.number). ap (slot_name t) e ∙ gives.gives ∙ had.0 ∙ ap (slot_name s) (sym e)) (λ (d : n ≢ v.number). gives.others n d) (cases_eq n v.number));
         kept = λ x is. is;
+        all = all;
       })
       (cases_none (slot_name s v.number))
 
@@ -158,14 +161,17 @@ lent_sooner : (branch : ℕ) (class : RegClass) (k : ℕ) → OfBranch branch cl
 lent_sooner branch class k e = cc
 
 -- a branch's moves take slots of a class, for the first time that they do
-pub record Lent (Known : VirtualRegister → Type 0) (branch : ℕ) (class : RegClass) (taken : ℕ) (s t : SlotsValue) (before_it : List OwnedSlot) : Type 0 where
-  pub lays : Lays Known t before_it
+pub record Lent (Known : VirtualRegister → Type 0) (Holds : OwnedSlot → Type 0) (branch : ℕ) (class : RegClass) (taken : ℕ) (s t : SlotsValue) (before_it : List OwnedSlot) : Type 0 where
+  pub lays : Lays Known Holds t before_it
   pub lent : (k : ℕ) → k < taken → Contains lays.made (record { owner = OfBranch branch class k; name = later_slot s class k })
 
-module _ (Known : VirtualRegister → Type 0) (branch : ℕ) (class : RegClass) (s : SlotsValue) (made : List OwnedSlot) (some : 0 < units_of s class) (first_time : All (λ x. (k : ℕ) → OfBranch branch class k ≢ x.owner) made)
-    (h : AreLaid Known s made) where
+module _ (Known : VirtualRegister → Type 0) (Holds : OwnedSlot → Type 0) (branch : ℕ) (class : RegClass) (s : SlotsValue) (made : List OwnedSlot) (some : 0 < units_of s class)
+    (first_time : All (λ x. (k : ℕ) → OfBranch branch class k ≢ x.owner) made) (h : AreLaid Known s made) (holds : (k n : ℕ) → Holds (record { owner = OfBranch branch class k; name = n })) (all : All Holds made) where
   abbrev lent_at : ℕ → OwnedSlot
   lent_at k = record { owner = OfBranch branch class k; name = later_slot s class k }
+
+  one_holds : All Holds (lent_at 0 ∷ made)
+  one_holds = all_more Holds (lent_at 0) made (holds 0 (later_slot s class 0)) all
 
   -- the slots with so many lent
   abbrev with_lent : ℕ → ℕ → SlotsValue
@@ -188,16 +194,16 @@ module _ (Known : VirtualRegister → Type 0) (branch : ℕ) (class : RegClass) 
       (all_more (λ x. OfBranch branch class 1 ≢ x.owner) (lent_at 0) made (lent_sooner branch class 0) (λ k d lt. first_time k d lt 1))
       (λ v is k there. later_of (lent_at 1) _ (lent_at 0 ∷ made) (g.known v is k there)) (λ v e. absurd (not_vreg 1 v e)) g.own
 
-  pub lends_laid : (t : SlotsValue) (taken : ℕ) → taken ≤ 2 → LendsSlots s t class taken → Lent Known branch class taken s t made
+  pub lends_laid : (t : SlotsValue) (taken : ℕ) → taken ≤ 2 → LendsSlots s t class taken → Lent Known Holds branch class taken s t made
   lends_laid t zero few l = (let same = l.none refl in record {
-    lays = record { made = made; laid = still_laid Known s t made l.sizes l.by_last (omega (arith, same)) h (λ n. ap (λ xs. slice_index_or xs n NoPlace) l.of_vreg); kept = λ x is. is };
+    lays = record { made = made; laid = still_laid Known s t made l.sizes l.by_last (omega (arith, same)) h (λ n. ap (λ xs. slice_index_or xs n NoPlace) l.of_vreg); kept = λ x is. is; all = all };
     lent = λ k lt. absurd (omega (arith, lt));
   })
   lends_laid t (suc zero) few l =
       let end = l.some 0 (omega arith) in
       let g = one_lent t.count t.lent (omega (arith, end)) in
       record {
-        lays = record { made = lent_at 0 ∷ made; laid = still_laid Known (with_lent t.count t.lent) t (lent_at 0 ∷ made) l.sizes l.by_last (omega arith) g (λ n. ap (λ xs. slice_index_or xs n NoPlace) l.of_vreg); kept = λ x is. later_of (lent_at 0) x made is };
+        lays = record { made = lent_at 0 ∷ made; laid = still_laid Known (with_lent t.count t.lent) t (lent_at 0 ∷ made) l.sizes l.by_last (omega arith) g (λ n. ap (λ xs. slice_index_or xs n NoPlace) l.of_vreg); kept = λ x is. later_of (lent_at 0) x made is; all = one_holds };
         lent = λ k lt. subst (λ n. Contains (lent_at 0 ∷ made) (lent_at n)) (let e : 0 ≡ k = omega (arith, lt) in e) (first_of (lent_at 0) made);
       }
   lends_laid t (suc (suc zero)) few l =
@@ -208,6 +214,7 @@ module _ (Known : VirtualRegister → Type 0) (branch : ℕ) (class : RegClass) 
           made = lent_at 1 ∷ lent_at 0 ∷ made;
           laid = still_laid Known (with_lent t.count t.lent) t (lent_at 1 ∷ lent_at 0 ∷ made) l.sizes l.by_last (omega arith) g (λ n. ap (λ xs. slice_index_or xs n NoPlace) l.of_vreg);
           kept = λ x is. later_of (lent_at 1) x (lent_at 0 ∷ made) (later_of (lent_at 0) x made is);
+          all = all_more Holds (lent_at 1) (lent_at 0 ∷ made) (holds 1 (later_slot s class 1)) one_holds;
         };
         lent = λ k lt. ⊎_elim (λ (e : k ≡ 0). subst (λ n. Contains (lent_at 1 ∷ lent_at 0 ∷ made) (lent_at n)) (sym e) (later_of (lent_at 1) (lent_at 0) (lent_at 0 ∷ made) (first_of (lent_at 0) made)))
             (λ (d : k ≢ 0). subst (λ n. Contains (lent_at 1 ∷ lent_at 0 ∷ made) (lent_at n)) (let e : 1 ≡ k = omega (arith, d, lt) in e) (first_of (lent_at 1) (lent_at 0 ∷ made))) (cases_eq k 0);

@@ -69,3 +69,5 @@ module _ (Known : VirtualRegister → Type 0) (insts : ℕ → InstValue) (place
     pub long : length list ≡ length ops
     pub listed_here : (j : ℕ) → Counts ops j → slice_index_or list j NoPlace ≢ NoPlace → (claimed j ≡ true) × (slice_index_or list j NoPlace ≡ here j)
     pub placed : (j : ℕ) → done j ≡ true → slice_index_or list j NoPlace ≡ here j
+    -- a definition that is placed is made at its place
+    pub written : (j : ℕ) → done j ≡ true → is_def (op_at ops j).kind ≡ true → X (here j) (op_at ops j).vreg.number ≡ true

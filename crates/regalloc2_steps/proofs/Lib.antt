@@ -35,9 +35,14 @@ pub mod Getting
 pub mod Given
 pub mod Going
 pub mod Growing
+pub mod Handing
 pub mod Joining
 pub mod Keeping
 pub mod Laid
+pub mod LaidBranches
+pub mod LaidOperands
+pub mod LaidSteps
+pub mod LaidWalks
 pub mod Last
 pub mod Lasting
 pub mod Launching

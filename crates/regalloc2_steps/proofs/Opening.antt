@@ -213,6 +213,7 @@ module _ (Known : VirtualRegister → Type 0) (insts : ℕ → InstValue) (place
           long = a.long;
           listed_here = λ j k h. absurd (h (a.no_places j));
           placed = λ j d. absurd cc;
+          written = λ j d def. absurd cc;
         }
       where
         quiet_there : (p : Place) (w : ℕ) → place_in a.after_clobbers w ≡ p → IsWhole a.after_clobbers → ((r : Register) → Contains (registers_of inst.clobbers) r → (x : ℕ) → place_in a.after_clobbers x ≡ InRegister r → ⊥) → is_clobbered inst.clobbers p ≡ false

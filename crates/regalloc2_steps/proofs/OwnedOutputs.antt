@@ -1,24 +1,26 @@
 -- An output whose slots were laid apart, and whose moves keep to a class, owns its slots.
-use Rattle.std.proofs.Common.{ℕ, suc, ◌≡◌, ◌+◌, ◌-◌, ◌<◌, ◌≤◌, List, [], ◌∷◌, length, refl, sym, ap, ◌∙◌, inl, inr, ⊎_elim, subst, arith, slice_index_or}
-use Rattle.std.specs.Prelude.{All, Contains, Some, sum_by, take}
+use Rattle.std.proofs.Common.{ℕ, suc, ◌≡◌, ◌≢◌, ◌+◌, ◌-◌, ◌<◌, ◌≤◌, Bool, true, List, [], ◌∷◌, length, refl, sym, ap, ◌∙◌, ⊎_elim, subst, arith, slice_index_or}
+use Rattle.std.specs.Prelude.{All, Some, sum_by, take}
 use Rattle.regalloc2_flow.proofs.Soundness.{cases_within}
 use Rattle.std.proofs.lemmas.List.{get_or_default}
+use Rattle.std.proofs.lemmas.List.Elements.{All-contains}
 use Rattle.std.proofs.lemmas.List.Sums.{sum_by-cons}
 use Rattle.regalloc2_names.specs.declared.RegClass.{RegClass}
 use Rattle.regalloc2_names.specs.Register.{Register, VirtualRegister}
 use Rattle.regalloc2_names.specs.Place.{Place, NoPlace, InRegister, InSlot}
 use Rattle.regalloc2_function.specs.FunctionValue.{FunctionValue, InstValue, slot_size, inst_at}
 use Rattle.regalloc2_function.specs.Machine.{MachineValue, scratch_of}
-use Rattle.regalloc2_function.specs.OutputValue.{OutputValue, MoveValue, allocs_of, place_at}
+use Rattle.regalloc2_function.specs.OutputValue.{OutputValue, allocs_of, place_at}
 use Rattle.regalloc2_function.specs.Fitting.{MachineFits}
-use Rattle.regalloc2_function.specs.Slots.{OfVReg, class_of_owner, AreSlotsOwned}
-use Rattle.regalloc2_tables.specs.Tables.{SlotsValue, AreOwned, units_of}
+use Rattle.regalloc2_function.specs.Slots.{OfVReg, AreSlotsOwned}
+use Rattle.regalloc2_tables.specs.Tables.{AreOwned, slot_name, units_of}
 use Rattle.regalloc2_validate.specs.Constraints.{op_at}
 use Rattle.regalloc2_steps.specs.Steps.{Tables}
-use Rattle.regalloc2_steps.specs.Sound.{IsEndOfMove, IsEndOfPass, IsMoveOfValue, IsMoveOfPass}
-use Rattle.regalloc2_steps.specs.Laid.{OwnedSlot, AreLaid, IsNamed, IsEndOf, IsOfOneClass}
+use Rattle.regalloc2_steps.specs.Sound.{MayStand}
+use Rattle.regalloc2_steps.specs.Laid.{OwnedSlot, IsNamed, IsEndOf, IsOfOneClass}
 use Rattle.regalloc2_steps.proofs.Filled.{IsTame}
-use Rattle.regalloc2_steps.proofs.Finished.{IsMade, all_reverse, place_is}
+use Rattle.regalloc2_steps.proofs.Finished.{IsMade, all_reverse, made_in_order, place_is}
+use Rattle.regalloc2_steps.proofs.LaidSteps.{IsEndOrNone, KeepsToClass, IsOfMet, IsClassed}
 use Rattle.regalloc2_steps.proofs.Owning.{owner_known}
 use Rattle.regalloc2_steps.proofs.SlotOwners.{slots_owned}
 
@@ -26,30 +28,11 @@ use Rattle.regalloc2_steps.proofs.SlotOwners.{slots_owned}
 abbrev pub KeepsOfClass : MachineValue → Type 0
 KeepsOfClass env = (c : RegClass) (r : Register) → scratch_of env c ≡ Some r → r.class ≡ c
 
-module _ (env : MachineValue) (kept : KeepsOfClass env) (Known : VirtualRegister → Type 0) (Writes : ℕ → VirtualRegister → ℕ → Type 0) (s : SlotsValue) (made : List OwnedSlot) (h : AreLaid Known s made) where
-  value_end : (v : VirtualRegister) (p : Place) → Known v → IsEndOfMove env s v p → IsEndOf made v.class p
-  value_end v NoPlace known e = e
-  value_end v (InRegister r) known (inl a) = a.1
-  value_end v (InRegister r) known (inr own) = kept v.class r own
-  value_end v (InSlot n) known is = (record { owner = OfVReg v; name = n }, h.known v known n is, refl, refl)
-
-  -- a move of a vreg's value keeps to its class
-  pub value_keeps : (e : ℕ × MoveValue) → IsMoveOfValue env Known Writes s e → IsOfOneClass made e
-  value_keeps e m = (m.vreg.class, value_end m.vreg e.1.from m.known m.from, value_end m.vreg e.1.to m.known m.to)
-
-  -- the slots of a class, among those that were made
-  abbrev pub IsSlotOfClass : RegClass → ℕ → Type 0
-  IsSlotOfClass class n = (c : OwnedSlot) × Contains made c × (c.name ≡ n) × (class_of_owner c.owner ≡ class)
-
-  pass_end : (class : RegClass) (p : Place) → IsEndOfPass env s class p → ((n : ℕ) → p ≡ InSlot n → IsSlotOfClass class n) → IsEndOf made class p
-  pass_end class NoPlace e slots = e
-  pass_end class (InRegister r) (inl a) slots = a.1
-  pass_end class (InRegister r) (inr own) slots = kept class r own
-  pass_end class (InSlot n) e slots = slots n refl
-
-  -- and a move of a branch's arguments does where its slots are of its class
-  pub pass_keeps : (e : ℕ × MoveValue) → (m : IsMoveOfPass env Known Writes s e) → ((n : ℕ) → e.1.from ≡ InSlot n → IsSlotOfClass m.class n) → ((n : ℕ) → e.1.to ≡ InSlot n → IsSlotOfClass m.class n) → IsOfOneClass made e
-  pass_keeps e m from to = (m.class, pass_end m.class e.1.from m.from from, pass_end m.class e.1.to m.to to)
+-- an end that is a place
+whole_end : (made : List OwnedSlot) (class : RegClass) (p : Place) → p ≢ NoPlace → IsEndOrNone made class p → IsEndOf made class p
+whole_end made class NoPlace there h = there refl
+whole_end made class (InRegister r) there h = h
+whole_end made class (InSlot n) there h = h
 
 -- each place of an output is an operand's
 operand_of : (insts : List InstValue) (d : InstValue) (j : ℕ) → j < sum_by (λ i. length i.operands) insts
@@ -67,20 +50,36 @@ operand_of (x ∷ xs) d j lt = ⊎_elim
     (cases_within j (length x.operands))
 
 module _ (f : FunctionValue) (env : MachineValue) (Known : VirtualRegister → Type 0) (May : ℕ → Type 0) (t : Tables) (o : OutputValue) (m : IsMade f env Known May t o) (owned : AreOwned t.slots)
-    (tame : (i : ℕ) → i < length f.insts → IsTame Known (inst_at f i).operands) (made : List OwnedSlot) (h : AreLaid Known t.slots made) where
-  places_named : All (λ p. (n : ℕ) → p ≡ InSlot n → IsNamed made n) o.allocs
+    (tame : (i : ℕ) → i < length f.insts → IsTame Known (inst_at f i).operands) (named : Bool) (Met : ℕ → RegClass → Type 0) (h : IsClassed Known named Met t) where
+  -- the slot of a known vreg was made
+  known_named : (v : VirtualRegister) (n : ℕ) → Known v → slot_name t.slots v.number ≡ InSlot n → IsNamed h.made n
+  known_named v n known is = (record { owner = OfVReg v; name = n }, h.laid.known v known n is, refl)
+
+  places_named : All (λ p. (n : ℕ) → p ≡ InSlot n → IsNamed h.made n) o.allocs
   places_named j d lt n at =
       let r = operand_of f.insts _ j (let long = m.allocs_long in omega (arith, lt, long)) in
       let place : place_at (allocs_of o r.0) r.1 ≡ InSlot n = place_is f env Known May t o m r.0 r.2 r.1 r.3 ∙ ap (λ x. slice_index_or o.allocs x NoPlace) r.4 ∙ get_or_default o.allocs j NoPlace d lt ∙ at in
       let v : VirtualRegister = (op_at (inst_at f r.0).operands r.1).vreg in
       let k = owner_known f env Known May t o m owned tame v n (r.0, r.1, op_at (inst_at f r.0).operands r.1, r.2, r.3, ap (λ x. x.vreg) (get_or_default (inst_at f r.0).operands r.1 _ _ r.3), place) in
-      (record { owner = OfVReg v; name = n }, h.known v k.0 n k.1, refl)
+      known_named v n k.0 k.1
+
+  moves_keep : All (IsOfOneClass h.made) o.edits
+  moves_keep j d lt =
+      let e = subst (All (KeepsToClass h.made)) (sym m.edits) (all_reverse (KeepsToClass h.made) t.edits h.edits) j d lt in
+      let there = (made_in_order f env Known May t o m).moves_name_places j d lt in
+      (e.0, whole_end h.made e.0 _ there.0 e.1, whole_end h.made e.0 _ there.1 e.2)
+
+  -- a debug location in a slot is its virtual register's
+  locations_named : All (λ d. (n : ℕ) → d.place ≡ InSlot n → IsNamed h.made n) o.debug_locations
+  locations_named k d lt n at =
+      let l = m.debug k d lt in
+      known_named l.1.vreg n l.4.2 (subst (MayStand env t.slots l.1.vreg) at l.4.3)
 
   -- what is made of the walk's tables owns its slots
-  pub made_slots_owned : ((c : RegClass) → slot_size f.slot_sizes c ≡ units_of t.slots c) → f.named_by_last_slot ≡ t.slots.by_last → All (IsOfOneClass made) t.edits → AreSlotsOwned f o
-  made_slots_owned sizes by_last moves =
-      slots_owned Known f t.slots made h o m.count sizes by_last m.debug (λ i lt k d less n at. owner_known f env Known May t o m owned tame _ n (i, k, d, lt, less, refl, at)) places_named
-      (subst (All (IsOfOneClass made)) (sym m.edits) (all_reverse (IsOfOneClass made) t.edits moves))
+  pub made_slots_owned : ((c : RegClass) → slot_size f.slot_sizes c ≡ units_of t.slots c) → f.named_by_last_slot ≡ named → ((i : ℕ) (c : RegClass) → Met i c → (i < length f.insts) × ((inst_at f i).is_branch ≡ true)) → AreSlotsOwned f o
+  made_slots_owned sizes by_last branches =
+      slots_owned Known f t.slots h.made h.laid o m.count sizes (by_last ∙ sym h.by_last) (λ i lt k d less n at. owner_known f env Known May t o m owned tame _ n (i, k, d, lt, less, refl, at)) places_named moves_keep
+      locations_named (λ c there i class time e. branches i class (All-contains (IsOfMet Met) h.made c h.met there i class time e))
 
 -- a fitting machine keeps registers so
 pub fits_keeps : (f : FunctionValue) (env : MachineValue) → MachineFits f env → KeepsOfClass env

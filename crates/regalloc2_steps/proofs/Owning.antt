@@ -1,5 +1,5 @@
 -- Who owns the slots of an output.
-use Rattle.std.proofs.Common.{ℕ, ◌≡◌, ◌<◌, ⊎_elim, Bool, true, false, ◌&&◌, length, sym, ap, ◌∙◌, subst}
+use Rattle.std.proofs.Common.{ℕ, ◌≡◌, ◌<◌, ⊎_elim, Bool, true, false, ◌&&◌, length, ap, ◌∙◌, subst}
 use Rattle.std.proofs.lemmas.Bool.{cases_Bool}
 use Rattle.regalloc2_names.specs.declared.OperandConstraint.{OperandConstraint}
 use Rattle.regalloc2_names.specs.declared.OperandConstraint.TheVariants.{Any, Reg, Stack, FixedReg, Reuse, Limit}
@@ -10,7 +10,7 @@ use Rattle.regalloc2_function.specs.FunctionValue.{FunctionValue, inst_at}
 use Rattle.regalloc2_function.specs.Machine.{MachineValue}
 use Rattle.regalloc2_function.specs.OutputValue.{OutputValue, allocs_of, place_at}
 use Rattle.regalloc2_function.specs.SourceRun.{is_fixed, is_fixed_nonallocatable}
-use Rattle.regalloc2_function.specs.Slots.{StandsInSlot, SlotsHaveOwners}
+use Rattle.regalloc2_function.specs.Slots.{StandsInSlot}
 use Rattle.regalloc2_tables.specs.Tables.{SlotsValue, AreOwned, slot_name}
 use Rattle.regalloc2_validate.specs.Constraints.{op_at}
 use Rattle.regalloc2_steps.specs.Steps.{Tables}
@@ -35,9 +35,6 @@ own_slot env s o p n good is = ⊎_elim
     (λ (allocated : is_fixed_nonallocatable o ≡ false). (allocated, subst (MayStand env s o.vreg) is (good.place allocated)))
     (cases_Bool (is_fixed_nonallocatable o))
 
-same_slot : (m n : ℕ) → InSlot m ≡ InSlot n → m ≡ n
-same_slot m n e = cc
-
 module _ (f : FunctionValue) (env : MachineValue) (Known : VirtualRegister → Type 0) (May : ℕ → Type 0) (t : Tables) (o : OutputValue) (m : IsMade f env Known May t o) (owned : AreOwned t.slots) (tame : (i : ℕ) → i < length f.insts → IsTame Known (inst_at f i).operands) where
   -- who stands in a slot is known, and it is its own
   pub owner_known : (v : VirtualRegister) (n : ℕ) → StandsInSlot f o v n → Known v × (slot_name t.slots v.number ≡ InSlot n)
@@ -46,12 +43,3 @@ module _ (f : FunctionValue) (env : MachineValue) (Known : VirtualRegister → T
       let same : x.vreg ≡ v = ap (λ (y : OperandValue). y.vreg) (get_or_default (inst_at f i).operands k _ d less) ∙ names in
       let own = own_slot env t.slots x (place_at (allocs_of o i) k) n (operand_good f env Known May t o m i lt k less) is in
       subst (λ (w : VirtualRegister). Known w × (slot_name t.slots w.number ≡ InSlot n)) same ((tame i lt).known k less own.0, own.1)
-
-  pub made_owners : SlotsHaveOwners f o
-  made_owners = record {
-    one_owner = λ v w n a b.
-        let x = owner_known v n a in
-        let y = owner_known w n b in
-        (tame a.0 a.3).same v w x.0 y.0 (owned.own v.number w.number n x.1 y.1);
-    one_slot = λ v m n a b. same_slot m n (sym (owner_known v m a).1 ∙ (owner_known v n b).1);
-  }

@@ -20,7 +20,7 @@ use Rattle.regalloc2_steps.specs.Steps.{Tables, asked_by, use_placing, def_placi
 use Rattle.regalloc2_steps.proofs.Taking.{covers_at}
 use Rattle.regalloc2_steps.proofs.Laying.{Orderly, Turned, Waits, of_fixed, of_reuse, of_named, Ready, Laid}
 use Rattle.regalloc2_steps.proofs.Getting.{Due, owed, fresh, Got, gets_step, and_one, and_one_same, and_one_other, and_one_grows, and_one_keeps}
-use Rattle.regalloc2_steps.proofs.Turning.{use_step, def_step, made_one}
+use Rattle.regalloc2_steps.proofs.Turning.{use_step, def_step, made_one, makes_one}
 
 -- who had its turn
 pub turned_next : (ops : List OperandValue) (late : Bool) (k j : ℕ) → Turned ops late k j → Turned ops late (k + 1) j
@@ -74,7 +74,7 @@ asked_at (Reuse m) r e = absurd cc
 asked_at (Limit m) r e = absurd cc
 
 -- a use as it is placed
-use_number : (o : OperandValue) (q : Place) → (use_placing o q).vreg.number ≡ o.vreg.number
+pub use_number : (o : OperandValue) (q : Place) → (use_placing o q).vreg.number ≡ o.vreg.number
 use_number o NoPlace = refl
 use_number o (InRegister r) = refl
 use_number o (InSlot m) = refl
@@ -130,6 +130,7 @@ module _ (Known : VirtualRegister → Type 0) (insts : ℕ → InstValue) (place
       long = L.long;
       listed_here = L.listed_here;
       placed = L.placed;
+      written = L.written;
     }
 
     -- an operand has no place that counts
@@ -152,6 +153,7 @@ module _ (Known : VirtualRegister → Type 0) (insts : ℕ → InstValue) (place
           long = length-set list k q ∙ L.long;
           listed_here = λ j c ne. (let w = L.listed_here j c (λ e. ne (same j c ∙ e)) in (w.0, same j c ∙ w.1));
           placed = λ j d. (let c = L.ready.within j (L.ready.stands.placed.claims j d) in same j c ∙ L.placed j d);
+          written = L.written;
         }
       where
         waits_aside : (j : ℕ) → Counts ops j → (r : Register) → Waits ops list j r → Waits ops (slice_set list k q) j r
@@ -183,8 +185,9 @@ module _ (Known : VirtualRegister → Type 0) (insts : ℕ → InstValue) (place
           ((j : ℕ) → L.done j ≡ true → (j ≡ k → ⊥) → slice_index_or list2 j NoPlace ≡ there j) →
           ((j : ℕ) → claimed2 j ≡ true → L.done j ≡ false → (j ≡ k → ⊥) → (r : Register) × (there j ≡ InRegister r) × Waits ops list2 j r) →
           claimed2 k ≡ true →
+          ((p : Place) (x : ℕ) → L.X p x ≡ true → X2 p x ≡ true) → (is_def (op_at ops k).kind ≡ true → X2 (there k) (op_at ops k).vreg.number ≡ true) →
           Laid Known insts placesf i n E ops lived clob ret late (k + 1) list2 w m
-      laid_next there claimed2 out2 X2 list2 w m ready same keeps long at_k listed2 placed2 waiting2 ck = record {
+      laid_next there claimed2 out2 X2 list2 w m ready same keeps long at_k listed2 placed2 waiting2 ck grows2 made2 = record {
         here = there;
         claimed = claimed2;
         done = and_one L.done k;
@@ -213,13 +216,18 @@ module _ (Known : VirtualRegister → Type 0) (insts : ℕ → InstValue) (place
             | inr x ↦ placed2 j e x
           ]
         ];
+        written = λ j d def. elim (and_one_grows L.done k j d) [
+          | inl e ↦ subst (λ (x : ℕ). X2 (there x) (op_at ops x).vreg.number ≡ true) (sym e) (made2 (subst (λ (x : ℕ). is_def (op_at ops x).kind ≡ true) e def))
+          | inr e ↦ (ap (λ q. X2 q (op_at ops j).vreg.number) (same j (L.ready.stands.placed.claims j e)) ∙ grows2 (L.here j) (op_at ops j).vreg.number (L.written j e def))
+        ];
       }
 
       -- one place is set in the list
       pub laid_one : (p : Place) (v w : Turn) (mid m : Tables) (out2 : ℕ → Bool) (X2 : Place → ℕ → Bool) (g : Got Known insts placesf i n E ops L.here L.claimed L.done lived L.out clob L.X ret k p v mid) →
           Ready Known insts placesf i n E ops g.there g.claimed2 (and_one L.done k) lived out2 clob X2 ret w m →
+          ((q : Place) (x : ℕ) → L.X q x ≡ true → X2 q x ≡ true) → (is_def (op_at ops k).kind ≡ true → X2 (g.there k) (op_at ops k).vreg.number ≡ true) →
           Laid Known insts placesf i n E ops lived clob ret late (k + 1) (slice_set list k p) w m
-      laid_one p v w mid m out2 X2 g ready =
+      laid_one p v w mid m out2 X2 g ready grows2 made2 =
           let less : k < length list = omega (arith, lt, L.long) in
           let other : (j : ℕ) → (j ≡ k → ⊥) → slice_index_or (slice_set list k p) j NoPlace ≡ slice_index_or list j NoPlace = λ j ne. get_or-set_other list k j p NoPlace ne in
           let real : p ≢ NoPlace = λ e. ready.stands.placed.there k g.claims (g.at_k ∙ e) in
@@ -230,7 +238,7 @@ module _ (Known : VirtualRegister → Type 0) (insts : ℕ → InstValue) (place
             | inl e ↦ absurd (ne e)
             | inr e ↦ (let f = L.waiting j e d in (f.0, g.same j e ∙ f.1, waits_set ops list k j p f.0 less real ne f.2))
           ])
-          g.claims
+          g.claims grows2 made2
 
       -- a use
       use_wanted : (q : Place) → slice_index_or list k NoPlace ≡ q → Counts ops k → L.claimed k ≡ true → (r : Register) → L.here k ≡ InRegister r → (op_at ops k).constraint ≡ FixedReg r → (use_placing (op_at ops k) q).wanted ≡ At r
@@ -270,6 +278,7 @@ module _ (Known : VirtualRegister → Type 0) (insts : ℕ → InstValue) (place
           orderly.once fresh_turn phase_turn u w p t L.ready s.middle (use_due q refl counts is_use) s.gets in
           laid_one p w w s.middle m L.out L.X g
           (use_step Known insts placesf i n E ops L.here L.claimed L.done lived L.out clob L.X ret k orderly.once p w s.middle g (use_placing (op_at ops k) q).vreg (use_number (op_at ops k) q) is_use m s.uses)
+          (λ z x e. e) (λ e. absurd (let y : true ≡ false = sym e ∙ is_use in cc))
 
       -- a definition that is no reuse
       def_due : Counts ops k → is_def (op_at ops k).kind ≡ true → ((m : ℕ) → (op_at ops k).constraint ≡ Reuse m → ⊥) → Due L.here L.claimed k (asked_by (op_at ops k).constraint)
@@ -294,3 +303,4 @@ module _ (Known : VirtualRegister → Type 0) (insts : ℕ → InstValue) (place
           orderly.once fresh_turn phase_turn u s.turn p t L.ready s.middle (def_due counts def plain) s.gets in
           laid_one p s.turn w s.middle m (and_one L.out (op_at ops k).vreg.number) (made_one L.X (g.there k) (op_at ops k).vreg.number) g
           (def_step Known insts placesf i n E ops L.here L.claimed L.done lived L.out clob L.X ret k orderly.once p s.turn s.middle g w m def s.defines)
+          (makes_one ops g.there L.out L.X k).keeps (λ e. (makes_one ops g.there L.out L.X k).is_made)

@@ -33,7 +33,7 @@ use Rattle.regalloc2_steps.proofs.Laying.{Orderly, Waits, of_fixed, of_reuse, of
 use Rattle.regalloc2_steps.proofs.Readying.{crosses_less}
 use Rattle.regalloc2_steps.proofs.Gaining.{Grips, ready_claim}
 use Rattle.regalloc2_steps.proofs.Getting.{Due, owed, fresh, suits_at, Got, gets_step, set_at, set_at_same, set_at_other, puts_one, and_one, and_one_same, and_one_other, and_one_grows, and_one_keeps}
-use Rattle.regalloc2_steps.proofs.Turning.{def_step, made_one}
+use Rattle.regalloc2_steps.proofs.Turning.{def_step, made_one, makes_one}
 use Rattle.regalloc2_steps.proofs.Phasing.{waits_set, fresh_turn, phase_turn, laid_next}
 
 -- what is held stays held while a definition is sent
@@ -248,7 +248,7 @@ module _ (Known : VirtualRegister → Type 0) (insts : ℕ → InstValue) (place
             | inr e ↦ (let f = L.waiting j cj d in (f.0, got.same j cj ∙ f.1, waits_other j f.0 nk e f.2))
           ]
         ])
-        got.claims
+        got.claims (makes_one ops got.there L.out L.X k).keeps (λ e. (makes_one ops got.there L.out L.X k).is_made)
 
     -- the named use claims the register now
     module _ (any : (op_at ops q).constraint ≡ Reg) where
@@ -332,7 +332,8 @@ module _ (Known : VirtualRegister → Type 0) (insts : ℕ → InstValue) (place
               | inr cj ↦ (let f = L.waiting j cj d in (f.0, same3 j cj ∙ f.1, waits_other j f.0 nk e f.2))
             ]
           ])
-          (and_one_keeps got.claimed2 q k got.claims)
+          (and_one_keeps got.claimed2 q k got.claims) (makes_one ops got.there L.out L.X k).keeps
+          (λ e. ap (λ z. X2 z (op_at ops k).vreg.number) (set_at_other got.there q k p (λ h. apart (sym h))) ∙ (makes_one ops got.there L.out L.X k).is_made)
 
     pub laid_reuse : Laid Known insts placesf i n E ops lived clob ret late (k + 1) (slice_set (slice_set list k p) q p) w m
     laid_reuse = elim (orderly.named_as k q lt reuse) [ inl a ↦ laid_any a | inr a ↦ laid_fixed a.0 a.1 ]

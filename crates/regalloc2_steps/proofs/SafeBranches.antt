@@ -73,7 +73,7 @@ of_class_all P c [] h = λ k d lt. absurd (omega arith)
 of_class_all P c (g ∷ gs) h = perhaps_all P (is_class c g.class) (g.from, g.to, tt) (of_class c gs) (h 0 g (omega arith)) (of_class_all P c gs (λ k d lt. h (suc k) d (omega arith)))
 
 -- what holds of each move that is made holds of each that is pushed
-pushed_all : (P : ℕ × MoveValue → Type 0) (point : ℕ) (ms : Moves) → All (λ m. P (point, record { from = m.0; to = m.1 })) ms → All P (pushed point ms)
+pub pushed_all : (P : ℕ × MoveValue → Type 0) (point : ℕ) (ms : Moves) → All (λ m. P (point, record { from = m.0; to = m.1 })) ms → All P (pushed point ms)
 pushed_all P point [] h = λ k d lt. absurd (omega arith)
 pushed_all P point (m ∷ ms) h = All-push P (pushed point ms) (point, record { from = m.0; to = m.1 }) (pushed_all P point ms (λ k d lt. h (suc k) d (omega arith))) (h 0 m (omega arith))
 

@@ -37,7 +37,7 @@ pub record StartsAt (f : FunctionValue) (b i : ℕ) : Type 0 where
   pub block : b < length f.blocks → i ≡ (block_at f b).range.first
   pub end : b ≡ length f.blocks → i ≡ length f.insts
 
-start_next : (f : FunctionValue) → BlocksFollow f → (b : ℕ) → b < length f.blocks → StartsAt f (b + 1) (block_at f b).range.end
+pub start_next : (f : FunctionValue) → BlocksFollow f → (b : ℕ) → b < length f.blocks → StartsAt f (b + 1) (block_at f b).range.end
 start_next f follow b lt = record {
   block = λ next. (let less : b + 1 - 1 ≡ b = omega arith in sym ((follow (b + 1) next).2 (omega arith) ∙ ap (λ n. (block_at f n).range.end) less));
   end = λ e. (follow b lt).3 e;

@@ -8,7 +8,7 @@ use Rattle.regalloc2_names.specs.declared.RegClass.TheVariants.{Int}
 use Rattle.regalloc2_names.specs.Register.{VirtualRegister}
 use Rattle.regalloc2_names.specs.Place.{Place, NoPlace, InRegister, InSlot}
 use Rattle.regalloc2_function.specs.FunctionValue.{FunctionValue, slot_size, inst_at}
-use Rattle.regalloc2_function.specs.OutputValue.{OutputValue, allocs_of, place_at}
+use Rattle.regalloc2_function.specs.OutputValue.{OutputValue, DebugLocation, allocs_of, place_at}
 use Rattle.regalloc2_function.specs.WellFormed.{EachOperand}
 use Rattle.regalloc2_function.specs.Slots.{Owner, OfBranch, class_of_owner, units_of as units_of_owner, first_unit, IsSlotOf, IsOfClass, AreSlotsOwned}
 use Rattle.regalloc2_tables.specs.Tables.{SlotsValue, slot_name, units_of}
@@ -87,9 +87,10 @@ module _ (Known : VirtualRegister → Type 0) (f : FunctionValue) (s : SlotsValu
       by_order : i ≢ j → slice_index_or made j c ≡ x → AreTwo c x
       by_order d b2 = ⊎_elim (λ (l : i < j). (ordered i j l less c x c a b2).0) (λ (g : j < i). (ordered j i g lt x c c b2 a).1) (apart_or i j d)
 
-  module _ (out : OutputValue) (count : out.num_spillslots ≡ s.count) (sizes : (c : RegClass) → slot_size f.slot_sizes c ≡ units_of s c) (by_last : f.named_by_last_slot ≡ s.by_last) (debug : out.debug_locations ≡ [])
+  module _ (out : OutputValue) (count : out.num_spillslots ≡ s.count) (sizes : (c : RegClass) → slot_size f.slot_sizes c ≡ units_of s c) (by_last : f.named_by_last_slot ≡ s.by_last)
       (operands : (i : ℕ) → i < length f.insts → EachOperand (inst_at f i) (λ k o. (n : ℕ) → place_at (allocs_of out i) k ≡ InSlot n → Known o.vreg × (slot_name s o.vreg.number ≡ InSlot n)))
-      (allocs : All (λ p. (n : ℕ) → p ≡ InSlot n → IsNamed made n) out.allocs) (moves : All (IsOfOneClass made) out.edits) where
+      (allocs : All (λ p. (n : ℕ) → p ≡ InSlot n → IsNamed made n) out.allocs) (moves : All (IsOfOneClass made) out.edits) (shown : All (λ d. (n : ℕ) → d.place ≡ InSlot n → IsNamed made n) out.debug_locations)
+      (met : (c : OwnedSlot) → Contains made c → (i : ℕ) (class : RegClass) (time : ℕ) → c.owner ≡ OfBranch i class time → (i < length f.insts) × ((inst_at f i).is_branch ≡ true)) where
     -- an end of a move names a slot that was made
     end_named : (class : RegClass) (p : Place) (n : ℕ) → IsEndOf made class p → p ≡ InSlot n → IsNamed made n
     end_named class p n is at = (let x = subst (IsEndOf made class) at is in (x.0, x.1, x.2))
@@ -98,7 +99,7 @@ module _ (Known : VirtualRegister → Type 0) (f : FunctionValue) (s : SlotsValu
     named : (n : ℕ) → IsSlotOf f out n → IsNamed made n
     named n (inl (k, x, lt, at, is)) = allocs k x lt n (at ∙ is)
     named n (inr (inl (k, x, lt, at, is))) = (let m = subst (IsOfOneClass made) at (moves k x lt) in ⊎_elim (λ from. end_named m.0 _ n m.1 from) (λ to. end_named m.0 _ n m.2 to) is)
-    named n (inr (inr (k, x, lt, at, is))) = absurd (let none = ap length debug in omega (arith, none, lt))
+    named n (inr (inr (k, x, lt, at, is))) = shown k x lt n (subst (λ (d : DebugLocation). d.place ≡ InSlot n) (sym at) is)
 
     -- the owner's units, and the first of them, are those that were made
     first_is : (c : OwnedSlot) → first_unit f c.owner c.name ≡ start_of s.sizes s.by_last c
@@ -122,6 +123,9 @@ module _ (Known : VirtualRegister → Type 0) (f : FunctionValue) (s : SlotsValu
           let x = owner_is m (named m a) in
           let y = owner_is n (named n b) in
           ⊎_elim (λ (one : x.0 ≡ y.0). sym x.2 ∙ ap (λ (c : OwnedSlot). c.name) one ∙ y.2) (λ (two : AreTwo x.0 y.0). absurd (two.0 (sym x.3 ∙ e ∙ y.3))) (one_or_two x.0 y.0 x.1 y.1);
+      branches = λ n i class time a e.
+          let x = owner_is n (named n a) in
+          met x.0 x.1 i class time (sym x.3 ∙ e);
       operands = λ i lt k d less n at.
           let o = operands i lt k d less n at in
           owner_found _ (h.known _ o.0 n o.1);

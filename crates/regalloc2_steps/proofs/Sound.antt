@@ -187,16 +187,19 @@ same_code Vector Float e = absurd cc
 same_code Vector Vector e = refl
 
 -- the scratch registers with one more
+pub scratch_each : (P : RegClass → Register → Type 0) (class : RegClass) (by : Register) (old : List (Option Register)) → length old ≡ 3 → P class by → ((c : RegClass) (r : Register) → slice_index_or old (class_code c) None ≡ Some r → P c r)
+    → (c : RegClass) (r : Register) → slice_index_or (set old (class_code class) (Some by)) (class_code c) None ≡ Some r → P c r
+scratch_each P class by old three mine h c r here = elim (cases_eq (class_code c) (class_code class)) [
+  | inl a ↦ (let small = code_three class in
+      let x : Some by ≡ Some r = sym (get_or-set_same old (class_code class) (Some by) None (omega (arith, small, three))) ∙ ap (λ (i : ℕ). slice_index_or (set old (class_code class) (Some by)) i None) (sym a) ∙ here in
+      let same : by ≡ r = cc in subst (P c) same (subst (λ (d : RegClass). P d by) (sym (same_code c class a)) mine))
+  | inr d ↦ h c r (sym (get_or-set_other old (class_code class) (class_code c) (Some by) None d) ∙ here)
+]
+
 scratch_set : (env : MachineValue) (class : RegClass) (by : Register) (t u : Turn) → (is_allocatable env by.class by ≡ true) × (by.class ≡ class) → u.scratch ≡ set t.scratch (class_code class) (Some by) → IsSafeTurn env t → IsSafeTurn env u
 scratch_set env class by t u ok e h = record {
   three = ap length e ∙ length-set t.scratch (class_code class) (Some by) ∙ h.three;
-  scratch = λ c r is. let here : slice_index_or (set t.scratch (class_code class) (Some by)) (class_code c) None ≡ Some r = ap (λ (l : List (Option Register)). slice_index_or l (class_code c) None) (sym e) ∙ is in
-      elim (cases_eq (class_code c) (class_code class)) [
-        | inl a ↦ (let small = code_three class in
-            let x : Some by ≡ Some r = sym (get_or-set_same t.scratch (class_code class) (Some by) None (omega (arith, small, h.three))) ∙ ap (λ (i : ℕ). slice_index_or (set t.scratch (class_code class) (Some by)) i None) (sym a) ∙ here in
-            let same : by ≡ r = cc in subst (λ (q : Register). (is_allocatable env q.class q ≡ true) × (q.class ≡ c)) same (ok.0, ok.1 ∙ sym (same_code c class a)))
-        | inr d ↦ h.scratch c r (sym (get_or-set_other t.scratch (class_code class) (class_code c) (Some by) None d) ∙ here)
-      ];
+  scratch = λ c r is. scratch_each (λ d q. (is_allocatable env q.class q ≡ true) × (q.class ≡ d)) class by t.scratch h.three ok h.scratch c r (ap (λ (l : List (Option Register)). slice_index_or l (class_code c) None) (sym e) ∙ is);
 }
 
 two_more : {X : Type 0} (xs : List X) (x y : X) → (xs ++ x ∷ []) ++ y ∷ [] ≡ xs ++ x ∷ y ∷ []

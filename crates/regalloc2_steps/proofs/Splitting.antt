@@ -48,7 +48,7 @@ module _ (Known : VirtualRegister → Type 0) (f : FunctionValue)
     (orderly : (i : ℕ) → i < length f.insts → Orderly (inst_at f i).operands) (avoids : (i : ℕ) → i < length f.insts → AvoidClobbers (inst_at f i).operands (inst_at f i).clobbers)
     (knows : (i : ℕ) → i < length f.insts → Knows Known (inst_at f i).operands) (kept : BranchKept f) (follow : BlocksFollow f) (ends : BlocksEnd f) (placesf : ℕ → List Place) (final : Tables) where
   -- the places of later instructions are listed where they were before
-  listed_behind : (b j : ℕ) (p q : List Place) (s u : Tables) → j < length f.insts → AllocatesIn f b j p q s u → AreListed f placesf j q → AreListed f placesf (j + 1) p
+  pub listed_behind : (b j : ℕ) (p q : List Place) (s u : Tables) → j < length f.insts → AllocatesIn f b j p q s u → AreListed f placesf j q → AreListed f placesf (j + 1) p
   listed_behind b j p q s u lt a h k le less m within = h k (omega (arith, le)) less m within ∙ later_same f j p q s a.middle lt a.allocates k le less m
 
   module _ (b : ℕ) (lb : b < length f.blocks) (blank : List Place) (old : Tables) where

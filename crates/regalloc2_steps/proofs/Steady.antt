@@ -91,7 +91,7 @@ module _ (point : ℕ) where
   crosses_steady class from to t u old new (direct test eu en) w = subst (Steady old) (sym en) (steady_pushed old _ w)
   crosses_steady class from to t u old new (through by m test scratches en) w = steady_then old m new (scratches_steady class t u by old m scratches w) (λ z. subst (Steady m) (sym en) (steady_pushed m _ z))
 
-  clears_steady : (r : Register) (t u : Turn) (old new : Tables) → Clears point r t u old new → IsWhole old → Steady old new
+  pub clears_steady : (r : Register) (t u : Turn) (old new : Tables) → Clears point r t u old new → IsWhole old → Steady old new
   clears_steady r t u old new (empty none eu en) w = steady_same old new en w
   clears_steady r t u old new (cleared v s m small held gives settles edits machine crosses) w =
       steady_then old m new (steady_settled old m v s gives settles machine w) (crosses_steady v.class s (InRegister r) t u m new crosses)

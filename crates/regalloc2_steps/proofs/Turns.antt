@@ -76,6 +76,7 @@ module _ (Known : VirtualRegister → Type 0) (insts : ℕ → InstValue) (place
     long = L.long;
     listed_here = L.listed_here;
     placed = L.placed;
+    written = L.written;
   }
 
   -- both passes

@@ -52,11 +52,12 @@ pub record AreLaid (Known : VirtualRegister → Type 0) (s : SlotsValue) (made :
   pub known : (v : VirtualRegister) → Known v → (k : ℕ) → slot_name s v.number ≡ InSlot k → Contains made (record { owner = OfVReg v; name = k })
   pub own : All (IsOwn s) made
 
--- the slots once some more were made
-pub record Lays (Known : VirtualRegister → Type 0) (s : SlotsValue) (before_it : List OwnedSlot) : Type 0 where
+-- the slots once some more were made, of all of which something holds
+pub record Lays (Known : VirtualRegister → Type 0) (Holds : OwnedSlot → Type 0) (s : SlotsValue) (before_it : List OwnedSlot) : Type 0 where
   pub made : List OwnedSlot
   pub laid : AreLaid Known s made
   pub kept : (c : OwnedSlot) → Contains before_it c → Contains made c
+  pub all : All Holds made
 
 -- a name is that of a slot that was made
 abbrev pub IsNamed : List OwnedSlot → ℕ → Type 0

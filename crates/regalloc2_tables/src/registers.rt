@@ -6,7 +6,7 @@ ghost use Rattle.regalloc2_function.specs.Machine.{is_allocatable};
 ghost use Rattle.regalloc2_function.specs.Views.{machine_of};
 ghost use Rattle.regalloc2_names.specs.Register.{Register, class_code, is_register};
 ghost use Rattle.regalloc2_names.specs.RegisterSet.{has_register};
-ghost use Rattle.regalloc2_tables.specs.Tables.{IsFoundIn, NoneIsFoundIn, NoneIsFrom, AreThoseBelow, SameRegisters, ring_of, spare_for};
+ghost use Rattle.regalloc2_tables.specs.Tables.{IsFoundIn, NoneIsFoundIn, NoneIsFrom, AreRings, AreThoseBelow, SameRegisters, ring_of, spare_for};
 
 use regalloc2_function::MachineEnv;
 use regalloc2_names::{PReg, PRegSet, RegAllocError, RegClass};
@@ -93,6 +93,7 @@ impl<A: Allocator + Copy> Registers<A> {
         ensures dedicated { IfOk result (λ t. t.dedicated ≡ (machine_of env.now).scratch) }
         ensures small { IfOk result (λ t. (r : Register) → (has_register t.allocatable r ≡ true) ⊎ (has_register t.fixed_stack r ≡ true) → r.number < 64) }
         ensures err { IfErr result (λ e. e ≡ RegAllocError.Memory) }
+        ensures rings { IfOk result (λ t. AreRings t.allocatable t.rings) }
     {
         let int = allocatable_of(env, RegClass::Int);
         let float = allocatable_of(env, RegClass::Float);

@@ -56,7 +56,10 @@ impl<'a, 't> Cursor<'a, 't> {
 
     /// Whether the next token begins so.
     pub(crate) fn begins(&self, start: &str) -> bool {
-        self.peek().is_some_and(|text| text.starts_with(start))
+        match self.peek() {
+            Some(text) => text.starts_with(start),
+            None => false,
+        }
     }
 
     /// The token before the next one, where there is one.

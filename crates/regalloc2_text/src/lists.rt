@@ -37,9 +37,9 @@ impl JsonText for bool {
 impl JsonText for InstOpcode {
     fn write_json<W: fmt::Write>(&self, to: &mut W) -> fmt::Result {
         match self {
-            InstOpcode::Op => write!(to, "\"Op\""),
-            InstOpcode::Ret => write!(to, "\"Ret\""),
-            InstOpcode::Branch => write!(to, "\"Branch\""),
+            InstOpcode::Op => to.write_str("\"Op\""),
+            InstOpcode::Ret => to.write_str("\"Ret\""),
+            InstOpcode::Branch => to.write_str("\"Branch\""),
         }
     }
 }
@@ -48,7 +48,7 @@ impl<T: JsonText> JsonText for Option<T> {
     fn write_json<W: fmt::Write>(&self, to: &mut W) -> fmt::Result {
         match self {
             Some(value) => value.write_json(to),
-            None => write!(to, "null"),
+            None => to.write_str("null"),
         }
     }
 }
@@ -76,13 +76,13 @@ impl JsonText for (u32, u32, u32, u32) {
 
 impl<T: JsonText, A: Allocator> JsonText for Vec<T, A> {
     fn write_json<W: fmt::Write>(&self, to: &mut W) -> fmt::Result {
-        write!(to, "[")?;
+        to.write_str("[")?;
         for (k, item) in self.as_slice().iter().enumerate() {
             if k > 0 {
-                write!(to, ", ")?;
+                to.write_str(", ")?;
             }
             item.write_json(to)?;
         }
-        write!(to, "]")
+        to.write_str("]")
     }
 }

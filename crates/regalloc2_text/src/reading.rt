@@ -1,6 +1,6 @@
 //! A function, its machine and an output from a text.
 
-ghost use Rattle.std.specs.Prelude.{ℕ, ◌+◌, ◌<◌, ◌≤◌, length, IfErr, IfSome};
+ghost use Rattle.std.specs.Prelude.{ℕ, ◌+◌, ◌<◌, ◌≤◌, length, IfErr, IfOk, IfSome};
 ghost use Rattle.regalloc2_text.specs.Lines.{IsOnLineBetween};
 
 mod blocks;
@@ -69,19 +69,17 @@ fn no_inst_after<'t>(line: usize) -> TextError<'t>
     Flaw::new(1, expected, Found::Nothing).on_line(line)
 }
 
-/// What a text says, whose first line has the number `first_line`.
-///
-/// The first line that can't be read is named in the error, or `Memory` is answered where a growth was refused.
-/// A fault stands on a line of the text and names a column from 1 on; the contract bounds its line by the text's length
-/// in bytes. Whether the function and the output are well formed is not looked at, nor does the contract say what is read.
-pub fn read<'t, A: Allocator + Copy>(
+/// Reads the lines of a text, whose first line has the number `first_line`, into a draft. Answers the number of the last.
+fn read_lines<'t, A: Allocator + Copy>(
+    draft: &mut Draft<A>,
     alloc: A,
     text: &'t str,
     first_line: usize,
-) -> Result<Text<A>, TextError<'t>>
-    ensures { IfErr result (λ e. IsOnLineBetween first_line (first_line + length text.now) e) }
+) -> Result<usize, TextError<'t>>
+    ensures on_line { IfErr result (λ e. IsOnLineBetween first_line (first_line + length text.now) e) }
+    ensures from { IfOk result (λ line. first_line ≤ line) }
+    ensures until { IfOk result (λ line. line ≤ first_line + length text.now) }
 {
-    let mut draft = Draft::new(alloc);
     let mut tokens = Vec::new(alloc);
     let mut rest = text;
     let mut line = first_line;
@@ -109,9 +107,28 @@ pub fn read<'t, A: Allocator + Copy>(
     if waits {
         return Err(no_inst_after(move_line));
     }
-    let text = match draft.finish(alloc) {
-        Ok(text) => text,
-        Err(flaw) => return Err(flaw.on_line(line)),
+    Ok(line)
+}
+
+/// What a text says, whose first line has the number `first_line`.
+///
+/// The first line that can't be read is named in the error, or `Memory` is answered where a growth was refused.
+/// A fault stands on a line of the text and names a column from 1 on; the contract bounds its line by the text's length
+/// in bytes. Whether the function and the output are well formed is not looked at, nor does the contract say what is read.
+pub fn read<'t, A: Allocator + Copy>(
+    alloc: A,
+    text: &'t str,
+    first_line: usize,
+) -> Result<Text<A>, TextError<'t>>
+    ensures { IfErr result (λ e. IsOnLineBetween first_line (first_line + length text.now) e) }
+{
+    let mut draft = Draft::new(alloc);
+    let line = match read_lines(&mut draft, alloc, text, first_line) {
+        Ok(line) => line,
+        Err(error) => return Err(error),
     };
-    Ok(text)
+    match draft.finish(alloc) {
+        Ok(text) => Ok(text),
+        Err(flaw) => Err(flaw.on_line(line)),
+    }
 }

@@ -1,2 +1,3 @@
 pub mod Reserving
 pub mod States
+pub mod Uncrowded

@@ -1,14 +1,15 @@
 //! The beginning of a block: what is read from there on comes in spill slots.
 
-ghost use Rattle.std.specs.Prelude.{ℕ, ◌≡◌, ◌<◌, All, length, None, OnOk, IfErr};
+ghost use Rattle.std.specs.Prelude.{ℕ, ◌≡◌, ◌<◌, [], All, length, None, OnOk, IfErr};
 ghost use Rattle.regalloc2_names.specs.Point.{before};
+ghost use Rattle.regalloc2_names.specs.Place.{NoPlace};
 ghost use Rattle.regalloc2_names.specs.Register.{Register};
 ghost use Rattle.regalloc2_steps.specs.Blocks.{BeginsBlock, BeginsParameter, BeginsParameters, Empties};
 ghost use Rattle.regalloc2_tables.specs.Lack.{IsLack};
 ghost use Rattle.regalloc2_steps.specs.Steps.{SameMachine};
 ghost use Rattle.regalloc2_steps.specs.Stops.{OnlyWhere, StopsBegin, StopsEmpties, StopsParameter, StopsParameters};
 ghost use Rattle.regalloc2_walk.specs.States.{tables_of};
-ghost use Rattle.regalloc2_tables.specs.Tables.{NoneBefore, holder};
+ghost use Rattle.regalloc2_tables.specs.Tables.{NoneBefore, holder, stood};
 
 use super::insts::differ;
 use super::state::State;
@@ -85,6 +86,7 @@ impl<'a, A: Allocator> State<'a, A> {
         ensures machine { SameMachine (tables_of self.old) (tables_of self.new) }
         ensures err { IfErr result (IsLack self.new.slots) }
         ensures stops { IfErr result (OnlyWhere (StopsEmpties point turn.old (tables_of self.old))) }
+        ensures nobody { OnOk result (((n : ℕ) → stood self.old.places n ≡ NoPlace) → tables_of self.new ≡ tables_of self.old) }
     {
         self.places.list_filled(order)?;
         while let Some(arrival) = order.pop() {
@@ -112,6 +114,7 @@ impl<'a, A: Allocator> State<'a, A> {
         ensures machine { SameMachine (tables_of self.old) (tables_of self.new) }
         ensures err { IfErr result (IsLack self.new.slots) }
         ensures stops { IfErr result (OnlyWhere (StopsBegin (before first) params.now (tables_of self.old))) }
+        ensures nobody { OnOk result (((n : ℕ) → stood self.old.places n ≡ NoPlace) → params.now ≡ [] → tables_of self.new ≡ tables_of self.old) }
     {
         let mut turn = Turn::new(self.registers.every());
         let point = ProgPoint::before(first);

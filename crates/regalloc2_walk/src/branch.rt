@@ -1,5 +1,6 @@
 //! The moves of a branch: each argument goes to the slots of the parameters that it is given for.
 
+ghost use Rattle.regalloc2_flow.specs.Blocks.{HasEdge, target_at};
 ghost use Rattle.std.specs.Prelude.{ℕ, List, ◌≡◌, ◌↔◌, ◌≢◌, ◌<◌, ◌≤◌, ◌+◌, ◌++◌, ◌∷◌, ◌⊎◌, [], None, Some, length, IsTrue, IfOk, IfSome, IfErr, OnOk, OnErr, slice_index_or};
 ghost use Rattle.regalloc2_names.specs.Place.{Place, NoPlace, InRegister};
 ghost use Rattle.regalloc2_names.specs.Point.{before};
@@ -172,6 +173,8 @@ impl<'a, A: Allocator> State<'a, A> {
         ensures unchanged { OnErr result (tables_of self.new ≡ tables_of self.old) }
         ensures err { IfErr result (LacksOnly (AreFullWith self.old.slots (self.old.slots.lent + 2))) }
         ensures stops { IfErr result (OnlyWhere (StopsOrder class moves.entry (tables_of self.old))) }
+        ensures registers { OnOk result (self.new.registers ≡ self.old.registers) }
+        ensures none { IfOk result (λ made. moves.entry ≡ [] → (made.items ≡ []) × (tables_of self.new ≡ tables_of self.old)) }
     {
         let resolved = resolve(moves)?;
         if are_none(&resolved) {
@@ -208,6 +211,8 @@ impl<'a, A: Allocator> State<'a, A> {
         ensures machine { LendsAtMost 2 (tables_of self.old) (tables_of self.new) }
         ensures err { IfErr result (LacksOnly (AreFullWith self.old.slots (self.old.slots.lent + 2))) }
         ensures stops { IfErr result (OnlyWhere (StopsOrder class moves.entry (tables_of self.old))) }
+        ensures registers { OnOk result (self.new.registers ≡ self.old.registers) }
+        ensures none { OnOk result (moves.entry ≡ [] → tables_of self.new ≡ tables_of self.old) }
     {
         let made = self.order(turn, class, moves)?;
         self.edits.push_all(point, made.as_slice())?;
@@ -231,6 +236,7 @@ impl<'a, A: Allocator> State<'a, A> {
         ensures machine { SameMachine (tables_of self.old) (tables_of self.new) }
         ensures err { IfErr result (IsLack self.new.slots) }
         ensures stops { IfErr result (OnlyWhere (StopsSettle argument turn.old (tables_of self.old))) }
+        ensures registers { OnOk result (self.new.registers ≡ self.old.registers) }
     {
         let slot = self.slots.slot_of(argument)?;
         if let Some(preg) = self.places.place_of(argument).as_reg() {
@@ -261,6 +267,7 @@ impl<'a, A: Allocator> State<'a, A> {
         ensures machine { SameMachine (tables_of self.old) (tables_of self.new) }
         ensures err { IfErr result (IsLack self.new.slots) }
         ensures stops { IfErr result (OnlyWhere ((given : List ClassMove) → AreOf moves.old.int moves.old.float moves.old.vector given → StopsEdge point params.now arguments.now turn.old (tables_of self.old) given)) }
+        ensures registers { OnOk result (self.new.registers ≡ self.old.registers) }
     {
         for j in 0..params.len() {
             let to = self.slots.slot_of(params[j])?;
@@ -293,6 +300,7 @@ impl<'a, A: Allocator> State<'a, A> {
         ensures machine { SameMachine (tables_of self.old) (tables_of self.new) }
         ensures err { IfErr result (IsLack self.new.slots) }
         ensures stops { IfErr result (OnlyWhere (StopsGather (F.function f.now) block (before inst) turn.old (tables_of self.old))) }
+        ensures registers { OnOk result (self.new.registers ≡ self.old.registers) }
     {
         let point = ProgPoint::before(inst);
         let succs = f.block_succs(block);
@@ -322,6 +330,8 @@ impl<'a, A: Allocator> State<'a, A> {
         ensures machine { LendsAtMost 6 (tables_of self.old) (tables_of self.new) }
         ensures err { IfErr result (LacksOnly (AreFullWith self.old.slots (self.old.slots.lent + 6))) }
         ensures stops { IfErr result (OnlyWhere (StopsOrder RegClass.Int moves.entry.int (tables_of self.old) ⊎ (StopsOrder RegClass.Float moves.entry.float (tables_of self.old) ⊎ StopsOrder RegClass.Vector moves.entry.vector (tables_of self.old)))) }
+        ensures registers { OnOk result (self.new.registers ≡ self.old.registers) }
+        ensures none { OnOk result (moves.entry.int ≡ [] → moves.entry.float ≡ [] → moves.entry.vector ≡ [] → tables_of self.new ≡ tables_of self.old) }
     {
         let Gathered { int, float, vector } = moves;
         self.push_moves(turn, point, RegClass::Int, int)?;
@@ -360,6 +370,8 @@ impl<'a, A: Allocator> State<'a, A> {
         ensures machine { LendsAtMost 6 (tables_of self.old) (tables_of self.new) }
         ensures err { IfErr result (LacksOnly (AreFullWith self.old.slots (self.old.slots.lent + 6))) }
         ensures stops { IfErr result (OnlyWhere (StopsPass (F.function f.now) block inst turn.old (tables_of self.old))) }
+        ensures registers { OnOk result (self.new.registers ≡ self.old.registers) }
+        ensures none { OnOk result (((k : ℕ) → HasEdge (F.function f.now) block k → (block_at (F.function f.now) (target_at (F.function f.now) block k)).params ≡ []) → tables_of self.new ≡ tables_of self.old) }
     {
         let moves = self.gather(turn, alloc, f, block, inst)?;
         self.have_owners();

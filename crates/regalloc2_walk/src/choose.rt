@@ -1,11 +1,15 @@
 //! The place of an operand.
 
+ghost use Rattle.std.specs.Prelude.{Some, true, find, reverse};
+ghost use Rattle.regalloc2_names.specs.RegisterSet.{has_register};
+ghost use Rattle.regalloc2_names.specs.declared.sets.PRegSet.{PRegSet};
+ghost use Rattle.regalloc2_walk.specs.Uncrowded.{Chooses, Takes, Touches};
 ghost use Rattle.std.specs.Prelude.{◌≡◌, ◌≢◌, ◌<◌, ◌≤◌, ◌↔◌, ◌⊎◌, ◌&&◌, ℕ, length, not, None, OnOk, IfOk, IfErr, IfNone, IfSome, IsTrue};
 ghost use Rattle.regalloc2_names.specs.Register.{Register};
 ghost use Rattle.regalloc2_names.specs.Place.{NoPlace, InRegister, is_place};
-ghost use Rattle.regalloc2_tables.specs.Tables.{NoneBefore, holder, stood};
+ghost use Rattle.regalloc2_tables.specs.Tables.{IsInverse, NoneBefore, holder, ring_of, stood};
 ghost use Rattle.regalloc2_tables.specs.Lack.{IsLack};
-ghost use Rattle.regalloc2_tables.specs.Turns.{IsFreeAt, SameSets, free_count};
+ghost use Rattle.regalloc2_tables.specs.Turns.{IsFreeAt, SameSets, free_count, is_free_throughout};
 ghost use Rattle.regalloc2_steps.specs.Steps.{awaited_less, is_another, spare_left, Defines, Gets, IsAffordable, MayHold, Occupies, Picks, PlacesDef, PlacesUse, SameMachine, Sends, Suits, Uses};
 ghost use Rattle.regalloc2_steps.specs.Stops.{NoneIsFree, OnlyWhere, StopsClear, StopsDef, StopsDefine, StopsGet, StopsPick, StopsSend};
 ghost use Rattle.regalloc2_walk.specs.States.{tables_of};
@@ -95,7 +99,8 @@ impl<'a, A: Allocator> State<'a, A> {
 
     /// Whether an operand that may stand anywhere may hold the place.
     fn is_affordable(&self, turn: &Turn, wanted: Wanted, place: Allocation) -> bool
-        ensures { IsTrue result → wanted ≡ Wanted.Anywhere → (r : Register) → place ≡ InRegister r → IsAffordable turn.now (tables_of self.now) r }
+        ensures affordable { IsTrue result → wanted ≡ Wanted.Anywhere → (r : Register) → place ≡ InRegister r → IsAffordable turn.now (tables_of self.now) r }
+        ensures others { wanted ≡ Wanted.AnyRegister → IsTrue result }
     {
         match (wanted, place.as_reg()) {
             (Wanted::Anywhere, Some(preg)) => {
@@ -111,6 +116,8 @@ impl<'a, A: Allocator> State<'a, A> {
         requires { placing.now.vreg.number < length self.now.places.stands }
         ensures suits { IfSome result (λ p. (stood self.now.places placing.now.vreg.number ≡ p) × Suits (tables_of self.now) placing.now.wanted p) }
         ensures affordable { IfSome result (λ p. placing.now.wanted ≡ Wanted.Anywhere → (r : Register) → p ≡ InRegister r → IsAffordable turn.now (tables_of self.now) r) }
+        ensures none { IfNone result (placing.now.wanted ≡ Wanted.AnyRegister → Suits (tables_of self.now) Wanted.AnyRegister (stood self.now.places placing.now.vreg.number) → ⊥) }
+        ensures inverse { IsInverse self.now.places }
     {
         let stands = self.places.place_of(placing.vreg);
         if stands.is_none() || !self.meets(placing.wanted, stands) {
@@ -144,6 +151,7 @@ impl<'a, A: Allocator> State<'a, A> {
         ensures free { IfSome result (λ r. IsFreeAt turn.now placing.now.positions r) }
         ensures affordable { IfSome result (λ r. placing.now.wanted ≡ Wanted.Anywhere → IsAffordable turn.now (tables_of self.now) r) }
         ensures none { IfNone result (placing.now.wanted ≡ Wanted.AnyRegister → NoneIsFree placing.now.vreg.class turn.now (tables_of self.now)) }
+        ensures oldest { IfSome result (λ r. (free : PRegSet) × ((q : Register) → is_free_throughout turn.now q ≡ true → has_register free q ≡ true) × (find (has_register free) (reverse (ring_of self.now.registers placing.now.vreg.class)) ≡ Some r)) }
     {
         let free = turn.free_at(placing.positions);
         let preg = self.registers.oldest(placing.vreg.class(), free)?;
@@ -166,6 +174,8 @@ impl<'a, A: Allocator> State<'a, A> {
         ensures machine { SameMachine (tables_of self.old) (tables_of self.new) }
         ensures err { IfErr result (IsLack self.new.slots) }
         ensures stops { IfErr result (OnlyWhere (StopsPick placing.now turn.now (tables_of self.old))) }
+        ensures registers { OnOk result (self.new.registers ≡ self.old.registers) }
+        ensures chooses { IfOk result (λ p. placing.now.wanted ≡ Wanted.AnyRegister → (Suits (tables_of self.old) Wanted.AnyRegister (stood self.old.places placing.now.vreg.number) → ⊥) → Chooses turn.now placing.now.vreg self.old.registers (tables_of self.old) p) }
     {
         if let Wanted::At(preg) = placing.wanted {
             return Ok(Allocation::reg(preg));
@@ -192,6 +202,9 @@ impl<'a, A: Allocator> State<'a, A> {
         ensures machine { SameMachine (tables_of self.old) (tables_of self.new) }
         ensures err { IfErr result (IsLack self.new.slots) }
         ensures stops { IfErr result (OnlyWhere (StopsPick placing.now turn.now (tables_of self.old))) }
+        ensures registers { OnOk result (self.new.registers ≡ self.old.registers) }
+        ensures chooses { IfOk result (λ p. placing.now.wanted ≡ Wanted.AnyRegister → Chooses turn.now placing.now.vreg self.old.registers (tables_of self.old) p) }
+        ensures inverse { IsInverse self.old.places }
     {
         if let Some(stands) = self.kept(turn, placing) {
             return Ok(stands);
@@ -203,6 +216,7 @@ impl<'a, A: Allocator> State<'a, A> {
     /// An allocatable register counts as used just now if it wasn't asked for by name.
     fn note_taken(&mut self, wanted: Wanted, preg: PReg)
         ensures tables { tables_of self.new ≡ tables_of self.old }
+        ensures order { wanted ≡ Wanted.AnyRegister → Touches preg self.old.registers self.new.registers }
     {
         if !self.registers.is_allocatable(preg) {
             return;
@@ -230,6 +244,7 @@ impl<'a, A: Allocator> State<'a, A> {
         ensures machine { SameMachine (tables_of self.old) (tables_of self.new) }
         ensures err { IfErr result (IsLack self.new.slots) }
         ensures stops { IfErr result (OnlyWhere (StopsClear preg turn.old (tables_of self.old))) }
+        ensures order { OnOk result (placing.now.wanted ≡ Wanted.AnyRegister → Touches preg self.old.registers self.new.registers) }
     {
         self.evict_others(turn, point, preg, placing.vreg)?;
         turn.hold(preg, placing.positions);
@@ -256,6 +271,7 @@ impl<'a, A: Allocator> State<'a, A> {
         ensures machine { SameMachine (tables_of self.old) (tables_of self.new) }
         ensures err { IfErr result (IsLack self.new.slots) }
         ensures stops { IfErr result (OnlyWhere ((r : Register) × (place ≡ InRegister r) × StopsClear r turn.old (tables_of self.old))) }
+        ensures order { OnOk result (placing.now.wanted ≡ Wanted.AnyRegister → (r : Register) → place ≡ InRegister r → Touches r self.old.registers self.new.registers) }
     {
         let Some(preg) = place.as_reg() else {
             return Ok(());
@@ -282,6 +298,7 @@ impl<'a, A: Allocator> State<'a, A> {
         ensures machine { SameMachine (tables_of self.old) (tables_of self.new) }
         ensures err { IfErr result (IsLack self.new.slots) }
         ensures stops { IfErr result (OnlyWhere (StopsGet placing.now turn.old (tables_of self.old))) }
+        ensures takes { IfOk result (λ p. placing.now.wanted ≡ Wanted.AnyRegister → Takes turn.old placing.now.vreg p (tables_of self.old) self.old.registers self.new.registers) }
     {
         let place = self.picked(turn, placing)?;
         self.occupy(turn, point, placing, place)?;
@@ -308,6 +325,7 @@ impl<'a, A: Allocator> State<'a, A> {
         ensures machine { SameMachine (tables_of self.old) (tables_of self.new) }
         ensures err { IfErr result (IsLack self.new.slots) }
         ensures stops { IfErr result (OnlyWhere (StopsSend class is_made from to turn.old (tables_of self.old))) }
+        ensures registers { OnOk result (self.new.registers ≡ self.old.registers) }
     {
         if !is_made {
             return Ok(());
@@ -336,6 +354,7 @@ impl<'a, A: Allocator> State<'a, A> {
         ensures machine { SameMachine (tables_of self.old) (tables_of self.new) }
         ensures err { IfErr result (IsLack self.new.slots) }
         ensures stops { IfErr result (OnlyWhere (StopsDefine point vreg is_ret place turn.old (tables_of self.old))) }
+        ensures registers { OnOk result (self.new.registers ≡ self.old.registers) }
     {
         let class = vreg.class();
         let awaited = self.places.place_of(vreg);
@@ -366,6 +385,7 @@ impl<'a, A: Allocator> State<'a, A> {
         ensures machine { SameMachine (tables_of self.old) (tables_of self.new) }
         ensures err { IfErr result (IsLack self.new.slots) }
         ensures stops { IfErr result (OnlyWhere (StopsDef point placing.now is_ret turn.old (tables_of self.old))) }
+        ensures takes { IfOk result (λ p. placing.now.wanted ≡ Wanted.AnyRegister → Takes turn.old placing.now.vreg p (tables_of self.old) self.old.registers self.new.registers) }
     {
         let place = self.place(turn, point, placing)?;
         self.leave(turn, point, placing.vreg, is_ret, place)?;
@@ -387,6 +407,7 @@ impl<'a, A: Allocator> State<'a, A> {
         ensures machine { SameMachine (tables_of self.old) (tables_of self.new) }
         ensures err { IfErr result (IsLack self.new.slots) }
         ensures stops { IfErr result (OnlyWhere (StopsGet placing.now turn.old (tables_of self.old))) }
+        ensures takes { IfOk result (λ p. placing.now.wanted ≡ Wanted.AnyRegister → Takes turn.old placing.now.vreg p (tables_of self.old) self.old.registers self.new.registers) }
     {
         let place = self.place(turn, point, placing)?;
         if self.places.place_of(placing.vreg).is_some() {

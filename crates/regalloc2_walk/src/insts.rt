@@ -1,5 +1,9 @@
 //! The operands of one instruction, of every kind but `Limit`.
 
+ghost use Rattle.std.specs.Prelude.{Bool, IfOk};
+ghost use Rattle.regalloc2_names.specs.RegisterSet.{has_register};
+ghost use Rattle.regalloc2_names.specs.Register.{Register, VirtualRegister};
+ghost use Rattle.regalloc2_walk.specs.Uncrowded.{AreFew, ArePlaced, ArePlain, IsUncrowded, LeavesUncrowded, Takes};
 ghost use Rattle.std.specs.Prelude.{◌≡◌, ◌<◌, ◌≤◌, ◌+◌, ◌↔◌, [], length, not, false, slice_set, slice_index, slice_index_or, ℕ, OnOk, IfErr, IfSome, IsNone, IsTrue, List};
 ghost use Rattle.regalloc2_names.specs.Point.{before, after};
 ghost use Rattle.regalloc2_names.specs.Place.{Place, NoPlace, is_place};
@@ -160,6 +164,7 @@ impl<'a, A: Allocator> State<'a, A> {
         ensures machine { SameMachine (tables_of self.old) (tables_of self.new) }
         ensures err { IfErr result (IsLack self.new.slots) }
         ensures stops { IfErr result (OnlyWhere (StopsOne inst is_ret operands.now k here.old turn.old (tables_of self.old))) }
+        ensures takes { OnOk result ((op_at operands.now k).constraint ≡ OperandConstraint.Reg → slice_index_or here.old k NoPlace ≡ NoPlace → Takes turn.old (op_at operands.now k).vreg (slice_index_or here.new k NoPlace) (tables_of self.old) self.old.registers self.new.registers) }
     {
         let operand = operands[k];
         let point = ProgPoint::after(inst);
@@ -203,6 +208,8 @@ impl<'a, A: Allocator> State<'a, A> {
         ensures machine { SameMachine (tables_of self.old) (tables_of self.new) }
         ensures err { IfErr result (IsLack self.new.slots) }
         ensures stops { IfErr result (OnlyWhere (StopsAt inst is_ret (is_late pos) operands.now here.old turn.old (tables_of self.old))) }
+        ensures uncrowded { OnOk result ((names : List VirtualRegister) (gone : ℕ → Bool) → AreFew names self.old.registers.allocatable → ArePlain names gone operands.now (is_late pos) → ((j : ℕ) → is_late (op_at operands.now j).position ≡ is_late pos → slice_index_or here.old j NoPlace ≡ NoPlace) → IsUncrowded names gone self.old.registers (tables_of self.old) turn.old
+            → ArePlaced names gone operands.now (is_late pos) (length operands.now) here.old here.new self.new.registers (tables_of self.old) (tables_of self.new) turn.new) }
     {
         for k in 0..operands.len() {
             if stands_at(operands[k], pos) {
@@ -229,6 +236,7 @@ impl<'a, A: Allocator> State<'a, A> {
         ensures machine { SameMachine (tables_of self.old) (tables_of self.new) }
         ensures err { IfErr result (IsLack self.new.slots) }
         ensures stops { IfErr result (OnlyWhere (StopsSend operand.vreg.class (not (is_place (stood self.old.places operand.vreg.number) place)) (stood self.old.places operand.vreg.number) place turn.old (tables_of self.old))) }
+        ensures registers { OnOk result (self.new.registers ≡ self.old.registers) }
     {
         let stands = self.places.place_of(operand.vreg());
         let is_moved = differ(stands, place);
@@ -253,6 +261,7 @@ impl<'a, A: Allocator> State<'a, A> {
         ensures machine { SameMachine (tables_of self.old) (tables_of self.new) }
         ensures err { IfErr result (IsLack self.new.slots) }
         ensures stops { IfErr result (OnlyWhere (StopsMoves point operands.now here.now turn.old (tables_of self.old))) }
+        ensures registers { OnOk result (self.new.registers ≡ self.old.registers) }
     {
         for k in 0..operands.len() {
             if reads(operands[k]) {
@@ -286,6 +295,8 @@ impl<'a, A: Allocator> State<'a, A> {
         ensures machine { SameMachine (tables_of self.old) (tables_of self.new) }
         ensures err { IfErr result (IsLack self.new.slots) }
         ensures stops { IfErr result (OnlyWhere (StopsInst inst is_ret operands.now clobbers here.old turn.old (tables_of self.old))) }
+        ensures uncrowded { OnOk result ((names : List VirtualRegister) (gone : ℕ → Bool) → AreFew names self.old.registers.allocatable → ((late : Bool) → ArePlain names gone operands.now late) → ((r : Register) → has_register clobbers r ≡ false) → IsUncrowded names gone self.old.registers (tables_of self.old) turn.old
+            → LeavesUncrowded names gone operands.now self.new.registers (tables_of self.new)) }
     {
         let point = ProgPoint::after(inst);
         self.reserve(turn, operands)?;
@@ -321,6 +332,8 @@ impl<'a, A: Allocator> State<'a, A> {
         ensures machine { SameMachine (tables_of self.old) (tables_of self.new) }
         ensures err { IfErr result (IsLack self.new.slots) }
         ensures stops { IfErr result (OnlyWhere ((blank : List Place) × (length blank ≡ length operands.now) × ((k : ℕ) → slice_index_or blank k NoPlace ≡ NoPlace) × StopsInst inst is_ret operands.now clobbers blank turn.old (tables_of self.old))) }
+        ensures uncrowded { OnOk result ((names : List VirtualRegister) (gone : ℕ → Bool) → AreFew names self.old.registers.allocatable → ((late : Bool) → ArePlain names gone operands.now late) → ((r : Register) → has_register clobbers r ≡ false) → IsUncrowded names gone self.old.registers (tables_of self.old) turn.old
+            → LeavesUncrowded names gone operands.now self.new.registers (tables_of self.new)) }
     {
         let end = start + operands.len();
         self.allocate_inst(

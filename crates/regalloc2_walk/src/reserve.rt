@@ -166,6 +166,7 @@ impl<'a, A: Allocator> State<'a, A> {
         ensures same { tables_of self.new ≡ tables_of self.old }
         ensures err { IfErr result (IsLack self.new.slots) }
         ensures stops { IfErr result (OnlyWhere (StopsClaim operands.now k claims.old (tables_of self.old))) }
+        ensures registers { OnOk result (((r : Register) → (op_at operands.now k).constraint ≡ OperandConstraint.FixedReg r → ⊥) → self.new.registers ≡ self.old.registers) }
     {
         let operand = operands[k];
         if let Some(claim) = claimed_by(operands, k) {
@@ -187,6 +188,7 @@ impl<'a, A: Allocator> State<'a, A> {
         ensures same { tables_of self.new ≡ tables_of self.old }
         ensures err { IfErr result (IsLack self.new.slots) }
         ensures stops { IfErr result (OnlyWhere (StopsReserve operands.now (tables_of self.old))) }
+        ensures registers { OnOk result (((k : ℕ) (r : Register) → k < length operands.now → (op_at operands.now k).constraint ≡ OperandConstraint.FixedReg r → ⊥) → self.new.registers ≡ self.old.registers) }
     {
         let mut claims = Claims::none();
         for k in 0..operands.len() {
@@ -199,6 +201,7 @@ impl<'a, A: Allocator> State<'a, A> {
     pub fn hold_clobbers(&mut self, turn: &mut Turn, clobbers: PRegSet)
         ensures held { HoldsClobbers clobbers turn.old turn.new }
         ensures same { tables_of self.new ≡ tables_of self.old }
+        ensures registers { self.new.registers ≡ self.old.registers }
     {
         let late = Positions {
             early: false,
@@ -224,6 +227,7 @@ impl<'a, A: Allocator> State<'a, A> {
         ensures machine { SameMachine (tables_of self.old) (tables_of self.new) }
         ensures err { IfErr result (IsLack self.new.slots) }
         ensures stops { IfErr result (OnlyWhere (StopsFixed point operands.now turn.old (tables_of self.old))) }
+        ensures registers { OnOk result (self.new.registers ≡ self.old.registers) }
     {
         for k in 0..operands.len() {
             let operand = operands[k];
@@ -251,6 +255,7 @@ impl<'a, A: Allocator> State<'a, A> {
         ensures machine { SameMachine (tables_of self.old) (tables_of self.new) }
         ensures err { IfErr result (IsLack self.new.slots) }
         ensures stops { IfErr result (OnlyWhere (StopsClobbers point turn.old (tables_of self.old))) }
+        ensures registers { OnOk result (self.new.registers ≡ self.old.registers) }
     {
         for preg in clobbers {
             self.evict_from(turn, point, preg)?;

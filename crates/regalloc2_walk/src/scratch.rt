@@ -34,6 +34,7 @@ impl<'a, A: Allocator> State<'a, A> {
         ensures machine { SameMachine (tables_of self.old) (tables_of self.new) }
         ensures err { IfErr result (IsLack self.new.slots) }
         ensures stops { IfErr result (OnlyWhere (⊥)) }
+        ensures registers { OnOk result (self.new.registers ≡ self.old.registers) }
     {
         let Some(vreg) = self.places.vreg_in(preg) else {
             return Ok(());
@@ -60,6 +61,7 @@ impl<'a, A: Allocator> State<'a, A> {
         ensures machine { SameMachine (tables_of self.old) (tables_of self.new) }
         ensures err { IfErr result (IsLack self.new.slots) }
         ensures stops { IfErr result (OnlyWhere (StopsScratch class turn.old (tables_of self.old))) }
+        ensures registers { OnOk result (self.new.registers ≡ self.old.registers) }
     {
         if let Some(preg) = self.registers.dedicated(class) {
             return Ok(preg);
@@ -95,6 +97,7 @@ impl<'a, A: Allocator> State<'a, A> {
         ensures machine { SameMachine (tables_of self.old) (tables_of self.new) }
         ensures err { IfErr result (IsLack self.new.slots) }
         ensures stops { IfErr result (OnlyWhere (StopsCross class from to turn.old (tables_of self.old))) }
+        ensures registers { OnOk result (self.new.registers ≡ self.old.registers) }
     {
         if self.is_stack_place(from) && self.is_stack_place(to) {
             let by = Allocation::reg(self.scratch(turn, point, class)?);
@@ -124,6 +127,7 @@ impl<'a, A: Allocator> State<'a, A> {
         ensures machine { SameMachine (tables_of self.old) (tables_of self.new) }
         ensures err { IfErr result (IsLack self.new.slots) }
         ensures stops { IfErr result (OnlyWhere (StopsClear preg turn.old (tables_of self.old))) }
+        ensures registers { OnOk result (self.new.registers ≡ self.old.registers) }
     {
         let Some(vreg) = self.places.vreg_in(preg) else {
             return Ok(());
@@ -152,6 +156,7 @@ impl<'a, A: Allocator> State<'a, A> {
         ensures machine { SameMachine (tables_of self.old) (tables_of self.new) }
         ensures err { IfErr result (IsLack self.new.slots) }
         ensures stops { IfErr result (OnlyWhere (StopsClear preg turn.old (tables_of self.old))) }
+        ensures registers { OnOk result (self.new.registers ≡ self.old.registers) }
     {
         if let Some(held) = self.places.vreg_in(preg) {
             if held.vreg() == vreg.vreg() {

@@ -7,7 +7,7 @@ ghost use Rattle.regalloc2_function.specs.FunctionValue.{slot_size};
 ghost use Rattle.regalloc2_function.specs.Machine.{is_allocatable, IsFixedStackSlot};
 ghost use Rattle.regalloc2_function.specs.Fitting.{MachineFits};
 ghost use Rattle.regalloc2_function.specs.Views.{machine_of};
-ghost use Rattle.regalloc2_tables.specs.Tables.{nobody_stands, no_slots};
+ghost use Rattle.regalloc2_tables.specs.Tables.{IsRingOf, nobody_stands, no_slots, ring_of};
 
 use regalloc2_function::{Function, MachineEnv};
 use regalloc2_names::{RegAllocError, RegClass};
@@ -45,6 +45,7 @@ impl<'a, A: Allocator> State<'a, A> {
         ensures dedicated { IfOk result (λ s. s.registers.dedicated ≡ (machine_of env.now).scratch) }
         ensures small { IfOk result (λ s. (r : Register) → (has_register s.registers.allocatable r ≡ true) ⊎ (has_register s.registers.fixed_stack r ≡ true) → r.number < 64) }
         ensures err { IfErr result (λ e. e ≡ RegAllocError.Memory) }
+        ensures rings { IfOk result (λ s. (class : RegClass) → IsRingOf s.registers.allocatable class (ring_of s.registers class)) }
     {
         let vregs = f.num_vregs();
         let sizes = [

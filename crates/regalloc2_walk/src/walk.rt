@@ -1,5 +1,8 @@
 //! The walk over all blocks, from the last to the first, and over the instructions of each.
 
+ghost use Rattle.std.specs.Prelude.{List};
+ghost use Rattle.regalloc2_names.specs.Register.{VirtualRegister};
+ghost use Rattle.regalloc2_walk.specs.Uncrowded.{AreFew, AsksForRegisters, IsUncrowdedFrom};
 ghost use Rattle.std.specs.Prelude.{◌≡◌, ◌<◌, ◌≤◌, ◌+◌, ◌*◌, [], length, slice_index, slice_index_or, ℕ, OnOk, IfErr};
 ghost use Rattle.regalloc2_names.specs.Point.{before, after};
 ghost use Rattle.regalloc2_names.specs.Place.{NoPlace};
@@ -46,6 +49,7 @@ impl<'a, A: Allocator> State<'a, A> {
         ensures machine { LendsAtMost (lent_at (F.function f.now) inst) (tables_of self.old) (tables_of self.new) }
         ensures err { IfErr result (LacksOnly (AreFullWith self.old.slots (self.old.slots.lent + lent_at (F.function f.now) inst))) }
         ensures stops { IfErr result (OnlyWhere (StopsIn (F.function f.now) block inst allocs.old (tables_of self.old))) }
+        ensures uncrowded { OnOk result ((names : List VirtualRegister) → AreFew names self.old.registers.allocatable → AsksForRegisters names (F.function f.now) → IsUncrowdedFrom names (F.function f.now) (inst + 1) self.old.registers (tables_of self.old) → IsUncrowdedFrom names (F.function f.now) inst self.new.registers (tables_of self.new)) }
     {
         let mut turn = Turn::new(self.registers.every());
         let operands = f.inst_operands(inst);
@@ -84,6 +88,8 @@ impl<'a, A: Allocator> State<'a, A> {
         ensures machine { LendsAtMost 6 (tables_of self.old) (tables_of self.new) }
         ensures err { IfErr result (LacksOnly (AreFullWith self.old.slots (self.old.slots.lent + 6))) }
         ensures stops { IfErr result (OnlyWhere (StopsInsts (F.function f.now) block allocs.old (tables_of self.old))) }
+        ensures uncrowded { OnOk result ((names : List VirtualRegister) → AreFew names self.old.registers.allocatable → AsksForRegisters names (F.function f.now) → IsUncrowdedFrom names (F.function f.now) (block_at (F.function f.now) block).range.end self.old.registers (tables_of self.old)
+            → IsUncrowdedFrom names (F.function f.now) (block_at (F.function f.now) block).range.first self.new.registers (tables_of self.new)) }
     {
         let range = f.block_insns(block);
         let first = range.first().index();
@@ -115,6 +121,7 @@ impl<'a, A: Allocator> State<'a, A> {
         ensures machine { LendsAtMost (6 * length (F.function f.now).blocks) (tables_of self.old) (tables_of self.new) }
         ensures err { IfErr result (LacksOnly (AreFullWith self.old.slots (self.old.slots.lent + 6 * length (F.function f.now).blocks))) }
         ensures stops { IfErr result (OnlyWhere (StopsBlocks (F.function f.now) allocs.old (tables_of self.old))) }
+        ensures uncrowded { OnOk result ((names : List VirtualRegister) → AreFew names self.old.registers.allocatable → AsksForRegisters names (F.function f.now) → IsUncrowdedFrom names (F.function f.now) (length (F.function f.now).insts) self.old.registers (tables_of self.old) → (self.new.edits ≡ []) × (self.new.slots.count ≡ 0)) }
     {
         let mut order = Vec::new(alloc);
         let mut b = f.num_blocks();

@@ -3,6 +3,7 @@
 ghost use Rattle.std.specs.Prelude.{◌≡◌, ◌≤◌};
 ghost use Rattle.regalloc2_text.specs.Cursor.{tokens_left};
 
+use super::stored::put;
 use crate::cursor::Cursor;
 use crate::error::{Expected, Flaw};
 use std::alloc::{AllocError, Allocator};
@@ -222,22 +223,21 @@ impl<A: Allocator + Copy> BlockLists<A> {
     pub(super) fn new(alloc: A, blocks: Vec<DraftBlock<A>, A>) -> Result<Self, AllocError> {
         let mut lists = BlockLists {
             ranges: Vec::new(alloc),
-            preds: Vec::new(alloc),
+            preds: default_preds(alloc, blocks.as_slice())?,
             succs: Vec::new(alloc),
             params_in: Vec::new(alloc),
             params_out: Vec::new(alloc),
         };
-        let defaults = default_preds(alloc, blocks.as_slice())?;
-        for (block, default) in blocks.into_iter().zip(defaults) {
-            lists.push(block, default)?;
+        for block in blocks {
+            lists.push(block)?;
         }
         Ok(lists)
     }
 
-    /// Adds a block, whose predecessors are `default` where its line doesn't say them.
-    fn push(&mut self, block: DraftBlock<A>, default: Vec<u32, A>) -> Result<(), AllocError> {
+    /// Adds a block, whose predecessors take the place of the default ones where its line says them.
+    fn push(&mut self, block: DraftBlock<A>) -> Result<(), AllocError> {
         let DraftBlock {
-            number: _,
+            number,
             range,
             has_range: _,
             params,
@@ -247,7 +247,9 @@ impl<A: Allocator + Copy> BlockLists<A> {
             args,
         } = block;
         self.ranges.push(range)?;
-        self.preds.push(preds.unwrap_or(default))?;
+        if let Some(list) = self.preds.get_mut(number as usize) {
+            put(list, preds);
+        }
         self.succs.push(succs)?;
         self.params_in.push(params)?;
         self.params_out.push(args)?;

@@ -75,7 +75,7 @@ pub(super) struct StoredLists<A: Allocator> {
 }
 
 /// Puts what was read in the place of a list.
-fn put<T: Drop>(list: &mut T, stored: Option<T>) {
+pub(super) fn put<T: Drop>(list: &mut T, stored: Option<T>) {
     if let Some(stored) = stored {
         *list = stored;
     }

@@ -1,4 +1,4 @@
-use Rattle.std.proofs.Common.{ℕ, ◌≡◌, ◌<◌, ◌^◌, List, [], map, length, sym, ap, ◌∙◌, subst, slice_index, slice_index_or}
+use Rattle.std.proofs.Common.{ℕ, ◌≡◌, ◌<◌, ◌^◌, List, map, length, sym, ap, ◌∙◌, subst, slice_index, slice_index_or}
 use Rattle.std.specs.Prelude.{Option, Some, SomeIff, replicate}
 use Rattle.std.specs.Vec.{with_items}
 use Rattle.std.proofs.lemmas.List.{with_items_is}
@@ -6,6 +6,7 @@ use Rattle.regalloc2_names.specs.Place.{Place, NoPlace}
 use Rattle.regalloc2_function.specs.FunctionValue.{FunctionValue, operand_count}
 use Rattle.regalloc2_function.specs.Machine.{MachineValue}
 use Rattle.regalloc2_function.specs.OutputValue.{DebugLocation, MoveValue, OutputValue}
+use Rattle.regalloc2_function.specs.Stored.{location_of}
 use Rattle.regalloc2_function.specs.Views.{edit_of, machine_of}
 use Rattle.regalloc2_fastalloc.specs.Promise.{IsAllocation}
 use Rattle.regalloc2_flow.proofs.Plain.{always}
@@ -30,23 +31,18 @@ fill_places-requires g c =
           ∙ ap (λ (p : Place). slice_index_or (replicate c.unwrap-total.result p) k NoPlace) c.none.ensures ∙ always c.unwrap-total.result k NoPlace;
     }
 
--- the output with the places in their list, and no debug location
+-- the output with the places in their list
 abbrev made_of : ℕ → List (ℕ × MoveValue) → List Place → List ℕ → List DebugLocation → OutputValue
 made_of n es ps os ds = record { num_spillslots = n; edits = es; allocs = ps; offsets = os; debug_locations = ds }
 
 same_out : (f : FunctionValue) (env : MachineValue) (n : ℕ) (es : List (ℕ × MoveValue)) (ps qs : List Place) (os us : List ℕ) (ds : List DebugLocation)
-    → qs ≡ ps → os ≡ us → ds ≡ [] → IsAllocation f env (made_of n es ps os []) → IsAllocation f env (made_of n es qs us ds)
-same_out f env n es ps qs os us ds places offsets none h =
-    subst (λ (x : List Place). IsAllocation f env (made_of n es x us ds)) (sym places)
-    (subst (λ (x : List ℕ). IsAllocation f env (made_of n es ps x ds)) offsets (subst (λ (x : List DebugLocation). IsAllocation f env (made_of n es ps os x)) (sym none) h))
-
--- a debug location as contracts see it
-abbrev debug_of : (ℕ × ℕ × ℕ × Place) → DebugLocation
-debug_of d = record { label = d.0; start = d.1; end = d.2; place = d.3 }
+    → qs ≡ ps → os ≡ us → IsAllocation f env (made_of n es ps os ds) → IsAllocation f env (made_of n es qs us ds)
+same_out f env n es ps qs os us ds places offsets h =
+    subst (λ (x : List Place). IsAllocation f env (made_of n es x us ds)) (sym places) (subst (λ (x : List ℕ). IsAllocation f env (made_of n es ps x ds)) offsets h)
 
 pub returns-clause-allocation : goal.returns-clause-allocation
 returns-clause-allocation g c =
-    same_out (g.F.Function.function c.args.f.now) (machine_of c.args.env.now) c.in_ok-num_spillslots.num_spillslots (map edit_of c.in_ok-num_spillslots.edits.items) c.fill_places.new.allocs
-    (with_items c.in_ok-allocs.allocs c.fill_places.new.allocs).items c.deref.result.now c.in_ok-offsets.offsets.items (map debug_of c.new.result.items)
-    (with_items_is c.in_ok-allocs.allocs c.fill_places.new.allocs (c.fill_places.auto.allocs ∙ c.deref_mut.ensures.len)) c.deref.ensures.value (ap (map debug_of) c.new.ensures.items)
-    c.in_ok-num_spillslots.ensures.allocation
+    same_out (g.F.Function.function c.args.f.now) (machine_of c.args.env.now) c.in_ok-rest.rest.num_spillslots (map edit_of c.in_ok-rest.rest.edits.items) c.fill_places.new.allocs
+    (with_items c.in_ok-allocs.allocs c.fill_places.new.allocs).items c.deref.result.now c.in_ok-offsets.offsets.items (map location_of c.in_ok-rest.rest.debug_locations.items)
+    (with_items_is c.in_ok-allocs.allocs c.fill_places.new.allocs (c.fill_places.auto.allocs ∙ c.deref_mut.ensures.len)) c.deref.ensures.value
+    c.in_ok-rest.ensures.allocation

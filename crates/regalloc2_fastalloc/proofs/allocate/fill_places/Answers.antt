@@ -1,44 +1,54 @@
-use Rattle.std.proofs.Common.{ℕ, ◌≡◌, ◌+◌, ◌*◌, ◌<◌, ◌≤◌, ◌^◌, [], map, length, refl, sym, ap, ◌∙◌, subst, arith, rules}
-use Rattle.std.specs.Prelude.{Bool}
+use Rattle.std.proofs.Common.{ℕ, ◌≡◌, ◌≢◌, ◌+◌, ◌*◌, ◌<◌, ◌≤◌, ◌^◌, map, length, sym, ap, ◌∙◌, subst, arith, rules, [], refl}
+use Rattle.std.specs.Prelude.{Bool, reverse}
 use Rattle.std.proofs.lemmas.List.{length-replicate}
 use Rattle.std.proofs.lemmas.Result.{err_from_is_err_and}
 use Rattle.regalloc2_names.specs.declared.RegClass.{RegClass}
 use Rattle.regalloc2_names.specs.declared.RegClass.TheVariants.{Int, Float, Vector}
 use Rattle.regalloc2_names.specs.Place.{NoPlace}
+use Rattle.regalloc2_names.specs.Register.{VirtualRegister}
 use Rattle.regalloc2_function.specs.FunctionValue.{FunctionValue, IsLimited, slot_size}
 use Rattle.regalloc2_function.specs.Machine.{MachineValue}
 use Rattle.regalloc2_function.specs.OutputValue.{OutputValue}
 use Rattle.regalloc2_function.specs.SourceRun.{IsWrittenFirst}
 use Rattle.regalloc2_function.specs.Faithful.{IsFaithful}
-use Rattle.regalloc2_function.specs.Slots.{SlotsHaveOwners}
+use Rattle.regalloc2_function.specs.DebugPoints.{PassesAt}
+use Rattle.regalloc2_function.specs.Slots.{AreSlotsOwned}
+use Rattle.regalloc2_function.specs.Stored.{location_of}
 use Rattle.regalloc2_function.specs.Views.{edit_of, machine_of}
 use Rattle.regalloc2_flow.proofs.Defined.{Made}
 use Rattle.regalloc2_flow.proofs.Faithful.{faithful}
+use Rattle.regalloc2_points.proofs.Known.{well_formed_ssa}
 use Rattle.regalloc2_tables.specs.Lack.{Lacks, AreFullWith}
-use Rattle.regalloc2_fastalloc.specs.Promise.{LiveInSlots, SlotsAreFew}
+use Rattle.regalloc2_fastalloc.specs.Promise.{LiveInSlots, ShowsLabels, SlotsAreFew, HasRegistersForAll}
 use Rattle.regalloc2_fastalloc.specs.Reason.{SomeDoesNotFit, units_needed}
 use Rattle.regalloc2_steps.specs.Steps.{Tables}
 use Rattle.regalloc2_walk.specs.States.{tables_of}
 use Rattle.regalloc2_steps.specs.Branches.{LendsAtMost}
 use Rattle.regalloc2_steps.specs.Sound.{HasMachine}
-use Rattle.regalloc2_tables.specs.Tables.{PlacesValue, SlotsValue, no_slots, units_of}
-use Rattle.regalloc2_fastalloc.proofs.Agreed.{made_blocks_agree, made_in_slots, walk_kept_through}
+use Rattle.regalloc2_tables.specs.Tables.{PlacesValue, SlotsValue, no_slots, slot_name, units_of}
+use Rattle.regalloc2_fastalloc.proofs.Agreed.{made_blocks_agree, made_in_slots, made_label_shown, walk_kept_through}
+use Rattle.regalloc2_fastalloc.proofs.Labelled.{locations_stand, shows_labels}
+use Rattle.regalloc2_steps.proofs.Agreeing.{handed_slots}
 use Rattle.regalloc2_steps.proofs.Begun.{begun_machine}
 use Rattle.regalloc2_steps.proofs.Finished.{IsMade, made_in_order, made_constraints, made_proper, made_in_registers}
 use Rattle.regalloc2_steps.proofs.Gathered.{tame_at}
 use Rattle.regalloc2_steps.proofs.Keeping.{none_lends}
 use Rattle.regalloc2_steps.proofs.Launching.{fresh_blank, some_units, fresh_fit}
 use Rattle.regalloc2_steps.proofs.Machines.{fit_apart}
-use Rattle.regalloc2_steps.proofs.Owning.{made_owners}
+use Rattle.regalloc2_steps.proofs.LaidWalks.{BranchesFrom, walk_classed}
+use Rattle.regalloc2_steps.proofs.OwnedOutputs.{fits_keeps, made_slots_owned}
 use Rattle.regalloc2_lacks.proofs.Lacks.{walk_stops}
 use Rattle.regalloc2_fastalloc.proofs.Reasoned.{lacks_where}
 use Rattle.regalloc2_fastalloc.proofs.Numbers.{reads_numbers}
-use Rattle.regalloc2_fastalloc.proofs.Needing.{sizes_of, few_slots, full_needs}
+use Rattle.regalloc2_fastalloc.proofs.Needing.{sizes_of, sizes_agree, few_slots, full_needs}
 use Rattle.regalloc2_steps.proofs.Rounding.{Blank}
 use Rattle.regalloc2_steps.proofs.SafeFunctions.{made_listed_blocks}
 use Rattle.regalloc2_steps.proofs.SafeWalks.{MayInBlocks}
 use Rattle.regalloc2_steps.proofs.Scratching.{Fit}
+use Rattle.regalloc2_steps.proofs.Steady.{passes_between}
 use Rattle.regalloc2_steps.proofs.Walking.{WalkKept}
+use Rattle.regalloc2_walk.proofs.OneBlock.{begins_uncrowded}
+use Rattle.regalloc2_fastalloc.proofs.Roomy.{are_few, asks_for_registers, names_in}
 use Rattle.regalloc2_fastalloc.proofs.allocate.fill_places.Given.{Over}
 use Rattle.regalloc2_fastalloc.proofs.allocate.fill_places.Goals as goal
 
@@ -72,6 +82,24 @@ allocate_blocks-requires g c =
       ),
     )
 
+-- the slots that the walk leaves have the sizes that the function asks for, and as many vregs
+sizes_kept : (f : FunctionValue) (begun left : Tables) (by_last : Bool) (most : ℕ) → begun.slots ≡ no_slots f.num_vregs (sizes_of f) by_last → LendsAtMost most begun left → left.slots.sizes ≡ sizes_of f
+sizes_kept f begun left by_last most slots machine = machine.sizes ∙ ap (λ (s : SlotsValue). s.sizes) slots
+
+vregs_kept : (f : FunctionValue) (begun left : Tables) (by_last : Bool) (most : ℕ) → begun.slots ≡ no_slots f.num_vregs (sizes_of f) by_last → LendsAtMost most begun left → length left.slots.of_vreg ≡ f.num_vregs
+vregs_kept f begun left by_last most slots machine = machine.vregs ∙ ap (λ (s : SlotsValue). length s.of_vreg) slots ∙ length-replicate f.num_vregs NoPlace
+
+pub locations-requires : goal.locations-requires
+locations-requires g c =
+    let f : FunctionValue = g.F.Function.function c.args.f.now in
+    record {
+      ssa = well_formed_ssa (machine_of c.args.env.now) f c.requires.well_formed;
+      vregs = vregs_kept f (tables_of c.in_ok-state.state) (tables_of c.allocate_blocks.new.self) f.named_by_last_slot _ c.in_ok-state.ensures.slots c.allocate_blocks.ensures.machine;
+      offsets_long = c.requires.offsets_long;
+      offsets = λ i lt. c.requires.offsets i lt;
+      allocs_long = c.allocate_blocks.auto.allocs ∙ c.requires.allocs_long;
+    }
+
 -- the output as contracts see it
 abbrev out_of : (g : Over) (c : goal.After-array_drop-state-2 g) → OutputValue
 out_of g c = record {
@@ -79,7 +107,7 @@ out_of g c = record {
   edits = map edit_of c.in_ok-edits.edits.items;
   allocs = c.allocate_blocks.new.allocs;
   offsets = c.args.offsets.now;
-  debug_locations = [];
+  debug_locations = map location_of c.in_ok-debug_locations.debug_locations.items;
 }
 
 -- the tables at the walk's start and at its end
@@ -121,6 +149,13 @@ walked g c =
     c.args.allocs.now c.allocate_blocks.new.allocs (begun g c) (left g c) f.num_vregs f.num_vregs (sizes_of f) f.named_by_last_slot e.places e.slots e.edits
     (units_are g c) (machine_is g c) (blank_is g c) (fit_is g c) c.in_ok-allocate_blocks.ensures.ok
 
+-- who is passed as an argument has a slot
+handed_is : (g : Over) (c : goal.After-array_drop-state-2 g) → (v : VirtualRegister) (i : ℕ) → PassesAt (g.F.Function.function c.args.f.now) v i → slot_name (left g c).slots v.number ≢ NoPlace
+handed_is g c v i p =
+    let f : FunctionValue = g.F.Function.function c.args.f.now in
+    handed_slots (machine_of c.args.env.now) f (g.met.F.Function.limited c.args.f.now) c.requires.well_formed (passes_between f) c.args.allocs.now (begun g c) (left g c) (out_of g c) (blank_is g c) (fit_is g c)
+    c.in_ok-allocate_blocks.ensures.ok v p.0 p.1 p.2 p.4 p.5
+
 made : (g : Over) (c : goal.After-array_drop-state-2 g) →
     IsMade (g.F.Function.function c.args.f.now) (machine_of c.args.env.now) (Made (g.F.Function.function c.args.f.now)) (MayInBlocks (g.F.Function.function c.args.f.now)) (left g c) (out_of g c)
 made g c =
@@ -133,7 +168,8 @@ made g c =
       long = c.requires.offsets_long;
       offsets = λ i lt. c.requires.offsets i lt;
       allocs_long = c.allocate_blocks.auto.allocs ∙ c.requires.allocs_long;
-      debug = refl;
+      debug = locations_stand env f (g.met.F.Function.limited c.args.f.now) c.requires.well_formed (MayInBlocks f) (left g c) c.args.offsets.now c.allocate_blocks.new.allocs (λ i lt. c.requires.offsets i lt)
+          (walked g c) (handed_is g c) (map location_of c.in_ok-debug_locations.debug_locations.items) c.in_ok-debug_locations.ensures.ok;
       kept = walked g c;
     }
 
@@ -153,18 +189,16 @@ live_is g c =
     made_in_slots env f (g.met.F.Function.limited c.args.f.now) c.requires.well_formed c.requires.taken c.requires.branches c.args.allocs.now (begun g c) (left g c) (out_of g c) (blank_is g c) (fit_is g c) c.in_ok-allocate_blocks.ensures.ok (made g c)
     c.count.ensures.owned (tame_at env f (g.met.F.Function.limited c.args.f.now) c.requires.well_formed c.requires.taken)
 
-owners_are : (g : Over) (c : goal.After-array_drop-state-2 g) → SlotsHaveOwners (g.F.Function.function c.args.f.now) (out_of g c)
-owners_are g c =
+-- and debug locations name places of their virtual registers, which hold their values
+labels_are : (g : Over) (c : goal.After-array_drop-state-2 g) → ShowsLabels (g.F.Function.function c.args.f.now) (machine_of c.args.env.now) (out_of g c)
+labels_are g c =
     let f : FunctionValue = g.F.Function.function c.args.f.now in
     let env : MachineValue = machine_of c.args.env.now in
-    made_owners f env (Made f) (MayInBlocks f) (left g c) (out_of g c) (made g c) c.count.ensures.owned (tame_at env f (g.met.F.Function.limited c.args.f.now) c.requires.well_formed c.requires.taken)
-
--- the slots that the walk leaves have the sizes that the function asks for, and as many vregs
-sizes_kept : (f : FunctionValue) (begun left : Tables) (by_last : Bool) (most : ℕ) → begun.slots ≡ no_slots f.num_vregs (sizes_of f) by_last → LendsAtMost most begun left → left.slots.sizes ≡ sizes_of f
-sizes_kept f begun left by_last most slots machine = machine.sizes ∙ ap (λ (s : SlotsValue). s.sizes) slots
-
-vregs_kept : (f : FunctionValue) (begun left : Tables) (by_last : Bool) (most : ℕ) → begun.slots ≡ no_slots f.num_vregs (sizes_of f) by_last → LendsAtMost most begun left → length left.slots.of_vreg ≡ f.num_vregs
-vregs_kept f begun left by_last most slots machine = machine.vregs ∙ ap (λ (s : SlotsValue). length s.of_vreg) slots ∙ length-replicate f.num_vregs NoPlace
+    let limited : IsLimited f = g.met.F.Function.limited c.args.f.now in
+    let tame = tame_at env f limited c.requires.well_formed c.requires.taken in
+    shows_labels env f limited c.requires.well_formed (MayInBlocks f) (left g c) (out_of g c) (made g c) (handed_is g c) c.count.ensures.owned tame
+    (made_label_shown env f limited c.requires.well_formed c.requires.taken c.requires.branches c.args.allocs.now (begun g c) (left g c) (out_of g c) (blank_is g c) (fit_is g c) c.in_ok-allocate_blocks.ensures.ok (made g c)
+    c.count.ensures.owned tame) c.in_ok-debug_locations.ensures.ok
 
 -- few slots were lent
 few_lent : (f : FunctionValue) (begun left : Tables) (by_last : Bool) (most : ℕ) → begun.slots ≡ no_slots f.num_vregs (sizes_of f) by_last → LendsAtMost most begun left → left.slots.lent ≤ most
@@ -172,6 +206,19 @@ few_lent f begun left by_last most slots machine =
     let none : begun.slots.lent ≡ 0 = ap (λ (s : SlotsValue). s.lent) slots in
     let lent = machine.lent in
     omega (arith, none, lent)
+
+owners_are : (g : Over) (c : goal.After-array_drop-state-2 g) → AreSlotsOwned (g.F.Function.function c.args.f.now) (out_of g c)
+owners_are g c =
+    let f : FunctionValue = g.F.Function.function c.args.f.now in
+    let env : MachineValue = machine_of c.args.env.now in
+    let limited : IsLimited f = g.met.F.Function.limited c.args.f.now in
+    let begin : Tables = begun g c in
+    let last : Tables = left g c in
+    let e = c.in_ok-state.ensures in
+    let classed = walk_classed env f (fits_keeps f env c.requires.machine) limited c.requires.well_formed c.requires.taken c.args.allocs.now c.allocate_blocks.new.allocs begin last f.num_vregs f.num_vregs (sizes_of f) f.named_by_last_slot
+    e.places e.slots e.edits (units_are g c) (machine_is g c) c.in_ok-allocate_blocks.ensures.ok in
+    made_slots_owned f env (Made f) (MayInBlocks f) last (out_of g c) (made g c) c.count.ensures.owned (tame_at env f limited c.requires.well_formed c.requires.taken) f.named_by_last_slot (BranchesFrom f 0) classed
+    (sizes_agree f last.slots (sizes_kept f begin last f.named_by_last_slot _ e.slots c.allocate_blocks.ensures.machine)) refl (λ i class m. (m.1, m.2))
 
 slots_are : (g : Over) (c : goal.After-array_drop-state-2 g) → SlotsAreFew (g.F.Function.function c.args.f.now) (out_of g c)
 slots_are g c =
@@ -182,6 +229,17 @@ slots_are g c =
     let slots = c.in_ok-state.ensures.slots in
     few_slots f last.slots (out_of g c) c.count.ensures.count (sizes_kept f begin last f.named_by_last_slot _ slots machine) (vregs_kept f begin last f.named_by_last_slot _ slots machine)
     (few_lent f begin last f.named_by_last_slot _ slots machine) c.count.ensures.owned
+
+-- where registers suffice for all virtual registers, the walk makes no move and no slot
+unspilled_is : (g : Over) (c : goal.After-array_drop-state-2 g) → HasRegistersForAll (g.F.Function.function c.args.f.now) (machine_of c.args.env.now) → ((out_of g c).edits ≡ []) × ((out_of g c).num_spillslots ≡ 0)
+unspilled_is g c = λ h.
+    let f : FunctionValue = g.F.Function.function c.args.f.now in
+    let begin : Tables = tables_of c.in_ok-state.state in
+    let e = c.in_ok-state.ensures in
+    let b = blank_is g c in
+    let none = c.in_ok-allocate_blocks.ensures.uncrowded (names_in f.insts) (are_few f (machine_of c.args.env.now) begin.allocatable h e.all) (asks_for_registers f (machine_of c.args.env.now) h)
+        (begins_uncrowded f (names_in f.insts) c.in_ok-state.state.registers begin b.nowhere b.no_move b.no_slot (ap (λ (s : SlotsValue). s.count) e.slots) refl (fit_apart begin (fit_is g c)) e.rings) in
+    (c.in_ok-edits.ensures.listed ∙ ap reverse none.0, c.count.ensures.count ∙ none.1)
 
 pub returns-clause-allocation : goal.returns-clause-allocation
 returns-clause-allocation g c =
@@ -201,7 +259,9 @@ returns-clause-allocation g c =
       };
       live = live_is g c;
       slots = slots_are g c;
+      unspilled = unspilled_is g c;
       owners = owners_are g c;
+      labels = labels_are g c;
     }
 
 pub returns-in_err-allocate_blocks-clause-err : goal.returns-in_err-allocate_blocks-clause-err

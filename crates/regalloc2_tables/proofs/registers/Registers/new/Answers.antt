@@ -71,3 +71,22 @@ returns-clause-all g c = λ r h.
     (λ e. c.allocatable_of-int.ensures r ∙ ap (λ (k : RegClass). is_allocatable env k r) (sym e) ∙ h)
     (λ e. c.allocatable_of-float.ensures r ∙ ap (λ (k : RegClass). is_allocatable env k r) (sym e) ∙ h)
     (λ e. c.allocatable_of-vector.ensures r ∙ ap (λ (k : RegClass). is_allocatable env k r) (sym e) ∙ h)
+
+pub returns-clause-rings : goal.returns-clause-rings
+returns-clause-rings g c =
+    let env = machine_of c.args.env.now in
+    let int : PRegSet = c.allocatable_of-int.result in
+    let float : PRegSet = c.allocatable_of-float.result in
+    let vector : PRegSet = c.allocatable_of-vector.result in
+    let u : IsUnion c.bitor-2.result int float vector = record {
+      same = λ r. c.bitor-2.ensures r ∙ ap (λ (b : Bool). b || has_register vector r) (c.bitor.ensures r);
+      int_class = λ r h. c.requires Int r (sym (c.allocatable_of-int.ensures r) ∙ h);
+      float_class = λ r h. c.requires Float r (sym (c.allocatable_of-float.ensures r) ∙ h);
+      vector_class = λ r h. c.requires Vector r (sym (c.allocatable_of-vector.ensures r) ∙ h);
+    } in
+    let rings : List (List Register) = c.in_ok-rings.rings.items in
+    rings_from c.bitor-2.result int float vector c.in_ok-int_regs.int_regs.items c.in_ok-float_regs.float_regs.items c.in_ok-vector_regs.vector_regs.items rings u
+          c.in_ok-int_regs.ensures.ok c.in_ok-float_regs.ensures.ok c.in_ok-vector_regs.ensures.ok c.in_ok-rings.ensures.three
+          (subst (λ (l : List Register). IsNewRing l (slice_index_or rings 0 [])) c.deref.ensures.value c.in_ok-rings.ensures.int)
+          (subst (λ (l : List Register). IsNewRing l (slice_index_or rings 1 [])) c.deref-2.ensures.value c.in_ok-rings.ensures.float)
+          (subst (λ (l : List Register). IsNewRing l (slice_index_or rings 2 [])) c.deref-3.ensures.value c.in_ok-rings.ensures.vector)

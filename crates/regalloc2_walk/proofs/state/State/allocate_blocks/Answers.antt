@@ -1,4 +1,4 @@
-use Rattle.std.proofs.Common.{ℕ, ◌≡◌, ◌+◌, ◌-◌, ◌*◌, ◌<◌, List, length, refl, sym, ap, ◌∙◌, subst, rules, arith}
+use Rattle.std.proofs.Common.{[], ℕ, ◌≡◌, ◌+◌, ◌-◌, ◌*◌, ◌<◌, List, length, refl, sym, ap, ◌∙◌, subst, rules, arith}
 use Rattle.std.specs.Prelude.{All}
 use Rattle.std.proofs.lemmas.Result.{err_from_is_err_and}
 use Rattle.regalloc2_index.specs.Range.{Span}
@@ -14,6 +14,9 @@ use Rattle.regalloc2_steps.specs.Stops.{StopsInsts, StopsBegin, in_block, at_beg
 use Rattle.regalloc2_walk.specs.States.{tables_of}
 use Rattle.regalloc2_steps.specs.Walks.{WalksIn, WalksBlocks, all_left, one_block, offset_of}
 use Rattle.regalloc2_steps.proofs.Keeping.{none_lends, same_lends, lends_then, apart_kept, lacks_all, lack_all, block_within, joins_at, params_known}
+use Rattle.regalloc2_tables.specs.Tables.{RegistersValue}
+use Rattle.regalloc2_walk.proofs.OneBlock.{no_params, nobody_left, none_left_over}
+use Rattle.regalloc2_walk.specs.Uncrowded.{AreFew, IsUncrowdedFrom}
 use Rattle.regalloc2_walk.proofs.state.State.allocate_blocks.Goals as goal
 
 pub loop-b-init : goal.loop-b-init
@@ -29,6 +32,8 @@ loop-b-init g c =
       later = λ some. subst Q (sym c.requires.fresh) (λ k d lt. absurd (omega arith));
       long = refl;
       machine = none_lends _ t;
+      begins = λ e. (refl, refl);
+      uncrowded = λ zero names few asks h. absurd (omega (arith, zero, c.num_blocks-b.ensures.count, asks.one_block));
     }
 
 pub allocate_insts-requires : goal.allocate_insts-requires
@@ -125,6 +130,22 @@ loop-b-preserved g c =
       long = c.in_ok-begin_block.ensures.long ∙ c.in_ok-allocate_insts.ensures.long ∙ c.loop-b.invariant.long;
       machine = lends_then (6 * (length f.blocks - c.loop-b.b)) 6 _ a t w (omega (arith, next, lt)) c.loop-b.invariant.machine
           (lends_then 6 0 6 t u w (omega arith) c.allocate_insts.ensures.machine (same_lends 0 u w c.begin_block.ensures.machine));
+      begins = λ e. absurd (omega (arith, e, lt));
+      uncrowded = λ zero names few asks h.
+          let whole : c.loop-b.b ≡ length f.blocks = omega (arith, next, zero, asks.one_block) in
+          let start = c.loop-b.invariant.begins whole in
+          let follows = c.requires.well_formed.1.follow b lt in
+          let end : (block_at f d).range.end ≡ length f.insts = ap (λ (n : ℕ). (block_at f n).range.end) same ∙ follows.3 (omega (arith, zero, asks.one_block)) in
+          let begin : (block_at f d).range.first ≡ 0 = ap (λ (n : ℕ). (block_at f n).range.first) same ∙ follows.1 zero in
+          let few_now : AreFew names t.allocatable = subst (λ (x : Tables). AreFew names x.allocatable) (sym start.1) few in
+          let at_end : IsUncrowdedFrom names f (block_at f d).range.end c.loop-b.self.registers t = subst (λ (n : ℕ). IsUncrowdedFrom names f n c.loop-b.self.registers t) (sym end)
+              (subst (λ (r : RegistersValue). IsUncrowdedFrom names f (length f.insts) r t) (sym start.0) (subst (λ (x : Tables). IsUncrowdedFrom names f (length f.insts) c.args.self.now.registers x) (sym start.1) h)) in
+          let done : IsUncrowdedFrom names f 0 c.allocate_insts.new.self.registers u = subst (λ (n : ℕ). IsUncrowdedFrom names f n c.allocate_insts.new.self.registers u) begin (c.in_ok-allocate_insts.ensures.uncrowded names few_now asks at_end) in
+          let nobody = nobody_left f c.requires.well_formed.0 names c.allocate_insts.new.self.registers u c.requires.well_formed.1 asks done in
+          let params : c.block_params.result.now ≡ [] = c.block_params.ensures ∙ ap (λ (n : ℕ). (block_at f n).params) same ∙ no_params f c.requires.well_formed.0 names b c.requires.well_formed.1 asks lt in
+          let kept : w ≡ u = c.in_ok-begin_block.ensures.nobody nobody params in
+          let none = none_left_over f c.requires.well_formed.0 names c.allocate_insts.new.self.registers u done in
+          (ap (λ (x : Tables). x.edits) kept ∙ none.0, ap (λ (x : Tables). x.slots.count) kept ∙ none.1);
     }
 
 pub returns-in_err-allocate_insts-clause-machine : goal.returns-in_err-allocate_insts-clause-machine
@@ -205,3 +226,6 @@ returns-in_err-begin_block-clause-stops g c =
     rw e.1 (λ lacks. at_beginning b c.loop-b.allocs c.allocate_insts.new.allocs t u (omega (arith, next, c.loop-b.invariant.within)) (subst P next c.loop-b.invariant.walks) (subst I same c.in_ok-allocate_insts.ensures.ok)
     (subst (λ (n : ℕ). StopsBegin (before n) (block_at f b).params u) first
     (subst (λ (vs : List VirtualRegister). StopsBegin (before c.first-first.result) vs u) (c.block_params.ensures ∙ ap (λ (n : ℕ). (block_at f n).params) same) (c.in_err-begin_block.ensures.stops (sym e.2 ∙ lacks)))))
+
+pub returns-clause-uncrowded : goal.returns-clause-uncrowded
+returns-clause-uncrowded g c = λ names few asks h. (let e : c.loop-b.b ≡ 0 = omega (arith, c.loop-b-test.false) in c.loop-b.invariant.uncrowded e names few asks h)

@@ -17,6 +17,12 @@ use Rattle.regalloc2_steps.specs.Walks.{AllocatesTo, offset_of, lent_at}
 use Rattle.regalloc2_steps.proofs.Keeping.{same_lends, lends_then, apart_kept, ends_in_branch, lack_all, lacks_all, lent_six, to_inst}
 use Rattle.regalloc2_steps.proofs.Launching.{all_in_tables}
 use Rattle.regalloc2_steps.proofs.Passable.{may_pass, parameters_differ}
+use Rattle.regalloc2_names.specs.Register.{VirtualRegister}
+use Rattle.regalloc2_flow.specs.Blocks.{target_at}
+use Rattle.regalloc2_tables.specs.Tables.{RegistersValue}
+use Rattle.regalloc2_steps.specs.Walks.{IsFresh}
+use Rattle.regalloc2_walk.proofs.OneBlock.{edge_block, from_next, no_params, plain_at, refreshed}
+use Rattle.regalloc2_walk.specs.Uncrowded.{ArePlain, IsUncrowdedFrom, LeavesUncrowded}
 use Rattle.regalloc2_walk.proofs.state.State.allocate_in.Goals as goal
 
 pub allocate_at-requires : goal.allocate_at-requires
@@ -185,3 +191,45 @@ returns-in_err-pass_arguments-clause-stops g c =
     let e = err_from_is_err_and c.from_residual-in_err-pass_arguments.result c.from_residual-in_err-pass_arguments.ensures.1 in
     rw e.1 (λ lacks. in_pass c.allocate_at.new.allocs m h.0 (sym c.is_branch.ensures ∙ on)
     (subst (λ (t : Turn). StopsPass f c.args.block i t m) (sym h.1) (c.in_err-pass_arguments.ensures.stops (sym e.2 ∙ lacks))))
+
+-- where registers suffice for all vregs
+pub returns-then-not-is_branch-clause-uncrowded : goal.returns-then-not-is_branch-clause-uncrowded
+returns-then-not-is_branch-clause-uncrowded g c = λ names few asks h.
+    let f : FunctionValue = g.F.Function.function c.args.f.now in
+    let i : ℕ = c.args.inst in
+    let t : Tables = tables_of c.args.self.now in
+    let env : MachineValue = c.requires.well_formed.0 in
+    let fresh : IsFresh c.new-turn.result t = record {
+      early = λ r. ap (λ (x : PRegSet). has_register x r) c.new-turn.ensures.early ∙ c.every.ensures r;
+      late = λ r. ap (λ (x : PRegSet). has_register x r) c.new-turn.ensures.late ∙ c.every.ensures r;
+      scratch = c.new-turn.ensures.scratch;
+      awaited = c.new-turn.ensures.awaited;
+    } in
+    let L : List OperandValue → Type 0 = λ ops. LeavesUncrowded names h.gone ops c.allocate_at.new.self.registers (tables_of c.allocate_at.new.self) in
+    from_next f names i c.args.self.now.registers c.allocate_at.new.self.registers t (tables_of c.allocate_at.new.self) c.requires.inst h
+    (subst L c.inst_operands-operands.ensures (c.in_ok-allocate_at.ensures.uncrowded names h.gone few
+    (λ late. subst (λ (ops : List OperandValue). ArePlain names h.gone ops late) (sym c.inst_operands-operands.ensures) (plain_at f env names i c.args.self.now.registers t c.requires.well_formed.1 asks c.requires.inst h late))
+    (λ r. ap (λ (x : PRegSet). has_register x r) c.inst_clobbers-clobbers.ensures ∙ asks.no_clobbers i r c.requires.inst)
+    (refreshed names h.gone c.args.self.now.registers t h.turn c.new-turn.result h.uncrowded fresh)))
+
+pub returns-clause-uncrowded : goal.returns-clause-uncrowded
+returns-clause-uncrowded g c = λ names few asks h.
+    let f : FunctionValue = g.F.Function.function c.args.f.now in
+    let i : ℕ = c.args.inst in
+    let t : Tables = tables_of c.args.self.now in
+    let env : MachineValue = c.requires.well_formed.0 in
+    let m : Tables = tables_of c.allocate_at.new.self in
+    let fresh : IsFresh c.new-turn.result t = record {
+      early = λ r. ap (λ (x : PRegSet). has_register x r) c.new-turn.ensures.early ∙ c.every.ensures r;
+      late = λ r. ap (λ (x : PRegSet). has_register x r) c.new-turn.ensures.late ∙ c.every.ensures r;
+      scratch = c.new-turn.ensures.scratch;
+      awaited = c.new-turn.ensures.awaited;
+    } in
+    let L : List OperandValue → Type 0 = λ ops. LeavesUncrowded names h.gone ops c.allocate_at.new.self.registers m in
+    let done : IsUncrowdedFrom names f i c.allocate_at.new.self.registers m = from_next f names i c.args.self.now.registers c.allocate_at.new.self.registers t m c.requires.inst h
+        (subst L c.inst_operands-operands.ensures (c.in_ok-allocate_at.ensures.uncrowded names h.gone few
+        (λ late. subst (λ (ops : List OperandValue). ArePlain names h.gone ops late) (sym c.inst_operands-operands.ensures) (plain_at f env names i c.args.self.now.registers t c.requires.well_formed.1 asks c.requires.inst h late))
+        (λ r. ap (λ (x : PRegSet). has_register x r) c.inst_clobbers-clobbers.ensures ∙ asks.no_clobbers i r c.requires.inst)
+        (refreshed names h.gone c.args.self.now.registers t h.turn c.new-turn.result h.uncrowded fresh))) in
+    let same : tables_of c.pass_arguments.new.self ≡ m = c.in_ok-pass_arguments.ensures.none (λ k lt. no_params f env names (target_at f c.args.block k) c.requires.well_formed.1 asks (edge_block f env c.requires.well_formed.1 c.args.block k c.requires.block lt)) in
+    subst (λ (x : Tables). IsUncrowdedFrom names f i c.pass_arguments.new.self.registers x) (sym same) (subst (λ (r : RegistersValue). IsUncrowdedFrom names f i r m) (sym c.in_ok-pass_arguments.ensures.registers) done)

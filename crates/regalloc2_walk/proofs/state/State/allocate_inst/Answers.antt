@@ -1,4 +1,4 @@
-use Rattle.std.proofs.Common.{ℕ, ◌≡◌, List, length, refl, sym, ap, ◌∙◌, subst, rules, arith, slice_index}
+use Rattle.std.proofs.Common.{ℕ, ◌≡◌, true, false, List, length, refl, sym, ap, ◌∙◌, subst, rules, arith, slice_index}
 use Rattle.regalloc2_names.specs.declared.RegClass.{RegClass}
 use Rattle.regalloc2_names.specs.Register.{class_code}
 use Rattle.regalloc2_names.specs.RegisterSet.{registers_of}
@@ -10,6 +10,10 @@ use Rattle.regalloc2_steps.specs.Stops.{Readies, StopsFixed, StopsClobbers, Stop
 use Rattle.std.proofs.lemmas.Result.{err_from_is_err_and}
 use Rattle.regalloc2_walk.specs.States.{tables_of}
 use Rattle.regalloc2_steps.proofs.Emptying.{same_of, same_then}
+use Rattle.regalloc2_validate.specs.Constraints.{op_at}
+use Rattle.regalloc2_walk.proofs.Settled.{reg_not_fixed}
+use Rattle.regalloc2_walk.proofs.OneBlock.{early_plain, inst_done, ready}
+use Rattle.regalloc2_walk.specs.Uncrowded.{AreFew}
 use Rattle.regalloc2_walk.proofs.state.State.allocate_inst.Goals as goal
 
 pub evict_fixed-requires : goal.evict_fixed-requires
@@ -233,3 +237,24 @@ returns-in_err-move_reads-clause-stops g c =
     rw e.1 (λ lacks. in_moves c.evict_clobbers.new.turn c.place_operands.new.turn c.place_operands-2.new.turn (tables_of c.evict_clobbers.new.self) (tables_of c.place_operands.new.self) (tables_of c.place_operands-2.new.self)
     c.place_operands.new.here c.place_operands-2.new.here ready c.in_ok-place_operands.ensures.ok c.in_ok-place_operands-2.ensures.ok
     (subst (λ (p : ℕ). StopsMoves p ops c.place_operands-2.new.here c.place_operands-2.new.turn (tables_of c.place_operands-2.new.self)) early (c.in_err-move_reads.ensures.stops (sym e.2 ∙ lacks))))
+
+-- where registers suffice for all vregs
+pub returns-clause-uncrowded : goal.returns-clause-uncrowded
+returns-clause-uncrowded g c = λ names gone few plain none h.
+    let ops : List OperandValue = c.args.operands.now in
+    let here = c.args.here.now in
+    let t0 : Tables = tables_of c.args.self.now in
+    let t4 : Tables = tables_of c.evict_clobbers.new.self in
+    let t5 : Tables = tables_of c.place_operands.new.self in
+    let reg = (plain true).under_reg in
+    let same : tables_of c.hold_clobbers.new.self ≡ t0 = c.hold_clobbers.ensures.same ∙ c.reserve.ensures.same in
+    let regs = c.in_ok-evict_clobbers.ensures.registers ∙ c.in_ok-evict_fixed.ensures.registers ∙ c.hold_clobbers.ensures.registers ∙ c.in_ok-reserve.ensures.registers (λ k r lt e. reg_not_fixed (op_at ops k) r (reg k lt) e) in
+    let begun = ready names gone ops c.args.clobbers c.after-point.result c.after-point.result c.args.self.now.registers c.evict_clobbers.new.self.registers t0 (tables_of c.hold_clobbers.new.self) (tables_of c.evict_fixed.new.self) t4
+        c.args.turn.now c.reserve.new.turn c.hold_clobbers.new.turn c.evict_fixed.new.turn c.evict_clobbers.new.turn reg none regs same c.in_ok-reserve.ensures.ok c.hold_clobbers.ensures.held c.in_ok-evict_fixed.ensures.ok c.in_ok-evict_clobbers.ensures.ok h in
+    let few4 : AreFew names t4.allocatable = subst (λ (t : Tables). AreFew names t.allocatable) (sym begun.0) few in
+    let late = c.in_ok-place_operands.ensures.uncrowded names gone few4 (plain true) (λ j at. c.requires.no_places j) begun.1 in
+    let few5 : AreFew names t5.allocatable = subst (AreFew names) (sym late.machine) few4 in
+    let early = c.in_ok-place_operands-2.ensures.uncrowded names late.gone_now few5 (early_plain names gone ops here c.place_operands.new.here c.place_operands.new.self.registers t4 t5 c.place_operands.new.turn plain late)
+        (λ j at. late.others j (λ e. absurd (let no : true ≡ false = sym e ∙ at in cc)) ∙ c.requires.no_places j) late.uncrowded in
+    inst_done names gone c.before-2.result ops here c.place_operands.new.here c.place_operands-2.new.here c.place_operands.new.self.registers c.place_operands-2.new.self.registers c.move_reads.new.self.registers t4 t5
+    (tables_of c.place_operands-2.new.self) (tables_of c.move_reads.new.self) c.place_operands.new.turn c.place_operands-2.new.turn c.move_reads.new.turn plain late early c.in_ok-move_reads.ensures.ok c.in_ok-move_reads.ensures.registers

@@ -12,6 +12,7 @@ use Rattle.regalloc2_walk.specs.States.{tables_of}
 use Rattle.regalloc2_steps.specs.Branches.{LendsAtMost}
 use Rattle.regalloc2_steps.specs.Walks.{AllocatesIn, WalksIn, at_end, one_in, lent_at, offset_of}
 use Rattle.regalloc2_steps.proofs.Keeping.{none_lends, lends_then, apart_kept, lacks_all, block_within, lent_so_far}
+use Rattle.regalloc2_walk.specs.Uncrowded.{AreFew, IsUncrowdedFrom}
 use Rattle.regalloc2_walk.proofs.state.State.allocate_insts.Goals as goal
 
 pub first-requires : goal.first-requires
@@ -40,6 +41,7 @@ loop-i-init g c =
       later = subst Q (sym end) c.requires.later;
       long = refl;
       machine = none_lends 6 t;
+      uncrowded = λ names few asks h. subst (λ (n : ℕ). IsUncrowdedFrom names f n c.args.self.now.registers t) (sym end) h;
       begun = λ e. none_lends 0 t;
     }
 
@@ -111,6 +113,11 @@ loop-i-preserved g c =
       later = subst Q at c.in_ok-allocate_in.ensures.later;
       long = c.in_ok-allocate_in.ensures.long ∙ c.loop-i.invariant.long;
       machine = lends_then so_far.0 (lent_at f i) 6 (tables_of c.args.self.now) t u so_far.1 so_far.2 (subst L at c.allocate_in.ensures.machine);
+      uncrowded = λ names few asks h.
+          let before = c.loop-i.invariant.uncrowded names few asks h in
+          let few_now : AreFew names t.allocatable = subst (AreFew names) (sym c.loop-i.invariant.machine.allocatable) few in
+          subst (λ (n : ℕ). IsUncrowdedFrom names f n c.allocate_in.new.self.registers u) at
+          (c.in_ok-allocate_in.ensures.uncrowded names few_now asks (subst (λ (n : ℕ). IsUncrowdedFrom names f n c.loop-i.self.registers t) (next ∙ ap (λ (n : ℕ). n + 1) (sym at)) before));
       begun = λ e. absurd (omega (arith, e, upto));
     }
 
@@ -173,3 +180,9 @@ returns-in_err-allocate_in-clause-stops g c =
       walks = subst (λ (n : ℕ). WalksIn f c.args.block c.args.allocs.now (tables_of c.args.self.now) n c.loop-i.allocs m) next c.loop-i.invariant.walks;
       stops = subst (λ (n : ℕ). StopsIn f c.args.block n c.loop-i.allocs m) c.new.ensures (c.in_err-allocate_in.ensures.stops (sym e.2 ∙ lacks));
     })
+
+pub returns-clause-uncrowded : goal.returns-clause-uncrowded
+returns-clause-uncrowded g c = λ names few asks h.
+    let f : FunctionValue = g.F.Function.function c.args.f.now in
+    let at_first : c.loop-i.i ≡ (block_at f c.args.block).range.first = omega (arith, c.loop-i-test.false, c.loop-i.invariant.from, c.loop-i.invariant.first) in
+    subst (λ (n : ℕ). IsUncrowdedFrom names f n c.loop-i.self.registers (tables_of c.loop-i.self)) at_first (c.loop-i.invariant.uncrowded names few asks h)

@@ -6,6 +6,9 @@ use Rattle.regalloc2_tables.specs.Tables.{NoneBefore}
 use Rattle.regalloc2_walk.specs.States.{tables_of}
 use Rattle.regalloc2_steps.specs.Branches.{LendsAtMost}
 use Rattle.regalloc2_steps.specs.Walks.{WalksIn, offset_of}
+use Rattle.std.specs.Prelude.{List}
+use Rattle.regalloc2_names.specs.Register.{VirtualRegister}
+use Rattle.regalloc2_walk.specs.Uncrowded.{AreFew, AsksForRegisters, IsUncrowdedFrom}
 use Rattle.regalloc2_walk.proofs.state.State.allocate_insts.Given as goal
 
 abbrev pub invariant-loop-i : goal.invariant-loop-i
@@ -19,6 +22,8 @@ invariant-loop-i g l = record {
   later : NoneBefore (before l.i) l.self.edits;
   long : length l.self.places.stands ≡ length l.fn.self.places.stands;
   machine : LendsAtMost 6 (tables_of l.fn.self) (tables_of l.self);
+  uncrowded : (names : List VirtualRegister) → AreFew names l.fn.self.registers.allocatable → AsksForRegisters names (g.F.Function.function l.f) → IsUncrowdedFrom names (g.F.Function.function l.f) (block_at (g.F.Function.function l.f) l.block).range.end l.fn.self.registers (tables_of l.fn.self)
+      → IsUncrowdedFrom names (g.F.Function.function l.f) l.i l.self.registers (tables_of l.self);
   begun : l.i ≡ (block_at (g.F.Function.function l.f) l.block).range.end → LendsAtMost 0 (tables_of l.fn.self) (tables_of l.self);
 }
 

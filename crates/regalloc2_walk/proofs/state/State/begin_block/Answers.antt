@@ -7,6 +7,9 @@ use Rattle.std.proofs.lemmas.Result.{err_from_is_err_and}
 use Rattle.regalloc2_steps.specs.Stops.{StopsParameters, StopsEmpties, at_parameter, at_register}
 use Rattle.regalloc2_walk.specs.States.{tables_of}
 use Rattle.regalloc2_tables.specs.Tables.{NoneBefore}
+use Rattle.regalloc2_tables.specs.Tables.{stood}
+use Rattle.regalloc2_steps.specs.Steps.{Tables}
+use Rattle.regalloc2_walk.proofs.OneBlock.{none_begun_none}
 use Rattle.regalloc2_walk.proofs.state.State.begin_block.Goals as goal
 
 pub begin_parameters-requires : goal.begin_parameters-requires
@@ -63,3 +66,11 @@ returns-in_err-empty_registers-clause-stops g c =
     })
     (subst (λ (p : ℕ). BeginsParameters p c.args.params.now c.new-turn.result (tables_of c.args.self.now) (length c.args.params.now) c.begin_parameters.new.turn m) at c.in_ok-begin_parameters.ensures.ok)
     (subst (λ (p : ℕ). StopsEmpties p c.begin_parameters.new.turn m) at (c.in_err-empty_registers.ensures.stops (sym e.2 ∙ same))))
+
+-- where nobody stands anywhere, and there are no parameters, nothing changes
+pub returns-clause-nobody : goal.returns-clause-nobody
+returns-clause-nobody g c = λ nobody none.
+    let t = tables_of c.args.self.now in
+    let m = tables_of c.begin_parameters.new.self in
+    let same : m ≡ t = none_begun_none c.before-point.result c.args.params.now c.new-turn.result t (length c.args.params.now) c.begin_parameters.new.turn m (ap length none) c.in_ok-begin_parameters.ensures.ok in
+    c.in_ok-empty_registers.ensures.nobody (λ n. ap (λ (x : Tables). stood x.places n) same ∙ nobody n) ∙ same

@@ -4,6 +4,8 @@ use Rattle.regalloc2_steps.specs.Steps.{IsAffordable, fixed, free, slot}
 use Rattle.regalloc2_flow.proofs.Forms.{same_register}
 use Rattle.regalloc2_walk.specs.States.{tables_of}
 use Rattle.regalloc2_steps.proofs.Choosing.{wanted_rest}
+use Rattle.regalloc2_tables.specs.declared.placing.Wanted.TheVariants.{AnyRegister, At}
+use Rattle.regalloc2_walk.specs.Uncrowded.{oldest_free}
 use Rattle.regalloc2_walk.proofs.state.State.chosen.Goals as goal
 
 pub returns-in-At-clause-ok : goal.returns-in-At-clause-ok
@@ -19,6 +21,8 @@ returns-in-Some g c = record {
   machine = record { allocatable = refl; fixed_stack = refl; dedicated = refl; sizes = refl; vregs = refl; lent = refl };
   err = tt;
   stops = tt;
+  registers = refl;
+  chooses = λ any unsuited. (let o = c.in-Some.ensures.oldest in oldest_free o.0 c.in-Some.preg unsuited o.1 o.2 c.reg-in-Some.ensures);
 }
 
 pub returns-clause-ok : goal.returns-clause-ok
@@ -36,5 +40,14 @@ returns-then-is_any_register g c = record {
   edits = refl;
   machine = record { allocatable = refl; fixed_stack = refl; dedicated = refl; sizes = refl; vregs = refl; lent = refl };
   err = tt;
+  registers = tt;
+  chooses = tt;
   stops = λ same. (let any = c.is_any_register.ensures.0 c.if-is_any_register.true in (any, c.in_default-lent.ensures.none any));
 }
+
+-- where any register was asked for, none is asked for by name, and no slot is made
+pub returns-in-At-clause-chooses : goal.returns-in-At-clause-chooses
+returns-in-At-clause-chooses g c = λ any unsuited. absurd (let no : At c.in-At.preg ≡ AnyRegister = sym c.in-At.is ∙ any in cc)
+
+pub returns-clause-chooses : goal.returns-clause-chooses
+returns-clause-chooses g c = λ any unsuited. absurd (let t = c.is_any_register.ensures.1 any in let f = c.if-is_any_register.false in cc)

@@ -4,6 +4,8 @@ use Rattle.regalloc2_names.specs.Place.{NoPlace}
 use Rattle.regalloc2_tables.specs.Tables.{NoneBefore, holder, stood}
 use Rattle.regalloc2_steps.specs.Steps.{Tables, ClearsBut, in_register}
 use Rattle.regalloc2_walk.specs.States.{tables_of}
+use Rattle.regalloc2_tables.specs.Tables.{RegistersValue}
+use Rattle.regalloc2_walk.specs.Uncrowded.{Touches}
 use Rattle.regalloc2_walk.proofs.state.State.claim.Goals as goal
 
 pub returns-clause-ok : goal.returns-clause-ok
@@ -21,3 +23,6 @@ pub returns-clause-later : goal.returns-clause-later
 returns-clause-later g c =
     let P : Tables → Type 0 = λ t. NoneBefore c.args.point t.edits in
     subst P (sym c.note_taken.ensures.tables) c.in_ok-evict_others.ensures.later
+
+pub returns-clause-order : goal.returns-clause-order
+returns-clause-order g c = λ any. subst (λ (r : RegistersValue). Touches c.args.preg r c.note_taken.new.self.registers) c.in_ok-evict_others.ensures.registers (c.note_taken.ensures.order any)

@@ -1,4 +1,4 @@
-use Rattle.std.proofs.Common.{◌≡◌, refl, sym, ◌∙◌, arith, subst, ⊎_elim, false, true}
+use Rattle.std.proofs.Common.{ap, ◌≡◌, refl, sym, ◌∙◌, arith, subst, ⊎_elim, false, true}
 use Rattle.std.specs.Prelude.{None, is_some}
 use Rattle.regalloc2_names.specs.Register.{Register}
 use Rattle.regalloc2_tables.specs.Arrived.{IsListed}
@@ -9,6 +9,8 @@ use Rattle.regalloc2_tables.specs.Tables.{holder}
 use Rattle.regalloc2_steps.proofs.Emptying.{clears_empty, same_then, no_some}
 use Rattle.regalloc2_flow.proofs.Plain.{nobody_there, somebody_there}
 use Rattle.regalloc2_tables.proofs.Listing.{without_last, none_in}
+use Rattle.regalloc2_walk.proofs.OneBlock.{no_vreg_there}
+use Rattle.regalloc2_tables.specs.Tables.{stood}
 use Rattle.regalloc2_walk.proofs.state.State.empty_registers.Goals as goal
 
 pub loop-arrival-init : goal.loop-arrival-init
@@ -18,6 +20,7 @@ loop-arrival-init g c = record {
   later = c.requires;
   long = refl;
   machine = record { allocatable = refl; fixed_stack = refl; dedicated = refl; sizes = refl; vregs = refl; lent = refl };
+  nobody = λ none. refl;
 }
 
 pub loop-arrival-preserved : goal.loop-arrival-preserved
@@ -33,6 +36,7 @@ loop-arrival-preserved g c =
       later = c.loop-arrival.invariant.later;
       long = c.loop-arrival.invariant.long;
       machine = c.loop-arrival.invariant.machine;
+      nobody = c.loop-arrival.invariant.nobody;
     }
 
 pub loop-arrival-preserved-in-Continue-branch-2 : goal.loop-arrival-preserved-in-Continue-branch-2
@@ -51,6 +55,7 @@ loop-arrival-preserved-in-Continue-branch-2 g c =
       later = c.in_ok-evict_from.ensures.later;
       long = c.in_ok-evict_from.ensures.long ∙ c.loop-arrival.invariant.long;
       machine = same_then (tables_of c.args.self.now) m n c.loop-arrival.invariant.machine c.in_ok-evict_from.ensures.machine;
+      nobody = λ none. absurd (no_vreg_there c.loop-arrival.self.places c.in-Some.arrival.preg c.vreg_in.result (λ k. ap (λ (t : Tables). stood t.places k) (c.loop-arrival.invariant.nobody none) ∙ none k) c.vreg_in.ensures.inverse (omega (arith, c.vreg_in.ensures.in_range)) c.vreg_in.ensures.vreg somebody);
     }
 
 pub returns-clause-emptied : goal.returns-clause-emptied

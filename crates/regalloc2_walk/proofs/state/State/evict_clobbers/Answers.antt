@@ -13,6 +13,7 @@ loop-preg-init g c = record {
   later = c.requires;
   long = refl;
   machine = record { allocatable = refl; fixed_stack = refl; dedicated = refl; sizes = refl; vregs = refl; lent = refl };
+  registers = refl;
 }
 
 pub evict_from-requires : goal.evict_from-requires
@@ -27,6 +28,7 @@ loop-preg-preserved g c = record {
   later = c.in_ok-evict_from.ensures.later;
   long = c.in_ok-evict_from.ensures.long ∙ c.loop-preg.invariant.long;
   machine = (let a = c.loop-preg.invariant.machine in let b = c.in_ok-evict_from.ensures.machine in record { allocatable = b.allocatable ∙ a.allocatable; fixed_stack = b.fixed_stack ∙ a.fixed_stack; dedicated = b.dedicated ∙ a.dedicated; sizes = b.sizes ∙ a.sizes; vregs = b.vregs ∙ a.vregs; lent = b.lent ∙ a.lent });
+  registers = c.in_ok-evict_from.ensures.registers ∙ c.loop-preg.invariant.registers;
 }
 
 pub returns-clause-ok : goal.returns-clause-ok

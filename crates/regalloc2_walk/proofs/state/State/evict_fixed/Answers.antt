@@ -16,6 +16,7 @@ loop-k-init g c = record {
   later = c.requires;
   long = refl;
   machine = record { allocatable = refl; fixed_stack = refl; dedicated = refl; sizes = refl; vregs = refl; lent = refl };
+  registers = refl;
 }
 
 pub loop-k-preserved : goal.loop-k-preserved
@@ -39,6 +40,7 @@ loop-k-preserved g c =
             later = w.in_ok-evict_others.ensures.later;
             long = w.in_ok-evict_others.ensures.long ∙ h.long;
             machine = machine_then begin m n h.machine w.in_ok-evict_others.ensures.machine;
+            registers = w.in_ok-evict_others.ensures.registers ∙ h.registers;
           })
       | in_default+in-Some-reused_register+in_ok-evict_from w ↦ rw (w.self-is, w.turn-is) (
           let n : Tables = tables_of w.evict_from.new.self in
@@ -49,6 +51,7 @@ loop-k-preserved g c =
             later = w.in_ok-evict_from.ensures.later;
             long = w.in_ok-evict_from.ensures.long ∙ h.long;
             machine = machine_then begin m n h.machine w.in_ok-evict_from.ensures.machine;
+            registers = w.in_ok-evict_from.ensures.registers ∙ h.registers;
           })
       | in_default+in_default-reused_register w ↦ rw (w.self-is, w.turn-is) (record {
         cleared = not_fixed k c.loop-k.turn m h.cleared (λ r e. w.in_default.ensures.none r (sym asks ∙ e)) (λ n r e less named. w.in_default-reused_register.ensures.none n r (sym asks ∙ e) less named);
@@ -56,6 +59,7 @@ loop-k-preserved g c =
         later = h.later;
         long = h.long;
         machine = h.machine;
+        registers = h.registers;
       })
     ]
 

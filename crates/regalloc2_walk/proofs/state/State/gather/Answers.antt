@@ -21,6 +21,7 @@ loop-k-init g c = record {
   later = c.requires.later;
   long = refl;
   machine = record { allocatable = refl; fixed_stack = refl; dedicated = refl; sizes = refl; vregs = refl; lent = refl };
+  registers = refl;
 }
 
 pub block_params-params-requires : goal.block_params-params-requires
@@ -80,6 +81,7 @@ loop-k-preserved g c =
       later = subst (λ (p : ℕ). NoneBefore p c.gather_edge.new.self.edits) at c.in_ok-gather_edge.ensures.later;
       long = c.in_ok-gather_edge.ensures.long ∙ c.loop-k.invariant.long;
       machine = same_then (tables_of c.args.self.now) m n c.loop-k.invariant.machine c.gather_edge.ensures.machine;
+      registers = c.in_ok-gather_edge.ensures.registers ∙ c.loop-k.invariant.registers;
     }
 
 pub returns-clause-ok : goal.returns-clause-ok

@@ -21,6 +21,7 @@ loop-j-init g c = record {
   later = c.requires.later;
   long = refl;
   machine = record { allocatable = refl; fixed_stack = refl; dedicated = refl; sizes = refl; vregs = refl; lent = refl };
+  registers = refl;
 }
 
 pub slot_of-requires : goal.slot_of-requires
@@ -73,6 +74,7 @@ loop-j-preserved g c =
       machine = same_then (tables_of c.args.self.now) n o
           (same_then (tables_of c.args.self.now) m n c.loop-j.invariant.machine (record { allocatable = refl; fixed_stack = refl; dedicated = refl; sizes = c.slot_of.ensures.sizes; vregs = c.slot_of.ensures.vregs; lent = c.slot_of.ensures.lent }))
           c.settle_argument.ensures.machine;
+      registers = c.in_ok-from.ensures.registers ∙ c.loop-j.invariant.registers;
     }
 
 pub returns-clause-ok : goal.returns-clause-ok

@@ -9,4 +9,5 @@ abbrev pub invariant-loop-preg : goal.invariant-loop-preg
 invariant-loop-preg g l = record {
   members : (r : Register) → (has_register l.fn.clobbers r ≡ true) ↔ Contains (l.yielded ++ l.preg-iterator) r;
   held : HoldsLate l.yielded l.fn.turn l.turn;
+  registers : l.self.registers ≡ l.fn.self.registers;
 }

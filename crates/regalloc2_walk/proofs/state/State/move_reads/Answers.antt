@@ -15,7 +15,7 @@ use Rattle.regalloc2_walk.proofs.state.State.move_reads.Goals as goal
 use Rattle.regalloc2_walk.proofs.state.State.move_reads.Goals.{then-reads+in_ok-move_read, else-reads}
 
 pub loop-k-init : goal.loop-k-init
-loop-k-init g c = record { done = none_moved; later = c.requires.later; long = refl; machine = record { allocatable = refl; fixed_stack = refl; dedicated = refl; sizes = refl; vregs = refl; lent = refl } }
+loop-k-init g c = record { done = none_moved; later = c.requires.later; long = refl; machine = record { allocatable = refl; fixed_stack = refl; dedicated = refl; sizes = refl; vregs = refl; lent = refl }; registers = refl }
 
 pub move_read-requires : goal.move_read-requires
 move_read-requires g c =
@@ -44,12 +44,14 @@ loop-k-preserved g c =
         later = w.in_ok-move_read.ensures.later;
         long = w.in_ok-move_read.ensures.long ∙ c.loop-k.invariant.long;
         machine = same_then (tables_of c.args.self.now) (tables_of c.loop-k.self) (tables_of w.move_read.new.self) c.loop-k.invariant.machine w.in_ok-move_read.ensures.machine;
+        registers = w.in_ok-move_read.ensures.registers ∙ c.loop-k.invariant.registers;
       })
       | else-reads w ↦ rw (w.self-is, w.turn-is) (record {
         done = not_moved k c.loop-k.turn (tables_of c.loop-k.self) c.loop-k.invariant.done (kind ∙ w.if-reads.false);
         later = c.loop-k.invariant.later;
         long = c.loop-k.invariant.long;
         machine = c.loop-k.invariant.machine;
+        registers = c.loop-k.invariant.registers;
       })
     ]
 

@@ -10,4 +10,5 @@ invariant-loop-k g l = record {
   later : NoneBefore l.point l.self.edits;
   long : length l.self.places.stands ≡ length l.fn.self.places.stands;
   machine : SameMachine (tables_of l.fn.self) (tables_of l.self);
+  registers : l.self.registers ≡ l.fn.self.registers;
 }

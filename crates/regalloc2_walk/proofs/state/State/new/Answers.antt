@@ -1,6 +1,7 @@
 use Rattle.std.proofs.Common.{◌<◌, ◌≤◌, ◌∙◌, ap, rules, arith}
 use Rattle.regalloc2_tables.specs.Tables.{nobody_stands, most_units}
 use Rattle.regalloc2_flow.proofs.Plain.{each_of_three}
+use Rattle.regalloc2_walk.proofs.Rings.{ring_is}
 use Rattle.regalloc2_walk.proofs.state.State.new.Goals as goal
 
 pub new-requires-2 : goal.new-requires-2
@@ -16,3 +17,6 @@ new-requires-3 g c = (search rules, λ k r h. (c.requires k).of_class r h)
 
 pub returns-clause-places : goal.returns-clause-places
 returns-clause-places g c = c.in_ok-places.ensures.empty ∙ ap nobody_stands c.num_vregs-vregs.ensures.count
+
+pub returns-clause-rings : goal.returns-clause-rings
+returns-clause-rings g c = λ class. ring_is c.in_ok-registers.registers c.in_ok-registers.ensures.rings class

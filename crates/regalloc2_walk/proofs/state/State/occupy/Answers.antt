@@ -1,12 +1,13 @@
 use Rattle.std.proofs.Common.{◌≡◌, refl, sym, ◌∙◌, subst}
 use Rattle.std.specs.Prelude.{None}
 use Rattle.regalloc2_names.specs.Register.{Register}
-use Rattle.regalloc2_names.specs.Place.{Place, NoPlace, InRegister}
+use Rattle.regalloc2_names.specs.Place.{Place, NoPlace, InRegister, InSlot}
 use Rattle.regalloc2_tables.specs.Tables.{holder, stood}
 use Rattle.regalloc2_steps.specs.Steps.{Occupies, in_slot}
 use Rattle.regalloc2_walk.specs.States.{tables_of}
 use Rattle.regalloc2_steps.proofs.Choosing.{slot_place}
 use Rattle.regalloc2_flow.proofs.Forms.{place_of_register, same_register}
+use Rattle.regalloc2_walk.specs.Uncrowded.{Touches}
 use Rattle.regalloc2_walk.proofs.state.State.occupy.Goals as goal
 
 pub returns-in_default-clause-ok : goal.returns-in_default-clause-ok
@@ -25,3 +26,11 @@ returns-clause-alone g c = λ r f.
     let e : c.args.place ≡ InRegister c.in-Some.preg = place_of_register c.args.place c.in-Some.preg (sym c.as_reg.ensures ∙ c.in-Some.is) in
     let P : Register → Type 0 = λ q. stood c.claim.new.self.places c.args.placing.now.vreg.number ≡ NoPlace → holder c.claim.new.self.places q ≡ None in
     subst P (same_register c.in-Some.preg r (sym e ∙ f)) c.in_ok-claim.ensures.alone
+
+pub returns-in_default-clause-order : goal.returns-in_default-clause-order
+returns-in_default-clause-order g c = λ any r e. absurd (let s = slot_place c.args.place c.requires.there (sym c.as_reg.ensures ∙ c.in_default.is) in let no : InSlot s.0 ≡ InRegister r = sym s.1 ∙ e in cc)
+
+pub returns-clause-order : goal.returns-clause-order
+returns-clause-order g c = λ any r f.
+    let e : c.args.place ≡ InRegister c.in-Some.preg = place_of_register c.args.place c.in-Some.preg (sym c.as_reg.ensures ∙ c.in-Some.is) in
+    subst (λ (q : Register). Touches q c.args.self.now.registers c.claim.new.self.registers) (same_register c.in-Some.preg r (sym e ∙ f)) (c.in_ok-claim.ensures.order any)

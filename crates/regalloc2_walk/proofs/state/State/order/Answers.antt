@@ -62,3 +62,12 @@ pub returns-in_err-made-clause-stops : goal.returns-in_err-made-clause-stops
 returns-in_err-made-clause-stops g c =
     let p = err_from_is_err_and c.from_residual-in_err-made.result c.from_residual-in_err-made.ensures.1 in
     rw p.1 (λ same. absurd (no_register (IsShort c.lent_slots.result) _ c.in_err-made.ensures.err (sym p.2 ∙ same)))
+
+-- no moves are made for none
+pub returns-then-are_none-clause-none : goal.returns-then-are_none-clause-none
+returns-then-are_none-clause-none g c = λ none. (c.with_scratch.ensures.items ∙ ap (λ (p : Place). with_place p c.in_ok-resolved.resolved) c.none.ensures ∙ c.if-are_none.ensures.same refl ∙ c.if-are_none.ensures.none.0 refl, refl)
+
+pub returns-clause-none : goal.returns-clause-none
+returns-clause-none g c = λ none.
+    let short : listed c.in_ok-resolved.resolved ≡ [] = c.in_ok-resolved.ensures.resolved.short (rw none (omega arith)) ∙ none in
+    absurd (let y = c.are_none.ensures.none.1 short in let n = c.if-are_none.false in cc)

@@ -13,6 +13,7 @@ use Rattle.regalloc2_walk.specs.States.{tables_of}
 use Rattle.regalloc2_tables.specs.Tables.{NoneBefore}
 use Rattle.regalloc2_steps.proofs.Arguments.{apart_lent, full_before, gathered_below, gathered_sources, lends_none, pushes_at, pushes_long}
 use Rattle.regalloc2_tables.proofs.Rooming.{lacks_then}
+use Rattle.regalloc2_walk.proofs.OneBlock.{gathers_none, of_none}
 use Rattle.regalloc2_walk.proofs.state.State.pass_arguments.Goals as goal
 
 pub push_gathered-requires : goal.push_gathered-requires
@@ -109,3 +110,12 @@ returns-in_err-push_gathered-clause-stops g c =
       | inr (inl a) ↦ in_order Float u m m x.0 x.2 refl (subst (λ (ms : Moves). StopsOrder Float ms m) x.1.float a)
       | inr (inr a) ↦ in_order Vector u m m x.0 x.2 refl (subst (λ (ms : Moves). StopsOrder Vector ms m) x.1.vector a)
     ])
+
+-- edges to blocks without parameters pass nothing
+pub returns-clause-none : goal.returns-clause-none
+returns-clause-none g c = λ empty.
+    let f = g.F.Function.function c.args.f.now in
+    let m : Tables = tables_of c.gather.new.self in
+    let x = c.in_ok-moves.ensures.ok in
+    let none = gathers_none f c.args.block (before c.args.inst) c.args.turn.now (tables_of c.args.self.now) (length (block_at f c.args.block).succs) c.gather.new.turn m x.0 empty x.2 in
+    c.in_ok-push_gathered.ensures.none (of_none Int x.0 c.in_ok-moves.moves.int none.1 x.1.int) (of_none Float x.0 c.in_ok-moves.moves.float none.1 x.1.float) (of_none Vector x.0 c.in_ok-moves.moves.vector none.1 x.1.vector) ∙ none.0

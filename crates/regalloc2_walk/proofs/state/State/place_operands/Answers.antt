@@ -6,11 +6,13 @@ use Rattle.regalloc2_steps.specs.Steps.{none_placed, of_other, one_placed, Place
 use Rattle.regalloc2_walk.specs.States.{tables_of}
 use Rattle.regalloc2_validate.proofs.Reading.{read_operand}
 use Rattle.regalloc2_steps.proofs.Emptying.{same_then}
+use Rattle.regalloc2_walk.proofs.Settled.{none_placed_yet, one_placed_more, other_left}
+use Rattle.regalloc2_walk.specs.Uncrowded.{ArePlaced}
 use Rattle.regalloc2_walk.proofs.state.State.place_operands.Goals as goal
 use Rattle.regalloc2_walk.proofs.state.State.place_operands.Goals.{then-stands_at+in_ok-place_operand, else-stands_at}
 
 pub loop-k-init : goal.loop-k-init
-loop-k-init g c = record { done = none_placed; later = c.requires.later; long = refl; machine = record { allocatable = refl; fixed_stack = refl; dedicated = refl; sizes = refl; vregs = refl; lent = refl } }
+loop-k-init g c = record { done = none_placed; later = c.requires.later; long = refl; machine = record { allocatable = refl; fixed_stack = refl; dedicated = refl; sizes = refl; vregs = refl; lent = refl }; uncrowded = λ names gone few plain blank h. none_placed_yet names gone c.args.operands.now (is_late c.args.pos) c.args.here.now (tables_of c.args.self.now) c.args.turn.now c.args.self.now.registers h }
 
 pub place_operand-requires : goal.place_operand-requires
 place_operand-requires g c = (
@@ -37,12 +39,17 @@ loop-k-preserved g c =
         later = w.in_ok-place_operand.ensures.later;
         long = w.in_ok-place_operand.ensures.long ∙ c.loop-k.invariant.long;
         machine = same_then (tables_of c.args.self.now) (tables_of c.loop-k.self) (tables_of w.place_operand.new.self) c.loop-k.invariant.machine w.in_ok-place_operand.ensures.machine;
+        uncrowded = λ names gone few plain blank h. one_placed_more names gone c.args.inst c.args.is_ret ops k (is_late c.args.pos) c.args.here.now c.loop-k.here w.place_operand.new.here (tables_of c.args.self.now) (tables_of c.loop-k.self) (tables_of w.place_operand.new.self)
+            c.loop-k.turn w.place_operand.new.turn c.loop-k.self.registers w.place_operand.new.self.registers few plain c.loop-k-test.true c.requires.here_long blank (late ∙ c.stands_at.ensures.0 w.if-stands_at.true)
+            (c.loop-k.invariant.uncrowded names gone few plain blank h) w.in_ok-place_operand.ensures.takes w.in_ok-place_operand.ensures.ok;
       })
       | else-stands_at w ↦ rw (w.self-is, w.turn-is, w.here-is) (record {
         done = of_other k c.loop-k.here c.loop-k.turn (tables_of c.loop-k.self) c.loop-k.invariant.done (λ e. let t = c.stands_at.ensures.1 (sym late ∙ e) in let f = w.if-stands_at.false in absurd cc);
         later = c.loop-k.invariant.later;
         long = c.loop-k.invariant.long;
         machine = c.loop-k.invariant.machine;
+        uncrowded = λ names gone few plain blank h. other_left names gone ops k (is_late c.args.pos) c.args.here.now c.loop-k.here (tables_of c.args.self.now) (tables_of c.loop-k.self) c.loop-k.turn c.loop-k.self.registers
+            (λ e. let t = c.stands_at.ensures.1 (sym late ∙ e) in let f = w.if-stands_at.false in cc) (c.loop-k.invariant.uncrowded names gone few plain blank h);
       })
     ]
 
@@ -51,3 +58,9 @@ returns-clause-ok g c =
     let e : c.loop-k.k ≡ length c.args.operands.now = omega arith in
     let P : ℕ → Type 0 = λ k. PlacesAt c.args.inst c.args.is_ret (is_late c.args.pos) c.args.operands.now c.args.here.now c.args.turn.now (tables_of c.args.self.now) k c.loop-k.here c.loop-k.turn (tables_of c.loop-k.self) in
     subst P e c.loop-k.invariant.done
+
+pub returns-clause-uncrowded : goal.returns-clause-uncrowded
+returns-clause-uncrowded g c = λ names gone few plain blank h.
+    let e : c.loop-k.k ≡ length c.args.operands.now = omega arith in
+    subst (λ (k : ℕ). ArePlaced names gone c.args.operands.now (is_late c.args.pos) k c.args.here.now c.loop-k.here c.loop-k.self.registers (tables_of c.args.self.now) (tables_of c.loop-k.self) c.loop-k.turn) e
+    (c.loop-k.invariant.uncrowded names gone few plain blank h)

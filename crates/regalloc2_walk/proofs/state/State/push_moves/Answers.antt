@@ -1,4 +1,5 @@
 use Rattle.std.proofs.Common.{ℕ, List, ◌++◌, ap, ◌∙◌}
+use Rattle.std.proofs.lemmas.List.{append-nil}
 use Rattle.regalloc2_function.specs.OutputValue.{MoveValue}
 use Rattle.regalloc2_tables.specs.Lending.{Moves, pushed}
 use Rattle.regalloc2_steps.specs.Steps.{Tables}
@@ -14,3 +15,9 @@ returns-clause-ok g c =
       orders = c.in_ok-made.ensures.ok;
       pushes = ap (λ (es : List (ℕ × MoveValue)). record middle { edits = es }) (c.in_ok-push_all.ensures.ok ∙ ap (λ (ms : Moves). middle.edits ++ pushed c.args.point ms) c.as_slice.ensures);
     }
+
+pub returns-clause-none : goal.returns-clause-none
+returns-clause-none g c = λ none.
+    let middle : Tables = tables_of c.order.new.self in
+    let o = c.in_ok-made.ensures.none none in
+    ap (λ (es : List (ℕ × MoveValue)). record middle { edits = es }) (c.in_ok-push_all.ensures.ok ∙ ap (λ (ms : Moves). middle.edits ++ pushed c.args.point ms) (c.as_slice.ensures ∙ o.0) ∙ append-nil middle.edits) ∙ o.1

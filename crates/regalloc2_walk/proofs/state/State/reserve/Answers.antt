@@ -7,7 +7,7 @@ use Rattle.regalloc2_walk.proofs.Reserved.{awaiting_none, awaiting_more, reservi
 use Rattle.regalloc2_walk.proofs.state.State.reserve.Goals as goal
 
 pub loop-k-init : goal.loop-k-init
-loop-k-init g c = record { reserving = reserving_none c.args.operands.now c.args.turn.now c.none-claims.result (tables_of c.args.self.now) c.none-claims.ensures.early c.none-claims.ensures.late; awaiting = awaiting_none c.args.operands.now c.args.turn.now; same = refl }
+loop-k-init g c = record { reserving = reserving_none c.args.operands.now c.args.turn.now c.none-claims.result (tables_of c.args.self.now) c.none-claims.ensures.early c.none-claims.ensures.late; awaiting = awaiting_none c.args.operands.now c.args.turn.now; same = refl; registers = λ none. refl }
 
 pub loop-k-preserved : goal.loop-k-preserved
 loop-k-preserved g c = record {
@@ -15,6 +15,7 @@ loop-k-preserved g c = record {
       (subst (λ (t : Tables). ReservesOne c.args.operands.now c.loop-k.k c.loop-k.turn c.reserve_one.new.turn c.loop-k.claims c.reserve_one.new.claims t) c.loop-k.invariant.same c.in_ok-reserve_one.ensures.ok);
   awaiting = awaiting_more c.args.operands.now c.loop-k.k c.args.turn.now c.loop-k.turn c.reserve_one.new.turn (omega arith) (omega arith) c.in_ok-reserve_one.ensures.awaited c.loop-k.invariant.awaiting;
   same = c.reserve_one.ensures.same ∙ c.loop-k.invariant.same;
+  registers = λ none. c.in_ok-reserve_one.ensures.registers (λ r e. none c.loop-k.k r (omega arith) e) ∙ c.loop-k.invariant.registers (λ k r less e. none k r (omega (arith, less)) e);
 }
 
 pub returns-clause-ok : goal.returns-clause-ok
@@ -32,3 +33,6 @@ returns-in_err-reserve_one-clause-stops g c =
     let e = err_from_is_err_and c.from_residual.result c.from_residual.ensures.1 in
     rw e.1 (λ lacks. stops_reserve ops c.loop-k.k c.args.turn.now c.loop-k.turn c.loop-k.claims (tables_of c.args.self.now) (omega arith) c.loop-k.invariant.reserving
     (subst (λ (t : Tables). StopsClaim ops c.loop-k.k c.loop-k.claims t) c.loop-k.invariant.same (c.in_err-reserve_one.ensures.stops (sym e.2 ∙ lacks))))
+
+pub returns-clause-registers : goal.returns-clause-registers
+returns-clause-registers g c = λ none. c.loop-k.invariant.registers (λ k r less e. none k r (omega (arith, less)) e)

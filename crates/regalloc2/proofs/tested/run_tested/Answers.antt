@@ -1,0 +1,13 @@
+use Rattle.regalloc2.proofs.tested.run_tested.Goals as goal
+
+pub reads_written-requires : goal.reads_written-requires
+reads_written-requires g c =
+    let ok = c.in-Ok.ensures.tested in
+    record { successors = ok.successors; follow = ok.follow; end = ok.end; counted = ok.counted }
+
+-- no path reads before writing, so that nothing of the promise has a premise left
+pub returns-clause-runs : goal.returns-clause-runs
+returns-clause-runs g c = c.in-Ok.ensures.allocation.faithful (c.in-Ok-reads_written.ensures.ok.0 c.if-not-written.false)
+
+pub returns-clause-live : goal.returns-clause-live
+returns-clause-live g c = c.in-Ok.ensures.allocation.live (c.in-Ok-reads_written.ensures.ok.0 c.if-not-written.false)

@@ -1,0 +1,88 @@
+//! The debug locations of an output: where the values of labelled virtual registers stand.
+
+ghost use Rattle.std.specs.Prelude.{◌≡◌, ◌<◌, ℕ, All, IfErr, IfOk, length, map, slice_index};
+ghost use Rattle.regalloc2_function.specs.FunctionValue.{inst_at, operand_count};
+ghost use Rattle.regalloc2_function.specs.Stored.{location_of};
+ghost use Rattle.regalloc2_points.specs.LiveRanges.{IsSSA};
+ghost use Rattle.regalloc2_steps.specs.Walks.{offset_of};
+ghost use Rattle.regalloc2_fastalloc.specs.Located.{AreLocated, HasPlace, location_shown, place_shown};
+
+use regalloc2_function::Function;
+use regalloc2_names::{Allocation, ProgPoint, RegAllocError};
+use regalloc2_points::{KeptLabel, LiveRange, kept_labels};
+use regalloc2_tables::slots::Slots;
+use std::alloc::Allocator;
+
+/// The place that shows a vreg's value over its live range: its slot where it has one, else that of the operand which the
+/// range names.
+fn place_of<B: Allocator>(
+    range: LiveRange,
+    slots: &Slots<B>,
+    offsets: &[u32],
+    allocs: &[Allocation],
+) -> Allocation
+    requires { HasPlace slots.now offsets.now allocs.now range }
+    ensures { result ≡ place_shown slots.now offsets.now allocs.now range }
+{
+    let slot = slots.find(range.vreg);
+    match range.by {
+        Some(by) if slot.is_none() => allocs[offsets[by.inst.index()] as usize + by.index],
+        _ => slot,
+    }
+}
+
+/// The debug location of a label that is kept.
+fn location<B: Allocator>(
+    kept: KeptLabel,
+    slots: &Slots<B>,
+    offsets: &[u32],
+    allocs: &[Allocation],
+) -> (u32, ProgPoint, ProgPoint, Allocation)
+    requires { HasPlace slots.now offsets.now allocs.now kept.range }
+    ensures { location_of result ≡ location_shown slots.now offsets.now allocs.now kept }
+{
+    let place = place_of(kept.range, slots, offsets, allocs);
+    (kept.label, kept.range.first, kept.range.last, place)
+}
+
+/// The debug locations of labels that are kept, in their order.
+fn locate<A: Allocator, B: Allocator>(
+    alloc: A,
+    kept: &[KeptLabel],
+    slots: &Slots<B>,
+    offsets: &[u32],
+    allocs: &[Allocation],
+) -> Result<Vec<(u32, ProgPoint, ProgPoint, Allocation), A>, RegAllocError>
+    requires { All (λ k. HasPlace slots.now offsets.now allocs.now k.range) kept.now }
+    ensures ok { IfOk result (λ ds. map location_of ds.items ≡ map (location_shown slots.now offsets.now allocs.now) kept.now) }
+    ensures err { IfErr result (λ e. e ≡ RegAllocError.Memory) }
+{
+    let mut locations = Vec::with_capacity(alloc, kept.len())?;
+    for label in kept {
+        locations.push(location(*label, slots, offsets, allocs))?;
+    }
+    Ok(locations)
+}
+
+/// The debug locations of a function whose walk left these slots and places: those of the labels that are kept, by rising
+/// label, and as listed where labels are equal.
+pub fn locations<A: Allocator + Copy, F: Function, B: Allocator>(
+    alloc: A,
+    f: &F,
+    slots: &Slots<B>,
+    offsets: &[u32],
+    allocs: &[Allocation],
+) -> Result<Vec<(u32, ProgPoint, ProgPoint, Allocation), A>, RegAllocError>
+    requires ssa { IsSSA (F.function f.now) }
+    requires vregs { length slots.now.of_vreg ≡ (F.function f.now).num_vregs }
+    requires offsets_long { length offsets.now ≡ length (F.function f.now).insts }
+    requires offsets { (i : ℕ) → i < length (F.function f.now).insts → slice_index offsets.now i ≡ offset_of (F.function f.now) i }
+    requires allocs_long { length allocs.now ≡ operand_count (F.function f.now) }
+    ensures ok { IfOk result (λ ds. AreLocated (F.function f.now) slots.now offsets.now allocs.now (map location_of ds.items)) }
+    ensures err { IfErr result (λ e. e ≡ RegAllocError.Memory) }
+{
+    let kept = kept_labels(alloc, f)?;
+    let mut locations = locate(alloc, &kept, slots, offsets, allocs)?;
+    locations.sort_by_key(|location| location.0)?;
+    Ok(locations)
+}
