@@ -58,5 +58,5 @@ unfolding allocatable_count
 are_few f env allocatable h all class vs distinct named =
     let most : length vs ≤ allocatable_count env class = h.enough class vs distinct (λ k d lt. (let n = named k d lt in (n.0, from_names f.insts (slice_index_or vs k d) n.1))) in
     let more : count_below (λ n. is_allocatable env class (register_number class n)) 64 ≤ count_below (λ n. has_register allocatable (register_number class n)) 64 =
-        count_le (λ n. is_allocatable env class (register_number class n)) (λ n. has_register allocatable (register_number class n)) 64 (λ n lt e. all (register_number class n) e) in
+    count_le (λ n. is_allocatable env class (register_number class n)) (λ n. has_register allocatable (register_number class n)) 64 (λ n lt e. all (register_number class n) e) in
     omega (arith, most, more)

@@ -36,9 +36,25 @@ use Rattle.regalloc2_walk.specs.Uncrowded.{AreFew, ArePlaced, ArePlain, AsksForR
 -- the registers that weren't used are free at another turn
 with_turn : (names : List VirtualRegister) (gone : ℕ → Bool) (regs : RegistersValue) (t : Tables) (u w : Turn) → IsUncrowded names gone regs t u → ((r : Register) → has_register t.allocatable r ≡ true → is_free_throughout u r ≡ true → is_free_throughout w r ≡ true) → IsUncrowded names gone regs t w
 with_turn names gone regs t u w h kept = record {
-  no_moves = h.no_moves; no_slots = h.no_slots; no_units = h.no_units; allocatable = h.allocatable; apart = h.apart; rings = h.rings; stand = h.stand; named = h.named; nowhere = h.nowhere;
+  no_moves = h.no_moves;
+  no_slots = h.no_slots;
+  no_units = h.no_units;
+  allocatable = h.allocatable;
+  apart = h.apart;
+  rings = h.rings;
+  stand = h.stand;
+  named = h.named;
+  nowhere = h.nowhere;
   each = λ class. (let e = h.each class in record {
-    used = e.used; unused = e.unused; met = e.met; ring = e.ring; few = e.few; distinct = e.distinct; of_class = e.of_class; known = e.known; empty = e.empty;
+    used = e.used;
+    unused = e.unused;
+    met = e.met;
+    ring = e.ring;
+    few = e.few;
+    distinct = e.distinct;
+    of_class = e.of_class;
+    known = e.known;
+    empty = e.empty;
     free = λ r c. kept r (allocatable class e r c) (e.free r c);
   });
 }
@@ -57,9 +73,9 @@ refreshed names gone regs t u w h fresh = with_turn names gone regs t u w h (λ 
 pub reserved_none : (names : List VirtualRegister) (gone : ℕ → Bool) (regs : RegistersValue) (operands : List OperandValue) (t : Tables) (u w : Turn) → ((k : ℕ) → k < length operands → (op_at operands k).constraint ≡ Reg) → Reserves operands u w t → IsUncrowded names gone regs t u
     → IsUncrowded names gone regs t w
 reserved_none names gone regs operands t u w reg reserves h = with_turn names gone regs t u w h (λ r has free. elim (cases_Bool (is_free_throughout w r)) [
-    | inl e ↦ e
-    | inr e ↦ (let fixed = reserves.only r free e in absurd (let wrong : FixedReg r ≡ Reg = sym fixed.2 ∙ reg fixed.0 fixed.1 in cc))
-  ])
+  | inl e ↦ e
+  | inr e ↦ (let fixed = reserves.only r free e in absurd (let wrong : FixedReg r ≡ Reg = sym fixed.2 ∙ reg fixed.0 fixed.1 in cc))
+])
 
 -- nor held where there are no clobbers
 pub held_none : (names : List VirtualRegister) (gone : ℕ → Bool) (regs : RegistersValue) (clobbers : PRegSet) (t : Tables) (u w : Turn) → ((r : Register) → has_register clobbers r ≡ false) → HoldsClobbers clobbers u w → IsUncrowded names gone regs t u
@@ -109,9 +125,9 @@ early_plain names gone operands here half regs old t u plain h = record {
   named = (plain false).named;
   there = λ k lt at. elim (cases_Bool (h.gone_now (op_at operands k).vreg.number)) [
     | inl e ↦ elim (h.only (op_at operands k).vreg.number e) [
-        | inl g ↦ absurd (let wrong : true ≡ false = sym g ∙ (plain false).there k lt at in cc)
-        | inr x ↦ (let same : x.0 ≡ k = (plain false).apart x.0 k x.1 lt x.3 x.4 in absurd (let wrong : true ≡ false = sym x.2 ∙ ap (λ (j : ℕ). is_late (op_at operands j).position) same ∙ at in cc))
-      ]
+      | inl g ↦ absurd (let wrong : true ≡ false = sym g ∙ (plain false).there k lt at in cc)
+      | inr x ↦ (let same : x.0 ≡ k = (plain false).apart x.0 k x.1 lt x.3 x.4 in absurd (let wrong : true ≡ false = sym x.2 ∙ ap (λ (j : ℕ). is_late (op_at operands j).position) same ∙ at in cc))
+    ]
     | inr e ↦ e
   ];
   apart = (plain false).apart;
@@ -271,12 +287,24 @@ begins_uncrowded f names regs t nobody edits slots count same apart rings = reco
   goes = λ j n past inside. absurd (omega (arith, past, inside));
   turn = record { early = t.allocatable; late = t.allocatable; scratch = None ∷ None ∷ None ∷ []; awaited = 0 ∷ 0 ∷ 0 ∷ [] };
   uncrowded = record {
-    no_moves = edits; no_slots = slots; no_units = count; allocatable = same; apart = apart; rings = rings;
+    no_moves = edits;
+    no_slots = slots;
+    no_units = count;
+    allocatable = same;
+    apart = apart;
+    rings = rings;
     stand = λ n there. absurd (there (nobody n));
     named = λ n there. absurd (there (nobody n));
     nowhere = λ n e. nobody n;
     each = λ class. record {
-      used = []; unused = ring_of regs class; met = []; ring = refl; few = omega arith; distinct = none_alike; of_class = λ k d lt. absurd (omega arith); known = λ v c. absurd (omega (arith, c.1));
+      used = [];
+      unused = ring_of regs class;
+      met = [];
+      ring = refl;
+      few = omega arith;
+      distinct = none_alike;
+      of_class = λ k d lt. absurd (omega arith);
+      known = λ v c. absurd (omega (arith, c.1));
       empty = λ n r at c. (let wrong : InRegister r ≡ NoPlace = sym at ∙ nobody n in cc);
       free = λ r c. (let has : has_register t.allocatable r ≡ true = ap (λ (s : PRegSet). has_register s r) (sym same) ∙ (rings class).has r c in rw has refl);
     };

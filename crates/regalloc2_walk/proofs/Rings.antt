@@ -73,7 +73,7 @@ found_last test used (x ∷ xs) r some all found = at (last_split x xs).0 (last_
     at front last e =
         let there : Contains (x ∷ xs) last = subst (λ (l : List Register). Contains l last) (sym e) (Contains-append_right front (last ∷ []) last (0, omega arith, refl)) in
         let turned : reverse (used ++ (x ∷ xs)) ≡ last ∷ reverse (used ++ front) =
-            ap (λ (l : List Register). reverse (used ++ l)) e ∙ ap reverse (sym (append_assoc used front (last ∷ []))) ∙ reverse-append (used ++ front) (last ∷ []) in
+        ap (λ (l : List Register). reverse (used ++ l)) e ∙ ap reverse (sym (append_assoc used front (last ∷ []))) ∙ reverse-append (used ++ front) (last ∷ []) in
         let now : find test (last ∷ reverse (used ++ front)) ≡ Some r = ap (find test) (sym turned) ∙ found in
         let is : Some last ≡ Some r = by_last (all last there) now in
         subst (Contains (x ∷ xs)) (some_same last r is) there

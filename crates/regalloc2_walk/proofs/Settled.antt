@@ -30,27 +30,36 @@ class_settled : (names : List VirtualRegister) (gone gone_now : ℕ → Bool) (n
     → ((m : ℕ) → m ≢ n → stood u.places m ≡ stood t.places m) → (stood u.places n ≡ InRegister r) ⊎ ((stood u.places n ≡ NoPlace) × (gone_now n ≡ true)) → ((m : ℕ) → gone m ≡ true → gone_now m ≡ true)
     → IsUncrowdedIn names gone_now class ring u turn
 class_settled names gone gone_now n r class ring t u turn h others own grows = record {
-  used = h.used; unused = h.unused; met = h.met; ring = h.ring; few = h.few; distinct = h.distinct; of_class = h.of_class; known = known; empty = empty; free = h.free;
+  used = h.used;
+  unused = h.unused;
+  met = h.met;
+  ring = h.ring;
+  few = h.few;
+  distinct = h.distinct;
+  of_class = h.of_class;
+  known = known;
+  empty = empty;
+  free = h.free;
 }
   where
     known : (v : VirtualRegister) → Contains h.met v → (stood u.places v.number ≢ NoPlace) ⊎ (gone_now v.number ≡ true)
     known v c = elim (same_number v.number n) [
       | inl e ↦ elim own [
-          | inl at ↦ inl (λ none. (let wrong : InRegister r ≡ NoPlace = sym at ∙ ap (stood u.places) (sym e) ∙ none in cc))
-          | inr at ↦ inr (ap gone_now e ∙ at.1)
-        ]
+        | inl at ↦ inl (λ none. (let wrong : InRegister r ≡ NoPlace = sym at ∙ ap (stood u.places) (sym e) ∙ none in cc))
+        | inr at ↦ inr (ap gone_now e ∙ at.1)
+      ]
       | inr ne ↦ elim (h.known v c) [
-          | inl a ↦ inl (λ none. a (sym (others v.number ne) ∙ none))
-          | inr b ↦ elim b [ inl g ↦ inr (grows v.number g) | inr e ↦ absurd (ne e) ]
-        ]
+        | inl a ↦ inl (λ none. a (sym (others v.number ne) ∙ none))
+        | inr b ↦ elim b [ inl g ↦ inr (grows v.number g) | inr e ↦ absurd (ne e) ]
+      ]
     ]
 
     empty : (m : ℕ) (q : Register) → stood u.places m ≡ InRegister q → Contains h.unused q → ⊥
     empty m q at c = elim (same_number m n) [
       | inl e ↦ elim own [
-          | inl there ↦ h.apart (subst (Contains h.unused) (in_register_same q r (sym at ∙ ap (stood u.places) e ∙ there)) c)
-          | inr nowhere ↦ (let wrong : InRegister q ≡ NoPlace = sym at ∙ ap (stood u.places) e ∙ nowhere.0 in cc)
-        ]
+        | inl there ↦ h.apart (subst (Contains h.unused) (in_register_same q r (sym at ∙ ap (stood u.places) e ∙ there)) c)
+        | inr nowhere ↦ (let wrong : InRegister q ≡ NoPlace = sym at ∙ ap (stood u.places) e ∙ nowhere.0 in cc)
+      ]
       | inr ne ↦ h.empty m q (sym (others m ne) ∙ at) c
     ]
 
@@ -77,9 +86,9 @@ settled names gone gone_now o p turn after_turn old left new before after h name
     stand : (m : ℕ) → stood new.places m ≢ NoPlace → (r : Register) × (stood new.places m ≡ InRegister r) × (has_register new.allocatable r ≡ true)
     stand m there = elim (same_number m o.vreg.number) [
       | inl e ↦ elim own_register [
-          | inl at ↦ (got.register, ap (stood new.places) e ∙ at, ap (λ (s : PRegSet). has_register s got.register) machine.allocatable ∙ got.allocatable)
-          | inr at ↦ absurd (there (ap (stood new.places) e ∙ at.0))
-        ]
+        | inl at ↦ (got.register, ap (stood new.places) e ∙ at, ap (λ (s : PRegSet). has_register s got.register) machine.allocatable ∙ got.allocatable)
+        | inr at ↦ absurd (there (ap (stood new.places) e ∙ at.0))
+      ]
       | inr ne ↦ (let s = h.stand m (λ none. there (others m ne ∙ none)) in (s.0, others m ne ∙ s.1, ap (λ (x : PRegSet). has_register x s.0) machine.allocatable ∙ s.2))
     ]
 
@@ -123,11 +132,19 @@ use_placed names gone point o p t u old new before after any h few named there t
         let at : stood old.places o.vreg.number ≡ p = elim got.stood_there [ inl a ↦ a | inr b ↦ absurd (stood_somewhere b) ] in
         rw same (record {
           uncrowded = settled names gone gone o p t u old places.middle old before after h named got (λ m ne. refl) (inl at) (λ m g. g) h.nowhere refl refl (no_machine old);
-          machine = refl; there = is_there; others = λ m ne. refl; stays = λ e ne. refl; own = λ e. at;
+          machine = refl;
+          there = is_there;
+          others = λ m ne. refl;
+          stays = λ e ne. refl;
+          own = λ e. at;
         })
     by (stands nowhere settles slots edits machine) = record {
       uncrowded = settled names gone gone o p t u old places.middle new before after h named got settles.others (inl settles.here) (λ m g. g) (λ m g. still_nowhere m g settles.others) edits slots machine;
-      machine = machine.allocatable; there = is_there; others = settles.others; stays = λ e ne. absurd (ne nowhere); own = λ e. settles.here;
+      machine = machine.allocatable;
+      there = is_there;
+      others = settles.others;
+      stays = λ e ne. absurd (ne nowhere);
+      own = λ e. settles.here;
     }
 
 -- nothing is sent
@@ -196,12 +213,16 @@ def_placed names gone point o is_ret p t u old new before after any h few named 
     by d =
         let first = unsent_same point o.vreg.class (not is_ret && is_another (stood old.places o.vreg.number) p) p (stood old.places o.vreg.number) places.turn d.turn d.left d.middle (no_other (not is_ret) (stood old.places o.vreg.number) p got.stood_there) d.awaited in
         let second = unsent_same point o.vreg.class (not is_ret && (is_another (slot_name old.slots o.vreg.number) p && not (is_place (slot_name old.slots o.vreg.number) (stood old.places o.vreg.number)))) p (slot_name old.slots o.vreg.number) d.turn u d.middle new
-            (nor_stored (not is_ret) (not (is_place (slot_name old.slots o.vreg.number) (stood old.places o.vreg.number))) (slot_name old.slots o.vreg.number) p (h.no_slots o.vreg.number)) d.stored in
+        (nor_stored (not is_ret) (not (is_place (slot_name old.slots o.vreg.number) (stood old.places o.vreg.number))) (slot_name old.slots o.vreg.number) p (h.no_slots o.vreg.number)) d.stored in
         let turn : u ≡ places.turn = second.0 ∙ first.0 in
         let same : new ≡ d.left = second.1 ∙ first.1 in
         rw (same, turn) (record {
           uncrowded = settled names gone (and_gone o.vreg.number gone) o p t places.turn old places.middle d.left before after h named got d.settles.others (inr (d.settles.here, gone_here o.vreg.number gone)) (gone_grows o.vreg.number gone) (λ m g. still_nowhere m g d) d.edits d.slots d.machine;
-          machine = d.machine.allocatable; there = λ e. (let wrong : InRegister got.register ≡ NoPlace = sym got.is ∙ e in cc); others = d.settles.others; stays = λ e. absurd cc; own = λ e. absurd cc;
+          machine = d.machine.allocatable;
+          there = λ e. (let wrong : InRegister got.register ≡ NoPlace = sym got.is ∙ e in cc);
+          others = d.settles.others;
+          stays = λ e. absurd cc;
+          own = λ e. absurd cc;
         })
 
 -- a use isn't a definition
@@ -236,9 +257,9 @@ more_placed names gone operands k late d here there next p old m n u w before af
   stand = λ a there_before not_defined. (let same : stood m.places a ≡ stood old.places a = h.stand a there_before (λ x. not_defined (x.0, omega (arith, x.1), x.2, x.3, x.4)) in
       elim (same_number a (op_at operands k).vreg.number) [
         | inl e ↦ elim (cases_Bool d) [
-            | inl defines ↦ absurd (not_defined (k, omega arith, at, kind ∙ defines, sym e))
-            | inr use_it ↦ subst (λ (y : ℕ). stood m.places y ≡ stood old.places y → stood m.places y ≢ NoPlace → stood n.places y ≡ stood old.places y) (sym e) (λ s x. placed.stays use_it x ∙ s) same (λ x. there_before (sym same ∙ x))
-          ]
+          | inl defines ↦ absurd (not_defined (k, omega arith, at, kind ∙ defines, sym e))
+          | inr use_it ↦ subst (λ (y : ℕ). stood m.places y ≡ stood old.places y → stood m.places y ≢ NoPlace → stood n.places y ≡ stood old.places y) (sym e) (λ s x. placed.stays use_it x ∙ s) same (λ x. there_before (sym same ∙ x))
+        ]
         | inr ne ↦ placed.others a ne ∙ same
       ]);
   uses = λ j less position reading. elim (same_number j k) [
@@ -265,9 +286,9 @@ more_placed names gone operands k late d here there next p old m n u w before af
     still : (j : ℕ) → j < length operands → j ≢ k → is_reading (op_at operands j) ≡ true → stood m.places (op_at operands j).vreg.number ≢ NoPlace → stood n.places (op_at operands j).vreg.number ≡ stood m.places (op_at operands j).vreg.number
     still j inside ne reading somewhere = elim (same_number (op_at operands j).vreg.number (op_at operands k).vreg.number) [
       | inl e ↦ elim (cases_Bool d) [
-          | inl defines ↦ absurd (ne (sym (plain.apart k j lt inside (kind ∙ defines) (sym e))))
-          | inr use_it ↦ subst (λ (y : ℕ). stood m.places y ≢ NoPlace → stood n.places y ≡ stood m.places y) (sym e) (placed.stays use_it) somewhere
-        ]
+        | inl defines ↦ absurd (ne (sym (plain.apart k j lt inside (kind ∙ defines) (sym e))))
+        | inr use_it ↦ subst (λ (y : ℕ). stood m.places y ≢ NoPlace → stood n.places y ≡ stood m.places y) (sym e) (placed.stays use_it) somewhere
+      ]
       | inr other ↦ placed.others (op_at operands j).vreg.number other
     ]
 
@@ -293,9 +314,9 @@ one_placed_more names gone i is_ret operands k late here there next old m n u w 
     there_now : h.gone_now (op_at operands k).vreg.number ≡ false
     there_now = elim (cases_Bool (h.gone_now (op_at operands k).vreg.number)) [
       | inl e ↦ elim (h.only (op_at operands k).vreg.number e) [
-          | inl g ↦ absurd (let wrong : true ≡ false = sym g ∙ plain.there k lt at in cc)
-          | inr x ↦ (let same : x.0 ≡ k = plain.apart x.0 k (omega (arith, x.1, lt)) lt x.3 x.4 in absurd (omega (arith, same, x.1)))
-        ]
+        | inl g ↦ absurd (let wrong : true ≡ false = sym g ∙ plain.there k lt at in cc)
+        | inr x ↦ (let same : x.0 ≡ k = plain.apart x.0 k (omega (arith, x.1, lt)) lt x.3 x.4 in absurd (omega (arith, same, x.1)))
+      ]
       | inr e ↦ e
     ]
 
@@ -319,7 +340,9 @@ one_placed_more names gone i is_ret operands k late here there next old m n u w 
 pub other_left : (names : List VirtualRegister) (gone : ℕ → Bool) (operands : List OperandValue) (k : ℕ) (late : Bool) (here there : List Place) (old m : Tables) (u : Turn) (regs : RegistersValue) → (is_late (op_at operands k).position ≡ late → ⊥)
     → ArePlaced names gone operands late k here there regs old m u → ArePlaced names gone operands late (k + 1) here there regs old m u
 other_left names gone operands k late here there old m u regs not_at h = record {
-  gone_now = h.gone_now; uncrowded = h.uncrowded; machine = h.machine;
+  gone_now = h.gone_now;
+  uncrowded = h.uncrowded;
+  machine = h.machine;
   only = λ a e. elim (h.only a e) [ inl x ↦ inl x | inr x ↦ inr (x.0, omega (arith, x.1), x.2, x.3, x.4) ];
   stays = h.stays;
   goes = λ a x. h.goes a (x.0, before_it x.0 x.1 x.2, x.2, x.3, x.4);
@@ -338,7 +361,16 @@ other_left names gone operands k late here there old m u regs not_at h = record 
 -- none is placed yet
 pub none_placed_yet : (names : List VirtualRegister) (gone : ℕ → Bool) (operands : List OperandValue) (late : Bool) (here : List Place) (old : Tables) (u : Turn) (regs : RegistersValue) → IsUncrowded names gone regs old u → ArePlaced names gone operands late 0 here here regs old old u
 none_placed_yet names gone operands late here old u regs h = record {
-  gone_now = gone; uncrowded = h; machine = refl; only = λ a e. inl e; stays = λ a e. e; goes = λ a x. absurd (omega (arith, x.1)); long = refl; others = λ j past. refl; stand = λ a ne not_defined. refl; uses = λ j less. absurd (omega (arith, less));
+  gone_now = gone;
+  uncrowded = h;
+  machine = refl;
+  only = λ a e. inl e;
+  stays = λ a e. e;
+  goes = λ a x. absurd (omega (arith, x.1));
+  long = refl;
+  others = λ j past. refl;
+  stand = λ a ne not_defined. refl;
+  uses = λ j less. absurd (omega (arith, less));
 }
 
 -- what an operand under `Reg` isn't, and what it asks

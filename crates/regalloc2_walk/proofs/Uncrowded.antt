@@ -73,7 +73,13 @@ free_others t u r p h q e f =
 taken_elsewhere : (names : List VirtualRegister) (gone : ℕ → Bool) (n : ℕ) (r : Register) (class : RegClass) (old new : List Register) (t : Tables) (turn after : Turn) → class ≢ r.class → ((q : Register) → Contains old q → q.class ≡ class)
     → ((q : Register) → is_register r q ≡ false → is_free_throughout turn q ≡ true → is_free_throughout after q ≡ true) → new ≡ old → IsUncrowdedIn names gone class old t turn → Taken names gone n r class new t after
 taken_elsewhere names gone n r class old new t turn after other members kept same h = record {
-  used = h.used; unused = h.unused; met = h.met; ring = same ∙ h.ring; few = h.few; distinct = h.distinct; of_class = h.of_class;
+  used = h.used;
+  unused = h.unused;
+  met = h.met;
+  ring = same ∙ h.ring;
+  few = h.few;
+  distinct = h.distinct;
+  of_class = h.of_class;
   known = λ v c. elim (h.known v c) [ inl a ↦ inl a | inr b ↦ inr (inl b) ];
   empty = h.empty;
   free = λ q c. kept q (apart q c) (h.free q c);
@@ -95,7 +101,14 @@ taken_here : (names : List VirtualRegister) (gone : ℕ → Bool) (n : ℕ) (r :
     → new ≡ (r ∷ but r h.used) ++ but r h.unused → length (r ∷ but r h.used) ≤ length met → IsDistinct is_same_number met → All (λ (v : VirtualRegister). (v.class ≡ class) × Contains names v) met
     → ((v : VirtualRegister) → Contains met v → (stood t.places v.number ≢ NoPlace) ⊎ ((gone v.number ≡ true) ⊎ (v.number ≡ n))) → Taken names gone n r class new t after
 taken_here names gone n r class old new t turn after met kept h ring few distinct of_class known = record {
-  used = r ∷ but r h.used; unused = but r h.unused; met = met; ring = ring; few = few; distinct = distinct; of_class = of_class; known = known;
+  used = r ∷ but r h.used;
+  unused = but r h.unused;
+  met = met;
+  ring = ring;
+  few = few;
+  distinct = distinct;
+  of_class = of_class;
+  known = known;
   empty = λ m q e c. h.empty m q e (but_from r q h.unused c);
   free = λ q c. kept q (apart q c) (h.free q (but_from r q h.unused c));
   apart = but_not r h.unused;
@@ -117,16 +130,17 @@ in_used names gone n r class ring t turn h c at = elim (Contains-append_cases h.
 -- a vreg that wasn't met is one more, and a register is left for it
 pub one_more : (names : List VirtualRegister) (gone : ℕ → Bool) (v : VirtualRegister) (ring : List Register) (t : Tables) (turn : Turn) (h : IsUncrowdedIn names gone v.class ring t turn) → stood t.places v.number ≡ NoPlace → gone v.number ≡ false → Contains names v
     → IsDistinct is_same_number (v ∷ h.met) × All (λ (w : VirtualRegister). (w.class ≡ v.class) × Contains names w) (v ∷ h.met)
-one_more names gone v ring t turn h nowhere there named =
-    (IsDistinct-cons is_same_number v h.met (recursion_from_All (λ (w : VirtualRegister). is_same_number v w ≡ false) h.met (λ k d lt. new (slice_index_or h.met k d) (Contains-get_or h.met k d lt))) h.distinct,
-    All-cons (λ (w : VirtualRegister). (w.class ≡ v.class) × Contains names w) v h.met (refl, named) h.of_class)
+one_more names gone v ring t turn h nowhere there named = (
+  IsDistinct-cons is_same_number v h.met (recursion_from_All (λ (w : VirtualRegister). is_same_number v w ≡ false) h.met (λ k d lt. new (slice_index_or h.met k d) (Contains-get_or h.met k d lt))) h.distinct,
+  All-cons (λ (w : VirtualRegister). (w.class ≡ v.class) × Contains names w) v h.met (refl, named) h.of_class,
+)
   where
     new : (w : VirtualRegister) → Contains h.met w → is_same_number v w ≡ false
     new w c = elim (cases_Bool (is_same_number v w)) [
       | inl e ↦ (let same : v.number ≡ w.number = eqb-true v.number w.number e in elim (h.known w c) [
-          | inl a ↦ absurd (a (ap (stood t.places) (sym same) ∙ nowhere))
-          | inr b ↦ absurd (let wrong : true ≡ false = sym b ∙ ap gone (sym same) ∙ there in cc)
-        ])
+        | inl a ↦ absurd (a (ap (stood t.places) (sym same) ∙ nowhere))
+        | inr b ↦ absurd (let wrong : true ≡ false = sym b ∙ ap gone (sym same) ∙ there in cc)
+      ])
       | inr e ↦ e
     ]
 
@@ -176,10 +190,13 @@ pub record Got (names : List VirtualRegister) (gone : ℕ → Bool) (o : Placing
 rings_kept : (r : Register) (before after : RegistersValue) → has_register before.allocatable r ≡ true → r.number < 64 → Touches r before after → ((class : RegClass) → IsRingOf before.allocatable class (ring_of before class))
     → (after.allocatable ≡ before.allocatable) × ((class : RegClass) → IsRingOf after.allocatable class (ring_of after class))
 rings_kept r before after is small (not_allocatable lacks same) rings = absurd (let x : true ≡ false = sym is ∙ lacks in cc)
-rings_kept r before after is small (newest listed machine here there) rings = (machine.allocatable, λ class. elim (cases_class class r.class) [
+rings_kept r before after is small (newest listed machine here there) rings = (
+  machine.allocatable,
+  λ class. elim (cases_class class r.class) [
     | inl e ↦ subst (λ (c : RegClass). IsRingOf after.allocatable c (ring_of after c)) (sym e) turned
     | inr e ↦ subst (λ (l : List Register). IsRingOf after.allocatable class l) (sym (there class e)) (subst (λ (s : PRegSet). IsRingOf s class (ring_of before class)) (sym machine.allocatable) (rings class))
-  ])
+  ],
+)
   where
     members : (q : Register) → Contains (ring_of after r.class) q → Contains (ring_of before r.class) q
     members q c = (same_members r (ring_of before r.class) ((rings r.class).all r small refl is) q).0 (subst (λ (l : List Register). Contains l q) here c)
@@ -208,7 +225,14 @@ stays_there : (names : List VirtualRegister) (gone : ℕ → Bool) (o : Placing)
 stays_there names gone o r p t u old before after h is at allocatable small touches holds =
     let mine : has_register before.allocatable r ≡ true = ap (λ (s : PRegSet). has_register s r) h.allocatable ∙ allocatable in
     let kept = rings_kept r before after mine small touches h.rings in record {
-      register = r; is = is; small = small; allocatable = allocatable; same = refl; stood_there = inl at; machine = kept.0; rings = kept.1;
+      register = r;
+      is = is;
+      small = small;
+      allocatable = allocatable;
+      same = refl;
+      stood_there = inl at;
+      machine = kept.0;
+      rings = kept.1;
       each = each_taken names gone o.vreg.number r before after old t u mine touches h.rings (free_others t u r o.positions holds) h.each (λ first. here first);
     }
   where
@@ -232,7 +256,14 @@ comes_there : (names : List VirtualRegister) (gone : ℕ → Bool) (o : Placing)
     → stood old.places o.vreg.number ≡ NoPlace → AreFew names old.allocatable → Contains names o.vreg → gone o.vreg.number ≡ false → Contains (h.each o.vreg.class).unused r → Touches r before after → Holds t u r o.positions
     → Got names gone o p u old old before after
 comes_there names gone o r p t u old before after h is nowhere are_few named there unused touches holds = record {
-  register = r; is = is; small = in_ring.1; allocatable = ap (λ (s : PRegSet). has_register s r) (sym h.allocatable) ∙ mine; same = refl; stood_there = inr nowhere; machine = kept.0; rings = kept.1;
+  register = r;
+  is = is;
+  small = in_ring.1;
+  allocatable = ap (λ (s : PRegSet). has_register s r) (sym h.allocatable) ∙ mine;
+  same = refl;
+  stood_there = inr nowhere;
+  machine = kept.0;
+  rings = kept.1;
   each = each_taken names gone o.vreg.number r before after old t u mine touches h.rings (free_others t u r o.positions holds) h.each here;
 }
   where

@@ -238,7 +238,7 @@ unspilled_is g c = λ h.
     let e = c.in_ok-state.ensures in
     let b = blank_is g c in
     let none = c.in_ok-allocate_blocks.ensures.uncrowded (names_in f.insts) (are_few f (machine_of c.args.env.now) begin.allocatable h e.all) (asks_for_registers f (machine_of c.args.env.now) h)
-        (begins_uncrowded f (names_in f.insts) c.in_ok-state.state.registers begin b.nowhere b.no_move b.no_slot (ap (λ (s : SlotsValue). s.count) e.slots) refl (fit_apart begin (fit_is g c)) e.rings) in
+    (begins_uncrowded f (names_in f.insts) c.in_ok-state.state.registers begin b.nowhere b.no_move b.no_slot (ap (λ (s : SlotsValue). s.count) e.slots) refl (fit_apart begin (fit_is g c)) e.rings) in
     (c.in_ok-edits.ensures.listed ∙ ap reverse none.0, c.count.ensures.count ∙ none.1)
 
 pub returns-clause-allocation : goal.returns-clause-allocation

@@ -86,7 +86,7 @@ returns-clause-rings g c =
     } in
     let rings : List (List Register) = c.in_ok-rings.rings.items in
     rings_from c.bitor-2.result int float vector c.in_ok-int_regs.int_regs.items c.in_ok-float_regs.float_regs.items c.in_ok-vector_regs.vector_regs.items rings u
-          c.in_ok-int_regs.ensures.ok c.in_ok-float_regs.ensures.ok c.in_ok-vector_regs.ensures.ok c.in_ok-rings.ensures.three
-          (subst (λ (l : List Register). IsNewRing l (slice_index_or rings 0 [])) c.deref.ensures.value c.in_ok-rings.ensures.int)
-          (subst (λ (l : List Register). IsNewRing l (slice_index_or rings 1 [])) c.deref-2.ensures.value c.in_ok-rings.ensures.float)
-          (subst (λ (l : List Register). IsNewRing l (slice_index_or rings 2 [])) c.deref-3.ensures.value c.in_ok-rings.ensures.vector)
+    c.in_ok-int_regs.ensures.ok c.in_ok-float_regs.ensures.ok c.in_ok-vector_regs.ensures.ok c.in_ok-rings.ensures.three
+    (subst (λ (l : List Register). IsNewRing l (slice_index_or rings 0 [])) c.deref.ensures.value c.in_ok-rings.ensures.int)
+    (subst (λ (l : List Register). IsNewRing l (slice_index_or rings 1 [])) c.deref-2.ensures.value c.in_ok-rings.ensures.float)
+    (subst (λ (l : List Register). IsNewRing l (slice_index_or rings 2 [])) c.deref-3.ensures.value c.in_ok-rings.ensures.vector)

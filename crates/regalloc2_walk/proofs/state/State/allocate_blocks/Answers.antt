@@ -139,7 +139,7 @@ loop-b-preserved g c =
           let begin : (block_at f d).range.first ≡ 0 = ap (λ (n : ℕ). (block_at f n).range.first) same ∙ follows.1 zero in
           let few_now : AreFew names t.allocatable = subst (λ (x : Tables). AreFew names x.allocatable) (sym start.1) few in
           let at_end : IsUncrowdedFrom names f (block_at f d).range.end c.loop-b.self.registers t = subst (λ (n : ℕ). IsUncrowdedFrom names f n c.loop-b.self.registers t) (sym end)
-              (subst (λ (r : RegistersValue). IsUncrowdedFrom names f (length f.insts) r t) (sym start.0) (subst (λ (x : Tables). IsUncrowdedFrom names f (length f.insts) c.args.self.now.registers x) (sym start.1) h)) in
+          (subst (λ (r : RegistersValue). IsUncrowdedFrom names f (length f.insts) r t) (sym start.0) (subst (λ (x : Tables). IsUncrowdedFrom names f (length f.insts) c.args.self.now.registers x) (sym start.1) h)) in
           let done : IsUncrowdedFrom names f 0 c.allocate_insts.new.self.registers u = subst (λ (n : ℕ). IsUncrowdedFrom names f n c.allocate_insts.new.self.registers u) begin (c.in_ok-allocate_insts.ensures.uncrowded names few_now asks at_end) in
           let nobody = nobody_left f c.requires.well_formed.0 names c.allocate_insts.new.self.registers u c.requires.well_formed.1 asks done in
           let params : c.block_params.result.now ≡ [] = c.block_params.ensures ∙ ap (λ (n : ℕ). (block_at f n).params) same ∙ no_params f c.requires.well_formed.0 names b c.requires.well_formed.1 asks lt in

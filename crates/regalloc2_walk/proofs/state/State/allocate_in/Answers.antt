@@ -227,9 +227,9 @@ returns-clause-uncrowded g c = λ names few asks h.
     } in
     let L : List OperandValue → Type 0 = λ ops. LeavesUncrowded names h.gone ops c.allocate_at.new.self.registers m in
     let done : IsUncrowdedFrom names f i c.allocate_at.new.self.registers m = from_next f names i c.args.self.now.registers c.allocate_at.new.self.registers t m c.requires.inst h
-        (subst L c.inst_operands-operands.ensures (c.in_ok-allocate_at.ensures.uncrowded names h.gone few
-        (λ late. subst (λ (ops : List OperandValue). ArePlain names h.gone ops late) (sym c.inst_operands-operands.ensures) (plain_at f env names i c.args.self.now.registers t c.requires.well_formed.1 asks c.requires.inst h late))
-        (λ r. ap (λ (x : PRegSet). has_register x r) c.inst_clobbers-clobbers.ensures ∙ asks.no_clobbers i r c.requires.inst)
-        (refreshed names h.gone c.args.self.now.registers t h.turn c.new-turn.result h.uncrowded fresh))) in
+    (subst L c.inst_operands-operands.ensures (c.in_ok-allocate_at.ensures.uncrowded names h.gone few
+    (λ late. subst (λ (ops : List OperandValue). ArePlain names h.gone ops late) (sym c.inst_operands-operands.ensures) (plain_at f env names i c.args.self.now.registers t c.requires.well_formed.1 asks c.requires.inst h late))
+    (λ r. ap (λ (x : PRegSet). has_register x r) c.inst_clobbers-clobbers.ensures ∙ asks.no_clobbers i r c.requires.inst)
+    (refreshed names h.gone c.args.self.now.registers t h.turn c.new-turn.result h.uncrowded fresh))) in
     let same : tables_of c.pass_arguments.new.self ≡ m = c.in_ok-pass_arguments.ensures.none (λ k lt. no_params f env names (target_at f c.args.block k) c.requires.well_formed.1 asks (edge_block f env c.requires.well_formed.1 c.args.block k c.requires.block lt)) in
     subst (λ (x : Tables). IsUncrowdedFrom names f i c.pass_arguments.new.self.registers x) (sym same) (subst (λ (r : RegistersValue). IsUncrowdedFrom names f i r m) (sym c.in_ok-pass_arguments.ensures.registers) done)

@@ -250,11 +250,11 @@ returns-clause-uncrowded g c = λ names gone few plain none h.
     let same : tables_of c.hold_clobbers.new.self ≡ t0 = c.hold_clobbers.ensures.same ∙ c.reserve.ensures.same in
     let regs = c.in_ok-evict_clobbers.ensures.registers ∙ c.in_ok-evict_fixed.ensures.registers ∙ c.hold_clobbers.ensures.registers ∙ c.in_ok-reserve.ensures.registers (λ k r lt e. reg_not_fixed (op_at ops k) r (reg k lt) e) in
     let begun = ready names gone ops c.args.clobbers c.after-point.result c.after-point.result c.args.self.now.registers c.evict_clobbers.new.self.registers t0 (tables_of c.hold_clobbers.new.self) (tables_of c.evict_fixed.new.self) t4
-        c.args.turn.now c.reserve.new.turn c.hold_clobbers.new.turn c.evict_fixed.new.turn c.evict_clobbers.new.turn reg none regs same c.in_ok-reserve.ensures.ok c.hold_clobbers.ensures.held c.in_ok-evict_fixed.ensures.ok c.in_ok-evict_clobbers.ensures.ok h in
+    c.args.turn.now c.reserve.new.turn c.hold_clobbers.new.turn c.evict_fixed.new.turn c.evict_clobbers.new.turn reg none regs same c.in_ok-reserve.ensures.ok c.hold_clobbers.ensures.held c.in_ok-evict_fixed.ensures.ok c.in_ok-evict_clobbers.ensures.ok h in
     let few4 : AreFew names t4.allocatable = subst (λ (t : Tables). AreFew names t.allocatable) (sym begun.0) few in
     let late = c.in_ok-place_operands.ensures.uncrowded names gone few4 (plain true) (λ j at. c.requires.no_places j) begun.1 in
     let few5 : AreFew names t5.allocatable = subst (AreFew names) (sym late.machine) few4 in
     let early = c.in_ok-place_operands-2.ensures.uncrowded names late.gone_now few5 (early_plain names gone ops here c.place_operands.new.here c.place_operands.new.self.registers t4 t5 c.place_operands.new.turn plain late)
-        (λ j at. late.others j (λ e. absurd (let no : true ≡ false = sym e ∙ at in cc)) ∙ c.requires.no_places j) late.uncrowded in
+    (λ j at. late.others j (λ e. absurd (let no : true ≡ false = sym e ∙ at in cc)) ∙ c.requires.no_places j) late.uncrowded in
     inst_done names gone c.before-2.result ops here c.place_operands.new.here c.place_operands-2.new.here c.place_operands.new.self.registers c.place_operands-2.new.self.registers c.move_reads.new.self.registers t4 t5
     (tables_of c.place_operands-2.new.self) (tables_of c.move_reads.new.self) c.place_operands.new.turn c.place_operands-2.new.turn c.move_reads.new.turn plain late early c.in_ok-move_reads.ensures.ok c.in_ok-move_reads.ensures.registers
