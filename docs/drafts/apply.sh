@@ -14,6 +14,7 @@ for h in "$here"/heads/*; do
   f="$tree/crates/regalloc2_fastalloc_proofs/proofs/$(basename "$h" .txt)"
   { cat "$h"; grep -v '^--' "$f"; } > "$work/head" && cp "$work/head" "$f"
 done
+python3 "$work/after_rename.py" "$tree"
 (cd "$tree" && git add -A && git commit -qm renamed && python3 "$work/imports.py" | tail -3)
 python3 "$work/wrap.py" "$tree"
 layout
