@@ -5,13 +5,6 @@
 //! input are bad or the output can't be written.
 #![tactic(auto)]
 
-mod judging;
-mod program;
-mod reading;
-mod task;
-#[cfg(test)]
-mod texts;
-
 use std::env::{self, Env};
 use std::io::BufWriter;
 use std::process::ExitCode;
@@ -27,12 +20,12 @@ fn words(rt: &(impl Env + AllocGlobal)) -> std::io::Result<Vec<String>> {
 
 fn main(rt: HostRuntime) -> ExitCode {
     let Ok(words) = words(&rt) else {
-        return ExitCode::from(program::refuse_words(&mut rt.stderr()));
+        return ExitCode::from(ra2_program::refuse_words(&mut rt.stderr()));
     };
     let Ok(out) = BufWriter::new(rt.alloc(), rt.stdout()) else {
-        return ExitCode::from(program::UNUSABLE);
+        return ExitCode::from(ra2_program::UNUSABLE);
     };
-    let (status, _) = program::answer(
+    let (status, _) = ra2_program::answer(
         rt.alloc(),
         words.as_slice(),
         rt.stdin(),

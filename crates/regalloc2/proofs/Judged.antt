@@ -6,11 +6,11 @@ use Rattle.regalloc2_function.specs.Machine.{MachineValue}
 use Rattle.regalloc2_function.specs.OutputValue.{OutputValue}
 use Rattle.regalloc2_function.specs.Faithful.{IsFaithful}
 use Rattle.regalloc2_fastalloc.specs.Promise.{IsAllocation}
-use Rattle.regalloc2_fastalloc.specs.Reason.{PassesAll}
+use Rattle.regalloc2_fastalloc.specs.ErrorReason.{PassesAllChecks}
 use Rattle.regalloc2_checker.specs.declared.errors.CheckerError.{CheckerError}
 use Rattle.regalloc2_checker.specs.declared.errors.CheckerError.TheVariants.{Memory}
 use Rattle.regalloc2_checker.specs.declared.errors.CheckerErrors.{CheckerErrors}
-use Rattle.regalloc2_checker.specs.Found.{errors_of}
+use Rattle.regalloc2_checker.specs.ErrorsFound.{errors_of}
 use Rattle.regalloc2_checker.specs.Report.{IsReport}
 use Rattle.regalloc2.specs.declared.checked.CheckedRunError.{CheckedRunError}
 use Rattle.regalloc2.specs.declared.checked.CheckedRunError.TheVariants.{Faults, Unjudged}
@@ -29,18 +29,21 @@ told f env out es e (inl m) (inr h) = absurd (h.0 m)
 told f env out es e (inr r) (inr h) = inr (es, h.1, r.0, r.1)
 
 -- the reason that they give
-pub reason : {A : Type 0} (f : FunctionValue) (env : MachineValue) (asked : Bool) (out : OutputValue) (e : CheckedRunError A) → IsAllocation f env out → PassesAll f env asked → IsFound f env out e → IsCheckedReason f env asked e
+pub reason : {A : Type 0} (f : FunctionValue) (env : MachineValue) (asked : Bool) (out : OutputValue) (e : CheckedRunError A) → IsAllocation f env out →
+    PassesAllChecks f env asked → IsFound f env out e → IsCheckedReason f env asked e
 reason f env asked out e made owed (inl h) = rw h owed
 reason f env asked out e made owed (inr h) = rw h.1 (out, made, owed, h.2, h.3)
 
 -- what the checker finds of a function and a machine it finds of the same under other names
 pub same_found : {F A : Type 0} (value : F → FunctionValue) (x y : F) (m n : MachineValue) (out : OutputValue) (es : List (CheckerError A)) → x ≡ y → m ≡ n →
-    (es ≡ Memory ∷ []) ⊎ ((IsFaithful (value x) m out → ⊥) × IsReport (value x) m out es) → (es ≡ Memory ∷ []) ⊎ ((IsFaithful (value y) n out → ⊥) × IsReport (value y) n out es)
+    (es ≡ Memory ∷ []) ⊎ ((IsFaithful (value x) m out → ⊥) × IsReport (value x) m out es) → (es ≡ Memory ∷ [])
+    ⊎ ((IsFaithful (value y) n out → ⊥) × IsReport (value y) n out es)
 same_found {F = F} value x y m n out es p q h =
     subst (λ (z : F). (es ≡ Memory ∷ []) ⊎ ((IsFaithful (value z) n out → ⊥) × IsReport (value z) n out es)) p
     (subst (λ (k : MachineValue). (es ≡ Memory ∷ []) ⊎ ((IsFaithful (value x) k out → ⊥) × IsReport (value x) k out es)) q h)
 
 -- of a faithful output no fault is found
-pub no_fault : {A : Type 0} (f : FunctionValue) (env : MachineValue) (out : OutputValue) (e : CheckedRunError A) → IsFaithful f env out → IsFound f env out e → IsFault e → ⊥
+pub no_fault : {A : Type 0} (f : FunctionValue) (env : MachineValue) (out : OutputValue) (e : CheckedRunError A) → IsFaithful f env out → IsFound f env out e →
+    IsFault e → ⊥
 no_fault f env out e faithful (inl h) fault = rw h at fault
 no_fault f env out e faithful (inr h) fault = h.2 faithful

@@ -23,4 +23,5 @@ pub record IsAccepted (A : Type 0) (f : FunctionValue) (env : MachineValue) (out
 
 -- of a well-formed function in which no path reads before writing, what is promised is accepted
 abbrev pub PromisedIsAccepted : Type 0 → Type 0
-PromisedIsAccepted A = (f : FunctionValue) (env : MachineValue) (out : OutputValue) → IsWellFormed env f → IsWrittenFirst f → IsPromised f env out → IsAccepted A f env out
+PromisedIsAccepted A = (f : FunctionValue) (env : MachineValue) (out : OutputValue) → IsWellFormed env f → IsWrittenFirst f → IsPromised f env out →
+    IsAccepted A f env out

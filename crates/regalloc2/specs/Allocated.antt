@@ -5,7 +5,7 @@ use Rattle.regalloc2_function.specs.Machine.{MachineValue}
 use Rattle.regalloc2_function.specs.Fitting.{MachineFits}
 use Rattle.regalloc2_function.specs.Misfit.{IsMisfit}
 use Rattle.regalloc2_function.specs.SourceRun.{IsWrittenFirst}
-use Rattle.regalloc2_fastalloc.specs.Reason.{IsReason, PassesAll}
+use Rattle.regalloc2_fastalloc.specs.ErrorReason.{IsReason, PassesAllChecks}
 use Rattle.regalloc2.specs.Judged.{IsCheckedReason}
 use Rattle.regalloc2.specs.declared.checked.CheckedRunError.{CheckedRunError}
 use Rattle.regalloc2.specs.declared.checked.CheckedRunError.TheVariants.{Refused as RunRefused, Faults as RunFaults, Unjudged as RunUnjudged}
@@ -32,7 +32,7 @@ abbrev pub IsAllocateReason : {A : Type 0} → FunctionValue → MachineValue �
 IsAllocateReason f env (Misfit m) = IsMisfit f env m × (MachineFits f env → ⊥)
 IsAllocateReason f env (Refused r) = MachineFits f env × IsReason f env true r
 IsAllocateReason f env (Faults es) = MachineFits f env × IsCheckedReason f env true (RunFaults es)
-IsAllocateReason f env Unjudged = MachineFits f env × PassesAll f env true
+IsAllocateReason f env Unjudged = MachineFits f env × PassesAllChecks f env true
 
 -- the same where no checker is behind
 abbrev pub IsTestedReason : {A : Type 0} → FunctionValue → MachineValue → AllocateError A → Type 0
@@ -41,8 +41,9 @@ IsTestedReason f env (Refused r) = MachineFits f env × IsReason f env true r
 IsTestedReason f env (Faults es) = ⊥
 IsTestedReason f env Unjudged = ⊥
 
--- why a run that tests everything gives no output: where no condition of a fitting machine fails, what a run says of the function, and last that some path reads or passes a virtual register before writing it
+-- why a run that tests everything gives no output: where no condition of a fitting machine fails, what a run says of the function, and last
+-- that some path reads or passes a virtual register before writing it
 abbrev pub IsTestedRunReason : FunctionValue → MachineValue → TestedRunError → Type 0
 IsTestedRunReason f env (RunMisfit m) = IsMisfit f env m × (MachineFits f env → ⊥)
 IsTestedRunReason f env (TestRefused r) = MachineFits f env × IsReason f env true r
-IsTestedRunReason f env ReadBeforeWritten = MachineFits f env × PassesAll f env true × (IsWrittenFirst f → ⊥)
+IsTestedRunReason f env ReadBeforeWritten = MachineFits f env × PassesAllChecks f env true × (IsWrittenFirst f → ⊥)

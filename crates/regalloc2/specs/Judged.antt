@@ -5,8 +5,8 @@ use Rattle.regalloc2_function.specs.Machine.{MachineValue}
 use Rattle.regalloc2_function.specs.OutputValue.{OutputValue}
 use Rattle.regalloc2_function.specs.Faithful.{IsFaithful}
 use Rattle.regalloc2_fastalloc.specs.Promise.{IsAllocation}
-use Rattle.regalloc2_fastalloc.specs.Reason.{IsReason, PassesAll}
-use Rattle.regalloc2_checker.specs.Found.{errors_of}
+use Rattle.regalloc2_fastalloc.specs.ErrorReason.{IsReason, PassesAllChecks}
+use Rattle.regalloc2_checker.specs.ErrorsFound.{errors_of}
 use Rattle.regalloc2_checker.specs.Report.{IsReport}
 use Rattle.regalloc2.specs.declared.checked.CheckedRunError.{CheckedRunError}
 use Rattle.regalloc2.specs.declared.checked.CheckedRunError.TheVariants.{Refused, Faults, Unjudged}
@@ -20,5 +20,6 @@ IsFault Unjudged = ⊥
 -- the reason that an error gives: that of the allocator's error, or the faults of what it allocated, which isn't faithful
 abbrev pub IsCheckedReason : {A : Type 0} → FunctionValue → MachineValue → Bool → CheckedRunError A → Type 0
 IsCheckedReason f env asked (Refused r) = IsReason f env asked r
-IsCheckedReason f env asked (Faults es) = (out : OutputValue) × IsAllocation f env out × PassesAll f env asked × (IsFaithful f env out → ⊥) × IsReport f env out (errors_of es)
-IsCheckedReason f env asked Unjudged = PassesAll f env asked
+IsCheckedReason f env asked (Faults es) = (out : OutputValue) × IsAllocation f env out × PassesAllChecks f env asked × (IsFaithful f env out → ⊥)
+    × IsReport f env out (errors_of es)
+IsCheckedReason f env asked Unjudged = PassesAllChecks f env asked

@@ -37,23 +37,23 @@ pub use Rattle.regalloc2_function.specs.Laws
 pub use Rattle.regalloc2_table.specs.Table
 pub use Rattle.regalloc2_table.specs.Draft
 pub use Rattle.regalloc2_table.specs.Built
-pub use Rattle.regalloc2_flow.specs.Live
+pub use Rattle.regalloc2_semantics.specs.Live
 pub use Rattle.regalloc2_validate.specs.Constraints
-pub use Rattle.regalloc2_validate.specs.Tested
+pub use Rattle.regalloc2_validate.specs.Validated
 pub use Rattle.regalloc2_fastalloc.specs.Promise
-pub use Rattle.regalloc2_fastalloc.specs.Reason
+pub use Rattle.regalloc2_fastalloc.specs.ErrorReason
 pub use Rattle.regalloc2_checker.specs.Facts
 pub use Rattle.regalloc2_checker.specs.Fixpoint
-pub use Rattle.regalloc2_checker.specs.Found
+pub use Rattle.regalloc2_checker.specs.ErrorsFound
 pub use Rattle.regalloc2_checker.specs.Prepared
 pub use Rattle.regalloc2_checker.specs.Report
 pub use Rattle.regalloc2_checker.specs.Text as FaultText
-pub use Rattle.regalloc2_shape.specs.Definitions
-pub use Rattle.regalloc2_shape.specs.Leaves
-pub use Rattle.regalloc2_shape.specs.Listed as ListedBlocks
-pub use Rattle.regalloc2_shape.specs.Numbers
-pub use Rattle.regalloc2_shape.specs.Tables
-pub use Rattle.regalloc2_shape.specs.Ways
+pub use Rattle.regalloc2_cfg.specs.Definitions
+pub use Rattle.regalloc2_cfg.specs.Leaves
+pub use Rattle.regalloc2_cfg.specs.Listed as ListedBlocks
+pub use Rattle.regalloc2_cfg.specs.Numbers
+pub use Rattle.regalloc2_cfg.specs.Tables
+pub use Rattle.regalloc2_cfg.specs.Ways
 pub use Rattle.regalloc2_parts.specs.Computed
 pub use Rattle.regalloc2_parts.specs.Giving
 pub use Rattle.regalloc2_parts.specs.LiveList
@@ -63,11 +63,11 @@ pub use Rattle.regalloc2_parts.specs.Picked
 pub use Rattle.regalloc2_parts.specs.Resolved
 pub use Rattle.regalloc2_parts.specs.Ring
 pub use Rattle.regalloc2_parts.specs.Tracking
-pub use Rattle.regalloc2_stored.specs.Faults
-pub use Rattle.regalloc2_stored.specs.Named
-pub use Rattle.regalloc2_stored.specs.Reading
-pub use Rattle.regalloc2_stored.specs.Tables as StoredTables
-pub use Rattle.regalloc2_stored.specs.Value
+pub use Rattle.regalloc2_serialize.specs.Validity
+pub use Rattle.regalloc2_serialize.specs.Decoded
+pub use Rattle.regalloc2_serialize.specs.FromJson
+pub use Rattle.regalloc2_serialize.specs.Tables as StoredTables
+pub use Rattle.regalloc2_serialize.specs.JsonShape
 -- and the types that they match on
 pub use Rattle.regalloc2_names.specs.declared.RegClass
 pub use Rattle.regalloc2_names.specs.declared.OperandConstraint

@@ -8,8 +8,8 @@ ghost use Rattle.regalloc2_function.specs.Faithful.{IsFaithful};
 ghost use Rattle.regalloc2_function.specs.Fitting.{MachineFits};
 ghost use Rattle.regalloc2_function.specs.WellFormed.{IsFramed, IsWellFormed};
 ghost use Rattle.regalloc2_fastalloc.specs.Promise.{IsAllocation};
-ghost use Rattle.regalloc2_fastalloc.specs.Reason.{PassesAll};
-ghost use Rattle.regalloc2_checker.specs.Found.{errors_of};
+ghost use Rattle.regalloc2_fastalloc.specs.ErrorReason.{PassesAllChecks};
+ghost use Rattle.regalloc2_checker.specs.ErrorsFound.{errors_of};
 ghost use Rattle.regalloc2_checker.specs.Report.{IsReport};
 ghost use Rattle.regalloc2.specs.Judged.{IsCheckedReason, IsFault};
 
@@ -52,7 +52,8 @@ fn judge<A: Allocator + Copy, F: Function, B: Allocator>(
     requires in_order { IsInOrder (F.function f.now) (output_of out.now) }
     ensures ok { OnOk result (IsFaithful (F.function f.now) (machine_of env.now) (output_of out.now)) }
     ensures err { IfErr result (λ e. (e ≡ CheckedRunError.Unjudged) ⊎ ((es : CheckerErrors A) × (e ≡ CheckedRunError.Faults es)
-        × (IsFaithful (F.function f.now) (machine_of env.now) (output_of out.now) → ⊥) × IsReport (F.function f.now) (machine_of env.now) (output_of out.now) (errors_of es))) }
+        × (IsFaithful (F.function f.now) (machine_of env.now) (output_of out.now) → ⊥)
+        × IsReport (F.function f.now) (machine_of env.now) (output_of out.now) (errors_of es))) }
 {
     let Ok(mut checker) = Checker::new(alloc, f, env) else {
         return Err(CheckedRunError::Unjudged);
@@ -82,7 +83,7 @@ pub fn run_checked<A: Allocator + Copy, F: Function, B: Allocator>(
     ensures allocation { IfOk result (λ out. IsAllocation (F.function f.now) (machine_of env.now) (output_of out)) }
     ensures faithful { IfOk result (λ out. IsFaithful (F.function f.now) (machine_of env.now) (output_of out)) }
     ensures tested { OnOk result (IsWellFormed (machine_of env.now) (F.function f.now)) }
-    ensures owed { OnOk result (PassesAll (F.function f.now) (machine_of env.now) options.now.validate_ssa) }
+    ensures owed { OnOk result (PassesAllChecks (F.function f.now) (machine_of env.now) options.now.validate_ssa) }
     ensures accepted { IsWrittenFirst (F.function f.now) → IfErr result (λ e. IsFault e → ⊥) }
     ensures refused { IfErr result (IsCheckedReason (F.function f.now) (machine_of env.now) options.now.validate_ssa) }
 {

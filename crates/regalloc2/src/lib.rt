@@ -15,6 +15,7 @@ mod tested;
 
 pub use checked::{CheckedRunError, run_checked};
 pub use laws::accepts_what_is_promised;
+pub use regalloc2_cfg::{cfg, indexset, postorder};
 pub use regalloc2_fastalloc::{Algorithm, Ctx, RegallocOptions, run, run_into_ctx, run_with_ctx};
 pub use regalloc2_function::{
     Edit, Function, InstOrEdit, MachineEnv, MachineMisfit, Output, OutputIter, StoredFault,
@@ -29,7 +30,6 @@ pub use regalloc2_names::{
     PReg, PRegSet, PRegSetIter, ProgPoint, RegAllocError, RegClass, SpillSlot, VReg,
 };
 pub use regalloc2_parts::moves;
-pub use regalloc2_shape::{cfg, indexset, postorder};
 pub use tested::{AllocateError, TestedRunError, allocate, allocate_without_checker, run_tested};
 
 /// The checker of allocations.
@@ -47,8 +47,8 @@ pub mod fastalloc {
 
 /// Tests of what a function defines and reads.
 pub mod ssa {
-    pub use regalloc2_reads::reads_written;
-    pub use regalloc2_shape::ssa::{test_definitions, validate_ssa};
+    pub use regalloc2_cfg::ssa::{test_definitions, validate_ssa};
+    pub use regalloc2_liveness::reads_written;
 }
 
 /// A function that is kept in tables, and its builder, for clients that have no type of their own for one.
@@ -61,7 +61,7 @@ pub mod table {
 /// Functions and outputs as plain data, and as they are read from JSON.
 pub mod serialize {
     pub use regalloc2_function::{StoredFault, StoredOutput};
-    pub use regalloc2_stored::{
+    pub use regalloc2_serialize::{
         FromValue, InstOpcode, SerializableFunction, StoredFunction, StoredInst, StoredMachine,
     };
 }

@@ -7,15 +7,15 @@ ghost use Rattle.regalloc2_function.specs.Faithful.{IsFaithful};
 ghost use Rattle.regalloc2_function.specs.Fitting.{MachineFits};
 ghost use Rattle.regalloc2_function.specs.WellFormed.{IsWellFormed};
 ghost use Rattle.regalloc2_fastalloc.specs.Promise.{IsAllocation, LiveInSlots, RunsAsTheFunction};
-ghost use Rattle.regalloc2_fastalloc.specs.Reason.{PassesAll};
+ghost use Rattle.regalloc2_fastalloc.specs.ErrorReason.{PassesAllChecks};
 ghost use Rattle.regalloc2.specs.Allocated.{allocate_error, IsAllocateFault, IsAllocateReason, IsTestedReason, IsTestedRunReason};
 
 use super::checked::{CheckedRunError, run_checked};
 use regalloc2_checker::CheckerErrors;
 use regalloc2_fastalloc::{Algorithm, RegallocOptions, run};
 use regalloc2_function::{Function, MachineEnv, MachineMisfit, Output, test_machine};
+use regalloc2_liveness::reads_written;
 use regalloc2_names::RegAllocError;
-use regalloc2_reads::reads_written;
 use std::alloc::{Allocator, Global};
 use std::error::Error;
 use std::fmt;
@@ -112,7 +112,7 @@ pub fn allocate<A: Allocator + Copy, F: Function, B: Allocator>(
     ensures faithful { IfOk result (λ out. IsFaithful (F.function f.now) (machine_of env.now) (output_of out)) }
     ensures fitting { OnOk result (MachineFits (F.function f.now) (machine_of env.now)) }
     ensures tested { OnOk result (IsWellFormed (machine_of env.now) (F.function f.now)) }
-    ensures owed { OnOk result (PassesAll (F.function f.now) (machine_of env.now) true) }
+    ensures owed { OnOk result (PassesAllChecks (F.function f.now) (machine_of env.now) true) }
     ensures accepted { IsWrittenFirst (F.function f.now) → IfErr result (λ e. IsAllocateFault e → ⊥) }
     ensures refused { IfErr result (IsAllocateReason (F.function f.now) (machine_of env.now)) }
 {
@@ -137,7 +137,7 @@ pub fn allocate_without_checker<A: Allocator + Copy, F: Function, B: Allocator>(
     ensures allocation { IfOk result (λ out. IsAllocation (F.function f.now) (machine_of env.now) (output_of out)) }
     ensures fitting { OnOk result (MachineFits (F.function f.now) (machine_of env.now)) }
     ensures tested { OnOk result (IsWellFormed (machine_of env.now) (F.function f.now)) }
-    ensures owed { OnOk result (PassesAll (F.function f.now) (machine_of env.now) true) }
+    ensures owed { OnOk result (PassesAllChecks (F.function f.now) (machine_of env.now) true) }
     ensures refused { IfErr result (IsTestedReason (F.function f.now) (machine_of env.now)) }
 {
     if let Err(misfit) = test_machine(f, env) {
@@ -171,7 +171,7 @@ pub fn run_tested<A: Allocator + Copy, F: Function, B: Allocator>(
     ensures live { IfOk result (λ out. LiveInSlots (F.function f.now) (output_of out)) }
     ensures fitting { OnOk result (MachineFits (F.function f.now) (machine_of env.now)) }
     ensures tested { OnOk result (IsWellFormed (machine_of env.now) (F.function f.now)) }
-    ensures owed { OnOk result (PassesAll (F.function f.now) (machine_of env.now) true) }
+    ensures owed { OnOk result (PassesAllChecks (F.function f.now) (machine_of env.now) true) }
     ensures written { OnOk result (IsWrittenFirst (F.function f.now)) }
     ensures refused { IfErr result (IsTestedRunReason (F.function f.now) (machine_of env.now)) }
 {

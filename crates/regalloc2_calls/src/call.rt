@@ -11,9 +11,9 @@ use regalloc2_fastalloc::{Algorithm, RegallocOptions, run};
 use regalloc2_function::{
     Function, MachineEnv, Output, StoredFault, StoredOutput, is_framed, machine_fits,
 };
+use regalloc2_liveness::reads_written;
 use regalloc2_names::RegAllocError;
-use regalloc2_reads::reads_written;
-use regalloc2_stored::{SerializableFunction, StoredFunction};
+use regalloc2_serialize::{SerializableFunction, StoredFunction};
 use regalloc2_text::{WriteError, write};
 use regalloc2_tool::findings::FindingText;
 use regalloc2_tool::listing::write_listing;

@@ -5,11 +5,11 @@ use Rattle.std.proofs.lemmas.List.{length-map, length-set, map-set, get_or-map}
 use Rattle.std.proofs.lemmas.List.Sums.{sum_by-set}
 use Rattle.regalloc2_function.specs.FunctionValue.{FunctionValue}
 use Rattle.regalloc2_function.specs.OutputValue.{OutputValue}
-use Rattle.regalloc2_checker.specs.declared.settle.BlockValues.{BlockValues}
-use Rattle.regalloc2_checker.specs.Numbers.{Numbers, numbers_of}
-use Rattle.regalloc2_checker.specs.Meeting.{agree, IsCommon, Differ}
-use Rattle.regalloc2_checker.specs.Tables.{BlockView, view_of, views, no_view, view_at, weight, agreeing, all_pairs, keys_end, IsMet, IsSound, IsSolved}
-use Rattle.regalloc2_checker.proofs.Counting.{fewer_agree, at_most_all}
+use Rattle.regalloc2_checker.specs.declared.analyze.BlockValues.{BlockValues}
+use Rattle.regalloc2_checker.specs.ValueNumbers.{Numbers, numbers_of}
+use Rattle.regalloc2_checker.specs.Meet.{agree, IsCommon, Differ}
+use Rattle.regalloc2_checker.specs.Tables.{BlockView, view_of, views, no_view, view_at, weight, agreeing, all_pairs, keys_end, IsMeet, IsSound, IsSolved}
+use Rattle.regalloc2_checker.proofs.PairsDecrease.{fewer_agree, at_most_all}
 
 set-same : (t : List BlockView) (i : ℕ) (x : BlockView) → i < length t → view_at (set t i x) i ≡ x
 set-same [] i x less = absurd (omega arith)
@@ -36,7 +36,8 @@ true_not_false : (b : Bool) (P : Type 0) → b ≡ true → b ≡ false → P
 true_not_false true P h g = absurd cc
 true_not_false false P h g = absurd cc
 
-met-first : (t : List BlockView) (i : ℕ) (passed : Numbers) → i < length t → (view_at t i).reached ≡ false → IsMet t (set t i (record { reached = true; numbers = passed })) i passed true
+met-first : (t : List BlockView) (i : ℕ) (passed : Numbers) → i < length t → (view_at t i).reached ≡ false →
+    IsMeet t (set t i (record { reached = true; numbers = passed })) i passed true
 met-first t i passed less n =
     let x : BlockView = record { reached = true; numbers = passed } in
     let e : view_at (set t i x) i ≡ x = set-same t i x less in
@@ -72,8 +73,9 @@ meets_less r m n c d =
     nothing true = refl
     nothing false = refl
 
-met-less : (t : List BlockView) (i : ℕ) (passed kept : Numbers) → i < length t → (view_at t i).reached ≡ true → IsCommon kept (view_at t i).numbers passed → Differ (view_at t i).numbers passed →
-    IsMet t (set t i (record { reached = true; numbers = kept })) i passed true
+met-less : (t : List BlockView) (i : ℕ) (passed kept : Numbers) → i < length t → (view_at t i).reached ≡ true → IsCommon kept (view_at t i).numbers passed →
+    Differ (view_at t i).numbers passed →
+    IsMeet t (set t i (record { reached = true; numbers = kept })) i passed true
 met-less t i passed kept less m c d =
     let x : BlockView = record { reached = true; numbers = kept } in
     let e : view_at (set t i x) i ≡ x = set-same t i x less in
@@ -92,41 +94,56 @@ met-less t i passed kept less m c d =
 -- in the program's own table
 
 module _ {A : Type 0} where
+  -- the view at an index is that of the item read there
   pub view-is : (t : List (BlockValues A)) (i : ℕ) (y : BlockValues A) → i < length t → y ≡ get_or t i y → view_at (views t) i ≡ view_of y
   view-is t i y less e = get_or-map view_of t i y no_view less ∙ ap view_of (sym e)
 
-  pub reached-is : (t : List (BlockValues A)) (i : ℕ) (y : BlockValues A) (m : Bool) → i < length t → y ≡ get_or t i y → y.reached ≡ m → (view_at (views t) i).reached ≡ m
+  -- a block is marked reached in the view as it is in the item read at its index
+  pub reached-is : (t : List (BlockValues A)) (i : ℕ) (y : BlockValues A) (m : Bool) → i < length t → y ≡ get_or t i y → y.reached ≡ m →
+      (view_at (views t) i).reached ≡ m
   reached-is t i y m less e d = ap (λ (z : BlockView). z.reached) (view-is t i y less e) ∙ d
 
-  pub numbers-is : (t : List (BlockValues A)) (i : ℕ) (y : BlockValues A) → i < length t → y ≡ get_or t i y → (view_at (views t) i).numbers ≡ numbers_of y.values
+  -- a block's value numbers in the view are those of the item read at its index
+  pub numbers-is : (t : List (BlockValues A)) (i : ℕ) (y : BlockValues A) → i < length t → y ≡ get_or t i y →
+      (view_at (views t) i).numbers ≡ numbers_of y.values
   numbers-is t i y less e = ap (λ (z : BlockView). z.numbers) (view-is t i y less e)
 
-  views-set : (t : List (BlockValues A)) (i : ℕ) (x : BlockValues A) (n : Numbers) → x.reached ≡ true → numbers_of x.values ≡ n → views (set t i x) ≡ set (views t) i (record { reached = true; numbers = n })
+  views-set : (t : List (BlockValues A)) (i : ℕ) (x : BlockValues A) (n : Numbers) → x.reached ≡ true → numbers_of x.values ≡ n →
+      views (set t i x) ≡ set (views t) i (record { reached = true; numbers = n })
   views-set t i x n r e =
-      map-set view_of t i x ∙ ap (λ (z : BlockView). set (views t) i z) (ap (λ b. let z : BlockView = record { reached = b; numbers = numbers_of x.values } in z) r ∙ ap (λ (m : Numbers). let z : BlockView = record { reached = true; numbers = m } in z) e)
+      map-set view_of t i x ∙ ap (λ (z : BlockView). set (views t) i z)
+      (ap (λ b. let z : BlockView = record { reached = b; numbers = numbers_of x.values } in z) r
+      ∙ ap (λ (m : Numbers). let z : BlockView = record { reached = true; numbers = m } in z) e)
 
-  pub update-first : (t : List (BlockValues A)) (i : ℕ) (y x : BlockValues A) (passed : Numbers) → i < length t → y ≡ get_or t i y → y.reached ≡ false → x.reached ≡ true → numbers_of x.values ≡ passed → IsMet (views t) (views (set t i x)) i passed true
+  -- to set what comes over an edge as the numbers of a block not reached before is a meet that changed something
+  pub update-first : (t : List (BlockValues A)) (i : ℕ) (y x : BlockValues A) (passed : Numbers) → i < length t → y ≡ get_or t i y → y.reached ≡ false →
+      x.reached ≡ true → numbers_of x.values ≡ passed → IsMeet (views t) (views (set t i x)) i passed true
   update-first t i y x passed less e n r p =
       let l : length (views t) ≡ length t = length-map t view_of in
-      subst (λ (s : List BlockView). IsMet (views t) s i passed true) (sym (views-set t i x passed r p))
+      subst (λ (s : List BlockView). IsMeet (views t) s i passed true) (sym (views-set t i x passed r p))
       (met-first (views t) i passed (omega arith) (reached-is t i y false less e n))
 
-  pub update-less : (t : List (BlockValues A)) (i : ℕ) (y x : BlockValues A) (passed kept : Numbers) → i < length t → y ≡ get_or t i y → y.reached ≡ true → x.reached ≡ true → numbers_of x.values ≡ kept →
-      IsCommon kept (numbers_of y.values) passed → Differ (numbers_of y.values) passed → IsMet (views t) (views (set t i x)) i passed true
+  -- to set the common numbers of a reached block and an edge, where the block had more, is a meet that changed something
+  pub update-less : (t : List (BlockValues A)) (i : ℕ) (y x : BlockValues A) (passed kept : Numbers) → i < length t → y ≡ get_or t i y → y.reached ≡ true →
+      x.reached ≡ true → numbers_of x.values ≡ kept →
+      IsCommon kept (numbers_of y.values) passed → Differ (numbers_of y.values) passed → IsMeet (views t) (views (set t i x)) i passed true
   update-less t i y x passed kept less e m r p c d =
       let l : length (views t) ≡ length t = length-map t view_of in
       let v = sym (numbers-is t i y less e) in
-      subst (λ (s : List BlockView). IsMet (views t) s i passed true) (sym (views-set t i x kept r p))
-      (met-less (views t) i passed kept (omega arith) (reached-is t i y true less e m) (subst (λ (z : Numbers). IsCommon kept z passed) v c) (subst (λ (z : Numbers). Differ z passed) v d))
+      subst (λ (s : List BlockView). IsMeet (views t) s i passed true) (sym (views-set t i x kept r p))
+      (met-less (views t) i passed kept (omega arith) (reached-is t i y true less e m) (subst (λ (z : Numbers). IsCommon kept z passed) v c)
+      (subst (λ (z : Numbers). Differ z passed) v d))
 
   get_or-any : (t : List (BlockValues A)) (i : ℕ) (x y : BlockValues A) → i < length t → get_or t i x ≡ get_or t i y
   get_or-any [] i x y less = absurd (omega arith)
   get_or-any (z ∷ t) zero x y less = refl
   get_or-any (z ∷ t) (suc i) x y less = get_or-any t i x y (omega arith)
 
+  -- a valid table is as long as the function has blocks
   pub long : (f : FunctionValue) (o : OutputValue) (t : List (BlockValues A)) → IsSound f o (views t) → length t ≡ length f.blocks
   long f o t s = sym (length-map t view_of) ∙ s.size
 
+  -- a solved table is as long as the function has blocks
   pub solved_long : (f : FunctionValue) (o : OutputValue) (t : List (BlockValues A)) → IsSolved f o (views t) → length t ≡ length f.blocks
   solved_long f o t s = sym (length-map t view_of) ∙ s.size
 

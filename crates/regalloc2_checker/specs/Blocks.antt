@@ -1,4 +1,4 @@
--- What the judge of a block answers.
+-- What the check of a block answers.
 use Rattle.std.specs.Prelude.{ℕ, ◌≡◌, ◌+◌, ◌-◌, ◌<◌, ◌++◌, List}
 use Rattle.regalloc2_function.specs.FunctionValue.{FunctionValue, block_at}
 use Rattle.regalloc2_function.specs.Machine.{MachineValue}
@@ -6,7 +6,7 @@ use Rattle.regalloc2_function.specs.OutputValue.{OutputValue}
 use Rattle.regalloc2_checker.specs.declared.errors.CheckerError.{CheckerError}
 use Rattle.regalloc2_checker.specs.Facts.{Facts}
 use Rattle.regalloc2_checker.specs.Fixpoint.{nth_of, facts_within}
-use Rattle.regalloc2_checker.specs.Judged.{IsKnown}
+use Rattle.regalloc2_checker.specs.CheckInputs.{IsKnown}
 use Rattle.regalloc2_checker.specs.Report.{InstReports}
 
 -- the facts at a block's beginning lead, at each of its instructions, to those that hold on every path
@@ -15,4 +15,5 @@ IsKnownWithin f o b F = (n : ℕ) → (block_at f b).range.first + n < (block_at
 
 -- from such facts, the errors of a block's instructions are added to a list
 abbrev pub IsBlockJudged : {A : Type 0} → FunctionValue → MachineValue → OutputValue → ℕ → Facts → List (CheckerError A) → List (CheckerError A) → Type 0
-IsBlockJudged f env o b F old new = IsKnownWithin f o b F → (es : List (CheckerError _)) × (new ≡ old ++ es) × InstReports f env o b ((block_at f b).range.end - (block_at f b).range.first) es
+IsBlockJudged f env o b F old new = IsKnownWithin f o b F → (es : List (CheckerError _)) × (new ≡ old ++ es)
+    × InstReports f env o b ((block_at f b).range.end - (block_at f b).range.first) es

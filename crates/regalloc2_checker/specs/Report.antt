@@ -1,5 +1,6 @@
 -- The errors that a check gives, and their order.
--- Kinds and fields are those of upstream's `CheckerError`. Which fault of an operand comes first, and that a place holds what it holds on every path, is this project's own.
+-- Kinds and fields are those of upstream's `CheckerError`. Which fault of an operand comes first, and that a place holds what it holds on
+-- every path, is this project's own.
 use Rattle.std.specs.Prelude.{ℕ, suc, ◌≡◌, ◌≢◌, ◌-◌, ◌<◌, ◌≤◌, ◌↔◌, true, false, List, [], ◌∷◌, ◌++◌, map, length, slice_index_or, Contains, Option, None, Some}
 use Rattle.std.specs.Option.{option_to_list}
 use Rattle.std.specs.List.Sorted.{IsStrictlyIncreasing}
@@ -11,20 +12,22 @@ use Rattle.regalloc2_names.specs.declared.OperandPos.{OperandPos}
 use Rattle.regalloc2_names.specs.declared.OperandPos.TheVariants.{Early, Late}
 use Rattle.regalloc2_names.specs.Register.{Register, VirtualRegister, invalid_vreg}
 use Rattle.regalloc2_names.specs.RegisterBits.{bits_of_vreg}
-use Rattle.regalloc2_names.specs.Operand.{OperandValue}
+use Rattle.regalloc2_names.specs.Operand.{OperandValue, is_reading}
 use Rattle.regalloc2_names.specs.Place.{Place, NoPlace, InRegister, is_in_register}
 use Rattle.regalloc2_function.specs.FunctionValue.{FunctionValue, block_at, inst_at}
 use Rattle.regalloc2_function.specs.Machine.{MachineValue, IsStackPlace, IsPlainRegister}
 use Rattle.regalloc2_function.specs.OutputValue.{OutputValue, MoveValue, allocs_of, place_at}
 use Rattle.regalloc2_function.specs.Path.{Location}
-use Rattle.regalloc2_function.specs.SourceRun.{is_reading}
 use Rattle.regalloc2_function.specs.AllocatedRun.{moves_at}
 use Rattle.regalloc2_function.specs.Faithful.{Meets, IsNumberedBelow, IsStackToStack, IsFaithful}
 use Rattle.regalloc2_function.specs.Held.{Holds}
 use Rattle.regalloc2_function.specs.WellFormed.{IsFramed}
 use Rattle.regalloc2_checker.specs.Fixpoint.{IsReachedBlock, nth_of}
 use Rattle.regalloc2_checker.specs.declared.errors.CheckerError.{CheckerError}
-use Rattle.regalloc2_checker.specs.declared.errors.CheckerError.TheVariants.{MissingAllocation, UnknownValueInAllocation, IncorrectValuesInAllocation, ConstraintViolated, AllocationIsNotReg, AllocationIsNotFixedReg, AllocationIsNotReuse, AllocationIsNotStack, StackToStackMove, AllocationOutsideLimit}
+use Rattle.regalloc2_checker.specs.declared.errors.CheckerError.TheVariants.{MissingAllocation, UnknownValueInAllocation, IncorrectValuesInAllocation}
+use Rattle.regalloc2_checker.specs.declared.errors.CheckerError.TheVariants.{ConstraintViolated, AllocationIsNotReg, AllocationIsNotFixedReg}
+use Rattle.regalloc2_checker.specs.declared.errors.CheckerError.TheVariants.{AllocationIsNotReuse, AllocationIsNotStack, StackToStackMove}
+use Rattle.regalloc2_checker.specs.declared.errors.CheckerError.TheVariants.{AllocationOutsideLimit}
 
 -- an operand that no instruction has
 abbrev pub no_operand : OperandValue
@@ -35,29 +38,33 @@ abbrev pub operand_at : List OperandValue → ℕ → OperandValue
 operand_at operands k = slice_index_or operands k no_operand
 
 -- the virtual registers that pass a test, by rising bits
-pub record AreHolders (Has : VirtualRegister → Type 0) (vs : List VirtualRegister) : Type 0 where
+pub record AreVRegsInValue (Has : VirtualRegister → Type 0) (vs : List VirtualRegister) : Type 0 where
   pub members : (v : VirtualRegister) → Contains vs v ↔ Has v
   pub rising : IsStrictlyIncreasing (map bits_of_vreg vs)
 
 -- what a use that reads finds wrong with what its place holds: no virtual register's value, or those of others and not its own
 pub data IsValueFault {A : Type 0} (inst : ℕ) (op : OperandValue) (p : Place) (Has : VirtualRegister → Type 0) : CheckerError A → Type 0 where
   unknown : ((v : VirtualRegister) → Has v → ⊥) → IsValueFault inst op p Has (UnknownValueInAllocation inst op p)
-  incorrect : (Has op.vreg → ⊥) → (v : VirtualRegister) → Has v → (actual : Vec VirtualRegister A) → AreHolders Has actual.items →
+  incorrect : (Has op.vreg → ⊥) → (v : VirtualRegister) → Has v → (actual : Vec VirtualRegister A) → AreVRegsInValue Has actual.items →
       IsValueFault inst op p Has (IncorrectValuesInAllocation inst op p actual)
 
 -- what a constraint finds wrong with a place; places are those of the instruction's operands, of which there are so many
-pub data IsConstraintFault {A : Type 0} (env : MachineValue) (inst : ℕ) (op : OperandValue) (count : ℕ) (places : List Place) (p : Place) : OperandConstraint → CheckerError A → Type 0 where
+pub data IsConstraintFault {A : Type 0} (env : MachineValue) (inst : ℕ) (op : OperandValue) (count : ℕ) (places : List Place) (p : Place) : OperandConstraint →
+    CheckerError A → Type 0 where
   no_register : (IsPlainRegister env p → ⊥) → IsConstraintFault env inst op count places p Reg (AllocationIsNotReg inst op p)
   no_stack : (IsStackPlace env p → ⊥) → IsConstraintFault env inst op count places p Stack (AllocationIsNotStack inst op p)
   not_fixed : (r : Register) → p ≢ InRegister r → IsConstraintFault env inst op count places p (FixedReg r) (AllocationIsNotFixedReg inst op p)
   reuses_no_register : (n : ℕ) → is_in_register p ≡ false → IsConstraintFault env inst op count places p (Reuse n) (AllocationIsNotReg inst op p)
   reuses_no_operand : (n : ℕ) → is_in_register p ≡ true → count ≤ n → IsConstraintFault env inst op count places p (Reuse n) (ConstraintViolated inst op p)
-  not_reused : (n : ℕ) → is_in_register p ≡ true → n < count → p ≢ place_at places n → IsConstraintFault env inst op count places p (Reuse n) (AllocationIsNotReuse inst op p (place_at places n))
+  not_reused : (n : ℕ) → is_in_register p ≡ true → n < count → p ≢ place_at places n →
+      IsConstraintFault env inst op count places p (Reuse n) (AllocationIsNotReuse inst op p (place_at places n))
   limits_no_register : (n : ℕ) → (IsPlainRegister env p → ⊥) → IsConstraintFault env inst op count places p (Limit n) (AllocationIsNotReg inst op p)
-  past_limit : (n : ℕ) → IsPlainRegister env p → (IsNumberedBelow p n → ⊥) → IsConstraintFault env inst op count places p (Limit n) (AllocationOutsideLimit inst op p (record { start = 0; end = n }))
+  past_limit : (n : ℕ) → IsPlainRegister env p → (IsNumberedBelow p n → ⊥) →
+      IsConstraintFault env inst op count places p (Limit n) (AllocationOutsideLimit inst op p (record { start = 0; end = n }))
 
 -- the fault of an operand, by what places hold where it is read or written: its place is missing, else what it holds is wrong, else its constraint is not met
-pub data IsFault {A : Type 0} (env : MachineValue) (inst : ℕ) (op : OperandValue) (count : ℕ) (places : List Place) (p : Place) (Has : VirtualRegister → Type 0) : CheckerError A → Type 0 where
+pub data IsFault {A : Type 0} (env : MachineValue) (inst : ℕ) (op : OperandValue) (count : ℕ) (places : List Place) (p : Place)
+    (Has : VirtualRegister → Type 0) : CheckerError A → Type 0 where
   missing : p ≡ NoPlace → IsFault env inst op count places p Has (MissingAllocation inst op)
   of_value : (e : CheckerError A) → p ≢ NoPlace → is_reading op ≡ true → IsValueFault inst op p Has e → IsFault env inst op count places p Has e
   of_constraint : (e : CheckerError A) → p ≢ NoPlace → (is_reading op ≡ true → Has op.vreg) → IsConstraintFault env inst op count places p op.constraint e →
@@ -80,16 +87,20 @@ abbrev pub AreFineBelow : MachineValue → List OperandValue → List Place → 
 AreFineBelow env operands places position Has n = (k : ℕ) → k < n → (operand_at operands k).position ≡ position → IsFineAt env operands places Has k
 
 -- the first fault among the operands of a position, or none
-abbrev pub IsJudged : {A : Type 0} → MachineValue → ℕ → List OperandValue → List Place → OperandPos → (Place → VirtualRegister → Type 0) → Option (CheckerError A) → Type 0
+abbrev pub IsJudged : {A : Type 0} → MachineValue → ℕ → List OperandValue → List Place → OperandPos → (Place → VirtualRegister → Type 0) →
+    Option (CheckerError A) → Type 0
 IsJudged env inst operands places position Has None = AreFineBelow env operands places position Has (length operands)
-IsJudged env inst operands places position Has (Some e) = (k : ℕ) × (k < length operands) × ((operand_at operands k).position ≡ position) × AreFineBelow env operands places position Has k
+IsJudged env inst operands places position Has (Some e) = (k : ℕ) × (k < length operands) × ((operand_at operands k).position ≡ position)
+    × AreFineBelow env operands places position Has k
     × IsFaultAt env inst operands places Has k e
 
 -- the faults of moves, as listed: those between two places in memory
 pub data AreMoveFaults {A : Type 0} (env : MachineValue) : List MoveValue → List (CheckerError A) → Type 0 where
   none : AreMoveFaults env [] []
-  fault : (m : MoveValue) (ms : List MoveValue) (es : List (CheckerError A)) → IsStackToStack env m → AreMoveFaults env ms es → AreMoveFaults env (m ∷ ms) (StackToStackMove m.to m.from ∷ es)
-  fine : (m : MoveValue) (ms : List MoveValue) (es : List (CheckerError A)) → (IsStackToStack env m → ⊥) → AreMoveFaults env ms es → AreMoveFaults env (m ∷ ms) es
+  fault : (m : MoveValue) (ms : List MoveValue) (es : List (CheckerError A)) → IsStackToStack env m → AreMoveFaults env ms es →
+      AreMoveFaults env (m ∷ ms) (StackToStackMove m.to m.from ∷ es)
+  fine : (m : MoveValue) (ms : List MoveValue) (es : List (CheckerError A)) → (IsStackToStack env m → ⊥) → AreMoveFaults env ms es →
+      AreMoveFaults env (m ∷ ms) es
 
 -- the errors of an instruction: those of the moves before it, then at most one of its early operands, then at most one of its late ones
 pub record InstReport {A : Type 0} (f : FunctionValue) (env : MachineValue) (o : OutputValue) (l : Location) (es : List (CheckerError A)) : Type 0 where
@@ -122,4 +133,5 @@ IsReport f env o es = BlockReports f env o (length f.blocks) es
 
 -- of the outputs of a framed function, those without errors are just the faithful ones
 abbrev pub NoneWhereFaithful : Type 0 → Type 0
-NoneWhereFaithful A = (f : FunctionValue) (env : MachineValue) (o : OutputValue) (es : List (CheckerError A)) → IsFramed f → IsReport f env o es → (es ≡ []) ↔ IsFaithful f env o
+NoneWhereFaithful A = (f : FunctionValue) (env : MachineValue) (o : OutputValue) (es : List (CheckerError A)) → IsFramed f → IsReport f env o es →
+    (es ≡ []) ↔ IsFaithful f env o

@@ -6,10 +6,10 @@ use Rattle.regalloc2_function.specs.FunctionValue.{FunctionValue, block_at}
 use Rattle.regalloc2_function.specs.OutputValue.{OutputValue}
 use Rattle.regalloc2_function.specs.Path.{first_of}
 use Rattle.regalloc2_checker.specs.Facts.{Facts}
-use Rattle.regalloc2_checker.specs.Fixpoint.{IsReachedBlock, facts_passed, IsRefuted, IsSettled, IsRefutedElsewhere}
-use Rattle.regalloc2_checker.specs.Numbers.{Numbers, facts_in, numbers_of}
-use Rattle.regalloc2_checker.specs.Meeting.{agree, IsWithin, IsCommon}
-use Rattle.regalloc2_checker.specs.declared.settle.BlockValues.{BlockValues}
+use Rattle.regalloc2_checker.specs.Fixpoint.{IsReachedBlock, facts_passed, IsRefuted, IsFixpoint, IsRefutedElsewhere}
+use Rattle.regalloc2_checker.specs.ValueNumbers.{Numbers, facts_in, numbers_of}
+use Rattle.regalloc2_checker.specs.Meet.{agree, IsWithin, IsCommon}
+use Rattle.regalloc2_checker.specs.declared.analyze.BlockValues.{BlockValues}
 
 -- what is known at a block's beginning: whether a path was found there, and the numbers that are left
 pub record BlockView : Type 0 where
@@ -58,19 +58,19 @@ pub record IsSound (f : FunctionValue) (o : OutputValue) (t : List BlockView) : 
   pub refuted : (b : ℕ) (p : Place) (v : VirtualRegister) → (view_at t b).reached ≡ true → facts_at t b p v ≡ false → IsRefuted f o (first_of f b) p v
 
 -- an edge asks for nothing more
-pub record EdgeSettled (f : FunctionValue) (o : OutputValue) (t : List BlockView) (b k : ℕ) : Type 0 where
+pub record EdgeSolved (f : FunctionValue) (o : OutputValue) (t : List BlockView) (b k : ℕ) : Type 0 where
   pub reached : (view_at t (slice_index (block_at f b).succs k)).reached ≡ true
   pub within : (p : Place) (v : VirtualRegister) → facts_at t (slice_index (block_at f b).succs k) p v ≡ true → facts_passed f o b k (facts_at t b) p v ≡ true
 
 -- so many of the edges of a block that is marked do
-abbrev pub EdgesSettled : FunctionValue → OutputValue → List BlockView → ℕ → ℕ → Type 0
-EdgesSettled f o t b n = (view_at t b).reached ≡ true → (k : ℕ) → k < n → EdgeSettled f o t b k
+abbrev pub EdgesSolved : FunctionValue → OutputValue → List BlockView → ℕ → ℕ → Type 0
+EdgesSolved f o t b n = (view_at t b).reached ≡ true → (k : ℕ) → k < n → EdgeSolved f o t b k
 
-abbrev pub BlockSettled : FunctionValue → OutputValue → List BlockView → ℕ → Type 0
-BlockSettled f o t b = EdgesSettled f o t b (length (block_at f b).succs)
+abbrev pub BlockSolved : FunctionValue → OutputValue → List BlockView → ℕ → Type 0
+BlockSolved f o t b = EdgesSolved f o t b (length (block_at f b).succs)
 
-abbrev pub AllSettled : FunctionValue → OutputValue → List BlockView → Type 0
-AllSettled f o t = (b : ℕ) → b < length f.blocks → BlockSettled f o t b
+abbrev pub AllSolved : FunctionValue → OutputValue → List BlockView → Type 0
+AllSolved f o t = (b : ℕ) → b < length f.blocks → BlockSolved f o t b
 
 -- what is passed to a block is met with what it has
 pub record IsUpdated (old new : List BlockView) (target : ℕ) (passed : Numbers) : Type 0 where
@@ -81,12 +81,12 @@ pub record IsUpdated (old new : List BlockView) (target : ℕ) (passed : Numbers
   pub met : (view_at old target).reached ≡ true → IsCommon (view_at new target).numbers (view_at old target).numbers passed
 
 -- what an update answers: whether anything changed
-pub record IsMet (old new : List BlockView) (target : ℕ) (passed : Numbers) (changed : Bool) : Type 0 where
+pub record IsMeet (old new : List BlockView) (target : ℕ) (passed : Numbers) (changed : Bool) : Type 0 where
   pub same : changed ≡ false → (new ≡ old) × ((view_at old target).reached ≡ true) × IsWithin (view_at old target).numbers passed
   pub updated : changed ≡ true → IsUpdated old new target passed
   pub falls : changed ≡ true → sum_by weight new < sum_by weight old
 
--- what a part of a round answers: whether anything changed; where nothing did, what it went over is settled
+-- what a part of a round answers: whether anything changed; where nothing did, what it went over is solved
 pub record IsRound (f : FunctionValue) (o : OutputValue) (old new : List BlockView) (Settled : Type 0) (changed : Bool) : Type 0 where
   pub sound : IsSound f o new
   pub same : changed ≡ false → (new ≡ old) × Settled
@@ -96,7 +96,7 @@ pub record IsRound (f : FunctionValue) (o : OutputValue) (old new : List BlockVi
 pub record IsSolved (f : FunctionValue) (o : OutputValue) (t : List BlockView) : Type 0 where
   pub size : length t ≡ length f.blocks
   pub reached : (b : ℕ) → ((view_at t b).reached ≡ true) ↔ IsReachedBlock f b
-  pub settled : IsSettled f o (facts_at t)
+  pub settled : IsFixpoint f o (facts_at t)
   pub refuted : IsRefutedElsewhere f o (facts_at t)
 
 abbrev pub view_of : {A : Type 0} → BlockValues A → BlockView

@@ -5,11 +5,15 @@ use Rattle.regalloc2_names.specs.Operand.{OperandValue}
 use Rattle.regalloc2_names.specs.Place.{Place, NoPlace}
 use Rattle.regalloc2_names.specs.Text.{operand_text, place_text}
 use Rattle.regalloc2_checker.specs.declared.errors.CheckerError.{CheckerError}
-use Rattle.regalloc2_checker.specs.declared.errors.CheckerError.TheVariants.{MissingAllocation, UnknownValueInAllocation, ConflictedValueInAllocation, IncorrectValuesInAllocation, ConstraintViolated, AllocationIsNotReg, AllocationIsNotFixedReg, AllocationIsNotReuse, AllocationIsNotStack, StackToStackMove, AllocationOutsideLimit, MalformedOutput, Memory}
+use Rattle.regalloc2_checker.specs.declared.errors.CheckerError.TheVariants.{MissingAllocation, UnknownValueInAllocation, ConflictedValueInAllocation}
+use Rattle.regalloc2_checker.specs.declared.errors.CheckerError.TheVariants.{IncorrectValuesInAllocation, ConstraintViolated, AllocationIsNotReg}
+use Rattle.regalloc2_checker.specs.declared.errors.CheckerError.TheVariants.{AllocationIsNotFixedReg, AllocationIsNotReuse, AllocationIsNotStack}
+use Rattle.regalloc2_checker.specs.declared.errors.CheckerError.TheVariants.{StackToStackMove, AllocationOutsideLimit, MalformedOutput, Memory}
 
 -- a kind's number, and an instruction with an operand and its place, as error 2 inst1 Use: v0i reg [p8i]
 abbrev pub operand_fault_text : ℕ → ℕ → OperandValue → Place → List ℕ
-operand_fault_text number inst op p = codes "error " ++ decimal number ++ codes " inst" ++ decimal inst ++ codes " " ++ operand_text op ++ codes " [" ++ place_text p ++ codes "]"
+operand_fault_text number inst op p = codes "error " ++ decimal number ++ codes " inst" ++ decimal inst ++ codes " " ++ operand_text op ++ codes " ["
+    ++ place_text p ++ codes "]"
 
 abbrev pub fault_text : {A : Type 0} → CheckerError A → List ℕ
 fault_text (MissingAllocation inst op) = operand_fault_text 1 inst op NoPlace

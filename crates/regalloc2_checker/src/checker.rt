@@ -6,17 +6,17 @@ ghost use Rattle.std.proofs.Props.{props};
 ghost use Rattle.regalloc2_function.specs.OutputValue.{OutputValue, IsInOrder};
 ghost use Rattle.regalloc2_function.specs.Views.{output_of, machine_of};
 ghost use Rattle.regalloc2_function.specs.WellFormed.{IsFramed};
-ghost use Rattle.regalloc2_checker.specs.Once.{framed-once};
+ghost use Rattle.regalloc2_checker.specs.FramedIsProp.{framed-once};
 
-use crate::copy::copy_output;
 use crate::errors::{CheckerError, CheckerErrors};
-use crate::report::find_errors;
+use crate::find_errors::find_errors;
+use crate::handle::handle_output;
 use regalloc2_function::{Function, MachineEnv, Output};
 use std::alloc::{Allocator, Global};
 
 /// Checks what an allocation gave for one function on one machine.
 ///
-/// It judges the output that [`Checker::prepare`] was last given, of which it holds a copy.
+/// It checks the output that [`Checker::prepare`] was last given, of which it holds a copy.
 #[derive(Debug, Drop)]
 pub struct Checker<'a, F: Function, A: Allocator = Global, B: Allocator = Global> {
     f: &'a F,
@@ -32,7 +32,7 @@ pub struct Checker<'a, F: Function, A: Allocator = Global, B: Allocator = Global
 
 impl<'a, F: Function, A: Allocator + Copy, B: Allocator> Checker<'a, F, A, B> {
     ghost use Rattle.regalloc2_function.specs.Faithful.{IsFaithful};
-    ghost use Rattle.regalloc2_checker.specs.Found.{errors_of};
+    ghost use Rattle.regalloc2_checker.specs.ErrorsFound.{errors_of};
     ghost use Rattle.regalloc2_checker.specs.Prepared.{subject_of, machine_in, output_in};
     ghost use Rattle.regalloc2_checker.specs.Report.{IsReport};
 
@@ -67,14 +67,15 @@ impl<'a, F: Function, A: Allocator + Copy, B: Allocator> Checker<'a, F, A, B> {
         ensures subject { subject_of self.new ≡ subject_of self.old }
         ensures machine { machine_in self.new ≡ machine_in self.old }
         ensures ok { OnOk result (IsInOrder (F.function (subject_of self.old)) (output_of out.now) × (output_in self.new ≡ Some (output_of out.now))) }
-        ensures err { IfErr result (λ e. (output_in self.new ≡ None) × (((e ≡ CheckerError.MalformedOutput) × (IsInOrder (F.function (subject_of self.old)) (output_of out.now) → ⊥))
+        ensures err { IfErr result (λ e. (output_in self.new ≡ None)
+            × (((e ≡ CheckerError.MalformedOutput) × (IsInOrder (F.function (subject_of self.old)) (output_of out.now) → ⊥))
             ⊎ ((e ≡ CheckerError.Memory) × IsInOrder (F.function (subject_of self.old)) (output_of out.now)))) }
     {
         self.prepared = None;
         if !out.is_in_order(self.f) {
             return Err(CheckerError::MalformedOutput);
         }
-        match copy_output(self.alloc, out) {
+        match handle_output(self.alloc, out) {
             Ok(copy) => {
                 self.prepared = Some(copy);
                 Ok(())
@@ -83,17 +84,19 @@ impl<'a, F: Function, A: Allocator + Copy, B: Allocator> Checker<'a, F, A, B> {
         }
     }
 
-    /// Judges the prepared output: whether on every path each use reads what its virtual register has in the function's
+    /// Checks the prepared output: whether on every path each use reads what its virtual register has in the function's
     /// own run, every constraint is met, and no move goes from one place in memory to another.
     ///
     /// The faults come by rising block and instruction, a move's where the move is listed, at most one for each of an
     /// instruction's two positions. Where no output is prepared they are `MalformedOutput` alone, and where a growth was
     /// refused `Memory` alone.
     pub fn run(self) -> Result<(), CheckerErrors<A>>
-        ensures accepted { OnOk result ((o : OutputValue) × (output_in self.entry ≡ Some o) × IsFaithful (F.function (subject_of self.entry)) (machine_in self.entry) o) }
+        ensures accepted { OnOk result ((o : OutputValue) × (output_in self.entry ≡ Some o)
+            × IsFaithful (F.function (subject_of self.entry)) (machine_in self.entry) o) }
         ensures unprepared { output_in self.entry ≡ None → IfErr result (λ es. errors_of es ≡ CheckerError.MalformedOutput ∷ []) }
         ensures refused { (o : OutputValue) → output_in self.entry ≡ Some o → IfErr result (λ es. (errors_of es ≡ CheckerError.Memory ∷ [])
-            ⊎ ((IsFaithful (F.function (subject_of self.entry)) (machine_in self.entry) o → ⊥) × IsReport (F.function (subject_of self.entry)) (machine_in self.entry) o (errors_of es))) }
+            ⊎ ((IsFaithful (F.function (subject_of self.entry)) (machine_in self.entry) o → ⊥)
+            × IsReport (F.function (subject_of self.entry)) (machine_in self.entry) o (errors_of es))) }
     {
         let Checker {
             f,

@@ -5,11 +5,11 @@ ghost use Rattle.regalloc2_names.specs.Place.{Place, NoPlace};
 ghost use Rattle.regalloc2_function.specs.Machine.{MachineValue, IsStackPlace, IsPlainRegister};
 ghost use Rattle.regalloc2_function.specs.Faithful.{Meets, IsNumberedBelow};
 ghost use Rattle.regalloc2_function.specs.Views.{machine_of};
-ghost use Rattle.regalloc2_checker.specs.Judged.{AreStackSlots};
+ghost use Rattle.regalloc2_checker.specs.CheckInputs.{AreStackSlots};
 ghost use Rattle.regalloc2_checker.specs.Report.{IsConstraintFault};
 
 use crate::errors::CheckerError;
-use crate::walk::place_at;
+use crate::transfer::place_at;
 use regalloc2_function::MachineEnv;
 use regalloc2_index::Inst;
 use regalloc2_names::{Allocation, Operand, OperandConstraint, PRegSet};
@@ -30,10 +30,7 @@ pub fn stack_slots<B: Allocator>(env: &MachineEnv<B>) -> PRegSet
 pub fn is_stack(slots: PRegSet, place: Allocation) -> bool
     ensures { (env : MachineValue) → AreStackSlots env slots → IsTrue result ↔ IsStackPlace env place }
 {
-    match place.as_reg() {
-        Some(reg) => slots.contains(reg),
-        None => place.is_stack(),
-    }
+    place.is_memory(slots)
 }
 
 /// Whether a place is a register that isn't in memory.
@@ -64,7 +61,7 @@ fn is_numbered_below(place: Allocation, bound: usize) -> bool
 }
 
 /// What a reuse of the operand with an index finds wrong with its place.
-fn reuse_fault<A: Allocator>(
+fn check_reuse<A: Allocator>(
     inst: Inst,
     op: Operand,
     alloc: Allocation,
@@ -94,14 +91,15 @@ fn reuse_fault<A: Allocator>(
 }
 
 /// What a bound on the register's number finds wrong with its place.
-fn limit_fault<A: Allocator>(
+fn check_limit<A: Allocator>(
     slots: PRegSet,
     inst: Inst,
     op: Operand,
     alloc: Allocation,
     max: usize,
 ) -> Option<CheckerError<A>>
-    ensures { (env : MachineValue) → AreStackSlots env slots → (count : ℕ) (places : List Place) → MatchOption result (Meets env count places (OperandConstraint.Limit max) alloc)
+    ensures { (env : MachineValue) → AreStackSlots env slots → (count : ℕ) (places : List Place) →
+        MatchOption result (Meets env count places (OperandConstraint.Limit max) alloc)
         (λ e. IsConstraintFault env inst op count places alloc (OperandConstraint.Limit max) e) }
 {
     if !is_plain_reg(slots, alloc) {
@@ -120,7 +118,7 @@ fn limit_fault<A: Allocator>(
 
 /// What an operand's constraint finds wrong with its place, which is there. The instruction has so many operands, and
 /// these are their places.
-pub fn constraint_fault<A: Allocator>(
+pub fn check_constraint<A: Allocator>(
     slots: PRegSet,
     inst: Inst,
     op: Operand,
@@ -154,7 +152,7 @@ pub fn constraint_fault<A: Allocator>(
                 Some(CheckerError::AllocationIsNotFixedReg { inst, op, alloc })
             }
         }
-        OperandConstraint::Reuse(index) => reuse_fault(inst, op, alloc, index, count, places),
-        OperandConstraint::Limit(max) => limit_fault(slots, inst, op, alloc, max),
+        OperandConstraint::Reuse(index) => check_reuse(inst, op, alloc, index, count, places),
+        OperandConstraint::Limit(max) => check_limit(slots, inst, op, alloc, max),
     }
 }

@@ -11,7 +11,7 @@ use std::alloc::{Allocator, Global};
 use std::fmt;
 use std::ops::Range;
 
-/// A fault of an output, or why it can't be judged.
+/// A fault of an output, or why it can't be checked.
 ///
 /// Names and fields are upstream's, with two variants of this port's own at the end.
 #[derive(Debug, Drop)]
@@ -200,7 +200,7 @@ pub struct CheckerErrors<A: Allocator = Global> {
 }
 
 impl<A: Allocator> CheckerErrors<A> {
-    ghost use Rattle.regalloc2_checker.specs.Found.{errors_of};
+    ghost use Rattle.regalloc2_checker.specs.ErrorsFound.{errors_of};
 
     /// A list of faults.
     pub(crate) fn of(errors: Vec<CheckerError<A>, A>) -> CheckerErrors<A>

@@ -1,20 +1,20 @@
 //! A checker of register allocations.
 #![tactic(auto)]
 
+mod analyze;
+mod check;
 mod checker;
 mod constraints;
-mod copy;
 mod errors;
-mod holders;
-mod judge;
+mod find_errors;
+mod handle;
 mod laws;
 mod listing;
 mod meet;
-mod report;
-mod run;
-mod settle;
-mod values;
-mod walk;
+mod transfer;
+mod transfer_block;
+mod value_numbers;
+mod vregs_in_value;
 
 pub use checker::Checker;
 pub use errors::{CheckerError, CheckerErrors};

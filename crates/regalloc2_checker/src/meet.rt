@@ -3,10 +3,10 @@
 ghost use Rattle.std.specs.Prelude.{◌≡◌, ℕ, ◌<◌, ◌^◌, Some, IfOk, OnOk};
 ghost use Rattle.std.specs.Bool.{OnTrue, OnFalse};
 ghost use Rattle.std.specs.HashMap.{get, hash_map_len};
-ghost use Rattle.regalloc2_checker.specs.Numbers.{numbers_of};
-ghost use Rattle.regalloc2_checker.specs.Meeting.{IsWithin, IsCommon, Differ, IsNumbering, pair_eq};
+ghost use Rattle.regalloc2_checker.specs.ValueNumbers.{numbers_of};
+ghost use Rattle.regalloc2_checker.specs.Meet.{IsWithin, IsCommon, Differ, IsNumbering, pair_eq};
 
-use crate::values::Values;
+use crate::value_numbers::ValueNumbers;
 use std::alloc::{AllocError, Allocator};
 use std::collections::HashMap;
 use std::hash::{BuildHasherDefault, FoldHasher};
@@ -14,8 +14,8 @@ use std::hash::{BuildHasherDefault, FoldHasher};
 /// Whether keys that have one number in a table have one number in another.
 pub fn is_within<A: Allocator + Copy>(
     alloc: A,
-    have: &Values<A>,
-    other: &Values<A>,
+    have: &ValueNumbers<A>,
+    other: &ValueNumbers<A>,
 ) -> Result<bool, AllocError>
     ensures yes { IfOk result (λ b. OnTrue b (IsWithin (numbers_of have.now) (numbers_of other.now))) }
     ensures no { IfOk result (λ b. OnFalse b (Differ (numbers_of have.now) (numbers_of other.now))) }
@@ -57,16 +57,16 @@ fn number_of_pair<A: Allocator + Copy>(
 /// The keys that have a number in both tables: two of them have one number where they have one in each.
 pub fn meet<A: Allocator + Copy>(
     alloc: A,
-    have: &Values<A>,
-    other: &Values<A>,
-) -> Result<Values<A>, AllocError>
+    have: &ValueNumbers<A>,
+    other: &ValueNumbers<A>,
+) -> Result<ValueNumbers<A>, AllocError>
     ensures common { IfOk result (λ r. IsCommon (numbers_of r) (numbers_of have.now) (numbers_of other.now)) }
     ensures small { IfOk result (λ r. (k n : ℕ) → numbers_of r k ≡ Some n → n < 2 ^ 64) }
 {
     let mut pairs: HashMap<(u128, u128), u128, BuildHasherDefault<FoldHasher>, A> = HashMap::new(
         alloc,
     );
-    let mut met = Values::new(alloc);
+    let mut met = ValueNumbers::new(alloc);
     for (key, number) in have.numbers.iter() {
         let key = *key;
         let Some(here) = other.numbers.get(&key).copied() else {

@@ -1,7 +1,7 @@
-pub mod Agreed
-pub mod Labelled
-pub mod Locating
-pub mod Needing
-pub mod Numbers
-pub mod Reasoned
-pub mod Roomy
+pub mod ReadsAgree
+pub mod DebugLocationPlaces
+pub mod DebugLocationsFound
+pub mod UnitsNeeded
+pub mod UsesReadNumbers
+pub mod ErrorsHaveReasons
+pub mod RegistersForAll

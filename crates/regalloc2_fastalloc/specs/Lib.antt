@@ -1,3 +1,3 @@
 pub mod Promise
-pub mod Reason
-pub mod Located
+pub mod ErrorReason
+pub mod DebugLocations

@@ -1,4 +1,6 @@
--- What `run` promises of its outputs: the main theorem's conclusion. Its words stand in regalloc2_function/specs: paths in Path, what both runs read in SourceRun and AllocatedRun, outputs in OutputValue, faithful ones in Faithful, proper places in Fitting, slots in Slots, numbers in Values.
+-- What `run` promises of its outputs: the main theorem's conclusion. Its words are in regalloc2_function/specs: paths in Path, what both
+-- runs read in SourceRun and AllocatedRun, outputs in OutputValue, faithful ones in Faithful, proper places in Fitting, slots in Slots,
+-- numbers in Values.
 use Rattle.std.specs.Prelude.{ℕ, ◌≡◌, ◌<◌, ◌≤◌, ◌^◌, ◌⊎◌, List, All, IsSome, length, slice_index_or, Bool, false, [], nat_eq}
 use Rattle.regalloc2_names.specs.Register.{VirtualRegister, Register}
 use Rattle.regalloc2_names.specs.Operand.{OperandValue}
@@ -19,41 +21,48 @@ use Rattle.regalloc2_function.specs.Fitting.{IsProperPlace, PlacesAreProper, all
 use Rattle.regalloc2_function.specs.Slots.{AreSlotsOwned, StandsInSlot}
 use Rattle.regalloc2_function.specs.Values.{Meaning, SameNumbers, numbers, source_reads}
 use Rattle.regalloc2_validate.specs.Constraints.{op_at}
-use Rattle.regalloc2_flow.specs.Live.{IsLive, HasEntered, HoldsValue}
-use Rattle.regalloc2_fastalloc.specs.Reason.{units_needed}
+use Rattle.regalloc2_semantics.specs.Live.{IsLive, HasEntered, HoldsValue}
+use Rattle.regalloc2_fastalloc.specs.ErrorReason.{units_at_most}
 
 -- on every path each use of the function reads a number, whatever the instructions mean
 abbrev pub ReadsNumbers : FunctionValue → Type 0
 ReadsNumbers f = (meaning : Meaning) (ws : List Way) → IsPath f ws → All (All IsSome) (numbers f meaning (source_reads f) ws).history
 
--- The allocated program runs as the function does, along every path from the entry: at each step each use finds in its place the function's own write, each place meets its constraint, and no move goes from a place in memory to another; and so each use reads the function's own number, whatever the instructions mean.
+-- The allocated program runs as the function does, along every path from the entry: at each step each use finds in its place the function's
+-- own write, each place meets its constraint, and no move goes from a place in memory to another; and so each use reads the function's own
+-- number, whatever the instructions mean.
 pub record RunsAsTheFunction (f : FunctionValue) (env : MachineValue) (out : OutputValue) : Type 0 where
   pub faithful : IsFaithful f env out
   pub reads_numbers : ReadsNumbers f
   pub same_numbers : SameNumbers f out
 
--- Between blocks values are in memory: each virtual register has one slot, and on every path, where it comes to a block, the slot of each that is live there holds its value, also those of the block's parameters.
+-- Between blocks values are in memory: each virtual register has one slot, and on every path, where it comes to a block, the slot of each
+-- that is live there holds its value, also those of the block's parameters.
 pub record LiveInSlots (f : FunctionValue) (out : OutputValue) : Type 0 where
   pub slot : VirtualRegister → ℕ
   pub operands : (v : VirtualRegister) (n : ℕ) → StandsInSlot f out v n → slot v ≡ n
   pub live : (ws : List Way) → IsPath f ws → HasEntered f ws → (v : VirtualRegister) → IsLive f v (end_of f ws) → HoldsValue f out ws (InSlot (slot v)) v
 
 -- Slots take no more units than these bounds.
-pub record SlotsAreFew (f : FunctionValue) (out : OutputValue) : Type 0 where
+pub record SlotsAreBounded (f : FunctionValue) (out : OutputValue) : Type 0 where
   pub limit : out.num_spillslots ≤ 2 ^ 24
-  pub needed : out.num_spillslots ≤ units_needed f
+  pub needed : out.num_spillslots ≤ units_at_most f
 
--- an operand names the virtual register, and stands in the place
+-- an operand names the virtual register, and is in the place
 abbrev pub StandsIn : FunctionValue → OutputValue → VirtualRegister → Place → Type 0
-StandsIn f out v p = (i k : ℕ) × (d : OperandValue) × (i < length f.insts) × (k < length (inst_at f i).operands) × ((slice_index_or (inst_at f i).operands k d).vreg ≡ v) × (place_at (allocs_of out i) k ≡ p)
+StandsIn f out v p = (i k : ℕ) × (d : OperandValue) × (i < length f.insts) × (k < length (inst_at f i).operands)
+    × ((slice_index_or (inst_at f i).operands k d).vreg ≡ v) × (place_at (allocs_of out i) k ≡ p)
 
--- A place of a virtual register: an operand that names it stands there, or it is a slot in which no operand of another one stands.
+-- A place of a virtual register: an operand that names it is there, or it is a slot in which no operand of another one stands.
 abbrev pub IsPlaceOf : FunctionValue → OutputValue → VirtualRegister → Place → Type 0
 IsPlaceOf f out v p = StandsIn f out v p ⊎ ((n : ℕ) × (p ≡ InSlot n) × ((w : VirtualRegister) → StandsInSlot f out w n → w ≡ v))
 
--- The debug locations are those of the labels that are kept, each from its virtual register's first point to its last one, by rising label, and as listed where labels are equal. Each place is proper, and one of that virtual register; and where no path from the entry reads a virtual register before writing it, it holds that one's value.
+-- The debug locations are those of the labels that are kept, each from its virtual register's first point to its last one, by rising label,
+-- and as listed where labels are equal. Each place is proper, and one of that virtual register; and where no path from the entry reads a
+-- virtual register before writing it, it holds that one's value.
 abbrev pub ShowsLabels : FunctionValue → MachineValue → OutputValue → Type 0
-ShowsLabels f env out = AreDebugLocations f (λ l d. IsProperPlace env out l.vreg.class d.place × IsPlaceOf f out l.vreg d.place × (IsWrittenFirst f → ShowsValue f out l.vreg d.place)) out
+ShowsLabels f env out = AreDebugLocations f (λ l d. IsProperPlace env out l.vreg.class d.place × IsPlaceOf f out l.vreg d.place
+    × (IsWrittenFirst f → ShowsValue f out l.vreg d.place)) out
 
 -- an operand of the function names the virtual register
 abbrev pub IsNamed : FunctionValue → VirtualRegister → Type 0
@@ -62,14 +71,17 @@ IsNamed f v = (i k : ℕ) × (i < length f.insts) × (k < length (inst_at f i).o
 abbrev pub have_same_number : VirtualRegister → VirtualRegister → Bool
 have_same_number v w = nat_eq v.number w.number
 
--- A function of one block, all of whose operands are under `Reg`, without clobbers, which names no more virtual registers of a class than registers of it may be allocated.
+-- A function of one block, all of whose operands are under `Reg`, without clobbers, which names no more virtual registers of a class than
+-- registers of it may be allocated.
 pub record HasRegistersForAll (f : FunctionValue) (env : MachineValue) : Type 0 where
   pub one_block : length f.blocks ≡ 1
   pub under_reg : (i k : ℕ) → i < length f.insts → k < length (inst_at f i).operands → (op_at (inst_at f i).operands k).constraint ≡ Reg
   pub no_clobbers : (i : ℕ) (r : Register) → i < length f.insts → has_register (inst_at f i).clobbers r ≡ false
-  pub enough : (class : RegClass) (vs : List VirtualRegister) → IsDistinct have_same_number vs → All (λ v. (v.class ≡ class) × IsNamed f v) vs → length vs ≤ allocatable_count env class
+  pub enough : (class : RegClass) (vs : List VirtualRegister) → IsDistinct have_same_number vs → All (λ v. (v.class ≡ class) × IsNamed f v) vs →
+      length vs ≤ allocatable_count env class
 
--- The whole promise about an output. Only `faithful`, `live` and the last part of `labels` have a premise: that no path from the entry reads a virtual register before writing it.
+-- The whole promise about an output. Only `faithful`, `live` and the last part of `labels` have a premise: that no path from the entry
+-- reads a virtual register before writing it.
 --     in_order            offsets and moves are in order, and no move names a missing place
 --     constraints         each operand's place meets its constraint, whether a path reaches it or not
 --     proper              each operand's place, and each end of a move, is one of the machine's or a slot below the count
@@ -89,7 +101,7 @@ pub record IsAllocation (f : FunctionValue) (env : MachineValue) (out : OutputVa
   pub listed : EditsAreListed f out
   pub faithful : IsWrittenFirst f → RunsAsTheFunction f env out
   pub live : IsWrittenFirst f → LiveInSlots f out
-  pub slots : SlotsAreFew f out
+  pub slots : SlotsAreBounded f out
   pub unspilled : HasRegistersForAll f env → (out.edits ≡ []) × (out.num_spillslots ≡ 0)
   pub owners : AreSlotsOwned f out
   pub labels : ShowsLabels f env out

@@ -8,18 +8,18 @@ ghost use Rattle.regalloc2_function.specs.Views.{edit_of, machine_of, output_of}
 ghost use Rattle.regalloc2_function.specs.WellFormed.{IsWellFormed};
 ghost use Rattle.regalloc2_function.specs.Fitting.{MachineFits};
 ghost use Rattle.regalloc2_validate.specs.Constraints.{BranchDefinesNothing};
-ghost use Rattle.regalloc2_tables.specs.Lack.{Lacks};
+ghost use Rattle.regalloc2_fastalloc_state.specs.OutOfResources.{Lacks};
 ghost use Rattle.regalloc2_fastalloc.specs.Promise.{IsAllocation};
-ghost use Rattle.regalloc2_fastalloc.specs.Reason.{SomeDoesNotFit, units_needed};
-ghost use Rattle.regalloc2_validate.specs.Profile.{AreTaken};
-ghost use Rattle.regalloc2_steps.specs.Walks.{offset_of};
+ghost use Rattle.regalloc2_fastalloc.specs.ErrorReason.{SomeDoesNotFit, units_at_most};
+ghost use Rattle.regalloc2_validate.specs.NoLimits.{AreTaken};
+ghost use Rattle.regalloc2_fastalloc_proofs.specs.BlockSteps.{offset_of};
 
 use super::{allocs, debug};
+use regalloc2_fastalloc_walk::state::State;
 use regalloc2_function::{
     Edit, Function, MachineEnv, Output, count_operands, reads_the_same_numbers,
 };
 use regalloc2_names::{Allocation, ProgPoint, RegAllocError};
-use regalloc2_walk::state::State;
 use std::alloc::Allocator;
 
 /// What an output has beside the places: how many units slots take, the moves as they are listed, and the debug locations.
@@ -30,7 +30,7 @@ struct Rest<A: Allocator> {
     debug_locations: Vec<(u32, ProgPoint, ProgPoint, Allocation), A>,
 }
 
-/// The walk over fresh tables fills in the place of each operand. What comes back is the rest of a whole output.
+/// The walk from a fresh state fills in the place of each operand. What comes back is the rest of a whole output.
 fn fill_places<A: Allocator + Copy, F: Function, B: Allocator>(
     alloc: A,
     f: &F,
@@ -46,17 +46,24 @@ fn fill_places<A: Allocator + Copy, F: Function, B: Allocator>(
     requires offsets { (i : ℕ) → i < length (F.function f.now).insts → slice_index offsets.now i ≡ offset_of (F.function f.now) i }
     requires allocs_long { length allocs.old ≡ operand_count (F.function f.now) }
     requires no_places { (k : ℕ) → slice_index_or allocs.old k NoPlace ≡ NoPlace }
-    ensures allocation { IfOk result (λ rest. IsAllocation (F.function f.now) (machine_of env.now) (record { num_spillslots = rest.num_spillslots; edits = map edit_of rest.edits.items; allocs = allocs.new; offsets = offsets.now; debug_locations = map location_of rest.debug_locations.items })) }
-    ensures err { IfErr result (Lacks (SomeDoesNotFit (F.function f.now) (machine_of env.now)) (2 ^ 24 < units_needed (F.function f.now))) }
+    ensures allocation { IfOk result (λ rest. IsAllocation (F.function f.now) (machine_of env.now)
+        (record {
+          num_spillslots = rest.num_spillslots;
+          edits = map edit_of rest.edits.items;
+          allocs = allocs.new;
+          offsets = offsets.now;
+          debug_locations = map location_of rest.debug_locations.items;
+        })) }
+    ensures err { IfErr result (Lacks (SomeDoesNotFit (F.function f.now) (machine_of env.now)) (2 ^ 24 < units_at_most (F.function f.now))) }
 {
     let mut state = State::new(&alloc, f, env)?;
-    state.allocate_blocks(&alloc, f, offsets, allocs)?;
+    state.alloc_blocks(&alloc, f, offsets, allocs)?;
     let edits = state.edits.listed(alloc)?;
     let debug_locations = debug::locations(alloc, f, &state.slots, offsets, allocs)?;
     // a law, which the contract needs: the call does nothing
     reads_the_same_numbers();
     Ok(Rest {
-        num_spillslots: state.slots.count(),
+        num_spillslots: state.slots.num_units(),
         edits,
         debug_locations,
     })
@@ -74,7 +81,7 @@ pub fn allocate<A: Allocator + Copy, F: Function, B: Allocator>(
     requires well_formed { IsWellFormed (machine_of env.now) (F.function f.now) }
     requires few { operand_count (F.function f.now) < 2 ^ 32 }
     ensures allocation { IfOk result (λ out. IsAllocation (F.function f.now) (machine_of env.now) (output_of out)) }
-    ensures err { IfErr result (Lacks (SomeDoesNotFit (F.function f.now) (machine_of env.now)) (2 ^ 24 < units_needed (F.function f.now))) }
+    ensures err { IfErr result (Lacks (SomeDoesNotFit (F.function f.now) (machine_of env.now)) (2 ^ 24 < units_at_most (F.function f.now))) }
 {
     let total = count_operands(f).unwrap();
     let offsets = allocs::offsets(alloc, f)?;

@@ -3,7 +3,7 @@
 ghost use Rattle.std.specs.Prelude.{◌≡◌, ℕ, ◌<◌, ◌≤◌, ◌^◌, length, replicate, slice_index, IfOk, IfErr};
 ghost use Rattle.regalloc2_names.specs.Place.{NoPlace};
 ghost use Rattle.regalloc2_function.specs.FunctionValue.{operand_count};
-ghost use Rattle.regalloc2_steps.specs.Walks.{offset_of};
+ghost use Rattle.regalloc2_fastalloc_proofs.specs.BlockSteps.{offset_of};
 
 use regalloc2_function::Function;
 use regalloc2_index::Inst;

@@ -1,30 +1,30 @@
-//! The debug locations of an output: where the values of labelled virtual registers stand.
+//! The debug locations of an output: where the values of labelled virtual registers are located.
 
 ghost use Rattle.std.specs.Prelude.{◌≡◌, ◌<◌, ℕ, All, IfErr, IfOk, length, map, slice_index};
 ghost use Rattle.regalloc2_function.specs.FunctionValue.{inst_at, operand_count};
 ghost use Rattle.regalloc2_function.specs.Stored.{location_of};
-ghost use Rattle.regalloc2_points.specs.LiveRanges.{IsSSA};
-ghost use Rattle.regalloc2_steps.specs.Walks.{offset_of};
-ghost use Rattle.regalloc2_fastalloc.specs.Located.{AreLocated, HasPlace, location_shown, place_shown};
+ghost use Rattle.regalloc2_live_ranges.specs.LiveRanges.{IsSSA};
+ghost use Rattle.regalloc2_fastalloc_proofs.specs.BlockSteps.{offset_of};
+ghost use Rattle.regalloc2_fastalloc.specs.DebugLocations.{AreLocated, HasPlace, location_shown, place_shown};
 
+use regalloc2_fastalloc_state::spillslots::SpillSlots;
 use regalloc2_function::Function;
+use regalloc2_live_ranges::{KeptLabel, LiveRange, kept_labels};
 use regalloc2_names::{Allocation, ProgPoint, RegAllocError};
-use regalloc2_points::{KeptLabel, LiveRange, kept_labels};
-use regalloc2_tables::slots::Slots;
 use std::alloc::Allocator;
 
 /// The place that shows a vreg's value over its live range: its slot where it has one, else that of the operand which the
 /// range names.
 fn place_of<B: Allocator>(
     range: LiveRange,
-    slots: &Slots<B>,
+    slots: &SpillSlots<B>,
     offsets: &[u32],
     allocs: &[Allocation],
 ) -> Allocation
     requires { HasPlace slots.now offsets.now allocs.now range }
     ensures { result ≡ place_shown slots.now offsets.now allocs.now range }
 {
-    let slot = slots.find(range.vreg);
+    let slot = slots.find_spillslot(range.vreg);
     match range.by {
         Some(by) if slot.is_none() => allocs[offsets[by.inst.index()] as usize + by.index],
         _ => slot,
@@ -34,7 +34,7 @@ fn place_of<B: Allocator>(
 /// The debug location of a label that is kept.
 fn location<B: Allocator>(
     kept: KeptLabel,
-    slots: &Slots<B>,
+    slots: &SpillSlots<B>,
     offsets: &[u32],
     allocs: &[Allocation],
 ) -> (u32, ProgPoint, ProgPoint, Allocation)
@@ -49,7 +49,7 @@ fn location<B: Allocator>(
 fn locate<A: Allocator, B: Allocator>(
     alloc: A,
     kept: &[KeptLabel],
-    slots: &Slots<B>,
+    slots: &SpillSlots<B>,
     offsets: &[u32],
     allocs: &[Allocation],
 ) -> Result<Vec<(u32, ProgPoint, ProgPoint, Allocation), A>, RegAllocError>
@@ -69,12 +69,12 @@ fn locate<A: Allocator, B: Allocator>(
 pub fn locations<A: Allocator + Copy, F: Function, B: Allocator>(
     alloc: A,
     f: &F,
-    slots: &Slots<B>,
+    slots: &SpillSlots<B>,
     offsets: &[u32],
     allocs: &[Allocation],
 ) -> Result<Vec<(u32, ProgPoint, ProgPoint, Allocation), A>, RegAllocError>
     requires ssa { IsSSA (F.function f.now) }
-    requires vregs { length slots.now.of_vreg ≡ (F.function f.now).num_vregs }
+    requires vregs { length slots.now.vreg_spillslots ≡ (F.function f.now).num_vregs }
     requires offsets_long { length offsets.now ≡ length (F.function f.now).insts }
     requires offsets { (i : ℕ) → i < length (F.function f.now).insts → slice_index offsets.now i ≡ offset_of (F.function f.now) i }
     requires allocs_long { length allocs.now ≡ operand_count (F.function f.now) }

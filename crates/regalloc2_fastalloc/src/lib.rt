@@ -1,7 +1,7 @@
 //! The fast allocator: one walk from the last instruction to the first, which gives a register to each operand as it meets
 //! it, and moves virtual registers to spill slots where registers run out.
 //!
-//! [`run`] allocates a function: it makes the tests, walks by `regalloc2_walk`, and assembles the output. Upstream's module
+//! [`run`] allocates a function: it makes the tests, walks by `regalloc2_fastalloc_walk`, and assembles the output. Upstream's module
 //! `fastalloc` does the same, reached by its crate's `run`.
 #![tactic(auto)]
 
@@ -11,12 +11,12 @@ ghost use Rattle.regalloc2_function.specs.Views.{machine_of, output_of};
 ghost use Rattle.regalloc2_function.specs.WellFormed.{IsWellFormed};
 ghost use Rattle.regalloc2_function.specs.Fitting.{MachineFits};
 ghost use Rattle.regalloc2_fastalloc.specs.Promise.{IsAllocation};
-ghost use Rattle.regalloc2_fastalloc.specs.Reason.{IsReason, PassesAll};
+ghost use Rattle.regalloc2_fastalloc.specs.ErrorReason.{IsReason, PassesAllChecks};
 
 use regalloc2_function::{Function, MachineEnv, Output, count_operands};
 use regalloc2_names::RegAllocError;
-use regalloc2_validate::constraints::{test_branches, test_limits};
-use regalloc2_validate::test_well_formed;
+use regalloc2_validate::constraints::{validate_branches, validate_limits};
+use regalloc2_validate::validate_function;
 use std::alloc::{Allocator, Global};
 
 mod allocate;
@@ -43,7 +43,7 @@ pub struct RegallocOptions {
 /// What is kept between allocations: the newest output, and the allocator that outputs are made with.
 #[derive(Drop)]
 pub struct Ctx<A: Allocator = Global> {
-    /// What the newest call that wasn't refused gave; at first an output of no instructions.
+    /// What the newest call that returned no error gave; at first an output of no instructions.
     pub output: Output<A>,
     alloc: A,
 }
@@ -66,7 +66,7 @@ impl<A: Allocator + Copy> Ctx<A> {
 /// well-formed; else that is tested. The output is in order; each operand's place is proper and meets its constraint, also in
 /// instructions that no path reaches; each end of a move is proper, and no move goes from a place in memory to another; and
 /// each move is listed, none after the last instruction of a block. Slots are memory: each that the output names belongs to
-/// one virtual register, and is where its operands stand that stand in slots, or to one branch, whose moves put values aside there. It
+/// one virtual register, and is where its operands stand that are in slots, or to one branch, whose moves put values aside there. It
 /// takes as many units as its owner's class wants, aligned to that number, below the count, and no other slot has one of them; and both
 /// ends of a move are of one class. The debug locations are those of the labels that are kept: each from the first point of its
 /// virtual register to the last one, in a proper place of that, by rising label. All that is promised of an output is one
@@ -77,14 +77,14 @@ impl<A: Allocator + Copy> Ctx<A> {
 /// each virtual register that is live there holds its value. And the place of each debug location holds its virtual register's
 /// value, from where that is given up to each step that uses it, at all steps but branches. That premise isn't tested here.
 ///
-/// Refused are, in this order: 2^32 operands or more, by `TooManyOperands`; where `options.validate_ssa` is true, first
+/// Errors come in this order: 2^32 operands or more, by `TooManyOperands`; where `options.validate_ssa` is true, first
 /// blocks and edges that aren't sound, as `CFGInfo::init` says, then an entry, terminators, arguments, definitions or uses
 /// that aren't, as `validate_ssa` says, and then reuses that aren't sound and registers fixed beside clobbers, by
 /// `Unsupported` with the first such instruction; an operand under `Limit`, and then a branch that has a definition, by
 /// `Unsupported` with the first such instruction. Only after all these tests comes `TooManyLiveRegs`, when no register is
 /// found for an operand or a move: that happens only where some instruction doesn't fit, by `Fits`: it asks for more
 /// registers of a class than there are, or for a fixed one that the machine lacks or another operand holds. Or
-/// `TooManySpillSlots`, when a slot would end past 2^24: that happens only where `units_needed` passes 2^24, which is twice
+/// `TooManySpillSlots`, when a slot would end past 2^24: that happens only where `units_at_most` passes 2^24, which is twice
 /// the size of the greatest slot, for each virtual register and six times for each block. Slots take no more units than
 /// that, and at most 2^24. `Memory` comes when memory runs out, never from the first test, which asks for none.
 ///
@@ -109,7 +109,7 @@ pub fn run<A: Allocator + Copy, F: Function, B: Allocator>(
     requires well_formed { options.now.validate_ssa ≡ false → IsWellFormed (machine_of env.now) (F.function f.now) }
     ensures allocation { IfOk result (λ out. IsAllocation (F.function f.now) (machine_of env.now) (output_of out)) }
     ensures tested { OnOk result (IsWellFormed (machine_of env.now) (F.function f.now)) }
-    ensures owed { OnOk result (PassesAll (F.function f.now) (machine_of env.now) options.now.validate_ssa) }
+    ensures owed { OnOk result (PassesAllChecks (F.function f.now) (machine_of env.now) options.now.validate_ssa) }
     ensures refused { IfErr result (IsReason (F.function f.now) (machine_of env.now) options.now.validate_ssa) }
     ensures many_operands { (result ≡ Err RegAllocError.TooManyOperands) ↔ (2 ^ 32 ≤ operand_count (F.function f.now)) }
 {
@@ -117,17 +117,17 @@ pub fn run<A: Allocator + Copy, F: Function, B: Allocator>(
         return Err(RegAllocError::TooManyOperands);
     }
     if options.validate_ssa {
-        test_well_formed(alloc, f, env)?;
+        validate_function(alloc, f, env)?;
     }
-    test_limits(f)?;
-    test_branches(f)?;
+    validate_limits(f)?;
+    validate_branches(f)?;
     allocate::allocate(alloc, f, env)
 }
 
 /// Allocates registers to a function, and puts the output into `ctx.output`.
 ///
-/// Conditions, output and refusals are those of [`run`]. A refusal leaves `ctx.output`. Upstream has this within
-/// `run_with_ctx`, whose result borrows from the context, so that no contract can say there what a refusal leaves.
+/// Conditions, output and errors are those of [`run`]. An error leaves `ctx.output`. Upstream has this within
+/// `run_with_ctx`, whose result borrows from the context, so that no contract can say there what an error leaves.
 pub fn run_into_ctx<A: Allocator + Copy, F: Function, B: Allocator>(
     f: &F,
     env: &MachineEnv<B>,
@@ -138,7 +138,7 @@ pub fn run_into_ctx<A: Allocator + Copy, F: Function, B: Allocator>(
     requires well_formed { options.now.validate_ssa ≡ false → IsWellFormed (machine_of env.now) (F.function f.now) }
     ensures allocation { OnOk result (IsAllocation (F.function f.now) (machine_of env.now) (output_of ctx.new.output)) }
     ensures tested { OnOk result (IsWellFormed (machine_of env.now) (F.function f.now)) }
-    ensures owed { OnOk result (PassesAll (F.function f.now) (machine_of env.now) options.now.validate_ssa) }
+    ensures owed { OnOk result (PassesAllChecks (F.function f.now) (machine_of env.now) options.now.validate_ssa) }
     ensures refused { IfErr result (IsReason (F.function f.now) (machine_of env.now) options.now.validate_ssa) }
     ensures many_operands { (result ≡ Err RegAllocError.TooManyOperands) ↔ (2 ^ 32 ≤ operand_count (F.function f.now)) }
     ensures kept { OnErr result (ctx.new.output ≡ ctx.old.output) }
@@ -149,7 +149,7 @@ pub fn run_into_ctx<A: Allocator + Copy, F: Function, B: Allocator>(
 
 /// Allocates registers to a function, puts the output into `ctx.output` and lends it.
 ///
-/// It is [`run_into_ctx`] and a loan; a refusal leaves `ctx.output`, as is said there.
+/// It is [`run_into_ctx`] and a loan; an error leaves `ctx.output`, as is said there.
 pub fn run_with_ctx<'c, A: Allocator + Copy, F: Function, B: Allocator>(
     f: &F,
     env: &MachineEnv<B>,
@@ -160,7 +160,7 @@ pub fn run_with_ctx<'c, A: Allocator + Copy, F: Function, B: Allocator>(
     requires well_formed { options.now.validate_ssa ≡ false → IsWellFormed (machine_of env.now) (F.function f.now) }
     ensures allocation { IfOk result (λ out. IsAllocation (F.function f.now) (machine_of env.now) (output_of out.now)) }
     ensures tested { OnOk result (IsWellFormed (machine_of env.now) (F.function f.now)) }
-    ensures owed { OnOk result (PassesAll (F.function f.now) (machine_of env.now) options.now.validate_ssa) }
+    ensures owed { OnOk result (PassesAllChecks (F.function f.now) (machine_of env.now) options.now.validate_ssa) }
     ensures refused { IfErr result (IsReason (F.function f.now) (machine_of env.now) options.now.validate_ssa) }
     ensures many_operands { (result ≡ Err RegAllocError.TooManyOperands) ↔ (2 ^ 32 ≤ operand_count (F.function f.now)) }
 {

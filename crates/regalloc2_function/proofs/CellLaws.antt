@@ -24,6 +24,7 @@ both true true h = (refl, refl)
 both true false h = absurd cc
 both false b h = absurd cc
 
+-- two pregs for which the test of equality says yes are equal
 pub is_register-true : (a b : Register) → is_register a b ≡ true → a ≡ b
 is_register-true a b h =
     let s = both (nat_eq (class_code a.class) (class_code b.class)) (nat_eq a.number b.number) h in
@@ -37,9 +38,11 @@ is_register-true a b h =
 eqb-same : (n : ℕ) → nat_eq n n ≡ true
 eqb-same n = eq-eqb n n refl
 
+-- the test of equality says yes of a preg and itself
 pub is_register-same : (a : Register) → is_register a a ≡ true
 is_register-same a = rw (eqb-same (class_code a.class), eqb-same a.number) refl
 
+-- two vregs for which the test of equality says yes are equal
 pub is_vreg-true : (a b : VirtualRegister) → is_vreg a b ≡ true → a ≡ b
 is_vreg-true a b h =
     let s = both (nat_eq (class_code a.class) (class_code b.class)) (nat_eq a.number b.number) h in
@@ -50,9 +53,11 @@ is_vreg-true a b h =
     vregs : (m n : ℕ) (c d : RegClass) → m ≡ n → c ≡ d → ◌≡◌ {A = VirtualRegister} (record { number = m; class = c }) (record { number = n; class = d })
     vregs m n c d e f = rw (e, f) refl
 
+-- the test of equality says yes of a vreg and itself
 pub is_vreg-same : (a : VirtualRegister) → is_vreg a a ≡ true
 is_vreg-same a = rw (eqb-same (class_code a.class), eqb-same a.number) refl
 
+-- two places for which the test of equality says yes are equal
 pub is_place-true : (p q : Place) → is_place p q ≡ true → p ≡ q
 is_place-true NoPlace NoPlace h = refl
 is_place-true (InRegister r) (InRegister s) h = ap InRegister (is_register-true r s h)
@@ -64,6 +69,7 @@ is_place-true (InRegister r) (InSlot n) h = absurd cc
 is_place-true (InSlot m) NoPlace h = absurd cc
 is_place-true (InSlot m) (InRegister s) h = absurd cc
 
+-- the test of equality says yes of a place and itself
 pub is_place-same : (p : Place) → is_place p p ≡ true
 is_place-same NoPlace = refl
 is_place-same (InRegister r) = is_register-same r
@@ -73,6 +79,7 @@ apart : (b : Bool) (p q : Place) → is_place p q ≡ b → p ≢ q → b ≡ fa
 apart true p q e h = absurd (h (is_place-true p q e))
 apart false p q e h = refl
 
+-- the test of equality says no of two different places
 pub is_place-other : (p q : Place) → p ≢ q → is_place p q ≡ false
 is_place-other p q h = apart (is_place p q) p q refl h
 
@@ -90,9 +97,11 @@ stored-other c NoPlace q s h = refl
 stored-other c (InRegister r) q s h = rw (is_place-other (InRegister r) q (λ e. h (sym e))) refl
 stored-other c (InSlot n) q s h = rw (is_place-other (InSlot n) q (λ e. h (sym e))) refl
 
+-- after an assignment to v, the source map gives v what was assigned
 pub assigned-same : (m : Source) (v : VirtualRegister) (s : Option Stamp) → assigned m v s v ≡ s
 assigned-same m v s = rw (is_vreg-same v) refl
 
+-- what a place holds after a write to it, and after one to another place, as rules to rewrite by
 pub ruleset cell_steps = (stored-same, stored-other)
 
 -- two places that are swapped through a third

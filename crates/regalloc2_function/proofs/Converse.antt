@@ -1,14 +1,15 @@
 -- Where both runs read the same numbers, whatever the instructions mean, reads agree.
 -- For each write that the function's run reads there is a meaning that gives the number 1 to that write alone.
-use Rattle.std.proofs.Common.{ℕ, zero, suc, ◌≡◌, ◌+◌, ◌<◌, Bool, true, false, cond, List, [], ◌∷◌, length, map, refl, arith, sym, ◌∙◌, eq-eqb, eqb-true, nat_eq, inl, inr}
+use Rattle.std.proofs.Common.{ℕ, zero, suc, ◌≡◌, ◌+◌, ◌<◌, Bool, true, false, cond, List, [], ◌∷◌, length, map, refl, arith, sym, ◌∙◌, eq-eqb}
+use Rattle.std.proofs.Common.{eqb-true, nat_eq, inl, inr}
 use Rattle.std.specs.Prelude.{Option, None, Some, IsSome, ◌&&◌, slice_index_or}
 use Rattle.std.specs.Option.{option_map}
 use Rattle.std.proofs.lemmas.Bool.{cases_eq, ne_eqb}
-use Rattle.regalloc2_names.specs.Operand.{OperandValue}
+use Rattle.regalloc2_names.specs.Operand.{OperandValue, is_reading}
 use Rattle.regalloc2_function.specs.FunctionValue.{FunctionValue}
 use Rattle.regalloc2_function.specs.OutputValue.{OutputValue}
 use Rattle.regalloc2_function.specs.Path.{Way, IsPath, last_inst}
-use Rattle.regalloc2_function.specs.SourceRun.{Stamp, is_reading, source_read}
+use Rattle.regalloc2_function.specs.SourceRun.{Stamp, source_read}
 use Rattle.regalloc2_function.specs.AllocatedRun.{allocated_read}
 use Rattle.regalloc2_function.specs.Laws.{NumbersGiveReads}
 use Rattle.regalloc2_function.specs.Values.{Meaning, reads_from, source_reads, allocated_reads, numbers, SameNumbers}
@@ -62,12 +63,15 @@ same_first : (b : Bool) (n m : Option Stamp → Option ℕ) (r t : Option Stamp)
 same_first true n m r t rs ts e h = cc
 same_first false n m r t rs ts e h = absurd cc
 
-same_rest : (b : Bool) (n m : Option Stamp → Option ℕ) (r t : Option Stamp) (rs ts : List (Option Stamp)) → map n (cond b (r ∷ rs) rs) ≡ map m (cond b (t ∷ ts) ts) → map n rs ≡ map m ts
+same_rest : (b : Bool) (n m : Option Stamp → Option ℕ) (r t : Option Stamp) (rs ts : List (Option Stamp)) →
+    map n (cond b (r ∷ rs) rs) ≡ map m (cond b (t ∷ ts) ts) → map n rs ≡ map m ts
 same_rest true n m r t rs ts h = cc
 same_rest false n m r t rs ts h = h
 
-at_operand : (n m : Option Stamp → Option ℕ) (r t : ℕ → OperandValue → Option Stamp) (i : ℕ) (os : List OperandValue) → map n (reads_from r i os) ≡ map m (reads_from t i os) →
-    (k : ℕ) (d : OperandValue) → k < length os → is_reading (slice_index_or os k d) ≡ true → n (r (k + i) (slice_index_or os k d)) ≡ m (t (k + i) (slice_index_or os k d))
+at_operand : (n m : Option Stamp → Option ℕ) (r t : ℕ → OperandValue → Option Stamp) (i : ℕ) (os : List OperandValue) →
+    map n (reads_from r i os) ≡ map m (reads_from t i os) →
+    (k : ℕ) (d : OperandValue) → k < length os → is_reading (slice_index_or os k d) ≡ true →
+    n (r (k + i) (slice_index_or os k d)) ≡ m (t (k + i) (slice_index_or os k d))
 unfolding reads_from
 at_operand n m r t i [] h k d lt e = absurd (omega arith)
 at_operand n m r t i (o ∷ os) h zero d lt e =
@@ -75,14 +79,16 @@ at_operand n m r t i (o ∷ os) h zero d lt e =
     rw z (same_first (is_reading o) n m (r i o) (t i o) (reads_from r (i + 1) os) (reads_from t (i + 1) os) e h)
 at_operand n m r t i (o ∷ os) h (suc k) d lt e =
     let z : suc k + i ≡ k + (i + 1) = omega arith in
-    rw z (at_operand n m r t (i + 1) os (same_rest (is_reading o) n m (r i o) (t i o) (reads_from r (i + 1) os) (reads_from t (i + 1) os) h) k d (omega arith) e)
+    rw z (at_operand n m r t (i + 1) os (same_rest (is_reading o) n m (r i o) (t i o) (reads_from r (i + 1) os) (reads_from t (i + 1) os) h) k d (omega arith)
+    e)
 
 -- the heads of the two histories
 heads : (x y : List (Option ℕ)) (xs ys : List (List (Option ℕ))) → x ∷ xs ≡ y ∷ ys → x ≡ y
 heads x y xs ys e = cc
 
 -- what is read where the write's number is 1 is that write
-found_alone : (a b : Stamp → ℕ) (x y : Option Stamp) (t : Stamp) → y ≡ Some t → IsOne (b t) → ((s : Stamp) → IsOne (a s) → s ≡ t) → option_map a x ≡ option_map b y → x ≡ y
+found_alone : (a b : Stamp → ℕ) (x y : Option Stamp) (t : Stamp) → y ≡ Some t → IsOne (b t) → ((s : Stamp) → IsOne (a s) → s ≡ t) →
+    option_map a x ≡ option_map b y → x ≡ y
 found_alone a b None y t e one alone h = let u = rw e at h in absurd cc
 found_alone a b (Some s) y t e one alone h =
     let u = rw e at h in
@@ -94,8 +100,10 @@ some_of : (x : Option Stamp) (t : Stamp) → x ≡ Some t → IsSome x
 some_of x t e = rw e refl
 
 -- an operand whose read is of an earlier step reads the same on both sides
-agree : (f : FunctionValue) (out : OutputValue) → SameNumbers f out → (ws : List Way) → IsPath f ws → (k : ℕ) (d : OperandValue) → k < length (last_inst f ws).operands →
-    is_reading (slice_index_or (last_inst f ws).operands k d) ≡ true → (t : Stamp) → source_read f ws (slice_index_or (last_inst f ws).operands k d) ≡ Some t → t.step < length ws →
+agree : (f : FunctionValue) (out : OutputValue) → SameNumbers f out → (ws : List Way) → IsPath f ws → (k : ℕ) (d : OperandValue) →
+    k < length (last_inst f ws).operands →
+    is_reading (slice_index_or (last_inst f ws).operands k d) ≡ true → (t : Stamp) → source_read f ws (slice_index_or (last_inst f ws).operands k d) ≡ Some t →
+    t.step < length ws →
     allocated_read f out ws k (slice_index_or (last_inst f ws).operands k d) ≡ source_read f ws (slice_index_or (last_inst f ws).operands k d)
 unfolding numbers
 agree f out same [] p k d lt reads t e less = absurd (omega arith)
@@ -109,6 +117,7 @@ agree f out same (w ∷ ws) p k d lt reads t e less =
     rw z at (at_operand (option_map a) (option_map b) (allocated_read f out (w ∷ ws)) (λ j o. source_read f (w ∷ ws) o) 0 os h k d lt reads) in
     found_alone a b _ _ t e (marked_here f t (source_reads f) (w ∷ ws) less) (marked_alone f t (allocated_reads f out) (w ∷ ws)) here
 
+-- reads agree if each use finds an earlier write and both runs read the same numbers under every meaning
 pub numbers_give_reads : NumbersGiveReads
 numbers_give_reads f out earlier same ws p k d lt reads =
     let found = earlier ws p k d lt reads in

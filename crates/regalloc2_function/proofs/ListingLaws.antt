@@ -1,5 +1,6 @@
 -- What an iterator over a listing gives is the listing that the definitions have.
-use Rattle.std.proofs.Common.{◌≡◌, ℕ, zero, suc, ◌+◌, ◌-◌, ◌<◌, ◌≤◌, Bool, List, [], ◌∷◌, length, get_or, true, false, refl, sym, ap, ◌∙◌, map, take, drop, arith}
+use Rattle.std.proofs.Common.{◌≡◌, ℕ, zero, suc, ◌+◌, ◌-◌, ◌<◌, ◌≤◌, Bool, List, [], ◌∷◌, length, get_or, true, false, refl, sym, ap, ◌∙◌, map, take}
+use Rattle.std.proofs.Common.{drop, arith}
 use Rattle.std.specs.Prelude.{nat_le, nat_lt, filter, All}
 use Rattle.std.specs.List.Sorted.{IsNonDecreasingBy, IsPartitionPoint}
 use Rattle.std.proofs.lemmas.Bool.Decides.{nat_tests}
@@ -40,7 +41,8 @@ skip_one o e es first i (suc n) f h g =
     skip_one o e es first (i + 1) n (omega arith) (omega arith) (λ w. omega arith) in
     rw (t, r) refl
 
-skip_all : (o : OutputValue) (k : ℕ) (es : List (ℕ × MoveValue)) (first n : ℕ) → k ≤ length es → ((j : ℕ) (d : ℕ × MoveValue) → j < k → (get_or es j d).0 < before first)
+skip_all : (o : OutputValue) (k : ℕ) (es : List (ℕ × MoveValue)) (first n : ℕ) → k ≤ length es →
+    ((j : ℕ) (d : ℕ × MoveValue) → j < k → (get_or es j d).0 < before first)
     → listing_from (with_edits o es) first first n ≡ listing_from (with_edits o (drop k es)) first first n
 skip_all o zero es first n l h = refl
 skip_all o (suc k) [] first n l h = absurd (omega arith)
@@ -66,27 +68,33 @@ left_is o first (e ∷ es) i (suc n) low f a b r =
       | true ↦ λ t.
           let le : e.0 ≤ before i = grind (arith, nat_tests) in
           let here : is_listed_at first i e.0 ≡ true = listed_here first i e.0 le f (λ w. omega (arith, a w)) (omega (arith, r.0)) in
-          let later : listing_from (with_edits o (e ∷ es)) first (i + 1) n ≡ listing_from (with_edits o es) first (i + 1) n = skip_one o e es first (i + 1) n (omega arith) (omega arith) (λ w. omega arith) in
-          let rest : listing_left es i (suc n) ≡ listing_from (with_edits o es) first i (suc n) = left_is o first es i (suc n) e.0 f (λ w. omega (arith, a w, r.0)) (omega (arith, r.0)) r.1 in
+          let later : listing_from (with_edits o (e ∷ es)) first (i + 1) n ≡ listing_from (with_edits o es) first (i + 1) n = skip_one o e es first (i + 1) n
+          (omega arith) (omega arith) (λ w. omega arith) in
+          let rest : listing_left es i (suc n) ≡ listing_from (with_edits o es) first i (suc n) = left_is o first es i (suc n) e.0 f
+          (λ w. omega (arith, a w, r.0)) (omega (arith, r.0)) r.1 in
           rw (t, here, later, rest) refl
       | false ↦ λ t.
           let lt : before i < e.0 = grind (arith, nat_tests) in
           let none : filter (λ e. is_listed_at first i e.0) (e ∷ es) ≡ [] = none_listed first i e.0 (e ∷ es) lt (omega arith, r.1) in
-          let rest : listing_left (e ∷ es) (i + 1) n ≡ listing_from (with_edits o (e ∷ es)) first (i + 1) n = left_is o first (e ∷ es) (i + 1) n e.0 (omega arith) (λ w. omega arith) (omega arith) (omega arith, r.1) in
+          let rest : listing_left (e ∷ es) (i + 1) n ≡ listing_from (with_edits o (e ∷ es)) first (i + 1) n = left_is o first (e ∷ es) (i + 1) n e.0
+          (omega arith) (λ w. omega arith) (omega arith) (omega arith, r.1) in
           rw (t, none, rest) refl
     ] refl
 
-rises_of : (es : List (ℕ × MoveValue)) (low : ℕ) → IsNonDecreasingBy (λ (e : ℕ × MoveValue). e.0) es → ((d : ℕ × MoveValue) → 0 < length es → low ≤ (get_or es 0 d).0) → Rises low es
+rises_of : (es : List (ℕ × MoveValue)) (low : ℕ) → IsNonDecreasingBy (λ (e : ℕ × MoveValue). e.0) es →
+    ((d : ℕ × MoveValue) → 0 < length es → low ≤ (get_or es 0 d).0) → Rises low es
 rises_of [] low h l = tt
 rises_of (e ∷ es) low h l =
     (l e (omega arith), rises_of es e.0 (λ i j d a b. h (suc i) (suc j) d (omega arith) (omega arith)) (λ d a. h 0 1 d (omega arith) (omega arith)))
 
-drop_at : (es : List (ℕ × MoveValue)) (k : ℕ) → Rises 0 [] → ((d : ℕ × MoveValue) → 0 < length (drop k es) → (k < length es) × (get_or (drop k es) 0 d ≡ get_or es k d))
+drop_at : (es : List (ℕ × MoveValue)) (k : ℕ) → Rises 0 [] → ((d : ℕ × MoveValue) → 0 < length (drop k es) → (k < length es)
+    × (get_or (drop k es) 0 d ≡ get_or es k d))
 drop_at es zero u d h = (h, refl)
 drop_at [] (suc k) u d h = absurd (omega arith)
 drop_at (e ∷ es) (suc k) u d h = let r = drop_at es k u d h in (omega arith, r.1)
 
-rises_after : (es : List (ℕ × MoveValue)) (k : ℕ) → IsNonDecreasingBy (λ (e : ℕ × MoveValue). e.0) es → IsNonDecreasingBy (λ (e : ℕ × MoveValue). e.0) (drop k es)
+rises_after : (es : List (ℕ × MoveValue)) (k : ℕ) → IsNonDecreasingBy (λ (e : ℕ × MoveValue). e.0) es →
+    IsNonDecreasingBy (λ (e : ℕ × MoveValue). e.0) (drop k es)
 rises_after es zero h = h
 rises_after [] (suc k) h = h
 rises_after (e ∷ es) (suc k) h = rises_after es k (λ i j d a b. h (suc i) (suc j) d (omega arith) (omega arith))
@@ -99,7 +107,8 @@ pub listing_is : (o : OutputValue) (first n k : ℕ) → IsNonDecreasingBy (λ (
 listing_is o first n k sorted l below above =
     let rest : Rises (before first) (drop k o.edits) =
     rises_of (drop k o.edits) (before first) (rises_after o.edits k sorted)
-    (λ d h. let at : (k < length o.edits) × (get_or (drop k o.edits) 0 d ≡ get_or o.edits k d) = drop_at o.edits k tt d h in rw at.1 (above k d (omega arith) at.0)) in
+    (λ d h. let at : (k < length o.edits) × (get_or (drop k o.edits) 0 d ≡ get_or o.edits k d) = drop_at o.edits k tt d h in
+    rw at.1 (above k d (omega arith) at.0)) in
     left_is o first (drop k o.edits) first n (before first) (omega arith) (λ w. omega arith) (omega arith) rest ∙ sym (skip_all o k o.edits first n l below)
 
 -- the same over edits as they are stored
@@ -109,7 +118,9 @@ at_map [] j d = refl
 at_map (x ∷ xs) zero d = refl
 at_map (x ∷ xs) (suc j) d = at_map xs j d
 
-pub sorted_items : (items : List (ℕ × Edit)) → IsNonDecreasingBy (λ (e : ℕ × MoveValue). e.0) (map edit_of items) → IsNonDecreasingBy (λ (e : ℕ × Edit). e.0) items
+-- edits that are in order by the specs' points are in order as they are stored
+pub sorted_items : (items : List (ℕ × Edit)) → IsNonDecreasingBy (λ (e : ℕ × MoveValue). e.0) (map edit_of items) →
+    IsNonDecreasingBy (λ (e : ℕ × Edit). e.0) items
 sorted_items items h = λ i j d a b.
     let l : length (map edit_of items) ≡ length items = length-map items edit_of in
     let r = h i j (edit_of d) a (omega arith) in
@@ -117,12 +128,15 @@ sorted_items items h = λ i j d a b.
     let y = at_map items j d in
     omega arith
 
-at_item : (items : List (ℕ × Edit)) (j : ℕ) (d : ℕ × MoveValue) → j < length items → (b : Bool) (t : ℕ) → ((e : ℕ × Edit) → nat_lt (get_or items j e).0 t ≡ b) → nat_lt (get_or (map edit_of items) j d).0 t ≡ b
+at_item : (items : List (ℕ × Edit)) (j : ℕ) (d : ℕ × MoveValue) → j < length items → (b : Bool) (t : ℕ) → ((e : ℕ × Edit) → nat_lt (get_or items j e).0 t ≡ b) →
+    nat_lt (get_or (map edit_of items) j d).0 t ≡ b
 at_item [] j d h b t f = absurd (omega arith)
 at_item (x ∷ xs) zero d h b t f = f x
 at_item (x ∷ xs) (suc j) d h b t f = at_item xs j d (omega arith) b t f
 
-pub listing_of_items : (o : OutputValue) (items : List (ℕ × Edit)) (first n k t : ℕ) → o.edits ≡ map edit_of items → IsNonDecreasingBy (λ (e : ℕ × MoveValue). e.0) o.edits → t ≡ before first → k ≤ length items
+-- the edits from a block's first point on, which a partition of the stored ones finds, give the block's listing
+pub listing_of_items : (o : OutputValue) (items : List (ℕ × Edit)) (first n k t : ℕ) → o.edits ≡ map edit_of items →
+    IsNonDecreasingBy (λ (e : ℕ × MoveValue). e.0) o.edits → t ≡ before first → k ≤ length items
     → IsPartitionPoint (λ e. nat_lt e.0 t ≡ true) (λ e. nat_lt e.0 t ≡ false) items k
     → listing_left (map edit_of (take (length items - k) (drop k items))) first n ≡ listing_from o first first n
 listing_of_items o items first n k t e sorted s l point =
@@ -149,4 +163,5 @@ listed_within o first end begin i (suc n) f e =
     let moves = moves_before o begin i in
     All-append (IsListedWithin first end) (map (λ m. ListedMove m) moves) (ListedInst i ∷ listing_from o begin (i + 1) n)
     (All-map (IsListedWithin first end) (λ m. ListedMove m) moves (moves_within first end moves))
-    (All-cons (IsListedWithin first end) (ListedInst i) (listing_from o begin (i + 1) n) (f, omega arith) (listed_within o first end begin (i + 1) n (omega arith) (omega arith)))
+    (All-cons (IsListedWithin first end) (ListedInst i) (listing_from o begin (i + 1) n) (f, omega arith)
+    (listed_within o first end begin (i + 1) n (omega arith) (omega arith)))

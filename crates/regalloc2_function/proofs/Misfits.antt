@@ -10,24 +10,32 @@ use Rattle.regalloc2_function.specs.Machine.{MachineValue, is_allocatable, scrat
 use Rattle.regalloc2_function.specs.Fitting.{MachineFits}
 use Rattle.regalloc2_function.specs.Misfit.{IsMisfit, IsFirstTaken}
 use Rattle.regalloc2_function.specs.declared.misfit.MachineMisfit.{MachineMisfit}
-use Rattle.regalloc2_function.specs.declared.misfit.MachineMisfit.TheVariants.{InvalidSlot, OtherClass, ListedTwice, InvalidRegister, ScratchOfOtherClass, ScratchAllocatable, InvalidScratch, SlotAllocatable, SlotIsScratch, NoRegister}
+use Rattle.regalloc2_function.specs.declared.misfit.MachineMisfit.TheVariants.{InvalidSlot, OtherClass, ListedTwice, InvalidRegister}
+use Rattle.regalloc2_function.specs.declared.misfit.MachineMisfit.TheVariants.{ScratchOfOtherClass, ScratchAllocatable, InvalidScratch}
+use Rattle.regalloc2_function.specs.declared.misfit.MachineMisfit.TheVariants.{SlotAllocatable, SlotIsScratch, NoRegister}
 use Rattle.regalloc2_function.proofs.Tests.{true_is_not_false}
 
 -- what holds of each fixed stack slot holds of the first one that serves a class
-taken : (env : MachineValue) (class : RegClass) (r : Register) (P : Register → Type 0) → ((k : _) (d : Register) → k < length env.fixed_stack_slots → P (slice_index_or env.fixed_stack_slots k d)) → IsFirstTaken env class r → P r
+taken : (env : MachineValue) (class : RegClass) (r : Register) (P : Register → Type 0) →
+    ((k : _) (d : Register) → k < length env.fixed_stack_slots → P (slice_index_or env.fixed_stack_slots k d)) → IsFirstTaken env class r → P r
 taken env class r P all first = All-contains P env.fixed_stack_slots r all (first.0, first.1, first.2)
 
+-- a machine of which a misfit with a function is named doesn't fit the function
 pub misfit_fails : (f : FunctionValue) (env : MachineValue) (m : MachineMisfit) → IsMisfit f env m → MachineFits f env → ⊥
 misfit_fails f env InvalidSlot h fits =
-    (All-contains (λ r. (is_allocatable env Int r ≡ false) × (scratch_of env Int ≢ Some r) × (r ≢ invalid_register)) env.fixed_stack_slots invalid_register (fits Int).slots_apart h).2 refl
+    (All-contains (λ r. (is_allocatable env Int r ≡ false) × (scratch_of env Int ≢ Some r) × (r ≢ invalid_register)) env.fixed_stack_slots invalid_register
+    (fits Int).slots_apart h).2 refl
 misfit_fails f env (OtherClass class r) h fits = h.2 ((fits class).of_class r h.1)
 misfit_fails f env (ListedTwice class r) h fits = true_is_not_false _ h.3 ((fits class).preferred_apart r h.2)
 misfit_fails f env (InvalidRegister class) h fits = true_is_not_false _ h.3 (fits class).valid
 misfit_fails f env (ScratchOfOtherClass class r) h fits = h.2 ((fits class).scratch_apart r h.1).0
 misfit_fails f env (ScratchAllocatable class r) h fits = true_is_not_false _ h.3 ((fits class).scratch_apart r h.1).1
 misfit_fails f env (InvalidScratch class) h fits = ((fits class).scratch_apart invalid_register h.1).2 refl
-misfit_fails f env (SlotAllocatable class r) h fits = true_is_not_false _ h.2 (taken env class r (λ s. (is_allocatable env class s ≡ false) × (scratch_of env class ≢ Some s) × (s ≢ invalid_register)) (fits class).slots_apart h.1).0
-misfit_fails f env (SlotIsScratch class r) h fits = (taken env class r (λ s. (is_allocatable env class s ≡ false) × (scratch_of env class ≢ Some s) × (s ≢ invalid_register)) (fits class).slots_apart h.1).1 h.3
+misfit_fails f env (SlotAllocatable class r) h fits = true_is_not_false _ h.2
+    (taken env class r (λ s. (is_allocatable env class s ≡ false) × (scratch_of env class ≢ Some s) × (s ≢ invalid_register)) (fits class).slots_apart h.1).0
+misfit_fails f env (SlotIsScratch class r) h fits =
+    (taken env class r (λ s. (is_allocatable env class s ≡ false) × (scratch_of env class ≢ Some s) × (s ≢ invalid_register)) (fits class).slots_apart h.1).1
+    h.3
 misfit_fails f env (NoRegister class) h fits = let r = (fits class).has_a_register h.2 in true_is_not_false _ r.1 (h.3 r.0)
 
 -- what always holds is said of an error

@@ -31,7 +31,8 @@ block i j ss ps as_passed = record { range = record { first = i; end = j }; succ
 -- the loop that swaps its two values each time round
 abbrev the_loop : FunctionValue
 the_loop = record {
-  blocks = block 0 3 (1 ∷ []) [] ((v 0 ∷ v 1 ∷ []) ∷ []) ∷ block 3 5 (2 ∷ 3 ∷ []) (v 2 ∷ v 3 ∷ []) ([] ∷ [] ∷ []) ∷ block 5 6 (1 ∷ []) [] ((v 3 ∷ v 2 ∷ []) ∷ []) ∷ block 6 7 [] [] [] ∷ [];
+  blocks = block 0 3 (1 ∷ []) [] ((v 0 ∷ v 1 ∷ []) ∷ []) ∷ block 3 5 (2 ∷ 3 ∷ []) (v 2 ∷ v 3 ∷ []) ([] ∷ [] ∷ []) ∷ block 5 6 (1 ∷ []) []
+      ((v 3 ∷ v 2 ∷ []) ∷ []) ∷ block 6 7 [] [] [] ∷ [];
   insts = op (def_reg 0 ∷ []) ∷ op (def_reg 1 ∷ []) ∷ op [] ∷ op (use_reg 2 ∷ []) ∷ op [] ∷ op [] ∷ op (use_reg 2 ∷ use_reg 3 ∷ []) ∷ [];
   entry = 0;
   num_vregs = 4;

@@ -4,12 +4,12 @@ use Rattle.std.specs.Prelude.{Option, None, Some, ◌&&◌, not}
 use Rattle.regalloc2_names.specs.declared.sets.PRegSet.{PRegSet}
 use Rattle.regalloc2_names.specs.Register.{VirtualRegister, is_vreg}
 use Rattle.regalloc2_names.specs.RegisterSet.{has_register}
-use Rattle.regalloc2_names.specs.Operand.{OperandValue}
+use Rattle.regalloc2_names.specs.Operand.{OperandValue, is_def, is_late}
 use Rattle.regalloc2_names.specs.Place.{Place, NoPlace, InRegister, InSlot, is_place}
 use Rattle.regalloc2_function.specs.FunctionValue.{FunctionValue}
 use Rattle.regalloc2_function.specs.OutputValue.{OutputValue, MoveValue, place_at}
 use Rattle.regalloc2_function.specs.Path.{Way, Onward, ToSuccessor, Location, end_of, last_inst}
-use Rattle.regalloc2_function.specs.SourceRun.{Stamp, Source, assigned, after_defs, passed, over_edge, source_before, is_def, is_late}
+use Rattle.regalloc2_function.specs.SourceRun.{Stamp, Source, assigned, after_defs, passed, over_edge, source_before}
 use Rattle.regalloc2_function.specs.AllocatedRun.{Cells, stored, after_moves, after_early_defs, after_writes, after_clobbers, cells_early, cells_before}
 use Rattle.regalloc2_function.specs.Laws.{SourceIsEarlier, CellsAreEarlier, MissingHoldsNothing}
 
@@ -22,7 +22,8 @@ chosen : {K : Type 0} (b : Bool) (n : ℕ) (m l : K → Option Stamp) → Below 
 chosen true n m l h g = h
 chosen false n m l h g = g
 
-either : (b : Bool) (n : ℕ) (x y : Option Stamp) (s : Stamp) → ((s : Stamp) → x ≡ Some s → s.step < n) → ((s : Stamp) → y ≡ Some s → s.step < n) → cond b x y ≡ Some s → s.step < n
+either : (b : Bool) (n : ℕ) (x y : Option Stamp) (s : Stamp) → ((s : Stamp) → x ≡ Some s → s.step < n) → ((s : Stamp) → y ≡ Some s → s.step < n) →
+    cond b x y ≡ Some s → s.step < n
 either true n x y s h g e = h s e
 either false n x y s h g e = g s e
 
@@ -36,7 +37,8 @@ after_defs-Below : (n k : ℕ) (os : List OperandValue) (m : Source) → Below (
 unfolding after_defs
 after_defs-Below n k [] m h = h
 after_defs-Below n k (o ∷ os) m h =
-    after_defs-Below n (k + 1) os _ (chosen (is_def o.kind) (suc n) _ m (assigned-Below (suc n) m o.vreg _ h (λ s e. some_below (suc n) (record { step = n; operand = k }) s (omega arith) e)) h)
+    after_defs-Below n (k + 1) os _ (chosen (is_def o.kind) (suc n) _ m
+    (assigned-Below (suc n) m o.vreg _ h (λ s e. some_below (suc n) (record { step = n; operand = k }) s (omega arith) e)) h)
 
 passed-Below : (n : ℕ) (ps xs : List VirtualRegister) (old new : Source) → Below n old → Below n new → Below n (passed ps xs old new)
 unfolding passed
@@ -56,9 +58,11 @@ source_before-Below : (f : FunctionValue) (ws : List Way) → Below (length ws) 
 unfolding source_before
 source_before-Below f [] = record { below = λ q s e. absurd cc }
 source_before-Below f (w ∷ ws) =
-    let h : Below (suc (length ws)) (after_defs (length ws) 0 (last_inst f ws).operands (source_before f ws)) = after_defs-Below (length ws) 0 _ _ (more (length ws) _ (source_before-Below f ws)) in
+    let h : Below (suc (length ws)) (after_defs (length ws) 0 (last_inst f ws).operands (source_before f ws)) = after_defs-Below (length ws) 0 _ _
+    (more (length ws) _ (source_before-Below f ws)) in
     over_edge-Below (suc (length ws)) f (end_of f ws) w _ h
 
+-- in the source run, the last write of a vreg before a step was made at an earlier step
 pub source_is_earlier : SourceIsEarlier
 source_is_earlier f ws v s e = (source_before-Below f ws).below v s e
 
@@ -79,14 +83,16 @@ after_early_defs-Below : (n : ℕ) (ps : List Place) (k : ℕ) (os : List Operan
 unfolding after_early_defs
 after_early_defs-Below n ps k [] c h = h
 after_early_defs-Below n ps k (o ∷ os) c h =
-    after_early_defs-Below n ps (k + 1) os _ (chosen (is_def o.kind && not (is_late o.position)) n _ c (stored-Below n c (place_at ps k) None h (λ s e. absurd cc)) h)
+    after_early_defs-Below n ps (k + 1) os _ (chosen (is_def o.kind && not (is_late o.position)) n _ c
+    (stored-Below n c (place_at ps k) None h (λ s e. absurd cc)) h)
 
 after_writes-Below : (n : ℕ) (ps : List Place) (k : ℕ) (os : List OperandValue) (c : Cells) → Below (suc n) c → Below (suc n) (after_writes ps n k os c)
 unfolding after_writes
 after_writes-Below n ps k [] c h = h
 after_writes-Below n ps k (o ∷ os) c h =
     after_writes-Below n ps (k + 1) os _
-    (chosen (is_def o.kind) (suc n) _ c (stored-Below (suc n) c (place_at ps k) _ h (λ s e. some_below (suc n) (record { step = n; operand = k }) s (omega arith) e)) h)
+    (chosen (is_def o.kind) (suc n) _ c (stored-Below (suc n) c (place_at ps k) _ h
+    (λ s e. some_below (suc n) (record { step = n; operand = k }) s (omega arith) e)) h)
 
 after_clobbers-Below : (n : ℕ) (clobbers : PRegSet) (c : Cells) → Below n c → Below n (after_clobbers clobbers c)
 unfolding after_clobbers
@@ -101,9 +107,11 @@ cells_before-Below : (f : FunctionValue) (o : OutputValue) (ws : List Way) → B
 unfolding cells_before
 cells_before-Below f o [] = record { below = λ q s e. absurd cc }
 cells_before-Below f o (w ∷ ws) =
-    let h : Below (length ws) (cells_early f o (end_of f ws) (cells_before f o ws)) = after_early_defs-Below (length ws) _ 0 _ _ (after_moves-Below (length ws) _ _ (cells_before-Below f o ws)) in
+    let h : Below (length ws) (cells_early f o (end_of f ws) (cells_before f o ws)) = after_early_defs-Below (length ws) _ 0 _ _
+    (after_moves-Below (length ws) _ _ (cells_before-Below f o ws)) in
     after_clobbers-Below (suc (length ws)) _ _ (after_writes-Below (length ws) _ 0 _ _ (more (length ws) _ h))
 
+-- in the allocated run, the write that a place holds before a step was made at an earlier step
 pub cells_are_earlier : CellsAreEarlier
 cells_are_earlier f o ws p s e = (cells_before-Below f o ws).below p s e
 
@@ -127,13 +135,15 @@ after_moves-missing (m ∷ ms) c = after_moves-missing ms _ ∙ stored-missing c
 after_early_defs-missing : (ps : List Place) (k : ℕ) (os : List OperandValue) (c : Cells) → after_early_defs ps k os c NoPlace ≡ c NoPlace
 unfolding after_early_defs
 after_early_defs-missing ps k [] c = refl
-after_early_defs-missing ps k (o ∷ os) c = after_early_defs-missing ps (k + 1) os _ ∙ cond-missing (is_def o.kind && not (is_late o.position)) _ c (stored-missing c (place_at ps k) None)
+after_early_defs-missing ps k (o ∷ os) c = after_early_defs-missing ps (k + 1) os _
+    ∙ cond-missing (is_def o.kind && not (is_late o.position)) _ c (stored-missing c (place_at ps k) None)
 
 after_writes-missing : (ps : List Place) (n k : ℕ) (os : List OperandValue) (c : Cells) → after_writes ps n k os c NoPlace ≡ c NoPlace
 unfolding after_writes
 after_writes-missing ps n k [] c = refl
 after_writes-missing ps n k (o ∷ os) c = after_writes-missing ps n (k + 1) os _ ∙ cond-missing (is_def o.kind) _ c (stored-missing c (place_at ps k) _)
 
+-- in the allocated run, the place that is none never holds a value
 pub missing_holds_nothing : MissingHoldsNothing
 unfolding cells_before after_clobbers
 missing_holds_nothing f o [] = refl

@@ -8,13 +8,16 @@ use Rattle.std.specs.Bool.{OnTrue, OnFalse}
 pub not_so : {P : Type 0} (b : Bool) → b ≡ false → (P → IsTrue b) → P → ⊥
 not_so b e f p = let t : b ≡ true = f p in cc
 
+-- a test that says no doesn't hold
 pub never_true : IsTrue false → ⊥
 never_true t = cc
 
+-- if the negation of a test holds, the test says no
 pub no_of : (b : Bool) → IsTrue (not b) → b ≡ false
 no_of true e = absurd cc
 no_of false e = refl
 
+-- if a test doesn't hold, its negation does
 pub is_not : (b : Bool) → (IsTrue b → ⊥) → IsTrue (not b)
 is_not true h = absurd (h refl)
 is_not false h = refl
@@ -24,10 +27,12 @@ pub holds_at : {P : Type 0} (b : Bool) → b ≡ true → OnTrue b P → P
 holds_at true e h = h
 holds_at false e h = absurd cc
 
+-- if a test says no, what holds in that case holds
 pub none_at : {P : Type 0} (b : Bool) → b ≡ false → OnFalse b P → P
 none_at true e h = absurd cc
 none_at false e h = h
 
+-- no test says both yes and no
 pub true_is_not_false : (b : Bool) → b ≡ true → b ≡ false → ⊥
 true_is_not_false b t f = cc
 

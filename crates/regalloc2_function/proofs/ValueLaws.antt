@@ -1,12 +1,12 @@
 -- Where reads agree, both runs read the same numbers.
 use Rattle.std.proofs.Common.{ℕ, suc, ◌≡◌, ◌+◌, ◌<◌, Bool, true, false, cond, List, [], ◌∷◌, length, refl, arith, ap}
 use Rattle.std.specs.Prelude.{Option, slice_index_or}
-use Rattle.regalloc2_names.specs.Operand.{OperandValue}
+use Rattle.regalloc2_names.specs.Operand.{OperandValue, is_reading}
 use Rattle.regalloc2_function.specs.FunctionValue.{FunctionValue}
 use Rattle.regalloc2_function.specs.Machine.{MachineValue}
 use Rattle.regalloc2_function.specs.OutputValue.{OutputValue}
 use Rattle.regalloc2_function.specs.Path.{Way, IsPath, last_inst}
-use Rattle.regalloc2_function.specs.SourceRun.{Stamp, is_reading, source_read}
+use Rattle.regalloc2_function.specs.SourceRun.{Stamp, source_read}
 use Rattle.regalloc2_function.specs.AllocatedRun.{allocated_read}
 use Rattle.regalloc2_function.specs.Faithful.{ReadsAgree, IsFaithful}
 use Rattle.regalloc2_function.specs.Laws.{ReadsGiveNumbers}
@@ -18,7 +18,8 @@ pick false x y xs ys h e = e
 
 -- reads that agree at each operand make one list
 reads_from-same : (r t : ℕ → OperandValue → Option Stamp) (n : ℕ) (os : List OperandValue) →
-    ((k : ℕ) (d : OperandValue) → k < length os → is_reading (slice_index_or os k d) ≡ true → r (k + n) (slice_index_or os k d) ≡ t (k + n) (slice_index_or os k d)) →
+    ((k : ℕ) (d : OperandValue) → k < length os → is_reading (slice_index_or os k d) ≡ true →
+    r (k + n) (slice_index_or os k d) ≡ t (k + n) (slice_index_or os k d)) →
     reads_from r n os ≡ reads_from t n os
 unfolding reads_from
 reads_from-same r t n [] h = refl
@@ -32,7 +33,8 @@ reads-same f out ws h =
     reads_from-same (allocated_read f out ws) (λ k o. source_read f ws o) 0 (last_inst f ws).operands
     (λ k d less yes. let e : k + 0 ≡ k = omega arith in rw e (h k d less yes).1)
 
-numbers-same : (f : FunctionValue) (meaning : Meaning) (r t : List Way → List (Option Stamp)) (ws : List Way) → IsPath f ws → ((vs : List Way) → IsPath f vs → r vs ≡ t vs) →
+numbers-same : (f : FunctionValue) (meaning : Meaning) (r t : List Way → List (Option Stamp)) (ws : List Way) → IsPath f ws →
+    ((vs : List Way) → IsPath f vs → r vs ≡ t vs) →
     numbers f meaning r ws ≡ numbers f meaning t ws
 unfolding numbers
 numbers-same f meaning r t [] p h = rw (h [] tt) refl

@@ -1,14 +1,15 @@
 -- The run of the allocated program: who wrote each place last.
--- Moves run where upstream's `OutputIter` lists them; operands are read and written as its `OperandPos` says. That a move copies absence, and that early definitions empty their places before early uses are read, is this project's own choice.
+-- Moves run where upstream's `OutputIter` lists them; operands are read and written as its `OperandPos` says. That a move copies absence,
+-- and that early definitions empty their places before early uses are read, is this project's own choice.
 use Rattle.std.specs.Prelude.{ℕ, ◌+◌, ◌&&◌, not, if◌then◌else◌, List, [], ◌∷◌, length, Option, None, Some}
 use Rattle.regalloc2_names.specs.declared.sets.PRegSet.{PRegSet}
-use Rattle.regalloc2_names.specs.Operand.{OperandValue}
+use Rattle.regalloc2_names.specs.Operand.{OperandValue, is_def, is_late}
 use Rattle.regalloc2_names.specs.RegisterSet.{has_register}
 use Rattle.regalloc2_names.specs.Place.{Place, NoPlace, InRegister, InSlot, is_place}
 use Rattle.regalloc2_function.specs.FunctionValue.{FunctionValue, block_at, inst_at}
 use Rattle.regalloc2_function.specs.OutputValue.{OutputValue, MoveValue, allocs_of, place_at, moves_before}
 use Rattle.regalloc2_function.specs.Path.{Way, Location, end_of}
-use Rattle.regalloc2_function.specs.SourceRun.{Stamp, is_def, is_late, read_of}
+use Rattle.regalloc2_function.specs.SourceRun.{Stamp, read_of}
 
 -- who wrote each place last, if anyone
 abbrev pub Cells : Type 0
@@ -28,7 +29,8 @@ after_moves (m ∷ ms) c = after_moves ms (stored c m.to (c m.from))
 -- the places of early definitions are emptied
 unfoldable pub after_early_defs : List Place → ℕ → List OperandValue → Cells → Cells
 after_early_defs places k [] c = c
-after_early_defs places k (o ∷ os) c = after_early_defs places (k + 1) os (if is_def o.kind && not (is_late o.position) then stored c (place_at places k) None else c)
+after_early_defs places k (o ∷ os) c = after_early_defs places (k + 1) os
+    (if is_def o.kind && not (is_late o.position) then stored c (place_at places k) None else c)
 
 -- the definitions are written, in operand order
 unfoldable pub after_writes : List Place → ℕ → ℕ → List OperandValue → Cells → Cells

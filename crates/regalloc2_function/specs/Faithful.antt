@@ -3,14 +3,14 @@
 use Rattle.std.specs.Prelude.{ℕ, ◌≡◌, ◌≢◌, ◌+◌, ◌<◌, ◌≤◌, true, List, All, length, slice_index_or, IsSome}
 use Rattle.regalloc2_names.specs.declared.OperandConstraint.{OperandConstraint}
 use Rattle.regalloc2_names.specs.declared.OperandConstraint.TheVariants.{Any, Reg, Stack, FixedReg, Reuse, Limit}
-use Rattle.regalloc2_names.specs.Operand.{OperandValue}
+use Rattle.regalloc2_names.specs.Operand.{OperandValue, is_reading}
 use Rattle.regalloc2_names.specs.Point.{before}
 use Rattle.regalloc2_names.specs.Place.{Place, NoPlace, InRegister, InSlot}
 use Rattle.regalloc2_function.specs.FunctionValue.{FunctionValue, block_at, inst_at}
 use Rattle.regalloc2_function.specs.Machine.{MachineValue, IsStackPlace, IsPlainRegister}
 use Rattle.regalloc2_function.specs.OutputValue.{OutputValue, MoveValue, allocs_of, place_at, is_listed_at}
 use Rattle.regalloc2_function.specs.Path.{Way, end_of, last_inst, IsPath}
-use Rattle.regalloc2_function.specs.SourceRun.{is_reading, source_read}
+use Rattle.regalloc2_function.specs.SourceRun.{source_read}
 use Rattle.regalloc2_function.specs.AllocatedRun.{allocated_read, moves_at}
 
 -- at the last step of a path each reading use finds in its place the write that its virtual register has, and there is one
@@ -65,4 +65,5 @@ HasNoStackToStack env out = All (λ e. IsStackToStack env e.1 → ⊥) out.edits
 -- no edit stands after a block's last instruction, and each is listed before some instruction of a block
 pub record EditsAreListed (f : FunctionValue) (out : OutputValue) : Type 0 where
   pub none_at_end : (b : ℕ) → b < length f.blocks → All (λ e. e.0 + 1 ≢ before (block_at f b).range.end) out.edits
-  pub listed : All (λ e. (b i : ℕ) × (b < length f.blocks) × ((block_at f b).range.first ≤ i) × (i < (block_at f b).range.end) × (is_listed_at (block_at f b).range.first i e.0 ≡ true)) out.edits
+  pub listed : All (λ e. (b i : ℕ) × (b < length f.blocks) × ((block_at f b).range.first ≤ i) × (i < (block_at f b).range.end)
+      × (is_listed_at (block_at f b).range.first i e.0 ≡ true)) out.edits

@@ -1,17 +1,17 @@
 -- Fitting machines, proper places and instructions that fit.
 -- What upstream's `MachineEnv` and allocators take for granted of machines and places. When an instruction fits is this project's own.
-use Rattle.std.specs.Prelude.{ℕ, zero, suc, nat_lt, is_none, ◌≡◌, ◌≢◌, ◌+◌, ◌<◌, ◌≤◌, ◌⊎◌, Bool, true, false, ◌&&◌, ◌||◌, not, nat_eq, if◌then◌else◌, [], All, Any as SomeIn, count_by, length, slice_index_or, Some}
+use Rattle.std.specs.Prelude.{ℕ, zero, suc, nat_lt, is_none, ◌≡◌, ◌≢◌, ◌+◌, ◌<◌, ◌≤◌, ◌⊎◌, Bool, true, false, ◌&&◌, ◌||◌, not, nat_eq, if◌then◌else◌}
+use Rattle.std.specs.Prelude.{[], All, Any as SomeIn, count_by, length, slice_index_or, Some}
 use Rattle.regalloc2_names.specs.declared.OperandConstraint.{OperandConstraint}
 use Rattle.regalloc2_names.specs.declared.OperandConstraint.TheVariants.{Any, Reg, Stack, FixedReg, Reuse, Limit}
 use Rattle.regalloc2_names.specs.declared.RegClass.{RegClass}
 use Rattle.regalloc2_names.specs.Register.{Register, class_code, invalid_register}
 use Rattle.regalloc2_names.specs.RegisterSet.{has_register}
-use Rattle.regalloc2_names.specs.Operand.{OperandValue, nonallocatable_register}
+use Rattle.regalloc2_names.specs.Operand.{OperandValue, nonallocatable_register, is_def, is_late, is_fixed_nonallocatable}
 use Rattle.regalloc2_names.specs.Place.{Place, NoPlace, InRegister, InSlot}
 use Rattle.regalloc2_function.specs.FunctionValue.{FunctionValue, InstValue, block_at, inst_at}
 use Rattle.regalloc2_function.specs.Machine.{MachineValue, is_allocatable, is_preferred, is_non_preferred, scratch_of, IsFixedStackSlot}
 use Rattle.regalloc2_function.specs.OutputValue.{OutputValue, allocs_of, place_at}
-use Rattle.regalloc2_function.specs.SourceRun.{is_def, is_late, is_fixed_nonallocatable}
 use Rattle.regalloc2_function.specs.WellFormed.{EachOperand}
 use Rattle.regalloc2_function.specs.DebugPoints.{IsKept}
 
@@ -27,7 +27,8 @@ NamesClass f class =
     ((i : ℕ) × (i < length f.insts) × SomeIn (λ o. (is_fixed_nonallocatable o ≡ false) × (o.vreg.class ≡ class)) (inst_at f i).operands)
     ⊎ ((b : ℕ) × (b < length f.blocks) × (SomeIn (λ v. v.class ≡ class) (block_at f b).params ⊎ NamesByArgument f b class))
 
--- For a class: its registers, preferred, non-preferred and scratch, are valid, of that class and apart; no fixed stack slot is one of them or invalid; and there is a register to allocate if the function names a virtual register of the class.
+-- For a class: its registers, preferred, non-preferred and scratch, are valid, of that class and apart; no fixed stack slot is one of them
+-- or invalid; and there is a register to allocate if the function names a virtual register of the class.
 pub record ClassFits (f : FunctionValue) (env : MachineValue) (class : RegClass) : Type 0 where
   pub of_class : (r : Register) → is_allocatable env class r ≡ true → r.class ≡ class
   pub preferred_apart : (r : Register) → is_preferred env class r ≡ true → is_non_preferred env class r ≡ false
@@ -50,14 +51,16 @@ IsProperPlace env out class (InSlot n) = n < out.num_spillslots
 abbrev pub IsMoveEnd : MachineValue → OutputValue → Place → Type 0
 IsMoveEnd env out p = (c : RegClass) × (IsProperPlace env out c p ⊎ ((r : Register) × (scratch_of env c ≡ Some r) × (p ≡ InRegister r)))
 
--- the places of all operands, moves and debug locations are proper; a debug location's is of the class of its own label, which has its number, and whose virtual register has its points
+-- the places of all operands, moves and debug locations are proper; a debug location's is of the class of its own label, which has its
+-- number, and whose virtual register has its points
 pub record PlacesAreProper (f : FunctionValue) (env : MachineValue) (out : OutputValue) : Type 0 where
   pub operands : (i : ℕ) → i < length f.insts → EachOperand (inst_at f i) (λ k o.
       is_fixed_nonallocatable o ≡ false → IsProperPlace env out o.vreg.class (place_at (allocs_of out i) k))
   pub nonallocatable : (i : ℕ) → i < length f.insts → EachOperand (inst_at f i) (λ k o.
       (r : Register) → nonallocatable_register o ≡ Some r → place_at (allocs_of out i) k ≡ InRegister r)
   pub moves : All (λ e. IsMoveEnd env out e.1.from × IsMoveEnd env out e.1.to) out.edits
-  pub debug_locations : All (λ d. SomeIn (λ l. (l.label ≡ d.label) × IsKept f l d.start d.end × IsProperPlace env out l.vreg.class d.place) f.labels) out.debug_locations
+  pub debug_locations : All (λ d. SomeIn (λ l. (l.label ≡ d.label) × IsKept f l d.start d.end × IsProperPlace env out l.vreg.class d.place) f.labels)
+      out.debug_locations
 
 -- `Fits`, and what it is made of: `TooManyLiveRegs` comes only where an instruction does not fit.
 
@@ -115,11 +118,13 @@ allocatable_count env class = count_below (λ n. is_allocatable env class (regis
 
 -- one more where the class has fixed stack slots and no dedicated scratch register
 abbrev pub spare_of : MachineValue → RegClass → ℕ
-spare_of env class = if nat_lt 0 (count_by (λ r. nat_eq (class_code r.class) (class_code class)) env.fixed_stack_slots) && is_none (scratch_of env class) then 1 else 0
+spare_of env class = if nat_lt 0 (count_by (λ r. nat_eq (class_code r.class) (class_code class)) env.fixed_stack_slots)
+    && is_none (scratch_of env class) then 1 else 0
 
 -- an instruction that has registers enough
 pub record Fits (f : FunctionValue) (env : MachineValue) (i : InstValue) : Type 0 where
-  pub fixed : EachOperand i (λ k o. is_fixed_nonallocatable o ≡ false → (r : Register) → o.constraint ≡ FixedReg r → (is_allocatable env r.class r ≡ true) ⊎ IsFixedStackSlot env r)
+  pub fixed : EachOperand i (λ k o. is_fixed_nonallocatable o ≡ false → (r : Register) → o.constraint ≡ FixedReg r → (is_allocatable env r.class r ≡ true)
+      ⊎ IsFixedStackSlot env r)
   pub apart : (j k : ℕ) (d e : OperandValue) (r : Register) → j < k → k < length i.operands →
       let a : OperandValue = slice_index_or i.operands j d in
       let b : OperandValue = slice_index_or i.operands k e in

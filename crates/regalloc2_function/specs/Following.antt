@@ -8,7 +8,8 @@ within_from f follow zero b e = let h : (block_at f b).range.end ≡ length f.in
 within_from f follow (suc k) b e =
     let next : (block_at f (b + 1)).range.end ≤ length f.insts = within_from f follow k (b + 1) (omega arith) in
     let before : b + 1 - 1 ≡ b = omega arith in
-    let first : (block_at f (b + 1)).range.first ≡ (block_at f b).range.end = (follow (b + 1) (omega arith)).2 (omega arith) ∙ ap (λ n. (block_at f n).range.end) before in
+    let first : (block_at f (b + 1)).range.first ≡ (block_at f b).range.end = (follow (b + 1) (omega arith)).2 (omega arith)
+    ∙ ap (λ n. (block_at f n).range.end) before in
     let some : (block_at f (b + 1)).range.first < (block_at f (b + 1)).range.end = (follow (b + 1) (omega arith)).0 in
     omega arith
 

@@ -33,4 +33,5 @@ ReadsGiveNumbers = (f : FunctionValue) (out : OutputValue) → ((ws : List Way) 
 
 -- and the converse: where each use finds a write of an earlier step, and both runs read the same numbers, whatever the instructions mean, reads agree
 abbrev pub NumbersGiveReads : Type 0
-NumbersGiveReads = (f : FunctionValue) (out : OutputValue) → ((ws : List Way) → IsPath f ws → UsesFindEarlier f ws) → SameNumbers f out → (ws : List Way) → IsPath f ws → ReadsAgree f out ws
+NumbersGiveReads = (f : FunctionValue) (out : OutputValue) → ((ws : List Way) → IsPath f ws → UsesFindEarlier f ws) → SameNumbers f out → (ws : List Way) →
+    IsPath f ws → ReadsAgree f out ws

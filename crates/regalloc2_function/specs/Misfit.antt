@@ -1,5 +1,6 @@
 -- Why a machine doesn't suit a function: the first condition of `MachineFits` that fails.
--- First come the fixed stack slots, none of which is invalid; then the classes, Int, Float and Vector in this order, and of each class the conditions in the order of `MachineMisfit`'s variants.
+-- First come the fixed stack slots, none of which is invalid; then the classes, Int, Float and Vector in this order, and of each class the
+-- conditions in the order of `MachineMisfit`'s variants.
 use Rattle.std.specs.Prelude.{ℕ, ◌≡◌, ◌≢◌, ◌<◌, true, false, All, Contains, length, slice_index_or, take, Some}
 use Rattle.regalloc2_names.specs.Register.{Register, invalid_register}
 use Rattle.regalloc2_names.specs.declared.RegClass.{RegClass}
@@ -8,7 +9,9 @@ use Rattle.regalloc2_function.specs.FunctionValue.{FunctionValue}
 use Rattle.regalloc2_function.specs.Machine.{MachineValue, is_allocatable, is_preferred, is_non_preferred, scratch_of}
 use Rattle.regalloc2_function.specs.Fitting.{ClassFits, NamesClass}
 use Rattle.regalloc2_function.specs.declared.misfit.MachineMisfit.{MachineMisfit}
-use Rattle.regalloc2_function.specs.declared.misfit.MachineMisfit.TheVariants.{InvalidSlot, OtherClass, ListedTwice, InvalidRegister, ScratchOfOtherClass, ScratchAllocatable, InvalidScratch, SlotAllocatable, SlotIsScratch, NoRegister}
+use Rattle.regalloc2_function.specs.declared.misfit.MachineMisfit.TheVariants.{InvalidSlot, OtherClass, ListedTwice, InvalidRegister}
+use Rattle.regalloc2_function.specs.declared.misfit.MachineMisfit.TheVariants.{ScratchOfOtherClass, ScratchAllocatable, InvalidScratch}
+use Rattle.regalloc2_function.specs.declared.misfit.MachineMisfit.TheVariants.{SlotAllocatable, SlotIsScratch, NoRegister}
 
 -- no fixed stack slot is the invalid register
 abbrev pub AreSlotsValid : MachineValue → Type 0
@@ -61,11 +64,14 @@ abbrev pub IsMisfit : FunctionValue → MachineValue → MachineMisfit → Type 
 IsMisfit f env InvalidSlot = Contains env.fixed_stack_slots invalid_register
 IsMisfit f env (OtherClass class r) = FitsBefore f env class × (is_allocatable env class r ≡ true) × (r.class ≢ class)
 IsMisfit f env (ListedTwice class r) = FitsBefore f env class × AreOfClass env class × (is_preferred env class r ≡ true) × (is_non_preferred env class r ≡ true)
-IsMisfit f env (InvalidRegister class) = FitsBefore f env class × AreOfClass env class × AreListedOnce env class × (is_allocatable env class invalid_register ≡ true)
+IsMisfit f env (InvalidRegister class) = FitsBefore f env class × AreOfClass env class × AreListedOnce env class
+    × (is_allocatable env class invalid_register ≡ true)
 IsMisfit f env (ScratchOfOtherClass class r) = PassesRegisters f env class × (scratch_of env class ≡ Some r) × (r.class ≢ class)
-IsMisfit f env (ScratchAllocatable class r) = PassesRegisters f env class × (scratch_of env class ≡ Some r) × (r.class ≡ class) × (is_allocatable env class r ≡ true)
+IsMisfit f env (ScratchAllocatable class r) = PassesRegisters f env class × (scratch_of env class ≡ Some r) × (r.class ≡ class)
+    × (is_allocatable env class r ≡ true)
 IsMisfit f env (InvalidScratch class) = PassesRegisters f env class × (scratch_of env class ≡ Some invalid_register) × (Int ≡ class)
 IsMisfit f env (SlotAllocatable class r) = PassesScratch f env class × IsFirstTaken env class r × (is_allocatable env class r ≡ true)
-IsMisfit f env (SlotIsScratch class r) = PassesScratch f env class × IsFirstTaken env class r × (is_allocatable env class r ≡ false) × (scratch_of env class ≡ Some r)
+IsMisfit f env (SlotIsScratch class r) = PassesScratch f env class × IsFirstTaken env class r × (is_allocatable env class r ≡ false)
+    × (scratch_of env class ≡ Some r)
 IsMisfit f env (NoRegister class) =
     PassesScratch f env class × All (IsSlotApart env class) env.fixed_stack_slots × NamesClass f class × ((r : Register) → is_allocatable env class r ≡ false)

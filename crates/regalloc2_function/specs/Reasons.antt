@@ -1,13 +1,16 @@
 -- Where the tests of a function fail first, as their refusals say.
-use Rattle.std.specs.Prelude.{ℕ, ◌≡◌, ◌≢◌, ◌+◌, ◌<◌, ◌≤◌, ◌⊎◌, List, [], ◌∷◌, ◌++◌, All, count_by, filter_map, flat_map, length, map, nat_eq, slice_index_or, Option, None, Some, if◌then◌else◌}
+use Rattle.std.specs.Prelude.{ℕ, ◌≡◌, ◌≢◌, ◌+◌, ◌<◌, ◌≤◌, ◌⊎◌, List, [], ◌∷◌, ◌++◌, All, count_by, filter_map, flat_map, length, map, nat_eq}
+use Rattle.std.specs.Prelude.{slice_index_or, Option, None, Some, if◌then◌else◌}
 use Rattle.regalloc2_index.specs.Range.{numbers_from, numbers_of}
 use Rattle.regalloc2_names.specs.Register.{VirtualRegister}
-use Rattle.regalloc2_names.specs.Operand.{OperandValue}
+use Rattle.regalloc2_names.specs.Operand.{OperandValue, is_def, is_reading}
 use Rattle.regalloc2_names.specs.declared.RegAllocError.{RegAllocError}
 use Rattle.regalloc2_names.specs.declared.RegAllocError.TheVariants.{BB, Branch, CritEdge, DisallowedBranchArg, EntryLivein, Memory, SSA}
 use Rattle.regalloc2_function.specs.FunctionValue.{FunctionValue, BlockValue, block_at, inst_at}
-use Rattle.regalloc2_function.specs.SourceRun.{is_def, is_reading}
-use Rattle.regalloc2_function.specs.WellFormed.{ArgumentsCounted, ArgumentsFit, BlocksEnd, BlocksFollow, DefinedOnce, EndsAt, EntryIsFirst, FollowsAt, IsDefinedBefore, IsFirstToFail, NoCriticalEdge, NoOperandsIntoJoins, PredecessorsAgree, SuccessorsAreBlocks, UsesAreDefined, last_of, ArgumentsFitAt, NoOperandsAt, NotCriticalAt, PredecessorsAt}
+use Rattle.regalloc2_function.specs.WellFormed.{ArgumentsCounted, ArgumentsFit, BlocksEnd, BlocksFollow, DefinedOnce, EndsAt, EntryIsFirst, FollowsAt}
+use Rattle.regalloc2_function.specs.WellFormed.{IsDefinedBefore, IsFirstToFail, NoCriticalEdge, NoOperandsIntoJoins, PredecessorsAgree}
+use Rattle.regalloc2_function.specs.WellFormed.{SuccessorsAreBlocks, UsesAreDefined, last_of, ArgumentsFitAt, NoOperandsAt, NotCriticalAt}
+use Rattle.regalloc2_function.specs.WellFormed.{PredecessorsAt}
 
 -- the first of a list that fails: those before it pass
 pub record IsFirstIn {X : Type 0} (P : X → Type 0) (xs : List X) (x : X) : Type 0 where
@@ -126,8 +129,10 @@ pub data IsShapeFault (f : FunctionValue) : RegAllocError → Type 0 where
   outside : (s : ℕ) → IsFirstOutside f s → IsShapeFault f (BB s)
   apart : (b : ℕ) → SuccessorsAreBlocks f → IsFirstToFail f (FollowsAt f) b → IsShapeFault f (BB b)
   unlisted : (b : ℕ) → SuccessorsAreBlocks f → BlocksFollow f → IsFirstToFail f (PredecessorsAt f) b → IsShapeFault f (BB b)
-  critical : (b p : ℕ) → SuccessorsAreBlocks f → BlocksFollow f → PredecessorsAgree f → IsFirstToFail f (NotCriticalAt f) b → IsFirstFork f (block_at f b) p → IsShapeFault f (CritEdge p b)
-  operands : (b : ℕ) → SuccessorsAreBlocks f → BlocksFollow f → PredecessorsAgree f → NoCriticalEdge f → IsFirstToFail f (NoOperandsAt f) b → IsShapeFault f (DisallowedBranchArg (last_of (block_at f b)))
+  critical : (b p : ℕ) → SuccessorsAreBlocks f → BlocksFollow f → PredecessorsAgree f → IsFirstToFail f (NotCriticalAt f) b → IsFirstFork f (block_at f b) p →
+      IsShapeFault f (CritEdge p b)
+  operands : (b : ℕ) → SuccessorsAreBlocks f → BlocksFollow f → PredecessorsAgree f → NoCriticalEdge f → IsFirstToFail f (NoOperandsAt f) b →
+      IsShapeFault f (DisallowedBranchArg (last_of (block_at f b)))
 
 -- what the tests of the entry, of terminators, arguments, definitions and uses test
 pub record IsSound (f : FunctionValue) : Type 0 where

@@ -20,7 +20,8 @@ class_of_owner (OfBranch branch class time) = class
 
 -- a slot's name stands in the output: as an operand's place, in a move or in a debug location
 abbrev pub IsSlotOf : FunctionValue → OutputValue → ℕ → Type 0
-IsSlotOf f out n = SomeIn (λ p. p ≡ InSlot n) out.allocs ⊎ SomeIn (λ e. (e.1.from ≡ InSlot n) ⊎ (e.1.to ≡ InSlot n)) out.edits ⊎ SomeIn (λ d. d.place ≡ InSlot n) out.debug_locations
+IsSlotOf f out n = SomeIn (λ p. p ≡ InSlot n) out.allocs ⊎ SomeIn (λ e. (e.1.from ≡ InSlot n) ⊎ (e.1.to ≡ InSlot n)) out.edits
+    ⊎ SomeIn (λ d. d.place ≡ InSlot n) out.debug_locations
 
 -- how many units a slot takes that has an owner, and the first of them where a slot has that name
 abbrev pub units_of : FunctionValue → Owner → ℕ
@@ -35,20 +36,25 @@ IsOfClass owner NoPlace class = ⊥
 IsOfClass owner (InRegister r) class = r.class ≡ class
 IsOfClass owner (InSlot n) class = class_of_owner (owner n) ≡ class
 
--- Each slot has an owner of its own, a virtual register or a branch; it stands for as many units as its owner's class takes, aligned to that number and below the count; the units of two slots are apart; operands stand in their own virtual register's slot; and both ends of a move are of one class.
+-- Each slot has an owner of its own, a virtual register or a branch; it stands for as many units as its owner's class takes, aligned to
+-- that number and below the count; the units of two slots are apart; operands stand in their own virtual register's slot; and both ends of
+-- a move are of one class.
 pub record AreSlotsOwned (f : FunctionValue) (out : OutputValue) : Type 0 where
   pub owner : ℕ → Owner
   pub own : (m n : ℕ) → IsSlotOf f out m → IsSlotOf f out n → owner m ≡ owner n → m ≡ n
-  pub branches : (n i : ℕ) (class : RegClass) (time : ℕ) → IsSlotOf f out n → owner n ≡ OfBranch i class time → (i < length f.insts) × ((inst_at f i).is_branch ≡ true)
+  pub branches : (n i : ℕ) (class : RegClass) (time : ℕ) → IsSlotOf f out n → owner n ≡ OfBranch i class time → (i < length f.insts)
+      × ((inst_at f i).is_branch ≡ true)
   pub operands : (i : ℕ) → i < length f.insts → EachOperand (inst_at f i) (λ k o. (n : ℕ) → place_at (allocs_of out i) k ≡ InSlot n → owner n ≡ OfVReg o.vreg)
   pub named : (n : ℕ) → IsSlotOf f out n → f.named_by_last_slot ≡ true → units_of f (owner n) ≤ n + 1
   pub aligned : (n : ℕ) → IsSlotOf f out n → first_unit f (owner n) n % units_of f (owner n) ≡ 0
   pub within : (n : ℕ) → IsSlotOf f out n → first_unit f (owner n) n + units_of f (owner n) ≤ out.num_spillslots
   pub apart : (m n : ℕ) → IsSlotOf f out m → IsSlotOf f out n → m ≢ n →
-      (first_unit f (owner m) m + units_of f (owner m) ≤ first_unit f (owner n) n) ⊎ (first_unit f (owner n) n + units_of f (owner n) ≤ first_unit f (owner m) m)
+      (first_unit f (owner m) m + units_of f (owner m) ≤ first_unit f (owner n) n)
+      ⊎ (first_unit f (owner n) n + units_of f (owner n) ≤ first_unit f (owner m) m)
   pub moves : All (λ e. (class : RegClass) × IsOfClass owner e.1.from class × IsOfClass owner e.1.to class) out.edits
 
 -- an operand names the virtual register, and its place is the slot
 abbrev pub StandsInSlot : FunctionValue → OutputValue → VirtualRegister → ℕ → Type 0
 StandsInSlot f out v n =
-    (i k : ℕ) × (d : OperandValue) × (i < length f.insts) × (k < length (inst_at f i).operands) × ((slice_index_or (inst_at f i).operands k d).vreg ≡ v) × (place_at (allocs_of out i) k ≡ InSlot n)
+    (i k : ℕ) × (d : OperandValue) × (i < length f.insts) × (k < length (inst_at f i).operands) × ((slice_index_or (inst_at f i).operands k d).vreg ≡ v)
+    × (place_at (allocs_of out i) k ≡ InSlot n)

@@ -1,14 +1,11 @@
 -- The run of the function itself: who wrote each virtual register last.
--- Operands are read and written as upstream's `OperandKind` and `OperandPos` say, and parameters take arguments as its `Function::branch_blockparams` says. The names of writes are this project's own.
-use Rattle.std.specs.Prelude.{ℕ, ◌≡◌, ◌+◌, ◌<◌, Bool, true, false, ◌&&◌, not, nat_eq, if◌then◌else◌, List, [], ◌∷◌, length, slice_index_or, slice_index, Option, None, Some, IsSome}
-use Rattle.regalloc2_names.specs.declared.OperandConstraint.{OperandConstraint}
-use Rattle.regalloc2_names.specs.declared.OperandConstraint.TheVariants.{Any, Reg, Stack, FixedReg, Reuse, Limit}
-use Rattle.regalloc2_names.specs.declared.OperandKind.{OperandKind}
-use Rattle.regalloc2_names.specs.declared.OperandKind.TheVariants.{Def, Use}
+-- Operands are read and written as upstream's `OperandKind` and `OperandPos` say, and parameters take arguments as its
+-- `Function::branch_blockparams` says. The names of writes are this project's own.
+use Rattle.std.specs.Prelude.{ℕ, ◌≡◌, ◌+◌, ◌<◌, true, if◌then◌else◌, List, [], ◌∷◌, length, slice_index_or, slice_index, Option, None, Some, IsSome}
 use Rattle.regalloc2_names.specs.declared.OperandPos.{OperandPos}
 use Rattle.regalloc2_names.specs.declared.OperandPos.TheVariants.{Early, Late}
 use Rattle.regalloc2_names.specs.Register.{VirtualRegister, is_vreg}
-use Rattle.regalloc2_names.specs.Operand.{OperandValue}
+use Rattle.regalloc2_names.specs.Operand.{OperandValue, is_def, is_reading}
 use Rattle.regalloc2_function.specs.FunctionValue.{FunctionValue, block_at}
 use Rattle.regalloc2_function.specs.Path.{Way, Onward, ToSuccessor, Location, end_of, last_inst, IsPath, HasWay}
 
@@ -24,30 +21,6 @@ Source = VirtualRegister → Option Stamp
 -- the map with one virtual register changed
 abbrev pub assigned : Source → VirtualRegister → Option Stamp → Source
 assigned m v s q = if is_vreg v q then s else m q
-
-abbrev pub is_def : OperandKind → Bool
-is_def Def = true
-is_def Use = false
-
-abbrev pub is_late : OperandPos → Bool
-is_late Early = false
-is_late Late = true
-
-abbrev pub is_fixed : OperandConstraint → Bool
-is_fixed Any = false
-is_fixed Reg = false
-is_fixed Stack = false
-is_fixed (FixedReg r) = true
-is_fixed (Reuse n) = false
-is_fixed (Limit n) = false
-
--- the operand names a register that is not allocated, and no virtual register
-abbrev pub is_fixed_nonallocatable : OperandValue → Bool
-is_fixed_nonallocatable o = is_fixed o.constraint && nat_eq o.vreg.number 1073741823
-
--- the operand reads its virtual register
-abbrev pub is_reading : OperandValue → Bool
-is_reading o = not (is_def o.kind) && not (is_fixed_nonallocatable o)
 
 -- the map after a step's definitions, in operand order from index k on
 unfoldable pub after_defs : ℕ → ℕ → List OperandValue → Source → Source

@@ -2,14 +2,15 @@
 -- This project's own: what the instructions compute is left open.
 use Rattle.std.specs.Prelude.{ℕ, ◌≡◌, ◌+◌, nat_eq, if◌then◌else◌, List, [], ◌∷◌, map, length, Option}
 use Rattle.std.specs.Option.{option_map}
-use Rattle.regalloc2_names.specs.Operand.{OperandValue}
+use Rattle.regalloc2_names.specs.Operand.{OperandValue, is_reading}
 use Rattle.regalloc2_function.specs.FunctionValue.{FunctionValue}
 use Rattle.regalloc2_function.specs.OutputValue.{OutputValue}
 use Rattle.regalloc2_function.specs.Path.{Way, IsPath, end_of, last_inst}
-use Rattle.regalloc2_function.specs.SourceRun.{Stamp, is_reading, source_read}
+use Rattle.regalloc2_function.specs.SourceRun.{Stamp, source_read}
 use Rattle.regalloc2_function.specs.AllocatedRun.{allocated_read}
 
--- A meaning gives the number that an instruction writes: from the instruction, its step, what was read at each step so far, the newest first, and the index of the operand that is written.
+-- A meaning gives the number that an instruction writes: from the instruction, its step, what was read at each step so far, the newest
+-- first, and the index of the operand that is written.
 abbrev pub Meaning : Type 0
 Meaning = ℕ → ℕ → List (List (Option ℕ)) → ℕ → ℕ
 

@@ -37,4 +37,9 @@ abbrev pub rest_of : OutputIter → List Listed
 rest_of it = listing_left (map edit_of it.edits.now) it.inst_range.first (it.inst_range.end - it.inst_range.first)
 
 abbrev pub machine_of : {A : Type 0} → MachineEnv A → MachineValue
-machine_of m = record { preferred = m.preferred_regs_by_class; non_preferred = m.non_preferred_regs_by_class; scratch = m.scratch_by_class; fixed_stack_slots = m.fixed_stack_slots.items }
+machine_of m = record {
+  preferred = m.preferred_regs_by_class;
+  non_preferred = m.non_preferred_regs_by_class;
+  scratch = m.scratch_by_class;
+  fixed_stack_slots = m.fixed_stack_slots.items;
+}

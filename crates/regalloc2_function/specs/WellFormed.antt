@@ -1,6 +1,7 @@
 -- The conditions on a function, in the order in which they are tested.
 -- The tests are those of upstream's `CFGInfo::init` and `validate_ssa`, and what its allocators take for granted.
-use Rattle.std.specs.Prelude.{ℕ, ◌≡◌, ◌+◌, ◌-◌, ◌<◌, ◌≤◌, ◌⊎◌, Bool, true, false, ◌&&◌, nat_eq, if◌then◌else◌, List, [], ◌∷◌, All, Contains, count_by, length, map, slice_index, slice_index_or}
+use Rattle.std.specs.Prelude.{ℕ, ◌≡◌, ◌+◌, ◌-◌, ◌<◌, ◌≤◌, ◌⊎◌, Bool, true, false, ◌&&◌, nat_eq, if◌then◌else◌, List, [], ◌∷◌, All, Contains, count_by}
+use Rattle.std.specs.Prelude.{length, map, slice_index, slice_index_or}
 use Rattle.regalloc2_names.specs.declared.OperandConstraint.{OperandConstraint}
 use Rattle.regalloc2_names.specs.declared.OperandConstraint.TheVariants.{Any, Reg, Stack, FixedReg, Reuse, Limit}
 use Rattle.regalloc2_names.specs.declared.RegClass.{RegClass}
@@ -8,10 +9,9 @@ use Rattle.regalloc2_names.specs.declared.OperandKind.TheVariants.{Def, Use}
 use Rattle.regalloc2_names.specs.declared.OperandPos.TheVariants.{Early, Late}
 use Rattle.regalloc2_names.specs.Register.{Register, VirtualRegister}
 use Rattle.regalloc2_names.specs.RegisterSet.{has_register}
-use Rattle.regalloc2_names.specs.Operand.{OperandValue}
+use Rattle.regalloc2_names.specs.Operand.{OperandValue, is_def, is_reading}
 use Rattle.regalloc2_function.specs.FunctionValue.{FunctionValue, BlockValue, InstValue, block_at, inst_at}
 use Rattle.regalloc2_function.specs.Machine.{MachineValue, is_allocatable}
-use Rattle.regalloc2_function.specs.SourceRun.{is_def, is_reading}
 
 -- each block of a function
 abbrev pub EachBlock : FunctionValue → (ℕ → BlockValue → Type 0) → Type 0
@@ -96,7 +96,8 @@ ArgumentsCounted f = EachBlock f (CountedAt f)
 
 -- and of the same classes
 abbrev pub ArgumentsFitAt : FunctionValue → ℕ → BlockValue → Type 0
-ArgumentsFitAt f n b = (k : ℕ) → k < length b.succs → map (λ v. v.class) (slice_index_or b.arguments k []) ≡ map (λ v. v.class) (block_at f (slice_index b.succs k)).params
+ArgumentsFitAt f n b = (k : ℕ) → k < length b.succs → map (λ v. v.class) (slice_index_or b.arguments k []) ≡ map (λ v. v.class)
+    (block_at f (slice_index b.succs k)).params
 
 abbrev pub ArgumentsFit : FunctionValue → Type 0
 ArgumentsFit f = EachBlock f (ArgumentsFitAt f)
@@ -121,7 +122,8 @@ DefinedOnce f = (n : ℕ) → (definitions_of f n ≤ 1) × (0 < definitions_of 
 abbrev pub IsDefinedBefore : FunctionValue → VirtualRegister → ℕ → Type 0
 IsDefinedBefore f v i =
     ((b : ℕ) × (b < length f.blocks) × ((block_at f b).range.first ≤ i) × Contains (block_at f b).params v)
-    ⊎ ((j k : ℕ) × (d : OperandValue) × (j < i) × (k < length (inst_at f j).operands) × (is_def (slice_index_or (inst_at f j).operands k d).kind ≡ true) × ((slice_index_or (inst_at f j).operands k d).vreg ≡ v))
+    ⊎ ((j k : ℕ) × (d : OperandValue) × (j < i) × (k < length (inst_at f j).operands) × (is_def (slice_index_or (inst_at f j).operands k d).kind ≡ true)
+    × ((slice_index_or (inst_at f j).operands k d).vreg ≡ v))
 
 -- each virtual register that is read or passed is defined at a smaller instruction
 abbrev pub UsesAreDefined : FunctionValue → Type 0
@@ -145,12 +147,15 @@ MayBeReused env class (Limit n) = ⊥
 pub record ReusesAreSound (env : MachineValue) (i : InstValue) : Type 0 where
   pub definitions : EachOperand i (λ k o. (n : ℕ) → IsReuse o.constraint n → (o.kind ≡ Def) × (o.position ≡ Late))
   pub targets : EachOperand i (λ k o. (n : ℕ) (d : OperandValue) → IsReuse o.constraint n → (n < length i.operands)
-      × (let u : OperandValue = slice_index_or i.operands n d in (u.kind ≡ Use) × (u.position ≡ Early) × (is_reading u ≡ true) × (u.vreg.class ≡ o.vreg.class) × MayBeReused env u.vreg.class u.constraint))
-  pub apart : (j k n : ℕ) (d e : OperandValue) → j < length i.operands → k < length i.operands → IsReuse (slice_index_or i.operands j d).constraint n → IsReuse (slice_index_or i.operands k e).constraint n → j ≡ k
+      × (let u : OperandValue = slice_index_or i.operands n d in (u.kind ≡ Use) × (u.position ≡ Early) × (is_reading u ≡ true) × (u.vreg.class ≡ o.vreg.class)
+      × MayBeReused env u.vreg.class u.constraint))
+  pub apart : (j k n : ℕ) (d e : OperandValue) → j < length i.operands → k < length i.operands → IsReuse (slice_index_or i.operands j d).constraint n →
+      IsReuse (slice_index_or i.operands k e).constraint n → j ≡ k
 
 -- no definition, late use or reused early use is fixed to a clobber
 abbrev pub FixedAvoidClobbers : InstValue → Type 0
-FixedAvoidClobbers i = EachOperand i (λ k o. (r : Register) → o.constraint ≡ FixedReg r → (o.kind ≡ Def) ⊎ (o.position ≡ Late) ⊎ ((j : ℕ) × (d : OperandValue) × (j < length i.operands) × IsReuse (slice_index_or i.operands j d).constraint k) → has_register i.clobbers r ≡ false)
+FixedAvoidClobbers i = EachOperand i (λ k o. (r : Register) → o.constraint ≡ FixedReg r → (o.kind ≡ Def) ⊎ (o.position ≡ Late)
+    ⊎ ((j : ℕ) × (d : OperandValue) × (j < length i.operands) × IsReuse (slice_index_or i.operands j d).constraint k) → has_register i.clobbers r ≡ false)
 
 -- a function whose blocks and terminators are sound, and whose arguments are counted
 pub record IsFramed (f : FunctionValue) : Type 0 where

@@ -2,7 +2,8 @@
 
 ghost use Rattle.std.specs.Prelude.{◌≡◌, ◌+◌, ◌<◌, ◌≤◌, ◌↔◌, ℕ, false, IsTrue, IsOk, IfErr, length};
 ghost use Rattle.regalloc2_function.specs.FunctionValue.{block_at, inst_at};
-ghost use Rattle.regalloc2_function.specs.WellFormed.{SuccessorsAreBlocks, BlocksFollow, FollowsAt, BlocksEnd, EndsAt, EndsBlock, ArgumentsCounted, CountedAt, IsFramed, IsFirstToFail};
+ghost use Rattle.regalloc2_function.specs.WellFormed.{SuccessorsAreBlocks, BlocksFollow, FollowsAt, BlocksEnd, EndsAt, EndsBlock, ArgumentsCounted};
+ghost use Rattle.regalloc2_function.specs.WellFormed.{CountedAt, IsFramed, IsFirstToFail};
 
 use super::Function;
 use regalloc2_index::{Block, Inst};
@@ -87,7 +88,8 @@ fn ends_block<F: Function>(f: &F, inst: Inst, succs: usize) -> bool
 /// Whether no instruction from one up to another branches or returns.
 fn goes_on<F: Function>(f: &F, first: usize, end: usize) -> bool
     requires { end ≤ length (F.function f.now).insts }
-    ensures { IsTrue result ↔ ((i : ℕ) → first ≤ i → i < end → ((inst_at (F.function f.now) i).is_branch ≡ false) × ((inst_at (F.function f.now) i).is_ret ≡ false)) }
+    ensures { IsTrue result ↔ ((i : ℕ) → first ≤ i → i < end → ((inst_at (F.function f.now) i).is_branch ≡ false)
+        × ((inst_at (F.function f.now) i).is_ret ≡ false)) }
 {
     for i in first..end {
         let inst = Inst::new(i);

@@ -1,6 +1,7 @@
 //! Laws of the definitions, each the contract of a function that does nothing.
 
-ghost use Rattle.regalloc2_function.specs.Laws.{FaithfulGivesNumbers, ReadsGiveNumbers, NumbersGiveReads, SourceIsEarlier, CellsAreEarlier, MissingHoldsNothing};
+ghost use Rattle.regalloc2_function.specs.Laws.{FaithfulGivesNumbers, ReadsGiveNumbers, NumbersGiveReads, SourceIsEarlier, CellsAreEarlier};
+ghost use Rattle.regalloc2_function.specs.Laws.{MissingHoldsNothing};
 
 /// A law of the runs: each write that is found was made at an earlier step, and a missing place holds nothing.
 pub fn finds_earlier_writes()

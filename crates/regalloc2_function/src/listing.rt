@@ -162,7 +162,8 @@ impl<A: Allocator> Output<A> {
         requires block { block < length (F.function func.now).blocks }
         requires nonempty { (block_at (F.function func.now) block).range.first < (block_at (F.function func.now) block).range.end }
         ensures items { rest_of result ≡ block_listing (F.function func.now) (output_of self.now) block }
-        ensures within { All (IsListedWithin (block_at (F.function func.now) block).range.first (block_at (F.function func.now) block).range.end) (rest_of result) }
+        ensures within { All (IsListedWithin (block_at (F.function func.now) block).range.first (block_at (F.function func.now) block).range.end)
+            (rest_of result) }
     {
         let inst_range = func.block_insns(block);
         let first = 2 * u64::from(inst_range.first().0);

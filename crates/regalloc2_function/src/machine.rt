@@ -1,15 +1,17 @@
 //! The registers of a machine.
 
-ghost use Rattle.std.specs.Prelude.{◌≡◌, ◌≢◌, ℕ, ◌<◌, ◌+◌, ◌&&◌, ◌↔◌, IsTrue, IfErr, OnErr, OnOk, MatchOption, ◌⊎◌, All, Any, Contains, Some, true, false, length, slice_index_or, []};
+ghost use Rattle.std.specs.Prelude.{◌≡◌, ◌≢◌, ℕ, ◌<◌, ◌+◌, ◌&&◌, ◌↔◌, IsTrue, IfErr, OnErr, OnOk, MatchOption, ◌⊎◌, All, Any, Contains, Some, true};
+ghost use Rattle.std.specs.Prelude.{false, length, slice_index_or, []};
 ghost use Rattle.std.specs.Bool.{OnTrue, OnFalse};
 ghost use Rattle.regalloc2_names.specs.Register.{Register, class_code, invalid_register};
 ghost use Rattle.regalloc2_names.specs.RegisterSet.{has_register};
 ghost use Rattle.regalloc2_names.specs.declared.RegClass.{RegClass};
 ghost use Rattle.regalloc2_function.specs.FunctionValue.{FunctionValue, block_at, inst_at};
 ghost use Rattle.regalloc2_function.specs.Machine.{is_allocatable, is_preferred, is_non_preferred, scratch_of};
-ghost use Rattle.regalloc2_function.specs.SourceRun.{is_fixed_nonallocatable};
+ghost use Rattle.regalloc2_names.specs.Operand.{is_fixed_nonallocatable};
 ghost use Rattle.regalloc2_function.specs.Fitting.{MachineFits, ClassFits, NamesClass, NamesByArgument};
-ghost use Rattle.regalloc2_function.specs.Misfit.{AreSlotsValid, FitsBefore, AreRegistersSound, IsScratchSound, IsSlotApart, PassesRegisters, PassesScratch, IsMisfit};
+ghost use Rattle.regalloc2_function.specs.Misfit.{AreSlotsValid, FitsBefore, AreRegistersSound, IsScratchSound, IsSlotApart, PassesRegisters};
+ghost use Rattle.regalloc2_function.specs.Misfit.{PassesScratch, IsMisfit};
 ghost use Rattle.regalloc2_function.specs.Views.{machine_of};
 
 use super::Function;
@@ -167,7 +169,8 @@ impl<A: Allocator> From<&MachineEnv<A>> for PRegSet {
     ghost use Rattle.regalloc2_function.specs.Views.{machine_of};
 
     ghost from_gives = { λ env set. (r : Register) → has_register set r ≡
-        is_allocatable (machine_of env.now) RegClass.Int r || is_allocatable (machine_of env.now) RegClass.Float r || is_allocatable (machine_of env.now) RegClass.Vector r };
+        is_allocatable (machine_of env.now) RegClass.Int r || is_allocatable (machine_of env.now) RegClass.Float r
+        || is_allocatable (machine_of env.now) RegClass.Vector r };
 
     fn from(env: &MachineEnv<A>) -> PRegSet {
         let scalar = env.allocatable(RegClass::Int) | env.allocatable(RegClass::Float);

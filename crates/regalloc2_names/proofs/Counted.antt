@@ -34,6 +34,7 @@ members_ones class (suc n) k w h =
     let here = one_more (bit_at w k) (record { number = k; class = class }) (word_members class (k + 1) n w) (bit_at-lt w k) in
     here ∙ (rw (rest, step, half) refl)
 
+-- a set has as many members as there are bits set in its three words
 pub members_counted : (s : PRegSet) → ((i : ℕ) → slice_index s.bits i < 2 ^ 64) →
     ones (slice_index s.bits 0) + ones (slice_index s.bits 1) + ones (slice_index s.bits 2) ≡ length (registers_of s)
 unfolding registers_of_words
@@ -43,7 +44,8 @@ members_counted s fits =
     let b = members_ones Float 64 0 (slice_index s.bits 1) (fits 1) in
     let c = members_ones Vector 64 0 (slice_index s.bits 2) (fits 2) in
     rw (
-      length-append (word_members Int 0 64 (slice_index s.bits 0) ++ word_members Float 0 64 (slice_index s.bits 1)) (word_members Vector 0 64 (slice_index s.bits 2)),
+      length-append (word_members Int 0 64 (slice_index s.bits 0) ++ word_members Float 0 64 (slice_index s.bits 1))
+          (word_members Vector 0 64 (slice_index s.bits 2)),
       length-append (word_members Int 0 64 (slice_index s.bits 0)) (word_members Float 0 64 (slice_index s.bits 1)),
       a,
       b,

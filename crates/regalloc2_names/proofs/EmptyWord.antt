@@ -20,6 +20,7 @@ no_bits w fits none (inr ne) =
     let yes : nat_eq (bit_at w (trailing_zeros w64 w)) 1 ≡ true = eq-eqb _ _ t.1 in
     absurd cc
 
+-- the word of a class in a set is 0 exactly if the set has no register of that class
 pub empty_word : (s : PRegSet) (c : RegClass) → ((i : ℕ) → slice_index s.bits i < 18446744073709551616) →
     IsTrue (nat_eq (slice_index s.bits (tag_of the_type c)) 0) ↔ ((r : Register) → r.class ≡ c → has_register s r ≡ false)
 unfolding has_register

@@ -43,14 +43,16 @@ at_most w h n above e = by_order (cases_lt h n)
 no_bit : (n : ℕ) → nat_eq (bit_at 0 n) 1 ≡ true → ⊥
 no_bit n e = let z = bit_at-zero n in let one = eqb-true _ _ e in absurd (omega (arith, z, one))
 
-greatest_in : (s : PRegSet) → ((i : ℕ) → slice_index s.bits i < 18446744073709551616) → (h : ℕ) → ((n : ℕ) → h < n → bit_at (slice_index s.bits 2) n ≡ 0) → (c : RegClass) (n : ℕ) → n < 64 →
+greatest_in : (s : PRegSet) → ((i : ℕ) → slice_index s.bits i < 18446744073709551616) → (h : ℕ) → ((n : ℕ) → h < n → bit_at (slice_index s.bits 2) n ≡ 0) →
+    (c : RegClass) (n : ℕ) → n < 64 →
     nat_eq (bit_at (slice_index s.bits (class_code c)) n) 1 ≡ true → class_code c * 64 + n ≤ 128 + h
 greatest_in s fits h above Int n small e = omega arith
 greatest_in s fits h above Float n small e = omega arith
 greatest_in s fits h above Vector n small e = let l = at_most (slice_index s.bits 2) h n above e in omega arith
 
 -- the greatest register of a set is the highest of the last class that it has one of
-pub greatest_vector : (s : PRegSet) → ((i : ℕ) → slice_index s.bits i < 18446744073709551616) → (h : ℕ) → ((n : ℕ) → h < n → bit_at (slice_index s.bits 2) n ≡ 0) → (r : Register) → has_register s r ≡ true → bits_of_register r ≤ 128 + h
+pub greatest_vector : (s : PRegSet) → ((i : ℕ) → slice_index s.bits i < 18446744073709551616) → (h : ℕ) →
+    ((n : ℕ) → h < n → bit_at (slice_index s.bits 2) n ≡ 0) → (r : Register) → has_register s r ≡ true → bits_of_register r ≤ 128 + h
 unfolding has_register
 greatest_vector s fits h above r e = greatest_in s fits h above r.class r.number (has_register-small s fits r e) e
 
@@ -60,6 +62,8 @@ below_vector s z h above Int n small e = omega arith
 below_vector s z h above Float n small e = let l = at_most (slice_index s.bits 1) h n above e in omega arith
 below_vector s z h above Vector n small e = absurd (no_bit n (rw z at e))
 
-pub greatest_float : (s : PRegSet) → ((i : ℕ) → slice_index s.bits i < 18446744073709551616) → slice_index s.bits 2 ≡ 0 → (h : ℕ) → ((n : ℕ) → h < n → bit_at (slice_index s.bits 1) n ≡ 0) → (r : Register) → has_register s r ≡ true → bits_of_register r ≤ 64 + h
+-- in a set without Vector registers, and without Float ones above h, no member's index is above that of Float h
+pub greatest_float : (s : PRegSet) → ((i : ℕ) → slice_index s.bits i < 18446744073709551616) → slice_index s.bits 2 ≡ 0 → (h : ℕ) →
+    ((n : ℕ) → h < n → bit_at (slice_index s.bits 1) n ≡ 0) → (r : Register) → has_register s r ≡ true → bits_of_register r ≤ 64 + h
 unfolding has_register
 greatest_float s fits z h above r e = below_vector s z h above r.class r.number (has_register-small s fits r e) e

@@ -10,6 +10,7 @@ use Rattle.regalloc2_names.specs.declared.RegClass.TheVariants.{Int, Float, Vect
 use Rattle.regalloc2_names.specs.RegisterSet.{registers_of_words}
 use Rattle.regalloc2_names.specs.RegisterSet.{word_members}
 
+-- a word without bits has no members
 pub members_zero : (class : RegClass) (n k : ℕ) → word_members class k n 0 ≡ []
 unfolding word_members
 members_zero class zero k = refl
@@ -47,7 +48,8 @@ members_at class (suc n) k v w t low high one none below other =
 
 -- without its lowest bit
 pub members_lowest : (class : RegClass) (w : ℕ) → 0 < w → w < 2 ^ 64 →
-    word_members class 0 64 w ≡ record { number = trailing_zeros w64 w; class = class } ∷ word_members class 0 64 (bit_and w (18446744073709551615 - 1 * 2 ^ trailing_zeros w64 w % 18446744073709551616))
+    word_members class 0 64 w ≡ record { number = trailing_zeros w64 w; class = class } ∷ word_members class 0 64
+    (bit_and w (18446744073709551615 - 1 * 2 ^ trailing_zeros w64 w % 18446744073709551616))
 members_lowest class w some fits =
     let t = bit_at-trailing_zeros w64 w some fits in
     members_at class 64 0 w _ (trailing_zeros w64 w) (omega arith) t.0 t.1 (bit_at_clear_same w64 w _ t.0) t.2
@@ -59,16 +61,19 @@ pub left_int : (a b c w n : ℕ) → word_members Int 0 64 a ≡ record { number
 unfolding registers_of_words
 left_int a b c w n h = rw h refl
 
+-- where the Int word is 0, the first member of the Float word comes first in the set, and then come the others
 pub left_float : (a b c w n : ℕ) → a ≡ 0 → word_members Float 0 64 b ≡ record { number = n; class = Float } ∷ word_members Float 0 64 w →
     registers_of_words a b c ≡ record { number = n; class = Float } ∷ registers_of_words a w c
 unfolding registers_of_words
 left_float a b c w n e h = rw (e, members_zero Int 64 0, h) refl
 
+-- where the Int and Float words are 0, the first member of the Vector word comes first in the set, and then come the others
 pub left_vector : (a b c w n : ℕ) → a ≡ 0 → b ≡ 0 → word_members Vector 0 64 c ≡ record { number = n; class = Vector } ∷ word_members Vector 0 64 w →
     registers_of_words a b c ≡ record { number = n; class = Vector } ∷ registers_of_words a b w
 unfolding registers_of_words
 left_vector a b c w n e f h = rw (e, f, members_zero Int 64 0, members_zero Float 64 0, h) refl
 
+-- a set whose three words are 0 has no members
 pub left_none : (a b c : ℕ) → a ≡ 0 → b ≡ 0 → c ≡ 0 → registers_of_words a b c ≡ []
 unfolding registers_of_words
 left_none a b c e f g = rw (e, f, g, members_zero Int 64 0, members_zero Float 64 0, members_zero Vector 64 0) refl

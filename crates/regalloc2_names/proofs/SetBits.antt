@@ -1,5 +1,7 @@
 -- Registers in words of bits.
-use Rattle.std.proofs.Common.{ℕ, zero, suc, eqb-true, eq-eqb, ◌≡◌, ◌≢◌, ◌<◌, ◌≤◌, ◌+◌, ◌-◌, ◌*◌, ◌%◌, ◌^◌, min, max, refl, arith, bit_or, bit_and, sym, ap, length, List, [], ◌∷◌, Bool, true, false, not, nat_lt, ◌||◌, ◌&&◌, nat_eq, w64, slice_set, slice_index_or, get_or-set_same, get_or-set_other}
+use Rattle.std.proofs.Common.{ℕ, zero, suc, eqb-true, eq-eqb, ◌≡◌, ◌≢◌, ◌<◌, ◌≤◌, ◌+◌, ◌-◌, ◌*◌, ◌%◌, ◌^◌, min, max, refl, arith, bit_or, bit_and}
+use Rattle.std.proofs.Common.{sym, ap, length, List, [], ◌∷◌, Bool, true, false, not, nat_lt, ◌||◌, ◌&&◌, nat_eq, w64, slice_set, slice_index_or}
+use Rattle.std.proofs.Common.{get_or-set_same, get_or-set_other}
 use Rattle.std.specs.Prelude.{slice_index}
 use Rattle.std.specs.Int.{bit_at}
 use Rattle.std.proofs.lemmas.Bool.Decides.{nat_tests}
@@ -7,7 +9,8 @@ use Rattle.std.proofs.Math.Nat.{zero-mul, one-mul}
 use Rattle.regalloc2_names.specs.declared.RegClass.{RegClass}
 use Rattle.regalloc2_names.specs.declared.RegClass.TheVariants.{Int, Float, Vector}
 use Rattle.std.proofs.lemmas.Nat.{one_shl, pow_pos}
-use Rattle.std.proofs.lemmas.Nat.Bits.{and_pow, bit_at-lt, bit_at_set_same, bit_at_set_other, bit_at_clear_same, bit_at_clear_other, bit_at_or, bit_at_and, bit_at_above, bit_at_not, bit_at_ones, bit_at_ones_above}
+use Rattle.std.proofs.lemmas.Nat.Bits.{and_pow, bit_at-lt, bit_at_set_same, bit_at_set_other, bit_at_clear_same, bit_at_clear_other, bit_at_or}
+use Rattle.std.proofs.lemmas.Nat.Bits.{bit_at_and, bit_at_above, bit_at_not, bit_at_ones, bit_at_ones_above}
 use Rattle.std.proofs.lemmas.Nat.{and_le_l}
 use Rattle.std.proofs.lemmas.Bool.{cases_lt}
 use Rattle.std.proofs.Common.{inl, inr}
@@ -32,31 +35,40 @@ sets_by false w k j h e = ap (λ n. nat_eq n 1) (bit_at_set_other w64 w k h j (�
 pub sets_bit : (w k j : ℕ) → k < 64 → nat_eq (bit_at (bit_or w (1 * 2 ^ k % 18446744073709551616)) j) 1 ≡ nat_eq k j || nat_eq (bit_at w j) 1
 sets_bit w k j h = sets_by (nat_eq k j) w k j h refl
 
-clears_by : (b : Bool) (w k j : ℕ) → k < 64 → j < 64 → nat_eq k j ≡ b → nat_eq (bit_at (bit_and w (18446744073709551615 - 1 * 2 ^ k % 18446744073709551616)) j) 1 ≡ not b && nat_eq (bit_at w j) 1
+clears_by : (b : Bool) (w k j : ℕ) → k < 64 → j < 64 → nat_eq k j ≡ b →
+    nat_eq (bit_at (bit_and w (18446744073709551615 - 1 * 2 ^ k % 18446744073709551616)) j) 1 ≡ not b && nat_eq (bit_at w j) 1
 clears_by true w k j h g e = rw (sym (eqb-true k j e), bit_at_clear_same w64 w k h) refl
 clears_by false w k j h g e = ap (λ n. nat_eq n 1) (bit_at_clear_other w64 w k h j g (λ q. let f : nat_eq k j ≡ true = eq-eqb k j (sym q) in cc))
 
 -- a bit of a word with one bit cleared
-pub clears_bit : (w k j : ℕ) → k < 64 → j < 64 → nat_eq (bit_at (bit_and w (18446744073709551615 - 1 * 2 ^ k % 18446744073709551616)) j) 1 ≡ not (nat_eq k j) && nat_eq (bit_at w j) 1
+pub clears_bit : (w k j : ℕ) → k < 64 → j < 64 → nat_eq (bit_at (bit_and w (18446744073709551615 - 1 * 2 ^ k % 18446744073709551616)) j) 1 ≡ not (nat_eq k j)
+    && nat_eq (bit_at w j) 1
 clears_bit w k j h g = clears_by (nat_eq k j) w k j h g refl
 
-clears_sized : (w k j : ℕ) → w < 18446744073709551616 → k < 64 → ((j < 64) ⊎ (64 ≤ j)) → nat_eq (bit_at (bit_and w (18446744073709551615 - 1 * 2 ^ k % 18446744073709551616)) j) 1 ≡ not (nat_eq k j) && nat_eq (bit_at w j) 1
+clears_sized : (w k j : ℕ) → w < 18446744073709551616 → k < 64 → ((j < 64) ⊎ (64 ≤ j)) →
+    nat_eq (bit_at (bit_and w (18446744073709551615 - 1 * 2 ^ k % 18446744073709551616)) j) 1 ≡ not (nat_eq k j) && nat_eq (bit_at w j) 1
 clears_sized w k j fits h (inl l) = clears_bit w k j h l
 clears_sized w k j fits h (inr g) =
-    let less : bit_and w (18446744073709551615 - 1 * 2 ^ k % 18446744073709551616) < 18446744073709551616 = omega (arith, and_le_l w (18446744073709551615 - 1 * 2 ^ k % 18446744073709551616)) in
+    let less : bit_and w (18446744073709551615 - 1 * 2 ^ k % 18446744073709551616) < 18446744073709551616 = omega (
+      arith,
+      and_le_l w (18446744073709551615 - 1 * 2 ^ k % 18446744073709551616),
+    ) in
     let other : nat_eq k j ≡ false = grind (arith, nat_tests) in
     rw (bit_at_above w 64 j fits g, bit_at_above (bit_and w (18446744073709551615 - 1 * 2 ^ k % 18446744073709551616)) 64 j less g, other) refl
 
 -- the same for any number, where the word has 64 bits
-pub clears_any : (w k j : ℕ) → w < 18446744073709551616 → k < 64 → nat_eq (bit_at (bit_and w (18446744073709551615 - 1 * 2 ^ k % 18446744073709551616)) j) 1 ≡ not (nat_eq k j) && nat_eq (bit_at w j) 1
+pub clears_any : (w k j : ℕ) → w < 18446744073709551616 → k < 64 → nat_eq (bit_at (bit_and w (18446744073709551615 - 1 * 2 ^ k % 18446744073709551616)) j)
+    1 ≡ not (nat_eq k j) && nat_eq (bit_at w j) 1
 clears_any w k j fits h = clears_sized w k j fits h (cases_lt j 64)
 
+-- a bit is set in the union of two words exactly if it is set in either
 pub joins_bit : (v w j : ℕ) → nat_eq (bit_at (bit_or v w) j) 1 ≡ nat_eq (bit_at v j) 1 || nat_eq (bit_at w j) 1
 joins_bit v w j = rw (bit_at_or v w j) (larger _ _ (bit_at-lt v j) (bit_at-lt w j))
   where
     larger : (a b : ℕ) → a < 2 → b < 2 → nat_eq (max a b) 1 ≡ nat_eq a 1 || nat_eq b 1
     larger a b g h = grind (arith, nat_tests)
 
+-- a bit is set in the intersection of two words exactly if it is set in both
 pub meets_bit : (v w j : ℕ) → nat_eq (bit_at (bit_and v w) j) 1 ≡ nat_eq (bit_at v j) 1 && nat_eq (bit_at w j) 1
 meets_bit v w j = rw (bit_at_and v w j) (smaller _ _ (bit_at-lt v j) (bit_at-lt w j))
   where
@@ -65,7 +77,8 @@ meets_bit v w j = rw (bit_at_and v w j) (smaller _ _ (bit_at-lt v j) (bit_at-lt 
 
 -- the union of two sets
 pub words_join : (v w : List ℕ) (class : RegClass) (n : ℕ) →
-    words_have (bit_or (slice_index v 0) (slice_index w 0) ∷ bit_or (slice_index v 1) (slice_index w 1) ∷ bit_or (slice_index v 2) (slice_index w 2) ∷ []) (record { number = n; class = class })
+    words_have (bit_or (slice_index v 0) (slice_index w 0) ∷ bit_or (slice_index v 1) (slice_index w 1) ∷ bit_or (slice_index v 2) (slice_index w 2) ∷ [])
+    (record { number = n; class = class })
     ≡ words_have v (record { number = n; class = class }) || words_have w (record { number = n; class = class })
 words_join v w Int n = joins_bit (slice_index v 0) (slice_index w 0) n
 words_join v w Float n = joins_bit (slice_index v 1) (slice_index w 1) n
@@ -73,7 +86,8 @@ words_join v w Vector n = joins_bit (slice_index v 2) (slice_index w 2) n
 
 -- the intersection of two sets
 pub words_meet : (v w : List ℕ) (class : RegClass) (n : ℕ) →
-    words_have (bit_and (slice_index v 0) (slice_index w 0) ∷ bit_and (slice_index v 1) (slice_index w 1) ∷ bit_and (slice_index v 2) (slice_index w 2) ∷ []) (record { number = n; class = class })
+    words_have (bit_and (slice_index v 0) (slice_index w 0) ∷ bit_and (slice_index v 1) (slice_index w 1) ∷ bit_and (slice_index v 2) (slice_index w 2) ∷ [])
+    (record { number = n; class = class })
     ≡ words_have v (record { number = n; class = class }) && words_have w (record { number = n; class = class })
 words_meet v w Int n = meets_bit (slice_index v 0) (slice_index w 0) n
 words_meet v w Float n = meets_bit (slice_index v 1) (slice_index w 1) n
@@ -89,11 +103,14 @@ add_by false ws i k r hi hk e =
 
 -- one more register
 pub words_add : (ws : List ℕ) (i k : ℕ) (r : Register) → i < length ws → k < 64 →
-    words_have (slice_set ws i (bit_or (slice_index_or ws i 0) (1 * 2 ^ k % 18446744073709551616))) r ≡ nat_eq i (class_code r.class) && nat_eq k r.number || words_have ws r
+    words_have (slice_set ws i (bit_or (slice_index_or ws i 0) (1 * 2 ^ k % 18446744073709551616))) r ≡ nat_eq i (class_code r.class) && nat_eq k r.number
+    || words_have ws r
 words_add ws i k r hi hk = add_by (nat_eq i (class_code r.class)) ws i k r hi hk refl
 
-remove_by : (b : Bool) (ws : List ℕ) (i k : ℕ) (r : Register) → i < length ws → k < 64 → slice_index_or ws i 0 < 18446744073709551616 → nat_eq i (class_code r.class) ≡ b →
-    words_have (slice_set ws i (bit_and (slice_index_or ws i 0) (18446744073709551615 - 1 * 2 ^ k % 18446744073709551616))) r ≡ not (b && nat_eq k r.number) && words_have ws r
+remove_by : (b : Bool) (ws : List ℕ) (i k : ℕ) (r : Register) → i < length ws → k < 64 → slice_index_or ws i 0 < 18446744073709551616 →
+    nat_eq i (class_code r.class) ≡ b →
+    words_have (slice_set ws i (bit_and (slice_index_or ws i 0) (18446744073709551615 - 1 * 2 ^ k % 18446744073709551616))) r ≡ not (b && nat_eq k r.number)
+    && words_have ws r
 remove_by true ws i k r hi hk hr e = let q : i ≡ class_code r.class = eqb-true i (class_code r.class) e in
     rw (← q, get_or-set_same) (clears_any (slice_index_or ws i 0) k r.number hr hk)
 remove_by false ws i k r hi hk hr e =
@@ -102,7 +119,8 @@ remove_by false ws i k r hi hk hr e =
 
 -- one register fewer
 pub words_remove : (ws : List ℕ) (i k : ℕ) (r : Register) → i < length ws → k < 64 → slice_index_or ws i 0 < 18446744073709551616 →
-    words_have (slice_set ws i (bit_and (slice_index_or ws i 0) (18446744073709551615 - 1 * 2 ^ k % 18446744073709551616))) r ≡ not (nat_eq i (class_code r.class) && nat_eq k r.number) && words_have ws r
+    words_have (slice_set ws i (bit_and (slice_index_or ws i 0) (18446744073709551615 - 1 * 2 ^ k % 18446744073709551616)))
+    r ≡ not (nat_eq i (class_code r.class) && nat_eq k r.number) && words_have ws r
 words_remove ws i k r hi hk hr = remove_by (nat_eq i (class_code r.class)) ws i k r hi hk hr refl
 
 -- the words of the set of the others
@@ -112,8 +130,10 @@ inverts_bit w n fits small = rw (bit_at_not w64 w n fits small) (other (bit_at w
     other : (b : ℕ) → b < 2 → nat_eq (1 - b) 1 ≡ not (nat_eq b 1)
     other b h = grind (arith, nat_tests)
 
+-- the complements of three words have exactly the registers that the words don't have, of numbers below 64
 pub words_invert : (v : List ℕ) → ((i : ℕ) → slice_index v i < 2 ^ 64) → (class : RegClass) (n : ℕ) → n < 64 →
-    words_have ((18446744073709551615 - slice_index v 0) ∷ (18446744073709551615 - slice_index v 1) ∷ (18446744073709551615 - slice_index v 2) ∷ []) (record { number = n; class = class })
+    words_have ((18446744073709551615 - slice_index v 0) ∷ (18446744073709551615 - slice_index v 1) ∷ (18446744073709551615 - slice_index v 2) ∷ [])
+    (record { number = n; class = class })
     ≡ not (words_have v (record { number = n; class = class }))
 words_invert v fits Int n small = inverts_bit (slice_index v 0) n (fits 0) small
 words_invert v fits Float n small = inverts_bit (slice_index v 1) n (fits 1) small
@@ -147,8 +167,10 @@ words_up_int v t h Int n small =
 words_up_int v t h Float n small = let e : nat_lt (1 * 64 + n) (0 * 64 + t) ≡ false = grind (arith, nat_tests) in rw e refl
 words_up_int v t h Vector n small = let e : nat_lt (2 * 64 + n) (0 * 64 + t) ≡ false = grind (arith, nat_tests) in rw e refl
 
+-- setting all Int bits and the Float bits below t adds exactly the registers whose index is below that of Float t
 pub words_up_float : (v : List ℕ) (t : ℕ) → t < 64 → (class : RegClass) (n : ℕ) → n < 64 →
-    words_have (18446744073709551615 ∷ bit_or (slice_index v 1) (1 * 2 ^ t % 18446744073709551616 - 1) ∷ slice_index v 2 ∷ []) (record { number = n; class = class })
+    words_have (18446744073709551615 ∷ bit_or (slice_index v 1) (1 * 2 ^ t % 18446744073709551616 - 1) ∷ slice_index v 2 ∷ [])
+    (record { number = n; class = class })
     ≡ nat_lt (class_code class * 64 + n) (1 * 64 + t) || words_have v (record { number = n; class = class })
 words_up_float v t h Int n small = let e : nat_lt (0 * 64 + n) (1 * 64 + t) ≡ true = grind (arith, nat_tests) in rw e (all_bits n small)
 words_up_float v t h Float n small =
@@ -156,8 +178,10 @@ words_up_float v t h Float n small =
     rw e (low_bits (slice_index v 1) t n h)
 words_up_float v t h Vector n small = let e : nat_lt (2 * 64 + n) (1 * 64 + t) ≡ false = grind (arith, nat_tests) in rw e refl
 
+-- setting all Int and Float bits and the Vector bits below t adds exactly the registers whose index is below that of Vector t
 pub words_up_vector : (v : List ℕ) (t : ℕ) → t < 64 → (class : RegClass) (n : ℕ) → n < 64 →
-    words_have (18446744073709551615 ∷ 18446744073709551615 ∷ bit_or (slice_index v 2) (1 * 2 ^ t % 18446744073709551616 - 1) ∷ []) (record { number = n; class = class })
+    words_have (18446744073709551615 ∷ 18446744073709551615 ∷ bit_or (slice_index v 2) (1 * 2 ^ t % 18446744073709551616 - 1) ∷ [])
+    (record { number = n; class = class })
     ≡ nat_lt (class_code class * 64 + n) (2 * 64 + t) || words_have v (record { number = n; class = class })
 words_up_vector v t h Int n small = let e : nat_lt (0 * 64 + n) (2 * 64 + t) ≡ true = grind (arith, nat_tests) in rw e (all_bits n small)
 words_up_vector v t h Float n small = let e : nat_lt (1 * 64 + n) (2 * 64 + t) ≡ true = grind (arith, nat_tests) in rw e (all_bits n small)

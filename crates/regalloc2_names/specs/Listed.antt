@@ -1,5 +1,6 @@
 -- The walk over a set lists each of its registers once, by rising index.
-use Rattle.std.specs.Prelude.{ℕ, zero, suc, ◌≡◌, ◌≢◌, ◌<◌, ◌≤◌, ◌+◌, ◌*◌, refl, Bool, true, false, cond, nat_eq, List, [], ◌∷◌, ◌++◌, length, Contains, slice_index, slice_index_or, ◌⊎◌, ◌↔◌}
+use Rattle.std.specs.Prelude.{ℕ, zero, suc, ◌≡◌, ◌≢◌, ◌<◌, ◌≤◌, ◌+◌, ◌*◌, refl, Bool, true, false, cond, nat_eq, List, [], ◌∷◌, ◌++◌, length}
+use Rattle.std.specs.Prelude.{Contains, slice_index, slice_index_or, ◌⊎◌, ◌↔◌}
 use Rattle.std.specs.Int.{bit_at}
 use Rattle.std.proofs.Common.{arith, eqb-true, eq-eqb, inl, inr}
 use Rattle.std.proofs.lemmas.Bool.{cases_eq, cases_lt}
@@ -31,7 +32,8 @@ unfolding RisesWithin
 rises-wider l low [] high le h = omega arith
 rises-wider l low (x ∷ xs) high le h = (omega arith, h.1)
 
-rises-append : (low : ℕ) (xs : List Register) (mid : ℕ) (ys : List Register) (high : ℕ) → RisesWithin low xs mid → RisesWithin mid ys high → RisesWithin low (xs ++ ys) high
+rises-append : (low : ℕ) (xs : List Register) (mid : ℕ) (ys : List Register) (high : ℕ) → RisesWithin low xs mid → RisesWithin mid ys high →
+    RisesWithin low (xs ++ ys) high
 unfolding RisesWithin
 rises-append low [] mid ys high h g = rises-wider low mid ys high h g
 rises-append low (x ∷ xs) mid ys high h g = (h.0, rises-append (bits_of_register x + 1) xs mid ys high h.1 g)
@@ -52,7 +54,8 @@ IsRising-from low (x ∷ xs) high h (suc i) zero d ij less = absurd (omega arith
 IsRising-from low (x ∷ xs) high h (suc i) (suc j) d ij less = IsRising-from (bits_of_register x + 1) xs high h.1 i j d (omega arith) (omega arith)
 
 -- one word
-rises_step : (b : Bool) (class : RegClass) (k : ℕ) (xs : List Register) (high : ℕ) → RisesWithin (class_code class * 64 + (k + 1)) xs high → RisesWithin (class_code class * 64 + k) (cond b (record { number = k; class = class } ∷ xs) xs) high
+rises_step : (b : Bool) (class : RegClass) (k : ℕ) (xs : List Register) (high : ℕ) → RisesWithin (class_code class * 64 + (k + 1)) xs high →
+    RisesWithin (class_code class * 64 + k) (cond b (record { number = k; class = class } ∷ xs) xs) high
 unfolding RisesWithin
 rises_step true class k xs high h = (omega arith, rises-wider (class_code class * 64 + k + 1) (class_code class * 64 + (k + 1)) xs high (omega arith) h)
 rises_step false class k xs high h = rises-wider (class_code class * 64 + k) (class_code class * 64 + (k + 1)) xs high (omega arith) h
@@ -83,10 +86,12 @@ here : (b : Bool) (x : Register) (xs : List Register) → b ≡ true → Contain
 here true x xs e = (0, omega arith, refl)
 here false x xs e = absurd cc
 
-listed_step : (class : RegClass) (n k w j : ℕ) → ((k ≡ j) ⊎ (k ≢ j)) → k ≤ j → bit_at w j ≡ 1 → (k < j → Contains (word_members class (k + 1) n w) (record { number = j; class = class })) →
+listed_step : (class : RegClass) (n k w j : ℕ) → ((k ≡ j) ⊎ (k ≢ j)) → k ≤ j → bit_at w j ≡ 1 →
+    (k < j → Contains (word_members class (k + 1) n w) (record { number = j; class = class })) →
     Contains (word_members class k (suc n) w) (record { number = j; class = class })
 unfolding word_members
-listed_step class n k w j (inl e) low one further = rw (← e) (here (nat_eq (bit_at w k) 1) (record { number = k; class = class }) (word_members class (k + 1) n w) (eq-eqb _ _ (rw e one)))
+listed_step class n k w j (inl e) low one further =
+    rw (← e) (here (nat_eq (bit_at w k) 1) (record { number = k; class = class }) (word_members class (k + 1) n w) (eq-eqb _ _ (rw e one)))
 listed_step class n k w j (inr ne) low one further = past (nat_eq (bit_at w k) 1) _ _ _ (further (omega arith))
 
 listed : (class : RegClass) (n k w j : ℕ) → k ≤ j → j < k + n → bit_at w j ≡ 1 → Contains (word_members class k n w) (record { number = j; class = class })
@@ -101,7 +106,8 @@ pub record IsBitOf (class : RegClass) (k n w : ℕ) (r : Register) : Type 0 wher
   pub high : r.number < k + n
   pub set : bit_at w r.number ≡ 1
 
-bit_step : (b : Bool) (class : RegClass) (n k w : ℕ) (xs : List Register) (r : Register) → nat_eq (bit_at w k) 1 ≡ b → (Contains xs r → IsBitOf class (k + 1) n w r) →
+bit_step : (b : Bool) (class : RegClass) (n k w : ℕ) (xs : List Register) (r : Register) → nat_eq (bit_at w k) 1 ≡ b →
+    (Contains xs r → IsBitOf class (k + 1) n w r) →
     Contains (cond b (record { number = k; class = class } ∷ xs) xs) r → IsBitOf class k (suc n) w r
 bit_step true class n k w xs r e further (zero, less, at) =
     rw (← at) (record { class_is = refl; low = omega arith; high = omega arith; set = eqb-true _ _ e })
@@ -117,14 +123,20 @@ bits_listed class (suc n) k w r h =
     bit_step (nat_eq (bit_at w k) 1) class n k w (word_members class (k + 1) n w) r refl (bits_listed class n (k + 1) w r) h
 
 -- a register with a number of six bits is in a set exactly where the walk lists it
-listed_in : (s : PRegSet) (c : RegClass) (n : ℕ) → n < 64 → nat_eq (bit_at (slice_index s.bits (class_code c)) n) 1 ≡ true → Contains (registers_of s) (record { number = n; class = c })
+listed_in : (s : PRegSet) (c : RegClass) (n : ℕ) → n < 64 → nat_eq (bit_at (slice_index s.bits (class_code c)) n) 1 ≡ true →
+    Contains (registers_of s) (record { number = n; class = c })
 unfolding registers_of_words
 listed_in s Int n small h =
-    Contains-append_left (word_members Int 0 64 (slice_index s.bits 0) ++ word_members Float 0 64 (slice_index s.bits 1)) (word_members Vector 0 64 (slice_index s.bits 2)) _ (Contains-append_left (word_members Int 0 64 (slice_index s.bits 0)) (word_members Float 0 64 (slice_index s.bits 1)) _ (listed Int 64 0 (slice_index s.bits 0) n (omega arith) (omega arith) (eqb-true _ _ h)))
+    Contains-append_left (word_members Int 0 64 (slice_index s.bits 0) ++ word_members Float 0 64 (slice_index s.bits 1))
+    (word_members Vector 0 64 (slice_index s.bits 2)) _ (Contains-append_left (word_members Int 0 64 (slice_index s.bits 0))
+    (word_members Float 0 64 (slice_index s.bits 1)) _ (listed Int 64 0 (slice_index s.bits 0) n (omega arith) (omega arith) (eqb-true _ _ h)))
 listed_in s Float n small h =
-    Contains-append_left (word_members Int 0 64 (slice_index s.bits 0) ++ word_members Float 0 64 (slice_index s.bits 1)) (word_members Vector 0 64 (slice_index s.bits 2)) _ (Contains-append_right (word_members Int 0 64 (slice_index s.bits 0)) (word_members Float 0 64 (slice_index s.bits 1)) _ (listed Float 64 0 (slice_index s.bits 1) n (omega arith) (omega arith) (eqb-true _ _ h)))
+    Contains-append_left (word_members Int 0 64 (slice_index s.bits 0) ++ word_members Float 0 64 (slice_index s.bits 1))
+    (word_members Vector 0 64 (slice_index s.bits 2)) _ (Contains-append_right (word_members Int 0 64 (slice_index s.bits 0))
+    (word_members Float 0 64 (slice_index s.bits 1)) _ (listed Float 64 0 (slice_index s.bits 1) n (omega arith) (omega arith) (eqb-true _ _ h)))
 listed_in s Vector n small h =
-    Contains-append_right (word_members Int 0 64 (slice_index s.bits 0) ++ word_members Float 0 64 (slice_index s.bits 1)) (word_members Vector 0 64 (slice_index s.bits 2)) _ (listed Vector 64 0 (slice_index s.bits 2) n (omega arith) (omega arith) (eqb-true _ _ h))
+    Contains-append_right (word_members Int 0 64 (slice_index s.bits 0) ++ word_members Float 0 64 (slice_index s.bits 1))
+    (word_members Vector 0 64 (slice_index s.bits 2)) _ (listed Vector 64 0 (slice_index s.bits 2) n (omega arith) (omega arith) (eqb-true _ _ h))
 
 pub is_listed : (s : PRegSet) (r : Register) → r.number < 64 → has_register s r ≡ true → Contains (registers_of s) r
 unfolding has_register
@@ -136,13 +148,16 @@ set_in s r c h = (omega (arith, h.high), rw (h.class_is, h.set) refl)
 
 pub listed_is : (s : PRegSet) (r : Register) → Contains (registers_of s) r → (r.number < 64) × (has_register s r ≡ true)
 unfolding registers_of_words
-listed_is s r h = by_word (Contains-append_cases (word_members Int 0 64 (slice_index s.bits 0) ++ word_members Float 0 64 (slice_index s.bits 1)) (word_members Vector 0 64 (slice_index s.bits 2)) r h)
+listed_is s r h = by_word (Contains-append_cases (word_members Int 0 64 (slice_index s.bits 0) ++ word_members Float 0 64 (slice_index s.bits 1))
+    (word_members Vector 0 64 (slice_index s.bits 2)) r h)
   where
-    by_two : Contains (word_members Int 0 64 (slice_index s.bits 0)) r ⊎ Contains (word_members Float 0 64 (slice_index s.bits 1)) r → (r.number < 64) × (has_register s r ≡ true)
+    by_two : Contains (word_members Int 0 64 (slice_index s.bits 0)) r ⊎ Contains (word_members Float 0 64 (slice_index s.bits 1)) r → (r.number < 64)
+        × (has_register s r ≡ true)
     by_two (inl g) = set_in s r Int (bits_listed Int 64 0 _ r g)
     by_two (inr g) = set_in s r Float (bits_listed Float 64 0 _ r g)
 
-    by_word : Contains (word_members Int 0 64 (slice_index s.bits 0) ++ word_members Float 0 64 (slice_index s.bits 1)) r ⊎ Contains (word_members Vector 0 64 (slice_index s.bits 2)) r → (r.number < 64) × (has_register s r ≡ true)
+    by_word : Contains (word_members Int 0 64 (slice_index s.bits 0) ++ word_members Float 0 64 (slice_index s.bits 1)) r
+        ⊎ Contains (word_members Vector 0 64 (slice_index s.bits 2)) r → (r.number < 64) × (has_register s r ≡ true)
     by_word (inl g) = by_two (Contains-append_cases (word_members Int 0 64 (slice_index s.bits 0)) (word_members Float 0 64 (slice_index s.bits 1)) r g)
     by_word (inr g) = set_in s r Vector (bits_listed Vector 64 0 _ r g)
 
@@ -156,7 +171,8 @@ has_register-small s fits r h = by_size (cases_lt r.number 64)
   where
     by_size : (r.number < 64) ⊎ (64 ≤ r.number) → r.number < 64
     by_size (inl l) = l
-    by_size (inr g) = let z = bit_at_above (slice_index s.bits (class_code r.class)) 64 r.number (fits (class_code r.class)) g in absurd (let one = eqb-true _ _ h in omega (arith, z, one))
+    by_size (inr g) = let z = bit_at_above (slice_index s.bits (class_code r.class)) 64 r.number (fits (class_code r.class)) g in
+        absurd (let one = eqb-true _ _ h in omega (arith, z, one))
 
 -- what the walk over a set gives: its registers by rising index, each once
 pub record IsWalkOf (s : PRegSet) (xs : List Register) : Type 0 where

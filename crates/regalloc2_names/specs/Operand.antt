@@ -1,9 +1,11 @@
 -- Operands, as contracts see them.
-use Rattle.std.specs.Prelude.{nat_eq, Option, None, Some, if◌then◌else◌}
+use Rattle.std.specs.Prelude.{Bool, true, false, not, ◌&&◌, nat_eq, Option, None, Some, if◌then◌else◌}
 use Rattle.regalloc2_names.specs.declared.OperandConstraint.{OperandConstraint}
 use Rattle.regalloc2_names.specs.declared.OperandConstraint.TheVariants.{Any, Reg, Stack, FixedReg, Reuse, Limit}
 use Rattle.regalloc2_names.specs.declared.OperandKind.{OperandKind}
+use Rattle.regalloc2_names.specs.declared.OperandKind.TheVariants.{Def, Use}
 use Rattle.regalloc2_names.specs.declared.OperandPos.{OperandPos}
+use Rattle.regalloc2_names.specs.declared.OperandPos.TheVariants.{Early, Late}
 use Rattle.regalloc2_names.specs.Register.{Register, VirtualRegister}
 
 -- what an instruction does with a virtual register
@@ -25,3 +27,30 @@ fixed_register (Limit n) = None
 -- the register of an operand that names one and no virtual register, which the greatest number marks
 abbrev pub nonallocatable_register : OperandValue → Option Register
 nonallocatable_register o = if nat_eq o.vreg.number 1073741823 then fixed_register o.constraint else None
+
+-- it is written, not read
+abbrev pub is_def : OperandKind → Bool
+is_def Def = true
+is_def Use = false
+
+-- it is read or written at the end of its instruction
+abbrev pub is_late : OperandPos → Bool
+is_late Early = false
+is_late Late = true
+
+-- it asks for a register by name
+abbrev pub is_fixed : OperandConstraint → Bool
+is_fixed Any = false
+is_fixed Reg = false
+is_fixed Stack = false
+is_fixed (FixedReg r) = true
+is_fixed (Reuse n) = false
+is_fixed (Limit n) = false
+
+-- the operand names a register that is not allocated, and no virtual register
+abbrev pub is_fixed_nonallocatable : OperandValue → Bool
+is_fixed_nonallocatable o = is_fixed o.constraint && nat_eq o.vreg.number 1073741823
+
+-- the operand reads its virtual register
+abbrev pub is_reading : OperandValue → Bool
+is_reading o = not (is_def o.kind) && not (is_fixed_nonallocatable o)

@@ -14,7 +14,8 @@ use Rattle.regalloc2_names.specs.declared.OperandPos.TheVariants.{Early, Late}
 use Rattle.regalloc2_names.specs.declared.RegClass.{RegClass}
 use Rattle.regalloc2_names.specs.declared.RegClass.TheVariants.{Int, Float, Vector}
 use Rattle.regalloc2_names.specs.Operand.{OperandValue}
-pub use Rattle.regalloc2_names.specs.RegisterBits.{IsRegisterIndex, IsVRegBits, register_of_bits, bits_of_register, vreg_of_bits, bits_of_vreg, class_code-class_of_code, bits_of_vreg-vreg_of_bits, bits_of_register-register_of_bits}
+pub use Rattle.regalloc2_names.specs.RegisterBits.{IsRegisterIndex, IsVRegBits, register_of_bits, bits_of_register, vreg_of_bits, bits_of_vreg}
+pub use Rattle.regalloc2_names.specs.RegisterBits.{class_code-class_of_code, bits_of_vreg-vreg_of_bits, bits_of_register-register_of_bits}
 pub use Rattle.regalloc2_names.specs.PlaceBits.{IsPlaceBits, place_of_bits, bits_of_place, index_of_place, bits_of_place-place_of_bits}
 use Rattle.regalloc2_names.specs.Register.{class_code, class_of_code, Register}
 
@@ -37,7 +38,8 @@ kind_code Use = 1
 
 -- the exponent of a limit, which is a power of two up to 64
 abbrev pub limit_code : ℕ → ℕ
-limit_code n = if nat_lt n 2 then 0 else if nat_lt n 4 then 1 else if nat_lt n 8 then 2 else if nat_lt n 16 then 3 else if nat_lt n 32 then 4 else if nat_lt n 64 then 5 else 6
+limit_code n = if nat_lt n 2 then 0 else if nat_lt n 4 then 1 else if nat_lt n 8 then 2 else if nat_lt n 16 then 3 else if nat_lt n 32 then 4 else if nat_lt n
+    64 then 5 else 6
 
 abbrev pub plain_constraint : ℕ → OperandConstraint
 plain_constraint zero = Any
@@ -219,7 +221,17 @@ unfolding bits_of_operand operand_of_bits
 operand_of_bits-bits_of_operand o h =
     let f = fields o.vreg.number (class_code o.vreg.class) (position_code o.position) (kind_code o.kind) (constraint_code o.constraint)
     (omega arith) (omega (arith, class_code-lt o.vreg.class)) (position_code-lt o.position) (kind_code-lt o.kind) in
-    rw (f.0, f.1, f.2, f.3, f.4, class_of_code-class_code o.vreg.class, position_forth o.position, kind_forth o.kind, constraint_forth o.vreg.class o.constraint h.1) refl
+    rw (
+      f.0,
+      f.1,
+      f.2,
+      f.3,
+      f.4,
+      class_of_code-class_code o.vreg.class,
+      position_forth o.position,
+      kind_forth o.kind,
+      constraint_forth o.vreg.class o.constraint h.1,
+    ) refl
 
 -- what a code stands for is a constraint of the class
 plain_is : (class : RegClass) (n : ℕ) → IsConstraintOf class (plain_constraint n)

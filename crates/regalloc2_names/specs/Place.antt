@@ -2,7 +2,9 @@
 use Rattle.std.specs.Prelude.{ℕ, ◌≡◌, ◌≤◌, ◌⊎◌, Option, None, Some, Bool, true, false, nat_eq}
 use Rattle.regalloc2_names.specs.declared.AllocationKind.{AllocationKind}
 use Rattle.regalloc2_names.specs.declared.AllocationKind.TheVariants.{None as NoKind, Reg as RegKind, Stack as StackKind}
+use Rattle.regalloc2_names.specs.declared.sets.PRegSet.{PRegSet}
 use Rattle.regalloc2_names.specs.Register.{Register, is_register}
+use Rattle.regalloc2_names.specs.RegisterSet.{has_register}
 
 -- where a value may stand: nowhere, in a register, or in a spill slot
 pub data Place : Type 0 where
@@ -40,6 +42,12 @@ abbrev pub is_in_slot : Place → Bool
 is_in_slot NoPlace = false
 is_in_slot (InRegister r) = false
 is_in_slot (InSlot n) = true
+
+-- a place in memory: a slot, or a register that stands for a fixed stack slot
+abbrev pub is_memory : PRegSet → Place → Bool
+is_memory fixed_stack NoPlace = false
+is_memory fixed_stack (InRegister r) = has_register fixed_stack r
+is_memory fixed_stack (InSlot n) = true
 
 -- two names of one place
 abbrev pub is_place : Place → Place → Bool

@@ -17,7 +17,8 @@ has_register s r = words_have s.bits r
 -- the registers of a class whose bits are set in a word, from a number on
 unfoldable pub word_members : RegClass → ℕ → ℕ → ℕ → List Register
 word_members class k zero w = []
-word_members class k (suc n) w = cond (nat_eq (bit_at w k) 1) (record { number = k; class = class } ∷ word_members class (k + 1) n w) (word_members class (k + 1) n w)
+word_members class k (suc n) w = cond (nat_eq (bit_at w k) 1) (record { number = k; class = class } ∷ word_members class (k + 1) n w)
+    (word_members class (k + 1) n w)
 
 -- the registers of three words, one for each class, by rising index
 unfoldable pub registers_of_words : ℕ → ℕ → ℕ → List Register

@@ -8,7 +8,8 @@ use Rattle.regalloc2_names.specs.declared.OperandKind.TheVariants.{Def, Use}
 use Rattle.regalloc2_names.specs.declared.OperandPos.{OperandPos}
 use Rattle.regalloc2_names.specs.declared.OperandPos.TheVariants.{Early, Late}
 use Rattle.regalloc2_names.specs.declared.RegAllocError.{RegAllocError}
-use Rattle.regalloc2_names.specs.declared.RegAllocError.TheVariants.{CritEdge, SSA, BB, Branch, EntryLivein, DisallowedBranchArg, TooManyLiveRegs, TooManyOperands, Unsupported, TooManySpillSlots, Memory}
+use Rattle.regalloc2_names.specs.declared.RegAllocError.TheVariants.{CritEdge, SSA, BB, Branch, EntryLivein, DisallowedBranchArg, TooManyLiveRegs}
+use Rattle.regalloc2_names.specs.declared.RegAllocError.TheVariants.{TooManyOperands, Unsupported, TooManySpillSlots, Memory}
 use Rattle.regalloc2_names.specs.declared.RegClass.{RegClass}
 use Rattle.regalloc2_names.specs.declared.RegClass.TheVariants.{Int, Float, Vector}
 use Rattle.regalloc2_names.specs.declared.InstPosition.{InstPosition}
@@ -88,7 +89,8 @@ class_name Vector = codes "Vector"
 
 -- as PReg(hw = 3, class = Int, index = 3)
 abbrev pub register_debug_text : Register → List ℕ
-register_debug_text r = codes "PReg(hw = " ++ decimal r.number ++ codes ", class = " ++ class_name r.class ++ codes ", index = " ++ decimal (bits_of_register r) ++ codes ")"
+register_debug_text r = codes "PReg(hw = " ++ decimal r.number ++ codes ", class = " ++ class_name r.class ++ codes ", index = " ++ decimal (bits_of_register r)
+    ++ codes ")"
 
 -- as VReg(vreg = 7, class = Int)
 abbrev pub vreg_debug_text : VirtualRegister → List ℕ

@@ -1,7 +1,7 @@
 //! Operands of instructions.
 
 ghost use Rattle.std.specs.Prelude.{None, Some, ◌≡◌, ℕ, ◌%◌, ◌<◌, ◌≤◌, ◌↔◌, IsTrue};
-ghost use Rattle.regalloc2_names.specs.Operand.{nonallocatable_register};
+ghost use Rattle.regalloc2_names.specs.Operand.{is_def, is_late, is_reading, nonallocatable_register};
 ghost use Rattle.regalloc2_names.specs.Packing.{IsConstraintOf, IsOperand, IsOperandBits, bits_of_operand, constraint_code, operand_of_bits};
 
 use super::{OperandConstraint, OperandKind, OperandPos, PReg, RegClass, VReg};
@@ -201,7 +201,12 @@ impl Operand {
     /// A use of that register, which need not be one that may be allocated. It reads no virtual register, which
     /// the number `VReg::MAX` marks.
     pub fn fixed_nonallocatable(preg: PReg) -> Self
-        ensures operand { result ≡ record { vreg = record { number = VReg.MAX; class = preg.class }; constraint = OperandConstraint.FixedReg preg; kind = OperandKind.Use; position = OperandPos.Early } }
+        ensures operand { result ≡ record {
+          vreg = record { number = VReg.MAX; class = preg.class };
+          constraint = OperandConstraint.FixedReg preg;
+          kind = OperandKind.Use;
+          position = OperandPos.Early;
+        } }
         ensures marked { nonallocatable_register result ≡ Some preg }
     {
         Operand::new(
@@ -288,6 +293,29 @@ impl Operand {
             OperandConstraint::FixedReg(preg) if self.vreg().vreg() == VReg::MAX => Some(preg),
             _ => None,
         }
+    }
+
+    /// Whether the operand writes its virtual register.
+    pub fn is_def(self) -> bool
+        ensures { result ≡ is_def self.kind }
+    {
+        self.kind() == OperandKind::Def
+    }
+
+    /// Whether the operand reads its virtual register. A use does, but for one that names a register that isn't
+    /// allocated (`as_fixed_nonallocatable`).
+    pub fn is_reading(self) -> bool
+        ensures { result ≡ is_reading self }
+    {
+        let fixed = matches!(self.constraint(), OperandConstraint::FixedReg(_));
+        self.kind() == OperandKind::Use && !(fixed && self.vreg().vreg() == VReg::MAX)
+    }
+
+    /// Whether the operand is read or written at the end of its instruction.
+    pub fn is_late(self) -> bool
+        ensures { result ≡ is_late self.position }
+    {
+        self.pos() == OperandPos::Late
     }
 
     /// The word that holds the operand, and gives it back.

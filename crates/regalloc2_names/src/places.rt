@@ -2,9 +2,10 @@
 
 ghost use Rattle.std.specs.Prelude.{None, Some, false, ◌≡◌, ℕ, ◌+◌, ◌%◌, ◌<◌, ◌≤◌, ◌↔◌, IsTrue};
 ghost use Rattle.regalloc2_names.specs.PlaceBits.{IsPlaceBits, bits_of_place, index_of_place, place_of_bits};
-ghost use Rattle.regalloc2_names.specs.Place.{NoPlace, InRegister, InSlot, invalid_slot, is_in_register, is_in_slot, is_no_place, kind_of_place, register_of_place, slot_of_place};
+ghost use Rattle.regalloc2_names.specs.Place.{NoPlace, InRegister, InSlot, invalid_slot, is_in_register, is_in_slot, is_memory, is_no_place};
+ghost use Rattle.regalloc2_names.specs.Place.{kind_of_place, register_of_place, slot_of_place};
 
-use super::{AllocationKind, PReg};
+use super::{AllocationKind, PReg, PRegSet};
 use std::marker::Model;
 
 /// A spill slot, which a contract sees as its number: at most `SpillSlot::MAX`, or that of the invalid slot.
@@ -168,6 +169,16 @@ impl Allocation {
         ensures { result ≡ is_in_slot self }
     {
         self.kind() == AllocationKind::Stack
+    }
+
+    /// Whether it is in memory: a spill slot, or one of the registers that stand for fixed stack slots.
+    pub fn is_memory(self, fixed_stack: PRegSet) -> bool
+        ensures { result ≡ is_memory fixed_stack self }
+    {
+        match self.as_reg() {
+            Some(preg) => fixed_stack.contains(preg),
+            None => self.is_some(),
+        }
     }
 
     /// The index of the register or the number of the slot; 0 where there is no place.

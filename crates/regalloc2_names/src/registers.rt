@@ -2,10 +2,20 @@
 
 ghost use Rattle.std.specs.Prelude.{◌≡◌, ◌≢◌, ℕ, ◌<◌, ◌≤◌, ◌↔◌, IsTrue, MatchOption};
 ghost use Rattle.regalloc2_names.specs.RegisterBits.{IsRegisterIndex, bits_of_register, register_of_bits};
-ghost use Rattle.regalloc2_names.specs.Register.{IsRegister, invalid_register};
+ghost use Rattle.regalloc2_names.specs.Register.{IsRegister, class_code, invalid_register};
 
 use super::RegClass;
 use std::marker::Model;
+
+impl RegClass {
+    /// The number of the class, 0 to 2, by which tables of one item for each class are indexed.
+    pub fn code(self) -> usize
+        ensures code { result ≡ class_code self }
+        ensures small { result < 3 }
+    {
+        self as usize
+    }
+}
 
 /// A hardware register: a number from 0 to 63 in the register file of a class.
 ///

@@ -2,7 +2,8 @@
 
 ghost use Rattle.std.specs.Prelude.{Some, ◌≡◌};
 ghost use Rattle.regalloc2_names.specs.RegisterSet.{registers_of};
-ghost use Rattle.regalloc2_names.specs.Text.{class_letter, class_name, constraint_text, kind_text, operand_text, place_text, point_debug_text, register_debug_text, register_text, set_text, slot_text, vreg_debug_text, vreg_text};
+ghost use Rattle.regalloc2_names.specs.Text.{class_letter, class_name, constraint_text, kind_text, operand_text, place_text, point_debug_text};
+ghost use Rattle.regalloc2_names.specs.Text.{register_debug_text, register_text, set_text, slot_text, vreg_debug_text, vreg_text};
 
 use super::{
     Allocation, InstPosition, Operand, OperandConstraint, OperandKind, OperandPos, PReg, PRegSet,

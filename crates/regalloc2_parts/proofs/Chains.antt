@@ -1,5 +1,6 @@
 -- Lemmas on chains of moves, each followed by the one that writes what it reads.
-use Rattle.std.proofs.Common.{◌≡◌, ℕ, ◌+◌, ◌<◌, Bool, true, false, List, [], ◌∷◌, ◌++◌, length, set, ◌⊎◌, get_or-set_same, get_or-set_other, refl, sym, ap, ◌∙◌, subst, inl, inr, ⊎_elim, arith}
+use Rattle.std.proofs.Common.{◌≡◌, ℕ, ◌+◌, ◌<◌, Bool, true, false, List, [], ◌∷◌, ◌++◌, length, set, ◌⊎◌, get_or-set_same, get_or-set_other, refl}
+use Rattle.std.proofs.Common.{sym, ap, ◌∙◌, subst, inl, inr, ⊎_elim, arith}
 use Rattle.std.proofs.lemmas.Grind.{common_steps}
 use Rattle.std.proofs.lemmas.Bool.{cases_eq, cases_lt}
 use Rattle.std.proofs.lemmas.List.{get_or_append_left}
@@ -8,6 +9,7 @@ use Rattle.regalloc2_parts.specs.declared.moves.order.State.{State}
 use Rattle.regalloc2_parts.specs.declared.moves.order.State.TheVariants.{Todo, Pending, Done}
 use Rattle.regalloc2_parts.specs.Giving.{from_at, to_at, state_at, number_at, AreApart, AreNexts, IsNextDone, LeadsTo, IsChain, HasGoneOn, IsSettled}
 
+-- whether a move is in the state `Todo`, neither on the chain nor emitted
 unfoldable pub is_todo : State → Bool
 is_todo Todo = true
 is_todo Pending = false
@@ -18,48 +20,60 @@ is_done Todo = false
 is_done Pending = false
 is_done Done = true
 
+-- no state is both `Todo` and `Pending`
 pub todo_pending : (s : State) → s ≡ Todo → s ≡ Pending → ⊥
 unfolding is_todo
 todo_pending s e f = let x : true ≡ false = sym (ap is_todo e) ∙ ap is_todo f in grind arith
 
+-- no state is both `Pending` and `Done`
 pub pending_done : (s : State) → s ≡ Pending → s ≡ Done → ⊥
 unfolding is_done
 pending_done s e f = let x : false ≡ true = sym (ap is_done e) ∙ ap is_done f in grind arith
 
+-- no state is both `Todo` and `Done`
 pub todo_done : (s : State) → s ≡ Todo → s ≡ Done → ⊥
 unfolding is_done
 todo_done s e f = let x : false ≡ true = sym (ap is_done e) ∙ ap is_done f in grind arith
 
+-- a state that is neither `Todo` nor `Pending` is `Done`
 pub is_done_else : (s : State) → (s ≡ Todo → ⊥) → (s ≡ Pending → ⊥) → s ≡ Done
 is_done_else Todo n m = absurd (n refl)
 is_done_else Pending n m = absurd (m refl)
 is_done_else Done n m = refl
 
+-- the number that is pushed on a list is found at the list's old length
 pub at_end : (xs : List ℕ) (k : ℕ) → number_at (xs ++ k ∷ []) (length xs) ≡ k
 at_end [] k = refl
 at_end (x ∷ xs) k = at_end xs k
 
+-- a list on which a number is pushed is one longer
 pub length_push : (xs : List ℕ) (k : ℕ) → length (xs ++ k ∷ []) ≡ length xs + 1
 length_push xs k = grind (arith, common_steps)
 
+-- a push leaves the numbers at the old indexes
 pub at_left : (xs : List ℕ) (k i : ℕ) → i < length xs → number_at (xs ++ k ∷ []) i ≡ number_at xs i
 at_left xs k i r = get_or_append_left xs (k ∷ []) 0 i r
 
+-- the number pushed on a list is found at any index that equals the old length
 pub at_last : (xs : List ℕ) (k i : ℕ) → i ≡ length xs → number_at (xs ++ k ∷ []) i ≡ k
 at_last xs k i e = ap (λ x. number_at (xs ++ k ∷ []) x) e ∙ at_end xs k
 
+-- an index into a list with one number pushed is an old index, or that of the new number
 pub left_or_last : (xs : List ℕ) (k i : ℕ) → i < length (xs ++ k ∷ []) → (i < length xs) ⊎ (i ≡ length xs)
 left_or_last xs k i r = let e : length (xs ++ k ∷ []) ≡ length xs + 1 = length_push xs k in
     ⊎_elim (λ same. inr same) (λ n. inl (omega arith)) (cases_eq i (length xs))
 
+-- a move whose state is set has that state
 pub set_here : (st : List State) (k : ℕ) (s : State) → k < length st → state_at (set st k s) k ≡ s
 set_here st k s r = get_or-set_same st k s Todo r
 
+-- setting one move's state leaves the states of the other moves
 pub set_there : (st : List State) (k j : ℕ) (s : State) → (j ≡ k → ⊥) → state_at (set st k s) j ≡ state_at st j
 set_there st k j s n = get_or-set_other st k j s Todo n
 
 -- a chain goes on by a move that was still to be done
-pub chain_push : (nexts : List ℕ) (st : List State) (chain : List ℕ) (k : ℕ) → IsChain nexts st chain → length st ≡ length nexts → k < length nexts → state_at st k ≡ Todo → ((i : ℕ) → i + 1 ≡ length chain → number_at nexts (number_at chain i) ≡ k) → IsChain nexts (set st k Pending) (chain ++ k ∷ [])
+pub chain_push : (nexts : List ℕ) (st : List State) (chain : List ℕ) (k : ℕ) → IsChain nexts st chain → length st ≡ length nexts → k < length nexts →
+    state_at st k ≡ Todo → ((i : ℕ) → i + 1 ≡ length chain → number_at nexts (number_at chain i) ≡ k) → IsChain nexts (set st k Pending) (chain ++ k ∷ [])
 chain_push nexts st chain k had same within todo link =
     let short : k < length st = omega arith in
     let more : length (chain ++ k ∷ []) ≡ length chain + 1 = length_push chain k in
@@ -94,10 +108,12 @@ chain_push nexts st chain k had same within todo link =
     }
 
 -- the last move of a chain is done
-pub chain_pop : (nexts : List ℕ) (st : List State) (chain : List ℕ) (k : ℕ) → IsChain nexts st (chain ++ k ∷ []) → length st ≡ length nexts → IsChain nexts (set st k Done) chain
+pub chain_pop : (nexts : List ℕ) (st : List State) (chain : List ℕ) (k : ℕ) → IsChain nexts st (chain ++ k ∷ []) → length st ≡ length nexts →
+    IsChain nexts (set st k Done) chain
 chain_pop nexts st chain k had same =
     let more : length (chain ++ k ∷ []) ≡ length chain + 1 = length_push chain k in
-    let within : k < length st = subst (λ x. x < length st) (at_end chain k) (subst (λ x. number_at (chain ++ k ∷ []) (length chain) < x) (sym same) (had.inside (length chain) (omega arith))) in
+    let within : k < length st = subst (λ x. x < length st) (at_end chain k)
+    (subst (λ x. number_at (chain ++ k ∷ []) (length chain) < x) (sym same) (had.inside (length chain) (omega arith))) in
     let new : (i : ℕ) → i < length chain → number_at chain i ≡ k → ⊥ =
     λ i l e. had.differ i (length chain) l (omega arith) (at_left chain k i l ∙ e ∙ sym (at_end chain k)) in
     record {
@@ -118,16 +134,19 @@ chain_pop nexts st chain k had same =
     }
 
 -- the move before it in the chain then has its next done
-pub ready_pop : (nexts : List ℕ) (st : List State) (chain : List ℕ) (k : ℕ) → IsChain nexts st (chain ++ k ∷ []) → length st ≡ length nexts → (i : ℕ) → i + 1 ≡ length chain → IsNextDone nexts (set st k Done) (number_at chain i)
+pub ready_pop : (nexts : List ℕ) (st : List State) (chain : List ℕ) (k : ℕ) → IsChain nexts st (chain ++ k ∷ []) → length st ≡ length nexts → (i : ℕ) →
+    i + 1 ≡ length chain → IsNextDone nexts (set st k Done) (number_at chain i)
 ready_pop nexts st chain k had same i e inside =
     let more : length (chain ++ k ∷ []) ≡ length chain + 1 = length_push chain k in
     let l : i < length chain = omega arith in
     let is : number_at nexts (number_at chain i) ≡ k =
     ap (λ x. number_at nexts x) (sym (at_left chain k i l)) ∙ had.linked i (omega arith) ∙ at_last chain k (i + 1) e in
-    ap (λ x. state_at (set st k Done) x) is ∙ set_here st k Done (subst (λ x. x < length st) is (subst (λ x. number_at nexts (number_at chain i) < x) (sym same) inside))
+    ap (λ x. state_at (set st k Done) x) is
+    ∙ set_here st k Done (subst (λ x. x < length st) is (subst (λ x. number_at nexts (number_at chain i) < x) (sym same) inside))
 
 -- what a move reads is written by a move that is done, if at all
-pub writers_done : (ms : List Ends) (nexts : List ℕ) (st : List State) (k : ℕ) → AreApart ms → AreNexts ms nexts → k < length ms → IsNextDone nexts st k → (j : ℕ) → j < length ms → to_at ms j ≡ from_at ms k → state_at st j ≡ Done
+pub writers_done : (ms : List Ends) (nexts : List ℕ) (st : List State) (k : ℕ) → AreApart ms → AreNexts ms nexts → k < length ms → IsNextDone nexts st k →
+    (j : ℕ) → j < length ms → to_at ms j ≡ from_at ms k → state_at st j ≡ Done
 writers_done ms nexts st k apart ns within ready j inside is =
     let many : length nexts ≡ length ms = ns.as_many in
     ⊎_elim
@@ -136,22 +155,26 @@ writers_done ms nexts st k apart ns within ready j inside is =
     (λ n. absurd (ns.absent k within (λ l. omega arith) j inside is))
     (cases_lt (number_at nexts k) (length ms))
 
+-- setting a move's state to anything but `Todo` makes no move `Todo` that wasn't at first
 pub goes_on : (old st : List State) (k : ℕ) (s : State) → (s ≡ Todo → ⊥) → k < length st → HasGoneOn old st → HasGoneOn old (set st k s)
 goes_on old st k s other within had j n e = ⊎_elim
     (λ same. other (sym (set_here st k s within) ∙ ap (λ x. state_at (set st k s) x) (sym same) ∙ e))
     (λ differs. had j n (sym (set_there st k j s differs) ∙ e))
     (cases_eq j k)
 
+-- the last move on a chain is one of the moves
 pub last_within : (nexts : List ℕ) (st : List State) (chain : List ℕ) (k : ℕ) → IsChain nexts st (chain ++ k ∷ []) → k < length nexts
 last_within nexts st chain k is =
     let more : length (chain ++ k ∷ []) ≡ length chain + 1 = length_push chain k in
     subst (λ x. x < length nexts) (at_end chain k) (is.inside (length chain) (omega arith))
 
+-- the move that writes what the chain's last one reads is the one the chain leads to
 pub last_leads : (nexts : List ℕ) (chain : List ℕ) (k stop : ℕ) → LeadsTo nexts (chain ++ k ∷ []) stop → number_at nexts k ≡ stop
 last_leads nexts chain k stop leads =
     let more : length (chain ++ k ∷ []) ≡ length chain + 1 = length_push chain k in
     ap (λ x. number_at nexts x) (sym (at_end chain k)) ∙ leads (length chain) (omega arith)
 
+-- with an empty chain no move is `Pending`
 pub ends_settled : (nexts : List ℕ) (st : List State) (chain : List ℕ) → IsChain nexts st chain → length chain ≡ 0 → length st ≡ length nexts → IsSettled st
 ends_settled nexts st chain is empty same k r pends =
     let at : (i : ℕ) × (i < length chain) × (number_at chain i ≡ k) = is.only k (omega arith) pends in

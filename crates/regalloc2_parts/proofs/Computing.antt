@@ -1,5 +1,6 @@
 -- Lemmas on what a resolver of scratch places hands out, and on what it makes of moves.
-use Rattle.std.proofs.Common.{◌≡◌, ◌≢◌, ◌≤◌, ◌<◌, ◌+◌, Bool, true, false, List, [], ◌∷◌, ◌++◌, length, map, get_or, Option, Some, None, ◌⊎◌, inl, inr, refl, sym, ap, ◌∙◌, subst, ⊎_elim, arith, length-append}
+use Rattle.std.proofs.Common.{◌≡◌, ◌≢◌, ◌≤◌, ◌<◌, ◌+◌, Bool, true, false, List, [], ◌∷◌, ◌++◌, length, map, get_or, Option, Some, None, ◌⊎◌, inl, inr}
+use Rattle.std.proofs.Common.{refl, sym, ap, ◌∙◌, subst, ⊎_elim, arith, length-append}
 use Rattle.std.specs.Prelude.{Contains}
 use Rattle.std.specs.List.{All, FoldsTo}
 use Rattle.std.proofs.lemmas.Fn.{FoldsTo-push}
@@ -16,7 +17,8 @@ use Rattle.regalloc2_parts.specs.declared.moves.passing.Held.{Held}
 use Rattle.regalloc2_parts.specs.declared.moves.passing.Held.TheVariants.{Free, InRegister}
 use Rattle.regalloc2_parts.specs.declared.moves.passing.Way.{Way}
 use Rattle.regalloc2_parts.specs.Tracking.{CanExpand, IsExpanded, IsMade, IsOneOf, IsFirst}
-use Rattle.regalloc2_parts.specs.Computed.{Asked, MayBeAskedTwice, Owes, IsHanding, IsRefusing, IsWay, IsChoice, IsAnswered, IsComputed, AreApartInMemory, AreSeenApart}
+use Rattle.regalloc2_parts.specs.Computed.{Asked, MayBeAskedTwice, Owes, IsHanding, IsRefusing, IsWay, IsChoice, IsAnswered, IsComputed}
+use Rattle.regalloc2_parts.specs.Computed.{AreApartInMemory, AreSeenApart}
 use Rattle.regalloc2_parts.proofs.Filling.{fills_same, fills_real, or_some, or_none}
 use Rattle.regalloc2_parts.proofs.Places.{cases_place}
 
@@ -38,7 +40,8 @@ module _ {T : Type 0} where
       )
 
   -- a filled move comes from a given one
-  from_filled : (s : Place) (ms : List (Place × Place × T)) (x : Place × Place × T) → Contains (map (filled s) ms) x → (n : Place × Place × T) × Contains ms n × (filled s n ≡ x)
+  from_filled : (s : Place) (ms : List (Place × Place × T)) (x : Place × Place × T) → Contains (map (filled s) ms) x → (n : Place × Place × T) × Contains ms n
+      × (filled s n ≡ x)
   from_filled s ms x h =
       let many : length (map (filled s) ms) ≡ length ms = length-map ms (filled s) in
       let low : h.0 < length (map (filled s) ms) = h.1 in
@@ -54,7 +57,8 @@ pub unfilled : {T A : Type 0} (s : Place) (moves : MoveVecWithScratch T A) → h
 unfilled s (NoScratch ms) e = refl
 unfilled s (Scratch ms) e = let no : true ≡ false = e in absurd cc
 
-module _ {F G T : Type 0} (registers : F → Option Place → F → Type 0) (slots : G → Option Place → G → Type 0) (stack : Place → Bool → Type 0) (borrowed : Place) where
+module _ {F G T : Type 0} (registers : F → Option Place → F → Type 0) (slots : G → Option Place → G → Type 0) (stack : Place → Bool → Type 0)
+    (borrowed : Place) where
   -- what stands once the scratch place is chosen, where one is needed
   pub record Chosen (given : List (Place × Place × T)) (scratch : Bool) (f f' : F) (g g' : G) (made : List (Place × Place × T)) : Type 0 where
     pub rs : List (Option Place)
@@ -72,7 +76,8 @@ module _ {F G T : Type 0} (registers : F → Option Place → F → Type 0) (slo
     pub unused : (r : Place) (t : G) → slots g' (Some r) t → (r ≢ NoPlace) × IsUnnamed r made
 
   -- none was needed
-  chosen_none : (given made : List (Place × Place × T)) (f f' : F) (g g' : G) → Owes registers slots stack borrowed given f g → AreBetweenPlaces given → f' ≡ f → g' ≡ g → made ≡ given → Chosen given false f f' g g' made
+  chosen_none : (given made : List (Place × Place × T)) (f f' : F) (g g' : G) → Owes registers slots stack borrowed given f g → AreBetweenPlaces given →
+      f' ≡ f → g' ≡ g → made ≡ given → Chosen given false f f' g g' made
   chosen_none given made f f' g g' owes real ef eg e = record {
     rs = [];
     ss = [];
@@ -96,7 +101,8 @@ module _ {F G T : Type 0} (registers : F → Option Place → F → Type 0) (slo
   }
 
   -- the ends of what was filled with an answered place
-  sources_filled : (rs ss : List (Option Place)) (s : Place) (given made : List (Place × Place × T)) → IsAnswered rs ss s → made ≡ map (filled s) given → (x : Place × Place × T) → Contains made x → IsAnswered rs ss x.0 ⊎ ((n : Place × Place × T) × Contains given n × (x.0 ≡ n.0))
+  sources_filled : (rs ss : List (Option Place)) (s : Place) (given made : List (Place × Place × T)) → IsAnswered rs ss s → made ≡ map (filled s) given →
+      (x : Place × Place × T) → Contains made x → IsAnswered rs ss x.0 ⊎ ((n : Place × Place × T) × Contains given n × (x.0 ≡ n.0))
   sources_filled rs ss s given made answered e x h =
       let n = from_filled s given x (subst (λ xs. Contains xs x) e h) in
       ⊎_elim
@@ -104,7 +110,8 @@ module _ {F G T : Type 0} (registers : F → Option Place → F → Type 0) (slo
       (λ there. inr (n.0, n.1, there))
       (ends_filled s (n.0).0 x.0 (ap (λ (y : Place × Place × T). y.0) (sym n.2)))
 
-  targets_filled : (rs ss : List (Option Place)) (s : Place) (given made : List (Place × Place × T)) → IsAnswered rs ss s → made ≡ map (filled s) given → (x : Place × Place × T) → Contains made x → IsAnswered rs ss x.1 ⊎ ((n : Place × Place × T) × Contains given n × (x.1 ≡ n.1) × (x.2 ≡ n.2))
+  targets_filled : (rs ss : List (Option Place)) (s : Place) (given made : List (Place × Place × T)) → IsAnswered rs ss s → made ≡ map (filled s) given →
+      (x : Place × Place × T) → Contains made x → IsAnswered rs ss x.1 ⊎ ((n : Place × Place × T) × Contains given n × (x.1 ≡ n.1) × (x.2 ≡ n.2))
   targets_filled rs ss s given made answered e x h =
       let n = from_filled s given x (subst (λ xs. Contains xs x) e h) in
       ⊎_elim
@@ -112,13 +119,16 @@ module _ {F G T : Type 0} (registers : F → Option Place → F → Type 0) (slo
       (λ there. inr (n.0, n.1, there, ap (λ (y : Place × Place × T). y.2) (sym n.2)))
       (ends_filled s (n.0).1 x.1 (ap (λ (y : Place × Place × T). y.1) (sym n.2)))
 
-  same_filled : (rs ss : List (Option Place)) (s : Place) (given made : List (Place × Place × T)) → s ≢ NoPlace → IsUnnamed s given → WritesNoneFirst (ends_of given) → IsAnswered rs ss s → made ≡ map (filled s) given → (q : Place) → q ≢ NoPlace → (IsAnswered rs ss q → ⊥) → in_turn (ends_of made) names q ≡ in_turn (ends_of given) names q
+  same_filled : (rs ss : List (Option Place)) (s : Place) (given made : List (Place × Place × T)) → s ≢ NoPlace → IsUnnamed s given →
+      WritesNoneFirst (ends_of given) → IsAnswered rs ss s → made ≡ map (filled s) given → (q : Place) → q ≢ NoPlace → (IsAnswered rs ss q → ⊥) →
+      in_turn (ends_of made) names q ≡ in_turn (ends_of given) names q
   same_filled rs ss s given made fresh free first answered e q some n =
       ap (λ x. in_turn (ends_of x) names q) e ∙
       fills_same s fresh given names names free first (λ p a b. refl) q (λ h. n (subst (λ p. IsAnswered rs ss p) (sym h) answered)) some
 
   -- a register was chosen
-  chosen_register : (given made : List (Place × Place × T)) (f f' : F) (g g' : G) (s : Place) → Owes registers slots stack borrowed given f g → WritesNoneFirst (ends_of given) → registers f (Some s) f' → g' ≡ g → made ≡ map (filled s) given → Chosen given true f f' g g' made
+  chosen_register : (given made : List (Place × Place × T)) (f f' : F) (g g' : G) (s : Place) → Owes registers slots stack borrowed given f g →
+      WritesNoneFirst (ends_of given) → registers f (Some s) f' → g' ≡ g → made ≡ map (filled s) given → Chosen given true f f' g g' made
   chosen_register given made f f' g g' s owes first step eg e =
       let was : (s ≢ NoPlace) × IsUnnamed s given = owes.free s (inl (f', step)) in
       let answered : IsAnswered (Some s ∷ []) [] s = inl (0, omega arith, refl) in
@@ -136,8 +146,11 @@ module _ {F G T : Type 0} (registers : F → Option Place → F → Type 0) (slo
         plain = λ h. absurd cc;
         free = λ r t next.
             let later = inr (Some s, f', t, step, next) in
-            let free = owes.free r later in
-            (free.0, subst (λ x. IsUnnamed r x) (sym e) (fills_unnamed s r given (λ h. owes.registers_differ s r f' t step next (sym h)) free.1), owes.no_memory r later);
+            let free = owes.free r later in (
+              free.0,
+              subst (λ x. IsUnnamed r x) (sym e) (fills_unnamed s r given (λ h. owes.registers_differ s r f' t step next (sym h)) free.1),
+              owes.no_memory r later,
+            );
         unused = λ r t next.
             let now : slots g (Some r) t = subst (λ x. slots x (Some r) t) eg next in
             let free = owes.unused r (inl (t, now)) in
@@ -145,7 +158,8 @@ module _ {F G T : Type 0} (registers : F → Option Place → F → Type 0) (slo
       }
 
   -- a slot was chosen
-  chosen_slot : (given made : List (Place × Place × T)) (f f' : F) (g g' : G) (s : Place) → Owes registers slots stack borrowed given f g → WritesNoneFirst (ends_of given) → registers f None f' → slots g (Some s) g' → made ≡ map (filled s) given → Chosen given true f f' g g' made
+  chosen_slot : (given made : List (Place × Place × T)) (f f' : F) (g g' : G) (s : Place) → Owes registers slots stack borrowed given f g →
+      WritesNoneFirst (ends_of given) → registers f None f' → slots g (Some s) g' → made ≡ map (filled s) given → Chosen given true f f' g g' made
   chosen_slot given made f f' g g' s owes first asked step e =
       let was : (s ≢ NoPlace) × IsUnnamed s given = owes.unused s (inl (g', step)) in
       let answered : IsAnswered (None ∷ []) (Some s ∷ []) s = inr (0, omega arith, refl) in
@@ -171,7 +185,9 @@ module _ {F G T : Type 0} (registers : F → Option Place → F → Type 0) (slo
             (free.0, subst (λ x. IsUnnamed r x) (sym e) (fills_unnamed s r given (λ h. owes.slots_differ s r g' t step next (sym h)) free.1));
       }
 
-  pub chosen : {A : Type 0} (moves : MoveVecWithScratch T A) (made : List (Place × Place × T)) (f f' : F) (g g' : G) → Owes registers slots stack borrowed (listed moves) f g → IsRunnable moves → IsChoice registers slots f f' g g' moves made → Chosen (listed moves) (has_scratch moves) f f' g g' made
+  pub chosen : {A : Type 0} (moves : MoveVecWithScratch T A) (made : List (Place × Place × T)) (f f' : F) (g g' : G) →
+      Owes registers slots stack borrowed (listed moves) f g → IsRunnable moves → IsChoice registers slots f f' g g' moves made →
+      Chosen (listed moves) (has_scratch moves) f f' g g' made
   chosen (NoScratch ms) made f f' g g' owes run (inl c) = chosen_none ms.items made f f' g g' owes run c.1 c.2 c.3
   chosen (NoScratch ms) made f f' g g' owes run (inr c) = let no : false ≡ true = c.1 in absurd cc
   chosen (Scratch ms) made f f' g g' owes run (inl c) = let no : true ≡ false = c.0 in absurd cc
@@ -179,7 +195,8 @@ module _ {F G T : Type 0} (registers : F → Option Place → F → Type 0) (slo
   chosen (Scratch ms) made f f' g g' owes run (inr (Slot s, e, h, m)) = chosen_slot ms.items made f f' g g' s owes run h.0 h.1 m
 
   -- no move goes from memory to memory, and so the moves stay
-  computed_at_once : (given made : List (Place × Place × T)) (scratch : Bool) (f f' : F) (g g' : G) (c : Chosen given scratch f f' g g' made) → AreSeenApart stack made → IsComputed stack borrowed (IsAnswered c.rs c.ss) scratch given made
+  computed_at_once : (given made : List (Place × Place × T)) (scratch : Bool) (f f' : F) (g g' : G) (c : Chosen given scratch f f' g g' made) →
+      AreSeenApart stack made → IsComputed stack borrowed (IsAnswered c.rs c.ss) scratch given made
   computed_at_once given made scratch f f' g g' c apart = record {
     same = c.same;
     each = λ k d low.
@@ -195,7 +212,11 @@ module _ {F G T : Type 0} (registers : F → Option Place → F → Type 0) (slo
   }
 
   -- moves were made by way of a register
-  computed_by_way : (given made out : List (Place × Place × T)) (scratch : Bool) (f f' : F) (g g' : G) (c : Chosen given scratch f f' g g' made) (qs ts : List (Option Place)) (register save : Place) → (IsAnswered (c.rs ++ qs) (c.ss ++ ts) register ⊎ (register ≡ borrowed)) → IsAnswered (c.rs ++ qs) (c.ss ++ ts) save → (AreApartInMemory stack made → ⊥) → ((q : Place) → q ≢ save → in_turn (ends_of out) names q ≡ in_turn (ends_of made) names q) → All (IsMade stack register save made) out → IsComputed stack borrowed (IsAnswered (c.rs ++ qs) (c.ss ++ ts)) scratch given out
+  computed_by_way : (given made out : List (Place × Place × T)) (scratch : Bool) (f f' : F) (g g' : G) (c : Chosen given scratch f f' g g' made)
+      (qs ts : List (Option Place)) (register save : Place) → (IsAnswered (c.rs ++ qs) (c.ss ++ ts) register ⊎ (register ≡ borrowed)) →
+      IsAnswered (c.rs ++ qs) (c.ss ++ ts) save → (AreApartInMemory stack made → ⊥) →
+      ((q : Place) → q ≢ save → in_turn (ends_of out) names q ≡ in_turn (ends_of made) names q) → All (IsMade stack register save made) out →
+      IsComputed stack borrowed (IsAnswered (c.rs ++ qs) (c.ss ++ ts)) scratch given out
   computed_by_way given made out scratch f f' g g' c qs ts register save lent_register lent_save some same each =
       let Lent : Place → Type 0 = λ p. IsAnswered (c.rs ++ qs) (c.ss ++ ts) p ⊎ (p ≡ borrowed) in
       let lent : (p : Place) → IsOneOf register save p → Lent p = λ p h. ⊎_elim
@@ -228,20 +249,23 @@ module _ {F G T : Type 0} (registers : F → Option Place → F → Type 0) (slo
       }
 
   -- what was asked at the first time, and at the second
-  abbrev asked_registers : (given made : List (Place × Place × T)) (scratch : Bool) (f f' : F) (g g' : G) → Chosen given scratch f f' g g' made → Asked registers f f'
+  abbrev asked_registers : (given made : List (Place × Place × T)) (scratch : Bool) (f f' : F) (g g' : G) → Chosen given scratch f f' g g' made →
+      Asked registers f f'
   asked_registers given made scratch f f' g g' c = record { answers = c.rs; few = let few : length c.rs ≤ 1 = c.rs_few in omega arith; calls = c.rs_calls }
 
   abbrev asked_slots : (given made : List (Place × Place × T)) (scratch : Bool) (f f' : F) (g g' : G) → Chosen given scratch f f' g g' made → Asked slots g g'
   asked_slots given made scratch f f' g g' c = record { answers = c.ss; few = let few : length c.ss ≤ 1 = c.ss_few in omega arith; calls = c.ss_calls }
 
-  abbrev more_registers : (given made : List (Place × Place × T)) (scratch : Bool) (f f' f'' : F) (g g' : G) (c : Chosen given scratch f f' g g' made) (r : Option Place) → registers f' r f'' → Asked registers f f''
+  abbrev more_registers : (given made : List (Place × Place × T)) (scratch : Bool) (f f' f'' : F) (g g' : G) (c : Chosen given scratch f f' g g' made)
+      (r : Option Place) → registers f' r f'' → Asked registers f f''
   more_registers given made scratch f f' f'' g g' c r step = record {
     answers = c.rs ++ r ∷ [];
     few = let few : length c.rs ≤ 1 = c.rs_few in let more : length (c.rs ++ r ∷ []) ≡ length c.rs + 1 = length-append c.rs (r ∷ []) in omega arith;
     calls = FoldsTo-push registers f c.rs f' r f'' c.rs_calls step;
   }
 
-  abbrev more_slots : (given made : List (Place × Place × T)) (scratch : Bool) (f f' : F) (g g' g'' : G) (c : Chosen given scratch f f' g g' made) (r : Option Place) → slots g' r g'' → Asked slots g g''
+  abbrev more_slots : (given made : List (Place × Place × T)) (scratch : Bool) (f f' : F) (g g' g'' : G) (c : Chosen given scratch f f' g g' made)
+      (r : Option Place) → slots g' r g'' → Asked slots g g''
   more_slots given made scratch f f' g g' g'' c r step = record {
     answers = c.ss ++ r ∷ [];
     few = let few : length c.ss ≤ 1 = c.ss_few in let more : length (c.ss ++ r ∷ []) ≡ length c.ss + 1 = length-append c.ss (r ∷ []) in omega arith;
@@ -249,7 +273,8 @@ module _ {F G T : Type 0} (registers : F → Option Place → F → Type 0) (slo
   }
 
   -- no slot was asked for at the second time
-  abbrev no_more_slots : (given made : List (Place × Place × T)) (scratch : Bool) (f f' : F) (g g' g'' : G) (c : Chosen given scratch f f' g g' made) → g'' ≡ g' → Asked slots g g''
+  abbrev no_more_slots : (given made : List (Place × Place × T)) (scratch : Bool) (f f' : F) (g g' g'' : G) (c : Chosen given scratch f f' g g' made) →
+      g'' ≡ g' → Asked slots g g''
   no_more_slots given made scratch f f' g g' g'' c e = record {
     answers = c.ss ++ [];
     few = let few : length c.ss ≤ 1 = c.ss_few in let same : length (c.ss ++ []) ≡ length c.ss = ap length (append-nil c.ss) in omega arith;
@@ -257,17 +282,22 @@ module _ {F G T : Type 0} (registers : F → Option Place → F → Type 0) (slo
   }
 
   -- all that was asked for and made: nothing more than a scratch place
-  pub computes_at_once : (given made : List (Place × Place × T)) (scratch : Bool) (f f' : F) (g g' : G) → Chosen given scratch f f' g g' made → AreSeenApart stack made → (a : Asked registers f f') × (b : Asked slots g g') × IsComputed stack borrowed (IsAnswered a.answers b.answers) scratch given made
+  pub computes_at_once : (given made : List (Place × Place × T)) (scratch : Bool) (f f' : F) (g g' : G) → Chosen given scratch f f' g g' made →
+      AreSeenApart stack made → (a : Asked registers f f') × (b : Asked slots g g')
+      × IsComputed stack borrowed (IsAnswered a.answers b.answers) scratch given made
   computes_at_once given made scratch f f' g g' c apart =
       (asked_registers given made scratch f f' g g' c, asked_slots given made scratch f f' g g' c, computed_at_once given made scratch f f' g g' c apart)
 
   -- no place was left for moves from memory to memory
-  pub computes_refused : (given made : List (Place × Place × T)) (scratch : Bool) (f f' f'' : F) (g g' g'' : G) → Chosen given scratch f f' g g' made → IsRefusing registers slots f' f'' g' g'' → (a : Asked registers f f'') × (b : Asked slots g g'') × Contains b.answers None
+  pub computes_refused : (given made : List (Place × Place × T)) (scratch : Bool) (f f' f'' : F) (g g' g'' : G) → Chosen given scratch f f' g g' made →
+      IsRefusing registers slots f' f'' g' g'' → (a : Asked registers f f'') × (b : Asked slots g g'') × Contains b.answers None
   computes_refused given made scratch f f' f'' g g' g'' c h =
       (more_registers given made scratch f f' f'' g g' c None h.0, more_slots given made scratch f f' g g' g'' c None h.1, Contains-push c.ss None)
 
   -- moves can be made by way of what was handed out
-  pub can_expand : (given made : List (Place × Place × T)) (scratch : Bool) (f f' f'' : F) (g g' g'' : G) → Chosen given scratch f f' g g' made → (stack borrowed true → ⊥) → borrowed ≢ NoPlace → (h : Handed) → IsHanding registers slots f' f'' g' g'' h → (way : Way) (first : Held) → IsWay h borrowed way first → CanExpand stack way.register way.save first made
+  pub can_expand : (given made : List (Place × Place × T)) (scratch : Bool) (f f' f'' : F) (g g' g'' : G) → Chosen given scratch f f' g g' made →
+      (stack borrowed true → ⊥) → borrowed ≢ NoPlace → (h : Handed) → IsHanding registers slots f' f'' g' g'' h → (way : Way) (first : Held) →
+      IsWay h borrowed way first → CanExpand stack way.register way.save first made
   can_expand given made scratch f f' f'' g g' g'' c away real (Register p) h way first is =
       let was = c.free p f'' h.0 in
       record {
@@ -290,13 +320,17 @@ module _ {F G T : Type 0} (registers : F → Option Place → F → Type 0) (slo
       }
 
   -- all that was asked for, and what was made by way of what was handed out
-  pub computes_by_way : (given made : List (Place × Place × T)) (scratch : Bool) (f f' f'' : F) (g g' g'' : G) → Chosen given scratch f f' g g' made → (AreApartInMemory stack made → ⊥) → (h : Handed) → IsHanding registers slots f' f'' g' g'' h → (way : Way) (first : Held) → IsWay h borrowed way first
-      → (a : Asked registers f f'') × (b : Asked slots g g'') × ((out : List (Place × Place × T)) → IsExpanded stack way.register way.save made out → IsComputed stack borrowed (IsAnswered a.answers b.answers) scratch given out)
+  pub computes_by_way : (given made : List (Place × Place × T)) (scratch : Bool) (f f' f'' : F) (g g' g'' : G) → Chosen given scratch f f' g g' made →
+      (AreApartInMemory stack made → ⊥) → (h : Handed) → IsHanding registers slots f' f'' g' g'' h → (way : Way) (first : Held) → IsWay h borrowed way first
+      → (a : Asked registers f f'') × (b : Asked slots g g'') × ((out : List (Place × Place × T)) → IsExpanded stack way.register way.save made out →
+      IsComputed stack borrowed (IsAnswered a.answers b.answers) scratch given out)
   computes_by_way given made scratch f f' f'' g g' g'' c some (Register p) h way first is =
-      let answered : (q : Place) → q ≡ p → IsAnswered (c.rs ++ Some p ∷ []) (c.ss ++ []) q = λ q e. inl (subst (λ x. Contains (c.rs ++ Some p ∷ []) (Some x)) (sym e) (Contains-push c.rs (Some p))) in (
+      let answered : (q : Place) → q ≡ p → IsAnswered (c.rs ++ Some p ∷ []) (c.ss ++ []) q = λ q e. inl
+      (subst (λ x. Contains (c.rs ++ Some p ∷ []) (Some x)) (sym e) (Contains-push c.rs (Some p))) in (
         more_registers given made scratch f f' f'' g g' c (Some p) h.0,
         no_more_slots given made scratch f f' g g' g'' c h.1,
-        (λ out x. computed_by_way given made out scratch f f' g g' c (Some p ∷ []) [] way.register way.save (inl (answered way.register is.0)) (answered way.save is.1) some x.same x.each),
+        (λ out x. computed_by_way given made out scratch f f' g g' c (Some p ∷ []) [] way.register way.save (inl (answered way.register is.0))
+            (answered way.save is.1) some x.same x.each),
       )
   computes_by_way given made scratch f f' f'' g g' g'' c some (Slot p) h way first is = (
     more_registers given made scratch f f' f'' g g' c None h.0,
@@ -306,14 +340,16 @@ module _ {F G T : Type 0} (registers : F → Option Place → F → Type 0) (slo
   )
 
 -- what may be asked twice may be asked again once a scratch place is chosen
-pub may_ask_again : {F G T A : Type 0} (registers : F → Option Place → F → Type 0) (slots : G → Option Place → G → Type 0) (pre : F → Type 0) (slots_pre : G → Type 0) (moves : MoveVecWithScratch T A) (made : List (Place × Place × T)) (f f' : F) (g g' : G)
+pub may_ask_again : {F G T A : Type 0} (registers : F → Option Place → F → Type 0) (slots : G → Option Place → G → Type 0) (pre : F → Type 0)
+    (slots_pre : G → Type 0) (moves : MoveVecWithScratch T A) (made : List (Place × Place × T)) (f f' : F) (g g' : G)
     → MayBeAskedTwice registers pre f → MayBeAskedTwice slots slots_pre g → IsChoice registers slots f f' g g' moves made → pre f' × slots_pre g'
 may_ask_again registers slots pre slots_pre moves made f f' g g' a b (inl c) = (subst pre (sym c.1) a.0, subst slots_pre (sym c.2) b.0)
 may_ask_again registers slots pre slots_pre moves made f f' g g' a b (inr (Register p, e, h, m)) = (a.1 (Some p) f' h.0, subst slots_pre (sym h.1) b.0)
 may_ask_again registers slots pre slots_pre moves made f f' g g' a b (inr (Slot p, e, h, m)) = (a.1 None f' h.0, b.1 (Some p) g' h.1)
 
 -- neither a register nor a slot was there for a scratch place
-pub refused_first : {F G : Type 0} (registers : F → Option Place → F → Type 0) (slots : G → Option Place → G → Type 0) (f f' : F) (g g' : G) → IsRefusing registers slots f f' g g' → (a : Asked registers f f') × (b : Asked slots g g') × Contains b.answers None
+pub refused_first : {F G : Type 0} (registers : F → Option Place → F → Type 0) (slots : G → Option Place → G → Type 0) (f f' : F) (g g' : G) →
+    IsRefusing registers slots f f' g g' → (a : Asked registers f f') × (b : Asked slots g g') × Contains b.answers None
 refused_first registers slots f f' g g' h = (
   record { answers = None ∷ []; few = omega arith; calls = (f', h.0, refl) },
   record { answers = None ∷ []; few = omega arith; calls = (g', h.1, refl) },
@@ -321,6 +357,8 @@ refused_first registers slots f f' g g' h = (
 )
 
 -- what was said of a closure's answers, where the closure and the list are the same
-pub not_apart : {S T : Type 0} (post : S → Place → Bool → Type 0) (f f' : S) (xs ys : List (Place × Place × T)) → f ≡ f' → xs ≡ ys → (AreApartInMemory (λ p b. post f p b) xs → true ≡ false) → AreApartInMemory (λ p b. post f' p b) ys → ⊥
+pub not_apart : {S T : Type 0} (post : S → Place → Bool → Type 0) (f f' : S) (xs ys : List (Place × Place × T)) → f ≡ f' → xs ≡ ys →
+    (AreApartInMemory (λ p b. post f p b) xs → true ≡ false) → AreApartInMemory (λ p b. post f' p b) ys → ⊥
 not_apart post f f' xs ys ef e some a =
-    let no : true ≡ false = some (subst (λ s. AreApartInMemory (λ p b. post s p b) xs) (sym ef) (subst (λ zs. AreApartInMemory (λ p b. post f' p b) zs) (sym e) a)) in absurd cc
+    let no : true ≡ false = some (subst (λ s. AreApartInMemory (λ p b. post s p b) xs) (sym ef)
+    (subst (λ zs. AreApartInMemory (λ p b. post f' p b) zs) (sym e) a)) in absurd cc

@@ -11,7 +11,8 @@ use Rattle.regalloc2_parts.specs.Giving.{from_at, to_at, number_at, ring_at, Are
 use Rattle.regalloc2_parts.proofs.Tidying.{same_ends}
 
 -- after each move of a cycle comes another
-after_in_cycle : (ms ring : List Ends) (i : ℕ) → IsCycle ms ring → i < length ring → (j : ℕ) × (j < length ring) × ((move_at ring i).from ≡ (move_at ring j).to) × (move_at ring i ≢ move_at ring j)
+after_in_cycle : (ms ring : List Ends) (i : ℕ) → IsCycle ms ring → i < length ring → (j : ℕ) × (j < length ring) × ((move_at ring i).from ≡ (move_at ring j).to)
+    × (move_at ring i ≢ move_at ring j)
 after_in_cycle ms ring i is r =
     let many : 2 ≤ length ring = is.many in
     ⊎_elim
@@ -22,9 +23,11 @@ after_in_cycle ms ring i is r =
 -- no move of a cycle has its source as its destination
 cycle_changes : (ms ring : List Ends) (i : ℕ) → AreFair ms → IsCycle ms ring → i < length ring → (move_at ring i).from ≢ (move_at ring i).to
 cycle_changes ms ring i fair is r e =
-    let next : (j : ℕ) × (j < length ring) × ((move_at ring i).from ≡ (move_at ring j).to) × (move_at ring i ≢ move_at ring j) = after_in_cycle ms ring i is r in
+    let next : (j : ℕ) × (j < length ring) × ((move_at ring i).from ≡ (move_at ring j).to)
+    × (move_at ring i ≢ move_at ring j) = after_in_cycle ms ring i is r in
     let to_is : (move_at ring i).to ≡ (move_at ring next.0).to = sym e ∙ next.2 in
-    next.3 (same_ends (move_at ring i) (move_at ring next.0) (fair.one_source (move_at ring i) (move_at ring next.0) (is.of_moves i r) (is.of_moves next.0 next.1) to_is) to_is)
+    next.3 (same_ends (move_at ring i) (move_at ring next.0) (fair.one_source (move_at ring i) (move_at ring next.0) (is.of_moves i r)
+    (is.of_moves next.0 next.1) to_is) to_is)
 
 -- the index of each of some moves in a list that has them
 indexes : (new ring : List Ends) → ((i : ℕ) → i < length ring → Contains new (move_at ring i)) →
@@ -36,7 +39,9 @@ indexes new (m ∷ ring) has =
     let same : length later.0 ≡ length ring = later.1 in
     (here.0 ∷ later.0, omega arith, λ i r. at here.0 m ring later.0 here.1 (get_or_default new here.0 no_move m here.1 ∙ here.2) later.2 i r)
   where
-    at : (k : ℕ) (m : Ends) (ring : List Ends) (ks : List ℕ) → k < length new → move_at new k ≡ m → ((i : ℕ) → i < length ring → (number_at ks i < length new) × (move_at new (number_at ks i) ≡ move_at ring i)) → (i : ℕ) → i < length (m ∷ ring) → (number_at (k ∷ ks) i < length new) × (move_at new (number_at (k ∷ ks) i) ≡ move_at (m ∷ ring) i)
+    at : (k : ℕ) (m : Ends) (ring : List Ends) (ks : List ℕ) → k < length new → move_at new k ≡ m →
+        ((i : ℕ) → i < length ring → (number_at ks i < length new) × (move_at new (number_at ks i) ≡ move_at ring i)) → (i : ℕ) → i < length (m ∷ ring) →
+        (number_at (k ∷ ks) i < length new) × (move_at new (number_at (k ∷ ks) i) ≡ move_at (m ∷ ring) i)
     at k m ring ks low is later zero r = (low, is)
     at k m ring ks low is later (suc i) r = later i (omega arith)
 
@@ -64,14 +69,16 @@ module _ (old new : List Ends) (nexts : List ℕ) (fair : AreFair old) (tidied :
       let many : 2 ≤ length ring = is.many in
       let long : length nexts ≡ length new = ns.as_many in
       let within : (i : ℕ) → i < length ring → number_at ring i < length new = λ i r. let l : number_at ring i < length nexts = is.inside i r in omega arith in
-      let reads : (i j : ℕ) → i < length ring → j < length ring → number_at nexts (number_at ring i) ≡ number_at ring j → (move_at (ends_ring ring) i).from ≡ (move_at (ends_ring ring) j).to = λ i j ri rj e.
+      let reads : (i j : ℕ) → i < length ring → j < length ring → number_at nexts (number_at ring i) ≡ number_at ring j →
+      (move_at (ends_ring ring) i).from ≡ (move_at (ends_ring ring) j).to = λ i j ri rj e.
       ap (λ (m : Ends). m.from) (ends_ring-at ring i ri) ∙
       sym (ns.found (number_at ring i) (within i ri) (subst (λ x. x < length new) (sym e) (within j rj))) ∙
       ap (λ x. to_at new x) e ∙ sym (ap (λ (m : Ends). m.to) (ends_ring-at ring j rj)) in
       record {
         many = omega arith;
         of_moves = λ i r. let l : i < length ring = omega arith in
-            subst (λ m. Contains old m) (sym (ends_ring-at ring i l)) (tidied.of_old (move_at new (number_at ring i)) (Contains-get_or new (number_at ring i) no_move (within i l)));
+            subst (λ m. Contains old m) (sym (ends_ring-at ring i l)) (tidied.of_old (move_at new (number_at ring i))
+            (Contains-get_or new (number_at ring i) no_move (within i l)));
         differ = λ i j o r e. let rj : j < length ring = omega arith in let ri : i < length ring = omega arith in
             is.differ i j o rj (apart.one_writer (number_at ring i) (number_at ring j) (within i ri) (within j rj)
             (ap (λ (m : Ends). m.to) (sym (ends_ring-at ring i ri) ∙ e ∙ ends_ring-at ring j rj)));
@@ -80,15 +87,18 @@ module _ (old new : List Ends) (nexts : List ℕ) (fair : AreFair old) (tidied :
       }
 
   -- a cycle is a ring
-  cycle_ring : (ring : List Ends) → IsCycle old ring → (ks : List ℕ) × IsRingOf nexts ks × (length ks ≡ length ring) × ((i : ℕ) → i < length ring → move_at new (number_at ks i) ≡ move_at ring i)
+  cycle_ring : (ring : List Ends) → IsCycle old ring → (ks : List ℕ) × IsRingOf nexts ks × (length ks ≡ length ring)
+      × ((i : ℕ) → i < length ring → move_at new (number_at ks i) ≡ move_at ring i)
   cycle_ring ring is =
       let long : length nexts ≡ length new = ns.as_many in
-      let found : (ks : List ℕ) × (length ks ≡ length ring) × ((i : ℕ) → i < length ring → (number_at ks i < length new) × (move_at new (number_at ks i) ≡ move_at ring i)) =
+      let found : (ks : List ℕ) × (length ks ≡ length ring) × ((i : ℕ) → i < length ring → (number_at ks i < length new)
+      × (move_at new (number_at ks i) ≡ move_at ring i)) =
       indexes new ring (λ i r. tidied.of_new (move_at ring i) (is.of_moves i r) (cycle_changes old ring i fair is r)) in
       let ks : List ℕ = found.0 in
       let size : length ks ≡ length ring = found.1 in
       let many : 2 ≤ length ring = is.many in
-      let step : (i j : ℕ) → i < length ring → j < length ring → (move_at ring i).from ≡ (move_at ring j).to → number_at nexts (number_at ks i) ≡ number_at ks j = λ i j ri rj e.
+      let step : (i j : ℕ) → i < length ring → j < length ring → (move_at ring i).from ≡ (move_at ring j).to →
+      number_at nexts (number_at ks i) ≡ number_at ks j = λ i j ri rj e.
       next_is (number_at ks i) (number_at ks j) (found.2 i ri).0 (found.2 j rj).0
       (ap (λ (m : Ends). m.from) (found.2 i ri).1 ∙ e ∙ sym (ap (λ (m : Ends). m.to) (found.2 j rj).1)) in (
         ks,
@@ -120,9 +130,11 @@ module _ (old new : List Ends) (nexts : List ℕ) (fair : AreFair old) (tidied :
       let size : length rings ≡ length order.rings = length-map order.rings ends_ring in
       let counted : length given ≡ length new + length order.rings = order.counted in
       let at : (r : ℕ) → r < length order.rings → cycle_at rings r ≡ ends_ring (ring_at order.rings r) = λ r l. get_or-map ends_ring order.rings r [] [] l in
-      let stands : (r i : ℕ) → r < length order.rings → i < length (ring_at order.rings r) → move_at (cycle_at rings r) i ≡ move_at new (number_at (ring_at order.rings r) i) = λ r i l ri.
+      let stands : (r i : ℕ) → r < length order.rings → i < length (ring_at order.rings r) →
+      move_at (cycle_at rings r) i ≡ move_at new (number_at (ring_at order.rings r) i) = λ r i l ri.
       ap (λ x. move_at x i) (at r l) ∙ ends_ring-at (ring_at order.rings r) i ri in
-      let sizes : (r : ℕ) → r < length order.rings → length (cycle_at rings r) ≡ length (ring_at order.rings r) = λ r l. ap length (at r l) ∙ ends_ring-length (ring_at order.rings r) in
+      let sizes : (r : ℕ) → r < length order.rings → length (cycle_at rings r) ≡ length (ring_at order.rings r) = λ r l. ap length (at r l)
+      ∙ ends_ring-length (ring_at order.rings r) in
       let within : (r i : ℕ) → r < length order.rings → i < length (ring_at order.rings r) → number_at (ring_at order.rings r) i < length new = λ r i l ri.
       let h : number_at (ring_at order.rings r) i < length nexts = (order.each r l).inside i ri in omega arith in
       record {
@@ -205,4 +217,5 @@ short_no_cycle ms short (ring, is) =
     let ra : a.0 < length ms = a.1 in
     let rb : b.0 < length ms = b.1 in
     let same : a.0 ≡ b.0 = omega arith in
-    is.differ 0 1 (omega arith) (omega arith) (sym a.2 ∙ get_or_default ms a.0 (move_at ring 0) (move_at ring 1) ra ∙ ap (λ k. get_or ms k (move_at ring 1)) same ∙ b.2)
+    is.differ 0 1 (omega arith) (omega arith) (sym a.2 ∙ get_or_default ms a.0 (move_at ring 0) (move_at ring 1) ra
+    ∙ ap (λ k. get_or ms k (move_at ring 1)) same ∙ b.2)

@@ -12,6 +12,7 @@ use Rattle.regalloc2_parts.proofs.Chains.{is_todo, set_here, set_there, at_last,
 abbrev pub todo_count : List State → ℕ
 todo_count st = count_by is_todo st
 
+-- a `Todo` move that goes on the chain leaves fewer to do, so following a chain ends
 pub todo_falls : (st : List State) (k : ℕ) → k < length st → state_at st k ≡ Todo → todo_count (set st k Pending) < todo_count st
 unfolding is_todo
 todo_falls st k r e =
@@ -28,7 +29,9 @@ pub record IsFollowing (nexts : List ℕ) (old st : List State) (chain : List �
   pub on : HasGoneOn old st
   pub begun : (at ≡ start) ⊎ (state_at st start ≡ Todo → ⊥)
 
-pub follows_more : (nexts : List ℕ) (old st : List State) (chain : List ℕ) (start at : ℕ) → IsFollowing nexts old st chain start at → length st ≡ length nexts → at < length nexts → state_at st at ≡ Todo → IsFollowing nexts old (set st at Pending) (chain ++ at ∷ []) start (number_at nexts at)
+-- a chain followed to a `Todo` move goes on: that move is pushed, and the one that writes its source comes next
+pub follows_more : (nexts : List ℕ) (old st : List State) (chain : List ℕ) (start at : ℕ) → IsFollowing nexts old st chain start at → length st ≡ length nexts →
+    at < length nexts → state_at st at ≡ Todo → IsFollowing nexts old (set st at Pending) (chain ++ at ∷ []) start (number_at nexts at)
 follows_more nexts old st chain start at had many within todo =
     let short : at < length st = omega arith in
     let more : length (chain ++ at ∷ []) ≡ length chain + 1 = length_push chain at in

@@ -12,13 +12,15 @@ all_kept p [] h = refl
 all_kept p (x ∷ xs) h = rw h.0 (ap (λ l. x ∷ l) (all_kept p xs h.1))
 
 -- what differs from each of a list differs from its member
-apart : (x p : Register) (xs : List Register) (k : ℕ) → AllByRecursion (λ y. is_register x y ≡ false) xs → k < length xs → slice_index_or xs k p ≡ p → is_register x p ≡ false
+apart : (x p : Register) (xs : List Register) (k : ℕ) → AllByRecursion (λ y. is_register x y ≡ false) xs → k < length xs → slice_index_or xs k p ≡ p →
+    is_register x p ≡ false
 apart x p [] k h less at = absurd (omega arith)
 apart x p (y ∷ xs) zero h less at = rw (← at) h.0
 apart x p (y ∷ xs) (suc k) h less at = apart x p xs k h.1 (omega arith) at
 
 -- without its member at k
-pub without : (p : Register) (xs : List Register) (k : ℕ) → IsDistinct is_register xs → k < length xs → slice_index_or xs k p ≡ p → filter (λ r. not (is_register p r)) xs ≡ take k xs ++ drop (suc k) xs
+pub without : (p : Register) (xs : List Register) (k : ℕ) → IsDistinct is_register xs → k < length xs → slice_index_or xs k p ≡ p →
+    filter (λ r. not (is_register p r)) xs ≡ take k xs ++ drop (suc k) xs
 without p [] k d less at = absurd (omega arith)
 without p (x ∷ xs) zero d less at = rw (at, is_register-refl p) (all_kept p xs (rw (← at) (IsDistinct-head is_register x xs d)))
 without p (x ∷ xs) (suc k) d less at =
@@ -26,7 +28,8 @@ without p (x ∷ xs) (suc k) d less at =
     rw other (ap (λ l. x ∷ l) (without p xs k (IsDistinct-tail is_register x xs d) (omega arith) at))
 
 -- the first elements, of which the register is the last
-cut : (p : Register) (xs : List Register) (k : ℕ) → k < length xs → slice_index_or xs k p ≡ p → (length (take (suc k) xs) ≡ suc k) × (drop k (take (suc k) xs) ≡ p ∷ []) × (take k (take (suc k) xs) ≡ take k xs)
+cut : (p : Register) (xs : List Register) (k : ℕ) → k < length xs → slice_index_or xs k p ≡ p → (length (take (suc k) xs) ≡ suc k)
+    × (drop k (take (suc k) xs) ≡ p ∷ []) × (take k (take (suc k) xs) ≡ take k xs)
 cut p [] k less at = absurd (omega arith)
 cut p (x ∷ xs) zero less at = (refl, ap (λ y. y ∷ []) at, refl)
 cut p (x ∷ xs) (suc k) less at =

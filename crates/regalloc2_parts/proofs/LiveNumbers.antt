@@ -35,29 +35,35 @@ differs m n d = by_answer (nat_eq m n) refl
     by_answer false e = refl
 
 -- one more, whose number no other has
-pub one_more : (v : VirtualRegister) (vs : List VirtualRegister) (c : ℕ) → NamesEachOnce vs c → v.number < c → All (λ w. w.number ≢ v.number) vs → NamesEachOnce (v ∷ vs) c
+pub one_more : (v : VirtualRegister) (vs : List VirtualRegister) (c : ℕ) → NamesEachOnce vs c → v.number < c → All (λ w. w.number ≢ v.number) vs →
+    NamesEachOnce (v ∷ vs) c
 one_more v vs c n low absent = record {
   distinct = IsDistinct-cons nat_eq v.number (map (λ (w : VirtualRegister). w.number) vs)
       (recursion_from_All (λ (k : ℕ). nat_eq v.number k ≡ false) (map (λ (w : VirtualRegister). w.number) vs)
       (All-map (λ (k : ℕ). nat_eq v.number k ≡ false) (λ (w : VirtualRegister). w.number) vs
-      (All-weaker (λ (w : VirtualRegister). w.number ≢ v.number) (λ (w : VirtualRegister). nat_eq v.number w.number ≡ false) (λ w d. differs v.number w.number d) vs absent)))
+      (All-weaker (λ (w : VirtualRegister). w.number ≢ v.number) (λ (w : VirtualRegister). nat_eq v.number w.number ≡ false)
+      (λ w d. differs v.number w.number d) vs absent)))
       n.distinct;
   below = All-cons (λ (w : VirtualRegister). w.number < c) v vs low n.below;
 }
 
-fewer_by : (P : ℕ → Type 0) (b : Bool) (v : VirtualRegister) (vs : List VirtualRegister) → P v.number → AllByRecursion P (map (λ w. w.number) vs) → AllByRecursion P (map (λ w. w.number) (cond b (v ∷ vs) vs))
+fewer_by : (P : ℕ → Type 0) (b : Bool) (v : VirtualRegister) (vs : List VirtualRegister) → P v.number → AllByRecursion P (map (λ w. w.number) vs) →
+    AllByRecursion P (map (λ w. w.number) (cond b (v ∷ vs) vs))
 fewer_by P true v vs here rest = (here, rest)
 fewer_by P false v vs here rest = rest
 
-fewer : (P : ℕ → Type 0) (test : VirtualRegister → Bool) (vs : List VirtualRegister) → AllByRecursion P (map (λ w. w.number) vs) → AllByRecursion P (map (λ w. w.number) (filter test vs))
+fewer : (P : ℕ → Type 0) (test : VirtualRegister → Bool) (vs : List VirtualRegister) → AllByRecursion P (map (λ w. w.number) vs) →
+    AllByRecursion P (map (λ w. w.number) (filter test vs))
 fewer P test [] h = h
 fewer P test (v ∷ vs) (here, rest) = fewer_by P (test v) v (filter test vs) here (fewer P test vs rest)
 
-distinct_by : (b : Bool) (v : VirtualRegister) (vs : List VirtualRegister) → AllByRecursion (λ k. nat_eq v.number k ≡ false) (map (λ w. w.number) vs) → IsDistinct nat_eq (map (λ w. w.number) vs) → IsDistinct nat_eq (map (λ w. w.number) (cond b (v ∷ vs) vs))
+distinct_by : (b : Bool) (v : VirtualRegister) (vs : List VirtualRegister) → AllByRecursion (λ k. nat_eq v.number k ≡ false) (map (λ w. w.number) vs) →
+    IsDistinct nat_eq (map (λ w. w.number) vs) → IsDistinct nat_eq (map (λ w. w.number) (cond b (v ∷ vs) vs))
 distinct_by true v vs apart rest = IsDistinct-cons nat_eq v.number (map (λ (w : VirtualRegister). w.number) vs) apart rest
 distinct_by false v vs apart rest = rest
 
-distinct_filter : (test : VirtualRegister → Bool) (vs : List VirtualRegister) → IsDistinct nat_eq (map (λ w. w.number) vs) → IsDistinct nat_eq (map (λ w. w.number) (filter test vs))
+distinct_filter : (test : VirtualRegister → Bool) (vs : List VirtualRegister) → IsDistinct nat_eq (map (λ w. w.number) vs) →
+    IsDistinct nat_eq (map (λ w. w.number) (filter test vs))
 distinct_filter test [] d = d
 distinct_filter test (v ∷ vs) d =
     distinct_by (test v) v (filter test vs)

@@ -1,5 +1,6 @@
 -- Lemmas on moves given out from the last to the first.
-use Rattle.std.proofs.Common.{◌≡◌, ℕ, ◌<◌, Bool, true, false, cond, List, [], ◌∷◌, ◌++◌, length, reverse, set, ◌⊎◌, get_or-set_same, get_or-set_other, refl, sym, ap, ◌∙◌, inl, inr, ⊎_elim, arith}
+use Rattle.std.proofs.Common.{◌≡◌, ℕ, ◌<◌, Bool, true, false, cond, List, [], ◌∷◌, ◌++◌, length, reverse, set, ◌⊎◌, get_or-set_same, get_or-set_other}
+use Rattle.std.proofs.Common.{refl, sym, ap, ◌∙◌, inl, inr, ⊎_elim, arith}
 use Rattle.std.proofs.lemmas.Grind.{common_steps}
 use Rattle.std.proofs.lemmas.Bool.{cases_eq}
 use Rattle.std.proofs.lemmas.List.{reverse-append}
@@ -27,27 +28,34 @@ in_turn-reverse [] c q = refl
 in_turn-reverse (m ∷ ms) c q =
     ap (λ xs. in_turn xs c q) (reverse-append (m ∷ []) ms) ∙ in_turn-push (reverse ms) m c q ∙ in_turn-reverse ms c (before m q)
 
+-- moves run from the last to the first, so one pushed at the end runs first: each origin goes one step back through it
 pub origin-push : (ms : List Ends) (m : Ends) (q : Place) → origin (ms ++ m ∷ []) q ≡ before m (origin ms q)
 unfolding origin
 origin-push [] m q = refl
 origin-push (x ∷ ms) m q = origin-push ms m (before x q)
 
+-- the move at which a cycle is cut takes its value from the scratch place, written as none
 pub source_cut : (cut : ℕ) (ms : List Ends) (k : ℕ) → k ≡ cut → source cut ms k ≡ NoPlace
 source_cut cut ms k e = grind (arith, common_steps)
 
+-- a move other than the one at the cut takes its value from its own source
 pub source_other : (cut : ℕ) (ms : List Ends) (k : ℕ) → (k ≡ cut → ⊥) → source cut ms k ≡ from_at ms k
 source_other cut ms k n = grind (arith, common_steps)
 
+-- after one more move is set to `Done`, a move in that state is the new one or was `Done` before
 pub done_before : (st : List State) (k j : ℕ) → state_at (set st k Done) j ≡ Done → (j ≡ k) ⊎ (state_at st j ≡ Done)
 done_before st k j h =
     ⊎_elim (λ e. inl e) (λ n. inr (sym (get_or-set_other st k j Done Todo n) ∙ h)) (cases_eq j k)
 
+-- setting a move to `Done` leaves those that were `Done` so
 pub done_after : (st : List State) (k j : ℕ) → k < length st → state_at st j ≡ Done → state_at (set st k Done) j ≡ Done
 done_after st k j r h =
     ⊎_elim (λ e. ap (λ i. state_at (set st k Done) i) e ∙ get_or-set_same st k Done Todo r) (λ n. get_or-set_other st k j Done Todo n ∙ h) (cases_eq j k)
 
 -- one more move is given out
-pub gives_one : (cut k : ℕ) (ms : List Ends) (st : List State) (given : List Ends) (m : Ends) → HasGiven cut ms st given → AreApart ms → k < length ms → length st ≡ length ms → (state_at st k ≡ Done → ⊥) → ((j : ℕ) → j < length ms → to_at ms j ≡ source cut ms k → state_at st j ≡ Done) → m.to ≡ to_at ms k → m.from ≡ source cut ms k → HasGiven cut ms (set st k Done) (given ++ m ∷ [])
+pub gives_one : (cut k : ℕ) (ms : List Ends) (st : List State) (given : List Ends) (m : Ends) → HasGiven cut ms st given → AreApart ms → k < length ms →
+    length st ≡ length ms → (state_at st k ≡ Done → ⊥) → ((j : ℕ) → j < length ms → to_at ms j ≡ source cut ms k → state_at st j ≡ Done) → m.to ≡ to_at ms k →
+    m.from ≡ source cut ms k → HasGiven cut ms (set st k Done) (given ++ m ∷ [])
 gives_one cut k ms st given m had apart within same open_ next to_is from_is =
     let short : k < length st = omega arith in
     record {
@@ -56,7 +64,8 @@ gives_one cut k ms st given m had apart within same open_ next to_is from_is =
           let stays : origin given (to_at ms k) ≡ to_at ms k =
           had.kept (to_at ms k) (apart.to_some k within) (λ i inside was is.
           open_ (sym (ap (λ x. state_at st x) (apart.one_writer i k inside within is)) ∙ was)) in
-          ap (λ x. before m (origin given (to_at ms x))) e ∙ ap (before m) stays ∙ before_hit m (to_at ms k) to_is ∙ from_is ∙ sym (ap (λ x. source cut ms x) e))
+          ap (λ x. before m (origin given (to_at ms x))) e ∙ ap (before m) stays ∙ before_hit m (to_at ms k) to_is ∙ from_is
+          ∙ sym (ap (λ x. source cut ms x) e))
           (λ was.
           ap (before m) (had.gave j r was) ∙ before_miss m (source cut ms j) (λ e.
           open_ (had.closed j k r within was (sym to_is ∙ e))))
@@ -71,7 +80,8 @@ gives_one cut k ms st given m had apart within same open_ next to_is from_is =
     }
 
 -- a ring is opened at a move that is not done
-pub opens_ring : (cut : ℕ) (ms : List Ends) (st : List State) (given : List Ends) → HasGiven (length ms) ms st given → (state_at st cut ≡ Done → ⊥) → HasGiven cut ms st given
+pub opens_ring : (cut : ℕ) (ms : List Ends) (st : List State) (given : List Ends) → HasGiven (length ms) ms st given → (state_at st cut ≡ Done → ⊥) →
+    HasGiven cut ms st given
 opens_ring cut ms st given had open_ =
     let same : (k : ℕ) → k < length ms → state_at st k ≡ Done → source (length ms) ms k ≡ source cut ms k =
     λ k r done. source_other (length ms) ms k (λ e. absurd (omega arith)) ∙ sym (source_other cut ms k (λ e. open_ (sym (ap (λ x. state_at st x) e) ∙ done))) in
@@ -82,7 +92,9 @@ opens_ring cut ms st given had open_ =
     }
 
 -- a ring is closed: what was taken from `none` is put there first
-pub closes_ring : (cut : ℕ) (ms : List Ends) (st : List State) (given : List Ends) (m : Ends) → HasGiven cut ms st given → AreApart ms → cut < length ms → ((j : ℕ) → j < length ms → to_at ms j ≡ from_at ms cut → state_at st j ≡ Done) → m.to ≡ NoPlace → m.from ≡ from_at ms cut → HasGiven (length ms) ms st (given ++ m ∷ [])
+pub closes_ring : (cut : ℕ) (ms : List Ends) (st : List State) (given : List Ends) (m : Ends) → HasGiven cut ms st given → AreApart ms → cut < length ms →
+    ((j : ℕ) → j < length ms → to_at ms j ≡ from_at ms cut → state_at st j ≡ Done) → m.to ≡ NoPlace → m.from ≡ from_at ms cut →
+    HasGiven (length ms) ms st (given ++ m ∷ [])
 closes_ring cut ms st given m had apart within next to_is from_is =
     let whole : (k : ℕ) → k < length ms → source (length ms) ms k ≡ from_at ms k =
     λ k r. source_other (length ms) ms k (λ e. absurd (omega arith)) in

@@ -41,6 +41,7 @@ eqb-same n = eq-eqb n n refl
 is_register-same : (a : Register) → is_register a a ≡ true
 is_register-same a = rw (eqb-same (class_code a.class), eqb-same a.number) refl
 
+-- two places for which the test of equality says yes are equal
 pub is_place-true : (p q : Place) → is_place p q ≡ true → p ≡ q
 is_place-true NoPlace NoPlace h = refl
 is_place-true (InRegister r) (InRegister s) h = ap InRegister (is_register-true r s h)
@@ -52,6 +53,7 @@ is_place-true (InRegister r) (InSlot n) h = absurd cc
 is_place-true (InSlot m) NoPlace h = absurd cc
 is_place-true (InSlot m) (InRegister s) h = absurd cc
 
+-- the test of equality says yes of a place and itself
 pub is_place-same : (p : Place) → is_place p p ≡ true
 is_place-same NoPlace = refl
 is_place-same (InRegister r) = is_register-same r
@@ -64,6 +66,7 @@ apart : (b : Bool) (p q : Place) → is_place p q ≡ b → p ≢ q → b ≡ fa
 apart true p q e h = absurd (h (is_place-true p q e))
 apart false p q e h = refl
 
+-- the test of equality says no of two different places
 pub is_place-other : (p q : Place) → p ≢ q → is_place p q ≡ false
 is_place-other p q h = apart (is_place p q) p q refl h
 
@@ -75,15 +78,19 @@ either false p q e = inr (λ same. let no : true ≡ false = sym (is_place-along
 pub cases_place : (p q : Place) → (p ≡ q) ⊎ (p ≢ q)
 cases_place p q = either (is_place p q) p q refl
 
+-- what a move's destination has after it was in the move's source before it
 pub before_hit : (m : Ends) (p : Place) → m.to ≡ p → before m p ≡ m.from
 before_hit m p e = ap (λ b. cond b m.from p) (is_place-along m.to p e)
 
+-- what any place but a move's destination has after it was there before it
 pub before_miss : (m : Ends) (p : Place) → m.to ≢ p → before m p ≡ p
 before_miss m p n = ap (λ b. cond b m.from p) (is_place-other m.to p n)
 
+-- after a write to p, the place p has what was written
 pub moved_here : {X : Type 0} (c : Cells X) (p q : Place) (x : X) → p ≡ q → moved c p x q ≡ x
 moved_here c p q x e = ap (λ b. cond b x (c q)) (is_place-along p q e)
 
+-- a write to p leaves every other place
 pub moved_other : {X : Type 0} (c : Cells X) (p q : Place) (x : X) → p ≢ q → moved c p x q ≡ c q
 moved_other c p q x n = ap (λ b. cond b x (c q)) (is_place-other p q n)
 

@@ -24,7 +24,8 @@ pub was_there : (test : Register → Bool) (xs : List Register) (r : Register) �
 was_there test xs r h = All-contains (Contains xs) (filter test xs) r (All-filter test (Contains xs) xs (All-contains_itself xs)) h
 
 -- with its member in front it has the same members
-pub same_members : (p : Register) (xs : List Register) → Contains xs p → (r : Register) → Contains (p ∷ filter (λ r. not (is_register p r)) xs) r ↔ Contains xs r
+pub same_members : (p : Register) (xs : List Register) → Contains xs p → (r : Register) →
+    Contains (p ∷ filter (λ r. not (is_register p r)) xs) r ↔ Contains xs r
 same_members p xs there r = (onward, back (is_register p r) refl)
   where
     onward : Contains (p ∷ filter (λ r. not (is_register p r)) xs) r → Contains xs r
@@ -40,7 +41,8 @@ pub still_distinct : (p : Register) (xs : List Register) → IsDistinct is_regis
 still_distinct p xs d =
     IsDistinct-cons is_register p (filter (λ r. not (is_register p r)) xs)
     (recursion_from_All (λ (r : Register). is_register p r ≡ false) (filter (λ r. not (is_register p r)) xs)
-    (All-weaker (λ (r : Register). not (is_register p r) ≡ true) (λ (r : Register). is_register p r ≡ false) (λ r. turned (is_register p r)) (filter (λ r. not (is_register p r)) xs)
+    (All-weaker (λ (r : Register). not (is_register p r) ≡ true) (λ (r : Register). is_register p r ≡ false) (λ r. turned (is_register p r))
+    (filter (λ r. not (is_register p r)) xs)
     (filter_passes (λ r. not (is_register p r)) xs)))
     (filter-distinct (λ r. not (is_register p r)) xs d)
   where

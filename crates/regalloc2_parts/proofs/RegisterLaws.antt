@@ -12,6 +12,7 @@ use Rattle.regalloc2_names.specs.Register.{Register, class_code, is_register}
 self-eq : (n : ℕ) → nat_eq n n ≡ true
 self-eq n = eq-eqb n n refl
 
+-- the test of equality says yes of a preg and itself
 pub is_register-refl : (r : Register) → is_register r r ≡ true
 is_register-refl r = rw (self-eq (class_code r.class), self-eq r.number) refl
 
@@ -61,7 +62,9 @@ filter-distinct test [] d = d
 filter-distinct test (x ∷ xs) d = kept (test x) (filter-distinct test xs (IsDistinct-tail is_register x xs d))
   where
     apart : AllByRecursion (λ y. is_register x y ≡ false) (filter test xs)
-    apart = recursion_from_All (λ (y : Register). is_register x y ≡ false) (filter test xs) (All-filter test (λ (y : Register). is_register x y ≡ false) xs (All-from_recursion (λ (y : Register). is_register x y ≡ false) xs (IsDistinct-head is_register x xs d)))
+    apart = recursion_from_All (λ (y : Register). is_register x y ≡ false) (filter test xs)
+        (All-filter test (λ (y : Register). is_register x y ≡ false) xs
+        (All-from_recursion (λ (y : Register). is_register x y ≡ false) xs (IsDistinct-head is_register x xs d)))
 
     kept : (t : Bool) → IsDistinct is_register (filter test xs) → IsDistinct is_register (cond t (x ∷ filter test xs) (filter test xs))
     kept true h = IsDistinct-cons is_register x (filter test xs) apart h

@@ -1,11 +1,13 @@
 -- Lemmas on the moves that are answered.
-use Rattle.std.proofs.Common.{◌≡◌, ◌≢◌, ℕ, ◌+◌, ◌-◌, ◌<◌, ◌≤◌, Bool, true, false, IsTrue, List, [], ◌∷◌, ◌++◌, length, reverse, get_or, inl, inr, refl, sym, ap, ◌∙◌, subst, ⊎_elim, arith}
+use Rattle.std.proofs.Common.{◌≡◌, ◌≢◌, ℕ, ◌+◌, ◌-◌, ◌<◌, ◌≤◌, Bool, true, false, IsTrue, List, [], ◌∷◌, ◌++◌, length, reverse, get_or, inl, inr}
+use Rattle.std.proofs.Common.{refl, sym, ap, ◌∙◌, subst, ⊎_elim, arith}
 use Rattle.std.specs.List.{All}
 use Rattle.std.specs.Prelude.{Contains}
 use Rattle.std.proofs.lemmas.List.{get_or-map, get_or-reverse, length-reverse, map-append, reverse-append}
 use Rattle.std.proofs.lemmas.List.Elements.{All-contains, Contains-get_or}
 use Rattle.regalloc2_names.specs.Place.{Place, NoPlace}
-use Rattle.regalloc2_parts.specs.AtOnce.{Ends, ends, ends_of, names, in_turn, AreAtOnce, AreReal, IsRealMove, IsPlace, HasOneSourceEach, IsOfMoves, WritesNoneFirst}
+use Rattle.regalloc2_parts.specs.AtOnce.{Ends, ends, ends_of, names, in_turn, AreAtOnce, AreReal, IsRealMove, IsPlace, HasOneSourceEach, IsOfMoves}
+use Rattle.regalloc2_parts.specs.AtOnce.{WritesNoneFirst}
 use Rattle.regalloc2_parts.specs.Cycles.{IsCounted}
 use Rattle.regalloc2_parts.specs.Resolved.{IsResolution, AreBetweenPlaces}
 use Rattle.regalloc2_parts.specs.Giving.{number_at, AreApart, AreFair, AreProper, AreNexts, AreBetween, IsTidied, IsOrder}
@@ -39,12 +41,14 @@ module _ {T : Type 0} where
       subst P (sym (get_or-map ends ms h.0 d m within) ∙ h.2) (had h.0 d within)
 
   pub real_proper : (ms : List (Place × Place × T)) → AreReal ms → AreProper (ends_of ms)
-  real_proper ms real m h = of_ends (λ (m : Ends). IsPlace m.from × IsPlace m.to) ms (λ k d r. let one : IsRealMove (get_or ms k d) = real k d r in (one.0, one.1)) m h
+  real_proper ms real m h = of_ends (λ (m : Ends). IsPlace m.from × IsPlace m.to) ms
+      (λ k d r. let one : IsRealMove (get_or ms k d) = real k d r in (one.0, one.1)) m h
 
   pub real_fair : (ms : List (Place × Place × T)) → HasOneSourceEach (ends_of ms) → AreReal ms → AreFair (ends_of ms)
   real_fair ms one real = record {
     one_source = one;
-    real = λ m h. of_ends (λ (m : Ends). (m.from ≡ NoPlace → ⊥) × (m.to ≡ NoPlace → ⊥)) ms (λ k d r. let it : IsRealMove (get_or ms k d) = real k d r in (it.2, it.3)) m h;
+    real = λ m h. of_ends (λ (m : Ends). (m.from ≡ NoPlace → ⊥) × (m.to ≡ NoPlace → ⊥)) ms
+        (λ k d r. let it : IsRealMove (get_or ms k d) = real k d r in (it.2, it.3)) m h;
   }
 
   between_fair : (ms : List (Place × Place × T)) → AreReal ms → AreBetweenPlaces ms
@@ -59,19 +63,22 @@ module _ {T : Type 0} where
 
   ends_reverse : (ms : List (Place × Place × T)) → ends_of (reverse ms) ≡ reverse (ends_of ms)
   ends_reverse [] = refl
-  ends_reverse (m ∷ ms) = ap ends_of (reverse-append (m ∷ []) ms) ∙ map-append ends (reverse ms) (m ∷ []) ∙ ap (λ xs. xs ++ ends m ∷ []) (ends_reverse ms) ∙ sym (reverse-append (ends m ∷ []) (ends_of ms))
+  ends_reverse (m ∷ ms) = ap ends_of (reverse-append (m ∷ []) ms) ∙ map-append ends (reverse ms) (m ∷ []) ∙ ap (λ xs. xs ++ ends m ∷ []) (ends_reverse ms)
+      ∙ sym (reverse-append (ends m ∷ []) (ends_of ms))
 
   of_all : (ms : List (Place × Place × T)) → All (IsOfMoves ms) ms
   of_all ms k d r = of_itself ms (get_or ms k d) (Contains-get_or ms k d r)
 
   -- a move of some of the moves is one of them all
-  of_more : (old new : List (Place × Place × T)) → ((m : Place × Place × T) → Contains new m → Contains old m) → (m : Place × Place × T) → IsOfMoves new m → IsOfMoves old m
+  of_more : (old new : List (Place × Place × T)) → ((m : Place × Place × T) → Contains new m → Contains old m) → (m : Place × Place × T) → IsOfMoves new m →
+      IsOfMoves old m
   of_more old new given m h = ⊎_elim
       (λ a. inl (a.0, a.1, given a.1 a.2, a.3))
       (λ b. inr (b.0, given b.0 b.1, b.2, b.3, b.4))
       h
 
-  all_tidied : (old new : List (Place × Place × T)) → ((m : Place × Place × T) → Contains new m → Contains old m) → (P : Place × Place × T → Type 0) → All P old → All P new
+  all_tidied : (old new : List (Place × Place × T)) → ((m : Place × Place × T) → Contains new m → Contains old m) → (P : Place × Place × T → Type 0) →
+      All P old → All P new
   all_tidied old new given P had k d r = All-contains P old (get_or new k d) had (given (get_or new k d) (Contains-get_or new k d r))
 
   -- no move, or one
@@ -90,7 +97,9 @@ module _ {T : Type 0} where
       }
 
   -- moves of which no source is a destination
-  pub resolves_free : (old new : List (Place × Place × T)) (nexts : List ℕ) → HasOneSourceEach (ends_of old) → AreReal old → 1 < length old → IsTidied (ends_of old) (ends_of new) → ((m : Place × Place × T) → Contains new m → Contains old m) → AreNexts (ends_of new) nexts → ((k : ℕ) → k < length nexts → length nexts ≤ number_at nexts k) → IsResolution old false new
+  pub resolves_free : (old new : List (Place × Place × T)) (nexts : List ℕ) → HasOneSourceEach (ends_of old) → AreReal old → 1 < length old →
+      IsTidied (ends_of old) (ends_of new) → ((m : Place × Place × T) → Contains new m → Contains old m) → AreNexts (ends_of new) nexts →
+      ((k : ℕ) → k < length nexts → length nexts ≤ number_at nexts k) → IsResolution old false new
   resolves_free old new nexts one real long tidied given ns free =
       let fair : AreFair (ends_of old) = real_fair old one real in
       let apart : AreApart (ends_of new) = tidied_apart (ends_of old) (ends_of new) fair tidied in
@@ -107,7 +116,10 @@ module _ {T : Type 0} where
       }
 
   -- what was given out, turned round
-  pub resolves_order : (old new given made : List (Place × Place × T)) (nexts : List ℕ) (scratch : Bool) → HasOneSourceEach (ends_of old) → AreReal old → 1 < length old → IsTidied (ends_of old) (ends_of new) → ((m : Place × Place × T) → Contains new m → Contains old m) → AreNexts (ends_of new) nexts → IsOrder (ends_of new) nexts (ends_of given) → All (IsOfMoves new) given → made ≡ reverse given → (scratch ≡ true → length new < length made) → (scratch ≡ false → length made ≤ length new) → IsResolution old scratch made
+  pub resolves_order : (old new given made : List (Place × Place × T)) (nexts : List ℕ) (scratch : Bool) → HasOneSourceEach (ends_of old) → AreReal old →
+      1 < length old → IsTidied (ends_of old) (ends_of new) → ((m : Place × Place × T) → Contains new m → Contains old m) → AreNexts (ends_of new) nexts →
+      IsOrder (ends_of new) nexts (ends_of given) → All (IsOfMoves new) given → made ≡ reverse given → (scratch ≡ true → length new < length made) →
+      (scratch ≡ false → length made ≤ length new) → IsResolution old scratch made
   resolves_order old new given made nexts scratch one real long tidied of_old ns order of_moves turned more few =
       let fair : AreFair (ends_of old) = real_fair old one real in
       let apart : AreApart (ends_of new) = tidied_apart (ends_of old) (ends_of new) fair tidied in
@@ -120,13 +132,18 @@ module _ {T : Type 0} where
         at_once = subst (λ xs. AreAtOnce (ends_of old) names (in_turn xs names)) (sym made_ends)
             (ordered_at_once (ends_of old) (ends_of new) (ends_of given) names fair tidied order.takes);
         cyclic = (
-          λ e. more_cycle (ends_of old) (ends_of new) nexts fair tidied apart ns (ends_of given) order (let l : length new < length made = more e in omega arith),
-          λ has. decided scratch (λ e. no_more_cycle (ends_of old) (ends_of new) nexts fair tidied apart ns (ends_of given) order (let l : length made ≤ length new = few e in omega arith) has),
+          λ e. more_cycle (ends_of old) (ends_of new) nexts fair tidied apart ns (ends_of given) order
+              (let l : length new < length made = more e in omega arith),
+          λ has. decided scratch (λ e. no_more_cycle (ends_of old) (ends_of new) nexts fair tidied apart ns (ends_of given) order
+              (let l : length made ≤ length new = few e in omega arith) has),
         );
-        counted = λ l. subst (λ n. IsCounted (ends_of old) n) (size ∙ sym same) (order_counted (ends_of old) (ends_of new) nexts fair tidied apart ns (ends_of given) order);
+        counted = λ l. subst (λ n. IsCounted (ends_of old) n) (size ∙ sym same)
+            (order_counted (ends_of old) (ends_of new) nexts fair tidied apart ns (ends_of given) order);
         short = λ s. absurd (omega arith);
-        of_moves = subst (λ xs. All (IsOfMoves old) xs) (sym turned) (All-reversed (IsOfMoves old) given (λ k d r. of_more old new of_old (get_or given k d) (of_moves k d r)));
+        of_moves = subst (λ xs. All (IsOfMoves old) xs) (sym turned) (All-reversed (IsOfMoves old) given
+            (λ k d r. of_more old new of_old (get_or given k d) (of_moves k d r)));
         plain = λ e. let l : length made ≤ length new = few e in
-            subst (λ xs. AreBetweenPlaces xs) (sym turned) (All-reversed (λ (m : Place × Place × T). (m.0 ≢ NoPlace) × (m.1 ≢ NoPlace)) given (of_between given (order.plain (omega arith))));
+            subst (λ xs. AreBetweenPlaces xs) (sym turned) (All-reversed (λ (m : Place × Place × T). (m.0 ≢ NoPlace) × (m.1 ≢ NoPlace)) given
+            (of_between given (order.plain (omega arith))));
         written = subst (λ xs. WritesNoneFirst xs) (sym made_ends) order.written;
       }

@@ -1,5 +1,6 @@
 -- Lemmas on the rings that are met as moves are given out.
-use Rattle.std.proofs.Common.{◌≡◌, ℕ, zero, suc, ◌+◌, ◌-◌, ◌*◌, ◌<◌, ◌≤◌, cond, List, [], ◌∷◌, ◌++◌, length, set, drop, replicate, ◌⊎◌, refl, sym, ap, ◌∙◌, subst, inl, inr, ⊎_elim, arith}
+use Rattle.std.proofs.Common.{◌≡◌, ℕ, zero, suc, ◌+◌, ◌-◌, ◌*◌, ◌<◌, ◌≤◌, cond, List, [], ◌∷◌, ◌++◌, length, set, drop, replicate, ◌⊎◌, refl, sym, ap}
+use Rattle.std.proofs.Common.{◌∙◌, subst, inl, inr, ⊎_elim, arith}
 use Rattle.std.proofs.lemmas.Bool.{cases_eq, cases_lt}
 use Rattle.std.proofs.lemmas.List.{get_or-drop, length-drop, get_or_append_left, get_or-append-add, length-append}
 use Rattle.std.proofs.lemmas.List.Sums.{sum_by-set, sum_by-cons}
@@ -7,7 +8,8 @@ use Rattle.std.proofs.lemmas.List.Folds.{sum_by-replicate}
 use Rattle.std.specs.List.{count_by}
 use Rattle.regalloc2_parts.specs.declared.moves.order.State.{State}
 use Rattle.regalloc2_parts.specs.declared.moves.order.State.TheVariants.{Todo, Pending, Done}
-use Rattle.regalloc2_parts.specs.Giving.{state_at, number_at, is_done, ring_at, IsRingOf, StandsIn, HasRings, AreRingsDone, IsChain, IsNextDone, AreSameDone, HasGoneOn, IsSettled}
+use Rattle.regalloc2_parts.specs.Giving.{state_at, number_at, is_done, ring_at, IsRingOf, StandsIn, HasRings, AreRingsDone, IsChain, IsNextDone}
+use Rattle.regalloc2_parts.specs.Giving.{AreSameDone, HasGoneOn, IsSettled}
 use Rattle.regalloc2_parts.proofs.Chains.{set_here, set_there, length_push, at_end, at_left, at_last, todo_done, pending_done, todo_pending, is_done_else}
 use Rattle.regalloc2_parts.proofs.Orders.{done_before, done_after}
 
@@ -55,7 +57,8 @@ count_same [] [] e same = refl
 count_same [] (t ∷ st) e same = absurd (omega arith)
 count_same (s ∷ old) [] e same = absurd (omega arith)
 count_same (s ∷ old) (t ∷ st) e same =
-    let later : count_by is_done st ≡ count_by is_done old = count_same old st (omega arith) (record { stays = λ k. same.stays (suc k); was = λ k. same.was (suc k) }) in
+    let later : count_by is_done st ≡ count_by is_done old = count_same old st (omega arith)
+    (record { stays = λ k. same.stays (suc k); was = λ k. same.was (suc k) }) in
     let here : ◌≡◌ {A = ℕ} (cond (is_done t) 1 0) (cond (is_done s) 1 0) = done_alike s t (same.stays 0) (same.was 0) in
     let old_parts : count_by is_done (s ∷ old) ≡ cond (is_done s) 1 0 + count_by is_done old = sum_by-cons (λ x. cond (is_done x) 1 0) s old in
     let new_parts : count_by is_done (t ∷ st) ≡ cond (is_done t) 1 0 + count_by is_done st = sum_by-cons (λ x. cond (is_done x) 1 0) t st in
@@ -73,23 +76,34 @@ finds (x ∷ ks) k = ⊎_elim
     (finds ks k))
     (cases_eq x k)
   where
-    later : (x : ℕ) (ks : List ℕ) (k : ℕ) → (x ≡ k → ⊥) → ((i : ℕ) → i < length ks → number_at ks i ≡ k → ⊥) → (i : ℕ) → i < length (x ∷ ks) → number_at (x ∷ ks) i ≡ k → ⊥
+    later : (x : ℕ) (ks : List ℕ) (k : ℕ) → (x ≡ k → ⊥) → ((i : ℕ) → i < length ks → number_at ks i ≡ k → ⊥) → (i : ℕ) → i < length (x ∷ ks) →
+        number_at (x ∷ ks) i ≡ k → ⊥
     later x ks k n m zero r e = n e
     later x ks k n m (suc i) r e = m i (omega arith) e
 
 -- each move of a ring comes after another of the same ring
-pub before_in_ring : (nexts ring : List ℕ) (i : ℕ) → IsRingOf nexts ring → i < length ring → (j : ℕ) × (j < length ring) × (number_at nexts (number_at ring j) ≡ number_at ring i) × (number_at ring j ≡ number_at ring i → ⊥)
+pub before_in_ring : (nexts ring : List ℕ) (i : ℕ) → IsRingOf nexts ring → i < length ring → (j : ℕ) × (j < length ring)
+    × (number_at nexts (number_at ring j) ≡ number_at ring i) × (number_at ring j ≡ number_at ring i → ⊥)
 before_in_ring nexts ring zero is r =
     let many : 2 ≤ length ring = is.many in
     (length ring - 1, omega arith, is.closed (length ring - 1) (omega arith), λ e. is.differ 0 (length ring - 1) (omega arith) (omega arith) (sym e))
-before_in_ring nexts ring (suc i) is r =
-    (i, omega arith, is.linked i (omega arith) ∙ ap (λ x. number_at ring x) (let e : i + 1 ≡ suc i = omega arith in e), λ e. is.differ i (suc i) (omega arith) r e)
+before_in_ring nexts ring (suc i) is r = (
+  i,
+  omega arith,
+  is.linked i (omega arith) ∙ ap (λ x. number_at ring x) (let e : i + 1 ≡ suc i = omega arith in e),
+  λ e. is.differ i (suc i) (omega arith) r e,
+)
 
 -- where all that was done before went on to what is done, a ring is not ended by one move more
-ring_ended : (nexts : List ℕ) (st : List State) (rings : List (List ℕ)) (k : ℕ) → length st ≡ length nexts → k < length nexts → (state_at st k ≡ Done → ⊥) → ((j : ℕ) → j < length nexts → state_at st j ≡ Done → number_at nexts j < length nexts → (state_at st (number_at nexts j) ≡ Done) ⊎ StandsIn rings j) → ((ring : List ℕ) → IsRingOf nexts ring → ((i : ℕ) → i < length ring → state_at st (number_at ring i) ≡ Done) → (i : ℕ) × (i < length ring) × StandsIn rings (number_at ring i)) → (ring : List ℕ) → IsRingOf nexts ring → ((i : ℕ) → i < length ring → state_at (set st k Done) (number_at ring i) ≡ Done) → (i : ℕ) × (i < length ring) × StandsIn rings (number_at ring i)
+ring_ended : (nexts : List ℕ) (st : List State) (rings : List (List ℕ)) (k : ℕ) → length st ≡ length nexts → k < length nexts → (state_at st k ≡ Done → ⊥) →
+    ((j : ℕ) → j < length nexts → state_at st j ≡ Done → number_at nexts j < length nexts → (state_at st (number_at nexts j) ≡ Done) ⊎ StandsIn rings j) →
+    ((ring : List ℕ) → IsRingOf nexts ring → ((i : ℕ) → i < length ring → state_at st (number_at ring i) ≡ Done) → (i : ℕ) × (i < length ring)
+    × StandsIn rings (number_at ring i)) → (ring : List ℕ) → IsRingOf nexts ring →
+    ((i : ℕ) → i < length ring → state_at (set st k Done) (number_at ring i) ≡ Done) → (i : ℕ) × (i < length ring) × StandsIn rings (number_at ring i)
 ring_ended nexts st rings k many within open_ onward whole ring is done = ⊎_elim
     (λ f. let at : (i : ℕ) × (i < length ring) × (number_at ring i ≡ k) = f in
-    let pre : (j : ℕ) × (j < length ring) × (number_at nexts (number_at ring j) ≡ number_at ring at.0) × (number_at ring j ≡ number_at ring at.0 → ⊥) = before_in_ring nexts ring at.0 is at.1 in
+    let pre : (j : ℕ) × (j < length ring) × (number_at nexts (number_at ring j) ≡ number_at ring at.0)
+    × (number_at ring j ≡ number_at ring at.0 → ⊥) = before_in_ring nexts ring at.0 is at.1 in
     let to_k : number_at nexts (number_at ring pre.0) ≡ k = pre.2 ∙ at.2 in
     let was : state_at st (number_at ring pre.0) ≡ Done = ⊎_elim
     (λ e. absurd (pre.3 (e ∙ sym at.2)))
@@ -104,7 +118,8 @@ ring_ended nexts st rings k many within open_ onward whole ring is done = ⊎_el
     (finds ring k)
 
 -- one more move is done, whose next is done or missing
-pub rings_one : (nexts : List ℕ) (st : List State) (count k : ℕ) → HasRings nexts st count → length st ≡ length nexts → k < length nexts → (state_at st k ≡ Done → ⊥) → IsNextDone nexts st k → HasRings nexts (set st k Done) (count + 1)
+pub rings_one : (nexts : List ℕ) (st : List State) (count k : ℕ) → HasRings nexts st count → length st ≡ length nexts → k < length nexts →
+    (state_at st k ≡ Done → ⊥) → IsNextDone nexts st k → HasRings nexts (set st k Done) (count + 1)
 rings_one nexts st count k had many within open_ ready =
     let short : k < length st = omega arith in
     let more : count_by is_done (set st k Done) ≡ count_by is_done st + 1 = count_done st k short open_ in
@@ -118,7 +133,8 @@ rings_one nexts st count k had many within open_ ready =
           (λ n. had.reached j s (sym (set_there st k j Done n) ∙ e))
           (cases_eq j k);
       onward = λ j r done goes. ⊎_elim
-          (λ same. inl (done_after st k (number_at nexts j) short (ap (λ x. state_at st (number_at nexts x)) same ∙ ready (subst (λ x. number_at nexts x < length nexts) same goes))))
+          (λ same. inl (done_after st k (number_at nexts j) short (ap (λ x. state_at st (number_at nexts x)) same
+          ∙ ready (subst (λ x. number_at nexts x < length nexts) same goes))))
           (λ d. ⊎_elim (λ e. inl (done_after st k (number_at nexts j) short e)) (λ s. inr s) (had.onward j r d goes))
           (done_before st k j done);
       whole = ring_ended nexts st had.rings k many within open_ had.onward had.whole;
@@ -129,7 +145,8 @@ ring_old : (rings : List (List ℕ)) (ring : List ℕ) (r : ℕ) → r < length 
 ring_old rings ring r low = get_or_append_left rings (ring ∷ []) [] r low
 
 ring_new : (rings : List (List ℕ)) (ring : List ℕ) (r : ℕ) → r ≡ length rings → ring_at (rings ++ ring ∷ []) r ≡ ring
-ring_new rings ring r e = ap (λ x. ring_at (rings ++ ring ∷ []) x) (e ∙ (let f : length rings ≡ length rings + 0 = omega arith in f)) ∙ get_or-append-add rings (ring ∷ []) 0 []
+ring_new rings ring r e = ap (λ x. ring_at (rings ++ ring ∷ []) x) (e ∙ (let f : length rings ≡ length rings + 0 = omega arith in f))
+    ∙ get_or-append-add rings (ring ∷ []) 0 []
 
 stands_old : (rings : List (List ℕ)) (ring : List ℕ) (k : ℕ) → StandsIn rings k → StandsIn (rings ++ ring ∷ []) k
 stands_old rings ring k s =
@@ -145,7 +162,8 @@ stands_new rings ring k i r e =
     (length rings, i, omega arith, subst (λ x. i < length x) (sym same) r, ap (λ x. number_at x i) same ∙ e)
 
 -- a move of the rings with one more is one of the old ones, or of the new one
-stands_cases : (rings : List (List ℕ)) (ring : List ℕ) (k : ℕ) → StandsIn (rings ++ ring ∷ []) k → StandsIn rings k ⊎ ((i : ℕ) × (i < length ring) × (number_at ring i ≡ k))
+stands_cases : (rings : List (List ℕ)) (ring : List ℕ) (k : ℕ) → StandsIn (rings ++ ring ∷ []) k → StandsIn rings k
+    ⊎ ((i : ℕ) × (i < length ring) × (number_at ring i ≡ k))
 stands_cases rings ring k s =
     let more : length (rings ++ ring ∷ []) ≡ length rings + 1 = length-append rings (ring ∷ []) in
     ⊎_elim
@@ -157,7 +175,8 @@ stands_cases rings ring k s =
     (cases_lt s.0 (length rings))
 
 -- the moves of a chain from the one that its last leads back to are a ring
-pub chain_ring : (nexts : List ℕ) (st : List State) (chain : List ℕ) (k next i : ℕ) → IsChain nexts st (chain ++ k ∷ []) → number_at nexts k ≡ next → i < length chain → number_at chain i ≡ next → IsRingOf nexts (drop i (chain ++ k ∷ []))
+pub chain_ring : (nexts : List ℕ) (st : List State) (chain : List ℕ) (k next i : ℕ) → IsChain nexts st (chain ++ k ∷ []) → number_at nexts k ≡ next →
+    i < length chain → number_at chain i ≡ next → IsRingOf nexts (drop i (chain ++ k ∷ []))
 chain_ring nexts st chain k next i is next_is low at_i =
     let all : List ℕ = chain ++ k ∷ [] in
     let more : length all ≡ length chain + 1 = length_push chain k in
@@ -173,7 +192,9 @@ chain_ring nexts st chain k next i is next_is low at_i =
     }
 
 -- a ring is opened at the last move of the chain
-pub rings_open : (nexts : List ℕ) (st : List State) (count : ℕ) (chain : List ℕ) (k next i : ℕ) → (had : HasRings nexts st count) → AreRingsDone st had.rings → length st ≡ length nexts → IsChain nexts st (chain ++ k ∷ []) → number_at nexts k ≡ next → i < length chain → number_at chain i ≡ next → HasRings nexts (set st k Done) (count + 2)
+pub rings_open : (nexts : List ℕ) (st : List State) (count : ℕ) (chain : List ℕ) (k next i : ℕ) → (had : HasRings nexts st count) → AreRingsDone st had.rings →
+    length st ≡ length nexts → IsChain nexts st (chain ++ k ∷ []) → number_at nexts k ≡ next → i < length chain → number_at chain i ≡ next →
+    HasRings nexts (set st k Done) (count + 2)
 rings_open nexts st count chain k next i had are_done many is next_is low at_i =
     let all : List ℕ = chain ++ k ∷ [] in
     let longer : length all ≡ length chain + 1 = length_push chain k in
@@ -229,13 +250,15 @@ rings_open nexts st count chain k next i had are_done many is next_is low at_i =
           (done_before st k j done);
       whole = λ q q_is done. ring_ended nexts st rings k many within open_
           (λ j r d goes. ⊎_elim (λ e. inl e) (λ s. inr (stands_old had.rings ring j s)) (had.onward j r d goes))
-          (λ p p_is p_done. let old : (a : ℕ) × (a < length p) × StandsIn had.rings (number_at p a) = had.whole p p_is p_done in (old.0, old.1, stands_old had.rings ring (number_at p old.0) old.2))
+          (λ p p_is p_done. let old : (a : ℕ) × (a < length p) × StandsIn had.rings (number_at p a) = had.whole p p_is p_done in
+          (old.0, old.1, stands_old had.rings ring (number_at p old.0) old.2))
           q q_is done;
       counted = omega arith;
     }
 
 -- states of which the same moves are done, and in which none is again to be done
-pub rings_same : (nexts : List ℕ) (old st : List State) (count : ℕ) → (had : HasRings nexts old count) → AreSameDone old st → HasGoneOn old st → count_by is_done st ≡ count_by is_done old → HasRings nexts st count
+pub rings_same : (nexts : List ℕ) (old st : List State) (count : ℕ) → (had : HasRings nexts old count) → AreSameDone old st → HasGoneOn old st →
+    count_by is_done st ≡ count_by is_done old → HasRings nexts st count
 rings_same nexts old st count had same on counts =
     let was : count ≡ count_by is_done old + length had.rings = had.counted in
     record {
@@ -249,14 +272,16 @@ rings_same nexts old st count had same on counts =
     }
 
 -- where no move is pending, what stands in a ring is done
-pub rings_settled : (nexts : List ℕ) (st : List State) (count : ℕ) (had : HasRings nexts st count) → IsSettled st → length st ≡ length nexts → AreRingsDone st had.rings
+pub rings_settled : (nexts : List ℕ) (st : List State) (count : ℕ) (had : HasRings nexts st count) → IsSettled st → length st ≡ length nexts →
+    AreRingsDone st had.rings
 rings_settled nexts st count had settled many k s =
     let e : number_at (ring_at had.rings s.0) s.1 ≡ k = s.4 in
     let within : k < length nexts = subst (λ x. x < length nexts) e ((had.each s.0 s.2).inside s.1 s.3) in
     is_done_else (state_at st k) (had.reached k s) (settled k (omega arith))
 
 -- the same rings, all done, after a chain was followed from a state in which no move was pending
-pub rings_follow : (nexts : List ℕ) (old st : List State) (count : ℕ) → HasRings nexts old count → IsSettled old → length old ≡ length nexts → AreSameDone old st → HasGoneOn old st → length st ≡ length old → (had : HasRings nexts st count) × AreRingsDone st had.rings
+pub rings_follow : (nexts : List ℕ) (old st : List State) (count : ℕ) → HasRings nexts old count → IsSettled old → length old ≡ length nexts →
+    AreSameDone old st → HasGoneOn old st → length st ≡ length old → (had : HasRings nexts st count) × AreRingsDone st had.rings
 unfolding rings_same
 rings_follow nexts old st count had settled many same on long =
     (rings_same nexts old st count had same on (count_same old st long same), λ k s. same.stays k (rings_settled nexts old count had settled many k s))

@@ -5,7 +5,8 @@ use Rattle.regalloc2_names.specs.Place.{NoPlace}
 use Rattle.regalloc2_parts.specs.AtOnce.{Ends, WritesNoneFirst}
 use Rattle.regalloc2_parts.specs.declared.moves.order.State.{State}
 use Rattle.regalloc2_parts.specs.declared.moves.order.State.TheVariants.{Pending, Done}
-use Rattle.regalloc2_parts.specs.Giving.{from_at, to_at, state_at, number_at, source, AreApart, AreNexts, HasGiven, IsNextDone, IsChain, IsRing, IsGiving, HasGivenWhole, HasRings, AreRingsDone, HasWrittenFirst, IsPlain, is_done}
+use Rattle.regalloc2_parts.specs.Giving.{from_at, to_at, state_at, number_at, source, AreApart, AreNexts, HasGiven, IsNextDone, IsChain, IsRing}
+use Rattle.regalloc2_parts.specs.Giving.{IsGiving, HasGivenWhole, HasRings, AreRingsDone, HasWrittenFirst, IsPlain, is_done}
 use Rattle.regalloc2_parts.proofs.Orders.{done_after, gives_one, opens_ring, closes_ring, source_other, source_cut}
 use Rattle.regalloc2_parts.proofs.Chains.{length_push, at_end, at_left, at_last, left_or_last, set_here, chain_pop, ready_pop, writers_done, pending_done}
 use Rattle.std.specs.List.{count_by}
@@ -23,7 +24,8 @@ unfolding WritesNoneFirst
 written_close given m real into = subst (λ x. WritesNoneFirst x) (sym (reverse-append given (m ∷ []))) (real, λ n. absurd (n into))
 
 -- a move from a place to a place is given out
-plain_push : (st : List State) (k : ℕ) (given : List Ends) (m : Ends) → k < length st → (state_at st k ≡ Done → ⊥) → (m.from ≡ NoPlace → ⊥) → (m.to ≡ NoPlace → ⊥) → IsPlain st given → IsPlain (set st k Done) (given ++ m ∷ [])
+plain_push : (st : List State) (k : ℕ) (given : List Ends) (m : Ends) → k < length st → (state_at st k ≡ Done → ⊥) → (m.from ≡ NoPlace → ⊥) →
+    (m.to ≡ NoPlace → ⊥) → IsPlain st given → IsPlain (set st k Done) (given ++ m ∷ [])
 plain_push st k given m short open_ from to had same =
     let e : length (given ++ m ∷ []) ≡ length given + 1 = length-append given (m ∷ []) in
     let f : count_by is_done (set st k Done) ≡ count_by is_done st + 1 = count_done st k short open_ in
@@ -34,11 +36,20 @@ one_more given m = length-append given (m ∷ [])
 
 module _ (ms : List Ends) (nexts : List ℕ) (apart : AreApart ms) (ns : AreNexts ms nexts) where
   -- the chain is given out as it stands
-  pub gives_start : (st : List State) (chain : List ℕ) (given : List Ends) → HasGivenWhole ms nexts st given → IsChain nexts st chain → ((i : ℕ) → i + 1 ≡ length chain → IsNextDone nexts st (number_at chain i)) → IsGiving ms nexts st chain given (length ms) (length ms)
-  gives_start st chain given had is ready = record { had = had.had; is_chain = is; ready = ready; ring = inl (record { cut_past = refl; first_past = refl; rings = had.rings; written = had.written; plain = had.plain }) }
+  pub gives_start : (st : List State) (chain : List ℕ) (given : List Ends) → HasGivenWhole ms nexts st given → IsChain nexts st chain →
+      ((i : ℕ) → i + 1 ≡ length chain → IsNextDone nexts st (number_at chain i)) → IsGiving ms nexts st chain given (length ms) (length ms)
+  gives_start st chain given had is ready = record {
+    had = had.had;
+    is_chain = is;
+    ready = ready;
+    ring = inl (record { cut_past = refl; first_past = refl; rings = had.rings; written = had.written; plain = had.plain });
+  }
 
   -- the chain ends in a ring: its last move is given out as one from `none`
-  pub gives_ring : (st : List State) (chain : List ℕ) (given : List Ends) (k next : ℕ) (m : Ends) → HasGiven (length ms) ms st given → (rings : HasRings nexts st (length given)) → AreRingsDone st rings.rings → IsChain nexts st (chain ++ k ∷ []) → length st ≡ length ms → number_at nexts k ≡ next → next < length ms → state_at st next ≡ Pending → m.to ≡ to_at ms k → m.from ≡ NoPlace → IsGiving ms nexts (set st k Done) chain (given ++ m ∷ []) k next
+  pub gives_ring : (st : List State) (chain : List ℕ) (given : List Ends) (k next : ℕ) (m : Ends) → HasGiven (length ms) ms st given →
+      (rings : HasRings nexts st (length given)) → AreRingsDone st rings.rings → IsChain nexts st (chain ++ k ∷ []) → length st ≡ length ms →
+      number_at nexts k ≡ next → next < length ms → state_at st next ≡ Pending → m.to ≡ to_at ms k → m.from ≡ NoPlace →
+      IsGiving ms nexts (set st k Done) chain (given ++ m ∷ []) k next
   gives_ring st chain given k next m had rings rings_done is same next_is next_in next_pending to_is from_is =
       let many : length nexts ≡ length ms = ns.as_many in
       let alike : length st ≡ length nexts = omega arith in
@@ -67,13 +78,17 @@ module _ (ms : List Ends) (nexts : List ℕ) (apart : AreApart ms) (ns : AreNext
           first_within = next_in;
           follows = link;
           stands = place;
-          least = let e : length (given ++ m ∷ []) ≡ length given + 1 = one_more given m in let f : count_by is_done (set st k Done) ≡ count_by is_done st + 1 = count_done st k (omega arith) (pending_done (state_at st k) pends) in let was : length given ≡ count_by is_done st + length rings.rings = rings.counted in omega arith;
-          rings = subst (λ x. HasRings nexts (set st k Done) x) longer (rings_open nexts st (length given) chain k next place.0 rings rings_done alike is next_is place.1 place.2);
+          least = let e : length (given ++ m ∷ []) ≡ length given + 1 = one_more given m in let f : count_by is_done (set st k Done) ≡ count_by is_done st + 1 =
+              count_done st k (omega arith) (pending_done (state_at st k) pends) in let was : length given ≡ count_by is_done st + length rings.rings =
+              rings.counted in omega arith;
+          rings = subst (λ x. HasRings nexts (set st k Done) x) longer (rings_open nexts st (length given) chain k next place.0 rings rings_done alike is
+              next_is place.1 place.2);
         });
       }
 
   -- the last move of the chain is given out
-  gives_top : (st : List State) (chain : List ℕ) (given : List Ends) (k cut first : ℕ) (m : Ends) → IsGiving ms nexts st (chain ++ k ∷ []) given cut first → length st ≡ length ms → m.to ≡ to_at ms k → m.from ≡ from_at ms k → HasGiven cut ms (set st k Done) (given ++ m ∷ [])
+  gives_top : (st : List State) (chain : List ℕ) (given : List Ends) (k cut first : ℕ) (m : Ends) → IsGiving ms nexts st (chain ++ k ∷ []) given cut first →
+      length st ≡ length ms → m.to ≡ to_at ms k → m.from ≡ from_at ms k → HasGiven cut ms (set st k Done) (given ++ m ∷ [])
   gives_top st chain given k cut first m is same to_is from_is =
       let many : length nexts ≡ length ms = ns.as_many in
       let more : length (chain ++ k ∷ []) ≡ length chain + 1 = length_push chain k in
@@ -91,7 +106,9 @@ module _ (ms : List Ends) (nexts : List ℕ) (apart : AreApart ms) (ns : AreNext
       to_is (from_is ∙ sym from_same)
 
   -- it is not the first of a ring
-  pub gives_plain : (st : List State) (chain : List ℕ) (given : List Ends) (k cut first : ℕ) (m : Ends) → IsGiving ms nexts st (chain ++ k ∷ []) given cut first → length st ≡ length ms → (k ≡ first → ⊥) → m.to ≡ to_at ms k → m.from ≡ from_at ms k → IsGiving ms nexts (set st k Done) chain (given ++ m ∷ []) cut first
+  pub gives_plain : (st : List State) (chain : List ℕ) (given : List Ends) (k cut first : ℕ) (m : Ends) →
+      IsGiving ms nexts st (chain ++ k ∷ []) given cut first → length st ≡ length ms → (k ≡ first → ⊥) → m.to ≡ to_at ms k → m.from ≡ from_at ms k →
+      IsGiving ms nexts (set st k Done) chain (given ++ m ∷ []) cut first
   gives_plain st chain given k cut first m is same other to_is from_is =
       let many : length nexts ≡ length ms = ns.as_many in
       let alike : length st ≡ length nexts = omega arith in
@@ -109,9 +126,11 @@ module _ (ms : List Ends) (nexts : List ℕ) (apart : AreApart ms) (ns : AreNext
         ring = ⊎_elim (λ w. inl (record {
           cut_past = w.cut_past;
           first_past = w.first_past;
-          rings = subst (λ x. HasRings nexts (set st k Done) x) (sym (one_more given m)) (rings_one nexts st (length given) k w.rings alike inside_k (pending_done (state_at st k) pends) ready);
+          rings = subst (λ x. HasRings nexts (set st k Done) x) (sym (one_more given m))
+              (rings_one nexts st (length given) k w.rings alike inside_k (pending_done (state_at st k) pends) ready);
           written = written_push given m (λ e. apart.from_some k within (sym from_is ∙ e)) w.written;
-          plain = plain_push st k given m short (pending_done (state_at st k) pends) (λ e. apart.from_some k within (sym from_is ∙ e)) (λ e. apart.to_some k within (sym to_is ∙ e)) w.plain;
+          plain = plain_push st k given m short (pending_done (state_at st k) pends) (λ e. apart.from_some k within (sym from_is ∙ e))
+              (λ e. apart.to_some k within (sym to_is ∙ e)) w.plain;
         })) (λ r. inr (record {
           cut_within = r.cut_within;
           cut_done = done_after st k cut short r.cut_done;
@@ -121,13 +140,17 @@ module _ (ms : List Ends) (nexts : List ℕ) (apart : AreApart ms) (ns : AreNext
               (λ l. (r.stands.0, l, sym (at_left chain k r.stands.0 l) ∙ r.stands.2))
               (λ e. absurd (other (sym (at_last chain k r.stands.0 e) ∙ r.stands.2)))
               (left_or_last chain k r.stands.0 r.stands.1);
-          least = let e : length (given ++ m ∷ []) ≡ length given + 1 = one_more given m in let f : count_by is_done (set st k Done) ≡ count_by is_done st + 1 = count_done st k short (pending_done (state_at st k) pends) in let was : count_by is_done st ≤ length given = r.least in omega arith;
-          rings = subst (λ x. HasRings nexts (set st k Done) (x + 1)) (sym (one_more given m)) (rings_one nexts st (length given + 1) k r.rings alike inside_k (pending_done (state_at st k) pends) ready);
+          least = let e : length (given ++ m ∷ []) ≡ length given + 1 = one_more given m in let f : count_by is_done (set st k Done) ≡ count_by is_done st + 1 =
+              count_done st k short (pending_done (state_at st k) pends) in let was : count_by is_done st ≤ length given = r.least in omega arith;
+          rings = subst (λ x. HasRings nexts (set st k Done) (x + 1)) (sym (one_more given m))
+              (rings_one nexts st (length given + 1) k r.rings alike inside_k (pending_done (state_at st k) pends) ready);
         })) is.ring;
       }
 
   -- it is the first of a ring, which is closed
-  pub gives_first : (st : List State) (chain : List ℕ) (given : List Ends) (k cut first : ℕ) (m last : Ends) → IsGiving ms nexts st (chain ++ k ∷ []) given cut first → length st ≡ length ms → k ≡ first → m.to ≡ to_at ms k → m.from ≡ from_at ms k → last.to ≡ NoPlace → last.from ≡ from_at ms cut → IsGiving ms nexts (set st k Done) chain ((given ++ m ∷ []) ++ last ∷ []) (length ms) (length ms)
+  pub gives_first : (st : List State) (chain : List ℕ) (given : List Ends) (k cut first : ℕ) (m last : Ends) →
+      IsGiving ms nexts st (chain ++ k ∷ []) given cut first → length st ≡ length ms → k ≡ first → m.to ≡ to_at ms k → m.from ≡ from_at ms k →
+      last.to ≡ NoPlace → last.from ≡ from_at ms cut → IsGiving ms nexts (set st k Done) chain ((given ++ m ∷ []) ++ last ∷ []) (length ms) (length ms)
   gives_first st chain given k cut first m last is same it_is to_is from_is last_to last_from =
       let many : length nexts ≡ length ms = ns.as_many in
       let alike : length st ≡ length nexts = omega arith in
@@ -138,35 +161,41 @@ module _ (ms : List Ends) (nexts : List ℕ) (apart : AreApart ms) (ns : AreNext
       let within : k < length ms = omega arith in
       let pends : state_at st k ≡ Pending = ap (λ x. state_at st x) (sym (at_end chain k)) ∙ is.is_chain.pending (length chain) (omega arith) in
       let ready : IsNextDone nexts st k = subst (λ x. IsNextDone nexts st x) (at_end chain k) (is.ready (length chain) (omega arith)) in
-      let r : IsRing ms nexts st (chain ++ k ∷ []) given cut first = ⊎_elim (λ w. let a : first ≡ length ms = w.first_past in absurd (omega arith)) (λ r. r) is.ring in
+      let r : IsRing ms nexts st (chain ++ k ∷ []) given cut first = ⊎_elim (λ w. let a : first ≡ length ms = w.first_past in absurd (omega arith)) (λ r. r)
+      is.ring in
       let longer : length given + 1 + 1 ≡ length ((given ++ m ∷ []) ++ last ∷ []) =
       let e : length (given ++ m ∷ []) ≡ length given + 1 = one_more given m in
       let f : length ((given ++ m ∷ []) ++ last ∷ []) ≡ length (given ++ m ∷ []) + 1 = one_more (given ++ m ∷ []) last in omega arith in
       record {
         had = closes_ring cut ms (set st k Done) (given ++ m ∷ []) last
             (gives_top st chain given k cut first m is same to_is from_is) apart r.cut_within
-            (λ j inside_j e. ap (λ x. state_at (set st k Done) x) (apart.one_writer j first inside_j r.first_within (e ∙ sym r.follows) ∙ sym it_is) ∙ set_here st k Done short)
+            (λ j inside_j e. ap (λ x. state_at (set st k Done) x) (apart.one_writer j first inside_j r.first_within (e ∙ sym r.follows) ∙ sym it_is)
+            ∙ set_here st k Done short)
             last_to last_from;
         is_chain = chain_pop nexts st chain k is.is_chain alike;
         ready = ready_pop nexts st chain k is.is_chain alike;
         ring = inl (record {
           cut_past = refl;
           first_past = refl;
-          rings = subst (λ x. HasRings nexts (set st k Done) x) longer (rings_one nexts st (length given + 1) k r.rings alike inside_k (pending_done (state_at st k) pends) ready);
+          rings = subst (λ x. HasRings nexts (set st k Done) x) longer (rings_one nexts st (length given + 1) k r.rings alike inside_k
+              (pending_done (state_at st k) pends) ready);
           written = written_close (given ++ m ∷ []) last (λ e. apart.from_some cut r.cut_within (sym last_from ∙ e)) last_to;
-          plain = λ same. absurd (let f : count_by is_done (set st k Done) ≡ count_by is_done st + 1 = count_done st k short (pending_done (state_at st k) pends) in let was : count_by is_done st ≤ length given = r.least in omega arith);
+          plain = λ same. absurd (let f : count_by is_done (set st k Done) ≡ count_by is_done st + 1 = count_done st k short
+              (pending_done (state_at st k) pends) in let was : count_by is_done st ≤ length given = r.least in omega arith);
         });
       }
 
 -- no ring is open once the chain is empty
-pub ends_whole : (ms : List Ends) (nexts : List ℕ) (st : List State) (chain : List ℕ) (given : List Ends) (cut first : ℕ) → IsGiving ms nexts st chain given cut first → length chain ≡ 0 → HasGivenWhole ms nexts st given
+pub ends_whole : (ms : List Ends) (nexts : List ℕ) (st : List State) (chain : List ℕ) (given : List Ends) (cut first : ℕ) →
+    IsGiving ms nexts st chain given cut first → length chain ≡ 0 → HasGivenWhole ms nexts st given
 ends_whole ms nexts st chain given cut first is empty = ⊎_elim
     (λ w. record { had = subst (λ x. HasGiven x ms st given) w.cut_past is.had; rings = w.rings; written = w.written; plain = w.plain })
     (λ r. let low : r.stands.0 < length chain = r.stands.1 in absurd (omega arith))
     is.ring
 
 -- a ring is open while its first is given out
-pub cut_within : (ms : List Ends) (nexts : List ℕ) (st : List State) (chain : List ℕ) (given : List Ends) (cut first : ℕ) → IsGiving ms nexts st chain given cut first → first < length ms → cut < length ms
+pub cut_within : (ms : List Ends) (nexts : List ℕ) (st : List State) (chain : List ℕ) (given : List Ends) (cut first : ℕ) →
+    IsGiving ms nexts st chain given cut first → first < length ms → cut < length ms
 cut_within ms nexts st chain given cut first is low = ⊎_elim
     (λ w. let a : first ≡ length ms = w.first_past in absurd (omega arith))
     (λ r. r.cut_within)

@@ -14,6 +14,7 @@ use Rattle.regalloc2_parts.proofs.Tidying.{tidied_apart, contains_cases, contain
 abbrev pub LeavesAlone : Ends → Ends → Type 0
 LeavesAlone m n = (n.from ≡ m.to → ⊥) × (n.to ≡ m.to → ⊥)
 
+-- moves run one after another leave a place that none of them writes
 pub runs_keep : {X : Type 0} (ms : List Ends) (c : Cells X) (q : Place) → ((m : Ends) → Contains ms m → m.to ≡ q → ⊥) → in_turn ms c q ≡ c q
 unfolding in_turn
 runs_keep [] c q n = refl
@@ -44,7 +45,8 @@ apart_at_once ms c apart = record {
 }
 
 -- what was given out from the last to the first, run from its end on
-pub given_at_once : {X : Type 0} (ms given : List Ends) (c : Cells X) → AreApart ms → ((q : Place) → (q ≡ NoPlace → ⊥) → TakesFrom ms q (origin given q)) → AreAtOnce ms c (in_turn (reverse given) c)
+pub given_at_once : {X : Type 0} (ms given : List Ends) (c : Cells X) → AreApart ms → ((q : Place) → (q ≡ NoPlace → ⊥) → TakesFrom ms q (origin given q)) →
+    AreAtOnce ms c (in_turn (reverse given) c)
 given_at_once ms given c apart takes = record {
   assigned = λ m h.
       let at : (k : ℕ) × (k < length ms) × (get_or ms k m ≡ m) = h in
@@ -71,7 +73,8 @@ pub short_alone : (ms : List Ends) → length ms ≤ 1 → AllPairs LeavesAlone 
 short_alone ms short i j d o r = absurd (omega arith)
 
 -- no source is a destination
-pub free_alone : (ms : List Ends) (nexts : List ℕ) → AreApart ms → AreNexts ms nexts → ((k : ℕ) → k < length nexts → length nexts ≤ get_or nexts k 0) → AllPairs LeavesAlone ms
+pub free_alone : (ms : List Ends) (nexts : List ℕ) → AreApart ms → AreNexts ms nexts → ((k : ℕ) → k < length nexts → length nexts ≤ get_or nexts k 0) →
+    AllPairs LeavesAlone ms
 free_alone ms nexts apart ns past i j d o r =
     let many : length nexts ≡ length ms = ns.as_many in
     let low : i < length ms = omega arith in
@@ -83,7 +86,8 @@ free_alone ms nexts apart ns past i j d o r =
     )
 
 -- what was given out of the tidied list does what the whole list does
-pub ordered_at_once : {X : Type 0} (old new given : List Ends) (c : Cells X) → AreFair old → IsTidied old new → ((q : Place) → (q ≡ NoPlace → ⊥) → TakesFrom new q (origin given q)) → AreAtOnce old c (in_turn (reverse given) c)
+pub ordered_at_once : {X : Type 0} (old new given : List Ends) (c : Cells X) → AreFair old → IsTidied old new →
+    ((q : Place) → (q ≡ NoPlace → ⊥) → TakesFrom new q (origin given q)) → AreAtOnce old c (in_turn (reverse given) c)
 ordered_at_once old new given c fair is takes =
     tidied_at_once old new c (in_turn (reverse given) c) fair is (given_at_once new given c (tidied_apart old new fair is) takes)
 

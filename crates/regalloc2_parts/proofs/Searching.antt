@@ -24,13 +24,16 @@ some_in : {M : Type 0} (ms : List M) (k : ℕ) → k < length ms → M
 some_in [] k r = absurd (omega arith)
 some_in (m ∷ ms) k r = m
 
-module _ {T : Type 0} (ms : List (Place × Place × T)) (proper : AreProper (ends_of ms)) (sorted : IsNonDecreasingBy (λ (m : Place × Place × T). bits_of_place m.1) ms) (place : Place) (real : IsPlace place) (word : ℕ) (is_word : word ≡ bits_of_place place) where
+module _ {T : Type 0} (ms : List (Place × Place × T)) (proper : AreProper (ends_of ms))
+    (sorted : IsNonDecreasingBy (λ (m : Place × Place × T). bits_of_place m.1) ms) (place : Place) (real : IsPlace place) (word : ℕ)
+    (is_word : word ≡ bits_of_place place) where
   comparisons_rise : IsNonDecreasingBy (λ (m : Place × Place × T). ordering_index (nat_cmp (bits_of_place m.1) word)) ms
   comparisons_rise i j d le in_range =
       let rise : bits_of_place (get_or ms i d).1 ≤ bits_of_place (get_or ms j d).1 = sorted i j d le in_range in
       grind (arith, nat_tests)
 
-  pub found_writer : (at : ℕ) → at < length ms → IsBinarySearchResult (λ (m : Place × Place × T). nat_cmp (bits_of_place m.1) word) ms (Ok at) → IsWriterOf (ends_of ms) place at
+  pub found_writer : (at : ℕ) → at < length ms → IsBinarySearchResult (λ (m : Place × Place × T). nat_cmp (bits_of_place m.1) word) ms (Ok at) →
+      IsWriterOf (ends_of ms) place at
   found_writer at in_range equal =
       let many : length (ends_of ms) ≡ length ms = length_ends ms in
       let d : Place × Place × T = some_in ms at in_range in
@@ -39,11 +42,13 @@ module _ {T : Type 0} (ms : List (Place × Place × T)) (proper : AreProper (end
       let low : at < length (ends_of ms) = omega arith in
       record {
         within = omega arith;
-        writes = λ l. same_word (to_at (ends_of ms) at) place (proper (get_or (ends_of ms) at no_move) (Contains-get_or (ends_of ms) at no_move low)).1 real (ap bits_of_place to_is ∙ words ∙ is_word);
+        writes = λ l. same_word (to_at (ends_of ms) at) place (proper (get_or (ends_of ms) at no_move) (Contains-get_or (ends_of ms) at no_move low)).1 real
+            (ap bits_of_place to_is ∙ words ∙ is_word);
         absent = λ n. absurd (n low);
       }
 
-  pub no_writer : (at : ℕ) → at ≤ length ms → IsBinarySearchResult (λ (m : Place × Place × T). nat_cmp (bits_of_place m.1) word) ms (Err at) → IsWriterOf (ends_of ms) place (length ms)
+  pub no_writer : (at : ℕ) → at ≤ length ms → IsBinarySearchResult (λ (m : Place × Place × T). nat_cmp (bits_of_place m.1) word) ms (Err at) →
+      IsWriterOf (ends_of ms) place (length ms)
   no_writer at in_range parted =
       let many : length (ends_of ms) ≡ length ms = length_ends ms in
       record {
@@ -54,8 +59,10 @@ module _ {T : Type 0} (ms : List (Place × Place × T)) (proper : AreProper (end
             let d : Place × Place × T = some_in ms j low in
             let same : bits_of_place (get_or ms j d).1 ≡ word = sym (ap bits_of_place (written_at ms j d low)) ∙ ap bits_of_place e ∙ sym is_word in
             ⊎_elim
-            (λ l. let less : bits_of_place (get_or ms j d).1 < word = ranked (bits_of_place (get_or ms j d).1) word _ (sym ((parted comparisons_rise).0 j d (omega arith) l)) in omega arith)
-            (λ h. let more : word < bits_of_place (get_or ms j d).1 = ranked (bits_of_place (get_or ms j d).1) word _ (sym ((parted comparisons_rise).1 j d h low)) in omega arith)
+            (λ l. let less : bits_of_place (get_or ms j d).1 < word = ranked (bits_of_place (get_or ms j d).1) word _
+            (sym ((parted comparisons_rise).0 j d (omega arith) l)) in omega arith)
+            (λ h. let more : word < bits_of_place (get_or ms j d).1 = ranked (bits_of_place (get_or ms j d).1) word _
+            (sym ((parted comparisons_rise).1 j d h low)) in omega arith)
             (cases_lt j at);
       }
 
@@ -64,7 +71,9 @@ pub record AreNextsTo (ms : List Ends) (nexts : List ℕ) (end : ℕ) : Type 0 w
   pub as_many : length nexts ≡ end
   pub each : (k : ℕ) → k < end → IsWriterOf ms (from_at ms k) (number_at nexts k)
 
-pub nexts_more : (ms : List Ends) (nexts : List ℕ) (end next : ℕ) → AreNextsTo ms nexts end → IsWriterOf ms (from_at ms end) next → AreNextsTo ms (nexts ++ next ∷ []) (end + 1)
+-- finding the writer of one more move's source extends the table of writers by one entry
+pub nexts_more : (ms : List Ends) (nexts : List ℕ) (end next : ℕ) → AreNextsTo ms nexts end → IsWriterOf ms (from_at ms end) next →
+    AreNextsTo ms (nexts ++ next ∷ []) (end + 1)
 nexts_more ms nexts end next had is =
     let many : length nexts ≡ end = had.as_many in
     record {

@@ -20,7 +20,8 @@ in_turn-end [] m c = refl
 in_turn-end (x ∷ ms) m c = in_turn-end ms m (moved c x.to (c x.from))
 
 -- the cells after one more move
-pub pushed : {T : Type 0} (old new : List (Place × Place × T)) (m : Place × Place × T) → new ≡ old ++ m ∷ [] → (d : Cells Place) → in_turn (ends_of new) d ≡ moved (in_turn (ends_of old) d) m.1 (in_turn (ends_of old) d m.0)
+pub pushed : {T : Type 0} (old new : List (Place × Place × T)) (m : Place × Place × T) → new ≡ old ++ m ∷ [] → (d : Cells Place) →
+    in_turn (ends_of new) d ≡ moved (in_turn (ends_of old) d) m.1 (in_turn (ends_of old) d m.0)
 pushed old new m e d = ap (λ x. in_turn (ends_of x) d) e ∙ ap (λ x. in_turn x d) (ends_push old m) ∙ in_turn-end (ends_of old) (ends m) d
 
 module _ (r s : Place) where
@@ -32,9 +33,11 @@ module _ (r s : Place) where
     borrowed = λ differ. moved_here d s s (d r) refl ∙ had.borrowed differ;
   }
 
-  pub saves_pushed : {T : Type 0} (c d : Cells Place) (old new : List (Place × Place × T)) (m : Place × Place × T) → m.0 ≡ r → m.1 ≡ s → new ≡ old ++ m ∷ [] → Tracks r s InRegister c (in_turn (ends_of old) d) → Tracks r s InSave c (in_turn (ends_of new) d)
+  pub saves_pushed : {T : Type 0} (c d : Cells Place) (old new : List (Place × Place × T)) (m : Place × Place × T) → m.0 ≡ r → m.1 ≡ s → new ≡ old ++ m ∷ [] →
+      Tracks r s InRegister c (in_turn (ends_of old) d) → Tracks r s InSave c (in_turn (ends_of new) d)
   saves_pushed c d old new m from to e had =
-      subst (λ x. Tracks r s InSave c x) (sym (pushed old new m e d ∙ ap (λ p. moved (in_turn (ends_of old) d) m.1 (in_turn (ends_of old) d p)) from ∙ ap (λ p. moved (in_turn (ends_of old) d) p (in_turn (ends_of old) d r)) to))
+      subst (λ x. Tracks r s InSave c x) (sym (pushed old new m e d ∙ ap (λ p. moved (in_turn (ends_of old) d) m.1 (in_turn (ends_of old) d p)) from
+      ∙ ap (λ p. moved (in_turn (ends_of old) d) p (in_turn (ends_of old) d r)) to))
       (saves c (in_turn (ends_of old) d) had)
 
   -- the register is restored
@@ -45,9 +48,11 @@ module _ (r s : Place) where
     borrowed = λ differ. (moved_here d r r (d s) refl ∙ had.borrowed differ, moved_other d r s (d s) differ ∙ had.borrowed differ);
   }
 
-  pub restores_pushed : {T : Type 0} (c d : Cells Place) (old new : List (Place × Place × T)) (m : Place × Place × T) → m.0 ≡ s → m.1 ≡ r → new ≡ old ++ m ∷ [] → Tracks r s InSave c (in_turn (ends_of old) d) → Tracks r s InBoth c (in_turn (ends_of new) d)
+  pub restores_pushed : {T : Type 0} (c d : Cells Place) (old new : List (Place × Place × T)) (m : Place × Place × T) → m.0 ≡ s → m.1 ≡ r → new ≡ old
+      ++ m ∷ [] → Tracks r s InSave c (in_turn (ends_of old) d) → Tracks r s InBoth c (in_turn (ends_of new) d)
   restores_pushed c d old new m from to e had =
-      subst (λ x. Tracks r s InBoth c x) (sym (pushed old new m e d ∙ ap (λ p. moved (in_turn (ends_of old) d) m.1 (in_turn (ends_of old) d p)) from ∙ ap (λ p. moved (in_turn (ends_of old) d) p (in_turn (ends_of old) d s)) to))
+      subst (λ x. Tracks r s InBoth c x) (sym (pushed old new m e d ∙ ap (λ p. moved (in_turn (ends_of old) d) m.1 (in_turn (ends_of old) d p)) from
+      ∙ ap (λ p. moved (in_turn (ends_of old) d) p (in_turn (ends_of old) d s)) to))
       (restores c (in_turn (ends_of old) d) had)
 
   -- the register is filled with what passes through it
@@ -96,14 +101,17 @@ module _ (r s : Place) where
   }
 
   -- a move by way of the register
-  pub passes : {T : Type 0} (h : Held) (c d : Cells Place) (m : Place × Place × T) (one two three : List (Place × Place × T)) → CanPass h → (m.0 ≢ r) × (m.0 ≢ s) → (m.1 ≢ r) × (m.1 ≢ s) → two ≡ one ++ (m.0, r, m.2) ∷ [] → three ≡ two ++ (r, m.1, m.2) ∷ [] → Tracks r s h c (in_turn (ends_of one) d) → Tracks r s h (moved c m.1 (c m.0)) (in_turn (ends_of three) d)
+  pub passes : {T : Type 0} (h : Held) (c d : Cells Place) (m : Place × Place × T) (one two three : List (Place × Place × T)) → CanPass h → (m.0 ≢ r)
+      × (m.0 ≢ s) → (m.1 ≢ r) × (m.1 ≢ s) → two ≡ one ++ (m.0, r, m.2) ∷ [] → three ≡ two ++ (r, m.1, m.2) ∷ [] → Tracks r s h c (in_turn (ends_of one) d) →
+      Tracks r s h (moved c m.1 (c m.0)) (in_turn (ends_of three) d)
   passes {T} h c d m one two three can from to e f had =
       let x : Place × Place × T = (m.0, r, m.2) in
       let y : Place × Place × T = (r, m.1, m.2) in
       let v : Place = in_turn (ends_of one) d m.0 in
       let filled : Tracks r s h c (in_turn (ends_of two) d) =
       subst (λ z. Tracks r s h c z) (sym (pushed one two x e d)) (fills h c (in_turn (ends_of one) d) v can had) in
-      let holds : in_turn (ends_of two) d r ≡ c m.0 = ap (λ z. z r) (pushed one two x e d) ∙ moved_here (in_turn (ends_of one) d) r r v refl ∙ had.others m.0 from.0 from.1 in
+      let holds : in_turn (ends_of two) d r ≡ c m.0 = ap (λ z. z r) (pushed one two x e d) ∙ moved_here (in_turn (ends_of one) d) r r v refl
+      ∙ had.others m.0 from.0 from.1 in
       subst (λ z. Tracks r s h (moved c m.1 (c m.0)) z) (sym (pushed two three y f d))
       (copies_other h c (in_turn (ends_of two) d) m.1 (in_turn (ends_of two) d r) (c m.0) to.0 to.1 holds filled)
 
@@ -114,13 +122,17 @@ module _ (r s : Place) where
   reads InBoth c d a n ready had = ⊎_elim (λ e. ap d e ∙ (had.borrowed (λ f. n (e ∙ f))).0 ∙ ap c (sym e)) (λ m. had.others a m n) (cases_place a r)
   reads InSave c d a n ready had = had.others a (λ e. ready e refl) n
 
-  pub copies_pushed : {T : Type 0} (h : Held) (c d : Cells Place) (m : Place × Place × T) (old new : List (Place × Place × T)) → (m.0 ≢ s) × (m.1 ≢ s) → (m.0 ≡ r → h ≢ InSave) → m.1 ≢ r → new ≡ old ++ m ∷ [] → Tracks r s h c (in_turn (ends_of old) d) → Tracks r s h (moved c m.1 (c m.0)) (in_turn (ends_of new) d)
+  pub copies_pushed : {T : Type 0} (h : Held) (c d : Cells Place) (m : Place × Place × T) (old new : List (Place × Place × T)) → (m.0 ≢ s) × (m.1 ≢ s) →
+      (m.0 ≡ r → h ≢ InSave) → m.1 ≢ r → new ≡ old ++ m ∷ [] → Tracks r s h c (in_turn (ends_of old) d) →
+      Tracks r s h (moved c m.1 (c m.0)) (in_turn (ends_of new) d)
   copies_pushed h c d m old new unnamed ready other e had =
       let x = in_turn (ends_of old) d in
       subst (λ z. Tracks r s h (moved c m.1 (c m.0)) z) (sym (pushed old new m e d))
       (copies_other h c x m.1 (x m.0) (c m.0) other unnamed.1 (reads h c x m.0 unnamed.0 ready had) had)
 
-  pub copies_pushed_into : {T : Type 0} (h : Held) (c d : Cells Place) (m : Place × Place × T) (old new : List (Place × Place × T)) → (m.0 ≢ s) × (m.1 ≢ s) → (m.0 ≡ r → h ≢ InSave) → m.1 ≡ r → new ≡ old ++ m ∷ [] → Tracks r s h c (in_turn (ends_of old) d) → Tracks r s InRegister (moved c m.1 (c m.0)) (in_turn (ends_of new) d)
+  pub copies_pushed_into : {T : Type 0} (h : Held) (c d : Cells Place) (m : Place × Place × T) (old new : List (Place × Place × T)) → (m.0 ≢ s) × (m.1 ≢ s) →
+      (m.0 ≡ r → h ≢ InSave) → m.1 ≡ r → new ≡ old ++ m ∷ [] → Tracks r s h c (in_turn (ends_of old) d) →
+      Tracks r s InRegister (moved c m.1 (c m.0)) (in_turn (ends_of new) d)
   copies_pushed_into h c d m old new unnamed ready into e had =
       let x = in_turn (ends_of old) d in
       subst (λ z. Tracks r s InRegister (moved c m.1 (c m.0)) z) (sym (pushed old new m e d))
@@ -134,42 +146,58 @@ module _ (r s : Place) where
   -- none is made yet
   pub follows_none : {T : Type 0} (h : Held) (ms out : List (Place × Place × T)) → IsFirst h → Fits h r s → out ≡ [] → Follows h ms out 0
   follows_none Free ms out first fits e d = record { fits = fits; others = λ q n m. ap (λ xs. in_turn (ends_of xs) d q) e; borrowed = λ differ. tt }
-  follows_none InRegister ms out first fits e d = record { fits = fits; others = λ q n m. ap (λ xs. in_turn (ends_of xs) d q) e; borrowed = λ differ. ap (λ xs. in_turn (ends_of xs) d r) e }
+  follows_none InRegister ms out first fits e d = record {
+    fits = fits;
+    others = λ q n m. ap (λ xs. in_turn (ends_of xs) d q) e;
+    borrowed = λ differ. ap (λ xs. in_turn (ends_of xs) d r) e;
+  }
   follows_none InBoth ms out first fits e d = absurd first
   follows_none InSave ms out first fits e d = absurd first
 
-  pub follows_more : {T : Type 0} (h after : Held) (ms old new : List (Place × Place × T)) (i : ℕ) (m : Place × Place × T) → i < length (ends_of ms) → m.0 ≡ from_at (ends_of ms) i → m.1 ≡ to_at (ends_of ms) i → Follows h ms old i → ((c d : Cells Place) → Tracks r s h c (in_turn (ends_of old) d) → Tracks r s after (moved c m.1 (c m.0)) (in_turn (ends_of new) d)) → Follows after ms new (i + 1)
+  pub follows_more : {T : Type 0} (h after : Held) (ms old new : List (Place × Place × T)) (i : ℕ) (m : Place × Place × T) → i < length (ends_of ms) →
+      m.0 ≡ from_at (ends_of ms) i → m.1 ≡ to_at (ends_of ms) i → Follows h ms old i →
+      ((c d : Cells Place) → Tracks r s h c (in_turn (ends_of old) d) → Tracks r s after (moved c m.1 (c m.0)) (in_turn (ends_of new) d)) →
+      Follows after ms new (i + 1)
   follows_more h after ms old new i m low from to had step d =
       let c = in_turn (take i (ends_of ms)) d in
       let e : in_turn (take (i + 1) (ends_of ms)) d ≡ moved c (to_at (ends_of ms) i) (c (from_at (ends_of ms) i)) =
       ap (λ x. in_turn x d) (take_more (ends_of ms) i no_move low) ∙ in_turn-end (take i (ends_of ms)) (get_or (ends_of ms) i no_move) d in
-      subst (λ x. Tracks r s after x (in_turn (ends_of new) d)) (sym (e ∙ ap (λ p. moved c p (c (from_at (ends_of ms) i))) (sym to) ∙ ap (λ p. moved c m.1 (c p)) (sym from))) (step c d (had d))
+      subst (λ x. Tracks r s after x (in_turn (ends_of new) d))
+      (sym (e ∙ ap (λ p. moved c p (c (from_at (ends_of ms) i))) (sym to) ∙ ap (λ p. moved c m.1 (c p)) (sym from))) (step c d (had d))
 
-  pub follows_all : {T : Type 0} (h after : Held) (ms old new : List (Place × Place × T)) (i : ℕ) → length (ends_of ms) ≤ i → Follows h ms old i → ((c d : Cells Place) → Tracks r s h c (in_turn (ends_of old) d) → Tracks r s after c (in_turn (ends_of new) d)) → after ≢ InSave → (d : Cells Place) (q : Place) → q ≢ s → in_turn (ends_of new) d q ≡ in_turn (ends_of ms) d q
+  pub follows_all : {T : Type 0} (h after : Held) (ms old new : List (Place × Place × T)) (i : ℕ) → length (ends_of ms) ≤ i → Follows h ms old i →
+      ((c d : Cells Place) → Tracks r s h c (in_turn (ends_of old) d) → Tracks r s after c (in_turn (ends_of new) d)) → after ≢ InSave →
+      (d : Cells Place) (q : Place) → q ≢ s → in_turn (ends_of new) d q ≡ in_turn (ends_of ms) d q
   follows_all h after ms old new i end had step restored d q n =
       reads after (in_turn (take i (ends_of ms)) d) (in_turn (ends_of new) d) q n (λ e f. restored f) (step (in_turn (take i (ends_of ms)) d) d (had d)) ∙
       ap (λ x. in_turn x d q) (take_all i (ends_of ms) end)
 
 -- what one more move adds
-pub added_one : {T : Type 0} (x : Place × Place × T) (old new : List (Place × Place × T)) (m : Place × Place × T) → new ≡ old ++ m ∷ [] → Contains new x → Contains old x ⊎ (x ≡ m)
+pub added_one : {T : Type 0} (x : Place × Place × T) (old new : List (Place × Place × T)) (m : Place × Place × T) → new ≡ old ++ m ∷ [] → Contains new x →
+    Contains old x ⊎ (x ≡ m)
 added_one x old new m e h = ⊎_elim (λ l. inl l) (λ r. inr (sym r)) (Contains-push_cases old m x (subst (λ xs. Contains xs x) e h))
 
 -- a move that saves the register or restores it is one of those
-pub added_aside : {T : Type 0} (r s : Place) (x : Place × Place × T) (old new : List (Place × Place × T)) (m : Place × Place × T) → IsAside r s m → new ≡ old ++ m ∷ [] → Contains new x → Contains old x ⊎ IsAside r s x
+pub added_aside : {T : Type 0} (r s : Place) (x : Place × Place × T) (old new : List (Place × Place × T)) (m : Place × Place × T) → IsAside r s m → new ≡ old
+    ++ m ∷ [] → Contains new x → Contains old x ⊎ IsAside r s x
 added_aside r s x old new m aside e h = ⊎_elim (λ l. inl l) (λ is. inr (subst (λ y. IsAside r s y) (sym is) aside)) (added_one x old new m e h)
 
 -- so are the two that make a move by way of the register
-pub added_through : {T : Type 0} (r s : Place) (x m : Place × Place × T) (old one two three : List (Place × Place × T)) → (Contains one x → Contains old x ⊎ IsAside r s x) → two ≡ one ++ (m.0, r, m.2) ∷ [] → three ≡ two ++ (r, m.1, m.2) ∷ [] → Contains three x → (Contains old x ⊎ IsAside r s x) ⊎ IsThrough r m x
+pub added_through : {T : Type 0} (r s : Place) (x m : Place × Place × T) (old one two three : List (Place × Place × T)) →
+    (Contains one x → Contains old x ⊎ IsAside r s x) → two ≡ one ++ (m.0, r, m.2) ∷ [] → three ≡ two ++ (r, m.1, m.2) ∷ [] → Contains three x →
+    (Contains old x ⊎ IsAside r s x) ⊎ IsThrough r m x
 added_through {T} r s x m old one two three was e f h =
     let y : Place × Place × T = (m.0, r, m.2) in
     let z : Place × Place × T = (r, m.1, m.2) in
     ⊎_elim
-    (λ l. ⊎_elim (λ k. inl (was k)) (λ is. inr (inl (ap (λ (v : Place × Place × T). v.0) is, ap (λ (v : Place × Place × T). v.1) is))) (added_one x one two y e l))
+    (λ l. ⊎_elim (λ k. inl (was k)) (λ is. inr (inl (ap (λ (v : Place × Place × T). v.0) is, ap (λ (v : Place × Place × T). v.1) is)))
+    (added_one x one two y e l))
     (λ is. inr (inr (ap (λ (v : Place × Place × T). v.0) is, ap (λ (v : Place × Place × T). v.1) is, ap (λ (v : Place × Place × T). v.2) is)))
     (added_one x two three z f h)
 
 -- what is made of the moves, one step after another
-module _ {T : Type 0} (stack : Place → Bool → Type 0) (r s : Place) (no_stack : stack r true → ⊥) (real : (r ≢ NoPlace) × (s ≢ NoPlace)) (ms : List (Place × Place × T)) where
+module _ {T : Type 0} (stack : Place → Bool → Type 0) (r s : Place) (no_stack : stack r true → ⊥) (real : (r ≢ NoPlace) × (s ≢ NoPlace))
+    (ms : List (Place × Place × T)) where
   made_aside : (x : Place × Place × T) → IsAside r s x → IsMade stack r s ms x
   made_aside x (inl h) = record {
     apart = inl (inr (λ a. no_stack (subst (λ p. stack p true) h.0 a)));
@@ -198,7 +226,8 @@ module _ {T : Type 0} (stack : Place → Bool → Type 0) (r s : Place) (no_stac
     target = inr (m, inside, h.1, h.2);
   }
 
-  made_itself : (m x : Place × Place × T) → Contains ms m → (m.0 ≢ NoPlace) × (m.1 ≢ NoPlace) → stack m.0 false ⊎ stack m.1 false → x ≡ m → IsMade stack r s ms x
+  made_itself : (m x : Place × Place × T) → Contains ms m → (m.0 ≢ NoPlace) × (m.1 ≢ NoPlace) → stack m.0 false ⊎ stack m.1 false → x ≡ m →
+      IsMade stack r s ms x
   made_itself m x inside ends apart e = subst (λ y. IsMade stack r s ms y) (sym e) (record {
     apart = ⊎_elim (λ a. inl (inl a)) (λ a. inr (inl a)) apart;
     between = ends;
@@ -206,17 +235,21 @@ module _ {T : Type 0} (stack : Place → Bool → Type 0) (r s : Place) (no_stac
     target = inr (m, inside, refl, refl);
   })
 
-  made_step : (passing : Bool) (m x : Place × Place × T) → Contains ms m → (m.0 ≢ NoPlace) × (m.1 ≢ NoPlace) → (passing ≡ false → stack m.0 false ⊎ stack m.1 false) → IsStep r passing m x → IsMade stack r s ms x
+  made_step : (passing : Bool) (m x : Place × Place × T) → Contains ms m → (m.0 ≢ NoPlace) × (m.1 ≢ NoPlace) →
+      (passing ≡ false → stack m.0 false ⊎ stack m.1 false) → IsStep r passing m x → IsMade stack r s ms x
   made_step true m x inside ends apart h = made_through m x inside ends h
   made_step false m x inside ends apart h = made_itself m x inside ends (apart refl) h
 
-  pub made_last : (old new : List (Place × Place × T)) → All (IsMade stack r s ms) old → ((x : Place × Place × T) → Contains new x → Contains old x ⊎ IsAside r s x) → All (IsMade stack r s ms) new
+  pub made_last : (old new : List (Place × Place × T)) → All (IsMade stack r s ms) old →
+      ((x : Place × Place × T) → Contains new x → Contains old x ⊎ IsAside r s x) → All (IsMade stack r s ms) new
   made_last old new had added k d low = ⊎_elim
       (λ l. All-contains (IsMade stack r s ms) old (get_or new k d) had l)
       (λ a. made_aside (get_or new k d) a)
       (added (get_or new k d) (Contains-get_or new k d low))
 
-  pub made_more : (passing : Bool) (m : Place × Place × T) (old new : List (Place × Place × T)) → Contains ms m → (m.0 ≢ NoPlace) × (m.1 ≢ NoPlace) → (passing ≡ false → stack m.0 false ⊎ stack m.1 false) → All (IsMade stack r s ms) old → ((x : Place × Place × T) → Contains new x → (Contains old x ⊎ IsAside r s x) ⊎ IsStep r passing m x) → All (IsMade stack r s ms) new
+  pub made_more : (passing : Bool) (m : Place × Place × T) (old new : List (Place × Place × T)) → Contains ms m → (m.0 ≢ NoPlace) × (m.1 ≢ NoPlace) →
+      (passing ≡ false → stack m.0 false ⊎ stack m.1 false) → All (IsMade stack r s ms) old →
+      ((x : Place × Place × T) → Contains new x → (Contains old x ⊎ IsAside r s x) ⊎ IsStep r passing m x) → All (IsMade stack r s ms) new
   made_more passing m old new inside ends apart had added k d low = ⊎_elim
       (λ l. ⊎_elim
       (λ o. All-contains (IsMade stack r s ms) old (get_or new k d) had o)

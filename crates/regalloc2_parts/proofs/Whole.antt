@@ -8,11 +8,13 @@ use Rattle.regalloc2_names.specs.Place.{Place, NoPlace}
 use Rattle.regalloc2_parts.specs.AtOnce.{Ends, WritesNoneFirst}
 use Rattle.regalloc2_parts.specs.declared.moves.order.State.{State}
 use Rattle.regalloc2_parts.specs.declared.moves.order.State.TheVariants.{Todo, Pending, Done}
-use Rattle.regalloc2_parts.specs.Giving.{state_at, number_at, origin, HasGiven, HasGivenWhole, HasRings, IsOrder, is_done, IsNextDone, LeadsTo, HasGoneOn, IsGivenOut, AreSameDone, IsSettled, TakesFrom}
+use Rattle.regalloc2_parts.specs.Giving.{state_at, number_at, origin, HasGiven, HasGivenWhole, HasRings, IsOrder, is_done, IsNextDone, LeadsTo}
+use Rattle.regalloc2_parts.specs.Giving.{HasGoneOn, IsGivenOut, AreSameDone, IsSettled, TakesFrom}
 use Rattle.regalloc2_parts.proofs.Orders.{source_other, gives_none}
 use Rattle.regalloc2_parts.proofs.Chains.{todo_done, todo_pending, is_done_else}
 use Rattle.regalloc2_parts.proofs.Rings.{rings_same, rings_none, count_same, count_all}
 
+-- what emitted moves are known to do depends on which moves are `Done` alone
 pub had_along : (cut : ℕ) (ms : List Ends) (old st : List State) (given : List Ends) → HasGiven cut ms old given → AreSameDone old st → HasGiven cut ms st given
 had_along cut ms old st given had same = record {
   gave = λ k r done. had.gave k r (same.was k done);
@@ -20,7 +22,9 @@ had_along cut ms old st given had same = record {
   closed = λ k j r inside done is. same.stays j (had.closed k j r inside (same.was k done) is);
 }
 
-pub whole_along : (ms : List Ends) (nexts : List ℕ) (old st : List State) (given : List Ends) → HasGivenWhole ms nexts old given → AreSameDone old st → HasGoneOn old st → length st ≡ length old → HasGivenWhole ms nexts st given
+-- so does the whole invariant of emission, where moves that aren't `Todo` stay so
+pub whole_along : (ms : List Ends) (nexts : List ℕ) (old st : List State) (given : List Ends) → HasGivenWhole ms nexts old given → AreSameDone old st →
+    HasGoneOn old st → length st ≡ length old → HasGivenWhole ms nexts st given
 whole_along ms nexts old st given had same on many = record {
   had = had_along (length ms) ms old st given had.had same;
   rings = rings_same nexts old st (length given) had.rings same on (count_same old st many same);
@@ -29,18 +33,22 @@ whole_along ms nexts old st given had same on many = record {
 }
 
 -- the last move's next is done where no ring is
-pub start_ready : (nexts : List ℕ) (st : List State) (chain : List ℕ) (stop : ℕ) → LeadsTo nexts chain stop → (stop < length nexts → state_at st stop ≡ Todo → ⊥) → (stop < length nexts → state_at st stop ≡ Pending → ⊥) → (i : ℕ) → i + 1 ≡ length chain → IsNextDone nexts st (number_at chain i)
+pub start_ready : (nexts : List ℕ) (st : List State) (chain : List ℕ) (stop : ℕ) → LeadsTo nexts chain stop →
+    (stop < length nexts → state_at st stop ≡ Todo → ⊥) → (stop < length nexts → state_at st stop ≡ Pending → ⊥) → (i : ℕ) → i + 1 ≡ length chain →
+    IsNextDone nexts st (number_at chain i)
 start_ready nexts st chain stop leads no_todo no_pending i e within =
     let is : number_at nexts (number_at chain i) ≡ stop = leads i e in
     let low : stop < length nexts = subst (λ x. x < length nexts) is within in
     ap (λ x. state_at st x) is ∙ is_done_else (state_at st stop) (no_todo low) (no_pending low)
 
+-- before anything is emitted each move is `Todo`
 pub all_todo : (n k : ℕ) → state_at (replicate n Todo) k ≡ Todo
 all_todo n k = ⊎_elim
     (λ l. get_or-replicate n k Todo Todo l)
     (λ h. get_or_past (replicate n Todo) k Todo (subst (λ x. x ≤ k) (sym (length-replicate n Todo)) h))
     (cases_lt k n)
 
+-- the invariant of emission holds at first: each move is `Todo`, and nothing is emitted
 pub begins : (ms : List Ends) (nexts : List ℕ) → HasGivenWhole ms nexts (replicate (length ms) Todo) []
 unfolding WritesNoneFirst
 begins ms nexts = record {
@@ -50,11 +58,13 @@ begins ms nexts = record {
   plain = λ e. All-nil (λ (m : Ends). (m.from ≡ NoPlace → ⊥) × (m.to ≡ NoPlace → ⊥));
 }
 
+-- before anything is emitted no move is `Pending`
 pub begins_settled : (n : ℕ) → IsSettled (replicate n Todo)
 begins_settled n k r e = todo_pending (state_at (replicate n Todo) k) (all_todo n k) e
 
 -- all moves are given out
-pub gives_all : (ms : List Ends) (st : List State) (given : List Ends) → HasGiven (length ms) ms st given → length st ≡ length ms → IsSettled st → ((k : ℕ) → k < length ms → state_at st k ≡ Todo → ⊥) → (q : Place) → (q ≡ NoPlace → ⊥) → TakesFrom ms q (origin given q)
+pub gives_all : (ms : List Ends) (st : List State) (given : List Ends) → HasGiven (length ms) ms st given → length st ≡ length ms → IsSettled st →
+    ((k : ℕ) → k < length ms → state_at st k ≡ Todo → ⊥) → (q : Place) → (q ≡ NoPlace → ⊥) → TakesFrom ms q (origin given q)
 gives_all ms st given had same settled none_todo q real =
     record {
       written = λ k r e. ap (origin given) (sym e) ∙ had.gave k r (is_done_else (state_at st k) (none_todo k r) (settled k (omega arith))) ∙
@@ -62,7 +72,9 @@ gives_all ms st given had same settled none_todo q real =
       unwritten = λ n. had.kept q real (λ k r done e. n k r e);
     }
 
-pub none_todo_more : (st new : List State) (start : ℕ) → ((k : ℕ) → k < start → state_at st k ≡ Todo → ⊥) → HasGoneOn st new → (state_at new start ≡ Todo → ⊥) → (k : ℕ) → k < start + 1 → state_at new k ≡ Todo → ⊥
+-- where no move before `start` was `Todo`, and `start` isn't any more, no move up to and including it is
+pub none_todo_more : (st new : List State) (start : ℕ) → ((k : ℕ) → k < start → state_at st k ≡ Todo → ⊥) → HasGoneOn st new → (state_at new start ≡ Todo → ⊥) →
+    (k : ℕ) → k < start + 1 → state_at new k ≡ Todo → ⊥
 none_todo_more st new start before on here k r e = ⊎_elim
     (λ l. on k (before k l) e)
     (λ h. let same : k ≡ start = omega arith in here (ap (λ x. state_at new x) (sym same) ∙ e))
@@ -76,7 +88,9 @@ pub record HasGivenTo (ms : List Ends) (nexts : List ℕ) (st : List State) (giv
   pub empty : chain ≡ []
   pub passed : (k : ℕ) → k < start → state_at st k ≡ Todo → ⊥
 
-pub given_none : (ms : List Ends) (nexts : List ℕ) (st : List State) (given : List Ends) (chain : List ℕ) → st ≡ replicate (length ms) Todo → given ≡ [] → chain ≡ [] → HasGivenTo ms nexts st given chain 0
+-- the loop's invariant holds at the first move, with nothing emitted and an empty chain
+pub given_none : (ms : List Ends) (nexts : List ℕ) (st : List State) (given : List Ends) (chain : List ℕ) → st ≡ replicate (length ms) Todo → given ≡ [] →
+    chain ≡ [] → HasGivenTo ms nexts st given chain 0
 given_none ms nexts st given chain e f g = record {
   as_many = ap length e ∙ length-replicate (length ms) Todo;
   had = subst (λ x. HasGivenWhole ms nexts x given) (sym e) (subst (λ x. HasGivenWhole ms nexts (replicate (length ms) Todo) x) (sym f) (begins ms nexts));
@@ -85,7 +99,10 @@ given_none ms nexts st given chain e f g = record {
   passed = λ k r. absurd (omega arith);
 }
 
-pub given_more : (ms : List Ends) (nexts : List ℕ) (st new : List State) (given : List Ends) (chain old : List ℕ) (start : ℕ) (more : List Ends) → HasGivenTo ms nexts st given old start → length new ≡ length ms → HasGivenWhole ms nexts new more → IsSettled new → chain ≡ [] → HasGoneOn st new → (state_at new start ≡ Todo → ⊥) → HasGivenTo ms nexts new more chain (start + 1)
+-- the loop's invariant goes on to the next move once the chain that begins at this one is emitted
+pub given_more : (ms : List Ends) (nexts : List ℕ) (st new : List State) (given : List Ends) (chain old : List ℕ) (start : ℕ) (more : List Ends) →
+    HasGivenTo ms nexts st given old start → length new ≡ length ms → HasGivenWhole ms nexts new more → IsSettled new → chain ≡ [] → HasGoneOn st new →
+    (state_at new start ≡ Todo → ⊥) → HasGivenTo ms nexts new more chain (start + 1)
 given_more ms nexts st new given chain old start more was many had settled empty on here = record {
   as_many = many;
   had = had;
@@ -95,12 +112,14 @@ given_more ms nexts st new given chain old start more was many had settled empty
 }
 
 -- a move that is not to be done is passed
-pub given_passed : (ms : List Ends) (nexts : List ℕ) (st : List State) (given : List Ends) (chain : List ℕ) (start : ℕ) → HasGivenTo ms nexts st given chain start → (state_at st start ≡ Todo → ⊥) → HasGivenTo ms nexts st given chain (start + 1)
+pub given_passed : (ms : List Ends) (nexts : List ℕ) (st : List State) (given : List Ends) (chain : List ℕ) (start : ℕ) →
+    HasGivenTo ms nexts st given chain start → (state_at st start ≡ Todo → ⊥) → HasGivenTo ms nexts st given chain (start + 1)
 given_passed ms nexts st given chain start was here =
     given_more ms nexts st st given chain chain start given was was.as_many was.had was.settled was.empty (λ k n. n) here
 
 -- all moves are given out
-pub given_whole : (ms : List Ends) (nexts : List ℕ) (st : List State) (given : List Ends) (chain : List ℕ) → length nexts ≡ length ms → HasGivenTo ms nexts st given chain (length ms) → IsOrder ms nexts given
+pub given_whole : (ms : List Ends) (nexts : List ℕ) (st : List State) (given : List Ends) (chain : List ℕ) → length nexts ≡ length ms →
+    HasGivenTo ms nexts st given chain (length ms) → IsOrder ms nexts given
 given_whole ms nexts st given chain many was =
     let all_done : (k : ℕ) → k < length st → state_at st k ≡ Done = λ k r.
     let same : length st ≡ length ms = was.as_many in
@@ -121,7 +140,9 @@ given_whole ms nexts st given chain many was =
     }
 
 -- what was not to be done before a chain is given out still isn't
-pub given_on : {T : Type 0} (moves : List (Place × Place × T)) (nexts : List ℕ) (old mid new : List State) (chain : List ℕ) (given : List (Place × Place × T)) (start : ℕ) → HasGoneOn old mid → (state_at mid start ≡ Todo → ⊥) → IsGivenOut moves nexts mid new chain given → IsGivenOut moves nexts old new chain given × (state_at new start ≡ Todo → ⊥)
+pub given_on : {T : Type 0} (moves : List (Place × Place × T)) (nexts : List ℕ) (old mid new : List State) (chain : List ℕ) (given : List (Place × Place × T))
+    (start : ℕ) → HasGoneOn old mid → (state_at mid start ≡ Todo → ⊥) → IsGivenOut moves nexts mid new chain given → IsGivenOut moves nexts old new chain given
+    × (state_at new start ≡ Todo → ⊥)
 given_on moves nexts old mid new chain given start on begun h = (
   record { had = h.had; settled = h.settled; empty = h.empty; goes_on = λ k n. h.goes_on k (on k n); of_moves = h.of_moves },
   h.goes_on start begun,

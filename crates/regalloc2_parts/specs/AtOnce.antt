@@ -38,7 +38,8 @@ pub record AreAtOnce {X : Type 0} (ms : List Ends) (old new : Cells X) : Type 0 
   pub assigned : (m : Ends) → Contains ms m → new m.to ≡ old m.from
   pub kept : (q : Place) → q ≢ NoPlace → ((m : Ends) → Contains ms m → m.to ≢ q) → new q ≡ old q
 
--- Each place holds its own name. What moves make of these cells says of each place where what stands there came from, and so what they make of any cells (`in_turn-any`).
+-- Each place holds its own name. What moves make of these cells says of each place where what stands there came from, and so what they make
+-- of any cells (`in_turn-any`).
 abbrev pub names : Cells Place
 names q = q
 

@@ -37,7 +37,8 @@ module _ {G : Type 0} (step : G → Option Place → G → Type 0) where
   AnswersDiffer s = (p q : Place) (middle next : G) → step s (Some p) middle → step middle (Some q) next → p ≢ q
 
 -- What the closures owe to the moves: registers and slots that no move names and that differ, none of the registers in memory.
-pub record Owes {F G T : Type 0} (registers : F → Option Place → F → Type 0) (slots : G → Option Place → G → Type 0) (stack : Place → Bool → Type 0) (borrowed : Place) (ms : List (Place × Place × T)) (f : F) (g : G) : Type 0 where
+pub record Owes {F G T : Type 0} (registers : F → Option Place → F → Type 0) (slots : G → Option Place → G → Type 0) (stack : Place → Bool → Type 0)
+    (borrowed : Place) (ms : List (Place × Place × T)) (f : F) (g : G) : Type 0 where
   -- what is answered is a place that no move names
   pub free : (p : Place) → MayAnswer registers f p → (p ≢ NoPlace) × IsUnnamed p ms
   pub unused : (p : Place) → MayAnswer slots g p → (p ≢ NoPlace) × IsUnnamed p ms
@@ -68,7 +69,8 @@ handed_place (Register p) = p
 handed_place (Slot p) = p
 
 -- the moves with a scratch place chosen, where they need one
-abbrev pub IsChoice : {F G T A : Type 0} → (F → Option Place → F → Type 0) → (G → Option Place → G → Type 0) → F → F → G → G → MoveVecWithScratch T A → List (Place × Place × T) → Type 0
+abbrev pub IsChoice : {F G T A : Type 0} → (F → Option Place → F → Type 0) → (G → Option Place → G → Type 0) → F → F → G → G → MoveVecWithScratch T A →
+    List (Place × Place × T) → Type 0
 IsChoice registers slots f f' g g' moves made =
     ((has_scratch moves ≡ false) × (f' ≡ f) × (g' ≡ g) × (made ≡ listed moves))
     ⊎ ((h : Handed) × (has_scratch moves ≡ true) × IsHanding registers slots f f' g g' h × (made ≡ with_place (handed_place h) moves))
@@ -86,7 +88,8 @@ abbrev pub IsEitherAway : (Place → Bool → Type 0) → Place → Place → Ty
 IsEitherAway stack p q = IsAway stack p ⊎ IsAway stack q
 
 -- A move of those that were made of the given ones.
-pub record IsComputedMove {T : Type 0} (are_apart : Place → Place → Type 0) (lent : Place → Type 0) (given : List (Place × Place × T)) (m : Place × Place × T) : Type 0 where
+pub record IsComputedMove {T : Type 0} (are_apart : Place → Place → Type 0) (lent : Place → Type 0) (given : List (Place × Place × T))
+    (m : Place × Place × T) : Type 0 where
   -- it is from a place to a place, one of them no place in memory
   pub apart : are_apart m.0 m.1
   pub between : (m.0 ≢ NoPlace) × (m.1 ≢ NoPlace)
@@ -103,7 +106,8 @@ abbrev pub AreSeenApart : {T : Type 0} → (Place → Bool → Type 0) → List 
 AreSeenApart stack ms = All (λ m. stack m.0 false ⊎ stack m.1 false) ms
 
 -- The moves `made`, one after another, do what the given ones do, without going from memory to memory.
-pub record IsComputed {T : Type 0} (stack : Place → Bool → Type 0) (borrowed : Place) (handed : Place → Type 0) (scratch : Bool) (given made : List (Place × Place × T)) : Type 0 where
+pub record IsComputed {T : Type 0} (stack : Place → Bool → Type 0) (borrowed : Place) (handed : Place → Type 0) (scratch : Bool)
+    (given made : List (Place × Place × T)) : Type 0 where
   -- each place but those that were handed out ends as the given moves leave it, the borrowed register too
   pub same : (q : Place) → q ≢ NoPlace → (handed q → ⊥) → in_turn (ends_of made) names q ≡ in_turn (ends_of given) names q
   pub each : All (IsComputedMove (IsEitherAway stack) (λ p. handed p ⊎ (p ≡ borrowed)) given) made
@@ -111,14 +115,16 @@ pub record IsComputed {T : Type 0} (stack : Place → Bool → Type 0) (borrowed
   pub plain : scratch ≡ false → AreApartInMemory stack given → made ≡ given
 
 -- What the resolver asked for as it went from the state old to the state new, and the moves that it made of the given ones or why it made none.
-pub record Computes {F G H T A : Type 0} (registers : F → Option Place → F → Type 0) (slots : G → Option Place → G → Type 0) (stack : Place → Bool → Type 0) (old new : MoveAndScratchResolver F G H) (moves : MoveVecWithScratch T A) (result : Result (SmallVec (Place × Place × T)) MoveFault) : Type 0 where
+pub record Computes {F G H T A : Type 0} (registers : F → Option Place → F → Type 0) (slots : G → Option Place → G → Type 0) (stack : Place → Bool → Type 0)
+    (old new : MoveAndScratchResolver F G H) (moves : MoveVecWithScratch T A) (result : Result (SmallVec (Place × Place × T)) MoveFault) : Type 0 where
   pub asked : Asked registers old.find_free_reg new.find_free_reg
   pub slots_asked : Asked slots old.get_stackslot new.get_stackslot
   pub stack_kept : new.is_stack_alloc ≡ old.is_stack_alloc
   pub borrowed_kept : new.borrowed_scratch_reg ≡ old.borrowed_scratch_reg
   -- the moves that are made, or why there are none
   pub outcome : MatchResult result
-      (λ made. IsComputed stack (InRegister old.borrowed_scratch_reg) (IsAnswered asked.answers slots_asked.answers) (has_scratch moves) (listed moves) made.items)
+      (λ made. IsComputed stack (InRegister old.borrowed_scratch_reg) (IsAnswered asked.answers slots_asked.answers) (has_scratch moves) (listed moves)
+      made.items)
       (λ fault. fault ≡ NoSlot → Contains slots_asked.answers None)
   -- where nothing is needed nothing fails
   pub plain : has_scratch moves ≡ false → AreApartInMemory stack (listed moves) → IsOk result

@@ -22,7 +22,8 @@ cycle_at rings r = slice_index_or rings r []
 -- the cycles of moves: no two of them share a move, and each cycle has a move in one of them
 pub record AreCycles (ms : List Ends) (rings : List (List Ends)) : Type 0 where
   pub each : (r : ℕ) → r < length rings → IsCycle ms (cycle_at rings r)
-  pub apart : (r s i j : ℕ) → r < s → s < length rings → i < length (cycle_at rings r) → j < length (cycle_at rings s) → move_at (cycle_at rings r) i ≢ move_at (cycle_at rings s) j
+  pub apart : (r s i j : ℕ) → r < s → s < length rings → i < length (cycle_at rings r) → j < length (cycle_at rings s) →
+      move_at (cycle_at rings r) i ≢ move_at (cycle_at rings s) j
   pub whole : (ring : List Ends) → IsCycle ms ring →
       (i : ℕ) × (r : ℕ) × (j : ℕ) × (i < length ring) × (r < length rings) × (j < length (cycle_at rings r)) × (move_at (cycle_at rings r) j ≡ move_at ring i)
 

@@ -1,5 +1,6 @@
 -- What the private steps of the move resolver promise one another: moves are given out from the last to the first. No public contract speaks of this.
-use Rattle.std.specs.Prelude.{ℕ, ◌≡◌, ◌<◌, ◌≤◌, ◌+◌, ◌==◌, Bool, true, false, if◌then◌else◌, List, reverse, count_by, Contains, [], ◌∷◌, length, slice_index_or, ◌⊎◌}
+use Rattle.std.specs.Prelude.{ℕ, ◌≡◌, ◌<◌, ◌≤◌, ◌+◌, ◌==◌, Bool, true, false, if◌then◌else◌, List, reverse, count_by, Contains, [], ◌∷◌, length}
+use Rattle.std.specs.Prelude.{slice_index_or, ◌⊎◌, ◌≢◌}
 use Rattle.regalloc2_names.specs.Place.{Place, NoPlace, is_place}
 use Rattle.std.specs.List.{All, AllPairs}
 use Rattle.regalloc2_names.specs.PlaceBits.{bits_of_place}
@@ -98,10 +99,13 @@ StandsIn rings k = (r : ℕ) × (i : ℕ) × (r < length rings) × (i < length (
 pub record HasRings (nexts : List ℕ) (st : List State) (count : ℕ) : Type 0 where
   pub rings : List (List ℕ)
   pub each : (r : ℕ) → r < length rings → IsRingOf nexts (ring_at rings r)
-  pub apart : (r s i j : ℕ) → r < s → s < length rings → i < length (ring_at rings r) → j < length (ring_at rings s) → number_at (ring_at rings r) i ≡ number_at (ring_at rings s) j → ⊥
+  pub apart : (r s i j : ℕ) → r < s → s < length rings → i < length (ring_at rings r) → j < length (ring_at rings s) →
+      number_at (ring_at rings r) i ≡ number_at (ring_at rings s) j → ⊥
   pub reached : (k : ℕ) → StandsIn rings k → state_at st k ≡ Todo → ⊥
-  pub onward : (k : ℕ) → k < length nexts → state_at st k ≡ Done → number_at nexts k < length nexts → (state_at st (number_at nexts k) ≡ Done) ⊎ StandsIn rings k
-  pub whole : (ring : List ℕ) → IsRingOf nexts ring → ((i : ℕ) → i < length ring → state_at st (number_at ring i) ≡ Done) → (i : ℕ) × (i < length ring) × StandsIn rings (number_at ring i)
+  pub onward : (k : ℕ) → k < length nexts → state_at st k ≡ Done → number_at nexts k < length nexts → (state_at st (number_at nexts k) ≡ Done)
+      ⊎ StandsIn rings k
+  pub whole : (ring : List ℕ) → IsRingOf nexts ring → ((i : ℕ) → i < length ring → state_at st (number_at ring i) ≡ Done) → (i : ℕ) × (i < length ring)
+      × StandsIn rings (number_at ring i)
   pub counted : count ≡ count_by is_done st + length rings
 
 -- all moves in the rings are done
@@ -166,11 +170,58 @@ pub record AreSameDone (old new : List State) : Type 0 where
   pub was : (k : ℕ) → state_at new k ≡ Done → state_at old k ≡ Done
 
 -- a chain was given out to its first move, no other is begun, and what is given was made of the moves
-pub record IsGivenOut {T : Type 0} (moves : List (Place × Place × T)) (nexts : List ℕ) (old new : List State) (chain : List ℕ) (given : List (Place × Place × T)) : Type 0 where
+pub record IsGivenOut {T : Type 0} (moves : List (Place × Place × T)) (nexts : List ℕ) (old new : List State) (chain : List ℕ)
+    (given : List (Place × Place × T)) : Type 0 where
   pub had : HasGivenWhole (ends_of moves) nexts new (ends_of given)
   pub settled : IsSettled new
   pub empty : chain ≡ []
   pub goes_on : HasGoneOn old new
+  pub of_moves : All (IsOfMoves moves) given
+
+-- a chain can be followed from the move `at` on
+pub record CanFollow (nexts : List ℕ) (st : List State) (chain : List ℕ) (at : ℕ) : Type 0 where
+  pub as_many : length st ≡ length nexts
+  pub settled : IsSettled st
+  pub empty : chain ≡ []
+  pub start : state_at st at ≡ Todo
+  pub within : at < length nexts
+
+-- the ring can be opened that a chain closes which stops at `stop`
+pub record CanOpen {T : Type 0} (moves : List (Place × Place × T)) (ks : List ℕ) (st : List State) (line : List ℕ) (given : List (Place × Place × T))
+    (stop : ℕ) : Type 0 where
+  pub apart : AreApart (ends_of moves)
+  pub nexts : AreNexts (ends_of moves) ks
+  pub as_many : length st ≡ length moves
+  pub indexed : length ks ≡ length moves
+  pub had : HasGivenWhole (ends_of moves) ks st (ends_of given)
+  pub rings : (met : HasRings ks st (length given)) × AreRingsDone st met.rings
+  pub chain : IsChain ks st line
+  pub link : LeadsTo ks line stop
+  pub stops : stop < length ks → state_at st stop ≢ Todo
+  pub of_moves : All (IsOfMoves moves) given
+
+-- the moves of a chain can be given out
+pub record CanGive {T : Type 0} (moves : List (Place × Place × T)) (ks : List ℕ) (st : List State) (chain : List ℕ) (given : List (Place × Place × T))
+    (cut first : ℕ) : Type 0 where
+  pub apart : AreApart (ends_of moves)
+  pub nexts : AreNexts (ends_of moves) ks
+  pub as_many : length st ≡ length moves
+  pub indexed : length ks ≡ length moves
+  pub giving : IsGiving (ends_of moves) ks st chain (ends_of given) cut first
+  pub of_moves : All (IsOfMoves moves) given
+
+-- the chain can be given out that begins at the move `at`
+pub record CanBegin {T : Type 0} (moves : List (Place × Place × T)) (ks : List ℕ) (st : List State) (chain : List ℕ) (given : List (Place × Place × T))
+    (at : ℕ) : Type 0 where
+  pub apart : AreApart (ends_of moves)
+  pub nexts : AreNexts (ends_of moves) ks
+  pub as_many : length st ≡ length moves
+  pub indexed : length ks ≡ length moves
+  pub had : HasGivenWhole (ends_of moves) ks st (ends_of given)
+  pub settled : IsSettled st
+  pub empty : chain ≡ []
+  pub start : state_at st at ≡ Todo
+  pub within : at < length moves
   pub of_moves : All (IsOfMoves moves) given
 
 -- p is the place from which what comes to stand at q is taken, where all moves are made at once
@@ -183,7 +234,8 @@ pub record IsOrder (ms : List Ends) (nexts : List ℕ) (given : List Ends) : Typ
   pub takes : (q : Place) → (q ≡ NoPlace → ⊥) → TakesFrom ms q (origin given q)
   pub rings : List (List ℕ)
   pub each : (r : ℕ) → r < length rings → IsRingOf nexts (ring_at rings r)
-  pub apart : (r s i j : ℕ) → r < s → s < length rings → i < length (ring_at rings r) → j < length (ring_at rings s) → number_at (ring_at rings r) i ≡ number_at (ring_at rings s) j → ⊥
+  pub apart : (r s i j : ℕ) → r < s → s < length rings → i < length (ring_at rings r) → j < length (ring_at rings s) →
+      number_at (ring_at rings r) i ≡ number_at (ring_at rings s) j → ⊥
   pub whole : (ring : List ℕ) → IsRingOf nexts ring → (i : ℕ) × (i < length ring) × StandsIn rings (number_at ring i)
   pub counted : length given ≡ length ms + length rings
   pub written : HasWrittenFirst given

@@ -22,6 +22,7 @@ abbrev pub GivesNextMatch : {F : Type 0} → (F → OperandValue → Bool → Ty
 GivesNextMatch answers it result after =
     (operands_of after ≡ operands_of it) × (predicate_of after ≡ predicate_of it)
     × MatchOption result
-    (AllWithin (λ o. answers (predicate_of it) o false) (operands_of it) (next_index it) (length (operands_of it)) × (length (operands_of it) ≤ next_index after))
+    (AllWithin (λ o. answers (predicate_of it) o false) (operands_of it) (next_index it) (length (operands_of it))
+    × (length (operands_of it) ≤ next_index after))
     (λ x. (next_index it ≤ x.0) × (x.0 < length (operands_of it)) × (slice_index_or (operands_of it) x.0 x.1 ≡ x.1) × answers (predicate_of it) x.1 true
     × AllWithin (λ o. answers (predicate_of it) o false) (operands_of it) (next_index it) x.0 × (next_index after ≡ x.0 + 1))

@@ -140,7 +140,8 @@ impl Pick {
 fn next_picked(operands: &[Operand], from: usize, pick: Pick) -> Option<usize>
     ensures none { IfNone result (left_from (accepts pick) from operands.now ≡ []) }
     ensures bound { IfSome result (λ i. i < length operands.now) }
-    ensures first { IfSome result (λ i. (other : OperandValue) → left_from (accepts pick) from operands.now ≡ (i, slice_index_or operands.now i other) ∷ left_from (accepts pick) (i + 1) operands.now) }
+    ensures first { IfSome result (λ i. (other : OperandValue) → left_from (accepts pick) from operands.now ≡ (i, slice_index_or operands.now i other) ∷
+        left_from (accepts pick) (i + 1) operands.now) }
 {
     for i in from..operands.len() {
         if pick.accepts(operands[i]) {

@@ -1,6 +1,7 @@
 //! Registers in the order of their last use.
 
-ghost use Rattle.std.specs.Prelude.{◌≡◌, ◌-◌, ◌∷◌, ◌<◌, ◌≤◌, ◌↔◌, ◌==◌, IsTrue, false, IfSome, IfNone, IfOk, IfErr, IsNone, All, Contains, length, not, filter, find, reverse, slice_get, slice_index_or, ◌≢◌, [], IsOk};
+ghost use Rattle.std.specs.Prelude.{◌≡◌, ◌-◌, ◌∷◌, ◌<◌, ◌≤◌, ◌↔◌, ◌==◌, IsTrue, false, IfSome, IfNone, IfOk, IfErr, IsNone, All, Contains, length};
+ghost use Rattle.std.specs.Prelude.{not, filter, find, reverse, slice_get, slice_index_or, ◌≢◌, [], IsOk};
 ghost use Rattle.std.specs.List.{IsDistinct};
 ghost use Rattle.regalloc2_names.specs.declared.RegClass.{RegClass};
 ghost use Rattle.regalloc2_names.specs.Register.{Register, class_code, is_register};

@@ -11,10 +11,13 @@ nothing : IsDistinct is_register []
 unfolding IsDistinct
 nothing = tt
 
+-- no registers are a list of distinct registers of any class
 pub none : (class : RegClass) → AreDistinctOf class []
 none class = record { of_class = λ k d less. absurd (omega arith); distinct = nothing }
 
-pub one_more : (class : RegClass) (r : Register) (regs : List Register) → r.class ≡ class → AllByRecursion (λ q. is_register r q ≡ false) regs → AreDistinctOf class regs → AreDistinctOf class (r ∷ regs)
+-- distinct registers of a class, with one more of it in front that is none of them, are distinct registers of that class
+pub one_more : (class : RegClass) (r : Register) (regs : List Register) → r.class ≡ class → AllByRecursion (λ q. is_register r q ≡ false) regs →
+    AreDistinctOf class regs → AreDistinctOf class (r ∷ regs)
 one_more class r regs here apart rest = record {
   of_class = All-cons (λ (q : Register). q.class ≡ class) r regs here rest.of_class;
   distinct = IsDistinct-cons is_register r regs apart rest.distinct;

@@ -14,6 +14,7 @@ use Rattle.regalloc2_parts.specs.Giving.{IsBefore}
 abbrev pub RisesTo : List Ends → ℕ → Type 0
 RisesTo ms n = (i j : ℕ) → i ≤ j → j < n → IsBefore (move_at ms i) (move_at ms j)
 
+-- the first move alone is in order of destinations
 pub rises_first : (ms : List Ends) → RisesTo ms 1
 rises_first ms i j le r = let e : i ≡ j = omega arith in inr (ap (λ k. (move_at ms k).from) e, ap (λ k. (move_at ms k).to) e)
 
@@ -29,6 +30,7 @@ before_trans a b c p q = ⊎_elim
     q)
     p
 
+-- where the first n + 1 moves are in order and the next comes after the last of them, the first n + 2 are in order
 pub rises_more : (ms : List Ends) (n : ℕ) → RisesTo ms (n + 1) → IsBefore (move_at ms n) (move_at ms (n + 1)) → RisesTo ms (n + 1 + 1)
 rises_more ms n had step i j le r = ⊎_elim
     (λ l. had i j le l)
@@ -39,6 +41,7 @@ rises_more ms n had step i j le r = ⊎_elim
     (cases_eq i j))
     (cases_lt j (n + 1))
 
+-- where later moves have greater destinations or are equal moves, two with one destination have one source
 pub rises_all : (ms : List Ends) (n : ℕ) → RisesTo ms n → length ms ≤ n → HasOneSourceEach ms
 rises_all ms n had long a b ha hb e =
     let ra : ha.0 < length ms = ha.1 in
@@ -46,7 +49,8 @@ rises_all ms n had long a b ha hb e =
     let is_a : move_at ms ha.0 ≡ a = get_or_default ms ha.0 no_move a ha.1 ∙ ha.2 in
     let is_b : move_at ms hb.0 ≡ b = get_or_default ms hb.0 no_move b hb.1 ∙ hb.2 in
     ⊎_elim
-    (λ l. sources b a (subst (λ x. IsBefore b x) is_a (subst (λ x. IsBefore x (move_at ms ha.0)) is_b (had hb.0 ha.0 (omega arith) (omega arith)))) (sym e) ∙ refl)
+    (λ l. sources b a (subst (λ x. IsBefore b x) is_a (subst (λ x. IsBefore x (move_at ms ha.0)) is_b (had hb.0 ha.0 (omega arith) (omega arith)))) (sym e)
+    ∙ refl)
     (λ g. sym (sources a b (subst (λ x. IsBefore a x) is_b (subst (λ x. IsBefore x (move_at ms hb.0)) is_a (had ha.0 hb.0 (omega arith) (omega arith)))) e))
     (cases_lt hb.0 ha.0)
   where
@@ -57,7 +61,8 @@ rises_all ms n had long a b ha hb e =
         p
 
 -- one more move that comes after the one before it
-pub rises_step : {T : Type 0} (xs : List (Place × Place × T)) (at : ℕ) (x y : Place × Place × T) → 1 ≤ at → at < length xs → RisesTo (ends_of xs) at → x ≡ get_or xs (at - 1) x → y ≡ get_or xs at y → IsBefore (ends x) (ends y) → RisesTo (ends_of xs) (at + 1)
+pub rises_step : {T : Type 0} (xs : List (Place × Place × T)) (at : ℕ) (x y : Place × Place × T) → 1 ≤ at → at < length xs → RisesTo (ends_of xs) at →
+    x ≡ get_or xs (at - 1) x → y ≡ get_or xs at y → IsBefore (ends x) (ends y) → RisesTo (ends_of xs) (at + 1)
 rises_step xs at x y least low had read_x read_y step =
     let back : at - 1 + 1 ≡ at = omega arith in
     let before : get_or (ends_of xs) (at - 1) no_move ≡ ends x = get_or-map ends xs (at - 1) x no_move (omega arith) ∙ ap ends (sym read_x) in

@@ -111,7 +111,8 @@ impl Lent {
 
     /// Whether the places serve as the registers and the slots of a resolver for these moves.
     fn serves<A: Allocator + Copy>(&self, moves: &MoveVecWithScratch<u32, A>) -> bool
-        ensures { IsTrue result → AreLent (self.now.registers.first, self.now.registers.second) (self.now.slots.first, self.now.slots.second) (listed moves.now) }
+        ensures { IsTrue result → AreLent (self.now.registers.first, self.now.registers.second) (self.now.slots.first, self.now.slots.second)
+            (listed moves.now) }
     {
         let list = list_of(moves);
         self.registers.serve(false, list) && self.slots.serve(true, list)

@@ -10,7 +10,7 @@ use regalloc2_names::{Operand, PReg, PRegSet, RegAllocError, RegClass, VReg};
 use regalloc2_parts::iter::Operands;
 use regalloc2_parts::lru::{Lru, Lrus, PartedByRegClass};
 use regalloc2_parts::vregset::VRegSet;
-use regalloc2_refusing::Refusing;
+use regalloc2_test_alloc::Refusing;
 use std::alloc::{Allocator, Global};
 use std::io::{self, Write};
 

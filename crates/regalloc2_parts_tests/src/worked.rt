@@ -8,7 +8,7 @@ use regalloc2_names::RegAllocError;
 use regalloc2_parts::moves::MoveFault;
 use regalloc2_parts::moves::MoveVecWithScratch::{NoScratch, Scratch};
 use regalloc2_parts::vregset::VRegSet;
-use regalloc2_refusing::Refusing;
+use regalloc2_test_alloc::Refusing;
 use std::alloc::Global;
 use std::io::{self, Write};
 

@@ -8,7 +8,13 @@ use Rattle.regalloc2_table.specs.declared.builder.BuildError.TheVariants.{Memory
 
 -- a block whose predecessors aren't known yet, of the instructions from `first` on
 abbrev pub placed : ℕ → DraftValue → BlockValue
-placed first d = record { range = record { first = first; end = first + length d.insts }; succs = d.succs; preds = []; params = d.params; arguments = d.arguments }
+placed first d = record {
+  range = record { first = first; end = first + length d.insts };
+  succs = d.succs;
+  preds = [];
+  params = d.params;
+  arguments = d.arguments;
+}
 
 -- blocks that follow one another from an instruction on
 abbrev pub blocks_from : ℕ → List DraftValue → List BlockValue

@@ -16,6 +16,7 @@ limited_table f = record {
   insts = rw length-map (omega (arith, f.few_insts));
   blocks = rw length-map (omega (arith, f.few_blocks));
   vregs = f.few_vregs;
-  slot_sizes = λ c. elim c as (λ k. IsSlotSize (slot_size (function_of f).slot_sizes k)) [ Int ↦ size_of_units f.int_slot | Float ↦ size_of_units f.float_slot | Vector ↦ size_of_units f.vector_slot ];
+  slot_sizes = λ c. elim c as (λ k. IsSlotSize (slot_size (function_of f).slot_sizes k))
+      [ Int ↦ size_of_units f.int_slot | Float ↦ size_of_units f.float_slot | Vector ↦ size_of_units f.vector_slot ];
   labels = All-nil _;
 }

@@ -156,7 +156,8 @@ impl<A: Allocator + Copy> TableBuilder<A> {
         operands: &[Operand],
         clobbers: PRegSet,
     ) -> Result<(), BuildError>
-        ensures ok { OnOk result (IsChanged (drafts_of self.old) block (with_inst (record { operands = operands.now; clobbers = clobbers; is_branch = false; is_ret = false })) (drafts_of self.new)) }
+        ensures ok { OnOk result (IsChanged (drafts_of self.old) block (with_inst
+            (record { operands = operands.now; clobbers = clobbers; is_branch = false; is_ret = false })) (drafts_of self.new)) }
         ensures err { IfErr result (λ e. IsUnadded (length (drafts_of self.old)) block e) }
         ensures unchanged { OnErr result (drafts_of self.new ≡ drafts_of self.old) }
     {
@@ -298,7 +299,8 @@ fn link_one<A: Allocator + Copy>(
     pred: Block,
 ) -> Result<(), BuildError>
     requires { pred < vec_len blocks.old }
-    ensures ok { let succs = succs_at (map block_of blocks.old.items) pred in OnOk result (HasPreds (map block_of blocks.old.items) (λ b. edges_to b pred succs) (map block_of blocks.new.items)) }
+    ensures ok { let succs = succs_at (map block_of blocks.old.items) pred in
+        OnOk result (HasPreds (map block_of blocks.old.items) (λ b. edges_to b pred succs) (map block_of blocks.new.items)) }
     ensures within { OnOk result (All (λ s. s < length blocks.old.items) (succs_at (map block_of blocks.old.items) pred)) }
     ensures err { IfErr result (λ e. IsUnlinked (succs_at (map block_of blocks.old.items) pred) (length blocks.old.items) e) }
 {
@@ -312,7 +314,8 @@ fn link_one<A: Allocator + Copy>(
 /// Gives each block its predecessors.
 fn link<A: Allocator + Copy>(blocks: &mut Vec<TableBlock<A>, A>) -> Result<(), BuildError>
     requires { vec_len blocks.old < 2 ^ 32 - 1 }
-    ensures ok { let succs = map (λ b. b.succs) (map block_of blocks.old.items) in OnOk result (HasPreds (map block_of blocks.old.items) (λ b. preds_from b 0 succs) (map block_of blocks.new.items)) }
+    ensures ok { let succs = map (λ b. b.succs) (map block_of blocks.old.items) in
+        OnOk result (HasPreds (map block_of blocks.old.items) (λ b. preds_from b 0 succs) (map block_of blocks.new.items)) }
     ensures within { OnOk result ((b : ℕ) → b < length blocks.old.items → All (λ s. s < length blocks.old.items) (succs_at (map block_of blocks.old.items) b)) }
     ensures err { IfErr result (λ e. AreUnlinked (map block_of blocks.old.items) e) }
 {

@@ -3,7 +3,7 @@
 use super::calls::{check, run_checked_fitting};
 use super::random::Random;
 use regalloc2::{MachineEnv, Output};
-use regalloc2_plain::reads::{Reads, reads_at};
+use regalloc2_interp::reads::{Reads, reads_at};
 use regalloc2_table::TableFunction;
 use std::alloc::Global;
 

@@ -2,8 +2,8 @@
 
 use super::calls::{Verdict, check, run_fitting, run_with_ctx_fitting};
 use regalloc2::{Ctx, MachineEnv, Output, RegAllocError};
-use regalloc2_refusing::Refusing;
 use regalloc2_table::TableFunction;
+use regalloc2_test_alloc::Refusing;
 use std::alloc::Global;
 
 /// A call that asks for memory.

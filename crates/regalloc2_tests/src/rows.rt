@@ -8,7 +8,7 @@ use super::judge::reads;
 use super::random::integer_machine;
 use regalloc2::checker::Checker;
 use regalloc2::{Block, Ctx, Operand, Output, RegAllocError, RegClass, VReg, is_framed};
-use regalloc2_plain::logs::Stamp;
+use regalloc2_interp::logs::Stamp;
 use regalloc2_table::{BuildError, TableBuilder, TableFunction};
 use std::alloc::Global;
 

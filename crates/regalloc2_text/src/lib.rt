@@ -4,15 +4,12 @@
 mod cursor;
 mod error;
 mod items;
-mod json;
-mod lists;
 mod reading;
 mod same;
-mod spell;
 mod token;
 mod writing;
 
 pub use error::{Expected, Fault, Found, TextError};
-pub use json::write_json;
 pub use reading::{Text, read};
+pub use regalloc2_text_writer::write_json;
 pub use writing::{WriteError, write};

@@ -17,7 +17,7 @@ use super::error::{Expected, Flaw, Found};
 use super::token::{Token, tokenize};
 use draft::{Draft, LineEffect, is_numbered};
 use regalloc2_function::StoredOutput;
-use regalloc2_stored::StoredFunction;
+use regalloc2_serialize::StoredFunction;
 use std::alloc::{Allocator, Global};
 
 /// A function with its machine, and an output where the text has one.

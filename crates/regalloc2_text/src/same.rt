@@ -1,7 +1,7 @@
 //! Whether two stored functions, or two stored outputs, hold the same.
 
 use regalloc2_function::StoredOutput;
-use regalloc2_stored::{StoredFunction, StoredInst, StoredMachine};
+use regalloc2_serialize::{StoredFunction, StoredInst, StoredMachine};
 use std::alloc::Allocator;
 
 /// Whether two machines hold the same.

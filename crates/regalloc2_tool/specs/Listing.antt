@@ -49,7 +49,8 @@ slots_line n = codes "slots " ++ decimal n ++ codes "\n"
 
 -- where a labelled value stands, as debug 3 inst1-pre inst4-post p9i
 unfoldable pub debug_line : DebugLocation → List ℕ
-debug_line d = codes "debug " ++ decimal d.label ++ codes " " ++ point_text d.start ++ codes " " ++ point_text d.end ++ codes " " ++ place_text d.place ++ codes "\n"
+debug_line d = codes "debug " ++ decimal d.label ++ codes " " ++ point_text d.start ++ codes " " ++ point_text d.end ++ codes " " ++ place_text d.place
+    ++ codes "\n"
 
 -- block by block the instructions and moves
 unfoldable pub blocks_text : FunctionValue → OutputValue → List ℕ

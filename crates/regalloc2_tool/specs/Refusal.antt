@@ -1,7 +1,8 @@
 -- The numbers of refusals, as the programs print them.
 use Rattle.std.specs.Prelude.{ℕ}
 use Rattle.regalloc2_names.specs.declared.RegAllocError.{RegAllocError}
-use Rattle.regalloc2_names.specs.declared.RegAllocError.TheVariants.{CritEdge, SSA, BB, Branch, EntryLivein, DisallowedBranchArg, TooManyLiveRegs, TooManyOperands, Unsupported, TooManySpillSlots, Memory}
+use Rattle.regalloc2_names.specs.declared.RegAllocError.TheVariants.{CritEdge, SSA, BB, Branch, EntryLivein, DisallowedBranchArg, TooManyLiveRegs}
+use Rattle.regalloc2_names.specs.declared.RegAllocError.TheVariants.{TooManyOperands, Unsupported, TooManySpillSlots, Memory}
 
 abbrev pub refusal_number : RegAllocError → ℕ
 refusal_number (CritEdge p b) = 1

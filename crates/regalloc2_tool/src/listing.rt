@@ -6,7 +6,8 @@ ghost use Rattle.regalloc2_function.specs.FunctionValue.{inst_at};
 ghost use Rattle.regalloc2_function.specs.OutputValue.{IsInOrder, place_at};
 ghost use Rattle.regalloc2_function.specs.Views.{move_of, output_of};
 ghost use Rattle.regalloc2_tool.specs.Framed.{BlocksAreWithin};
-ghost use Rattle.regalloc2_tool.specs.Listing.{opcode_text, separator_text, placed_text, operands_text, inst_line, move_line, block_text, blocks_text, debug_line, debug_text, listing_text};
+ghost use Rattle.regalloc2_tool.specs.Listing.{opcode_text, separator_text, placed_text, operands_text, inst_line, move_line, block_text};
+ghost use Rattle.regalloc2_tool.specs.Listing.{blocks_text, debug_line, debug_text, listing_text};
 ghost use Rattle.regalloc2_tool.specs.Text.{point_text};
 
 use regalloc2_function::{Edit, Function, InstOrEdit, Output};
@@ -164,7 +165,8 @@ fn write_debug_location<W: Write>(
     location: (u32, ProgPoint, ProgPoint, Allocation),
     writer: &mut W,
 ) -> io::Result<()>
-    ensures { OnOk result (Appends (W.contents writer.old) (W.contents writer.new) (debug_line (record { label = location.0; start = location.1; end = location.2; place = location.3 }))) }
+    ensures { OnOk result (Appends (W.contents writer.old) (W.contents writer.new)
+        (debug_line (record { label = location.0; start = location.1; end = location.2; place = location.3 }))) }
 {
     let (label, from, to, place) = location;
     let from = PointText(from);

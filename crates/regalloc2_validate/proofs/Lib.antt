@@ -1,3 +1,3 @@
-pub mod Constraining
-pub mod Reading
-pub mod Tested
+pub mod ConstraintTests
+pub mod OperandReads
+pub mod ValidatedProof

@@ -10,10 +10,9 @@ use Rattle.regalloc2_names.specs.declared.RegAllocError.{RegAllocError}
 use Rattle.regalloc2_names.specs.declared.RegAllocError.TheVariants.{Unsupported}
 use Rattle.regalloc2_names.specs.Register.{Register}
 use Rattle.regalloc2_names.specs.RegisterSet.{has_register}
-use Rattle.regalloc2_names.specs.Operand.{OperandValue}
+use Rattle.regalloc2_names.specs.Operand.{OperandValue, is_def, is_reading}
 use Rattle.regalloc2_function.specs.FunctionValue.{FunctionValue, InstValue, inst_at}
 use Rattle.regalloc2_function.specs.Machine.{MachineValue}
-use Rattle.regalloc2_function.specs.SourceRun.{is_def, is_reading}
 use Rattle.regalloc2_function.specs.WellFormed.{MayBeReused, ReusesAreSound, FixedAvoidClobbers}
 
 -- an operand that no instruction has
@@ -37,7 +36,8 @@ pub record IsTarget (env : MachineValue) (class : RegClass) (o : OperandValue) :
 
 -- an operand that isn't a reuse, or is a late definition that names such an operand
 abbrev pub IsSoundReuse : MachineValue → List OperandValue → OperandValue → Type 0
-IsSoundReuse env operands o = (n : ℕ) → o.constraint ≡ Reuse n → (o.kind ≡ Def) × (o.position ≡ Late) × (n < length operands) × IsTarget env o.vreg.class (op_at operands n)
+IsSoundReuse env operands o = (n : ℕ) → o.constraint ≡ Reuse n → (o.kind ≡ Def) × (o.position ≡ Late) × (n < length operands)
+    × IsTarget env o.vreg.class (op_at operands n)
 
 -- no two of the first k operands are reuses of one operand
 abbrev pub AreApart : List OperandValue → ℕ → Type 0
@@ -45,11 +45,13 @@ AreApart operands k = (i j n : ℕ) → i < k → j < k → (op_at operands i).c
 
 -- a definition, a late use or a reused operand, if it is fixed, is fixed to no clobber
 abbrev pub AvoidsClobbers : PRegSet → OperandValue → Bool → Type 0
-AvoidsClobbers clobbers o is_reused = (r : Register) → o.constraint ≡ FixedReg r → (o.kind ≡ Def) ⊎ (o.position ≡ Late) ⊎ (is_reused ≡ true) → has_register clobbers r ≡ false
+AvoidsClobbers clobbers o is_reused = (r : Register) → o.constraint ≡ FixedReg r → (o.kind ≡ Def) ⊎ (o.position ≡ Late) ⊎ (is_reused ≡ true) →
+    has_register clobbers r ≡ false
 
 -- and so with the operand k, as the others name it
 abbrev pub IsClear : PRegSet → List OperandValue → ℕ → Type 0
-IsClear clobbers operands k = (r : Register) → (op_at operands k).constraint ≡ FixedReg r → ((op_at operands k).kind ≡ Def) ⊎ ((op_at operands k).position ≡ Late) ⊎ IsReused operands k → has_register clobbers r ≡ false
+IsClear clobbers operands k = (r : Register) → (op_at operands k).constraint ≡ FixedReg r → ((op_at operands k).kind ≡ Def)
+    ⊎ ((op_at operands k).position ≡ Late) ⊎ IsReused operands k → has_register clobbers r ≡ false
 
 -- no operand has `Limit`
 abbrev pub IsUnlimited : OperandValue → Type 0
@@ -70,4 +72,5 @@ pub record IsFirst (f : FunctionValue) (P : InstValue → Type 0) (i : ℕ) : Ty
 
 -- where the tests of reuses, and then of fixed registers, fail first
 abbrev pub IsFixedFault : FunctionValue → MachineValue → RegAllocError → Type 0
-IsFixedFault f env e = (i : ℕ) × (e ≡ Unsupported i) × (IsFirst f (ReusesAreSound env) i ⊎ (((j : ℕ) → j < length f.insts → ReusesAreSound env (inst_at f j)) × IsFirst f FixedAvoidClobbers i))
+IsFixedFault f env e = (i : ℕ) × (e ≡ Unsupported i) × (IsFirst f (ReusesAreSound env) i
+    ⊎ (((j : ℕ) → j < length f.insts → ReusesAreSound env (inst_at f j)) × IsFirst f FixedAvoidClobbers i))

@@ -1,3 +1,3 @@
 pub mod Constraints
-pub mod Profile
-pub mod Tested
+pub mod NoLimits
+pub mod Validated

@@ -5,16 +5,17 @@ ghost use Rattle.regalloc2_function.specs.FunctionValue.{inst_at};
 ghost use Rattle.regalloc2_function.specs.Views.{machine_of};
 ghost use Rattle.regalloc2_function.specs.WellFormed.{MayBeReused, ReusesAreSound, FixedAvoidClobbers};
 ghost use Rattle.regalloc2_names.specs.Packing.{IsConstraintOf};
-ghost use Rattle.regalloc2_validate.specs.Profile.{IsTaken, AreTaken};
-ghost use Rattle.regalloc2_validate.specs.Constraints.{op_at, IsReused, IsTarget, IsSoundReuse, AreApart, AvoidsClobbers, IsClear, IsUnlimited, AreUnlimited, BranchDefinesNothing, IsFirst, IsFixedFault};
-ghost use Rattle.regalloc2_function.specs.SourceRun.{is_def};
+ghost use Rattle.regalloc2_validate.specs.NoLimits.{IsTaken, AreTaken};
+ghost use Rattle.regalloc2_validate.specs.Constraints.{op_at, IsReused, IsTarget, IsSoundReuse, AreApart, AvoidsClobbers, IsClear, IsUnlimited};
+ghost use Rattle.regalloc2_validate.specs.Constraints.{AreUnlimited, BranchDefinesNothing, IsFirst, IsFixedFault};
+ghost use Rattle.regalloc2_names.specs.Operand.{is_def};
 
+use regalloc2_fastalloc_state::allocatable::allocatable_of;
 use regalloc2_function::{Function, MachineEnv};
 use regalloc2_index::Inst;
 use regalloc2_names::{
     Operand, OperandConstraint, OperandKind, OperandPos, PRegSet, RegAllocError, RegClass,
 };
-use regalloc2_tables::registers::allocatable_of;
 use std::alloc::Allocator;
 
 /// Which operand a reuse names. The index fits five bits.
@@ -66,7 +67,8 @@ fn names_target<B: Allocator>(
     operand: Operand,
     index: usize,
 ) -> bool
-    ensures { IsTrue result ↔ ((operand.kind ≡ OperandKind.Def) × (operand.position ≡ OperandPos.Late) × (index < length operands.now) × IsTarget (machine_of env.now) operand.vreg.class (op_at operands.now index)) }
+    ensures { IsTrue result ↔ ((operand.kind ≡ OperandKind.Def) × (operand.position ≡ OperandPos.Late) × (index < length operands.now)
+        × IsTarget (machine_of env.now) operand.vreg.class (op_at operands.now index)) }
 {
     let is_late_def = operand.kind() == OperandKind::Def && operand.pos() == OperandPos::Late;
     is_late_def && index < operands.len() && is_target(env, operand.class(), operands[index])
@@ -206,7 +208,10 @@ fn has_no_limit<F: Function>(f: &F, inst: Inst) -> bool
 }
 
 /// Tests reuses. Else the first instruction at fault is refused by `Unsupported`.
-fn test_reuses<F: Function, B: Allocator>(f: &F, env: &MachineEnv<B>) -> Result<(), RegAllocError>
+fn validate_reuses<F: Function, B: Allocator>(
+    f: &F,
+    env: &MachineEnv<B>,
+) -> Result<(), RegAllocError>
     ensures ok { IsOk result ↔ ((i : ℕ) → i < length (F.function f.now).insts → ReusesAreSound (machine_of env.now) (inst_at (F.function f.now) i)) }
     ensures first { IfErr result (λ e. (i : ℕ) × (e ≡ RegAllocError.Unsupported i) × IsFirst (F.function f.now) (ReusesAreSound (machine_of env.now)) i) }
 {
@@ -220,7 +225,7 @@ fn test_reuses<F: Function, B: Allocator>(f: &F, env: &MachineEnv<B>) -> Result<
 }
 
 /// Tests fixed registers beside clobbers. Else the first instruction at fault is refused by `Unsupported`.
-fn test_clashes<F: Function>(f: &F) -> Result<(), RegAllocError>
+fn validate_clobbers<F: Function>(f: &F) -> Result<(), RegAllocError>
     ensures ok { IsOk result ↔ ((i : ℕ) → i < length (F.function f.now).insts → FixedAvoidClobbers (inst_at (F.function f.now) i)) }
     ensures first { IfErr result (λ e. (i : ℕ) × (e ≡ RegAllocError.Unsupported i) × IsFirst (F.function f.now) (FixedAvoidClobbers) i) }
 {
@@ -239,7 +244,7 @@ fn test_clashes<F: Function>(f: &F) -> Result<(), RegAllocError>
 /// allocatable one; and no two reuses name one operand. No definition, late use or reused operand is fixed to a clobber of its
 /// instruction. The first instruction that breaks the first rule, else the first that breaks the second, is refused by
 /// `Unsupported`. Upstream takes both for granted.
-pub fn test_fixed<F: Function, B: Allocator>(
+pub fn validate_fixed<F: Function, B: Allocator>(
     f: &F,
     env: &MachineEnv<B>,
 ) -> Result<(), RegAllocError>
@@ -247,15 +252,15 @@ pub fn test_fixed<F: Function, B: Allocator>(
     ensures fixed { OnOk result ((i : ℕ) → i < length (F.function f.now).insts → FixedAvoidClobbers (inst_at (F.function f.now) i)) }
     ensures refused { IfErr result (IsFixedFault (F.function f.now) (machine_of env.now)) }
 {
-    test_reuses(f, env)?;
-    test_clashes(f)?;
+    validate_reuses(f, env)?;
+    validate_clobbers(f)?;
     Ok(())
 }
 
 /// Tests that no operand has `Limit`. Else the first instruction that has one is refused by `Unsupported`.
 ///
 /// Upstream's fast allocator stops the program there.
-pub fn test_limits<F: Function>(f: &F) -> Result<(), RegAllocError>
+pub fn validate_limits<F: Function>(f: &F) -> Result<(), RegAllocError>
     ensures ok { IsOk result ↔ ((i : ℕ) → i < length (F.function f.now).insts → AreUnlimited (inst_at (F.function f.now) i)) }
     ensures taken { OnOk result (AreTaken (F.function f.now)) }
     ensures first { IfErr result (λ e. (i : ℕ) × (e ≡ RegAllocError.Unsupported i) × IsFirst (F.function f.now) (AreUnlimited) i) }
@@ -269,19 +274,12 @@ pub fn test_limits<F: Function>(f: &F) -> Result<(), RegAllocError>
     Ok(())
 }
 
-/// Whether an operand defines its vreg.
-fn defines(operand: Operand) -> bool
-    ensures { result ≡ is_def operand.kind }
-{
-    operand.kind() == OperandKind::Def
-}
-
 /// Whether no operand defines.
 fn define_nothing(operands: &[Operand]) -> bool
     ensures { IsTrue result ↔ ((k : ℕ) → k < length operands.now → is_def (op_at operands.now k).kind ≡ false) }
 {
     for k in 0..operands.len() {
-        if defines(operands[k]) {
+        if operands[k].is_def() {
             return false;
         }
     }
@@ -299,7 +297,7 @@ fn is_sound_branch<F: Function>(f: &F, inst: Inst) -> bool
 /// Tests that no branch has a definition. Else the first one that has is refused by `Unsupported`.
 ///
 /// A value that a branch defines would have to be moved behind it. Upstream's fast allocator stops the program there.
-pub fn test_branches<F: Function>(f: &F) -> Result<(), RegAllocError>
+pub fn validate_branches<F: Function>(f: &F) -> Result<(), RegAllocError>
     ensures ok { IsOk result ↔ ((i : ℕ) → i < length (F.function f.now).insts → BranchDefinesNothing (inst_at (F.function f.now) i)) }
     ensures first { IfErr result (λ e. (i : ℕ) × (e ≡ RegAllocError.Unsupported i) × IsFirst (F.function f.now) (BranchDefinesNothing) i) }
 {

@@ -4,22 +4,22 @@
 ghost use Rattle.std.specs.Prelude.{IfErr, OnOk};
 ghost use Rattle.regalloc2_function.specs.Views.{machine_of};
 ghost use Rattle.regalloc2_function.specs.WellFormed.{IsWellFormed};
-ghost use Rattle.regalloc2_validate.specs.Tested.{IsFault};
+ghost use Rattle.regalloc2_validate.specs.Validated.{IsFault};
 
+use regalloc2_cfg::cfg::CFGInfo;
+use regalloc2_cfg::ssa::validate_ssa;
 use regalloc2_function::{Function, MachineEnv};
 use regalloc2_names::RegAllocError;
-use regalloc2_shape::cfg::CFGInfo;
-use regalloc2_shape::ssa::validate_ssa;
 use std::alloc::Allocator;
 
 pub mod constraints;
 
-use constraints::test_fixed;
+use constraints::validate_fixed;
 
-/// Tests that a function is well-formed: as [`CFGInfo::new`] says, then as [`validate_ssa`], then as [`test_fixed`].
+/// Tests that a function is well-formed: as [`CFGInfo::new`] says, then as [`validate_ssa`], then as [`validate_fixed`].
 ///
 /// The first test that fails decides. `Memory` comes where memory was refused.
-pub fn test_well_formed<A: Allocator + Copy, F: Function, B: Allocator>(
+pub fn validate_function<A: Allocator + Copy, F: Function, B: Allocator>(
     alloc: A,
     f: &F,
     env: &MachineEnv<B>,
@@ -29,5 +29,5 @@ pub fn test_well_formed<A: Allocator + Copy, F: Function, B: Allocator>(
 {
     let cfginfo = CFGInfo::new(alloc, f)?;
     validate_ssa(alloc, f, &cfginfo)?;
-    test_fixed(f, env)
+    validate_fixed(f, env)
 }

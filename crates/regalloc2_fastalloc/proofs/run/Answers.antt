@@ -3,51 +3,60 @@ use Rattle.std.proofs.lemmas.Result.{IfErr-weaker, IfOk-weaker, err_from_is_err_
 use Rattle.regalloc2_function.specs.FunctionValue.{FunctionValue}
 use Rattle.regalloc2_function.specs.Machine.{MachineValue}
 use Rattle.regalloc2_function.specs.Views.{machine_of, output_of}
-use Rattle.regalloc2_tables.specs.Lack.{Lacks}
+use Rattle.regalloc2_fastalloc_state.specs.OutOfResources.{Lacks}
 use Rattle.regalloc2_fastalloc.specs.Promise.{IsAllocation}
-use Rattle.regalloc2_fastalloc.specs.Reason.{IsReason, PassesFirst, PassesAll, PassesAsked, SomeDoesNotFit, units_needed}
-use Rattle.regalloc2_fastalloc.proofs.Reasoned.{fault_is_reason, lack_is_a_reason, counted_alone}
+use Rattle.regalloc2_fastalloc.specs.ErrorReason.{IsReason, HasFewOperands, PassesAllChecks, IsValidIfChecked, SomeDoesNotFit, units_at_most}
+use Rattle.regalloc2_fastalloc.proofs.ErrorsHaveReasons.{fault_is_reason, lack_is_a_reason, counted_alone}
 use Rattle.regalloc2_fastalloc.proofs.run.Given.{Over}
 use Rattle.regalloc2_fastalloc.proofs.run.Goals as goal
-use Rattle.regalloc2_fastalloc.proofs.run.Goals.{then-options+in_ok-test_well_formed, else-options}
+use Rattle.regalloc2_fastalloc.proofs.run.Goals.{then-options+in_ok-validate_function, else-options}
 
-pub returns-in_err-test_well_formed-clause-refused : goal.returns-in_err-test_well_formed-clause-refused
-returns-in_err-test_well_formed-clause-refused g c =
+pub returns-in_err-validate_function-clause-refused : goal.returns-in_err-validate_function-clause-refused
+returns-in_err-validate_function-clause-refused g c =
     let f : FunctionValue = g.F.Function.function c.args.f.now in
     let env : MachineValue = machine_of c.args.env.now in
     let asked : Bool = c.args.options.now.validate_ssa in
-    let few : PassesFirst f = search rules in
+    let few : HasFewOperands f = search rules in
     let p = err_from_is_err_and c.from_residual.result c.from_residual.ensures.1 in
-    rw p.1 (subst (IsReason f env asked) (sym p.2) (fault_is_reason f env asked few c.if-options.true c.in_err-test_well_formed.ensures.refused))
+    rw p.1 (subst (IsReason f env asked) (sym p.2) (fault_is_reason f env asked few c.if-options.true c.in_err-validate_function.ensures.refused))
 
-pub returns-in_err-test_well_formed-clause-many_operands : goal.returns-in_err-test_well_formed-clause-many_operands
-returns-in_err-test_well_formed-clause-many_operands g c =
+pub returns-in_err-validate_function-clause-many_operands : goal.returns-in_err-validate_function-clause-many_operands
+returns-in_err-validate_function-clause-many_operands g c =
     let f : FunctionValue = g.F.Function.function c.args.f.now in
     let env : MachineValue = machine_of c.args.env.now in
-    let few : PassesFirst f = search rules in
-    counted_alone f env c.args.options.now.validate_ssa c.from_residual.result few (returns-in_err-test_well_formed-clause-refused g c)
+    let few : HasFewOperands f = search rules in
+    counted_alone f env c.args.options.now.validate_ssa c.from_residual.result few (returns-in_err-validate_function-clause-refused g c)
 
 -- when the walk begins, all tests that are owed have passed
-passed : (g : Over) (c : goal.After-allocate g) → PassesAll (g.F.Function.function c.args.f.now) (machine_of c.args.env.now) c.args.options.now.validate_ssa
+passed : (g : Over) (c : goal.After-allocate g)
+    → PassesAllChecks (g.F.Function.function c.args.f.now) (machine_of c.args.env.now) c.args.options.now.validate_ssa
 passed g c =
     let f : FunctionValue = g.F.Function.function c.args.f.now in
     let env : MachineValue = machine_of c.args.env.now in
     let asked : Bool = c.args.options.now.validate_ssa in
-    let owed : PassesAsked f env asked = elim c.if-options.branch [
-      | then-options+in_ok-test_well_formed w ↦ λ on. w.in_ok-test_well_formed.ensures.ok
+    let owed : IsValidIfChecked f env asked = elim c.if-options.branch [
+      | then-options+in_ok-validate_function w ↦ λ on. w.in_ok-validate_function.ensures.ok
       | else-options w ↦ λ on. c.requires.well_formed w.if-options.false
     ] in
-    record { first = search rules; well_formed = owed; unlimited = c.in_ok-test_limits.ensures.ok.0 refl; branches = c.in_ok-test_branches.ensures.ok.0 refl }
+    record {
+      first = search rules;
+      well_formed = owed;
+      unlimited = c.in_ok-validate_limits.ensures.ok.0 refl;
+      branches = c.in_ok-validate_branches.ensures.ok.0
+          refl;
+    }
 
 pub returns-clause-owed : goal.returns-clause-owed
 returns-clause-owed g c =
     let f : FunctionValue = g.F.Function.function c.args.f.now in
     let env : MachineValue = machine_of c.args.env.now in
-    IfOk-weaker c.allocate.result (λ out. IsAllocation f env (output_of out)) (λ out. PassesAll f env c.args.options.now.validate_ssa) (λ out h. passed g c) c.allocate.ensures.allocation
+    IfOk-weaker c.allocate.result (λ out. IsAllocation f env (output_of out)) (λ out. PassesAllChecks f env c.args.options.now.validate_ssa)
+    (λ out h. passed g c) c.allocate.ensures.allocation
 
 pub returns-clause-refused : goal.returns-clause-refused
 returns-clause-refused g c =
     let f : FunctionValue = g.F.Function.function c.args.f.now in
     let env : MachineValue = machine_of c.args.env.now in
     let asked : Bool = c.args.options.now.validate_ssa in
-    IfErr-weaker c.allocate.result (Lacks (SomeDoesNotFit f env) (2 ^ 24 < units_needed f)) (IsReason f env asked) (lack_is_a_reason f env asked (passed g c)) c.allocate.ensures.err
+    IfErr-weaker c.allocate.result (Lacks (SomeDoesNotFit f env) (2 ^ 24 < units_at_most f)) (IsReason f env asked) (lack_is_a_reason f env asked (passed g c))
+    c.allocate.ensures.err

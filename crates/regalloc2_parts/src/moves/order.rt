@@ -1,12 +1,14 @@
 //! The order in which moves that overlap are made.
 
-ghost use Rattle.std.specs.Prelude.{◌≡◌, ◌≢◌, ◌↔◌, true, false, ◌+◌, ◌<◌, ◌≤◌, length, reverse, slice_index, [], Contains, EachIndex, IsTrue, IsOk, IfOk, IfErr, OnOk};
+ghost use Rattle.std.specs.Prelude.{◌≡◌, ◌≢◌, ◌↔◌, true, false, ◌+◌, ◌<◌, ◌≤◌, length, reverse, slice_index, [], Contains, EachIndex, IsTrue, IsOk};
+ghost use Rattle.std.specs.Prelude.{IfOk, IfErr, OnOk};
 ghost use Rattle.std.specs.List.{All};
 ghost use Rattle.std.specs.List.Sorted.{IsPermutation, IsNonDecreasingBy};
 ghost use Rattle.regalloc2_names.specs.Place.{Place};
 ghost use Rattle.regalloc2_names.specs.PlaceBits.{bits_of_place};
 ghost use Rattle.regalloc2_parts.specs.AtOnce.{ends_of, AreReal, HasOneSourceEach, IsOfMoves, IsPlace};
-ghost use Rattle.regalloc2_parts.specs.Giving.{AreFair, AreProper, IsTidied, IsWriterOf, AreApart, AreNexts, HasGivenWhole, IsOrder, IsChain, IsGiving, LeadsTo, IsSettled, HasGoneOn, IsGivenOut, AreSameDone, AreRingsDone, HasRings, state_at};
+ghost use Rattle.regalloc2_parts.specs.Giving.{AreFair, AreProper, IsTidied, IsWriterOf, AreApart, AreNexts, IsOrder, IsChain, CanFollow, CanOpen, CanGive, CanBegin};
+ghost use Rattle.regalloc2_parts.specs.Giving.{IsGiving, LeadsTo, HasGoneOn, IsGivenOut, AreSameDone, state_at};
 ghost use Rattle.regalloc2_parts.specs.Resolved.{listed, has_scratch, IsResolution, IsRunnable};
 ghost use Rattle.regalloc2_parts.specs.declared.moves.order.State.TheVariants.{Todo, Pending, Done};
 
@@ -38,11 +40,7 @@ fn follow<'a, B: Allocator>(
     state: &mut [State],
     chain: &mut Indexes<'a, B>,
 ) -> Result<usize, AllocError>
-    requires as_many { length state.old ≡ length nexts.now }
-    requires settled { IsSettled state.old }
-    requires empty { chain.old.items ≡ [] }
-    requires start { state_at state.old start ≡ Todo }
-    requires within { start < length nexts.now }
+    requires { CanFollow nexts.now state.old chain.old.items start }
     ensures chain { OnOk result (IsChain nexts.now state.new chain.new.items) }
     ensures link { IfOk result (λ stop. LeadsTo nexts.now chain.new.items stop) }
     ensures stops { IfOk result (λ stop. stop < length nexts.now → state_at state.new stop ≢ Todo) }
@@ -77,17 +75,9 @@ fn open_ring<'a, T: Copy + Default, A: Allocator + Copy>(
     given: &mut MoveVec<T, A>,
     stop: usize,
 ) -> Result<(usize, usize), AllocError>
-    requires apart { AreApart (ends_of moves.now) }
-    requires nexts { AreNexts (ends_of moves.now) nexts.now }
-    requires as_many { length state.old ≡ length moves.now }
-    requires indexed { length nexts.now ≡ length moves.now }
-    requires had { HasGivenWhole (ends_of moves.now) nexts.now state.old (ends_of given.old.items) }
-    requires rings { (had : HasRings nexts.now state.old (length given.old.items)) × AreRingsDone state.old had.rings }
-    requires chain { IsChain nexts.now state.old chain.old.items }
-    requires link { LeadsTo nexts.now chain.old.items stop }
-    requires stops { stop < length nexts.now → state_at state.old stop ≢ Todo }
-    requires of_moves { All (IsOfMoves moves.now) given.old.items }
-    ensures giving { IfOk result (λ ring. IsGiving (ends_of moves.now) nexts.now state.new chain.new.items (ends_of given.new.items) ring.0 ring.1 × HasGoneOn state.old state.new × All (IsOfMoves moves.now) given.new.items) }
+    requires { CanOpen moves.now nexts.now state.old chain.old.items given.old.items stop }
+    ensures giving { IfOk result (λ ring. IsGiving (ends_of moves.now) nexts.now state.new chain.new.items (ends_of given.new.items) ring.0 ring.1
+        × HasGoneOn state.old state.new × All (IsOfMoves moves.now) given.new.items) }
 {
     if !is_pending(state, stop) {
         return Ok((moves.len(), moves.len()));
@@ -112,12 +102,7 @@ fn give_chain<'a, T: Copy + Default, A: Allocator + Copy>(
     mut cut: usize,
     mut first: usize,
 ) -> Result<(), AllocError>
-    requires apart { AreApart (ends_of moves.now) }
-    requires nexts { AreNexts (ends_of moves.now) nexts.now }
-    requires as_many { length state.old ≡ length moves.now }
-    requires indexed { length nexts.now ≡ length moves.now }
-    requires giving { IsGiving (ends_of moves.now) nexts.now state.old chain.old.items (ends_of given.old.items) cut first }
-    requires of_moves { All (IsOfMoves moves.now) given.old.items }
+    requires { CanGive moves.now nexts.now state.old chain.old.items given.old.items cut first }
     ensures given { OnOk result (IsGivenOut moves.now nexts.now state.old state.new chain.new.items given.new.items) }
 {
     while let Some(top) = chain.pop() {
@@ -142,16 +127,7 @@ fn give_from<'a, T: Copy + Default, A: Allocator + Copy>(
     given: &mut MoveVec<T, A>,
     start: usize,
 ) -> Result<(), AllocError>
-    requires apart { AreApart (ends_of moves.now) }
-    requires nexts { AreNexts (ends_of moves.now) nexts.now }
-    requires as_many { length state.old ≡ length moves.now }
-    requires indexed { length nexts.now ≡ length moves.now }
-    requires had { HasGivenWhole (ends_of moves.now) nexts.now state.old (ends_of given.old.items) }
-    requires settled { IsSettled state.old }
-    requires empty { chain.old.items ≡ [] }
-    requires start { state_at state.old start ≡ Todo }
-    requires within { start < length moves.now }
-    requires of_moves { All (IsOfMoves moves.now) given.old.items }
+    requires { CanBegin moves.now nexts.now state.old chain.old.items given.old.items start }
     ensures given { OnOk result (IsGivenOut moves.now nexts.now state.old state.new chain.new.items given.new.items × (state_at state.new start ≢ Todo)) }
 {
     let stop = follow(start, nexts, state, chain)?;

@@ -43,7 +43,8 @@ fn save_first<T: Copy + Default, A: Allocator + Copy>(
     held: Held,
     out: &mut MoveVec<T, A>,
 ) -> Result<Held, AllocError>
-    ensures tracks { IfOk result (λ after. (c d : Cells Place) → Tracks way.now.register way.now.save held c (in_turn (ends_of out.old.items) d) → Tracks way.now.register way.now.save after c (in_turn (ends_of out.new.items) d)) }
+    ensures tracks { IfOk result (λ after. (c d : Cells Place) → Tracks way.now.register way.now.save held c (in_turn (ends_of out.old.items) d) →
+        Tracks way.now.register way.now.save after c (in_turn (ends_of out.new.items) d)) }
     ensures can_pass { IfOk result (λ after. CanPass after) }
     ensures added { OnOk result ((x : Place × Place × _) → Contains out.new.items x → Contains out.old.items x ⊎ IsAside way.now.register way.now.save x) }
 {
@@ -64,7 +65,8 @@ pub(super) fn restore_first<T: Copy + Default, A: Allocator + Copy>(
     held: Held,
     out: &mut MoveVec<T, A>,
 ) -> Result<Held, AllocError>
-    ensures tracks { IfOk result (λ after. (c d : Cells Place) → Tracks way.now.register way.now.save held c (in_turn (ends_of out.old.items) d) → Tracks way.now.register way.now.save after c (in_turn (ends_of out.new.items) d)) }
+    ensures tracks { IfOk result (λ after. (c d : Cells Place) → Tracks way.now.register way.now.save held c (in_turn (ends_of out.old.items) d) →
+        Tracks way.now.register way.now.save after c (in_turn (ends_of out.new.items) d)) }
     ensures restored { IfOk result (λ after. after ≢ InSave) }
     ensures added { OnOk result ((x : Place × Place × _) → Contains out.new.items x → Contains out.old.items x ⊎ IsAside way.now.register way.now.save x) }
 {
@@ -88,8 +90,10 @@ fn pass<T: Copy + Default, A: Allocator + Copy>(
 ) -> Result<Held, AllocError>
     requires from { (m.now.0 ≢ way.now.register) × (m.now.0 ≢ way.now.save) }
     requires to { (m.now.1 ≢ way.now.register) × (m.now.1 ≢ way.now.save) }
-    ensures tracks { IfOk result (λ after. (c d : Cells Place) → Tracks way.now.register way.now.save held c (in_turn (ends_of out.old.items) d) → Tracks way.now.register way.now.save after (moved c m.now.1 (c m.now.0)) (in_turn (ends_of out.new.items) d)) }
-    ensures added { OnOk result ((x : Place × Place × _) → Contains out.new.items x → (Contains out.old.items x ⊎ IsAside way.now.register way.now.save x) ⊎ IsThrough way.now.register m.now x) }
+    ensures tracks { IfOk result (λ after. (c d : Cells Place) → Tracks way.now.register way.now.save held c (in_turn (ends_of out.old.items) d) →
+        Tracks way.now.register way.now.save after (moved c m.now.1 (c m.now.0)) (in_turn (ends_of out.new.items) d)) }
+    ensures added { OnOk result ((x : Place × Place × _) → Contains out.new.items x → (Contains out.old.items x ⊎ IsAside way.now.register way.now.save x)
+        ⊎ IsThrough way.now.register m.now x) }
 {
     let after = save_first(way, held, out)?;
     let first = *m;
@@ -108,7 +112,8 @@ fn copy<T: Copy + Default, A: Allocator + Copy>(
 ) -> Result<Held, AllocError>
     requires unnamed { (m.now.0 ≢ way.now.save) × (m.now.1 ≢ way.now.save) }
     requires ready { m.now.0 ≡ way.now.register → held ≢ InSave }
-    ensures tracks { IfOk result (λ after. (c d : Cells Place) → Tracks way.now.register way.now.save held c (in_turn (ends_of out.old.items) d) → Tracks way.now.register way.now.save after (moved c m.now.1 (c m.now.0)) (in_turn (ends_of out.new.items) d)) }
+    ensures tracks { IfOk result (λ after. (c d : Cells Place) → Tracks way.now.register way.now.save held c (in_turn (ends_of out.old.items) d) →
+        Tracks way.now.register way.now.save after (moved c m.now.1 (c m.now.0)) (in_turn (ends_of out.new.items) d)) }
     ensures added { OnOk result ((x : Place × Place × _) → Contains out.new.items x → Contains out.old.items x ⊎ (x ≡ m.now)) }
 {
     out.push(*m)?;
@@ -128,8 +133,10 @@ pub(super) fn make<T: Copy + Default, A: Allocator + Copy>(
 ) -> Result<Held, AllocError>
     requires unnamed { (m.now.0 ≢ way.now.save) × (m.now.1 ≢ way.now.save) }
     requires passing { IsTrue is_passing → (m.now.0 ≢ way.now.register) × (m.now.1 ≢ way.now.register) }
-    ensures tracks { IfOk result (λ after. (c d : Cells Place) → Tracks way.now.register way.now.save held c (in_turn (ends_of out.old.items) d) → Tracks way.now.register way.now.save after (moved c m.now.1 (c m.now.0)) (in_turn (ends_of out.new.items) d)) }
-    ensures added { OnOk result ((x : Place × Place × _) → Contains out.new.items x → (Contains out.old.items x ⊎ IsAside way.now.register way.now.save x) ⊎ IsStep way.now.register is_passing m.now x) }
+    ensures tracks { IfOk result (λ after. (c d : Cells Place) → Tracks way.now.register way.now.save held c (in_turn (ends_of out.old.items) d) →
+        Tracks way.now.register way.now.save after (moved c m.now.1 (c m.now.0)) (in_turn (ends_of out.new.items) d)) }
+    ensures added { OnOk result ((x : Place × Place × _) → Contains out.new.items x → (Contains out.old.items x ⊎ IsAside way.now.register way.now.save x)
+        ⊎ IsStep way.now.register is_passing m.now x) }
 {
     if is_passing {
         return pass(m, way, held, out);

@@ -43,7 +43,8 @@ impl<T: Copy + Default, A: Allocator + Copy> MoveVecWithScratch<T, A> {
     pub fn with_scratch(self, scratch: Allocation) -> MoveVec<T, A>
         ensures items { result.items ≡ with_place scratch self }
         ensures real { scratch ≢ NoPlace → IsRunnable self → AreBetweenPlaces result.items }
-        ensures same { scratch ≢ NoPlace → IsRunnable self → IsUnnamed scratch (listed self) → (q : Place) → q ≢ scratch → q ≢ NoPlace → in_turn (ends_of result.items) names q ≡ in_turn (ends_of (listed self)) names q }
+        ensures same { scratch ≢ NoPlace → IsRunnable self → IsUnnamed scratch (listed self) → (q : Place) → q ≢ scratch → q ≢ NoPlace →
+            in_turn (ends_of result.items) names q ≡ in_turn (ends_of (listed self)) names q }
     {
         match self {
             MoveVecWithScratch::NoScratch(moves) => moves,

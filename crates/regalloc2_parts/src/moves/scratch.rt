@@ -75,8 +75,10 @@ where
         requires slots { GetStackSlot.pre self.old.get_stackslot }
         ensures stack { self.new.is_stack_alloc ≡ self.old.is_stack_alloc }
         ensures borrowed { self.new.borrowed_scratch_reg ≡ self.old.borrowed_scratch_reg }
-        ensures handed { IfOk result (λ h. IsHanding (λ s a t. GetReg.step s a t) (λ s a t. GetStackSlot.step s a t) self.old.find_free_reg self.new.find_free_reg self.old.get_stackslot self.new.get_stackslot h) }
-        ensures none { IfErr result (λ e. (e ≡ MoveFault.NoSlot) × IsRefusing (λ s a t. GetReg.step s a t) (λ s a t. GetStackSlot.step s a t) self.old.find_free_reg self.new.find_free_reg self.old.get_stackslot self.new.get_stackslot) }
+        ensures handed { IfOk result (λ h. IsHanding (λ s a t. GetReg.step s a t) (λ s a t. GetStackSlot.step s a t) self.old.find_free_reg
+            self.new.find_free_reg self.old.get_stackslot self.new.get_stackslot h) }
+        ensures none { IfErr result (λ e. (e ≡ MoveFault.NoSlot) × IsRefusing (λ s a t. GetReg.step s a t) (λ s a t. GetStackSlot.step s a t)
+            self.old.find_free_reg self.new.find_free_reg self.old.get_stackslot self.new.get_stackslot) }
     {
         if let Some(register) = (self.find_free_reg)() {
             return Ok(Handed::Register(register));
@@ -119,8 +121,11 @@ where
         requires slots { GetStackSlot.pre self.old.get_stackslot }
         ensures stack { self.new.is_stack_alloc ≡ self.old.is_stack_alloc }
         ensures borrowed { self.new.borrowed_scratch_reg ≡ self.old.borrowed_scratch_reg }
-        ensures chosen { IfOk result (λ made. IsChoice (λ s a t. GetReg.step s a t) (λ s a t. GetStackSlot.step s a t) self.old.find_free_reg self.new.find_free_reg self.old.get_stackslot self.new.get_stackslot moves made.items) }
-        ensures none { IfErr result (λ e. (e ≡ MoveFault.NoSlot) × (has_scratch moves ≡ true) × IsRefusing (λ s a t. GetReg.step s a t) (λ s a t. GetStackSlot.step s a t) self.old.find_free_reg self.new.find_free_reg self.old.get_stackslot self.new.get_stackslot) }
+        ensures chosen { IfOk result (λ made. IsChoice (λ s a t. GetReg.step s a t) (λ s a t. GetStackSlot.step s a t) self.old.find_free_reg
+            self.new.find_free_reg self.old.get_stackslot self.new.get_stackslot moves made.items) }
+        ensures none { IfErr result (λ e. (e ≡ MoveFault.NoSlot) × (has_scratch moves ≡ true)
+            × IsRefusing (λ s a t. GetReg.step s a t) (λ s a t. GetStackSlot.step s a t) self.old.find_free_reg self.new.find_free_reg self.old.get_stackslot
+            self.new.get_stackslot) }
     {
         if !moves.needs_scratch() {
             return Ok(moves.with_scratch(Allocation::none()));
@@ -141,7 +146,8 @@ where
     ) -> Result<MoveVec<T, A>, MoveFault>
         requires callable { IsStackAlloc.IsAlwaysCallable self.now.is_stack_alloc }
         requires can { CanExpand (λ p b. IsStackAlloc.post self.now.is_stack_alloc p b) way.now.register way.now.save first moves.now }
-        ensures expanded { MatchResult result (λ out. IsExpanded (λ p b. IsStackAlloc.post self.now.is_stack_alloc p b) way.now.register way.now.save moves.now out.items) (λ e. e ≡ MoveFault.Memory) }
+        ensures expanded { MatchResult result (λ out. IsExpanded (λ p b. IsStackAlloc.post self.now.is_stack_alloc p b) way.now.register way.now.save moves.now
+            out.items) (λ e. e ≡ MoveFault.Memory) }
     {
         let mut held = first;
         let mut out = SmallVec::new(alloc);
@@ -162,8 +168,10 @@ where
         requires slots { MayBeAskedTwice (λ s a t. GetStackSlot.step s a t) (λ s. GetStackSlot.pre s) self.old.get_stackslot }
         requires stack { IsStackAlloc.IsAlwaysCallable self.old.is_stack_alloc }
         requires runnable { IsRunnable moves }
-        requires owes { Owes (λ s a t. GetReg.step s a t) (λ s a t. GetStackSlot.step s a t) (λ p b. IsStackAlloc.post self.old.is_stack_alloc p b) (InRegister self.old.borrowed_scratch_reg) (listed moves) self.old.find_free_reg self.old.get_stackslot }
-        ensures computed { Computes (λ s a t. GetReg.step s a t) (λ s a t. GetStackSlot.step s a t) (λ p b. IsStackAlloc.post self.old.is_stack_alloc p b) self.old self.new moves result }
+        requires owes { Owes (λ s a t. GetReg.step s a t) (λ s a t. GetStackSlot.step s a t) (λ p b. IsStackAlloc.post self.old.is_stack_alloc p b)
+            (InRegister self.old.borrowed_scratch_reg) (listed moves) self.old.find_free_reg self.old.get_stackslot }
+        ensures computed { Computes (λ s a t. GetReg.step s a t) (λ s a t. GetStackSlot.step s a t) (λ p b. IsStackAlloc.post self.old.is_stack_alloc p b)
+            self.old self.new moves result }
     {
         let chosen = self.choose_scratch(moves)?;
         let list = chosen.as_slice();
@@ -195,8 +203,11 @@ where
         requires slots { MayBeAskedTwice (λ s a t. GetStackSlot.step s a t) (λ s. GetStackSlot.pre s) self.get_stackslot }
         requires stack { IsStackAlloc.IsAlwaysCallable self.is_stack_alloc }
         requires runnable { IsRunnable moves }
-        requires owes { Owes (λ s a t. GetReg.step s a t) (λ s a t. GetStackSlot.step s a t) (λ p b. IsStackAlloc.post self.is_stack_alloc p b) (InRegister self.borrowed_scratch_reg) (listed moves) self.find_free_reg self.get_stackslot }
-        ensures computed { (after : MoveAndScratchResolver GetReg GetStackSlot IsStackAlloc) × Computes (λ s a t. GetReg.step s a t) (λ s a t. GetStackSlot.step s a t) (λ p b. IsStackAlloc.post self.is_stack_alloc p b) self after moves result }
+        requires owes { Owes (λ s a t. GetReg.step s a t) (λ s a t. GetStackSlot.step s a t) (λ p b. IsStackAlloc.post self.is_stack_alloc p b)
+            (InRegister self.borrowed_scratch_reg) (listed moves) self.find_free_reg self.get_stackslot }
+        ensures computed { (after : MoveAndScratchResolver GetReg GetStackSlot IsStackAlloc)
+            × Computes (λ s a t. GetReg.step s a t) (λ s a t. GetStackSlot.step s a t) (λ p b. IsStackAlloc.post self.is_stack_alloc p b) self after moves
+            result }
     {
         self.compute_by_ref(moves)
     }

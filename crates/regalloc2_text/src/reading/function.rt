@@ -7,7 +7,7 @@ use super::output::{DraftOutput, TOO_MANY};
 use super::settings::{Flags, Settings};
 use crate::cursor::Cursor;
 use crate::error::{Expected, Flaw};
-use regalloc2_stored::{StoredFunction, StoredInst};
+use regalloc2_serialize::{StoredFunction, StoredInst};
 use std::alloc::{AllocError, Allocator};
 
 /// What the lines so far say of a function and its machine.

@@ -6,7 +6,7 @@ ghost use Rattle.regalloc2_text.specs.Cursor.{tokens_left};
 use super::machine::registers;
 use crate::cursor::Cursor;
 use crate::error::Flaw;
-use regalloc2_stored::{InstOpcode, StoredInst};
+use regalloc2_serialize::{InstOpcode, StoredInst};
 use std::alloc::Allocator;
 
 /// The opcode of that name.

@@ -7,7 +7,7 @@ use crate::cursor::Cursor;
 use crate::error::Flaw;
 use crate::items::class_named;
 use regalloc2_names::{PReg, RegClass};
-use regalloc2_stored::StoredMachine;
+use regalloc2_serialize::StoredMachine;
 use std::alloc::{AllocError, Allocator};
 
 /// A value of each class.

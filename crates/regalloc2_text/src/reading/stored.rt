@@ -5,7 +5,7 @@ ghost use Rattle.regalloc2_text.specs.Cursor.{tokens_left};
 
 use crate::cursor::Cursor;
 use crate::error::{Expected, Flaw};
-use regalloc2_stored::StoredFunction;
+use regalloc2_serialize::StoredFunction;
 use std::alloc::Allocator;
 
 /// What is written as numbers and lists of them in brackets.

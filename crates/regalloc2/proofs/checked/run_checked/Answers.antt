@@ -40,5 +40,6 @@ returns-in-Err-judge g c =
       tested = tt;
       owed = tt;
       accepted = λ written. no_fault f env out c.in-Err-judge.error (c.in-Ok.ensures.allocation.faithful written).faithful c.in-Err-judge.ensures.err;
-      refused = reason f env c.args.options.now.validate_ssa out c.in-Err-judge.error c.in-Ok.ensures.allocation c.in-Ok.ensures.owed c.in-Err-judge.ensures.err;
+      refused = reason f env c.args.options.now.validate_ssa out c.in-Err-judge.error c.in-Ok.ensures.allocation c.in-Ok.ensures.owed
+          c.in-Err-judge.ensures.err;
     }

@@ -3,8 +3,10 @@ use Rattle.regalloc2.proofs.Told.{fault_told, reason_told}
 use Rattle.regalloc2.proofs.tested.allocate.Goals as goal
 
 pub returns-in-Err-run_checked-clause-accepted : goal.returns-in-Err-run_checked-clause-accepted
-returns-in-Err-run_checked-clause-accepted g c = λ written. rw c.error_from.ensures (fault_told c.in-Err-run_checked.error (c.in-Err-run_checked.ensures.accepted written))
+returns-in-Err-run_checked-clause-accepted g c = λ written. rw c.error_from.ensures
+    (fault_told c.in-Err-run_checked.error (c.in-Err-run_checked.ensures.accepted written))
 
 pub returns-in-Err-run_checked-clause-refused : goal.returns-in-Err-run_checked-clause-refused
 returns-in-Err-run_checked-clause-refused g c =
-    rw c.error_from.ensures (reason_told (g.F.Function.function c.args.f.now) (machine_of c.args.env.now) c.in-Err-run_checked.error c.in_default.ensures.ok c.in-Err-run_checked.ensures.refused)
+    rw c.error_from.ensures (reason_told (g.F.Function.function c.args.f.now) (machine_of c.args.env.now) c.in-Err-run_checked.error c.in_default.ensures.ok
+    c.in-Err-run_checked.ensures.refused)

@@ -1,6 +1,6 @@
-use Rattle.regalloc2_checker.proofs.Exact.{true_facts-way}
-use Rattle.regalloc2_checker.proofs.Traced.{facts_are_traced}
-use Rattle.regalloc2_checker.proofs.Verdict.{facts_hold_before, facts_are_held, accepted_is_faithful}
+use Rattle.regalloc2_checker.proofs.FactsFollowMaps.{true_facts-way}
+use Rattle.regalloc2_checker.proofs.FactsTraced.{facts_are_traced}
+use Rattle.regalloc2_checker.proofs.FixpointDecides.{facts_hold_before, facts_are_held, accepted_is_faithful}
 use Rattle.regalloc2_checker.proofs.laws.stands_for_every_path.Goals as goal
 
 pub returns-clause-traced : goal.returns-clause-traced

@@ -1,7 +1,7 @@
-use Rattle.regalloc2_checker.specs.Numbers.{numbers_of}
+use Rattle.regalloc2_checker.specs.ValueNumbers.{numbers_of}
 use Rattle.std.specs.Prelude.{nat_eq}
 use Rattle.std.specs.HashMap.{get}
-use Rattle.regalloc2_checker.proofs.Seeing.{IsSeen}
+use Rattle.regalloc2_checker.proofs.PairsOfTable.{IsSeen}
 use Rattle.regalloc2_checker.proofs.meet.is_within.Given as goal
 
 abbrev pub invariant-loop-key : goal.invariant-loop-key

@@ -1,7 +1,7 @@
 use Rattle.std.specs.HashMap.{get, hash_map_len}
-use Rattle.regalloc2_checker.specs.Numbers.{numbers_of}
-use Rattle.regalloc2_checker.specs.Meeting.{pair_eq}
-use Rattle.regalloc2_checker.proofs.Joining.{IsMeeting}
+use Rattle.regalloc2_checker.specs.ValueNumbers.{numbers_of}
+use Rattle.regalloc2_checker.specs.Meet.{pair_eq}
+use Rattle.regalloc2_checker.proofs.MeetEntries.{IsMeeting}
 use Rattle.regalloc2_checker.proofs.meet.meet.Given as goal
 
 abbrev pub invariant-loop-key : goal.invariant-loop-key

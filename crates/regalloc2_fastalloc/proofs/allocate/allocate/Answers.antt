@@ -9,7 +9,7 @@ use Rattle.regalloc2_function.specs.OutputValue.{DebugLocation, MoveValue, Outpu
 use Rattle.regalloc2_function.specs.Stored.{location_of}
 use Rattle.regalloc2_function.specs.Views.{edit_of, machine_of}
 use Rattle.regalloc2_fastalloc.specs.Promise.{IsAllocation}
-use Rattle.regalloc2_flow.proofs.Plain.{always}
+use Rattle.regalloc2_semantics.proofs.Plain.{always}
 use Rattle.regalloc2_fastalloc.proofs.allocate.allocate.Goals as goal
 
 -- the count that there is
@@ -26,8 +26,10 @@ fill_places-requires g c =
       well_formed = c.requires.well_formed;
       offsets_long = ap length c.deref.ensures.value ∙ c.in_ok-offsets.ensures.long;
       offsets = λ i lt. ap (λ xs. slice_index xs i) c.deref.ensures.value ∙ c.in_ok-offsets.ensures.each i lt;
-      allocs_long = c.deref_mut.ensures.len ∙ c.in_ok-allocs.ensures.len ∙ count_is (operand_count f < 2 ^ 32) (operand_count f) c.unwrap-total.ensures c.count_operands.ensures;
-      no_places = λ k. ap (λ (xs : List Place). slice_index_or xs k NoPlace) (c.deref_mut.ensures.value ∙ c.in_ok-allocs.ensures.items_if_clones_equal (λ y h. h))
+      allocs_long = c.deref_mut.ensures.len ∙ c.in_ok-allocs.ensures.len
+          ∙ count_is (operand_count f < 2 ^ 32) (operand_count f) c.unwrap-total.ensures c.count_operands.ensures;
+      no_places = λ k. ap (λ (xs : List Place). slice_index_or xs k NoPlace)
+          (c.deref_mut.ensures.value ∙ c.in_ok-allocs.ensures.items_if_clones_equal (λ y h. h))
           ∙ ap (λ (p : Place). slice_index_or (replicate c.unwrap-total.result p) k NoPlace) c.none.ensures ∙ always c.unwrap-total.result k NoPlace;
     }
 
@@ -38,11 +40,14 @@ made_of n es ps os ds = record { num_spillslots = n; edits = es; allocs = ps; of
 same_out : (f : FunctionValue) (env : MachineValue) (n : ℕ) (es : List (ℕ × MoveValue)) (ps qs : List Place) (os us : List ℕ) (ds : List DebugLocation)
     → qs ≡ ps → os ≡ us → IsAllocation f env (made_of n es ps os ds) → IsAllocation f env (made_of n es qs us ds)
 same_out f env n es ps qs os us ds places offsets h =
-    subst (λ (x : List Place). IsAllocation f env (made_of n es x us ds)) (sym places) (subst (λ (x : List ℕ). IsAllocation f env (made_of n es ps x ds)) offsets h)
+    subst (λ (x : List Place). IsAllocation f env (made_of n es x us ds)) (sym places)
+    (subst (λ (x : List ℕ). IsAllocation f env (made_of n es ps x ds)) offsets h)
 
 pub returns-clause-allocation : goal.returns-clause-allocation
 returns-clause-allocation g c =
-    same_out (g.F.Function.function c.args.f.now) (machine_of c.args.env.now) c.in_ok-rest.rest.num_spillslots (map edit_of c.in_ok-rest.rest.edits.items) c.fill_places.new.allocs
-    (with_items c.in_ok-allocs.allocs c.fill_places.new.allocs).items c.deref.result.now c.in_ok-offsets.offsets.items (map location_of c.in_ok-rest.rest.debug_locations.items)
+    same_out (g.F.Function.function c.args.f.now) (machine_of c.args.env.now) c.in_ok-rest.rest.num_spillslots (map edit_of c.in_ok-rest.rest.edits.items)
+    c.fill_places.new.allocs
+    (with_items c.in_ok-allocs.allocs c.fill_places.new.allocs).items c.deref.result.now c.in_ok-offsets.offsets.items
+    (map location_of c.in_ok-rest.rest.debug_locations.items)
     (with_items_is c.in_ok-allocs.allocs c.fill_places.new.allocs (c.fill_places.auto.allocs ∙ c.deref_mut.ensures.len)) c.deref.ensures.value
     c.in_ok-rest.ensures.allocation

@@ -15,54 +15,55 @@ use Rattle.regalloc2_function.specs.DebugPoints.{PassesAt}
 use Rattle.regalloc2_function.specs.Slots.{AreSlotsOwned}
 use Rattle.regalloc2_function.specs.Stored.{location_of}
 use Rattle.regalloc2_function.specs.Views.{edit_of, machine_of}
-use Rattle.regalloc2_flow.proofs.Defined.{Made}
-use Rattle.regalloc2_flow.proofs.Faithful.{faithful}
-use Rattle.regalloc2_points.proofs.Known.{well_formed_ssa}
-use Rattle.regalloc2_tables.specs.Lack.{Lacks, AreFullWith}
-use Rattle.regalloc2_fastalloc.specs.Promise.{LiveInSlots, ShowsLabels, SlotsAreFew, HasRegistersForAll}
-use Rattle.regalloc2_fastalloc.specs.Reason.{SomeDoesNotFit, units_needed}
-use Rattle.regalloc2_steps.specs.Steps.{Tables}
-use Rattle.regalloc2_walk.specs.States.{tables_of}
-use Rattle.regalloc2_steps.specs.Branches.{LendsAtMost}
-use Rattle.regalloc2_steps.specs.Sound.{HasMachine}
-use Rattle.regalloc2_tables.specs.Tables.{PlacesValue, SlotsValue, no_slots, slot_name, units_of}
-use Rattle.regalloc2_fastalloc.proofs.Agreed.{made_blocks_agree, made_in_slots, made_label_shown, walk_kept_through}
-use Rattle.regalloc2_fastalloc.proofs.Labelled.{locations_stand, shows_labels}
-use Rattle.regalloc2_steps.proofs.Agreeing.{handed_slots}
-use Rattle.regalloc2_steps.proofs.Begun.{begun_machine}
-use Rattle.regalloc2_steps.proofs.Finished.{IsMade, made_in_order, made_constraints, made_proper, made_in_registers}
-use Rattle.regalloc2_steps.proofs.Gathered.{tame_at}
-use Rattle.regalloc2_steps.proofs.Keeping.{none_lends}
-use Rattle.regalloc2_steps.proofs.Launching.{fresh_blank, some_units, fresh_fit}
-use Rattle.regalloc2_steps.proofs.Machines.{fit_apart}
-use Rattle.regalloc2_steps.proofs.LaidWalks.{BranchesFrom, walk_classed}
-use Rattle.regalloc2_steps.proofs.OwnedOutputs.{fits_keeps, made_slots_owned}
-use Rattle.regalloc2_lacks.proofs.Lacks.{walk_stops}
-use Rattle.regalloc2_fastalloc.proofs.Reasoned.{lacks_where}
-use Rattle.regalloc2_fastalloc.proofs.Numbers.{reads_numbers}
-use Rattle.regalloc2_fastalloc.proofs.Needing.{sizes_of, sizes_agree, few_slots, full_needs}
-use Rattle.regalloc2_steps.proofs.Rounding.{Blank}
-use Rattle.regalloc2_steps.proofs.SafeFunctions.{made_listed_blocks}
-use Rattle.regalloc2_steps.proofs.SafeWalks.{MayInBlocks}
-use Rattle.regalloc2_steps.proofs.Scratching.{Fit}
-use Rattle.regalloc2_steps.proofs.Steady.{passes_between}
-use Rattle.regalloc2_steps.proofs.Walking.{WalkKept}
-use Rattle.regalloc2_walk.proofs.OneBlock.{begins_uncrowded}
-use Rattle.regalloc2_fastalloc.proofs.Roomy.{are_few, asks_for_registers, names_in}
+use Rattle.regalloc2_semantics.proofs.SingleDef.{Made}
+use Rattle.regalloc2_semantics.proofs.Faithful.{faithful}
+use Rattle.regalloc2_live_ranges.proofs.UsesInSSA.{well_formed_ssa}
+use Rattle.regalloc2_fastalloc_state.specs.OutOfResources.{Lacks, SlotsExhaustedWith}
+use Rattle.regalloc2_fastalloc.specs.Promise.{LiveInSlots, ShowsLabels, SlotsAreBounded, HasRegistersForAll}
+use Rattle.regalloc2_fastalloc.specs.ErrorReason.{SomeDoesNotFit, units_at_most}
+use Rattle.regalloc2_fastalloc_proofs.specs.InstSteps.{StateValue}
+use Rattle.regalloc2_fastalloc_walk.specs.StateView.{tables_of}
+use Rattle.regalloc2_fastalloc_proofs.specs.BranchSteps.{AddsTempSlotsAtMost}
+use Rattle.regalloc2_fastalloc_proofs.specs.Safety.{HasMachine}
+use Rattle.regalloc2_fastalloc_state.specs.StateParts.{VRegAllocsValue, SpillSlotsValue, no_slots, slot_name, units_of}
+use Rattle.regalloc2_fastalloc.proofs.ReadsAgree.{made_blocks_agree, made_in_slots, made_label_shown, walk_kept_through}
+use Rattle.regalloc2_fastalloc.proofs.DebugLocationPlaces.{locations_stand, shows_labels}
+use Rattle.regalloc2_fastalloc_proofs.proofs.Walk.BlocksCarryFromFreshState.{handed_slots}
+use Rattle.regalloc2_fastalloc_proofs.proofs.Safety.InitialState.{begun_machine}
+use Rattle.regalloc2_fastalloc_proofs.proofs.Safety.OutputOfWalk.{IsMade, made_in_order, made_constraints, made_proper, made_in_registers}
+use Rattle.regalloc2_fastalloc_proofs.proofs.Safety.WellFormedKeepsSafe.{tame_at}
+use Rattle.regalloc2_fastalloc_proofs.proofs.Safety.StateKept.{none_lends}
+use Rattle.regalloc2_fastalloc_proofs.proofs.Walk.UsesReadOwnDefs.{fresh_blank, some_units, fresh_fit}
+use Rattle.regalloc2_fastalloc_proofs.proofs.Safety.MachineRegs.{fit_apart}
+use Rattle.regalloc2_fastalloc_proofs.proofs.Slots.WalkKeepsSlotsApart.{BranchesFrom, walk_classed}
+use Rattle.regalloc2_fastalloc_proofs.proofs.Slots.OutputOwnsSlots.{fits_keeps, made_slots_owned}
+use Rattle.regalloc2_pressure_proofs.proofs.OutOfRegs.{walk_stops}
+use Rattle.regalloc2_fastalloc.proofs.ErrorsHaveReasons.{lacks_where}
+use Rattle.regalloc2_fastalloc.proofs.UsesReadNumbers.{reads_numbers}
+use Rattle.regalloc2_fastalloc.proofs.UnitsNeeded.{sizes_of, sizes_agree, few_slots, full_needs}
+use Rattle.regalloc2_fastalloc_proofs.proofs.Walk.InstsCarry.{Blank}
+use Rattle.regalloc2_fastalloc_proofs.proofs.Safety.FunctionKeepsSafe.{made_listed_blocks}
+use Rattle.regalloc2_fastalloc_proofs.proofs.Safety.BlocksKeepSafe.{MayInBlocks}
+use Rattle.regalloc2_fastalloc_proofs.proofs.Moves.ScratchRegTaken.{Fit}
+use Rattle.regalloc2_fastalloc_proofs.proofs.Safety.BranchArgsKeepState.{passes_between}
+use Rattle.regalloc2_fastalloc_proofs.proofs.Safety.InstsKeepSafe.{WalkKept}
+use Rattle.regalloc2_fastalloc_walk.proofs.BlockSpillFree.{begins_uncrowded}
+use Rattle.regalloc2_fastalloc.proofs.RegistersForAll.{are_few, asks_for_registers, names_in}
 use Rattle.regalloc2_fastalloc.proofs.allocate.fill_places.Given.{Over}
 use Rattle.regalloc2_fastalloc.proofs.allocate.fill_places.Goals as goal
 
 pub new-requires : goal.new-requires
 new-requires g c = (search rules, c.requires.machine)
 
-pub allocate_blocks-requires : goal.allocate_blocks-requires
-allocate_blocks-requires g c =
+pub alloc_blocks-requires : goal.alloc_blocks-requires
+alloc_blocks-requires g c =
     let f : FunctionValue = g.F.Function.function c.args.f.now in
     let env : MachineValue = machine_of c.args.env.now in
-    let t : Tables = tables_of c.in_ok-state.state in
+    let t : StateValue = tables_of c.in_ok-state.state in
     let e = c.in_ok-state.ensures in
-    let machine : HasMachine env t = begun_machine env t e.registers (λ r. (e.fixed_stack r).0) (λ r. (e.fixed_stack r).1) e.dedicated in
-    let long : length t.places.stands ≡ f.num_vregs = ap (λ (p : PlacesValue). length p.stands) e.places ∙ length-replicate f.num_vregs NoPlace in (
+    let machine : HasMachine env t = begun_machine env t e.registers (λ r. (e.fixed_stack r).0) (λ r. (e.fixed_stack r).1) e.dedicated_scratch in
+    let long : length t.places.vreg_allocs ≡ f.num_vregs = ap (λ (p : VRegAllocsValue). length p.vreg_allocs) e.places
+    ∙ length-replicate f.num_vregs NoPlace in (
       search rules,
       (
         e.edits,
@@ -83,53 +84,59 @@ allocate_blocks-requires g c =
     )
 
 -- the slots that the walk leaves have the sizes that the function asks for, and as many vregs
-sizes_kept : (f : FunctionValue) (begun left : Tables) (by_last : Bool) (most : ℕ) → begun.slots ≡ no_slots f.num_vregs (sizes_of f) by_last → LendsAtMost most begun left → left.slots.sizes ≡ sizes_of f
-sizes_kept f begun left by_last most slots machine = machine.sizes ∙ ap (λ (s : SlotsValue). s.sizes) slots
+sizes_kept : (f : FunctionValue) (begun left : StateValue) (by_last : Bool) (most : ℕ) → begun.slots ≡ no_slots f.num_vregs (sizes_of f) by_last →
+    AddsTempSlotsAtMost most begun left → left.slots.sizes ≡ sizes_of f
+sizes_kept f begun left by_last most slots machine = machine.sizes ∙ ap (λ (s : SpillSlotsValue). s.sizes) slots
 
-vregs_kept : (f : FunctionValue) (begun left : Tables) (by_last : Bool) (most : ℕ) → begun.slots ≡ no_slots f.num_vregs (sizes_of f) by_last → LendsAtMost most begun left → length left.slots.of_vreg ≡ f.num_vregs
-vregs_kept f begun left by_last most slots machine = machine.vregs ∙ ap (λ (s : SlotsValue). length s.of_vreg) slots ∙ length-replicate f.num_vregs NoPlace
+vregs_kept : (f : FunctionValue) (begun left : StateValue) (by_last : Bool) (most : ℕ) → begun.slots ≡ no_slots f.num_vregs (sizes_of f) by_last →
+    AddsTempSlotsAtMost most begun left → length left.slots.vreg_spillslots ≡ f.num_vregs
+vregs_kept f begun left by_last most slots machine = machine.vregs ∙ ap (λ (s : SpillSlotsValue). length s.vreg_spillslots) slots
+    ∙ length-replicate f.num_vregs NoPlace
 
 pub locations-requires : goal.locations-requires
 locations-requires g c =
     let f : FunctionValue = g.F.Function.function c.args.f.now in
     record {
       ssa = well_formed_ssa (machine_of c.args.env.now) f c.requires.well_formed;
-      vregs = vregs_kept f (tables_of c.in_ok-state.state) (tables_of c.allocate_blocks.new.self) f.named_by_last_slot _ c.in_ok-state.ensures.slots c.allocate_blocks.ensures.machine;
+      vregs = vregs_kept f (tables_of c.in_ok-state.state) (tables_of c.alloc_blocks.new.self) f.named_by_last_slot _ c.in_ok-state.ensures.slots
+          c.alloc_blocks.ensures.machine;
       offsets_long = c.requires.offsets_long;
       offsets = λ i lt. c.requires.offsets i lt;
-      allocs_long = c.allocate_blocks.auto.allocs ∙ c.requires.allocs_long;
+      allocs_long = c.alloc_blocks.auto.allocs ∙ c.requires.allocs_long;
     }
 
 -- the output as contracts see it
 abbrev out_of : (g : Over) (c : goal.After-array_drop-state-2 g) → OutputValue
 out_of g c = record {
-  num_spillslots = c.count.result;
+  num_spillslots = c.num_units.result;
   edits = map edit_of c.in_ok-edits.edits.items;
-  allocs = c.allocate_blocks.new.allocs;
+  allocs = c.alloc_blocks.new.allocs;
   offsets = c.args.offsets.now;
   debug_locations = map location_of c.in_ok-debug_locations.debug_locations.items;
 }
 
 -- the tables at the walk's start and at its end
-abbrev begun : (g : Over) (c : goal.After-array_drop-state-2 g) → Tables
+abbrev begun : (g : Over) (c : goal.After-array_drop-state-2 g) → StateValue
 begun g c = tables_of c.in_ok-state.state
 
-abbrev left : (g : Over) (c : goal.After-array_drop-state-2 g) → Tables
-left g c = tables_of c.allocate_blocks.new.self
+abbrev left : (g : Over) (c : goal.After-array_drop-state-2 g) → StateValue
+left g c = tables_of c.alloc_blocks.new.self
 
 -- the machine's registers in the fresh tables
 machine_is : (g : Over) (c : goal.After-array_drop-state-2 g) → HasMachine (machine_of c.args.env.now) (begun g c)
 machine_is g c =
     let e = c.in_ok-state.ensures in
-    begun_machine (machine_of c.args.env.now) (begun g c) e.registers (λ r. (e.fixed_stack r).0) (λ r. (e.fixed_stack r).1) e.dedicated
+    begun_machine (machine_of c.args.env.now) (begun g c) e.registers (λ r. (e.fixed_stack r).0) (λ r. (e.fixed_stack r).1) e.dedicated_scratch
 
 -- a slot of each class takes some units
 units_are : (g : Over) (c : goal.After-array_drop-state-2 g) → (class : RegClass) →
-    0 < units_of (no_slots (g.F.Function.function c.args.f.now).num_vregs (sizes_of (g.F.Function.function c.args.f.now)) (g.F.Function.function c.args.f.now).named_by_last_slot) class
+    0 < units_of (no_slots (g.F.Function.function c.args.f.now).num_vregs (sizes_of (g.F.Function.function c.args.f.now))
+    (g.F.Function.function c.args.f.now).named_by_last_slot) class
 units_are g c =
     let f : FunctionValue = g.F.Function.function c.args.f.now in
     let limited : IsLimited f = g.met.F.Function.limited c.args.f.now in
-    some_units f.num_vregs (slot_size f.slot_sizes Int) (slot_size f.slot_sizes Float) (slot_size f.slot_sizes Vector) f.named_by_last_slot (limited.slot_sizes Int).positive (limited.slot_sizes Float).positive (limited.slot_sizes Vector).positive
+    some_units f.num_vregs (slot_size f.slot_sizes Int) (slot_size f.slot_sizes Float) (slot_size f.slot_sizes Vector) f.named_by_last_slot
+    (limited.slot_sizes Int).positive (limited.slot_sizes Float).positive (limited.slot_sizes Vector).positive
 
 -- the fresh tables are blank
 blank_is : (g : Over) (c : goal.After-array_drop-state-2 g) → Blank (begun g c)
@@ -137,57 +144,69 @@ blank_is g c = (let f : FunctionValue = g.F.Function.function c.args.f.now in le
     fresh_blank (begun g c) f.num_vregs (sizes_of f) f.named_by_last_slot e.places e.slots e.edits (units_are g c))
 
 fit_is : (g : Over) (c : goal.After-array_drop-state-2 g) → Fit (begun g c)
-fit_is g c = fresh_fit (g.F.Function.function c.args.f.now) (machine_of c.args.env.now) (begun g c) c.requires.machine (machine_is g c) c.in_ok-state.ensures.small
+fit_is g c = fresh_fit (g.F.Function.function c.args.f.now) (machine_of c.args.env.now) (begun g c) c.requires.machine (machine_is g c)
+    c.in_ok-state.ensures.small
 
 -- what the walk left
 walked : (g : Over) (c : goal.After-array_drop-state-2 g) →
-    WalkKept (machine_of c.args.env.now) (Made (g.F.Function.function c.args.f.now)) (g.F.Function.function c.args.f.now) (MayInBlocks (g.F.Function.function c.args.f.now)) c.allocate_blocks.new.allocs 0 c.allocate_blocks.new.allocs (left g c)
+    WalkKept (machine_of c.args.env.now) (Made (g.F.Function.function c.args.f.now)) (g.F.Function.function c.args.f.now)
+    (MayInBlocks (g.F.Function.function c.args.f.now)) c.alloc_blocks.new.allocs 0 c.alloc_blocks.new.allocs (left g c)
 walked g c =
     let f : FunctionValue = g.F.Function.function c.args.f.now in
     let e = c.in_ok-state.ensures in
-    walk_kept_through (machine_of c.args.env.now) f c.requires.machine (g.met.F.Function.limited c.args.f.now) c.requires.well_formed c.requires.taken c.requires.branches
-    c.args.allocs.now c.allocate_blocks.new.allocs (begun g c) (left g c) f.num_vregs f.num_vregs (sizes_of f) f.named_by_last_slot e.places e.slots e.edits
-    (units_are g c) (machine_is g c) (blank_is g c) (fit_is g c) c.in_ok-allocate_blocks.ensures.ok
+    walk_kept_through (machine_of c.args.env.now) f c.requires.machine (g.met.F.Function.limited c.args.f.now) c.requires.well_formed c.requires.taken
+    c.requires.branches
+    c.args.allocs.now c.alloc_blocks.new.allocs (begun g c) (left g c) f.num_vregs f.num_vregs (sizes_of f) f.named_by_last_slot e.places e.slots e.edits
+    (units_are g c) (machine_is g c) (blank_is g c) (fit_is g c) c.in_ok-alloc_blocks.ensures.ok
 
--- who is passed as an argument has a slot
-handed_is : (g : Over) (c : goal.After-array_drop-state-2 g) → (v : VirtualRegister) (i : ℕ) → PassesAt (g.F.Function.function c.args.f.now) v i → slot_name (left g c).slots v.number ≢ NoPlace
+-- a vreg that is passed as an argument has a slot
+handed_is : (g : Over) (c : goal.After-array_drop-state-2 g) → (v : VirtualRegister) (i : ℕ) → PassesAt (g.F.Function.function c.args.f.now) v i →
+    slot_name (left g c).slots v.number ≢ NoPlace
 handed_is g c v i p =
     let f : FunctionValue = g.F.Function.function c.args.f.now in
-    handed_slots (machine_of c.args.env.now) f (g.met.F.Function.limited c.args.f.now) c.requires.well_formed (passes_between f) c.args.allocs.now (begun g c) (left g c) (out_of g c) (blank_is g c) (fit_is g c)
-    c.in_ok-allocate_blocks.ensures.ok v p.0 p.1 p.2 p.4 p.5
+    handed_slots (machine_of c.args.env.now) f (g.met.F.Function.limited c.args.f.now) c.requires.well_formed (passes_between f) c.args.allocs.now (begun g c)
+    (left g c) (out_of g c) (blank_is g c) (fit_is g c)
+    c.in_ok-alloc_blocks.ensures.ok v p.0 p.1 p.2 p.4 p.5
 
 made : (g : Over) (c : goal.After-array_drop-state-2 g) →
-    IsMade (g.F.Function.function c.args.f.now) (machine_of c.args.env.now) (Made (g.F.Function.function c.args.f.now)) (MayInBlocks (g.F.Function.function c.args.f.now)) (left g c) (out_of g c)
+    IsMade (g.F.Function.function c.args.f.now) (machine_of c.args.env.now) (Made (g.F.Function.function c.args.f.now))
+    (MayInBlocks (g.F.Function.function c.args.f.now)) (left g c) (out_of g c)
 made g c =
     let f : FunctionValue = g.F.Function.function c.args.f.now in
     let env : MachineValue = machine_of c.args.env.now in
     record {
-      count = c.count.ensures.count;
+      count = c.num_units.ensures.count;
       edits = c.in_ok-edits.ensures.listed;
       falling = c.in_ok-edits.ensures.falling;
       long = c.requires.offsets_long;
       offsets = λ i lt. c.requires.offsets i lt;
-      allocs_long = c.allocate_blocks.auto.allocs ∙ c.requires.allocs_long;
-      debug = locations_stand env f (g.met.F.Function.limited c.args.f.now) c.requires.well_formed (MayInBlocks f) (left g c) c.args.offsets.now c.allocate_blocks.new.allocs (λ i lt. c.requires.offsets i lt)
+      allocs_long = c.alloc_blocks.auto.allocs ∙ c.requires.allocs_long;
+      debug = locations_stand env f (g.met.F.Function.limited c.args.f.now) c.requires.well_formed (MayInBlocks f) (left g c) c.args.offsets.now
+          c.alloc_blocks.new.allocs (λ i lt. c.requires.offsets i lt)
           (walked g c) (handed_is g c) (map location_of c.in_ok-debug_locations.debug_locations.items) c.in_ok-debug_locations.ensures.ok;
       kept = walked g c;
     }
 
 -- where no path reads before writing, the output is faithful
-faithful_is : (g : Over) (c : goal.After-array_drop-state-2 g) → IsWrittenFirst (g.F.Function.function c.args.f.now) → IsFaithful (g.F.Function.function c.args.f.now) (machine_of c.args.env.now) (out_of g c)
+faithful_is : (g : Over) (c : goal.After-array_drop-state-2 g) → IsWrittenFirst (g.F.Function.function c.args.f.now) →
+    IsFaithful (g.F.Function.function c.args.f.now) (machine_of c.args.env.now) (out_of g c)
 faithful_is g c = λ written.
     let f : FunctionValue = g.F.Function.function c.args.f.now in
     let env : MachineValue = machine_of c.args.env.now in
     let m : IsMade f env (Made f) (MayInBlocks f) (left g c) (out_of g c) = made g c in
-    faithful f env (out_of g c) (made_constraints f env (Made f) (MayInBlocks f) (left g c) (out_of g c) m) (made_in_registers f env (Made f) (MayInBlocks f) (left g c) (out_of g c) m)
-    (made_blocks_agree env f (g.met.F.Function.limited c.args.f.now) c.requires.well_formed c.requires.taken c.requires.branches c.args.allocs.now (begun g c) (left g c) (out_of g c) (blank_is g c) (fit_is g c) c.in_ok-allocate_blocks.ensures.ok m written)
+    faithful f env (out_of g c) (made_constraints f env (Made f) (MayInBlocks f) (left g c) (out_of g c) m)
+    (made_in_registers f env (Made f) (MayInBlocks f) (left g c) (out_of g c) m)
+    (made_blocks_agree env f (g.met.F.Function.limited c.args.f.now) c.requires.well_formed c.requires.taken c.requires.branches c.args.allocs.now (begun g c)
+    (left g c) (out_of g c) (blank_is g c) (fit_is g c) c.in_ok-alloc_blocks.ensures.ok m written)
 
-live_is : (g : Over) (c : goal.After-array_drop-state-2 g) → IsWrittenFirst (g.F.Function.function c.args.f.now) → LiveInSlots (g.F.Function.function c.args.f.now) (out_of g c)
+live_is : (g : Over) (c : goal.After-array_drop-state-2 g) → IsWrittenFirst (g.F.Function.function c.args.f.now) →
+    LiveInSlots (g.F.Function.function c.args.f.now) (out_of g c)
 live_is g c =
     let f : FunctionValue = g.F.Function.function c.args.f.now in
     let env : MachineValue = machine_of c.args.env.now in
-    made_in_slots env f (g.met.F.Function.limited c.args.f.now) c.requires.well_formed c.requires.taken c.requires.branches c.args.allocs.now (begun g c) (left g c) (out_of g c) (blank_is g c) (fit_is g c) c.in_ok-allocate_blocks.ensures.ok (made g c)
-    c.count.ensures.owned (tame_at env f (g.met.F.Function.limited c.args.f.now) c.requires.well_formed c.requires.taken)
+    made_in_slots env f (g.met.F.Function.limited c.args.f.now) c.requires.well_formed c.requires.taken c.requires.branches c.args.allocs.now (begun g c)
+    (left g c) (out_of g c) (blank_is g c) (fit_is g c) c.in_ok-alloc_blocks.ensures.ok (made g c)
+    c.num_units.ensures.owned (tame_at env f (g.met.F.Function.limited c.args.f.now) c.requires.well_formed c.requires.taken)
 
 -- and debug locations name places of their virtual registers, which hold their values
 labels_are : (g : Over) (c : goal.After-array_drop-state-2 g) → ShowsLabels (g.F.Function.function c.args.f.now) (machine_of c.args.env.now) (out_of g c)
@@ -196,50 +215,58 @@ labels_are g c =
     let env : MachineValue = machine_of c.args.env.now in
     let limited : IsLimited f = g.met.F.Function.limited c.args.f.now in
     let tame = tame_at env f limited c.requires.well_formed c.requires.taken in
-    shows_labels env f limited c.requires.well_formed (MayInBlocks f) (left g c) (out_of g c) (made g c) (handed_is g c) c.count.ensures.owned tame
-    (made_label_shown env f limited c.requires.well_formed c.requires.taken c.requires.branches c.args.allocs.now (begun g c) (left g c) (out_of g c) (blank_is g c) (fit_is g c) c.in_ok-allocate_blocks.ensures.ok (made g c)
-    c.count.ensures.owned tame) c.in_ok-debug_locations.ensures.ok
+    shows_labels env f limited c.requires.well_formed (MayInBlocks f) (left g c) (out_of g c) (made g c) (handed_is g c) c.num_units.ensures.owned tame
+    (made_label_shown env f limited c.requires.well_formed c.requires.taken c.requires.branches c.args.allocs.now (begun g c) (left g c) (out_of g c)
+    (blank_is g c) (fit_is g c) c.in_ok-alloc_blocks.ensures.ok (made g c)
+    c.num_units.ensures.owned tame) c.in_ok-debug_locations.ensures.ok
 
--- few slots were lent
-few_lent : (f : FunctionValue) (begun left : Tables) (by_last : Bool) (most : ℕ) → begun.slots ≡ no_slots f.num_vregs (sizes_of f) by_last → LendsAtMost most begun left → left.slots.lent ≤ most
+-- there are few temporary slots
+few_lent : (f : FunctionValue) (begun left : StateValue) (by_last : Bool) (most : ℕ) → begun.slots ≡ no_slots f.num_vregs (sizes_of f) by_last →
+    AddsTempSlotsAtMost most begun left → left.slots.num_temp_slots ≤ most
 few_lent f begun left by_last most slots machine =
-    let none : begun.slots.lent ≡ 0 = ap (λ (s : SlotsValue). s.lent) slots in
-    let lent = machine.lent in
-    omega (arith, none, lent)
+    let none : begun.slots.num_temp_slots ≡ 0 = ap (λ (s : SpillSlotsValue). s.num_temp_slots) slots in
+    let num_temp_slots = machine.num_temp_slots in
+    omega (arith, none, num_temp_slots)
 
 owners_are : (g : Over) (c : goal.After-array_drop-state-2 g) → AreSlotsOwned (g.F.Function.function c.args.f.now) (out_of g c)
 owners_are g c =
     let f : FunctionValue = g.F.Function.function c.args.f.now in
     let env : MachineValue = machine_of c.args.env.now in
     let limited : IsLimited f = g.met.F.Function.limited c.args.f.now in
-    let begin : Tables = begun g c in
-    let last : Tables = left g c in
+    let begin : StateValue = begun g c in
+    let last : StateValue = left g c in
     let e = c.in_ok-state.ensures in
-    let classed = walk_classed env f (fits_keeps f env c.requires.machine) limited c.requires.well_formed c.requires.taken c.args.allocs.now c.allocate_blocks.new.allocs begin last f.num_vregs f.num_vregs (sizes_of f) f.named_by_last_slot
-    e.places e.slots e.edits (units_are g c) (machine_is g c) c.in_ok-allocate_blocks.ensures.ok in
-    made_slots_owned f env (Made f) (MayInBlocks f) last (out_of g c) (made g c) c.count.ensures.owned (tame_at env f limited c.requires.well_formed c.requires.taken) f.named_by_last_slot (BranchesFrom f 0) classed
-    (sizes_agree f last.slots (sizes_kept f begin last f.named_by_last_slot _ e.slots c.allocate_blocks.ensures.machine)) refl (λ i class m. (m.1, m.2))
+    let classed = walk_classed env f (fits_keeps f env c.requires.machine) limited c.requires.well_formed c.requires.taken c.args.allocs.now
+    c.alloc_blocks.new.allocs begin last f.num_vregs f.num_vregs (sizes_of f) f.named_by_last_slot
+    e.places e.slots e.edits (units_are g c) (machine_is g c) c.in_ok-alloc_blocks.ensures.ok in
+    made_slots_owned f env (Made f) (MayInBlocks f) last (out_of g c) (made g c) c.num_units.ensures.owned
+    (tame_at env f limited c.requires.well_formed c.requires.taken) f.named_by_last_slot (BranchesFrom f 0) classed
+    (sizes_agree f last.slots (sizes_kept f begin last f.named_by_last_slot _ e.slots c.alloc_blocks.ensures.machine)) refl (λ i class m. (m.1, m.2))
 
-slots_are : (g : Over) (c : goal.After-array_drop-state-2 g) → SlotsAreFew (g.F.Function.function c.args.f.now) (out_of g c)
+slots_are : (g : Over) (c : goal.After-array_drop-state-2 g) → SlotsAreBounded (g.F.Function.function c.args.f.now) (out_of g c)
 slots_are g c =
     let f : FunctionValue = g.F.Function.function c.args.f.now in
-    let begin : Tables = tables_of c.in_ok-state.state in
-    let last : Tables = tables_of c.allocate_blocks.new.self in
-    let machine = c.allocate_blocks.ensures.machine in
+    let begin : StateValue = tables_of c.in_ok-state.state in
+    let last : StateValue = tables_of c.alloc_blocks.new.self in
+    let machine = c.alloc_blocks.ensures.machine in
     let slots = c.in_ok-state.ensures.slots in
-    few_slots f last.slots (out_of g c) c.count.ensures.count (sizes_kept f begin last f.named_by_last_slot _ slots machine) (vregs_kept f begin last f.named_by_last_slot _ slots machine)
-    (few_lent f begin last f.named_by_last_slot _ slots machine) c.count.ensures.owned
+    few_slots f last.slots (out_of g c) c.num_units.ensures.count (sizes_kept f begin last f.named_by_last_slot _ slots machine)
+    (vregs_kept f begin last f.named_by_last_slot _ slots machine)
+    (few_lent f begin last f.named_by_last_slot _ slots machine) c.num_units.ensures.owned
 
 -- where registers suffice for all virtual registers, the walk makes no move and no slot
-unspilled_is : (g : Over) (c : goal.After-array_drop-state-2 g) → HasRegistersForAll (g.F.Function.function c.args.f.now) (machine_of c.args.env.now) → ((out_of g c).edits ≡ []) × ((out_of g c).num_spillslots ≡ 0)
+unspilled_is : (g : Over) (c : goal.After-array_drop-state-2 g) → HasRegistersForAll (g.F.Function.function c.args.f.now) (machine_of c.args.env.now) →
+    ((out_of g c).edits ≡ []) × ((out_of g c).num_spillslots ≡ 0)
 unspilled_is g c = λ h.
     let f : FunctionValue = g.F.Function.function c.args.f.now in
-    let begin : Tables = tables_of c.in_ok-state.state in
+    let begin : StateValue = tables_of c.in_ok-state.state in
     let e = c.in_ok-state.ensures in
     let b = blank_is g c in
-    let none = c.in_ok-allocate_blocks.ensures.uncrowded (names_in f.insts) (are_few f (machine_of c.args.env.now) begin.allocatable h e.all) (asks_for_registers f (machine_of c.args.env.now) h)
-    (begins_uncrowded f (names_in f.insts) c.in_ok-state.state.registers begin b.nowhere b.no_move b.no_slot (ap (λ (s : SlotsValue). s.count) e.slots) refl (fit_apart begin (fit_is g c)) e.rings) in
-    (c.in_ok-edits.ensures.listed ∙ ap reverse none.0, c.count.ensures.count ∙ none.1)
+    let none = c.in_ok-alloc_blocks.ensures.spill_free (names_in f.insts) (are_few f (machine_of c.args.env.now) begin.allocatable h e.all)
+    (asks_for_registers f (machine_of c.args.env.now) h)
+    (begins_uncrowded f (names_in f.insts) c.in_ok-state.state.registers begin b.nowhere b.no_move b.no_slot (ap (λ (s : SpillSlotsValue). s.count) e.slots)
+    refl (fit_apart begin (fit_is g c)) e.lrus) in
+    (c.in_ok-edits.ensures.listed ∙ ap reverse none.0, c.num_units.ensures.count ∙ none.1)
 
 pub returns-clause-allocation : goal.returns-clause-allocation
 returns-clause-allocation g c =
@@ -264,22 +291,25 @@ returns-clause-allocation g c =
       labels = labels_are g c;
     }
 
-pub returns-in_err-allocate_blocks-clause-err : goal.returns-in_err-allocate_blocks-clause-err
-returns-in_err-allocate_blocks-clause-err g c =
+pub returns-in_err-alloc_blocks-clause-err : goal.returns-in_err-alloc_blocks-clause-err
+returns-in_err-alloc_blocks-clause-err g c =
     let f : FunctionValue = g.F.Function.function c.args.f.now in
-    let begin : Tables = tables_of c.in_ok-state.state in
+    let begin : StateValue = tables_of c.in_ok-state.state in
     let slots = c.in_ok-state.ensures.slots in
-    let most : ℕ = begin.slots.lent + 6 * length f.blocks in
-    let none : begin.slots.lent ≡ 0 = ap (λ (s : SlotsValue). s.lent) slots in
-    let same : LendsAtMost 0 begin begin = none_lends 0 begin in
-    let p = err_from_is_err_and c.from_residual-in_err-allocate_blocks.result c.from_residual-in_err-allocate_blocks.ensures.1 in
-    let more : AreFullWith begin.slots most → 2 ^ 24 < units_needed f = full_needs f begin.slots most (sizes_kept f begin begin f.named_by_last_slot 0 slots same) (vregs_kept f begin begin f.named_by_last_slot 0 slots same) (omega (arith, none)) in
+    let most : ℕ = begin.slots.num_temp_slots + 6 * length f.blocks in
+    let none : begin.slots.num_temp_slots ≡ 0 = ap (λ (s : SpillSlotsValue). s.num_temp_slots) slots in
+    let same : AddsTempSlotsAtMost 0 begin begin = none_lends 0 begin in
+    let p = err_from_is_err_and c.from_residual-in_err-alloc_blocks.result c.from_residual-in_err-alloc_blocks.ensures.1 in
+    let more : SlotsExhaustedWith begin.slots most → 2 ^ 24 < units_at_most f = full_needs f begin.slots most
+    (sizes_kept f begin begin f.named_by_last_slot 0 slots same) (vregs_kept f begin begin f.named_by_last_slot 0 slots same) (omega (arith, none)) in
     let env : MachineValue = machine_of c.args.env.now in
     let e = c.in_ok-state.ensures in
     let limited : IsLimited f = g.met.F.Function.limited c.args.f.now in
-    let machine : HasMachine env begin = begun_machine env begin e.registers (λ r. (e.fixed_stack r).0) (λ r. (e.fixed_stack r).1) e.dedicated in
-    let units = some_units f.num_vregs (slot_size f.slot_sizes Int) (slot_size f.slot_sizes Float) (slot_size f.slot_sizes Vector) f.named_by_last_slot (limited.slot_sizes Int).positive (limited.slot_sizes Float).positive (limited.slot_sizes Vector).positive in
-    rw p.1 (subst (Lacks (SomeDoesNotFit f env) (2 ^ 24 < units_needed f)) (sym p.2)
-    (lacks_where (SomeDoesNotFit f env) (AreFullWith begin.slots most) (2 ^ 24 < units_needed f) more _ c.in_err-allocate_blocks.ensures.err
-    (λ lacks. walk_stops f env c.requires.machine limited c.requires.well_formed c.requires.taken c.args.allocs.now begin f.num_vregs f.num_vregs (sizes_of f) f.named_by_last_slot e.places e.slots e.edits units
-    machine (fresh_fit f env begin c.requires.machine machine e.small) e.all e.dedicated (c.in_err-allocate_blocks.ensures.stops lacks))))
+    let machine : HasMachine env begin = begun_machine env begin e.registers (λ r. (e.fixed_stack r).0) (λ r. (e.fixed_stack r).1) e.dedicated_scratch in
+    let units = some_units f.num_vregs (slot_size f.slot_sizes Int) (slot_size f.slot_sizes Float) (slot_size f.slot_sizes Vector) f.named_by_last_slot
+    (limited.slot_sizes Int).positive (limited.slot_sizes Float).positive (limited.slot_sizes Vector).positive in
+    rw p.1 (subst (Lacks (SomeDoesNotFit f env) (2 ^ 24 < units_at_most f)) (sym p.2)
+    (lacks_where (SomeDoesNotFit f env) (SlotsExhaustedWith begin.slots most) (2 ^ 24 < units_at_most f) more _ c.in_err-alloc_blocks.ensures.err
+    (λ lacks. walk_stops f env c.requires.machine limited c.requires.well_formed c.requires.taken c.args.allocs.now begin f.num_vregs f.num_vregs (sizes_of f)
+    f.named_by_last_slot e.places e.slots e.edits units
+    machine (fresh_fit f env begin c.requires.machine machine e.small) e.all e.dedicated_scratch (c.in_err-alloc_blocks.ensures.stops lacks))))

@@ -1,5 +1,5 @@
 use Rattle.std.proofs.Common.{ℕ, ◌≡◌, ◌<◌, length, slice_index}
-use Rattle.regalloc2_steps.specs.Walks.{offset_of}
+use Rattle.regalloc2_fastalloc_proofs.specs.BlockSteps.{offset_of}
 use Rattle.regalloc2_fastalloc.proofs.allocs.offsets.Given as goal
 
 -- the offsets of the instructions so far

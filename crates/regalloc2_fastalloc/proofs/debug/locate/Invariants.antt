@@ -1,6 +1,6 @@
 use Rattle.std.proofs.Common.{◌≡◌, map, take}
 use Rattle.regalloc2_function.specs.Stored.{location_of}
-use Rattle.regalloc2_fastalloc.specs.Located.{location_shown}
+use Rattle.regalloc2_fastalloc.specs.DebugLocations.{location_shown}
 use Rattle.regalloc2_fastalloc.proofs.debug.locate.Given as goal
 
 -- the labels so far are located

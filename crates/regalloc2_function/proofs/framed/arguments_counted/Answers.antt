@@ -8,5 +8,6 @@ loop-b-preserved g c =
     let f : FunctionValue = g.F.Function.function c.args.f.now in
     record {
       within = c.loop-b.invariant.within;
-      so_far = below_more (λ n. CountedAt f n (block_at f n)) _ c.loop-b.invariant.so_far (rw c.new-block.ensures at (c.counts_arguments.ensures.0 c.if-not-counts_arguments.false));
+      so_far = below_more (λ n. CountedAt f n (block_at f n)) _ c.loop-b.invariant.so_far
+          (rw c.new-block.ensures at (c.counts_arguments.ensures.0 c.if-not-counts_arguments.false));
     }

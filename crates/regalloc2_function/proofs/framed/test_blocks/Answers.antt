@@ -12,13 +12,21 @@ returns-then-not-follows-clause-ok g c =
 pub returns-then-not-follows-clause-first : goal.returns-then-not-follows-clause-first
 returns-then-not-follows-clause-first g c =
     let f : FunctionValue = g.F.Function.function c.args.f.now in
-    let less : c.new-block.result < length f.blocks = omega (arith, c.loop-b.invariant.within, c.new-block.ensures) in
-    (c.new-block.result, refl, (less, λ h. let yes = c.follows.ensures.1 h in absurd cc, λ m low. c.loop-b.invariant.so_far m (omega (arith, c.new-block.ensures))))
+    let less : c.new-block.result < length f.blocks = omega (arith, c.loop-b.invariant.within, c.new-block.ensures) in (
+      c.new-block.result,
+      refl,
+      (
+        less,
+        λ h. let yes = c.follows.ensures.1 h in absurd cc,
+        λ m low. c.loop-b.invariant.so_far m (omega (arith, c.new-block.ensures)),
+      ),
+    )
 
 pub loop-b-preserved : goal.loop-b-preserved
 loop-b-preserved g c =
     let f : FunctionValue = g.F.Function.function c.args.f.now in
     record {
       within = c.loop-b.invariant.within;
-      so_far = below_more (λ n. FollowsAt f n (block_at f n)) _ c.loop-b.invariant.so_far (rw c.new-block.ensures at (c.follows.ensures.0 c.if-not-follows.false));
+      so_far = below_more (λ n. FollowsAt f n (block_at f n)) _ c.loop-b.invariant.so_far
+          (rw c.new-block.ensures at (c.follows.ensures.0 c.if-not-follows.false));
     }

@@ -8,7 +8,8 @@ loop-b-preserved g c =
     let arguments = not_so _ c.if-arguments_name.false c.arguments_name.ensures.1 in
     record {
       whole = c.num_blocks-b-end.ensures.count;
-      none = below_more _ _ c.loop-b.invariant.none (rw (← c.new-block.ensures) (λ h. elim h [ inl p ↦ params (rw c.block_params.ensures p) | inr a ↦ arguments a ]));
+      none = below_more _ _ c.loop-b.invariant.none (rw (← c.new-block.ensures)
+          (λ h. elim h [ inl p ↦ params (rw c.block_params.ensures p) | inr a ↦ arguments a ]));
     }
 
 pub returns : goal.returns

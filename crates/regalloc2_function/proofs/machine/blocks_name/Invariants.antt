@@ -8,5 +8,6 @@ use Rattle.regalloc2_function.proofs.machine.blocks_name.Given as goal
 abbrev pub invariant-loop-b : goal.invariant-loop-b
 invariant-loop-b g l = record {
   whole : l.b-end ≡ length (g.F.Function.function l.f).blocks;
-  none : (n : ℕ) → n < l.b → Any (λ v. v.class ≡ l.class) (block_at (g.F.Function.function l.f) n).params ⊎ NamesByArgument (g.F.Function.function l.f) n l.class → ⊥;
+  none : (n : ℕ) → n < l.b → Any (λ v. v.class ≡ l.class) (block_at (g.F.Function.function l.f) n).params
+      ⊎ NamesByArgument (g.F.Function.function l.f) n l.class → ⊥;
 }

@@ -1,7 +1,7 @@
 use Rattle.std.proofs.Common.{ℕ, ◌≡◌, ◌<◌, length, false}
 use Rattle.std.specs.Prelude.{Any}
 use Rattle.regalloc2_function.specs.FunctionValue.{inst_at}
-use Rattle.regalloc2_function.specs.SourceRun.{is_fixed_nonallocatable}
+use Rattle.regalloc2_names.specs.Operand.{is_fixed_nonallocatable}
 use Rattle.regalloc2_function.proofs.machine.insts_name.Given as goal
 
 -- none of the instructions so far does

@@ -8,14 +8,16 @@ loop-reg-init c = record { left = c.into_iter-reg-iterator.ensures.into_iter_giv
 
 pub returns-then-not-is_class : goal.returns-then-not-is_class
 returns-then-not-is_class c = (
-  (c.loop-reg.invariant.left.members c.in-Some.reg).1 (Contains-append_right c.loop-reg.yielded c.loop-reg.reg-iterator c.in-Some.reg (rw c.in-Some.ensures.steps (0, omega arith, refl))),
+  (c.loop-reg.invariant.left.members c.in-Some.reg).1 (Contains-append_right c.loop-reg.yielded c.loop-reg.reg-iterator c.in-Some.reg
+      (rw c.in-Some.ensures.steps (0, omega arith, refl))),
   λ e. absurd (not_so _ c.if-not-is_class.true c.is_class.ensures.1 (c.class.ensures ∙ e)),
 )
 
 pub loop-reg-preserved : goal.loop-reg-preserved
 loop-reg-preserved c = record {
   left = rw (append_assoc, ← c.in-Some.ensures.steps) c.loop-reg.invariant.left;
-  of_class = All-push (λ r. r.class ≡ c.args.class) c.loop-reg.yielded c.in-Some.reg c.loop-reg.invariant.of_class (sym c.class.ensures ∙ c.is_class.ensures.0 c.if-not-is_class.false);
+  of_class = All-push (λ r. r.class ≡ c.args.class) c.loop-reg.yielded c.in-Some.reg c.loop-reg.invariant.of_class
+      (sym c.class.ensures ∙ c.is_class.ensures.0 c.if-not-is_class.false);
 }
 
 pub returns : goal.returns

@@ -20,5 +20,9 @@ pub returns-in_err-test_slots-clause-misfit : goal.returns-in_err-test_slots-cla
 returns-in_err-test_slots-clause-misfit g c =
     let f = g.F.Function.function c.args.f.now in
     let m : IsMisfit f (machine_of c.args.env.now) c.in_err-test_slots.field-0.0 =
-    c.in_err-test_slots.ensures.misfit f (record { before = c.requires.before; registers = c.in_ok-test_registers.ensures.ok; scratch = c.in_ok-test_scratch.ensures.ok }) in
+    c.in_err-test_slots.ensures.misfit f (record {
+      before = c.requires.before;
+      registers = c.in_ok-test_registers.ensures.ok;
+      scratch = c.in_ok-test_scratch.ensures.ok;
+    }) in
     search (rules, m)

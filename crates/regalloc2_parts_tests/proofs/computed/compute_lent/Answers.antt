@@ -17,7 +17,8 @@ compute-requires g c = (
           (
             c.requires.runnable,
             owes_lent g.R.FnMut g.S.FnMut g.M.Fn c.args.resolver.find_free_reg c.args.resolver.get_stackslot c.args.resolver.is_stack_alloc
-                (c.args.lent.now.registers.first, c.args.lent.now.registers.second) (c.args.lent.now.slots.first, c.args.lent.now.slots.second) c.args.resolver.borrowed_scratch_reg (listed c.args.moves)
+                (c.args.lent.now.registers.first, c.args.lent.now.registers.second) (c.args.lent.now.slots.first, c.args.lent.now.slots.second)
+                c.args.resolver.borrowed_scratch_reg (listed c.args.moves)
                 c.requires.first c.requires.second c.requires.tells c.requires.lent,
           ),
         ),

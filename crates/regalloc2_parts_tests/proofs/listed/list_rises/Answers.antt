@@ -6,7 +6,8 @@ use Rattle.regalloc2_parts_tests.proofs.listed.list_rises.Goals as goal
 
 pub loop-at-preserved : goal.loop-at-preserved
 loop-at-preserved c =
-    rises_step c.args.list.now c.loop-at.at c.index-list-at.result c.index-list-at-in-loop-at.result (omega arith) (omega arith) c.loop-at.invariant c.index-list-at.is c.index-list-at-in-loop-at.is
+    rises_step c.args.list.now c.loop-at.at c.index-list-at.result c.index-list-at-in-loop-at.result (omega arith) (omega arith) c.loop-at.invariant
+    c.index-list-at.is c.index-list-at-in-loop-at.is
     (c.is_before.ensures c.if-not-is_before.false)
 
 pub returns : goal.returns

@@ -7,7 +7,8 @@ use Rattle.regalloc2_parts_tests.proofs.structures.write_removals.Goals as goal
 pub remove-requires-2 : goal.remove-requires-2
 remove-requires-2 g c =
     let left : c.remove.new.self.members
-    ≡ record { number = 199; class = Float } ∷ record { number = 11; class = Vector } ∷ record { number = 2000; class = Int } ∷ record { number = 10; class = Int } ∷ [] =
+    ≡ record { number = 199; class = Float } ∷ record { number = 11; class = Vector } ∷ record { number = 2000; class = Int } ∷
+    record { number = 10; class = Int } ∷ [] =
     rw (
       c.remove.ensures.removed,
       c.insert-5.ensures.inserted,

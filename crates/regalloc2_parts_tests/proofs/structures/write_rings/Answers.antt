@@ -16,7 +16,8 @@ write_pokes-requires-2 g c =
 pub write_pokes-requires-3 : goal.write_pokes-requires-3
 write_pokes-requires-3 g c =
     rw (c.preg.ensures, c.preg-2.ensures, c.preg-3.ensures, c.preg-4.ensures)
-    (one_more Int _ _ refl (refl, (refl, (refl, tt))) (one_more Int _ _ refl (refl, (refl, tt)) (one_more Int _ _ refl (refl, tt) (one_more Int _ _ refl tt (none Int)))))
+    (one_more Int _ _ refl (refl, (refl, (refl, tt))) (one_more Int _ _ refl (refl, (refl, tt))
+    (one_more Int _ _ refl (refl, tt) (one_more Int _ _ refl tt (none Int)))))
 
 pub write_pokes-requires-4 : goal.write_pokes-requires-4
 write_pokes-requires-4 g c = rw c.preg-11.ensures (one_more Int _ _ refl tt (none Int))

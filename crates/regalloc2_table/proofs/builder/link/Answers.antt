@@ -25,14 +25,16 @@ loop-number-preserved g c =
     let within = rw (c.new.ensures, same, long) at c.in_ok-link_one.ensures.within in
     record {
       others = ok.others ∙ c.loop-number.invariant.others;
-      preds = λ b l. preds_step (map (λ x. x.succs) first) n b (succs_at now n) _ _ _ (rw (length-map, length-map) (omega arith)) (same ∙ succs_listed first n) (ok.preds b (rw length-map (omega (arith, long, l)))) (c.loop-number.invariant.preds b l);
+      preds = λ b l. preds_step (map (λ x. x.succs) first) n b (succs_at now n) _ _ _ (rw (length-map, length-map) (omega arith)) (same ∙ succs_listed first n)
+          (ok.preds b (rw length-map (omega (arith, long, l)))) (c.loop-number.invariant.preds b l);
       within = below_more _ n c.loop-number.invariant.within within;
     }
 
 pub returns-clause-ok : goal.returns-clause-ok
 returns-clause-ok g c =
     let first = map block_of c.args.blocks.now.items in
-    let all : drop c.loop-number.number (map (λ x. x.succs) first) ≡ [] = drop_all c.loop-number.number (map (λ x. x.succs) first) (rw (length-map, length-map) (omega arith)) in
+    let all : drop c.loop-number.number (map (λ x. x.succs) first) ≡ [] = drop_all c.loop-number.number (map (λ x. x.succs) first)
+    (rw (length-map, length-map) (omega arith)) in
     record {
       others = c.loop-number.invariant.others;
       preds = λ b l. sym (append-nil _) ∙ (rw all at (c.loop-number.invariant.preds b (rw length-map at l)));

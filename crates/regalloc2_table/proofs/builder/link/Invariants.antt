@@ -10,6 +10,7 @@ abbrev pub invariant-loop-number : goal.invariant-loop-number
 invariant-loop-number g l = record {
   others : map without_preds (map block_of l.blocks.items) ≡ map without_preds (map block_of l.initial.blocks.items);
   preds : (b : ℕ) → b < length l.initial.blocks.items →
-      preds_at (map block_of l.blocks.items) b ++ preds_from b l.number (drop l.number (map (λ x. x.succs) (map block_of l.initial.blocks.items))) ≡ preds_at (map block_of l.initial.blocks.items) b ++ preds_from b 0 (map (λ x. x.succs) (map block_of l.initial.blocks.items));
+      preds_at (map block_of l.blocks.items) b ++ preds_from b l.number (drop l.number (map (λ x. x.succs) (map block_of l.initial.blocks.items))) ≡ preds_at
+      (map block_of l.initial.blocks.items) b ++ preds_from b 0 (map (λ x. x.succs) (map block_of l.initial.blocks.items));
   within : (b : ℕ) → b < l.number → All (λ s. s < length l.initial.blocks.items) (succs_at (map block_of l.initial.blocks.items) b);
 }

@@ -8,7 +8,8 @@ use Rattle.regalloc2_table.proofs.builder.link_one.Given as goal
 -- the first successors have the block as a predecessor
 abbrev pub invariant-loop-k : goal.invariant-loop-k
 invariant-loop-k g l = record {
-  linked : HasPreds (map block_of l.initial.blocks.items) (λ b. edges_to b l.pred (take l.k (succs_at (map block_of l.initial.blocks.items) l.pred))) (map block_of l.blocks.items);
+  linked : HasPreds (map block_of l.initial.blocks.items) (λ b. edges_to b l.pred (take l.k (succs_at (map block_of l.initial.blocks.items) l.pred)))
+      (map block_of l.blocks.items);
   within : All (λ s. s < length l.initial.blocks.items) (take l.k (succs_at (map block_of l.initial.blocks.items) l.pred));
   all : l.k-end ≡ length (succs_at (map block_of l.initial.blocks.items) l.pred);
 }

@@ -4,7 +4,8 @@ use denote.Shadow.{shadow}
 use Rattle.regalloc2_text.proofs.reading.read_lines.Given as goal
 
 abbrev pub invariant-lines : goal.invariant-lines
-invariant-lines g l = shadow (Utf8 l.rest) × (l.fn.first_line ≤ l.move_line) × (l.move_line ≤ l.line) × (l.line + length l.rest ≤ l.fn.first_line + length l.fn.text)
+invariant-lines g l = shadow (Utf8 l.rest) × (l.fn.first_line ≤ l.move_line) × (l.move_line ≤ l.line)
+    × (l.line + length l.rest ≤ l.fn.first_line + length l.fn.text)
 
 abbrev pub decreases-lines : goal.decreases-lines
 decreases-lines g l = length l.rest

@@ -7,4 +7,5 @@ use Rattle.regalloc2_tool.proofs.listing.write_block.Given as goal
 
 abbrev pub invariant-loop-item : goal.invariant-loop-item
 invariant-loop-item g l = All (IsBelow (length (g.F.Function.function l.f).insts)) (rest_of l.item-iterator) ×
-    IsLeft (g.W.Write.contents l.fn.writer) (g.W.Write.contents l.writer) (block_text (g.F.Function.function l.f) (output_of l.output) l.fn.block) (flat_map (item_line (g.F.Function.function l.f) (output_of l.output)) (rest_of l.item-iterator))
+    IsLeft (g.W.Write.contents l.fn.writer) (g.W.Write.contents l.writer) (block_text (g.F.Function.function l.f) (output_of l.output) l.fn.block)
+    (flat_map (item_line (g.F.Function.function l.f) (output_of l.output)) (rest_of l.item-iterator))

@@ -14,4 +14,5 @@ loop-b-preserved g c = more_written _ _ _ _ _ _ _ c.loop-b.invariant c.in_ok-wri
     (rw c.new.ensures (next_block (g.F.Function.function c.args.f.now) (output_of c.args.output.now) c.loop-b.b (omega arith)))
 
 pub returns : goal.returns
-returns g c = all_written _ _ _ _ c.loop-b.invariant (no_more_blocks (g.F.Function.function c.args.f.now) (output_of c.args.output.now) c.loop-b.b (omega arith))
+returns g c = all_written _ _ _ _ c.loop-b.invariant (no_more_blocks (g.F.Function.function c.args.f.now) (output_of c.args.output.now) c.loop-b.b
+    (omega arith))

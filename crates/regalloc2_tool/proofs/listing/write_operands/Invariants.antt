@@ -4,4 +4,5 @@ use Rattle.regalloc2_tool.proofs.Written.{IsLeft}
 use Rattle.regalloc2_tool.proofs.listing.write_operands.Given as goal
 
 abbrev pub invariant-loop-k : goal.invariant-loop-k
-invariant-loop-k g l = IsLeft (g.W.Write.contents l.fn.writer) (g.W.Write.contents l.writer) (operands_text l.places 0 l.operands) (operands_text l.places l.k (drop l.k l.operands))
+invariant-loop-k g l = IsLeft (g.W.Write.contents l.fn.writer) (g.W.Write.contents l.writer) (operands_text l.places 0 l.operands)
+    (operands_text l.places l.k (drop l.k l.operands))

@@ -1,7 +1,7 @@
 use Rattle.std.proofs.Common.{◌≡◌}
 use Rattle.std.specs.Prelude.{length}
 use Rattle.regalloc2_validate.specs.Constraints.{AreApart}
-use Rattle.regalloc2_validate.proofs.Constraining.{AreNamed}
+use Rattle.regalloc2_validate.proofs.ConstraintTests.{AreNamed}
 use Rattle.regalloc2_validate.proofs.constraints.are_apart.Given as goal
 
 abbrev pub invariant-loop-k : goal.invariant-loop-k

@@ -1,6 +1,6 @@
 use Rattle.std.proofs.Common.{ℕ, ◌<◌}
 use Rattle.regalloc2_validate.specs.Constraints.{op_at}
-use Rattle.regalloc2_validate.specs.Profile.{IsTaken}
+use Rattle.regalloc2_validate.specs.NoLimits.{IsTaken}
 use Rattle.regalloc2_validate.proofs.constraints.are_unlimited.Given as goal
 
 abbrev pub invariant-loop-k : goal.invariant-loop-k

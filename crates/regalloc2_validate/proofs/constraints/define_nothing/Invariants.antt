@@ -1,5 +1,5 @@
 use Rattle.std.proofs.Common.{ℕ, ◌<◌, ◌≡◌, false}
-use Rattle.regalloc2_function.specs.SourceRun.{is_def}
+use Rattle.regalloc2_names.specs.Operand.{is_def}
 use Rattle.regalloc2_validate.specs.Constraints.{op_at}
 use Rattle.regalloc2_validate.proofs.constraints.define_nothing.Given as goal
 

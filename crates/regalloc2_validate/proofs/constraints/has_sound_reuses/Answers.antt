@@ -1,14 +1,16 @@
 use Rattle.regalloc2_function.specs.FunctionValue.{inst_at}
 use Rattle.regalloc2_function.specs.Views.{machine_of}
-use Rattle.regalloc2_validate.proofs.Constraining.{sound_then, sound_else}
+use Rattle.regalloc2_validate.proofs.ConstraintTests.{sound_then, sound_else}
 use Rattle.regalloc2_validate.proofs.constraints.has_sound_reuses.Goals as goal
 
 pub returns-then-are_sound_reuses : goal.returns-then-are_sound_reuses
 returns-then-are_sound_reuses g c =
-    sound_then (machine_of c.args.env.now) (inst_at (g.F.Function.function c.args.f.now) c.args.inst) c.inst_operands-operands.result.now c.are_apart.result c.inst_operands-operands.ensures
+    sound_then (machine_of c.args.env.now) (inst_at (g.F.Function.function c.args.f.now) c.args.inst) c.inst_operands-operands.result.now c.are_apart.result
+    c.inst_operands-operands.ensures
     (c.are_sound_reuses.ensures.0 c.if-are_sound_reuses.true) c.are_apart.ensures
 
 pub returns-else-are_sound_reuses : goal.returns-else-are_sound_reuses
 returns-else-are_sound_reuses g c =
-    sound_else (machine_of c.args.env.now) (inst_at (g.F.Function.function c.args.f.now) c.args.inst) c.inst_operands-operands.result.now c.are_sound_reuses.result c.inst_operands-operands.ensures
+    sound_else (machine_of c.args.env.now) (inst_at (g.F.Function.function c.args.f.now) c.args.inst) c.inst_operands-operands.result.now
+    c.are_sound_reuses.result c.inst_operands-operands.ensures
     c.if-are_sound_reuses.false c.are_sound_reuses.ensures

@@ -1,8 +1,8 @@
 use Rattle.std.proofs.Common.{ℕ, List, false, length-set, refl, sym, ap, ◌∙◌, arith}
 use Rattle.regalloc2_names.specs.Operand.{OperandValue}
-use Rattle.regalloc2_flow.proofs.Plain.{always}
-use Rattle.regalloc2_validate.proofs.Constraining.{named_none, named_same, named_more, all_named}
-use Rattle.regalloc2_validate.proofs.Reading.{read_operand}
+use Rattle.regalloc2_semantics.proofs.Plain.{always}
+use Rattle.regalloc2_validate.proofs.ConstraintTests.{named_none, named_same, named_more, all_named}
+use Rattle.regalloc2_validate.proofs.OperandReads.{read_operand}
 use Rattle.regalloc2_validate.proofs.constraints.named_by_reuses.Goals as goal
 use Rattle.regalloc2_validate.proofs.constraints.named_by_reuses.Goals.{in-Some, in_default}
 
@@ -17,7 +17,8 @@ loop-k-preserved c =
     elim c.match-reused_index.branch [
       | in-Some w ↦ rw w.named-is (record {
         long = length-set c.loop-k.named w.in-Some.index _ ∙ c.loop-k.invariant.long;
-        named = named_more ops k w.in-Some.index c.loop-k.named (omega (arith, c.loop-k.invariant.long, w.in-Some.ensures.small)) (is ∙ w.in-Some.ensures.some) c.loop-k.invariant.named;
+        named = named_more ops k w.in-Some.index c.loop-k.named (omega (arith, c.loop-k.invariant.long, w.in-Some.ensures.small)) (is ∙ w.in-Some.ensures.some)
+            c.loop-k.invariant.named;
       })
       | in_default w ↦ rw w.named-is (record {
         long = c.loop-k.invariant.long;

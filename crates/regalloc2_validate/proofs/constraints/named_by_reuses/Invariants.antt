@@ -1,6 +1,6 @@
 use Rattle.std.proofs.Common.{◌≡◌}
 use Rattle.std.specs.Prelude.{length}
-use Rattle.regalloc2_validate.proofs.Constraining.{AreNamed}
+use Rattle.regalloc2_validate.proofs.ConstraintTests.{AreNamed}
 use Rattle.regalloc2_validate.proofs.constraints.named_by_reuses.Given as goal
 
 abbrev pub invariant-loop-k : goal.invariant-loop-k

@@ -17,7 +17,8 @@ returns-clause-items g c =
     (rw same (IsPartitionedBy-ltb (λ e. e.0) c.args.self.now.edits.items t sorted)) in
     let seen : o.edits ≡ map edit_of c.as_slice-edits.result.now = rw same in
     let at_first : t ≡ before range.first = omega arith in
-    rw (← c.block_insns-inst_range.ensures) (listing_of_items o c.as_slice-edits.result.now range.first (range.end - range.first) c.partition_point-begin.result t seen c.requires.in_order.points_never_fall at_first c.partition_point-begin.ensures.bound point)
+    rw (← c.block_insns-inst_range.ensures) (listing_of_items o c.as_slice-edits.result.now range.first (range.end - range.first) c.partition_point-begin.result
+    t seen c.requires.in_order.points_never_fall at_first c.partition_point-begin.ensures.bound point)
 
 pub returns-clause-within : goal.returns-clause-within
 returns-clause-within g c =

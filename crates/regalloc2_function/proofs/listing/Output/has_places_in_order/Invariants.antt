@@ -10,6 +10,7 @@ invariant-loop-i g l = record {
   whole : l.count ≡ length (g.F.Function.function l.func).insts;
   each : length (output_of l.self).offsets ≡ l.count;
   begins : 0 < l.count → slice_index (output_of l.self).offsets 0 ≡ 0;
-  so_far : (n : ℕ) → n < l.i → (alloc_start (output_of l.self) n ≤ alloc_end (output_of l.self) n) × (alloc_start (output_of l.self) n ≤ length (output_of l.self).allocs)
+  so_far : (n : ℕ) → n < l.i → (alloc_start (output_of l.self) n ≤ alloc_end (output_of l.self) n)
+      × (alloc_start (output_of l.self) n ≤ length (output_of l.self).allocs)
       × (alloc_end (output_of l.self) n ≤ alloc_start (output_of l.self) n + length (inst_at (g.F.Function.function l.func) n).operands);
 }

@@ -8,7 +8,13 @@ returns-then-has_points_in_order g c =
     let places = c.has_places_in_order.ensures.0 c.if-not-has_places_in_order.false in
     let points = c.has_points_in_order.ensures.0 c.if-has_points_in_order.true in
     let items = c.args.self.now.edits.items in (
-      λ t. record { one_offset_each = places.0; offsets = places.1; no_more_than_operands = places.2; points_never_fall = sorted_edits items points; moves_name_places = places_in_edits items (c.has_places_in_moves.ensures.0 t) },
+      λ t. record {
+        one_offset_each = places.0;
+        offsets = places.1;
+        no_more_than_operands = places.2;
+        points_never_fall = sorted_edits items points;
+        moves_name_places = places_in_edits items (c.has_places_in_moves.ensures.0 t);
+      },
       λ h. c.has_places_in_moves.ensures.1 (places_in_items items h.moves_name_places),
     )
 

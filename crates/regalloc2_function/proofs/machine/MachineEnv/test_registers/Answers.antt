@@ -17,7 +17,8 @@ pub returns-in-Some-register_in-clause-misfit : goal.returns-in-Some-register_in
 returns-in-Some-register_in-clause-misfit g c = λ f before.
     let env = machine_of c.args.self.now in
     let of_class = c.in_default.ensures in
-    let twice = both (is_preferred env c.args.class c.in-Some-register_in.reg) (is_non_preferred env c.args.class c.in-Some-register_in.reg) (sym (c.listed_twice.ensures c.in-Some-register_in.reg) ∙ c.in-Some-register_in.ensures) in
+    let twice = both (is_preferred env c.args.class c.in-Some-register_in.reg) (is_non_preferred env c.args.class c.in-Some-register_in.reg)
+    (sym (c.listed_twice.ensures c.in-Some-register_in.reg) ∙ c.in-Some-register_in.ensures) in
     (before, λ r h. of_class r (c.allocatable-allocatable.ensures r ∙ h), twice.0, twice.1)
 
 pub returns-then-contains-clause-misfit : goal.returns-then-contains-clause-misfit
@@ -25,8 +26,10 @@ returns-then-contains-clause-misfit g c = λ f before.
     let env = machine_of c.args.self.now in (
       before,
       λ r h. c.in_default.ensures r (c.allocatable-allocatable.ensures r ∙ h),
-      λ r. not_both (is_preferred env c.args.class r) (is_non_preferred env c.args.class r) (sym (c.listed_twice.ensures r) ∙ c.in_default-register_in.ensures r),
-      sym (c.allocatable-allocatable.ensures invalid_register) ∙ ap (has_register c.allocatable-allocatable.result) (sym c.invalid.ensures) ∙ sym c.contains.ensures.member ∙ c.if-contains.true,
+      λ r. not_both (is_preferred env c.args.class r) (is_non_preferred env c.args.class r)
+          (sym (c.listed_twice.ensures r) ∙ c.in_default-register_in.ensures r),
+      sym (c.allocatable-allocatable.ensures invalid_register) ∙ ap (has_register c.allocatable-allocatable.result) (sym c.invalid.ensures)
+          ∙ sym c.contains.ensures.member ∙ c.if-contains.true,
     )
 
 pub returns-clause-ok : goal.returns-clause-ok
@@ -34,6 +37,8 @@ returns-clause-ok g c =
     let env = machine_of c.args.self.now in
     record {
       of_class = λ r h. c.in_default.ensures r (c.allocatable-allocatable.ensures r ∙ h);
-      listed_once = λ r. not_both (is_preferred env c.args.class r) (is_non_preferred env c.args.class r) (sym (c.listed_twice.ensures r) ∙ c.in_default-register_in.ensures r);
-      valid = sym (c.allocatable-allocatable.ensures invalid_register) ∙ ap (has_register c.allocatable-allocatable.result) (sym c.invalid.ensures) ∙ sym c.contains.ensures.member ∙ c.if-contains.false;
+      listed_once = λ r. not_both (is_preferred env c.args.class r) (is_non_preferred env c.args.class r)
+          (sym (c.listed_twice.ensures r) ∙ c.in_default-register_in.ensures r);
+      valid = sym (c.allocatable-allocatable.ensures invalid_register) ∙ ap (has_register c.allocatable-allocatable.result) (sym c.invalid.ensures)
+          ∙ sym c.contains.ensures.member ∙ c.if-contains.false;
     }

@@ -11,7 +11,8 @@ loop-slot-preserved g c =
     let free = sym (c.allocatable.ensures c.slot-item.result) ∙ sym c.contains.ensures.member ∙ c.if-contains.false in
     record {
       slots = c.loop-slot.invariant.slots;
-      apart = All-more (IsSlotApart (machine_of c.args.self.now) c.args.class) c.as_slice-slot-items.result.now c.loop-slot.slot-index c.slot-item.result c.loop-slot-test.true c.loop-slot.invariant.apart
+      apart = All-more (IsSlotApart (machine_of c.args.self.now) c.args.class) c.as_slice-slot-items.result.now c.loop-slot.slot-index c.slot-item.result
+          c.loop-slot-test.true c.loop-slot.invariant.apart
           (rw (← c.slot-item.is) (free, not_so _ c.if-is_scratch.false c.is_scratch.ensures.1));
     }
 
@@ -20,4 +21,5 @@ returns-clause-ok g c =
     let items = c.args.self.now.fixed_stack_slots.items in
     let P = IsSlotApart (machine_of c.args.self.now) c.args.class in
     All-same P items c.as_slice-slot-items.result.now (sym c.loop-slot.invariant.slots)
-    (All-same P c.as_slice-slot-items.result.now _ (sym (take_all c.loop-slot.slot-index c.as_slice-slot-items.result.now c.loop-slot-test.false)) c.loop-slot.invariant.apart)
+    (All-same P c.as_slice-slot-items.result.now _ (sym (take_all c.loop-slot.slot-index c.as_slice-slot-items.result.now c.loop-slot-test.false))
+    c.loop-slot.invariant.apart)

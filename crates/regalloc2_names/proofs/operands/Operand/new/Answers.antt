@@ -8,12 +8,14 @@ pub invariant_of-result : goal.invariant_of-result
 invariant_of-result c =
     let o : OperandValue = record { vreg = c.args.vreg; constraint = c.args.constraint; kind = c.args.kind; position = c.args.pos } in
     let h : IsOperand o = (omega arith, c.requires) in
-    rw (operand_made o c.vreg.result c.class.result c.constraint_field-constraint_field.result h c.vreg.ensures.number c.class.ensures c.constraint_field-constraint_field.ensures.code c.constraint_field-constraint_field.ensures.small)
+    rw (operand_made o c.vreg.result c.class.result c.constraint_field-constraint_field.result h c.vreg.ensures.number c.class.ensures
+    c.constraint_field-constraint_field.ensures.code c.constraint_field-constraint_field.ensures.small)
     (IsOperandBits-bits_of_operand o h)
 
 pub returns : goal.returns
 returns c =
     let o : OperandValue = record { vreg = c.args.vreg; constraint = c.args.constraint; kind = c.args.kind; position = c.args.pos } in
     let h : IsOperand o = (omega arith, c.requires) in
-    rw (operand_made o c.vreg.result c.class.result c.constraint_field-constraint_field.result h c.vreg.ensures.number c.class.ensures c.constraint_field-constraint_field.ensures.code c.constraint_field-constraint_field.ensures.small)
+    rw (operand_made o c.vreg.result c.class.result c.constraint_field-constraint_field.result h c.vreg.ensures.number c.class.ensures
+    c.constraint_field-constraint_field.ensures.code c.constraint_field-constraint_field.ensures.small)
     (operand_of_bits-bits_of_operand o h)

@@ -9,7 +9,10 @@ unfolding has_register
 returns c r small =
     let h : c.hw_enc.result < 64 = omega (arith, c.hw_enc.ensures.small) in
     elim c.match-class.branch [
-      | in-Int w ↦ rw (w.self-is, ← c.class.ensures, w.in-Int.is, ← c.hw_enc.ensures.number) (words_up_int c.args.self.now.bits c.hw_enc.result h r.class r.number small)
-      | in-Float w ↦ rw (w.self-is, ← c.class.ensures, w.in-Float.is, ← c.hw_enc.ensures.number) (words_up_float c.args.self.now.bits c.hw_enc.result h r.class r.number small)
-      | in-Vector w ↦ rw (w.self-is, ← c.class.ensures, w.in-Vector.is, ← c.hw_enc.ensures.number) (words_up_vector c.args.self.now.bits c.hw_enc.result h r.class r.number small)
+      | in-Int w ↦ rw (w.self-is, ← c.class.ensures, w.in-Int.is, ← c.hw_enc.ensures.number)
+          (words_up_int c.args.self.now.bits c.hw_enc.result h r.class r.number small)
+      | in-Float w ↦ rw (w.self-is, ← c.class.ensures, w.in-Float.is, ← c.hw_enc.ensures.number)
+          (words_up_float c.args.self.now.bits c.hw_enc.result h r.class r.number small)
+      | in-Vector w ↦ rw (w.self-is, ← c.class.ensures, w.in-Vector.is, ← c.hw_enc.ensures.number)
+          (words_up_vector c.args.self.now.bits c.hw_enc.result h r.class r.number small)
     ]

@@ -6,7 +6,8 @@ use Rattle.regalloc2_names.proofs.sets.PRegSetIterIterator.next.Goals as goal
 
 pub returns-then-self-ne0-clause-steps : goal.returns-then-self-ne0-clause-steps
 returns-then-self-ne0-clause-steps c =
-    rw (← c.self.view_is, c.new.ensures) (left_int c.self.inside.int c.self.inside.float c.self.inside.vector c.take_lowest.new.word c.take_lowest.result (c.take_lowest.ensures.taken Int))
+    rw (← c.self.view_is, c.new.ensures) (left_int c.self.inside.int c.self.inside.float c.self.inside.vector c.take_lowest.new.word c.take_lowest.result
+    (c.take_lowest.ensures.taken Int))
 
 pub returns-then-self-ne0-clause-goes : goal.returns-then-self-ne0-clause-goes
 returns-then-self-ne0-clause-goes c = let e = returns-then-self-ne0-clause-steps c in rw e (search (rules, common_steps))
@@ -15,7 +16,8 @@ pub returns-then-self-ne0-2-clause-steps : goal.returns-then-self-ne0-2-clause-s
 returns-then-self-ne0-2-clause-steps c =
     let z : c.self.inside.int ≡ 0 = search rules in
     rw (← c.self.view_is, c.new-then-self-ne0-2.ensures)
-    (left_float c.self.inside.int c.self.inside.float c.self.inside.vector c.take_lowest-then-self-ne0-2.new.word c.take_lowest-then-self-ne0-2.result z (c.take_lowest-then-self-ne0-2.ensures.taken Float))
+    (left_float c.self.inside.int c.self.inside.float c.self.inside.vector c.take_lowest-then-self-ne0-2.new.word c.take_lowest-then-self-ne0-2.result z
+    (c.take_lowest-then-self-ne0-2.ensures.taken Float))
 
 pub returns-then-self-ne0-2-clause-goes : goal.returns-then-self-ne0-2-clause-goes
 returns-then-self-ne0-2-clause-goes c = let e = returns-then-self-ne0-2-clause-steps c in rw e (search (rules, common_steps))
@@ -25,7 +27,8 @@ returns-then-self-ne0-3-clause-steps c =
     let y : c.self.inside.int ≡ 0 = search rules in
     let z : c.self.inside.float ≡ 0 = search rules in
     rw (← c.self.view_is, c.new-then-self-ne0-3.ensures)
-    (left_vector c.self.inside.int c.self.inside.float c.self.inside.vector c.take_lowest-then-self-ne0-3.new.word c.take_lowest-then-self-ne0-3.result y z (c.take_lowest-then-self-ne0-3.ensures.taken Vector))
+    (left_vector c.self.inside.int c.self.inside.float c.self.inside.vector c.take_lowest-then-self-ne0-3.new.word c.take_lowest-then-self-ne0-3.result y z
+    (c.take_lowest-then-self-ne0-3.ensures.taken Vector))
 
 pub returns-then-self-ne0-3-clause-goes : goal.returns-then-self-ne0-3-clause-goes
 returns-then-self-ne0-3-clause-goes c = let e = returns-then-self-ne0-3-clause-steps c in rw e (search (rules, common_steps))

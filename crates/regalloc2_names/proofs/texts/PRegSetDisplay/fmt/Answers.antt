@@ -12,5 +12,6 @@ loop-preg-init g c = record {
 pub loop-preg-preserved : goal.loop-preg-preserved
 loop-preg-preserved g c = record {
   left = rw (append_assoc, ← c.in-Some.ensures.steps) c.loop-preg.invariant.left;
-  written = λ p. has_written_of_eq _ _ _ _ _ (sym (members_text-snoc c.loop-preg.yielded c.in-Some.preg)) (has_written_append _ _ _ _ _ _ (c.loop-preg.invariant.written p) (search rules));
+  written = λ p. has_written_of_eq _ _ _ _ _ (sym (members_text-snoc c.loop-preg.yielded c.in-Some.preg))
+      (has_written_append _ _ _ _ _ _ (c.loop-preg.invariant.written p) (search rules));
 }

@@ -4,7 +4,10 @@ use Rattle.regalloc2_parts.proofs.Poked.{same_members, still_distinct}
 use Rattle.regalloc2_parts.proofs.lru.Lru.poke.Goals as goal
 
 pub move_to_front-requires : goal.move_to_front-requires
-move_to_front-requires g c = record { member = rw (c.deref_mut.ensures.value, c.self.view_is) c.requires; distinct = rw c.deref_mut.ensures.value c.self.invariant }
+move_to_front-requires g c = record {
+  member = rw (c.deref_mut.ensures.value, c.self.view_is) c.requires;
+  distinct = rw c.deref_mut.ensures.value c.self.invariant;
+}
 
 pub returns-clause-moved : goal.returns-clause-moved
 returns-clause-moved g c =

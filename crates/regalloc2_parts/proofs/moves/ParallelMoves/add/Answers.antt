@@ -6,7 +6,8 @@ use Rattle.smallvec.specs.SmallVec.{SmallVec}
 use Rattle.regalloc2_parts.proofs.moves.ParallelMoves.add.Goals as goal
 
 pub invariant_of-self : goal.invariant_of-self
-invariant_of-self g c = subst (λ (v : SmallVec (Place × Place × g.row.T.Denot)). AreReal v.items × (16 ≤ v.capacity)) (sym c.in_err-push.ensures.err) c.self.invariant
+invariant_of-self g c = subst (λ (v : SmallVec (Place × Place × g.row.T.Denot)). AreReal v.items × (16 ≤ v.capacity)) (sym c.in_err-push.ensures.err)
+    c.self.invariant
 
 pub returns-in_err-push-clause-inline : goal.returns-in_err-push-clause-inline
 returns-in_err-push-clause-inline g c low =
@@ -19,7 +20,8 @@ invariant_of-self-2 g c =
     let room : 16 ≤ c.self.inside.parallel_moves.capacity = c.self.invariant.1 in
     let more : c.self.inside.parallel_moves.capacity ≤ c.push.new.self.capacity = c.in_ok-push.ensures.capacity in (
       subst (λ (ms : List (Place × Place × g.row.T.Denot)). AreReal ms) (sym c.in_ok-push.ensures.ok)
-          (All-push IsRealMove c.self.inside.parallel_moves.items (c.args.from, c.args.to, c.args.t) c.self.invariant.0 (c.has_word.ensures, c.has_word-2.ensures, c.requires.from, c.requires.to)),
+          (All-push IsRealMove c.self.inside.parallel_moves.items (c.args.from, c.args.to, c.args.t) c.self.invariant.0
+          (c.has_word.ensures, c.has_word-2.ensures, c.requires.from, c.requires.to)),
       omega arith,
     )
 

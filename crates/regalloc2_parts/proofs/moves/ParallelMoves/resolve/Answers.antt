@@ -1,5 +1,6 @@
-use Rattle.std.proofs.Common.{rules, sym, subst}
+use Rattle.std.proofs.Common.{◌≤◌, IfOk, IsOk, length, rules, sym, subst}
 use Rattle.regalloc2_parts.specs.AtOnce.{ends_of, AreReal, HasOneSourceEach}
+use Rattle.regalloc2_parts.specs.Resolved.{listed, has_scratch, IsResolution}
 use Rattle.regalloc2_parts.proofs.moves.ParallelMoves.resolve.Goals as goal
 
 pub resolve-requires : goal.resolve-requires
@@ -7,3 +8,16 @@ resolve-requires g c =
     let one : HasOneSourceEach (ends_of c.self.inside.parallel_moves.items) = subst (λ xs. HasOneSourceEach (ends_of xs)) (sym c.self.view_is) c.requires in
     let real : AreReal c.self.inside.parallel_moves.items = c.self.invariant.0 in
     search (rules, one, real)
+
+pub returns-clause-resolved : goal.returns-clause-resolved
+returns-clause-resolved g c =
+    subst (λ xs. IfOk c.resolve.result (λ r. IsResolution xs (has_scratch r) (listed r))) c.self.view_is c.resolve.ensures.resolved
+
+pub returns-clause-runnable : goal.returns-clause-runnable
+returns-clause-runnable g c = c.resolve.ensures.runnable
+
+pub returns-clause-short : goal.returns-clause-short
+returns-clause-short g c = subst (λ xs. length xs ≤ 1 → IsOk c.resolve.result) c.self.view_is c.resolve.ensures.short
+
+pub returns-clause-memory : goal.returns-clause-memory
+returns-clause-memory g c = c.resolve.ensures.memory

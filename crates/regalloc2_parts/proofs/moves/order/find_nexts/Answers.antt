@@ -17,6 +17,7 @@ find_writer-requires-clause-real g c =
 pub loop-m-preserved : goal.loop-m-preserved
 loop-m-preserved g c =
     let is : IsWriterOf (ends_of c.args.moves.now) (from_at (ends_of c.args.moves.now) c.loop-m.m-index) c.find_writer.result =
-    subst (λ (p : Place). IsWriterOf (ends_of c.args.moves.now) p c.find_writer.result) (read_from c.args.moves.now c.loop-m.m-index c.m-item.result c.loop-m-test.true c.m-item.is) c.find_writer.ensures in
+    subst (λ (p : Place). IsWriterOf (ends_of c.args.moves.now) p c.find_writer.result)
+    (read_from c.args.moves.now c.loop-m.m-index c.m-item.result c.loop-m-test.true c.m-item.is) c.find_writer.ensures in
     subst (λ x. AreNextsTo (ends_of c.args.moves.now) x (c.loop-m.m-index + 1)) (sym c.in_ok-push.ensures.ok)
     (nexts_more (ends_of c.args.moves.now) c.loop-m.nexts.items c.loop-m.m-index c.find_writer.result c.loop-m.invariant is)

@@ -14,8 +14,11 @@ loop-at-smaller g c =
 pub loop-at-preserved : goal.loop-at-preserved
 loop-at-preserved g c =
     let todo : state_at c.loop-at.state c.loop-at.at ≡ Todo = elim c.match-matches.branch [ in-Todo w ↦ w.in-Todo.is | in_default w ↦ absurd (grind arith) ] in
-    let more : IsFollowing c.args.nexts.now c.args.state.now (slice_set c.loop-at.state c.loop-at.at Pending) (c.loop-at.chain.items ++ c.loop-at.at ∷ []) c.args.start (number_at c.args.nexts.now c.loop-at.at) =
-    follows_more c.args.nexts.now c.args.state.now c.loop-at.state c.loop-at.chain.items c.args.start c.loop-at.at c.loop-at.invariant.1 c.loop-at.invariant.0 (omega arith) todo in (
+    let more : IsFollowing c.args.nexts.now c.args.state.now (slice_set c.loop-at.state c.loop-at.at Pending) (c.loop-at.chain.items ++ c.loop-at.at ∷ [])
+    c.args.start (number_at c.args.nexts.now c.loop-at.at) =
+    follows_more c.args.nexts.now c.args.state.now c.loop-at.state c.loop-at.chain.items c.args.start c.loop-at.at c.loop-at.invariant.1 c.loop-at.invariant.0
+    (omega arith) todo in (
       length-set c.loop-at.state c.loop-at.at Pending ∙ c.loop-at.invariant.0,
-      subst (λ x. IsFollowing c.args.nexts.now c.args.state.now (slice_set c.loop-at.state c.loop-at.at Pending) x c.args.start (number_at c.args.nexts.now c.loop-at.at)) (sym c.in_ok-push.ensures.ok) more,
+      subst (λ x. IsFollowing c.args.nexts.now c.args.state.now (slice_set c.loop-at.state c.loop-at.at Pending) x c.args.start
+          (number_at c.args.nexts.now c.loop-at.at)) (sym c.in_ok-push.ensures.ok) more,
     )

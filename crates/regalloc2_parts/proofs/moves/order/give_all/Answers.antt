@@ -14,7 +14,8 @@ use Rattle.regalloc2_parts.proofs.moves.order.give_all.Goals.{in-Todo, in_defaul
 pub loop-start-init : goal.loop-start-init
 loop-start-init g c =
     let many : length (ends_of c.args.moves.now) ≡ length c.args.moves.now = length_ends c.args.moves.now in
-    let all : c.as_mut_slice-state.result.now ≡ replicate (length c.args.moves.now) Todo = c.as_mut_slice-state.ensures.value ∙ c.in_ok-states.ensures.items_if_clones_equal (λ x h. h) in
+    let all : c.as_mut_slice-state.result.now ≡ replicate (length c.args.moves.now) Todo = c.as_mut_slice-state.ensures.value
+    ∙ c.in_ok-states.ensures.items_if_clones_equal (λ x h. h) in
     record {
       given = given_none (ends_of c.args.moves.now) c.args.nexts.now c.as_mut_slice-state.result.now (ends_of c.new-given.result.items) c.new-chain.result.items
           (all ∙ ap (λ n. replicate n Todo) (sym many)) (ap ends_of c.new-given.ensures.items) c.new-chain.ensures.items;
@@ -24,11 +25,29 @@ loop-start-init g c =
 pub give_from-requires : goal.give_from-requires
 give_from-requires g c =
     let many : length (ends_of c.args.moves.now) ≡ length c.args.moves.now = length_ends c.args.moves.now in
-    let was : HasGivenTo (ends_of c.args.moves.now) c.args.nexts.now c.loop-start.state (ends_of c.loop-start.given.items) c.loop-start.chain.items c.loop-start.start = c.loop-start.invariant.given in
-    let todo : state_at c.loop-start.state c.loop-start.start ≡ Todo = elim c.match-matches.branch [ in-Todo w ↦ w.in-Todo.is | in_default w ↦ absurd (grind arith) ] in
+    let was : HasGivenTo (ends_of c.args.moves.now) c.args.nexts.now c.loop-start.state (ends_of c.loop-start.given.items) c.loop-start.chain.items
+    c.loop-start.start = c.loop-start.invariant.given in
+    let todo : state_at c.loop-start.state c.loop-start.start ≡ Todo = elim c.match-matches.branch
+    [ in-Todo w ↦ w.in-Todo.is | in_default w ↦ absurd (grind arith) ] in
     let same : length c.loop-start.state ≡ length c.args.moves.now = was.as_many ∙ many in
-    let within : c.loop-start.start < length c.args.moves.now = c.loop-start-test.true in
-    (search rules, (search rules, (c.requires.apart, (c.requires.nexts, (same, (c.requires.indexed, (was.had, (was.settled, (was.empty, (todo, (within, c.loop-start.invariant.of_moves)))))))))))
+    let within : c.loop-start.start < length c.args.moves.now = c.loop-start-test.true in (
+      search rules,
+      (
+        search rules,
+        record {
+          apart = c.requires.apart;
+          nexts = c.requires.nexts;
+          as_many = same;
+          indexed = c.requires.indexed;
+          had = was.had;
+          settled = was.settled;
+          empty = was.empty;
+          start = todo;
+          within = within;
+          of_moves = c.loop-start.invariant.of_moves;
+        },
+      ),
+    )
 
 pub loop-start-preserved : goal.loop-start-preserved
 loop-start-preserved g c =
@@ -37,14 +56,18 @@ loop-start-preserved g c =
       | then-matches+in_ok-give_from w ↦
           let whole : length w.give_from.new.state ≡ length (ends_of c.args.moves.now) = omega arith in
           rw (w.state-is, w.given-is, w.chain-is) (record {
-            given = given_more (ends_of c.args.moves.now) c.args.nexts.now c.loop-start.state w.give_from.new.state (ends_of c.loop-start.given.items) w.give_from.new.chain.items c.loop-start.chain.items c.loop-start.start (ends_of w.give_from.new.given.items) c.loop-start.invariant.given whole
-                w.in_ok-give_from.ensures.given.0.had w.in_ok-give_from.ensures.given.0.settled w.in_ok-give_from.ensures.given.0.empty w.in_ok-give_from.ensures.given.0.goes_on w.in_ok-give_from.ensures.given.1;
+            given = given_more (ends_of c.args.moves.now) c.args.nexts.now c.loop-start.state w.give_from.new.state (ends_of c.loop-start.given.items)
+                w.give_from.new.chain.items c.loop-start.chain.items c.loop-start.start (ends_of w.give_from.new.given.items) c.loop-start.invariant.given whole
+                w.in_ok-give_from.ensures.given.0.had w.in_ok-give_from.ensures.given.0.settled w.in_ok-give_from.ensures.given.0.empty
+                w.in_ok-give_from.ensures.given.0.goes_on w.in_ok-give_from.ensures.given.1;
             of_moves = w.in_ok-give_from.ensures.given.0.of_moves;
           })
       | else-matches w ↦
-          let none : state_at c.loop-start.state c.loop-start.start ≡ Todo → ⊥ = elim c.match-matches.branch [ in-Todo v ↦ absurd (grind arith) | in_default v ↦ v.in_default.not-Todo ] in
+          let none : state_at c.loop-start.state c.loop-start.start ≡ Todo →
+          ⊥ = elim c.match-matches.branch [ in-Todo v ↦ absurd (grind arith) | in_default v ↦ v.in_default.not-Todo ] in
           rw (w.state-is, w.given-is, w.chain-is) (record {
-            given = given_passed (ends_of c.args.moves.now) c.args.nexts.now c.loop-start.state (ends_of c.loop-start.given.items) c.loop-start.chain.items c.loop-start.start c.loop-start.invariant.given none;
+            given = given_passed (ends_of c.args.moves.now) c.args.nexts.now c.loop-start.state (ends_of c.loop-start.given.items) c.loop-start.chain.items
+                c.loop-start.start c.loop-start.invariant.given none;
             of_moves = c.loop-start.invariant.of_moves;
           })
     ]
@@ -55,8 +78,10 @@ returns g c =
     let end : c.loop-start.start ≡ length (ends_of c.args.moves.now) = omega arith in
     record {
       order = (
-        given_whole (ends_of c.args.moves.now) c.args.nexts.now c.loop-start.state (ends_of c.loop-start.given.items) c.loop-start.chain.items (c.requires.indexed ∙ sym many)
-            (subst (λ n. HasGivenTo (ends_of c.args.moves.now) c.args.nexts.now c.loop-start.state (ends_of c.loop-start.given.items) c.loop-start.chain.items n) end c.loop-start.invariant.given),
+        given_whole (ends_of c.args.moves.now) c.args.nexts.now c.loop-start.state (ends_of c.loop-start.given.items) c.loop-start.chain.items
+            (c.requires.indexed ∙ sym many)
+            (subst (λ n. HasGivenTo (ends_of c.args.moves.now) c.args.nexts.now c.loop-start.state (ends_of c.loop-start.given.items) c.loop-start.chain.items
+            n) end c.loop-start.invariant.given),
         c.loop-start.invariant.of_moves,
       );
     }

@@ -13,25 +13,32 @@ use Rattle.regalloc2_parts.proofs.moves.order.give_chain.Goals as goal
 
 pub bounds-moves-top : goal.bounds-moves-top
 bounds-moves-top g c =
-    let was : IsGiving (ends_of c.args.moves.now) c.args.nexts.now c.loop-top.state (c.pop.new.self.items ++ c.in-Some.top ∷ []) (ends_of c.loop-top.given.items) c.loop-top.cut c.loop-top.first =
-    subst (λ x. IsGiving (ends_of c.args.moves.now) c.args.nexts.now c.loop-top.state x (ends_of c.loop-top.given.items) c.loop-top.cut c.loop-top.first) c.in-Some.ensures.items c.loop-top.invariant.giving in
+    let was : IsGiving (ends_of c.args.moves.now) c.args.nexts.now c.loop-top.state (c.pop.new.self.items ++ c.in-Some.top ∷ [])
+    (ends_of c.loop-top.given.items) c.loop-top.cut c.loop-top.first =
+    subst (λ x. IsGiving (ends_of c.args.moves.now) c.args.nexts.now c.loop-top.state x (ends_of c.loop-top.given.items) c.loop-top.cut c.loop-top.first)
+    c.in-Some.ensures.items c.loop-top.invariant.giving in
     let within : c.in-Some.top < length c.args.nexts.now = last_within c.args.nexts.now c.loop-top.state c.pop.new.self.items c.in-Some.top was.is_chain in
     omega arith
 
 pub bounds-state-top : goal.bounds-state-top
 bounds-state-top g c =
-    let was : IsGiving (ends_of c.args.moves.now) c.args.nexts.now c.loop-top.state (c.pop.new.self.items ++ c.in-Some.top ∷ []) (ends_of c.loop-top.given.items) c.loop-top.cut c.loop-top.first =
-    subst (λ x. IsGiving (ends_of c.args.moves.now) c.args.nexts.now c.loop-top.state x (ends_of c.loop-top.given.items) c.loop-top.cut c.loop-top.first) c.in-Some.ensures.items c.loop-top.invariant.giving in
+    let was : IsGiving (ends_of c.args.moves.now) c.args.nexts.now c.loop-top.state (c.pop.new.self.items ++ c.in-Some.top ∷ [])
+    (ends_of c.loop-top.given.items) c.loop-top.cut c.loop-top.first =
+    subst (λ x. IsGiving (ends_of c.args.moves.now) c.args.nexts.now c.loop-top.state x (ends_of c.loop-top.given.items) c.loop-top.cut c.loop-top.first)
+    c.in-Some.ensures.items c.loop-top.invariant.giving in
     let within : c.in-Some.top < length c.args.nexts.now = last_within c.args.nexts.now c.loop-top.state c.pop.new.self.items c.in-Some.top was.is_chain in
     omega arith
 
 pub bounds-moves-cut : goal.bounds-moves-cut
 bounds-moves-cut g c =
-    let was : IsGiving (ends_of c.args.moves.now) c.args.nexts.now c.loop-top.state (c.pop.new.self.items ++ c.in-Some.top ∷ []) (ends_of c.loop-top.given.items) c.loop-top.cut c.loop-top.first =
-    subst (λ x. IsGiving (ends_of c.args.moves.now) c.args.nexts.now c.loop-top.state x (ends_of c.loop-top.given.items) c.loop-top.cut c.loop-top.first) c.in-Some.ensures.items c.loop-top.invariant.giving in
+    let was : IsGiving (ends_of c.args.moves.now) c.args.nexts.now c.loop-top.state (c.pop.new.self.items ++ c.in-Some.top ∷ [])
+    (ends_of c.loop-top.given.items) c.loop-top.cut c.loop-top.first =
+    subst (λ x. IsGiving (ends_of c.args.moves.now) c.args.nexts.now c.loop-top.state x (ends_of c.loop-top.given.items) c.loop-top.cut c.loop-top.first)
+    c.in-Some.ensures.items c.loop-top.invariant.giving in
     let within : c.in-Some.top < length c.args.nexts.now = last_within c.args.nexts.now c.loop-top.state c.pop.new.self.items c.in-Some.top was.is_chain in
     let many : length (ends_of c.args.moves.now) ≡ length c.args.moves.now = length_ends c.args.moves.now in
-    let low : c.loop-top.cut < length (ends_of c.args.moves.now) = cut_within (ends_of c.args.moves.now) c.args.nexts.now c.loop-top.state (c.pop.new.self.items ++ c.in-Some.top ∷ []) (ends_of c.loop-top.given.items) c.loop-top.cut c.loop-top.first was
+    let low : c.loop-top.cut < length (ends_of c.args.moves.now) = cut_within (ends_of c.args.moves.now) c.args.nexts.now c.loop-top.state
+    (c.pop.new.self.items ++ c.in-Some.top ∷ []) (ends_of c.loop-top.given.items) c.loop-top.cut c.loop-top.first was
     (let e : c.in-Some.top ≡ c.loop-top.first = c.if-top-first.true in omega arith) in
     omega arith
 
@@ -40,8 +47,10 @@ returns g c =
     let empty : length c.loop-top.chain.items ≡ 0 = grind arith in
     record {
       given = record {
-        had = ends_whole (ends_of c.args.moves.now) c.args.nexts.now c.loop-top.state c.loop-top.chain.items (ends_of c.loop-top.given.items) c.loop-top.cut c.loop-top.first c.loop-top.invariant.giving empty;
-        settled = ends_settled c.args.nexts.now c.loop-top.state c.loop-top.chain.items c.loop-top.invariant.giving.is_chain empty (c.loop-top.invariant.as_many ∙ sym c.requires.indexed);
+        had = ends_whole (ends_of c.args.moves.now) c.args.nexts.now c.loop-top.state c.loop-top.chain.items (ends_of c.loop-top.given.items) c.loop-top.cut
+            c.loop-top.first c.loop-top.invariant.giving empty;
+        settled = ends_settled c.args.nexts.now c.loop-top.state c.loop-top.chain.items c.loop-top.invariant.giving.is_chain empty
+            (c.loop-top.invariant.as_many ∙ sym c.requires.indexed);
         empty = search rules;
         goes_on = c.loop-top.invariant.on;
         of_moves = c.loop-top.invariant.of_moves;
@@ -68,14 +77,16 @@ loop-top-preserved-then-top-first g c =
     let f : ends_of c.push-then-top-first.new.self.items ≡ (old ++ ends m ∷ []) ++ ends last ∷ [] =
     ap ends_of c.in_ok-push-2.ensures.ok ∙ ends_push c.push.new.self.items last ∙ ap (λ x. x ++ ends last ∷ []) e in
     let now : IsGiving ms c.args.nexts.now (slice_set st top Done) chain ((old ++ ends m ∷ []) ++ ends last ∷ []) (length ms) (length ms) =
-    gives_first ms c.args.nexts.now c.requires.apart c.requires.nexts st chain old top c.loop-top.cut c.loop-top.first (ends m) (ends last) was (c.loop-top.invariant.as_many ∙ sym many) c.if-top-first.true
+    gives_first ms c.args.nexts.now c.requires.apart c.requires.nexts st chain old top c.loop-top.cut c.loop-top.first (ends m) (ends last) was
+    (c.loop-top.invariant.as_many ∙ sym many) c.if-top-first.true
     (read_to c.args.moves.now top m (omega arith) c.index-moves-top.is) (read_from c.args.moves.now top m (omega arith) c.index-moves-top.is)
     c.none.ensures (read_from c.args.moves.now c.loop-top.cut end (omega arith) c.index-moves-cut.is) in
     record {
       as_many = length-set st top Done ∙ c.loop-top.invariant.as_many;
       giving = subst (λ x. IsGiving ms c.args.nexts.now (slice_set st top Done) chain (ends_of c.push-then-top-first.new.self.items) x x) many
           (subst (λ x. IsGiving ms c.args.nexts.now (slice_set st top Done) chain x (length ms) (length ms)) (sym f) now);
-      on = goes_on c.args.state.now st top Done (λ g. todo_done Done g refl) (let same : length st ≡ length c.args.moves.now = c.loop-top.invariant.as_many in omega arith) c.loop-top.invariant.on;
+      on = goes_on c.args.state.now st top Done (λ g. todo_done Done g refl)
+          (let same : length st ≡ length c.args.moves.now = c.loop-top.invariant.as_many in omega arith) c.loop-top.invariant.on;
       of_moves = subst (λ x. All (IsOfMoves c.args.moves.now) x) (sym c.in_ok-push-2.ensures.ok)
           (All-push (IsOfMoves c.args.moves.now) c.push.new.self.items last
           (subst (λ x. All (IsOfMoves c.args.moves.now) x) (sym c.in_ok-push.ensures.ok)
@@ -98,12 +109,14 @@ loop-top-preserved g c =
     let m = c.index-moves-top.result in
     let e : ends_of c.push.new.self.items ≡ old ++ ends m ∷ [] = ap ends_of c.in_ok-push.ensures.ok ∙ ends_push c.loop-top.given.items m in
     let now : IsGiving ms c.args.nexts.now (slice_set st top Done) chain (old ++ ends m ∷ []) c.loop-top.cut c.loop-top.first =
-    gives_plain ms c.args.nexts.now c.requires.apart c.requires.nexts st chain old top c.loop-top.cut c.loop-top.first (ends m) was (c.loop-top.invariant.as_many ∙ sym many) c.if-top-first.false
+    gives_plain ms c.args.nexts.now c.requires.apart c.requires.nexts st chain old top c.loop-top.cut c.loop-top.first (ends m) was
+    (c.loop-top.invariant.as_many ∙ sym many) c.if-top-first.false
     (read_to c.args.moves.now top m (omega arith) c.index-moves-top.is) (read_from c.args.moves.now top m (omega arith) c.index-moves-top.is) in
     record {
       as_many = length-set st top Done ∙ c.loop-top.invariant.as_many;
       giving = subst (λ x. IsGiving ms c.args.nexts.now (slice_set st top Done) chain x c.loop-top.cut c.loop-top.first) (sym e) now;
-      on = goes_on c.args.state.now st top Done (λ g. todo_done Done g refl) (let same : length st ≡ length c.args.moves.now = c.loop-top.invariant.as_many in omega arith) c.loop-top.invariant.on;
+      on = goes_on c.args.state.now st top Done (λ g. todo_done Done g refl)
+          (let same : length st ≡ length c.args.moves.now = c.loop-top.invariant.as_many in omega arith) c.loop-top.invariant.on;
       of_moves = subst (λ x. All (IsOfMoves c.args.moves.now) x) (sym c.in_ok-push.ensures.ok)
           (All-push (IsOfMoves c.args.moves.now) c.loop-top.given.items m c.loop-top.invariant.of_moves
           (of_itself c.args.moves.now m (read_in c.args.moves.now top m (omega arith) c.index-moves-top.is)));

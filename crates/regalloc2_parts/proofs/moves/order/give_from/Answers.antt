@@ -8,7 +8,16 @@ use Rattle.regalloc2_parts.proofs.Whole.{whole_along, given_on}
 use Rattle.regalloc2_parts.proofs.moves.order.give_from.Goals as goal
 
 pub follow-requires : goal.follow-requires
-follow-requires g c = (lit< tt, (c.requires.as_many ∙ sym c.requires.indexed, (c.requires.settled, (c.requires.empty, (c.requires.start, subst (λ (n : ℕ). c.args.start < n) (sym c.requires.indexed) c.requires.within)))))
+follow-requires g c = (
+  lit< tt,
+  record {
+    as_many = c.requires.as_many ∙ sym c.requires.indexed;
+    settled = c.requires.settled;
+    empty = c.requires.empty;
+    start = c.requires.start;
+    within = subst (λ (n : ℕ). c.args.start < n) (sym c.requires.indexed) c.requires.within;
+  },
+)
 
 pub returns-in_err-stop : goal.returns-in_err-stop
 returns-in_err-stop g c =
@@ -22,28 +31,26 @@ open_ring-requires g c =
     let many : length (ends_of given) ≡ length given = length_ends given in
     let same : length st ≡ length c.args.state.now = omega arith in
     let had : HasGivenWhole (ends_of c.args.moves.now) c.args.nexts.now st (ends_of given) =
-    whole_along (ends_of c.args.moves.now) c.args.nexts.now c.args.state.now st (ends_of given) c.requires.had c.in_ok-stop.ensures.same c.in_ok-stop.ensures.goes_on same in
+    whole_along (ends_of c.args.moves.now) c.args.nexts.now c.args.state.now st (ends_of given) c.requires.had c.in_ok-stop.ensures.same
+    c.in_ok-stop.ensures.goes_on same in
     let rings : (had : HasRings c.args.nexts.now st (length (ends_of given))) × AreRingsDone st had.rings =
-    rings_follow c.args.nexts.now c.args.state.now st (length (ends_of given)) c.requires.had.rings c.requires.settled (c.requires.as_many ∙ sym c.requires.indexed) c.in_ok-stop.ensures.same c.in_ok-stop.ensures.goes_on same in (
+    rings_follow c.args.nexts.now c.args.state.now st (length (ends_of given)) c.requires.had.rings c.requires.settled
+    (c.requires.as_many ∙ sym c.requires.indexed) c.in_ok-stop.ensures.same c.in_ok-stop.ensures.goes_on same in (
       lit< tt,
       (
         search rules,
-        (
-          c.requires.apart,
-          (
-            c.requires.nexts,
-            (
-              same ∙ c.requires.as_many,
-              (
-                c.requires.indexed,
-                (
-                  had,
-                  (subst (λ (n : ℕ). (had : HasRings c.args.nexts.now st n) × AreRingsDone st had.rings) many rings, (c.in_ok-stop.ensures.chain, (c.in_ok-stop.ensures.link, (c.in_ok-stop.ensures.stops, c.requires.of_moves)))),
-                ),
-              ),
-            ),
-          ),
-        ),
+        record {
+          apart = c.requires.apart;
+          nexts = c.requires.nexts;
+          as_many = same ∙ c.requires.as_many;
+          indexed = c.requires.indexed;
+          had = had;
+          rings = subst (λ (n : ℕ). (met : HasRings c.args.nexts.now st n) × AreRingsDone st met.rings) many rings;
+          chain = c.in_ok-stop.ensures.chain;
+          link = c.in_ok-stop.ensures.link;
+          stops = c.in_ok-stop.ensures.stops;
+          of_moves = c.requires.of_moves;
+        },
       ),
     )
 
@@ -57,23 +64,22 @@ give_chain-requires g c = (
   lit< tt,
   (
     search rules,
-    (
-      c.requires.apart,
-      (
-        c.requires.nexts,
-        (
-          c.open_ring.auto.state ∙ c.follow.auto.state ∙ c.requires.as_many,
-          (c.requires.indexed, (c.in_ok-cut.ensures.giving.0, c.in_ok-cut.ensures.giving.2)),
-        ),
-      ),
-    ),
+    record {
+      apart = c.requires.apart;
+      nexts = c.requires.nexts;
+      as_many = c.open_ring.auto.state ∙ c.follow.auto.state ∙ c.requires.as_many;
+      indexed = c.requires.indexed;
+      giving = c.in_ok-cut.ensures.giving.0;
+      of_moves = c.in_ok-cut.ensures.giving.2;
+    },
   ),
 )
 
 pub returns : goal.returns
 returns g c = record {
   given = on_ok_weaker c.give_chain.result
-      (λ h. given_on c.args.moves.now c.args.nexts.now c.args.state.now c.open_ring.new.state c.give_chain.new.state c.give_chain.new.chain.items c.give_chain.new.given.items c.args.start
+      (λ h. given_on c.args.moves.now c.args.nexts.now c.args.state.now c.open_ring.new.state c.give_chain.new.state c.give_chain.new.chain.items
+      c.give_chain.new.given.items c.args.start
       (λ k n. c.in_ok-cut.ensures.giving.1 k (c.in_ok-stop.ensures.goes_on k n)) (c.in_ok-cut.ensures.giving.1 c.args.start c.in_ok-stop.ensures.begun) h)
       c.give_chain.ensures.given;
 }

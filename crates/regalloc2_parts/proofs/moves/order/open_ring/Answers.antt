@@ -38,7 +38,9 @@ returns-then-not-is_pending g c =
     let st = c.args.state.now in
     let ms = ends_of c.args.moves.now in
     let many : length ms ≡ length c.args.moves.now = length_ends c.args.moves.now in
-    let no_pending : c.args.stop < length c.args.nexts.now → state_at st c.args.stop ≡ Pending → ⊥ = λ low e. c.is_pending.ensures.no c.if-not-is_pending.true (let as_many : length st ≡ length c.args.moves.now = c.requires.as_many in omega arith) e in
+    let no_pending : c.args.stop < length c.args.nexts.now → state_at st c.args.stop ≡ Pending →
+    ⊥ = λ low e. c.is_pending.ensures.no c.if-not-is_pending.true (let as_many : length st ≡ length c.args.moves.now = c.requires.as_many in omega arith)
+    e in
     let giving : IsGiving ms c.args.nexts.now st c.args.chain.now.items (ends_of given) (length ms) (length ms) =
     gives_start ms c.args.nexts.now c.requires.apart c.requires.nexts st c.args.chain.now.items (ends_of given) c.requires.had c.requires.chain
     (start_ready c.args.nexts.now st c.args.chain.now.items c.args.stop c.requires.link c.requires.stops no_pending) in
@@ -62,18 +64,23 @@ returns g c =
     let within : last < length c.args.nexts.now = last_within c.args.nexts.now c.args.state.now c.pop.new.self.items last chain in
     let many : length ms ≡ length c.args.moves.now = length_ends c.args.moves.now in
     let m : Place × Place × g.row.T.Denot = (c.none.result, c.index-moves-last.result.1, c.index-moves-last.result.2) in
-    let e : ends_of c.push.new.self.items ≡ ends_of c.args.given.now.items ++ ends m ∷ [] = ap ends_of c.in_ok-push.ensures.ok ∙ ends_push c.args.given.now.items m in
+    let e : ends_of c.push.new.self.items ≡ ends_of c.args.given.now.items ++ ends m ∷ [] = ap ends_of c.in_ok-push.ensures.ok
+    ∙ ends_push c.args.given.now.items m in
     let rings : (had : HasRings c.args.nexts.now c.args.state.now (length (ends_of c.args.given.now.items))) × AreRingsDone c.args.state.now had.rings =
-    subst (λ x. (had : HasRings c.args.nexts.now c.args.state.now x) × AreRingsDone c.args.state.now had.rings) (sym (length_ends c.args.given.now.items)) c.requires.rings in
+    subst (λ x. (had : HasRings c.args.nexts.now c.args.state.now x) × AreRingsDone c.args.state.now had.rings) (sym (length_ends c.args.given.now.items))
+    c.requires.rings in
     record {
       giving = (
         subst (λ x. IsGiving ms c.args.nexts.now (slice_set c.args.state.now last Done) c.pop.new.self.items x last c.args.stop) (sym e)
-            (gives_ring ms c.args.nexts.now c.requires.apart c.requires.nexts c.args.state.now c.pop.new.self.items (ends_of c.args.given.now.items) last c.args.stop (ends m)
-            c.requires.had.had rings.0 rings.1 chain (c.requires.as_many ∙ sym many) (last_leads c.args.nexts.now c.pop.new.self.items last c.args.stop link) (subst (λ x. c.args.stop < x) (c.requires.as_many ∙ sym many) here.0) here.1
+            (gives_ring ms c.args.nexts.now c.requires.apart c.requires.nexts c.args.state.now c.pop.new.self.items (ends_of c.args.given.now.items) last
+            c.args.stop (ends m)
+            c.requires.had.had rings.0 rings.1 chain (c.requires.as_many ∙ sym many) (last_leads c.args.nexts.now c.pop.new.self.items last c.args.stop link)
+            (subst (λ x. c.args.stop < x) (c.requires.as_many ∙ sym many) here.0) here.1
             (read_to c.args.moves.now last c.index-moves-last.result (omega arith) c.index-moves-last.is) c.none.ensures),
         goes_on c.args.state.now c.args.state.now last Done (λ d. todo_done Done d refl) (omega arith) (λ k n. n),
         subst (λ x. All (IsOfMoves c.args.moves.now) x) (sym c.in_ok-push.ensures.ok)
             (All-push (IsOfMoves c.args.moves.now) c.args.given.now.items m c.requires.of_moves
-            (of_end c.args.moves.now m c.index-moves-last.result (read_in c.args.moves.now last c.index-moves-last.result (omega arith) c.index-moves-last.is) c.none.ensures refl refl)),
+            (of_end c.args.moves.now m c.index-moves-last.result (read_in c.args.moves.now last c.index-moves-last.result (omega arith) c.index-moves-last.is)
+            c.none.ensures refl refl)),
       );
     }

@@ -25,8 +25,10 @@ find_nexts-requires g c =
     let new = c.tidy.new.moves.items in (
       omega arith,
       (
-        subst (λ (xs : List (Place × Place × g.row.T.Denot)). IsNonDecreasingBy (λ (m : Place × Place × g.row.T.Denot). bits_of_place m.1) xs) (sym c.as_slice.ensures) (tidied_sorted (ends_of old) new c.tidy.ensures.tidied),
-        subst (λ (xs : List (Place × Place × g.row.T.Denot)). AreProper (ends_of xs)) (sym c.as_slice.ensures) (λ m h. real_proper old c.requires.real m (c.tidy.ensures.tidied.of_old m h)),
+        subst (λ (xs : List (Place × Place × g.row.T.Denot)). IsNonDecreasingBy (λ (m : Place × Place × g.row.T.Denot). bits_of_place m.1) xs)
+            (sym c.as_slice.ensures) (tidied_sorted (ends_of old) new c.tidy.ensures.tidied),
+        subst (λ (xs : List (Place × Place × g.row.T.Denot)). AreProper (ends_of xs)) (sym c.as_slice.ensures)
+            (λ m h. real_proper old c.requires.real m (c.tidy.ensures.tidied.of_old m h)),
       ),
     )
 
@@ -35,8 +37,10 @@ returns-then-are_free-clause-resolved g c =
     let old = c.args.moves.items in
     let new = c.tidy.new.moves.items in
     let nexts = c.in_ok-nexts.nexts.items in
-    let ns : AreNexts (ends_of new) nexts = subst (λ (xs : List (Place × Place × g.row.T.Denot)). AreNexts (ends_of xs) nexts) c.as_slice.ensures c.in_ok-nexts.ensures.ok in
-    let free : (k : ℕ) → k < length c.as_slice-2.result.now → length c.as_slice-2.result.now ≤ get_or c.as_slice-2.result.now k 0 = c.if-are_free.ensures.0 refl in
+    let ns : AreNexts (ends_of new) nexts = subst (λ (xs : List (Place × Place × g.row.T.Denot)). AreNexts (ends_of xs) nexts) c.as_slice.ensures
+    c.in_ok-nexts.ensures.ok in
+    let free : (k : ℕ) → k < length c.as_slice-2.result.now → length c.as_slice-2.result.now ≤ get_or c.as_slice-2.result.now k 0 = c.if-are_free.ensures.0
+    refl in
     resolves_free old new nexts c.requires.one_source c.requires.real (omega arith) c.tidy.ensures.tidied c.tidy.ensures.given ns
     (subst (λ (xs : List ℕ). (k : ℕ) → k < length xs → length xs ≤ get_or xs k 0) c.as_slice-2.ensures free)
 
@@ -45,8 +49,10 @@ returns-then-are_free-clause-runnable g c =
     let old = c.args.moves.items in
     let new = c.tidy.new.moves.items in
     let nexts = c.in_ok-nexts.nexts.items in
-    let ns : AreNexts (ends_of new) nexts = subst (λ (xs : List (Place × Place × g.row.T.Denot)). AreNexts (ends_of xs) nexts) c.as_slice.ensures c.in_ok-nexts.ensures.ok in
-    let free : (k : ℕ) → k < length c.as_slice-2.result.now → length c.as_slice-2.result.now ≤ get_or c.as_slice-2.result.now k 0 = c.if-are_free.ensures.0 refl in
+    let ns : AreNexts (ends_of new) nexts = subst (λ (xs : List (Place × Place × g.row.T.Denot)). AreNexts (ends_of xs) nexts) c.as_slice.ensures
+    c.in_ok-nexts.ensures.ok in
+    let free : (k : ℕ) → k < length c.as_slice-2.result.now → length c.as_slice-2.result.now ≤ get_or c.as_slice-2.result.now k 0 = c.if-are_free.ensures.0
+    refl in
     (resolves_free old new nexts c.requires.one_source c.requires.real (omega arith) c.tidy.ensures.tidied c.tidy.ensures.given ns
     (subst (λ (xs : List ℕ). (k : ℕ) → k < length xs → length xs ≤ get_or xs k 0) c.as_slice-2.ensures free)).plain refl
 
@@ -55,7 +61,8 @@ give_all-requires g c =
     let old = c.args.moves.items in
     let new = c.tidy.new.moves.items in
     let nexts = c.in_ok-nexts.nexts.items in
-    let ns : AreNexts (ends_of new) nexts = subst (λ (xs : List (Place × Place × g.row.T.Denot)). AreNexts (ends_of xs) nexts) c.as_slice.ensures c.in_ok-nexts.ensures.ok in
+    let ns : AreNexts (ends_of new) nexts = subst (λ (xs : List (Place × Place × g.row.T.Denot)). AreNexts (ends_of xs) nexts) c.as_slice.ensures
+    c.in_ok-nexts.ensures.ok in
     let many : length (ends_of new) ≡ length new = length_ends new in
     let apart : AreApart (ends_of new) = tidied_apart (ends_of old) (ends_of new) (real_fair old c.requires.one_source c.requires.real) c.tidy.ensures.tidied in (
       search rules,
@@ -74,45 +81,76 @@ returns-then-len-clause-resolved g c =
     let old = c.args.moves.items in
     let new = c.tidy.new.moves.items in
     let nexts = c.in_ok-nexts.nexts.items in
-    let ns : AreNexts (ends_of new) nexts = subst (λ (xs : List (Place × Place × g.row.T.Denot)). AreNexts (ends_of xs) nexts) c.as_slice.ensures c.in_ok-nexts.ensures.ok in
+    let ns : AreNexts (ends_of new) nexts = subst (λ (xs : List (Place × Place × g.row.T.Denot)). AreNexts (ends_of xs) nexts) c.as_slice.ensures
+    c.in_ok-nexts.ensures.ok in
     let order : IsOrder (ends_of new) nexts (ends_of c.in_ok-given.given.items) =
     subst (λ (ks : List ℕ). IsOrder (ends_of new) ks (ends_of c.in_ok-given.given.items)) c.as_slice-4.ensures
-    (subst (λ (xs : List (Place × Place × g.row.T.Denot)). IsOrder (ends_of xs) c.as_slice-4.result.now (ends_of c.in_ok-given.given.items)) c.as_slice-3.ensures c.in_ok-given.ensures.order.0) in
-    let of_moves : All (IsOfMoves new) c.in_ok-given.given.items = subst (λ (xs : List (Place × Place × g.row.T.Denot)). All (IsOfMoves xs) c.in_ok-given.given.items) c.as_slice-3.ensures c.in_ok-given.ensures.order.1 in
-    resolves_order old new c.in_ok-given.given.items c.turn_round.new.moves.items nexts true c.requires.one_source c.requires.real (omega arith) c.tidy.ensures.tidied c.tidy.ensures.given ns order of_moves c.turn_round.ensures (λ e. omega arith) (λ e. absurd cc)
+    (subst (λ (xs : List (Place × Place × g.row.T.Denot)). IsOrder (ends_of xs) c.as_slice-4.result.now (ends_of c.in_ok-given.given.items))
+    c.as_slice-3.ensures c.in_ok-given.ensures.order.0) in
+    let of_moves : All (IsOfMoves new) c.in_ok-given.given.items = subst (λ (xs : List (Place × Place × g.row.T.Denot)). All (IsOfMoves xs)
+    c.in_ok-given.given.items) c.as_slice-3.ensures c.in_ok-given.ensures.order.1 in
+    resolves_order old new c.in_ok-given.given.items c.turn_round.new.moves.items nexts true c.requires.one_source c.requires.real (omega arith)
+    c.tidy.ensures.tidied c.tidy.ensures.given ns order of_moves c.turn_round.ensures (λ e. omega arith) (λ e. absurd cc)
 
 pub returns-then-len-clause-runnable : goal.returns-then-len-clause-runnable
 returns-then-len-clause-runnable g c =
     let old = c.args.moves.items in
     let new = c.tidy.new.moves.items in
     let nexts = c.in_ok-nexts.nexts.items in
-    let ns : AreNexts (ends_of new) nexts = subst (λ (xs : List (Place × Place × g.row.T.Denot)). AreNexts (ends_of xs) nexts) c.as_slice.ensures c.in_ok-nexts.ensures.ok in
+    let ns : AreNexts (ends_of new) nexts = subst (λ (xs : List (Place × Place × g.row.T.Denot)). AreNexts (ends_of xs) nexts) c.as_slice.ensures
+    c.in_ok-nexts.ensures.ok in
     let order : IsOrder (ends_of new) nexts (ends_of c.in_ok-given.given.items) =
     subst (λ (ks : List ℕ). IsOrder (ends_of new) ks (ends_of c.in_ok-given.given.items)) c.as_slice-4.ensures
-    (subst (λ (xs : List (Place × Place × g.row.T.Denot)). IsOrder (ends_of xs) c.as_slice-4.result.now (ends_of c.in_ok-given.given.items)) c.as_slice-3.ensures c.in_ok-given.ensures.order.0) in
-    let of_moves : All (IsOfMoves new) c.in_ok-given.given.items = subst (λ (xs : List (Place × Place × g.row.T.Denot)). All (IsOfMoves xs) c.in_ok-given.given.items) c.as_slice-3.ensures c.in_ok-given.ensures.order.1 in
-    (resolves_order old new c.in_ok-given.given.items c.turn_round.new.moves.items nexts true c.requires.one_source c.requires.real (omega arith) c.tidy.ensures.tidied c.tidy.ensures.given ns order of_moves c.turn_round.ensures (λ e. omega arith) (λ e. absurd cc)).written
+    (subst (λ (xs : List (Place × Place × g.row.T.Denot)). IsOrder (ends_of xs) c.as_slice-4.result.now (ends_of c.in_ok-given.given.items))
+    c.as_slice-3.ensures c.in_ok-given.ensures.order.0) in
+    let of_moves : All (IsOfMoves new) c.in_ok-given.given.items = subst (λ (xs : List (Place × Place × g.row.T.Denot)). All (IsOfMoves xs)
+    c.in_ok-given.given.items) c.as_slice-3.ensures c.in_ok-given.ensures.order.1 in
+    (resolves_order old new c.in_ok-given.given.items c.turn_round.new.moves.items nexts true c.requires.one_source c.requires.real (omega arith)
+    c.tidy.ensures.tidied c.tidy.ensures.given ns order of_moves c.turn_round.ensures (λ e. omega arith) (λ e. absurd cc)).written
 
 pub returns-clause-resolved : goal.returns-clause-resolved
 returns-clause-resolved g c =
     let old = c.args.moves.items in
     let new = c.tidy.new.moves.items in
     let nexts = c.in_ok-nexts.nexts.items in
-    let ns : AreNexts (ends_of new) nexts = subst (λ (xs : List (Place × Place × g.row.T.Denot)). AreNexts (ends_of xs) nexts) c.as_slice.ensures c.in_ok-nexts.ensures.ok in
+    let ns : AreNexts (ends_of new) nexts = subst (λ (xs : List (Place × Place × g.row.T.Denot)). AreNexts (ends_of xs) nexts) c.as_slice.ensures
+    c.in_ok-nexts.ensures.ok in
     let order : IsOrder (ends_of new) nexts (ends_of c.in_ok-given.given.items) =
     subst (λ (ks : List ℕ). IsOrder (ends_of new) ks (ends_of c.in_ok-given.given.items)) c.as_slice-4.ensures
-    (subst (λ (xs : List (Place × Place × g.row.T.Denot)). IsOrder (ends_of xs) c.as_slice-4.result.now (ends_of c.in_ok-given.given.items)) c.as_slice-3.ensures c.in_ok-given.ensures.order.0) in
-    let of_moves : All (IsOfMoves new) c.in_ok-given.given.items = subst (λ (xs : List (Place × Place × g.row.T.Denot)). All (IsOfMoves xs) c.in_ok-given.given.items) c.as_slice-3.ensures c.in_ok-given.ensures.order.1 in
-    resolves_order old new c.in_ok-given.given.items c.turn_round.new.moves.items nexts false c.requires.one_source c.requires.real (omega arith) c.tidy.ensures.tidied c.tidy.ensures.given ns order of_moves c.turn_round.ensures (λ e. absurd cc) (λ e. omega arith)
+    (subst (λ (xs : List (Place × Place × g.row.T.Denot)). IsOrder (ends_of xs) c.as_slice-4.result.now (ends_of c.in_ok-given.given.items))
+    c.as_slice-3.ensures c.in_ok-given.ensures.order.0) in
+    let of_moves : All (IsOfMoves new) c.in_ok-given.given.items = subst (λ (xs : List (Place × Place × g.row.T.Denot)). All (IsOfMoves xs)
+    c.in_ok-given.given.items) c.as_slice-3.ensures c.in_ok-given.ensures.order.1 in
+    resolves_order old new c.in_ok-given.given.items c.turn_round.new.moves.items nexts false c.requires.one_source c.requires.real (omega arith)
+    c.tidy.ensures.tidied c.tidy.ensures.given ns order of_moves c.turn_round.ensures (λ e. absurd cc) (λ e. omega arith)
 
 pub returns-clause-runnable : goal.returns-clause-runnable
 returns-clause-runnable g c =
     let old = c.args.moves.items in
     let new = c.tidy.new.moves.items in
     let nexts = c.in_ok-nexts.nexts.items in
-    let ns : AreNexts (ends_of new) nexts = subst (λ (xs : List (Place × Place × g.row.T.Denot)). AreNexts (ends_of xs) nexts) c.as_slice.ensures c.in_ok-nexts.ensures.ok in
+    let ns : AreNexts (ends_of new) nexts = subst (λ (xs : List (Place × Place × g.row.T.Denot)). AreNexts (ends_of xs) nexts) c.as_slice.ensures
+    c.in_ok-nexts.ensures.ok in
     let order : IsOrder (ends_of new) nexts (ends_of c.in_ok-given.given.items) =
     subst (λ (ks : List ℕ). IsOrder (ends_of new) ks (ends_of c.in_ok-given.given.items)) c.as_slice-4.ensures
-    (subst (λ (xs : List (Place × Place × g.row.T.Denot)). IsOrder (ends_of xs) c.as_slice-4.result.now (ends_of c.in_ok-given.given.items)) c.as_slice-3.ensures c.in_ok-given.ensures.order.0) in
-    let of_moves : All (IsOfMoves new) c.in_ok-given.given.items = subst (λ (xs : List (Place × Place × g.row.T.Denot)). All (IsOfMoves xs) c.in_ok-given.given.items) c.as_slice-3.ensures c.in_ok-given.ensures.order.1 in
-    (resolves_order old new c.in_ok-given.given.items c.turn_round.new.moves.items nexts false c.requires.one_source c.requires.real (omega arith) c.tidy.ensures.tidied c.tidy.ensures.given ns order of_moves c.turn_round.ensures (λ e. absurd cc) (λ e. omega arith)).plain refl
+    (subst (λ (xs : List (Place × Place × g.row.T.Denot)). IsOrder (ends_of xs) c.as_slice-4.result.now (ends_of c.in_ok-given.given.items))
+    c.as_slice-3.ensures c.in_ok-given.ensures.order.0) in
+    let of_moves : All (IsOfMoves new) c.in_ok-given.given.items = subst (λ (xs : List (Place × Place × g.row.T.Denot)). All (IsOfMoves xs)
+    c.in_ok-given.given.items) c.as_slice-3.ensures c.in_ok-given.ensures.order.1 in
+    (resolves_order old new c.in_ok-given.given.items c.turn_round.new.moves.items nexts false c.requires.one_source c.requires.real (omega arith)
+    c.tidy.ensures.tidied c.tidy.ensures.given ns order of_moves c.turn_round.ensures (λ e. absurd cc) (λ e. omega arith)).plain refl
+
+pub returns-in_err-nexts-clause-short : goal.returns-in_err-nexts-clause-short
+returns-in_err-nexts-clause-short g c = λ h. absurd (omega arith)
+
+pub returns-then-are_free-clause-short : goal.returns-then-are_free-clause-short
+returns-then-are_free-clause-short g c = λ h. refl
+
+pub returns-in_err-given-clause-short : goal.returns-in_err-given-clause-short
+returns-in_err-given-clause-short g c = λ h. absurd (omega arith)
+
+pub returns-then-len-clause-short : goal.returns-then-len-clause-short
+returns-then-len-clause-short g c = λ h. refl
+
+pub returns-clause-short : goal.returns-clause-short
+returns-clause-short g c = λ h. refl

@@ -8,14 +8,19 @@ use Rattle.regalloc2_parts.proofs.moves.order.tidy.Goals as goal
 
 pub returns-clause-tidied : goal.returns-clause-tidied
 returns-clause-tidied g c =
-    let once = dedup_same _ (λ (p q : Place × Place × g.row.T.Denot). bits_of_place p.1 == bits_of_place q.1) _ (λ x y b f' x' y' k. search rules) _ _ c.dedup_by_key.ensures.filtered in
-    let kept = retained _ (λ (m : Place × Place × g.row.T.Denot). not (bits_of_place m.0 == bits_of_place m.1)) _ (λ x b f' y k. search rules) _ _ c.retain.ensures.filtered in
-    tidies_ends c.args.moves.now.items c.sort_moves.new.moves.items c.retain.new.self.items c.requires.proper c.requires.fair c.sort_moves.ensures.permutation c.sort_moves.ensures.sorted
+    let once = dedup_same _ (λ (p q : Place × Place × g.row.T.Denot). bits_of_place p.1 == bits_of_place q.1) _ (λ x y b f' x' y' k. search rules) _ _
+    c.dedup_by_key.ensures.filtered in
+    let kept = retained _ (λ (m : Place × Place × g.row.T.Denot). not (bits_of_place m.0 == bits_of_place m.1)) _ (λ x b f' y k. search rules) _ _
+    c.retain.ensures.filtered in
+    tidies_ends c.args.moves.now.items c.sort_moves.new.moves.items c.retain.new.self.items c.requires.proper c.requires.fair c.sort_moves.ensures.permutation
+    c.sort_moves.ensures.sorted
     (kept ∙ ap (filter (λ (m : Place × Place × g.row.T.Denot). not (bits_of_place m.0 == bits_of_place m.1))) once)
 
 pub returns-clause-given : goal.returns-clause-given
 returns-clause-given g c m h =
-    let once = dedup_same _ (λ (p q : Place × Place × g.row.T.Denot). bits_of_place p.1 == bits_of_place q.1) _ (λ x y b f' x' y' k. search rules) _ _ c.dedup_by_key.ensures.filtered in
-    let kept = retained _ (λ (m : Place × Place × g.row.T.Denot). not (bits_of_place m.0 == bits_of_place m.1)) _ (λ x b f' y k. search rules) _ _ c.retain.ensures.filtered in
+    let once = dedup_same _ (λ (p q : Place × Place × g.row.T.Denot). bits_of_place p.1 == bits_of_place q.1) _ (λ x y b f' x' y' k. search rules) _ _
+    c.dedup_by_key.ensures.filtered in
+    let kept = retained _ (λ (m : Place × Place × g.row.T.Denot). not (bits_of_place m.0 == bits_of_place m.1)) _ (λ x b f' y k. search rules) _ _
+    c.retain.ensures.filtered in
     tidied_given c.args.moves.now.items c.sort_moves.new.moves.items c.retain.new.self.items m c.sort_moves.ensures.permutation
     (kept ∙ ap (filter (λ (m : Place × Place × g.row.T.Denot). not (bits_of_place m.0 == bits_of_place m.1))) once) h

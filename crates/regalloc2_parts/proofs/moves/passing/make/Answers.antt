@@ -1,5 +1,5 @@
-use Rattle.std.proofs.Common.{inl, inr, sym, subst, ⊎_elim}
-use Rattle.std.proofs.lemmas.Result.{on_ok_weaker}
+use Rattle.std.proofs.Common.{◌≡◌, true, false, rules, inl, inr, sym, subst, ⊎_elim}
+use Rattle.std.proofs.lemmas.Result.{on_ok_weaker, IfOk-weaker}
 use Rattle.regalloc2_parts.specs.Tracking.{IsStep}
 use Rattle.regalloc2_parts.proofs.moves.passing.make.Goals as goal
 
@@ -12,7 +12,8 @@ returns-then-is_passing-clause-added g c =
 pub returns-then-is_one-clause-added : goal.returns-then-is_one-clause-added
 returns-then-is_one-clause-added g c =
     on_ok_weaker c.copy.result
-    (λ had x h. ⊎_elim (λ l. inl (c.in_ok-after.ensures.added x l)) (λ t. inr (subst (λ b. IsStep c.args.way.now.register b c.args.m.now x) (sym c.if-is_passing.false) t)) (had x h))
+    (λ had x h. ⊎_elim (λ l. inl (c.in_ok-after.ensures.added x l)) (λ t. inr
+    (subst (λ b. IsStep c.args.way.now.register b c.args.m.now x) (sym c.if-is_passing.false) t)) (had x h))
     c.copy.ensures.added
 
 pub returns-clause-added : goal.returns-clause-added
@@ -20,3 +21,23 @@ returns-clause-added g c =
     on_ok_weaker c.copy-2.result
     (λ had x h. ⊎_elim (λ l. inl (inl l)) (λ t. inr (subst (λ b. IsStep c.args.way.now.register b c.args.m.now x) (sym c.if-is_passing.false) t)) (had x h))
     c.copy-2.ensures.added
+
+pub returns-then-is_passing-clause-tracks : goal.returns-then-is_passing-clause-tracks
+returns-then-is_passing-clause-tracks g c = c.pass.ensures.tracks
+
+pub returns-then-is_one-clause-tracks : goal.returns-then-is_one-clause-tracks
+returns-then-is_one-clause-tracks g c = IfOk-weaker c.copy.result _ _ (λ after had x d was. had x d (c.in_ok-after.ensures.tracks x d was)) c.copy.ensures.tracks
+
+pub returns-clause-tracks : goal.returns-clause-tracks
+returns-clause-tracks g c = c.copy-2.ensures.tracks
+
+pub pass-requires : goal.pass-requires
+pass-requires g c =
+    let apart = c.requires.passing c.if-is_passing.true in
+    (search rules, ((apart.0, c.requires.unnamed.0), (apart.1, c.requires.unnamed.1)))
+
+pub copy-requires : goal.copy-requires
+copy-requires g c = (search rules, (c.requires.unnamed, λ e. c.in_ok-after.ensures.restored))
+
+pub copy-requires-2 : goal.copy-requires-2
+copy-requires-2 g c = (search rules, (c.requires.unnamed, λ e. let no : false ≡ true = c.if-is_one.ensures.1 e in absurd cc))

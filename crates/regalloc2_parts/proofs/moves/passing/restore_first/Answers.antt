@@ -1,4 +1,4 @@
-use Rattle.std.proofs.Common.{inr, subst, refl}
+use Rattle.std.proofs.Common.{inl, inr, subst, refl}
 use Rattle.regalloc2_parts.specs.AtOnce.{ends_of, in_turn}
 use Rattle.regalloc2_parts.specs.Tracking.{Tracks}
 use Rattle.regalloc2_parts.proofs.Tracking.{restores_pushed, added_aside}
@@ -14,4 +14,38 @@ returns-in_ok-push-in-InSave-clause-tracks g c = λ x d had.
 
 pub returns-in_ok-push-in-InSave-clause-added : goal.returns-in_ok-push-in-InSave-clause-added
 returns-in_ok-push-in-InSave-clause-added g c = λ x h.
-    added_aside c.args.way.now.register c.args.way.now.save x c.args.out.now.items c.push.new.self.items (c.args.way.now.save, c.args.way.now.register, c.default.result) (inr (refl, refl)) c.in_ok-push-in-InSave.ensures.ok h
+    added_aside c.args.way.now.register c.args.way.now.save x c.args.out.now.items c.push.new.self.items
+    (c.args.way.now.save, c.args.way.now.register, c.default.result) (inr (refl, refl)) c.in_ok-push-in-InSave.ensures.ok h
+
+pub returns-in-Free-clause-tracks : goal.returns-in-Free-clause-tracks
+returns-in-Free-clause-tracks g c = λ x d had.
+    subst (λ h. Tracks c.args.way.now.register c.args.way.now.save h x (in_turn (ends_of c.args.out.now.items) d)) c.in-Free.is had
+
+pub returns-in-Free-clause-restored : goal.returns-in-Free-clause-restored
+returns-in-Free-clause-restored g c = λ e. cc
+
+pub returns-in-Free-clause-added : goal.returns-in-Free-clause-added
+returns-in-Free-clause-added g c = λ x h. inl h
+
+pub returns-in-InRegister-clause-tracks : goal.returns-in-InRegister-clause-tracks
+returns-in-InRegister-clause-tracks g c = λ x d had.
+    subst (λ h. Tracks c.args.way.now.register c.args.way.now.save h x (in_turn (ends_of c.args.out.now.items) d)) c.in-InRegister.is had
+
+pub returns-in-InRegister-clause-restored : goal.returns-in-InRegister-clause-restored
+returns-in-InRegister-clause-restored g c = λ e. cc
+
+pub returns-in-InRegister-clause-added : goal.returns-in-InRegister-clause-added
+returns-in-InRegister-clause-added g c = λ x h. inl h
+
+pub returns-in-InBoth-clause-tracks : goal.returns-in-InBoth-clause-tracks
+returns-in-InBoth-clause-tracks g c = λ x d had.
+    subst (λ h. Tracks c.args.way.now.register c.args.way.now.save h x (in_turn (ends_of c.args.out.now.items) d)) c.in-InBoth.is had
+
+pub returns-in-InBoth-clause-restored : goal.returns-in-InBoth-clause-restored
+returns-in-InBoth-clause-restored g c = λ e. cc
+
+pub returns-in-InBoth-clause-added : goal.returns-in-InBoth-clause-added
+returns-in-InBoth-clause-added g c = λ x h. inl h
+
+pub returns-in_ok-push-in-InSave-clause-restored : goal.returns-in_ok-push-in-InSave-clause-restored
+returns-in_ok-push-in-InSave-clause-restored g c = λ e. cc

@@ -14,4 +14,5 @@ returns-in_ok-push-in-InRegister-clause-tracks g c = λ x d had.
 
 pub returns-in_ok-push-in-InRegister-clause-added : goal.returns-in_ok-push-in-InRegister-clause-added
 returns-in_ok-push-in-InRegister-clause-added g c = λ x h.
-    added_aside c.args.way.now.register c.args.way.now.save x c.args.out.now.items c.push.new.self.items (c.args.way.now.register, c.args.way.now.save, c.default.result) (inl (refl, refl)) c.in_ok-push-in-InRegister.ensures.ok h
+    added_aside c.args.way.now.register c.args.way.now.save x c.args.out.now.items c.push.new.self.items
+    (c.args.way.now.register, c.args.way.now.save, c.default.result) (inl (refl, refl)) c.in_ok-push-in-InRegister.ensures.ok h

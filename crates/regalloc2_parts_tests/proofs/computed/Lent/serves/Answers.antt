@@ -4,7 +4,8 @@ use Rattle.regalloc2_parts_tests.proofs.computed.Lent.serves.Goals as goal
 
 pub returns-then-serve : goal.returns-then-serve
 returns-then-serve g c = λ yes.
-    subst (λ ms. AreLent (c.args.self.now.registers.first, c.args.self.now.registers.second) (c.args.self.now.slots.first, c.args.self.now.slots.second) ms) c.list_of-list.ensures
+    subst (λ ms. AreLent (c.args.self.now.registers.first, c.args.self.now.registers.second) (c.args.self.now.slots.first, c.args.self.now.slots.second) ms)
+    c.list_of-list.ensures
     (record {
       free = c.if-serve.ensures.free refl;
       unused = c.serve-then-serve.ensures.free yes;

@@ -35,8 +35,10 @@ returns-clause-ok g c =
     let count = count_from c.in_ok-blocks.blocks.items c.args.self.blocks.items laid in
     record {
       blocks = rw c.of_blocks.ensures.blocks (built_blocks bare linked drafts laid c.in_ok-link.ensures.ok.others);
-      preds = λ b l. rw c.of_blocks.ensures.blocks (built_preds bare linked drafts b laid (c.in_ok-link.ensures.ok.preds b (rw length-map (omega (arith, count, rw length-map at l)))));
-      succs = λ b l. built_succs bare drafts (length c.in_ok-blocks.blocks.items) b laid (count ∙ sym (length-map _ _)) (c.in_ok-link.ensures.within b (omega (arith, count, rw length-map at l)));
+      preds = λ b l. rw c.of_blocks.ensures.blocks (built_preds bare linked drafts b laid
+          (c.in_ok-link.ensures.ok.preds b (rw length-map (omega (arith, count, rw length-map at l)))));
+      succs = λ b l. built_succs bare drafts (length c.in_ok-blocks.blocks.items) b laid (count ∙ sym (length-map _ _))
+          (c.in_ok-link.ensures.within b (omega (arith, count, rw length-map at l)));
       insts = c.of_blocks.ensures.insts ∙ c.in_ok-blocks.ensures.insts;
       entry = c.of_blocks.ensures.entry;
       num_vregs = c.of_blocks.ensures.vregs;

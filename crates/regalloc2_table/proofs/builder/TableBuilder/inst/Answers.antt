@@ -13,4 +13,5 @@ returns-in_err-push-clause-unchanged g c =
 pub returns-clause-ok : goal.returns-clause-ok
 returns-clause-ok g c =
     let x = c.index_mut.result.now in
-    rw c.index-2.ensures (changed_at _ c.args.block x (record x { insts = c.push.new.self }) _ (omega arith) (rw c.index-2.ensures at c.index_mut.ensures.value) (more_insts (draft_of x) x.insts.items c.push.new.self.items c.args.inst refl c.in_ok-push.ensures.items))
+    rw c.index-2.ensures (changed_at _ c.args.block x (record x { insts = c.push.new.self }) _ (omega arith) (rw c.index-2.ensures at c.index_mut.ensures.value)
+    (more_insts (draft_of x) x.insts.items c.push.new.self.items c.args.inst refl c.in_ok-push.ensures.items))

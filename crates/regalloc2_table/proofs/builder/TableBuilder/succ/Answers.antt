@@ -23,5 +23,7 @@ pub returns-clause-ok : goal.returns-clause-ok
 returns-clause-ok g c =
     let x = c.index_mut-draft.result.now in
     let same : c.in_ok-arguments.arguments.items ≡ c.args.arguments.now = search rules in
-    rw c.index-2.ensures (changed_at _ c.args.block x (record x { succs = c.push.new.self; arguments = c.push-2.new.self }) _ (omega arith) (rw c.index-2.ensures at c.index_mut-draft.ensures.value)
-    (rw same at (more_succs (draft_of x) x.succs.items c.push.new.self.items x.arguments.items c.push-2.new.self.items c.args.to c.in_ok-arguments.arguments refl refl c.in_ok-push.ensures.items c.in_default.ensures.items)))
+    rw c.index-2.ensures (changed_at _ c.args.block x (record x { succs = c.push.new.self; arguments = c.push-2.new.self }) _ (omega arith)
+    (rw c.index-2.ensures at c.index_mut-draft.ensures.value)
+    (rw same at (more_succs (draft_of x) x.succs.items c.push.new.self.items x.arguments.items c.push-2.new.self.items c.args.to c.in_ok-arguments.arguments
+    refl refl c.in_ok-push.ensures.items c.in_default.ensures.items)))

@@ -5,7 +5,8 @@ use Rattle.regalloc2_names.specs.Place.{Place, NoPlace, InRegister}
 use Rattle.regalloc2_parts.specs.Resolved.{listed, has_scratch}
 use Rattle.regalloc2_parts.specs.Tracking.{CanExpand, IsExpanded}
 use Rattle.regalloc2_parts.specs.Computed.{IsWay, AreApartInMemory, AreSeenApart}
-use Rattle.regalloc2_parts.proofs.Computing.{Chosen, chosen, may_ask_again, refused_first, computes_at_once, computes_refused, can_expand, computes_by_way, not_apart}
+use Rattle.regalloc2_parts.proofs.Computing.{Chosen, chosen, may_ask_again, refused_first, computes_at_once, computes_refused, can_expand}
+use Rattle.regalloc2_parts.proofs.Computing.{computes_by_way, not_apart}
 use Rattle.regalloc2_parts.proofs.moves.scratch.MoveAndScratchResolver.compute_by_ref.Goals as goal
 
 pub choose_scratch-requires : goal.choose_scratch-requires
@@ -14,7 +15,8 @@ choose_scratch-requires g c = (search rules, (search rules, (c.requires.register
 pub returns-in_err-chosen : goal.returns-in_err-chosen
 returns-in_err-chosen g c =
     let none = c.in_err-chosen.ensures.none in
-    let h = refused_first (λ s a t. goal.GetReg-step g s a t) (λ s a t. goal.GetStackSlot-step g s a t) c.args.self.now.find_free_reg c.choose_scratch.new.self.find_free_reg c.args.self.now.get_stackslot c.choose_scratch.new.self.get_stackslot none.2 in
+    let h = refused_first (λ s a t. goal.GetReg-step g s a t) (λ s a t. goal.GetStackSlot-step g s a t) c.args.self.now.find_free_reg
+    c.choose_scratch.new.self.find_free_reg c.args.self.now.get_stackslot c.choose_scratch.new.self.get_stackslot none.2 in
     let p = err_from_is_err_and c.from_residual.result c.from_residual.ensures.1 in
     record {
       computed = rw p.1 (record {
@@ -40,9 +42,12 @@ returns-then-not-has_stack_to_stack g c =
     let made = c.in_ok-chosen.chosen.items in
     let apart : AreSeenApart stack made =
     subst (λ xs. AreSeenApart stack xs) c.as_slice-list.ensures
-    (subst (λ f. AreSeenApart (λ p b. goal.IsStackAlloc-post g f p b) c.as_slice-list.result.now) c.in_ok-chosen.ensures.stack (c.if-not-has_stack_to_stack.ensures.none refl)) in
-    let h = computes_at_once reg slots stack (InRegister self.borrowed_scratch_reg) (listed c.args.moves) made (has_scratch c.args.moves) self.find_free_reg after.find_free_reg self.get_stackslot after.get_stackslot
-    (chosen reg slots stack (InRegister self.borrowed_scratch_reg) c.args.moves made self.find_free_reg after.find_free_reg self.get_stackslot after.get_stackslot c.requires.owes c.requires.runnable c.in_ok-chosen.ensures.chosen)
+    (subst (λ f. AreSeenApart (λ p b. goal.IsStackAlloc-post g f p b) c.as_slice-list.result.now) c.in_ok-chosen.ensures.stack
+    (c.if-not-has_stack_to_stack.ensures.none refl)) in
+    let h = computes_at_once reg slots stack (InRegister self.borrowed_scratch_reg) (listed c.args.moves) made (has_scratch c.args.moves) self.find_free_reg
+    after.find_free_reg self.get_stackslot after.get_stackslot
+    (chosen reg slots stack (InRegister self.borrowed_scratch_reg) c.args.moves made self.find_free_reg after.find_free_reg self.get_stackslot
+    after.get_stackslot c.requires.owes c.requires.runnable c.in_ok-chosen.ensures.chosen)
     apart in
     record {
       computed = record {
@@ -59,7 +64,8 @@ pub hand_out-requires : goal.hand_out-requires
 hand_out-requires g c =
     let self = c.args.self.now in
     let mid = c.choose_scratch.new.self in
-    let again = may_ask_again (λ s a t. goal.GetReg-step g s a t) (λ s a t. goal.GetStackSlot-step g s a t) (λ s. goal.GetReg-pre g s) (λ s. goal.GetStackSlot-pre g s) c.args.moves c.in_ok-chosen.chosen.items self.find_free_reg mid.find_free_reg self.get_stackslot mid.get_stackslot
+    let again = may_ask_again (λ s a t. goal.GetReg-step g s a t) (λ s a t. goal.GetStackSlot-step g s a t) (λ s. goal.GetReg-pre g s)
+    (λ s. goal.GetStackSlot-pre g s) c.args.moves c.in_ok-chosen.chosen.items self.find_free_reg mid.find_free_reg self.get_stackslot mid.get_stackslot
     c.requires.registers c.requires.slots c.in_ok-chosen.ensures.chosen in
     record { registers = again.0; slots = again.1 }
 
@@ -72,12 +78,16 @@ returns-in_err-hand_out g c =
     let mid = c.choose_scratch.new.self in
     let last = c.hand_out.new.self in
     let made = c.in_ok-chosen.chosen.items in
-    let ch : Chosen reg slots stack (InRegister self.borrowed_scratch_reg) (listed c.args.moves) (has_scratch c.args.moves) self.find_free_reg mid.find_free_reg self.get_stackslot mid.get_stackslot made =
-    chosen reg slots stack (InRegister self.borrowed_scratch_reg) c.args.moves made self.find_free_reg mid.find_free_reg self.get_stackslot mid.get_stackslot c.requires.owes c.requires.runnable c.in_ok-chosen.ensures.chosen in
-    let h = computes_refused reg slots stack (InRegister self.borrowed_scratch_reg) (listed c.args.moves) made (has_scratch c.args.moves) self.find_free_reg mid.find_free_reg last.find_free_reg self.get_stackslot mid.get_stackslot last.get_stackslot ch c.in_err-hand_out.ensures.none.1 in
+    let ch : Chosen reg slots stack (InRegister self.borrowed_scratch_reg) (listed c.args.moves) (has_scratch c.args.moves) self.find_free_reg mid.find_free_reg
+    self.get_stackslot mid.get_stackslot made =
+    chosen reg slots stack (InRegister self.borrowed_scratch_reg) c.args.moves made self.find_free_reg mid.find_free_reg self.get_stackslot mid.get_stackslot
+    c.requires.owes c.requires.runnable c.in_ok-chosen.ensures.chosen in
+    let h = computes_refused reg slots stack (InRegister self.borrowed_scratch_reg) (listed c.args.moves) made (has_scratch c.args.moves) self.find_free_reg
+    mid.find_free_reg last.find_free_reg self.get_stackslot mid.get_stackslot last.get_stackslot ch c.in_err-hand_out.ensures.none.1 in
     let p = err_from_is_err_and c.from_residual-in_err-hand_out.result c.from_residual-in_err-hand_out.ensures.1 in
     let some : AreApartInMemory stack made → ⊥ =
-    not_apart (λ (f : g.row.IsStackAlloc.Denot) (p : Place) (b : Bool). goal.IsStackAlloc-post g f p b) mid.is_stack_alloc self.is_stack_alloc c.as_slice-list.result.now made c.in_ok-chosen.ensures.stack c.as_slice-list.ensures c.if-not-has_stack_to_stack.ensures.some in
+    not_apart (λ (f : g.row.IsStackAlloc.Denot) (p : Place) (b : Bool). goal.IsStackAlloc-post g f p b) mid.is_stack_alloc self.is_stack_alloc
+    c.as_slice-list.result.now made c.in_ok-chosen.ensures.stack c.as_slice-list.ensures c.if-not-has_stack_to_stack.ensures.some in
     record {
       computed = rw p.1 (record {
         asked = h.0;
@@ -98,8 +108,10 @@ expand-requires g c =
     let mid = c.choose_scratch.new.self in
     let last = c.hand_out.new.self in
     let made = c.in_ok-chosen.chosen.items in
-    let ch : Chosen reg slots stack (InRegister self.borrowed_scratch_reg) (listed c.args.moves) (has_scratch c.args.moves) self.find_free_reg mid.find_free_reg self.get_stackslot mid.get_stackslot made =
-    chosen reg slots stack (InRegister self.borrowed_scratch_reg) c.args.moves made self.find_free_reg mid.find_free_reg self.get_stackslot mid.get_stackslot c.requires.owes c.requires.runnable c.in_ok-chosen.ensures.chosen in
+    let ch : Chosen reg slots stack (InRegister self.borrowed_scratch_reg) (listed c.args.moves) (has_scratch c.args.moves) self.find_free_reg mid.find_free_reg
+    self.get_stackslot mid.get_stackslot made =
+    chosen reg slots stack (InRegister self.borrowed_scratch_reg) c.args.moves made self.find_free_reg mid.find_free_reg self.get_stackslot mid.get_stackslot
+    c.requires.owes c.requires.runnable c.in_ok-chosen.ensures.chosen in
     let same : last.is_stack_alloc ≡ self.is_stack_alloc = c.in_ok-hand_out.ensures.stack ∙ c.in_ok-chosen.ensures.stack in
     let borrowed : last.borrowed_scratch_reg ≡ self.borrowed_scratch_reg = c.in_ok-hand_out.ensures.borrowed ∙ c.in_ok-chosen.ensures.borrowed in
     let way = c.way-way.result.0 in
@@ -107,8 +119,10 @@ expand-requires g c =
     let handed = c.in_ok-hand_out.field-0 in
     let is : IsWay handed (InRegister self.borrowed_scratch_reg) way first = subst (λ r. IsWay handed (InRegister r) way first) borrowed c.way-way.ensures in
     let can : CanExpand stack way.register way.save first made =
-    can_expand reg slots stack (InRegister self.borrowed_scratch_reg) (listed c.args.moves) made (has_scratch c.args.moves) self.find_free_reg mid.find_free_reg last.find_free_reg self.get_stackslot mid.get_stackslot last.get_stackslot ch
-    c.requires.owes.borrowed_no_memory (λ e. let no : InRegister self.borrowed_scratch_reg ≡ NoPlace = e in absurd cc) handed c.in_ok-hand_out.ensures.handed way first is in (
+    can_expand reg slots stack (InRegister self.borrowed_scratch_reg) (listed c.args.moves) made (has_scratch c.args.moves) self.find_free_reg mid.find_free_reg
+    last.find_free_reg self.get_stackslot mid.get_stackslot last.get_stackslot ch
+    c.requires.owes.borrowed_no_memory (λ e. let no : InRegister self.borrowed_scratch_reg ≡ NoPlace = e in absurd cc) handed c.in_ok-hand_out.ensures.handed
+    way first is in (
       search rules,
       (
         subst (λ f. goal.IsStackAlloc-IsAlwaysCallable g f) (sym same) c.requires.stack,
@@ -126,8 +140,10 @@ returns g c =
     let mid = c.choose_scratch.new.self in
     let last = c.hand_out.new.self in
     let made = c.in_ok-chosen.chosen.items in
-    let ch : Chosen reg slots stack (InRegister self.borrowed_scratch_reg) (listed c.args.moves) (has_scratch c.args.moves) self.find_free_reg mid.find_free_reg self.get_stackslot mid.get_stackslot made =
-    chosen reg slots stack (InRegister self.borrowed_scratch_reg) c.args.moves made self.find_free_reg mid.find_free_reg self.get_stackslot mid.get_stackslot c.requires.owes c.requires.runnable c.in_ok-chosen.ensures.chosen in
+    let ch : Chosen reg slots stack (InRegister self.borrowed_scratch_reg) (listed c.args.moves) (has_scratch c.args.moves) self.find_free_reg mid.find_free_reg
+    self.get_stackslot mid.get_stackslot made =
+    chosen reg slots stack (InRegister self.borrowed_scratch_reg) c.args.moves made self.find_free_reg mid.find_free_reg self.get_stackslot mid.get_stackslot
+    c.requires.owes c.requires.runnable c.in_ok-chosen.ensures.chosen in
     let same : last.is_stack_alloc ≡ self.is_stack_alloc = c.in_ok-hand_out.ensures.stack ∙ c.in_ok-chosen.ensures.stack in
     let borrowed : last.borrowed_scratch_reg ≡ self.borrowed_scratch_reg = c.in_ok-hand_out.ensures.borrowed ∙ c.in_ok-chosen.ensures.borrowed in
     let way = c.way-way.result.0 in
@@ -135,8 +151,10 @@ returns g c =
     let handed = c.in_ok-hand_out.field-0 in
     let is : IsWay handed (InRegister self.borrowed_scratch_reg) way first = subst (λ r. IsWay handed (InRegister r) way first) borrowed c.way-way.ensures in
     let some : AreApartInMemory stack made → ⊥ =
-    not_apart (λ (f : g.row.IsStackAlloc.Denot) (p : Place) (b : Bool). goal.IsStackAlloc-post g f p b) mid.is_stack_alloc self.is_stack_alloc c.as_slice-list.result.now made c.in_ok-chosen.ensures.stack c.as_slice-list.ensures c.if-not-has_stack_to_stack.ensures.some in
-    let by = computes_by_way reg slots stack (InRegister self.borrowed_scratch_reg) (listed c.args.moves) made (has_scratch c.args.moves) self.find_free_reg mid.find_free_reg last.find_free_reg self.get_stackslot mid.get_stackslot last.get_stackslot ch some
+    not_apart (λ (f : g.row.IsStackAlloc.Denot) (p : Place) (b : Bool). goal.IsStackAlloc-post g f p b) mid.is_stack_alloc self.is_stack_alloc
+    c.as_slice-list.result.now made c.in_ok-chosen.ensures.stack c.as_slice-list.ensures c.if-not-has_stack_to_stack.ensures.some in
+    let by = computes_by_way reg slots stack (InRegister self.borrowed_scratch_reg) (listed c.args.moves) made (has_scratch c.args.moves) self.find_free_reg
+    mid.find_free_reg last.find_free_reg self.get_stackslot mid.get_stackslot last.get_stackslot ch some
     handed c.in_ok-hand_out.ensures.handed way first is in
     record {
       computed = record {

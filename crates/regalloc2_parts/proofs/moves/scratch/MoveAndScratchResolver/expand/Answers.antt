@@ -12,8 +12,10 @@ use Rattle.regalloc2_parts.proofs.moves.scratch.MoveAndScratchResolver.expand.Go
 
 pub loop-m-init : goal.loop-m-init
 loop-m-init g c = record {
-  follows = follows_none c.args.way.now.register c.args.way.now.save c.args.first c.args.moves.now c.new-out.result.items c.requires.can.first c.requires.can.fits c.new-out.ensures.items;
-  made = subst (λ xs. All (IsMade (λ p b. goal.IsStackAlloc-post g c.args.self.now.is_stack_alloc p b) c.args.way.now.register c.args.way.now.save c.args.moves.now) xs) (sym c.new-out.ensures.items) (All-nil _);
+  follows = follows_none c.args.way.now.register c.args.way.now.save c.args.first c.args.moves.now c.new-out.result.items c.requires.can.first
+      c.requires.can.fits c.new-out.ensures.items;
+  made = subst (λ xs. All (IsMade (λ p b. goal.IsStackAlloc-post g c.args.self.now.is_stack_alloc p b) c.args.way.now.register c.args.way.now.save
+      c.args.moves.now) xs) (sym c.new-out.ensures.items) (All-nil _);
 }
 
 pub make-requires : goal.make-requires
@@ -22,7 +24,8 @@ make-requires g c =
     let m = c.m-item.result in
     let inside : Contains c.args.moves.now m =
     read_in c.args.moves.now c.loop-m.m-index m c.loop-m-test.true c.m-item.is in
-    let free : (m.0 ≢ s) × (m.1 ≢ s) = All-contains (λ (x : Place × Place × g.row.T.Denot). (x.0 ≢ s) × (x.1 ≢ s)) c.args.moves.now m c.requires.can.unnamed inside in (
+    let free : (m.0 ≢ s) × (m.1 ≢ s) = All-contains (λ (x : Place × Place × g.row.T.Denot). (x.0 ≢ s) × (x.1 ≢ s)) c.args.moves.now m c.requires.can.unnamed
+    inside in (
       search rules,
       (
         free,
@@ -47,10 +50,13 @@ loop-m-preserved g c =
     let many : length (ends_of ms) ≡ length ms = length_ends ms in
     record {
       follows =
-          follows_more r s c.loop-m.held c.in_ok-held.held ms c.loop-m.out.items c.make.new.out.items c.loop-m.m-index m (let low : c.loop-m.m-index < length ms = c.loop-m-test.true in omega arith)
-          (read_from ms c.loop-m.m-index m c.loop-m-test.true c.m-item.is) (read_to ms c.loop-m.m-index m c.loop-m-test.true c.m-item.is) c.loop-m.invariant.follows c.in_ok-held.ensures.tracks;
+          follows_more r s c.loop-m.held c.in_ok-held.held ms c.loop-m.out.items c.make.new.out.items c.loop-m.m-index m
+          (let low : c.loop-m.m-index < length ms = c.loop-m-test.true in omega arith)
+          (read_from ms c.loop-m.m-index m c.loop-m-test.true c.m-item.is) (read_to ms c.loop-m.m-index m c.loop-m-test.true c.m-item.is)
+          c.loop-m.invariant.follows c.in_ok-held.ensures.tracks;
       made =
-          made_more stack r s c.requires.can.no_memory c.requires.can.real ms c.is_stack_to_stack-is_passing.result m c.loop-m.out.items c.make.new.out.items inside ends
+          made_more stack r s c.requires.can.no_memory c.requires.can.real ms c.is_stack_to_stack-is_passing.result m c.loop-m.out.items c.make.new.out.items
+          inside ends
           c.is_stack_to_stack-is_passing.ensures.one c.loop-m.invariant.made c.in_ok-held.ensures.added;
     }
 
@@ -71,7 +77,9 @@ returns g c =
     let many : length (ends_of ms) ≡ length ms = length_ends ms in
     let expanded : IsExpanded stack r s ms c.restore_first.new.out.items = record {
       same = λ q n. follows_all r s c.loop-m.held c.in_ok-_held._held ms c.loop-m.out.items c.restore_first.new.out.items c.loop-m.m-index
-          (let end : length ms ≤ c.loop-m.m-index = c.loop-m-test.false in omega arith) c.loop-m.invariant.follows c.in_ok-_held.ensures.tracks c.in_ok-_held.ensures.restored names q n;
-      each = made_last stack r s c.requires.can.no_memory c.requires.can.real ms c.loop-m.out.items c.restore_first.new.out.items c.loop-m.invariant.made c.in_ok-_held.ensures.added;
+          (let end : length ms ≤ c.loop-m.m-index = c.loop-m-test.false in omega arith) c.loop-m.invariant.follows c.in_ok-_held.ensures.tracks
+          c.in_ok-_held.ensures.restored names q n;
+      each = made_last stack r s c.requires.can.no_memory c.requires.can.real ms c.loop-m.out.items c.restore_first.new.out.items c.loop-m.invariant.made
+          c.in_ok-_held.ensures.added;
     } in
     record { expanded = expanded }

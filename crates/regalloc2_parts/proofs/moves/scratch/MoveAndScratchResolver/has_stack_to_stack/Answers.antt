@@ -14,4 +14,5 @@ loop-m-preserved g c =
 
 pub returns-clause-none : goal.returns-clause-none
 returns-clause-none g c =
-    λ e. subst (λ xs. AreSeenApart (λ p b. goal.IsStackAlloc-post g c.args.self.now.is_stack_alloc p b) xs) (take_all c.loop-m.m-index c.args.moves.now c.loop-m-test.false) c.loop-m.invariant
+    λ e. subst (λ xs. AreSeenApart (λ p b. goal.IsStackAlloc-post g c.args.self.now.is_stack_alloc p b) xs)
+    (take_all c.loop-m.m-index c.args.moves.now c.loop-m-test.false) c.loop-m.invariant

@@ -1,0 +1,52 @@
+-- What an output that is judged, and a task that is done or not, come to.
+use Rattle.std.proofs.Common.{◌≡◌, ℕ, List, [], ◌++◌, Option, None, Some, Bool, true, false, Result, Ok, Err, refl, sym, subst, ap, ◌∙◌, append-nil}
+use Rattle.std.specs.Prelude.{IfOk}
+use Rattle.std.specs.Io.KnownBytes.{Appends, Keeps, append_known}
+use Rattle.std.proofs.KnownBytes.{Appends-kept, Appends-trans}
+use Rattle.regalloc2_function.specs.FunctionValue.{FunctionValue}
+use Rattle.regalloc2_function.specs.Machine.{MachineValue}
+use Rattle.regalloc2_function.specs.OutputValue.{OutputValue}
+use Rattle.regalloc2_tool.specs.Listing.{listing_text}
+use Rattle.ra2_program.specs.Findings.{IsJudged, findings_text}
+use Rattle.ra2_program.specs.Input.{IsGiven}
+use Rattle.ra2_program.specs.Outcome.{IsAllocated, IsAnswered, IsOutcome, HasOutcome, refused, unaccepted}
+use Rattle.ra2_program.specs.Text.{refusal_line, checked_line}
+use Rattle.ra2_program.specs.declared.task.Task.{Task}
+use Rattle.ra2_program.specs.declared.task.Task.TheVariants.{Run, Check}
+
+-- the bytes of the writer before the listing, after it, and after the judgement
+pub judged : {E : Type 0} (task : Task) (f : FunctionValue) (env : MachineValue) (out : OutputValue) (old listed new : Option (List ℕ)) (r : Result Bool E) →
+    task ≡ Check → IsAllocated f env out →
+    Appends old listed (listing_text f out) → IfOk r (IsJudged f env out (Appends listed new)) → IfOk r (IsOutcome task f env (Appends old new))
+unfolding IsJudged
+judged task f env out old listed new (Ok true) e a w h =
+    (out, a, subst (λ t. IsAnswered t f env out (Appends old new)) (sym e) (h.0, Appends-trans old listed new (listing_text f out) checked_line w h.1))
+judged task f env out old listed new (Ok false) e a w h =
+    unaccepted out a e (h.0, h.1, Appends-trans old listed new (listing_text f out) (findings_text h.0) w h.2)
+judged task f env out old listed new (Err y) e a w h = tt
+
+-- a flush changes no outcome
+answered : (task : Task) (f : FunctionValue) (env : MachineValue) (out : OutputValue) (old shown new : Option (List ℕ)) → Keeps shown new →
+    IsAnswered task f env out (Appends old shown) → IsAnswered task f env out (Appends old new)
+answered Run f env out old shown new k w = Appends-kept old shown new (listing_text f out) w k
+answered Check f env out old shown new k w = (w.0, Appends-kept old shown new (listing_text f out ++ checked_line) w.1 k)
+
+flushed : (task : Task) (f : FunctionValue) (env : MachineValue) (old shown new : Option (List ℕ)) (accepted : Bool) → Keeps shown new →
+    IsOutcome task f env (Appends old shown) accepted → IsOutcome task f env (Appends old new) accepted
+flushed task f env old shown new true k h = (h.0, h.1, answered task f env h.0 old shown new k h.2)
+flushed task f env old shown new false k (refused e h w) = refused e h (Appends-kept old shown new (refusal_line e) w k)
+flushed task f env old shown new false k (unaccepted out h e x) = unaccepted out h e
+    (x.0, x.1, Appends-kept old shown new (listing_text f out ++ findings_text x.0) x.2 k)
+
+-- a buffer that is empty holds nothing back
+unbuffered : (a : Option (List ℕ)) (bs : List ℕ) → bs ≡ [] → append_known a bs ≡ a
+unbuffered None bs e = refl
+unbuffered (Some x) bs e = ap (λ ys. Some (x ++ ys)) e ∙ ap Some (append-nil x)
+
+-- the function and the machine that are given have the outcome, once the buffer is empty
+pub outcome : (bytes : Option (List ℕ)) (task : Task) (f : FunctionValue) (env own : MachineValue) (old shown new : Option (List ℕ)) (buffer : List ℕ)
+    (accepted b : Bool) → IsGiven bytes f env → own ≡ env → accepted ≡ b →
+    Keeps shown (append_known new buffer) → buffer ≡ [] → IsOutcome task f own (Appends old shown) accepted → HasOutcome bytes task (Appends old new) b
+outcome bytes task f env own old shown new buffer accepted b given e d k n h =
+    let kept = flushed task f own old shown new accepted (subst (λ x. Keeps shown x) (unbuffered new buffer n) k) h in
+    (f, env, given, subst (λ m. IsOutcome task f m (Appends old new) b) e (subst (λ a. IsOutcome task f own (Appends old new) a) d kept))

@@ -1,0 +1,22 @@
+-- The texts that the program writes.
+use Rattle.std.specs.Prelude.{ℕ, codes, List, ◌++◌}
+use Rattle.std.specs.Fmt.{decimal}
+use Rattle.regalloc2_names.specs.declared.RegAllocError.{RegAllocError}
+use Rattle.regalloc2_tool.specs.Fault.{fault_number}
+use Rattle.regalloc2_tool.specs.Refusal.{refusal_number}
+use Rattle.ra2_program.specs.declared.reading.InputError.{InputError}
+use Rattle.ra2_program.specs.declared.reading.InputError.TheVariants.{Unreadable, BadFunction, BadMachine}
+
+-- why there is nothing to allocate, with the number of a fault
+abbrev pub input_text : InputError → List ℕ
+input_text Unreadable = codes "input unreadable"
+input_text (BadFunction fault) = codes "bad function " ++ decimal (fault_number fault)
+input_text BadMachine = codes "bad machine"
+
+-- the line of a refusal, with its number
+abbrev pub refusal_line : RegAllocError → List ℕ
+refusal_line e = codes "refused " ++ decimal (refusal_number e) ++ codes "\n"
+
+-- the line of an output without faults
+abbrev pub checked_line : List ℕ
+checked_line = codes "checked\n"

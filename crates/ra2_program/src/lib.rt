@@ -1,0 +1,12 @@
+//! What the program `ra2` does: it reads a stored function, allocates registers to it, and prints what it gives.
+#![tactic(auto)]
+
+mod judging;
+mod program;
+mod reading;
+mod task;
+
+pub use judging::{judge, show};
+pub use program::{UNUSABLE, answer, refuse_words};
+pub use reading::{InputError, function_from};
+pub use task::Task;

@@ -1,0 +1,87 @@
+//! What the program does with its words.
+
+ghost use Rattle.std.specs.Prelude.{◌≡◌, ◌≤◌, None, Some, true, false};
+ghost use Rattle.std.specs.Io.Buffered.{writer_inner, writer_contents};
+ghost use Rattle.std.specs.Io.KnownBytes.{Appends};
+ghost use Rattle.ra2_program.specs.Words.{task_of};
+ghost use Rattle.ra2_program.specs.Outcome.{HasOutcome};
+
+use super::judging::show;
+use super::reading::function_from;
+use super::task::Task;
+use std::alloc::Global;
+use std::io::{BufWriter, Read, Write};
+
+/// Status of bad words, of bad input and of output that can't be written.
+pub const UNUSABLE: u8 = 2;
+
+/// Status of a refused function, and of an output with faults.
+const REFUSED: u8 = 1;
+
+/// Says that the words are bad, and answers the status.
+pub fn refuse_words<E: Write>(err: &mut E) -> u8
+    ensures { result ≡ 2 }
+{
+    let _ = writeln!(err, "ra2: bad words");
+    UNUSABLE
+}
+
+/// Does a task with what a reader gives, and answers the status. What it writes has left the buffer where that is 0 or 1.
+fn perform<R: Read + Drop, O: Write + Drop, E: Write>(
+    alloc: Global,
+    task: Task,
+    input: R,
+    out: &mut BufWriter<O>,
+    err: &mut E,
+) -> u8
+    ensures status { result ≤ 2 }
+    ensures done { result ≡ 0 → HasOutcome (R.remaining input) task (Appends (writer_contents O.contents out.old) (O.contents (writer_inner out.new))) true }
+    ensures turned_down { result ≡ 1 → HasOutcome (R.remaining input) task (Appends (writer_contents O.contents out.old) (O.contents (writer_inner out.new)))
+        false }
+{
+    let f = match function_from(alloc, input) {
+        Ok(f) => f,
+        Err(error) => {
+            let _ = writeln!(err, "ra2: {error}");
+            return UNUSABLE;
+        }
+    };
+    let Ok(accepted) = show(alloc, task, &f, f.machine_env(), out) else {
+        return UNUSABLE;
+    };
+    let Ok(()) = out.flush() else {
+        return UNUSABLE;
+    };
+    if accepted { 0 } else { REFUSED }
+}
+
+/// What the program does with its words: reads `input`, writes to `out` and `err`, and answers the status, and the writer
+/// behind `out`.
+///
+/// The input is the JSON text of a stored function. `run` allocates registers to it, tests included, and writes its listing,
+/// or `refused` and the refusal's number; `check` also judges the output, and then writes `checked` or its faults. The status
+/// is 0; or 1 where the function is refused or a fault is found; or 2, with one line on `err`, where words, input, stored
+/// numbers or machine are bad, which is judged in this order. A failed write to `out` ends it with 2 and no further text.
+pub fn answer<R: Read + Drop, O: Write + Drop, E: Write>(
+    alloc: Global,
+    words: &[String],
+    input: R,
+    mut out: BufWriter<O>,
+    err: &mut E,
+) -> (u8, O)
+    ensures status { result.0 ≤ 2 }
+    ensures bad_words { task_of words.now ≡ None → result.0 ≡ 2 }
+    ensures done { result.0 ≡ 0 → (t : Task) × (task_of words.now ≡ Some t)
+        × HasOutcome (R.remaining input) t (Appends (writer_contents O.contents out) (O.contents result.1)) true }
+    ensures turned_down { result.0 ≡ 1 → (t : Task) × (task_of words.now ≡ Some t)
+        × HasOutcome (R.remaining input) t (Appends (writer_contents O.contents out) (O.contents result.1)) false }
+{
+    let Some(task) = Task::of(words) else {
+        let (untouched, _) = out.into_parts();
+        return (refuse_words(err), untouched);
+    };
+    let status = perform(alloc, task, input, &mut out, err);
+    // a buffer that is dropped would write once more what a failed write left in it
+    let (written, _) = out.into_parts();
+    (status, written)
+}

@@ -1,0 +1,301 @@
+//! What the program answers to words and texts, and where a read or a write fails.
+
+use super::texts::{TEXT, TOO_MANY, TWO_BLOCKS};
+use ra2_program::answer;
+use std::alloc::{AllocError, Global};
+use std::io::{self, BufWriter, ErrorKind, Read, Write};
+use std::test::Fail;
+
+const LISTING: &str =
+    "block0:\n  inst0 op: Def: v0i reg [p9i]\n  inst1 ret: Use: v0i reg [p9i]\nslots 0\n";
+
+const CHECKED: &str =
+    "block0:\n  inst0 op: Def: v0i reg [p9i]\n  inst1 ret: Use: v0i reg [p9i]\nslots 0\nchecked\n";
+
+const BLOCKS_CHECKED: &str = "block0:\n  inst0 branch\nblock1:\n  inst1 ret\nslots 0\nchecked\n";
+
+const UNREADABLE: &str = "ra2: input unreadable\n";
+
+/// A reader over a text, of which the read that comes after so many others fails.
+#[derive(Drop)]
+struct Failing<'a> {
+    text: &'a [u8],
+    sound_reads: u32,
+}
+
+impl Read for Failing<'_> {
+    fn read(&mut self, buf: &mut [u8]) -> io::Result<usize> {
+        if self.sound_reads == 0 {
+            return Err(io::Error::from(ErrorKind::BrokenPipe));
+        }
+        self.sound_reads = self.sound_reads.saturating_sub(1);
+        self.text.read(buf)
+    }
+}
+
+/// A writer over memory. The write that comes after so many others fails, once, and so may each flush. It sees whether a write
+/// came after the failed one.
+#[derive(Drop)]
+struct Faulty {
+    text: Vec<u8>,
+    sound_writes: u32,
+    has_failed: bool,
+    is_written_again: bool,
+    flushes: bool,
+}
+
+impl Faulty {
+    fn new(alloc: Global, sound_writes: u32, flushes: bool) -> Faulty {
+        Faulty {
+            text: Vec::new(alloc),
+            sound_writes,
+            has_failed: false,
+            is_written_again: false,
+            flushes,
+        }
+    }
+}
+
+impl Write for Faulty {
+    fn write(&mut self, buf: &[u8]) -> io::Result<usize> {
+        if self.sound_writes == 0 && !self.has_failed {
+            self.has_failed = true;
+            return Err(io::Error::from(ErrorKind::BrokenPipe));
+        }
+        self.is_written_again = self.has_failed;
+        self.sound_writes = self.sound_writes.saturating_sub(1);
+        if self.text.extend_from_slice(buf).is_err() {
+            return Err(io::Error::from(ErrorKind::OutOfMemory));
+        }
+        Ok(buf.len())
+    }
+
+    fn flush(&mut self) -> io::Result<()> {
+        if self.flushes {
+            Ok(())
+        } else {
+            Err(io::Error::from(ErrorKind::BrokenPipe))
+        }
+    }
+}
+
+/// What the program writes, and its status.
+#[derive(Clone, Copy)]
+struct Answer<'a> {
+    out: &'a str,
+    err: &'a str,
+    status: u8,
+}
+
+/// The words of a command line.
+fn words(alloc: Global, line: &[&str]) -> Result<Vec<String>, AllocError> {
+    let mut words = Vec::new(alloc);
+    for word in line {
+        words.push(String::from_str(alloc, word)?)?;
+    }
+    Ok(words)
+}
+
+/// Whether the program answers so to one word and a text.
+fn answers(alloc: Global, line: &[&str], text: &[u8], want: Answer) -> Result<bool, Fail> {
+    let words = words(alloc, line)?;
+    let out = BufWriter::new(alloc, Vec::new(alloc))?;
+    let mut err = Vec::new(alloc);
+    let (status, out) = answer(alloc, words.as_slice(), text, out, &mut err);
+    Ok(
+        status == want.status
+            && out.as_slice() == want.out.as_bytes()
+            && err.as_slice() == want.err.as_bytes(),
+    )
+}
+
+/// The text with one part replaced.
+fn replaced(alloc: Global, old: &str, new: &str) -> Result<String, AllocError> {
+    match TEXT.split_once(old) {
+        Some((before, after)) => format!(in alloc; "{before}{new}{after}"),
+        None => Ok(String::new(alloc)),
+    }
+}
+
+#[test]
+fn functions_are_allocated(rt: HostRuntime) -> Result<(), Fail> {
+    let rows = [
+        ("run", TEXT, LISTING, 0),
+        ("check", TEXT, CHECKED, 0),
+        ("check", TWO_BLOCKS, BLOCKS_CHECKED, 0),
+        ("run", TOO_MANY, "refused 7\n", 1),
+        ("check", TOO_MANY, "refused 7\n", 1),
+    ];
+    for (word, text, out, status) in rows {
+        let want = Answer {
+            out,
+            err: "",
+            status,
+        };
+        assert!(rt;
+            answers(rt.alloc(), &[word], text.as_bytes(), want)?,
+            "{word} {status}"
+        );
+    }
+    Ok(())
+}
+
+#[test]
+fn bad_words_are_refused(rt: HostRuntime) -> Result<(), Fail> {
+    let want = Answer {
+        out: "",
+        err: "ra2: bad words\n",
+        status: 2,
+    };
+    for word in ["walk", "replay", "", "Run", "runs", "ru"] {
+        assert!(rt;
+            answers(rt.alloc(), &[word], TEXT.as_bytes(), want)?,
+            "{word}"
+        );
+    }
+    assert!(rt; answers(rt.alloc(), &[], TEXT.as_bytes(), want)?);
+    assert!(rt; answers(rt.alloc(), &["run", "check"], TEXT.as_bytes(), want)?);
+    assert!(rt; answers(rt.alloc(), &["run", "run"], b"{", want)?);
+    Ok(())
+}
+
+#[test]
+fn bad_functions_are_refused(rt: HostRuntime) -> Result<(), Fail> {
+    let rows = [
+        (
+            "\"block_preds\":[[]]",
+            "\"block_preds\":[]",
+            "ra2: bad function 1\n",
+        ),
+        ("[[0,2]]", "[[0,3]]", "ra2: bad function 2\n"),
+        ("85899345920", "206158430208", "ra2: bad function 3\n"),
+        ("[1,1,1]", "[3,1,1]", "ra2: bad function 4\n"),
+        ("[1,1,1]", "[1,1]", "ra2: bad function 1\n"),
+        (
+            "\"fixed_stack_slots\":[]",
+            "\"fixed_stack_slots\":[0]",
+            "ra2: bad machine\n",
+        ),
+        ("\"num_vregs\":1,", "", UNREADABLE),
+    ];
+    for (old, new, err) in rows {
+        let text = replaced(rt.alloc(), old, new)?;
+        let want = Answer {
+            out: "",
+            err,
+            status: 2,
+        };
+        assert!(rt;
+            answers(rt.alloc(), &["run"], text.as_bytes(), want)?,
+            "run with {new}"
+        );
+        assert!(rt;
+            answers(rt.alloc(), &["check"], text.as_bytes(), want)?,
+            "check with {new}"
+        );
+    }
+    Ok(())
+}
+
+#[test]
+fn texts_that_are_cut_or_no_text_are_refused(rt: HostRuntime) -> Result<(), Fail> {
+    let want = Answer {
+        out: "",
+        err: UNREADABLE,
+        status: 2,
+    };
+    let whole = TEXT.as_bytes();
+    for length in 0..whole.len() {
+        assert!(rt;
+            answers(rt.alloc(), &["run"], &whole[..length], want)?,
+            "{length} bytes"
+        );
+    }
+    let no_text: [&[u8]; 4] = [b"{", b"null", &[34, 255, 34], &[195, 40]];
+    for bytes in no_text {
+        assert!(rt; answers(rt.alloc(), &["run"], bytes, want)?);
+    }
+    Ok(())
+}
+
+#[test]
+fn failed_reads_are_refused(rt: HostRuntime) -> Result<(), Fail> {
+    let words = words(rt.alloc(), &["run"])?;
+    for sound_reads in [0, 1] {
+        let input = Failing {
+            text: TEXT.as_bytes(),
+            sound_reads,
+        };
+        let out = BufWriter::new(rt.alloc(), Vec::new(rt.alloc()))?;
+        let mut err = Vec::new(rt.alloc());
+        let (status, out) = answer(rt.alloc(), words.as_slice(), input, out, &mut err);
+        assert_eq!(rt; status, 2, "after {sound_reads}");
+        assert!(rt; out.is_empty(), "after {sound_reads}");
+        assert_eq!(rt;
+            err.as_slice(),
+            UNREADABLE.as_bytes(),
+            "after {sound_reads}"
+        );
+    }
+    Ok(())
+}
+
+/// What the program writes and answers where the write that comes after so many others fails, over a buffer of so many bytes.
+fn answer_to_faulty(
+    alloc: Global,
+    capacity: usize,
+    sound_writes: u32,
+) -> Result<(u8, Faulty), Fail> {
+    let words = words(alloc, &["check"])?;
+    let out = Faulty::new(alloc, sound_writes, true);
+    let out = BufWriter::with_capacity(alloc, capacity, out)?;
+    let mut err = Vec::new(alloc);
+    let (status, out) = answer(alloc, words.as_slice(), TEXT.as_bytes(), out, &mut err);
+    if !err.is_empty() {
+        return Ok((u8::MAX, out));
+    }
+    Ok((status, out))
+}
+
+/// How many writes there are over a buffer of so many bytes, where each of them ends the program if it fails.
+fn fatal_writes(alloc: Global, capacity: usize) -> Result<Option<u32>, Fail> {
+    for sound_writes in 0..1000u32 {
+        let (status, out) = answer_to_faulty(alloc, capacity, sound_writes)?;
+        if !out.has_failed {
+            let is_whole = status == 0 && out.text.as_slice() == CHECKED.as_bytes();
+            return Ok(is_whole.then_some(sound_writes));
+        }
+        let is_ended = status == 2 && !out.is_written_again;
+        if !is_ended || !CHECKED.as_bytes().starts_with(out.text.as_slice()) {
+            break;
+        }
+    }
+    Ok(None)
+}
+
+#[test]
+fn a_failed_write_ends_it(rt: HostRuntime) -> Result<(), Fail> {
+    assert!(rt; matches!(fatal_writes(rt.alloc(), 0)?, Some(5..)));
+    assert!(rt; matches!(fatal_writes(rt.alloc(), 16)?, Some(5..)));
+    assert_eq!(rt; fatal_writes(rt.alloc(), 8192)?, Some(1));
+    Ok(())
+}
+
+#[test]
+fn a_failed_flush_and_a_shut_error_stream_end_it(rt: HostRuntime) -> Result<(), Fail> {
+    let run = words(rt.alloc(), &["run"])?;
+    let walk = words(rt.alloc(), &["walk"])?;
+    let out = Faulty::new(rt.alloc(), u32::MAX, false);
+    let out = BufWriter::new(rt.alloc(), out)?;
+    let mut err = Vec::new(rt.alloc());
+    let (status, out) = answer(rt.alloc(), run.as_slice(), TEXT.as_bytes(), out, &mut err);
+    assert_eq!(rt; status, 2);
+    assert_eq!(rt; out.text.as_slice(), LISTING.as_bytes());
+    assert!(rt; err.is_empty());
+    let mut shut = Faulty::new(rt.alloc(), 0, false);
+    let out = BufWriter::new(rt.alloc(), Vec::new(rt.alloc()))?;
+    let (status, out) = answer(rt.alloc(), walk.as_slice(), TEXT.as_bytes(), out, &mut shut);
+    assert_eq!(rt; status, 2, "and the line can't be written");
+    assert!(rt; out.is_empty());
+    Ok(())
+}

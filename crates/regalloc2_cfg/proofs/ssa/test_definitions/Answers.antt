@@ -1,0 +1,13 @@
+use Rattle.std.proofs.Common.{◌≡◌}
+use Rattle.std.proofs.lemmas.Result.{IfErr-weaker}
+use Rattle.regalloc2_names.specs.declared.RegAllocError.TheVariants.{Memory}
+use Rattle.regalloc2_function.specs.FunctionValue.{FunctionValue}
+use Rattle.regalloc2_function.specs.Reasons.{IsDefinitionFault}
+use Rattle.regalloc2_cfg.proofs.Faults.{only_memory}
+use Rattle.regalloc2_cfg.proofs.ssa.test_definitions.Goals as goal
+
+pub returns-clause-accepted : goal.returns-clause-accepted
+returns-clause-accepted g c once uses =
+    let f : FunctionValue = g.F.Function.function c.args.f.now in
+    IfErr-weaker c.test_over.result (IsDefinitionFault f) (λ e. e ≡ Memory) (only_memory f c.requires.follow c.requires.some once uses)
+    c.test_over.ensures.refused

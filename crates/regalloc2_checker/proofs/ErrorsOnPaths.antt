@@ -1,0 +1,102 @@
+-- The errors of an instruction, by what holds on every path.
+use Rattle.std.proofs.Common.{ℕ, ◌≡◌, ◌+◌, true, refl, sym, ap, ◌∙◌, subst, List, ◌++◌, append_assoc, length}
+use Rattle.std.specs.Prelude.{◌↔◌, Option, None, Some}
+use Rattle.std.specs.Option.{option_to_list}
+use Rattle.regalloc2_names.specs.declared.OperandPos.{OperandPos}
+use Rattle.regalloc2_names.specs.declared.OperandPos.TheVariants.{Early, Late}
+use Rattle.regalloc2_names.specs.Register.{VirtualRegister}
+use Rattle.regalloc2_names.specs.Operand.{OperandValue}
+use Rattle.regalloc2_names.specs.Place.{Place}
+use Rattle.regalloc2_function.specs.FunctionValue.{FunctionValue, inst_at}
+use Rattle.regalloc2_function.specs.Machine.{MachineValue}
+use Rattle.regalloc2_function.specs.OutputValue.{OutputValue, MoveValue, allocs_of, place_at}
+use Rattle.regalloc2_function.specs.Path.{Location}
+use Rattle.regalloc2_function.specs.SourceRun.{Source}
+use Rattle.regalloc2_function.specs.AllocatedRun.{Cells, moves_at, after_moves, after_early_defs}
+use Rattle.regalloc2_function.specs.Held.{Holds}
+use Rattle.regalloc2_checker.specs.declared.errors.CheckerError.{CheckerError}
+use Rattle.regalloc2_checker.specs.Facts.{Facts, facts_of, facts_early, facts_after, facts_for}
+use Rattle.regalloc2_checker.specs.CheckInputs.{IsKnown}
+use Rattle.regalloc2_checker.specs.TransferTracks.{Tracks}
+use Rattle.regalloc2_checker.specs.Report.{operand_at, AreVRegsInValue, IsValueFault, IsFault, IsFine, IsJudged, AreMoveFaults, InstReport}
+use Rattle.regalloc2_checker.specs.Report.IsValueFault.{unknown, incorrect}
+use Rattle.regalloc2_checker.specs.Report.IsFault.{missing, of_value, of_constraint}
+use Rattle.regalloc2_checker.proofs.FactsFollowMaps.{Exact, early-Exact}
+
+-- what places hold, said in two ways
+module _ (A B : VirtualRegister → Type 0) (h : (v : VirtualRegister) → A v ↔ B v) where
+  holders_as : (vs : List VirtualRegister) → AreVRegsInValue A vs → AreVRegsInValue B vs
+  holders_as vs a = record { members = λ v. (λ c. (h v).0 ((a.members v).0 c), λ b. (a.members v).1 ((h v).1 b)); rising = a.rising }
+
+  value_as : {T : Type 0} (inst : ℕ) (op : OperandValue) (p : Place) (e : CheckerError T) → IsValueFault inst op p A e → IsValueFault inst op p B e
+  value_as inst op p _ (unknown n) = unknown (λ v b. n v ((h v).1 b))
+  value_as inst op p _ (incorrect n v x actual a) = incorrect (λ b. n ((h op.vreg).1 b)) v ((h v).0 x) actual (holders_as actual.items a)
+
+  fault_as : {T : Type 0} (env : MachineValue) (inst : ℕ) (op : OperandValue) (count : ℕ) (places : List Place) (p : Place) (e : CheckerError T) →
+      IsFault env inst op count places p A e → IsFault env inst op count places p B e
+  fault_as env inst op count places p _ (missing m) = missing m
+  fault_as env inst op count places p _ (of_value e there reads v) = of_value e there reads (value_as inst op p e v)
+  fault_as env inst op count places p _ (of_constraint e there held c) = of_constraint e there (λ r. (h op.vreg).0 (held r)) c
+
+  fine_as : (env : MachineValue) (op : OperandValue) (count : ℕ) (places : List Place) (p : Place) → IsFine env op count places p A →
+      IsFine env op count places p B
+  fine_as env op count places p f = record { value = λ r. (h op.vreg).0 (f.value r); constraint = f.constraint }
+
+-- the first error among a position's operands depends on what places hold only by which vregs' values they hold
+pub judged_as : {T : Type 0} (env : MachineValue) (inst : ℕ) (os : List OperandValue) (ps : List Place) (position : OperandPos)
+    (A B : Place → VirtualRegister → Type 0) (h : (p : Place) (v : VirtualRegister) → A p v ↔ B p v)
+    (r : Option (CheckerError T)) → IsJudged env inst os ps position A r → IsJudged env inst os ps position B r
+judged_as env inst os ps position A B h None j = λ k less at. fine_as (A (place_at ps k)) (B (place_at ps k)) (h (place_at ps k)) env (operand_at os k)
+    (length os) ps (place_at ps k) (j k less at)
+judged_as env inst os ps position A B h (Some e) (k, less, at, before, f) = (
+  k,
+  less,
+  at,
+  λ i l a. fine_as (A (place_at ps i)) (B (place_at ps i)) (h (place_at ps i)) env (operand_at os i) (length os) ps (place_at ps i) (before i l a),
+  fault_as (A (place_at ps k)) (B (place_at ps k)) (h (place_at ps k)) env inst (operand_at os k) (length os) ps (place_at ps k) e f,
+)
+
+-- what holds where early uses are read
+pub early_facts : (f : FunctionValue) (o : OutputValue) (b i : ℕ) (c e : Cells) (m j : Source) (F : Facts) (ms : List MoveValue) (ps : List Place)
+    (os : List OperandValue) → Tracks (i + 1) c m F →
+    ms ≡ moves_at f o (record { block = b; inst = i }) → ps ≡ allocs_of o i → os ≡ (inst_at f i).operands → e ≡ after_early_defs ps 0 os (after_moves ms c) →
+    j ≡ m →
+    (p : Place) (v : VirtualRegister) → facts_of e j p v ≡ facts_early f o (record { block = b; inst = i }) F p v
+early_facts f o b i c e m j F ms ps os t em ep eo ee ej p v =
+    let l : Location = record { block = b; inst = i } in
+    let x : Exact c m F = record { same = t.same } in
+    rw (ee, ej, em, ep, eo) ((early-Exact f o l c m F x).same p v)
+
+-- what is known holds
+known_early : (f : FunctionValue) (o : OutputValue) (l : Location) (E F : Facts) → ((p : Place) (v : VirtualRegister) → E p v ≡ facts_early f o l F p v) →
+    IsKnown f o l F → (p : Place) (v : VirtualRegister) → (E p v ≡ true) ↔ Holds f o l Early p v
+unfolding facts_for
+known_early f o l E F same known p v = (λ t. (known Early p v).0 (sym (same p v) ∙ t), λ h. same p v ∙ (known Early p v).1 h)
+
+known_late : (f : FunctionValue) (o : OutputValue) (l : Location) (E F : Facts) → ((p : Place) (v : VirtualRegister) → E p v ≡ facts_after f o l F p v) →
+    IsKnown f o l F → (p : Place) (v : VirtualRegister) → (E p v ≡ true) ↔ Holds f o l Late p v
+unfolding facts_for
+known_late f o l E F same known p v = (λ t. (known Late p v).0 (sym (same p v) ∙ t), λ h. same p v ∙ (known Late p v).1 h)
+
+-- the errors of an instruction, as they were found
+pub inst_report : {T : Type 0} (f : FunctionValue) (env : MachineValue) (o : OutputValue) (l : Location) (E L F : Facts) (ms : List MoveValue) (ps : List Place)
+    (os : List OperandValue) (of_moves : List (CheckerError T))
+    (early late : Option (CheckerError T)) → ms ≡ moves_at f o l → ps ≡ allocs_of o l.inst → os ≡ (inst_at f l.inst).operands → AreMoveFaults env ms of_moves →
+    IsJudged env l.inst os ps Early (λ p v. E p v ≡ true) early → IsJudged env l.inst os ps Late (λ p v. L p v ≡ true) late →
+    ((p : Place) (v : VirtualRegister) → E p v ≡ facts_early f o l F p v) → ((p : Place) (v : VirtualRegister) → L p v ≡ facts_after f o l F p v) →
+    IsKnown f o l F →
+    InstReport f env o l (of_moves ++ (option_to_list early ++ option_to_list late))
+inst_report f env o l E L F ms ps os of_moves early late em ep eo moves je jl se sl known = record {
+  of_moves = of_moves;
+  of_early = early;
+  of_late = late;
+  moves = subst (λ (xs : List MoveValue). AreMoveFaults env xs of_moves) em moves;
+  early = rw (← eo, ← ep) (judged_as env l.inst os ps Early (λ p v. E p v ≡ true) (Holds f o l Early) (known_early f o l E F se known) early je);
+  late = rw (← eo, ← ep) (judged_as env l.inst os ps Late (λ p v. L p v ≡ true) (Holds f o l Late) (known_late f o l L F sl known) late jl);
+  all = refl;
+}
+
+-- errors added one after the other
+pub added_in_turn : {T : Type 0} (old one two three a b c : List T) → one ≡ old ++ a → two ≡ one ++ b → three ≡ two ++ c → three ≡ old ++ (a ++ (b ++ c))
+added_in_turn old one two three a b c ea eb ec =
+    ec ∙ ap (λ (xs : List _). xs ++ c) (eb ∙ ap (λ (xs : List _). xs ++ b) ea) ∙ append_assoc (old ++ a) b c ∙ append_assoc old a (b ++ c)

@@ -1,0 +1,250 @@
+-- What a round over the edges keeps, and what it leaves at the end.
+use Rattle.std.proofs.Common.{ℕ, zero, suc, ◌≡◌, ◌+◌, ◌-◌, ◌<◌, ◌≤◌, ◌⊎◌, inl, inr, arith, Bool, true, false, List, [], ◌∷◌, length, refl, sym, ap}
+use Rattle.std.proofs.Common.{◌∙◌, subst, below_more}
+use Rattle.std.specs.Prelude.{◌&&◌, slice_index, sum_by}
+use Rattle.std.proofs.lemmas.Bool.{cases_Bool, cases_eq}
+use Rattle.regalloc2_names.specs.Register.{VirtualRegister}
+use Rattle.regalloc2_names.specs.Place.{Place}
+use Rattle.regalloc2_function.specs.FunctionValue.{FunctionValue, block_at}
+use Rattle.regalloc2_function.specs.OutputValue.{OutputValue}
+use Rattle.regalloc2_function.specs.Path.{Way, Onward, ToSuccessor, Location, first_of, next_of, end_of, HasWay, IsPath}
+use Rattle.regalloc2_function.specs.WellFormed.{IsFramed}
+use Rattle.regalloc2_checker.specs.Facts.{Facts, IsTraced, facts_over_edge, facts_after, true_facts}
+use Rattle.regalloc2_checker.specs.Fixpoint.{nth_of, IsReachedBlock, facts_within, facts_passed, IsRefuted}
+use Rattle.regalloc2_checker.specs.ValueNumbers.{Numbers, facts_in}
+use Rattle.regalloc2_checker.specs.Meet.{IsCommon}
+use Rattle.regalloc2_checker.specs.Tables.{BlockView, view_at, facts_at, weight, IsSound, AllSolved, BlockSolved, EdgeSolved, EdgesSolved, IsUpdated}
+use Rattle.regalloc2_checker.specs.Tables.{IsMeet, IsRound, IsSolved}
+use Rattle.regalloc2_checker.proofs.FactsTraced.{traced-same, traced-after, traced-edge, traced-then, change-same}
+use Rattle.regalloc2_checker.proofs.FactsFollowMaps.{AreEarlier, true_facts-way}
+use Rattle.regalloc2_checker.proofs.Fixpoint.{reached_within, refuted_within, refuted_change, within-suc}
+use Rattle.regalloc2_checker.proofs.FixpointDecides.{reached_nonempty, block_within}
+use Rattle.regalloc2_checker.proofs.FactsOfNumbers.{common_facts, within_facts}
+
+-- a successor of a reached block is reached
+pub reached_passed : (f : FunctionValue) → IsFramed f → (b k : ℕ) → IsReachedBlock f b → k < length (block_at f b).succs →
+    IsReachedBlock f (slice_index (block_at f b).succs k)
+reached_passed f ok b k r less =
+    let some = reached_nonempty f ok b r in
+    let n : ℕ = (block_at f b).range.end - (block_at f b).range.first - 1 in
+    let w = reached_within f b r n (omega arith) in
+    let last : (block_at f b).range.first + n + 1 ≡ (block_at f b).range.end = omega arith in (
+      ToSuccessor k ∷ w.0,
+      (w.1, subst (λ (l : Location). HasWay f l (ToSuccessor k)) (sym w.2) (last, less)),
+      ap (λ (l : Location). next_of f l (ToSuccessor k)) w.2,
+    )
+
+-- what a block and an edge drop fails on a path to the successor
+pub refuted_passed : AreEarlier → (f : FunctionValue) (o : OutputValue) → IsFramed f → (b k : ℕ) (F : Facts) → IsReachedBlock f b →
+    k < length (block_at f b).succs →
+    ((p : Place) (v : VirtualRegister) → F p v ≡ false → IsRefuted f o (first_of f b) p v) →
+    (p : Place) (v : VirtualRegister) → facts_passed f o b k F p v ≡ false → IsRefuted f o (first_of f (slice_index (block_at f b).succs k)) p v
+unfolding facts_over_edge
+refuted_passed law f o ok b k F r less h p v x =
+    let some = reached_nonempty f ok b r in
+    let first : ℕ = (block_at f b).range.first in
+    let end : ℕ = (block_at f b).range.end in
+    let n : ℕ = end - first - 1 in
+    let l : Location = nth_of f b n in
+    let last : first + n + 1 ≡ end = omega arith in
+    let e = within-suc f o b F (end - first) n (first + n) (omega arith) refl in
+    let y : facts_over_edge f l (ToSuccessor k) (facts_after f o l (facts_within f o b F n)) p
+    v ≡ false = subst (λ (G : Facts). facts_over_edge f l (ToSuccessor k) G p v ≡ false) e x in
+    let t : IsTraced (λ F. facts_over_edge f l (ToSuccessor k) (facts_after f o l F)) =
+    traced-then (facts_after f o l) (facts_over_edge f l (ToSuccessor k)) (traced-after f o l) (traced-edge f l (ToSuccessor k)) in
+    let w = refuted_change f o l (facts_within f o b F n) (λ F. facts_over_edge f l (ToSuccessor k) (facts_after f o l F)) t
+    (reached_within f b r n (omega arith)) (refuted_within law f o b F r h n (omega arith)) p v y in
+    let d = subst (λ (m : Location). facts_over_edge f m (ToSuccessor k) (facts_after f o m (true_facts f o w.0)) p v ≡ false) (sym w.2) w.3 in (
+      ToSuccessor k ∷ w.0,
+      (w.1, subst (λ (m : Location). HasWay f m (ToSuccessor k)) (sym w.2) (last, less)),
+      ap (λ (m : Location). next_of f m (ToSuccessor k)) w.2,
+      true_facts-way law f o (ToSuccessor k) w.0 p v ∙ d,
+    )
+
+-- a fact that is not in what two sets share is missing in one
+missing : (x y : Bool) → (x && y) ≡ false → (x ≡ false) ⊎ (y ≡ false)
+missing true y h = inr h
+missing false y h = inl refl
+
+nothing_and : (x y : Bool) → x ≡ false → (x && y) ≡ false
+nothing_and x y e = rw e refl
+
+-- an update keeps what is sound
+module _ (law : AreEarlier) (f : FunctionValue) (o : OutputValue) (ok : IsFramed f) (old new : List BlockView) (b k : ℕ) (F : Facts) (passed : Numbers)
+    (s : IsSound f o old) (r : IsReachedBlock f b) (dropped : (p : Place) (v : VirtualRegister) → F p v ≡ false → IsRefuted f o (first_of f b) p v)
+    (less : k < length (block_at f b).succs)
+    (exact : (p : Place) (v : VirtualRegister) → facts_in passed p v ≡ facts_passed f o b k F p v)
+    (u : IsUpdated old new (slice_index (block_at f b).succs k) passed) where
+  passed_refuted : (p : Place) (v : VirtualRegister) → facts_in passed p v ≡ false → IsRefuted f o (first_of f (slice_index (block_at f b).succs k)) p v
+  passed_refuted p v h = refuted_passed law f o ok b k F r less dropped p v (sym (exact p v) ∙ h)
+
+  target_refuted : (p : Place) (v : VirtualRegister) → facts_at new (slice_index (block_at f b).succs k) p v ≡ false →
+      IsRefuted f o (first_of f (slice_index (block_at f b).succs k)) p v
+  target_refuted p v h = elim (cases_Bool (view_at old (slice_index (block_at f b).succs k)).reached) [
+    | inl m ↦ elim (missing _ _ (sym (common_facts (view_at new (slice_index (block_at f b).succs k)).numbers
+        (view_at old (slice_index (block_at f b).succs k)).numbers passed (u.met m) p v) ∙ h)) [
+          | inl x ↦ s.refuted (slice_index (block_at f b).succs k) p v m x
+          | inr x ↦ passed_refuted p v x
+        ]
+    | inr m ↦ passed_refuted p v (ap (λ (x : Numbers). facts_in x p v) (sym (u.first m)) ∙ h)
+  ]
+
+  entry_empty : (p : Place) (v : VirtualRegister) → facts_at new f.entry p v ≡ false
+  entry_empty p v = elim (cases_eq f.entry (slice_index (block_at f b).succs k)) [
+    | inl e ↦ common_facts (view_at new f.entry).numbers (view_at old f.entry).numbers passed
+        (subst (λ (t : ℕ). IsCommon (view_at new t).numbers (view_at old t).numbers passed) (sym e)
+        (u.met (subst (λ (t : ℕ). (view_at old t).reached ≡ true) e s.started))) p v
+        ∙ nothing_and _ _ (s.nothing p v)
+    | inr n ↦ ap (λ (x : BlockView). facts_in x.numbers p v) (u.others f.entry n) ∙ s.nothing p v
+  ]
+
+  -- a meet into its successor of what a reached block propagates over an edge keeps the table valid
+  pub sound-updated : IsSound f o new
+  sound-updated = record {
+    size = u.size ∙ s.size;
+    started = elim (cases_eq f.entry (slice_index (block_at f b).succs k)) [
+      | inl e ↦ subst (λ (t : ℕ). (view_at new t).reached ≡ true) (sym e) u.reached
+      | inr n ↦ ap (λ (x : BlockView). x.reached) (u.others f.entry n) ∙ s.started
+    ];
+    nothing = entry_empty;
+    reached = λ c h. elim (cases_eq c (slice_index (block_at f b).succs k)) [
+      | inl e ↦ subst (IsReachedBlock f) (sym e) (reached_passed f ok b k r less)
+      | inr n ↦ s.reached c (ap (λ (x : BlockView). x.reached) (sym (u.others c n)) ∙ h)
+    ];
+    refuted = λ c p v h x. elim (cases_eq c (slice_index (block_at f b).succs k)) [
+      | inl e ↦ subst (λ (t : ℕ). IsRefuted f o (first_of f t) p v) (sym e) (target_refuted p v (subst (λ (t : ℕ). facts_at new t p v ≡ false) e x))
+      | inr n ↦ s.refuted c p v (ap (λ (x : BlockView). x.reached) (sym (u.others c n)) ∙ h)
+          (ap (λ (x : BlockView). facts_in x.numbers p v) (sym (u.others c n)) ∙ x)
+    ];
+  }
+
+-- at the end every reached block is marked
+marked : (f : FunctionValue) (o : OutputValue) (t : List BlockView) → IsFramed f → IsSound f o t → AllSolved f o t → (ws : List Way) → IsPath f ws →
+    (view_at t (end_of f ws).block).reached ≡ true
+marked f o t ok s a [] h = s.started
+marked f o t ok s a (Onward ∷ ws) h = marked f o t ok s a ws h.0
+marked f o t ok s a (ToSuccessor k ∷ ws) h = (a (end_of f ws).block (block_within f ok ws h.0) (marked f o t ok s a ws h.0) k h.1.1).reached
+
+marked_block : (f : FunctionValue) (o : OutputValue) (t : List BlockView) → IsFramed f → IsSound f o t → AllSolved f o t → (b : ℕ) → IsReachedBlock f b →
+    (view_at t b).reached ≡ true
+marked_block f o t ok s a b r = subst (λ (l : Location). (view_at t l.block).reached ≡ true) r.2 (marked f o t ok s a r.0 r.1)
+
+block_below : (f : FunctionValue) → IsFramed f → (b : ℕ) → IsReachedBlock f b → b < length f.blocks
+block_below f ok b r = subst (λ (l : Location). l.block < length f.blocks) r.2 (block_within f ok r.0 r.1)
+
+-- and the table is what the checker wants
+pub solved : (f : FunctionValue) (o : OutputValue) (t : List BlockView) → IsFramed f → IsSound f o t → AllSolved f o t → IsSolved f o t
+solved f o t ok s a = record {
+  size = s.size;
+  reached = λ b. (s.reached b, marked_block f o t ok s a b);
+  settled = record {
+    entry = s.nothing;
+    edges = λ b k r less. (a b (block_below f ok b r) (marked_block f o t ok s a b r) k less).within;
+  };
+  refuted = λ b p v r. s.refuted b p v (marked_block f o t ok s a b r);
+}
+
+-- what is passed depends only on which facts there are
+traced-within : (f : FunctionValue) (o : OutputValue) (b n : ℕ) → IsTraced (λ F. facts_within f o b F n)
+unfolding facts_within
+traced-within f o b zero = traced-same
+traced-within f o b (suc n) = traced-then (λ F. facts_within f o b F n) (facts_after f o (nth_of f b n)) (traced-within f o b n)
+    (traced-after f o (nth_of f b n))
+
+-- equal facts at a block's beginning are propagated over an edge as equal facts
+pub passed-same : (f : FunctionValue) (o : OutputValue) (b k : ℕ) (F G : Facts) → ((p : Place) (v : VirtualRegister) → F p v ≡ G p v) →
+    (p : Place) (v : VirtualRegister) → facts_passed f o b k F p v ≡ facts_passed f o b k G p v
+passed-same f o b k F G e = change-same (facts_passed f o b k)
+    (traced-then (λ H. facts_within f o b H ((block_at f b).range.end - (block_at f b).range.first)) (facts_over_edge f (first_of f b) (ToSuccessor k))
+    (traced-within f o b _) (traced-edge f (first_of f b) (ToSuccessor k))) F G e
+
+-- the edge's own step, of what the block makes
+pub over-same : (f : FunctionValue) (b k : ℕ) (F G : Facts) → ((p : Place) (v : VirtualRegister) → F p v ≡ G p v) → (p : Place) (v : VirtualRegister) →
+    facts_over_edge f (first_of f b) (ToSuccessor k) F p v ≡ facts_over_edge f (first_of f b) (ToSuccessor k) G p v
+over-same f b k F G e = change-same (facts_over_edge f (first_of f b) (ToSuccessor k)) (traced-edge f (first_of f b) (ToSuccessor k)) F G e
+
+no_more : (f : FunctionValue) (o : OutputValue) (old t : List BlockView) (S : Type 0) (a : Bool) → IsRound f o old t S a → sum_by weight t ≤ sum_by weight old
+no_more f o old t S true r = let l = r.falls refl in omega arith
+no_more f o old t S false r = let e = ap (λ (x : List BlockView). sum_by weight x) (r.same refl).0 in omega arith
+
+-- one part after another that changed something
+pub round-more : (f : FunctionValue) (o : OutputValue) (old t new : List BlockView) (S R T : Type 0) (a : Bool) → IsRound f o old t S a →
+    IsRound f o t new R true → IsRound f o old new T true
+round-more f o old t new S R T a r s = record {
+  sound = s.sound;
+  same = λ h. absurd cc;
+  falls = λ h. (let x = no_more f o old t S a r in let y = s.falls refl in omega arith);
+}
+
+-- or changed nothing
+pub round-less : (f : FunctionValue) (o : OutputValue) (old t new : List BlockView) (S R T : Type 0) (a : Bool) → IsRound f o old t S a →
+    IsRound f o t new R false → (S → R → T) → IsRound f o old new T a
+round-less f o old t new S R T a r s join =
+    let e : new ≡ t = (s.same refl).0 in
+    let d = ap (λ (x : List BlockView). sum_by weight x) e in
+    record {
+      sound = s.sound;
+      same = λ h. (e ∙ (r.same h).0, join (r.same h).1 (s.same refl).1);
+      falls = λ h. (let x = r.falls h in omega arith);
+    }
+
+-- where a part of a round solved one thing if nothing changed, it solved what follows from that too
+pub round-as : (f : FunctionValue) (o : OutputValue) (old t : List BlockView) (S T : Type 0) (a : Bool) → IsRound f o old t S a → (S → T) →
+    IsRound f o old t T a
+round-as f o old t S T a r h = record { sound = r.sound; same = λ e. ((r.same e).0, h (r.same e).1); falls = r.falls }
+
+-- the blocks, so far
+pub blocks-less : (f : FunctionValue) (o : OutputValue) (old t new : List BlockView) (n : ℕ) (a : Bool) →
+    IsRound f o old t ((b : ℕ) → b < n → BlockSolved f o t b) a →
+    IsRound f o t new (BlockSolved f o new n) false → IsRound f o old new ((b : ℕ) → b < n + 1 → BlockSolved f o new b) a
+blocks-less f o old t new n a r s =
+    round-less f o old t new ((b : ℕ) → b < n → BlockSolved f o t b) (BlockSolved f o new n) ((b : ℕ) → b < n + 1 → BlockSolved f o new b) a r s
+    (λ so_far here. below_more (λ b. BlockSolved f o new b) n (subst (λ (x : List BlockView). (b : ℕ) → b < n → BlockSolved f o x b) (sym (s.same refl).0)
+    so_far) here)
+
+-- one more edge of a block that had the facts F when it was run
+module _ (law : AreEarlier) (f : FunctionValue) (o : OutputValue) (ok : IsFramed f) (old t new : List BlockView) (b k : ℕ) (passed : Numbers)
+    (s : IsSound f o old) (mark : (view_at old b).reached ≡ true) (less : k < length (block_at f b).succs)
+    (exact : (p : Place) (v : VirtualRegister) → facts_in passed p v ≡ facts_passed f o b k (facts_at old b) p v) where
+  -- an edge whose meet changed its successor keeps the table valid, and leaves less to drop
+  pub edge-more : (a : Bool) → IsRound f o old t (EdgesSolved f o t b k) a → IsMeet t new (slice_index (block_at f b).succs k) passed true →
+      IsRound f o old new (EdgesSolved f o new b (k + 1)) true
+  edge-more a r m = record {
+    sound = sound-updated law f o ok t new b k (facts_at old b) passed r.sound (s.reached b mark) (λ p v. s.refuted b p v mark) less exact (m.updated refl);
+    same = λ h. absurd cc;
+    falls = λ h. (let x = no_more f o old t _ a r in let y = m.falls refl in omega arith);
+  }
+
+  -- with an edge whose meet changed nothing, all edges so far are solved if none before it changed anything either
+  pub edge-less : (a : Bool) → IsRound f o old t (EdgesSolved f o t b k) a → IsMeet t new (slice_index (block_at f b).succs k) passed false →
+      IsRound f o old new (EdgesSolved f o new b (k + 1)) a
+  edge-less a r m =
+      let e : new ≡ t = (m.same refl).0 in
+      let d = ap (λ (x : List BlockView). sum_by weight x) e in
+      record {
+        sound = subst (IsSound f o) (sym e) r.sound;
+        same = λ h. (
+          e ∙ (r.same h).0,
+          λ q. below_more (λ j. EdgeSolved f o new b j) k
+              (subst (λ (x : List BlockView). EdgesSolved f o x b k) (sym e) (r.same h).1 q) (settled h e),
+        );
+        falls = λ h. (let x = r.falls h in omega arith);
+      }
+    where
+      settled : a ≡ false → new ≡ t → EdgeSolved f o new b k
+      settled h e =
+          let back : t ≡ old = (r.same h).0 in
+          subst (λ (x : List BlockView). EdgeSolved f o x b k) (sym e) (record {
+            reached = (m.same refl).1;
+            within = λ p v g. passed-same f o b k (facts_at t b) (facts_at old b) (λ q u. ap (λ (x : List BlockView). facts_at x b q u) back) p v
+                ∙ sym (exact p v) ∙ within_facts _ _ (m.same refl).2 p v g;
+          })
+
+-- no edge so far, and a block that is not marked
+pub edges-none : (f : FunctionValue) (o : OutputValue) (t : List BlockView) (b : ℕ) → IsSound f o t → IsRound f o t t (EdgesSolved f o t b 0) false
+edges-none f o t b s = record { sound = s; same = λ h. (refl, λ m k less. absurd (omega arith)); falls = λ h. absurd cc }
+
+-- a block not marked reached has nothing to propagate: the table stays as it is, and none of its edges asks for more
+pub edges-skip : (f : FunctionValue) (o : OutputValue) (t : List BlockView) (b n : ℕ) → IsSound f o t → (view_at t b).reached ≡ false →
+    IsRound f o t t (EdgesSolved f o t b n) false
+edges-skip f o t b n s e = record { sound = s; same = λ h. (refl, λ m k less. absurd cc); falls = λ h. absurd cc }

@@ -1,0 +1,22 @@
+use Rattle.std.proofs.Common.{◌≡◌, ◌≤◌}
+use Rattle.regalloc2_function.specs.FunctionValue.{block_at}
+use Rattle.regalloc2_function.specs.Machine.{MachineValue}
+use Rattle.regalloc2_checker.specs.Blocks.{IsKnownWithin}
+use Rattle.regalloc2_checker.specs.CheckInputs.{AreStackSlots}
+use Rattle.regalloc2_checker.specs.ValueNumbers.{cells_in, source_in, facts_in, numbers_of}
+use Rattle.regalloc2_checker.proofs.Blocks.{IsJudgedTo}
+use Rattle.regalloc2_checker.proofs.find_errors.check_block.Given as goal
+
+abbrev pub ghost-check_inst : goal.ghost-check_inst
+ghost-check_inst g a = g.o
+
+-- the instructions so far are checked
+abbrev pub invariant-loop-i : goal.invariant-loop-i
+invariant-loop-i g l = record {
+  end : l.i-end ≡ (block_at (g.F.Function.function l.f) l.block).range.end;
+  low : (block_at (g.F.Function.function l.f) l.block).range.first ≤ l.i;
+  high : l.i ≤ (block_at (g.F.Function.function l.f) l.block).range.end;
+  judged : (env : MachineValue) → AreStackSlots env l.slots → IsKnownWithin (g.F.Function.function l.f) g.o l.block (facts_in (numbers_of l.fn.have)) →
+      IsJudgedTo (g.F.Function.function l.f) env g.o l.block l.i (facts_in (numbers_of l.fn.have)) l.initial.errors.items l.errors.items (cells_in l.values)
+      (source_in l.values);
+}

@@ -1,0 +1,11 @@
+use Rattle.std.proofs.Common.{◌≡◌, ◌≤◌, length}
+use Rattle.regalloc2_function.specs.Views.{output_of}
+use Rattle.regalloc2_checker.specs.ListingCopied.{IsListedBefore}
+use Rattle.regalloc2_checker.proofs.handle.handle_listing.Given as goal
+
+abbrev pub invariant-loop-b : goal.invariant-loop-b
+invariant-loop-b g l = record {
+  within : l.b-end ≡ length (g.F.Function.function l.f).blocks;
+  low : l.b ≤ length (g.F.Function.function l.f).blocks;
+  listed : IsListedBefore (g.F.Function.function l.f) (output_of l.out) l.b l.listing.items;
+}

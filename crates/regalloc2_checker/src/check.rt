@@ -1,0 +1,226 @@
+//! The errors of an instruction.
+
+ghost use Rattle.std.specs.Prelude.{◌≡◌, ◌<◌, ◌≤◌, ◌+◌, ◌++◌, ◌↔◌, ℕ, List, true, map, length, IsTrue, IfOk, OnOk, MatchOption};
+ghost use Rattle.std.specs.Option.{option_to_list};
+ghost use Rattle.regalloc2_names.specs.Place.{Place};
+ghost use Rattle.regalloc2_names.specs.Register.{VirtualRegister};
+ghost use Rattle.regalloc2_function.specs.FunctionValue.{block_at};
+ghost use Rattle.regalloc2_function.specs.Machine.{MachineValue};
+ghost use Rattle.regalloc2_function.specs.OutputValue.{OutputValue};
+ghost use Rattle.regalloc2_function.specs.Faithful.{IsStackToStack};
+ghost use Rattle.regalloc2_names.specs.Operand.{is_reading};
+ghost use Rattle.regalloc2_function.specs.Views.{move_of};
+ghost use Rattle.regalloc2_checker.specs.Facts.{Facts, facts_after};
+ghost use Rattle.regalloc2_checker.specs.CheckInputs.{AreStackSlots, IsKnown};
+ghost use Rattle.regalloc2_checker.specs.ValueNumbers.{numbers_of, facts_in, cells_in, source_in};
+ghost use Rattle.regalloc2_checker.specs.Report.{IsValueFault, IsFineAt, IsFaultAt, IsJudged, AreMoveFaults, InstReport};
+ghost use Rattle.regalloc2_checker.specs.TransferTracks.{IsListing, Tracks};
+ghost use Rattle.regalloc2_checker.specs.declared.errors.CheckerError.{CheckerError};
+
+use crate::constraints::{check_constraint, is_stack};
+use crate::errors::CheckerError;
+use crate::listing::Listed;
+use crate::transfer::{go_to_early, go_to_late, place_at};
+use crate::transfer_block::step_of;
+use crate::value_numbers::ValueNumbers;
+use crate::vregs_in_value::vregs_in_value;
+use regalloc2_function::{Edit, Function};
+use regalloc2_index::{Block, Inst};
+use regalloc2_names::{Allocation, Operand, OperandPos, PRegSet};
+use std::alloc::{AllocError, Allocator};
+
+/// What an operand that reads finds wrong with what its place holds.
+fn check_val<A: Allocator + Copy>(
+    alloc: A,
+    values: &ValueNumbers<A>,
+    inst: Inst,
+    op: Operand,
+    place: Allocation,
+) -> Result<Option<CheckerError<A>>, AllocError>
+    ensures { IfOk result (λ r. MatchOption r (is_reading op ≡ true → facts_in (numbers_of values.now) place op.vreg ≡ true)
+        (λ e. (is_reading op ≡ true) × IsValueFault inst op place (λ v. facts_in (numbers_of values.now) place v ≡ true) e)) }
+{
+    if !op.is_reading() {
+        return Ok(None);
+    }
+    if values.holds(place, op.vreg()) {
+        return Ok(None);
+    }
+    let actual = vregs_in_value(alloc, values, place)?;
+    if actual.is_empty() {
+        return Ok(Some(CheckerError::UnknownValueInAllocation {
+            inst,
+            op,
+            alloc: place,
+        }));
+    }
+    Ok(Some(CheckerError::IncorrectValuesInAllocation {
+        inst,
+        op,
+        alloc: place,
+        actual,
+    }))
+}
+
+/// The fault of the operand with an index, by what places hold.
+fn check_operand<A: Allocator + Copy>(
+    alloc: A,
+    values: &ValueNumbers<A>,
+    slots: PRegSet,
+    inst: Inst,
+    operands: &[Operand],
+    places: &[Allocation],
+    k: usize,
+) -> Result<Option<CheckerError<A>>, AllocError>
+    requires { k < length operands.now }
+    ensures { IfOk result (λ r. (env : MachineValue) → AreStackSlots env slots → MatchOption r
+        (IsFineAt env operands.now places.now (λ p v. facts_in (numbers_of values.now) p v ≡ true) k)
+        (λ e. IsFaultAt env inst operands.now places.now (λ p v. facts_in (numbers_of values.now) p v ≡ true) k e)) }
+{
+    let op = operands[k];
+    let place = place_at(places, k);
+    if place.is_none() {
+        return Ok(Some(CheckerError::MissingAllocation { inst, op }));
+    }
+    let fault = check_val(alloc, values, inst, op, place)?;
+    if fault.is_some() {
+        return Ok(fault);
+    }
+    let count = operands.len();
+    Ok(check_constraint(slots, inst, op, place, count, places))
+}
+
+/// Whether an operand is of a position.
+fn is_at(operand: Operand, position: OperandPos) -> bool
+    ensures { IsTrue result ↔ (operand.position ≡ position) }
+{
+    operand.pos() == position
+}
+
+/// The first fault among the operands of a position, by what places hold there.
+fn check_position<A: Allocator + Copy>(
+    alloc: A,
+    values: &ValueNumbers<A>,
+    slots: PRegSet,
+    inst: Inst,
+    operands: &[Operand],
+    places: &[Allocation],
+    position: OperandPos,
+) -> Result<Option<CheckerError<A>>, AllocError>
+    ensures { IfOk result (λ r. (env : MachineValue) → AreStackSlots env slots →
+        IsJudged env inst operands.now places.now position (λ p v. facts_in (numbers_of values.now) p v ≡ true) r) }
+{
+    for k in 0..operands.len() {
+        if !is_at(operands[k], position) {
+            continue;
+        }
+        let fault = check_operand(alloc, values, slots, inst, operands, places, k)?;
+        if fault.is_some() {
+            return Ok(fault);
+        }
+    }
+    Ok(None)
+}
+
+/// The fault of a move: it goes from a place in memory to another.
+fn move_fault<A: Allocator>(slots: PRegSet, edit: Edit) -> Option<CheckerError<A>>
+    ensures { (env : MachineValue) → AreStackSlots env slots → MatchOption result (IsStackToStack env (move_of edit) → ⊥)
+        (λ e. IsStackToStack env (move_of edit) × (e ≡ CheckerError.StackToStackMove (move_of edit).to (move_of edit).from)) }
+{
+    let (from, into) = edit.places();
+    if !is_stack(slots, from) {
+        return None;
+    }
+    if !is_stack(slots, into) {
+        return None;
+    }
+    Some(CheckerError::StackToStackMove { into, from })
+}
+
+/// Adds the faults of moves, as listed.
+fn check_moves<A: Allocator>(
+    slots: PRegSet,
+    moves: &[Edit],
+    errors: &mut Vec<CheckerError<A>, A>,
+) -> Result<(), AllocError>
+    ensures { OnOk result ((env : MachineValue) → AreStackSlots env slots →
+        (es : List (CheckerError A)) × (errors.new.items ≡ errors.old.items ++ es) × AreMoveFaults env (map move_of moves.now) es) }
+{
+    for k in 0..moves.len() {
+        let Some(fault) = move_fault(slots, moves[k]) else {
+            continue;
+        };
+        errors.push(fault)?;
+    }
+    Ok(())
+}
+
+/// Adds a fault, if there is one.
+fn add<A: Allocator>(
+    errors: &mut Vec<CheckerError<A>, A>,
+    fault: Option<CheckerError<A>>,
+) -> Result<(), AllocError>
+    ensures { OnOk result (errors.new.items ≡ errors.old.items ++ option_to_list fault) }
+{
+    if let Some(fault) = fault {
+        errors.push(fault)?;
+    }
+    Ok(())
+}
+
+/// Adds the errors of an instruction: those of the moves before it, then the first of its early operands, then the first
+/// of its late ones. Goes on past it.
+pub fn check_inst<F: Function, A: Allocator + Copy>(
+    alloc: A,
+    f: &F,
+    slots: PRegSet,
+    listing: &[Listed<A>],
+    block: Block,
+    inst: Inst,
+    values: &mut ValueNumbers<A>,
+    errors: &mut Vec<CheckerError<A>, A>,
+) -> Result<(), AllocError>
+    ghost o: { OutputValue }
+    requires listing { IsListing (F.function f.now) o listing.now }
+    requires block { block < length (F.function f.now).blocks }
+    requires first { (block_at (F.function f.now) block).range.first ≤ inst }
+    requires end { inst < (block_at (F.function f.now) block).range.end }
+    requires inst { inst < length (F.function f.now).insts }
+    ensures walked { OnOk result ((G : Facts) → Tracks (inst + 1) (cells_in values.old) (source_in values.old) G
+        → Tracks (inst + 2) (cells_in values.new) (source_in values.new) (facts_after (F.function f.now) o (record { block = block; inst = inst }) G)) }
+    ensures judged { OnOk result ((env : MachineValue) → AreStackSlots env slots → (G : Facts) →
+        Tracks (inst + 1) (cells_in values.old) (source_in values.old) G
+        → IsKnown (F.function f.now) o (record { block = block; inst = inst }) G
+        → (es : List (CheckerError A)) × (errors.new.items ≡ errors.old.items ++ es)
+        × InstReport (F.function f.now) env o (record { block = block; inst = inst }) es) }
+{
+    let listed = &listing[inst.index()];
+    let moves = listed.moves.as_slice();
+    let places = listed.places.as_slice();
+    let operands = f.inst_operands(inst);
+    let step = step_of(inst);
+    check_moves(slots, moves, errors)?;
+    go_to_early(values, moves, places, operands)?;
+    let early = check_position(
+        alloc,
+        values,
+        slots,
+        inst,
+        operands,
+        places,
+        OperandPos::Early,
+    )?;
+    add(errors, early)?;
+    go_to_late(values, places, step, operands, f.inst_clobbers(inst))?;
+    let late = check_position(
+        alloc,
+        values,
+        slots,
+        inst,
+        operands,
+        places,
+        OperandPos::Late,
+    )?;
+    add(errors, late)?;
+    Ok(())
+}

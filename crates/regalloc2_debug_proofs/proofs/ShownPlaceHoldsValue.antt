@@ -1,0 +1,235 @@
+-- The place by which a virtual register is shown holds its value: its slot, or that of the operand which reads it last.
+use Rattle.std.proofs.Common.{ℕ, ◌≡◌, ◌≢◌, ◌<◌, ◌≤◌, inl, inr, true, false, List, length, refl, sym, ap, ◌∙◌, subst, arith}
+use Rattle.std.specs.Prelude.{Option, Contains, slice_index_or}
+use Rattle.regalloc2_names.specs.declared.OperandPos.{OperandPos}
+use Rattle.regalloc2_names.specs.declared.OperandPos.TheVariants.{Early, Late}
+use Rattle.regalloc2_names.specs.Register.{VirtualRegister}
+use Rattle.regalloc2_names.specs.Operand.{OperandValue, is_def, is_late, is_reading}
+use Rattle.regalloc2_names.specs.Place.{Place, NoPlace, InRegister, InSlot}
+use Rattle.regalloc2_function.specs.FunctionValue.{FunctionValue, IsLimited, block_at, inst_at}
+use Rattle.regalloc2_function.specs.Machine.{MachineValue}
+use Rattle.regalloc2_function.specs.OutputValue.{OutputValue, allocs_of, place_at}
+use Rattle.regalloc2_function.specs.Path.{end_of}
+use Rattle.regalloc2_function.specs.SourceRun.{IsWrittenFirst, arguments_at}
+use Rattle.regalloc2_function.specs.DebugPaths.{HoldsValue}
+use Rattle.regalloc2_function.specs.DebugPoints.{PassesAt, ReadsAt, UsesAt}
+use Rattle.regalloc2_function.specs.WellFormed.{IsWellFormed, last_of}
+use Rattle.regalloc2_semantics.specs.Listing.{op_at, no_operand}
+use Rattle.regalloc2_semantics.specs.Blocks.{IsSound, IsUnwritten, target_at}
+use Rattle.regalloc2_semantics.specs.Laws.{ReadsAgreeOnPaths}
+use Rattle.regalloc2_semantics.specs.Live.{LiveStand}
+use Rattle.regalloc2_semantics.proofs.SingleDef.{Made, by_operand, one_made, one_operand, not_both, reads_defined}
+use Rattle.regalloc2_semantics.proofs.SingleDef as defined
+use Rattle.regalloc2_semantics.proofs.Order.{ends_within, reads_later, stands_later}
+use Rattle.regalloc2_semantics.proofs.Soundness.{well_formed_are_sound}
+use Rattle.regalloc2_live_ranges.specs.declared.InstOperand.{InstOperand}
+use Rattle.regalloc2_live_ranges.specs.LiveRanges.{IsReader, IsShownBy}
+use Rattle.regalloc2_live_ranges.specs.LiveRanges.IsShownBy.{by_late_use, by_early_use, by_argument, by_definition}
+use Rattle.regalloc2_fastalloc_state.specs.StateParts.{SlotsHaveOneOwner, SpillSlotsValue, IsSlotOrNone, slot_name}
+use Rattle.regalloc2_fastalloc_proofs.specs.Safety.{MayBeLocatedAt}
+use Rattle.regalloc2_fastalloc_proofs.specs.InstSteps.{StateValue}
+use Rattle.regalloc2_fastalloc_proofs.specs.BlockSteps.{AllocsBlocks}
+use Rattle.regalloc2_fastalloc_proofs.proofs.Walk.BlocksCarryFromFreshState.{at_walks_end, used_slots}
+use Rattle.regalloc2_fastalloc_proofs.proofs.Operands.AllocsSoFar.{IsTame, reads_allocated}
+use Rattle.regalloc2_fastalloc_proofs.proofs.Safety.OutputOfWalk.{IsMade, operand_good}
+use Rattle.regalloc2_fastalloc_proofs.proofs.Safety.StepsKeepState.{slot_in}
+use Rattle.regalloc2_fastalloc_proofs.proofs.Walk.InstsCarry.{Blank}
+use Rattle.regalloc2_fastalloc_proofs.proofs.Safety.BlocksKeepSafe.{MayInBlocks}
+use Rattle.regalloc2_fastalloc_proofs.proofs.Moves.ScratchRegTaken.{Fit}
+use Rattle.regalloc2_fastalloc_proofs.proofs.Walk.DefsBeforeUses.{used_made}
+use Rattle.regalloc2_fastalloc_proofs.proofs.Operands.RecordOverState.{slots_at}
+use Rattle.regalloc2_fastalloc_proofs.proofs.Safety.BranchArgsKeepState.{passes_between}
+use Rattle.regalloc2_debug_proofs.specs.ShownPlace.{operand_place, shown_place}
+use Rattle.regalloc2_debug_proofs.proofs.SlotHoldsDefinedValue.{all_known, defined_shows, met_at}
+use Rattle.regalloc2_debug_proofs.proofs.LocatedStaysOrHasSlot.{passes_slot}
+use Rattle.regalloc2_debug_proofs.proofs.OperandPlaceHoldsValue.{register_shows}
+use Rattle.regalloc2_debug_proofs.proofs.SlotAfterWalk.{left_slot_shows}
+use Rattle.regalloc2_debug_proofs.proofs.InstWithinWalk.{Met}
+use Rattle.regalloc2_debug_proofs.proofs.WellFormedPaths.{any_default}
+use Rattle.regalloc2_debug_proofs.proofs.LocationBeforeFirstRead.{ComesFirst, late_first, early_first}
+use Rattle.regalloc2_debug_proofs.proofs.LocationWithoutSlot.{IsUnslotted}
+
+late_is : (q : OperandPos) → is_late q ≡ true → q ≡ Late
+late_is Early h = absurd cc
+late_is Late h = refl
+
+early_is : (q : OperandPos) → is_late q ≡ false → q ≡ Early
+early_is Early h = refl
+early_is Late h = absurd cc
+
+stand_real : (env : MachineValue) (s : SpillSlotsValue) (v : VirtualRegister) (p : Place) → MayBeLocatedAt env s v p → p ≢ NoPlace
+stand_real env s v NoPlace h = absurd h
+stand_real env s v (InRegister r) h = λ e. cc
+stand_real env s v (InSlot n) h = λ e. cc
+
+-- an operand that reads v
+reads_by : (f : FunctionValue) (v : VirtualRegister) (at : OperandPos) (i k : ℕ) → i < length f.insts → k < length (inst_at f i).operands →
+    is_reading (op_at (inst_at f i).operands k) ≡ true → (op_at (inst_at f i).operands k).position ≡ at →
+    (op_at (inst_at f i).operands k).vreg ≡ v → ReadsAt f v at i
+reads_by f v at i k lt less reads position is =
+    let o : OperandValue = op_at (inst_at f i).operands k in
+    (lt, (k, o, less, any_default (inst_at f i).operands k o no_operand less, reads, position, is))
+
+use_by : (f : FunctionValue) (v : VirtualRegister) (i k : ℕ) → i < length f.insts → k < length (inst_at f i).operands →
+    is_reading (op_at (inst_at f i).operands k) ≡ true → (op_at (inst_at f i).operands k).vreg ≡ v → UsesAt f v i
+use_by f v i k lt less reads is = by (op_at (inst_at f i).operands k).position refl
+  where
+    by : (q : OperandPos) → (op_at (inst_at f i).operands k).position ≡ q → UsesAt f v i
+    by Early e = inl (reads_by f v Early i k lt less reads e is)
+    by Late e = inr (inl (reads_by f v Late i k lt less reads e is))
+
+module _ (env : MachineValue) (f : FunctionValue) (limited : IsLimited f) (ok : IsWellFormed env f) (blank : List Place) (begin last : StateValue)
+    (out : OutputValue) (empty : Blank begin) (fit : Fit begin)
+    (walks : AllocsBlocks f blank begin 0 out.allocs last) (m : IsMade f env (Made f) (MayInBlocks f) last out) (written : IsWrittenFirst f)
+    (v : VirtualRegister) (known : Made f v) where
+  sound : IsSound f
+  sound = well_formed_are_sound env f ok
+
+  some_block : 0 < length f.blocks
+  some_block = (let e : f.entry < length f.blocks = ok.successors.0 in omega (arith, e))
+
+  -- a vreg that is passed has a slot
+  pub passed_slot : (i : ℕ) → PassesAt f v i → slot_in last v.number ≢ NoPlace
+  passed_slot i (b, k, lb, at, edge, has) =
+      let j : ℕ = last_of (block_at f b) in
+      let some : (block_at f b).range.first < (block_at f b).range.end = (ok.follow b lb).0 in
+      let within = ends_within f ok.follow b lb in
+      let lt : j < length f.insts = omega (arith, some, within) in
+      let w : Met f (allocs_of out) blank begin j last = met_at env f limited ok blank begin last out empty fit walks m j lt in
+      let from : w.block ≤ b = stands_later f ok.follow w.block b j j w.within lb w.ge w.less (omega (arith, some)) (omega (arith, some)) (omega arith) in
+      let to : b ≤ w.block = stands_later f ok.follow b w.block j j lb w.within (omega (arith, some)) (omega (arith, some)) w.ge w.less (omega arith) in
+      let same : b ≡ w.block = omega (arith, from, to) in
+      let branch : (inst_at f j).is_branch ≡ true = elim (ok.end b lb).0
+      [ inl x ↦ x.0 | inr r ↦ (let none : length (block_at f b).succs ≡ 0 = r.2 in absurd (omega (arith, none, edge))) ] in
+      let few : has.0 < length (block_at f (target_at f b k)).params = (let n = sound.arguments b k edge in let l = has.1 in omega (arith, n, l)) in
+      let is : (slice_index_or (arguments_at f b k) has.0 defined.no_vreg).number ≡ v.number = ap (λ (u : VirtualRegister). u.number)
+      (any_default (arguments_at f b k) has.0 defined.no_vreg v has.1 ∙ has.2) in
+      let there : slot_in w.new v.number ≢ NoPlace = passes_slot v.number f w.block j w.allocates.allocates.allocates.ended w.allocates.inst_regs
+      w.allocates.middle w.new (w.allocates.branch branch) k
+      (subst (λ (c : ℕ). k < length (block_at f c).succs) same edge) has.0 (subst (λ (c : ℕ). has.0 < length (block_at f (target_at f c k)).params) same few)
+      (subst (λ (c : ℕ). (slice_index_or (arguments_at f c k) has.0 defined.no_vreg).number ≡ v.number) same is) in
+      λ none. there (sym (w.rest.stay v.number there) ∙ none)
+
+  -- an operand that reads it, where it has no slot
+  module _ (il ko : ℕ) (lt : il < length f.insts) (within : ko < length (inst_at f il).operands) (reads : is_reading (op_at (inst_at f il).operands ko) ≡ true)
+      (is : (op_at (inst_at f il).operands ko).vreg ≡ v)
+      (greatest : (j : ℕ) → UsesAt f v j → j ≤ il) (none : slot_in last v.number ≡ NoPlace) where
+    number : (op_at (inst_at f il).operands ko).vreg.number ≡ v.number
+    number = ap (λ (u : VirtualRegister). u.number) is
+
+    -- by number
+    read_is : (j k : ℕ) → j < length f.insts → k < length (inst_at f j).operands → is_reading (op_at (inst_at f j).operands k) ≡ true →
+        (op_at (inst_at f j).operands k).vreg.number ≡ v.number → (op_at (inst_at f j).operands k).vreg ≡ v
+    read_is j k jl less rd e = one_made f ok.defined_once (op_at (inst_at f j).operands k).vreg v ((all_known env f limited ok j jl).reading k less rd) known e
+
+    module _ (id d : ℕ) (at : defined.DefinesAt f v.number id d) where
+      sooner : id < il
+      sooner = reads_later f ok.defined_once v.number id d il ko at lt (reads_defined f some_block ok.follow ok.uses_defined il lt) within reads number
+
+      never_defined : (j k : ℕ) → id < j → j < length f.insts → k < length (inst_at f j).operands → is_def (op_at (inst_at f j).operands k).kind ≡ true →
+          (op_at (inst_at f j).operands k).vreg.number ≡ v.number → ⊥
+      never_defined j k low jl less def e =
+          (let one = one_operand f ok.defined_once v.number id j d k at (record { inst = jl; operand = less; definition = def; number = e }) in
+          omega (arith, low, one.0))
+
+      unslotted : ComesFirst (inst_at f il).operands v.number ko → IsUnslotted f (allocs_of out) last v.number id il ko
+      unslotted first = record {
+        within = within;
+        reads = reads;
+        number = number;
+        first = first;
+        later = λ j behind jl k c e. elim c.1 [
+          | inl def ↦ never_defined j k (let s = sooner in omega (arith, s, behind)) jl c.0 def e
+          | inr rd ↦ (let most = greatest j (use_by f v j k jl c.0 rd (read_is j k jl c.0 rd e)) in omega (arith, most, behind))
+        ];
+        passes = λ b lb behind k edge j few. (
+          λ e. not_both f ok.defined_once v.number id d (target_at f b k) j at (record { block = sound.targets b k edge; param = few; number = e }),
+          λ e.
+              let xs : List VirtualRegister = arguments_at f b k in
+              let w : VirtualRegister = slice_index_or xs j defined.no_vreg in
+              let inside : j < length xs = (let n = sound.arguments b k edge in omega (arith, few, n)) in
+              let has : Contains xs w = (j, inside, any_default xs j w defined.no_vreg inside) in
+              let same : w ≡ v = one_made f ok.defined_once w v (used_made f ok.defined_once ok.follow ok.uses_defined w b lb (inr (k, edge, has))) known e in
+              let most = greatest (last_of (block_at f b)) (inr (inr (b, k, lb, refl, edge, subst (Contains xs) same has))) in
+              omega (arith, most, behind),
+        );
+        params = λ b lb k few e. not_both f ok.defined_once v.number id d b k at (record { block = lb; param = few; number = e });
+        undefined = λ j low jl k less def e. never_defined j k low jl less def (sym e);
+        real = stand_real env last.slots (op_at (inst_at f il).operands ko).vreg (place_at (allocs_of out il) ko)
+            ((operand_good f env (Made f) (MayInBlocks f) last out m il lt ko within).place (reads_allocated (op_at (inst_at f il).operands ko) reads));
+        unslotted = none;
+      }
+
+      shows_at : ComesFirst (inst_at f il).operands v.number ko → HoldsValue f out v (place_at (allocs_of out il) ko)
+      shows_at first = register_shows env f limited ok blank begin last out empty fit walks m written v known id d il ko (unslotted first) at is lt greatest
+
+    -- a parameter that is used has a slot
+    param_slot : (b k : ℕ) → defined.TakesAt f v.number b k → ⊥
+    param_slot b k at =
+        let w : Met f (allocs_of out) blank begin il last = met_at env f limited ok blank begin last out empty fit walks m il lt in
+        let unwritten : IsUnwritten f w.block v = λ i ge less j few def e.
+        let i_lt : i < length f.insts = (let q = ends_within f ok.follow w.block w.within in omega (arith, less, q)) in
+        not_both f ok.defined_once v.number i j b k (record { inst = i_lt; operand = few; definition = def; number = ap (λ (u : VirtualRegister). u.number) e })
+        at in
+        used_slots env f limited ok (passes_between f) blank begin last out empty fit walks v
+        (record { block = w.block; within = w.within; unwritten = unwritten; used = inl (il, ko, w.ge, w.less, within, reads, is) }) none
+
+    by_maker : Made f v → ((id d : ℕ) → defined.DefinesAt f v.number id d → ComesFirst (inst_at f il).operands v.number ko) →
+        HoldsValue f out v (place_at (allocs_of out il) ko)
+    by_maker (by_operand id d at e) first = shows_at id d at (first id d at)
+    by_maker (Made.by_param b k at e) first = absurd (param_slot b k at)
+
+    -- the first of its instruction
+    late_shows : (op_at (inst_at f il).operands ko).position ≡ Late → ((k : ℕ) → k < ko → IsReader f v Late (record { inst = il; index = k }) → ⊥) →
+        HoldsValue f out v (place_at (allocs_of out il) ko)
+    late_shows position first = by_maker known (λ id d at. late_first (ap is_late position) (λ j less c late e. elim c.1 [
+      | inl def ↦ never_defined id d at il j (sooner id d at) lt c.0 def e
+      | inr rd ↦ first j less (record {
+        inst = lt;
+        index = c.0;
+        reading = rd;
+        position = late_is (op_at (inst_at f il).operands j).position late;
+        vreg = read_is il j lt c.0 rd e;
+      })
+    ]))
+
+    early_shows : (op_at (inst_at f il).operands ko).position ≡ Early → (ReadsAt f v Late il → ⊥) →
+        ((k : ℕ) → k < ko → IsReader f v Early (record { inst = il; index = k }) → ⊥) → HoldsValue f out v (place_at (allocs_of out il) ko)
+    early_shows position never first = by_maker known (λ id d at. early_first (ap is_late position)
+        (λ j less c late e. elim c.1 [
+          | inl def ↦ never_defined id d at il j (sooner id d at) lt c.0 def e
+          | inr rd ↦ never (reads_by f v Late il j lt c.0 rd (late_is (op_at (inst_at f il).operands j).position late) (read_is il j lt c.0 rd e))
+        ])
+        (λ j less c early e. elim c.1 [
+          | inl def ↦ never_defined id d at il j (sooner id d at) lt c.0 def e
+          | inr rd ↦ first j less (record {
+            inst = lt;
+            index = c.0;
+            reading = rd;
+            position = early_is (op_at (inst_at f il).operands j).position early;
+            vreg = read_is il j lt c.0 rd e;
+          })
+        ]))
+
+  -- where it has no slot
+  operand_shows : {by : Option InstOperand} → IsShownBy f v by → slot_in last v.number ≡ NoPlace → HoldsValue f out v (operand_place out by)
+  operand_shows (by_late_use o most r) none = late_shows o.inst o.index r.reader.inst r.reader.index r.reader.reading r.reader.vreg most.1 none
+      r.reader.position r.first
+  operand_shows (by_early_use o most never r) none = early_shows o.inst o.index r.reader.inst r.reader.index r.reader.reading r.reader.vreg most.1 none
+      r.reader.position never r.first
+  operand_shows (by_argument i most never nor) none =
+      absurd (elim most.0 [ inl a ↦ nor a | inr rest ↦ elim rest [ inl b ↦ never b | inr p ↦ passed_slot i p none ] ])
+  operand_shows (by_definition o never d) none = λ given w here used s path is_given source on later_on uses no_branch. absurd (never (end_of f used).inst uses)
+
+  -- so the place by which it is shown holds its value
+  pub shown : SlotsHaveOneOwner last.slots → ((i : ℕ) → i < length f.insts → IsTame (Made f) (inst_at f i).operands) → ReadsAgreeOnPaths f out →
+      LiveStand f out (λ u. slots_at last u.number) → {by : Option InstOperand} → IsShownBy f v by →
+      HoldsValue f out v (shown_place out (slot_name last.slots v.number) by)
+  shown owned tame agree stand {by} is = by_slot (slot_name last.slots v.number) refl
+      ((at_walks_end env f limited ok (passes_between f) blank begin last out empty fit walks).whole.below v.number)
+    where
+      by_slot : (q : Place) → slot_name last.slots v.number ≡ q → IsSlotOrNone last.slots.count q → HoldsValue f out v (shown_place out q by)
+      by_slot NoPlace e below = operand_shows is e
+      by_slot (InRegister r) e below = absurd below
+      by_slot (InSlot n) e below = left_slot_shows env f ok written last out m owned tame agree stand v known n e
+          (defined_shows env f limited ok blank begin last out empty fit walks m written agree owned tame v known n e)

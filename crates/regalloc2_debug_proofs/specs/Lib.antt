@@ -1,0 +1,3 @@
+pub mod SlotHoldsValue
+pub mod ShownPlace
+pub mod SlotWrites

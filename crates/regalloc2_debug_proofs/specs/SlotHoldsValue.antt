@@ -1,0 +1,41 @@
+-- What an output does with the slot of one virtual register, from which it follows that the slot shows its value.
+use Rattle.std.specs.Prelude.{ℕ, ◌≡◌, ◌+◌, ◌<◌, ◌⊎◌, false, true, List, ◌∷◌, length}
+use Rattle.regalloc2_names.specs.Register.{VirtualRegister}
+use Rattle.regalloc2_names.specs.Place.{Place}
+use Rattle.regalloc2_function.specs.FunctionValue.{FunctionValue, inst_at}
+use Rattle.regalloc2_function.specs.OutputValue.{OutputValue, allocs_of, place_at}
+use Rattle.regalloc2_function.specs.Path.{Way, Onward, end_of, IsPath}
+use Rattle.regalloc2_function.specs.SourceRun.{source_before}
+use Rattle.regalloc2_names.specs.Operand.{is_reading}
+use Rattle.regalloc2_function.specs.AllocatedRun.{after_moves, moves_at, cells_before}
+use Rattle.regalloc2_function.specs.DebugPoints.{DefinesAt}
+use Rattle.regalloc2_semantics.specs.Listing.{op_at}
+use Rattle.regalloc2_semantics.specs.Carry.{Spares, Undefined}
+use Rattle.regalloc2_semantics.specs.Live.{IsLive, HasEntered, HoldsValue}
+use Rattle.regalloc2_semantics.proofs.UnwrittenPlaces.{NoMoveTo}
+
+-- an operand of an instruction reads v in a place
+pub record IsReadIn (f : FunctionValue) (out : OutputValue) (v : VirtualRegister) (p : Place) (i k : ℕ) : Type 0 where
+  pub within : k < length (inst_at f i).operands
+  pub reading : is_reading (op_at (inst_at f i).operands k) ≡ true
+  pub vreg : (op_at (inst_at f i).operands k).vreg ≡ v
+  pub place : place_at (allocs_of out i) k ≡ p
+
+-- before the last step of a path, once its moves have run, the place has v's last write
+abbrev pub ShowsAt : FunctionValue → OutputValue → VirtualRegister → Place → List Way → Type 0
+ShowsAt f out v p ws = after_moves (moves_at f out (end_of f ws)) (cells_before f out ws) p ≡ source_before f ws v
+
+-- What an output owes to the slot of v:
+--     live      where a path comes to a block at which v is live, the slot holds its value
+--     defined   behind a definition of v, once the moves before the next instruction have run, the slot holds its value, if v is live there and it is no branch
+--     written   no move before any other instruction writes the slot, unless the instruction reads v there, or is a branch
+--     spared    an instruction that doesn't define v writes no such place
+pub record IsKeptInSlot (f : FunctionValue) (out : OutputValue) (v : VirtualRegister) (p : Place) : Type 0 where
+  pub live : (ws : List Way) → IsPath f ws → HasEntered f ws → IsLive f v (end_of f ws) → HoldsValue f out ws p v
+  pub defined : (ws : List Way) → IsPath f (Onward ∷ ws) → DefinesAt f v (end_of f ws).inst → IsLive f v (end_of f (Onward ∷ ws)) →
+      (inst_at f ((end_of f ws).inst + 1)).is_branch ≡ false → ShowsAt f out v p (Onward ∷ ws)
+  pub written : (ws : List Way) → IsPath f ws → Undefined (inst_at f (end_of f ws).inst).operands v → (inst_at f (end_of f ws).inst).is_branch ≡ false →
+      HasEntered f ws ⊎ ((us : List Way) × (ws ≡ Onward ∷ us) × Undefined (inst_at f (end_of f us).inst).operands v) →
+      NoMoveTo p (moves_at f out (end_of f ws)) ⊎ ((k : ℕ) × IsReadIn f out v p (end_of f ws).inst k)
+  pub spared : (ws : List Way) → IsPath f ws → Undefined (inst_at f (end_of f ws).inst).operands v →
+      Spares (inst_at f (end_of f ws).inst).operands (allocs_of out (end_of f ws).inst) (inst_at f (end_of f ws).inst).clobbers p

@@ -1,0 +1,52 @@
+-- Where each use finds a write, each use reads a number.
+use Rattle.std.proofs.Common.{ℕ, suc, ◌≡◌, ◌+◌, ◌<◌, Bool, true, false, cond, List, [], ◌∷◌, length, map, refl, arith, subst}
+use Rattle.std.specs.Prelude.{All, Option, None, Some, IsSome, slice_index_or}
+use Rattle.std.specs.Option.{option_map}
+use Rattle.std.proofs.lemmas.List.Elements.{All-nil, All-cons, All-map}
+use Rattle.regalloc2_names.specs.Operand.{OperandValue, is_reading}
+use Rattle.regalloc2_function.specs.FunctionValue.{FunctionValue}
+use Rattle.regalloc2_function.specs.Machine.{MachineValue}
+use Rattle.regalloc2_function.specs.OutputValue.{OutputValue}
+use Rattle.regalloc2_function.specs.Path.{Way, IsPath, last_inst}
+use Rattle.regalloc2_function.specs.SourceRun.{Stamp, source_read}
+use Rattle.regalloc2_function.specs.Faithful.{IsFaithful}
+use Rattle.regalloc2_function.specs.Values.{numbers, reads_from, source_reads}
+use Rattle.regalloc2_fastalloc.specs.Promise.{ReadsNumbers}
+
+if_read : (b : Bool) (x : Option Stamp) (xs : List (Option Stamp)) → (b ≡ true → IsSome x) → All IsSome xs → All IsSome (cond b (x ∷ xs) xs)
+if_read true x xs h rest = All-cons IsSome x xs (h refl) rest
+if_read false x xs h rest = rest
+
+-- what the reading uses of operands read
+each_reads : (read : ℕ → OperandValue → Option Stamp) (n : ℕ) (os : List OperandValue)
+    → ((k : ℕ) (d : OperandValue) → k < length os → is_reading (slice_index_or os k d) ≡ true → IsSome (read (k + n) (slice_index_or os k d))) →
+    All IsSome (reads_from read n os)
+unfolding reads_from
+each_reads read n [] h = All-nil IsSome
+each_reads read n (o ∷ os) h =
+    let e : 0 + n ≡ n = omega arith in
+    if_read (is_reading o) (read n o) (reads_from read (n + 1) os) (λ yes. subst (λ m. IsSome (read m o)) e (h 0 o (omega arith) yes))
+    (each_reads read (n + 1) os (λ k d less yes. let s : suc k + n ≡ k + (n + 1) = omega arith in
+    subst (λ m. IsSome (read m (slice_index_or os k d))) s (h (suc k) d (omega arith) yes)))
+
+there_mapped : (g : Stamp → ℕ) (x : Option Stamp) → IsSome x → IsSome (option_map g x)
+there_mapped g None h = h
+there_mapped g (Some s) h = h
+
+all_there : (g : Stamp → ℕ) (xs : List (Option Stamp)) → All IsSome xs → All IsSome (map (option_map g) xs)
+all_there g xs h = All-map IsSome (option_map g) xs (λ k d less. there_mapped g (slice_index_or xs k d) (h k d less))
+
+step_reads : (f : FunctionValue) (env : MachineValue) (out : OutputValue) → IsFaithful f env out → (ws : List Way) → IsPath f ws →
+    All IsSome (source_reads f ws)
+step_reads f env out h ws p = each_reads (λ k o. source_read f ws o) 0 (last_inst f ws).operands (λ k d less yes. ((h ws p).reads k d less yes).0)
+
+-- where an output is faithful, on every path each use of the function reads a number, whatever the instructions mean
+pub reads_numbers : (f : FunctionValue) (env : MachineValue) (out : OutputValue) → IsFaithful f env out → ReadsNumbers f
+unfolding numbers
+reads_numbers f env out h meaning [] p = All-cons (All IsSome) (map (option_map (λ s. 0)) (source_reads f [])) []
+    (all_there (λ s. 0) (source_reads f []) (step_reads f env out h [] p)) (All-nil (All IsSome))
+reads_numbers f env out h meaning (w ∷ ws) p =
+    All-cons (All IsSome) (map (option_map (numbers f meaning (source_reads f) (w ∷ ws)).written) (source_reads f (w ∷ ws)))
+    (numbers f meaning (source_reads f) ws).history
+    (all_there (numbers f meaning (source_reads f) (w ∷ ws)).written (source_reads f (w ∷ ws)) (step_reads f env out h (w ∷ ws) p))
+    (reads_numbers f env out h meaning ws p.0)

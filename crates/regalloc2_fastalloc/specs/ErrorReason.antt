@@ -1,0 +1,63 @@
+-- Why `run` returns an error: the first test that fails, and the first place where it does. The tests are in regalloc2_validate/specs, by
+-- the definitions of regalloc2_function/specs.
+use Rattle.std.specs.Prelude.{ℕ, ◌≡◌, ◌+◌, ◌*◌, ◌<◌, ◌≤◌, ◌^◌, ◌⊎◌, max, Bool, true, length}
+use Rattle.regalloc2_names.specs.declared.RegAllocError.{RegAllocError}
+use Rattle.regalloc2_names.specs.declared.RegAllocError.TheVariants.{CritEdge, SSA, BB, Branch, EntryLivein, DisallowedBranchArg, TooManyLiveRegs}
+use Rattle.regalloc2_names.specs.declared.RegAllocError.TheVariants.{TooManyOperands, Unsupported, TooManySpillSlots, Memory}
+use Rattle.regalloc2_names.specs.declared.RegClass.TheVariants.{Int, Float, Vector}
+use Rattle.regalloc2_function.specs.FunctionValue.{FunctionValue, inst_at, operand_count, slot_size}
+use Rattle.regalloc2_function.specs.Fitting.{Fits}
+use Rattle.regalloc2_function.specs.Machine.{MachineValue}
+use Rattle.regalloc2_function.specs.WellFormed.{IsWellFormed}
+use Rattle.regalloc2_validate.specs.Constraints.{AreUnlimited, BranchDefinesNothing, IsFirst}
+use Rattle.regalloc2_validate.specs.Validated.{IsFault}
+
+-- The first test needs no memory: fewer than 2^32 operands.
+abbrev pub HasFewOperands : FunctionValue → Type 0
+HasFewOperands f = operand_count f < 2 ^ 32
+
+-- then those of a well-formed function, where they are asked for
+abbrev pub IsValidIfChecked : FunctionValue → MachineValue → Bool → Type 0
+IsValidIfChecked f env asked = asked ≡ true → IsWellFormed env f
+
+-- all tests that are owed
+pub record PassesAllChecks (f : FunctionValue) (env : MachineValue) (asked : Bool) : Type 0 where
+  pub first : HasFewOperands f
+  pub well_formed : IsValidIfChecked f env asked
+  pub unlimited : (i : ℕ) → i < length f.insts → AreUnlimited (inst_at f i)
+  pub branches : (i : ℕ) → i < length f.insts → BranchDefinesNothing (inst_at f i)
+
+-- the function isn't well-formed, where that is asked for
+abbrev pub FailsValidation : FunctionValue → MachineValue → Bool → RegAllocError → Type 0
+FailsValidation f env asked e = HasFewOperands f × (asked ≡ true) × IsFault f env e
+
+-- an instruction that the allocator doesn't take: the first that has a `Limit`, or where none has one, the first branch that defines
+abbrev pub IsUnsupported : FunctionValue → ℕ → Type 0
+IsUnsupported f i = IsFirst f AreUnlimited i ⊎ (((j : ℕ) → j < length f.insts → AreUnlimited (inst_at f j)) × IsFirst f BranchDefinesNothing i)
+
+-- an instruction has too few registers
+abbrev pub SomeDoesNotFit : FunctionValue → MachineValue → Type 0
+SomeDoesNotFit f env = (i : ℕ) × (i < length f.insts) × (Fits f env (inst_at f i) → ⊥)
+
+-- how many units the greatest slot takes
+abbrev pub greatest_slot : FunctionValue → ℕ
+greatest_slot f = max (slot_size f.slot_sizes Int) (max (slot_size f.slot_sizes Float) (slot_size f.slot_sizes Vector))
+
+-- How many units slots may take: each less than twice its size, since it is aligned; there is one at most for each vreg, and six for the moves of each block.
+abbrev pub units_at_most : FunctionValue → ℕ
+units_at_most f = 2 * greatest_slot f * (f.num_vregs + 6 * length f.blocks)
+
+-- The reason that an error gives. Not promised: that `Memory` comes only where memory ran out, of which it says which tests pass; nor that
+-- `TooManyLiveRegs` comes wherever an instruction doesn't fit.
+abbrev pub IsReason : FunctionValue → MachineValue → Bool → RegAllocError → Type 0
+IsReason f env asked (CritEdge p b) = FailsValidation f env asked (CritEdge p b)
+IsReason f env asked (SSA v i) = FailsValidation f env asked (SSA v i)
+IsReason f env asked (BB b) = FailsValidation f env asked (BB b)
+IsReason f env asked (Branch i) = FailsValidation f env asked (Branch i)
+IsReason f env asked EntryLivein = FailsValidation f env asked EntryLivein
+IsReason f env asked (DisallowedBranchArg i) = FailsValidation f env asked (DisallowedBranchArg i)
+IsReason f env asked TooManyLiveRegs = PassesAllChecks f env asked × SomeDoesNotFit f env
+IsReason f env asked TooManyOperands = 2 ^ 32 ≤ operand_count f
+IsReason f env asked (Unsupported i) = FailsValidation f env asked (Unsupported i) ⊎ (HasFewOperands f × IsValidIfChecked f env asked × IsUnsupported f i)
+IsReason f env asked TooManySpillSlots = PassesAllChecks f env asked × (2 ^ 24 < units_at_most f)
+IsReason f env asked Memory = HasFewOperands f

@@ -1,0 +1,131 @@
+-- A block's beginning, for one vreg: its listing carries it from the slot that it has at the end of the whole walk, unless the block writes it.
+use Rattle.std.proofs.Common.{ℕ, suc, ◌≡◌, ◌⊎◌, inl, inr, Bool, true, false, List, [], ◌∷◌, ◌++◌, nat_eq, refl, sym, ap, ◌∙◌, subst, eq-eqb}
+use Rattle.std.specs.Prelude.{Option, None, Some, ◌&&◌, is_some}
+use Rattle.regalloc2_names.specs.Register.{Register, VirtualRegister}
+use Rattle.regalloc2_names.specs.Place.{Place, NoPlace, InRegister, InSlot, is_place}
+use Rattle.regalloc2_names.specs.Point.{before}
+use Rattle.regalloc2_function.specs.FunctionValue.{InstValue}
+use Rattle.regalloc2_function.specs.OutputValue.{MoveValue}
+use Rattle.regalloc2_semantics.specs.Listing.{Item, executed}
+use Rattle.regalloc2_semantics.specs.Listing.Item.{Move}
+use Rattle.regalloc2_semantics.specs.Carry.{Carries}
+use Rattle.regalloc2_semantics.specs.BlockByPoints.{at_point, walked, before_part, listed}
+use Rattle.regalloc2_semantics.specs.OperandsPlaced.{Need, located, in_slot, made}
+use Rattle.regalloc2_semantics.proofs.Cells.{is_place-true, is_place-same, is_place-other}
+use Rattle.regalloc2_semantics.proofs.CarryRules.{carries_weaken, carries_move}
+use Rattle.regalloc2_semantics.proofs.MoveInFront.{walked-more, before_part-push}
+use Rattle.regalloc2_semantics.proofs.PushedMoves.{listed-push}
+use Rattle.regalloc2_semantics.proofs.BlockBackward.{Relied}
+use Rattle.regalloc2_fastalloc_proofs.specs.InstSteps.{StateValue}
+use Rattle.regalloc2_fastalloc_proofs.specs.BlockStart.{ReloadsAtBegin}
+use Rattle.regalloc2_fastalloc_proofs.proofs.Safety.StepsKeepState.{place_in, slot_in}
+use Rattle.regalloc2_fastalloc_proofs.proofs.Operands.RecordOverState.{opt, stands_at, slots_at}
+use Rattle.regalloc2_fastalloc_proofs.proofs.Inst.AcrossInst.{lives_in}
+use Rattle.regalloc2_fastalloc_proofs.proofs.Inst.OneInstCarries.{Between}
+use Rattle.regalloc2_fastalloc_proofs.proofs.Moves.StepsAppendEdits.{Pushes, none_pushed, one_pushed}
+use Rattle.regalloc2_fastalloc_proofs.proofs.BlockBegin.ReloadAtBegin.{IsReload, Begun, begun, begins_carried}
+
+-- whether that option is this place
+abbrev pub is_there : Option Place → Place → Bool
+is_there None p = false
+is_there (Some q) p = is_place q p
+
+-- an option that passes the test for a place is that place
+pub is_there-true : (x : Option Place) (p : Place) → is_there x p ≡ true → x ≡ Some p
+is_there-true None p h = absurd cc
+is_there-true (Some q) p h = ap Some (is_place-true q p h)
+
+-- an option that is a place passes the test for that place
+pub is_there-same : (x : Option Place) (p : Place) → x ≡ Some p → is_there x p ≡ true
+is_there-same None p h = absurd cc
+is_there-same (Some q) p h = (let same : q ≡ p = cc in subst (λ y. is_place q y ≡ true) same (is_place-same q))
+
+-- an option that isn't a place fails the test for that place
+pub is_there-none : (x : Option Place) (p : Place) → (x ≡ Some p → ⊥) → is_there x p ≡ false
+is_there-none None p h = refl
+is_there-none (Some q) p h = is_place-other q p (λ e. h (ap Some e))
+
+-- the second part of a true conjunction is true
+pub second_true : (a b : Bool) → (a && b) ≡ true → b ≡ true
+second_true true b h = h
+second_true false b h = absurd cc
+
+-- a conjunction whose second part is false is false
+pub second_false : (a b : Bool) → b ≡ false → (a && b) ≡ false
+second_false true b h = h
+second_false false b h = refl
+
+module _ (insts : ℕ → InstValue) (placesf : ℕ → List Place) (i n : ℕ) (v : VirtualRegister) (E : Place → Type 0) where
+  -- the listing from the block's first instruction on
+  abbrev pub from_first : StateValue → List Item
+  from_first t = walked insts (at_point (listed t.edits)) placesf i (suc n)
+
+  -- reloads in front do nothing to what is carried from nowhere
+  reloaded : (old new : List (ℕ × MoveValue)) → Pushes (IsReload (before i)) old new →
+      Carries v (walked insts (at_point (listed old)) placesf i (suc n)) (λ p. ⊥) E →
+      Carries v (walked insts (at_point (listed new)) placesf i (suc n)) (λ p. ⊥) E
+  reloaded old new none_pushed c = c
+  reloaded old new (one_pushed es e more is) c =
+      let item : Item = executed (insts i) (placesf i) in
+      let rest : Carries v (before_part insts (listed es) placesf i n item) (λ p. ⊥) E =
+      subst (λ l. Carries v l (λ p. ⊥) E) (walked-more insts (listed es) placesf i n) (reloaded old es more c) in
+      let moved : Carries v (Move e.1 ∷ before_part insts (listed es) placesf i n item) (λ p. ⊥) E =
+      carries_move v e.1 (before_part insts (listed es) placesf i n item) (λ p. ⊥) (λ p. ⊥) E
+      (λ none. (let x : NoPlace ≡ InRegister is.1.0 = sym none ∙ is.1.1 in cc)) (λ x. x) (λ p ne x. x) rest in
+      let in_front : before_part insts (listed (es ++ e ∷ [])) placesf i n item ≡ Move e.1 ∷ before_part insts (listed es) placesf i n item =
+      ap (λ l. before_part insts l placesf i n item) (listed-push es e) ∙ ap (λ q. before_part insts ((q, e.1) ∷ listed es) placesf i n item) is.0
+      ∙ before_part-push insts e.1 (listed es) placesf i n item in
+      subst (λ l. Carries v l (λ p. ⊥) E) (sym (walked-more insts (listed (es ++ e ∷ [])) placesf i n ∙ in_front)) moved
+
+  module _ (params : List VirtualRegister) (old new : StateValue) (begins : ReloadsAtBegin (before i) params old new) (between : Between i old) (block : Bool)
+      (F : Option Place) (slot : (r : Register) → F ≡ Some (InRegister r) → ⊥)
+      (stays : (p : Place) → slots_at new v.number ≡ Some p → F ≡ Some p) where
+    -- where the block doesn't write v
+    unwritten : Carries v (from_first old) (Relied false false (stands_at old v.number) (slots_at old v.number) F) E →
+        Carries v (from_first new) (λ p. F ≡ Some p) E
+    unwritten c =
+        let X : Place → ℕ → Bool = λ p x. nat_eq x v.number && is_there F p in
+        let b : Begun i params old new = begun i params old new begins between in
+        carries_weaken v (from_first new) (λ p. Need (lives_in new) (λ x. false) X (stands_at new) (slots_at new) v.number p) (λ p. F ≡ Some p) E E
+        (λ p h. elim h [
+          | located l at ↦ stays p (by_place p (b.settled v.number) at)
+          | in_slot o at ↦ stays p at
+          | made x ↦ is_there-true F p (second_true (nat_eq v.number v.number) (is_there F p) x)
+        ])
+        (λ p h. h)
+        (begins_carried (λ w. w ≡ v) insts placesf i n (λ w. E) (λ x. false) X params old new
+        (λ r x. second_false (nat_eq x v.number) (is_there F (InRegister r)) (is_there-none F (InRegister r) (slot r))) (λ x e. absurd cc) begins between
+        (λ w same. subst (λ (u : VirtualRegister). Carries u (from_first old) (Need (lives_in old) (λ x. false) X (stands_at old) (slots_at old) u.number) E)
+        (sym same)
+        (carries_weaken v (from_first old) (Relied false false (stands_at old v.number) (slots_at old v.number) F)
+        (λ p. Need (lives_in old) (λ x. false) X (stands_at old) (slots_at old) v.number p) E E
+        (λ p h. elim h.1 [
+          | inl at ↦ located (ap is_some at) at
+          | inr (inl at) ↦ in_slot refl at
+          | inr (inr at) ↦ made (both_true (eq-eqb v.number v.number refl) (is_there-same F p at.1))
+        ])
+        (λ p h. h) c)) v refl)
+      where
+        by_place : (p : Place) → (place_in new v.number ≡ NoPlace) ⊎ ((k : ℕ) × (place_in new v.number ≡ InSlot k) × (slot_in new v.number ≡ InSlot k)) →
+            stands_at new v.number ≡ Some p → slots_at new v.number ≡ Some p
+        by_place p (inl none) at = (let x : None ≡ Some p = ap opt (sym none) ∙ at in absurd cc)
+        by_place p (inr k) at = ap opt k.2 ∙ ap opt (sym k.1) ∙ at
+
+        both_true : {a c : Bool} → a ≡ true → c ≡ true → (a && c) ≡ true
+        both_true x y = rw (x, y) refl
+
+    -- with a block's beginning in front, its listing carries v from its final slot, or from nowhere if the block writes it
+    pub entered_carried : Carries v (from_first old) (Relied block block (stands_at old v.number) (slots_at old v.number) F) E →
+        Carries v (from_first new) (λ p. (block ≡ false) × (F ≡ Some p)) E
+    entered_carried = by_test block refl
+      where
+        by_test : (b : Bool) → block ≡ b → Carries v (from_first old) (Relied block block (stands_at old v.number) (slots_at old v.number) F) E →
+            Carries v (from_first new) (λ p. (block ≡ false) × (F ≡ Some p)) E
+        by_test true is c =
+            carries_weaken v (from_first new) (λ p. ⊥) (λ p. (block ≡ false) × (F ≡ Some p)) E E (λ p h. absurd h) (λ p h. h)
+            (reloaded old.edits new.edits (begun i params old new begins between).leads.pushes
+            (carries_weaken v (from_first old) (Relied block block (stands_at old v.number) (slots_at old v.number) F) (λ p. ⊥) E E
+            (λ p h. (let x : true ≡ false = sym is ∙ h.0 in absurd cc)) (λ p h. h) c))
+        by_test false is c =
+            carries_weaken v (from_first new) (λ p. F ≡ Some p) (λ p. (block ≡ false) × (F ≡ Some p)) E E (λ p h. (is, h)) (λ p h. h)
+            (unwritten (subst (λ x. Carries v (from_first old) (Relied x x (stands_at old v.number) (slots_at old v.number) F) E) is c))

@@ -1,0 +1,88 @@
+-- The last instruction of a block: what is owed behind it, and what a return carries.
+use Rattle.std.proofs.Common.{ℕ, ◌≡◌, ◌≢◌, ◌<◌, ◌⊎◌, inl, inr, Bool, true, false, List, [], length, refl, sym, ap, ◌∙◌, arith}
+use Rattle.std.specs.Prelude.{Option, None, Some, ◌||◌}
+use Rattle.std.proofs.lemmas.Bool.{cases_Bool}
+use Rattle.regalloc2_names.specs.Register.{VirtualRegister}
+use Rattle.regalloc2_names.specs.Place.{Place, NoPlace, InSlot}
+use Rattle.regalloc2_function.specs.FunctionValue.{FunctionValue, block_at, inst_at}
+use Rattle.regalloc2_semantics.specs.Carry.{Carries}
+use Rattle.regalloc2_semantics.specs.BlockByPoints.{at_point, walked, listed}
+use Rattle.regalloc2_semantics.specs.Instruction.{Knows}
+use Rattle.regalloc2_semantics.specs.Blocks.{names, HasEdge, target_at, IsUnwritten, IsUsedIn, IsWantedBehind, StandsAfter}
+use Rattle.regalloc2_semantics.proofs.CarryRules.{carries_weaken}
+use Rattle.regalloc2_semantics.proofs.BlockBackward.{Relied}
+use Rattle.regalloc2_fastalloc_proofs.specs.InstSteps.{StateValue}
+use Rattle.regalloc2_fastalloc_proofs.proofs.Safety.StepsKeepState.{place_in, slot_in}
+use Rattle.regalloc2_fastalloc_proofs.proofs.Operands.RecordOverState.{opt, stands_at, slots_at}
+use Rattle.regalloc2_fastalloc_proofs.proofs.Operands.RecordOfInst.{Orderly}
+use Rattle.regalloc2_fastalloc_proofs.proofs.Inst.BoundaryToFirstOperand.{AvoidClobbers}
+use Rattle.regalloc2_fastalloc_proofs.proofs.Operands.DefinedNumbers.{defined_by}
+use Rattle.regalloc2_fastalloc_proofs.proofs.Inst.OneInstCarries.{Alone, Needed}
+use Rattle.regalloc2_fastalloc_proofs.proofs.Walk.InstForOneVReg.{needed_parts}
+use Rattle.regalloc2_fastalloc_proofs.proofs.Walk.InstsBeforeLastCarry.{defined_from}
+
+-- one instruction alone
+defined_from-one : (f : FunctionValue) (x i : ℕ) → defined_from f x i 1 ≡ (defined_by (inst_at f i).operands x || false)
+unfolding defined_from
+defined_from-one f x i = refl
+
+or_none : (a : Bool) → a ≡ false → (a || false) ≡ false
+or_none a e = rw e refl
+
+-- nothing is owed behind a block without successors
+pub nothing_after : (f : FunctionValue) (slot : VirtualRegister → Option Place) (b : ℕ) (v : VirtualRegister) (p : Place) → (block_at f b).succs ≡ [] →
+    StandsAfter f slot b v p → ⊥
+nothing_after f slot b v p none (inl own) = (let edge = own.1.0.1 in let n : length (block_at f b).succs ≡ 0 = ap length none in omega (arith, edge, n))
+nothing_after f slot b v p none (inr passed) = (let edge = passed.2 in let n : length (block_at f b).succs ≡ 0 = ap length none in omega (arith, edge, n))
+
+module _ (Known : VirtualRegister → Type 0) (f : FunctionValue) (placesf : ℕ → List Place)
+    (orderly : (i : ℕ) → i < length f.insts → Orderly (inst_at f i).operands)
+    (avoids : (i : ℕ) → i < length f.insts → AvoidClobbers (inst_at f i).operands (inst_at f i).clobbers)
+    (knows : (i : ℕ) → i < length f.insts → Knows Known (inst_at f i).operands) (F : ℕ → Option Place) where
+  -- a return carries what is needed before it
+  pub return_owes : (last : ℕ) (old new : StateValue) (v : VirtualRegister) → Known v → (block : Bool) (E : Place → Type 0) →
+      Alone Known f placesf orderly avoids knows last old new → (inst_at f last).is_ret ≡ true → ((p : Place) → E p → ⊥) →
+      Carries v (walked (inst_at f) (at_point (listed new.edits)) placesf last 1)
+      (Relied (defined_from f v.number last 1) block (stands_at new v.number) (slots_at new v.number) (F v.number)) E
+  return_owes last old new v known block E a ret nothing =
+      carries_weaken v (walked (inst_at f) (at_point (listed new.edits)) placesf last 1) (Needed (defined_by (inst_at f last).operands) new v)
+      (Relied (defined_from f v.number last 1) block (stands_at new v.number) (slots_at new v.number) (F v.number))
+      (λ p. ⊥) E relied (λ p e. nothing p e) (a.returns ret v known)
+    where
+      relied : (p : Place) → Needed (defined_by (inst_at f last).operands) new v p →
+          Relied (defined_from f v.number last 1) block (stands_at new v.number) (slots_at new v.number) (F v.number) p
+      relied p h = elim (cases_Bool (defined_by (inst_at f last).operands v.number)) [
+        | inl d ↦ elim (needed_parts (defined_by (inst_at f last).operands) new v p h) [
+          | inl at ↦ (let x : None ≡ Some p = sym (a.ends.gone v.number d) ∙ at in absurd cc)
+          | inr s ↦ (let x : true ≡ false = sym d ∙ s.0 in absurd cc)
+        ]
+        | inr u ↦ (
+          defined_from-one f v.number last ∙ or_none (defined_by (inst_at f last).operands v.number) u,
+          elim (needed_parts (defined_by (inst_at f last).operands) new v p h) [
+            | inl at ↦ inl at
+            | inr s ↦ inr (inl s.1)
+          ],
+        )
+      ]
+
+-- what is owed in v's own slot behind a block that has edges
+abbrev pub OwedOwn : FunctionValue → (ℕ → Option Place) → ℕ → VirtualRegister → Place → Type 0
+OwedOwn f F b v p = ((k : ℕ) → HasEdge f b k → names v (block_at f (target_at f b k)).params ≡ false) × IsWantedBehind f b v × (F v.number ≡ Some p)
+
+-- at a block's end, where each vreg is in its slot or nowhere: what is owed in v's own slot may be relied on there, if v has a location
+-- where another block uses what this one writes
+pub owed_there : (f : FunctionValue) (F : ℕ → Option Place) (b : ℕ) (v : VirtualRegister) (block : Bool) (t : StateValue) →
+    ((p : Place) → slots_at t v.number ≡ Some p → F v.number ≡ Some p)
+    → (place_in t v.number ≡ NoPlace) ⊎ ((k : ℕ) × (place_in t v.number ≡ InSlot k) × (slot_in t v.number ≡ InSlot k))
+    → (block ≡ true → IsUnwritten f b v → ⊥) → (block ≡ true → (c : ℕ) → c < length f.blocks → c ≢ b → IsUsedIn f c v → place_in t v.number ≢ NoPlace)
+    → (p : Place) → OwedOwn f F b v p → Relied false block (stands_at t v.number) (slots_at t v.number) (F v.number) p
+owed_there f F b v block t stays settled writes lives p (none, (edge, requirement), own) = elim (cases_Bool block) [
+  | inr free ↦ (refl, inr (inr (free, own)))
+  | inl is ↦ elim requirement [
+    | inl unwritten ↦ absurd (writes is unwritten)
+    | inr used ↦ elim settled [
+      | inl nowhere ↦ absurd (lives is used.0 used.1 used.2 used.4 nowhere)
+      | inr k ↦ (refl, inr (inl (ap opt k.2 ∙ sym (stays (InSlot k.0) (ap opt k.2)) ∙ own)))
+    ]
+  ]
+]

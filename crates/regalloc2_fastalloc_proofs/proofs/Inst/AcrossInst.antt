@@ -1,0 +1,130 @@
+-- A vreg that had no location is in its use's place; where an instruction begins, and across it.
+use Rattle.std.proofs.Common.{ℕ, ◌≡◌, ◌≢◌, ◌+◌, ◌<◌, Bool, true, false, List, ◌∷◌, refl, arith, sym, ap, ◌∙◌, subst, inl, inr}
+use Rattle.std.specs.Prelude.{is_some}
+use Rattle.std.proofs.lemmas.Bool.{cases_eq}
+use Rattle.regalloc2_names.specs.declared.RegClass.{RegClass}
+use Rattle.regalloc2_names.specs.declared.sets.PRegSet.{PRegSet}
+use Rattle.regalloc2_names.specs.Register.{Register, VirtualRegister}
+use Rattle.regalloc2_names.specs.Operand.{OperandValue}
+use Rattle.regalloc2_names.specs.Place.{Place, NoPlace, InRegister, InSlot}
+use Rattle.regalloc2_names.specs.Point.{before, after}
+use Rattle.regalloc2_function.specs.FunctionValue.{InstValue}
+use Rattle.regalloc2_function.specs.OutputValue.{place_at}
+use Rattle.regalloc2_semantics.specs.Listing.Item.{Exec}
+use Rattle.regalloc2_semantics.specs.Carry.{is_clobbered}
+use Rattle.regalloc2_semantics.specs.BlockByPoints.{AllFrom, at_point, walked, after_part, listed}
+use Rattle.regalloc2_semantics.specs.Instruction.{Claims, Knows}
+use Rattle.regalloc2_semantics.specs.OperandsPlaced.{What, what_of, Need, Pending, Placed, Once, Counts}
+use Rattle.regalloc2_semantics.proofs.Points.{all_from-less}
+use Rattle.regalloc2_semantics.proofs.MoveInFront.{after_part-clean}
+use Rattle.regalloc2_semantics.proofs.RecordSteps.{step_new}
+use Rattle.regalloc2_semantics.proofs.InstCarries.{cross_all}
+use Rattle.regalloc2_semantics.proofs.BoundaryToBoundary.{begin_all}
+use Rattle.regalloc2_fastalloc_state.specs.StateParts.{SpillSlotsValue, slot_name, units_of, IsSlotOrNone, SetsAlloc}
+use Rattle.regalloc2_fastalloc_proofs.specs.InstSteps.{StateValue}
+use Rattle.regalloc2_fastalloc_proofs.proofs.Safety.StepsKeepState.{place_in, slot_in, IsWhole, away_holds, away_stands, arrive_holds, arrive_stands}
+use Rattle.regalloc2_fastalloc_proofs.proofs.Operands.RecordOverState.{opt, opt_some, opt_from, opt_real, stands_at, slots_at, no_register_slot, Located, Owes}
+use Rattle.regalloc2_fastalloc_proofs.proofs.Operands.ClaimAndUse.{Places}
+
+-- the slots stay
+module _ (old new : StateValue) (v : VirtualRegister) (nowhere : place_in old v.number ≡ NoPlace) (slots : new.slots ≡ old.slots) (w : IsWhole old) where
+  slot_same : (x : ℕ) → slot_in new x ≡ slot_in old x
+  slot_same x = ap (λ (s : SpillSlotsValue). slot_name s x) slots
+
+  below_same : (x : ℕ) → IsSlotOrNone new.slots.count (slot_in new x)
+  below_same x = subst (λ (s : SpillSlotsValue). IsSlotOrNone s.count (slot_name s x)) (sym slots) (w.below x)
+
+  own_same : (x y k : ℕ) → slot_in new x ≡ InSlot k → slot_in new y ≡ InSlot k → x ≡ y
+  own_same x y k h g = w.own x y k (sym (slot_same x) ∙ h) (sym (slot_same y) ∙ g)
+
+  units_same : (c : RegClass) → 0 < units_of new.slots c
+  units_same c = subst (λ (s : SpillSlotsValue). 0 < units_of s c) (sym slots) (w.units c)
+
+  -- the vreg is located in a register where no vreg was
+  pub arrive_register : (r : Register) → r.number < 64 → ((x : ℕ) → place_in old x ≡ InRegister r → ⊥) → SetsAlloc old.places new.places v (InRegister r) →
+      IsWhole new
+  arrive_register r lt empty z = record {
+    holds = arrive_holds old new v r lt nowhere empty z w;
+    stands_in = arrive_stands old new v r lt nowhere empty z w;
+    own_slot = λ x k h. elim (cases_eq x v.number) [
+      | inl e ↦ (let y : InRegister r ≡ InSlot k = sym z.here ∙ ap (place_in new) (sym e) ∙ h in absurd cc)
+      | inr ne ↦ (slot_same x ∙ w.own_slot x k (sym (z.others x ne) ∙ h))
+    ];
+    below = below_same;
+    own = own_same;
+    units = units_same;
+  }
+
+  -- or in its slot
+  pub arrive_slot : (m : ℕ) → slot_in old v.number ≡ InSlot m → SetsAlloc old.places new.places v (InSlot m) → IsWhole new
+  arrive_slot m slot z = record {
+    holds = away_holds old new v (InSlot m) (λ q. refl) z w;
+    stands_in = away_stands old new v (InSlot m) (λ q. refl) z w;
+    own_slot = λ x k h. elim (cases_eq x v.number) [
+      | inl e ↦ (slot_same x ∙ ap (slot_in old) e ∙ slot ∙ sym z.here ∙ ap (place_in new) (sym e) ∙ h)
+      | inr ne ↦ (slot_same x ∙ w.own_slot x k (sym (z.others x ne) ∙ h))
+    ];
+    below = below_same;
+    own = own_same;
+    units = units_same;
+  }
+
+-- a use is placed, whose vreg had no location
+pub use_arrives : (what : ℕ → What) (here : ℕ → Place) (claimed done done2 lived out : ℕ → Bool) (clob : Place → Bool) (X : Place → ℕ → Bool)
+    (old new : StateValue) (k : ℕ) (v : VirtualRegister)
+    → Places done done2 k → claimed k ≡ true → (what k).is_def ≡ false → (what k).number ≡ v.number → here k ≢ NoPlace → place_in old v.number ≡ NoPlace
+    → ((j : ℕ) → done j ≡ true → (what j).is_def ≡ true → (what j).number ≡ (what k).number → ⊥)
+    → SetsAlloc old.places new.places v (here k) → new.slots ≡ old.slots → IsWhole new
+    → Located what here claimed done lived out clob X old → Located what here claimed done2 lived out clob X new
+use_arrives what here claimed done done2 lived out clob X old new k v u c d same real nowhere unmade z slots w st = record {
+  whole = w;
+  placed = subst (λ (s : SpillSlotsValue). Placed what here claimed done2 lived out clob X (stands_at new) (λ x. opt (slot_name s x))) (sym slots)
+      (step_new what here claimed done done2 lived out clob X (stands_at old) (stands_at new) (slots_at old) k c d
+      (ap opt (ap (place_in old) same ∙ nowhere)) unmade u.grows u.keeps u.places
+      (ap opt (ap (place_in new) same ∙ z.here) ∙ opt_some (here k) real) (λ x n. ap opt (z.others x (λ e. n (e ∙ sym same)))) st.placed);
+  below = λ j m cj e. subst (λ (s : SpillSlotsValue). m < s.count) (sym slots) (st.below j m cj e);
+  calm = st.calm;
+}
+
+-- what lives when an instruction begins: what has a location
+abbrev pub lives_in : StateValue → ℕ → Bool
+lives_in t x = is_some (stands_at t x)
+
+-- before any operand of an instruction is allocated, the record of its operands holds, and what is located is live
+pub begin_stands : (what : ℕ → What) (here : ℕ → Place) (t : StateValue) → IsWhole t →
+    Located what here (λ j. false) (λ j. false) (lives_in t) (λ x. false) (λ p. false) (λ p x. false) t
+begin_stands what here t w = record {
+  whole = w;
+  placed = begin_all what here (lives_in t) (stands_at t) (slots_at t) (λ x. refl);
+  below = λ j k c e. absurd cc;
+  calm = λ k. refl;
+}
+
+module _ (Known : VirtualRegister → Type 0) (insts : ℕ → InstValue) (placesf : ℕ → List Place) (i n : ℕ) (E : VirtualRegister → Place → Type 0) where
+  -- the listing from the next instruction on
+  pub begin_owes : (t : StateValue) → AllFrom (before (i + 1)) (listed t.edits) →
+      Claims Known (walked insts (at_point (listed t.edits)) placesf (i + 1) n) (Need (lives_in t) (λ x. false) (λ p x. false) (stands_at t) (slots_at t)) E →
+      Owes Known insts placesf i n E (lives_in t) (λ x. false) (λ p x. false) (stands_at t) (slots_at t) t.edits
+  begin_owes t later c = record {
+    later = all_from-less (after i) (before (i + 1)) (listed t.edits) (omega arith) later;
+    claims = subst (λ l. Claims Known l (Need (lives_in t) (λ x. false) (λ p x. false) (stands_at t) (slots_at t)) E)
+        (sym (after_part-clean insts (listed t.edits) placesf i n later)) c;
+  }
+
+  -- all operands are allocated: what the listing carries with the instruction in front
+  pub cross_stands : (ops : List OperandValue) (places : List Place) (clobbers : PRegSet) (here : ℕ → Place) (claimed done lived out : ℕ → Bool)
+      (clob : Place → Bool) (X : Place → ℕ → Bool) (t : StateValue) →
+      Knows Known ops → Once (Counts ops) (what_of ops) → ((j : ℕ) → Counts ops j → done j ≡ true) → ((j : ℕ) → done j ≡ true → Counts ops j) →
+      ((j : ℕ) → Counts ops j → place_at places j ≡ here j) → ((p : Place) → clob p ≡ false → is_clobbered clobbers p ≡ false) →
+      Located (what_of ops) here claimed done lived out clob X t → Owes Known insts placesf i n E lived out X (stands_at t) (slots_at t) t.edits →
+      Claims Known (Exec ops places clobbers ∷ after_part insts (listed t.edits) placesf i n) (Pending (what_of ops) here done out (stands_at t) (slots_at t) 0)
+      E
+  cross_stands ops places clobbers here claimed done lived out clob X t knows once all counted at_places clobbered st o =
+      cross_all Known ops places clobbers here claimed done lived out clob X (stands_at t) (slots_at t) (after_part insts (listed t.edits) placesf i n) E
+      knows st.placed once all counted at_places clobbered
+      (λ w p e. slot_calm p (slot_in t w) (st.whole.below w) (opt_from (slot_in t w) p e) (opt_real (slot_in t w) p e)) o.claims
+    where
+      slot_calm : (p q : Place) → IsSlotOrNone t.slots.count q → q ≡ p → p ≢ NoPlace → clob p ≡ false
+      slot_calm NoPlace q b e ne = absurd (ne refl)
+      slot_calm (InRegister r) q b e ne = absurd (no_register_slot t.slots.count q r b e)
+      slot_calm (InSlot m) q b e ne = st.calm m

@@ -1,0 +1,10 @@
+pub mod BlockBegin
+pub mod BlockEnd
+pub mod Branches
+pub mod Evictions
+pub mod Inst
+pub mod Moves
+pub mod Operands
+pub mod Safety
+pub mod Slots
+pub mod Walk

@@ -1,0 +1,214 @@
+-- A move after the instruction from a place to another one, by way of a scratch register where both are in memory.
+use Rattle.std.proofs.Common.{ℕ, ◌≡◌, ◌≢◌, ◌<◌, Bool, true, false, List, [], ◌∷◌, ◌++◌, refl, sym, ap, ◌∙◌, subst, inl, inr, ◌⊎◌}
+use Rattle.std.specs.Prelude.{Option, None, Some}
+use Rattle.std.proofs.lemmas.Bool.{cases_eq, and_parts}
+use Rattle.regalloc2_names.specs.declared.RegClass.{RegClass}
+use Rattle.regalloc2_names.specs.Register.{Register, VirtualRegister}
+use Rattle.regalloc2_names.specs.RegisterSet.{has_register}
+use Rattle.regalloc2_names.specs.Operand.{OperandValue}
+use Rattle.regalloc2_names.specs.Place.{Place, NoPlace, InRegister}
+use Rattle.regalloc2_names.specs.Point.{after}
+use Rattle.regalloc2_function.specs.FunctionValue.{InstValue}
+use Rattle.regalloc2_function.specs.OutputValue.{MoveValue}
+use Rattle.regalloc2_semantics.specs.Listing.{Item}
+use Rattle.regalloc2_semantics.specs.Listing.Item.{Move}
+use Rattle.regalloc2_semantics.specs.Instruction.{Claims}
+use Rattle.regalloc2_semantics.specs.BlockByPoints.{after_part, listed}
+use Rattle.regalloc2_semantics.specs.OperandsPlaced.{What, what_of, Held, Counts, Need, located, in_slot, made}
+use Rattle.regalloc2_semantics.proofs.NeedsAcrossMoves.{claims_move, claims_through}
+use Rattle.regalloc2_semantics.proofs.PushedMoves.{after_part-more}
+use Rattle.regalloc2_fastalloc_state.specs.declared.inst_regs.InstRegs.{InstRegs}
+use Rattle.regalloc2_fastalloc_proofs.specs.InstSteps.{StateValue, AddsMove, direct, through, is_stack_in, a_move}
+use Rattle.regalloc2_fastalloc_proofs.proofs.Safety.StepsKeepState.{place_in, slot_in}
+use Rattle.regalloc2_fastalloc_proofs.proofs.Operands.RecordOverState.{opt_from, stands_at, slots_at, no_register_slot, Located, Owes, later_push}
+use Rattle.regalloc2_fastalloc_proofs.proofs.Evictions.EvictVReg.{held_early, held_late, Kept, kept_all}
+use Rattle.regalloc2_fastalloc_proofs.proofs.Moves.ScratchRegTaken.{of_machine, taken, Fit, Spare, Less, scratches_less, spare_more, scratch_off, fit_same}
+use Rattle.regalloc2_fastalloc_proofs.proofs.Moves.ScratchRegMidMove.{put, put_same, put_other, ScratchedBut, scratch_but, through_items, through_later}
+use Rattle.regalloc2_fastalloc_proofs.proofs.Operands.RecordOfInst.{Ready}
+use Rattle.regalloc2_fastalloc_proofs.proofs.Evictions.EvictKeepsRecord.{Nothing, none_crosses}
+
+-- moves are no part of the locations of vregs
+pub stands_edits : (what : ℕ → What) (here : ℕ → Place) (claimed done lived out : ℕ → Bool) (clob : Place → Bool) (X : Place → ℕ → Bool) (t : StateValue)
+    (es : List (ℕ × MoveValue)) →
+    Located what here claimed done lived out clob X t → Located what here claimed done lived out clob X (record t { edits = es })
+stands_edits what here claimed done lived out clob X t es s = record {
+  whole = record {
+    holds = s.whole.holds;
+    stands_in = s.whole.stands_in;
+    own_slot = s.whole.own_slot;
+    below = s.whole.below;
+    own = s.whole.own;
+    units = s.whole.units;
+  };
+  placed = s.placed;
+  below = s.below;
+  calm = s.calm;
+}
+
+-- what no eviction changes says nothing of edits: a state with other ones keeps it too
+pub kept_edits : (a t : StateValue) (es : List (ℕ × MoveValue)) → Kept a t → Kept a (record t { edits = es })
+kept_edits a t es k = record {
+  slots = k.slots;
+  registers = k.registers;
+  nowhere = k.nowhere;
+  slotted = k.slotted;
+  unslotted = k.unslotted;
+  machine = record {
+    allocatable = k.machine.allocatable;
+    fixed_stack = k.machine.fixed_stack;
+    dedicated_scratch = k.machine.dedicated_scratch;
+    sizes = k.machine.sizes;
+    vregs = k.machine.vregs;
+    num_temp_slots = k.machine.num_temp_slots;
+  };
+}
+
+-- scratch registers stay idle where edits alone change
+pub spare_edits : (here : ℕ → Place) (claimed : ℕ → Bool) (X : Place → ℕ → Bool) (u : InstRegs) (t : StateValue) (es : List (ℕ × MoveValue)) →
+    Spare here claimed X u t → Spare here claimed X u (record t { edits = es })
+spare_edits here claimed X u t es s = record {
+  idle = λ c b is. (let y = s.idle c b (elim is [ of_machine e ↦ of_machine e | taken e ↦ taken e ]) in
+      record { no_allocs = y.no_allocs; clear = y.clear; unclaimed = y.unclaimed });
+  own = s.own;
+  early = s.early;
+  late = s.late;
+}
+
+-- registers that fit go on fitting where edits alone change
+pub fit_edits : (t : StateValue) (es : List (ℕ × MoveValue)) → Fit t → Fit (record t { edits = es })
+fit_edits t es f = record { small = f.small; stack_apart = f.stack_apart; own_apart = f.own_apart }
+
+module _ (Known : VirtualRegister → Type 0) (insts : ℕ → InstValue) (placesf : ℕ → List Place) (i n : ℕ) (E : VirtualRegister → Place → Type 0) where
+  -- the record but for what the listing carries
+  pub record Steady (ops : List OperandValue) (here : ℕ → Place) (claimed done lived out : ℕ → Bool) (clob : Place → Bool) (X : Place → ℕ → Bool) (ret : Bool)
+      (u : InstRegs) (t : StateValue) : Type 0 where
+    pub located : Located (what_of ops) here claimed done lived out clob X t
+    pub nothing : ret ≡ true → Nothing Known insts placesf i n E t.edits
+    pub held : Held (what_of ops) here claimed (held_early u) (held_late u)
+    pub scratch_reserve : Spare here claimed X u t
+    pub fit : Fit t
+    pub clobbers : (r : Register) → clob (InRegister r) ≡ true → has_register u.late r ≡ false
+    pub within : (j : ℕ) → claimed j ≡ true → Counts ops j
+    pub small : (j : ℕ) (r : Register) → claimed j ≡ true → here j ≡ InRegister r → r.number < 64
+
+  -- the record but for what the listing carries, together with that, is the record
+  pub ready_of : (ops : List OperandValue) (here : ℕ → Place) (claimed done lived out : ℕ → Bool) (clob : Place → Bool) (X : Place → ℕ → Bool) (ret : Bool)
+      (u : InstRegs) (t : StateValue) →
+      Steady ops here claimed done lived out clob X ret u t → Owes Known insts placesf i n E lived out X (stands_at t) (slots_at t) t.edits →
+      Ready Known insts placesf i n E ops here claimed done lived out clob X ret u t
+  ready_of ops here claimed done lived out clob X ret u t s o =
+      record {
+        located = s.located;
+        owes = o;
+        nothing = s.nothing;
+        held = s.held;
+        scratch_reserve = s.scratch_reserve;
+        fit = s.fit;
+        clobbers = s.clobbers;
+        within = s.within;
+        small = s.small;
+      }
+
+  -- after a move, or none
+  pub record Sent (ops : List OperandValue) (here : ℕ → Place) (claimed done lived out need : ℕ → Bool) (clob : Place → Bool) (X : Place → ℕ → Bool)
+      (ret : Bool) (u : InstRegs) (old new : StateValue) : Type 0 where
+    pub steady : Steady ops here claimed done lived out clob X ret u new
+    pub owes : Owes Known insts placesf i n E lived need X (stands_at new) (slots_at new) new.edits
+    pub kept : Kept old new
+
+  -- What is needed of a vreg that is on its way to a place comes from the place that it is sent from. The vreg has no location in the tables.
+  pub record Moves (lived need need2 : ℕ → Bool) (X : Place → ℕ → Bool) (v : ℕ) (c : Option Place) (from to : Place) (m : StateValue) : Type 0 where
+    pub moved : (x : ℕ) → Need lived need X (put (stands_at m) v c) (slots_at m) x to → Need lived need2 X (stands_at m) (slots_at m) x from
+    pub others : (x : ℕ) (q : Place) → (q ≡ to → ⊥) → Need lived need X (put (stands_at m) v c) (slots_at m) x q →
+        Need lived need2 X (stands_at m) (slots_at m) x q
+
+  steady_push : (ops : List OperandValue) (here : ℕ → Place) (claimed done lived out : ℕ → Bool) (clob : Place → Bool) (X : Place → ℕ → Bool) (ret : Bool)
+      (u : InstRegs) (t : StateValue) (es : List (ℕ × MoveValue)) →
+      Located (what_of ops) here claimed done lived out clob X t → Held (what_of ops) here claimed (held_early u) (held_late u) → Spare here claimed X u t →
+      Fit t →
+      ((r : Register) → clob (InRegister r) ≡ true → has_register u.late r ≡ false) → ((j : ℕ) → claimed j ≡ true → Counts ops j) →
+      ((j : ℕ) (r : Register) → claimed j ≡ true → here j ≡ InRegister r → r.number < 64) →
+      (ret ≡ true → Nothing Known insts placesf i n E es) → Steady ops here claimed done lived out clob X ret u (record t { edits = es })
+  steady_push ops here claimed done lived out clob X ret u t es st h sp f cl within small rest = record {
+    located = stands_edits (what_of ops) here claimed done lived out clob X t es st;
+    nothing = rest;
+    held = h;
+    scratch_reserve = spare_edits here claimed X u t es sp;
+    fit = fit_edits t es f;
+    clobbers = cl;
+    within = within;
+    small = small;
+  }
+
+  -- a move added after the instruction for a vreg on its way keeps the record: its value is needed at the source from then on
+  pub cross_step : (ops : List OperandValue) (here : ℕ → Place) (claimed done lived out need need2 : ℕ → Bool) (clob : Place → Bool) (X : Place → ℕ → Bool)
+      (ret : Bool) (v : ℕ) (c : Option Place) (class : RegClass) (from to : Place) (t u : InstRegs) (old new : StateValue) →
+      AddsMove (after i) class from to t u old new → to ≢ NoPlace → place_in old v ≡ NoPlace → (c ≡ Some to) ⊎ (c ≡ None) →
+      ((m : StateValue) → Located (what_of ops) here claimed done lived out clob X m → Kept old m → Moves lived need need2 X v c from to m) →
+      Steady ops here claimed done lived out clob X ret t old → Owes Known insts placesf i n E lived need X (put (stands_at old) v c) (slots_at old) old.edits →
+      Sent ops here claimed done lived out need2 clob X ret u old new
+  cross_step ops here claimed done lived out need need2 clob X ret v c class from to t u old new (direct flat eu en) there nowhere away moves s o =
+      let es : List (ℕ × MoveValue) = old.edits ++ a_move (after i) from to ∷ [] in
+      let mv : Moves lived need need2 X v c from to old = moves old s.located (kept_all old) in
+      let L : List Item = after_part insts (listed old.edits) placesf i n in
+      let M : ℕ → Place → Type 0 = Need lived need2 X (stands_at old) (slots_at old) in
+      let claims : Claims Known (Move (record { from = from; to = to }) ∷ L) M E =
+      claims_move Known E L (Need lived need X (put (stands_at old) v c) (slots_at old)) M from to there mv.moved mv.others o.claims in
+      let sent : Sent ops here claimed done lived out need2 clob X ret t old (record old { edits = es }) = record {
+        steady = steady_push ops here claimed done lived out clob X ret t old es s.located s.held s.scratch_reserve s.fit s.clobbers s.within s.small
+            (λ e. none_crosses Known insts placesf i n E class from to t t old (record old { edits = es }) there (direct flat refl refl) (s.nothing e));
+        owes = record {
+          later = later_push Known insts placesf i n E (after i) (record { from = from; to = to }) old.edits o.later;
+          claims = subst (λ l. Claims Known l M E) (sym (after_part-more insts (record { from = from; to = to }) old.edits placesf i n)) claims;
+        };
+        kept = kept_edits old old es (kept_all old);
+      } in
+      subst (λ (y : InstRegs). Sent ops here claimed done lived out need2 clob X ret y old new) (sym eu)
+      (subst (Sent ops here claimed done lived out need2 clob X ret t old) (sym en) sent)
+  cross_step ops here claimed done lived out need need2 clob X ret v c class from to t u old new (through by m stack scratches en) there nowhere away moves s
+      o =
+      let es : List (ℕ × MoveValue) = m.edits ++ a_move (after i) (InRegister by) to ∷ a_move (after i) from (InRegister by) ∷ [] in
+      let off : has_register old.fixed_stack by ≡ false = scratch_off here claimed X (after i) class t u by old m scratches s.fit s.scratch_reserve in
+      let apart : to ≡ InRegister by → ⊥ = λ e.
+      let on : is_stack_in old to ≡ true = (and_parts (is_stack_in old from) (is_stack_in old to) stack).1 in
+      let is_on : has_register old.fixed_stack by ≡ true = ap (is_stack_in old) (sym e) ∙ on in cc in
+      let sb : ScratchedBut Known insts placesf i n E (what_of ops) here claimed done lived out need clob X u by v c old m =
+      scratch_but Known insts placesf i n E (what_of ops) here claimed done lived out need clob X class t u by v c old m scratches
+      (s.scratch_reserve.idle class) s.held
+      (λ e. elim away [
+        | inl a ↦ (let x : Some to ≡ Some (InRegister by) = sym a ∙ e in let y : to ≡ InRegister by = cc in apart y)
+        | inr a ↦
+            (let x : None ≡ Some (InRegister by) = sym a ∙ e in cc)
+      ])
+      (λ e. let x : NoPlace ≡ InRegister by = sym nowhere ∙ e in cc) s.located o in
+      let mv : Moves lived need need2 X v c from to m = moves m sb.located sb.kept in
+      let L : List Item = after_part insts (listed m.edits) placesf i n in
+      let N : ℕ → Place → Type 0 = Need lived need X (put (stands_at m) v c) (slots_at m) in
+      let M : ℕ → Place → Type 0 = Need lived need2 X (stands_at m) (slots_at m) in
+      let nobody : (x : ℕ) → N x (InRegister by) → ⊥ = λ x z. elim z [
+        | located l e ↦ elim (cases_eq x v) [
+          | inl d ↦ elim away [
+            | inl a ↦ (let y : Some to ≡ Some (InRegister by) = sym a ∙ sym (put_same (stands_at m) v c x d) ∙ e in let w : to ≡ InRegister by = cc in apart w)
+            | inr a ↦ (let y : None ≡ Some (InRegister by) = sym a ∙ sym (put_same (stands_at m) v c x d) ∙ e in cc)
+          ]
+          | inr d ↦ sb.idle.no_allocs x (opt_from (place_in m x) (InRegister by) (sym (put_other (stands_at m) v c x d) ∙ e))
+        ]
+        | in_slot f e ↦ no_register_slot m.slots.count (slot_in m x) by (sb.located.whole.below x) (opt_from (slot_in m x) (InRegister by) e)
+        | made g ↦ (let y = sb.idle.clear x in cc)
+      ] in
+      let claims : Claims Known (Move (record { from = from; to = InRegister by }) ∷ (Move (record { from = InRegister by; to = to }) ∷ L)) M E =
+      claims_through Known E L N M from (InRegister by) to (λ z. cc) there nobody mv.moved mv.others sb.owes.claims in
+      let less : Less t u = scratches_less (after i) class t u by old m scratches in
+      let sent : Sent ops here claimed done lived out need2 clob X ret u old (record m { edits = es }) = record {
+        steady = steady_push ops here claimed done lived out clob X ret u m es sb.located sb.held
+            (spare_more here claimed X (after i) class t u by old m scratches sb.idle sb.kept s.scratch_reserve)
+            (fit_same old m sb.kept.machine s.fit) (λ r e. less.late r (s.clobbers r e)) s.within s.small
+            (λ e. none_crosses Known insts placesf i n E class from to t u old (record m { edits = es }) there (through by m stack scratches refl)
+            (s.nothing e));
+        owes = record {
+          later = through_later Known insts placesf i n E from (InRegister by) to m.edits sb.owes.later;
+          claims = subst (λ l. Claims Known l M E) (sym (through_items Known insts placesf i n E from (InRegister by) to m.edits)) claims;
+        };
+        kept = kept_edits old m es sb.kept;
+      } in
+      subst (Sent ops here claimed done lived out need2 clob X ret u old) (sym en) sent

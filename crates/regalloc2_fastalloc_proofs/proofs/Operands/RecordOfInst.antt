@@ -1,0 +1,80 @@
+-- The record that is kept while the operands of an instruction are placed: fixed ones are claimed and cleared, then late ones are placed, then early ones.
+use Rattle.std.proofs.Common.{ℕ, ◌≡◌, ◌≢◌, ◌<◌, Bool, true, false, List, length, ◌⊎◌}
+use Rattle.std.specs.Prelude.{slice_index_or}
+use Rattle.regalloc2_names.specs.declared.OperandConstraint.TheVariants.{Reg, FixedReg, Reuse}
+use Rattle.regalloc2_names.specs.Register.{Register, VirtualRegister}
+use Rattle.regalloc2_names.specs.RegisterSet.{has_register}
+use Rattle.regalloc2_names.specs.Operand.{OperandValue, is_def, is_late, is_reading, is_fixed_nonallocatable}
+use Rattle.regalloc2_names.specs.Place.{Place, NoPlace, InRegister}
+use Rattle.regalloc2_function.specs.FunctionValue.{InstValue}
+use Rattle.regalloc2_semantics.specs.Instruction.{Claims}
+use Rattle.regalloc2_semantics.specs.BlockByPoints.{after_part, listed}
+use Rattle.regalloc2_semantics.specs.OperandsPlaced.{what_of, Held, Once, Counts}
+use Rattle.regalloc2_fastalloc_state.specs.declared.inst_regs.InstRegs.{InstRegs}
+use Rattle.regalloc2_validate.specs.Constraints.{op_at}
+use Rattle.regalloc2_fastalloc_proofs.specs.InstSteps.{StateValue}
+use Rattle.regalloc2_fastalloc_proofs.proofs.Operands.RecordOverState.{stands_at, slots_at, Located, Owes}
+use Rattle.regalloc2_fastalloc_proofs.proofs.Evictions.EvictVReg.{held_early, held_late}
+use Rattle.regalloc2_fastalloc_proofs.proofs.Moves.ScratchRegTaken.{Fit, Spare}
+
+-- The operands of an instruction, as a well-formed function has them. A number is defined once, and isn't read where it is defined;
+-- a reuse is a late definition that names an early use, which no other one names, under Reg or FixedReg.
+pub record Orderly (ops : List OperandValue) : Type 0 where
+  pub once : Once (Counts ops) (what_of ops)
+  pub allocated : (k : ℕ) → k < length ops → is_def (op_at ops k).kind ≡ true → is_fixed_nonallocatable (op_at ops k) ≡ false
+  pub late_reuse : (d m : ℕ) → d < length ops → (op_at ops d).constraint ≡ Reuse m → (is_def (op_at ops d).kind ≡ true)
+      × (is_late (op_at ops d).position ≡ true)
+  pub named : (d m : ℕ) → d < length ops → (op_at ops d).constraint ≡ Reuse m → (m < length ops) × (is_def (op_at ops m).kind ≡ false)
+      × (is_late (op_at ops m).position ≡ false) × (is_reading (op_at ops m) ≡ true)
+  pub named_as : (d m : ℕ) → d < length ops → (op_at ops d).constraint ≡ Reuse m → ((op_at ops m).constraint ≡ Reg)
+      ⊎ ((r : Register) × ((op_at ops m).constraint ≡ FixedReg r))
+  pub apart : (d e m : ℕ) → d < length ops → e < length ops → (op_at ops d).constraint ≡ Reuse m → (op_at ops e).constraint ≡ Reuse m → d ≡ e
+
+-- An operand was allocated: in the pass over late operands the late ones before k, in that over early ones all late ones and those before k.
+abbrev pub Turned : List OperandValue → Bool → ℕ → ℕ → Type 0
+Turned ops late k j = ((is_late (op_at ops j).position ≡ true) × (j < k)) ⊎ ((late ≡ false) × ((is_late (op_at ops j).position ≡ true) ⊎ (j < k)))
+
+-- An operand that is claimed before it is allocated: it is fixed, or a reuse of a fixed one, or a use for which a reuse has chosen the register.
+pub data Waits (ops : List OperandValue) (list : List Place) (j : ℕ) (r : Register) : Type 0 where
+  of_fixed : (op_at ops j).constraint ≡ FixedReg r → Waits ops list j r
+  of_reuse : (m : ℕ) → (op_at ops j).constraint ≡ Reuse m → (op_at ops m).constraint ≡ FixedReg r → Waits ops list j r
+  of_named : (d : ℕ) → is_def (op_at ops j).kind ≡ false → d < length ops → (op_at ops d).constraint ≡ Reuse j → slice_index_or list d NoPlace ≢ NoPlace →
+      slice_index_or list j NoPlace ≡ InRegister r → Waits ops list j r
+
+module _ (Known : VirtualRegister → Type 0) (insts : ℕ → InstValue) (placesf : ℕ → List Place) (i n : ℕ) (E : VirtualRegister → Place → Type 0) where
+  -- What each step on the tables and on the instruction's registers keeps. claimed, done, out and X are as in Placed of the flow crate;
+  -- ret: the instruction is a return, after which nothing is needed.
+  pub record Ready (ops : List OperandValue) (here : ℕ → Place) (claimed done lived out : ℕ → Bool) (clob : Place → Bool) (X : Place → ℕ → Bool) (ret : Bool)
+      (u : InstRegs) (t : StateValue) : Type 0 where
+    pub located : Located (what_of ops) here claimed done lived out clob X t
+    pub owes : Owes Known insts placesf i n E lived out X (stands_at t) (slots_at t) t.edits
+    pub nothing : ret ≡ true → Claims Known (after_part insts (listed t.edits) placesf i n) (λ x p. ⊥) E
+    pub held : Held (what_of ops) here claimed (held_early u) (held_late u)
+    pub scratch_reserve : Spare here claimed X u t
+    pub fit : Fit t
+    pub clobbers : (r : Register) → clob (InRegister r) ≡ true → has_register u.late r ≡ false
+    pub within : (j : ℕ) → claimed j ≡ true → Counts ops j
+    pub small : (j : ℕ) (r : Register) → claimed j ≡ true → here j ≡ InRegister r → r.number < 64
+
+  -- Before the operand k is allocated in the pass over late operands, or in that over early ones; list has the places of the instruction so far.
+  pub record Laid (ops : List OperandValue) (lived : ℕ → Bool) (clob : Place → Bool) (ret late : Bool) (k : ℕ) (list : List Place) (u : InstRegs)
+      (t : StateValue) : Type 0 where
+    pub here : ℕ → Place
+    pub claimed : ℕ → Bool
+    pub done : ℕ → Bool
+    pub out : ℕ → Bool
+    pub X : Place → ℕ → Bool
+    pub ready : Ready ops here claimed done lived out clob X ret u t
+    pub turned : (j : ℕ) → done j ≡ true → Turned ops late k j
+    pub all : (j : ℕ) → Counts ops j → Turned ops late k j → done j ≡ true
+    -- fixed operands, and reuses of fixed ones, claimed before
+    pub fixed : (j : ℕ) (r : Register) → Counts ops j → (op_at ops j).constraint ≡ FixedReg r → (claimed j ≡ true) × (here j ≡ InRegister r)
+    pub fixed_reuse : (j m : ℕ) (r : Register) → Counts ops j → (op_at ops j).constraint ≡ Reuse m → (op_at ops m).constraint ≡ FixedReg r → (claimed j ≡ true)
+        × (here j ≡ InRegister r)
+    pub waiting : (j : ℕ) → claimed j ≡ true → done j ≡ false → (r : Register) × (here j ≡ InRegister r) × Waits ops list j r
+    -- the list of places
+    pub long : length list ≡ length ops
+    pub listed_here : (j : ℕ) → Counts ops j → slice_index_or list j NoPlace ≢ NoPlace → (claimed j ≡ true) × (slice_index_or list j NoPlace ≡ here j)
+    pub placed : (j : ℕ) → done j ≡ true → slice_index_or list j NoPlace ≡ here j
+    -- a definition that is placed is made at its place
+    pub written : (j : ℕ) → done j ≡ true → is_def (op_at ops j).kind ≡ true → X (here j) (op_at ops j).vreg.number ≡ true

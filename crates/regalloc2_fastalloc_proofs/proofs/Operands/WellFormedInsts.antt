@@ -1,0 +1,63 @@
+-- What a well-formed function's instructions bring to the laws on placing operands.
+use Rattle.std.proofs.Common.{ℕ, ◌≡◌, ◌<◌, Bool, true, false, ◌&&◌, List, length, refl, arith, ap, inl, inr, ◌⊎◌, nat_eq}
+use Rattle.std.proofs.lemmas.Bool.{ne_eqb}
+use Rattle.std.proofs.lemmas.List.Elements.{All-get_or}
+use Rattle.regalloc2_names.specs.declared.OperandConstraint.{OperandConstraint}
+use Rattle.regalloc2_names.specs.declared.OperandConstraint.TheVariants.{Any, Reg, Stack, FixedReg, Reuse, Limit}
+use Rattle.regalloc2_names.specs.declared.RegClass.{RegClass}
+use Rattle.regalloc2_names.specs.Register.{Register}
+use Rattle.regalloc2_names.specs.Operand.{OperandValue, is_def, is_late, is_fixed}
+use Rattle.regalloc2_function.specs.FunctionValue.{FunctionValue, IsLimited, inst_at, no_inst}
+use Rattle.regalloc2_function.specs.Machine.{MachineValue}
+use Rattle.regalloc2_function.specs.WellFormed.{IsWellFormed, MayBeReused, ReusesAreSound}
+use Rattle.regalloc2_semantics.specs.Instruction.{Knows}
+use Rattle.regalloc2_semantics.proofs.SingleDef.{Made, ReadsDefined, once_at, knows_at, defined_small, reads_defined}
+use Rattle.regalloc2_validate.specs.Constraints.{no_operand, op_at}
+use Rattle.regalloc2_fastalloc_proofs.proofs.Operands.RecordOfInst.{Orderly}
+
+-- under a constraint that may be reused
+reusable : (env : MachineValue) (class : RegClass) (c : OperandConstraint) → MayBeReused env class c → (c ≡ Reg) ⊎ ((r : Register) × (c ≡ FixedReg r))
+reusable env class Any h = absurd h
+reusable env class Reg h = inl refl
+reusable env class Stack h = absurd h
+reusable env class (FixedReg r) h = inr (r, refl)
+reusable env class (Reuse n) h = absurd h
+reusable env class (Limit n) h = absurd h
+
+module _ (env : MachineValue) (f : FunctionValue) (limited : IsLimited f) (ok : IsWellFormed env f) (i : ℕ) (lt : i < length f.insts) where
+  ops : List OperandValue
+  ops = (inst_at f i).operands
+
+  reads : ReadsDefined f i
+  reads = reads_defined f (omega (arith, ok.successors.0)) ok.follow ok.uses_defined i lt
+
+  reuses : ReusesAreSound env (inst_at f i)
+  reuses = All-get_or (ReusesAreSound env) f.insts i no_inst lt ok.reuses
+
+  -- in a well-formed function a number is defined once at an instruction and not read there, and reuses name early uses
+  pub orderly : Orderly (inst_at f i).operands
+  orderly = record {
+    once = once_at f ok.defined_once i lt reads;
+    allocated = λ k less def.
+        let o : OperandValue = op_at (inst_at f i).operands k in
+        let small : o.vreg.number < f.num_vregs = defined_small f ok.defined_once o.vreg.number i k
+        (record { inst = lt; operand = less; definition = def; number = refl }) in
+        let ne : nat_eq o.vreg.number 1073741823 ≡ false = ne_eqb o.vreg.number 1073741823 (λ e. omega (arith, small, limited.vregs, e)) in
+        rw ne (never (is_fixed o.constraint));
+    late_reuse = λ d m less e. let r = reuses.definitions d no_operand less m e in (ap is_def r.0, ap is_late r.1);
+    named = λ d m less e.
+        let r = reuses.targets d no_operand less m no_operand e in
+        (r.0, ap is_def r.1.0, ap is_late r.1.1, r.1.2);
+    named_as = λ d m less e.
+        let r = reuses.targets d no_operand less m no_operand e in
+        reusable env (op_at (inst_at f i).operands m).vreg.class (op_at (inst_at f i).operands m).constraint r.1.4;
+    apart = λ d e m ld le a b. reuses.apart d e m no_operand no_operand ld le a b;
+  }
+    where
+      never : (b : Bool) → (b && false) ≡ false
+      never true = refl
+      never false = refl
+
+  -- in a well-formed function each instruction's operands name vregs that are defined somewhere
+  pub knows : Knows (Made f) (inst_at f i).operands
+  knows = knows_at f ok.defined_once i lt reads

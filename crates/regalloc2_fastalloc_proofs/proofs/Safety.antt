@@ -1,0 +1,27 @@
+-- The safety invariant: slots have one owner, edits have legal ends, and no move goes from a place in memory to another.
+-- Main theorem: `walk_blocks_good` in `FunctionKeepsSafe`. From a fresh state, where between blocks no vreg is in a register, allocating a
+-- well-formed function ends in a safe state, with a good place for each operand. `OutputOfWalk` turns that into what is promised of the
+-- output.
+-- Read first: the record `IsSafe` in the specs, then `sends_kept` in `StepsKeepSafe`, a typical step. Upwards from there:
+-- `OperandKeepsSafe` (`gets_kept`), `OperandPassesKeepSafe` (`lates_kept`, `earlies_kept`), `InstKeepsSafe` (`allocates_kept`, and
+-- `allocates_last_kept` for a block's last instruction), `InstsKeepSafe` (what the walk may write); then, with `BlockStartKeepsSafe` and
+-- `BranchKeepsSafe`, `BlocksKeepSafe` (`blocks_kept`). `InitialState` is its start; `WellFormedKeepsSafe` and `OperandAssumptions` give its
+-- premises. `StepsKeepState` and `BranchArgsKeepState` are of another kind: a whole state (each table the other's inverse), on which the
+-- folders on what listings carry rest. `MachineRegs` serves `Walk/UsesReadOwnDefs`; `StateKept` serves other crates alone.
+pub mod BlockStartKeepsSafe
+pub mod BlocksKeepSafe
+pub mod BranchArgsKeepState
+pub mod BranchKeepsSafe
+pub mod FunctionKeepsSafe
+pub mod InitialState
+pub mod InstKeepsSafe
+pub mod InstsKeepSafe
+pub mod MachineRegs
+pub mod OperandAssumptions
+pub mod OperandKeepsSafe
+pub mod OperandPassesKeepSafe
+pub mod OutputOfWalk
+pub mod StateKept
+pub mod StepsKeepSafe
+pub mod StepsKeepState
+pub mod WellFormedKeepsSafe

@@ -1,0 +1,60 @@
+-- What a well-formed function's operands bring to the places that they get.
+use Rattle.std.proofs.Common.{ℕ, ◌≡◌, ◌<◌, Bool, true, false, ◌&&◌, List, length, refl, sym, ap, inl, inr, ◌⊎◌}
+use Rattle.std.specs.Prelude.{not}
+use Rattle.regalloc2_names.specs.declared.OperandConstraint.{OperandConstraint}
+use Rattle.regalloc2_names.specs.declared.OperandConstraint.TheVariants.{Any, Reg, Stack, FixedReg, Reuse, Limit}
+use Rattle.regalloc2_names.specs.declared.RegClass.{RegClass}
+use Rattle.regalloc2_names.specs.Register.{Register, VirtualRegister}
+use Rattle.regalloc2_names.specs.Operand.{OperandValue, is_def, is_late, is_reading, is_fixed_nonallocatable}
+use Rattle.regalloc2_names.specs.Packing.{IsConstraintOf}
+use Rattle.regalloc2_function.specs.FunctionValue.{InstValue}
+use Rattle.regalloc2_function.specs.Machine.{MachineValue}
+use Rattle.regalloc2_function.specs.WellFormed.{MayBeReused, ReusesAreSound}
+use Rattle.regalloc2_semantics.specs.Instruction.{Knows}
+use Rattle.regalloc2_semantics.specs.OperandsPlaced.{Once, Counts, what_of}
+use Rattle.regalloc2_validate.specs.Constraints.{no_operand, op_at}
+use Rattle.regalloc2_fastalloc_proofs.proofs.Operands.AllocsSoFar.{IsTame, reads_not_def}
+
+-- under a constraint that may be reused
+reusable : (env : MachineValue) (class : RegClass) (c : OperandConstraint) → MayBeReused env class c → (c ≡ Reg) ⊎ ((r : Register) × (c ≡ FixedReg r))
+reusable env class Any h = absurd h
+reusable env class Reg h = inl refl
+reusable env class Stack h = absurd h
+reusable env class (FixedReg r) h = inr (r, refl)
+reusable env class (Reuse n) h = absurd h
+reusable env class (Limit n) h = absurd h
+
+-- an operand that stands for a vreg defines it or reads it
+defines_or_reads : (o : OperandValue) → is_fixed_nonallocatable o ≡ false → (is_def o.kind ≡ true) ⊎ (is_reading o ≡ true)
+defines_or_reads o h = by_test (is_def o.kind) (is_fixed_nonallocatable o) h
+  where
+    by_test : (a b : Bool) → b ≡ false → (a ≡ true) ⊎ ((not a && not b) ≡ true)
+    by_test true b e = inl refl
+    by_test false b e = inr (ap not e)
+
+-- operands of known vregs, each defined once, under legal constraints other than `Limit`, with valid reuses, are tame
+pub tame_of : (env : MachineValue) (Known : VirtualRegister → Type 0) (inst : InstValue) → Knows Known inst.operands →
+    Once (Counts inst.operands) (what_of inst.operands)
+    → ((k : ℕ) → k < length inst.operands → is_def (op_at inst.operands k).kind ≡ true → is_fixed_nonallocatable (op_at inst.operands k) ≡ false)
+    → ReusesAreSound env inst
+    → ((k : ℕ) → k < length inst.operands → IsConstraintOf (op_at inst.operands k).vreg.class (op_at inst.operands k).constraint)
+    → ((k n : ℕ) → k < length inst.operands → (op_at inst.operands k).constraint ≡ Limit n → ⊥)
+    → IsTame Known inst.operands
+tame_of env Known inst knows once allocated reuses constraint unlimited =
+    let ops : List OperandValue = inst.operands in
+    record {
+      same = knows.same;
+      known = λ k less a. elim (defines_or_reads (op_at ops k) a) [
+        | inl def ↦ knows.definition k less def
+        | inr reads ↦ knows.reading k less reads
+      ];
+      constraint = constraint;
+      allocated = allocated;
+      unlimited = unlimited;
+      late_reuse = λ k n less e. (let r = reuses.definitions k no_operand less n e in (ap is_def r.0, ap is_late r.1));
+      named = λ k n less e. (let r = reuses.targets k no_operand less n no_operand e in (r.0, ap is_late r.1.1, r.1.2, r.1.3));
+      named_as = λ k n less e. (let r = reuses.targets k no_operand less n no_operand e in
+          reusable env (op_at ops n).vreg.class (op_at ops n).constraint r.1.4);
+      apart = λ j k n lj lk a b. reuses.apart j k n no_operand no_operand lj lk a b;
+      unread = λ j k lj lk def reads e. once.unread j k (lj, inl def) (lk, inr reads) def (reads_not_def (op_at ops k) reads) (sym e);
+    }

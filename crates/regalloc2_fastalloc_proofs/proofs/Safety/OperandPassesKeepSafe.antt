@@ -1,0 +1,262 @@
+-- The passes over an instruction's operands keep the tables safe and fill the places.
+use Rattle.std.proofs.Common.{ℕ, ◌≡◌, ◌≢◌, ◌+◌, ◌<◌, ◌≤◌, List, Bool, true, false, refl, sym, ap, ◌∙◌, ◌⊎◌, inl, inr, subst, arith, length, set}
+use Rattle.std.proofs.lemmas.Bool.{cases_eq}
+use Rattle.regalloc2_names.specs.declared.OperandConstraint.TheVariants.{FixedReg, Reuse}
+use Rattle.regalloc2_names.specs.Register.{Register, VirtualRegister}
+use Rattle.regalloc2_names.specs.Operand.{OperandValue, is_def, is_late, is_reading, is_fixed_nonallocatable}
+use Rattle.regalloc2_names.specs.Place.{Place, NoPlace, InRegister, InSlot}
+use Rattle.regalloc2_names.specs.Point.{after}
+use Rattle.regalloc2_function.specs.Machine.{MachineValue}
+use Rattle.regalloc2_fastalloc_state.specs.declared.inst_regs.InstRegs.{InstRegs}
+use Rattle.regalloc2_fastalloc_state.specs.declared.request.Requirement.TheVariants.{InPReg}
+use Rattle.regalloc2_fastalloc_state.specs.StateParts.{SpillSlotsValue}
+use Rattle.regalloc2_validate.specs.Constraints.{op_at}
+use Rattle.regalloc2_fastalloc_proofs.specs.InstSteps.{StateValue, use_request, def_request, reuse_request, AllocsDefOp, AllocsUse, ProcessesOperand}
+use Rattle.regalloc2_fastalloc_proofs.specs.InstSteps.{a_register, a_use, a_def, a_reuse, ProcessesOperandsAt, none_placed, of_other, one_placed}
+use Rattle.regalloc2_fastalloc_proofs.specs.Safety.{IsOfMachine, MayBeLocatedAt}
+use Rattle.regalloc2_fastalloc_proofs.proofs.Safety.StepsKeepSafe.{IsApart}
+use Rattle.regalloc2_fastalloc_proofs.proofs.Safety.OperandKeepsSafe.{places_def_kept, places_use_kept}
+use Rattle.regalloc2_fastalloc_proofs.proofs.Operands.AllocsSoFar.{at_place, IsTame, IsInRegister, MeetsAlone, IsGood, not_both, reads_not_def}
+use Rattle.regalloc2_fastalloc_proofs.proofs.Operands.AllocsSoFar.{reads_allocated, answer_meets, answer_named, reuse_meets, fixed_meets, asked_fixed}
+use Rattle.regalloc2_fastalloc_proofs.proofs.Operands.AllocsSoFar.{asked_as_fixed, fixed_class, FixedAreKnown, Filled, DefsAreWritten, reuse_register}
+use Rattle.regalloc2_fastalloc_proofs.proofs.Operands.AllocsSoFar.{no_place_register, OneMore, filled_same, filled_on, written, written_twice}
+
+a_place_of : (p : Place) → IsInRegister p → (r : Register) × (p ≡ InRegister r)
+a_place_of NoPlace h = absurd h
+a_place_of (InRegister r) h = (r, refl)
+a_place_of (InSlot n) h = absurd h
+
+same_at : (q r : Register) → InPReg q ≡ InPReg r → q ≡ r
+same_at q r e = cc
+
+-- a register where a vreg may be may hold each other one of its class
+shared_register : (env : MachineValue) (slots : SpillSlotsValue) (v w : VirtualRegister) (p : Place) → IsInRegister p → v.class ≡ w.class →
+    MayBeLocatedAt env slots v p → MayBeLocatedAt env slots w p
+shared_register env slots v w NoPlace h e place = place
+shared_register env slots v w (InRegister r) h e place = (place.0, place.1 ∙ e)
+shared_register env slots v w (InSlot n) h e place = absurd h
+
+module _ (env : MachineValue) (apart : IsApart env) (Known : VirtualRegister → Type 0) (Writes : ℕ → VirtualRegister → ℕ → Type 0) (May : ℕ → Type 0)
+    (base : SpillSlotsValue) (ops : List OperandValue) (tame : IsTame Known ops) (fixed : FixedAreKnown env ops) (i : ℕ) (is_ret : Bool) (can : May (after i))
+    (writes : DefsAreWritten Writes i ops) where
+  -- a register that no vreg stands for
+  register_kept : (D E : ℕ → Type 0) (k : ℕ) (r : Register) (here : List Place) (t : InstRegs) (old : StateValue) → k < length ops →
+      OneMore env Known Writes May base ops tame D E k
+      → is_fixed_nonallocatable (op_at ops k) ≡ true → (op_at ops k).constraint ≡ FixedReg r → Filled env Known Writes May base ops D here t old →
+      Filled env Known Writes May base ops E (set here k (InRegister r)) t old
+  register_kept D E k r here t old less more silent is h = written env Known Writes May base ops tame D E k (InRegister r) here t old less more
+      (λ n e. (let x : FixedReg r ≡ Reuse n = sym is ∙ e in cc))
+      (record { place = λ a. absurd (not_both (is_fixed_nonallocatable (op_at ops k)) silent a); meets = fixed_meets env (op_at ops k).constraint r is })
+      (λ reads. absurd (not_both (is_fixed_nonallocatable (op_at ops k)) silent (reads_allocated (op_at ops k) reads)))
+      (λ j within d names. absurd (not_both (is_fixed_nonallocatable (op_at ops k)) silent (reads_allocated (op_at ops k) (tame.named j k within names).2)))
+      h
+
+  -- a use that no reuse has chosen a register for
+  use_kept : (D E : ℕ → Type 0) (k : ℕ) (p : Place) (here : List Place) (t u : InstRegs) (old new : StateValue) → k < length ops →
+      OneMore env Known Writes May base ops tame D E k
+      → is_reading (op_at ops k) ≡ true → at_place here k ≡ NoPlace → AllocsUse (after i) (use_request (op_at ops k) NoPlace) p t u old new
+      → Filled env Known Writes May base ops D here t old → Filled env Known Writes May base ops E (set here k p) u new
+  use_kept D E k p here t u old new less more reads none places h =
+      let o : OperandValue = op_at ops k in
+      let allocated : is_fixed_nonallocatable o ≡ false = reads_allocated o reads in
+      let w = places_use_kept env apart Known Writes tame.same May (after i) can (use_request o NoPlace) p t u old new places (tame.known k less allocated)
+      (λ r asks. (let e : o.constraint ≡ FixedReg r = asked_fixed o.constraint r asks in
+      (fixed k r less allocated e, fixed_class o.vreg.class o.constraint r (tame.constraint k less) e))) h.safe h.inst_regs in
+      let f = filled_on env Known Writes May base ops tame D here t u old new w.given.kept.safe w.given.kept.inst_regs w.given.kept.stay
+      (λ j within r there. w.given.kept.standing (op_at ops j).vreg.number there) h in
+      written env Known Writes May base ops tame D E k p here u new less more
+      (λ n e. not_both (is_def o.kind) (tame.late_reuse k n less e).0 (reads_not_def o reads))
+      (record {
+        place = λ a. w.given.place;
+        meets = answer_meets env o.constraint p
+            (λ n e. not_both (is_def o.kind) (tame.late_reuse k n less e).0 (reads_not_def o reads)) (λ n e. tame.unlimited k n less e) w.given.answer;
+      })
+      (λ r. w.found)
+      (λ j within d names. absurd (no_place_register (at_place here j) (h.shared j k within d names ∙ none)
+      (reuse_register env (op_at ops j).constraint k (at_place here j) names (h.good j within d).meets)))
+      f
+
+  -- and one that has it
+  chosen_kept : (D E : ℕ → Type 0) (k : ℕ) (p : Place) (r : Register) (here : List Place) (t u : InstRegs) (old new : StateValue) → k < length ops →
+      OneMore env Known Writes May base ops tame D E k
+      → is_reading (op_at ops k) ≡ true → at_place here k ≡ InRegister r → IsGood env old.slots (op_at ops k) (at_place here k) →
+      AllocsUse (after i) (use_request (op_at ops k) (InRegister r)) p t u old new
+      → Filled env Known Writes May base ops D here t old → Filled env Known Writes May base ops E (set here k p) u new
+  chosen_kept D E k p r here t u old new less more reads at_it good places h =
+      let o : OperandValue = op_at ops k in
+      let allocated : is_fixed_nonallocatable o ≡ false = reads_allocated o reads in
+      let stand : MayBeLocatedAt env old.slots o.vreg (InRegister r) = subst (MayBeLocatedAt env old.slots o.vreg) at_it (good.place allocated) in
+      let w = places_use_kept env apart Known Writes tame.same May (after i) can (use_request o (InRegister r)) p t u old new places
+      (tame.known k less allocated)
+      (λ q asks. subst (λ (x : Register). IsOfMachine env x × (x.class ≡ o.vreg.class)) (same_at r q asks) stand) h.safe h.inst_regs in
+      let f = filled_on env Known Writes May base ops tame D here t u old new w.given.kept.safe w.given.kept.inst_regs w.given.kept.stay
+      (λ j within x there. w.given.kept.standing (op_at ops j).vreg.number there) h in
+      let as_chosen : p ≡ at_place here k = w.given.answer ∙ sym at_it in
+      written env Known Writes May base ops tame D E k p here u new less more
+      (λ n e. not_both (is_def o.kind) (tame.late_reuse k n less e).0 (reads_not_def o reads))
+      (record { place = λ a. w.given.place; meets = subst (MeetsAlone env o.constraint) (sym as_chosen) good.meets })
+      (λ x. w.found)
+      (λ j within d names. as_chosen)
+      f
+
+  -- a definition that is no reuse
+  def_kept : (D E : ℕ → Type 0) (k : ℕ) (p : Place) (here : List Place) (t u : InstRegs) (old new : StateValue) → k < length ops →
+      OneMore env Known Writes May base ops tame D E k
+      → is_def (op_at ops k).kind ≡ true → ((n : ℕ) → (op_at ops k).constraint ≡ Reuse n → ⊥) →
+      AllocsDefOp (after i) (def_request (op_at ops k)) is_ret p t u old new
+      → Filled env Known Writes May base ops D here t old → Filled env Known Writes May base ops E (set here k p) u new
+  def_kept D E k p here t u old new less more def no_reuse places h =
+      let o : OperandValue = op_at ops k in
+      let allocated : is_fixed_nonallocatable o ≡ false = tame.allocated k less def in
+      let w = places_def_kept env apart Known Writes tame.same May (after i) can (def_request o) is_ret p t u old new places (tame.known k less allocated)
+      (λ n. writes k n less def)
+      (λ r asks. (let e : o.constraint ≡ FixedReg r = asked_fixed o.constraint r asks in
+      (fixed k r less allocated e, fixed_class o.vreg.class o.constraint r (tame.constraint k less) e))) h.safe h.inst_regs in
+      let f = filled_on env Known Writes May base ops tame D here t u old new w.kept.safe w.kept.inst_regs w.kept.stay
+      (λ j within r there. w.kept.standing (op_at ops j).vreg.number (tame.unread k j less within def r) there) h in
+      written env Known Writes May base ops tame D E k p here u new less more no_reuse
+      (record { place = λ a. w.place; meets = answer_meets env o.constraint p no_reuse (λ n e. tame.unlimited k n less e) w.answer })
+      (λ reads. absurd (not_both (is_def o.kind) def (reads_not_def o reads)))
+      (λ j within d names. absurd (not_both (is_def o.kind) def (reads_not_def o (tame.named j k within names).2)))
+      f
+
+  -- a reuse
+  reuse_kept : (D E : ℕ → Type 0) (k n : ℕ) (p : Place) (here : List Place) (t u : InstRegs) (old new : StateValue) → k < length ops →
+      OneMore env Known Writes May base ops tame D E k → (D n → ⊥)
+      → is_def (op_at ops k).kind ≡ true → (op_at ops k).constraint ≡ Reuse n →
+      AllocsDefOp (after i) (reuse_request (op_at ops k) (op_at ops n)) is_ret p t u old new
+      → Filled env Known Writes May base ops D here t old → Filled env Known Writes May base ops E (set (set here k p) n p) u new
+  reuse_kept D E k n p here t u old new less more not_n def reuses places h =
+      let o : OperandValue = op_at ops k in
+      let m : OperandValue = op_at ops n in
+      let named = tame.named k n less reuses in
+      let w = places_def_kept env apart Known Writes tame.same May (after i) can (reuse_request o m) is_ret p t u old new places
+      (tame.known k less (tame.allocated k less def)) (λ x. writes k x less def)
+      (λ r asks. (let e : m.constraint ≡ FixedReg r = asked_as_fixed m.constraint r asks in
+      (fixed n r named.0 (reads_allocated m named.2) e, fixed_class m.vreg.class m.constraint r (tame.constraint n named.0) e ∙ named.3))) h.safe
+      h.inst_regs in
+      let f = filled_on env Known Writes May base ops tame D here t u old new w.kept.safe w.kept.inst_regs w.kept.stay
+      (λ j within r there. w.kept.standing (op_at ops j).vreg.number (tame.unread k j less within def r) there) h in
+      let a = answer_named env m.constraint p (tame.named_as k n less reuses) w.answer in
+      written_twice env Known Writes May base ops tame D E k n p here u new less more reuses not_n
+      (record { place = λ x. w.place; meets = reuse_meets env o.constraint n p reuses a.1 })
+      (record { place = λ x. shared_register env new.slots o.vreg m.vreg p a.1 (sym named.3) w.place; meets = a.0 })
+      a.1 f
+
+  -- an operand is allocated
+  pub one_kept : (D E : ℕ → Type 0) (k : ℕ) (here there : List Place) (t u : InstRegs) (old new : StateValue) →
+      ProcessesOperand i is_ret ops k here there t u old new → k < length ops → OneMore env Known Writes May base ops tame D E k
+      → ((n : ℕ) → (op_at ops k).constraint ≡ Reuse n → D n → ⊥) → Filled env Known Writes May base ops D here t old →
+      Filled env Known Writes May base ops E there u new
+  one_kept D E k here there t u old new (a_register r silent is written_it eu en) less more not_n h =
+      subst (λ l. Filled env Known Writes May base ops E l u new) (sym written_it)
+      (subst (λ x. Filled env Known Writes May base ops E (set here k (InRegister r)) x new) (sym eu)
+      (subst (Filled env Known Writes May base ops E (set here k (InRegister r)) t) (sym en)
+      (register_kept D E k r here t old less more silent is h)))
+  one_kept D E k here there t u old new (a_use p reads places written_it) less more not_n h =
+      subst (λ l. Filled env Known Writes May base ops E l u new) (sym written_it) (elim (h.waits k less more.before_it) [
+        | inl none ↦ use_kept D E k p here t u old new less more reads none
+            (subst (λ x. AllocsUse (after i) (use_request (op_at ops k) x) p t u old new) none places) h
+        | inr g ↦ (let r = a_place_of (at_place here k) g.1 in
+            chosen_kept D E k p r.0 here t u old new less more reads r.1 g.0
+            (subst (λ x. AllocsUse (after i) (use_request (op_at ops k) x) p t u old new) r.1 places) h)
+      ])
+  one_kept D E k here there t u old new (a_def p def no_reuse places written_it) less more not_n h =
+      subst (λ l. Filled env Known Writes May base ops E l u new) (sym written_it) (def_kept D E k p here t u old new less more def no_reuse places h)
+  one_kept D E k here there t u old new (a_reuse n p def reuses places written_it) less more not_n h =
+      subst (λ l. Filled env Known Writes May base ops E l u new) (sym written_it)
+      (reuse_kept D E k n p here t u old new less more (not_n n reuses) def reuses places h)
+
+  -- which operands are done in the pass over late operands, and in that over early ones
+  abbrev pub InLate : ℕ → ℕ → Type 0
+  InLate k j = (j < k) × (is_late (op_at ops j).position ≡ true)
+
+  -- in the pass over early operands all late ones are done, and those before k
+  abbrev pub InEarly : ℕ → ℕ → Type 0
+  InEarly k j = (is_late (op_at ops j).position ≡ true) ⊎ (j < k)
+
+  not_true : (b : Bool) → (b ≡ true → ⊥) → b ≡ false
+  not_true true h = absurd (h refl)
+  not_true false h = refl
+
+  not_false : (b : Bool) → (b ≡ false → ⊥) → b ≡ true
+  not_false true h = refl
+  not_false false h = absurd (h refl)
+
+  -- in the pass over late operands k is one more that is done, if it is late
+  pub late_more : (k : ℕ) → is_late (op_at ops k).position ≡ true → OneMore env Known Writes May base ops tame (InLate k) (InLate (k + 1)) k
+  late_more k late = record {
+    before_it = λ d. (let a = d.0 in omega arith);
+    at_it = (omega arith, late);
+    back = λ j e. elim (cases_eq j k) [
+      | inl same ↦ inr same
+      | inr ne ↦ inl ((let a = e.0 in omega arith), e.1)
+    ];
+    forth = λ j d. ((let a = d.0 in omega arith), d.1);
+  }
+
+  -- in the pass over early operands k is one more that is done, if it is early
+  pub early_more : (k : ℕ) → is_late (op_at ops k).position ≡ false → OneMore env Known Writes May base ops tame (InEarly k) (InEarly (k + 1)) k
+  early_more k early = record {
+    before_it = λ d. elim d [
+      | inl late ↦ not_both (is_late (op_at ops k).position) late early
+      | inr less ↦ omega arith
+    ];
+    at_it = inr (omega arith);
+    back = λ j e. elim e [
+      | inl late ↦ inl (inl late)
+      | inr less ↦ elim (cases_eq j k) [
+        | inl same ↦ inr same
+        | inr ne ↦ inl (inr (omega arith))
+      ]
+    ];
+    forth = λ j d. elim d [
+      | inl late ↦ inl late
+      | inr less ↦ inr (omega arith)
+    ];
+  }
+
+  -- the pass over late operands
+  pub lates_kept : (blank : List Place) (t : InstRegs) (old : StateValue) → Filled env Known Writes May base ops (InLate 0) blank t old
+      → (k : ℕ) (there : List Place) (u : InstRegs) (m : StateValue) → ProcessesOperandsAt i is_ret true ops blank t old k there u m → k ≤ length ops →
+      Filled env Known Writes May base ops (InLate k) there u m
+  lates_kept blank t old h k there u m none_placed le = h
+  lates_kept blank t old h k there u m (of_other j l w s prev other) le =
+      let early : is_late (op_at ops j).position ≡ false = not_true (is_late (op_at ops j).position) other in
+      filled_same env Known Writes May base ops tame (InLate j) (InLate (j + 1)) there u m
+      (λ x less e. (
+        (let ne : x ≢ j = λ same. not_both (is_late (op_at ops j).position) (ap (λ (y : ℕ). is_late (op_at ops y).position) (sym same) ∙ e.1)
+            early in let a = e.0 in omega (arith, ne, a)),
+        e.1,
+      ))
+      (λ x less d. ((let a = d.0 in omega arith), d.1))
+      (lates_kept blank t old h j there u m prev (omega arith))
+  lates_kept blank t old h k there u m (one_placed j l next w x s n prev late one) le =
+      one_kept (InLate j) (InLate (j + 1)) j l there w u s m one (omega arith) (late_more j late)
+      (λ y reuses d. not_both (is_late (op_at ops y).position) d.1 (tame.named j y (omega arith) reuses).1)
+      (lates_kept blank t old h j l w s prev (omega arith))
+
+  -- and that over early ones
+  pub earlies_kept : (half : List Place) (t : InstRegs) (old : StateValue) → Filled env Known Writes May base ops (InEarly 0) half t old
+      → (k : ℕ) (there : List Place) (u : InstRegs) (m : StateValue) → ProcessesOperandsAt i is_ret false ops half t old k there u m → k ≤ length ops →
+      Filled env Known Writes May base ops (InEarly k) there u m
+  earlies_kept half t old h k there u m none_placed le = h
+  earlies_kept half t old h k there u m (of_other j l w s prev other) le =
+      let late : is_late (op_at ops j).position ≡ true = not_false (is_late (op_at ops j).position) other in
+      filled_same env Known Writes May base ops tame (InEarly j) (InEarly (j + 1)) there u m
+      (λ x less e. elim e [
+        | inl is ↦ inl is
+        | inr below ↦ elim (cases_eq x j) [
+          | inl same ↦ inl (ap (λ (y : ℕ). is_late (op_at ops y).position) same ∙ late)
+          | inr ne ↦ inr (omega arith)
+        ]
+      ])
+      (λ x less d. elim d [
+        | inl is ↦ inl is
+        | inr below ↦ inr (omega arith)
+      ])
+      (earlies_kept half t old h j there u m prev (omega arith))
+  earlies_kept half t old h k there u m (one_placed j l next w x s n prev early one) le =
+      one_kept (InEarly j) (InEarly (j + 1)) j l there w u s m one (omega arith) (early_more j early)
+      (λ y reuses d. not_both (is_late (op_at ops j).position) (tame.late_reuse j y (omega arith) reuses).1 early)
+      (earlies_kept half t old h j l w s prev (omega arith))

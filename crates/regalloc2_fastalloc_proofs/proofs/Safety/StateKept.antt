@@ -1,0 +1,188 @@
+-- What stays of the tables over several steps, where temporary slots are added; and an instruction whose fields are known, with the registers that it leaves.
+use Rattle.std.proofs.Common.{ℕ, zero, suc, ◌≡◌, ◌+◌, ◌-◌, ◌*◌, ◌<◌, ◌≤◌, Bool, true, false, List, length, refl, sym, ap, ◌∙◌, subst, inl, inr, arith}
+use Rattle.std.specs.Prelude.{if◌then◌else◌, All, Option, None, slice_index_or}
+use Rattle.std.proofs.Math.Nat.{mul-le-mul_right}
+use Rattle.std.proofs.lemmas.Bool.{cases_eq}
+use Rattle.std.proofs.lemmas.List.Elements.{All-from_get_or}
+use Rattle.regalloc2_names.specs.declared.RegAllocError.{RegAllocError}
+use Rattle.regalloc2_names.specs.declared.sets.PRegSet.{PRegSet}
+use Rattle.regalloc2_names.specs.Register.{Register, VirtualRegister, class_code}
+use Rattle.regalloc2_names.specs.RegisterSet.{has_register}
+use Rattle.regalloc2_names.specs.Place.{Place}
+use Rattle.regalloc2_names.specs.Operand.{OperandValue}
+use Rattle.regalloc2_function.specs.FunctionValue.{FunctionValue, InstValue, block_at, inst_at}
+use Rattle.regalloc2_function.specs.WellFormed.{BlocksEnd, BlocksFollow, DefinedOnce}
+use Rattle.regalloc2_semantics.proofs.SingleDef.{no_vreg, taken_small}
+use Rattle.regalloc2_fastalloc_state.specs.declared.inst_regs.InstRegs.{InstRegs}
+use Rattle.regalloc2_fastalloc_state.specs.StateParts.{SpillSlotsValue, AreUpTo, most_units}
+use Rattle.regalloc2_fastalloc_state.specs.OutOfResources.{IsResourceError, SlotsExhaustedWith, IsResourceErrorIn}
+use Rattle.regalloc2_fastalloc_proofs.specs.BranchSteps.{AreApart, AddsTempSlotsAtMost}
+use Rattle.regalloc2_fastalloc_proofs.specs.InstSteps.{StateValue, SameMachine}
+use Rattle.regalloc2_fastalloc_proofs.specs.BlockSteps.{AllocsInstAt, AllocsInstInto, temp_slots_at}
+use Rattle.regalloc2_fastalloc_state.proofs.SpillSlotUnits.{lacks_then}
+
+-- no temporary slot is added over no step
+pub none_lends : (most : ℕ) (a : StateValue) → AddsTempSlotsAtMost most a a
+none_lends most a = record { allocatable = refl; fixed_stack = refl; dedicated_scratch = refl; sizes = refl; vregs = refl; num_temp_slots = omega arith }
+
+-- nor where the machine stays
+pub same_lends : (most : ℕ) (a b : StateValue) → SameMachine a b → AddsTempSlotsAtMost most a b
+same_lends most a b h = record {
+  allocatable = h.allocatable;
+  fixed_stack = h.fixed_stack;
+  dedicated_scratch = h.dedicated_scratch;
+  sizes = h.sizes;
+  vregs = h.vregs;
+  num_temp_slots = (let e = h.num_temp_slots in omega (arith, e));
+}
+
+-- the temporary slots of two steps
+pub lends_then : (j k most : ℕ) (a b c : StateValue) → j + k ≤ most → AddsTempSlotsAtMost j a b → AddsTempSlotsAtMost k b c → AddsTempSlotsAtMost most a c
+lends_then j k most a b c few f g = record {
+  allocatable = g.allocatable ∙ f.allocatable;
+  fixed_stack = g.fixed_stack ∙ f.fixed_stack;
+  dedicated_scratch = g.dedicated_scratch ∙ f.dedicated_scratch;
+  sizes = g.sizes ∙ f.sizes;
+  vregs = g.vregs ∙ f.vregs;
+  num_temp_slots = (let p = f.num_temp_slots in let q = g.num_temp_slots in omega (arith, p, q, few));
+}
+
+-- slots that are full with some are so with more, where sizes and vregs are the same
+pub full_kept : (s t : SpillSlotsValue) (more most : ℕ) → s.sizes ≡ t.sizes → length s.vreg_spillslots ≡ length t.vreg_spillslots → more ≤ most →
+    SlotsExhaustedWith s more → SlotsExhaustedWith t most
+full_kept s t more most sizes vregs few full = λ size upto.
+    let past : most_units < (length s.vreg_spillslots + more) * (2 * size) = full size (subst (AreUpTo size) (sym sizes) upto) in
+    let fits : (length s.vreg_spillslots + more) * (2 * size) ≤ (length t.vreg_spillslots + most) * (2 * size) = mul-le-mul_right (2 * size)
+    (omega (arith, vregs, few)) in
+    omega (arith, past, fits)
+
+-- what lacks at a step, as it lacks in all
+pub lacks_all : (k j most : ℕ) (a b : StateValue) → AddsTempSlotsAtMost k a b → k + j ≤ most → (e : RegAllocError) →
+    IsResourceError (SlotsExhaustedWith b.slots (b.slots.num_temp_slots + j)) e → IsResourceError (SlotsExhaustedWith a.slots (a.slots.num_temp_slots + most)) e
+lacks_all k j most a b h few e = lacks_then (SlotsExhaustedWith b.slots (b.slots.num_temp_slots + j))
+    (SlotsExhaustedWith a.slots (a.slots.num_temp_slots + most))
+    (full_kept b.slots a.slots (b.slots.num_temp_slots + j) (a.slots.num_temp_slots + most) h.sizes h.vregs (let l = h.num_temp_slots in omega (arith, l, few)))
+    e
+
+-- a resource error of a later state is one of an earlier state, if the temporary slots that may be added between are counted
+pub lack_all : (k most : ℕ) (a b : StateValue) → AddsTempSlotsAtMost k a b → k ≤ most → (e : RegAllocError) → IsResourceErrorIn b.slots e →
+    IsResourceError (SlotsExhaustedWith a.slots (a.slots.num_temp_slots + most)) e
+lack_all k most a b h few e = lacks_then (SlotsExhaustedWith b.slots b.slots.num_temp_slots) (SlotsExhaustedWith a.slots (a.slots.num_temp_slots + most))
+    (full_kept b.slots a.slots b.slots.num_temp_slots (a.slots.num_temp_slots + most) h.sizes h.vregs (let l = h.num_temp_slots in omega (arith, l, few))) e
+
+-- no register in memory is allocatable or kept for moves, as long as the machine stays
+pub apart_kept : (k : ℕ) (a b : StateValue) → AddsTempSlotsAtMost k a b → AreApart a → AreApart b
+apart_kept k a b h apart = record {
+  allocatable = λ r has.
+      ap (λ (s : PRegSet). has_register s r) h.fixed_stack ∙ apart.allocatable r (ap (λ (s : PRegSet). has_register s r) (sym h.allocatable) ∙ has);
+  dedicated_scratch = λ class r has.
+      ap (λ (s : PRegSet). has_register s r) h.fixed_stack ∙ apart.dedicated_scratch class r
+      (ap (λ (l : List (Option Register)). slice_index_or l (class_code class) None) (sym h.dedicated_scratch) ∙ has);
+}
+
+lent_few : (f : FunctionValue) (i : ℕ) → temp_slots_at f i ≤ 6
+lent_few f i = few (inst_at f i).is_branch
+  where
+    few : (b : Bool) → (if b then 6 else 0) ≤ 6
+    few true = omega arith
+    few false = omega arith
+
+-- no instruction of a block but its last one is a branch, which adds temporary slots
+lent_none : (f : FunctionValue) → BlocksEnd f → (b i : ℕ) → b < length f.blocks → (block_at f b).range.first ≤ i → i + 1 < (block_at f b).range.end →
+    temp_slots_at f i ≡ 0
+lent_none f ends b i lt from upto =
+    let e : (inst_at f i).is_branch ≡ false = ((ends b lt).1 i from (omega (arith, upto)) (omega (arith, upto))).0 in
+    rw e refl
+
+-- a branch may add six temporary slots, two for each class
+pub lent_six : (f : FunctionValue) (i : ℕ) (b : Bool) → b ≡ (inst_at f i).is_branch → b ≡ true → temp_slots_at f i ≡ 6
+lent_six f i b same on = let e : (inst_at f i).is_branch ≡ true = sym same ∙ on in rw e refl
+
+-- a branch is the last instruction of its block
+pub ends_in_branch : (f : FunctionValue) → BlocksEnd f → (b i : ℕ) → b < length f.blocks → (block_at f b).range.first ≤ i → i < (block_at f b).range.end →
+    (inst_at f i).is_branch ≡ true → i + 1 ≡ (block_at f b).range.end
+ends_in_branch f ends b i lt from upto on = elim (cases_eq (i + 1) (block_at f b).range.end) [
+  | inl e ↦ e
+  | inr d ↦ (let off : (inst_at f i).is_branch ≡ false = ((ends b lt).1 i from upto (omega (arith, d, upto))).0 in absurd cc)
+]
+
+-- how many temporary slots a block has added before an instruction, and may add at it
+pub lent_so_far : (f : FunctionValue) → BlocksEnd f → (b i : ℕ) → b < length f.blocks → (block_at f b).range.first ≤ i → i < (block_at f b).range.end
+    → (old new : StateValue) → AddsTempSlotsAtMost 6 old new → (i + 1 ≡ (block_at f b).range.end → AddsTempSlotsAtMost 0 old new) → (k : ℕ)
+    × (k + temp_slots_at f i ≤ 6) × AddsTempSlotsAtMost k old new
+lent_so_far f ends b i lt from upto old new all none = elim (cases_eq (i + 1) (block_at f b).range.end) [
+  | inl e ↦ (0, (let few = lent_few f i in omega (arith, few)), none e)
+  | inr d ↦ (6, (let no = lent_none f ends b i lt from (omega (arith, d, upto)) in omega (arith, no)), all)
+]
+
+-- a block begins where the one before it ends
+pub joins_at : (f : FunctionValue) → BlocksFollow f → (b : ℕ) → b < length f.blocks → 0 < b → (block_at f (b - 1)).range.end ≡ (block_at f b).range.first
+joins_at f follow b lt some = sym ((follow b lt).2 some)
+
+-- all instructions of a block are the function's
+pub block_within : (f : FunctionValue) → BlocksFollow f → (b : ℕ) → b < length f.blocks → (block_at f b).range.end ≤ length f.insts
+block_within f follow b lt = within (length f.blocks - (b + 1)) b (omega (arith, lt))
+  where
+    within : (n c : ℕ) → c + n + 1 ≡ length f.blocks → (block_at f c).range.end ≤ length f.insts
+    within zero c e = (let end = (follow c (omega (arith, e))).3 (omega (arith, e)) in omega (arith, end))
+    within (suc n) c e =
+        let rest : (block_at f (suc c)).range.end ≤ length f.insts = within n (suc c) (omega (arith, e)) in
+        let same : suc c - 1 ≡ c = omega arith in
+        let next : (block_at f (suc c)).range.first ≡ (block_at f c).range.end = (follow (suc c) (omega (arith, e))).2 (omega arith)
+        ∙ ap (λ (m : ℕ). (block_at f m).range.end) same in
+        let some = (follow (suc c) (omega (arith, e))).0 in
+        omega (arith, rest, next, some)
+
+-- a block's parameters are vregs of the tables
+pub params_known : (f : FunctionValue) → DefinedOnce f → (n b : ℕ) → n ≡ f.num_vregs → b < length f.blocks → All (λ v. v.number < n) (block_at f b).params
+params_known f once n b same lt = All-from_get_or (λ (v : VirtualRegister). v.number < n) (block_at f b).params no_vreg
+    (λ k less. let small = taken_small f once (slice_index_or (block_at f b).params k no_vreg).number b k
+    (record { block = lt; param = less; number = refl }) in omega (arith, small, same))
+
+-- an instruction is allocated by its operands, clobbers and whether it returns
+pub to_inst : (inst_regs : InstRegs) (i : ℕ) (v : InstValue) (start : ℕ) (before_it places : List Place) (old new : StateValue) (ops : List OperandValue)
+    (clobbers : PRegSet) (b ret : Bool)
+    → ops ≡ v.operands → clobbers ≡ v.clobbers → ret ≡ v.is_ret
+    → AllocsInstInto inst_regs i (record { operands = ops; clobbers = clobbers; is_branch = b; is_ret = ret }) start before_it places old new →
+    AllocsInstInto inst_regs i v start before_it places old new
+to_inst inst_regs i v start before_it places old new ops clobbers b ret e f g h =
+    let P : List OperandValue → PRegSet → Bool → Type 0 = λ o s r. AllocsInstInto inst_regs i
+    (record { operands = o; clobbers = s; is_branch = v.is_branch; is_ret = r }) start before_it places old new in
+    let a = h.0.allocates in
+    let same : AllocsInstAt i (record { operands = ops; clobbers = clobbers; is_branch = v.is_branch; is_ret = ret }) start before_it places old new = record {
+      blank = h.0.blank;
+      here = h.0.here;
+      allocates = record {
+        began = a.began;
+        reserved = a.reserved;
+        held = a.held;
+        cleared = a.cleared;
+        quiet = a.quiet;
+        late = a.late;
+        early = a.early;
+        ended = a.ended;
+        after_fixed = a.after_fixed;
+        after_clobbers = a.after_clobbers;
+        after_late = a.after_late;
+        after_early = a.after_early;
+        half = a.half;
+        long = a.long;
+        no_places = a.no_places;
+        begins_early = a.begins_early;
+        begins_late = a.begins_late;
+        begins_scratch = a.begins_scratch;
+        awaited = a.awaited;
+        reserves = a.reserves;
+        holds = a.holds;
+        fixed = a.fixed;
+        clobbers = a.clobbers;
+        lates = a.lates;
+        earlies = a.earlies;
+        moves = a.moves;
+      };
+      long = h.0.long;
+      inside = h.0.inside;
+      outside = h.0.outside;
+    } in
+    subst (λ (r : Bool). P v.operands v.clobbers r) g (subst (λ (s : PRegSet). P v.operands s ret) f
+    (subst (λ (o : List OperandValue). P o clobbers ret) e (same, h.1)))

@@ -1,0 +1,184 @@
+-- Slots that lie apart are owned: each name that is in an output has one owner, and units of its own.
+use Rattle.std.proofs.Common.{if◌then◌else◌, ℕ, zero, suc, ◌≡◌, ◌≢◌, ◌+◌, ◌%◌, ◌<◌, ◌≤◌, Bool, true, false, List, [], ◌∷◌, refl, sym, ap, ◌∙◌, ◌⊎◌}
+use Rattle.std.proofs.Common.{inl, inr, ⊎_elim, subst, arith, length, slice_index_or, nat_eq, eq-eqb}
+use Rattle.std.specs.Prelude.{All, Contains}
+use Rattle.std.proofs.lemmas.Bool.{ne_eqb, cases_eq}
+use Rattle.std.proofs.lemmas.List.{get_or_default}
+use Rattle.regalloc2_names.specs.declared.RegClass.{RegClass}
+use Rattle.regalloc2_names.specs.declared.RegClass.TheVariants.{Int}
+use Rattle.regalloc2_names.specs.Register.{VirtualRegister}
+use Rattle.regalloc2_names.specs.Place.{Place, NoPlace, InRegister, InSlot}
+use Rattle.regalloc2_function.specs.FunctionValue.{FunctionValue, slot_size, inst_at}
+use Rattle.regalloc2_function.specs.OutputValue.{OutputValue, DebugLocation, allocs_of, place_at}
+use Rattle.regalloc2_function.specs.WellFormed.{EachOperand}
+use Rattle.regalloc2_function.specs.Slots.{Owner, OfBranch, class_of_owner, units_of as units_of_owner, first_unit, IsSlotOf, IsOfClass, AreSlotsOwned}
+use Rattle.regalloc2_fastalloc_state.specs.StateParts.{SpillSlotsValue, slot_name, units_of}
+use Rattle.regalloc2_fastalloc_proofs.specs.SlotLayout.{OwnedSlot, units_in, start_in, start_of, end_of, IsLaidOut, AreApart, AreLaidOut, IsNamed, IsEndOf}
+use Rattle.regalloc2_fastalloc_proofs.specs.SlotLayout.{IsOfOneClass}
+
+-- the owner of the slot of a name: that for which it was made
+unfoldable pub owner_in : List OwnedSlot → ℕ → Owner
+owner_in [] n = OfBranch n Int 0
+owner_in (c ∷ made) n = if nat_eq c.name n then c.owner else owner_in made n
+
+-- the name is one of the units
+name_is_unit : (by_last : Bool) (size name : ℕ) → 0 < size → (by_last ≡ true → size ≤ name + 1) → (start_in by_last size name ≤ name)
+    × (name < start_in by_last size name + size)
+name_is_unit true size name some named = (let n = named refl in (omega (arith, some, n), omega (arith, some, n)))
+name_is_unit false size name some named = (omega arith, omega (arith, some))
+
+-- no two of the slots that were made have one name
+abbrev pub NamesDiffer : List OwnedSlot → Type 0
+NamesDiffer made = (i j : ℕ) (d : OwnedSlot) → i < j → j < length made → (slice_index_or made i d).name ≢ (slice_index_or made j d).name
+
+names_differ : (sizes : List ℕ) (by_last : Bool) (count : ℕ) (made : List OwnedSlot) → All (IsLaidOut sizes by_last count) made → AreApart sizes by_last made →
+    NamesDiffer made
+names_differ sizes by_last count made each apart i j d lt less e =
+    let a = each i d (omega (arith, lt, less)) in
+    let b = each j d less in
+    let x = (name_is_unit by_last (units_in sizes (slice_index_or made i d).owner) (slice_index_or made i d).name a.some a.named).0 in
+    let y = (name_is_unit by_last (units_in sizes (slice_index_or made j d).owner) (slice_index_or made j d).name b.some b.named).1 in
+    let z = apart i j d lt less in
+    omega (arith, x, y, z, e)
+
+same_name : (b : Bool) (x y : Owner) → b ≡ true → (if b then x else y) ≡ x
+same_name true x y e = refl
+same_name false x y e = absurd cc
+
+other_name : (b : Bool) (x y : Owner) → b ≡ false → (if b then x else y) ≡ y
+other_name true x y e = absurd cc
+other_name false x y e = refl
+
+owner_at : (made : List OwnedSlot) → NamesDiffer made → (k : ℕ) (d : OwnedSlot) → k < length made →
+    owner_in made (slice_index_or made k d).name ≡ (slice_index_or made k d).owner
+unfolding owner_in
+owner_at [] differ k d lt = absurd (omega (arith, lt))
+owner_at (c ∷ made) differ zero d lt = same_name (nat_eq c.name c.name) c.owner (owner_in made c.name) (eq-eqb c.name c.name refl)
+owner_at (c ∷ made) differ (suc k) d lt =
+    other_name (nat_eq c.name (slice_index_or made k d).name) c.owner (owner_in made (slice_index_or made k d).name)
+    (ne_eqb c.name (slice_index_or made k d).name (differ 0 (suc k) d (omega arith) lt))
+    ∙ owner_at made (λ i j x less small. differ (suc i) (suc j) x (omega (arith, less)) (omega (arith, small))) k d (omega (arith, lt))
+
+module _ (Known : VirtualRegister → Type 0) (f : FunctionValue) (s : SpillSlotsValue) (made : List OwnedSlot) (h : AreLaidOut Known s made) where
+  -- a slot that was made is found by its name to have the owner for whom it was made
+  pub owner_found : (c : OwnedSlot) → Contains made c → owner_in made c.name ≡ c.owner
+  owner_found c (k, lt, e) = subst (λ (x : OwnedSlot). owner_in made x.name ≡ x.owner) e
+      (owner_at made (names_differ s.sizes s.by_last s.count made h.each h.apart) k c lt)
+
+  lies : (c : OwnedSlot) → Contains made c → IsLaidOut s.sizes s.by_last s.count c
+  lies c (k, lt, e) = subst (IsLaidOut s.sizes s.by_last s.count) e (h.each k c lt)
+
+  apart_or : (i j : ℕ) → i ≢ j → (i < j) ⊎ (j < i)
+  apart_or zero zero d = absurd (d refl)
+  apart_or zero (suc j) d = inl (omega arith)
+  apart_or (suc i) zero d = inr (omega arith)
+  apart_or (suc i) (suc j) d = ⊎_elim (λ l. inl (omega (arith, l))) (λ g. inr (omega (arith, g))) (apart_or i j (λ e. d (ap suc e)))
+
+  -- two slots are one, or lie apart and have two owners
+  abbrev AreTwo : OwnedSlot → OwnedSlot → Type 0
+  AreTwo c x = (c.owner ≢ x.owner) × ((end_of s.sizes s.by_last c ≤ start_of s.sizes s.by_last x) ⊎ (end_of s.sizes s.by_last x ≤ start_of s.sizes s.by_last c))
+
+  ordered : (i j : ℕ) → i < j → j < length made → (c x d : OwnedSlot) → slice_index_or made i d ≡ c → slice_index_or made j d ≡ x → AreTwo c x × AreTwo x c
+  ordered i j lt less c x d a b =
+      let differ : c.owner ≢ x.owner = λ e. h.differ i j d lt less (ap (λ (y : OwnedSlot). y.owner) a ∙ e ∙ sym (ap (λ (y : OwnedSlot). y.owner) b)) in
+      let behind : end_of s.sizes s.by_last x ≤ start_of s.sizes s.by_last c =
+      subst (λ y. end_of s.sizes s.by_last y ≤ start_of s.sizes s.by_last c) b
+      (subst (λ y. end_of s.sizes s.by_last (slice_index_or made j d) ≤ start_of s.sizes s.by_last y) a (h.apart i j d lt less)) in
+      ((differ, inr behind), (λ e. differ (sym e), inl behind))
+
+  -- two slots that were made are one, or have two owners and units apart
+  pub one_or_two : (c x : OwnedSlot) → Contains made c → Contains made x → (c ≡ x) ⊎ AreTwo c x
+  one_or_two c x (i, lt, a) (j, less, b) =
+      let b2 : slice_index_or made j c ≡ x = get_or_default made j c x less ∙ b in
+      ⊎_elim
+      (λ (e : i ≡ j). inl (sym a ∙ ap (λ n. slice_index_or made n c) e ∙ b2))
+      (λ (d : i ≢ j). inr (by_order d b2))
+      (cases_eq i j)
+    where
+      by_order : i ≢ j → slice_index_or made j c ≡ x → AreTwo c x
+      by_order d b2 = ⊎_elim (λ (l : i < j). (ordered i j l less c x c a b2).0) (λ (g : j < i). (ordered j i g lt x c c b2 a).1) (apart_or i j d)
+
+  module _ (out : OutputValue) (count : out.num_spillslots ≡ s.count) (sizes : (c : RegClass) → slot_size f.slot_sizes c ≡ units_of s c)
+      (by_last : f.named_by_last_slot ≡ s.by_last)
+      (operands : (i : ℕ) → i < length f.insts → EachOperand (inst_at f i)
+      (λ k o. (n : ℕ) → place_at (allocs_of out i) k ≡ InSlot n → Known o.vreg × (slot_name s o.vreg.number ≡ InSlot n)))
+      (allocs : All (λ p. (n : ℕ) → p ≡ InSlot n → IsNamed made n) out.allocs) (moves : All (IsOfOneClass made) out.edits)
+      (shown : All (λ d. (n : ℕ) → d.place ≡ InSlot n → IsNamed made n) out.debug_locations)
+      (met : (c : OwnedSlot) → Contains made c → (i : ℕ) (class : RegClass) (time : ℕ) → c.owner ≡ OfBranch i class time → (i < length f.insts)
+      × ((inst_at f i).is_branch ≡ true)) where
+    -- an end of a move names a slot that was made
+    end_named : (class : RegClass) (p : Place) (n : ℕ) → IsEndOf made class p → p ≡ InSlot n → IsNamed made n
+    end_named class p n is at = (let x = subst (IsEndOf made class) at is in (x.0, x.1, x.2))
+
+    -- so does whatever is in the output
+    named : (n : ℕ) → IsSlotOf f out n → IsNamed made n
+    named n (inl (k, x, lt, at, is)) = allocs k x lt n (at ∙ is)
+    named n (inr (inl (k, x, lt, at, is))) = (let m = subst (IsOfOneClass made) at (moves k x lt) in
+        ⊎_elim (λ from. end_named m.0 _ n m.1 from) (λ to. end_named m.0 _ n m.2 to) is)
+    named n (inr (inr (k, x, lt, at, is))) = shown k x lt n (subst (λ (d : DebugLocation). d.place ≡ InSlot n) (sym at) is)
+
+    -- the owner's units, and the first of them, are those that were made
+    first_is : (c : OwnedSlot) → first_unit f c.owner c.name ≡ start_of s.sizes s.by_last c
+    first_is c = ap (λ z. start_in f.named_by_last_slot z c.name) (sizes (class_of_owner c.owner))
+        ∙ ap (λ b. start_in b (units_in s.sizes c.owner) c.name) by_last
+
+    owner_is : (n : ℕ) → IsNamed made n → (c : OwnedSlot) × Contains made c × (c.name ≡ n) × (owner_in made n ≡ c.owner)
+        × (first_unit f (owner_in made n) n ≡ start_of s.sizes s.by_last c) × (units_of_owner f (owner_in made n) ≡ units_in s.sizes c.owner)
+    owner_is n (c, there, is) =
+        let mine : owner_in made n ≡ c.owner = ap (owner_in made) (sym is) ∙ owner_found c there in (
+          c,
+          there,
+          is,
+          mine,
+          ap (λ o. first_unit f o n) mine ∙ ap (first_unit f c.owner) (sym is) ∙ first_is c,
+          ap (units_of_owner f) mine
+              ∙ sizes (class_of_owner c.owner),
+        )
+
+    end_of_class : (class : RegClass) (p : Place) → IsEndOf made class p → IsOfClass (owner_in made) p class
+    end_of_class class NoPlace h = h
+    end_of_class class (InRegister r) h = h
+    end_of_class class (InSlot n) (c, there, is, of) = ap class_of_owner (ap (owner_in made) (sym is) ∙ owner_found c there) ∙ of
+
+    -- the slots of an output are owned, where they lie apart and its moves keep to a class
+    pub slots_owned : AreSlotsOwned f out
+    slots_owned = record {
+      owner = owner_in made;
+      own = λ m n a b e.
+          let x = owner_is m (named m a) in
+          let y = owner_is n (named n b) in
+          ⊎_elim (λ (one : x.0 ≡ y.0). sym x.2 ∙ ap (λ (c : OwnedSlot). c.name) one ∙ y.2) (λ (two : AreTwo x.0 y.0). absurd (two.0 (sym x.3 ∙ e ∙ y.3)))
+          (one_or_two x.0 y.0 x.1 y.1);
+      branches = λ n i class time a e.
+          let x = owner_is n (named n a) in
+          met x.0 x.1 i class time (sym x.3 ∙ e);
+      operands = λ i lt k d less n at.
+          let o = operands i lt k d less n at in
+          owner_found _ (h.known _ o.0 n o.1);
+      named = λ n a last.
+          let x = owner_is n (named n a) in
+          let l = (lies x.0 x.1).named (sym by_last ∙ last) in
+          let u = x.5 in
+          let e = x.2 in
+          omega (arith, l, u, e);
+      aligned = λ n a.
+          let x = owner_is n (named n a) in
+          ap (λ z. z % units_of_owner f (owner_in made n)) x.4 ∙ ap (λ z. start_of s.sizes s.by_last x.0 % z) x.5 ∙ (lies x.0 x.1).aligned;
+      within = λ n a.
+          let x = owner_is n (named n a) in
+          let w = (lies x.0 x.1).within in
+          let u = x.5 in
+          let e = x.4 in
+          omega (arith, w, u, e, count);
+      apart = λ m n a b other.
+          let x = owner_is m (named m a) in
+          let y = owner_is n (named n b) in
+          let xu = x.5 in
+          let xs = x.4 in
+          let yu = y.5 in
+          let ys = y.4 in
+          ⊎_elim (λ (one : x.0 ≡ y.0). absurd (other (sym x.2 ∙ ap (λ (c : OwnedSlot). c.name) one ∙ y.2)))
+          (λ (two : AreTwo x.0 y.0). ⊎_elim (λ l. inl (omega (arith, l, xu, xs, ys))) (λ g. inr (omega (arith, g, yu, ys, xs))) two.1)
+          (one_or_two x.0 y.0 x.1 y.1);
+      moves = λ k d lt. let m = moves k d lt in (m.0, end_of_class m.0 _ m.1, end_of_class m.0 _ m.2);
+    }

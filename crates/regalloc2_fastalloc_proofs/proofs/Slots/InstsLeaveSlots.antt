@@ -1,0 +1,149 @@
+-- Where the moves of the walk write only what they may and places are good, each instruction but a block's last one leaves slots to their own vregs.
+use Rattle.std.proofs.Common.{ℕ, zero, suc, ◌≡◌, ◌+◌, ◌<◌, ◌≤◌, inl, inr, true, false, List, [], ◌∷◌, ◌++◌, length, refl, sym, ap, ◌∙◌, subst, arith}
+use Rattle.std.specs.Prelude.{All, Some}
+use Rattle.regalloc2_names.specs.Register.{VirtualRegister}
+use Rattle.regalloc2_names.specs.Place.{Place, NoPlace, InRegister, InSlot}
+use Rattle.regalloc2_names.specs.Point.{before, after}
+use Rattle.regalloc2_function.specs.FunctionValue.{FunctionValue, block_at, inst_at}
+use Rattle.regalloc2_function.specs.Machine.{MachineValue}
+use Rattle.regalloc2_function.specs.OutputValue.{MoveValue, place_at}
+use Rattle.regalloc2_names.specs.Operand.{is_def}
+use Rattle.regalloc2_function.specs.WellFormed.{BlocksFollow, BlocksEnd, last_of}
+use Rattle.regalloc2_semantics.specs.Instruction.{Knows}
+use Rattle.regalloc2_semantics.specs.BlockByPoints.{at_point, listed}
+use Rattle.regalloc2_semantics.proofs.UnwrittenPlaces.{IsReadAt, Keeps}
+use Rattle.regalloc2_semantics.proofs.Order.{ends_within, stands_later}
+use Rattle.regalloc2_fastalloc_state.specs.StateParts.{slot_name}
+use Rattle.regalloc2_validate.specs.Constraints.{op_at}
+use Rattle.regalloc2_fastalloc_proofs.specs.InstSteps.{StateValue}
+use Rattle.regalloc2_fastalloc_proofs.specs.Safety.{MayBeLocatedAt}
+use Rattle.regalloc2_fastalloc_proofs.proofs.Safety.StepsKeepState.{slot_in, IsWhole}
+use Rattle.regalloc2_fastalloc_proofs.proofs.Operands.RecordOverState.{slots_at, opt_from, opt_real, no_register_slot}
+use Rattle.regalloc2_fastalloc_proofs.proofs.Operands.RecordOfInst.{Orderly}
+use Rattle.regalloc2_fastalloc_proofs.proofs.Inst.BoundaryToFirstOperand.{AvoidClobbers}
+use Rattle.regalloc2_fastalloc_proofs.proofs.Operands.DefinedNumbers.{defined_by, defined_by-at}
+use Rattle.regalloc2_fastalloc_proofs.proofs.Walk.InstsCarry.{AreListed}
+use Rattle.regalloc2_fastalloc_proofs.proofs.Safety.InstsKeepSafe.{HasGood, WritesAt, place_of}
+use Rattle.regalloc2_fastalloc_proofs.proofs.Safety.OutputOfWalk.{all_reverse}
+use Rattle.regalloc2_fastalloc_proofs.proofs.Slots.InstLeavesOwnedSlot.{no_move_or}
+use Rattle.regalloc2_fastalloc_proofs.proofs.Safety.FunctionKeepsSafe.{no_branch_writes, none_written_behind}
+use Rattle.regalloc2_fastalloc_proofs.proofs.Walk.InstBoundaries.{BranchKept}
+use Rattle.regalloc2_fastalloc_proofs.proofs.Walk.LastInstAndRest.{KeepsSlots}
+
+-- what holds of all holds of the first ones
+pub all_front : {X : Type 0} (P : X → Type 0) (xs ys : List X) → All P (xs ++ ys) → All P xs
+all_front P [] ys h k d lt = absurd (omega (arith, lt))
+all_front P (x ∷ xs) ys h zero d lt = h 0 d (omega arith)
+all_front P (x ∷ xs) ys h (suc k) d lt = all_front P xs ys (λ j e less. h (suc j) e (omega (arith, less))) k d (omega (arith, lt))
+
+-- What may be written to slots around an instruction: before it where it reads a vreg in its slot, and after it where it defines the vreg.
+pub record WritesSound (f : FunctionValue) (placesf : ℕ → List Place) (Writes : ℕ → VirtualRegister → ℕ → Type 0) (i : ℕ) : Type 0 where
+  pub sooner : (v : VirtualRegister) (n : ℕ) → Writes (before i) v n → IsReadAt (inst_at f i).operands (placesf i) v (InSlot n)
+  pub later : (v : VirtualRegister) (n : ℕ) → Writes (after i) v n → (k : ℕ) × (k < length (inst_at f i).operands)
+      × (is_def (op_at (inst_at f i).operands k).kind ≡ true) × ((op_at (inst_at f i).operands k).vreg ≡ v)
+
+-- those that the walk writes, at an instruction that is no branch
+pub writes_sound : (f : FunctionValue) (placesf : ℕ → List Place) (places : List Place) → AreListed f placesf 0 places → (i : ℕ) →
+    (inst_at f i).is_branch ≡ false → WritesSound f placesf (WritesAt f places) i
+writes_sound f placesf places are_listed i plain = record {
+  sooner = λ v n w. elim w [
+    | inr x ↦ absurd (no_branch_writes f i v plain x)
+    | inl o ↦ elim o.5 [
+      | inl a ↦ (let e : before i ≡ after o.0 = a.0 in absurd (omega (arith, e)))
+      | inr r ↦ (
+          let e : before i ≡ before o.0 = r.0 in
+          let same : o.0 ≡ i = omega (arith, e) in
+          let read : IsReadAt (inst_at f o.0).operands (placesf o.0) v (InSlot n) = (o.1, o.3, r.1, o.4, are_listed o.0 (omega arith) o.2 o.1 o.3 ∙ r.2) in
+          subst (λ (j : ℕ). IsReadAt (inst_at f j).operands (placesf j) v (InSlot n)) same read)
+    ]
+  ];
+  later = λ v n w. elim w [
+    | inr x ↦ absurd (none_written_behind f i v x)
+    | inl o ↦ elim o.5 [
+      | inl a ↦ (
+          let e : after i ≡ after o.0 = a.0 in
+          let same : o.0 ≡ i = omega (arith, e) in
+          subst (λ (j : ℕ). (k : ℕ) × (k < length (inst_at f j).operands) × (is_def (op_at (inst_at f j).operands k).kind ≡ true)
+          × ((op_at (inst_at f j).operands k).vreg ≡ v)) same (o.1, o.3, a.1, o.4))
+      | inr r ↦ (let e : after i ≡ before o.0 = r.0 in absurd (omega (arith, e)))
+    ]
+  ];
+}
+
+-- an instruction before the last one of its block is the last one of none
+pub not_last : (f : FunctionValue) → BlocksFollow f → (b i : ℕ) → b < length f.blocks → (block_at f b).range.first ≤ i → i < last_of (block_at f b) → (c : ℕ) →
+    c < length f.blocks → i + 1 ≡ (block_at f c).range.end → ⊥
+not_last f follow b i lb ge less c lc e =
+    let some : (block_at f c).range.first < (block_at f c).range.end = (follow c lc).0 in
+    let there : b ≤ c = stands_later f follow b c i i lb lc ge (omega (arith, less)) (omega (arith, some, e)) (omega (arith, e)) (omega arith) in
+    let back : c ≤ b = stands_later f follow c b i i lc lb (omega (arith, some, e)) (omega (arith, e)) ge (omega (arith, less)) (omega arith) in
+    let same : c ≡ b = omega (arith, there, back) in
+    let end : (block_at f c).range.end ≡ (block_at f b).range.end = ap (λ (n : ℕ). (block_at f n).range.end) same in
+    absurd (omega (arith, end, e, less))
+
+module _ (env : MachineValue) (Known : VirtualRegister → Type 0) (f : FunctionValue)
+    (orderly : (i : ℕ) → i < length f.insts → Orderly (inst_at f i).operands)
+    (avoids : (i : ℕ) → i < length f.insts → AvoidClobbers (inst_at f i).operands (inst_at f i).clobbers)
+    (knows : (i : ℕ) → i < length f.insts → Knows Known (inst_at f i).operands) (kept : BranchKept f) (follow : BlocksFollow f) (ends : BlocksEnd f)
+    (placesf : ℕ → List Place) (final : StateValue)
+    (Writes : ℕ → VirtualRegister → ℕ → Type 0) (whole : IsWhole final)
+    (allowed : (v : VirtualRegister) → Known v → (n : ℕ) → slots_at final v.number ≡ Some (InSlot n) →
+    All (λ e. e.1.to ≡ InSlot n → Writes e.0 v n) final.edits)
+    (places : List Place) (are_listed : AreListed f placesf 0 places) (good : (j k : ℕ) → j < length f.insts → k < length (inst_at f j).operands →
+    HasGood env final.slots f places j k)
+    (sound : (b i : ℕ) → b < length f.blocks → (block_at f b).range.first ≤ i → i < last_of (block_at f b) → WritesSound f placesf Writes i) where
+  -- a definition in a slot is in its own
+  own_definition : (i : ℕ) → i < length f.insts → (k : ℕ) → k < length (inst_at f i).operands → is_def (op_at (inst_at f i).operands k).kind ≡ true → (n : ℕ) →
+      place_at (placesf i) k ≡ InSlot n →
+      slot_name final.slots (op_at (inst_at f i).operands k).vreg.number ≡ InSlot n
+  own_definition i lt k less def n at =
+      let g : MayBeLocatedAt env final.slots (op_at (inst_at f i).operands k).vreg (place_of f places i k) = (good i k lt less).good.place
+      ((orderly i lt).allocated k less def) in
+      subst (MayBeLocatedAt env final.slots (op_at (inst_at f i).operands k).vreg) (sym (are_listed i (omega arith) lt k less) ∙ at) g
+
+  module _ (b i : ℕ) (lb : b < length f.blocks) (ge : (block_at f b).range.first ≤ i) (less : i < last_of (block_at f b)) (lt : i < length f.insts)
+      (v : VirtualRegister) (known : Known v)
+      (free : defined_by (inst_at f i).operands v.number ≡ false) (es more : List (ℕ × MoveValue)) (parts : final.edits ≡ es ++ more) (n : ℕ)
+      (mine : slots_at final v.number ≡ Some (InSlot n)) where
+    not_defined : (k : ℕ) → k < length (inst_at f i).operands → is_def (op_at (inst_at f i).operands k).kind ≡ true →
+        (op_at (inst_at f i).operands k).vreg.number ≡ v.number → ⊥
+    not_defined k few d e = (let y : defined_by (inst_at f i).operands v.number ≡ true = subst (λ (x : ℕ). defined_by (inst_at f i).operands x ≡ true) e
+        (defined_by-at (inst_at f i).operands k few d) in cc)
+
+    -- the moves so far that go there
+    so_far : All (λ e. e.1.to ≡ InSlot n → Writes e.0 v n) (listed es)
+    so_far = all_reverse (λ e. e.1.to ≡ InSlot n → Writes e.0 v n) es (all_front (λ e. e.1.to ≡ InSlot n → Writes e.0 v n) es more
+        (subst (All (λ e. e.1.to ≡ InSlot n → Writes e.0 v n)) parts (allowed v known n mine)))
+
+    keeps_slot : Keeps (inst_at f i).operands (placesf i) (inst_at f i).clobbers (at_point (listed es) (before i)) (at_point (listed es) (after i)) v (InSlot n)
+    keeps_slot = record {
+      spared = record {
+        no_definition = λ k few d at. not_defined k few d (whole.own (op_at (inst_at f i).operands k).vreg.number v.number n (own_definition i lt k few d n at)
+            (opt_from (slot_in final v.number) (InSlot n) mine));
+        no_clobber = refl;
+      };
+      no_move_later = elim (no_move_or (InSlot n) (after i) (listed es) ⊥ (λ k d few at to.
+          let w = (sound b i lb ge less).later v n (subst (λ q. Writes q v n) at (so_far k d few to)) in
+          not_defined w.0 w.1 w.2 (ap (λ (x : VirtualRegister). x.number) w.3))) [
+            | inl none ↦ none
+            | inr r ↦ absurd r
+          ];
+      before_it = no_move_or (InSlot n) (before i) (listed es) (IsReadAt (inst_at f i).operands (placesf i) v (InSlot n))
+          (λ k d few at to. (sound b i lb ge less).sooner v n (subst (λ q. Writes q v n) at (so_far k d few to)));
+    }
+
+  -- each instruction but a block's last one leaves a vreg's final slot alone, unless it defines that vreg
+  pub keeps_slots : KeepsSlots Known f orderly avoids knows kept follow ends placesf final
+  keeps_slots b i lb ge less v known free s is es more parts = by_place s refl
+    where
+      lt : i < length f.insts
+      lt = (let within = ends_within f follow b lb in omega (arith, less, within))
+
+      by_place : (p : Place) → s ≡ p → Keeps (inst_at f i).operands (placesf i) (inst_at f i).clobbers (at_point (listed es) (before i))
+          (at_point (listed es) (after i)) v s
+      by_place NoPlace e = absurd (opt_real (slot_in final v.number) s is e)
+      by_place (InRegister r) e = absurd (no_register_slot final.slots.count (slot_in final v.number) r (whole.below v.number)
+          (opt_from (slot_in final v.number) (InRegister r) (is ∙ ap Some e)))
+      by_place (InSlot n) e = subst (Keeps (inst_at f i).operands (placesf i) (inst_at f i).clobbers (at_point (listed es) (before i))
+          (at_point (listed es) (after i)) v) (sym e)
+          (keeps_slot b i lb ge less lt v known free es more parts n (is ∙ ap Some e))

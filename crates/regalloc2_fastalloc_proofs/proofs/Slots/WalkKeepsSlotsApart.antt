@@ -1,0 +1,134 @@
+-- The whole walk keeps slots apart and moves within a class.
+use Rattle.std.proofs.Common.{ℕ, ◌≡◌, ◌+◌, ◌<◌, ◌≤◌, ◌∙◌, List, [], true, Bool, length, map, slice_index_or, refl, sym, ap, inl, inr, subst, arith}
+use Rattle.std.proofs.lemmas.Bool.{cases_Bool}
+use Rattle.std.proofs.lemmas.List.{get_or-map}
+use Rattle.regalloc2_names.specs.declared.RegClass.{RegClass}
+use Rattle.regalloc2_names.specs.Register.{VirtualRegister}
+use Rattle.regalloc2_names.specs.Place.{Place, NoPlace}
+use Rattle.regalloc2_names.specs.Point.{before}
+use Rattle.regalloc2_function.specs.FunctionValue.{FunctionValue, IsLimited, block_at, inst_at}
+use Rattle.regalloc2_function.specs.Machine.{MachineValue}
+use Rattle.regalloc2_function.specs.Following.{end_within}
+use Rattle.regalloc2_function.specs.SourceRun.{arguments_at}
+use Rattle.regalloc2_function.specs.WellFormed.{IsWellFormed, BlocksFollow, last_of}
+use Rattle.regalloc2_semantics.specs.Blocks.{HasEdge, target_at}
+use Rattle.regalloc2_semantics.proofs.SingleDef.{Made, one_made, made_before, is_made}
+use Rattle.regalloc2_semantics.proofs.Soundness.{well_formed_are_sound}
+use Rattle.regalloc2_fastalloc_state.specs.StateParts.{SpillSlotsValue, IsSlotOrNone, no_allocs, no_slots, slot_name, units_of}
+use Rattle.regalloc2_validate.specs.NoLimits.{AreTaken}
+use Rattle.regalloc2_fastalloc_proofs.specs.InstSteps.{StateValue}
+use Rattle.regalloc2_fastalloc_proofs.specs.Safety.{HasMachine}
+use Rattle.regalloc2_fastalloc_proofs.specs.BlockStart.{no_vreg}
+use Rattle.regalloc2_fastalloc_proofs.specs.BlockSteps.{AllocsInstInBlock, AllocsBlockInsts, at_end, one_in, AllocsBlocks, all_left, one_block}
+use Rattle.regalloc2_fastalloc_proofs.proofs.Safety.InitialState.{begun_empty}
+use Rattle.regalloc2_fastalloc_proofs.proofs.Operands.AllocsSoFar.{IsTame}
+use Rattle.regalloc2_fastalloc_proofs.proofs.Safety.WellFormedKeepsSafe.{tame_at}
+use Rattle.regalloc2_fastalloc_proofs.proofs.Slots.NewSlotsApart.{none_laid}
+use Rattle.regalloc2_fastalloc_proofs.proofs.Slots.StepsKeepSlotsApart.{IsOwnPlace, IsClassed}
+use Rattle.regalloc2_fastalloc_proofs.proofs.Slots.InstKeepsSlotsApart.{allocates_classed}
+use Rattle.regalloc2_fastalloc_proofs.proofs.Slots.BranchKeepsSlotsApart.{AreAlike, met_more, passes_classed, begins_block_classed}
+use Rattle.regalloc2_fastalloc_proofs.proofs.Safety.BlocksKeepSafe.{StartsAt, start_next}
+use Rattle.regalloc2_fastalloc_proofs.proofs.Slots.OutputOwnsSlots.{KeepsOfClass}
+use Rattle.regalloc2_semantics.proofs.Plain.{always, no_some}
+
+-- the branches from an instruction on
+abbrev pub BranchesFrom : FunctionValue → ℕ → ℕ → RegClass → Type 0
+BranchesFrom f i j class = (i ≤ j) × (j < length f.insts) × ((inst_at f j).is_branch ≡ true)
+
+module _ (f : FunctionValue) (Known : VirtualRegister → Type 0) (same : (v w : VirtualRegister) → Known v → Known w → v.number ≡ w.number → v ≡ w)
+    (named : Bool)
+    (tame : (i : ℕ) → i < length f.insts → IsTame Known (inst_at f i).operands) (follow : BlocksFollow f)
+    (params : (b k : ℕ) → b < length f.blocks → k < length (block_at f b).params → Known (slice_index_or (block_at f b).params k no_vreg))
+    (alike : (b k j : ℕ) → b < length f.blocks → HasEdge f b k → j < length (block_at f (target_at f b k)).params →
+    AreAlike Known (slice_index_or (block_at f (target_at f b k)).params j no_vreg) (slice_index_or (arguments_at f b k) j no_vreg)) where
+  -- the tables before an instruction is walked
+  abbrev ClassedAt : ℕ → StateValue → Type 0
+  ClassedAt i t = IsClassed Known named (BranchesFrom f i) t
+
+  inst_classed : (b i : ℕ) → b < length f.blocks → (before_it places : List Place) (old new : StateValue) → i < length f.insts →
+      AllocsInstInBlock f b i before_it places old new → ClassedAt (i + 1) old → ClassedAt i new
+  inst_classed b i lt before_it places old new within a h =
+      let x = a.allocates.allocates in
+      let k = allocates_classed Known named (BranchesFrom f (i + 1)) i (inst_at f i) a.allocates.blank a.allocates.here old a.middle (tame i within) x h in
+      let more : (j : ℕ) (c : RegClass) → BranchesFrom f (i + 1) j c → BranchesFrom f i j c = λ j c m. (let from = m.0 in (omega (arith, from), m.1, m.2)) in
+      elim (cases_Bool (inst_at f i).is_branch) [
+        | inl branch ↦ passes_classed Known same named (BranchesFrom f (i + 1)) (BranchesFrom f i) f b i (λ c m. (let from = m.0 in omega (arith, from))) more
+            (λ c. (omega arith, within, branch))
+            (λ e j edge less. alike b e j lt edge less) x.ended a.inst_regs a.middle new (a.branch branch) k.classed k.inst_regs
+        | inr none ↦ subst (ClassedAt i) (sym (a.no_branch none)) (met_more Known named (BranchesFrom f (i + 1)) (BranchesFrom f i) a.middle more k.classed)
+      ]
+
+  -- the instructions of a block
+  in_block_classed : (b : ℕ) → b < length f.blocks → (blank : List Place) (old : StateValue) → ClassedAt (block_at f b).range.end old →
+      (i : ℕ) (places : List Place) (t : StateValue) → AllocsBlockInsts f b blank old i places t → ClassedAt i t
+  in_block_classed b lt blank old h i places t at_end = h
+  in_block_classed b lt blank old h i places t (one_in n before_it p s u ge less prev a) =
+      inst_classed b n lt before_it places s t (let end = end_within f follow b lt in omega (arith, less, end)) a
+      (in_block_classed b lt blank old h (n + 1) before_it s prev)
+
+  -- all blocks
+  pub blocks_classed : (blank : List Place) (old : StateValue) → ClassedAt (length f.insts) old → (c : ℕ) (places : List Place) (t : StateValue) →
+      AllocsBlocks f blank old c places t → (i : ℕ) → StartsAt f c i → ClassedAt i t
+  blocks_classed blank old h c places t all_left i starts = subst (λ (n : ℕ). ClassedAt n old) (sym (starts.end refl)) h
+  blocks_classed blank old h c places t (one_block b before_it p s u w lt prev walks begins) i starts =
+      let first : ℕ = (block_at f b).range.first in
+      let later = blocks_classed blank old h (b + 1) before_it s prev (block_at f b).range.end (start_next f follow b lt) in
+      let here : ClassedAt first u = in_block_classed b lt before_it s later first places u walks in
+      subst (λ (n : ℕ). ClassedAt n t) (sym (starts.block lt)) (begins_block_classed Known same named (BranchesFrom f first) (before first)
+      (block_at f b).params (λ k less. params b k lt less) u t begins here)
+
+-- the fresh tables
+begun_classed : (f : FunctionValue) (env : MachineValue) (Known : VirtualRegister → Type 0) (named : Bool) → KeepsOfClass env →
+    (t : StateValue) (n m : ℕ) (sizes : List ℕ) → t.places ≡ no_allocs n → t.slots ≡ no_slots m sizes named → t.edits ≡ []
+    → ((c : RegClass) → 0 < units_of (no_slots m sizes named) c) → HasMachine env t → (Met : ℕ → RegClass → Type 0) → IsClassed Known named Met t
+begun_classed f env Known named kept t n m sizes places slots edits units machine Met =
+    let e = begun_empty t n places in
+    let none : (k : ℕ) → slot_name t.slots k ≡ NoPlace = λ k. ap (λ (s : SpillSlotsValue). slot_name s k) slots ∙ always m k NoPlace in
+    record {
+      holders = λ r v small held. absurd (no_some v (sym (e.nobody r small) ∙ held));
+      places = λ v known. subst (IsOwnPlace t.slots v) (sym (e.nowhere v.number)) tt;
+      slots = λ k. subst (IsSlotOrNone t.slots.count) (sym (none k)) tt;
+      units = λ c. subst (λ (s : SpillSlotsValue). 0 < units_of s c) (sym slots) (units c);
+      dedicated_scratch = λ c r has. kept c r (machine.dedicated_scratch c r has);
+      by_last = ap (λ (s : SpillSlotsValue). s.by_last) slots;
+      made = [];
+      laid = none_laid Known t.slots none;
+      met = λ k d lt. absurd (omega (arith, lt));
+      edits = rw edits (λ k d lt. absurd (omega (arith, lt)));
+    }
+
+-- an argument is of its parameter's class
+same_at : {X Y : Type 0} (g : X → Y) (xs ys : List X) (d : X) (k : ℕ) → map g xs ≡ map g ys → k < length xs → k < length ys →
+    g (slice_index_or xs k d) ≡ g (slice_index_or ys k d)
+same_at g xs ys d k e lx ly = sym (get_or-map g xs k d (g d) lx) ∙ ap (λ l. slice_index_or l k (g d)) e ∙ get_or-map g ys k d (g d) ly
+
+made_alike : (env : MachineValue) (f : FunctionValue) → IsWellFormed env f → (b k j : ℕ) → b < length f.blocks → HasEdge f b k →
+    j < length (block_at f (target_at f b k)).params
+    → AreAlike (Made f) (slice_index_or (block_at f (target_at f b k)).params j no_vreg) (slice_index_or (arguments_at f b k) j no_vreg)
+made_alike env f ok b k j lt edge within =
+    let target : target_at f b k < length f.blocks = (well_formed_are_sound env f ok).targets b k edge in
+    let counted : length (arguments_at f b k) ≡ length (block_at f (target_at f b k)).params = ok.counted b lt k edge in
+    let less : j < length (arguments_at f b k) = omega (arith, within, counted) in
+    let last : ℕ = last_of (block_at f b) in
+    let nonempty = (ok.follow b lt).0 in
+    let end = end_within f ok.follow b lt in
+    let a : VirtualRegister = slice_index_or (arguments_at f b k) j no_vreg in (
+      Made.by_param (target_at f b k) j (record { block = target; param = within; number = refl }) refl,
+      is_made f a last (made_before f a last (omega (arith, nonempty, end)) ((ok.uses_defined b lt).1 k edge j no_vreg less)),
+      sym (same_at (λ (v : VirtualRegister). v.class) (arguments_at f b k) (block_at f (target_at f b k)).params no_vreg j (ok.classes b lt k edge) less
+          within),
+    )
+
+-- what the walk leaves of a well-formed function
+pub walk_classed : (env : MachineValue) (f : FunctionValue) → KeepsOfClass env → IsLimited f → IsWellFormed env f → AreTaken f →
+    (blank places : List Place) (begin last : StateValue) (n m : ℕ) (sizes : List ℕ) (named : Bool)
+    → begin.places ≡ no_allocs n → begin.slots ≡ no_slots m sizes named → begin.edits ≡ [] → ((c : RegClass) → 0 < units_of (no_slots m sizes named) c) →
+    HasMachine env begin → AllocsBlocks f blank begin 0 places last
+    → IsClassed (Made f) named (BranchesFrom f 0) last
+walk_classed env f kept limited ok taken blank places begin last n m sizes named nobody slots none units machine walks =
+    let some : 0 < length f.blocks = (let entry = ok.successors.0 in omega (arith, entry)) in
+    blocks_classed f (Made f) (one_made f ok.defined_once) named (tame_at env f limited ok taken) ok.follow
+    (λ b k lt less. Made.by_param b k (record { block = lt; param = less; number = refl }) refl) (made_alike env f ok)
+    blank begin (begun_classed f env (Made f) named kept begin n m sizes nobody slots none units machine (BranchesFrom f (length f.insts))) 0 places last walks
+    0
+    (record { block = λ lt. sym ((ok.follow 0 some).1 refl); end = λ e. absurd (omega (arith, e, some)) })

@@ -1,0 +1,127 @@
+-- All blocks of the walk: each carries what the law on paths wants.
+use Rattle.std.proofs.Common.{ℕ, ◌≡◌, ◌+◌, ◌-◌, ◌<◌, ◌≤◌, ◌⊎◌, inl, inr, List, [], length, refl, sym, ap, ◌∙◌, subst, arith}
+use Rattle.std.specs.Prelude.{Option}
+use Rattle.std.proofs.lemmas.Bool.{cases_eq}
+use Rattle.std.proofs.lemmas.List.{get_or_past}
+use Rattle.regalloc2_names.specs.Register.{VirtualRegister}
+use Rattle.regalloc2_names.specs.Place.{Place}
+use Rattle.regalloc2_names.specs.Point.{before}
+use Rattle.regalloc2_function.specs.FunctionValue.{FunctionValue, BlockValue, block_at, inst_at, no_block}
+use Rattle.regalloc2_function.specs.WellFormed.{BlocksFollow, BlocksEnd, DefinedOnce, UsesAreDefined}
+use Rattle.regalloc2_function.specs.OutputValue.{OutputValue, allocs_of}
+use Rattle.regalloc2_semantics.specs.Carry.{Carries}
+use Rattle.regalloc2_semantics.specs.BlockByPoints.{at_point, walked, block_walked, listed}
+use Rattle.regalloc2_semantics.specs.Instruction.{Knows}
+use Rattle.regalloc2_semantics.specs.Blocks.{IsUsed, IsExcused, ExcusedAreSilent, StandsBefore, StandsAfter, BlockCarries}
+use Rattle.regalloc2_semantics.proofs.CarryRules.{carries_nil}
+use Rattle.regalloc2_semantics.proofs.MoveInFront.{walked-none}
+use Rattle.regalloc2_semantics.proofs.SingleDef.{Made}
+use Rattle.regalloc2_fastalloc_proofs.specs.InstSteps.{StateValue}
+use Rattle.regalloc2_fastalloc_proofs.specs.BlockSteps.{AllocsBlocks, all_left, one_block}
+use Rattle.regalloc2_fastalloc_proofs.proofs.Safety.StepsKeepState.{IsWhole}
+use Rattle.regalloc2_fastalloc_proofs.proofs.Operands.RecordOverState.{slots_at}
+use Rattle.regalloc2_fastalloc_proofs.proofs.Moves.ScratchRegTaken.{Fit}
+use Rattle.regalloc2_fastalloc_proofs.proofs.Operands.RecordOfInst.{Orderly}
+use Rattle.regalloc2_fastalloc_proofs.proofs.Inst.BoundaryToFirstOperand.{AvoidClobbers}
+use Rattle.regalloc2_fastalloc_proofs.proofs.Walk.InstsCarry.{AreListed, Blank, at_start}
+use Rattle.regalloc2_fastalloc_proofs.proofs.Slots.StepsKeepSlots.{Grown, grown_none, grown_then}
+use Rattle.regalloc2_fastalloc_proofs.proofs.BlockEnd.NoMoveForOperand.{IsEmpty}
+use Rattle.regalloc2_fastalloc_proofs.proofs.Inst.OneInstCarries.{Between}
+use Rattle.regalloc2_fastalloc_proofs.proofs.BlockEnd.LastInst.{nothing_after}
+use Rattle.regalloc2_fastalloc_proofs.proofs.Walk.InstBoundaries.{BranchKept, IsEdge, IsWithin, grown_weaken, begins_grown, walk_grown, edge_next}
+use Rattle.regalloc2_fastalloc_proofs.proofs.Walk.InstBoundaries.{blocks_between}
+use Rattle.regalloc2_fastalloc_proofs.proofs.Walk.LastInstAndRest.{KeepsSlots, walk_listed}
+use Rattle.regalloc2_fastalloc_proofs.proofs.Walk.BlockCarries.{BranchCarries, IsBelow, block_carries}
+
+module _ (f : FunctionValue) (once : DefinedOnce f) (follow : BlocksFollow f) (ends : BlocksEnd f) (uses : UsesAreDefined f)
+    (orderly : (i : ℕ) → i < length f.insts → Orderly (inst_at f i).operands)
+    (avoids : (i : ℕ) → i < length f.insts → AvoidClobbers (inst_at f i).operands (inst_at f i).clobbers)
+    (knows : (i : ℕ) → i < length f.insts → Knows (Made f) (inst_at f i).operands) (kept : BranchKept f) (placesf : ℕ → List Place) (final : StateValue) where
+  -- what a block carries, with the moves that the whole walk lists
+  abbrev pub CarriesAt : ℕ → Type 0
+  CarriesAt b = ExcusedAreSilent f b → (v : VirtualRegister) → IsUsed f v → (IsExcused f b v → ⊥) →
+      Carries v (walked (inst_at f) (at_point (listed final.edits)) placesf (block_at f b).range.first ((block_at f b).range.end - (block_at f b).range.first))
+      (StandsBefore f (λ x. slots_at final x.number) b v) (StandsAfter f (λ x. slots_at final x.number) b v)
+
+  module _ (whole : IsWhole final) (keeps : KeepsSlots (Made f) f orderly avoids knows kept follow ends placesf final)
+      (branches : BranchCarries f placesf (slots_at final))
+      (blank : List Place) (begin : StateValue) (start : Between (length f.insts) begin) (empty : IsEmpty begin) where
+    -- each block from b on carries what paths want of it, with the edits of the whole walk
+    pub all_carry : (b : ℕ) (places : List Place) (t : StateValue) → AllocsBlocks f blank begin b places t → (n : ℕ) → IsEdge f b n →
+        AreListed f placesf n places → Grown (IsBelow n) t final → (c : ℕ) → b ≤ c → c < length f.blocks → CarriesAt c
+    all_carry b places t all_left = λ n e are rest c le lc. absurd (omega (arith, le, lc))
+    all_carry b places t (one_block d p q s u w lt prev walk begins) = λ n e are rest c le lc.
+        let first : ℕ = (block_at f d).range.first in
+        let end : ℕ = (block_at f d).range.end in
+        let some : first < end = (follow d lt).0 in
+        let here : n ≡ first = e.0 lt in
+        let are_here : AreListed f placesf first q = subst (λ m. AreListed f placesf m q) here are in
+        let rest_here : Grown (IsBelow first) w final = subst (λ m. Grown (IsBelow m) w final) here rest in
+        elim (cases_eq c d) [
+          | inl same ↦ subst CarriesAt (sym same)
+              (block_carries f once follow ends uses orderly avoids knows kept placesf final whole keeps branches blank begin start empty d lt p q s u w prev
+              walk begins are_here rest_here)
+          | inr ne ↦ all_carry (d + 1) p s prev end (edge_next f follow d lt)
+              (walk_listed (Made f) f orderly avoids knows kept follow ends placesf final d lt p s first q u walk are_here)
+              (grown_then (IsBelow end) s u final (grown_weaken (IsWithin first end) (IsBelow end) s u (λ m h. h.1)
+              (walk_grown (Made f) f orderly avoids knows kept follow d lt p s first q u walk))
+              (grown_then (IsBelow end) u w final (grown_weaken (λ m. m ≡ before first) (IsBelow end) u w (λ m h. omega (arith, h, some))
+              (begins_grown (λ m. m ≡ before first) (before first) refl (block_at f d).params u w begins))
+              (grown_weaken (IsBelow first) (IsBelow end) w final (λ m h. omega (arith, h, some)) rest_here)))
+              c (omega (arith, le, ne)) lc
+        ]
+
+-- a block that no function has carries nothing
+past_carries : (f : FunctionValue) (out : OutputValue) (slot : VirtualRegister → Option Place) (b : ℕ) → length f.blocks ≤ b →
+    BlockCarries f slot b (block_walked f out b)
+past_carries f out slot b le = λ silent v used excused.
+    let none : block_at f b ≡ no_block = get_or_past f.blocks b no_block le in
+    let first : ℕ = (block_at f b).range.first in
+    let many : (block_at f b).range.end - first ≡ 0 = ap (λ (x : BlockValue). x.range.end - x.range.first) none in
+    let nothing : block_walked f out b ≡ [] = ap (walked (inst_at f) (at_point out.edits) (allocs_of out) first) many
+    ∙ walked-none (inst_at f) (at_point out.edits) (allocs_of out) first in
+    subst (λ l. Carries v l (StandsBefore f slot b v) (StandsAfter f slot b v)) (sym nothing)
+    (carries_nil v (StandsBefore f slot b v) (StandsAfter f slot b v) (λ p e. absurd (nothing_after f slot b v p (ap (λ (x : BlockValue). x.succs) none) e)))
+
+-- Before the walk, with fresh tables.
+pub begin_between : (f : FunctionValue) (begin : StateValue) → Blank begin → Fit begin → Between (length f.insts) begin
+begin_between f begin empty fit = (let c = at_start (λ v. ⊥) (inst_at f) (λ j. []) (length f.insts) begin empty fit in
+    record { whole = c.whole; later = c.later; fit = c.fit; apart = c.apart })
+
+-- the first block begins at instruction 0
+pub first_edge : (f : FunctionValue) → BlocksFollow f → 0 < length f.blocks → IsEdge f 0 0
+first_edge f follow some = (λ h. sym ((follow 0 h).1 refl), λ e. absurd (omega (arith, some, e)))
+
+-- The walk begins blank, and its moves and places become the output's. If a branch keeps tables sound and carries what it has to, and every
+-- other instruction leaves slots to their vregs, each block carries what the law on paths wants.
+module _ (f : FunctionValue) (once : DefinedOnce f) (follow : BlocksFollow f) (ends : BlocksEnd f) (uses : UsesAreDefined f)
+    (orderly : (i : ℕ) → i < length f.insts → Orderly (inst_at f i).operands)
+    (avoids : (i : ℕ) → i < length f.insts → AvoidClobbers (inst_at f i).operands (inst_at f i).clobbers)
+    (knows : (i : ℕ) → i < length f.insts → Knows (Made f) (inst_at f i).operands) (kept : BranchKept f) (out : OutputValue) (last : StateValue)
+    (blank : List Place) (begin : StateValue)
+    (some : 0 < length f.blocks) (empty : Blank begin) (fit : Fit begin) (walks : AllocsBlocks f blank begin 0 out.allocs last)
+    (edits : out.edits ≡ listed last.edits)
+    (are_listed : AreListed f (allocs_of out) 0 out.allocs)
+    (keeps : KeepsSlots (Made f) f orderly avoids knows kept follow ends (allocs_of out) last)
+    (branches : BranchCarries f (allocs_of out) (slots_at last)) where
+  -- each block of the output carries what paths want of it
+  pub each_carries : (b : ℕ) → b < length f.blocks → BlockCarries f (λ u. slots_at last u.number) b (block_walked f out b)
+  each_carries b lb =
+      let start : Between (length f.insts) begin = begin_between f begin empty fit in
+      let whole : IsWhole last = (blocks_between (Made f) f orderly avoids knows kept follow blank begin start 0 out.allocs last walks 0
+      (first_edge f follow some)).whole in
+      subst (λ es. BlockCarries f (λ u. slots_at last u.number) b (walked (inst_at f) (at_point es) (allocs_of out) (block_at f b).range.first
+      ((block_at f b).range.end - (block_at f b).range.first))) (sym edits)
+      (all_carry f once follow ends uses orderly avoids knows kept (allocs_of out) last whole keeps branches blank begin start
+      (record { nowhere = empty.nowhere; nobody = empty.nobody }) 0 out.allocs last walks 0 (first_edge f follow some) are_listed
+      (grown_none (IsBelow 0) last last refl) b (omega arith) lb)
+
+  -- and so does each number past the blocks
+  pub all_blocks_carry : (b : ℕ) → BlockCarries f (λ u. slots_at last u.number) b (block_walked f out b)
+  all_blocks_carry b = elim (cases_lt b (length f.blocks)) [
+    | inl lt ↦ each_carries b lt
+    | inr le ↦ past_carries f out (λ u. slots_at last u.number) b le
+  ]
+    where
+      cases_lt : (m n : ℕ) → (m < n) ⊎ (n ≤ m)
+      cases_lt m n = grind (arith)

@@ -1,0 +1,130 @@
+-- What a block owes to the law on paths: from its last instruction, those before it and its beginning.
+use Rattle.std.proofs.Common.{ℕ, zero, suc, ◌≡◌, ◌+◌, ◌-◌, ◌<◌, ◌≤◌, ◌⊎◌, inl, inr, Bool, true, false, List, length, refl, ap, subst, arith}
+use Rattle.std.specs.Prelude.{Option, Some, ◌||◌}
+use Rattle.std.proofs.lemmas.Bool.{cases_eq}
+use Rattle.regalloc2_names.specs.Register.{Register, VirtualRegister}
+use Rattle.regalloc2_names.specs.Place.{Place, InRegister}
+use Rattle.regalloc2_names.specs.Point.{before}
+use Rattle.regalloc2_function.specs.FunctionValue.{FunctionValue, block_at, inst_at}
+use Rattle.regalloc2_function.specs.WellFormed.{DefinedOnce}
+use Rattle.regalloc2_semantics.specs.Carry.{Carries}
+use Rattle.regalloc2_semantics.specs.BlockByPoints.{at_point, walked, listed}
+use Rattle.regalloc2_semantics.specs.Instruction.{Knows}
+use Rattle.regalloc2_semantics.specs.Blocks.{IsUnwritten, StandsBefore}
+use Rattle.regalloc2_semantics.proofs.CarryRules.{carries_weaken}
+use Rattle.regalloc2_semantics.proofs.NotRead.{Unread}
+use Rattle.regalloc2_semantics.proofs.BlockBackward.{Relied}
+use Rattle.regalloc2_semantics.proofs.SingleDef.{DefinesAt, ReadsDefined}
+use Rattle.regalloc2_semantics.proofs.Order.{reads_later}
+use Rattle.regalloc2_fastalloc_proofs.specs.InstSteps.{StateValue}
+use Rattle.regalloc2_fastalloc_proofs.specs.BlockStart.{ReloadsAtBegin}
+use Rattle.regalloc2_fastalloc_proofs.proofs.Operands.RecordOverState.{stands_at, slots_at}
+use Rattle.regalloc2_fastalloc_proofs.proofs.Operands.RecordOfInst.{Orderly}
+use Rattle.regalloc2_fastalloc_proofs.proofs.Inst.BoundaryToFirstOperand.{AvoidClobbers}
+use Rattle.regalloc2_fastalloc_proofs.proofs.Operands.DefinedNumbers.{defined_by, defined_by-some}
+use Rattle.regalloc2_fastalloc_proofs.proofs.Inst.OneInstCarries.{Between}
+use Rattle.regalloc2_fastalloc_proofs.proofs.Walk.InstForOneVReg.{Leaves, undefined_by}
+use Rattle.regalloc2_fastalloc_proofs.proofs.Walk.InstsBeforeLastCarry.{defined_from, Goes, goes_between, goes_carried}
+use Rattle.regalloc2_fastalloc_proofs.proofs.BlockBegin.CarriesFromSlot.{entered_carried}
+
+-- what a stretch of instructions defines, one of them does
+pub defined_from-some : (f : FunctionValue) (x i n : ℕ) → defined_from f x i n ≡ true → (j : ℕ) × (i ≤ j) × (j < i + n)
+    × (defined_by (inst_at f j).operands x ≡ true)
+unfolding defined_from
+defined_from-some f x i zero h = absurd cc
+defined_from-some f x i (suc n) h = elim (either (defined_by (inst_at f i).operands x) (defined_from f x (i + 1) n) h) [
+  | inl is ↦ (i, omega arith, omega arith, is)
+  | inr g ↦ (let r = defined_from-some f x (i + 1) n g in (r.0, omega (arith, r.1), omega (arith, r.2), r.3))
+]
+  where
+    either : (a b : Bool) → (a || b) ≡ true → (a ≡ true) ⊎ (b ≡ true)
+    either true b h = inl refl
+    either false b h = inr h
+
+-- a vreg that none of n instructions defines isn't defined by any single one of them
+pub defined_from-none : (f : FunctionValue) (x i n : ℕ) → defined_from f x i n ≡ false → (j : ℕ) → i ≤ j → j < i + n →
+    defined_by (inst_at f j).operands x ≡ false
+unfolding defined_from
+defined_from-none f x i zero h j le lt = absurd (omega arith)
+defined_from-none f x i (suc n) h j le lt =
+    let p = both_false (defined_by (inst_at f i).operands x) (defined_from f x (i + 1) n) h in
+    elim (cases_eq i j) [
+      | inl e ↦ subst (λ k. defined_by (inst_at f k).operands x ≡ false) e p.0
+      | inr ne ↦ defined_from-none f x (i + 1) n p.1 j (omega arith) (omega arith)
+    ]
+  where
+    both_false : (a b : Bool) → (a || b) ≡ false → (a ≡ false) × (b ≡ false)
+    both_false true b h = absurd cc
+    both_false false b h = (refl, h)
+
+-- what defines a number
+pub defines_at : (f : FunctionValue) (x i : ℕ) → i < length f.insts → defined_by (inst_at f i).operands x ≡ true → (k : ℕ) × DefinesAt f x i k
+defines_at f x i lt h = let d = defined_by-some (inst_at f i).operands x h in (d.0, record { inst = lt; operand = d.1; definition = d.2; number = d.3 })
+
+-- before its definition nothing reads a vreg
+pub unread_before : (f : FunctionValue) → DefinedOnce f → (v : VirtualRegister) (i n : ℕ) → i < length f.insts → i + 1 + n ≤ length f.insts → ReadsDefined f i →
+    defined_from f v.number (i + 1) n ≡ true → Unread (inst_at f i).operands v
+unread_before f once v i n lt within reads h j less read is =
+    let d = defined_from-some f v.number (i + 1) n h in
+    let a = defines_at f v.number d.0 (omega (arith, d.2)) d.3 in
+    let later : d.0 < i = reads_later f once v.number d.0 a.0 i j a.1 lt reads less read (ap (λ (w : VirtualRegister). w.number) is) in
+    omega (arith, later, d.1)
+
+module _ (Known : VirtualRegister → Type 0) (f : FunctionValue) (placesf : ℕ → List Place)
+    (orderly : (i : ℕ) → i < length f.insts → Orderly (inst_at f i).operands)
+    (avoids : (i : ℕ) → i < length f.insts → AvoidClobbers (inst_at f i).operands (inst_at f i).clobbers)
+    (knows : (i : ℕ) → i < length f.insts → Knows Known (inst_at f i).operands) (once : DefinedOnce f) (reads : (i : ℕ) → i < length f.insts → ReadsDefined f i)
+    (F : ℕ → Option Place) (slot : (x : ℕ) (r : Register) → F x ≡ Some (InRegister r) → ⊥) (b : ℕ) where
+  -- the block's first instruction
+  abbrev pub first_of : ℕ
+  first_of = (block_at f b).range.first
+
+  -- each instruction leaves the slots of others that come now or later
+  abbrev pub EachLeaves : ℕ → StateValue → StateValue → Type 0
+  EachLeaves i t u = (v : VirtualRegister) → Known v → Leaves f placesf F v i t u
+
+  -- The walk over the block b: behind its last instruction the tables are begin, before its first one they are middle, and new where it begins.
+  pub record Walked (last : ℕ) (begin middle new : StateValue) : Type 0 where
+    pub end : last + 1 ≡ (block_at f b).range.end
+    pub some : first_of ≤ last
+    pub within : last < length f.insts
+    pub start : Between last begin
+    pub goes : Goes f placesf EachLeaves begin first_of last first_of middle
+    pub begins : ReloadsAtBegin (before first_of) (block_at f b).params middle new
+    pub returns : (i : ℕ) → first_of ≤ i → i < last → (inst_at f i).is_ret ≡ false
+    pub stays : (x : ℕ) (p : Place) → slots_at new x ≡ Some p → F x ≡ Some p
+
+  module _ (last : ℕ) (begin middle new : StateValue) (w : Walked last begin middle new) (v : VirtualRegister) (known : Known v) (E : Place → Type 0) where
+    -- whether the block writes v
+    abbrev pub written : Bool
+    written = defined_from f v.number first_of (suc (last - first_of))
+
+    -- what the last instruction carries
+    abbrev pub EndCarries : Type 0
+    EndCarries = Carries v (walked (inst_at f) (at_point (listed begin.edits)) placesf last 1)
+        (Relied (defined_from f v.number last 1) written (stands_at begin v.number) (slots_at begin v.number) (F v.number)) E
+
+    -- if its last instruction carries what is wanted behind the block, the whole block carries v from where paths have it before
+    pub block_owes : EndCarries → Carries v (walked (inst_at f) (at_point (listed new.edits)) placesf first_of (suc (last - first_of)))
+        (StandsBefore f (λ u. F u.number) b v) E
+    block_owes c =
+        let some : first_of ≤ last = w.some in
+        let within : last < length f.insts = w.within in
+        let between : Between first_of middle = goes_between Known f placesf orderly avoids knows EachLeaves begin first_of last (omega (arith, within)) w.start
+        first_of middle w.goes in
+        let carried : Carries v (walked (inst_at f) (at_point (listed middle.edits)) placesf first_of (suc (last - first_of)))
+        (Relied written written (stands_at middle v.number) (slots_at middle v.number) (F v.number)) E =
+        goes_carried Known f placesf orderly avoids knows EachLeaves begin first_of last (omega (arith, within)) w.start F v known written 1 E w.returns
+        (λ i ge lt none. defined_from-none f v.number first_of (suc (last - first_of)) none i ge (omega (arith, some)))
+        (λ i t u ge lt l. l v known) (λ i n ge lt count d. unread_before f once v i n (omega (arith, within)) (omega (arith, within, count))
+        (reads i (omega (arith, within))) d)
+        c first_of middle w.goes (suc (last - first_of)) (omega (arith, some)) in
+        carries_weaken v (walked (inst_at f) (at_point (listed new.edits)) placesf first_of (suc (last - first_of)))
+        (λ p. (written ≡ false) × (F v.number ≡ Some p)) (StandsBefore f (λ u. F u.number) b v) E E
+        (λ p h. (unwritten h.0, h.1)) (λ p h. h)
+        (entered_carried (inst_at f) placesf first_of (last - first_of) v E (block_at f b).params middle new w.begins between written (F v.number)
+        (slot v.number) (w.stays v.number) carried)
+      where
+        unwritten : written ≡ false → IsUnwritten f b v
+        unwritten none i ge lt = (let some : first_of ≤ last = w.some in let end : last + 1 ≡ (block_at f b).range.end = w.end in
+            undefined_by f placesf F v i (defined_from-none f v.number first_of (suc (last - first_of)) none i ge (omega (arith, some, end, lt))))

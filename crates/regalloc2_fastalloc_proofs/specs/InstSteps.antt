@@ -1,0 +1,344 @@
+-- What the steps of the walk do to the tables, with operands of every kind but `Limit`.
+use Rattle.std.specs.Prelude.{ℕ, ◌≡◌, ◌≢◌, ◌+◌, ◌<◌, ◌⊎◌, Bool, true, false, not, ◌&&◌, ◌||◌, List, [], ◌∷◌, ◌++◌, length, Option, None, Some}
+use Rattle.std.specs.Prelude.{slice_index, slice_index_or, slice_set, ◌-◌, ◌≤◌, nat_eq, is_none, if◌then◌else◌}
+use Rattle.regalloc2_names.specs.declared.RegClass.{RegClass}
+use Rattle.regalloc2_names.specs.declared.OperandConstraint.{OperandConstraint}
+use Rattle.regalloc2_names.specs.declared.OperandConstraint.TheVariants.{Any, Reg, Stack, FixedReg, Reuse, Limit}
+use Rattle.regalloc2_names.specs.declared.sets.PRegSet.{PRegSet}
+use Rattle.regalloc2_names.specs.Register.{Register, VirtualRegister, class_code, is_register}
+use Rattle.regalloc2_names.specs.RegisterSet.{has_register, registers_of}
+use Rattle.regalloc2_names.specs.Place.{is_memory, Place, NoPlace, InRegister, InSlot, is_place}
+use Rattle.regalloc2_names.specs.Operand.{OperandValue, is_def, is_late, is_reading, is_fixed_nonallocatable}
+use Rattle.regalloc2_names.specs.Point.{before, after}
+use Rattle.std.specs.List.{count_by}
+use Rattle.regalloc2_function.specs.Fitting.{is_under_reg}
+use Rattle.regalloc2_function.specs.FunctionValue.{InstValue}
+use Rattle.regalloc2_function.specs.OutputValue.{MoveValue}
+use Rattle.regalloc2_fastalloc_state.specs.StateParts.{VRegAllocsValue, SpillSlotsValue, alloc_of, vreg_of_preg, SetsAlloc, GetsSpillSlot, slot_name}
+use Rattle.regalloc2_fastalloc_state.specs.StateParts.{needs_scratch_reserve}
+use Rattle.regalloc2_fastalloc_state.specs.InstRegs.{IsAvailableAt, RemovesAvailable, SameAvailable, positions_of, both, awaited_of, free_count, is_free}
+use Rattle.regalloc2_fastalloc_state.specs.InstRegs.{is_free_throughout}
+use Rattle.regalloc2_validate.specs.Constraints.{op_at}
+use Rattle.regalloc2_fastalloc_state.specs.declared.inst_regs.InstRegs.{InstRegs}
+use Rattle.regalloc2_fastalloc_state.specs.declared.inst_regs.Positions.{Positions}
+use Rattle.regalloc2_fastalloc_state.specs.declared.request.Requirement.{Requirement}
+use Rattle.regalloc2_fastalloc_state.specs.declared.request.Requirement.TheVariants.{AnyPlace, AnyReg, InMemory, InPReg}
+use Rattle.regalloc2_fastalloc_state.specs.declared.request.OperandRequest.{OperandRequest}
+
+-- the tables of the walk; the moves in the order in which they were pushed; the machine's registers
+pub record StateValue : Type 0 where
+  pub places : VRegAllocsValue
+  pub slots : SpillSlotsValue
+  pub edits : List (ℕ × MoveValue)
+  pub allocatable : PRegSet
+  pub fixed_stack : PRegSet
+  pub dedicated_scratch : List (Option Register)
+
+-- the machine's registers stay, and so do the sizes of slots, the number of vregs, and how many temporary slots there are
+pub record SameMachine (old new : StateValue) : Type 0 where
+  pub allocatable : new.allocatable ≡ old.allocatable
+  pub fixed_stack : new.fixed_stack ≡ old.fixed_stack
+  pub dedicated_scratch : new.dedicated_scratch ≡ old.dedicated_scratch
+  pub sizes : new.slots.sizes ≡ old.slots.sizes
+  pub vregs : length new.slots.vreg_spillslots ≡ length old.slots.vreg_spillslots
+  pub num_temp_slots : new.slots.num_temp_slots ≡ old.slots.num_temp_slots
+
+-- a move at a point
+abbrev pub a_move : ℕ → Place → Place → ℕ × MoveValue
+a_move point from to = (point, record { from = from; to = to })
+
+-- a place in memory
+abbrev pub is_stack_in : StateValue → Place → Bool
+is_stack_in t p = is_memory t.fixed_stack p
+
+-- a register that may hold values of a class
+pub record MayHold (t : StateValue) (class : RegClass) (r : Register) : Type 0 where
+  pub of_class : r.class ≡ class
+  pub small : r.number < 64
+  pub allocatable : has_register t.allocatable r ≡ true
+
+-- an allocatable register is emptied: the vreg that is there is in its slot from now on, and is reloaded from there at the point
+pub data EvictsVReg (point : ℕ) (r : Register) (old new : StateValue) : Type 0 where
+  nobody : vreg_of_preg old.places r ≡ None → new ≡ old → EvictsVReg point r old new
+  moved : (v : VirtualRegister) (s : Place) → r.number < 64 → vreg_of_preg old.places r ≡ Some v → GetsSpillSlot old.slots new.slots v s →
+      SetsAlloc old.places new.places v s
+      → new.edits ≡ old.edits ++ a_move point s (InRegister r) ∷ [] → SameMachine old new → EvictsVReg point r old new
+
+-- the register through which moves of a class from stack to stack go at an instruction
+pub data AllocsScratchReg (point : ℕ) (class : RegClass) (t u : InstRegs) (by : Register) (old new : StateValue) : Type 0 where
+  dedicated_scratch : slice_index_or old.dedicated_scratch (class_code class) None ≡ Some by → u ≡ t → new ≡ old → AllocsScratchReg point class t u by old new
+  had : slice_index_or old.dedicated_scratch (class_code class) None ≡ None → slice_index_or t.scratch (class_code class) None ≡ Some by → u ≡ t → new ≡ old →
+      AllocsScratchReg point class t u by old new
+  found : slice_index_or old.dedicated_scratch (class_code class) None ≡ None → slice_index_or t.scratch (class_code class) None ≡ None → MayHold old class by
+      → has_register t.early by ≡ true → has_register t.late by ≡ true
+      → ((q : Register) → has_register u.early q ≡ not (is_register by q) && has_register t.early q) →
+      ((q : Register) → has_register u.late q ≡ not (is_register by q) && has_register t.late q)
+      → u.scratch ≡ slice_set t.scratch (class_code class) (Some by) → EvictsVReg point by old new → AllocsScratchReg point class t u by old new
+
+-- one more move, listed before all others, by way of a register where both ends are places in memory
+pub data AddsMove (point : ℕ) (class : RegClass) (from to : Place) (t u : InstRegs) (old new : StateValue) : Type 0 where
+  direct : (is_stack_in old from && is_stack_in old to) ≡ false → u ≡ t → new ≡ record old { edits = old.edits ++ a_move point from to ∷ [] } →
+      AddsMove point class from to t u old new
+  through : (by : Register) (m : StateValue) → (is_stack_in old from && is_stack_in old to) ≡ true → AllocsScratchReg point class t u by old m
+      → new ≡ record m { edits = m.edits ++ a_move point (InRegister by) to ∷ a_move point from (InRegister by) ∷ [] }
+      → AddsMove point class from to t u old new
+
+-- a register or fixed stack slot is emptied
+pub data EvictsPReg (point : ℕ) (r : Register) (t u : InstRegs) (old new : StateValue) : Type 0 where
+  empty : vreg_of_preg old.places r ≡ None → u ≡ t → new ≡ old → EvictsPReg point r t u old new
+  cleared : (v : VirtualRegister) (s : Place) (m : StateValue) → r.number < 64 → vreg_of_preg old.places r ≡ Some v → GetsSpillSlot old.slots m.slots v s →
+      SetsAlloc old.places m.places v s → m.edits ≡ old.edits → SameMachine old m
+      → AddsMove point v.class s (InRegister r) t u m new → EvictsPReg point r t u old new
+
+-- and of all vregs but that of one number
+pub data EvictsOthers (point : ℕ) (r : Register) (v : VirtualRegister) (t u : InstRegs) (old new : StateValue) : Type 0 where
+  own : (w : VirtualRegister) → vreg_of_preg old.places r ≡ Some w → w.number ≡ v.number → u ≡ t → new ≡ old → EvictsOthers point r v t u old new
+  others : ((w : VirtualRegister) → vreg_of_preg old.places r ≡ Some w → w.number ≢ v.number) → EvictsPReg point r t u old new
+      → EvictsOthers point r v t u old new
+
+-- a place meets what is asked
+unfoldable pub MeetsRequirement : StateValue → Requirement → Place → Type 0
+MeetsRequirement t AnyPlace p = p ≢ NoPlace
+MeetsRequirement t AnyReg p = (r : Register) × (p ≡ InRegister r) × (is_stack_in t p ≡ false)
+MeetsRequirement t InMemory p = is_stack_in t p ≡ true
+MeetsRequirement t (InPReg r) p = p ≡ InRegister r
+
+-- The place of an operand, before it is claimed: where its vreg is located; or the register that it asks for; or its slot; or a register that is free.
+pub data SelectsPlace (inst_regs : InstRegs) (o : OperandRequest) (p : Place) (old new : StateValue) : Type 0 where
+  stays : alloc_of old.places o.vreg.number ≡ p → MeetsRequirement old o.requirement p → new ≡ old → SelectsPlace inst_regs o p old new
+  fixed : (r : Register) → o.requirement ≡ InPReg r → p ≡ InRegister r → new ≡ old → SelectsPlace inst_regs o p old new
+  slot : (o.requirement ≡ AnyPlace) ⊎ (o.requirement ≡ InMemory) → GetsSpillSlot old.slots new.slots o.vreg p → new.places ≡ old.places →
+      new.edits ≡ old.edits → SameMachine old new → SelectsPlace inst_regs o p old new
+  free : (r : Register) → (o.requirement ≡ AnyPlace) ⊎ (o.requirement ≡ AnyReg) → MayHold old o.vreg.class r → IsAvailableAt inst_regs o.positions r →
+      p ≡ InRegister r → new ≡ old → SelectsPlace inst_regs o p old new
+
+-- how many registers of a class are still kept for a move from stack to stack: none once one was taken for such moves
+abbrev pub scratch_reserve_left : PRegSet → List (Option Register) → InstRegs → RegClass → ℕ
+scratch_reserve_left stack kept inst_regs class = if needs_scratch_reserve stack kept class && is_none
+    (slice_index_or inst_regs.scratch (class_code class) None) then 1 else 0
+
+-- if a register that is free at both positions is taken, enough are left for the operands that ask for any register and for a move from stack to stack
+abbrev pub IsAffordable : InstRegs → StateValue → Register → Type 0
+IsAffordable inst_regs t r = is_free t.allocatable inst_regs r ≡ true →
+    awaited_of inst_regs r.class + scratch_reserve_left t.fixed_stack t.dedicated_scratch inst_regs r.class + 1 ≤ free_count t.allocatable inst_regs r.class
+
+-- how many operands of each class still ask for any register, once one that asked so is placed
+abbrev pub awaited_less : Requirement → RegClass → List ℕ → List ℕ
+awaited_less AnyPlace class awaited = awaited
+awaited_less AnyReg class awaited = slice_set awaited (class_code class) (slice_index awaited (class_code class) - 1)
+awaited_less InMemory class awaited = awaited
+awaited_less (InPReg r) class awaited = awaited
+
+-- a place is claimed: a register is emptied of others, and is held
+pub data ClaimsPlace (point : ℕ) (o : OperandRequest) (p : Place) (t u : InstRegs) (old new : StateValue) : Type 0 where
+  in_slot : (k : ℕ) → p ≡ InSlot k → SameAvailable t u → new ≡ old → ClaimsPlace point o p t u old new
+  in_register : (r : Register) (m : InstRegs) → p ≡ InRegister r → EvictsOthers point r o.vreg t m old new → RemovesAvailable m u r o.positions
+      → ClaimsPlace point o p t u old new
+
+-- an operand gets a place
+pub record AllocsOperand (point : ℕ) (o : OperandRequest) (p : Place) (t u : InstRegs) (old new : StateValue) : Type 0 where
+  pub middle : StateValue
+  pub picks : SelectsPlace t o p old middle
+  pub occupies : ClaimsPlace point o p t u middle new
+  pub affordable : o.requirement ≡ AnyPlace → (r : Register) → p ≡ InRegister r → IsAffordable t old r
+
+-- a move that is made unless it goes nowhere
+pub data AddsMoveIf (point : ℕ) (class : RegClass) (is_made : Bool) (from to : Place) (t u : InstRegs) (old new : StateValue) : Type 0 where
+  sent : is_made ≡ true → AddsMove point class from to t u old new → AddsMoveIf point class is_made from to t u old new
+  unsent : is_made ≡ false → u ≡ t → new ≡ old → AddsMoveIf point class is_made from to t u old new
+
+-- whether a place is there, and isn't that other one
+abbrev pub is_another : Place → Place → Bool
+is_another p q = not (is_place p NoPlace) && not (is_place p q)
+
+-- the definition of a vreg in a place: it leaves the tables, and is moved to where it was awaited and to its slot; a return sends nothing
+pub record FreesDef (point : ℕ) (v : VirtualRegister) (is_ret : Bool) (p : Place) (t u : InstRegs) (old new : StateValue) : Type 0 where
+  pub left : StateValue
+  pub inst_regs : InstRegs
+  pub middle : StateValue
+  pub settles : SetsAlloc old.places left.places v NoPlace
+  pub slots : left.slots ≡ old.slots
+  pub edits : left.edits ≡ old.edits
+  pub machine : SameMachine old left
+  pub awaited : AddsMoveIf point v.class (not is_ret && is_another (alloc_of old.places v.number) p) p (alloc_of old.places v.number) t inst_regs left middle
+  pub stored : (let s : Place = slot_name old.slots v.number in AddsMoveIf point v.class
+      (not is_ret && (is_another s p && not (is_place s (alloc_of old.places v.number)))) p s inst_regs u middle new)
+
+-- the use of a vreg in a place: it is there from now on if it had no location
+pub data LocatesUse (v : VirtualRegister) (p : Place) (old new : StateValue) : Type 0 where
+  stays : alloc_of old.places v.number ≢ NoPlace → new ≡ old → LocatesUse v p old new
+  located : alloc_of old.places v.number ≡ NoPlace → SetsAlloc old.places new.places v p → new.slots ≡ old.slots → new.edits ≡ old.edits → SameMachine old new →
+      LocatesUse v p old new
+
+-- an operand is allocated
+pub record AllocsDefOp (point : ℕ) (o : OperandRequest) (is_ret : Bool) (p : Place) (t u : InstRegs) (old new : StateValue) : Type 0 where
+  pub inst_regs : InstRegs
+  pub middle : StateValue
+  pub gets : AllocsOperand point o p t inst_regs old middle
+  pub defines : FreesDef point o.vreg is_ret p inst_regs u middle new
+  pub awaited : u.awaited ≡ awaited_less o.requirement o.vreg.class t.awaited
+
+pub record AllocsUse (point : ℕ) (o : OperandRequest) (p : Place) (t u : InstRegs) (old new : StateValue) : Type 0 where
+  pub middle : StateValue
+  pub gets : AllocsOperand point o p t u old middle
+  pub uses : LocatesUse o.vreg p middle new
+  pub awaited : u.awaited ≡ awaited_less o.requirement o.vreg.class t.awaited
+
+-- each operand that reads or defines names a vreg of the tables
+abbrev pub InTables : List OperandValue → StateValue → Type 0
+InTables operands t = (k : ℕ) → k < length operands → is_fixed_nonallocatable (op_at operands k) ≡ false →
+    (op_at operands k).vreg.number < length t.places.vreg_allocs
+
+-- what the constraint of an operand that isn't a reuse asks
+abbrev pub requirement_of : OperandConstraint → Requirement
+requirement_of Any = AnyPlace
+requirement_of Reg = AnyReg
+requirement_of Stack = InMemory
+requirement_of (FixedReg r) = InPReg r
+requirement_of (Reuse n) = AnyReg
+requirement_of (Limit n) = AnyReg
+
+-- what a reuse asks: what the operand that it names asks
+abbrev pub reuse_requirement_of : OperandConstraint → Requirement
+reuse_requirement_of Any = AnyReg
+reuse_requirement_of Reg = AnyReg
+reuse_requirement_of Stack = AnyReg
+reuse_requirement_of (FixedReg r) = InPReg r
+reuse_requirement_of (Reuse n) = AnyReg
+reuse_requirement_of (Limit n) = AnyReg
+
+-- an operand as it is allocated; a use for which a reuse has chosen a register asks for that one
+abbrev pub use_request : OperandValue → Place → OperandRequest
+use_request o (InRegister r) = record { vreg = o.vreg; requirement = InPReg r; positions = positions_of o; is_def = false }
+use_request o NoPlace = record { vreg = o.vreg; requirement = requirement_of o.constraint; positions = positions_of o; is_def = false }
+use_request o (InSlot n) = record { vreg = o.vreg; requirement = requirement_of o.constraint; positions = positions_of o; is_def = false }
+
+abbrev pub def_request : OperandValue → OperandRequest
+def_request o = record { vreg = o.vreg; requirement = requirement_of o.constraint; positions = positions_of o; is_def = true }
+
+abbrev pub reuse_request : OperandValue → OperandValue → OperandRequest
+reuse_request o named = record { vreg = o.vreg; requirement = reuse_requirement_of named.constraint; positions = both; is_def = true }
+
+-- an operand is allocated; here has the places of the instruction before, there after
+pub data ProcessesOperand (i : ℕ) (is_ret : Bool) (operands : List OperandValue) (k : ℕ) (here there : List Place) (t u : InstRegs)
+    (old new : StateValue) : Type 0 where
+  a_register : (r : Register) → is_fixed_nonallocatable (op_at operands k) ≡ true → (op_at operands k).constraint ≡ FixedReg r →
+      there ≡ slice_set here k (InRegister r) → u ≡ t → new ≡ old
+      → ProcessesOperand i is_ret operands k here there t u old new
+  a_use : (p : Place) → is_reading (op_at operands k) ≡ true → AllocsUse (after i) (use_request (op_at operands k) (slice_index_or here k NoPlace)) p t u old
+      new → there ≡ slice_set here k p
+      → ProcessesOperand i is_ret operands k here there t u old new
+  a_def : (p : Place) → is_def (op_at operands k).kind ≡ true → ((n : ℕ) → (op_at operands k).constraint ≡ Reuse n → ⊥) →
+      AllocsDefOp (after i) (def_request (op_at operands k)) is_ret p t u old new → there ≡ slice_set here k p
+      → ProcessesOperand i is_ret operands k here there t u old new
+  a_reuse : (n : ℕ) (p : Place) → is_def (op_at operands k).kind ≡ true → (op_at operands k).constraint ≡ Reuse n →
+      AllocsDefOp (after i) (reuse_request (op_at operands k) (op_at operands n)) is_ret p t u old new
+      → there ≡ slice_set (slice_set here k p) n p → ProcessesOperand i is_ret operands k here there t u old new
+
+-- the operands of one position among the first k are placed, one after another
+pub data ProcessesOperandsAt (i : ℕ) (is_ret late : Bool) (operands : List OperandValue) (here : List Place) (t : InstRegs) (old : StateValue) : ℕ →
+    List Place → InstRegs → StateValue → Type 0 where
+  none_placed : ProcessesOperandsAt i is_ret late operands here t old 0 here t old
+  of_other : (k : ℕ) (there : List Place) (u : InstRegs) (m : StateValue) → ProcessesOperandsAt i is_ret late operands here t old k there u m →
+      (is_late (op_at operands k).position ≡ late → ⊥) → ProcessesOperandsAt i is_ret late operands here t old (k + 1) there u m
+  one_placed : (k : ℕ) (there next : List Place) (u w : InstRegs) (m n : StateValue) → ProcessesOperandsAt i is_ret late operands here t old k there u m →
+      is_late (op_at operands k).position ≡ late
+      → ProcessesOperand i is_ret operands k there next u w m n → ProcessesOperandsAt i is_ret late operands here t old (k + 1) next w n
+
+-- the uses among the first k operands that read are moved to their places from where their vregs are located
+pub data MovesUses (point : ℕ) (operands : List OperandValue) (here : List Place) (t : InstRegs) (old : StateValue) : ℕ → InstRegs → StateValue → Type 0 where
+  none_moved : MovesUses point operands here t old 0 t old
+  not_moved : (k : ℕ) (u : InstRegs) (m : StateValue) → MovesUses point operands here t old k u m → is_reading (op_at operands k) ≡ false →
+      MovesUses point operands here t old (k + 1) u m
+  one_moved : (k : ℕ) (u w : InstRegs) (m n : StateValue) → MovesUses point operands here t old k u m → is_reading (op_at operands k) ≡ true
+      → (let p : Place = slice_index_or here k NoPlace in let q : Place = alloc_of m.places (op_at operands k).vreg.number in
+      AddsMoveIf point (op_at operands k).vreg.class (not (is_place q p)) q p u w m n)
+      → MovesUses point operands here t old (k + 1) w n
+
+-- what an operand claims before operands are allocated: its fixed register, where it isn't one that reads nothing; and for a reuse that of
+-- the operand that it names, while late operands are there
+pub data NeedsFixedReg (operands : List OperandValue) (k : ℕ) (r : Register) (p : Positions) : Type 0 where
+  own : is_fixed_nonallocatable (op_at operands k) ≡ false → (op_at operands k).constraint ≡ FixedReg r → p ≡ positions_of (op_at operands k) →
+      NeedsFixedReg operands k r p
+  named : (n : ℕ) → (op_at operands k).constraint ≡ Reuse n → n < length operands → (op_at operands n).constraint ≡ FixedReg r →
+      p ≡ record { early = false; late = true } → NeedsFixedReg operands k r p
+
+-- whether an operand asks for any register of a class, and how many do
+abbrev pub asks : RegClass → OperandValue → Bool
+asks class o = is_under_reg o.constraint && nat_eq (class_code o.vreg.class) (class_code class)
+
+abbrev pub asking : List OperandValue → RegClass → ℕ
+asking operands class = count_by (asks class) operands
+
+-- an operand is fixed to the register
+abbrev pub IsFixedIn : List OperandValue → Register → Type 0
+IsFixedIn operands r = (k : ℕ) × (k < length operands) × ((op_at operands k).constraint ≡ FixedReg r)
+
+-- the registers that operands claim before they are placed are held, and differ where they share a position; no table changes
+pub record ReservesRegs (operands : List OperandValue) (t u : InstRegs) (old : StateValue) : Type 0 where
+  pub known : (k : ℕ) (r : Register) (p : Positions) → k < length operands → NeedsFixedReg operands k r p → (has_register old.allocatable r ≡ true)
+      ⊎ (has_register old.fixed_stack r ≡ true)
+  pub held_early : (k : ℕ) (r : Register) (p : Positions) → k < length operands → NeedsFixedReg operands k r p → p.early ≡ true → has_register u.early r ≡ false
+  pub held_late : (k : ℕ) (r : Register) (p : Positions) → k < length operands → NeedsFixedReg operands k r p → p.late ≡ true → has_register u.late r ≡ false
+  pub apart : (j k : ℕ) (r : Register) (p q : Positions) → j < length operands → k < length operands → NeedsFixedReg operands j r p →
+      NeedsFixedReg operands k r q → ((p.early && q.early) || (p.late && q.late)) ≡ true → j ≡ k
+  pub early : (r : Register) → has_register u.early r ≡ true → has_register t.early r ≡ true
+  pub late : (r : Register) → has_register u.late r ≡ true → has_register t.late r ≡ true
+  pub scratch : u.scratch ≡ t.scratch
+  pub only : (r : Register) → is_free_throughout t r ≡ true → is_free_throughout u r ≡ false → IsFixedIn operands r
+  pub awaited : t.awaited ≡ 0 ∷ 0 ∷ 0 ∷ [] → (c : RegClass) → awaited_of u c ≡ asking operands c
+
+-- the clobbers are held while late operands are there
+pub record RemovesClobbers (clobbers : PRegSet) (t u : InstRegs) : Type 0 where
+  pub late : (r : Register) → has_register u.late r ≡ not (has_register clobbers r) && has_register t.late r
+  pub early : (r : Register) → has_register u.early r ≡ has_register t.early r
+  pub scratch : u.scratch ≡ t.scratch
+  pub awaited : u.awaited ≡ t.awaited
+
+-- the fixed registers of the first k operands are emptied of all vregs but each operand's own, and those that reuses share with fixed uses of all
+pub data EvictsFixed (point : ℕ) (operands : List OperandValue) (t : InstRegs) (old : StateValue) : ℕ → InstRegs → StateValue → Type 0 where
+  none_cleared : EvictsFixed point operands t old 0 t old
+  not_fixed : (k : ℕ) (u : InstRegs) (m : StateValue) → EvictsFixed point operands t old k u m
+      → ((r : Register) → (op_at operands k).constraint ≡ FixedReg r → ⊥)
+      → ((n : ℕ) (r : Register) → (op_at operands k).constraint ≡ Reuse n → n < length operands → (op_at operands n).constraint ≡ FixedReg r → ⊥) →
+      EvictsFixed point operands t old (k + 1) u m
+  of_fixed : (k : ℕ) (r : Register) (u w : InstRegs) (m n : StateValue) → EvictsFixed point operands t old k u m → (op_at operands k).constraint ≡ FixedReg r →
+      EvictsOthers point r (op_at operands k).vreg u w m n → EvictsFixed point operands t old (k + 1) w n
+  of_reuse : (k j : ℕ) (r : Register) (u w : InstRegs) (m n : StateValue) → EvictsFixed point operands t old k u m → (op_at operands k).constraint ≡ Reuse j →
+      j < length operands → (op_at operands j).constraint ≡ FixedReg r
+      → EvictsPReg point r u w m n → EvictsFixed point operands t old (k + 1) w n
+
+-- registers are emptied, one after another
+pub data EvictsEach (point : ℕ) : List Register → InstRegs → StateValue → InstRegs → StateValue → Type 0 where
+  none_left : (t : InstRegs) (m : StateValue) → EvictsEach point [] t m t m
+  one_more : (r : Register) (rs : List Register) (t u w : InstRegs) (old m new : StateValue) → EvictsPReg point r t u old m → EvictsEach point rs u m w new →
+      EvictsEach point (r ∷ rs) t old w new
+
+-- An instruction is allocated: fixed registers and clobbers are taken and emptied; late operands are allocated, then early ones; then uses are moved.
+pub record AllocsInst (i : ℕ) (inst : InstValue) (blank places : List Place) (old new : StateValue) : Type 0 where
+  pub began : InstRegs
+  pub reserved : InstRegs
+  pub held : InstRegs
+  pub cleared : InstRegs
+  pub quiet : InstRegs
+  pub late : InstRegs
+  pub early : InstRegs
+  pub ended : InstRegs
+  pub after_fixed : StateValue
+  pub after_clobbers : StateValue
+  pub after_late : StateValue
+  pub after_early : StateValue
+  pub half : List Place
+  pub long : length blank ≡ length inst.operands
+  pub no_places : (k : ℕ) → slice_index_or blank k NoPlace ≡ NoPlace
+  pub begins_early : (r : Register) → has_register began.early r ≡ (has_register old.allocatable r || has_register old.fixed_stack r)
+  pub begins_late : (r : Register) → has_register began.late r ≡ (has_register old.allocatable r || has_register old.fixed_stack r)
+  pub begins_scratch : began.scratch ≡ None ∷ None ∷ None ∷ []
+  pub awaited : (c : RegClass) → awaited_of quiet c ≡ asking inst.operands c
+  pub reserves : ReservesRegs inst.operands began reserved old
+  pub holds : RemovesClobbers inst.clobbers reserved held
+  pub fixed : EvictsFixed (after i) inst.operands held old (length inst.operands) cleared after_fixed
+  pub clobbers : EvictsEach (after i) (registers_of inst.clobbers) cleared after_fixed quiet after_clobbers
+  pub lates : ProcessesOperandsAt i inst.is_ret true inst.operands blank quiet after_clobbers (length inst.operands) half late after_late
+  pub earlies : ProcessesOperandsAt i inst.is_ret false inst.operands half late after_late (length inst.operands) places early after_early
+  pub moves : MovesUses (before i) inst.operands places early after_early (length inst.operands) ended new

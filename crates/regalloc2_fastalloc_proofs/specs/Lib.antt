@@ -1,0 +1,7 @@
+pub mod BlockStart
+pub mod BranchSteps
+pub mod SlotLayout
+pub mod Safety
+pub mod InstSteps
+pub mod OutOfRegs
+pub mod BlockSteps

@@ -1,0 +1,90 @@
+-- What holds of the tables all along the walk, with operands of every kind but `Limit`.
+use Rattle.std.specs.Prelude.{ℕ, ◌≡◌, ◌≢◌, ◌<◌, ◌⊎◌, true, All, length, slice_index_or, None, Some}
+use Rattle.regalloc2_names.specs.declared.RegClass.{RegClass}
+use Rattle.regalloc2_names.specs.Register.{Register, VirtualRegister, class_code}
+use Rattle.regalloc2_names.specs.RegisterSet.{has_register}
+use Rattle.regalloc2_names.specs.Place.{Place, NoPlace, InRegister, InSlot}
+use Rattle.regalloc2_function.specs.Machine.{MachineValue, is_allocatable, scratch_of, IsFixedStackSlot}
+use Rattle.regalloc2_function.specs.OutputValue.{MoveValue}
+use Rattle.regalloc2_function.specs.Faithful.{IsStackToStack}
+use Rattle.regalloc2_fastalloc_state.specs.declared.inst_regs.InstRegs.{InstRegs}
+use Rattle.regalloc2_fastalloc_state.specs.StateParts.{SpillSlotsValue, alloc_of, vreg_of_preg, slot_name, units_of, IsSlotOrNone}
+use Rattle.regalloc2_fastalloc_proofs.specs.InstSteps.{StateValue}
+
+-- a register where values may be: an allocatable one, or a fixed stack slot
+abbrev pub IsOfMachine : MachineValue → Register → Type 0
+IsOfMachine env r = (is_allocatable env r.class r ≡ true) ⊎ IsFixedStackSlot env r
+
+-- a place where a vreg may be: such a register of its class, or its own slot
+abbrev pub MayBeLocatedAt : MachineValue → SpillSlotsValue → VirtualRegister → Place → Type 0
+MayBeLocatedAt env slots v NoPlace = ⊥
+MayBeLocatedAt env slots v (InRegister r) = IsOfMachine env r × (r.class ≡ v.class)
+MayBeLocatedAt env slots v (InSlot n) = slot_name slots v.number ≡ InSlot n
+
+abbrev pub MayBeLocatedAtOrNone : MachineValue → SpillSlotsValue → VirtualRegister → Place → Type 0
+MayBeLocatedAtOrNone env slots v NoPlace = Unit {0}
+MayBeLocatedAtOrNone env slots v (InRegister r) = IsOfMachine env r × (r.class ≡ v.class)
+MayBeLocatedAtOrNone env slots v (InSlot n) = slot_name slots v.number ≡ InSlot n
+
+-- an end of a move of a vreg's value: such a place, or the register that is kept for moves of its class
+abbrev pub IsEndOfMove : MachineValue → SpillSlotsValue → VirtualRegister → Place → Type 0
+IsEndOfMove env slots v NoPlace = ⊥
+IsEndOfMove env slots v (InRegister r) = (IsOfMachine env r × (r.class ≡ v.class)) ⊎ (scratch_of env v.class ≡ Some r)
+IsEndOfMove env slots v (InSlot n) = slot_name slots v.number ≡ InSlot n
+
+-- a move of a known vreg's value between such ends; into a slot only where Writes lets its vreg's value be written there
+pub record IsMoveOfValue (env : MachineValue) (Known : VirtualRegister → Type 0) (Writes : ℕ → VirtualRegister → ℕ → Type 0) (slots : SpillSlotsValue)
+    (e : ℕ × MoveValue) : Type 0 where
+  pub vreg : VirtualRegister
+  pub known : Known vreg
+  pub from : IsEndOfMove env slots vreg e.1.from
+  pub to : IsEndOfMove env slots vreg e.1.to
+  pub written : (n : ℕ) → e.1.to ≡ InSlot n → Writes e.0 vreg n
+
+-- a register through which moves of a class go: an allocatable one, or the one that is kept for them
+abbrev pub IsThrough : MachineValue → RegClass → Register → Type 0
+IsThrough env class r = ((is_allocatable env r.class r ≡ true) × (r.class ≡ class)) ⊎ (scratch_of env class ≡ Some r)
+
+-- an end of a move of a branch's arguments: such a register, or a slot, a vreg's or a temporary one
+abbrev pub IsEndOfArgMove : MachineValue → SpillSlotsValue → RegClass → Place → Type 0
+IsEndOfArgMove env slots class NoPlace = ⊥
+IsEndOfArgMove env slots class (InRegister r) = IsThrough env class r
+IsEndOfArgMove env slots class (InSlot n) = n < slots.count
+
+-- a move of a branch's arguments of a class; into a known vreg's slot where Writes lets its value be written there, or into one that is no vreg's
+pub record IsArgMove (env : MachineValue) (Known : VirtualRegister → Type 0) (Writes : ℕ → VirtualRegister → ℕ → Type 0) (slots : SpillSlotsValue)
+    (e : ℕ × MoveValue) : Type 0 where
+  pub class : RegClass
+  pub from : IsEndOfArgMove env slots class e.1.from
+  pub to : IsEndOfArgMove env slots class e.1.to
+  pub written : (n : ℕ) → e.1.to ≡ InSlot n → ((v : VirtualRegister) × Known v × (slot_name slots v.number ≡ InSlot n) × Writes e.0 v n)
+      ⊎ ((v : VirtualRegister) → Known v → slot_name slots v.number ≢ InSlot n)
+
+-- a move of either kind, not from a place in memory to another, at a point where moves may be
+pub record IsSafeEdit (env : MachineValue) (Known : VirtualRegister → Type 0) (Writes : ℕ → VirtualRegister → ℕ → Type 0) (slots : SpillSlotsValue)
+    (May : ℕ → Type 0) (e : ℕ × MoveValue) : Type 0 where
+  pub moves : IsMoveOfValue env Known Writes slots e ⊎ IsArgMove env Known Writes slots e
+  pub not_both : IsStackToStack env e.1 → ⊥
+  pub point : May e.0
+
+-- the tables have the machine's registers
+pub record HasMachine (env : MachineValue) (t : StateValue) : Type 0 where
+  pub allocatable : (r : Register) → r.number < 64 → has_register t.allocatable r ≡ true → is_allocatable env r.class r ≡ true
+  pub fixed_stack : (r : Register) → has_register t.fixed_stack r ≡ true → IsFixedStackSlot env r
+  pub memory : (r : Register) → IsFixedStackSlot env r → has_register t.fixed_stack r ≡ true
+  pub dedicated_scratch : (c : RegClass) (r : Register) → slice_index_or t.dedicated_scratch (class_code c) None ≡ Some r → scratch_of env c ≡ Some r
+
+-- any vreg that is known is where it may, or nowhere; registers hold no other vreg; slots and moves are in order, and each slot takes a unit at least
+pub record IsSafe (env : MachineValue) (Known : VirtualRegister → Type 0) (Writes : ℕ → VirtualRegister → ℕ → Type 0) (May : ℕ → Type 0) (t : StateValue) : Type
+    0 where
+  pub machine : HasMachine env t
+  pub places : (v : VirtualRegister) → Known v → MayBeLocatedAtOrNone env t.slots v (alloc_of t.places v.number)
+  pub holders : (r : Register) (v : VirtualRegister) → r.number < 64 → vreg_of_preg t.places r ≡ Some v → Known v × IsOfMachine env r × (r.class ≡ v.class)
+  pub slots : (n : ℕ) → IsSlotOrNone t.slots.count (slot_name t.slots n)
+  pub units : (c : RegClass) → 0 < units_of t.slots c
+  pub edits : All (IsSafeEdit env Known Writes t.slots May) t.edits
+
+-- moves from stack to stack go through allocatable registers of their class, where the machine has none of its own for them
+pub record AreSafeRegs (env : MachineValue) (t : InstRegs) : Type 0 where
+  pub three : length t.scratch ≡ 3
+  pub scratch : (c : RegClass) (r : Register) → slice_index_or t.scratch (class_code c) None ≡ Some r → (is_allocatable env r.class r ≡ true) × (r.class ≡ c)

@@ -1,0 +1,75 @@
+-- The slots that were made, newest first, each with its owner and the units that it stands for.
+use Rattle.std.specs.Prelude.{ℕ, ◌≡◌, ◌≢◌, ◌+◌, ◌-◌, ◌%◌, ◌<◌, ◌≤◌, Bool, true, List, All, Contains, length, slice_index, slice_index_or, if◌then◌else◌}
+use Rattle.regalloc2_names.specs.Register.{VirtualRegister, class_code}
+use Rattle.regalloc2_names.specs.declared.RegClass.{RegClass}
+use Rattle.regalloc2_names.specs.Place.{Place, NoPlace, InRegister, InSlot}
+use Rattle.regalloc2_function.specs.OutputValue.{MoveValue}
+use Rattle.regalloc2_function.specs.Slots.{Owner, OfVReg, class_of_owner}
+use Rattle.regalloc2_fastalloc_state.specs.StateParts.{SpillSlotsValue, slot_name}
+
+-- a slot that was made: whose it is, and its name
+pub record OwnedSlot : Type 0 where
+  pub owner : Owner
+  pub name : ℕ
+
+-- how many units it takes, and the first of them
+abbrev pub units_in : List ℕ → Owner → ℕ
+units_in sizes owner = slice_index sizes (class_code (class_of_owner owner))
+
+abbrev pub start_in : Bool → ℕ → ℕ → ℕ
+start_in by_last size name = if by_last then name + 1 - size else name
+
+abbrev pub start_of : List ℕ → Bool → OwnedSlot → ℕ
+start_of sizes by_last c = start_in by_last (units_in sizes c.owner) c.name
+
+abbrev pub end_of : List ℕ → Bool → OwnedSlot → ℕ
+end_of sizes by_last c = start_of sizes by_last c + units_in sizes c.owner
+
+-- it lies at its units, which are aligned to their number and lie below the count
+pub record IsLaidOut (sizes : List ℕ) (by_last : Bool) (count : ℕ) (c : OwnedSlot) : Type 0 where
+  pub some : 0 < units_in sizes c.owner
+  pub named : by_last ≡ true → units_in sizes c.owner ≤ c.name + 1
+  pub aligned : start_of sizes by_last c % units_in sizes c.owner ≡ 0
+  pub within : end_of sizes by_last c ≤ count
+
+-- each lies behind those that were made before it
+abbrev pub AreApart : List ℕ → Bool → List OwnedSlot → Type 0
+AreApart sizes by_last made = (i j : ℕ) (d : OwnedSlot) → i < j → j < length made →
+    end_of sizes by_last (slice_index_or made j d) ≤ start_of sizes by_last (slice_index_or made i d)
+
+-- no two have one owner
+abbrev pub HaveDistinctOwners : List OwnedSlot → Type 0
+HaveDistinctOwners made = (i j : ℕ) (d : OwnedSlot) → i < j → j < length made → (slice_index_or made i d).owner ≢ (slice_index_or made j d).owner
+
+-- the slot of a vreg is the one that the tables give it
+abbrev pub IsOwn : SpillSlotsValue → OwnedSlot → Type 0
+IsOwn s c = (v : VirtualRegister) → c.owner ≡ OfVReg v → slot_name s v.number ≡ InSlot c.name
+
+-- all slots lie so, and those of known vregs are among them
+pub record AreLaidOut (Known : VirtualRegister → Type 0) (s : SpillSlotsValue) (made : List OwnedSlot) : Type 0 where
+  pub each : All (IsLaidOut s.sizes s.by_last s.count) made
+  pub apart : AreApart s.sizes s.by_last made
+  pub differ : HaveDistinctOwners made
+  pub known : (v : VirtualRegister) → Known v → (k : ℕ) → slot_name s v.number ≡ InSlot k → Contains made (record { owner = OfVReg v; name = k })
+  pub own : All (IsOwn s) made
+
+-- the slots once some more were made, of all of which something holds
+pub record LaysOut (Known : VirtualRegister → Type 0) (Holds : OwnedSlot → Type 0) (s : SpillSlotsValue) (before_it : List OwnedSlot) : Type 0 where
+  pub made : List OwnedSlot
+  pub laid : AreLaidOut Known s made
+  pub kept : (c : OwnedSlot) → Contains before_it c → Contains made c
+  pub all : All Holds made
+
+-- a name is that of a slot that was made
+abbrev pub IsNamed : List OwnedSlot → ℕ → Type 0
+IsNamed made n = (c : OwnedSlot) × Contains made c × (c.name ≡ n)
+
+-- an end of a move of values of a class: a register of the class, or a slot whose owner is of the class
+abbrev pub IsEndOf : List OwnedSlot → RegClass → Place → Type 0
+IsEndOf made class NoPlace = ⊥
+IsEndOf made class (InRegister r) = r.class ≡ class
+IsEndOf made class (InSlot n) = (c : OwnedSlot) × Contains made c × (c.name ≡ n) × (class_of_owner c.owner ≡ class)
+
+-- both ends of a move are of one class
+abbrev pub IsOfOneClass : List OwnedSlot → ℕ × MoveValue → Type 0
+IsOfOneClass made e = (class : RegClass) × IsEndOf made class e.1.from × IsEndOf made class e.1.to

@@ -1,0 +1,14 @@
+pub mod CountingLaws
+pub mod PointsDescend
+pub mod LrusOfMachine
+pub mod ResolverContracts
+pub mod VRegInPRegInverse
+pub mod FillOrderListed
+pub mod SetMembers
+pub mod SetOfList
+pub mod EditsPushed
+pub mod LrusByClass
+pub mod SpillSlotUnits
+pub mod ArraysByClass
+pub mod SlotsAsPlaces
+pub mod ClassIsEmpty

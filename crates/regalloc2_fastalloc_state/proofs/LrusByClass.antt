@@ -1,0 +1,73 @@
+-- The LRU list of each class.
+use Rattle.std.proofs.Common.{ℕ, ◌≡◌, ◌≢◌, ◌<◌, List, [], length, refl, sym, ◌∙◌, ⊎_elim, subst, slice_index_or, set, get_or-set_same}
+use Rattle.std.specs.Prelude.{Option, None, Some, IfSome, IsTrue, Contains, ◌↔◌}
+use Rattle.std.proofs.lemmas.List.{get_or-set_other}
+use Rattle.std.proofs.Math.ListN.{length-set}
+use Rattle.regalloc2_names.specs.declared.RegClass.{RegClass}
+use Rattle.regalloc2_names.specs.declared.RegClass.TheVariants.{Int, Float, Vector}
+use Rattle.regalloc2_names.specs.declared.sets.PRegSet.{PRegSet}
+use Rattle.regalloc2_names.specs.Register.{Register, class_code}
+use Rattle.regalloc2_names.specs.RegisterSet.{has_register}
+use Rattle.regalloc2_fastalloc_state.specs.StateParts.{AllocatableRegsValue, AreLrus, IsLeastRecentIn, lru_of}
+use Rattle.regalloc2_fastalloc_state.proofs.VRegInPRegInverse.{same_number}
+
+-- a register found in the LRU of its class, which is also in a set of available ones, is allocatable and available
+pub found_in : (t : AllocatableRegsValue) (class : RegClass) (free : PRegSet) (result : Option Register) → AreLrus t.allocatable t.lrus
+    → IfSome result (λ r. Contains (lru_of t class) r) → IfSome result (λ r. IsTrue (has_register free r)) → IfSome result (λ r. IsLeastRecentIn t class free r)
+found_in t class free None lrus member free_there = tt
+found_in t class free (Some r) lrus member free_there =
+    record {
+      of_class = (lrus.of_class class r member).0;
+      small = (lrus.of_class class r member).1;
+      allocatable = lrus.has class r member;
+      free_there = free_there;
+    }
+
+-- an LRU list is replaced by one with the same members
+pub rings_kept : (allocatable : PRegSet) (lrus : List (List Register)) (i : ℕ) (ring : List Register) → i < length lrus
+    → ((r : Register) → Contains ring r ↔ Contains (slice_index_or lrus i []) r)
+    → AreLrus allocatable lrus → AreLrus allocatable (set lrus i ring)
+rings_kept allocatable lrus i ring lt same old = record {
+  three = length-set lrus i ring ∙ old.three;
+  of_class = λ c r h. old.of_class c r (before c r h);
+  has = λ c r h. old.has c r (before c r h);
+  all = λ r small h. after r (old.all r small h);
+}
+  where
+    before : (c : RegClass) (r : Register) → Contains (slice_index_or (set lrus i ring) (class_code c) []) r →
+        Contains (slice_index_or lrus (class_code c) []) r
+    before c r h = ⊎_elim
+        (λ (e : class_code c ≡ i). subst (λ (k : ℕ). Contains (slice_index_or lrus k []) r) (sym e)
+        ((same r).0 (subst (λ (l : List Register). Contains l r) (get_or-set_same lrus i ring [] lt)
+        (subst (λ (k : ℕ). Contains (slice_index_or (set lrus i ring) k []) r) e h))))
+        (λ (d : class_code c ≢ i). subst (λ (l : List Register). Contains l r) (get_or-set_other lrus i (class_code c) ring [] d) h)
+        (same_number (class_code c) i)
+
+    after : (r : Register) → Contains (slice_index_or lrus (class_code r.class) []) r → Contains (slice_index_or (set lrus i ring) (class_code r.class) []) r
+    after r h = ⊎_elim
+        (λ (e : class_code r.class ≡ i). subst (λ (k : ℕ). Contains (slice_index_or (set lrus i ring) k []) r) (sym e)
+        (subst (λ (l : List Register). Contains l r) (sym (get_or-set_same lrus i ring [] lt))
+        ((same r).1 (subst (λ (k : ℕ). Contains (slice_index_or lrus k []) r) e h))))
+        (λ (d : class_code r.class ≢ i). subst (λ (l : List Register). Contains l r) (sym (get_or-set_other lrus i (class_code r.class) ring [] d)) h)
+        (same_number (class_code r.class) i)
+
+-- a class's LRU list, where it or another one is replaced
+pub ring_replaced : (lrus : List (List Register)) (i : ℕ) (ring : List Register) (c : RegClass) → i < length lrus → i ≡ class_code c →
+    slice_index_or (set lrus i ring) (class_code c) [] ≡ ring
+ring_replaced lrus i ring c lt e = subst (λ (k : ℕ). slice_index_or (set lrus i ring) k [] ≡ ring) e (get_or-set_same lrus i ring [] lt)
+
+code_other : (a b : RegClass) → a ≢ b → class_code a ≢ class_code b
+code_other Int Int ne = absurd (ne refl)
+code_other Int Float ne = λ e. cc
+code_other Int Vector ne = λ e. cc
+code_other Float Int ne = λ e. cc
+code_other Float Float ne = absurd (ne refl)
+code_other Float Vector ne = λ e. cc
+code_other Vector Int ne = λ e. cc
+code_other Vector Float ne = λ e. cc
+code_other Vector Vector ne = absurd (ne refl)
+
+-- replacing the LRU of one class leaves those of the other classes
+pub other_ring : (lrus : List (List Register)) (i : ℕ) (ring : List Register) (c d : RegClass) → i ≡ class_code c → d ≢ c →
+    slice_index_or (set lrus i ring) (class_code d) [] ≡ slice_index_or lrus (class_code d) []
+other_ring lrus i ring c d e ne = get_or-set_other lrus i (class_code d) ring [] (λ same. code_other d c ne (same ∙ e))

@@ -1,0 +1,125 @@
+-- The two tables of places stay inverse.
+use Rattle.std.proofs.Common.{ℕ, ◌≡◌, ◌≢◌, ◌<◌, Bool, true, false, cond, List, length, refl, sym, ap, ◌∙◌, ◌⊎◌, inl, inr, ⊎_elim, nat_eq, eqb-true}
+use Rattle.std.proofs.Common.{eq-eqb, slice_index_or, set, subst, get_or-set_same}
+use Rattle.std.specs.Prelude.{Option, None, Some}
+use Rattle.std.proofs.lemmas.List.{get_or-set_other}
+use Rattle.std.proofs.Math.ListN.{length-set}
+use Rattle.regalloc2_names.specs.Register.{Register, VirtualRegister}
+use Rattle.regalloc2_names.specs.RegisterBits.{bits_of_register}
+use Rattle.regalloc2_names.specs.Place.{Place, NoPlace, InRegister, is_place}
+use Rattle.regalloc2_semantics.proofs.Cells.{is_place-true, is_place-same, is_place-other}
+use Rattle.regalloc2_semantics.proofs.Plain.{chosen, no_some}
+use Rattle.regalloc2_fastalloc_state.specs.StateParts.{VRegAllocsValue, IsInverse, SetsAlloc, SetsVRegInPReg, alloc_of, vreg_of_preg}
+
+-- a test is true or false
+pub whether : (b : Bool) → (b ≡ true) ⊎ (b ≡ false)
+whether true = inl refl
+whether false = inr refl
+
+-- two equal options that have values have equal values
+pub same_some : {X : Type 0} (x y : X) → Some x ≡ Some y → x ≡ y
+same_some x y h = cc
+
+-- two numbers are equal or different
+pub same_number : (n m : ℕ) → (n ≡ m) ⊎ (n ≢ m)
+same_number n m = ⊎_elim
+    (λ (t : nat_eq n m ≡ true). inl (eqb-true n m t))
+    (λ (t : nat_eq n m ≡ false). inr (λ (q : n ≡ m). let s : nat_eq n m ≡ true = eq-eqb n m q in absurd cc))
+    (whether (nat_eq n m))
+
+-- the tables after a vreg's location was set, read from the register
+pub after_settling : (t u : VRegAllocsValue) (v w : VirtualRegister) (p : Place) (r : Register) → r.number < 64 → IsInverse t → SetsAlloc t u v p →
+    vreg_of_preg u r ≡ Some w
+    → ((w ≡ v) × (p ≡ InRegister r)) ⊎ ((w.number ≢ v.number) × (vreg_of_preg t r ≡ Some w))
+after_settling t u v w p r lt i s h =
+    let e = sym (s.holders r lt) ∙ h in
+    ⊎_elim
+    (λ (a : (is_place p (InRegister r) ≡ true) × (Some v ≡ Some w)). inl (sym (same_some v w a.1), is_place-true p (InRegister r) a.0))
+    (λ (o : ((is_place p (InRegister r) ≡ false) × (is_place (alloc_of t v.number) (InRegister r) ≡ true) × (None ≡ Some w))
+    ⊎ ((is_place p (InRegister r) ≡ false) × (is_place (alloc_of t v.number) (InRegister r) ≡ false) × (vreg_of_preg t r ≡ Some w))). ⊎_elim
+    (λ (a : (is_place p (InRegister r) ≡ false) × (is_place (alloc_of t v.number) (InRegister r) ≡ true) × (None ≡ Some w)). absurd (no_some w a.2))
+    (λ (a : (is_place p (InRegister r) ≡ false) × (is_place (alloc_of t v.number) (InRegister r) ≡ false) × (vreg_of_preg t r ≡ Some w)). inr (
+      (λ (n : w.number ≡ v.number).
+          let there : alloc_of t v.number ≡ InRegister r = ap (alloc_of t) (sym n) ∙ i.holds r w lt a.2 in
+          let yes : is_place (alloc_of t v.number) (InRegister r) ≡ true = ap (λ (q : Place). is_place q (InRegister r)) there ∙ is_place-same (InRegister r) in
+          absurd (let no : is_place (alloc_of t v.number) (InRegister r) ≡ false = a.1 in cc)),
+      a.2,
+    ))
+    o)
+    (chosen (is_place p (InRegister r)) (is_place (alloc_of t v.number) (InRegister r)) (Some v) None (vreg_of_preg t r) (Some w) e)
+
+-- `vreg_allocs` and `vreg_in_preg` stay inverse if a vreg gets a location that is no preg, or a preg that is empty or its own
+pub inverse_kept : (t u : VRegAllocsValue) (v : VirtualRegister) (p : Place) → v.number < length t.vreg_allocs → length u.vreg_in_preg ≡ 256
+    → ((r : Register) → p ≡ InRegister r → r.number < 64)
+    → ((r : Register) → p ≡ InRegister r → (vreg_of_preg t r ≡ None) ⊎ (vreg_of_preg t r ≡ Some v))
+    → IsInverse t → SetsAlloc t u v p → IsInverse u
+inverse_kept t u v p known long small alone i s = record {
+  registers = long;
+  small = λ n r e. ⊎_elim
+      (λ (q : n ≡ v.number). small r (sym s.here ∙ ap (alloc_of u) (sym q) ∙ e))
+      (λ (q : n ≢ v.number). i.small n r (sym (s.others n q) ∙ e))
+      (same_number n v.number);
+  known = λ r w lt h. ⊎_elim
+      (λ (a : (w ≡ v) × (p ≡ InRegister r)). rw (s.long, ap (λ (x : VirtualRegister). x.number) a.0) known)
+      (λ (a : (w.number ≢ v.number) × (vreg_of_preg t r ≡ Some w)). rw s.long (i.known r w lt a.1))
+      (after_settling t u v w p r lt i s h);
+  holds = λ r w lt h. ⊎_elim
+      (λ (a : (w ≡ v) × (p ≡ InRegister r)). ap (λ (x : VirtualRegister). alloc_of u x.number) a.0 ∙ s.here ∙ a.1)
+      (λ (a : (w.number ≢ v.number) × (vreg_of_preg t r ≡ Some w)). s.others w.number a.0 ∙ i.holds r w lt a.1)
+      (after_settling t u v w p r lt i s h);
+  vreg_allocs = λ n r e. ⊎_elim
+      (λ (q : n ≡ v.number).
+      let there : p ≡ InRegister r = sym s.here ∙ ap (alloc_of u) (sym q) ∙ e in
+      let yes : is_place p (InRegister r) ≡ true = ap (λ (x : Place). is_place x (InRegister r)) there ∙ is_place-same (InRegister r) in (
+        v,
+        sym q,
+        s.holders r (small r there) ∙ ap
+            (λ (b : Bool). cond b (Some v) (cond (is_place (alloc_of t v.number) (InRegister r)) None (vreg_of_preg t r))) yes,
+      ))
+      (λ (q : n ≢ v.number).
+      let was : alloc_of t n ≡ InRegister r = sym (s.others n q) ∙ e in
+      let w = i.vreg_allocs n r was in
+      (w.0, w.1, still t u v w.0 p n r (i.small n r was) alone i s q w.1 w.2))
+      (same_number n v.number);
+}
+  where
+    still : (t u : VRegAllocsValue) (v w : VirtualRegister) (p : Place) (n : ℕ) (r : Register) → r.number < 64
+        → ((r : Register) → p ≡ InRegister r → (vreg_of_preg t r ≡ None) ⊎ (vreg_of_preg t r ≡ Some v))
+        → IsInverse t → SetsAlloc t u v p → n ≢ v.number → w.number ≡ n → vreg_of_preg t r ≡ Some w → vreg_of_preg u r ≡ Some w
+    still t u v w p n r lt alone i s q e h =
+        let not_v : vreg_of_preg t r ≡ Some v → ⊥ = λ (g : vreg_of_preg t r ≡ Some v). let f : w ≡ v = same_some w v (sym h ∙ g) in
+        q (sym e ∙ ap (λ (x : VirtualRegister). x.number) f) in
+        let a : is_place p (InRegister r) ≡ false = is_place-other p (InRegister r) (λ (f : p ≡ InRegister r). ⊎_elim
+        (λ (g : vreg_of_preg t r ≡ None). no_some w (sym g ∙ h))
+        not_v
+        (alone r f)) in
+        let b : is_place (alloc_of t v.number) (InRegister r) ≡ false = is_place-other (alloc_of t v.number) (InRegister r)
+        (λ (f : alloc_of t v.number ≡ InRegister r).
+        let x = i.vreg_allocs v.number r f in
+        let y : x.0 ≡ w = same_some x.0 w (sym x.2 ∙ h) in
+        q (sym e ∙ ap (λ (z : VirtualRegister). z.number) (sym y) ∙ x.1)) in
+        s.holders r lt ∙ rw (a, b) h
+
+-- one register is emptied, and another filled
+pub settles_by_marks : (T : List Place) (H H1 H2 : List (Option VirtualRegister)) (v : VirtualRegister) (n : ℕ) (p q : Place) → n ≡ v.number → n < length T
+    → q ≡ slice_index_or T n NoPlace → SetsVRegInPReg H H1 q None → SetsVRegInPReg H1 H2 p (Some v)
+    → SetsAlloc (record { vreg_allocs = T; vreg_in_preg = H }) (record { vreg_allocs = set T n p; vreg_in_preg = H2 }) v p
+settles_by_marks T H H1 H2 v n p q e known left m1 m2 = record {
+  long = length-set T n p;
+  here = (let P : ℕ → Type 0 = λ k. slice_index_or (set T n p) k NoPlace ≡ p in subst P e (get_or-set_same T n p NoPlace known));
+  others = λ k d. get_or-set_other T n k p NoPlace (λ x. d (x ∙ e));
+  holders = λ r lt. m2.each r lt ∙ ap (λ (x : Option VirtualRegister). cond (is_place p (InRegister r)) (Some v) x)
+      (m1.each r lt ∙ ap (λ (x : Place). cond (is_place x (InRegister r)) None (slice_index_or H (bits_of_register r) None))
+      (left ∙ ap (λ (k : ℕ). slice_index_or T k NoPlace) e));
+}
+
+-- the same for the tables as code writes them: the old preg emptied, the new one filled, and the new location set
+pub inverse_marked : (T : List Place) (H H1 H2 : List (Option VirtualRegister)) (v : VirtualRegister) (n : ℕ) (p q : Place) → n ≡ v.number → n < length T
+    → q ≡ slice_index_or T n NoPlace → SetsVRegInPReg H H1 q None → SetsVRegInPReg H1 H2 p (Some v)
+    → ((r : Register) → p ≡ InRegister r → r.number < 64)
+    → ((r : Register) → p ≡ InRegister r → (slice_index_or H (bits_of_register r) None ≡ None) ⊎ (slice_index_or H (bits_of_register r) None ≡ Some v))
+    → IsInverse (record { vreg_allocs = T; vreg_in_preg = H }) → IsInverse (record { vreg_allocs = set T n p; vreg_in_preg = H2 })
+inverse_marked T H H1 H2 v n p q e known left m1 m2 small alone i =
+    inverse_kept (record { vreg_allocs = T; vreg_in_preg = H }) (record { vreg_allocs = set T n p; vreg_in_preg = H2 }) v p (rw (← e) known)
+    (m2.long ∙ m1.long ∙ i.registers) small alone i
+    (settles_by_marks T H H1 H2 v n p q e known left m1 m2)

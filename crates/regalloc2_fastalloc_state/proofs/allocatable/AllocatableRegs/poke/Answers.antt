@@ -1,0 +1,40 @@
+use Rattle.std.proofs.Common.{ℕ, ◌≡◌, ◌<◌, List, [], ◌∷◌, length, sym, ap, ◌∙◌, subst, arith, slice_index_or}
+use Rattle.std.specs.Prelude.{Contains, ◌↔◌, filter, not}
+use Rattle.std.proofs.lemmas.List.{get_or_read}
+use Rattle.regalloc2_names.specs.Register.{Register, class_code, is_register}
+use Rattle.regalloc2_fastalloc_state.specs.StateParts.{AllocatableRegsValue, lru_of}
+use Rattle.regalloc2_fastalloc_state.proofs.LrusByClass.{rings_kept, ring_replaced, other_ring}
+use Rattle.regalloc2_fastalloc_state.proofs.allocatable.AllocatableRegs.poke.Given.{Over}
+use Rattle.regalloc2_fastalloc_state.proofs.allocatable.AllocatableRegs.poke.Goals as goal
+
+pub invariant_of-self : goal.invariant_of-self
+invariant_of-self g c =
+    let lrus : List (List Register) = c.self.inside.lrus.items in
+    let lt : c.code.result < length lrus = omega (arith, c.self.invariant.0.three, c.code.ensures.small) in
+    let ring : c.index-self-code.result ≡ slice_index_or lrus c.code.result [] = get_or_read lrus _ _ lt c.index-self-code.is [] in
+    let P : List Register → Type 0 = λ l. (r : Register) → Contains c.poke.new.self r ↔ Contains l r in (
+      rings_kept c.self.inside.allocatable lrus c.code.result c.poke.new.self lt (subst P (sym c.index-self-code.is ∙ ring) c.poke.ensures.members)
+          c.self.invariant.0,
+      c.self.invariant.1,
+      c.self.invariant.2,
+    )
+
+-- the LRU list of the register's class is the one that was indexed
+index_is : (g : Over) (c : goal.After-poke g) → c.code.result ≡ class_code c.args.preg.class
+index_is g c = c.code.ensures.code ∙ ap class_code c.class.ensures
+
+pub returns-clause-newest : goal.returns-clause-newest
+returns-clause-newest g c =
+    let lrus : List (List Register) = c.self.inside.lrus.items in
+    let lt : c.code.result < length lrus = omega (arith, c.self.invariant.0.three, c.code.ensures.small) in
+    let ring : c.index-self-code.result ≡ slice_index_or lrus c.code.result [] = get_or_read lrus _ _ lt c.index-self-code.is [] in
+    let moved : List Register → List Register = λ l. c.args.preg ∷ filter (λ r. not (is_register c.args.preg r)) l in
+    ring_replaced lrus c.code.result c.poke.new.self c.args.preg.class lt (index_is g c)
+    ∙ c.poke.ensures.moved
+    ∙ ap moved (sym c.index-self-code.is ∙ ring ∙ ap (λ (k : ℕ). slice_index_or lrus k []) (index_is g c)
+    ∙ ap (λ (t : AllocatableRegsValue). lru_of t c.args.preg.class) c.self.view_is)
+
+pub returns-clause-others : goal.returns-clause-others
+returns-clause-others g c = λ class other.
+    other_ring c.self.inside.lrus.items c.code.result c.poke.new.self c.args.preg.class class (index_is g c) other
+    ∙ ap (λ (t : AllocatableRegsValue). lru_of t class) c.self.view_is

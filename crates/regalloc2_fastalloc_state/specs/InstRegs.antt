@@ -1,0 +1,50 @@
+-- The registers of one instruction, and the positions at which its operands hold theirs.
+use Rattle.std.specs.Prelude.{ℕ, ◌≡◌, Bool, true, not, ◌&&◌, ◌||◌, slice_index}
+use Rattle.regalloc2_names.specs.declared.RegClass.{RegClass}
+use Rattle.regalloc2_names.specs.declared.sets.PRegSet.{PRegSet}
+use Rattle.regalloc2_names.specs.Register.{Register, class_code, is_register}
+use Rattle.regalloc2_names.specs.RegisterSet.{has_register}
+use Rattle.regalloc2_names.specs.Operand.{OperandValue, is_def, is_late}
+use Rattle.regalloc2_function.specs.Fitting.{count_below, register_number}
+use Rattle.regalloc2_fastalloc_state.specs.declared.inst_regs.InstRegs.{InstRegs}
+use Rattle.regalloc2_fastalloc_state.specs.declared.inst_regs.Positions.{Positions}
+
+-- a register is free at the positions
+pub record IsAvailableAt (inst_regs : InstRegs) (p : Positions) (r : Register) : Type 0 where
+  pub early : p.early ≡ true → has_register inst_regs.early r ≡ true
+  pub late : p.late ≡ true → has_register inst_regs.late r ≡ true
+
+-- how many operands of a class that ask for any register are still to be allocated
+abbrev pub awaited_of : InstRegs → RegClass → ℕ
+awaited_of inst_regs class = slice_index inst_regs.awaited (class_code class)
+
+-- a register is free at both positions
+abbrev pub is_free_throughout : InstRegs → Register → Bool
+is_free_throughout inst_regs r = has_register inst_regs.early r && has_register inst_regs.late r
+
+-- and is one of a set
+abbrev pub is_free : PRegSet → InstRegs → Register → Bool
+is_free set inst_regs r = has_register set r && is_free_throughout inst_regs r
+
+-- how many of a class there are
+abbrev pub free_count : PRegSet → InstRegs → RegClass → ℕ
+free_count set inst_regs class = count_below (λ n. is_free set inst_regs (register_number class n)) 64
+
+-- a register is held at the positions from now on; how many operands are still to be allocated isn't said here
+pub record RemovesAvailable (old new : InstRegs) (r : Register) (p : Positions) : Type 0 where
+  pub early : (q : Register) → has_register new.early q ≡ not (p.early && is_register r q) && has_register old.early q
+  pub late : (q : Register) → has_register new.late q ≡ not (p.late && is_register r q) && has_register old.late q
+  pub scratch : new.scratch ≡ old.scratch
+
+-- nothing changes but how many operands are still to be allocated
+pub record SameAvailable (old new : InstRegs) : Type 0 where
+  pub early : new.early ≡ old.early
+  pub late : new.late ≡ old.late
+  pub scratch : new.scratch ≡ old.scratch
+
+-- the positions at which an operand holds its register: an early use the early one, a late definition the late one, others both
+abbrev pub positions_of : OperandValue → Positions
+positions_of o = record { early = not (is_def o.kind) || not (is_late o.position); late = is_def o.kind || is_late o.position }
+
+abbrev pub both : Positions
+both = record { early = true; late = true }

@@ -1,0 +1,5 @@
+pub mod FillOrder
+pub mod OutOfResources
+pub mod ScratchPool
+pub mod StateParts
+pub mod InstRegs

@@ -1,0 +1,205 @@
+//! The registers that may be allocated.
+
+ghost use Rattle.std.specs.Prelude.{ℕ, ◌≡◌, ◌≢◌, ◌+◌, ◌↔◌, ◌<◌, ◌≤◌, ◌∷◌, ◌||◌, ◌⊎◌, true, not, filter, find, reverse, Contains, IfSome, IfNone};
+ghost use Rattle.std.specs.Prelude.{IfOk, IfErr, None, slice_index_or};
+ghost use Rattle.regalloc2_names.specs.declared.RegClass.{RegClass};
+ghost use Rattle.regalloc2_function.specs.Machine.{is_allocatable};
+ghost use Rattle.regalloc2_function.specs.Views.{machine_of};
+ghost use Rattle.regalloc2_names.specs.Register.{Register, class_code, is_register};
+ghost use Rattle.regalloc2_names.specs.Place.{is_memory};
+ghost use Rattle.regalloc2_names.specs.RegisterSet.{has_register};
+ghost use Rattle.regalloc2_fastalloc_state.specs.StateParts.{IsLeastRecentIn, NoneIsIn, NoneIsFrom, AreLrus, AreThoseBelow, SameRegisters, lru_of};
+ghost use Rattle.regalloc2_fastalloc_state.specs.StateParts.{scratch_reserve_for};
+
+use regalloc2_function::MachineEnv;
+use regalloc2_names::{Allocation, PReg, PRegSet, RegAllocError, RegClass};
+use regalloc2_parts::lru::Lrus;
+use std::alloc::Allocator;
+use std::marker::Model;
+
+/// The allocatable registers, and for each class the order in which they were used last.
+#[derive(Drop)]
+pub struct AllocatableRegs<A: Allocator> {
+    allocatable: PRegSet,
+    lrus: Lrus<A>,
+    /// Those that are fixed stack slots.
+    fixed_stack: PRegSet,
+    /// The register of each class that is kept for moves from stack to stack.
+    dedicated_scratch: [Option<PReg>; 3],
+    /// The allocatable registers of each class.
+    of_class: [PRegSet; 3],
+}
+
+impl<A: Allocator> Model for AllocatableRegs<A> {
+    ghost use Rattle.regalloc2_fastalloc_state.specs.StateParts.{AllocatableRegsValue, AreLrus, AreSplit, HasSmall};
+
+    ghost Value = { AllocatableRegsValue };
+
+    ghost view = { λ t. record { allocatable = t.allocatable; lrus = t.lrus.items; fixed_stack = t.fixed_stack; dedicated_scratch = t.dedicated_scratch } };
+
+    ghost invariant = { λ t. AreLrus t.allocatable t.lrus.items × AreSplit t.allocatable t.of_class × HasSmall t.fixed_stack };
+}
+
+/// The registers of a class in a set, by rising number.
+fn class_registers<A: Allocator>(
+    alloc: A,
+    set: PRegSet,
+    class: RegClass,
+) -> Result<Vec<PReg, A>, RegAllocError>
+    ensures ok { IfOk result (λ v. AreThoseBelow set class 64 v.items) }
+    ensures err { IfErr result (λ e. e ≡ RegAllocError.Memory) }
+{
+    let mut regs = Vec::with_capacity(alloc, PReg::MAX + 1)?;
+    for number in 0..PReg::MAX + 1 {
+        let preg = PReg::new(number, class);
+        if set.contains(preg) {
+            regs.push(preg)?;
+        }
+    }
+    Ok(regs)
+}
+
+/// The allocatable registers of a class.
+pub fn allocatable_of<A: Allocator>(env: &MachineEnv<A>, class: RegClass) -> PRegSet
+    ensures { (r : Register) → has_register result r ≡ is_allocatable (machine_of env.now) class r }
+{
+    let index = class.code();
+    env.preferred_regs_by_class[index] | env.non_preferred_regs_by_class[index]
+}
+
+/// The set of some registers.
+fn set_of(regs: &[PReg]) -> PRegSet
+    ensures { (r : Register) → (has_register result r ≡ true) ↔ Contains regs.now r }
+{
+    let mut set = PRegSet::empty();
+    for k in 0..regs.len() {
+        set.add(regs[k]);
+    }
+    set
+}
+
+impl<A: Allocator + Copy> AllocatableRegs<A> {
+    /// Those of a machine; in each class the lowest number counts as used last.
+    pub fn new<B: Allocator>(alloc: A, env: &MachineEnv<B>) -> Result<Self, RegAllocError>
+        requires { (c : RegClass) (r : Register) → is_allocatable (machine_of env.now) c r ≡ true → r.class ≡ c }
+        ensures ok { IfOk result (λ t. (r : Register) → r.number < 64 → has_register t.allocatable r ≡ true →
+            is_allocatable (machine_of env.now) r.class r ≡ true) }
+        ensures all { IfOk result (λ t. (r : Register) → is_allocatable (machine_of env.now) r.class r ≡ true → has_register t.allocatable r ≡ true) }
+        ensures fixed_stack { IfOk result (λ t. (r : Register) → (has_register t.fixed_stack r ≡ true) ↔ Contains (machine_of env.now).fixed_stack_slots r) }
+        ensures dedicated_scratch { IfOk result (λ t. t.dedicated_scratch ≡ (machine_of env.now).scratch) }
+        ensures small { IfOk result (λ t. (r : Register) → (has_register t.allocatable r ≡ true) ⊎ (has_register t.fixed_stack r ≡ true) → r.number < 64) }
+        ensures err { IfErr result (λ e. e ≡ RegAllocError.Memory) }
+        ensures lrus { IfOk result (λ t. AreLrus t.allocatable t.lrus) }
+    {
+        let int = allocatable_of(env, RegClass::Int);
+        let float = allocatable_of(env, RegClass::Float);
+        let vector = allocatable_of(env, RegClass::Vector);
+        let int_regs = class_registers(alloc, int, RegClass::Int)?;
+        let float_regs = class_registers(alloc, float, RegClass::Float)?;
+        let vector_regs = class_registers(alloc, vector, RegClass::Vector)?;
+        let lrus = Lrus::new(alloc, &int_regs, &float_regs, &vector_regs)?;
+        Ok(AllocatableRegs {
+            allocatable: int | float | vector,
+            lrus,
+            fixed_stack: set_of(&env.fixed_stack_slots),
+            dedicated_scratch: [
+                env.scratch_by_class[0],
+                env.scratch_by_class[1],
+                env.scratch_by_class[2],
+            ],
+            of_class: [int, float, vector],
+        })
+    }
+}
+
+impl<A: Allocator> AllocatableRegs<A> {
+    /// The registers of all classes that may be allocated, and the fixed stack slots.
+    pub fn available_regs(&self) -> PRegSet
+        ensures { (r : Register) → has_register result r ≡ has_register self.now.allocatable r || has_register self.now.fixed_stack r }
+    {
+        self.allocatable | self.fixed_stack
+    }
+
+    /// Whether the register may be allocated.
+    pub fn is_allocatable(&self, preg: PReg) -> bool
+        ensures { result ≡ has_register self.now.allocatable preg }
+    {
+        self.allocatable.contains(preg)
+    }
+
+    /// The registers that are fixed stack slots.
+    pub fn fixed_stack(&self) -> PRegSet
+        ensures { result ≡ self.now.fixed_stack }
+    {
+        self.fixed_stack
+    }
+
+    /// The allocatable register of the class with the greatest number.
+    pub fn preferred_victim(&self, class: RegClass) -> Option<PReg>
+        ensures found { IfSome result (λ r. (r.class ≡ class) × (r.number < 64) × (has_register self.now.allocatable r ≡ true)) }
+        ensures greatest { IfSome result (λ r. NoneIsFrom self.now.allocatable class (r.number + 1)) }
+        ensures none { IfNone result (NoneIsFrom self.now.allocatable class 0) }
+    {
+        let mut number = PReg::MAX + 1;
+        while number > 0 {
+            number -= 1;
+            let preg = PReg::new(number, class);
+            if self.allocatable.contains(preg) {
+                return Some(preg);
+            }
+        }
+        None
+    }
+
+    /// Whether the place is in memory: a spill slot or a fixed stack slot.
+    pub fn is_stack(&self, place: Allocation) -> bool
+        ensures { result ≡ is_memory self.now.fixed_stack place }
+    {
+        place.is_memory(self.fixed_stack)
+    }
+
+    /// The register of the class that is kept for moves from stack to stack.
+    pub fn dedicated_scratch(&self, class: RegClass) -> Option<PReg>
+        ensures { result ≡ slice_index_or self.now.dedicated_scratch (class_code class) None }
+    {
+        self.dedicated_scratch[class.code()]
+    }
+
+    /// The allocatable registers of the class.
+    pub fn of_class(&self, class: RegClass) -> PRegSet
+        ensures { (r : Register) → (has_register result r ≡ true) ↔ (r.class ≡ class) × (has_register self.now.allocatable r ≡ true) }
+    {
+        self.of_class[class.code()]
+    }
+
+    /// How many registers of the class are to be kept for moves from stack to stack: one where there are fixed stack
+    /// slots of the class, and no register for such moves.
+    pub fn scratch_reserve_of(&self, class: RegClass) -> usize
+        ensures { result ≡ scratch_reserve_for self.now.fixed_stack self.now.dedicated_scratch class }
+    {
+        if self.fixed_stack.is_empty(class) || self.dedicated_scratch(class).is_some() {
+            0
+        } else {
+            1
+        }
+    }
+
+    /// The register of the class in the set that was used longest ago.
+    pub fn least_recently_used(&self, class: RegClass, free: PRegSet) -> Option<PReg>
+        ensures oldest { result ≡ find (has_register free) (reverse (lru_of self.now class)) }
+        ensures found { IfSome result (λ r. IsLeastRecentIn self.now class free r) }
+        ensures none { IfNone result (NoneIsIn self.now class free) }
+    {
+        self.lrus.items[class.code()].last(free)
+    }
+
+    /// The register was used just now: it is the newest of its class from now on, and the others keep their order.
+    pub fn poke(&mut self, preg: PReg)
+        requires member { has_register self.old.allocatable preg ≡ true }
+        ensures machine { SameRegisters self.old self.new }
+        ensures newest { lru_of self.new preg.class ≡ preg ∷ filter (λ r. not (is_register preg r)) (lru_of self.old preg.class) }
+        ensures others { (class : RegClass) → class ≢ preg.class → lru_of self.new class ≡ lru_of self.old class }
+    {
+        self.lrus.items[preg.class().code()].poke(preg);
+    }
+}

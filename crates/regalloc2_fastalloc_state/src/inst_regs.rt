@@ -1,0 +1,157 @@
+//! The registers of one instruction: which are free at its two positions, and how many are still asked for.
+
+ghost use Rattle.std.specs.Prelude.{◌≡◌, ◌+◌, ◌-◌, ◌&&◌, ◌||◌, ◌∷◌, [], true, None, Some, not, length, min, slice_index_or, slice_set};
+ghost use Rattle.regalloc2_names.specs.Register.{Register, class_code, is_register};
+ghost use Rattle.regalloc2_names.specs.RegisterSet.{has_register};
+ghost use Rattle.regalloc2_fastalloc_state.specs.InstRegs.{RemovesAvailable, IsAvailableAt, SameAvailable, awaited_of, both, is_free_throughout, positions_of};
+
+use regalloc2_names::{Operand, OperandKind, OperandPos, PReg, PRegSet, RegClass};
+
+/// The positions of an instruction at which an operand holds its register, at least.
+#[derive(Clone, Copy)]
+pub struct Positions {
+    /// While early uses are read.
+    pub early: bool,
+    /// While late definitions are written.
+    pub late: bool,
+}
+
+impl Positions {
+    /// Both.
+    pub fn both() -> Positions
+        ensures { result ≡ both }
+    {
+        Positions {
+            early: true,
+            late: true,
+        }
+    }
+
+    /// Those of an operand: an early use is read before late definitions are written, all others are held throughout,
+    /// but that a late definition comes after the early uses.
+    pub fn of(operand: Operand) -> Positions
+        ensures { result ≡ positions_of operand }
+    {
+        let is_use = operand.kind() == OperandKind::Use;
+        let is_early = operand.pos() == OperandPos::Early;
+        Positions {
+            early: is_use || is_early,
+            late: !(is_use && is_early),
+        }
+    }
+}
+
+/// The registers of one instruction, while its operands are allocated.
+#[derive(Clone, Copy)]
+pub struct InstRegs {
+    /// Those that are free while early operands are there.
+    early: PRegSet,
+    /// Those that are free while late operands are there.
+    late: PRegSet,
+    /// Through which moves of each class from stack to stack go, once one was taken.
+    scratch: [Option<PReg>; 3],
+    /// How many operands of each class that ask for any register are still to be allocated.
+    awaited: [usize; 3],
+}
+
+/// The set, without the register if it is taken.
+fn left_of(set: PRegSet, preg: PReg, is_taken: bool) -> PRegSet
+    ensures { (q : Register) → has_register result q ≡ not (is_taken && is_register preg q) && has_register set q }
+{
+    let mut left = set;
+    if is_taken {
+        left.remove(preg);
+    }
+    left
+}
+
+impl InstRegs {
+    /// All of these are free, and nothing is taken yet.
+    pub fn new(every: PRegSet) -> InstRegs
+        ensures early { result.early ≡ every }
+        ensures late { result.late ≡ every }
+        ensures scratch { result.scratch ≡ None ∷ None ∷ None ∷ [] }
+        ensures awaited { result.awaited ≡ 0 ∷ 0 ∷ 0 ∷ [] }
+    {
+        InstRegs {
+            early: every,
+            late: every,
+            scratch: [None; 3],
+            awaited: [0; 3],
+        }
+    }
+
+    /// The registers that are free at the positions.
+    pub fn available_pregs(&self, positions: Positions) -> PRegSet
+        ensures free { (r : Register) → has_register result r ≡ true → IsAvailableAt self.now positions r }
+        ensures throughout { (r : Register) → is_free_throughout self.now r ≡ true → has_register result r ≡ true }
+        ensures all { (r : Register) → (positions.early || positions.late) ≡ true → IsAvailableAt self.now positions r → has_register result r ≡ true }
+    {
+        if positions.early && positions.late {
+            self.early & self.late
+        } else if positions.early {
+            self.early
+        } else {
+            self.late
+        }
+    }
+
+    /// The register is no longer available at the positions.
+    pub fn remove_available(&mut self, preg: PReg, positions: Positions)
+        ensures removed { RemovesAvailable self.old self.new preg positions }
+        ensures awaited { self.new.awaited ≡ self.old.awaited }
+    {
+        self.early = left_of(self.early, preg, positions.early);
+        self.late = left_of(self.late, preg, positions.late);
+    }
+
+    /// One more operand of the class asks for any register.
+    pub fn add_any_reg_op(&mut self, class: RegClass)
+        ensures sets { SameAvailable self.old self.new }
+        ensures long { length self.old.awaited ≡ 3 }
+        ensures awaited { self.new.awaited ≡ slice_set self.old.awaited (class_code class) (min (awaited_of self.old class + 1) 18446744073709551615) }
+    {
+        let awaited = self.awaited[class as usize];
+        self.awaited[class as usize] = awaited.saturating_add(1);
+    }
+
+    /// An operand of the class that asked for any register is placed.
+    pub fn remove_any_reg_op(&mut self, class: RegClass)
+        ensures sets { SameAvailable self.old self.new }
+        ensures awaited { self.new.awaited ≡ slice_set self.old.awaited (class_code class) (awaited_of self.old class - 1) }
+    {
+        let awaited = self.awaited[class as usize];
+        self.awaited[class as usize] = awaited.saturating_sub(1);
+    }
+
+    /// How many operands of the class that ask for any register are still to be allocated.
+    pub fn awaited(&self, class: RegClass) -> usize
+        ensures { result ≡ awaited_of self.now class }
+    {
+        self.awaited[class as usize]
+    }
+
+    /// Whether the register is free at both positions.
+    pub fn is_free(&self, preg: PReg) -> bool
+        ensures { result ≡ is_free_throughout self.now preg }
+    {
+        self.early.contains(preg) && self.late.contains(preg)
+    }
+
+    /// The register through which moves of the class go, if one was taken.
+    pub fn scratch_of(&self, class: RegClass) -> Option<PReg>
+        ensures { result ≡ slice_index_or self.now.scratch (class_code class) None }
+    {
+        self.scratch[class as usize]
+    }
+
+    /// Moves of the class go through this register from now on.
+    pub fn set_scratch(&mut self, class: RegClass, preg: PReg)
+        ensures early { self.new.early ≡ self.old.early }
+        ensures late { self.new.late ≡ self.old.late }
+        ensures scratch { self.new.scratch ≡ slice_set self.old.scratch (class_code class) (Some preg) }
+        ensures awaited { self.new.awaited ≡ self.old.awaited }
+    {
+        self.scratch[class as usize] = Some(preg);
+    }
+}

@@ -1,0 +1,12 @@
+//! The parts of the fast allocator's state: locations of virtual registers, their spill slots, the registers that may be allocated,
+//! the moves that are added, and the registers of one instruction. They know nothing of instructions.
+#![tactic(auto)]
+
+pub mod allocatable;
+pub mod edits;
+pub mod fill_order;
+pub mod inst_regs;
+pub mod request;
+pub mod scratch_pool;
+pub mod spillslots;
+pub mod vreg_allocs;

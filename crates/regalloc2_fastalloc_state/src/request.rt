@@ -1,0 +1,30 @@
+//! What an operand asks, as it is allocated.
+
+use super::inst_regs::Positions;
+use regalloc2_names::{PReg, VReg};
+
+/// What an operand asks of its place, once a reuse was replaced by what it names.
+#[derive(Clone, Copy)]
+pub enum Requirement {
+    /// Any place.
+    AnyPlace,
+    /// A register that is no fixed stack slot.
+    AnyReg,
+    /// A place in memory.
+    InMemory,
+    /// That register, or fixed stack slot.
+    InPReg(PReg),
+}
+
+/// An operand that is to be allocated.
+#[derive(Clone, Copy)]
+pub struct OperandRequest {
+    /// The virtual register that it names.
+    pub vreg: VReg,
+    /// What it asks of its place.
+    pub requirement: Requirement,
+    /// When it holds its register.
+    pub positions: Positions,
+    /// Whether it defines; else it uses.
+    pub is_def: bool,
+}

@@ -1,0 +1,41 @@
+-- How many registers of a class are free at both positions.
+use Rattle.std.proofs.Common.{ℕ, ◌≡◌, ◌<◌, Bool, true, false, length, refl, sym, ◌∙◌}
+use Rattle.std.specs.Prelude.{◌&&◌, ◌↔◌}
+use Rattle.std.proofs.lemmas.Bool.{and_parts}
+use Rattle.regalloc2_names.specs.declared.RegClass.{RegClass}
+use Rattle.regalloc2_names.specs.declared.sets.PRegSet.{PRegSet}
+use Rattle.regalloc2_names.specs.Register.{Register}
+use Rattle.regalloc2_names.specs.RegisterSet.{has_register, registers_of}
+use Rattle.regalloc2_function.specs.Fitting.{register_number}
+use Rattle.regalloc2_fastalloc_state.specs.declared.inst_regs.InstRegs.{InstRegs}
+use Rattle.regalloc2_fastalloc_state.specs.InstRegs.{IsAvailableAt, both, free_count, is_free, is_free_throughout}
+use Rattle.regalloc2_fastalloc_state.proofs.CountingLaws.{count_same}
+use Rattle.regalloc2_fastalloc_state.proofs.SetMembers.{members_of_class}
+
+same_bool : (a b : Bool) → (a ≡ true → b ≡ true) → (b ≡ true → a ≡ true) → a ≡ b
+same_bool true b f g = sym (f refl)
+same_bool false true f g = g refl
+same_bool false false f g = refl
+
+and_both : (a b : Bool) → a ≡ true → b ≡ true → (a && b) ≡ true
+and_both a b x y = rw (x, y) refl
+
+-- the members of a set of free registers, met with that of a class
+pub free_counted : (set free own allocatable : PRegSet) (inst_regs : InstRegs) (class : RegClass) →
+    ((r : Register) → has_register free r ≡ true → IsAvailableAt inst_regs both r) →
+    ((r : Register) → is_free_throughout inst_regs r ≡ true → has_register free r ≡ true)
+    → ((r : Register) → (has_register own r ≡ true) ↔ ((r.class ≡ class) × (has_register allocatable r ≡ true))) →
+    ((r : Register) → has_register set r ≡ (has_register free r && has_register own r))
+    → length (registers_of set) ≡ free_count allocatable inst_regs class
+free_counted set free own allocatable inst_regs class into from split meet =
+    members_of_class set class (λ r h. ((split r).0 (and_parts (has_register free r) (has_register own r) (sym (meet r) ∙ h)).1).0)
+    ∙ count_same (λ n. has_register set (register_number class n)) (λ n. is_free allocatable inst_regs (register_number class n)) 64
+    (λ n lt. same (register_number class n) refl)
+  where
+    same : (r : Register) → r.class ≡ class → has_register set r ≡ is_free allocatable inst_regs r
+    same r of_class = same_bool (has_register set r) (is_free allocatable inst_regs r)
+        (λ h. let p = and_parts (has_register free r) (has_register own r) (sym (meet r) ∙ h) in let f = into r p.0 in
+        and_both (has_register allocatable r) (is_free_throughout inst_regs r) ((split r).0 p.1).1
+        (and_both (has_register inst_regs.early r) (has_register inst_regs.late r) (f.early refl) (f.late refl)))
+        (λ h. let p = and_parts (has_register allocatable r) (is_free_throughout inst_regs r) h in
+        meet r ∙ and_both (has_register free r) (has_register own r) (from r p.1) ((split r).1 (of_class, p.0)))

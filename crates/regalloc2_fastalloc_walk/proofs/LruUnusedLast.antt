@@ -1,0 +1,128 @@
+-- LRU lists, of whose registers those that weren't used are at the end.
+use Rattle.std.proofs.Common.{ℕ, zero, suc, ◌≡◌, ◌+◌, ◌<◌, ◌≤◌, ◌⊎◌, inl, inr, Bool, true, false, List, [], ◌∷◌, ◌++◌, cond, slice_index_or, length}
+use Rattle.std.proofs.Common.{refl, arith, sym, ap, ◌∙◌, subst, length-append}
+use Rattle.std.specs.Prelude.{Option, None, Some, Contains, filter, find, not, reverse, if◌then◌else◌}
+use Rattle.std.proofs.lemmas.Bool.{cases_Bool}
+use Rattle.std.proofs.lemmas.List.{append_assoc, reverse-append}
+use Rattle.std.proofs.lemmas.List.Elements.{Contains-append_cases, Contains-append_left, Contains-append_right, filter-append}
+use Rattle.regalloc2_names.specs.declared.RegClass.{RegClass}
+use Rattle.regalloc2_names.specs.Register.{Register, class_code, is_register}
+use Rattle.regalloc2_names.specs.Same.{is_register-same, is_register-true}
+use Rattle.regalloc2_function.specs.Fitting.{count_below, register_number}
+use Rattle.regalloc2_fastalloc_state.specs.StateParts.{AreLrus, IsLruOf, AllocatableRegsValue, lru_of}
+use Rattle.regalloc2_parts.proofs.Poked.{kept, was_there}
+
+-- all others than a register
+abbrev pub but : Register → List Register → List Register
+but r xs = filter (λ q. not (is_register r q)) xs
+
+-- no longer
+pub but_most : (r : Register) (xs : List Register) → length (but r xs) ≤ length xs
+but_most r [] = omega arith
+but_most r (x ∷ xs) = by (is_register r x) (but_most r xs)
+  where
+    by : (b : Bool) → length (but r xs) ≤ length xs → length (cond (not b) (x ∷ but r xs) (but r xs)) ≤ length (x ∷ xs)
+    by true h = omega (arith, h)
+    by false h = omega (arith, h)
+
+-- and shorter, where it was there
+pub but_less : (r : Register) (xs : List Register) → Contains xs r → length (but r xs) + 1 ≤ length xs
+but_less r [] (k, less, at) = absurd (omega arith)
+but_less r (x ∷ xs) (zero, less, at) =
+    let same : is_register r x ≡ true = subst (λ (y : Register). is_register r y ≡ true) (sym at) (is_register-same r) in
+    let most : length (but r xs) ≤ length xs = but_most r xs in
+    rw same (omega (arith, most))
+but_less r (x ∷ xs) (suc k, less, at) = by (is_register r x) (but_less r xs (k, omega arith, at))
+  where
+    by : (b : Bool) → length (but r xs) + 1 ≤ length xs → length (cond (not b) (x ∷ but r xs) (but r xs)) + 1 ≤ length (x ∷ xs)
+    by true h = omega (arith, h)
+    by false h = omega (arith, h)
+
+-- without one register a list still has each other one that it had
+pub but_others : (r q : Register) (xs : List Register) → Contains xs q → is_register r q ≡ false → Contains (but r xs) q
+but_others r q xs h e = kept (λ x. not (is_register r x)) xs q h (rw e refl)
+
+-- what is in a list without one register is in the list
+pub but_from : (r q : Register) (xs : List Register) → Contains (but r xs) q → Contains xs q
+but_from r q xs h = was_there (λ x. not (is_register r x)) xs q h
+
+-- it isn't there any more
+pub but_not : (r : Register) (xs : List Register) → Contains (but r xs) r → ⊥
+but_not r [] (k, less, at) = omega arith
+but_not r (x ∷ xs) h = by (but_not r xs) (is_register r x) refl h
+  where
+    past : (Contains (but r xs) r → ⊥) → (k : ℕ) → is_register r x ≡ false → (k < length (x ∷ but r xs)) → slice_index_or (x ∷ but r xs) k r ≡ r → ⊥
+    past rest zero e less at = (let same : is_register r x ≡ true = subst (λ (y : Register). is_register r y ≡ true) (sym at) (is_register-same r) in
+        let wrong : true ≡ false = sym same ∙ e in cc)
+    past rest (suc k) e less at = rest (k, omega arith, at)
+
+    by : (Contains (but r xs) r → ⊥) → (b : Bool) → is_register r x ≡ b → Contains (cond (not b) (x ∷ but r xs) (but r xs)) r → ⊥
+    by rest true e c = rest c
+    by rest false e (k, less, at) = past rest k e less at
+
+-- leaving a register out of two lists put together is leaving it out of each
+pub but_split : (r : Register) (xs ys : List Register) → but r (xs ++ ys) ≡ but r xs ++ but r ys
+but_split r xs ys = filter-append (λ q. not (is_register r q)) xs ys
+
+-- a list that isn't empty has a last member
+last_split : (x : Register) (xs : List Register) → (front : List Register) × (last : Register) × ((x ∷ xs) ≡ front ++ (last ∷ []))
+last_split x [] = ([], x, refl)
+last_split x (y ∷ ys) = (let r = last_split y ys in (x ∷ r.0, r.1, ap (λ (l : List Register). x ∷ l) r.2))
+
+-- the least recently used that passes is one of the last ones, where these all pass
+pub found_last : (test : Register → Bool) (used unused : List Register) (r : Register) → 0 < length unused →
+    ((q : Register) → Contains unused q → test q ≡ true) → find test (reverse (used ++ unused)) ≡ Some r → Contains unused r
+found_last test used [] r some all found = absurd (omega arith)
+found_last test used (x ∷ xs) r some all found = at (last_split x xs).0 (last_split x xs).1 (last_split x xs).2
+  where
+    at : (front : List Register) (last : Register) → (x ∷ xs) ≡ front ++ (last ∷ []) → Contains (x ∷ xs) r
+    at front last e =
+        let there : Contains (x ∷ xs) last = subst (λ (l : List Register). Contains l last) (sym e)
+        (Contains-append_right front (last ∷ []) last (0, omega arith, refl)) in
+        let turned : reverse (used ++ (x ∷ xs)) ≡ last ∷ reverse (used ++ front) =
+        ap (λ (l : List Register). reverse (used ++ l)) e ∙ ap reverse (sym (append_assoc used front (last ∷ [])))
+        ∙ reverse-append (used ++ front) (last ∷ []) in
+        let now : find test (last ∷ reverse (used ++ front)) ≡ Some r = ap (find test) (sym turned) ∙ found in
+        let is : Some last ≡ Some r = by_last (all last there) now in
+        subst (Contains (x ∷ xs)) (some_same last r is) there
+      where
+        by_last : test last ≡ true → find test (last ∷ reverse (used ++ front)) ≡ Some r → Some last ≡ Some r
+        by_last yes_it h = rw yes_it at h
+
+        some_same : (a b : Register) → Some a ≡ Some b → a ≡ b
+        some_same a b e = cc
+
+-- a list with all registers of a class that pass is as long as they are many
+pub counted : (p : ℕ → Bool) (class : RegClass) (n : ℕ) (rs : List Register) → ((k : ℕ) → k < n → p k ≡ true → Contains rs (register_number class k)) →
+    count_below p n ≤ length rs
+unfolding count_below
+counted p class zero rs h = omega arith
+counted p class (suc n) rs h = elim (cases_Bool (p n)) [
+  | inl e ↦ (
+      let less : length (but (register_number class n) rs) + 1 ≤ length rs = but_less (register_number class n) rs (h n (omega arith) e) in
+      let rest : count_below p n ≤ length (but (register_number class n) rs) = counted p class n (but (register_number class n) rs)
+      (λ k lt f. but_others (register_number class n) (register_number class k) rs (h k (omega arith) f) (other k lt)) in
+      rw e (omega (arith, less, rest)))
+  | inr e ↦ (let rest : count_below p n ≤ length rs = counted p class n rs (λ k lt f. h k (omega arith) f) in rw e (omega (arith, rest)))
+]
+  where
+    other : (k : ℕ) → k < n → is_register (register_number class n) (register_number class k) ≡ false
+    other k lt = elim (cases_Bool (is_register (register_number class n) (register_number class k))) [
+      | inl e ↦ (let same : register_number class n ≡ register_number class k = is_register-true (register_number class n) (register_number class k) e in
+          let q : n ≡ k = ap (λ (r : Register). r.number) same in absurd (omega (arith, q, lt)))
+      | inr e ↦ e
+    ]
+
+-- a register is the newest: it and the used ones are at the front, the others behind
+pub newest_first : (r : Register) (used unused ring : List Register) → ring ≡ used ++ unused → r ∷ filter (λ q. not (is_register r q)) ring ≡ (r ∷ but r used)
+    ++ but r unused
+newest_first r used unused ring e = ap (λ (l : List Register). r ∷ filter (λ q. not (is_register r q)) l) e
+    ∙ ap (λ (l : List Register). r ∷ l) (filter-append (λ q. not (is_register r q)) used unused)
+
+-- the LRU list of each class, of all three
+pub ring_is : (t : AllocatableRegsValue) → AreLrus t.allocatable t.lrus → (class : RegClass) → IsLruOf t.allocatable class (lru_of t class)
+ring_is t h class = record {
+  of_class = λ r c. h.of_class class r c;
+  has = λ r c. h.has class r c;
+  all = λ r lt e has. subst (λ (k : RegClass). Contains (slice_index_or t.lrus (class_code k) []) r) e (h.all r lt has);
+}

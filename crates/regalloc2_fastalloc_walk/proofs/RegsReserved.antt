@@ -1,0 +1,439 @@
+-- What operands reserve, one after another.
+use Rattle.std.proofs.Common.{ℕ, ◌≡◌, ◌≢◌, ◌+◌, ◌<◌, ◌≤◌, ◌⊎◌, inl, inr, Bool, true, false, List, [], ◌∷◌, length, refl, arith, sym, ap, ◌∙◌, subst}
+use Rattle.std.proofs.Common.{set, get_or-set_same}
+use Rattle.std.specs.Prelude.{Option, None, Some, IfSome, not, ◌&&◌, ◌||◌, if◌then◌else◌, nat_eq, min, take, count_by, slice_index, slice_set}
+use Rattle.std.proofs.lemmas.Bool.{cases_Bool, cases_eq, and_parts, eqb-true}
+use Rattle.std.proofs.lemmas.List.{get_or-set_other, length-take-le, take_all}
+use Rattle.std.proofs.lemmas.List.Sums.{count_by-le-length, count_by_more_yes, count_by_more_no}
+use Rattle.regalloc2_names.specs.declared.RegClass.{RegClass}
+use Rattle.regalloc2_names.specs.declared.RegClass.TheVariants.{Int, Float, Vector}
+use Rattle.regalloc2_names.specs.declared.OperandConstraint.{OperandConstraint}
+use Rattle.regalloc2_names.specs.declared.OperandConstraint.TheVariants.{Any, Reg, Stack, FixedReg, Reuse, Limit}
+use Rattle.regalloc2_function.specs.Fitting.{is_under_reg}
+use Rattle.regalloc2_names.specs.Register.{Register, class_code, is_register}
+use Rattle.regalloc2_names.specs.RegisterSet.{has_register}
+use Rattle.regalloc2_names.specs.Operand.{OperandValue}
+use Rattle.regalloc2_semantics.proofs.Cells.{is_register-same, is_register-true}
+use Rattle.regalloc2_fastalloc_state.specs.declared.inst_regs.Positions.{Positions}
+use Rattle.regalloc2_fastalloc_state.specs.declared.inst_regs.InstRegs.{InstRegs}
+use Rattle.regalloc2_fastalloc_walk.specs.declared.reserve_regs.ReservedRegs.{ReservedRegs}
+use Rattle.regalloc2_fastalloc_state.specs.InstRegs.{RemovesAvailable, SameAvailable, awaited_of, is_free_throughout}
+use Rattle.regalloc2_validate.specs.Constraints.{op_at, no_operand}
+use Rattle.regalloc2_fastalloc_proofs.specs.InstSteps.{StateValue, NeedsFixedReg, own, named, IsFixedIn, ReservesRegs, asks, asking}
+use Rattle.regalloc2_fastalloc_walk.specs.ReserveSteps.{IsKnown, Shrinks, Grows, IsNewlyReserved, IsReserved, ReservesRegForOperand, TakesOnly}
+use Rattle.regalloc2_fastalloc_walk.specs.ReserveSteps.{TakesFixed, AwaitsOne, ReservesOnly, OperandReserves, ReserveForOperandFails, IsReservedAt}
+use Rattle.regalloc2_fastalloc_proofs.specs.OutOfRegs.{ReserveRegsFails, unknown, shared}
+
+-- no register becomes available where nothing changes
+pub shrinks_none : (t : InstRegs) → Shrinks t t
+shrinks_none t = record { early = λ r h. h; late = λ r h. h; scratch = refl }
+
+-- where no register becomes available in either of two steps, none does over both
+pub shrinks_then : (t u w : InstRegs) → Shrinks t u → Shrinks u w → Shrinks t w
+shrinks_then t u w a b = record { early = λ r h. a.early r (b.early r h); late = λ r h. a.late r (b.late r h); scratch = b.scratch ∙ a.scratch }
+
+-- taking a register makes no register available, and leaves the scratch registers
+pub shrinks_held : (t u : InstRegs) (r : Register) (p : Positions) → RemovesAvailable t u r p → Shrinks t u
+shrinks_held t u r p h = record {
+  early = λ q e. (and_parts (not (p.early && is_register r q)) (has_register t.early q) (sym (h.early q) ∙ e)).1;
+  late = λ q e. (and_parts (not (p.late && is_register r q)) (has_register t.late q) (sym (h.late q) ∙ e)).1;
+  scratch = h.scratch;
+}
+
+-- where no register becomes available, none does if only the count of operands that wait changes after that
+pub shrinks_same : (t u w : InstRegs) → Shrinks t u → SameAvailable u w → Shrinks t w
+shrinks_same t u w a s = record {
+  early = λ r h. a.early r (ap (λ x. has_register x r) (sym s.early) ∙ h);
+  late = λ r h. a.late r (ap (λ x. has_register x r) (sym s.late) ∙ h);
+  scratch = s.scratch ∙ a.scratch;
+}
+
+-- one register is held
+pub takes_held : (t u : InstRegs) (r : Register) (p : Positions) → RemovesAvailable t u r p → TakesOnly r t u
+takes_held t u r p h = record {
+  early = λ q e. h.early q ∙ other p.early (is_register r q) (has_register t.early q) e;
+  late = λ q e. h.late q
+      ∙ other p.late (is_register r q) (has_register t.late q) e;
+}
+  where
+    other : (a b c : Bool) → b ≡ false → (not (a && b) && c) ≡ c
+    other true b c e = rw e refl
+    other false b c e = refl
+
+-- where nothing changes no register is taken but, if any, this one
+pub takes_none : (t : InstRegs) (r : Register) → TakesOnly r t t
+takes_none t r = record { early = λ q e. refl; late = λ q e. refl }
+
+-- a register that operands are fixed to is taken, or none is
+pub fixed_none : (ops : List OperandValue) (t u : InstRegs) → u.early ≡ t.early → u.late ≡ t.late → TakesFixed ops t u
+fixed_none ops t u e l r was now = absurd (let same : is_free_throughout u r ≡ is_free_throughout t r = rw (e, l) refl in let x : true ≡ false = sym was
+    ∙ sym same ∙ now in cc)
+
+-- where at most a register is taken to which an operand is fixed, only such registers are taken
+pub fixed_one : (ops : List OperandValue) (t u : InstRegs) (q : Register) → IsFixedIn ops q → TakesOnly q t u → TakesFixed ops t u
+fixed_one ops t u q fixed s r was now = elim (cases_Bool (is_register q r)) [
+  | inl e ↦ subst (IsFixedIn ops) (is_register-true q r e) fixed
+  | inr e ↦ absurd (let same : is_free_throughout u r ≡ is_free_throughout t r = rw (s.early r e, s.late r e) refl in let x : true ≡ false = sym was ∙ sym same
+      ∙ now in cc)
+]
+
+-- where only registers to which operands are fixed are taken in each of two steps, only such are taken over both
+pub fixed_then : (ops : List OperandValue) (t u w : InstRegs) → TakesFixed ops t u → TakesFixed ops u w → TakesFixed ops t w
+fixed_then ops t u w a b r was now = elim (cases_Bool (is_free_throughout u r)) [ inl e ↦ b r e now | inr e ↦ a r was e ]
+
+-- a register that an operand claims before it is placed is one that some operand is fixed to
+pub claims_fixed : (ops : List OperandValue) (k : ℕ) (r : Register) (p : Positions) → k < length ops → NeedsFixedReg ops k r p → IsFixedIn ops r
+claims_fixed ops k r p lt (own not_nonallocatable is at) = (k, lt, is)
+claims_fixed ops k r p lt (named n reuse less is at) = (n, less, is)
+
+-- no claim is added, or one, or those of two steps
+pub claims_none : (ops : List OperandValue) (k : ℕ) (c d : ReservedRegs) → d.early ≡ c.early → d.late ≡ c.late → OperandReserves ops k c d
+claims_none ops k c d e l = record { early = λ r h. inl (ap (λ x. has_register x r) (sym e) ∙ h); late = λ r h. inl (ap (λ x. has_register x r) (sym l) ∙ h) }
+
+-- a register that operand k has to reserve, and no other, is reserved: then operand k reserves no more than its own
+pub claims_one : (ops : List OperandValue) (k : ℕ) (c d : ReservedRegs) (q : Register) (o : Positions) → NeedsFixedReg ops k q o → ReservesOnly c d q o →
+    OperandReserves ops k c d
+claims_one ops k c d q o fixed s = record {
+  early = λ r h. elim (s.early r h) [ inl a ↦ inl a | inr b ↦ inr (o, subst (λ (x : Register). NeedsFixedReg ops k x o) (sym b.0) fixed, b.1) ];
+  late = λ r h. elim (s.late r h) [ inl a ↦ inl a | inr b ↦ inr (o, subst (λ (x : Register). NeedsFixedReg ops k x o) (sym b.0) fixed, b.1) ];
+}
+
+-- operand k reserves no more than its own where the reserved sets after it are replaced by equal ones
+pub claims_then : (ops : List OperandValue) (k : ℕ) (c d e : ReservedRegs) → OperandReserves ops k c d → e.early ≡ d.early → e.late ≡ d.late
+    → OperandReserves ops k c e
+claims_then ops k c d e h x y = record {
+  early = λ r a. h.early r (ap (λ q. has_register q r) (sym x) ∙ a);
+  late = λ r a. h.late r (ap (λ q. has_register q r) (sym y) ∙ a);
+}
+
+-- how many operands are awaited
+codes_differ : (a b : RegClass) → nat_eq (class_code a) (class_code b) ≡ false → class_code a ≢ class_code b
+codes_differ Int Int e = absurd cc
+codes_differ Int Float e = λ x. cc
+codes_differ Int Vector e = λ x. cc
+codes_differ Float Int e = λ x. cc
+codes_differ Float Float e = absurd cc
+codes_differ Float Vector e = λ x. cc
+codes_differ Vector Int e = λ x. cc
+codes_differ Vector Float e = λ x. cc
+codes_differ Vector Vector e = absurd cc
+
+code_three : (c : RegClass) → class_code c < 3
+code_three Int = omega arith
+code_three Float = omega arith
+code_three Vector = omega arith
+
+-- an operand that asks for any register is awaited
+pub awaits_it : (ops : List OperandValue) (k : ℕ) (t u : InstRegs) → (op_at ops k).constraint ≡ Reg → length t.awaited ≡ 3
+    → u.awaited ≡ slice_set t.awaited (class_code (op_at ops k).vreg.class) (min (awaited_of t (op_at ops k).vreg.class + 1) 18446744073709551615) →
+    AwaitsOne ops k t u
+awaits_it ops k t u is three now class small = elim (cases_Bool (nat_eq (class_code (op_at ops k).vreg.class) (class_code class))) [
+  | inl e ↦ (
+      let code = (op_at ops k).vreg.class in
+      let same : class_code code ≡ class_code class = eqb-true (class_code code) (class_code class) e in
+      let at : awaited_of u class ≡ min (awaited_of t code + 1) 18446744073709551615 = ap (λ (xs : List ℕ). slice_index xs (class_code class)) now
+      ∙ ap (λ (n : ℕ). slice_index (slice_set t.awaited (class_code code) (min (awaited_of t code + 1) 18446744073709551615)) n) (sym same)
+      ∙ get_or-set_same t.awaited (class_code code) (min (awaited_of t code + 1) 18446744073709551615) 0 (let x = code_three code in omega (arith, x, three)) in
+      let there : awaited_of t code ≡ awaited_of t class = ap (λ (n : ℕ). slice_index t.awaited n) same in
+      rw (is, e) (omega (arith, at, there, small)))
+  | inr e ↦ (
+      let code = (op_at ops k).vreg.class in
+      let at : awaited_of u class ≡ awaited_of t class = ap (λ (xs : List ℕ). slice_index xs (class_code class)) now
+      ∙ get_or-set_other t.awaited (class_code code) (class_code class) (min (awaited_of t code + 1) 18446744073709551615) 0
+      (λ x. codes_differ code class e (sym x)) in
+      rw (is, e) (omega (arith, at)))
+]
+
+-- and no other is
+pub awaits_nothing : (ops : List OperandValue) (k : ℕ) (t u : InstRegs) → ((op_at ops k).constraint ≡ Reg → ⊥) → u.awaited ≡ t.awaited → AwaitsOne ops k t u
+awaits_nothing ops k t u not_reg now class small = rw (now, not_under (op_at ops k).constraint not_reg) (omega arith)
+  where
+    not_under : (c : OperandConstraint) → (c ≡ Reg → ⊥) → is_under_reg c ≡ false
+    not_under Any h = refl
+    not_under Reg h = absurd (h refl)
+    not_under Stack h = refl
+    not_under (FixedReg r) h = refl
+    not_under (Reuse n) h = refl
+    not_under (Limit n) h = refl
+
+-- what isn't free isn't later on
+pub stays_held : (a b : Bool) → (b ≡ true → a ≡ true) → a ≡ false → b ≡ false
+stays_held true b h e = absurd cc
+stays_held false true h e = sym (h refl)
+stays_held false false h e = refl
+
+held_now : (there same before now : Bool) → now ≡ (not (there && same) && before) → there ≡ true → same ≡ true → now ≡ false
+held_now true true before now e a b = e
+held_now false same before now e a b = absurd cc
+held_now true false before now e a b = absurd cc
+
+-- a register of the machine that is reserved and then removed from the available ones is reserved as it has to be
+pub reserved_held : (t : StateValue) (r : Register) (p : Positions) (u w : InstRegs) (c d : ReservedRegs) → IsKnown t r → IsNewlyReserved c d r p →
+    RemovesAvailable u w r p → IsReserved t r p w c d
+reserved_held t r p u w c d known claimed h = record {
+  known = known;
+  claimed = claimed;
+  held_early = λ e. held_now p.early (is_register r r) (has_register u.early r) (has_register w.early r) (h.early r) e (is_register-same r);
+  held_late = λ e. held_now p.late (is_register r r) (has_register u.late r) (has_register w.late r) (h.late r) e (is_register-same r);
+}
+
+-- of a disjunction that is true one part is true
+pub known_of : (a b : Bool) → true ≡ (a || b) → (a ≡ true) ⊎ (b ≡ true)
+known_of true b h = inl refl
+known_of false b h = inr (sym h)
+
+-- more is held, and claims are the same from then on
+pub reserved_more : (t : StateValue) (r : Register) (p : Positions) (u w : InstRegs) (c d e : ReservedRegs) → IsReserved t r p u c d → Shrinks u w →
+    e.early ≡ d.early → e.late ≡ d.late → IsReserved t r p w c e
+reserved_more t r p u w c d e h s x y = record {
+  known = h.known;
+  claimed = record {
+    fresh_early = h.claimed.fresh_early;
+    fresh_late = h.claimed.fresh_late;
+    early = λ a. ap (λ q. has_register q r) x ∙ h.claimed.early a;
+    late = λ a. ap (λ q. has_register q r) y ∙ h.claimed.late a;
+  };
+  held_early = λ a. stays_held (has_register u.early r) (has_register w.early r) (s.early r) (h.held_early a);
+  held_late = λ a. stays_held (has_register u.late r) (has_register w.late r) (s.late r) (h.held_late a);
+}
+
+clash : (b : Bool) → b ≡ true → b ≡ false → ⊥
+clash b x y = cc
+
+-- what the first k operands reserved
+pub record Reserving (ops : List OperandValue) (k : ℕ) (t u : InstRegs) (c : ReservedRegs) (old : StateValue) : Type 0 where
+  pub shrinks : Shrinks t u
+  pub known : (j : ℕ) (r : Register) (p : Positions) → j < k → NeedsFixedReg ops j r p → IsKnown old r
+  pub claimed_early : (j : ℕ) (r : Register) (p : Positions) → j < k → NeedsFixedReg ops j r p → p.early ≡ true → has_register c.early r ≡ true
+  pub claimed_late : (j : ℕ) (r : Register) (p : Positions) → j < k → NeedsFixedReg ops j r p → p.late ≡ true → has_register c.late r ≡ true
+  pub held_early : (j : ℕ) (r : Register) (p : Positions) → j < k → NeedsFixedReg ops j r p → p.early ≡ true → has_register u.early r ≡ false
+  pub held_late : (j : ℕ) (r : Register) (p : Positions) → j < k → NeedsFixedReg ops j r p → p.late ≡ true → has_register u.late r ≡ false
+  pub apart : (i j : ℕ) (r : Register) (p q : Positions) → i < k → j < k → NeedsFixedReg ops i r p → NeedsFixedReg ops j r q →
+      ((p.early && q.early) || (p.late && q.late)) ≡ true → i ≡ j
+  pub takes : TakesFixed ops t u
+  pub early_claims : (r : Register) → has_register c.early r ≡ true → (j : ℕ) × (p : Positions) × (j < k) × NeedsFixedReg ops j r p × (p.early ≡ true)
+  pub late_claims : (r : Register) → has_register c.late r ≡ true → (j : ℕ) × (p : Positions) × (j < k) × NeedsFixedReg ops j r p × (p.late ≡ true)
+
+-- before the first operand nothing is reserved, where both sets of reserved registers are empty
+pub reserving_none : (ops : List OperandValue) (t : InstRegs) (c : ReservedRegs) (old : StateValue) → ((r : Register) → has_register c.early r ≡ false) →
+    ((r : Register) → has_register c.late r ≡ false) → Reserving ops 0 t t c old
+reserving_none ops t c old no_early no_late = record {
+  shrinks = shrinks_none t;
+  known = λ j r p lt h. absurd (omega arith);
+  claimed_early = λ j r p lt h e. absurd (omega arith);
+  claimed_late = λ j r p lt h e. absurd (omega arith);
+  held_early = λ j r p lt h e. absurd (omega arith);
+  held_late = λ j r p lt h e. absurd (omega arith);
+  apart = λ i j r p q li lj a b e. absurd (omega arith);
+  takes = fixed_none ops t t refl refl;
+  early_claims = λ r h. absurd (clash (has_register c.early r) h (no_early r));
+  late_claims = λ r h. absurd (clash (has_register c.late r) h (no_late r));
+}
+
+two_ways : (a b c d : Bool) → ((a && b) || (c && d)) ≡ true → ((a ≡ true) × (b ≡ true)) ⊎ ((c ≡ true) × (d ≡ true))
+two_ways true true c d e = inl (refl, refl)
+two_ways true false c d e = inr (and_parts c d e)
+two_ways false b c d e = inr (and_parts c d e)
+
+module _ (ops : List OperandValue) (k : ℕ) (t u w : InstRegs) (c d : ReservedRegs) (old : StateValue) (h : Reserving ops k t u c old)
+    (s : ReservesRegForOperand ops k u w c d old) where
+  -- two operands of which the second is the new one
+  met : (i : ℕ) (r : Register) (p q : Positions) → i < k → NeedsFixedReg ops i r p → NeedsFixedReg ops k r q →
+      ((p.early && q.early) || (p.late && q.late)) ≡ true → ⊥
+  met i r p q lt a b e =
+      let new : IsNewlyReserved c d r q = (s.reserved r q b).claimed in
+      elim (two_ways p.early q.early p.late q.late e) [
+        | inl x ↦ clash (has_register c.early r) (h.claimed_early i r p lt a x.0) (new.fresh_early x.1)
+        | inr x ↦ clash (has_register c.late r) (h.claimed_late i r p lt a x.0) (new.fresh_late x.1)
+      ]
+
+  turned : (a b e f : Bool) → ((a && b) || (e && f)) ≡ ((b && a) || (f && e))
+  turned true true e f = refl
+  turned true false true true = refl
+  turned true false true false = refl
+  turned true false false true = refl
+  turned true false false false = refl
+  turned false true true true = refl
+  turned false true true false = refl
+  turned false true false true = refl
+  turned false true false false = refl
+  turned false false true true = refl
+  turned false false true false = refl
+  turned false false false true = refl
+  turned false false false false = refl
+
+  newest : (P : ℕ → Type 0) (j : ℕ) → j < k + 1 → (j < k → P j) → P k → P j
+  newest P j lt f g = elim (cases_eq j k) [ inl e ↦ subst P (sym e) g | inr ne ↦ f (omega arith) ]
+
+  -- with what operand k reserves the first k + 1 operands have reserved what they need
+  pub reserving_more : Reserving ops (k + 1) t w d old
+  reserving_more = record {
+    shrinks = shrinks_then t u w h.shrinks s.shrinks;
+    known = λ j r p lt. newest (λ x. NeedsFixedReg ops x r p → IsKnown old r) j lt (λ l. h.known j r p l) (λ a. (s.reserved r p a).known);
+    claimed_early = λ j r p lt. newest (λ x. NeedsFixedReg ops x r p → p.early ≡ true → has_register d.early r ≡ true) j lt
+        (λ l a e. s.grows.early r (h.claimed_early j r p l a e)) (λ a e. (s.reserved r p a).claimed.early e);
+    claimed_late = λ j r p lt. newest (λ x. NeedsFixedReg ops x r p → p.late ≡ true → has_register d.late r ≡ true) j lt
+        (λ l a e. s.grows.late r (h.claimed_late j r p l a e)) (λ a e. (s.reserved r p a).claimed.late e);
+    held_early = λ j r p lt. newest (λ x. NeedsFixedReg ops x r p → p.early ≡ true → has_register w.early r ≡ false) j lt
+        (λ l a e. stays_held (has_register u.early r) (has_register w.early r) (s.shrinks.early r) (h.held_early j r p l a e))
+        (λ a e. (s.reserved r p a).held_early e);
+    held_late = λ j r p lt. newest (λ x. NeedsFixedReg ops x r p → p.late ≡ true → has_register w.late r ≡ false) j lt
+        (λ l a e. stays_held (has_register u.late r) (has_register w.late r) (s.shrinks.late r) (h.held_late j r p l a e))
+        (λ a e. (s.reserved r p a).held_late e);
+    apart = λ i j r p q li lj a b e. elim (cases_eq i k) [
+      | inl x ↦ elim (cases_eq j k) [
+        | inl y ↦ x ∙ sym y
+        | inr y ↦ absurd (met j r q p (omega arith) b (subst (λ n. NeedsFixedReg ops n r p) x a) (sym (turned p.early q.early p.late q.late) ∙ e))
+      ]
+      | inr x ↦ elim (cases_eq j k) [
+        | inl y ↦ absurd (met i r p q (omega arith) a (subst (λ n. NeedsFixedReg ops n r q) y b) e)
+        | inr y ↦ h.apart i j r p q (omega arith) (omega arith) a b e
+      ]
+    ];
+    takes = fixed_then ops t u w h.takes s.takes;
+    early_claims = λ r a. elim (s.claims.early r a) [
+      | inl x ↦ (let m = h.early_claims r x in (m.0, m.1, (let l = m.2 in omega (arith, l)), m.3, m.4))
+      | inr x ↦ (k, x.0, omega arith, x.1, x.2)
+    ];
+    late_claims = λ r a. elim (s.claims.late r a) [
+      | inl x ↦ (let m = h.late_claims r x in (m.0, m.1, (let l = m.2 in omega (arith, l)), m.3, m.4))
+      | inr x ↦ (k, x.0, omega arith, x.1, x.2)
+    ];
+  }
+
+-- an operand whose claim stops the reserving
+or_left : (a b : Bool) → a ≡ true → (a || b) ≡ true
+or_left a b e = rw e refl
+
+or_right : (a b : Bool) → b ≡ true → (a || b) ≡ true
+or_right true b e = refl
+or_right false b e = e
+
+and_both : (a b : Bool) → a ≡ true → b ≡ true → (a && b) ≡ true
+and_both a b x y = rw (x, y) refl
+
+or_parts : (a b : Bool) → (a || b) ≡ true → (a ≡ true) ⊎ (b ≡ true)
+or_parts true b e = inl refl
+or_parts false b e = inr e
+
+-- where operand k can't reserve its register, the reservation of the instruction's registers fails for a reason that is named
+pub stops_reserve : (ops : List OperandValue) (k : ℕ) (t u : InstRegs) (c : ReservedRegs) (old : StateValue) → k < length ops → Reserving ops k t u c old →
+    ReserveForOperandFails ops k c old → ReserveRegsFails ops old
+stops_reserve ops k t u c old lt h s = elim s.stops [
+  | inl absent ↦ unknown k s.register s.positions lt s.claims absent
+  | inr at ↦ elim (or_parts (s.positions.early && has_register c.early s.register) (s.positions.late && has_register c.late s.register) at) [
+    | inl e ↦ (
+        let w = and_parts s.positions.early (has_register c.early s.register) e in
+        let m = h.early_claims s.register w.1 in
+        shared m.0 k s.register m.1 s.positions m.2 lt m.3 s.claims (or_left (m.1.early && s.positions.early) (m.1.late && s.positions.late)
+        (and_both m.1.early s.positions.early m.4 w.0)))
+    | inr e ↦ (
+        let w = and_parts s.positions.late (has_register c.late s.register) e in
+        let m = h.late_claims s.register w.1 in
+        shared m.0 k s.register m.1 s.positions m.2 lt m.3 s.claims (or_right (m.1.early && s.positions.early) (m.1.late && s.positions.late)
+        (and_both m.1.late s.positions.late m.4 w.0)))
+  ]
+]
+
+-- so many of the first k operands ask for any register of a class
+abbrev pub Awaiting : List OperandValue → ℕ → InstRegs → InstRegs → Type 0
+Awaiting ops k t u = t.awaited ≡ 0 ∷ 0 ∷ 0 ∷ [] → (class : RegClass) → awaited_of u class ≡ asking (take k ops) class
+
+none_awaited : (class : RegClass) → slice_index (0 ∷ 0 ∷ 0 ∷ []) (class_code class) ≡ 0
+none_awaited Int = refl
+none_awaited Float = refl
+none_awaited Vector = refl
+
+-- of the first 0 operands none waits for a register
+pub awaiting_none : (ops : List OperandValue) (t : InstRegs) → Awaiting ops 0 t t
+awaiting_none ops t e class = ap (λ xs. slice_index xs (class_code class)) e ∙ none_awaited class
+
+asking_few : (ops : List OperandValue) (k : ℕ) (class : RegClass) → k < length ops → asking (take k ops) class ≤ k
+asking_few ops k class lt = (let a = count_by-le-length (asks class) (take k ops) in let b = length-take-le k ops (omega (arith, lt)) in omega (arith, a, b))
+
+-- operand k is counted if it is under `Reg`: then the count is that of the first k + 1 operands, as long as it fits in 64 bits
+pub awaiting_more : (ops : List OperandValue) (k : ℕ) (t u w : InstRegs) → k < length ops → k < 18446744073709551615 → AwaitsOne ops k u w →
+    Awaiting ops k t u → Awaiting ops (k + 1) t w
+awaiting_more ops k t u w lt small one h e class =
+    let was = h e class in
+    let few = asking_few ops k class lt in
+    let now = one class (omega (arith, was, few, small)) in
+    elim (cases_Bool (asks class (op_at ops k))) [
+      | inl asked ↦ (let n = rw asked at now in let m = count_by_more_yes (asks class) ops k no_operand lt asked in omega (arith, was, n, m))
+      | inr unasked ↦ (let n = rw unasked at now in let m = count_by_more_no (asks class) ops k no_operand lt unasked in omega (arith, was, n, m))
+    ]
+
+-- once all operands have reserved what they need and are counted, the instruction's registers are reserved
+pub reserves_all : (ops : List OperandValue) (k : ℕ) (t u : InstRegs) (c : ReservedRegs) (old : StateValue) → k ≡ length ops → Awaiting ops k t u →
+    Reserving ops k t u c old → ReservesRegs ops t u old
+reserves_all ops k t u c old e w h = record {
+  known = λ j r p lt a. h.known j r p (omega arith) a;
+  held_early = λ j r p lt a. h.held_early j r p (omega arith) a;
+  held_late = λ j r p lt a. h.held_late j r p (omega arith) a;
+  apart = λ i j r p q li lj a b. h.apart i j r p q (omega arith) (omega arith) a b;
+  early = h.shrinks.early;
+  late = h.shrinks.late;
+  scratch = h.shrinks.scratch;
+  only = h.takes;
+  awaited = λ zero class. w zero class ∙ ap (λ (xs : List OperandValue). asking xs class) (take_all k ops (omega (arith, e)));
+}
+
+-- what is reserved stays so where nothing changes
+pub grows_none : (c : ReservedRegs) → Grows c c
+grows_none c = record { early = λ r h. h; late = λ r h. h }
+
+-- an operand that claims nothing
+pub reserves_nothing : (ops : List OperandValue) (k : ℕ) (t : InstRegs) (c : ReservedRegs) (old : StateValue) →
+    ((r : Register) (p : Positions) → NeedsFixedReg ops k r p → ⊥) → ReservesRegForOperand ops k t t c c old
+reserves_nothing ops k t c old none = record {
+  shrinks = shrinks_none t;
+  grows = grows_none c;
+  takes = fixed_none ops t t refl refl;
+  claims = claims_none ops k c c refl refl;
+  reserved = λ r p h. absurd (none r p h);
+}
+
+-- one that claims a register
+pub reserves_it : (ops : List OperandValue) (k : ℕ) (t u : InstRegs) (c d : ReservedRegs) (old : StateValue) (q : Register) (o : Positions) →
+    ((r : Register) (p : Positions) → NeedsFixedReg ops k r p → (r ≡ q) × (p ≡ o)) →
+    k < length ops → NeedsFixedReg ops k q o → Shrinks t u → TakesOnly q t u → Grows c d → ReservesOnly c d q o → IsReserved old q o u c d →
+    ReservesRegForOperand ops k t u c d old
+reserves_it ops k t u c d old q o only lt claim s taken g added h = record {
+  shrinks = s;
+  grows = g;
+  takes = fixed_one ops t u q (claims_fixed ops k q o lt claim) taken;
+  claims = claims_one ops k c d q o claim added;
+  reserved = λ r p a. let e = only r p a in subst (λ (x : Register). IsReserved old x p u c d) (sym e.0)
+      (subst (λ (x : Positions). IsReserved old q x u c d) (sym e.1) h);
+}
+
+-- and more is held
+pub reserves_then : (ops : List OperandValue) (k : ℕ) (t m u : InstRegs) (c d e : ReservedRegs) (old : StateValue) → ReservesRegForOperand ops k t m c d old →
+    Shrinks m u → TakesFixed ops m u → e.early ≡ d.early → e.late ≡ d.late → ReservesRegForOperand ops k t u c e old
+reserves_then ops k t m u c d e old h s taken x y = record {
+  shrinks = shrinks_then t m u h.shrinks s;
+  takes = fixed_then ops t m u h.takes taken;
+  claims = claims_then ops k c d e h.claims x y;
+  grows = record { early = λ r a. ap (λ q. has_register q r) x ∙ h.grows.early r a; late = λ r a. ap (λ q. has_register q r) y ∙ h.grows.late r a };
+  reserved = λ r p a. reserved_more old r p m u c d e (h.reserved r p a) s x y;
+}
+
+-- an option that has a register with its positions has no other pair
+pub same_claim : (r : Register) (p : Positions) (c : Register × Positions) (x : Option (Register × Positions)) → x ≡ Some (r, p) → x ≡ Some c → (r ≡ c.0)
+    × (p ≡ c.1)
+same_claim r p c x e f =
+    let s : Some (r, p) ≡ Some c = sym e ∙ f in
+    let pair : (r, p) ≡ c = cc in
+    (ap (λ (y : Register × Positions). y.0) pair, ap (λ (y : Register × Positions). y.1) pair)
+
+-- what the code answers that operand k reserves, operand k does reserve
+pub claim_is : (ops : List OperandValue) (k : ℕ) (o : Option (Register × Positions)) → IfSome o (λ c. NeedsFixedReg ops k c.0 c.1) →
+    (c : Register × Positions) → o ≡ Some c → NeedsFixedReg ops k c.0 c.1
+claim_is ops k None h c e = absurd cc
+claim_is ops k (Some d) h c e = (let same : d ≡ c = cc in subst (λ (x : Register × Positions). NeedsFixedReg ops k x.0 x.1) same h)
+
+-- operand k is counted alike from registers with the same count of operands that wait
+pub awaits_from : (ops : List OperandValue) (k : ℕ) (t m u : InstRegs) → m.awaited ≡ t.awaited → AwaitsOne ops k m u → AwaitsOne ops k t u
+awaits_from ops k t m u same h class small =
+    let e : awaited_of m class ≡ awaited_of t class = ap (λ (xs : List ℕ). slice_index xs (class_code class)) same in
+    h class (omega (arith, e, small)) ∙ ap (λ (n : ℕ). n + (if asks class (op_at ops k) then 1 else 0)) e

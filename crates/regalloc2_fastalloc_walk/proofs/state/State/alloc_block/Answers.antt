@@ -1,0 +1,198 @@
+use Rattle.std.proofs.Common.{ℕ, ◌≡◌, ◌+◌, ◌-◌, ◌<◌, ◌≤◌, inl, length, refl, sym, ap, ◌∙◌, subst, rules, arith, slice_index}
+use Rattle.std.proofs.lemmas.List.Sums.{sum_by_more}
+use Rattle.std.proofs.lemmas.Result.{err_from_is_err_and}
+use Rattle.regalloc2_names.specs.Point.{before}
+use Rattle.regalloc2_index.specs.Range.{Span}
+use Rattle.regalloc2_function.specs.FunctionValue.{FunctionValue, block_at, inst_at, no_inst}
+use Rattle.regalloc2_fastalloc_state.specs.OutOfResources.{IsResourceError, SlotsExhaustedWith}
+use Rattle.regalloc2_fastalloc_state.specs.StateParts.{AllAtOrAfter}
+use Rattle.regalloc2_fastalloc_proofs.specs.InstSteps.{StateValue}
+use Rattle.regalloc2_fastalloc_proofs.specs.OutOfRegs.{AllocInstInBlockFails}
+use Rattle.regalloc2_fastalloc_walk.specs.StateView.{tables_of}
+use Rattle.regalloc2_fastalloc_proofs.specs.BranchSteps.{AddsTempSlotsAtMost}
+use Rattle.regalloc2_fastalloc_proofs.specs.BlockSteps.{AllocsInstInBlock, AllocsBlockInsts, at_end, one_in, temp_slots_at, offset_of}
+use Rattle.regalloc2_fastalloc_proofs.proofs.Safety.StateKept.{none_lends, lends_then, apart_kept, lacks_all, block_within, lent_so_far}
+use Rattle.regalloc2_fastalloc_walk.specs.SpillFree.{FitInRegs, IsSpillFreeFrom}
+use Rattle.regalloc2_fastalloc_walk.proofs.state.State.alloc_block.Goals as goal
+
+pub first-requires : goal.first-requires
+first-requires g c =
+    let f : FunctionValue = g.F.Function.function c.args.f.now in
+    let some = (c.requires.well_formed.1.follow c.args.block c.requires.block).0 in
+    subst (λ (r : Span). r.first < r.end) (sym c.block_insns-range.ensures) some
+
+pub loop-i-init : goal.loop-i-init
+loop-i-init g c =
+    let f : FunctionValue = g.F.Function.function c.args.f.now in
+    let t : StateValue = tables_of c.args.self.now in
+    let end : c.index-i.result ≡ (block_at f c.args.block).range.end = c.index-i.ensures ∙ c.end.ensures
+    ∙ ap (λ (r : Span). r.end) c.block_insns-range.ensures in
+    let first : c.index-first.result ≡ (block_at f c.args.block).range.first = c.index-first.ensures ∙ c.first.ensures
+    ∙ ap (λ (r : Span). r.first) c.block_insns-range.ensures in
+    let some = (c.requires.well_formed.1.follow c.args.block c.requires.block).0 in
+    let within = block_within f c.requires.well_formed.1.follow c.args.block c.requires.block in
+    let P : ℕ → Type 0 = λ n. AllocsBlockInsts f c.args.block c.args.allocs.now t n c.args.allocs.now t in
+    let Q : ℕ → Type 0 = λ n. AllAtOrAfter (before n) c.args.self.now.edits in
+    record {
+      first = first;
+      from = omega (arith, first, end, some);
+      within = omega (arith, end);
+      inside = omega (arith, end, within);
+      walks = subst P (sym end) at_end;
+      blank = λ k lt. c.requires.no_places k (let e = ap (offset_of f) end in omega (arith, lt, e));
+      later = subst Q (sym end) c.requires.later;
+      long = refl;
+      machine = none_lends 6 t;
+      spill_free = λ names few asks h. subst (λ (n : ℕ). IsSpillFreeFrom names f n c.args.self.now.registers t) (sym end) h;
+      begun = λ e. none_lends 0 t;
+    }
+
+pub alloc_inst_in_block-requires : goal.alloc_inst_in_block-requires
+alloc_inst_in_block-requires g c =
+    let f : FunctionValue = g.F.Function.function c.args.f.now in
+    let i : ℕ = c.loop-i.i - 1 in
+    let at : c.new.result ≡ i = c.new.ensures in
+    let next : c.loop-i.i ≡ i + 1 = omega (arith, c.loop-i-test.true) in
+    let lt : i < length f.insts = omega (arith, next, c.loop-i.invariant.inside) in
+    let start : slice_index c.args.offsets.now i ≡ offset_of f i = c.requires.offsets i lt in
+    let upto : offset_of f c.loop-i.i ≡ offset_of f (c.new.result + 1) = ap (offset_of f) (next ∙ omega (arith, at)) in (
+      search rules,
+      (
+        c.requires.block,
+        (
+          omega (arith, at, lt),
+          (
+            omega (arith, at, c.loop-i.invariant.first, c.loop-i-test.true),
+            (
+              omega (arith, at, next, c.loop-i.invariant.within),
+              (
+                c.requires.well_formed,
+                (
+                  c.loop-i.invariant.long ∙ c.requires.long,
+                  (
+                    apart_kept 6 (tables_of c.args.self.now) (tables_of c.loop-i.self) c.loop-i.invariant.machine c.requires.apart,
+                    (
+                      λ k d less. omega (arith, c.loop-i.invariant.later k d less, at, next),
+                      (
+                        start ∙ sym (ap (offset_of f) at),
+                        (c.loop-i.auto.allocs ∙ c.requires.allocs_long, λ k less. c.loop-i.invariant.blank k (omega (arith, less, upto))),
+                      ),
+                    ),
+                  ),
+                ),
+              ),
+            ),
+          ),
+        ),
+      ),
+    )
+
+pub loop-i-preserved : goal.loop-i-preserved
+loop-i-preserved g c =
+    let f : FunctionValue = g.F.Function.function c.args.f.now in
+    let i : ℕ = c.loop-i.i - 1 in
+    let t : StateValue = tables_of c.loop-i.self in
+    let u : StateValue = tables_of c.alloc_inst_in_block.new.self in
+    let at : c.new.result ≡ i = c.new.ensures in
+    let next : c.loop-i.i ≡ i + 1 = omega (arith, c.loop-i-test.true) in
+    let from : (block_at f c.args.block).range.first ≤ i = omega (arith, c.loop-i.invariant.first, c.loop-i-test.true) in
+    let upto : i < (block_at f c.args.block).range.end = omega (arith, next, c.loop-i.invariant.within) in
+    let lt : i < length f.insts = omega (arith, next, c.loop-i.invariant.inside) in
+    let more : offset_of f (i + 1) ≡ offset_of f i + length (inst_at f i).operands = sum_by_more (λ n. length n.operands) f.insts i no_inst lt in
+    let P : ℕ → Type 0 = λ n. AllocsBlockInsts f c.args.block c.args.allocs.now (tables_of c.args.self.now) n c.loop-i.allocs t in
+    let A : ℕ → Type 0 = λ n. AllocsInstInBlock f c.args.block n c.loop-i.allocs c.alloc_inst_in_block.new.allocs t u in
+    let Q : ℕ → Type 0 = λ n. AllAtOrAfter (before n) c.alloc_inst_in_block.new.self.edits in
+    let L : ℕ → Type 0 = λ n. AddsTempSlotsAtMost (temp_slots_at f n) t u in
+    let a : A i = subst A at c.in_ok-alloc_inst_in_block.ensures.ok in
+    let so_far = lent_so_far f c.requires.well_formed.1.end c.args.block i c.requires.block from upto (tables_of c.args.self.now) (tables_of c.loop-i.self)
+    c.loop-i.invariant.machine (λ e. c.loop-i.invariant.begun (next ∙ e)) in
+    record {
+      first = c.loop-i.invariant.first;
+      from = omega (arith, c.loop-i-test.true);
+      within = omega (arith, c.loop-i.invariant.within);
+      inside = omega (arith, c.loop-i.invariant.inside);
+      walks = one_in i c.loop-i.allocs c.alloc_inst_in_block.new.allocs t u from upto (subst P next c.loop-i.invariant.walks) a;
+      blank = λ k less. a.allocates.outside k (inl less) ∙ c.loop-i.invariant.blank k (let e = ap (offset_of f) next in omega (arith, less, more, e));
+      later = subst Q at c.in_ok-alloc_inst_in_block.ensures.later;
+      long = c.in_ok-alloc_inst_in_block.ensures.long ∙ c.loop-i.invariant.long;
+      machine = lends_then so_far.0 (temp_slots_at f i) 6 (tables_of c.args.self.now) t u so_far.1 so_far.2 (subst L at c.alloc_inst_in_block.ensures.machine);
+      spill_free = λ names few asks h.
+          let before = c.loop-i.invariant.spill_free names few asks h in
+          let few_now : FitInRegs names t.allocatable = subst (FitInRegs names) (sym c.loop-i.invariant.machine.allocatable) few in
+          subst (λ (n : ℕ). IsSpillFreeFrom names f n c.alloc_inst_in_block.new.self.registers u) at
+          (c.in_ok-alloc_inst_in_block.ensures.spill_free names few_now asks
+          (subst (λ (n : ℕ). IsSpillFreeFrom names f n c.loop-i.self.registers t) (next ∙ ap (λ (n : ℕ). n + 1) (sym at)) before));
+      begun = λ e. absurd (omega (arith, e, upto));
+    }
+
+pub returns-in_err-alloc_inst_in_block-clause-machine : goal.returns-in_err-alloc_inst_in_block-clause-machine
+returns-in_err-alloc_inst_in_block-clause-machine g c =
+    let f : FunctionValue = g.F.Function.function c.args.f.now in
+    let L : ℕ → Type 0 = λ n. AddsTempSlotsAtMost (temp_slots_at f n) (tables_of c.loop-i.self) (tables_of c.alloc_inst_in_block.new.self) in
+    let i : ℕ = c.loop-i.i - 1 in
+    let next : c.loop-i.i ≡ i + 1 = omega (arith, c.loop-i-test.true) in
+    let from : (block_at f c.args.block).range.first ≤ i = omega (arith, c.loop-i.invariant.first, c.loop-i-test.true) in
+    let upto : i < (block_at f c.args.block).range.end = omega (arith, next, c.loop-i.invariant.within) in
+    let so_far = lent_so_far f c.requires.well_formed.1.end c.args.block i c.requires.block from upto (tables_of c.args.self.now) (tables_of c.loop-i.self)
+    c.loop-i.invariant.machine (λ e. c.loop-i.invariant.begun (next ∙ e)) in
+    lends_then so_far.0 (temp_slots_at f (c.loop-i.i - 1)) 6 (tables_of c.args.self.now) (tables_of c.loop-i.self) (tables_of c.alloc_inst_in_block.new.self)
+    so_far.1 so_far.2 (subst L c.new.ensures c.alloc_inst_in_block.ensures.machine)
+
+pub returns-in_err-alloc_inst_in_block-clause-err : goal.returns-in_err-alloc_inst_in_block-clause-err
+returns-in_err-alloc_inst_in_block-clause-err g c =
+    let f : FunctionValue = g.F.Function.function c.args.f.now in
+    let a : StateValue = tables_of c.args.self.now in
+    let m : StateValue = tables_of c.loop-i.self in
+    let i : ℕ = c.loop-i.i - 1 in
+    let next : c.loop-i.i ≡ i + 1 = omega (arith, c.loop-i-test.true) in
+    let from : (block_at f c.args.block).range.first ≤ i = omega (arith, c.loop-i.invariant.first, c.loop-i-test.true) in
+    let upto : i < (block_at f c.args.block).range.end = omega (arith, next, c.loop-i.invariant.within) in
+    let so_far = lent_so_far f c.requires.well_formed.1.end c.args.block i c.requires.block from upto (tables_of c.args.self.now) (tables_of c.loop-i.self)
+    c.loop-i.invariant.machine (λ e. c.loop-i.invariant.begun (next ∙ e)) in
+    let few : so_far.0 + temp_slots_at f c.new.result ≤ 6 = subst (λ (n : ℕ). so_far.0 + temp_slots_at f n ≤ 6) (sym c.new.ensures) so_far.1 in
+    let p = err_from_is_err_and c.from_residual.result c.from_residual.ensures.1 in
+    rw p.1 (subst (IsResourceError (SlotsExhaustedWith a.slots (a.slots.num_temp_slots + 6))) (sym p.2)
+    (lacks_all so_far.0 (temp_slots_at f c.new.result) 6 a m so_far.2 few _ c.in_err-alloc_inst_in_block.ensures.err))
+
+pub returns-clause-ok : goal.returns-clause-ok
+returns-clause-ok g c =
+    let f : FunctionValue = g.F.Function.function c.args.f.now in
+    let at_first : c.loop-i.i ≡ (block_at f c.args.block).range.first = omega (arith, c.loop-i-test.false, c.loop-i.invariant.from, c.loop-i.invariant.first) in
+    subst (λ (n : ℕ). AllocsBlockInsts f c.args.block c.args.allocs.now (tables_of c.args.self.now) n c.loop-i.allocs (tables_of c.loop-i.self)) at_first
+    c.loop-i.invariant.walks
+
+pub returns-clause-no_places : goal.returns-clause-no_places
+returns-clause-no_places g c =
+    let f : FunctionValue = g.F.Function.function c.args.f.now in
+    let at_first : c.loop-i.i ≡ (block_at f c.args.block).range.first = omega (arith, c.loop-i-test.false, c.loop-i.invariant.from, c.loop-i.invariant.first) in
+    λ k less. c.loop-i.invariant.blank k (let e = ap (offset_of f) at_first in omega (arith, less, e))
+
+pub returns-clause-later : goal.returns-clause-later
+returns-clause-later g c =
+    let f : FunctionValue = g.F.Function.function c.args.f.now in
+    let at_first : c.loop-i.i ≡ (block_at f c.args.block).range.first = omega (arith, c.loop-i-test.false, c.loop-i.invariant.from, c.loop-i.invariant.first) in
+    subst (λ (n : ℕ). AllAtOrAfter (before n) c.loop-i.self.edits) at_first c.loop-i.invariant.later
+
+pub returns-in_err-alloc_inst_in_block-clause-stops : goal.returns-in_err-alloc_inst_in_block-clause-stops
+returns-in_err-alloc_inst_in_block-clause-stops g c =
+    let f : FunctionValue = g.F.Function.function c.args.f.now in
+    let i : ℕ = c.loop-i.i - 1 in
+    let next : c.loop-i.i ≡ i + 1 = omega (arith, c.loop-i-test.true) in
+    let m : StateValue = tables_of c.loop-i.self in
+    let e = err_from_is_err_and c.from_residual.result c.from_residual.ensures.1 in
+    rw e.1 (λ lacks. record {
+      index = i;
+      places = c.loop-i.allocs;
+      middle = m;
+      inside = omega (arith, next, c.loop-i.invariant.within);
+      walks = subst (λ (n : ℕ). AllocsBlockInsts f c.args.block c.args.allocs.now (tables_of c.args.self.now) n c.loop-i.allocs m) next
+          c.loop-i.invariant.walks;
+      stops = subst (λ (n : ℕ). AllocInstInBlockFails f c.args.block n c.loop-i.allocs m) c.new.ensures
+          (c.in_err-alloc_inst_in_block.ensures.stops (sym e.2 ∙ lacks));
+    })
+
+pub returns-clause-spill_free : goal.returns-clause-spill_free
+returns-clause-spill_free g c = λ names few asks h.
+    let f : FunctionValue = g.F.Function.function c.args.f.now in
+    let at_first : c.loop-i.i ≡ (block_at f c.args.block).range.first = omega (arith, c.loop-i-test.false, c.loop-i.invariant.from, c.loop-i.invariant.first) in
+    subst (λ (n : ℕ). IsSpillFreeFrom names f n c.loop-i.self.registers (tables_of c.loop-i.self)) at_first (c.loop-i.invariant.spill_free names few asks h)

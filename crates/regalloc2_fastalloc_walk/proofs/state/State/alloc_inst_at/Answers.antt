@@ -1,0 +1,66 @@
+use Rattle.std.proofs.Common.{ℕ, ◌≡◌, ◌+◌, ◌-◌, ◌≤◌, ◌<◌, ⊎_elim, List, length, take, drop, sym, ◌∙◌, arith, rules, length-drop}
+use Rattle.std.proofs.lemmas.List.{length-take}
+use Rattle.std.proofs.lemmas.Result.{err_from_is_err_and}
+use Rattle.regalloc2_names.specs.Place.{Place, NoPlace}
+use Rattle.regalloc2_fastalloc_proofs.proofs.Walk.ListParts.{blank_part}
+use Rattle.regalloc2_semantics.proofs.Plain.{inside_part, below_part, above_part, length_part}
+use Rattle.regalloc2_fastalloc_walk.proofs.state.State.alloc_inst_at.Goals as goal
+
+pub alloc_inst-requires : goal.alloc_inst-requires
+alloc_inst-requires g c =
+    let xs : List Place = c.args.allocs.now in
+    let a : ℕ = c.args.start in
+    let n : ℕ = length c.args.operands.now in
+    let k : ℕ = (a + n) - a in
+    let blank : length (take k (drop a xs)) ≡ n = length-take k (drop a xs) ∙ omega (arith, length-drop a xs, c.requires.room) in (
+      search rules,
+      (
+        c.requires.inst,
+        (
+          c.requires.later,
+          (
+            c.requires.in_tables,
+            (blank, (blank_part xs a k NoPlace (λ j lt. c.requires.no_places j (omega arith)), c.requires.fresh)),
+          ),
+        ),
+      ),
+    )
+
+pub returns-clause-ok : goal.returns-clause-ok
+returns-clause-ok g c =
+    let xs : List Place = c.args.allocs.now in
+    let a : ℕ = c.args.start in
+    let n : ℕ = length c.args.operands.now in
+    let k : ℕ = (a + n) - a in
+    let same : k ≡ n = omega arith in
+    let blank : length (take k (drop a xs)) ≡ n = length-take k (drop a xs) ∙ omega (arith, length-drop a xs, c.requires.room) in
+    let here : length c.alloc_inst.new.here ≡ n = c.alloc_inst.auto.here ∙ blank in
+    let le : a ≤ length xs = omega (arith, c.requires.room) in (
+      record {
+        blank = take k (drop a xs);
+        here = c.alloc_inst.new.here;
+        allocates = c.in_ok-alloc_inst.ensures.ok.0;
+        long = length_part a k xs c.alloc_inst.new.here (omega (arith, c.requires.room)) (here ∙ sym same);
+        inside = λ j lt. inside_part a k j xs c.alloc_inst.new.here NoPlace le (omega arith);
+        outside = λ j o. ⊎_elim
+            (λ (lt : j < a). below_part a k j xs c.alloc_inst.new.here NoPlace le lt)
+            (λ (ge : a + n ≤ j). above_part a k j xs c.alloc_inst.new.here NoPlace le (here ∙ sym same) (omega arith))
+            o;
+      },
+      c.in_ok-alloc_inst.ensures.ok.1,
+    )
+
+pub returns-in_err-alloc_inst-clause-stops : goal.returns-in_err-alloc_inst-clause-stops
+returns-in_err-alloc_inst-clause-stops g c =
+    let xs : List Place = c.args.allocs.now in
+    let a : ℕ = c.args.start in
+    let n : ℕ = length c.args.operands.now in
+    let k : ℕ = (a + n) - a in
+    let blank : length (take k (drop a xs)) ≡ n = length-take k (drop a xs) ∙ omega (arith, length-drop a xs, c.requires.room) in
+    let e = err_from_is_err_and c.from_residual.result c.from_residual.ensures.1 in
+    rw e.1 (λ lacks. (
+      take k (drop a xs),
+      blank,
+      blank_part xs a k NoPlace (λ j lt. c.requires.no_places j (omega arith)),
+      c.in_err-alloc_inst.ensures.stops (sym e.2 ∙ lacks),
+    ))

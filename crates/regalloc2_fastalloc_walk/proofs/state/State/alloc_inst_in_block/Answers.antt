@@ -1,0 +1,262 @@
+use Rattle.std.proofs.Common.{ℕ, ◌≡◌, ◌+◌, List, Bool, true, false, length, refl, sym, ap, ◌∙◌, subst, rules, arith}
+use Rattle.std.proofs.lemmas.List.Sums.{sum_by_more, sum_by_more_le}
+use Rattle.std.proofs.lemmas.Result.{err_from_is_err_and}
+use Rattle.regalloc2_names.specs.declared.sets.PRegSet.{PRegSet}
+use Rattle.regalloc2_names.specs.Operand.{OperandValue}
+use Rattle.regalloc2_names.specs.RegisterSet.{has_register}
+use Rattle.regalloc2_function.specs.FunctionValue.{FunctionValue, InstValue, block_at, inst_at, no_inst}
+use Rattle.regalloc2_function.specs.Machine.{MachineValue}
+use Rattle.regalloc2_fastalloc_state.specs.declared.inst_regs.InstRegs.{InstRegs}
+use Rattle.regalloc2_fastalloc_proofs.specs.BranchSteps.{ProcessesBranch}
+use Rattle.regalloc2_fastalloc_state.specs.OutOfResources.{IsResourceError, SlotsExhaustedWith}
+use Rattle.regalloc2_fastalloc_proofs.specs.InstSteps.{StateValue, InTables}
+use Rattle.regalloc2_fastalloc_proofs.specs.OutOfRegs.{AllocInstFails, ProcessBranchFails, in_inst, in_pass}
+use Rattle.regalloc2_names.specs.Place.{Place}
+use Rattle.regalloc2_fastalloc_walk.specs.StateView.{tables_of}
+use Rattle.regalloc2_fastalloc_proofs.specs.BlockSteps.{AllocsInstInto, offset_of, temp_slots_at}
+use Rattle.regalloc2_fastalloc_proofs.proofs.Safety.StateKept.{same_lends, lends_then, apart_kept, ends_in_branch, lack_all, lacks_all, lent_six, to_inst}
+use Rattle.regalloc2_fastalloc_proofs.proofs.Walk.UsesReadOwnDefs.{all_in_tables}
+use Rattle.regalloc2_fastalloc_proofs.proofs.Branches.WellFormedMayBranch.{may_pass, parameters_differ}
+use Rattle.regalloc2_names.specs.Register.{VirtualRegister}
+use Rattle.regalloc2_semantics.specs.Blocks.{target_at}
+use Rattle.regalloc2_fastalloc_state.specs.StateParts.{AllocatableRegsValue}
+use Rattle.regalloc2_fastalloc_proofs.specs.BlockSteps.{IsFresh}
+use Rattle.regalloc2_fastalloc_walk.proofs.BlockSpillFree.{edge_block, from_next, no_params, plain_at, refreshed}
+use Rattle.regalloc2_fastalloc_walk.specs.SpillFree.{ArePlain, IsSpillFreeFrom, LeavesSpillFree}
+use Rattle.regalloc2_fastalloc_walk.proofs.state.State.alloc_inst_in_block.Goals as goal
+
+pub alloc_inst_at-requires : goal.alloc_inst_at-requires
+alloc_inst_at-requires g c =
+    let f : FunctionValue = g.F.Function.function c.args.f.now in
+    let i : ℕ = c.args.inst in
+    let ops : c.inst_operands-operands.result.now ≡ (inst_at f i).operands = c.inst_operands-operands.ensures in
+    let few = (g.met.F.Function.limited c.args.f.now).insts in
+    let within = sum_by_more_le (λ n. length n.operands) f.insts i no_inst c.requires.inst in
+    let more : offset_of f (i + 1) ≡ offset_of f i + length (inst_at f i).operands = sum_by_more (λ n. length n.operands) f.insts i no_inst c.requires.inst in (
+      search rules,
+      (
+        omega (arith, few, c.requires.inst),
+        (
+          c.requires.later,
+          (
+            subst (λ (o : List OperandValue). InTables o (tables_of c.args.self.now)) (sym ops)
+                (all_in_tables c.requires.well_formed.0 f (g.met.F.Function.limited c.args.f.now) c.requires.well_formed.1 (tables_of c.args.self.now)
+                c.requires.long i c.requires.inst),
+            (
+              omega (arith, within, more, c.requires.start, ap length ops, c.requires.allocs_long),
+              (
+                λ k less. c.requires.no_places k (omega (arith, less, more, c.requires.start, ap length ops)),
+                record {
+                  early = λ r. ap (λ (s : PRegSet). has_register s r) c.new-inst_regs.ensures.early ∙ c.available_regs.ensures r;
+                  late = λ r. ap (λ (s : PRegSet). has_register s r) c.new-inst_regs.ensures.late ∙ c.available_regs.ensures r;
+                  scratch = c.new-inst_regs.ensures.scratch;
+                  awaited = c.new-inst_regs.ensures.awaited;
+                },
+              ),
+            ),
+          ),
+        ),
+      ),
+    )
+
+pub returns-then-not-is_branch-clause-ok : goal.returns-then-not-is_branch-clause-ok
+returns-then-not-is_branch-clause-ok g c =
+    let i : ℕ = c.args.inst in
+    let v : InstValue = inst_at (g.F.Function.function c.args.f.now) i in
+    let P : ℕ → Type 0 = λ s. AllocsInstInto c.alloc_inst_at.new.inst_regs i v s c.args.allocs.now c.alloc_inst_at.new.allocs (tables_of c.args.self.now)
+    (tables_of c.alloc_inst_at.new.self) in
+    let h : P (offset_of (g.F.Function.function c.args.f.now) i) = subst P c.requires.start
+    (to_inst c.alloc_inst_at.new.inst_regs i v c.args.start c.args.allocs.now c.alloc_inst_at.new.allocs (tables_of c.args.self.now)
+    (tables_of c.alloc_inst_at.new.self) c.inst_operands-operands.result.now c.inst_clobbers-clobbers.result _ c.is_ret-is_ret.result
+    c.inst_operands-operands.ensures c.inst_clobbers-clobbers.ensures c.is_ret-is_ret.ensures c.in_ok-alloc_inst_at.ensures.ok) in
+    let no : c.is_branch.result ≡ false = c.if-not-is_branch.true in
+    record {
+      middle = tables_of c.alloc_inst_at.new.self;
+      inst_regs = c.alloc_inst_at.new.inst_regs;
+      allocates = h.0;
+      no_branch = λ e. refl;
+      branch = λ e.
+          absurd cc;
+    }
+
+pub returns-clause-ok : goal.returns-clause-ok
+returns-clause-ok g c =
+    let f : FunctionValue = g.F.Function.function c.args.f.now in
+    let i : ℕ = c.args.inst in
+    let v : InstValue = inst_at (g.F.Function.function c.args.f.now) i in
+    let P : ℕ → Type 0 = λ s. AllocsInstInto c.alloc_inst_at.new.inst_regs i v s c.args.allocs.now c.alloc_inst_at.new.allocs (tables_of c.args.self.now)
+    (tables_of c.alloc_inst_at.new.self) in
+    let h : P (offset_of (g.F.Function.function c.args.f.now) i) = subst P c.requires.start
+    (to_inst c.alloc_inst_at.new.inst_regs i v c.args.start c.args.allocs.now c.alloc_inst_at.new.allocs (tables_of c.args.self.now)
+    (tables_of c.alloc_inst_at.new.self) c.inst_operands-operands.result.now c.inst_clobbers-clobbers.result _ c.is_ret-is_ret.result
+    c.inst_operands-operands.ensures c.inst_clobbers-clobbers.ensures c.is_ret-is_ret.ensures c.in_ok-alloc_inst_at.ensures.ok) in
+    let on : c.is_branch.result ≡ true = c.if-not-is_branch.false in
+    let Q : InstRegs → Type 0 = λ t. ProcessesBranch f c.args.block c.args.inst t c.process_branch.new.inst_regs (tables_of c.alloc_inst_at.new.self)
+    (tables_of c.process_branch.new.self) in
+    record {
+      middle = tables_of c.alloc_inst_at.new.self;
+      inst_regs = c.process_branch.new.inst_regs;
+      allocates = h.0;
+      no_branch = λ e. absurd cc;
+      branch = λ e. subst Q (sym h.1) c.in_ok-process_branch.ensures.ok;
+    }
+
+pub process_branch-requires : goal.process_branch-requires
+process_branch-requires g c =
+    let f : FunctionValue = g.F.Function.function c.args.f.now in
+    let on : c.is_branch.result ≡ true = c.if-not-is_branch.false in
+    let last : c.args.inst + 1 ≡ (block_at f c.args.block).range.end =
+    ends_in_branch f c.requires.well_formed.1.end c.args.block c.args.inst c.requires.block c.requires.first c.requires.end (sym c.is_branch.ensures ∙ on) in
+    let few = (g.met.F.Function.limited c.args.f.now).insts in
+    let env : MachineValue = c.requires.well_formed.0 in (
+      search rules,
+      (
+        c.requires.block,
+        (
+          last,
+          (
+            c.requires.first,
+            (
+              omega (arith, few, c.requires.inst),
+              (
+                c.in_ok-alloc_inst_at.ensures.later,
+                (
+                  may_pass env f c.requires.well_formed.1 c.args.block c.requires.block (tables_of c.alloc_inst_at.new.self)
+                      (c.in_ok-alloc_inst_at.ensures.long ∙ c.requires.long),
+                  (
+                    parameters_differ env f c.requires.well_formed.1 c.args.block c.requires.block,
+                    apart_kept 0 (tables_of c.args.self.now) (tables_of c.alloc_inst_at.new.self)
+                        (same_lends 0 (tables_of c.args.self.now) (tables_of c.alloc_inst_at.new.self) c.alloc_inst_at.ensures.machine) c.requires.apart,
+                  ),
+                ),
+              ),
+            ),
+          ),
+        ),
+      ),
+    )
+
+-- the machine stays but for the temporary slots of a branch
+pub returns-in_err-alloc_inst_at-clause-machine : goal.returns-in_err-alloc_inst_at-clause-machine
+returns-in_err-alloc_inst_at-clause-machine g c = same_lends _ (tables_of c.args.self.now) (tables_of c.alloc_inst_at.new.self) c.alloc_inst_at.ensures.machine
+
+pub returns-then-not-is_branch-clause-machine : goal.returns-then-not-is_branch-clause-machine
+returns-then-not-is_branch-clause-machine g c = same_lends _ (tables_of c.args.self.now) (tables_of c.alloc_inst_at.new.self) c.alloc_inst_at.ensures.machine
+
+pub returns-in_err-process_branch-clause-machine : goal.returns-in_err-process_branch-clause-machine
+returns-in_err-process_branch-clause-machine g c =
+    let few = lent_six (g.F.Function.function c.args.f.now) c.args.inst c.is_branch.result c.is_branch.ensures c.if-not-is_branch.false in
+    let a : StateValue = tables_of c.args.self.now in
+    let m : StateValue = tables_of c.alloc_inst_at.new.self in
+    lends_then 0 6 (temp_slots_at (g.F.Function.function c.args.f.now) c.args.inst) a m (tables_of c.process_branch.new.self) (omega (arith, few))
+    (same_lends 0 a m c.alloc_inst_at.ensures.machine) c.process_branch.ensures.machine
+
+pub returns-clause-machine : goal.returns-clause-machine
+returns-clause-machine g c =
+    let few = lent_six (g.F.Function.function c.args.f.now) c.args.inst c.is_branch.result c.is_branch.ensures c.if-not-is_branch.false in
+    let a : StateValue = tables_of c.args.self.now in
+    let m : StateValue = tables_of c.alloc_inst_at.new.self in
+    lends_then 0 6 (temp_slots_at (g.F.Function.function c.args.f.now) c.args.inst) a m (tables_of c.process_branch.new.self) (omega (arith, few))
+    (same_lends 0 a m c.alloc_inst_at.ensures.machine) c.process_branch.ensures.machine
+
+pub returns-in_err-alloc_inst_at-clause-err : goal.returns-in_err-alloc_inst_at-clause-err
+returns-in_err-alloc_inst_at-clause-err g c =
+    let n : ℕ = temp_slots_at (g.F.Function.function c.args.f.now) c.args.inst in
+    let a : StateValue = tables_of c.args.self.now in
+    let m : StateValue = tables_of c.alloc_inst_at.new.self in
+    let p = err_from_is_err_and c.from_residual.result c.from_residual.ensures.1 in
+    rw p.1 (subst (IsResourceError (SlotsExhaustedWith a.slots (a.slots.num_temp_slots + n))) (sym p.2)
+    (lack_all 0 n a m (same_lends 0 a m c.alloc_inst_at.ensures.machine) (omega arith) _ c.in_err-alloc_inst_at.ensures.err))
+
+pub returns-in_err-process_branch-clause-err : goal.returns-in_err-process_branch-clause-err
+returns-in_err-process_branch-clause-err g c =
+    let n : ℕ = temp_slots_at (g.F.Function.function c.args.f.now) c.args.inst in
+    let few : n ≡ 6 = lent_six (g.F.Function.function c.args.f.now) c.args.inst c.is_branch.result c.is_branch.ensures c.if-not-is_branch.false in
+    let a : StateValue = tables_of c.args.self.now in
+    let m : StateValue = tables_of c.alloc_inst_at.new.self in
+    let p = err_from_is_err_and c.from_residual-in_err-process_branch.result c.from_residual-in_err-process_branch.ensures.1 in
+    rw p.1 (subst (IsResourceError (SlotsExhaustedWith a.slots (a.slots.num_temp_slots + n))) (sym p.2)
+    (lacks_all 0 6 n a m (same_lends 0 a m c.alloc_inst_at.ensures.machine) (omega (arith, few)) _ c.in_err-process_branch.ensures.err))
+
+-- where it stops
+pub returns-in_err-alloc_inst_at-clause-stops : goal.returns-in_err-alloc_inst_at-clause-stops
+returns-in_err-alloc_inst_at-clause-stops g c =
+    let v : InstValue = inst_at (g.F.Function.function c.args.f.now) c.args.inst in
+    let t : StateValue = tables_of c.args.self.now in
+    let e = err_from_is_err_and c.from_residual.result c.from_residual.ensures.1 in
+    rw e.1 (λ lacks.
+    let s = c.in_err-alloc_inst_at.ensures.stops (sym e.2 ∙ lacks) in
+    let X : Bool → List OperandValue → PRegSet → Type 0 = λ r o k. AllocInstFails c.args.inst r o k s.0 c.new-inst_regs.result t in
+    in_inst c.new-inst_regs.result s.0 (record {
+      early = λ r. ap (λ (x : PRegSet). has_register x r) c.new-inst_regs.ensures.early ∙ c.available_regs.ensures r;
+      late = λ r. ap (λ (x : PRegSet). has_register x r) c.new-inst_regs.ensures.late ∙ c.available_regs.ensures r;
+      scratch = c.new-inst_regs.ensures.scratch;
+      awaited = c.new-inst_regs.ensures.awaited;
+    }) (s.1 ∙ ap length c.inst_operands-operands.ensures) s.2
+    (subst (λ (r : Bool). X r v.operands v.clobbers) c.is_ret-is_ret.ensures
+    (subst (λ (k : PRegSet). X c.is_ret-is_ret.result v.operands k) c.inst_clobbers-clobbers.ensures
+    (subst (λ (o : List OperandValue). X c.is_ret-is_ret.result o c.inst_clobbers-clobbers.result) c.inst_operands-operands.ensures s.3))))
+
+pub returns-in_err-process_branch-clause-stops : goal.returns-in_err-process_branch-clause-stops
+returns-in_err-process_branch-clause-stops g c =
+    let f : FunctionValue = g.F.Function.function c.args.f.now in
+    let i : ℕ = c.args.inst in
+    let v : InstValue = inst_at f i in
+    let m : StateValue = tables_of c.alloc_inst_at.new.self in
+    let P : ℕ → Type 0 = λ s. AllocsInstInto c.alloc_inst_at.new.inst_regs i v s c.args.allocs.now c.alloc_inst_at.new.allocs (tables_of c.args.self.now) m in
+    let h : P (offset_of f i) = subst P c.requires.start
+    (to_inst c.alloc_inst_at.new.inst_regs i v c.args.start c.args.allocs.now c.alloc_inst_at.new.allocs (tables_of c.args.self.now) m
+    c.inst_operands-operands.result.now c.inst_clobbers-clobbers.result _ c.is_ret-is_ret.result
+    c.inst_operands-operands.ensures c.inst_clobbers-clobbers.ensures c.is_ret-is_ret.ensures c.in_ok-alloc_inst_at.ensures.ok) in
+    let on : c.is_branch.result ≡ true = c.if-not-is_branch.false in
+    let e = err_from_is_err_and c.from_residual-in_err-process_branch.result c.from_residual-in_err-process_branch.ensures.1 in
+    rw e.1 (λ lacks. in_pass c.alloc_inst_at.new.allocs m h.0 (sym c.is_branch.ensures ∙ on)
+    (subst (λ (t : InstRegs). ProcessBranchFails f c.args.block i t m) (sym h.1) (c.in_err-process_branch.ensures.stops (sym e.2 ∙ lacks))))
+
+-- where registers suffice for all vregs
+pub returns-then-not-is_branch-clause-spill_free : goal.returns-then-not-is_branch-clause-spill_free
+returns-then-not-is_branch-clause-spill_free g c = λ names few asks h.
+    let f : FunctionValue = g.F.Function.function c.args.f.now in
+    let i : ℕ = c.args.inst in
+    let t : StateValue = tables_of c.args.self.now in
+    let env : MachineValue = c.requires.well_formed.0 in
+    let fresh : IsFresh c.new-inst_regs.result t = record {
+      early = λ r. ap (λ (x : PRegSet). has_register x r) c.new-inst_regs.ensures.early ∙ c.available_regs.ensures r;
+      late = λ r. ap (λ (x : PRegSet). has_register x r) c.new-inst_regs.ensures.late ∙ c.available_regs.ensures r;
+      scratch = c.new-inst_regs.ensures.scratch;
+      awaited = c.new-inst_regs.ensures.awaited;
+    } in
+    let L : List OperandValue → Type 0 = λ ops. LeavesSpillFree names h.gone ops c.alloc_inst_at.new.self.registers (tables_of c.alloc_inst_at.new.self) in
+    from_next f names i c.args.self.now.registers c.alloc_inst_at.new.self.registers t (tables_of c.alloc_inst_at.new.self) c.requires.inst h
+    (subst L c.inst_operands-operands.ensures (c.in_ok-alloc_inst_at.ensures.spill_free names h.gone few
+    (λ late. subst (λ (ops : List OperandValue). ArePlain names h.gone ops late) (sym c.inst_operands-operands.ensures)
+    (plain_at f env names i c.args.self.now.registers t c.requires.well_formed.1 asks c.requires.inst h late))
+    (λ r. ap (λ (x : PRegSet). has_register x r) c.inst_clobbers-clobbers.ensures ∙ asks.no_clobbers i r c.requires.inst)
+    (refreshed names h.gone c.args.self.now.registers t h.inst_regs c.new-inst_regs.result h.spill_free fresh)))
+
+pub returns-clause-spill_free : goal.returns-clause-spill_free
+returns-clause-spill_free g c = λ names few asks h.
+    let f : FunctionValue = g.F.Function.function c.args.f.now in
+    let i : ℕ = c.args.inst in
+    let t : StateValue = tables_of c.args.self.now in
+    let env : MachineValue = c.requires.well_formed.0 in
+    let m : StateValue = tables_of c.alloc_inst_at.new.self in
+    let fresh : IsFresh c.new-inst_regs.result t = record {
+      early = λ r. ap (λ (x : PRegSet). has_register x r) c.new-inst_regs.ensures.early ∙ c.available_regs.ensures r;
+      late = λ r. ap (λ (x : PRegSet). has_register x r) c.new-inst_regs.ensures.late ∙ c.available_regs.ensures r;
+      scratch = c.new-inst_regs.ensures.scratch;
+      awaited = c.new-inst_regs.ensures.awaited;
+    } in
+    let L : List OperandValue → Type 0 = λ ops. LeavesSpillFree names h.gone ops c.alloc_inst_at.new.self.registers m in
+    let done : IsSpillFreeFrom names f i c.alloc_inst_at.new.self.registers m = from_next f names i c.args.self.now.registers c.alloc_inst_at.new.self.registers
+    t m c.requires.inst h
+    (subst L c.inst_operands-operands.ensures (c.in_ok-alloc_inst_at.ensures.spill_free names h.gone few
+    (λ late. subst (λ (ops : List OperandValue). ArePlain names h.gone ops late) (sym c.inst_operands-operands.ensures)
+    (plain_at f env names i c.args.self.now.registers t c.requires.well_formed.1 asks c.requires.inst h late))
+    (λ r. ap (λ (x : PRegSet). has_register x r) c.inst_clobbers-clobbers.ensures ∙ asks.no_clobbers i r c.requires.inst)
+    (refreshed names h.gone c.args.self.now.registers t h.inst_regs c.new-inst_regs.result h.spill_free fresh))) in
+    let same : tables_of c.process_branch.new.self ≡ m = c.in_ok-process_branch.ensures.none
+    (λ k lt. no_params f env names (target_at f c.args.block k) c.requires.well_formed.1 asks
+    (edge_block f env c.requires.well_formed.1 c.args.block k c.requires.block lt)) in
+    subst (λ (x : StateValue). IsSpillFreeFrom names f i c.process_branch.new.self.registers x) (sym same)
+    (subst (λ (r : AllocatableRegsValue). IsSpillFreeFrom names f i r m) (sym c.in_ok-process_branch.ensures.registers) done)

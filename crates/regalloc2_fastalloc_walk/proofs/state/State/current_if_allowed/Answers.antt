@@ -1,0 +1,28 @@
+use Rattle.std.proofs.Common.{sym, subst, ◌∙◌}
+use Rattle.regalloc2_names.specs.Place.{Place}
+use Rattle.regalloc2_fastalloc_state.specs.declared.request.Requirement.{Requirement}
+use Rattle.regalloc2_fastalloc_state.specs.declared.request.Requirement.TheVariants.{AnyReg}
+use Rattle.regalloc2_fastalloc_proofs.specs.InstSteps.{MeetsRequirement}
+use Rattle.regalloc2_fastalloc_walk.specs.StateView.{tables_of}
+use Rattle.regalloc2_fastalloc_walk.proofs.OperandTakesFreeReg.{no_place_is, suits_none}
+use Rattle.regalloc2_fastalloc_walk.proofs.state.State.current_if_allowed.Goals.{then-is_none-via-then-is_none}
+use Rattle.regalloc2_fastalloc_walk.proofs.state.State.current_if_allowed.Goals.{then-is_none-via-else-is_none+then-not-allocd_within_constraint}
+use Rattle.regalloc2_fastalloc_walk.proofs.state.State.current_if_allowed.Goals as goal
+
+pub returns-then-leaves_enough_regs-clause-suits : goal.returns-then-leaves_enough_regs-clause-suits
+returns-then-leaves_enough_regs-clause-suits g
+    c = (sym c.current_alloc-current.ensures.place, c.allocd_within_constraint.ensures.0 c.if-not-allocd_within_constraint.false)
+
+-- it has no location, or what is asked isn't met there
+pub returns-then-is_none-clause-none : goal.returns-then-is_none-clause-none
+returns-then-is_none-clause-none g c = λ any suits.
+    let t = tables_of c.args.self.now in
+    let there : MeetsRequirement t AnyReg c.current_alloc-current.result = subst (λ (p : Place). MeetsRequirement t AnyReg p)
+    (sym c.current_alloc-current.ensures.place) suits in
+    elim c.then-is_none.branch [
+      | then-is_none-via-then-is_none w ↦ suits_none t c.current_alloc-current.result
+          (no_place_is c.current_alloc-current.result (sym c.is_none.ensures ∙ w.if-is_none.true)) there
+      | then-is_none-via-else-is_none+then-not-allocd_within_constraint w ↦
+          (let meets = w.allocd_within_constraint.ensures.1 (subst (λ (x : Requirement). MeetsRequirement t x c.current_alloc-current.result) (sym any) there)
+          in let fails = w.if-not-allocd_within_constraint.true in cc)
+    ]

@@ -1,0 +1,74 @@
+use Rattle.std.proofs.Common.{ℕ, ◌≡◌, List, length, refl, sym, ap, ◌∙◌, subst, arith}
+use Rattle.regalloc2_names.specs.Register.{VirtualRegister}
+use Rattle.regalloc2_names.specs.Operand.{OperandValue}
+use Rattle.regalloc2_validate.specs.Constraints.{op_at}
+use Rattle.regalloc2_fastalloc_proofs.specs.InstSteps.{StateValue, EvictsOthers, EvictsFixed, none_cleared, not_fixed, of_fixed, of_reuse}
+use Rattle.regalloc2_fastalloc_walk.specs.StateView.{tables_of}
+use Rattle.regalloc2_fastalloc_proofs.proofs.Evictions.EvictClobbers.{machine_then}
+use Rattle.regalloc2_validate.proofs.OperandReads.{read_operand, read_vreg}
+use Rattle.regalloc2_fastalloc_walk.proofs.state.State.evict_fixed.Goals as goal
+use Rattle.regalloc2_fastalloc_walk.proofs.state.State.evict_fixed.Goals.{in-Some+in_ok-evict_others}
+use Rattle.regalloc2_fastalloc_walk.proofs.state.State.evict_fixed.Goals.{in_default+in-Some-reused_register+in_ok-evict_preg}
+use Rattle.regalloc2_fastalloc_walk.proofs.state.State.evict_fixed.Goals.{in_default+in_default-reused_register}
+
+pub loop-k-init : goal.loop-k-init
+loop-k-init g c = record {
+  cleared = none_cleared;
+  awaited = refl;
+  later = c.requires;
+  long = refl;
+  machine = record { allocatable = refl; fixed_stack = refl; dedicated_scratch = refl; sizes = refl; vregs = refl; num_temp_slots = refl };
+  registers = refl;
+}
+
+pub loop-k-preserved : goal.loop-k-preserved
+loop-k-preserved g c =
+    let ops : List OperandValue = c.args.operands.now in
+    let k : ℕ = c.loop-k.k in
+    let o : OperandValue = c.index-operands-k.result in
+    let is : o ≡ op_at ops k = read_operand ops k o c.loop-k-test.true c.index-operands-k.is in
+    let asks = ap (λ (x : OperandValue). x.constraint) (sym is) in
+    let begin : StateValue = tables_of c.args.self.now in
+    let m : StateValue = tables_of c.loop-k.self in
+    let h = c.loop-k.invariant in
+    elim c.match-fixed_register.branch [
+      | in-Some+in_ok-evict_others w ↦ rw (w.self-is, w.inst_regs-is) (
+          let n : StateValue = tables_of w.evict_others.new.self in
+          let P : VirtualRegister → Type 0 = λ v. EvictsOthers c.args.point w.in-Some.preg v c.loop-k.inst_regs w.evict_others.new.inst_regs m n in
+          record {
+            cleared = of_fixed k w.in-Some.preg c.loop-k.inst_regs w.evict_others.new.inst_regs m n h.cleared (asks ∙ w.in-Some.ensures.some)
+                (subst P (read_vreg ops k o w.vreg.result c.loop-k-test.true c.index-operands-k.is w.vreg.ensures) w.in_ok-evict_others.ensures.ok);
+            awaited = w.evict_others.ensures.awaited ∙ h.awaited;
+            later = w.in_ok-evict_others.ensures.later;
+            long = w.in_ok-evict_others.ensures.long ∙ h.long;
+            machine = machine_then begin m n h.machine w.in_ok-evict_others.ensures.machine;
+            registers = w.in_ok-evict_others.ensures.registers ∙ h.registers;
+          })
+      | in_default+in-Some-reused_register+in_ok-evict_preg w ↦ rw (w.self-is, w.inst_regs-is) (
+          let n : StateValue = tables_of w.evict_preg.new.self in
+          let named = w.in-Some-reused_register.ensures.some in
+          record {
+            cleared = of_reuse k named.0 w.in-Some-reused_register.preg c.loop-k.inst_regs w.evict_preg.new.inst_regs m n h.cleared (asks ∙ named.1) named.2
+                named.3 w.in_ok-evict_preg.ensures.ok;
+            awaited = w.evict_preg.ensures.awaited ∙ h.awaited;
+            later = w.in_ok-evict_preg.ensures.later;
+            long = w.in_ok-evict_preg.ensures.long ∙ h.long;
+            machine = machine_then begin m n h.machine w.in_ok-evict_preg.ensures.machine;
+            registers = w.in_ok-evict_preg.ensures.registers ∙ h.registers;
+          })
+      | in_default+in_default-reused_register w ↦ rw (w.self-is, w.inst_regs-is) (record {
+        cleared = not_fixed k c.loop-k.inst_regs m h.cleared (λ r e. w.in_default.ensures.none r (sym asks ∙ e))
+            (λ n r e less named. w.in_default-reused_register.ensures.none n r (sym asks ∙ e) less named);
+        awaited = h.awaited;
+        later = h.later;
+        long = h.long;
+        machine = h.machine;
+        registers = h.registers;
+      })
+    ]
+
+pub returns-clause-ok : goal.returns-clause-ok
+returns-clause-ok g c =
+    let e : c.loop-k.k ≡ length c.args.operands.now = omega arith in
+    subst (λ k. EvictsFixed c.args.point c.args.operands.now c.args.inst_regs.now (tables_of c.args.self.now) k c.loop-k.inst_regs (tables_of c.loop-k.self)) e
+    c.loop-k.invariant.cleared

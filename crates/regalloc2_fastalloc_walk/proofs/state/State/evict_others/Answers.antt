@@ -1,0 +1,32 @@
+use Rattle.std.proofs.Common.{ℕ, ◌≡◌, refl, sym, ◌∙◌, ap, arith}
+use Rattle.std.specs.Prelude.{None, Some}
+use Rattle.regalloc2_names.specs.Place.{NoPlace, InRegister}
+use Rattle.regalloc2_fastalloc_state.specs.StateParts.{vreg_of_preg, alloc_of}
+use Rattle.regalloc2_fastalloc_proofs.specs.InstSteps.{own, others}
+use Rattle.regalloc2_fastalloc_proofs.proofs.Evictions.PushedAndRemoved.{same_held}
+use Rattle.regalloc2_fastalloc_walk.proofs.state.State.evict_others.Goals as goal
+use Rattle.regalloc2_fastalloc_walk.proofs.state.State.evict_others.Goals.{in-Some+else-vreg, in_default}
+
+pub returns-then-vreg-clause-ok : goal.returns-then-vreg-clause-ok
+returns-then-vreg-clause-ok g c = own c.in-Some.held (sym c.vreg_in.ensures.vreg ∙ c.in-Some.is)
+    (sym c.vreg.ensures.number ∙ c.if-vreg.true ∙ c.vreg-in-Some.ensures.number) refl refl
+
+pub returns-then-vreg-clause-alone : goal.returns-then-vreg-clause-alone
+returns-then-vreg-clause-alone g c = λ e.
+    let h : vreg_of_preg c.args.self.now.places c.args.preg ≡ Some c.in-Some.held = sym c.vreg_in.ensures.vreg ∙ c.in-Some.is in
+    let there : alloc_of c.args.self.now.places c.in-Some.held.number ≡ InRegister c.args.preg = c.vreg_in.ensures.inverse.holds c.args.preg c.in-Some.held
+    (omega (arith, c.vreg_in.ensures.in_range)) h in
+    let number : c.in-Some.held.number ≡ c.args.vreg.number = sym c.vreg.ensures.number ∙ c.if-vreg.true ∙ c.vreg-in-Some.ensures.number in
+    let none : NoPlace ≡ InRegister c.args.preg = sym e ∙ ap (λ (n : ℕ). alloc_of c.args.self.now.places n) (sym number) ∙ there in
+    absurd cc
+
+pub returns-clause-ok : goal.returns-clause-ok
+returns-clause-ok g c = others
+    (λ w h e. elim c.match-vreg_in.branch [
+      | in-Some+else-vreg x ↦
+          let same : w.number ≡ x.in-Some.held.number = same_held w x.in-Some.held (vreg_of_preg c.args.self.now.places c.args.preg) h
+          (sym c.vreg_in.ensures.vreg ∙ x.in-Some.is) in
+          x.if-vreg.false (x.vreg.ensures.number ∙ sym same ∙ e ∙ sym x.vreg-in-Some.ensures.number)
+      | in_default x ↦ let none : None ≡ Some w = sym x.in_default.is ∙ c.vreg_in.ensures.vreg ∙ h in absurd cc
+    ])
+    c.in_ok-evict_preg.ensures.ok

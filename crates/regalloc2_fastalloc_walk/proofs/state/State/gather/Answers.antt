@@ -1,0 +1,132 @@
+use Rattle.std.proofs.Common.{ℕ, ◌≡◌, ◌<◌, List, [], length, refl, sym, ap, ◌∙◌, subst, arith, rules, slice_index}
+use Rattle.std.proofs.lemmas.List.{get_or_read}
+use Rattle.regalloc2_names.specs.Point.{before}
+use Rattle.regalloc2_names.specs.Register.{VirtualRegister}
+use Rattle.regalloc2_function.specs.FunctionValue.{block_at}
+use Rattle.regalloc2_function.specs.SourceRun.{arguments_at}
+use Rattle.regalloc2_semantics.specs.Blocks.{target_at}
+use Rattle.regalloc2_fastalloc_proofs.specs.BranchSteps.{GathersMoves, no_edge, one_edge}
+use Rattle.regalloc2_fastalloc_proofs.specs.InstSteps.{StateValue}
+use Rattle.std.proofs.lemmas.Result.{err_from_is_err_and}
+use Rattle.regalloc2_fastalloc_proofs.specs.OutOfRegs.{GatherEdgeFails}
+use Rattle.regalloc2_fastalloc_walk.specs.StateView.{tables_of}
+use Rattle.regalloc2_fastalloc_state.specs.StateParts.{AllAtOrAfter}
+use Rattle.regalloc2_fastalloc_proofs.proofs.Branches.ArgMovesAreParallel.{known_still, edge_at}
+use Rattle.regalloc2_fastalloc_proofs.proofs.Evictions.PushedAndRemoved.{same_then}
+use Rattle.regalloc2_fastalloc_walk.proofs.state.State.gather.Goals as goal
+
+pub loop-k-init : goal.loop-k-init
+loop-k-init g c = record {
+  done = ([], c.none-moves.ensures, no_edge);
+  later = c.requires.later;
+  long = refl;
+  machine = record { allocatable = refl; fixed_stack = refl; dedicated_scratch = refl; sizes = refl; vregs = refl; num_temp_slots = refl };
+  registers = refl;
+}
+
+pub block_params-params-requires : goal.block_params-params-requires
+block_params-params-requires g c =
+    let f = g.F.Function.function c.args.f.now in
+    let k : ℕ = c.loop-k.k in
+    let succs : c.block_succs-succs.result.now ≡ (block_at f c.args.block).succs = c.block_succs-succs.ensures in
+    let lt : k < length (block_at f c.args.block).succs = subst (λ (l : List ℕ). k < length l) succs c.loop-k-test.true in
+    let read : c.index-succs-k.result ≡ target_at f c.args.block k = get_or_read c.block_succs-succs.result.now k c.index-succs-k.result c.loop-k-test.true
+    c.index-succs-k.is 0 ∙ ap (λ (l : List ℕ). slice_index l k) succs in
+    subst (λ (n : ℕ). n < length f.blocks) (sym read) (c.requires.may_pass.targets k lt)
+
+pub gather_edge-requires : goal.gather_edge-requires
+gather_edge-requires g c =
+    let f = g.F.Function.function c.args.f.now in
+    let k : ℕ = c.loop-k.k in
+    let at : c.before-point.result ≡ before c.args.inst = c.before-point.ensures.point (λ e. omega (arith, c.requires.inst)) in
+    let succs : c.block_succs-succs.result.now ≡ (block_at f c.args.block).succs = c.block_succs-succs.ensures in
+    let lt : k < length (block_at f c.args.block).succs = subst (λ (l : List ℕ). k < length l) succs c.loop-k-test.true in
+    let read : c.index-succs-k.result ≡ target_at f c.args.block k = get_or_read c.block_succs-succs.result.now k c.index-succs-k.result c.loop-k-test.true
+    c.index-succs-k.is 0 ∙ ap (λ (l : List ℕ). slice_index l k) succs in
+    let ps : c.block_params-params.result.now ≡ (block_at f (target_at f c.args.block k)).params = c.block_params-params.ensures
+    ∙ ap (λ (n : ℕ). (block_at f n).params) read in
+    let xs : c.branch_blockparams-arguments.result.now ≡ arguments_at f c.args.block k = c.branch_blockparams-arguments.ensures in (
+      search rules,
+      (
+        subst (λ (p : ℕ). AllAtOrAfter p c.loop-k.self.edits) (sym at) c.loop-k.invariant.later,
+        (
+          ap (λ (l : List VirtualRegister). length l) xs ∙ c.requires.may_pass.counted k lt ∙ ap (λ (l : List VirtualRegister). length l) (sym ps),
+          (
+            known_still (block_at f (target_at f c.args.block k)).params c.block_params-params.result.now (tables_of c.args.self.now) (tables_of c.loop-k.self)
+                ps c.loop-k.invariant.long (c.requires.may_pass.parameters k lt),
+            known_still (arguments_at f c.args.block k) c.branch_blockparams-arguments.result.now (tables_of c.args.self.now) (tables_of c.loop-k.self) xs
+                c.loop-k.invariant.long (c.requires.may_pass.arguments k lt),
+          ),
+        ),
+      ),
+    )
+
+pub loop-k-preserved : goal.loop-k-preserved
+loop-k-preserved g c =
+    let f = g.F.Function.function c.args.f.now in
+    let k : ℕ = c.loop-k.k in
+    let at : c.before-point.result ≡ before c.args.inst = c.before-point.ensures.point (λ e. omega (arith, c.requires.inst)) in
+    let succs : c.block_succs-succs.result.now ≡ (block_at f c.args.block).succs = c.block_succs-succs.ensures in
+    let lt : k < length (block_at f c.args.block).succs = subst (λ (l : List ℕ). k < length l) succs c.loop-k-test.true in
+    let read : c.index-succs-k.result ≡ target_at f c.args.block k = get_or_read c.block_succs-succs.result.now k c.index-succs-k.result c.loop-k-test.true
+    c.index-succs-k.is 0 ∙ ap (λ (l : List ℕ). slice_index l k) succs in
+    let ps : c.block_params-params.result.now ≡ (block_at f (target_at f c.args.block k)).params = c.block_params-params.ensures
+    ∙ ap (λ (n : ℕ). (block_at f n).params) read in
+    let xs : c.branch_blockparams-arguments.result.now ≡ arguments_at f c.args.block k = c.branch_blockparams-arguments.ensures in
+    let m : StateValue = tables_of c.loop-k.self in
+    let n : StateValue = tables_of c.gather_edge.new.self in
+    let x = c.loop-k.invariant.done in
+    let y = c.in_ok-gather_edge.ensures.ok x.0 x.1 in
+    record {
+      done = (
+        y.0,
+        y.1,
+        one_edge k x.0 y.0 c.loop-k.inst_regs c.gather_edge.new.inst_regs m n lt x.2
+            (edge_at c.before-point.result (before c.args.inst) c.block_params-params.result.now (block_at f (target_at f c.args.block k)).params
+            c.branch_blockparams-arguments.result.now (arguments_at f c.args.block k)
+            c.loop-k.inst_regs c.gather_edge.new.inst_regs m n x.0 y.0 at ps xs y.2),
+      );
+      later = subst (λ (p : ℕ). AllAtOrAfter p c.gather_edge.new.self.edits) at c.in_ok-gather_edge.ensures.later;
+      long = c.in_ok-gather_edge.ensures.long ∙ c.loop-k.invariant.long;
+      machine = same_then (tables_of c.args.self.now) m n c.loop-k.invariant.machine c.gather_edge.ensures.machine;
+      registers = c.in_ok-gather_edge.ensures.registers ∙ c.loop-k.invariant.registers;
+    }
+
+pub returns-clause-ok : goal.returns-clause-ok
+returns-clause-ok g c =
+    let f = g.F.Function.function c.args.f.now in
+    let e : c.loop-k.k ≡ length (block_at f c.args.block).succs = omega (arith, ap (λ (l : List ℕ). length l) c.block_succs-succs.ensures) in
+    let x = c.loop-k.invariant.done in (
+      x.0,
+      x.1,
+      subst (λ (n : ℕ). GathersMoves f c.args.block (before c.args.inst) c.args.inst_regs.now (tables_of c.args.self.now) n c.loop-k.inst_regs
+          (tables_of c.loop-k.self) x.0) e x.2,
+    )
+
+pub returns-in_err-gather_edge-clause-stops : goal.returns-in_err-gather_edge-clause-stops
+returns-in_err-gather_edge-clause-stops g c =
+    let f = g.F.Function.function c.args.f.now in
+    let k : ℕ = c.loop-k.k in
+    let at : c.before-point.result ≡ before c.args.inst = c.before-point.ensures.point (λ e. omega (arith, c.requires.inst)) in
+    let succs : c.block_succs-succs.result.now ≡ (block_at f c.args.block).succs = c.block_succs-succs.ensures in
+    let lt : k < length (block_at f c.args.block).succs = subst (λ (l : List ℕ). k < length l) succs c.loop-k-test.true in
+    let read : c.index-succs-k.result ≡ target_at f c.args.block k = get_or_read c.block_succs-succs.result.now k c.index-succs-k.result c.loop-k-test.true
+    c.index-succs-k.is 0 ∙ ap (λ (l : List ℕ). slice_index l k) succs in
+    let ps : c.block_params-params.result.now ≡ (block_at f (target_at f c.args.block k)).params = c.block_params-params.ensures
+    ∙ ap (λ (n : ℕ). (block_at f n).params) read in
+    let xs : c.branch_blockparams-arguments.result.now ≡ arguments_at f c.args.block k = c.branch_blockparams-arguments.ensures in
+    let m : StateValue = tables_of c.loop-k.self in
+    let x = c.loop-k.invariant.done in
+    let p = err_from_is_err_and c.from_residual.result c.from_residual.ensures.1 in
+    rw p.1 (λ same. record {
+      index = k;
+      inst_regs = c.loop-k.inst_regs;
+      middle = m;
+      given = x.0;
+      inside = lt;
+      gathers = x.2;
+      stops = subst (λ (q : ℕ). GatherEdgeFails q (block_at f (target_at f c.args.block k)).params (arguments_at f c.args.block k) c.loop-k.inst_regs m x.0) at
+          (subst (λ (l : List VirtualRegister). GatherEdgeFails c.before-point.result l (arguments_at f c.args.block k) c.loop-k.inst_regs m x.0) ps
+          (subst (λ (l : List VirtualRegister). GatherEdgeFails c.before-point.result c.block_params-params.result.now l c.loop-k.inst_regs m x.0) xs
+          (c.in_err-gather_edge.ensures.stops (sym p.2 ∙ same) x.0 x.1)));
+    })

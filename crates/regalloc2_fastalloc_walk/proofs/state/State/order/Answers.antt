@@ -1,0 +1,108 @@
+use Rattle.std.proofs.Common.{◌≡◌, ◌+◌, [], refl, sym, ap, ◌∙◌, subst, arith}
+use Rattle.std.proofs.lemmas.Result.{err_from_is_err_and}
+use Rattle.regalloc2_names.specs.Place.{Place}
+use Rattle.regalloc2_parts.specs.Resolved.{listed, has_scratch, with_place}
+use Rattle.regalloc2_fastalloc_state.specs.declared.scratch_pool.ScratchPool.{ScratchPool}
+use Rattle.regalloc2_fastalloc_state.specs.OutOfResources.{IsResourceError, SlotsExhaustedWith}
+use Rattle.regalloc2_fastalloc_state.specs.ScratchPool.{HasTooFewSlots}
+use Rattle.regalloc2_fastalloc_proofs.specs.InstSteps.{StateValue, MayHold}
+use Rattle.regalloc2_fastalloc_walk.specs.StateView.{tables_of}
+use Rattle.regalloc2_fastalloc_proofs.proofs.Moves.ParallelMovesOrdered.{orders, orders_none, serves_given, short_full, taken_fits}
+use Rattle.regalloc2_fastalloc_state.proofs.SpillSlotUnits.{lacks_slots, no_register}
+use Rattle.regalloc2_fastalloc_walk.proofs.state.State.order.Goals as goal
+
+pub returns-then-are_none-clause-ok : goal.returns-then-are_none-clause-ok
+returns-then-are_none-clause-ok g c =
+    orders_none c.args.inst_regs.now c.args.class (tables_of c.args.self.now) c.args.moves (listed c.in_ok-resolved.resolved) c.with_scratch.result.items
+    (has_scratch c.in_ok-resolved.resolved) c.in_ok-resolved.ensures.resolved ((c.if-are_none.ensures.none.0 refl))
+    (c.with_scratch.ensures.items ∙ ap (λ (p : Place). with_place p c.in_ok-resolved.resolved) c.none.ensures ∙ c.if-are_none.ensures.same refl)
+
+pub compute-requires : goal.compute-requires
+compute-requires g c =
+    let l : ScratchPool = record {
+      registers = c.scratch_regs.result;
+      slots = c.temp_slots.result;
+      fixed_stack = c.fixed_stack.result;
+      borrowed = c.in-Some.borrowed;
+    } in
+    let old : StateValue = tables_of c.args.self.now in
+    let held : MayHold old c.args.class c.in-Some.borrowed = record {
+      of_class = c.in-Some.ensures.found.0;
+      small = c.in-Some.ensures.found.1;
+      allocatable = c.in-Some.ensures.found.2;
+    } in (
+      omega arith,
+      (
+        serves_given c.args.inst_regs.now c.args.class old l c.args.moves c.requires.apart c.requires.ends c.scratch_regs.ensures.scratch_reserve
+            c.scratch_regs.ensures.differ c.temp_slots.ensures c.fixed_stack.ensures held
+            (has_scratch c.in_ok-resolved.resolved) (listed c.in_ok-resolved.resolved) c.in_ok-resolved.ensures.resolved,
+        c.in_ok-resolved.ensures.runnable,
+      ),
+    )
+
+pub returns-in_err-made-clause-err : goal.returns-in_err-made-clause-err
+returns-in_err-made-clause-err g c =
+    let s = c.args.self.now.slots in
+    let p = err_from_is_err_and c.from_residual-in_err-made.result c.from_residual-in_err-made.ensures.1 in
+    rw p.1 (subst (IsResourceError (SlotsExhaustedWith s (s.num_temp_slots + 2))) (sym p.2)
+    (lacks_slots (HasTooFewSlots c.temp_slots.result) (SlotsExhaustedWith s (s.num_temp_slots + 2))
+    (short_full s c.args.class c.temp_slots.result c.temp_slots.ensures) _ c.in_err-made.ensures.err))
+
+pub add_temp_slots-requires-clause-room : goal.add_temp_slots-requires-clause-room
+add_temp_slots-requires-clause-room g c = taken_fits c.args.self.now.slots c.args.class c.temp_slots.result c.temp_slots.ensures c.in_ok-made.made.slots
+    c.in_ok-made.ensures.there
+
+pub returns-clause-ok : goal.returns-clause-ok
+returns-clause-ok g c =
+    let l : ScratchPool = record {
+      registers = c.scratch_regs.result;
+      slots = c.temp_slots.result;
+      fixed_stack = c.fixed_stack.result;
+      borrowed = c.in-Some.borrowed;
+    } in
+    let s = c.args.self.now in
+    let old : StateValue = tables_of s in
+    let new : StateValue = record {
+      places = s.places;
+      slots = c.add_temp_slots.new.self;
+      edits = s.edits;
+      allocatable = s.registers.allocatable;
+      fixed_stack = s.registers.fixed_stack;
+      dedicated_scratch = s.registers.dedicated_scratch;
+    } in
+    let held : MayHold old c.args.class c.in-Some.borrowed = record {
+      of_class = c.in-Some.ensures.found.0;
+      small = c.in-Some.ensures.found.1;
+      allocatable = c.in-Some.ensures.found.2;
+    } in
+    orders c.args.inst_regs.now c.args.class old l c.args.moves c.requires.apart c.requires.ends c.scratch_regs.ensures.scratch_reserve
+    c.scratch_regs.ensures.differ c.temp_slots.ensures c.fixed_stack.ensures held
+    new c.in_ok-made.made.slots c.add_temp_slots.ensures.added c.in_ok-made.ensures.there.0 (has_scratch c.in_ok-resolved.resolved)
+    (listed c.in_ok-resolved.resolved) c.in_ok-made.made.moves.items c.in_ok-resolved.ensures.resolved c.in_ok-made.ensures.made
+    refl refl refl refl refl
+
+-- moves of a class that has no allocatable register
+pub returns-in_default-clause-stops : goal.returns-in_default-clause-stops
+returns-in_default-clause-stops g c = λ lacks. (
+  λ none. let short : listed c.in_ok-resolved.resolved ≡ [] = c.in_ok-resolved.ensures.resolved.short (rw none (omega arith)) ∙ none in
+      let yes = c.are_none.ensures.none.1 short in let no = c.if-are_none.false in cc,
+  c.in_default.ensures.none,
+)
+
+pub returns-in_err-made-clause-stops : goal.returns-in_err-made-clause-stops
+returns-in_err-made-clause-stops g c =
+    let p = err_from_is_err_and c.from_residual-in_err-made.result c.from_residual-in_err-made.ensures.1 in
+    rw p.1 (λ same. absurd (no_register (HasTooFewSlots c.temp_slots.result) _ c.in_err-made.ensures.err (sym p.2 ∙ same)))
+
+-- no moves are made for none
+pub returns-then-are_none-clause-none : goal.returns-then-are_none-clause-none
+returns-then-are_none-clause-none g c = λ none. (
+  c.with_scratch.ensures.items ∙ ap (λ (p : Place). with_place p c.in_ok-resolved.resolved) c.none.ensures
+      ∙ c.if-are_none.ensures.same refl ∙ c.if-are_none.ensures.none.0 refl,
+  refl,
+)
+
+pub returns-clause-none : goal.returns-clause-none
+returns-clause-none g c = λ none.
+    let short : listed c.in_ok-resolved.resolved ≡ [] = c.in_ok-resolved.ensures.resolved.short (rw none (omega arith)) ∙ none in
+    absurd (let y = c.are_none.ensures.none.1 short in let n = c.if-are_none.false in cc)

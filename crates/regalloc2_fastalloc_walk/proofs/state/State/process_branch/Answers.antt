@@ -1,0 +1,128 @@
+use Rattle.std.proofs.Common.{ℕ, ◌≡◌, ◌+◌, ◌≤◌, length, refl, inl, inr, sym, ◌∙◌, subst, arith, rules}
+use Rattle.std.proofs.lemmas.Result.{err_from_is_err_and}
+use Rattle.regalloc2_names.specs.declared.RegClass.{RegClass}
+use Rattle.regalloc2_names.specs.declared.RegClass.TheVariants.{Int, Float, Vector}
+use Rattle.regalloc2_names.specs.Point.{before}
+use Rattle.regalloc2_function.specs.FunctionValue.{block_at}
+use Rattle.regalloc2_fastalloc_proofs.specs.BranchSteps.{MayBeParallel, of_class}
+use Rattle.regalloc2_fastalloc_state.specs.OutOfResources.{SlotsExhausted, SlotsExhaustedWith, IsResourceError}
+use Rattle.regalloc2_fastalloc_state.specs.ScratchPool.{Moves}
+use Rattle.regalloc2_fastalloc_proofs.specs.InstSteps.{StateValue}
+use Rattle.regalloc2_fastalloc_proofs.specs.OutOfRegs.{OrderMovesFails, in_order}
+use Rattle.regalloc2_fastalloc_walk.specs.StateView.{tables_of}
+use Rattle.regalloc2_fastalloc_state.specs.StateParts.{AllAtOrAfter}
+use Rattle.regalloc2_fastalloc_proofs.proofs.Branches.ArgMovesAreParallel.{apart_lent, full_before, gathered_below, gathered_sources, lends_none, pushes_at}
+use Rattle.regalloc2_fastalloc_proofs.proofs.Branches.ArgMovesAreParallel.{pushes_long}
+use Rattle.regalloc2_fastalloc_state.proofs.SpillSlotUnits.{lacks_then}
+use Rattle.regalloc2_fastalloc_walk.proofs.BlockSpillFree.{gathers_none, of_none}
+use Rattle.regalloc2_fastalloc_walk.proofs.state.State.process_branch.Goals as goal
+
+pub push_gathered-requires : goal.push_gathered-requires
+push_gathered-requires g c =
+    let f = g.F.Function.function c.args.f.now in
+    let at : c.before-point.result ≡ before c.args.inst = c.before-point.ensures.point (λ e. omega (arith, c.requires.inst)) in
+    let old : StateValue = tables_of c.args.self.now in
+    let m : StateValue = tables_of c.gather.new.self in
+    let x = c.in_ok-moves.ensures.ok in
+    let le : m.slots.count ≤ m.slots.count = omega arith in
+    let k : ℕ = length (block_at f c.args.block).succs in
+    let each : (class : RegClass) (ms : Moves) → ms ≡ of_class class x.0 → MayBeParallel m.slots.count ms = λ class ms is. record {
+      ends = gathered_below f c.args.block (before c.args.inst) c.args.inst_regs.now old k c.gather.new.inst_regs m x.0 x.2 class ms is m.slots.count le;
+      one_source = gathered_sources f c.args.block (before c.args.inst) c.args.inst_regs.now old k c.gather.new.inst_regs m x.0 x.2 class ms is
+          c.requires.differ c.have_owners.ensures;
+    } in (
+      search rules,
+      (
+        each Int c.in_ok-moves.moves.int x.1.int,
+        (
+          each Float c.in_ok-moves.moves.float x.1.float,
+          (
+            each Vector c.in_ok-moves.moves.vector x.1.vector,
+            (
+              apart_lent 0 old m (lends_none old m c.gather.ensures.machine) c.requires.apart,
+              subst (λ (p : ℕ). AllAtOrAfter p c.gather.new.self.edits) (sym at) c.in_ok-moves.ensures.later,
+            ),
+          ),
+        ),
+      ),
+    )
+
+pub returns-clause-ok : goal.returns-clause-ok
+returns-clause-ok g c =
+    let at : c.before-point.result ≡ before c.args.inst = c.before-point.ensures.point (λ e. omega (arith, c.requires.inst)) in
+    let m : StateValue = tables_of c.gather.new.self in
+    let x = c.in_ok-moves.ensures.ok in
+    let u = c.gather.new.inst_regs in
+    let p : ℕ = c.before-point.result in
+    let y = c.in_ok-push_gathered.ensures.ok in
+    record {
+      given = x.0;
+      gathered = m;
+      ints = y.after_ints;
+      floats = y.after_floats;
+      gathers = x.2;
+      int = pushes_at p (before c.args.inst) u Int c.in_ok-moves.moves.int (of_class Int x.0) m y.after_ints at x.1.int y.int;
+      float = pushes_at p (before c.args.inst) u Float c.in_ok-moves.moves.float (of_class Float x.0) y.after_ints y.after_floats at x.1.float y.float;
+      vector = pushes_at p (before c.args.inst) u Vector c.in_ok-moves.moves.vector (of_class Vector x.0) y.after_floats
+          (tables_of c.push_gathered.new.self) at x.1.vector y.vector;
+    }
+
+pub returns-clause-later : goal.returns-clause-later
+returns-clause-later g c =
+    let at : c.before-point.result ≡ before c.args.inst = c.before-point.ensures.point (λ e. omega (arith, c.requires.inst)) in
+    subst (λ (p : ℕ). AllAtOrAfter p c.push_gathered.new.self.edits) at c.in_ok-push_gathered.ensures.later
+
+pub returns-clause-long : goal.returns-clause-long
+returns-clause-long g c =
+    let u = c.gather.new.inst_regs in
+    let p : ℕ = c.before-point.result in
+    let y = c.in_ok-push_gathered.ensures.ok in
+    pushes_long p u Vector c.in_ok-moves.moves.vector y.after_floats (tables_of c.push_gathered.new.self) y.vector
+    ∙ pushes_long p u Float c.in_ok-moves.moves.float y.after_ints y.after_floats y.float
+    ∙ pushes_long p u Int c.in_ok-moves.moves.int (tables_of c.gather.new.self) y.after_ints y.int
+    ∙ c.in_ok-moves.ensures.long
+
+-- what is lacking, wherever it stops
+pub returns-in_err-moves-clause-err : goal.returns-in_err-moves-clause-err
+returns-in_err-moves-clause-err g c =
+    let old : StateValue = tables_of c.args.self.now in
+    let b : StateValue = tables_of c.gather.new.self in
+    let p = err_from_is_err_and c.from_residual.result c.from_residual.ensures.1 in
+    let Full : Type 0 = SlotsExhaustedWith old.slots (old.slots.num_temp_slots + 6) in
+    rw p.1 (subst (IsResourceError Full) (sym p.2)
+    (lacks_then (SlotsExhausted b.slots) Full (full_before 0 b.slots.num_temp_slots 6 old b (lends_none old b c.gather.ensures.machine) (omega arith)) _
+    c.in_err-moves.ensures.err))
+
+pub returns-in_err-push_gathered-clause-err : goal.returns-in_err-push_gathered-clause-err
+returns-in_err-push_gathered-clause-err g c =
+    let old : StateValue = tables_of c.args.self.now in
+    let b : StateValue = tables_of c.gather.new.self in
+    let p = err_from_is_err_and c.from_residual-in_err-push_gathered.result c.from_residual-in_err-push_gathered.ensures.1 in
+    let Full : Type 0 = SlotsExhaustedWith old.slots (old.slots.num_temp_slots + 6) in
+    rw p.1 (subst (IsResourceError Full) (sym p.2)
+    (lacks_then (SlotsExhaustedWith b.slots (b.slots.num_temp_slots + 6)) Full
+    (full_before 0 (b.slots.num_temp_slots + 6) 6 old b (lends_none old b c.gather.ensures.machine) (omega arith)) _ c.in_err-push_gathered.ensures.err))
+
+-- moves of a class that has no register
+pub returns-in_err-push_gathered-clause-stops : goal.returns-in_err-push_gathered-clause-stops
+returns-in_err-push_gathered-clause-stops g c =
+    let u = c.gather.new.inst_regs in
+    let m : StateValue = tables_of c.gather.new.self in
+    let x = c.in_ok-moves.ensures.ok in
+    let p = err_from_is_err_and c.from_residual-in_err-push_gathered.result c.from_residual-in_err-push_gathered.ensures.1 in
+    rw p.1 (λ same. elim (c.in_err-push_gathered.ensures.stops (sym p.2 ∙ same)) [
+      | inl a ↦ in_order Int u m m x.0 x.2 refl (subst (λ (ms : Moves). OrderMovesFails Int ms m) x.1.int a)
+      | inr (inl a) ↦ in_order Float u m m x.0 x.2 refl (subst (λ (ms : Moves). OrderMovesFails Float ms m) x.1.float a)
+      | inr (inr a) ↦ in_order Vector u m m x.0 x.2 refl (subst (λ (ms : Moves). OrderMovesFails Vector ms m) x.1.vector a)
+    ])
+
+-- edges to blocks without parameters pass nothing
+pub returns-clause-none : goal.returns-clause-none
+returns-clause-none g c = λ empty.
+    let f = g.F.Function.function c.args.f.now in
+    let m : StateValue = tables_of c.gather.new.self in
+    let x = c.in_ok-moves.ensures.ok in
+    let none = gathers_none f c.args.block (before c.args.inst) c.args.inst_regs.now (tables_of c.args.self.now) (length (block_at f c.args.block).succs)
+    c.gather.new.inst_regs m x.0 empty x.2 in
+    c.in_ok-push_gathered.ensures.none (of_none Int x.0 c.in_ok-moves.moves.int none.1 x.1.int) (of_none Float x.0 c.in_ok-moves.moves.float none.1 x.1.float)
+    (of_none Vector x.0 c.in_ok-moves.moves.vector none.1 x.1.vector) ∙ none.0

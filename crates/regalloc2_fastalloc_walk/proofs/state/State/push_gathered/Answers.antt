@@ -1,0 +1,108 @@
+use Rattle.std.proofs.Common.{◌+◌, ◌≤◌, refl, sym, subst, arith, rules}
+use Rattle.std.proofs.lemmas.Result.{err_from_is_err_and}
+use Rattle.regalloc2_names.specs.declared.RegClass.TheVariants.{Int, Float}
+use Rattle.regalloc2_fastalloc_state.specs.OutOfResources.{SlotsExhaustedWith, IsResourceError}
+use Rattle.regalloc2_fastalloc_proofs.specs.InstSteps.{StateValue}
+use Rattle.regalloc2_fastalloc_walk.specs.StateView.{tables_of}
+use Rattle.regalloc2_fastalloc_proofs.proofs.Branches.ArgMovesAreParallel.{apart_lent, between_more, full_before, lends_same, lends_then, pushes_grow}
+use Rattle.regalloc2_fastalloc_state.proofs.SpillSlotUnits.{lacks_then}
+use Rattle.regalloc2_fastalloc_walk.proofs.state.State.push_gathered.Goals as goal
+
+pub push_moves-requires : goal.push_moves-requires
+push_moves-requires g c =
+    let old : StateValue = tables_of c.args.self.now in
+    (search rules, (search rules, (c.requires.ints.ends, (c.requires.ints.one_source, (c.requires.apart, c.requires.later)))))
+
+pub push_moves-requires-2 : goal.push_moves-requires-2
+push_moves-requires-2 g c =
+    let old : StateValue = tables_of c.args.self.now in
+    let g1 = pushes_grow c.args.point c.args.inst_regs.now Int c.args.moves.int (tables_of c.args.self.now) (tables_of c.push_moves.new.self)
+    c.in_ok-push_moves.ensures.ok in
+    let le : old.slots.count ≤ c.push_moves.new.self.slots.count = omega (arith, g1) in (
+      search rules,
+      (
+        search rules,
+        (
+          between_more old.slots.count c.push_moves.new.self.slots.count c.args.moves.float le c.requires.floats.ends,
+          (
+            c.requires.floats.one_source,
+            (
+              apart_lent (0 + 2) old (tables_of c.push_moves.new.self)
+                  (lends_then (0) 2 old (tables_of c.args.self.now) (tables_of c.push_moves.new.self) (lends_same 0 old old refl) c.push_moves.ensures.machine)
+                  c.requires.apart,
+              c.in_ok-push_moves.ensures.later,
+            ),
+          ),
+        ),
+      ),
+    )
+
+pub push_moves-requires-3 : goal.push_moves-requires-3
+push_moves-requires-3 g c =
+    let old : StateValue = tables_of c.args.self.now in
+    let g1 = pushes_grow c.args.point c.args.inst_regs.now Int c.args.moves.int (tables_of c.args.self.now) (tables_of c.push_moves.new.self)
+    c.in_ok-push_moves.ensures.ok in
+    let g2 = pushes_grow c.args.point c.args.inst_regs.now Float c.args.moves.float (tables_of c.push_moves.new.self) (tables_of c.push_moves-2.new.self)
+    c.in_ok-push_moves-2.ensures.ok in
+    let le : old.slots.count ≤ c.push_moves-2.new.self.slots.count = omega (arith, g1, g2) in (
+      search rules,
+      (
+        search rules,
+        (
+          between_more old.slots.count c.push_moves-2.new.self.slots.count c.args.moves.vector le c.requires.vectors.ends,
+          (
+            c.requires.vectors.one_source,
+            (
+              apart_lent (0 + 2 + 2) old (tables_of c.push_moves-2.new.self)
+                  (lends_then (0 + 2) 2 old (tables_of c.push_moves.new.self) (tables_of c.push_moves-2.new.self)
+                  (lends_then (0) 2 old (tables_of c.args.self.now) (tables_of c.push_moves.new.self) (lends_same 0 old old refl) c.push_moves.ensures.machine)
+                  c.push_moves-2.ensures.machine) c.requires.apart,
+              c.in_ok-push_moves-2.ensures.later,
+            ),
+          ),
+        ),
+      ),
+    )
+
+pub returns-clause-ok : goal.returns-clause-ok
+returns-clause-ok g c = record {
+  after_ints = tables_of c.push_moves.new.self;
+  after_floats = tables_of c.push_moves-2.new.self;
+  int = c.in_ok-push_moves.ensures.ok;
+  float = c.in_ok-push_moves-2.ensures.ok;
+  vector = c.in_ok-push_moves-3.ensures.ok;
+}
+
+-- what is lacking, wherever it stops
+pub returns-in_err-push_moves-clause-err : goal.returns-in_err-push_moves-clause-err
+returns-in_err-push_moves-clause-err g c =
+    let old : StateValue = tables_of c.args.self.now in
+    let b : StateValue = tables_of c.args.self.now in
+    let p = err_from_is_err_and c.from_residual.result c.from_residual.ensures.1 in
+    let Full : Type 0 = SlotsExhaustedWith old.slots (old.slots.num_temp_slots + 6) in
+    rw p.1 (subst (IsResourceError Full) (sym p.2)
+    (lacks_then (SlotsExhaustedWith b.slots (b.slots.num_temp_slots + 2)) Full
+    (full_before (0) (b.slots.num_temp_slots + 2) 6 old b (lends_same 0 old old refl) (omega arith)) _ c.in_err-push_moves.ensures.err))
+
+pub returns-in_err-push_moves-2-clause-err : goal.returns-in_err-push_moves-2-clause-err
+returns-in_err-push_moves-2-clause-err g c =
+    let old : StateValue = tables_of c.args.self.now in
+    let b : StateValue = tables_of c.push_moves.new.self in
+    let p = err_from_is_err_and c.from_residual-in_err-push_moves-2.result c.from_residual-in_err-push_moves-2.ensures.1 in
+    let Full : Type 0 = SlotsExhaustedWith old.slots (old.slots.num_temp_slots + 6) in
+    rw p.1 (subst (IsResourceError Full) (sym p.2)
+    (lacks_then (SlotsExhaustedWith b.slots (b.slots.num_temp_slots + 2)) Full
+    (full_before (0 + 2) (b.slots.num_temp_slots + 2) 4 old b (lends_then (0) 2 old (tables_of c.args.self.now) (tables_of c.push_moves.new.self)
+    (lends_same 0 old old refl) c.push_moves.ensures.machine) (omega arith)) _ c.in_err-push_moves-2.ensures.err))
+
+pub returns-in_err-push_moves-3-clause-err : goal.returns-in_err-push_moves-3-clause-err
+returns-in_err-push_moves-3-clause-err g c =
+    let old : StateValue = tables_of c.args.self.now in
+    let b : StateValue = tables_of c.push_moves-2.new.self in
+    let p = err_from_is_err_and c.from_residual-in_err-push_moves-3.result c.from_residual-in_err-push_moves-3.ensures.1 in
+    let Full : Type 0 = SlotsExhaustedWith old.slots (old.slots.num_temp_slots + 6) in
+    rw p.1 (subst (IsResourceError Full) (sym p.2)
+    (lacks_then (SlotsExhaustedWith b.slots (b.slots.num_temp_slots + 2)) Full
+    (full_before (0 + 2 + 2) (b.slots.num_temp_slots + 2) 2 old b (lends_then (0 + 2) 2 old (tables_of c.push_moves.new.self)
+    (tables_of c.push_moves-2.new.self) (lends_then (0) 2 old (tables_of c.args.self.now) (tables_of c.push_moves.new.self) (lends_same 0 old old refl)
+    c.push_moves.ensures.machine) c.push_moves-2.ensures.machine) (omega arith)) _ c.in_err-push_moves-3.ensures.err))

@@ -1,0 +1,53 @@
+use Rattle.std.proofs.Common.{◌≡◌, length, refl, sym, ◌∙◌, subst, arith}
+use Rattle.std.proofs.lemmas.Result.{err_from_is_err_and}
+use Rattle.regalloc2_fastalloc_proofs.specs.InstSteps.{StateValue}
+use Rattle.regalloc2_fastalloc_walk.specs.StateView.{tables_of}
+use Rattle.regalloc2_fastalloc_walk.specs.ReserveSteps.{ReservesRegForOperand, ReserveForOperandFails}
+use Rattle.regalloc2_fastalloc_walk.proofs.RegsReserved.{awaiting_none, awaiting_more, reserving_none, reserving_more, reserves_all, stops_reserve}
+use Rattle.regalloc2_fastalloc_walk.proofs.state.State.reserve.Goals as goal
+
+pub loop-k-init : goal.loop-k-init
+loop-k-init g c = record {
+  reserving = reserving_none c.args.operands.now c.args.inst_regs.now c.none-claims.result (tables_of c.args.self.now)
+      c.none-claims.ensures.early c.none-claims.ensures.late;
+  awaiting = awaiting_none c.args.operands.now c.args.inst_regs.now;
+  same = refl;
+  registers =
+      λ none. refl;
+}
+
+pub loop-k-preserved : goal.loop-k-preserved
+loop-k-preserved g c = record {
+  reserving = reserving_more c.args.operands.now c.loop-k.k c.args.inst_regs.now c.loop-k.inst_regs c.reserve_reg_for_operand.new.inst_regs c.loop-k.claims
+      c.reserve_reg_for_operand.new.claims (tables_of c.args.self.now) c.loop-k.invariant.reserving
+      (subst (λ (t : StateValue). ReservesRegForOperand c.args.operands.now c.loop-k.k c.loop-k.inst_regs c.reserve_reg_for_operand.new.inst_regs
+      c.loop-k.claims c.reserve_reg_for_operand.new.claims t) c.loop-k.invariant.same c.in_ok-reserve_reg_for_operand.ensures.ok);
+  awaiting = awaiting_more c.args.operands.now c.loop-k.k c.args.inst_regs.now c.loop-k.inst_regs c.reserve_reg_for_operand.new.inst_regs (omega arith)
+      (omega arith) c.in_ok-reserve_reg_for_operand.ensures.awaited c.loop-k.invariant.awaiting;
+  same = c.reserve_reg_for_operand.ensures.same ∙ c.loop-k.invariant.same;
+  registers = λ none. c.in_ok-reserve_reg_for_operand.ensures.registers (λ r e. none c.loop-k.k r (omega arith) e)
+      ∙ c.loop-k.invariant.registers (λ k r less e. none k r (omega (arith, less)) e);
+}
+
+pub returns-clause-ok : goal.returns-clause-ok
+returns-clause-ok g c = let e : c.loop-k.k ≡ length c.args.operands.now = omega arith in
+    reserves_all c.args.operands.now c.loop-k.k c.args.inst_regs.now c.loop-k.inst_regs c.loop-k.claims (tables_of c.args.self.now) e
+    c.loop-k.invariant.awaiting c.loop-k.invariant.reserving
+
+pub returns-clause-same : goal.returns-clause-same
+returns-clause-same g c = c.loop-k.invariant.same
+
+pub returns-in_err-reserve_reg_for_operand-clause-same : goal.returns-in_err-reserve_reg_for_operand-clause-same
+returns-in_err-reserve_reg_for_operand-clause-same g c = c.reserve_reg_for_operand.ensures.same ∙ c.loop-k.invariant.same
+
+pub returns-in_err-reserve_reg_for_operand-clause-stops : goal.returns-in_err-reserve_reg_for_operand-clause-stops
+returns-in_err-reserve_reg_for_operand-clause-stops g c =
+    let ops = c.args.operands.now in
+    let e = err_from_is_err_and c.from_residual.result c.from_residual.ensures.1 in
+    rw e.1 (λ lacks. stops_reserve ops c.loop-k.k c.args.inst_regs.now c.loop-k.inst_regs c.loop-k.claims (tables_of c.args.self.now) (omega arith)
+    c.loop-k.invariant.reserving
+    (subst (λ (t : StateValue). ReserveForOperandFails ops c.loop-k.k c.loop-k.claims t) c.loop-k.invariant.same
+    (c.in_err-reserve_reg_for_operand.ensures.stops (sym e.2 ∙ lacks))))
+
+pub returns-clause-registers : goal.returns-clause-registers
+returns-clause-registers g c = λ none. c.loop-k.invariant.registers (λ k r less e. none k r (omega (arith, less)) e)

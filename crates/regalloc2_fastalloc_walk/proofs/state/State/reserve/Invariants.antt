@@ -1,0 +1,16 @@
+use Rattle.std.proofs.Common.{◌≡◌}
+use Rattle.regalloc2_fastalloc_walk.specs.StateView.{tables_of}
+use Rattle.regalloc2_fastalloc_walk.proofs.RegsReserved.{Awaiting, Reserving}
+use Rattle.std.specs.Prelude.{ℕ, ◌<◌}
+use Rattle.regalloc2_names.specs.declared.OperandConstraint.TheVariants.{FixedReg}
+use Rattle.regalloc2_names.specs.Register.{Register}
+use Rattle.regalloc2_validate.specs.Constraints.{op_at}
+use Rattle.regalloc2_fastalloc_walk.proofs.state.State.reserve.Given as goal
+
+abbrev pub invariant-loop-k : goal.invariant-loop-k
+invariant-loop-k g l = record {
+  reserving : Reserving l.operands l.k l.fn.inst_regs l.inst_regs l.claims (tables_of l.fn.self);
+  awaiting : Awaiting l.operands l.k l.fn.inst_regs l.inst_regs;
+  same : tables_of l.self ≡ tables_of l.fn.self;
+  registers : ((k : ℕ) (r : Register) → k < l.k → (op_at l.operands k).constraint ≡ FixedReg r → ⊥) → l.self.registers ≡ l.fn.self.registers;
+}

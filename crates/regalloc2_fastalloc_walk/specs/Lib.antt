@@ -1,0 +1,3 @@
+pub mod ReserveSteps
+pub mod StateView
+pub mod SpillFree

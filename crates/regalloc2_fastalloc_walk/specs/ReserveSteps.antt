@@ -1,0 +1,85 @@
+-- What one operand reserves before operands are allocated.
+use Rattle.std.specs.Prelude.{ℕ, ◌≡◌, ◌+◌, ◌<◌, ◌⊎◌, ◌&&◌, ◌||◌, true, false, if◌then◌else◌, List}
+use Rattle.regalloc2_names.specs.declared.RegClass.{RegClass}
+use Rattle.regalloc2_names.specs.Register.{Register, is_register}
+use Rattle.regalloc2_names.specs.RegisterSet.{has_register}
+use Rattle.regalloc2_names.specs.Operand.{OperandValue}
+use Rattle.regalloc2_fastalloc_state.specs.declared.inst_regs.Positions.{Positions}
+use Rattle.regalloc2_fastalloc_state.specs.declared.inst_regs.InstRegs.{InstRegs}
+use Rattle.regalloc2_fastalloc_state.specs.InstRegs.{awaited_of, is_free_throughout}
+use Rattle.regalloc2_validate.specs.Constraints.{op_at}
+use Rattle.regalloc2_fastalloc_walk.specs.declared.reserve_regs.ReservedRegs.{ReservedRegs}
+use Rattle.regalloc2_fastalloc_proofs.specs.InstSteps.{StateValue, NeedsFixedReg, IsFixedIn, asks}
+
+-- one of the machine's registers or fixed stack slots
+abbrev pub IsKnown : StateValue → Register → Type 0
+IsKnown t r = (has_register t.allocatable r ≡ true) ⊎ (has_register t.fixed_stack r ≡ true)
+
+-- registers may be taken at the two positions, and none is given back; moves from stack to stack go where they went
+pub record Shrinks (t u : InstRegs) : Type 0 where
+  pub early : (r : Register) → has_register u.early r ≡ true → has_register t.early r ≡ true
+  pub late : (r : Register) → has_register u.late r ≡ true → has_register t.late r ≡ true
+  pub scratch : u.scratch ≡ t.scratch
+
+-- no other register than this one is taken
+pub record TakesOnly (by : Register) (t u : InstRegs) : Type 0 where
+  pub early : (r : Register) → is_register by r ≡ false → has_register u.early r ≡ has_register t.early r
+  pub late : (r : Register) → is_register by r ≡ false → has_register u.late r ≡ has_register t.late r
+
+-- registers that are taken now, and were free at both positions, are those that operands are fixed to
+abbrev pub TakesFixed : List OperandValue → InstRegs → InstRegs → Type 0
+TakesFixed operands t u = (r : Register) → is_free_throughout t r ≡ true → is_free_throughout u r ≡ false → IsFixedIn operands r
+
+-- the operand k is awaited if it asks for any register
+abbrev pub AwaitsOne : List OperandValue → ℕ → InstRegs → InstRegs → Type 0
+AwaitsOne operands k t u = (class : RegClass) → awaited_of t class < 18446744073709551615 →
+    awaited_of u class ≡ awaited_of t class + (if asks class (op_at operands k) then 1 else 0)
+
+-- claims are kept
+pub record Grows (c d : ReservedRegs) : Type 0 where
+  pub early : (r : Register) → has_register c.early r ≡ true → has_register d.early r ≡ true
+  pub late : (r : Register) → has_register c.late r ≡ true → has_register d.late r ≡ true
+
+-- no other register than this one is claimed now, and at these positions
+pub record ReservesOnly (c d : ReservedRegs) (by : Register) (p : Positions) : Type 0 where
+  pub early : (r : Register) → has_register d.early r ≡ true → (has_register c.early r ≡ true) ⊎ ((r ≡ by) × (p.early ≡ true))
+  pub late : (r : Register) → has_register d.late r ≡ true → (has_register c.late r ≡ true) ⊎ ((r ≡ by) × (p.late ≡ true))
+
+-- nor than what the operand k claims
+pub record OperandReserves (operands : List OperandValue) (k : ℕ) (c d : ReservedRegs) : Type 0 where
+  pub early : (r : Register) → has_register d.early r ≡ true → (has_register c.early r ≡ true)
+      ⊎ ((p : Positions) × NeedsFixedReg operands k r p × (p.early ≡ true))
+  pub late : (r : Register) → has_register d.late r ≡ true → (has_register c.late r ≡ true) ⊎ ((p : Positions) × NeedsFixedReg operands k r p × (p.late ≡ true))
+
+-- the register is claimed at one of the positions
+abbrev pub IsReservedAt : ReservedRegs → Register → Positions → Type 0
+IsReservedAt c r p = ((p.early && has_register c.early r) || (p.late && has_register c.late r)) ≡ true
+
+-- the register is claimed at the positions, where no vreg claimed it
+pub record IsNewlyReserved (c d : ReservedRegs) (r : Register) (p : Positions) : Type 0 where
+  pub fresh_early : p.early ≡ true → has_register c.early r ≡ false
+  pub fresh_late : p.late ≡ true → has_register c.late r ≡ false
+  pub early : p.early ≡ true → has_register d.early r ≡ true
+  pub late : p.late ≡ true → has_register d.late r ≡ true
+
+-- the register is one of the machine's, is claimed, and isn't free at the positions any more
+pub record IsReserved (t : StateValue) (r : Register) (p : Positions) (u : InstRegs) (c d : ReservedRegs) : Type 0 where
+  pub known : IsKnown t r
+  pub claimed : IsNewlyReserved c d r p
+  pub held_early : p.early ≡ true → has_register u.early r ≡ false
+  pub held_late : p.late ≡ true → has_register u.late r ≡ false
+
+-- the operand k reserves what it claims
+pub record ReservesRegForOperand (operands : List OperandValue) (k : ℕ) (t u : InstRegs) (c d : ReservedRegs) (old : StateValue) : Type 0 where
+  pub shrinks : Shrinks t u
+  pub grows : Grows c d
+  pub takes : TakesFixed operands t u
+  pub claims : OperandReserves operands k c d
+  pub reserved : (r : Register) (p : Positions) → NeedsFixedReg operands k r p → IsReserved old r p u c d
+
+-- the operand k claims a register that isn't the machine's, or that is claimed at a position of its own
+pub record ReserveForOperandFails (operands : List OperandValue) (k : ℕ) (c : ReservedRegs) (old : StateValue) : Type 0 where
+  pub register : Register
+  pub positions : Positions
+  pub claims : NeedsFixedReg operands k register positions
+  pub stops : ((has_register old.allocatable register || has_register old.fixed_stack register) ≡ false) ⊎ IsReservedAt c register positions

@@ -1,0 +1,125 @@
+//! The beginning of a block: what is read from there on comes in spill slots.
+
+ghost use Rattle.std.specs.Prelude.{ℕ, ◌≡◌, ◌<◌, [], All, length, None, OnOk, IfErr};
+ghost use Rattle.regalloc2_names.specs.Point.{before};
+ghost use Rattle.regalloc2_names.specs.Place.{NoPlace};
+ghost use Rattle.regalloc2_names.specs.Register.{Register};
+ghost use Rattle.regalloc2_fastalloc_proofs.specs.BlockStart.{ReloadsAtBegin, ReloadsParam, ReloadsParams, ReloadsRegs};
+ghost use Rattle.regalloc2_fastalloc_state.specs.OutOfResources.{IsResourceErrorIn};
+ghost use Rattle.regalloc2_fastalloc_proofs.specs.InstSteps.{SameMachine};
+ghost use Rattle.regalloc2_fastalloc_proofs.specs.OutOfRegs.{OutOfRegsOnlyIf, ReloadAtBeginFails, ReloadRegsFails, ReloadParamFails, ReloadParamsFails};
+ghost use Rattle.regalloc2_fastalloc_walk.specs.StateView.{tables_of};
+ghost use Rattle.regalloc2_fastalloc_state.specs.StateParts.{AllAtOrAfter, vreg_of_preg, alloc_of};
+
+use super::inst::differ;
+use super::state::State;
+use regalloc2_fastalloc_state::fill_order::FilledReg;
+use regalloc2_fastalloc_state::inst_regs::InstRegs;
+use regalloc2_index::Inst;
+use regalloc2_names::{Allocation, ProgPoint, RegAllocError, VReg};
+use std::alloc::Allocator;
+
+impl<'a, A: Allocator> State<'a, A> {
+    /// A parameter of the block that begins: it comes in its slot, from where it is moved to where it is awaited, and
+    /// has no location before.
+    fn reload_param(
+        &mut self,
+        inst_regs: &mut InstRegs,
+        point: ProgPoint,
+        param: VReg,
+    ) -> Result<(), RegAllocError>
+        requires later { AllAtOrAfter point self.old.edits }
+        requires known { param.number < length self.old.places.vreg_allocs }
+        ensures ok { OnOk result (ReloadsParam point param inst_regs.old inst_regs.new (tables_of self.old) (tables_of self.new)) }
+        ensures later { OnOk result (AllAtOrAfter point self.new.edits) }
+        ensures long { OnOk result (length self.new.places.vreg_allocs ≡ length self.old.places.vreg_allocs) }
+        ensures machine { SameMachine (tables_of self.old) (tables_of self.new) }
+        ensures err { IfErr result (IsResourceErrorIn self.new.slots) }
+        ensures stops { IfErr result (OutOfRegsOnlyIf (ReloadParamFails param inst_regs.old (tables_of self.old))) }
+    {
+        let current = self.places.current_alloc(param);
+        if current.is_none() {
+            return Ok(());
+        }
+        let slot = self.slots.get_spillslot(param)?;
+        self.places.set_alloc(param, Allocation::none());
+        let is_moved = differ(slot, current);
+        self.add_move_if(inst_regs, point, param.class(), is_moved, slot, current)?;
+        Ok(())
+    }
+
+    /// The parameters of the block that begins, in order.
+    fn reload_params(
+        &mut self,
+        inst_regs: &mut InstRegs,
+        point: ProgPoint,
+        params: &[VReg],
+    ) -> Result<(), RegAllocError>
+        requires later { AllAtOrAfter point self.old.edits }
+        requires known { All (λ v. v.number < length self.old.places.vreg_allocs) params.now }
+        ensures ok { OnOk result (ReloadsParams point params.now inst_regs.old (tables_of self.old) (length params.now) inst_regs.new (tables_of self.new)) }
+        ensures later { OnOk result (AllAtOrAfter point self.new.edits) }
+        ensures long { OnOk result (length self.new.places.vreg_allocs ≡ length self.old.places.vreg_allocs) }
+        ensures machine { SameMachine (tables_of self.old) (tables_of self.new) }
+        ensures err { IfErr result (IsResourceErrorIn self.new.slots) }
+        ensures stops { IfErr result (OutOfRegsOnlyIf (ReloadParamsFails point params.now inst_regs.old (tables_of self.old))) }
+    {
+        for param in params {
+            self.reload_param(inst_regs, point, *param)?;
+        }
+        Ok(())
+    }
+
+    /// Each vreg in a register is reloaded from its slot, the one that came to a register last first. `order` is room for a
+    /// list.
+    fn reload_regs<B: Allocator>(
+        &mut self,
+        inst_regs: &mut InstRegs,
+        point: ProgPoint,
+        order: &mut Vec<FilledReg, B>,
+    ) -> Result<(), RegAllocError>
+        requires { AllAtOrAfter point self.old.edits }
+        ensures ok { OnOk result (ReloadsRegs point inst_regs.old (tables_of self.old) inst_regs.new (tables_of self.new)) }
+        ensures emptied { OnOk result ((r : Register) → r.number < 64 → vreg_of_preg self.new.places r ≡ None) }
+        ensures later { OnOk result (AllAtOrAfter point self.new.edits) }
+        ensures long { OnOk result (length self.new.places.vreg_allocs ≡ length self.old.places.vreg_allocs) }
+        ensures machine { SameMachine (tables_of self.old) (tables_of self.new) }
+        ensures err { IfErr result (IsResourceErrorIn self.new.slots) }
+        ensures stops { IfErr result (OutOfRegsOnlyIf (ReloadRegsFails point inst_regs.old (tables_of self.old))) }
+        ensures nobody { OnOk result (((n : ℕ) → alloc_of self.old.places n ≡ NoPlace) → tables_of self.new ≡ tables_of self.old) }
+    {
+        self.places.list_by_fill_order(order)?;
+        while let Some(arrival) = order.pop() {
+            if self.places.vreg_in(arrival.preg).is_some() {
+                self.evict_preg(inst_regs, point, arrival.preg)?;
+            }
+        }
+        Ok(())
+    }
+
+    /// The beginning of a block: its parameters come in their slots, and so does each vreg that is in a register
+    /// behind. `order` is room for a list.
+    pub fn reload_at_begin<B: Allocator>(
+        &mut self,
+        first: Inst,
+        params: &[VReg],
+        order: &mut Vec<FilledReg, B>,
+    ) -> Result<(), RegAllocError>
+        requires inst { first < 1073741824 }
+        requires later { AllAtOrAfter (before first) self.old.edits }
+        requires known { All (λ v. v.number < length self.old.places.vreg_allocs) params.now }
+        ensures ok { OnOk result (ReloadsAtBegin (before first) params.now (tables_of self.old) (tables_of self.new)) }
+        ensures later { OnOk result (AllAtOrAfter (before first) self.new.edits) }
+        ensures long { OnOk result (length self.new.places.vreg_allocs ≡ length self.old.places.vreg_allocs) }
+        ensures machine { SameMachine (tables_of self.old) (tables_of self.new) }
+        ensures err { IfErr result (IsResourceErrorIn self.new.slots) }
+        ensures stops { IfErr result (OutOfRegsOnlyIf (ReloadAtBeginFails (before first) params.now (tables_of self.old))) }
+        ensures nobody { OnOk result (((n : ℕ) → alloc_of self.old.places n ≡ NoPlace) → params.now ≡ [] → tables_of self.new ≡ tables_of self.old) }
+    {
+        let mut inst_regs = InstRegs::new(self.registers.available_regs());
+        let point = ProgPoint::before(first);
+        self.reload_params(&mut inst_regs, point, params)?;
+        self.reload_regs(&mut inst_regs, point, order)?;
+        Ok(())
+    }
+}

@@ -1,0 +1,397 @@
+//! The moves of a branch: each argument goes to the slots of the parameters that it is given for.
+
+ghost use Rattle.regalloc2_semantics.specs.Blocks.{HasEdge, target_at};
+ghost use Rattle.std.specs.Prelude.{ℕ, List, ◌≡◌, ◌↔◌, ◌≢◌, ◌<◌, ◌≤◌, ◌+◌, ◌++◌, ◌∷◌, ◌⊎◌, [], None, Some, length, IsTrue, IfOk, IfSome, IfErr, OnOk};
+ghost use Rattle.std.specs.Prelude.{OnErr, slice_index_or};
+ghost use Rattle.regalloc2_names.specs.Place.{Place, NoPlace, InRegister};
+ghost use Rattle.regalloc2_names.specs.Point.{before};
+ghost use Rattle.regalloc2_names.specs.Register.{Register, class_code};
+ghost use Rattle.regalloc2_function.specs.FunctionValue.{block_at};
+ghost use Rattle.regalloc2_parts.specs.AtOnce.{ends_of, HasOneSourceEach};
+ghost use Rattle.regalloc2_parts.specs.Resolved.{has_scratch, listed, with_place, IsResolution, IsRunnable};
+ghost use Rattle.regalloc2_fastalloc_proofs.specs.BranchSteps.{AreApart, AreBetweenSlots, AreKnown, AreNextTempSlots, AreOf, ClassMove, GathersMoves};
+ghost use Rattle.regalloc2_fastalloc_proofs.specs.BranchSteps.{GathersEdgeMoves, IsScratchRegFor, AddsTempSlotsAtMost, MayBeParallel, MayBranch};
+ghost use Rattle.regalloc2_fastalloc_proofs.specs.BranchSteps.{OrdersMoves, ParametersDiffer, ProcessesBranch, Pushes, PushesAllClasses};
+ghost use Rattle.regalloc2_fastalloc_proofs.specs.BranchSteps.{SpillsArgument};
+ghost use Rattle.regalloc2_fastalloc_state.specs.OutOfResources.{SlotsExhaustedWith, IsResourceErrorIn, IsResourceError};
+ghost use Rattle.regalloc2_fastalloc_state.specs.ScratchPool.{DoDiffer, IsOfScratchPair};
+ghost use Rattle.regalloc2_fastalloc_proofs.specs.InstSteps.{SameMachine};
+ghost use Rattle.regalloc2_fastalloc_proofs.specs.OutOfRegs.{OutOfRegsOnlyIf, GatherEdgeFails, GatherMovesFails, OrderMovesFails, ProcessBranchFails};
+ghost use Rattle.regalloc2_fastalloc_proofs.specs.OutOfRegs.{SpillArgumentFails};
+ghost use Rattle.regalloc2_fastalloc_walk.specs.StateView.{tables_of};
+ghost use Rattle.regalloc2_fastalloc_state.specs.StateParts.{SlotsHaveOneOwner, IsLeastRecentIn, AllAtOrAfter};
+
+use super::state::State;
+use regalloc2_fastalloc_state::inst_regs::{InstRegs, Positions};
+use regalloc2_fastalloc_state::scratch_pool::{ScratchPair, ScratchPool};
+use regalloc2_function::Function;
+use regalloc2_index::{Block, Inst};
+use regalloc2_names::{Allocation, PReg, PRegSet, ProgPoint, RegAllocError, RegClass, VReg};
+use regalloc2_parts::moves::{MoveVec, MoveVecWithScratch, ParallelMoves};
+use std::alloc::Allocator;
+
+/// A register as a place.
+fn as_place(preg: Option<PReg>) -> Option<Allocation>
+    ensures { (p : Place) → result ≡ Some p → (r : Register) × (p ≡ InRegister r) × (preg ≡ Some r) }
+{
+    match preg {
+        Some(preg) => Some(Allocation::reg(preg)),
+        None => None,
+    }
+}
+
+/// Whether there are no moves.
+fn are_none<A: Allocator + Copy>(moves: &MoveVecWithScratch<(), A>) -> bool
+    ensures same { IsTrue result → with_place NoPlace moves.now ≡ listed moves.now }
+    ensures none { IsTrue result ↔ (listed moves.now ≡ []) }
+{
+    match moves {
+        MoveVecWithScratch::NoScratch(list) => list.is_empty(),
+        MoveVecWithScratch::Scratch(list) => list.is_empty(),
+    }
+}
+
+/// Moves in an order in which they can be made, but for a scratch place.
+fn resolve<A: Allocator + Copy>(
+    moves: ParallelMoves<(), A>,
+) -> Result<MoveVecWithScratch<(), A>, RegAllocError>
+    requires { HasOneSourceEach (ends_of moves) }
+    ensures resolved { IfOk result (λ r. IsResolution moves (has_scratch r) (listed r)) }
+    ensures runnable { IfOk result (λ r. IsRunnable r) }
+    ensures err { IfErr result (λ e. e ≡ RegAllocError.Memory) }
+{
+    match moves.resolve() {
+        Ok(resolved) => Ok(resolved),
+        Err(_) => Err(RegAllocError::Memory),
+    }
+}
+
+/// Moves that are to be made at once, of each class.
+#[derive(Drop)]
+struct MovesByClass<'b, B: Allocator> {
+    int: ParallelMoves<(), &'b B>,
+    float: ParallelMoves<(), &'b B>,
+    vector: ParallelMoves<(), &'b B>,
+}
+
+/// One more of the moves.
+fn add_to<A: Allocator + Copy>(
+    moves: &mut ParallelMoves<(), A>,
+    from: Allocation,
+    to: Allocation,
+) -> Result<(), RegAllocError>
+    requires from { from ≢ NoPlace }
+    requires to { to ≢ NoPlace }
+    ensures ok { OnOk result (moves.new ≡ moves.old ++ (from, to, tt) ∷ []) }
+    ensures err { IfErr result (λ e. e ≡ RegAllocError.Memory) }
+{
+    match moves.add(from, to, ()) {
+        Ok(()) => Ok(()),
+        Err(_) => Err(RegAllocError::Memory),
+    }
+}
+
+impl<'b, B: Allocator> MovesByClass<'b, B> {
+    /// None.
+    fn none(alloc: &'b B) -> Self
+        ensures { AreOf result.int result.float result.vector [] }
+    {
+        MovesByClass {
+            int: ParallelMoves::new(alloc),
+            float: ParallelMoves::new(alloc),
+            vector: ParallelMoves::new(alloc),
+        }
+    }
+
+    /// One more, of a class.
+    fn add(
+        &mut self,
+        class: RegClass,
+        from: Allocation,
+        to: Allocation,
+    ) -> Result<(), RegAllocError>
+        requires from { from ≢ NoPlace }
+        requires to { to ≢ NoPlace }
+        ensures ok { OnOk result ((given : List ClassMove) → AreOf self.old.int self.old.float self.old.vector given →
+            AreOf self.new.int self.new.float self.new.vector (given ++ record { class = class; from = from; to = to } ∷ [])) }
+        ensures err { IfErr result (λ e. e ≡ RegAllocError.Memory) }
+    {
+        match class {
+            RegClass::Int => add_to(&mut self.int, from, to),
+            RegClass::Float => add_to(&mut self.float, from, to),
+            RegClass::Vector => add_to(&mut self.vector, from, to),
+        }
+    }
+}
+
+impl<'a, A: Allocator> State<'a, A> {
+    /// The first scratch register for moves of a class: that of the machine, else the least recently used one in the set.
+    fn first_scratch(&self, class: RegClass, free: PRegSet) -> Option<PReg>
+        ensures { IfSome result (λ r. (slice_index_or self.now.registers.dedicated_scratch (class_code class) None ≡ Some r)
+            ⊎ IsLeastRecentIn self.now.registers class free r) }
+    {
+        match self.registers.dedicated_scratch(class) {
+            Some(preg) => Some(preg),
+            None => self.registers.least_recently_used(class, free),
+        }
+    }
+
+    /// The scratch registers for moves of a class.
+    fn scratch_regs(&self, inst_regs: &InstRegs, class: RegClass) -> ScratchPair
+        ensures scratch_reserve { (p : Place) → IsOfScratchPair result p → IsScratchRegFor inst_regs.now (tables_of self.now) class p }
+        ensures differ { DoDiffer result }
+    {
+        let free = inst_regs.available_pregs(Positions::both());
+        let Some(first) = self.first_scratch(class, free) else {
+            return ScratchPair {
+                first: None,
+                second: None,
+            };
+        };
+        let mut rest = free;
+        rest.remove(first);
+        ScratchPair {
+            first: Some(Allocation::reg(first)),
+            second: as_place(self.registers.least_recently_used(class, rest)),
+        }
+    }
+
+    /// The temporary slots for moves of a class.
+    fn temp_slots(&self, class: RegClass) -> ScratchPair
+        ensures { AreNextTempSlots self.now.slots class result }
+    {
+        ScratchPair {
+            first: self.slots.next_temp_slot(class, 0),
+            second: self.slots.next_temp_slot(class, 1),
+        }
+    }
+
+    /// The moves of a class, which are to be made at once, in an order in which they can be made.
+    fn order<'b, B: Allocator>(
+        &mut self,
+        inst_regs: &InstRegs,
+        class: RegClass,
+        moves: ParallelMoves<(), &'b B>,
+    ) -> Result<MoveVec<(), &'b B>, RegAllocError>
+        requires ends { AreBetweenSlots self.old.slots.count moves }
+        requires one_source { HasOneSourceEach (ends_of moves) }
+        requires apart { AreApart (tables_of self.old) }
+        ensures ok { IfOk result (λ made. OrdersMoves inst_regs.now class moves.entry made.items (tables_of self.old) (tables_of self.new)) }
+        ensures unchanged { OnErr result (tables_of self.new ≡ tables_of self.old) }
+        ensures err { IfErr result (IsResourceError (SlotsExhaustedWith self.old.slots (self.old.slots.num_temp_slots + 2))) }
+        ensures stops { IfErr result (OutOfRegsOnlyIf (OrderMovesFails class moves.entry (tables_of self.old))) }
+        ensures registers { OnOk result (self.new.registers ≡ self.old.registers) }
+        ensures none { IfOk result (λ made. moves.entry ≡ [] → (made.items ≡ []) × (tables_of self.new ≡ tables_of self.old)) }
+    {
+        let resolved = resolve(moves)?;
+        if are_none(&resolved) {
+            return Ok(resolved.with_scratch(Allocation::none()));
+        }
+        let Some(borrowed) = self.registers.preferred_victim(class) else {
+            return Err(RegAllocError::TooManyLiveRegs);
+        };
+        let pool = ScratchPool {
+            registers: self.scratch_regs(inst_regs, class),
+            slots: self.temp_slots(class),
+            fixed_stack: self.registers.fixed_stack(),
+            borrowed,
+        };
+        let made = pool.compute(resolved)?;
+        self.slots.add_temp_slots(class, made.slots);
+        Ok(made.moves)
+    }
+
+    /// Pushes the moves of a class, which are to be made at once.
+    fn push_moves<'b, B: Allocator>(
+        &mut self,
+        inst_regs: &InstRegs,
+        point: ProgPoint,
+        class: RegClass,
+        moves: ParallelMoves<(), &'b B>,
+    ) -> Result<(), RegAllocError>
+        requires ends { AreBetweenSlots self.old.slots.count moves }
+        requires one_source { HasOneSourceEach (ends_of moves) }
+        requires apart { AreApart (tables_of self.old) }
+        requires later { AllAtOrAfter point self.old.edits }
+        ensures ok { OnOk result (Pushes point inst_regs.now class moves.entry (tables_of self.old) (tables_of self.new)) }
+        ensures later { OnOk result (AllAtOrAfter point self.new.edits) }
+        ensures machine { AddsTempSlotsAtMost 2 (tables_of self.old) (tables_of self.new) }
+        ensures err { IfErr result (IsResourceError (SlotsExhaustedWith self.old.slots (self.old.slots.num_temp_slots + 2))) }
+        ensures stops { IfErr result (OutOfRegsOnlyIf (OrderMovesFails class moves.entry (tables_of self.old))) }
+        ensures registers { OnOk result (self.new.registers ≡ self.old.registers) }
+        ensures none { OnOk result (moves.entry ≡ [] → tables_of self.new ≡ tables_of self.old) }
+    {
+        let made = self.order(inst_regs, class, moves)?;
+        self.edits.push_all(point, made.as_slice())?;
+        Ok(())
+    }
+}
+
+impl<'a, A: Allocator> State<'a, A> {
+    /// An argument's location is its slot from now on; it is reloaded from there to where it was awaited.
+    fn spill_argument(
+        &mut self,
+        inst_regs: &mut InstRegs,
+        point: ProgPoint,
+        argument: VReg,
+    ) -> Result<Allocation, RegAllocError>
+        requires later { AllAtOrAfter point self.old.edits }
+        requires known { argument.number < length self.old.places.vreg_allocs }
+        ensures ok { IfOk result (λ s. SpillsArgument point argument s inst_regs.old inst_regs.new (tables_of self.old) (tables_of self.new)) }
+        ensures later { OnOk result (AllAtOrAfter point self.new.edits) }
+        ensures long { OnOk result (length self.new.places.vreg_allocs ≡ length self.old.places.vreg_allocs) }
+        ensures machine { SameMachine (tables_of self.old) (tables_of self.new) }
+        ensures err { IfErr result (IsResourceErrorIn self.new.slots) }
+        ensures stops { IfErr result (OutOfRegsOnlyIf (SpillArgumentFails argument inst_regs.old (tables_of self.old))) }
+        ensures registers { OnOk result (self.new.registers ≡ self.old.registers) }
+    {
+        let slot = self.slots.get_spillslot(argument)?;
+        if let Some(preg) = self.places.current_alloc(argument).as_reg() {
+            self.evict_preg(inst_regs, point, preg)?;
+            return Ok(slot);
+        }
+        self.places.set_alloc(argument, slot);
+        Ok(slot)
+    }
+
+    /// The moves of one edge, to be made at once: each argument goes to its parameter's slot.
+    fn gather_edge<'b, B: Allocator>(
+        &mut self,
+        inst_regs: &mut InstRegs,
+        point: ProgPoint,
+        params: &[VReg],
+        arguments: &[VReg],
+        moves: &mut MovesByClass<'b, B>,
+    ) -> Result<(), RegAllocError>
+        requires later { AllAtOrAfter point self.old.edits }
+        requires counted { length arguments.now ≡ length params.now }
+        requires parameters { AreKnown params.now (tables_of self.old) }
+        requires arguments { AreKnown arguments.now (tables_of self.old) }
+        ensures ok { OnOk result ((given : List ClassMove) → AreOf moves.old.int moves.old.float moves.old.vector given → (more : List ClassMove)
+            × AreOf moves.new.int moves.new.float moves.new.vector more
+            × GathersEdgeMoves point params.now arguments.now inst_regs.old (tables_of self.old) given (length params.now) inst_regs.new
+            (tables_of self.new) more) }
+        ensures later { OnOk result (AllAtOrAfter point self.new.edits) }
+        ensures long { OnOk result (length self.new.places.vreg_allocs ≡ length self.old.places.vreg_allocs) }
+        ensures machine { SameMachine (tables_of self.old) (tables_of self.new) }
+        ensures err { IfErr result (IsResourceErrorIn self.new.slots) }
+        ensures stops { IfErr result (OutOfRegsOnlyIf ((given : List ClassMove) → AreOf moves.old.int moves.old.float moves.old.vector given →
+            GatherEdgeFails point params.now arguments.now inst_regs.old (tables_of self.old) given)) }
+        ensures registers { OnOk result (self.new.registers ≡ self.old.registers) }
+    {
+        for j in 0..params.len() {
+            let to = self.slots.get_spillslot(params[j])?;
+            let argument = arguments[j];
+            let from = self.spill_argument(inst_regs, point, argument)?;
+            moves.add(argument.class(), from, to)?;
+        }
+        Ok(())
+    }
+
+    /// The moves of all edges, to be made at once.
+    fn gather<'b, F: Function, B: Allocator>(
+        &mut self,
+        inst_regs: &mut InstRegs,
+        alloc: &'b B,
+        f: &F,
+        block: Block,
+        inst: Inst,
+    ) -> Result<MovesByClass<'b, B>, RegAllocError>
+        requires block { block < length (F.function f.now).blocks }
+        requires last { inst + 1 ≡ (block_at (F.function f.now) block).range.end }
+        requires nonempty { (block_at (F.function f.now) block).range.first ≤ inst }
+        requires inst { inst < 1073741824 }
+        requires later { AllAtOrAfter (before inst) self.old.edits }
+        requires may_pass { MayBranch (F.function f.now) block (tables_of self.old) }
+        ensures ok { IfOk result (λ m. (given : List ClassMove) × AreOf m.int m.float m.vector given
+            × GathersMoves (F.function f.now) block (before inst) inst_regs.old (tables_of self.old) (length (block_at (F.function f.now) block).succs)
+            inst_regs.new (tables_of self.new) given) }
+        ensures later { OnOk result (AllAtOrAfter (before inst) self.new.edits) }
+        ensures long { OnOk result (length self.new.places.vreg_allocs ≡ length self.old.places.vreg_allocs) }
+        ensures machine { SameMachine (tables_of self.old) (tables_of self.new) }
+        ensures err { IfErr result (IsResourceErrorIn self.new.slots) }
+        ensures stops { IfErr result (OutOfRegsOnlyIf (GatherMovesFails (F.function f.now) block (before inst) inst_regs.old (tables_of self.old))) }
+        ensures registers { OnOk result (self.new.registers ≡ self.old.registers) }
+    {
+        let point = ProgPoint::before(inst);
+        let succs = f.block_succs(block);
+        let mut moves = MovesByClass::none(alloc);
+        for k in 0..succs.len() {
+            let params = f.block_params(succs[k]);
+            let arguments = f.branch_blockparams(block, inst, k);
+            self.gather_edge(inst_regs, point, params, arguments, &mut moves)?;
+        }
+        Ok(moves)
+    }
+
+    /// Pushes the moves of each class, which are to be made at once, one class after another.
+    fn push_gathered<'b, B: Allocator>(
+        &mut self,
+        inst_regs: &InstRegs,
+        point: ProgPoint,
+        moves: MovesByClass<'b, B>,
+    ) -> Result<(), RegAllocError>
+        requires ints { MayBeParallel self.old.slots.count moves.int }
+        requires floats { MayBeParallel self.old.slots.count moves.float }
+        requires vectors { MayBeParallel self.old.slots.count moves.vector }
+        requires apart { AreApart (tables_of self.old) }
+        requires later { AllAtOrAfter point self.old.edits }
+        ensures ok { OnOk result (PushesAllClasses point inst_regs.now moves.entry.int moves.entry.float moves.entry.vector (tables_of self.old)
+            (tables_of self.new)) }
+        ensures later { OnOk result (AllAtOrAfter point self.new.edits) }
+        ensures machine { AddsTempSlotsAtMost 6 (tables_of self.old) (tables_of self.new) }
+        ensures err { IfErr result (IsResourceError (SlotsExhaustedWith self.old.slots (self.old.slots.num_temp_slots + 6))) }
+        ensures stops { IfErr result (OutOfRegsOnlyIf (OrderMovesFails RegClass.Int moves.entry.int (tables_of self.old)
+            ⊎ (OrderMovesFails RegClass.Float moves.entry.float (tables_of self.old)
+            ⊎ OrderMovesFails RegClass.Vector moves.entry.vector (tables_of self.old)))) }
+        ensures registers { OnOk result (self.new.registers ≡ self.old.registers) }
+        ensures none { OnOk result (moves.entry.int ≡ [] → moves.entry.float ≡ [] → moves.entry.vector ≡ [] → tables_of self.new ≡ tables_of self.old) }
+    {
+        let MovesByClass { int, float, vector } = moves;
+        self.push_moves(inst_regs, point, RegClass::Int, int)?;
+        self.push_moves(inst_regs, point, RegClass::Float, float)?;
+        self.push_moves(inst_regs, point, RegClass::Vector, vector)?;
+        Ok(())
+    }
+
+    /// The slots, of which each has one owner.
+    fn have_owners(&self)
+        ensures { SlotsHaveOneOwner self.now.slots }
+    {
+        let _count = self.slots.num_units();
+    }
+
+    /// A branch passes its arguments: all are spilled to their slots, and then moved to those of the parameters.
+    pub fn process_branch<F: Function, B: Allocator>(
+        &mut self,
+        inst_regs: &mut InstRegs,
+        alloc: &B,
+        f: &F,
+        block: Block,
+        inst: Inst,
+    ) -> Result<(), RegAllocError>
+        requires block { block < length (F.function f.now).blocks }
+        requires last { inst + 1 ≡ (block_at (F.function f.now) block).range.end }
+        requires nonempty { (block_at (F.function f.now) block).range.first ≤ inst }
+        requires inst { inst < 1073741824 }
+        requires later { AllAtOrAfter (before inst) self.old.edits }
+        requires may_pass { MayBranch (F.function f.now) block (tables_of self.old) }
+        requires differ { ParametersDiffer (F.function f.now) block }
+        requires apart { AreApart (tables_of self.old) }
+        ensures ok { OnOk result (ProcessesBranch (F.function f.now) block inst inst_regs.old inst_regs.new (tables_of self.old) (tables_of self.new)) }
+        ensures later { OnOk result (AllAtOrAfter (before inst) self.new.edits) }
+        ensures long { OnOk result (length self.new.places.vreg_allocs ≡ length self.old.places.vreg_allocs) }
+        ensures machine { AddsTempSlotsAtMost 6 (tables_of self.old) (tables_of self.new) }
+        ensures err { IfErr result (IsResourceError (SlotsExhaustedWith self.old.slots (self.old.slots.num_temp_slots + 6))) }
+        ensures stops { IfErr result (OutOfRegsOnlyIf (ProcessBranchFails (F.function f.now) block inst inst_regs.old (tables_of self.old))) }
+        ensures registers { OnOk result (self.new.registers ≡ self.old.registers) }
+        ensures none { OnOk result (((k : ℕ) → HasEdge (F.function f.now) block k →
+            (block_at (F.function f.now) (target_at (F.function f.now) block k)).params ≡ []) → tables_of self.new ≡ tables_of self.old) }
+    {
+        let moves = self.gather(inst_regs, alloc, f, block, inst)?;
+        self.have_owners();
+        let point = ProgPoint::before(inst);
+        self.push_gathered(inst_regs, point, moves)?;
+        Ok(())
+    }
+}

@@ -1,0 +1,166 @@
+//! Moves, by way of a register where both ends are stack places, and evictions.
+
+ghost use Rattle.std.specs.Prelude.{◌≡◌, length, OnOk, IfOk, IfErr, None};
+ghost use Rattle.regalloc2_names.specs.Place.{NoPlace};
+ghost use Rattle.regalloc2_fastalloc_state.specs.StateParts.{AllAtOrAfter, vreg_of_preg, alloc_of};
+ghost use Rattle.regalloc2_fastalloc_state.specs.OutOfResources.{IsResourceErrorIn};
+ghost use Rattle.regalloc2_fastalloc_proofs.specs.InstSteps.{is_stack_in, SameMachine, EvictsVReg, AllocsScratchReg, AddsMove, EvictsPReg, EvictsOthers};
+ghost use Rattle.regalloc2_fastalloc_proofs.specs.OutOfRegs.{OutOfRegsOnlyIf, EvictPRegFails, AddMoveFails, AllocScratchRegFails};
+ghost use Rattle.regalloc2_fastalloc_walk.specs.StateView.{tables_of};
+
+use super::state::State;
+use regalloc2_fastalloc_state::inst_regs::{InstRegs, Positions};
+use regalloc2_names::{Allocation, PReg, ProgPoint, RegAllocError, RegClass, VReg};
+use std::alloc::Allocator;
+
+impl<'a, A: Allocator> State<'a, A> {
+    /// Whether a place is a spill slot or a fixed stack slot.
+    pub fn is_stack(&self, place: Allocation) -> bool
+        ensures { result ≡ is_stack_in (tables_of self.now) place }
+    {
+        self.registers.is_stack(place)
+    }
+
+    /// Empties an allocatable register: the vreg that is there is in its slot from now on, and is reloaded from
+    /// there at the point.
+    fn evict_vreg_in_preg(&mut self, point: ProgPoint, preg: PReg) -> Result<(), RegAllocError>
+        requires { AllAtOrAfter point self.old.edits }
+        ensures ok { OnOk result (EvictsVReg point preg (tables_of self.old) (tables_of self.new)) }
+        ensures later { OnOk result (AllAtOrAfter point self.new.edits) }
+        ensures long { OnOk result (length self.new.places.vreg_allocs ≡ length self.old.places.vreg_allocs) }
+        ensures machine { SameMachine (tables_of self.old) (tables_of self.new) }
+        ensures err { IfErr result (IsResourceErrorIn self.new.slots) }
+        ensures stops { IfErr result (OutOfRegsOnlyIf (⊥)) }
+        ensures registers { OnOk result (self.new.registers ≡ self.old.registers) }
+    {
+        let Some(vreg) = self.places.vreg_in(preg) else {
+            return Ok(());
+        };
+        let slot = self.slots.get_spillslot(vreg)?;
+        self.edits.push(point, slot, Allocation::reg(preg))?;
+        self.places.set_alloc(vreg, slot);
+        Ok(())
+    }
+
+    /// The register through which moves of the class from stack to stack go at this instruction: the machine's own, else
+    /// one that is free at both positions, emptied, which stays the one.
+    fn alloc_scratch_reg(
+        &mut self,
+        inst_regs: &mut InstRegs,
+        point: ProgPoint,
+        class: RegClass,
+    ) -> Result<PReg, RegAllocError>
+        requires { AllAtOrAfter point self.old.edits }
+        ensures ok { IfOk result (λ r. AllocsScratchReg point class inst_regs.old inst_regs.new r (tables_of self.old) (tables_of self.new)) }
+        ensures awaited { inst_regs.new.awaited ≡ inst_regs.old.awaited }
+        ensures later { OnOk result (AllAtOrAfter point self.new.edits) }
+        ensures long { OnOk result (length self.new.places.vreg_allocs ≡ length self.old.places.vreg_allocs) }
+        ensures machine { SameMachine (tables_of self.old) (tables_of self.new) }
+        ensures err { IfErr result (IsResourceErrorIn self.new.slots) }
+        ensures stops { IfErr result (OutOfRegsOnlyIf (AllocScratchRegFails class inst_regs.old (tables_of self.old))) }
+        ensures registers { OnOk result (self.new.registers ≡ self.old.registers) }
+    {
+        if let Some(preg) = self.registers.dedicated_scratch(class) {
+            return Ok(preg);
+        }
+        if let Some(preg) = inst_regs.scratch_of(class) {
+            return Ok(preg);
+        }
+        let free = inst_regs.available_pregs(Positions::both());
+        let Some(preg) = self.registers.least_recently_used(class, free) else {
+            return Err(RegAllocError::TooManyLiveRegs);
+        };
+        inst_regs.remove_available(preg, Positions::both());
+        inst_regs.set_scratch(class, preg);
+        self.evict_vreg_in_preg(point, preg)?;
+        Ok(preg)
+    }
+
+    /// One more move of a vreg of the class, listed before all others, by way of a register where both ends are stack places.
+    #[inline(always)]
+    pub fn add_move(
+        &mut self,
+        inst_regs: &mut InstRegs,
+        point: ProgPoint,
+        class: RegClass,
+        from: Allocation,
+        to: Allocation,
+    ) -> Result<(), RegAllocError>
+        requires { AllAtOrAfter point self.old.edits }
+        ensures ok { OnOk result (AddsMove point class from to inst_regs.old inst_regs.new (tables_of self.old) (tables_of self.new)) }
+        ensures awaited { inst_regs.new.awaited ≡ inst_regs.old.awaited }
+        ensures later { OnOk result (AllAtOrAfter point self.new.edits) }
+        ensures long { OnOk result (length self.new.places.vreg_allocs ≡ length self.old.places.vreg_allocs) }
+        ensures machine { SameMachine (tables_of self.old) (tables_of self.new) }
+        ensures err { IfErr result (IsResourceErrorIn self.new.slots) }
+        ensures stops { IfErr result (OutOfRegsOnlyIf (AddMoveFails class from to inst_regs.old (tables_of self.old))) }
+        ensures registers { OnOk result (self.new.registers ≡ self.old.registers) }
+    {
+        if self.is_stack(from) && self.is_stack(to) {
+            let by = Allocation::reg(self.alloc_scratch_reg(inst_regs, point, class)?);
+            self.edits.push(point, by, to)?;
+            self.edits.push(point, from, by)?;
+            return Ok(());
+        }
+        self.edits.push(point, from, to)?;
+        Ok(())
+    }
+
+    /// Empties a register or fixed stack slot: the vreg that is there is in its slot from now on, and is
+    /// reloaded from there at the point.
+    #[inline(always)]
+    pub fn evict_preg(
+        &mut self,
+        inst_regs: &mut InstRegs,
+        point: ProgPoint,
+        preg: PReg,
+    ) -> Result<(), RegAllocError>
+        requires { AllAtOrAfter point self.old.edits }
+        ensures ok { OnOk result (EvictsPReg point preg inst_regs.old inst_regs.new (tables_of self.old) (tables_of self.new)) }
+        ensures awaited { inst_regs.new.awaited ≡ inst_regs.old.awaited }
+        ensures empty { OnOk result (vreg_of_preg self.new.places preg ≡ None) }
+        ensures later { OnOk result (AllAtOrAfter point self.new.edits) }
+        ensures long { OnOk result (length self.new.places.vreg_allocs ≡ length self.old.places.vreg_allocs) }
+        ensures machine { SameMachine (tables_of self.old) (tables_of self.new) }
+        ensures err { IfErr result (IsResourceErrorIn self.new.slots) }
+        ensures stops { IfErr result (OutOfRegsOnlyIf (EvictPRegFails preg inst_regs.old (tables_of self.old))) }
+        ensures registers { OnOk result (self.new.registers ≡ self.old.registers) }
+    {
+        let Some(vreg) = self.places.vreg_in(preg) else {
+            return Ok(());
+        };
+        let slot = self.slots.get_spillslot(vreg)?;
+        self.places.set_alloc(vreg, slot);
+        self.add_move(inst_regs, point, vreg.class(), slot, Allocation::reg(preg))?;
+        Ok(())
+    }
+
+    /// Empties a register or fixed stack slot of all vregs but one.
+    #[inline(always)]
+    pub fn evict_others(
+        &mut self,
+        inst_regs: &mut InstRegs,
+        point: ProgPoint,
+        preg: PReg,
+        vreg: VReg,
+    ) -> Result<(), RegAllocError>
+        requires { AllAtOrAfter point self.old.edits }
+        ensures ok { OnOk result (EvictsOthers point preg vreg inst_regs.old inst_regs.new (tables_of self.old) (tables_of self.new)) }
+        ensures awaited { inst_regs.new.awaited ≡ inst_regs.old.awaited }
+        ensures alone { OnOk result (alloc_of self.new.places vreg.number ≡ NoPlace → vreg_of_preg self.new.places preg ≡ None) }
+        ensures later { OnOk result (AllAtOrAfter point self.new.edits) }
+        ensures long { OnOk result (length self.new.places.vreg_allocs ≡ length self.old.places.vreg_allocs) }
+        ensures machine { SameMachine (tables_of self.old) (tables_of self.new) }
+        ensures err { IfErr result (IsResourceErrorIn self.new.slots) }
+        ensures stops { IfErr result (OutOfRegsOnlyIf (EvictPRegFails preg inst_regs.old (tables_of self.old))) }
+        ensures registers { OnOk result (self.new.registers ≡ self.old.registers) }
+    {
+        if let Some(held) = self.places.vreg_in(preg) {
+            if held.vreg() == vreg.vreg() {
+                return Ok(());
+            }
+        }
+        self.evict_preg(inst_regs, point, preg)?;
+        Ok(())
+    }
+}

@@ -1,0 +1,357 @@
+//! The operands of one instruction, of every kind but `Limit`.
+
+ghost use Rattle.std.specs.Prelude.{Bool, IfOk};
+ghost use Rattle.regalloc2_names.specs.RegisterSet.{has_register};
+ghost use Rattle.regalloc2_names.specs.Register.{Register, VirtualRegister};
+ghost use Rattle.regalloc2_fastalloc_walk.specs.SpillFree.{FitInRegs, ArePlaced, ArePlain, IsSpillFree, LeavesSpillFree, AllocsAnyReg};
+ghost use Rattle.std.specs.Prelude.{◌≡◌, ◌<◌, ◌≤◌, ◌+◌, ◌↔◌, [], length, not, false, slice_set, slice_index, slice_index_or, ℕ, OnOk, IfErr, IfSome};
+ghost use Rattle.std.specs.Prelude.{IsNone, IsTrue, List};
+ghost use Rattle.regalloc2_names.specs.Point.{before, after};
+ghost use Rattle.regalloc2_names.specs.Place.{Place, NoPlace, is_place};
+ghost use Rattle.regalloc2_names.specs.Operand.{is_def, is_late, is_reading};
+ghost use Rattle.regalloc2_fastalloc_state.specs.StateParts.{AllAtOrAfter, alloc_of};
+ghost use Rattle.regalloc2_fastalloc_state.specs.OutOfResources.{IsResourceErrorIn};
+ghost use Rattle.regalloc2_validate.specs.Constraints.{op_at};
+ghost use Rattle.regalloc2_fastalloc_proofs.specs.InstSteps.{AllocsInst, reuse_requirement_of, requirement_of, def_request, reuse_request};
+ghost use Rattle.regalloc2_fastalloc_proofs.specs.InstSteps.{use_request, InTables, MovesUses, ProcessesOperandsAt, ProcessesOperand, SameMachine};
+ghost use Rattle.regalloc2_fastalloc_proofs.specs.InstSteps.{AddsMoveIf};
+ghost use Rattle.regalloc2_fastalloc_proofs.specs.OutOfRegs.{OutOfRegsOnlyIf, ProcessOperandsAtFails, AllocInstFails, MoveUsesFails, ProcessOperandFails};
+ghost use Rattle.regalloc2_fastalloc_proofs.specs.OutOfRegs.{AddMoveIfFails};
+ghost use Rattle.regalloc2_fastalloc_walk.specs.StateView.{tables_of};
+ghost use Rattle.regalloc2_fastalloc_proofs.specs.BlockSteps.{AllocsInstInto, IsFresh};
+
+use super::state::State;
+use regalloc2_fastalloc_state::inst_regs::{InstRegs, Positions};
+use regalloc2_fastalloc_state::request::{OperandRequest, Requirement};
+use regalloc2_index::Inst;
+use regalloc2_names::{
+    Allocation, Operand, OperandConstraint, OperandPos, PRegSet, ProgPoint, RegAllocError,
+};
+use std::alloc::Allocator;
+
+/// Whether an operand is at the position.
+fn stands_at(operand: Operand, pos: OperandPos) -> bool
+    ensures { IsTrue result ↔ (is_late operand.position ≡ is_late pos) }
+{
+    operand.pos() == pos
+}
+
+/// Whether two places aren't one.
+pub fn differ(place: Allocation, other: Allocation) -> bool
+    ensures { result ≡ not (is_place place other) }
+{
+    place != other
+}
+
+/// The index of the operand that a reuse names.
+fn reused(operand: Operand) -> Option<usize>
+    ensures some { IfSome result (λ n. operand.constraint ≡ OperandConstraint.Reuse n) }
+    ensures none { IsNone result → (n : ℕ) → operand.constraint ≡ OperandConstraint.Reuse n → ⊥ }
+{
+    match operand.constraint() {
+        OperandConstraint::Reuse(index) => Some(index),
+        _ => None,
+    }
+}
+
+/// What the constraint of an operand that isn't a reuse asks.
+fn requirement_of(constraint: OperandConstraint) -> Requirement
+    ensures { result ≡ requirement_of constraint }
+{
+    match constraint {
+        OperandConstraint::Any => Requirement::AnyPlace,
+        OperandConstraint::Stack => Requirement::InMemory,
+        OperandConstraint::FixedReg(preg) => Requirement::InPReg(preg),
+        _ => Requirement::AnyReg,
+    }
+}
+
+/// What a reuse asks, by the constraint of the operand that it names: its register if it is fixed, else any register.
+fn reuse_requirement_of(constraint: OperandConstraint) -> Requirement
+    ensures { result ≡ reuse_requirement_of constraint }
+{
+    match constraint {
+        OperandConstraint::FixedReg(preg) => Requirement::InPReg(preg),
+        _ => Requirement::AnyReg,
+    }
+}
+
+/// A use, as it is allocated: where a reuse that names it has a place, it asks for that register.
+fn use_request(operand: Operand, place: Allocation) -> OperandRequest
+    ensures { result ≡ use_request operand place }
+{
+    let requirement = match place.as_reg() {
+        Some(preg) => Requirement::InPReg(preg),
+        None => requirement_of(operand.constraint()),
+    };
+    let positions = Positions::of(operand);
+    OperandRequest {
+        vreg: operand.vreg(),
+        requirement,
+        positions,
+        is_def: false,
+    }
+}
+
+/// A definition, as it is allocated.
+fn def_request(operand: Operand) -> OperandRequest
+    ensures { result ≡ def_request operand }
+{
+    OperandRequest {
+        vreg: operand.vreg(),
+        requirement: requirement_of(operand.constraint()),
+        positions: Positions::of(operand),
+        is_def: true,
+    }
+}
+
+/// A reuse, as it is allocated: it holds its register throughout, for the operand that it names too.
+fn reuse_request(operand: Operand, operands: &[Operand], index: usize) -> OperandRequest
+    ensures { result ≡ reuse_request operand (op_at operands.now index) }
+{
+    let requirement = if index < operands.len() {
+        reuse_requirement_of(operands[index].constraint())
+    } else {
+        Requirement::AnyReg
+    };
+    OperandRequest {
+        vreg: operand.vreg(),
+        requirement,
+        positions: Positions::both(),
+        is_def: true,
+    }
+}
+
+/// The place of an index, if there is one, is that from now on.
+fn set_place(places: &mut [Allocation], index: usize, place: Allocation)
+    ensures { places.new ≡ slice_set places.old index place }
+{
+    if index < places.len() {
+        places[index] = place;
+    }
+}
+
+impl<'a, A: Allocator> State<'a, A> {
+    /// Allocates the operand k. The place of a reuse is that of the operand that it names too.
+    fn process_operand_allocation(
+        &mut self,
+        inst_regs: &mut InstRegs,
+        inst: Inst,
+        is_ret: bool,
+        operands: &[Operand],
+        here: &mut [Allocation],
+        k: usize,
+    ) -> Result<(), RegAllocError>
+        requires inside { k < length operands.now }
+        requires inst { inst < 1073741824 }
+        requires later { AllAtOrAfter (after inst) self.old.edits }
+        requires in_tables { InTables operands.now (tables_of self.old) }
+        requires here_long { length here.old ≡ length operands.now }
+        ensures ok { OnOk result (ProcessesOperand inst is_ret operands.now k here.old here.new inst_regs.old inst_regs.new (tables_of self.old)
+            (tables_of self.new)) }
+        ensures later { OnOk result (AllAtOrAfter (after inst) self.new.edits) }
+        ensures long { OnOk result (length self.new.places.vreg_allocs ≡ length self.old.places.vreg_allocs) }
+        ensures machine { SameMachine (tables_of self.old) (tables_of self.new) }
+        ensures err { IfErr result (IsResourceErrorIn self.new.slots) }
+        ensures stops { IfErr result (OutOfRegsOnlyIf (ProcessOperandFails inst is_ret operands.now k here.old inst_regs.old (tables_of self.old))) }
+        ensures takes { OnOk result ((op_at operands.now k).constraint ≡ OperandConstraint.Reg → slice_index_or here.old k NoPlace ≡ NoPlace →
+            AllocsAnyReg inst_regs.old (op_at operands.now k).vreg (slice_index_or here.new k NoPlace) (tables_of self.old) self.old.registers
+            self.new.registers) }
+    {
+        let operand = operands[k];
+        let point = ProgPoint::after(inst);
+        if let Some(preg) = operand.as_fixed_nonallocatable() {
+            here[k] = Allocation::reg(preg);
+            return Ok(());
+        }
+        if !operand.is_def() {
+            let request = use_request(operand, here[k]);
+            here[k] = self.alloc_use(inst_regs, point, &request)?;
+            return Ok(());
+        }
+        if let Some(index) = reused(operand) {
+            let request = reuse_request(operand, operands, index);
+            let place = self.alloc_def_op(inst_regs, point, &request, is_ret)?;
+            here[k] = place;
+            set_place(here, index, place);
+            return Ok(());
+        }
+        here[k] = self.alloc_def_op(inst_regs, point, &def_request(operand), is_ret)?;
+        Ok(())
+    }
+
+    /// Allocates the operands of one position, in operand order.
+    pub fn process_operands_at(
+        &mut self,
+        inst_regs: &mut InstRegs,
+        pos: OperandPos,
+        inst: Inst,
+        is_ret: bool,
+        operands: &[Operand],
+        here: &mut [Allocation],
+    ) -> Result<(), RegAllocError>
+        requires inst { inst < 1073741824 }
+        requires later { AllAtOrAfter (after inst) self.old.edits }
+        requires in_tables { InTables operands.now (tables_of self.old) }
+        requires here_long { length here.old ≡ length operands.now }
+        ensures ok { OnOk result (ProcessesOperandsAt inst is_ret (is_late pos) operands.now here.old inst_regs.old (tables_of self.old) (length operands.now)
+            here.new inst_regs.new (tables_of self.new)) }
+        ensures later { OnOk result (AllAtOrAfter (after inst) self.new.edits) }
+        ensures long { OnOk result (length self.new.places.vreg_allocs ≡ length self.old.places.vreg_allocs) }
+        ensures machine { SameMachine (tables_of self.old) (tables_of self.new) }
+        ensures err { IfErr result (IsResourceErrorIn self.new.slots) }
+        ensures stops { IfErr result (OutOfRegsOnlyIf
+            (ProcessOperandsAtFails inst is_ret (is_late pos) operands.now here.old inst_regs.old (tables_of self.old))) }
+        ensures spill_free { OnOk result ((names : List VirtualRegister) (gone : ℕ → Bool) → FitInRegs names self.old.registers.allocatable →
+            ArePlain names gone operands.now (is_late pos) → ((j : ℕ) → is_late (op_at operands.now j).position ≡ is_late pos →
+            slice_index_or here.old j NoPlace ≡ NoPlace) → IsSpillFree names gone self.old.registers (tables_of self.old) inst_regs.old
+            → ArePlaced names gone operands.now (is_late pos) (length operands.now) here.old here.new self.new.registers (tables_of self.old)
+            (tables_of self.new) inst_regs.new) }
+    {
+        for k in 0..operands.len() {
+            if stands_at(operands[k], pos) {
+                self.process_operand_allocation(inst_regs, inst, is_ret, operands, here, k)?;
+            }
+        }
+        Ok(())
+    }
+
+    /// Moves a use from where its vreg is located to its place.
+    fn move_use(
+        &mut self,
+        inst_regs: &mut InstRegs,
+        point: ProgPoint,
+        operand: Operand,
+        place: Allocation,
+    ) -> Result<(), RegAllocError>
+        requires later { AllAtOrAfter point self.old.edits }
+        requires vreg { operand.vreg.number < length self.old.places.vreg_allocs }
+        ensures ok { OnOk result (AddsMoveIf point operand.vreg.class (not (is_place (alloc_of self.old.places operand.vreg.number) place))
+            (alloc_of self.old.places operand.vreg.number) place
+            inst_regs.old inst_regs.new (tables_of self.old) (tables_of self.new)) }
+        ensures later { OnOk result (AllAtOrAfter point self.new.edits) }
+        ensures long { OnOk result (length self.new.places.vreg_allocs ≡ length self.old.places.vreg_allocs) }
+        ensures machine { SameMachine (tables_of self.old) (tables_of self.new) }
+        ensures err { IfErr result (IsResourceErrorIn self.new.slots) }
+        ensures stops { IfErr result (OutOfRegsOnlyIf (AddMoveIfFails operand.vreg.class (not (is_place (alloc_of self.old.places operand.vreg.number) place))
+            (alloc_of self.old.places operand.vreg.number) place inst_regs.old (tables_of self.old))) }
+        ensures registers { OnOk result (self.new.registers ≡ self.old.registers) }
+    {
+        let current = self.places.current_alloc(operand.vreg());
+        let is_moved = differ(current, place);
+        self.add_move_if(inst_regs, point, operand.class(), is_moved, current, place)?;
+        Ok(())
+    }
+
+    /// Moves the uses of an instruction from where their vregs are located to their places, in operand order.
+    pub fn move_uses(
+        &mut self,
+        inst_regs: &mut InstRegs,
+        point: ProgPoint,
+        operands: &[Operand],
+        here: &[Allocation],
+    ) -> Result<(), RegAllocError>
+        requires later { AllAtOrAfter point self.old.edits }
+        requires in_tables { InTables operands.now (tables_of self.old) }
+        requires here_long { length here.now ≡ length operands.now }
+        ensures ok { OnOk result (MovesUses point operands.now here.now inst_regs.old (tables_of self.old) (length operands.now) inst_regs.new
+            (tables_of self.new)) }
+        ensures later { OnOk result (AllAtOrAfter point self.new.edits) }
+        ensures long { OnOk result (length self.new.places.vreg_allocs ≡ length self.old.places.vreg_allocs) }
+        ensures machine { SameMachine (tables_of self.old) (tables_of self.new) }
+        ensures err { IfErr result (IsResourceErrorIn self.new.slots) }
+        ensures stops { IfErr result (OutOfRegsOnlyIf (MoveUsesFails point operands.now here.now inst_regs.old (tables_of self.old))) }
+        ensures registers { OnOk result (self.new.registers ≡ self.old.registers) }
+    {
+        for k in 0..operands.len() {
+            if operands[k].is_reading() {
+                self.move_use(inst_regs, point, operands[k], here[k])?;
+            }
+        }
+        Ok(())
+    }
+}
+
+impl<'a, A: Allocator> State<'a, A> {
+    /// Allocates an instruction: `here`, which has no place yet, gets those of its operands.
+    pub fn alloc_inst(
+        &mut self,
+        inst_regs: &mut InstRegs,
+        inst: Inst,
+        is_ret: bool,
+        operands: &[Operand],
+        clobbers: PRegSet,
+        here: &mut [Allocation],
+    ) -> Result<(), RegAllocError>
+        requires inst { inst < 1073741824 }
+        requires later { AllAtOrAfter (after inst) self.old.edits }
+        requires in_tables { InTables operands.now (tables_of self.old) }
+        requires here_long { length here.old ≡ length operands.now }
+        requires no_places { (k : ℕ) → slice_index_or here.old k NoPlace ≡ NoPlace }
+        requires fresh { IsFresh inst_regs.old (tables_of self.old) }
+        ensures ok { OnOk result ((a : AllocsInst inst (record { operands = operands.now; clobbers = clobbers; is_branch = false; is_ret = is_ret }) here.old
+            here.new (tables_of self.old) (tables_of self.new)) × (a.ended ≡ inst_regs.new)) }
+        ensures later { OnOk result (AllAtOrAfter (before inst) self.new.edits) }
+        ensures long { OnOk result (length self.new.places.vreg_allocs ≡ length self.old.places.vreg_allocs) }
+        ensures machine { SameMachine (tables_of self.old) (tables_of self.new) }
+        ensures err { IfErr result (IsResourceErrorIn self.new.slots) }
+        ensures stops { IfErr result (OutOfRegsOnlyIf (AllocInstFails inst is_ret operands.now clobbers here.old inst_regs.old (tables_of self.old))) }
+        ensures spill_free { OnOk result ((names : List VirtualRegister) (gone : ℕ → Bool) → FitInRegs names self.old.registers.allocatable →
+            ((late : Bool) → ArePlain names gone operands.now late) → ((r : Register) → has_register clobbers r ≡ false) →
+            IsSpillFree names gone self.old.registers (tables_of self.old) inst_regs.old
+            → LeavesSpillFree names gone operands.now self.new.registers (tables_of self.new)) }
+    {
+        let point = ProgPoint::after(inst);
+        self.reserve(inst_regs, operands)?;
+        self.remove_clobbers_from_available_pregs(inst_regs, clobbers);
+        self.evict_fixed(inst_regs, point, operands)?;
+        self.evict_clobbers(inst_regs, point, clobbers)?;
+        self.process_operands_at(inst_regs, OperandPos::Late, inst, is_ret, operands, here)?;
+        self.process_operands_at(inst_regs, OperandPos::Early, inst, is_ret, operands, here)?;
+        self.move_uses(inst_regs, ProgPoint::before(inst), operands, here)?;
+        Ok(())
+    }
+
+    /// Allocates an instruction whose operands' places begin at `start`.
+    pub fn alloc_inst_at(
+        &mut self,
+        inst_regs: &mut InstRegs,
+        inst: Inst,
+        is_ret: bool,
+        operands: &[Operand],
+        clobbers: PRegSet,
+        start: usize,
+        allocs: &mut [Allocation],
+    ) -> Result<(), RegAllocError>
+        requires inst { inst < 1073741824 }
+        requires later { AllAtOrAfter (after inst) self.old.edits }
+        requires in_tables { InTables operands.now (tables_of self.old) }
+        requires room { start + length operands.now ≤ length allocs.old }
+        requires no_places { (k : ℕ) → k < start + length operands.now → slice_index_or allocs.old k NoPlace ≡ NoPlace }
+        requires fresh { IsFresh inst_regs.old (tables_of self.old) }
+        ensures ok { OnOk result (AllocsInstInto inst_regs.new inst (record
+            { operands = operands.now; clobbers = clobbers; is_branch = false; is_ret = is_ret }) start allocs.old allocs.new (tables_of self.old)
+            (tables_of self.new)) }
+        ensures later { OnOk result (AllAtOrAfter (before inst) self.new.edits) }
+        ensures long { OnOk result (length self.new.places.vreg_allocs ≡ length self.old.places.vreg_allocs) }
+        ensures machine { SameMachine (tables_of self.old) (tables_of self.new) }
+        ensures err { IfErr result (IsResourceErrorIn self.new.slots) }
+        ensures stops { IfErr result (OutOfRegsOnlyIf ((blank : List Place) × (length blank ≡ length operands.now)
+            × ((k : ℕ) → slice_index_or blank k NoPlace ≡ NoPlace) × AllocInstFails inst is_ret operands.now clobbers blank inst_regs.old (tables_of self.old))) }
+        ensures spill_free { OnOk result ((names : List VirtualRegister) (gone : ℕ → Bool) → FitInRegs names self.old.registers.allocatable →
+            ((late : Bool) → ArePlain names gone operands.now late) → ((r : Register) → has_register clobbers r ≡ false) →
+            IsSpillFree names gone self.old.registers (tables_of self.old) inst_regs.old
+            → LeavesSpillFree names gone operands.now self.new.registers (tables_of self.new)) }
+    {
+        let end = start + operands.len();
+        self.alloc_inst(
+            inst_regs,
+            inst,
+            is_ret,
+            operands,
+            clobbers,
+            &mut allocs[start..end],
+        )?;
+        Ok(())
+    }
+}

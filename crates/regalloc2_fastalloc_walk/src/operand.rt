@@ -1,0 +1,472 @@
+//! The place of an operand.
+
+ghost use Rattle.std.specs.Prelude.{Some, true, find, reverse};
+ghost use Rattle.regalloc2_names.specs.RegisterSet.{has_register};
+ghost use Rattle.regalloc2_names.specs.declared.sets.PRegSet.{PRegSet};
+ghost use Rattle.regalloc2_fastalloc_walk.specs.SpillFree.{SelectsAnyReg, AllocsAnyReg, Pokes};
+ghost use Rattle.std.specs.Prelude.{◌≡◌, ◌≢◌, ◌<◌, ◌≤◌, ◌↔◌, ◌⊎◌, ◌&&◌, ℕ, length, not, None, OnOk, IfOk, IfErr, IfNone, IfSome, IsTrue};
+ghost use Rattle.regalloc2_names.specs.Register.{Register};
+ghost use Rattle.regalloc2_names.specs.Place.{NoPlace, InRegister, is_place};
+ghost use Rattle.regalloc2_fastalloc_state.specs.StateParts.{IsInverse, AllAtOrAfter, vreg_of_preg, lru_of, alloc_of};
+ghost use Rattle.regalloc2_fastalloc_state.specs.OutOfResources.{IsResourceErrorIn};
+ghost use Rattle.regalloc2_fastalloc_state.specs.InstRegs.{IsAvailableAt, SameAvailable, free_count, is_free_throughout};
+ghost use Rattle.regalloc2_fastalloc_proofs.specs.InstSteps.{awaited_less, is_another, scratch_reserve_left, FreesDef, AllocsOperand, IsAffordable};
+ghost use Rattle.regalloc2_fastalloc_proofs.specs.InstSteps.{MayHold, ClaimsPlace, SelectsPlace, AllocsDefOp, AllocsUse, SameMachine, AddsMoveIf};
+ghost use Rattle.regalloc2_fastalloc_proofs.specs.InstSteps.{MeetsRequirement, LocatesUse};
+ghost use Rattle.regalloc2_fastalloc_proofs.specs.OutOfRegs.{NoneIsAvailable, OutOfRegsOnlyIf, EvictPRegFails, AllocDefOpFails, FreeDefFails};
+ghost use Rattle.regalloc2_fastalloc_proofs.specs.OutOfRegs.{AllocOperandFails, SelectPlaceFails, AddMoveIfFails};
+ghost use Rattle.regalloc2_fastalloc_walk.specs.StateView.{tables_of};
+
+use super::state::State;
+use regalloc2_fastalloc_state::inst_regs::{InstRegs, Positions};
+use regalloc2_fastalloc_state::request::{OperandRequest, Requirement};
+use regalloc2_names::{Allocation, PReg, ProgPoint, RegAllocError, RegClass, VReg};
+use std::alloc::Allocator;
+
+/// Whether a place is there, and isn't that other one.
+fn is_another(place: Allocation, other: Allocation) -> bool
+    ensures { result ≡ is_another place other }
+{
+    place.is_some() && place != other
+}
+
+/// Whether a place is that register.
+fn is_at(place: Allocation, preg: PReg) -> bool
+    ensures { result ≡ is_place place (InRegister preg) }
+{
+    place == Allocation::reg(preg)
+}
+
+/// Whether any register will do.
+fn is_any_register(requirement: Requirement) -> bool
+    ensures { IsTrue result ↔ (requirement ≡ Requirement.AnyReg) }
+{
+    matches!(requirement, Requirement::AnyReg)
+}
+
+/// An operand that asked for any register is placed.
+fn note_placed(inst_regs: &mut InstRegs, request: &OperandRequest)
+    ensures sets { SameAvailable inst_regs.old inst_regs.new }
+    ensures awaited { inst_regs.new.awaited ≡ awaited_less request.now.requirement request.now.vreg.class inst_regs.old.awaited }
+{
+    if is_any_register(request.requirement) {
+        inst_regs.remove_any_reg_op(request.vreg.class());
+    }
+}
+
+// The steps that place an operand, and the moves of `evict`, are inlined into one: calls between them would cost about a
+// tenth of a whole allocation.
+impl<'a, A: Allocator> State<'a, A> {
+    /// Whether a place meets what is asked.
+    fn allocd_within_constraint(&self, requirement: Requirement, place: Allocation) -> bool
+        requires { place ≢ NoPlace }
+        ensures { IsTrue result ↔ MeetsRequirement (tables_of self.now) requirement place }
+    {
+        match requirement {
+            Requirement::AnyPlace => true,
+            Requirement::AnyReg => !self.is_stack(place),
+            Requirement::InMemory => self.is_stack(place),
+            Requirement::InPReg(preg) => is_at(place, preg),
+        }
+    }
+
+    /// How many allocatable registers of the class are free at both positions.
+    fn free_count(&self, inst_regs: &InstRegs, class: RegClass) -> usize
+        ensures count { result ≡ free_count self.now.registers.allocatable inst_regs.now class }
+        ensures small { result ≤ 192 }
+    {
+        let free = inst_regs.available_pregs(Positions::both()) & self.registers.of_class(class);
+        free.len() as usize
+    }
+
+    /// How many registers of the class are still kept for a move from stack to stack.
+    fn scratch_reserve_left(&self, inst_regs: &InstRegs, class: RegClass) -> usize
+        ensures left { result ≡ scratch_reserve_left self.now.registers.fixed_stack self.now.registers.dedicated_scratch inst_regs.now class }
+        ensures small { result ≤ 1 }
+    {
+        match inst_regs.scratch_of(class) {
+            Some(_) => 0,
+            None => self.registers.scratch_reserve_of(class),
+        }
+    }
+
+    /// Whether enough registers are left for the operands that ask for any register, once this one is taken too.
+    fn is_enough(&self, inst_regs: &InstRegs, preg: PReg) -> bool
+        ensures enough { IsTrue result → IsAffordable inst_regs.now (tables_of self.now) preg }
+    {
+        let class = preg.class();
+        let taken = if inst_regs.is_free(preg) { 1 } else { 0 };
+        let kept = self.scratch_reserve_left(inst_regs, class) + taken;
+        inst_regs.awaited(class).saturating_add(kept) <= self.free_count(inst_regs, class)
+    }
+
+    /// Whether an operand that may be anywhere may hold the place.
+    fn leaves_enough_regs(
+        &self,
+        inst_regs: &InstRegs,
+        requirement: Requirement,
+        place: Allocation,
+    ) -> bool
+        ensures affordable { IsTrue result → requirement ≡ Requirement.AnyPlace → (r : Register) → place ≡ InRegister r
+            → IsAffordable inst_regs.now (tables_of self.now) r }
+        ensures others { requirement ≡ Requirement.AnyReg → IsTrue result }
+    {
+        match (requirement, place.as_reg()) {
+            (Requirement::AnyPlace, Some(preg)) => {
+                !self.registers.is_allocatable(preg) || self.is_enough(inst_regs, preg)
+            }
+            _ => true,
+        }
+    }
+
+    /// The place where the operand's vreg is, if the operand may have that.
+    #[inline(always)]
+    fn current_if_allowed(
+        &self,
+        inst_regs: &InstRegs,
+        request: &OperandRequest,
+    ) -> Option<Allocation>
+        requires { request.now.vreg.number < length self.now.places.vreg_allocs }
+        ensures suits { IfSome result (λ p. (alloc_of self.now.places request.now.vreg.number ≡ p)
+            × MeetsRequirement (tables_of self.now) request.now.requirement p) }
+        ensures affordable { IfSome result (λ p. request.now.requirement ≡ Requirement.AnyPlace → (r : Register) → p ≡ InRegister r →
+            IsAffordable inst_regs.now (tables_of self.now) r) }
+        ensures none { IfNone result (request.now.requirement ≡ Requirement.AnyReg →
+            MeetsRequirement (tables_of self.now) Requirement.AnyReg (alloc_of self.now.places request.now.vreg.number) → ⊥) }
+        ensures inverse { IsInverse self.now.places }
+    {
+        let current = self.places.current_alloc(request.vreg);
+        if current.is_none() || !self.allocd_within_constraint(request.requirement, current) {
+            return None;
+        }
+        if self.leaves_enough_regs(inst_regs, request.requirement, current) {
+            Some(current)
+        } else {
+            None
+        }
+    }
+
+    /// Whether an operand that may be anywhere takes a register rather than a slot: there are enough, and its vreg
+    /// isn't one that is defined and awaited nowhere.
+    fn prefers_register(&self, inst_regs: &InstRegs, request: &OperandRequest, preg: PReg) -> bool
+        requires { request.now.vreg.number < length self.now.places.vreg_allocs }
+        ensures { IsTrue result → IsAffordable inst_regs.now (tables_of self.now) preg }
+    {
+        if request.is_def && self.places.current_alloc(request.vreg).is_none() {
+            return false;
+        }
+        self.is_enough(inst_regs, preg)
+    }
+
+    /// A free register for an operand that may be in any, or anywhere and takes one.
+    #[inline(always)]
+    fn select_free_reg(&self, inst_regs: &InstRegs, request: &OperandRequest) -> Option<PReg>
+        requires { request.now.vreg.number < length self.now.places.vreg_allocs }
+        ensures asks { IfSome result (λ r. (request.now.requirement ≡ Requirement.AnyPlace) ⊎ (request.now.requirement ≡ Requirement.AnyReg)) }
+        ensures may_hold { IfSome result (λ r. MayHold (tables_of self.now) request.now.vreg.class r) }
+        ensures free { IfSome result (λ r. IsAvailableAt inst_regs.now request.now.positions r) }
+        ensures affordable { IfSome result (λ r. request.now.requirement ≡ Requirement.AnyPlace → IsAffordable inst_regs.now (tables_of self.now) r) }
+        ensures none { IfNone result (request.now.requirement ≡ Requirement.AnyReg →
+            NoneIsAvailable request.now.vreg.class inst_regs.now (tables_of self.now)) }
+        ensures oldest { IfSome result (λ r. (free : PRegSet) × ((q : Register) → is_free_throughout inst_regs.now q ≡ true → has_register free q ≡ true)
+            × (find (has_register free) (reverse (lru_of self.now.registers request.now.vreg.class)) ≡ Some r)) }
+    {
+        let free = inst_regs.available_pregs(request.positions);
+        let preg = self
+            .registers
+            .least_recently_used(request.vreg.class(), free)?;
+        match request.requirement {
+            Requirement::AnyReg => Some(preg),
+            Requirement::AnyPlace if self.prefers_register(inst_regs, request, preg) => Some(preg),
+            _ => None,
+        }
+    }
+
+    /// Another place for the operand. Returns the error `TooManyLiveRegs` where it asks for any register, and none is free.
+    #[inline(always)]
+    fn alloc_new_place(
+        &mut self,
+        inst_regs: &InstRegs,
+        request: &OperandRequest,
+    ) -> Result<Allocation, RegAllocError>
+        requires { request.now.vreg.number < length self.old.places.vreg_allocs }
+        ensures ok { IfOk result (λ p. SelectsPlace inst_regs.now request.now p (tables_of self.old) (tables_of self.new)) }
+        ensures affordable { IfOk result (λ p. request.now.requirement ≡ Requirement.AnyPlace → (r : Register) → p ≡ InRegister r →
+            IsAffordable inst_regs.now (tables_of self.old) r) }
+        ensures there { IfOk result (λ p. p ≢ NoPlace) }
+        ensures places { self.new.places ≡ self.old.places }
+        ensures edits { self.new.edits ≡ self.old.edits }
+        ensures machine { SameMachine (tables_of self.old) (tables_of self.new) }
+        ensures err { IfErr result (IsResourceErrorIn self.new.slots) }
+        ensures stops { IfErr result (OutOfRegsOnlyIf (SelectPlaceFails request.now inst_regs.now (tables_of self.old))) }
+        ensures registers { OnOk result (self.new.registers ≡ self.old.registers) }
+        ensures chooses { IfOk result (λ p. request.now.requirement ≡ Requirement.AnyReg →
+            (MeetsRequirement (tables_of self.old) Requirement.AnyReg (alloc_of self.old.places request.now.vreg.number) → ⊥) →
+            SelectsAnyReg inst_regs.now request.now.vreg self.old.registers (tables_of self.old) p) }
+    {
+        if let Requirement::InPReg(preg) = request.requirement {
+            return Ok(Allocation::reg(preg));
+        }
+        if let Some(preg) = self.select_free_reg(inst_regs, request) {
+            return Ok(Allocation::reg(preg));
+        }
+        if is_any_register(request.requirement) {
+            return Err(RegAllocError::TooManyLiveRegs);
+        }
+        let slot = self.slots.get_spillslot(request.vreg)?;
+        Ok(slot)
+    }
+
+    /// The place of an operand, before it is claimed: where its vreg is located if it may stay there, else another one.
+    #[inline(always)]
+    fn select_place(
+        &mut self,
+        inst_regs: &InstRegs,
+        request: &OperandRequest,
+    ) -> Result<Allocation, RegAllocError>
+        requires { request.now.vreg.number < length self.old.places.vreg_allocs }
+        ensures ok { IfOk result (λ p. SelectsPlace inst_regs.now request.now p (tables_of self.old) (tables_of self.new)) }
+        ensures affordable { IfOk result (λ p. request.now.requirement ≡ Requirement.AnyPlace → (r : Register) → p ≡ InRegister r →
+            IsAffordable inst_regs.now (tables_of self.old) r) }
+        ensures there { IfOk result (λ p. p ≢ NoPlace) }
+        ensures places { self.new.places ≡ self.old.places }
+        ensures edits { self.new.edits ≡ self.old.edits }
+        ensures machine { SameMachine (tables_of self.old) (tables_of self.new) }
+        ensures err { IfErr result (IsResourceErrorIn self.new.slots) }
+        ensures stops { IfErr result (OutOfRegsOnlyIf (SelectPlaceFails request.now inst_regs.now (tables_of self.old))) }
+        ensures registers { OnOk result (self.new.registers ≡ self.old.registers) }
+        ensures chooses { IfOk result (λ p. request.now.requirement ≡ Requirement.AnyReg →
+            SelectsAnyReg inst_regs.now request.now.vreg self.old.registers (tables_of self.old) p) }
+        ensures inverse { IsInverse self.old.places }
+    {
+        if let Some(current) = self.current_if_allowed(inst_regs, request) {
+            return Ok(current);
+        }
+        let place = self.alloc_new_place(inst_regs, request)?;
+        Ok(place)
+    }
+
+    /// An allocatable register counts as used just now if it wasn't asked for by name.
+    fn note_taken(&mut self, requirement: Requirement, preg: PReg)
+        ensures tables { tables_of self.new ≡ tables_of self.old }
+        ensures order { requirement ≡ Requirement.AnyReg → Pokes preg self.old.registers self.new.registers }
+    {
+        if !self.registers.is_allocatable(preg) {
+            return;
+        }
+        if matches!(requirement, Requirement::AnyPlace | Requirement::AnyReg) {
+            self.registers.poke(preg);
+        }
+    }
+
+    /// The register is the operand's: others are evicted, and it is held.
+    #[inline(always)]
+    fn claim_preg(
+        &mut self,
+        inst_regs: &mut InstRegs,
+        point: ProgPoint,
+        request: &OperandRequest,
+        preg: PReg,
+    ) -> Result<(), RegAllocError>
+        requires { AllAtOrAfter point self.old.edits }
+        ensures ok { OnOk result (ClaimsPlace point request.now (InRegister preg) inst_regs.old inst_regs.new (tables_of self.old) (tables_of self.new)) }
+        ensures awaited { inst_regs.new.awaited ≡ inst_regs.old.awaited }
+        ensures alone { OnOk result (alloc_of self.new.places request.now.vreg.number ≡ NoPlace → vreg_of_preg self.new.places preg ≡ None) }
+        ensures later { OnOk result (AllAtOrAfter point self.new.edits) }
+        ensures long { OnOk result (length self.new.places.vreg_allocs ≡ length self.old.places.vreg_allocs) }
+        ensures machine { SameMachine (tables_of self.old) (tables_of self.new) }
+        ensures err { IfErr result (IsResourceErrorIn self.new.slots) }
+        ensures stops { IfErr result (OutOfRegsOnlyIf (EvictPRegFails preg inst_regs.old (tables_of self.old))) }
+        ensures order { OnOk result (request.now.requirement ≡ Requirement.AnyReg → Pokes preg self.old.registers self.new.registers) }
+    {
+        self.evict_others(inst_regs, point, preg, request.vreg)?;
+        inst_regs.remove_available(preg, request.positions);
+        self.note_taken(request.requirement, preg);
+        Ok(())
+    }
+
+    /// The place is the operand's: a register is claimed.
+    #[inline(always)]
+    fn claim_place(
+        &mut self,
+        inst_regs: &mut InstRegs,
+        point: ProgPoint,
+        request: &OperandRequest,
+        place: Allocation,
+    ) -> Result<(), RegAllocError>
+        requires later { AllAtOrAfter point self.old.edits }
+        requires there { place ≢ NoPlace }
+        ensures ok { OnOk result (ClaimsPlace point request.now place inst_regs.old inst_regs.new (tables_of self.old) (tables_of self.new)) }
+        ensures awaited { inst_regs.new.awaited ≡ inst_regs.old.awaited }
+        ensures alone { OnOk result ((r : Register) → place ≡ InRegister r → alloc_of self.new.places request.now.vreg.number ≡ NoPlace →
+            vreg_of_preg self.new.places r ≡ None) }
+        ensures later { OnOk result (AllAtOrAfter point self.new.edits) }
+        ensures long { OnOk result (length self.new.places.vreg_allocs ≡ length self.old.places.vreg_allocs) }
+        ensures machine { SameMachine (tables_of self.old) (tables_of self.new) }
+        ensures err { IfErr result (IsResourceErrorIn self.new.slots) }
+        ensures stops { IfErr result (OutOfRegsOnlyIf ((r : Register) × (place ≡ InRegister r) × EvictPRegFails r inst_regs.old (tables_of self.old))) }
+        ensures order { OnOk result (request.now.requirement ≡ Requirement.AnyReg → (r : Register) → place ≡ InRegister r →
+            Pokes r self.old.registers self.new.registers) }
+    {
+        let Some(preg) = place.as_reg() else {
+            return Ok(());
+        };
+        self.claim_preg(inst_regs, point, request, preg)?;
+        Ok(())
+    }
+
+    /// The place of an operand, which is claimed.
+    #[inline(always)]
+    fn alloc_operand(
+        &mut self,
+        inst_regs: &mut InstRegs,
+        point: ProgPoint,
+        request: &OperandRequest,
+    ) -> Result<Allocation, RegAllocError>
+        requires later { AllAtOrAfter point self.old.edits }
+        requires vreg { request.now.vreg.number < length self.old.places.vreg_allocs }
+        ensures ok { IfOk result (λ p. AllocsOperand point request.now p inst_regs.old inst_regs.new (tables_of self.old) (tables_of self.new)) }
+        ensures awaited { OnOk result (inst_regs.new.awaited ≡ awaited_less request.now.requirement request.now.vreg.class inst_regs.old.awaited) }
+        ensures alone { IfOk result (λ p. (r : Register) → p ≡ InRegister r → alloc_of self.new.places request.now.vreg.number ≡ NoPlace →
+            vreg_of_preg self.new.places r ≡ None) }
+        ensures later { OnOk result (AllAtOrAfter point self.new.edits) }
+        ensures long { OnOk result (length self.new.places.vreg_allocs ≡ length self.old.places.vreg_allocs) }
+        ensures machine { SameMachine (tables_of self.old) (tables_of self.new) }
+        ensures err { IfErr result (IsResourceErrorIn self.new.slots) }
+        ensures stops { IfErr result (OutOfRegsOnlyIf (AllocOperandFails request.now inst_regs.old (tables_of self.old))) }
+        ensures takes { IfOk result (λ p. request.now.requirement ≡ Requirement.AnyReg →
+            AllocsAnyReg inst_regs.old request.now.vreg p (tables_of self.old) self.old.registers self.new.registers) }
+    {
+        let place = self.select_place(inst_regs, request)?;
+        self.claim_place(inst_regs, point, request, place)?;
+        note_placed(inst_regs, request);
+        Ok(place)
+    }
+
+    /// A move that is made unless it goes nowhere, by way of a register where both ends are stack places.
+    #[inline(always)]
+    pub fn add_move_if(
+        &mut self,
+        inst_regs: &mut InstRegs,
+        point: ProgPoint,
+        class: RegClass,
+        is_made: bool,
+        from: Allocation,
+        to: Allocation,
+    ) -> Result<(), RegAllocError>
+        requires { AllAtOrAfter point self.old.edits }
+        ensures ok { OnOk result (AddsMoveIf point class is_made from to inst_regs.old inst_regs.new (tables_of self.old) (tables_of self.new)) }
+        ensures awaited { inst_regs.new.awaited ≡ inst_regs.old.awaited }
+        ensures later { OnOk result (AllAtOrAfter point self.new.edits) }
+        ensures long { OnOk result (length self.new.places.vreg_allocs ≡ length self.old.places.vreg_allocs) }
+        ensures machine { SameMachine (tables_of self.old) (tables_of self.new) }
+        ensures err { IfErr result (IsResourceErrorIn self.new.slots) }
+        ensures stops { IfErr result (OutOfRegsOnlyIf (AddMoveIfFails class is_made from to inst_regs.old (tables_of self.old))) }
+        ensures registers { OnOk result (self.new.registers ≡ self.old.registers) }
+    {
+        if !is_made {
+            return Ok(());
+        }
+        self.add_move(inst_regs, point, class, from, to)?;
+        Ok(())
+    }
+
+    /// The definition of a vreg in a place: the vreg has no location before it, and is moved to where it was awaited and to its
+    /// slot, unless the instruction is a return.
+    #[inline(always)]
+    fn free_def(
+        &mut self,
+        inst_regs: &mut InstRegs,
+        point: ProgPoint,
+        vreg: VReg,
+        is_ret: bool,
+        place: Allocation,
+    ) -> Result<(), RegAllocError>
+        requires later { AllAtOrAfter point self.old.edits }
+        requires vreg { vreg.number < length self.old.places.vreg_allocs }
+        ensures ok { OnOk result (FreesDef point vreg is_ret place inst_regs.old inst_regs.new (tables_of self.old) (tables_of self.new)) }
+        ensures awaited { inst_regs.new.awaited ≡ inst_regs.old.awaited }
+        ensures later { OnOk result (AllAtOrAfter point self.new.edits) }
+        ensures long { OnOk result (length self.new.places.vreg_allocs ≡ length self.old.places.vreg_allocs) }
+        ensures machine { SameMachine (tables_of self.old) (tables_of self.new) }
+        ensures err { IfErr result (IsResourceErrorIn self.new.slots) }
+        ensures stops { IfErr result (OutOfRegsOnlyIf (FreeDefFails point vreg is_ret place inst_regs.old (tables_of self.old))) }
+        ensures registers { OnOk result (self.new.registers ≡ self.old.registers) }
+    {
+        let class = vreg.class();
+        let awaited = self.places.current_alloc(vreg);
+        let slot = self.slots.find_spillslot(vreg);
+        self.places.set_alloc(vreg, Allocation::none());
+        let is_awaited = is_awaited(is_ret, awaited, place);
+        self.add_move_if(inst_regs, point, class, is_awaited, place, awaited)?;
+        let is_stored = is_stored(is_ret, slot, place, awaited);
+        self.add_move_if(inst_regs, point, class, is_stored, place, slot)?;
+        Ok(())
+    }
+
+    /// Allocates a definition: its vreg has no location before it, and is moved to where it was awaited and to its slot, unless the
+    /// instruction is a return.
+    #[inline(always)]
+    pub fn alloc_def_op(
+        &mut self,
+        inst_regs: &mut InstRegs,
+        point: ProgPoint,
+        request: &OperandRequest,
+        is_ret: bool,
+    ) -> Result<Allocation, RegAllocError>
+        requires later { AllAtOrAfter point self.old.edits }
+        requires vreg { request.now.vreg.number < length self.old.places.vreg_allocs }
+        ensures ok { IfOk result (λ p. AllocsDefOp point request.now is_ret p inst_regs.old inst_regs.new (tables_of self.old) (tables_of self.new)) }
+        ensures later { OnOk result (AllAtOrAfter point self.new.edits) }
+        ensures long { OnOk result (length self.new.places.vreg_allocs ≡ length self.old.places.vreg_allocs) }
+        ensures machine { SameMachine (tables_of self.old) (tables_of self.new) }
+        ensures err { IfErr result (IsResourceErrorIn self.new.slots) }
+        ensures stops { IfErr result (OutOfRegsOnlyIf (AllocDefOpFails point request.now is_ret inst_regs.old (tables_of self.old))) }
+        ensures takes { IfOk result (λ p. request.now.requirement ≡ Requirement.AnyReg →
+            AllocsAnyReg inst_regs.old request.now.vreg p (tables_of self.old) self.old.registers self.new.registers) }
+    {
+        let place = self.alloc_operand(inst_regs, point, request)?;
+        self.free_def(inst_regs, point, request.vreg, is_ret, place)?;
+        Ok(place)
+    }
+
+    /// Allocates a use: a vreg that had no location is located there from now on.
+    pub fn alloc_use(
+        &mut self,
+        inst_regs: &mut InstRegs,
+        point: ProgPoint,
+        request: &OperandRequest,
+    ) -> Result<Allocation, RegAllocError>
+        requires later { AllAtOrAfter point self.old.edits }
+        requires vreg { request.now.vreg.number < length self.old.places.vreg_allocs }
+        ensures ok { IfOk result (λ p. AllocsUse point request.now p inst_regs.old inst_regs.new (tables_of self.old) (tables_of self.new)) }
+        ensures later { OnOk result (AllAtOrAfter point self.new.edits) }
+        ensures long { OnOk result (length self.new.places.vreg_allocs ≡ length self.old.places.vreg_allocs) }
+        ensures machine { SameMachine (tables_of self.old) (tables_of self.new) }
+        ensures err { IfErr result (IsResourceErrorIn self.new.slots) }
+        ensures stops { IfErr result (OutOfRegsOnlyIf (AllocOperandFails request.now inst_regs.old (tables_of self.old))) }
+        ensures takes { IfOk result (λ p. request.now.requirement ≡ Requirement.AnyReg →
+            AllocsAnyReg inst_regs.old request.now.vreg p (tables_of self.old) self.old.registers self.new.registers) }
+    {
+        let place = self.alloc_operand(inst_regs, point, request)?;
+        if self.places.current_alloc(request.vreg).is_some() {
+            return Ok(place);
+        }
+        self.places.set_alloc(request.vreg, place);
+        Ok(place)
+    }
+}
+
+/// Whether a definition in a place is moved to where its vreg was awaited.
+fn is_awaited(is_ret: bool, awaited: Allocation, place: Allocation) -> bool
+    ensures { result ≡ not is_ret && is_another awaited place }
+{
+    !is_ret && is_another(awaited, place)
+}
+
+/// Whether it is moved to the vreg's slot.
+fn is_stored(is_ret: bool, slot: Allocation, place: Allocation, awaited: Allocation) -> bool
+    ensures { result ≡ not is_ret && (is_another slot place && not (is_place slot awaited)) }
+{
+    !is_ret && (is_another(slot, place) && slot != awaited)
+}

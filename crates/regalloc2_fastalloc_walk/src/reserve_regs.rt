@@ -1,0 +1,286 @@
+//! What an instruction takes before its operands are allocated: fixed registers and clobbers.
+
+ghost use Rattle.std.specs.Prelude.{ℕ, ◌≡◌, ◌<◌, ◌⊎◌, ◌||◌, length, true, false, OnOk, IfSome, IfNone, IfErr, Some};
+ghost use Rattle.regalloc2_names.specs.Register.{Register};
+ghost use Rattle.regalloc2_names.specs.RegisterSet.{has_register, registers_of};
+ghost use Rattle.regalloc2_fastalloc_state.specs.StateParts.{AllAtOrAfter};
+ghost use Rattle.regalloc2_fastalloc_state.specs.OutOfResources.{IsResourceErrorIn};
+ghost use Rattle.regalloc2_validate.specs.Constraints.{op_at};
+ghost use Rattle.regalloc2_fastalloc_proofs.specs.InstSteps.{SameMachine, NeedsFixedReg, ReservesRegs, RemovesClobbers, EvictsFixed, EvictsEach};
+ghost use Rattle.regalloc2_fastalloc_proofs.specs.OutOfRegs.{OutOfRegsOnlyIf, EvictClobbersFails, EvictFixedFails, ReserveRegsFails};
+ghost use Rattle.regalloc2_fastalloc_walk.specs.StateView.{tables_of};
+ghost use Rattle.regalloc2_fastalloc_walk.specs.ReserveSteps.{AwaitsOne, ReservesOnly, IsNewlyReserved, IsReservedAt, IsReserved, Grows, Shrinks};
+ghost use Rattle.regalloc2_fastalloc_walk.specs.ReserveSteps.{ReservesRegForOperand, ReserveForOperandFails, TakesOnly};
+
+use super::state::State;
+use regalloc2_fastalloc_state::inst_regs::{InstRegs, Positions};
+use regalloc2_names::{Operand, OperandConstraint, PReg, PRegSet, ProgPoint, RegAllocError};
+use std::alloc::Allocator;
+
+/// The fixed registers of an instruction's operands so far, by position, and those that were poked.
+#[derive(Clone, Copy)]
+struct ReservedRegs {
+    early: PRegSet,
+    late: PRegSet,
+    poked: PRegSet,
+}
+
+impl ReservedRegs {
+    /// None.
+    fn none() -> ReservedRegs
+        ensures early { (r : Register) → has_register result.early r ≡ false }
+        ensures late { (r : Register) → has_register result.late r ≡ false }
+    {
+        ReservedRegs {
+            early: PRegSet::empty(),
+            late: PRegSet::empty(),
+            poked: PRegSet::empty(),
+        }
+    }
+
+    /// Reserves the register at the positions, unless an earlier operand did at one of them.
+    fn reserve(&mut self, preg: PReg, positions: Positions) -> Result<(), RegAllocError>
+        ensures ok { OnOk result (IsNewlyReserved self.old self.new preg positions) }
+        ensures grows { Grows self.old self.new }
+        ensures only { ReservesOnly self.old self.new preg positions }
+        ensures err { IfErr result (λ e. e ≡ RegAllocError.TooManyLiveRegs) }
+        ensures claimed { IfErr result (λ e. IsReservedAt self.old preg positions) }
+        ensures unchanged { IfErr result (λ e. self.new ≡ self.old) }
+    {
+        let is_early = positions.early && self.early.contains(preg);
+        let is_late = positions.late && self.late.contains(preg);
+        if is_early || is_late {
+            return Err(RegAllocError::TooManyLiveRegs);
+        }
+        if positions.early {
+            self.early.add(preg);
+        }
+        if positions.late {
+            self.late.add(preg);
+        }
+        Ok(())
+    }
+}
+
+/// The register that an operand is fixed to.
+fn fixed_register(operand: Operand) -> Option<PReg>
+    ensures some { IfSome result (λ r. operand.constraint ≡ OperandConstraint.FixedReg r) }
+    ensures none { IfNone result ((r : Register) → operand.constraint ≡ OperandConstraint.FixedReg r → ⊥) }
+{
+    match operand.constraint() {
+        OperandConstraint::FixedReg(preg) => Some(preg),
+        _ => None,
+    }
+}
+
+/// The register of the operand that a reuse names, if that is fixed.
+fn reused_register(operand: Operand, operands: &[Operand]) -> Option<PReg>
+    ensures some { IfSome result (λ r. (n : ℕ) × (operand.constraint ≡ OperandConstraint.Reuse n) × (n < length operands.now)
+        × ((op_at operands.now n).constraint ≡ OperandConstraint.FixedReg r)) }
+    ensures none { IfNone result ((n : ℕ) (r : Register) → operand.constraint ≡ OperandConstraint.Reuse n → n < length operands.now →
+        (op_at operands.now n).constraint ≡ OperandConstraint.FixedReg r → ⊥) }
+{
+    match operand.constraint() {
+        OperandConstraint::Reuse(index) if index < operands.len() => {
+            fixed_register(operands[index])
+        }
+        _ => None,
+    }
+}
+
+/// What the operand k claims before operands are allocated: its fixed register, unless it reads and defines nothing; or for a
+/// reuse that of the operand that it names, while late operands are there.
+fn reserved_by(operands: &[Operand], k: usize) -> Option<(PReg, Positions)>
+    requires { k < length operands.now }
+    ensures some { IfSome result (λ c. NeedsFixedReg operands.now k c.0 c.1) }
+    ensures all { (r : Register) (p : Positions) → NeedsFixedReg operands.now k r p → result ≡ Some (r, p) }
+{
+    let operand = operands[k];
+    if let Some(preg) = fixed_register(operand) {
+        if operand.as_fixed_nonallocatable().is_some() {
+            return None;
+        }
+        return Some((preg, Positions::of(operand)));
+    }
+    let preg = reused_register(operand, operands)?;
+    let positions = Positions {
+        early: false,
+        late: true,
+    };
+    Some((preg, positions))
+}
+
+impl<'a, A: Allocator> State<'a, A> {
+    /// Reserves a register at the positions. Returns an error where it isn't one of the machine's, or an earlier operand claimed it
+    /// at one of them.
+    fn reserve_preg(
+        &self,
+        inst_regs: &mut InstRegs,
+        claims: &mut ReservedRegs,
+        preg: PReg,
+        positions: Positions,
+    ) -> Result<(), RegAllocError>
+        ensures ok { OnOk result (IsReserved (tables_of self.now) preg positions inst_regs.new claims.old claims.new) }
+        ensures shrinks { Shrinks inst_regs.old inst_regs.new }
+        ensures takes { TakesOnly preg inst_regs.old inst_regs.new }
+        ensures awaited { inst_regs.new.awaited ≡ inst_regs.old.awaited }
+        ensures grows { Grows claims.old claims.new }
+        ensures only { ReservesOnly claims.old claims.new preg positions }
+        ensures err { IfErr result (IsResourceErrorIn self.now.slots) }
+        ensures stops { IfErr result (OutOfRegsOnlyIf
+            (((has_register self.now.registers.allocatable preg || has_register self.now.registers.fixed_stack preg) ≡ false)
+            ⊎ IsReservedAt claims.old preg positions)) }
+    {
+        if !self.registers.available_regs().contains(preg) {
+            return Err(RegAllocError::TooManyLiveRegs);
+        }
+        claims.reserve(preg, positions)?;
+        inst_regs.remove_available(preg, positions);
+        Ok(())
+    }
+
+    /// Removes a fixed register from the available ones, and pokes it once, if it may be allocated.
+    fn remove_fixed(
+        &mut self,
+        inst_regs: &mut InstRegs,
+        claims: &mut ReservedRegs,
+        preg: PReg,
+        positions: Positions,
+    )
+        ensures same { tables_of self.new ≡ tables_of self.old }
+        ensures shrinks { Shrinks inst_regs.old inst_regs.new }
+        ensures takes { TakesOnly preg inst_regs.old inst_regs.new }
+        ensures awaited { inst_regs.new.awaited ≡ inst_regs.old.awaited }
+        ensures early { claims.new.early ≡ claims.old.early }
+        ensures late { claims.new.late ≡ claims.old.late }
+    {
+        inst_regs.remove_available(preg, positions);
+        if self.registers.is_allocatable(preg) {
+            if !claims.poked.contains(preg) {
+                claims.poked.add(preg);
+                self.registers.poke(preg);
+            }
+        }
+    }
+
+    /// Reserves what the operand k takes before operands are allocated, and counts it if it asks for any register.
+    fn reserve_reg_for_operand(
+        &mut self,
+        inst_regs: &mut InstRegs,
+        claims: &mut ReservedRegs,
+        operands: &[Operand],
+        k: usize,
+    ) -> Result<(), RegAllocError>
+        requires { k < length operands.now }
+        ensures ok { OnOk result (ReservesRegForOperand operands.now k inst_regs.old inst_regs.new claims.old claims.new (tables_of self.old)) }
+        ensures awaited { OnOk result (AwaitsOne operands.now k inst_regs.old inst_regs.new) }
+        ensures same { tables_of self.new ≡ tables_of self.old }
+        ensures err { IfErr result (IsResourceErrorIn self.new.slots) }
+        ensures stops { IfErr result (OutOfRegsOnlyIf (ReserveForOperandFails operands.now k claims.old (tables_of self.old))) }
+        ensures registers { OnOk result (((r : Register) → (op_at operands.now k).constraint ≡ OperandConstraint.FixedReg r → ⊥) →
+            self.new.registers ≡ self.old.registers) }
+    {
+        let operand = operands[k];
+        if let Some(claim) = reserved_by(operands, k) {
+            self.reserve_preg(inst_regs, claims, claim.0, claim.1)?;
+        }
+        match operand.constraint() {
+            OperandConstraint::Reg => inst_regs.add_any_reg_op(operand.class()),
+            OperandConstraint::FixedReg(preg) => {
+                self.remove_fixed(inst_regs, claims, preg, Positions::of(operand));
+            }
+            _ => {}
+        }
+        Ok(())
+    }
+
+    /// Reserves what the operands take before they are placed, in operand order.
+    pub fn reserve(
+        &mut self,
+        inst_regs: &mut InstRegs,
+        operands: &[Operand],
+    ) -> Result<(), RegAllocError>
+        ensures ok { OnOk result (ReservesRegs operands.now inst_regs.old inst_regs.new (tables_of self.old)) }
+        ensures same { tables_of self.new ≡ tables_of self.old }
+        ensures err { IfErr result (IsResourceErrorIn self.new.slots) }
+        ensures stops { IfErr result (OutOfRegsOnlyIf (ReserveRegsFails operands.now (tables_of self.old))) }
+        ensures registers { OnOk result (((k : ℕ) (r : Register) → k < length operands.now → (op_at operands.now k).constraint ≡ OperandConstraint.FixedReg r → ⊥) →
+            self.new.registers ≡ self.old.registers) }
+    {
+        let mut claims = ReservedRegs::none();
+        for k in 0..operands.len() {
+            self.reserve_reg_for_operand(inst_regs, &mut claims, operands, k)?;
+        }
+        Ok(())
+    }
+
+    /// Removes the clobbers from the available registers while late operands are there.
+    pub fn remove_clobbers_from_available_pregs(
+        &mut self,
+        inst_regs: &mut InstRegs,
+        clobbers: PRegSet,
+    )
+        ensures removed { RemovesClobbers clobbers inst_regs.old inst_regs.new }
+        ensures same { tables_of self.new ≡ tables_of self.old }
+        ensures registers { self.new.registers ≡ self.old.registers }
+    {
+        let late = Positions {
+            early: false,
+            late: true,
+        };
+        for preg in clobbers {
+            inst_regs.remove_available(preg, late);
+        }
+    }
+
+    /// Empties the fixed registers of the operands, in operand order, of all vregs but each operand's own.
+    pub fn evict_fixed(
+        &mut self,
+        inst_regs: &mut InstRegs,
+        point: ProgPoint,
+        operands: &[Operand],
+    ) -> Result<(), RegAllocError>
+        requires { AllAtOrAfter point self.old.edits }
+        ensures ok { OnOk result (EvictsFixed point operands.now inst_regs.old (tables_of self.old) (length operands.now) inst_regs.new (tables_of self.new)) }
+        ensures awaited { inst_regs.new.awaited ≡ inst_regs.old.awaited }
+        ensures later { OnOk result (AllAtOrAfter point self.new.edits) }
+        ensures long { OnOk result (length self.new.places.vreg_allocs ≡ length self.old.places.vreg_allocs) }
+        ensures machine { SameMachine (tables_of self.old) (tables_of self.new) }
+        ensures err { IfErr result (IsResourceErrorIn self.new.slots) }
+        ensures stops { IfErr result (OutOfRegsOnlyIf (EvictFixedFails point operands.now inst_regs.old (tables_of self.old))) }
+        ensures registers { OnOk result (self.new.registers ≡ self.old.registers) }
+    {
+        for k in 0..operands.len() {
+            let operand = operands[k];
+            if let Some(preg) = fixed_register(operand) {
+                self.evict_others(inst_regs, point, preg, operand.vreg())?;
+            } else if let Some(preg) = reused_register(operand, operands) {
+                self.evict_preg(inst_regs, point, preg)?;
+            }
+        }
+        Ok(())
+    }
+
+    /// Empties the clobbers, by rising index.
+    pub fn evict_clobbers(
+        &mut self,
+        inst_regs: &mut InstRegs,
+        point: ProgPoint,
+        clobbers: PRegSet,
+    ) -> Result<(), RegAllocError>
+        requires { AllAtOrAfter point self.old.edits }
+        ensures ok { OnOk result (EvictsEach point (registers_of clobbers) inst_regs.old (tables_of self.old) inst_regs.new (tables_of self.new)) }
+        ensures awaited { inst_regs.new.awaited ≡ inst_regs.old.awaited }
+        ensures later { OnOk result (AllAtOrAfter point self.new.edits) }
+        ensures long { OnOk result (length self.new.places.vreg_allocs ≡ length self.old.places.vreg_allocs) }
+        ensures machine { SameMachine (tables_of self.old) (tables_of self.new) }
+        ensures err { IfErr result (IsResourceErrorIn self.new.slots) }
+        ensures stops { IfErr result (OutOfRegsOnlyIf (EvictClobbersFails point inst_regs.old (tables_of self.old))) }
+        ensures registers { OnOk result (self.new.registers ≡ self.old.registers) }
+    {
+        for preg in clobbers {
+            self.evict_preg(inst_regs, point, preg)?;
+        }
+        Ok(())
+    }
+}

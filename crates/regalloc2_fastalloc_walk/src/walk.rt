@@ -1,0 +1,154 @@
+//! The walk over all blocks, from the last to the first, and over the instructions of each.
+
+ghost use Rattle.std.specs.Prelude.{List};
+ghost use Rattle.regalloc2_names.specs.Register.{VirtualRegister};
+ghost use Rattle.regalloc2_fastalloc_walk.specs.SpillFree.{FitInRegs, HasRegOperandsOnly, IsSpillFreeFrom};
+ghost use Rattle.std.specs.Prelude.{◌≡◌, ◌<◌, ◌≤◌, ◌+◌, ◌*◌, [], length, slice_index, slice_index_or, ℕ, OnOk, IfErr};
+ghost use Rattle.regalloc2_names.specs.Point.{before, after};
+ghost use Rattle.regalloc2_names.specs.Place.{NoPlace};
+ghost use Rattle.regalloc2_function.specs.FunctionValue.{block_at, operand_count};
+ghost use Rattle.regalloc2_fastalloc_state.specs.StateParts.{AllAtOrAfter};
+ghost use Rattle.regalloc2_fastalloc_proofs.specs.BranchSteps.{AreApart, AddsTempSlotsAtMost};
+ghost use Rattle.regalloc2_fastalloc_state.specs.OutOfResources.{SlotsExhaustedWith, IsResourceError};
+ghost use Rattle.regalloc2_fastalloc_proofs.specs.OutOfRegs.{OutOfRegsOnlyIf, AllocBlocksFails, AllocInstInBlockFails, AllocBlockInstsFails};
+ghost use Rattle.regalloc2_fastalloc_walk.specs.StateView.{tables_of};
+ghost use Rattle.regalloc2_fastalloc_proofs.specs.BlockSteps.{AllocsInstInBlock, MayBeAllocated, AllocsBlocks, AllocsBlockInsts, temp_slots_at, offset_of};
+
+use super::state::State;
+use regalloc2_fastalloc_state::inst_regs::InstRegs;
+use regalloc2_function::Function;
+use regalloc2_index::{Block, Inst};
+use regalloc2_names::{Allocation, RegAllocError};
+use std::alloc::Allocator;
+
+impl<'a, A: Allocator> State<'a, A> {
+    /// Allocates an instruction of a block, whose operands' places begin at `start`. A branch passes its arguments.
+    fn alloc_inst_in_block<F: Function, B: Allocator>(
+        &mut self,
+        alloc: &B,
+        f: &F,
+        block: Block,
+        inst: Inst,
+        start: usize,
+        allocs: &mut [Allocation],
+    ) -> Result<(), RegAllocError>
+        requires block { block < length (F.function f.now).blocks }
+        requires inst { inst < length (F.function f.now).insts }
+        requires first { (block_at (F.function f.now) block).range.first ≤ inst }
+        requires end { inst < (block_at (F.function f.now) block).range.end }
+        requires well_formed { MayBeAllocated (F.function f.now) }
+        requires long { length self.old.places.vreg_allocs ≡ (F.function f.now).num_vregs }
+        requires apart { AreApart (tables_of self.old) }
+        requires later { AllAtOrAfter (after inst) self.old.edits }
+        requires start { start ≡ offset_of (F.function f.now) inst }
+        requires allocs_long { length allocs.old ≡ operand_count (F.function f.now) }
+        requires no_places { (k : ℕ) → k < offset_of (F.function f.now) (inst + 1) → slice_index_or allocs.old k NoPlace ≡ NoPlace }
+        ensures ok { OnOk result (AllocsInstInBlock (F.function f.now) block inst allocs.old allocs.new (tables_of self.old) (tables_of self.new)) }
+        ensures later { OnOk result (AllAtOrAfter (before inst) self.new.edits) }
+        ensures long { OnOk result (length self.new.places.vreg_allocs ≡ length self.old.places.vreg_allocs) }
+        ensures machine { AddsTempSlotsAtMost (temp_slots_at (F.function f.now) inst) (tables_of self.old) (tables_of self.new) }
+        ensures err { IfErr result (IsResourceError (SlotsExhaustedWith self.old.slots (self.old.slots.num_temp_slots + temp_slots_at (F.function f.now) inst))) }
+        ensures stops { IfErr result (OutOfRegsOnlyIf (AllocInstInBlockFails (F.function f.now) block inst allocs.old (tables_of self.old))) }
+        ensures spill_free { OnOk result ((names : List VirtualRegister) → FitInRegs names self.old.registers.allocatable →
+            HasRegOperandsOnly names (F.function f.now) → IsSpillFreeFrom names (F.function f.now) (inst + 1) self.old.registers (tables_of self.old) →
+            IsSpillFreeFrom names (F.function f.now) inst self.new.registers (tables_of self.new)) }
+    {
+        let mut inst_regs = InstRegs::new(self.registers.available_regs());
+        let operands = f.inst_operands(inst);
+        let clobbers = f.inst_clobbers(inst);
+        let is_ret = f.is_ret(inst);
+        self.alloc_inst_at(
+            &mut inst_regs,
+            inst,
+            is_ret,
+            operands,
+            clobbers,
+            start,
+            allocs,
+        )?;
+        if !f.is_branch(inst) {
+            return Ok(());
+        }
+        self.process_branch(&mut inst_regs, alloc, f, block, inst)?;
+        Ok(())
+    }
+
+    /// Allocates the instructions of a block, from the last to the first.
+    fn alloc_block<F: Function, B: Allocator>(
+        &mut self,
+        alloc: &B,
+        f: &F,
+        block: Block,
+        offsets: &[u32],
+        allocs: &mut [Allocation],
+    ) -> Result<(), RegAllocError>
+        requires block { block < length (F.function f.now).blocks }
+        requires well_formed { MayBeAllocated (F.function f.now) }
+        requires long { length self.old.places.vreg_allocs ≡ (F.function f.now).num_vregs }
+        requires apart { AreApart (tables_of self.old) }
+        requires later { AllAtOrAfter (before (block_at (F.function f.now) block).range.end) self.old.edits }
+        requires offsets_long { length offsets.now ≡ length (F.function f.now).insts }
+        requires offsets { (i : ℕ) → i < length (F.function f.now).insts → slice_index offsets.now i ≡ offset_of (F.function f.now) i }
+        requires allocs_long { length allocs.old ≡ operand_count (F.function f.now) }
+        requires no_places { (k : ℕ) → k < offset_of (F.function f.now) (block_at (F.function f.now) block).range.end →
+            slice_index_or allocs.old k NoPlace ≡ NoPlace }
+        ensures ok { OnOk result (AllocsBlockInsts (F.function f.now) block allocs.old (tables_of self.old) (block_at (F.function f.now) block).range.first
+            allocs.new (tables_of self.new)) }
+        ensures no_places { OnOk result ((k : ℕ) → k < offset_of (F.function f.now) (block_at (F.function f.now) block).range.first →
+            slice_index_or allocs.new k NoPlace ≡ NoPlace) }
+        ensures later { OnOk result (AllAtOrAfter (before (block_at (F.function f.now) block).range.first) self.new.edits) }
+        ensures long { OnOk result (length self.new.places.vreg_allocs ≡ length self.old.places.vreg_allocs) }
+        ensures machine { AddsTempSlotsAtMost 6 (tables_of self.old) (tables_of self.new) }
+        ensures err { IfErr result (IsResourceError (SlotsExhaustedWith self.old.slots (self.old.slots.num_temp_slots + 6))) }
+        ensures stops { IfErr result (OutOfRegsOnlyIf (AllocBlockInstsFails (F.function f.now) block allocs.old (tables_of self.old))) }
+        ensures spill_free { OnOk result ((names : List VirtualRegister) → FitInRegs names self.old.registers.allocatable →
+            HasRegOperandsOnly names (F.function f.now) → IsSpillFreeFrom names (F.function f.now) (block_at (F.function f.now) block).range.end
+            self.old.registers (tables_of self.old)
+            → IsSpillFreeFrom names (F.function f.now) (block_at (F.function f.now) block).range.first self.new.registers (tables_of self.new)) }
+    {
+        let range = f.block_insns(block);
+        let first = range.first().index();
+        let mut i = range.end().index();
+        while i > first {
+            i -= 1;
+            self.alloc_inst_in_block(alloc, f, block, Inst::new(i), offsets[i] as usize, allocs)?;
+        }
+        Ok(())
+    }
+
+    /// Allocates all instructions, from the last block to the first.
+    pub fn alloc_blocks<F: Function, B: Allocator>(
+        &mut self,
+        alloc: &B,
+        f: &F,
+        offsets: &[u32],
+        allocs: &mut [Allocation],
+    ) -> Result<(), RegAllocError>
+        requires fresh { self.old.edits ≡ [] }
+        requires well_formed { MayBeAllocated (F.function f.now) }
+        requires long { length self.old.places.vreg_allocs ≡ (F.function f.now).num_vregs }
+        requires apart { AreApart (tables_of self.old) }
+        requires offsets_long { length offsets.now ≡ length (F.function f.now).insts }
+        requires offsets { (i : ℕ) → i < length (F.function f.now).insts → slice_index offsets.now i ≡ offset_of (F.function f.now) i }
+        requires allocs_long { length allocs.old ≡ operand_count (F.function f.now) }
+        requires no_places { (k : ℕ) → slice_index_or allocs.old k NoPlace ≡ NoPlace }
+        ensures ok { OnOk result (AllocsBlocks (F.function f.now) allocs.old (tables_of self.old) 0 allocs.new (tables_of self.new)) }
+        ensures machine { AddsTempSlotsAtMost (6 * length (F.function f.now).blocks) (tables_of self.old) (tables_of self.new) }
+        ensures err { IfErr result (IsResourceError (SlotsExhaustedWith self.old.slots (self.old.slots.num_temp_slots + 6 * length (F.function f.now).blocks))) }
+        ensures stops { IfErr result (OutOfRegsOnlyIf (AllocBlocksFails (F.function f.now) allocs.old (tables_of self.old))) }
+        ensures spill_free { OnOk result ((names : List VirtualRegister) → FitInRegs names self.old.registers.allocatable →
+            HasRegOperandsOnly names (F.function f.now) → IsSpillFreeFrom names (F.function f.now) (length (F.function f.now).insts) self.old.registers
+            (tables_of self.old) → (self.new.edits ≡ []) × (self.new.slots.count ≡ 0)) }
+    {
+        let mut order = Vec::new(alloc);
+        let mut b = f.num_blocks();
+        while b > 0 {
+            b -= 1;
+            let block = Block::new(b);
+            self.alloc_block(alloc, f, block, offsets, allocs)?;
+            let first = f.block_insns(block).first();
+            self.reload_at_begin(first, f.block_params(block), &mut order)?;
+        }
+        Ok(())
+    }
+}

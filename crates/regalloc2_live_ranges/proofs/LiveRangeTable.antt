@@ -1,0 +1,287 @@
+-- The table of live ranges, entry by entry, and over the whole walk.
+use Rattle.std.proofs.Common.{ℕ, ◌≡◌, ◌≢◌, ◌+◌, ◌-◌, ◌<◌, ◌≤◌, ◌⊎◌, inl, inr, true, false, List, length, set, replicate, refl, sym, ap, ◌∙◌, subst}
+use Rattle.std.proofs.Common.{arith, eq-eqb, get_or-set_same, get_or-set_other}
+use Rattle.std.specs.Prelude.{Contains, Option, None, Some, slice_index_or, unwrap_or, nat_eq}
+use Rattle.std.proofs.lemmas.Bool.{cases_Bool, cases_eq}
+use Rattle.std.proofs.lemmas.Bool.Decides.{Decides-eqb}
+use Rattle.std.proofs.lemmas.List.{get_or-replicate, get_or_past, length-replicate}
+use Rattle.regalloc2_names.specs.Register.{VirtualRegister}
+use Rattle.regalloc2_function.specs.FunctionValue.{FunctionValue, block_at}
+use Rattle.regalloc2_names.specs.Operand.{OperandValue, is_def}
+use Rattle.regalloc2_names.specs.Point.{before, after}
+use Rattle.regalloc2_function.specs.WellFormed.{BlocksFollow}
+use Rattle.regalloc2_function.specs.DebugPoints.{DefinesAt, IsFirstPoint, UsesAt}
+use Rattle.regalloc2_function.specs.DebugPoints.IsFirstPoint.{of_definition, of_parameter}
+use Rattle.regalloc2_semantics.specs.Listing.{op_at}
+use Rattle.regalloc2_semantics.proofs.SingleDef.{Made, one_made}
+use Rattle.regalloc2_semantics.proofs.Order.{ends_within}
+use Rattle.regalloc2_live_ranges.specs.declared.LiveRange.{LiveRange}
+use Rattle.regalloc2_live_ranges.specs.declared.ends.RangeEnd.{RangeEnd}
+use Rattle.regalloc2_live_ranges.specs.LiveRanges.{AreLiveRanges, IsDefiner, IsLiveRange, IsSSA, range_at}
+use Rattle.regalloc2_live_ranges.specs.LastUses.{EndsFrom, NotesUses, UsesNumber, end_at, no_vreg}
+use Rattle.regalloc2_live_ranges.specs.LastUses.UsesNumber.{reads, passes}
+use Rattle.regalloc2_live_ranges.specs.WalkInvariant.{AreEndsFrom, AreRight, IsWalked, Stay, begin_of}
+use Rattle.regalloc2_live_ranges.proofs.ItemsPastEnd.{any_default, op_is}
+use Rattle.regalloc2_live_ranges.proofs.UsesNoted.{ends_more}
+use Rattle.regalloc2_live_ranges.proofs.UsesInSSA.{definer_small, made_by_definition, made_by_parameter, parameter_small}
+use Rattle.regalloc2_live_ranges.proofs.FirstAndLastPoints.{is_used, range_of_definition, range_of_parameter, used_ends}
+
+lt_or_le : (m n : ℕ) → (m < n) ⊎ (n ≤ m)
+lt_or_le m n = grind arith
+
+-- an entry is written
+here : (t : List (Option LiveRange)) (n : ℕ) (r : LiveRange) → n < length t → range_at (set t n (Some r)) n ≡ Some r
+here t n r less = rw get_or-set_same refl
+
+there : (t : List (Option LiveRange)) (n m : ℕ) (r : LiveRange) → m ≢ n → range_at (set t n (Some r)) m ≡ range_at t m
+there t n m r ne = rw get_or-set_other refl
+
+-- an entry set to a live range of a vreg of its number leaves each entry a live range of a vreg of its number
+pub right_set : (f : FunctionValue) (t : List (Option LiveRange)) (n : ℕ) (r : LiveRange) → n < length t → r.vreg.number ≡ n → IsLiveRange f r → AreRight f t →
+    AreRight f (set t n (Some r))
+right_set f t n r less is range right m q h = elim (cases_eq m n) [
+  | inl same ↦ (let e : Some q ≡ Some r = sym h ∙ ap (range_at (set t n (Some r))) same ∙ here t n r less in
+      let g : r ≡ q = cc in
+      subst (λ (x : LiveRange). (x.vreg.number ≡ m) × IsLiveRange f x) g (is ∙ sym same, range))
+  | inr ne ↦ right m q (sym (there t n m r ne) ∙ h)
+]
+
+-- an entry that was set is there
+pub there_now : (t : List (Option LiveRange)) (n : ℕ) (r : LiveRange) → n < length t → range_at (set t n (Some r)) n ≢ None
+there_now t n r less h = let e : Some r ≡ None = sym (here t n r less) ∙ h in cc
+
+-- to set an entry leaves an entry wherever there was one
+pub stay_set : (t : List (Option LiveRange)) (n : ℕ) (r : LiveRange) → n < length t → Stay t (set t n (Some r))
+stay_set t n r less m some = elim (cases_eq m n) [
+  | inl same ↦ subst (λ (k : ℕ). range_at (set t n (Some r)) k ≢ None) (sym same) (there_now t n r less)
+  | inr ne ↦ (λ h. some (sym (there t n m r ne) ∙ h))
+]
+
+no_range : (num n : ℕ) → range_at (replicate num None) n ≡ None
+no_range num n = elim (lt_or_le n num) [
+  | inl less ↦ get_or-replicate num n None None less
+  | inr past ↦ get_or_past (replicate num None) n None (rw length-replicate past)
+]
+
+no_end : (num n : ℕ) → end_at (replicate num None) n ≡ None
+no_end num n = elim (lt_or_le n num) [
+  | inl less ↦ get_or-replicate num n None None less
+  | inr past ↦ get_or_past (replicate num None) n None (rw length-replicate past)
+]
+
+-- the same range, by parts
+pub range_same : (f : FunctionValue) (a v : VirtualRegister) (p q : ℕ) (d e : RangeEnd) → a ≡ v → p ≡ q → d ≡ e →
+    IsLiveRange f (record { vreg = v; first = q; last = e.last; by = e.by }) → IsLiveRange f (record { vreg = a; first = p; last = d.last; by = d.by })
+range_same f a v p q d e same at end h =
+    subst (λ (w : VirtualRegister). IsLiveRange f (record { vreg = w; first = p; last = d.last; by = d.by })) (sym same)
+    (subst (λ (n : ℕ). IsLiveRange f (record { vreg = v; first = n; last = d.last; by = d.by })) (sym at)
+    (subst (λ (x : RangeEnd). IsLiveRange f (record { vreg = v; first = q; last = x.last; by = x.by })) (sym end) h))
+
+up_to : (k m : ℕ) → k < m + 1 → (k < m) ⊎ (k ≡ m)
+up_to k m lt = grind arith
+
+-- the first so many operands' definitions have entries
+abbrev pub AreBegun : List OperandValue → ℕ → List (Option LiveRange) → Type 0
+AreBegun ops m t = (k : ℕ) → k < m → k < length ops → is_def (op_at ops k).kind ≡ true → range_at t (op_at ops k).vreg.number ≢ None
+
+-- with an entry set at the number of operand m, the definitions among the first m + 1 operands have entries
+pub begun_more : (ops : List OperandValue) (m n : ℕ) (t : List (Option LiveRange)) (o : OperandValue) (r : LiveRange) → m < length ops →
+    o ≡ slice_index_or ops m o → n ≡ o.vreg.number → n < length t → AreBegun ops m t → AreBegun ops (m + 1) (set t n (Some r))
+begun_more ops m n t o r less is same room h k lt within def = elim (up_to k m lt) [
+  | inl before ↦ stay_set t n r room (op_at ops k).vreg.number (h k before within def)
+  | inr here ↦ (let at : (op_at ops k).vreg.number ≡ n = ap (λ (j : ℕ). (op_at ops j).vreg.number) here
+      ∙ ap (λ (p : OperandValue). p.vreg.number) (op_is ops m o less (sym is)) ∙ sym same in
+      subst (λ (q : ℕ). range_at (set t n (Some r)) q ≢ None) (sym at) (there_now t n r room))
+]
+
+-- with an operand m that is no definition, those among the first m + 1 operands have entries if those before it do
+pub begun_same : (ops : List OperandValue) (m : ℕ) (t : List (Option LiveRange)) (o : OperandValue) → m < length ops → o ≡ slice_index_or ops m o →
+    is_def o.kind ≡ false → AreBegun ops m t → AreBegun ops (m + 1) t
+begun_same ops m t o less is use' h k lt within def = elim (up_to k m lt) [
+  | inl before ↦ h k before within def
+  | inr here ↦ absurd (let at : is_def (op_at ops k).kind ≡ is_def o.kind = ap (λ (j : ℕ). is_def (op_at ops j).kind) here
+      ∙ ap (λ (p : OperandValue). is_def p.kind) (op_is ops m o less (sym is)) in cc)
+]
+
+-- the first so many parameters have entries, where they have ends
+abbrev pub AreTaken : List VirtualRegister → ℕ → List (Option RangeEnd) → List (Option LiveRange) → Type 0
+AreTaken vs m ends t = (k : ℕ) → k < m → k < length vs → end_at ends (slice_index_or vs k no_vreg).number ≢ None →
+    range_at t (slice_index_or vs k no_vreg).number ≢ None
+
+-- with an entry set at the number of parameter m, those of the first m + 1 parameters that have ends have entries
+pub taken_more : (vs : List VirtualRegister) (m n : ℕ) (ends : List (Option RangeEnd)) (t : List (Option LiveRange)) (v : VirtualRegister) (r : LiveRange) →
+    m < length vs → v ≡ slice_index_or vs m v → n ≡ v.number → n < length t → AreTaken vs m ends t → AreTaken vs (m + 1) ends (set t n (Some r))
+taken_more vs m n ends t v r less is same room h k lt within some = elim (up_to k m lt) [
+  | inl before ↦ stay_set t n r room (slice_index_or vs k no_vreg).number (h k before within some)
+  | inr here ↦ (let at : (slice_index_or vs k no_vreg).number ≡ n = ap (λ (j : ℕ). (slice_index_or vs j no_vreg).number) here
+      ∙ ap (λ (w : VirtualRegister). w.number) (any_default vs m no_vreg v less ∙ sym is) ∙ sym same in
+      subst (λ (q : ℕ). range_at (set t n (Some r)) q ≢ None) (sym at) (there_now t n r room))
+]
+
+-- with a parameter m that has no end, those of the first m + 1 with ends have entries if those before it do
+pub taken_same : (vs : List VirtualRegister) (m : ℕ) (ends : List (Option RangeEnd)) (t : List (Option LiveRange)) (v : VirtualRegister) → m < length vs →
+    v ≡ slice_index_or vs m v → end_at ends v.number ≡ None → AreTaken vs m ends t → AreTaken vs (m + 1) ends t
+taken_same vs m ends t v less is none h k lt within some = elim (up_to k m lt) [
+  | inl before ↦ h k before within some
+  | inr here ↦ absurd (let at : slice_index_or vs k no_vreg ≡ v = ap (λ (j : ℕ). slice_index_or vs j no_vreg) here ∙ any_default vs m no_vreg v less ∙ sym is in
+      some (ap (λ (w : VirtualRegister). end_at ends w.number) at ∙ none))
+]
+
+-- so that all used ones have
+pub taken_all : (f : FunctionValue) (ssa : IsSSA f) (b : ℕ) (vs : List VirtualRegister) (m : ℕ) (ends : List (Option RangeEnd)) (t : List (Option LiveRange)) →
+    b < length f.blocks → vs ≡ (block_at f b).params → length vs ≤ m → length ends ≡ f.num_vregs → AreEndsFrom f (block_at f b).range.first ends
+    → AreTaken vs m ends t → (v : VirtualRegister) (j : ℕ) → Contains (block_at f b).params v → UsesAt f v j → range_at t v.number ≢ None
+taken_all f ssa b vs m ends t lt same all long noted h v j has used =
+    let here : Contains vs v = subst (λ (ws : List VirtualRegister). Contains ws v) (sym same) has in
+    let at : slice_index_or vs here.0 no_vreg ≡ v = any_default vs here.0 no_vreg v here.1 ∙ here.2 in
+    let small = parameter_small f ssa v b lt has in
+    let some : end_at ends v.number ≢ None = used_ends f ssa v b j (end_at ends v.number) lt has used (noted v.number (omega (arith, small, long))) in
+    subst (λ (w : VirtualRegister). range_at t w.number ≢ None) at (h here.0 (omega (arith, here.1, all)) here.1
+    (subst (λ (w : VirtualRegister). end_at ends w.number ≢ None) (sym at) some))
+
+-- before the walk
+pub walked_none : (f : FunctionValue) → IsSSA f → IsWalked f (length f.insts) (length f.blocks) (replicate f.num_vregs None) (replicate f.num_vregs None)
+walked_none f ssa = record {
+  ends_long = length-replicate f.num_vregs None;
+  ranges_long = length-replicate f.num_vregs None;
+  noted = λ n lt. subst (EndsFrom f (length f.insts) n) (sym (no_end f.num_vregs n)) (λ j le u. none_past j le n u);
+  right = λ n r h. absurd (let e : Some r ≡ None = sym h ∙ no_range f.num_vregs n in cc);
+  defined = λ v j le d. absurd (omega (arith, le, d.0));
+  taken = λ v c j le lt. absurd (omega (arith, le, lt));
+}
+  where
+    none_past : (j : ℕ) → length f.insts ≤ j → (n : ℕ) → UsesNumber f n j → ⊥
+    none_past j le n (reads at k lt r) = omega (arith, le, lt)
+    none_past j le n (passes p) = let within = ends_within f ssa.follow p.0 p.1 in let some = (ssa.follow p.0 p.1).0 in omega (arith, within, some, p.2, le)
+
+here_or_later : (i j : ℕ) → i ≤ j → (i ≡ j) ⊎ (i + 1 ≤ j)
+here_or_later i j le = grind arith
+
+-- one instruction more
+pub walked_inst : (f : FunctionValue) (i b : ℕ) (ends ends' : List (Option RangeEnd)) (ranges ranges' : List (Option LiveRange)) →
+    IsWalked f (i + 1) b ends ranges → length ends' ≡ length ends → length ranges' ≡ length ranges → AreEndsFrom f i ends' → AreRight f ranges' →
+    Stay ranges ranges'
+    → ((v : VirtualRegister) → DefinesAt f v i → range_at ranges' v.number ≢ None) → IsWalked f i b ends' ranges'
+walked_inst f i b ends ends' ranges ranges' w long longs noted right stay defined = record {
+  ends_long = long ∙ w.ends_long;
+  ranges_long = longs ∙ w.ranges_long;
+  noted = noted;
+  right = right;
+  defined = λ v j le d. elim (here_or_later i j le) [
+    | inl same ↦ defined v (subst (DefinesAt f v) (sym same) d)
+    | inr later ↦
+        stay v.number (w.defined v j later d)
+  ];
+  taken = λ v c j le lt has used. stay v.number (w.taken v c j le lt has used);
+}
+
+-- its uses are noted
+pub noted_more : (f : FunctionValue) (i : ℕ) (ends ends' : List (Option RangeEnd)) → AreEndsFrom f (i + 1) ends → length ends' ≡ length ends →
+    ((n : ℕ) → n < length ends → NotesUses f i n (end_at ends n) (end_at ends' n)) → AreEndsFrom f i ends'
+noted_more f i ends ends' h long uses n lt = let less : n < length ends = omega (arith, lt, long) in
+    ends_more f i n (end_at ends n) (end_at ends' n) (h n less) (uses n less)
+
+-- one block's beginning more
+pub walked_block : (f : FunctionValue) (i b : ℕ) (ends : List (Option RangeEnd)) (ranges ranges' : List (Option LiveRange)) → IsWalked f i (b + 1) ends ranges →
+    length ranges' ≡ length ranges → AreRight f ranges' → Stay ranges ranges'
+    → ((v : VirtualRegister) (j : ℕ) → Contains (block_at f b).params v → UsesAt f v j → range_at ranges' v.number ≢ None) → IsWalked f i b ends ranges'
+walked_block f i b ends ranges ranges' w long right stay taken = record {
+  ends_long = w.ends_long;
+  ranges_long = long ∙ w.ranges_long;
+  noted = w.noted;
+  right = right;
+  defined = λ v j le d. stay v.number (w.defined v j le d);
+  taken = λ v c j le lt has used. elim (here_or_later b c le) [
+    | inl same ↦ taken v j (subst (λ (n : ℕ). Contains (block_at f n).params v) (sym same) has) used
+    | inr later ↦ stay v.number (w.taken v c j later lt has used)
+  ];
+}
+
+-- after the walk
+pub walked_all : (f : FunctionValue) → IsSSA f → (ends : List (Option RangeEnd)) (ranges : List (Option LiveRange)) → IsWalked f 0 0 ends ranges →
+    AreLiveRanges f ranges
+walked_all f ssa ends ranges w = record {
+  long = w.ranges_long;
+  found = w.right;
+  all = λ v start end p q. entry v (made v p) (there_is v p (is_used f ssa v q));
+}
+  where
+    made : (v : VirtualRegister) {start : ℕ} → IsFirstPoint f v start → Made f v
+    made v (of_definition i d) = made_by_definition f v i d
+    made v (of_parameter b lt h) = made_by_parameter f v b lt h
+
+    there_is : (v : VirtualRegister) {start : ℕ} → IsFirstPoint f v start → ((j : ℕ) × UsesAt f v j) ⊎ ((i : ℕ) × DefinesAt f v i) →
+        range_at ranges v.number ≢ None
+    there_is v (of_definition i d) h = w.defined v i (omega arith) d
+    there_is v (of_parameter b lt has) (inl u) = w.taken v b u.0 (omega arith) lt has u.1
+    there_is v (of_parameter b lt has) (inr d) = w.defined v d.0 (omega arith) d.1
+
+    one : (v : VirtualRegister) (o : Option LiveRange) → o ≢ None → (r : LiveRange) × (o ≡ Some r)
+    one v None some = absurd (some refl)
+    one v (Some r) some = (r, refl)
+
+    entry : (v : VirtualRegister) → Made f v → range_at ranges v.number ≢ None → (r : LiveRange) × (range_at ranges v.number ≡ Some r) × (r.vreg ≡ v)
+    entry v m some =
+        let e = one v (range_at ranges v.number) some in
+        let right = w.right v.number e.0 e.1 in
+        (e.0, e.1, one_made f ssa.once e.0.vreg v (made e.0.vreg right.1.first) m right.0)
+
+-- a parameter that is read in turn
+pub param_within : (f : FunctionValue) (b : ℕ) (vs : List VirtualRegister) (k : ℕ) (v : VirtualRegister) → vs ≡ (block_at f b).params → k < length vs →
+    v ≡ slice_index_or vs k v → Contains (block_at f b).params v
+param_within f b vs k v same lt is = subst (λ (ws : List VirtualRegister). Contains ws v) same (k, lt, sym is)
+
+-- the range that is made at a definition, and the one at a block's parameter
+pub defined_range : (f : FunctionValue) (ssa : IsSSA f) (ends : List (Option RangeEnd)) (i k : ℕ) (v a : VirtualRegister) (n p q : ℕ) (o : Option RangeEnd)
+    (d : RangeEnd) → IsDefiner f v (record { inst = i; index = k }) → length ends ≡ f.num_vregs → AreEndsFrom f i ends → n ≡ v.number →
+    o ≡ slice_index_or ends n o
+    → a ≡ v → p ≡ after i → q ≡ before (i + 1) → d ≡ unwrap_or o (record { last = q; by = Some (record { inst = i; index = k }) }) →
+    IsLiveRange f (record { vreg = a; first = p; last = d.last; by = d.by })
+defined_range f ssa ends i k v a n p q o d definer long noted number is same first point end =
+    let small = definer_small f ssa v (record { inst = i; index = k }) definer in
+    let entry : o ≡ end_at ends v.number = is ∙ any_default ends n o None (omega (arith, small, number, long)) ∙ ap (end_at ends) number in
+    let unused : RangeEnd = record { last = q; by = Some (record { inst = i; index = k }) } in
+    let right : unused ≡ record { last = before (i + 1); by = Some (record { inst = i; index = k }) } = ap (λ
+    (x : ℕ). record { last = x; by = Some (record { inst = i; index = k }) }) point in
+    range_same f a v p (after i) d (unwrap_or (end_at ends v.number) unused) same first (end ∙ ap (λ (x : Option RangeEnd). unwrap_or x unused) entry)
+    (range_of_definition f ssa v i k (end_at ends v.number) unused right definer (noted v.number (omega (arith, small, long))))
+
+-- in SSA form, a parameter with an end noted for its number is live from its block's beginning to that end
+pub taken_range : (f : FunctionValue) (ssa : IsSSA f) (ends : List (Option RangeEnd)) (b : ℕ) (v : VirtualRegister) (n p : ℕ) (o : Option RangeEnd)
+    (e : RangeEnd) → b < length f.blocks → Contains (block_at f b).params v → length ends ≡ f.num_vregs → AreEndsFrom f (block_at f b).range.first ends →
+    n ≡ v.number → o ≡ slice_index_or ends n o
+    → p ≡ before (block_at f b).range.first → o ≡ Some e → IsLiveRange f (record { vreg = v; first = p; last = e.last; by = e.by })
+taken_range f ssa ends b v n p o e lt has long noted number is first some =
+    let small = parameter_small f ssa v b lt has in
+    let entry : end_at ends v.number ≡ Some e = sym (ap (end_at ends) number) ∙ sym (any_default ends n o None (omega (arith, small, number, long))) ∙ sym is
+    ∙ some in
+    range_same f v v p (before (block_at f b).range.first) e e refl first refl
+    (range_of_parameter f ssa v b e lt has (subst (EndsFrom f (block_at f b).range.first v.number) entry (noted v.number (omega (arith, small, long)))))
+
+-- in SSA form, a parameter for which no end was read has none noted for its number
+pub no_entry : (f : FunctionValue) (ssa : IsSSA f) (ends : List (Option RangeEnd)) (b : ℕ) (v : VirtualRegister) (n : ℕ) (o : Option RangeEnd) →
+    b < length f.blocks → Contains (block_at f b).params v → length ends ≡ f.num_vregs → n ≡ v.number → o ≡ slice_index_or ends n o → o ≡ None →
+    end_at ends v.number ≡ None
+no_entry f ssa ends b v n o lt has long number is none =
+    let small = parameter_small f ssa v b lt has in
+    sym (ap (end_at ends) number) ∙ sym (any_default ends n o None (omega (arith, small, number, long))) ∙ sym is ∙ none
+
+-- where blocks begin
+not_last : (b n : ℕ) → b < n → nat_eq b n ≡ false
+not_last b n lt = elim (cases_Bool (nat_eq b n)) [ inl e ↦ absurd (let same = (Decides-eqb b n).0 e in omega (arith, lt, same)) | inr e ↦ e ]
+
+-- past the last block is where the instructions end
+pub begins_past : (f : FunctionValue) (b : ℕ) → b ≡ length f.blocks → begin_of f b ≡ length f.insts
+begins_past f b is = rw (eq-eqb b (length f.blocks) is) refl
+
+-- a block begins at its first instruction
+pub begins_at : (f : FunctionValue) (b : ℕ) → b < length f.blocks → begin_of f b ≡ (block_at f b).range.first
+begins_at f b lt = rw (not_last b (length f.blocks) lt) refl
+
+-- where blocks follow one another, a block ends where the next one begins, and the last one where the instructions end
+pub begins_next : (f : FunctionValue) → BlocksFollow f → (b : ℕ) → b < length f.blocks → begin_of f (b + 1) ≡ (block_at f b).range.end
+begins_next f follow b lt = elim (lt_or_le (b + 1) (length f.blocks)) [
+  | inl less ↦ (let at : b + 1 - 1 ≡ b = omega arith in begins_at f (b + 1) less ∙ (follow (b + 1) less).2 (omega arith)
+      ∙ ap (λ (n : ℕ). (block_at f n).range.end) at)
+  | inr le ↦ (let last : b + 1 ≡ length f.blocks = omega (arith, le, lt) in begins_past f (b + 1) last ∙ sym ((follow b lt).3 last))
+]

@@ -1,0 +1,244 @@
+-- Uses that are noted stage by stage, and instruction by instruction.
+use Rattle.std.proofs.Common.{ℕ, ◌≡◌, ◌≢◌, ◌+◌, ◌<◌, ◌≤◌, ◌⊎◌, inl, inr, Bool, true, false, List, length, refl, sym, ap, ◌∙◌, subst, arith}
+use Rattle.std.specs.Prelude.{◌&&◌, Option, None, Some, slice_index_or}
+use Rattle.std.specs.Option.{option_or}
+use Rattle.std.proofs.lemmas.Bool.{cases_eq}
+use Rattle.regalloc2_names.specs.declared.OperandPos.{OperandPos}
+use Rattle.regalloc2_names.specs.declared.OperandPos.TheVariants.{Early, Late}
+use Rattle.regalloc2_names.specs.Register.{VirtualRegister}
+use Rattle.regalloc2_names.specs.Operand.{OperandValue, is_reading}
+use Rattle.regalloc2_function.specs.FunctionValue.{FunctionValue, block_at, inst_at}
+use Rattle.regalloc2_function.specs.SourceRun.{arguments_at}
+use Rattle.regalloc2_function.specs.WellFormed.{BlocksFollow}
+use Rattle.regalloc2_semantics.specs.Listing.{op_at}
+use Rattle.regalloc2_semantics.proofs.Order.{stands_later}
+use Rattle.regalloc2_live_ranges.specs.declared.ends.RangeEnd.{RangeEnd}
+use Rattle.regalloc2_live_ranges.specs.LastUses.{EndsFrom, EndsUse, HasNumber, HasPassed, Notes, NotesArguments, NotesPassed, NotesReads, NotesUses}
+use Rattle.regalloc2_live_ranges.specs.LastUses.{PassesNumber, ReadsFirst, ReadsNumber, UsesNumber, end_at, end_of_argument, end_of_reader, is_at}
+use Rattle.regalloc2_live_ranges.specs.LastUses.{no_vreg, read_end}
+use Rattle.regalloc2_live_ranges.specs.LastUses.UsesNumber.{reads, passes}
+use Rattle.regalloc2_live_ranges.specs.LastUses.EndsUse.{late, early, passed}
+use Rattle.regalloc2_live_ranges.proofs.ItemsPastEnd.{op_is}
+
+-- what is noted stays so where no more than before is looked for, and all that fitted before fits
+pub notes_weaker : (F G : Type 0) (S T : RangeEnd → Type 0) (old new : Option RangeEnd) → (G → F) → ((e : RangeEnd) → S e → T e) → Notes F S old new →
+    Notes G T old new
+notes_weaker F G S T (Some e) new back forth h = h
+notes_weaker F G S T None None back forth h = λ g. h (back g)
+notes_weaker F G S T None (Some e) back forth h = forth e h
+
+-- one more is found
+notes_found : (F G : Type 0) (S T : RangeEnd → Type 0) (old new : Option RangeEnd) (u : RangeEnd) → ((e : RangeEnd) → S e → T e) → ((F → ⊥) → T u) →
+    Notes F S old new → Notes G T old (option_or new (Some u))
+notes_found F G S T (Some e) new u forth here h = ap (λ (o : Option RangeEnd). option_or o (Some u)) h
+notes_found F G S T None None u forth here h = here h
+notes_found F G S T None (Some e) u forth here h = forth e h
+
+-- one stage, and then another
+notes_then : (F G : Type 0) (S T : RangeEnd → Type 0) (old mid new : Option RangeEnd) → Notes F S old mid → Notes G T mid new →
+    Notes (F ⊎ G) (λ e. S e ⊎ ((F → ⊥) × T e)) old new
+notes_then F G S T (Some e) mid new h k = subst (λ (o : Option RangeEnd). Notes G T o new) h k
+notes_then F G S T None None None h k = λ s. elim s [ inl a ↦ h a | inr b ↦ k b ]
+notes_then F G S T None None (Some e) h k = inr (h, k)
+notes_then F G S T None (Some d) new h k = subst (λ (o : Option RangeEnd). Notes (F ⊎ G) (λ e. S e ⊎ ((F → ⊥) × T e)) None o) (sym k) (inl h)
+
+up_to : (k m : ℕ) → k < m + 1 → (k < m) ⊎ (k ≡ m)
+up_to k m lt = grind arith
+
+-- operands
+pub reads_more : (at : OperandPos) (i : ℕ) (ops : List OperandValue) (m n : ℕ) (old mid : Option RangeEnd) → ReadsNumber ops n at m →
+    NotesReads at i ops m n old mid → NotesReads at i ops (m + 1) n old (option_or mid (Some (end_of_reader at i m)))
+reads_more at i ops m n old mid r h =
+    notes_found ((k : ℕ) × (k < m) × ReadsNumber ops n at k) ((k : ℕ) × (k < m + 1) × ReadsNumber ops n at k)
+    (λ e. (k : ℕ) × (k < m) × ReadsFirst ops n at k × (e ≡ end_of_reader at i k))
+    (λ e. (k : ℕ) × (k < m + 1) × ReadsFirst ops n at k × (e ≡ end_of_reader at i k)) old mid (end_of_reader at i m)
+    (λ e s. (s.0, omega (arith, s.1), s.2, s.3))
+    (λ none. (m, omega arith, record { reads = r; first = λ j lt s. none (j, lt, s) }, refl)) h
+
+-- an operand more that doesn't read the number at the position leaves what is noted of the reads
+pub reads_same : (at : OperandPos) (i : ℕ) (ops : List OperandValue) (m n : ℕ) (old mid : Option RangeEnd) → (ReadsNumber ops n at m → ⊥) →
+    NotesReads at i ops m n old mid → NotesReads at i ops (m + 1) n old mid
+reads_same at i ops m n old mid never h =
+    notes_weaker ((k : ℕ) × (k < m) × ReadsNumber ops n at k) ((k : ℕ) × (k < m + 1) × ReadsNumber ops n at k)
+    (λ e. (k : ℕ) × (k < m) × ReadsFirst ops n at k × (e ≡ end_of_reader at i k))
+    (λ e. (k : ℕ) × (k < m + 1) × ReadsFirst ops n at k × (e ≡ end_of_reader at i k)) old mid
+    (λ s. elim (up_to s.0 m s.1) [ inl lt ↦ (s.0, lt, s.2) | inr same ↦ absurd (never (subst (λ (k : ℕ). ReadsNumber ops n at k) same s.2)) ])
+    (λ e s. (s.0, omega (arith, s.1), s.2, s.3)) h
+
+-- the test of an operand
+same_position : (a b : OperandPos) → is_at a b ≡ true → a ≡ b
+same_position Early Early h = refl
+same_position Early Late h = absurd cc
+same_position Late Early h = absurd cc
+same_position Late Late h = refl
+
+one_position : (a : OperandPos) → is_at a a ≡ true
+one_position Early = refl
+one_position Late = refl
+
+both_hold : (a b : Bool) → (a && b) ≡ true → (a ≡ true) × (b ≡ true)
+both_hold true true h = (refl, refl)
+both_hold true false h = absurd cc
+both_hold false b h = absurd cc
+
+-- an operand that passes the test reads, and at that position
+pub is_read : (o : OperandValue) (at : OperandPos) → (is_reading o && is_at o.position at) ≡ true → (is_reading o ≡ true) × (o.position ≡ at)
+is_read o at h = let two = both_hold (is_reading o) (is_at o.position at) h in (two.0, same_position o.position at two.1)
+
+-- an operand that fails the test doesn't read at that position
+pub is_unread : (o : OperandValue) (at : OperandPos) → (is_reading o && is_at o.position at) ≡ false → (is_reading o ≡ true) × (o.position ≡ at) → ⊥
+is_unread o at h r = let here : is_at o.position at ≡ true = ap (λ (p : OperandPos). is_at p at) r.1 ∙ one_position at in
+    let test : (is_reading o && is_at o.position at) ≡ true = rw (r.0, here) refl in cc
+
+-- an operand that reads is noted
+pub reads_step : (at : OperandPos) (i : ℕ) (ops : List OperandValue) (m n : ℕ) (old : Option RangeEnd) (before after : List (Option RangeEnd))
+    (o : OperandValue) (v : VirtualRegister) (last : ℕ) → m < length ops → o ≡ slice_index_or ops m o → (is_reading o ≡ true) × (o.position ≡ at)
+    → v ≡ o.vreg → last ≡ read_end at i →
+    (v.number < length before → end_at after v.number ≡ option_or (end_at before v.number)
+    (Some (record { last = last; by = Some (record { inst = i; index = m }) }))) → ((q : ℕ) → q ≢ v.number → end_at after q ≡ end_at before q) →
+    n < length before
+    → NotesReads at i ops m n old (end_at before n) → NotesReads at i ops (m + 1) n old (end_at after n)
+reads_step at i ops m n old before after o v last less is reading same end noted others lt h =
+    let item : op_at ops m ≡ o = op_is ops m o less (sym is) in
+    elim (cases_eq n v.number) [
+      | inl here ↦ (
+          let r : ReadsNumber ops n at m = record {
+            within = less;
+            reading = ap is_reading item ∙ reading.0;
+            position = ap (λ (p : OperandValue). p.position) item ∙ reading.1;
+            number = ap (λ (p : OperandValue). p.vreg.number) item
+                ∙ ap (λ (w : VirtualRegister). w.number) (sym same) ∙ sym here;
+          } in
+          let now : end_at after n ≡ option_or (end_at before n) (Some (end_of_reader at i m)) =
+          subst (λ (q : ℕ). end_at after q ≡ option_or (end_at before q) (Some (end_of_reader at i m))) (sym here)
+          (subst (λ (p : ℕ). end_at after v.number ≡ option_or (end_at before v.number)
+          (Some (record { last = p; by = Some (record { inst = i; index = m }) }))) end (noted (omega (arith, lt, here)))) in
+          subst (NotesReads at i ops (m + 1) n old) (sym now) (reads_more at i ops m n old (end_at before n) r h))
+      | inr ne ↦ (
+          let never : ReadsNumber ops n at m → ⊥ = λ r. ne (sym r.number ∙ ap (λ (p : OperandValue). p.vreg.number) item
+          ∙ ap (λ (w : VirtualRegister). w.number) (sym same)) in
+          subst (NotesReads at i ops (m + 1) n old) (sym (others n ne)) (reads_same at i ops m n old (end_at before n) never h))
+    ]
+
+-- one that doesn't changes nothing
+pub reads_skip : (at : OperandPos) (i : ℕ) (ops : List OperandValue) (m n : ℕ) (old mid : Option RangeEnd) (o : OperandValue) → m < length ops →
+    o ≡ slice_index_or ops m o → ((is_reading o ≡ true) × (o.position ≡ at) → ⊥) → NotesReads at i ops m n old mid → NotesReads at i ops (m + 1) n old mid
+reads_skip at i ops m n old mid o less is never h =
+    let item : op_at ops m ≡ o = op_is ops m o less (sym is) in
+    reads_same at i ops m n old mid (λ r. never (ap is_reading (sym item) ∙ r.reading, ap (λ (p : OperandValue). p.position) (sym item) ∙ r.position)) h
+
+-- arguments
+pub arguments_more : (i : ℕ) (vs : List VirtualRegister) (m n : ℕ) (old mid : Option RangeEnd) → m < length vs → (slice_index_or vs m no_vreg).number ≡ n →
+    NotesArguments i vs m n old mid → NotesArguments i vs (m + 1) n old (option_or mid (Some (end_of_argument i)))
+arguments_more i vs m n old mid lt is h =
+    notes_found (HasNumber vs m n) (HasNumber vs (m + 1) n) (λ e. HasNumber vs m n × (e ≡ end_of_argument i))
+    (λ e. HasNumber vs (m + 1) n × (e ≡ end_of_argument i)) old mid (end_of_argument i)
+    (λ e s. ((s.0.0, omega (arith, s.0.1), s.0.2, s.0.3), s.1))
+    (λ none. ((m, omega arith, lt, is), refl)) h
+
+-- an argument more that has another number leaves what is noted of the arguments
+pub arguments_same : (i : ℕ) (vs : List VirtualRegister) (m n : ℕ) (old mid : Option RangeEnd) → ((slice_index_or vs m no_vreg).number ≡ n → ⊥) →
+    NotesArguments i vs m n old mid → NotesArguments i vs (m + 1) n old mid
+arguments_same i vs m n old mid never h =
+    notes_weaker (HasNumber vs m n) (HasNumber vs (m + 1) n) (λ e. HasNumber vs m n × (e ≡ end_of_argument i))
+    (λ e. HasNumber vs (m + 1) n × (e ≡ end_of_argument i)) old mid
+    (λ s. elim (up_to s.0 m s.1) [
+      | inl lt ↦ (s.0, lt, s.2, s.3)
+      | inr same ↦
+          absurd (never (subst (λ (k : ℕ). (slice_index_or vs k no_vreg).number ≡ n) same s.3))
+    ])
+    (λ e s. ((s.0.0, omega (arith, s.0.1), s.0.2, s.0.3), s.1)) h
+
+-- successors
+pub passed_more : (f : FunctionValue) (b i m n : ℕ) (old mid new : Option RangeEnd) → NotesPassed f b i m n old mid →
+    NotesArguments i (arguments_at f b m) (length (arguments_at f b m)) n mid new → NotesPassed f b i (m + 1) n old new
+passed_more f b i m n old mid new h k =
+    let A : Type 0 = HasNumber (arguments_at f b m) (length (arguments_at f b m)) n in
+    notes_weaker (HasPassed f b m n ⊎ A) (HasPassed f b (m + 1) n) (λ e. (HasPassed f b m n × (e ≡ end_of_argument i))
+    ⊎ ((HasPassed f b m n → ⊥) × (A × (e ≡ end_of_argument i)))) (λ e. HasPassed f b (m + 1) n × (e ≡ end_of_argument i)) old new
+    (λ s. elim (up_to s.0 m s.1) [
+      | inl lt ↦ inl (s.0, lt, s.2)
+      | inr same ↦
+          inr (subst (λ (q : ℕ). HasNumber (arguments_at f b q) (length (arguments_at f b q)) n) same s.2)
+    ])
+    (λ e s. elim s [ inl p ↦ ((p.0.0, omega (arith, p.0.1), p.0.2), p.1) | inr q ↦ ((m, omega arith, q.1.0), q.1.1) ])
+    (notes_then (HasPassed f b m n) A (λ e. HasPassed f b m n × (e ≡ end_of_argument i)) (λ e. A × (e ≡ end_of_argument i)) old mid new h k)
+
+-- an instruction of a block passes what its block passes, and that only as the last
+passed_here : (f : FunctionValue) → BlocksFollow f → (b i n : ℕ) → b < length f.blocks → (block_at f b).range.first ≤ i → i < (block_at f b).range.end →
+    PassesNumber f n i → (i + 1 ≡ (block_at f b).range.end) × HasPassed f b (length (block_at f b).succs) n
+passed_here f follow b i n lt from upto p =
+    let some : (block_at f p.0).range.first < (block_at f p.0).range.end = (follow p.0 p.1).0 in
+    let one : b ≤ p.0 = stands_later f follow b p.0 i i lt p.1 from upto (omega (arith, some, p.2)) (omega (arith, some, p.2)) (omega arith) in
+    let two : p.0 ≤ b = stands_later f follow p.0 b i i p.1 lt (omega (arith, some, p.2)) (omega (arith, some, p.2)) from upto (omega arith) in
+    let same : p.0 ≡ b = omega (arith, one, two) in
+    let end : i + 1 ≡ (block_at f p.0).range.end = omega (arith, some, p.2) in
+    (subst (λ (c : ℕ). i + 1 ≡ (block_at f c).range.end) same end, subst (λ (c : ℕ). HasPassed f c (length (block_at f c).succs) n) same p.3)
+
+notes_nothing : (F : Type 0) (S : RangeEnd → Type 0) (o : Option RangeEnd) → (F → ⊥) → Notes F S o o
+notes_nothing F S (Some e) never = refl
+notes_nothing F S None never = never
+
+-- the arguments of an instruction
+abbrev NotesPasses : FunctionValue → ℕ → ℕ → Option RangeEnd → Option RangeEnd → Type 0
+NotesPasses f i n = Notes (PassesNumber f n i) (λ e. PassesNumber f n i × (e ≡ end_of_argument i))
+
+module _ (f : FunctionValue) (follow : BlocksFollow f) (b i n : ℕ) (lt : b < length f.blocks) (from : (block_at f b).range.first ≤ i)
+    (upto : i < (block_at f b).range.end) (within : i < length f.insts) where
+  stages : (old one two new : Option RangeEnd) → NotesReads Late i (inst_at f i).operands (length (inst_at f i).operands) n old one →
+      NotesReads Early i (inst_at f i).operands (length (inst_at f i).operands) n one two
+      → NotesPasses f i n two new → NotesUses f i n old new
+  stages old one two new h k p =
+      let ops : List OperandValue = (inst_at f i).operands in
+      let L : Type 0 = (k : ℕ) × (k < length ops) × ReadsNumber ops n Late k in
+      let E : Type 0 = (k : ℕ) × (k < length ops) × ReadsNumber ops n Early k in
+      let SL : RangeEnd → Type 0 = λ e. (k : ℕ) × (k < length ops) × ReadsFirst ops n Late k × (e ≡ end_of_reader Late i k) in
+      let SE : RangeEnd → Type 0 = λ e. (k : ℕ) × (k < length ops) × ReadsFirst ops n Early k × (e ≡ end_of_reader Early i k) in
+      let SP : RangeEnd → Type 0 = λ e. PassesNumber f n i × (e ≡ end_of_argument i) in
+      let P : Type 0 = PassesNumber f n i in
+      notes_weaker (L ⊎ (E ⊎ P)) (UsesNumber f n i) (λ e. SL e ⊎ ((L → ⊥) × (SE e ⊎ ((E → ⊥) × SP e)))) (EndsUse f n i) old new back forth
+      (notes_then L (E ⊎ P) SL (λ e. SE e ⊎ ((E → ⊥) × SP e)) old one new h (notes_then E P SE SP one two new k p))
+    where
+      back : UsesNumber f n i → ((k : ℕ) × (k < length (inst_at f i).operands) × ReadsNumber (inst_at f i).operands n Late k)
+          ⊎ (((k : ℕ) × (k < length (inst_at f i).operands) × ReadsNumber (inst_at f i).operands n Early k) ⊎ PassesNumber f n i)
+      back (reads Late k less r) = inl (k, r.within, r)
+      back (reads Early k less r) = inr (inl (k, r.within, r))
+      back (passes p) = inr (inr p)
+
+      forth : (e : RangeEnd) → ((k : ℕ) × (k < length (inst_at f i).operands) × ReadsFirst (inst_at f i).operands n Late k × (e ≡ end_of_reader Late i k))
+          ⊎ ((((k : ℕ) × (k < length (inst_at f i).operands) × ReadsNumber (inst_at f i).operands n Late k) → ⊥)
+          × (((k : ℕ) × (k < length (inst_at f i).operands) × ReadsFirst (inst_at f i).operands n Early k × (e ≡ end_of_reader Early i k))
+          ⊎ ((((k : ℕ) × (k < length (inst_at f i).operands) × ReadsNumber (inst_at f i).operands n Early k) → ⊥)
+          × (PassesNumber f n i × (e ≡ end_of_argument i))))) → EndsUse f n i e
+      forth e (inl s) = subst (EndsUse f n i) (sym s.3) (late s.0 within s.2)
+      forth e (inr (never, inl s)) = subst (EndsUse f n i) (sym s.3) (early s.0 within (λ k r. never (k, r.within, r)) s.2)
+      forth e (inr (never, inr (none, s))) = subst (EndsUse f n i) (sym s.1) (passed (λ k r. never (k, r.within, r)) (λ k r. none (k, r.within, r)) s.0)
+
+  -- at a block's last instruction
+  pub uses_last : (old one two new : Option RangeEnd) → i + 1 ≡ (block_at f b).range.end →
+      NotesReads Late i (inst_at f i).operands (length (inst_at f i).operands) n old one →
+      NotesReads Early i (inst_at f i).operands (length (inst_at f i).operands) n one two
+      → NotesPassed f b i (length (block_at f b).succs) n two new → NotesUses f i n old new
+  uses_last old one two new end h k p =
+      let H : Type 0 = HasPassed f b (length (block_at f b).succs) n in
+      stages old one two new h k
+      (notes_weaker H (PassesNumber f n i) (λ e. H × (e ≡ end_of_argument i)) (λ e. PassesNumber f n i × (e ≡ end_of_argument i)) two new
+      (λ s. (passed_here f follow b i n lt from upto s).1)
+      (λ e s. ((b, lt, omega (arith, end), s.0), s.1)) p)
+
+  -- and before it
+  pub uses_inside : (old one new : Option RangeEnd) → (i + 1 ≡ (block_at f b).range.end → ⊥) →
+      NotesReads Late i (inst_at f i).operands (length (inst_at f i).operands) n old one →
+      NotesReads Early i (inst_at f i).operands (length (inst_at f i).operands) n one new → NotesUses f i n old new
+  uses_inside old one new never h k =
+      stages old one new new h k
+      (notes_nothing (PassesNumber f n i) (λ e. PassesNumber f n i × (e ≡ end_of_argument i)) new (λ s. never (passed_here f follow b i n lt from upto s).0))
+
+from_or_here : (i j : ℕ) → i ≤ j → (i ≡ j) ⊎ (i + 1 ≤ j)
+from_or_here i j le = grind arith
+
+-- one instruction more
+pub ends_more : (f : FunctionValue) (i n : ℕ) (old new : Option RangeEnd) → EndsFrom f (i + 1) n old → NotesUses f i n old new → EndsFrom f i n new
+ends_more f i n None None h k = λ j le u. elim (from_or_here i j le) [ inl same ↦ k (subst (UsesNumber f n) (sym same) u) | inr later ↦ h j later u ]
+ends_more f i n None (Some e) h k = (i, omega arith, k, λ m lt u. h m (omega (arith, lt)) u)
+ends_more f i n (Some d) new h k = subst (EndsFrom f i n) (sym k) (h.0, omega (arith, h.1), h.2, h.3)

@@ -1,0 +1,18 @@
+use Rattle.std.proofs.Common.{◌<◌, ◌∙◌, length, sym, arith}
+use Rattle.regalloc2_live_ranges.specs.LastUses.{end_at}
+use Rattle.regalloc2_live_ranges.proofs.UsesNoted.{is_read, is_unread, reads_skip, reads_step}
+use Rattle.regalloc2_live_ranges.proofs.ends.note_reads.Goals as goal
+use Rattle.regalloc2_live_ranges.proofs.ends.note_reads.Goals.{then-reads_at, else-reads_at}
+
+pub loop-index-preserved : goal.loop-index-preserved
+loop-index-preserved c n less =
+    let lt : n < length c.loop-index.ends = omega (arith, less, c.if-reads_at.auto.ends) in
+    elim c.if-reads_at.branch [
+      | then-reads_at w ↦ rw w.ends-is (reads_step c.args.pos c.args.inst c.args.operands.now c.loop-index.index n (end_at c.args.ends.now n) c.loop-index.ends
+          w.note_end.new.ends c.index-operands-index.result w.vreg.result c.end_of_read-last.result c.loop-index-test.true c.index-operands-index.is
+          (is_read c.index-operands-index.result c.args.pos (sym c.reads_at.ensures ∙ w.if-reads_at.true)) w.vreg.ensures c.end_of_read-last.ensures
+          w.note_end.ensures.noted w.note_end.ensures.others lt (c.loop-index.invariant n lt))
+      | else-reads_at w ↦ rw w.ends-is (reads_skip c.args.pos c.args.inst c.args.operands.now c.loop-index.index n (end_at c.args.ends.now n)
+          (end_at c.loop-index.ends n) c.index-operands-index.result c.loop-index-test.true c.index-operands-index.is
+          (is_unread c.index-operands-index.result c.args.pos (sym c.reads_at.ensures ∙ w.if-reads_at.false)) (c.loop-index.invariant n lt))
+    ]

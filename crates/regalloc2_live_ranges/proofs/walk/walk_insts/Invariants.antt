@@ -1,0 +1,16 @@
+use Rattle.std.proofs.Common.{◌≡◌, ◌+◌, ◌-◌, ◌≤◌}
+use Rattle.regalloc2_function.specs.FunctionValue.{block_at}
+use Rattle.regalloc2_live_ranges.specs.WalkInvariant.{IsWalked}
+use Rattle.regalloc2_live_ranges.proofs.walk.walk_insts.Given as goal
+
+-- the instructions from i on are walked
+abbrev pub invariant-loop-i : goal.invariant-loop-i
+invariant-loop-i g l = record {
+  first : l.first ≡ (block_at (g.F.Function.function l.f) l.block).range.first;
+  from : l.first ≤ l.i;
+  within : l.i ≤ (block_at (g.F.Function.function l.f) l.block).range.end;
+  walked : IsWalked (g.F.Function.function l.f) l.i (l.block + 1) l.ends l.ranges;
+}
+
+abbrev pub decreases-loop-i : goal.decreases-loop-i
+decreases-loop-i g l = l.i - l.first

@@ -1,0 +1,3 @@
+pub mod LiveRanges
+pub mod LastUses
+pub mod WalkInvariant

@@ -1,0 +1,75 @@
+//! The walk over all blocks and instructions, from the last to the first.
+
+ghost use Rattle.std.specs.Prelude.{◌≡◌, ◌+◌, ◌<◌, length, replicate, IfErr, IfOk, None};
+ghost use Rattle.regalloc2_function.specs.FunctionValue.{block_at};
+ghost use Rattle.regalloc2_live_ranges.specs.LiveRanges.{AreLiveRanges, IsSSA};
+ghost use Rattle.regalloc2_live_ranges.specs.WalkInvariant.{IsWalked};
+
+use super::LiveRange;
+use super::ends::{RangeEnd, note_uses};
+use super::ranges::{begin_at_defs, begin_at_params};
+use regalloc2_function::Function;
+use regalloc2_index::{Block, Inst};
+use regalloc2_names::RegAllocError;
+use std::alloc::Allocator;
+
+// Walks the instructions of a block.
+fn walk_insts<F: Function>(
+    ends: &mut [Option<RangeEnd>],
+    ranges: &mut [Option<LiveRange>],
+    f: &F,
+    block: Block,
+)
+    requires ssa { IsSSA (F.function f.now) }
+    requires block { block < length (F.function f.now).blocks }
+    requires walked { IsWalked (F.function f.now) (block_at (F.function f.now) block).range.end (block + 1) ends.old ranges.old }
+    ensures { IsWalked (F.function f.now) (block_at (F.function f.now) block).range.first (block + 1) ends.new ranges.new }
+{
+    let range = f.block_insns(block);
+    let first = range.first().index();
+    let mut i = range.end().index();
+    while i > first {
+        i -= 1;
+        let inst = Inst::new(i);
+        note_uses(ends, f, block, inst);
+        begin_at_defs(ranges, ends, f, inst);
+    }
+}
+
+// Walks all blocks: the instructions of each, then its parameters.
+fn walk_blocks<F: Function>(ends: &mut [Option<RangeEnd>], ranges: &mut [Option<LiveRange>], f: &F)
+    requires ssa { IsSSA (F.function f.now) }
+    requires no_ends { ends.old ≡ replicate (F.function f.now).num_vregs None }
+    requires no_ranges { ranges.old ≡ replicate (F.function f.now).num_vregs None }
+    ensures { AreLiveRanges (F.function f.now) ranges.new }
+{
+    let mut b = f.num_blocks();
+    while b > 0 {
+        b -= 1;
+        let block = Block::new(b);
+        walk_insts(ends, ranges, f, block);
+        begin_at_params(ranges, ends, f, block);
+    }
+}
+
+/// The live ranges of all virtual registers, by number: none for a number that isn't defined, or that is a parameter's and never used.
+///
+/// Each is that of upstream's `vreg_to_live_inst_range`. Of the function is asked what each well-formed one has (`IsSSA`): its
+/// blocks follow one another, each number is defined once, and each use comes after its definition. The time is linear in the
+/// operands, the arguments, the parameters and `num_vregs`. The refusal is `Memory`, where memory for two tables by number was
+/// refused.
+pub fn live_ranges<A: Allocator + Copy, F: Function>(
+    alloc: A,
+    f: &F,
+) -> Result<Vec<Option<LiveRange>, A>, RegAllocError>
+    requires { IsSSA (F.function f.now) }
+    ensures ok { IfOk result (λ t. AreLiveRanges (F.function f.now) t.items) }
+    ensures err { IfErr result (λ e. e ≡ RegAllocError.Memory) }
+{
+    let mut ends: Vec<Option<RangeEnd>, A> = Vec::new(alloc);
+    ends.resize(f.num_vregs(), None)?;
+    let mut ranges = Vec::new(alloc);
+    ranges.resize(f.num_vregs(), None)?;
+    walk_blocks(ends.as_mut_slice(), ranges.as_mut_slice(), f);
+    Ok(ranges)
+}

@@ -1,7 +1,0 @@
-use Rattle.std.proofs.Common.{ℕ, ◌<◌, length}
-use Rattle.regalloc2_points.specs.Ends.{NotesPassed, end_at}
-use Rattle.regalloc2_points.proofs.ends.note_passed.Given as goal
-
--- the successors so far are noted
-abbrev pub invariant-loop-succ : goal.invariant-loop-succ
-invariant-loop-succ g l = (n : ℕ) → n < length l.ends → NotesPassed (g.F.Function.function l.f) l.block l.inst l.succ n (end_at l.fn.ends n) (end_at l.ends n)

@@ -1,7 +1,0 @@
-use Rattle.std.proofs.Common.{ℕ, ◌<◌, length}
-use Rattle.regalloc2_points.specs.Ends.{NotesReads, end_at}
-use Rattle.regalloc2_points.proofs.ends.note_reads.Given as goal
-
--- the operands so far are noted
-abbrev pub invariant-loop-index : goal.invariant-loop-index
-invariant-loop-index l = (n : ℕ) → n < length l.ends → NotesReads l.pos l.inst l.operands l.index n (end_at l.fn.ends n) (end_at l.ends n)

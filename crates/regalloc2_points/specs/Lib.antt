@@ -1,3 +1,0 @@
-pub mod LiveRanges
-pub mod Ends
-pub mod Walked

@@ -1,0 +1,261 @@
+-- An operand gets its place, and enough registers are left for those that come.
+use Rattle.std.proofs.Common.{ℕ, ◌≡◌, ◌≢◌, ◌+◌, ◌<◌, ◌≤◌, Bool, true, false, refl, sym, ap, ◌∙◌, subst, arith, inl, inr}
+use Rattle.std.specs.Prelude.{not, ◌&&◌, Some}
+use Rattle.std.proofs.lemmas.Bool.{cases_Bool, cases_eq}
+use Rattle.regalloc2_names.specs.declared.RegClass.{RegClass}
+use Rattle.regalloc2_names.specs.declared.sets.PRegSet.{PRegSet}
+use Rattle.regalloc2_names.specs.Register.{Register, VirtualRegister, class_code}
+use Rattle.regalloc2_names.specs.RegisterSet.{has_register}
+use Rattle.regalloc2_names.specs.Place.{Place, NoPlace, InRegister, InSlot, is_place}
+use Rattle.regalloc2_semantics.proofs.Cells.{is_place-same}
+use Rattle.regalloc2_function.specs.Fitting.{register_number}
+use Rattle.regalloc2_function.specs.Machine.{MachineValue}
+use Rattle.regalloc2_fastalloc_state.specs.declared.inst_regs.InstRegs.{InstRegs}
+use Rattle.regalloc2_fastalloc_state.specs.declared.request.Requirement.TheVariants.{AnyReg}
+use Rattle.regalloc2_fastalloc_state.specs.declared.request.OperandRequest.{OperandRequest}
+use Rattle.regalloc2_fastalloc_state.specs.StateParts.{VRegAllocsValue, slot_name, vreg_of_preg, alloc_of}
+use Rattle.regalloc2_fastalloc_state.specs.InstRegs.{is_free, free_count}
+use Rattle.regalloc2_fastalloc_proofs.specs.InstSteps.{StateValue, SameMachine, is_stack_in, is_another, scratch_reserve_left, EvictsVReg, nobody}
+use Rattle.regalloc2_fastalloc_proofs.specs.InstSteps.{moved, AllocsScratchReg, dedicated_scratch, had, found, direct, through, EvictsPReg, empty}
+use Rattle.regalloc2_fastalloc_proofs.specs.InstSteps.{cleared, EvictsOthers, own, others, SelectsPlace, ClaimsPlace, in_slot, in_register}
+use Rattle.regalloc2_fastalloc_proofs.specs.InstSteps.{AllocsOperand, FreesDef, AddsMoveIf, sent, unsent}
+use Rattle.regalloc2_fastalloc_proofs.specs.InstSteps.SelectsPlace.{stays, fixed, slot, free}
+use Rattle.regalloc2_fastalloc_proofs.specs.Safety.{MayBeLocatedAt, IsEndOfMove, AreSafeRegs}
+use Rattle.regalloc2_fastalloc_proofs.specs.OutOfRegs.{AllocOperandFails, in_pick, in_clear, FreeDefFails, to_awaited, to_slot}
+use Rattle.regalloc2_fastalloc_proofs.proofs.Safety.StepsKeepSafe.{IsApart, slot_end, stand_end, there_stands, sends_kept}
+use Rattle.regalloc2_fastalloc_proofs.proofs.Slots.SlotsGrow.{SlotsStay, same_stay, gives_stay, end_grows}
+use Rattle.regalloc2_fastalloc_proofs.proofs.Moves.ScratchRegTaken.{Fit}
+use Rattle.regalloc2_fastalloc_proofs.proofs.Safety.OperandKeepsSafe.{leaves_safe}
+use Rattle.regalloc2_pressure_proofs.specs.EnoughRegs.{HasEnoughRegs, AllWrite, AllMay, AreSafe}
+use Rattle.regalloc2_pressure_proofs.proofs.StepsKeepMachine.{KeepsMachine, keeps_of, keeps_same, HasAll, all_kept, picks_keeps, clears_but_keeps, sends_keeps}
+use Rattle.regalloc2_pressure_proofs.proofs.OneRegTaken.{and_left, and_right, free_but_one, free_kept, holds_loses, ample_same, ample_kept, ample_less}
+use Rattle.regalloc2_pressure_proofs.proofs.OneRegTaken.{ample_some}
+use Rattle.regalloc2_pressure_proofs.proofs.StepsLeaveEnough.{same_code, AreHeld, ample_clears_but, never_clear, ample_sends, never_send}
+
+-- a register that isn't in memory is emptied without a scratch register
+plain_clears : (point : ℕ) (r : Register) (t u : InstRegs) (old new : StateValue) → EvictsPReg point r t u old new → has_register old.fixed_stack r ≡ false
+    → u ≡ t
+plain_clears point r t u old new (empty none eu en) plain = eu
+plain_clears point r t u old new (cleared v s m lt held gives settles edits machine (direct one eu en)) plain = eu
+plain_clears point r t u old new (cleared v s m lt held gives settles edits machine (through by n two scratches en)) plain =
+    let yes : has_register m.fixed_stack r ≡ true = and_right (is_stack_in m s) (has_register m.fixed_stack r) two in
+    let nay : has_register m.fixed_stack r ≡ false = ap (λ (x : PRegSet). has_register x r) machine.fixed_stack ∙ plain in absurd cc
+
+plain_clears_but : (point : ℕ) (r : Register) (v : VirtualRegister) (t u : InstRegs) (old new : StateValue) → EvictsOthers point r v t u old new →
+    has_register old.fixed_stack r ≡ false → u ≡ t
+plain_clears_but point r v t u old new (own w held same eu en) plain = eu
+plain_clears_but point r v t u old new (others not_own clears) plain = plain_clears point r t u old new clears plain
+
+picks_places : (t : InstRegs) (o : OperandRequest) (p : Place) (old new : StateValue) → SelectsPlace t o p old new → new.places ≡ old.places
+picks_places t o p old new (stays there suits en) = ap (λ (x : StateValue). x.places) en
+picks_places t o p old new (fixed r wants is en) = ap (λ (x : StateValue). x.places) en
+picks_places t o p old new (slot wants gives places edits machine) = places
+picks_places t o p old new (free r wants may is_free is en) = ap (λ (x : StateValue). x.places) en
+
+-- where locations stay, each register goes on having only a known vreg of its class, or none
+pub held_same : (Known : VirtualRegister → Type 0) (old new : StateValue) → new.places ≡ old.places → AreHeld Known old → AreHeld Known new
+held_same Known old new e h = subst (λ (x : VRegAllocsValue). (r : Register) (v : VirtualRegister) → r.number < 64 → vreg_of_preg x r ≡ Some v → Known v
+    × (r.class ≡ v.class)) (sym e) h
+
+-- What an operand takes is paid for: where its place is a register that is free at both positions, enough are left without it.
+abbrev pub IsPaid : (RegClass → ℕ) → OperandRequest → Place → InstRegs → StateValue → Type 0
+IsPaid owed o p t old = (r : Register) → p ≡ InRegister r → is_free old.allocatable t r ≡ true →
+    owed r.class + scratch_reserve_left old.fixed_stack old.dedicated_scratch t r.class + 1 ≤ free_count old.allocatable t r.class
+
+module _ (Named : RegClass → Type 0) (env : MachineValue) (apart : IsApart env) (Known : VirtualRegister → Type 0)
+    (named : (v : VirtualRegister) → Known v → Named v.class) (point : ℕ) where
+  -- an operand gets a place; owed: before, and less: after it
+  pub ample_gets : (owed less : RegClass → ℕ) (o : OperandRequest) (p : Place) (t u : InstRegs) (old new : StateValue) → AllocsOperand point o p t u old new →
+      ((c : RegClass) → less c ≤ owed c) → IsPaid less o p t old
+      → AreHeld Known old → Fit old → AreSafeRegs env t → HasEnoughRegs Named owed t old → HasEnoughRegs Named less u new
+  ample_gets owed less o p t u old new g fewer paid held_by fit ht h = by_case g.occupies
+    where
+      same : KeepsMachine old g.middle
+      same = picks_keeps t o p old g.middle g.picks
+
+      held_there : AreHeld Known g.middle
+      held_there = held_same Known old g.middle (picks_places t o p old g.middle g.picks) held_by
+
+      at_middle : HasEnoughRegs Named owed t g.middle
+      at_middle = ample_kept Named owed t old g.middle same h
+
+      by_case : ClaimsPlace point o p t u g.middle new → HasEnoughRegs Named less u new
+      by_case (in_slot k is sets en) = ample_less Named owed less u new fewer
+          (subst (HasEnoughRegs Named owed u) (sym en) (ample_same Named owed t u g.middle g.middle sets.early sets.late sets.scratch
+          (keeps_same g.middle g.middle refl) at_middle))
+      by_case (in_register r m is clears holds) = after_it
+        where
+          then : KeepsMachine g.middle new
+          then = clears_but_keeps point r o.vreg t m g.middle new clears
+
+          emptied : HasEnoughRegs Named owed m new
+          emptied = ample_clears_but Named owed point env apart Known named r o.vreg t m g.middle new clears held_there ht at_middle
+
+          sets : new.allocatable ≡ old.allocatable
+          sets = then.allocatable ∙ same.allocatable
+
+          stacks : new.fixed_stack ≡ old.fixed_stack
+          stacks = then.fixed_stack ∙ same.fixed_stack
+
+          own_ones : new.dedicated_scratch ≡ old.dedicated_scratch
+          own_ones = then.dedicated_scratch ∙ same.dedicated_scratch
+
+          -- the register was free before, as it is here
+          same_turn : has_register old.allocatable r ≡ true → m ≡ t
+          same_turn ok = plain_clears_but point r o.vreg t m g.middle new clears
+              (ap (λ (x : PRegSet). has_register x r) same.fixed_stack ∙ fit.stack_apart r ok)
+
+          paid_here : is_free new.allocatable m r ≡ true → less r.class + scratch_reserve_left new.fixed_stack new.dedicated_scratch m r.class + 1 ≤ free_count
+              new.allocatable m r.class
+          paid_here f =
+              let f2 : is_free old.allocatable m r ≡ true = ap (λ (x : PRegSet). is_free x m r) (sym sets) ∙ f in
+              let e : m ≡ t = same_turn (and_left (has_register old.allocatable r) _ f2) in
+              let q = paid r is (ap (λ (y : InstRegs). is_free old.allocatable y r) (sym e) ∙ f2) in
+              subst (λ (y : InstRegs). less r.class + scratch_reserve_left new.fixed_stack new.dedicated_scratch y r.class + 1 ≤ free_count new.allocatable y
+              r.class) (sym e) (rw (sets, stacks, own_ones) q)
+
+          spare_same : (c : RegClass) → scratch_reserve_left new.fixed_stack new.dedicated_scratch u c ≡ scratch_reserve_left new.fixed_stack
+              new.dedicated_scratch m c
+          spare_same c = rw holds.scratch refl
+
+          after_it : HasEnoughRegs Named less u new
+          after_it c n = elim (cases_Bool (is_free new.allocatable m r)) [
+            | inl f ↦ elim (cases_eq (class_code c) (class_code r.class)) [
+              | inl e ↦ (let same_class : c ≡ r.class = same_code c r.class e in
+                  subst (λ (k : RegClass). less k + scratch_reserve_left new.fixed_stack new.dedicated_scratch u k ≤ free_count new.allocatable u k)
+                  (sym same_class)
+                  (let a = paid_here f in let b = free_but_one new.allocatable r m u r.class (holds_loses r o.positions m u holds) in
+                  let s = spare_same r.class in omega (arith, a, b, s)))
+              | inr ne ↦ (let a = emptied c n in let w = fewer c in let s = spare_same c in
+                  let b = free_kept new.allocatable r m u c (holds_loses r o.positions m u holds) (λ k. absurd (ne (ap class_code (sym k)))) in
+                  omega (arith, a, b, s, w))
+            ]
+            | inr f ↦ (let a = emptied c n in let w = fewer c in let s = spare_same c in
+                let b = free_kept new.allocatable r m u c (holds_loses r o.positions m u holds) (λ k. f) in omega (arith, a, b, s, w))
+          ]
+
+  -- and it finds one
+  pub never_get : (owed : RegClass → ℕ) (o : OperandRequest) (t : InstRegs) (old : StateValue) → AllocOperandFails o t old → Known o.vreg →
+      (o.requirement ≡ AnyReg → 0 < owed o.vreg.class) → AreHeld Known old → HasEnoughRegs Named owed t old → ⊥
+  never_get owed o t old (in_pick none) known some held_by h =
+      let c : RegClass = o.vreg.class in
+      let one = some none.0 in
+      let r = ample_some Named owed t old c (named o.vreg known) (omega (arith, one)) h in
+      let q : Register = register_number c r.0 in
+      none.1 q (record { of_class = refl; small = r.1; allocatable = and_left (has_register old.allocatable q) _ r.2 })
+      (and_right (has_register old.allocatable q) _ r.2)
+  never_get owed o t old (in_clear p r m picks is stops) known some held_by h =
+      never_clear Named owed point env apart Known named r t m stops (held_same Known old m (picks_places t o p old m picks) held_by)
+      (ample_kept Named owed t old m (picks_keeps t o p old m picks) h)
+
+-- places that differ
+another_there : (p q : Place) → is_another p q ≡ true → p ≢ NoPlace
+another_there NoPlace q h e = cc
+another_there (InRegister r) q h e = cc
+another_there (InSlot k) q h e = cc
+
+another_differs : (p q : Place) → is_another p q ≡ true → q ≡ p → ⊥
+another_differs p q h e =
+    let same : is_place p q ≡ true = subst (λ (x : Place). is_place p x ≡ true) (sym e) (is_place-same p) in
+    let other : not (is_place p q) ≡ true = and_right (not (is_place p NoPlace)) (not (is_place p q)) h in
+    let f : not true ≡ true = ap not (sym same) ∙ other in cc
+
+-- slots stay where a move is made
+evicts_stay : (point : ℕ) (r : Register) (old new : StateValue) → EvictsVReg point r old new → SlotsStay old.slots new.slots
+evicts_stay point r old new (nobody none en) = same_stay old.slots new.slots (ap (λ (t : StateValue). t.slots) en)
+evicts_stay point r old new (moved v s lt held gives settles edits machine) = gives_stay old.slots new.slots v s gives
+
+scratches_stay : (point : ℕ) (class : RegClass) (t u : InstRegs) (by : Register) (old new : StateValue) → AllocsScratchReg point class t u by old new →
+    SlotsStay old.slots new.slots
+scratches_stay point class t u by old new (dedicated_scratch o eu en) = same_stay old.slots new.slots (ap (λ (t : StateValue). t.slots) en)
+scratches_stay point class t u by old new (had none o eu en) = same_stay old.slots new.slots (ap (λ (t : StateValue). t.slots) en)
+scratches_stay point class t u by old new (found none unset may early late less_e less_l set evicts) = evicts_stay point by old new evicts
+
+sends_stay : (point : ℕ) (class : RegClass) (is_made : Bool) (from to : Place) (t u : InstRegs) (old new : StateValue) →
+    AddsMoveIf point class is_made from to t u old new → SlotsStay old.slots new.slots
+sends_stay point class is_made from to t u old new (sent made (direct one eu en)) = same_stay old.slots new.slots (ap (λ (t : StateValue). t.slots) en)
+sends_stay point class is_made from to t u old new (sent made (through by m two scratches en)) = λ n k is. ap (λ (x : StateValue). slot_name x.slots n) en
+    ∙ scratches_stay point class t u by old m scratches n k is
+sends_stay point class is_made from to t u old new (unsent not_made eu en) = same_stay old.slots new.slots (ap (λ (t : StateValue). t.slots) en)
+
+-- in a safe state a vreg that is in a register is known, and of the class of the register
+pub safe_held : (env : MachineValue) (Known : VirtualRegister → Type 0) (t : StateValue) → AreSafe env Known t → AreHeld Known t
+safe_held env Known t h r v lt held = (let x = h.holders r v lt held in (x.0, x.2))
+
+module _ (Named : RegClass → Type 0) (env : MachineValue) (apart : IsApart env) (Known : VirtualRegister → Type 0)
+    (named : (v : VirtualRegister) → Known v → Named v.class)
+    (same : (v w : VirtualRegister) → Known v → Known w → v.number ≡ w.number → v ≡ w) (point : ℕ) where
+  -- the moves of a definition
+  module _ (owed : RegClass → ℕ) (v : VirtualRegister) (is_ret : Bool) (p : Place) (t : InstRegs) (old : StateValue) (known : Known v)
+      (place : MayBeLocatedAt env old.slots v p) (h : AreSafe env Known old) (m : HasAll env old)
+      (ht : AreSafeRegs env t) (a : HasEnoughRegs Named owed t old) where
+    -- a vreg that is defined leaves the tables
+    module _ (left : StateValue) (slots : left.slots ≡ old.slots) (machine : SameMachine old left) where
+      left_all : HasAll env left
+      left_all = all_kept env old left (keeps_of old left machine) m
+
+      left_ample : HasEnoughRegs Named owed t left
+      left_ample = ample_kept Named owed t old left (keeps_of old left machine) a
+
+      stay : SlotsStay old.slots left.slots
+      stay = same_stay old.slots left.slots slots
+
+      from : IsEndOfMove env left.slots v p
+      from = end_grows env old.slots left.slots v p stay (stand_end env old.slots v p place)
+
+      first_ends : (not is_ret && is_another (alloc_of old.places v.number) p) ≡ true → IsEndOfMove env left.slots v p
+          × IsEndOfMove env left.slots v (alloc_of old.places v.number) × (p ≡ alloc_of old.places v.number → ⊥)
+      first_ends made =
+          let w : Place = alloc_of old.places v.number in
+          let other : is_another w p ≡ true = and_right (not is_ret) (is_another w p) made in (
+            from,
+            end_grows env old.slots left.slots v w stay (stand_end env old.slots v w
+                (there_stands env old.slots v w (another_there w p other) (h.places v known))),
+            another_differs w p other,
+          )
+
+      second_ends : (middle : StateValue) → SlotsStay left.slots middle.slots →
+          (not is_ret && (is_another (slot_name old.slots v.number) p && not (is_place (slot_name old.slots v.number) (alloc_of old.places v.number)))) ≡ true
+          → IsEndOfMove env middle.slots v p × IsEndOfMove env middle.slots v (slot_name old.slots v.number) × (p ≡ slot_name old.slots v.number → ⊥)
+      second_ends middle more made =
+          let s : Place = slot_name old.slots v.number in
+          let other : is_another s p ≡ true = and_left (is_another s p) _ (and_right (not is_ret) _ made) in (
+            end_grows env left.slots middle.slots v p more from,
+            end_grows env old.slots middle.slots v s (λ n k is. more n k (stay n k is))
+                (slot_end env old.slots v s refl (another_there s p other) (h.slots v.number)),
+            another_differs s p other,
+          )
+
+      -- behind the first move
+      record Sent (inst_regs : InstRegs) (middle : StateValue) : Type 0 where
+        stay_too : SlotsStay left.slots middle.slots
+        all : HasAll env middle
+        ample : HasEnoughRegs Named owed inst_regs middle
+
+      first_sent : (inst_regs : InstRegs) (middle : StateValue) → AddsMoveIf point v.class (not is_ret && is_another (alloc_of old.places v.number) p) p
+          (alloc_of old.places v.number) t inst_regs left middle → Sent inst_regs middle
+      first_sent inst_regs middle sends = (let w : Place = alloc_of old.places v.number in
+          record {
+            stay_too = sends_stay point v.class _ p w t inst_regs left middle sends;
+            all = all_kept env left middle (sends_keeps point v.class _ p w t inst_regs left middle sends) left_all;
+            ample = ample_sends Named owed point env apart Known named v _ p w t inst_regs left middle sends first_ends left_all ht left_ample;
+          })
+
+    -- where registers are enough, the moves of a definition lack none
+    pub never_define : FreeDefFails point v is_ret p t old → ⊥
+    never_define (to_awaited left slots machine stops) = never_send Named owed point env apart Known named v _ p (alloc_of old.places v.number) t left stops
+        known (first_ends left slots machine) (left_all left slots machine) (left_ample left slots machine)
+    never_define (to_slot left middle inst_regs slots machine sends stops) =
+        let s = first_sent left slots machine inst_regs middle sends in
+        never_send Named owed point env apart Known named v _ p (slot_name old.slots v.number) inst_regs middle stops known
+        (second_ends left slots machine middle s.stay_too) s.all s.ample
+
+    -- freeing a definition and adding its moves leaves registers enough
+    pub ample_defines : (u : InstRegs) (new : StateValue) → FreesDef point v is_ret p t u old new → HasEnoughRegs Named owed u new
+    ample_defines u new d =
+        let s = first_sent d.left d.slots d.machine d.inst_regs d.middle d.awaited in
+        ample_sends Named owed point env apart Known named v _ p (slot_name old.slots v.number) d.inst_regs u d.middle new d.stored
+        (second_ends d.left d.slots d.machine d.middle s.stay_too) s.all
+        (sends_kept env apart Known AllWrite AllMay point tt v _ p (alloc_of old.places v.number) t d.inst_regs d.left d.middle d.awaited known
+        (λ made. let e = first_ends d.left d.slots d.machine made in (e.0, e.1, λ n x. tt))
+        (leaves_safe env apart Known AllWrite same AllMay point tt v old d.left d.settles d.slots d.edits d.machine h) ht).inst_regs s.ample

@@ -1,0 +1,17 @@
+pub mod BlockStartFindsRegs
+pub mod EvictionsLeaveEnough
+pub mod InstFindsRegs
+pub mod OutOfRegs
+pub mod OneRegTaken
+pub mod StepsKeepMachine
+pub mod OperandFindsReg
+pub mod BranchFindsRegs
+pub mod PassesLeaveEnough
+pub mod FreeRegsCoverWaiting
+pub mod OperandsLeaveEnough
+pub mod ClaimLeavesEnough
+pub mod FittingInstReserves
+pub mod EnoughAtStart
+pub mod StepsLeaveEnough
+pub mod WaitingOperands
+pub mod WalkKeepsSafe

@@ -1,0 +1,190 @@
+-- The steps of the walk leave registers enough, and don't stop where there are.
+use Rattle.std.proofs.Common.{ℕ, ◌≡◌, ◌<◌, Bool, true, false, List, length, refl, sym, ap, ◌∙◌, subst, arith, inl, inr, get_or-set_same, set}
+use Rattle.std.specs.Prelude.{not, ◌&&◌, Option, None, Some, slice_index_or, slice_set}
+use Rattle.std.proofs.lemmas.Bool.{cases_eq}
+use Rattle.std.proofs.lemmas.List.{get_or-set_other}
+use Rattle.regalloc2_names.specs.declared.RegClass.{RegClass}
+use Rattle.regalloc2_names.specs.declared.RegClass.TheVariants.{Int, Float, Vector}
+use Rattle.regalloc2_names.specs.Register.{Register, VirtualRegister, class_code, is_register}
+use Rattle.regalloc2_names.specs.RegisterSet.{has_register}
+use Rattle.regalloc2_names.specs.Place.{Place, NoPlace, InRegister, InSlot}
+use Rattle.regalloc2_function.specs.Fitting.{register_number}
+use Rattle.regalloc2_function.specs.Machine.{MachineValue}
+use Rattle.regalloc2_fastalloc_state.specs.declared.inst_regs.InstRegs.{InstRegs}
+use Rattle.regalloc2_fastalloc_state.specs.StateParts.{vreg_of_preg}
+use Rattle.regalloc2_fastalloc_proofs.specs.InstSteps.{StateValue, SameMachine, is_stack_in, scratch_reserve_left, AllocsScratchReg}
+use Rattle.regalloc2_fastalloc_proofs.specs.InstSteps.{dedicated_scratch, had, found, AddsMove, direct, through, EvictsPReg, empty, cleared}
+use Rattle.regalloc2_fastalloc_proofs.specs.InstSteps.{EvictsOthers, own, others, AddsMoveIf, sent, unsent}
+use Rattle.regalloc2_fastalloc_proofs.specs.Safety.{IsEndOfMove, AreSafeRegs}
+use Rattle.regalloc2_fastalloc_proofs.proofs.Safety.StepsKeepSafe.{IsApart}
+use Rattle.regalloc2_pressure_proofs.specs.EnoughRegs.{HasEnoughRegs, TakesAtMost}
+use Rattle.regalloc2_fastalloc_proofs.specs.OutOfRegs.{AllocScratchRegFails, AddMoveFails, EvictPRegFails, AddMoveIfFails}
+use Rattle.regalloc2_pressure_proofs.proofs.StepsKeepMachine.{HasAll, evicts_keeps, keeps_of}
+use Rattle.regalloc2_pressure_proofs.proofs.OneRegTaken.{and_left, and_right, free_but_one, free_kept, ample_kept, ample_none, ample_some, HasStack}
+use Rattle.regalloc2_pressure_proofs.proofs.OneRegTaken.{has_stack, spare_is_one, spare_is_none}
+
+code_three : (c : RegClass) → class_code c < 3
+code_three Int = omega arith
+code_three Float = omega arith
+code_three Vector = omega arith
+
+-- classes with one code are one class
+pub same_code : (a b : RegClass) → class_code a ≡ class_code b → a ≡ b
+same_code Int Int e = refl
+same_code Int Float e = absurd cc
+same_code Int Vector e = absurd cc
+same_code Float Int e = absurd cc
+same_code Float Float e = refl
+same_code Float Vector e = absurd cc
+same_code Vector Int e = absurd cc
+same_code Vector Float e = absurd cc
+same_code Vector Vector e = refl
+
+-- a vreg in a register is known, and of its class
+abbrev pub AreHeld : (VirtualRegister → Type 0) → StateValue → Type 0
+AreHeld Known t = (r : Register) (v : VirtualRegister) → r.number < 64 → vreg_of_preg t.places r ≡ Some v → Known v × (r.class ≡ v.class)
+
+module _ (Named : RegClass → Type 0) (owed : RegClass → ℕ) (point : ℕ) where
+  -- a register through which moves from stack to stack go takes the place of the spare
+  pub ample_scratches : (class : RegClass) (t u : InstRegs) (by : Register) (old new : StateValue) → AllocsScratchReg point class t u by old new →
+      length t.scratch ≡ 3 → HasStack old.fixed_stack class → HasEnoughRegs Named owed t old → HasEnoughRegs Named owed u new
+  ample_scratches class t u by old new (dedicated_scratch o eu en) three stack h = ample_none Named owed t u old new eu en h
+  ample_scratches class t u by old new (had none o eu en) three stack h = ample_none Named owed t u old new eu en h
+  ample_scratches class t u by old new (found none unset may early late less_e less_l set evicts) three stack h =
+      ample_kept Named owed u old new (evicts_keeps point by old new evicts) after_it
+    where
+      loses : TakesAtMost by t u
+      loses = record {
+        early = λ q e. less_e q ∙ not_this (is_register by q) (has_register t.early q) e;
+        late = λ q e. less_l q ∙ not_this (is_register by q) (has_register t.late q) e;
+      }
+        where
+          not_this : (b c : Bool) → b ≡ false → (not b && c) ≡ c
+          not_this b c e = rw e refl
+
+      after_it : HasEnoughRegs Named owed u old
+      after_it c named = elim (cases_eq (class_code c) (class_code class)) [
+        | inl e ↦ (
+            let same : c ≡ class = same_code c class e in
+            let here : slice_index_or u.scratch (class_code c) None ≡ Some by = ap (λ (l : List (Option Register)). slice_index_or l (class_code c) None) set
+            ∙ ap (slice_index_or (slice_set t.scratch (class_code class) (Some by)) (class_code c)) refl
+            ∙ ap (λ (k : ℕ). slice_index_or (slice_set t.scratch (class_code class) (Some by)) k None) e
+            ∙ get_or-set_same t.scratch (class_code class) (Some by) None (let s = code_three class in omega (arith, s, three)) in
+            let one : scratch_reserve_left old.fixed_stack old.dedicated_scratch t c ≡ 1 = spare_is_one old.fixed_stack old.dedicated_scratch t c
+            (subst (HasStack old.fixed_stack) (sym same) stack)
+            (ap (λ (k : ℕ). slice_index_or old.dedicated_scratch k None) e ∙ none) (ap (λ (k : ℕ). slice_index_or t.scratch k None) e ∙ unset) in
+            let none_left : scratch_reserve_left old.fixed_stack old.dedicated_scratch u c ≡ 0 = spare_is_none old.fixed_stack old.dedicated_scratch u c by here
+            in
+            let lost = free_but_one old.allocatable by t u c loses in
+            let was = h c named in
+            omega (arith, one, none_left, lost, was))
+        | inr ne ↦ (
+            let same : slice_index_or u.scratch (class_code c) None ≡ slice_index_or t.scratch (class_code c)
+            None = ap (λ (l : List (Option Register)). slice_index_or l (class_code c) None) set
+            ∙ get_or-set_other t.scratch (class_code class) (class_code c) (Some by) None ne in
+            let scratch_reserve : scratch_reserve_left old.fixed_stack old.dedicated_scratch u c ≡ scratch_reserve_left old.fixed_stack old.dedicated_scratch t
+            c = rw same refl in
+            let kept = free_kept old.allocatable by t u c loses (λ k. absurd (ne (ap class_code (sym k ∙ may.of_class)))) in
+            let was = h c named in
+            omega (arith, scratch_reserve, kept, was))
+      ]
+
+  -- and there is one
+  pub never_scratch : (class : RegClass) (t : InstRegs) (old : StateValue) → AllocScratchRegFails class t old → Named class → HasStack old.fixed_stack class →
+      HasEnoughRegs Named owed t old → ⊥
+  never_scratch class t old s named stack h =
+      let one : scratch_reserve_left old.fixed_stack old.dedicated_scratch t class ≡ 1 = spare_is_one old.fixed_stack old.dedicated_scratch t class stack
+      s.none_kept s.none_taken in
+      let r = ample_some Named owed t old class named (omega (arith, one)) h in
+      let a = and_left (has_register old.allocatable (register_number class r.0)) _ r.2 in
+      let b = and_right (has_register old.allocatable (register_number class r.0)) _ r.2 in
+      s.none_free (register_number class r.0) (record { of_class = refl; small = r.1; allocatable = a }) b
+
+  -- a move, where the class has fixed stack slots if both ends are in memory
+  pub ample_crosses : (class : RegClass) (from to : Place) (t u : InstRegs) (old new : StateValue) → AddsMove point class from to t u old new
+      → length t.scratch ≡ 3
+      → ((is_stack_in old from && is_stack_in old to) ≡ true → HasStack old.fixed_stack class) → HasEnoughRegs Named owed t old → HasEnoughRegs Named owed u new
+  ample_crosses class from to t u old new (direct one eu en) three stack h =
+      subst (λ (y : InstRegs). HasEnoughRegs Named owed y new) (sym eu) (subst (HasEnoughRegs Named owed t) (sym en) h)
+  ample_crosses class from to t u old new (through by m two scratches en) three stack h =
+      subst (HasEnoughRegs Named owed u) (sym en) (ample_scratches class t u by old m scratches three (stack two) h)
+
+  -- where registers are enough, a move between two places in memory has its scratch register
+  pub never_cross : (class : RegClass) (from to : Place) (t : InstRegs) (old : StateValue) → AddMoveFails class from to t old → Named class
+      → ((is_stack_in old from && is_stack_in old to) ≡ true → HasStack old.fixed_stack class) → HasEnoughRegs Named owed t old → ⊥
+  never_cross class from to t old s named stack h = never_scratch class t old s.1 named (stack s.0) h
+
+  module _ (env : MachineValue) (apart : IsApart env) (Known : VirtualRegister → Type 0) (named : (v : VirtualRegister) → Known v → Named v.class) where
+    -- a vreg's slot is no register: a move between it and a register in memory is one of a class with fixed stack slots
+    slot_or_stack : (t : StateValue) (v : VirtualRegister) (from to : Place) → HasAll env t → IsEndOfMove env t.slots v from → IsEndOfMove env t.slots v to →
+        (from ≡ to → ⊥)
+        → (is_stack_in t from && is_stack_in t to) ≡ true → HasStack t.fixed_stack v.class
+    slot_or_stack t v NoPlace to m f g differ two = absurd f
+    slot_or_stack t v (InRegister r) to m f g differ two = at_register r (and_left (has_register t.fixed_stack r) (is_stack_in t to) two) f
+      where
+        at_register : (q : Register) → has_register t.fixed_stack q ≡ true → IsEndOfMove env t.slots v (InRegister q) → HasStack t.fixed_stack v.class
+        at_register q stack (inl a) = subst (HasStack t.fixed_stack) a.1 (has_stack t.fixed_stack q (m.fit.small q (inr stack)) stack)
+        at_register q stack (inr b) = absurd (apart.scratch v.class q b (m.machine.fixed_stack q stack))
+    slot_or_stack t v (InSlot k) NoPlace m f g differ two = absurd g
+    slot_or_stack t v (InSlot k) (InRegister r) m f g differ held = at_register r held g
+      where
+        at_register : (q : Register) → has_register t.fixed_stack q ≡ true → IsEndOfMove env t.slots v (InRegister q) → HasStack t.fixed_stack v.class
+        at_register q stack (inl a) = subst (HasStack t.fixed_stack) a.1 (has_stack t.fixed_stack q (m.fit.small q (inr stack)) stack)
+        at_register q stack (inr b) = absurd (apart.scratch v.class q b (m.machine.fixed_stack q stack))
+    slot_or_stack t v (InSlot k) (InSlot n) m f g differ two = absurd (differ (sym f ∙ g))
+
+    -- a move of a known vreg's value
+    pub ample_moves : (v : VirtualRegister) (from to : Place) (t u : InstRegs) (old new : StateValue) → AddsMove point v.class from to t u old new →
+        HasAll env old → IsEndOfMove env old.slots v from → IsEndOfMove env old.slots v to → (from ≡ to → ⊥)
+        → AreSafeRegs env t → HasEnoughRegs Named owed t old → HasEnoughRegs Named owed u new
+    ample_moves v from to t u old new c m f g differ ht h = ample_crosses v.class from to t u old new c ht.three (slot_or_stack old v from to m f g differ) h
+
+    -- where registers are enough, a move of a vreg's value between two legal ends lacks none
+    pub never_move : (v : VirtualRegister) (from to : Place) (t : InstRegs) (old : StateValue) → AddMoveFails v.class from to t old → Known v → HasAll env old →
+        IsEndOfMove env old.slots v from → IsEndOfMove env old.slots v to → (from ≡ to → ⊥)
+        → HasEnoughRegs Named owed t old → ⊥
+    never_move v from to t old s known m f g differ h = never_cross v.class from to t old s (named v known) (slot_or_stack old v from to m f g differ) h
+
+    -- a register or fixed stack slot is emptied
+    pub ample_clears : (r : Register) (t u : InstRegs) (old new : StateValue) → EvictsPReg point r t u old new → AreHeld Known old → AreSafeRegs env t →
+        HasEnoughRegs Named owed t old → HasEnoughRegs Named owed u new
+    ample_clears r t u old new (empty none eu en) held_by ht h = ample_none Named owed t u old new eu en h
+    ample_clears r t u old new (cleared v s m lt held gives settles edits machine crosses) held_by ht h =
+        ample_crosses v.class s (InRegister r) t u m new crosses ht.three (at_stack r v m machine lt (held_by r v lt held).1 s)
+        (ample_kept Named owed t old m (keeps_of old m machine) h)
+      where
+        at_stack : (q : Register) (w : VirtualRegister) (n : StateValue) → SameMachine old n → q.number < 64 → q.class ≡ w.class → (p : Place) →
+            (is_stack_in n p && is_stack_in n (InRegister q)) ≡ true → HasStack n.fixed_stack w.class
+        at_stack q w n machine lt same p both = subst (HasStack n.fixed_stack) same
+            (has_stack n.fixed_stack q lt (and_right (is_stack_in n p) (has_register n.fixed_stack q) both))
+
+    -- where registers are enough, an eviction lacks none
+    pub never_clear : (r : Register) (t : InstRegs) (old : StateValue) → EvictPRegFails r t old → AreHeld Known old → HasEnoughRegs Named owed t old → ⊥
+    never_clear r t old s held_by h =
+        let was = held_by r s.vreg s.small s.held in
+        never_cross s.vreg.class s.slot (InRegister r) t s.middle s.crosses (named s.vreg was.0)
+        (λ two. subst (HasStack s.middle.fixed_stack) was.1 (has_stack s.middle.fixed_stack r s.small
+        (and_right (is_stack_in s.middle s.slot) (has_register s.middle.fixed_stack r) two)))
+        (ample_kept Named owed t old s.middle (keeps_of old s.middle s.machine) h)
+
+    -- an eviction that spares one vreg leaves registers enough
+    pub ample_clears_but : (r : Register) (v : VirtualRegister) (t u : InstRegs) (old new : StateValue) → EvictsOthers point r v t u old new →
+        AreHeld Known old → AreSafeRegs env t → HasEnoughRegs Named owed t old → HasEnoughRegs Named owed u new
+    ample_clears_but r v t u old new (own w held same eu en) held_by ht h = ample_none Named owed t u old new eu en h
+    ample_clears_but r v t u old new (others not_own clears) held_by ht h = ample_clears r t u old new clears held_by ht h
+
+    -- a move that is made unless it goes nowhere
+    pub ample_sends : (v : VirtualRegister) (is_made : Bool) (from to : Place) (t u : InstRegs) (old new : StateValue)
+        → AddsMoveIf point v.class is_made from to t u old new
+        → (is_made ≡ true → IsEndOfMove env old.slots v from × IsEndOfMove env old.slots v to × (from ≡ to → ⊥)) → HasAll env old → AreSafeRegs env t
+        → HasEnoughRegs Named owed t old → HasEnoughRegs Named owed u new
+    ample_sends v is_made from to t u old new (sent made crosses) ends m ht h =
+        (let e = ends made in ample_moves v from to t u old new crosses m e.0 e.1 e.2 ht h)
+    ample_sends v is_made from to t u old new (unsent not_made eu en) ends m ht h = ample_none Named owed t u old new eu en h
+
+    -- where registers are enough, a move that is added, or none, lacks none
+    pub never_send : (v : VirtualRegister) (is_made : Bool) (from to : Place) (t : InstRegs) (old : StateValue) → AddMoveIfFails v.class is_made from to t old
+        → Known v
+        → (is_made ≡ true → IsEndOfMove env old.slots v from × IsEndOfMove env old.slots v to × (from ≡ to → ⊥)) → HasAll env old
+        → HasEnoughRegs Named owed t old → ⊥
+    never_send v is_made from to t old s known ends m h = (let e = ends s.0 in never_move v from to t old s.1 known m e.0 e.1 e.2 h)

@@ -1,0 +1,51 @@
+-- Registers that are free at both positions of an instruction, and how many of them are owed.
+use Rattle.std.specs.Prelude.{ℕ, ◌≡◌, ◌+◌, ◌≤◌, Bool, true, false, ◌&&◌, not, List, length, slice_index_or}
+use Rattle.regalloc2_names.specs.declared.RegClass.{RegClass}
+use Rattle.regalloc2_names.specs.Register.{Register, VirtualRegister, is_register}
+use Rattle.regalloc2_names.specs.RegisterSet.{has_register}
+use Rattle.regalloc2_names.specs.Operand.{OperandValue}
+use Rattle.regalloc2_names.specs.Place.{Place, NoPlace, InRegister, InSlot}
+use Rattle.regalloc2_function.specs.Fitting.{count_below}
+use Rattle.regalloc2_function.specs.Machine.{MachineValue}
+use Rattle.regalloc2_validate.specs.Constraints.{op_at}
+use Rattle.regalloc2_fastalloc_state.specs.declared.inst_regs.InstRegs.{InstRegs}
+use Rattle.regalloc2_fastalloc_state.specs.InstRegs.{free_count}
+use Rattle.regalloc2_fastalloc_proofs.specs.InstSteps.{StateValue, scratch_reserve_left, asks}
+use Rattle.regalloc2_fastalloc_proofs.specs.Safety.{IsSafe}
+
+-- of each class that is named, enough registers are free for all that is owed and for the spare
+abbrev pub HasEnoughRegs : (RegClass → Type 0) → (RegClass → ℕ) → InstRegs → StateValue → Type 0
+HasEnoughRegs Named owed u t = (c : RegClass) → Named c → owed c + scratch_reserve_left t.fixed_stack t.dedicated_scratch u c ≤ free_count t.allocatable u c
+
+-- all but one register are as free as before
+pub record TakesAtMost (by : Register) (t u : InstRegs) : Type 0 where
+  pub early : (q : Register) → is_register by q ≡ false → has_register u.early q ≡ has_register t.early q
+  pub late : (q : Register) → is_register by q ≡ false → has_register u.late q ≡ has_register t.late q
+
+-- whether a place is a register
+abbrev pub is_in_register : Place → Bool
+is_in_register NoPlace = false
+is_in_register (InRegister r) = true
+is_in_register (InSlot n) = false
+
+-- whether the operand of an index asks for any register of a class, and has none yet
+abbrev pub waits : List OperandValue → List Place → RegClass → ℕ → Bool
+waits ops here c k = asks c (op_at ops k) && not (is_in_register (slice_index_or here k NoPlace))
+
+-- how many do
+abbrev pub waiting : List OperandValue → List Place → RegClass → ℕ
+waiting ops here c = count_below (waits ops here c) (length ops)
+
+-- nothing is owed
+abbrev pub none_owed : RegClass → ℕ
+none_owed c = 0
+
+-- the tables are safe, whatever is written and wherever moves are
+abbrev pub AllWrite : ℕ → VirtualRegister → ℕ → Type 0
+AllWrite point v n = Unit {0}
+
+abbrev pub AllMay : ℕ → Type 0
+AllMay point = Unit {0}
+
+abbrev pub AreSafe : MachineValue → (VirtualRegister → Type 0) → StateValue → Type 0
+AreSafe env Known t = IsSafe env Known AllWrite AllMay t

@@ -1,0 +1,52 @@
+-- The operands of one instruction, placed one after another.
+use Rattle.std.proofs.Common.{ℕ, ◌≡◌, ◌≢◌, sym, ap, ◌∙◌, inl, inr}
+use Rattle.std.proofs.lemmas.Bool.{cases_eq}
+use Rattle.regalloc2_names.specs.Register.{Register}
+use Rattle.regalloc2_names.specs.Place.{Place, NoPlace, InRegister, InSlot}
+use Rattle.regalloc2_semantics.specs.Instruction.{IsTidy}
+
+-- a place that is a preg is not a spill slot
+pub registers_apart : (r : Register) (k : ℕ) (p : Place) → p ≡ InRegister r → p ≡ InSlot k → ⊥
+registers_apart r k p e g = let x : InRegister r ≡ InSlot k = sym e ∙ g in cc
+
+-- a place that is a preg is not none
+pub register_there : (r : Register) (p : Place) → p ≡ InRegister r → p ≡ NoPlace → ⊥
+register_there r p e g = let x : InRegister r ≡ NoPlace = sym e ∙ g in cc
+
+-- the number w, which is in the register r, is evicted to its slot s
+pub record Evicted (T S T' S' : ℕ → Place) (w : ℕ) (r : Register) (s : Place) : Type 0 where
+  pub stood_there : T w ≡ InRegister r
+  pub is_slot : (k : ℕ) × (s ≡ InSlot k)
+  pub stands_now : T' w ≡ s
+  pub slot_now : S' w ≡ s
+  pub slot_before : S w ≢ NoPlace → S w ≡ s
+  pub others : (n : ℕ) → n ≢ w → T' n ≡ T n
+  pub other_slots : (n : ℕ) → n ≢ w → S' n ≡ S n
+  pub own : (n : ℕ) → S' n ≡ s → n ≡ w
+
+module _ (T S T' S' : ℕ → Place) (w : ℕ) (r : Register) (s : Place) (e : Evicted T S T' S' w r s) (tidy : IsTidy T S) where
+  -- where some vreg is located in a register afterwards, that one was there before, and it is another
+  still : (n : ℕ) (q : Register) → T' n ≡ InRegister q → (n ≢ w) × (T n ≡ InRegister q)
+  still n q h = elim (cases_eq n w) [
+    | inl same ↦ absurd (registers_apart q e.is_slot.0 s (sym e.stands_now ∙ ap T' (sym same) ∙ h) e.is_slot.1)
+    | inr ne ↦ (ne, sym (e.others n ne) ∙ h)
+  ]
+
+  -- some vreg is located somewhere exactly where he did before
+  found : (n : ℕ) → T n ≢ NoPlace → T' n ≢ NoPlace
+  found n h = elim (cases_eq n w) [
+    | inl same ↦ (λ z. let x : InSlot e.is_slot.0 ≡ NoPlace = sym e.is_slot.1 ∙ sym e.stands_now ∙ ap T' (sym same) ∙ z in cc)
+    | inr ne ↦ (λ z. h (sym (e.others n ne) ∙ z))
+  ]
+
+  lost : (n : ℕ) → T' n ≡ NoPlace → T n ≡ NoPlace
+  lost n h = elim (cases_eq n w) [
+    | inl same ↦ (let x : InSlot e.is_slot.0 ≡ NoPlace = sym e.is_slot.1 ∙ sym e.stands_now ∙ ap T' (sym same) ∙ h in absurd cc)
+    | inr ne ↦ (sym (e.others n ne) ∙ h)
+  ]
+
+  gone : (n : ℕ) → T n ≡ NoPlace → T' n ≡ NoPlace
+  gone n h = elim (cases_eq n w) [
+    | inl same ↦ absurd (register_there r (T w) e.stood_there (ap T (sym same) ∙ h))
+    | inr ne ↦ (e.others n ne ∙ h)
+  ]

@@ -1,0 +1,105 @@
+-- What each block owes, and the theorem on paths.
+use Rattle.std.specs.Prelude.{ℕ, ◌≡◌, ◌≢◌, ◌<◌, ◌≤◌, ◌⊎◌, Bool, true, false, ◌||◌, List, [], ◌∷◌, length, slice_index, Contains, Option, Some}
+use Rattle.regalloc2_names.specs.Register.{VirtualRegister, is_vreg}
+use Rattle.regalloc2_names.specs.Place.{Place}
+use Rattle.regalloc2_function.specs.FunctionValue.{FunctionValue, block_at, inst_at}
+use Rattle.regalloc2_function.specs.OutputValue.{OutputValue}
+use Rattle.regalloc2_function.specs.Path.{first_of}
+use Rattle.regalloc2_function.specs.SourceRun.{arguments_at, IsWrittenFirst}
+use Rattle.regalloc2_function.specs.Held.{IsReached}
+use Rattle.regalloc2_semantics.specs.Listing.{Item, block_items, IsReadIn}
+use Rattle.regalloc2_semantics.specs.Carry.{Carries, Undefined}
+use Rattle.regalloc2_semantics.specs.BlockByPoints.{block_walked, Rising, EndsQuiet}
+use Rattle.regalloc2_semantics.specs.Laws.{ReadsAgreeOnPaths}
+
+-- whether a list names a virtual register
+unfoldable pub names : VirtualRegister → List VirtualRegister → Bool
+names v [] = false
+names v (p ∷ ps) = is_vreg p v || names v ps
+
+-- a block has an edge at a position, and it leads there
+abbrev pub HasEdge : FunctionValue → ℕ → ℕ → Type 0
+HasEdge f b k = k < length (block_at f b).succs
+
+abbrev pub target_at : FunctionValue → ℕ → ℕ → ℕ
+target_at f b k = slice_index (block_at f b).succs k
+
+abbrev pub IsParameter : FunctionValue → ℕ → VirtualRegister → Type 0
+IsParameter f b v = names v (block_at f b).params ≡ true
+
+-- the block is entered in one way, and not by the function's start
+pub record IsEnteredOnce (f : FunctionValue) (s : ℕ) : Type 0 where
+  pub not_entry : s ≢ f.entry
+  pub from_one : (b c i j : ℕ) → HasEdge f b i → HasEdge f c j → target_at f b i ≡ s → target_at f c j ≡ s → b ≡ c
+
+-- of a well-formed function, what the theorem needs
+pub record IsSound (f : FunctionValue) : Type 0 where
+  pub nonempty : (b : ℕ) → b < length f.blocks → (block_at f b).range.first < (block_at f b).range.end
+  pub entry : f.entry < length f.blocks
+  pub targets : (b k : ℕ) → HasEdge f b k → target_at f b k < length f.blocks
+  pub one_block : (b c : ℕ) (v : VirtualRegister) → IsParameter f b v → IsParameter f c v → b ≡ c
+  pub no_definition : (b i : ℕ) (v : VirtualRegister) → IsParameter f b v → Undefined (inst_at f i).operands v
+  pub arguments : (b k : ℕ) → HasEdge f b k → length (block_at f (target_at f b k)).params ≡ length (arguments_at f b k)
+  pub no_critical_edge : (b i j : ℕ) → HasEdge f b i → HasEdge f b j → i ≢ j → IsEnteredOnce f (target_at f b j)
+
+-- no instruction of the block writes v
+abbrev pub IsUnwritten : FunctionValue → ℕ → VirtualRegister → Type 0
+IsUnwritten f b v = (i : ℕ) → (block_at f b).range.first ≤ i → i < (block_at f b).range.end → Undefined (inst_at f i).operands v
+
+-- v is read by an instruction, or passed on an edge
+abbrev pub IsUsed : FunctionValue → VirtualRegister → Type 0
+IsUsed f v = ((b : ℕ) × IsReadIn f b v) ⊎ ((b k : ℕ) × HasEdge f b k × Contains (arguments_at f b k) v)
+
+-- a block reads v, or passes it on an edge
+abbrev pub IsUsedIn : FunctionValue → ℕ → VirtualRegister → Type 0
+IsUsedIn f b v = IsReadIn f b v ⊎ ((k : ℕ) × HasEdge f b k × Contains (arguments_at f b k) v)
+
+-- v may be wanted behind the block: it has an edge, and either leaves v unwritten, or another block uses v and leaves it unwritten
+abbrev pub IsWantedBehind : FunctionValue → ℕ → VirtualRegister → Type 0
+IsWantedBehind f b v = ((k : ℕ) × HasEdge f b k) × (IsUnwritten f b v ⊎ ((c : ℕ) × (c < length f.blocks) × (c ≢ b) × IsUnwritten f c v × IsUsedIn f c v))
+
+-- v is a parameter of a successor that is entered in one way: then a block owes nothing for v
+abbrev pub IsExcused : FunctionValue → ℕ → VirtualRegister → Type 0
+IsExcused f b v = (k : ℕ) × HasEdge f b k × IsEnteredOnce f (target_at f b k) × IsParameter f (target_at f b k) v
+
+-- the block neither reads v nor passes it
+abbrev pub IsSilent : FunctionValue → ℕ → VirtualRegister → Type 0
+IsSilent f b v = (IsReadIn f b v → ⊥) × ((k : ℕ) → HasEdge f b k → Contains (arguments_at f b k) v → ⊥)
+
+-- what a block may rely on: it has nothing to do with those for which it owes nothing
+abbrev pub ExcusedAreSilent : FunctionValue → ℕ → Type 0
+ExcusedAreSilent f b = (v : VirtualRegister) → IsExcused f b v → IsSilent f b v
+
+-- the argument a is given for the parameter v, counting v's last listing
+unfoldable pub Passes : VirtualRegister → VirtualRegister → List VirtualRegister → List VirtualRegister → Type 0
+Passes v a [] arguments = ⊥
+Passes v a (p ∷ ps) [] = ⊥
+Passes v a (p ∷ ps) (x ∷ xs) = Passes v a ps xs ⊎ ((p ≡ v) × (x ≡ a) × (names v ps ≡ false))
+
+module _ (f : FunctionValue) (slot : VirtualRegister → Option Place) where
+  -- where v may be relied on at the block's beginning: in its slot, unless the block writes it
+  abbrev pub StandsBefore : ℕ → VirtualRegister → Place → Type 0
+  StandsBefore b v p = IsUnwritten f b v × (slot v ≡ Some p)
+
+  -- where v's value has to are at the block's end: in its slot, where it may be wanted and is no parameter of a successor, and in the slot
+  -- of each parameter that it is passed to
+  abbrev pub StandsAfter : ℕ → VirtualRegister → Place → Type 0
+  StandsAfter b v p =
+      (((k : ℕ) → HasEdge f b k → names v (block_at f (target_at f b k)).params ≡ false) × IsWantedBehind f b v × (slot v ≡ Some p))
+      ⊎ ((k : ℕ) × (u : VirtualRegister) × HasEdge f b k × Passes u v (block_at f (target_at f b k)).params (arguments_at f b k) × (slot u ≡ Some p))
+
+  -- what a block owes, for each virtual register that is used somewhere
+  abbrev pub BlockCarries : ℕ → List Item → Type 0
+  BlockCarries b items = ExcusedAreSilent f b → (v : VirtualRegister) → IsUsed f v → (IsExcused f b v → ⊥) →
+      Carries v items (StandsBefore b v) (StandsAfter b v)
+
+-- where no path reads before writing, and every block that a path reaches does what it owes, reads agree on every path
+abbrev pub BlocksAgree : Type 0
+BlocksAgree = (f : FunctionValue) (out : OutputValue) (slot : VirtualRegister → Option Place) → IsSound f → IsWrittenFirst f →
+    ((b : ℕ) → IsReached f (first_of f b) → BlockCarries f slot b (block_items f out b)) → ReadsAgreeOnPaths f out
+
+-- the same, with the listings put together by the points of their moves
+abbrev pub BlocksAgreeByPoints : Type 0
+BlocksAgreeByPoints = (f : FunctionValue) (out : OutputValue) (slot : VirtualRegister → Option Place) → IsSound f → IsWrittenFirst f → Rising out.edits →
+    ((b : ℕ) → b < length f.blocks → EndsQuiet f out b) →
+    ((b : ℕ) → IsReached f (first_of f b) → BlockCarries f slot b (block_walked f out b)) → ReadsAgreeOnPaths f out

@@ -1,0 +1,10 @@
+pub mod Listing
+pub mod Carry
+pub mod BlockByPoints
+pub mod Laws
+pub mod StraightBlock
+pub mod Blocks
+pub mod Sound
+pub mod Instruction
+pub mod OperandsPlaced
+pub mod Live

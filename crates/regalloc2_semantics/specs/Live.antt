@@ -1,0 +1,56 @@
+-- The vregs that are live at a block's beginning, and where their values are then.
+use Rattle.std.specs.Prelude.{ℕ, ◌≡◌, ◌<◌, true, false, List, length, Option, Some, IsSome, Contains}
+use Rattle.regalloc2_names.specs.Register.{VirtualRegister}
+use Rattle.regalloc2_names.specs.Place.{Place}
+use Rattle.regalloc2_function.specs.FunctionValue.{FunctionValue, block_at, inst_at}
+use Rattle.regalloc2_function.specs.Machine.{MachineValue}
+use Rattle.regalloc2_function.specs.OutputValue.{OutputValue}
+use Rattle.regalloc2_function.specs.Path.{Way, Onward, ToSuccessor, Location, first_of, end_of, next_of, IsPath, HasWay}
+use Rattle.regalloc2_function.specs.SourceRun.{arguments_at, source_before, IsWrittenFirst}
+use Rattle.regalloc2_names.specs.Operand.{is_reading}
+use Rattle.regalloc2_function.specs.AllocatedRun.{cells_before}
+use Rattle.regalloc2_function.specs.Held.{IsReached}
+use Rattle.regalloc2_function.specs.WellFormed.{IsWellFormed}
+use Rattle.regalloc2_semantics.specs.Listing.{op_at, block_items}
+use Rattle.regalloc2_semantics.specs.Carry.{Undefined}
+use Rattle.regalloc2_semantics.specs.BlockByPoints.{block_walked, Rising, EndsQuiet}
+use Rattle.regalloc2_semantics.specs.Blocks.{names, target_at, BlockCarries}
+
+-- a way on gives v no new value: it is no edge to a block of which v is a parameter
+abbrev pub IsAside : FunctionValue → VirtualRegister → Location → Way → Type 0
+IsAside f v l Onward = Unit {0}
+IsAside f v l (ToSuccessor k) = names v (block_at f (target_at f l.block k)).params ≡ false
+
+-- v is live before an instruction: it is read there, or on some way on it is read or passed before it is written (where what an instruction
+-- reads isn't what it writes, as in well-formed functions)
+pub data IsLive (f : FunctionValue) (v : VirtualRegister) : Location → Type 0 where
+  read_there : (l : Location) (j : ℕ) → j < length (inst_at f l.inst).operands → is_reading (op_at (inst_at f l.inst).operands j) ≡ true →
+      (op_at (inst_at f l.inst).operands j).vreg ≡ v → IsLive f v l
+  passed_there : (l : Location) (k : ℕ) → HasWay f l (ToSuccessor k) → Contains (arguments_at f l.block k) v → Undefined (inst_at f l.inst).operands v →
+      IsLive f v l
+  later : (l : Location) (w : Way) → HasWay f l w → Undefined (inst_at f l.inst).operands v → IsAside f v l w → IsLive f v (next_of f l w) → IsLive f v l
+
+-- a path has just come to a block
+abbrev pub HasEntered : FunctionValue → List Way → Type 0
+HasEntered f ws = (end_of f ws).inst ≡ (block_at f (end_of f ws).block).range.first
+
+-- before a path's last step, v has a value, parameters what the edge gave them, and the place holds it
+abbrev pub HoldsValue : FunctionValue → OutputValue → List Way → Place → VirtualRegister → Type 0
+HoldsValue f out ws p v = IsSome (source_before f ws v) × (cells_before f out ws p ≡ source_before f ws v)
+
+-- on every path, where it comes to a block, the slot of each virtual register that is live there holds its value
+abbrev pub LiveStand : FunctionValue → OutputValue → (VirtualRegister → Option Place) → Type 0
+LiveStand f out slot = (ws : List Way) → IsPath f ws → HasEntered f ws → (v : VirtualRegister) (p : Place) → IsLive f v (end_of f ws) → slot v ≡ Some p →
+    HoldsValue f out ws p v
+
+-- so it is where no path reads before writing, and every block that a path reaches does what it owes
+abbrev pub LiveStandWhereBlocksCarry : Type 0
+LiveStandWhereBlocksCarry = (env : MachineValue) (f : FunctionValue) (out : OutputValue) (slot : VirtualRegister → Option Place) → IsWellFormed env f →
+    IsWrittenFirst f →
+    ((b : ℕ) → IsReached f (first_of f b) → BlockCarries f slot b (block_items f out b)) → LiveStand f out slot
+
+-- the same, with the listings put together by the points of their moves
+abbrev pub LiveStandByPoints : Type 0
+LiveStandByPoints = (env : MachineValue) (f : FunctionValue) (out : OutputValue) (slot : VirtualRegister → Option Place) → IsWellFormed env f →
+    IsWrittenFirst f → Rising out.edits → ((b : ℕ) → b < length f.blocks → EndsQuiet f out b) →
+    ((b : ℕ) → IsReached f (first_of f b) → BlockCarries f slot b (block_walked f out b)) → LiveStand f out slot

@@ -1,0 +1,50 @@
+-- What the lists of a sound stored function have for a block.
+use Rattle.std.proofs.Common.{◌≡◌, ◌∙◌, ℕ, ◌<◌, List, [], length, map, get_or, slice_index_or, ap, sym, subst, refl, arith}
+use Rattle.std.specs.Prelude.{All}
+use Rattle.std.proofs.lemmas.List.{get_or-map, get_or_read, length-map}
+use Rattle.std.specs.Vec.{vec_len}
+use Rattle.std.specs.declared.vec.Vec.{Vec}
+use Rattle.regalloc2_index.specs.Range.{Span}
+use Rattle.regalloc2_serialize.specs.Validity.{HasAllOfEachBlock, IsSound}
+use Rattle.regalloc2_serialize.specs.Decoded.{stored_range}
+use Rattle.regalloc2_serialize.specs.declared.data.StoredFunction.{StoredFunction}
+
+-- a block has an item in each list by block
+pub record HasBlock {A : Type 0} (s : StoredFunction A) (b : ℕ) : Type 0 where
+  pub succs : b < length s.block_succs.items
+  pub preds : b < length s.block_preds.items
+  pub params : b < length s.block_params_in.items
+  pub arguments : b < length s.block_params_out.items
+
+-- in a valid stored function each block has its item in the lists of successors, predecessors, parameters and arguments
+pub has-block : {A : Type 0} (s : StoredFunction A) (b : ℕ) → IsSound s → b < length s.blocks.items → HasBlock s b
+has-block s b sound less = record {
+  succs = rw long.succs less;
+  preds = rw long.preds less;
+  params = rw long.params less;
+  arguments = rw (
+    sym (length-map s.block_params_out.items (λ l. length l.items)) ∙ ap length long.arguments
+        ∙ length-map s.block_succs.items (λ l. length l.items),
+    long.succs,
+  ) less;
+}
+  where
+    long : HasAllOfEachBlock s
+    long = sound.lengths.blocks
+
+-- an index of a list is one of the vector that keeps it
+pub in-vec : {X A : Type 0} (v : Vec X A) (i : ℕ) → i < length v.items → i < vec_len v
+in-vec v i less = omega (arith, less, v.ok.0)
+
+-- what each item has, the one that is read has
+pub item-has : {X : Type 0} (P : X → Type 0) (xs : List X) (i : ℕ) (x : X) → All P xs → i < length xs → x ≡ get_or xs i x → P x
+item-has P xs i x all less is = subst P (sym is) (all i x less)
+
+-- a list that is read among others
+pub list-read : {X Y : Type 0} (f : X → List Y) (xs : List X) (i : ℕ) (x : X) → i < length xs → x ≡ get_or xs i x → f x ≡ slice_index_or (map f xs) i []
+list-read f xs i x less is = ap f is ∙ sym (get_or-map f xs i x [] less)
+
+-- a range that is read among others
+pub range-read : (rs : List (ℕ × ℕ)) (i : ℕ) (r : ℕ × ℕ) (first end : ℕ) → i < length rs → r ≡ get_or rs i r → first ≡ r.0 → end ≡ r.1 →
+    ◌≡◌ {A = Span} (record { first = first; end = end }) (stored_range (slice_index_or rs i (0, 0)))
+range-read rs i r first end less is hf he = rw (hf, he, ← get_or_read rs i r less is (0, 0)) refl

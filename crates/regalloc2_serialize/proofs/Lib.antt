@@ -1,0 +1,7 @@
+pub mod Lists
+pub mod Given
+pub mod Indexes
+pub mod EncodedLists
+pub mod Blocks
+pub mod FilledLists
+pub mod Whole

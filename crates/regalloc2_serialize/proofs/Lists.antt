@@ -1,0 +1,46 @@
+-- Lists that are walked side by side.
+use Rattle.std.proofs.Common.{◌≡◌, ◌∙◌, ℕ, ◌+◌, ◌<◌, List, [], ◌∷◌, ◌++◌, length, map, take, get_or, ap, sym, subst, refl}
+use Rattle.std.specs.List.{AllZip}
+use Rattle.std.specs.Prelude.{All}
+use Rattle.std.proofs.lemmas.List.Elements.{All-map}
+use Rattle.std.proofs.lemmas.List.{get_or-map, take_more, length-map, map-append}
+use Rattle.std.proofs.lemmas.Slice.Zip.{all_zipped_more}
+
+-- numbers of two lists agree at an index
+pub same-at : {X Y : Type 0} (f : X → ℕ) (g : Y → ℕ) (xs : List X) (ys : List Y) (i : ℕ) (x : X) (y : Y) →
+    i < length xs → i < length ys → x ≡ get_or xs i x → y ≡ get_or ys i y → map f xs ≡ map g ys → f x ≡ g y
+same-at f g xs ys i x y lx ly ix iy same =
+    ap f ix ∙ sym (get_or-map f xs i x 0 lx) ∙ ap (λ (l : List ℕ). get_or l i 0) same ∙ get_or-map g ys i y 0 ly ∙ ap g (sym iy)
+
+-- one more number of both
+pub same-more : {X Y : Type 0} (f : X → ℕ) (g : Y → ℕ) (xs : List X) (ys : List Y) (i : ℕ) (x : X) (y : Y) →
+    i < length xs → i < length ys → x ≡ get_or xs i x → y ≡ get_or ys i y → f x ≡ g y →
+    take i (map f xs) ≡ take i (map g ys) → take (i + 1) (map f xs) ≡ take (i + 1) (map g ys)
+same-more f g xs ys i x y lx ly ix iy here same =
+    let a : get_or (map f xs) i 0 ≡ f x = get_or-map f xs i x 0 lx ∙ ap f (sym ix) in
+    let b : get_or (map g ys) i 0 ≡ g y = get_or-map g ys i y 0 ly ∙ ap g (sym iy) in
+    rw (take_more (map f xs) i 0 (rw length-map lx), take_more (map g ys) i 0 (rw length-map ly), a, b, here, same) refl
+
+-- one more pair
+pub zip-more : {X Y Z : Type 0} (R : X → Y → Type 0) (f : Z → Y) (xs : List X) (zs : List Z) (i : ℕ) (x : X) (z : Z) →
+    i < length xs → x ≡ get_or xs i x → AllZip R (take i xs) (map f zs) → R x (f z) → AllZip R (take (i + 1) xs) (map f (zs ++ z ∷ []))
+zip-more R f xs zs i x z less is before here =
+    rw (take_more xs i x less, ← is, map-append f zs (z ∷ [])) (all_zipped_more R (take i xs) (map f zs) x (f z) before here)
+
+-- what each has under one view, each has under another that gives the same list
+pub all-under : {X Y Z : Type 0} (P : Y → Type 0) (f : X → Y) (h : Z → Y) (xs : List X) (zs : List Z) →
+    map f xs ≡ map h zs → All (λ z. P (h z)) zs → All (λ x. P (f x)) xs
+all-under P f h xs zs same all k d less =
+    subst P (get_or-map f xs k d (f d) less) (subst (λ l. P (get_or l k (f d))) (sym same)
+    (All-map P h zs all k (f d) (rw (← ap length same, length-map) less)))
+
+-- one more pair, by the second list
+pub zip-next : {X Y : Type 0} (R : X → Y → Type 0) (xs : List X) (ys : List Y) (i : ℕ) (x : X) (y : Y) →
+    i < length ys → y ≡ get_or ys i y → AllZip R xs (take i ys) → R x y → AllZip R (xs ++ x ∷ []) (take (i + 1) ys)
+zip-next R xs ys i x y less is before here = rw (take_more ys i y less, ← is) (all_zipped_more R xs (take i ys) x y before here)
+
+-- lists related item by item stay so with the next item, where the second list is read through a function
+pub zip-next-under : {X Y Z : Type 0} (R : X → Z → Type 0) (f : Y → Z) (xs : List X) (ys : List Y) (i : ℕ) (x : X) (y : Y) →
+    i < length ys → y ≡ get_or ys i y → AllZip R xs (take i (map f ys)) → R x (f y) → AllZip R (xs ++ x ∷ []) (take (i + 1) (map f ys))
+zip-next-under R f xs ys i x y less is before here =
+    zip-next R xs (map f ys) i x (f y) (rw length-map less) (ap f is ∙ sym (get_or-map f ys i y (f y) less)) before here

@@ -1,0 +1,72 @@
+use Rattle.std.proofs.Common.{refl, arith, ap, sym, subst, length, map, ◌≡◌, ◌<◌, ◌∙◌}
+use Rattle.std.specs.List.{AllZip}
+use Rattle.std.specs.Prelude.{All}
+use Rattle.std.proofs.lemmas.Result.{IfOk-from_err}
+use Rattle.regalloc2_names.specs.Packing.{IsVRegBits}
+use Rattle.regalloc2_function.specs.FunctionValue.{IsSlotSize, label_of}
+use Rattle.regalloc2_serialize.specs.Validity.{NamesOperands}
+use Rattle.regalloc2_serialize.specs.Decoded.{NamesInst, stored_label, stored_sizes}
+use Rattle.regalloc2_serialize.specs.Tables.{inst_of}
+use Rattle.regalloc2_serialize.proofs.Lists.{all-under}
+use Rattle.regalloc2_serialize.proofs.decode.function_from.Goals as goal
+
+pub machine_from-requires : goal.machine_from-requires
+machine_from-requires g c = record { three = c.requires.lengths.machine; registers = c.requires.names.machine }
+
+pub returns-in_err-machine : goal.returns-in_err-machine
+returns-in_err-machine g c = let r = c.from_residual.result in record {
+  function = IfOk-from_err r _ c.from_residual.ensures.0;
+  machine = IfOk-from_err r _ c.from_residual.ensures.0;
+}
+
+pub tables_from-requires : goal.tables_from-requires
+tables_from-requires g c = c.requires
+
+pub returns-in_err-blocks : goal.returns-in_err-blocks
+returns-in_err-blocks g c = let r = c.from_residual-in_err-blocks.result in
+    record { function = IfOk-from_err r _ c.from_residual-in_err-blocks.ensures.0; machine = IfOk-from_err r _ c.from_residual-in_err-blocks.ensures.0 }
+
+pub insts_from-requires : goal.insts_from-requires
+insts_from-requires g c = subst (All (λ i. NamesOperands i)) (sym c.as_slice.ensures.value) c.requires.names.insts
+
+pub returns-in_err-insts : goal.returns-in_err-insts
+returns-in_err-insts g c = let r = c.from_residual-in_err-insts.result in
+    record { function = IfOk-from_err r _ c.from_residual-in_err-insts.ensures.0; machine = IfOk-from_err r _ c.from_residual-in_err-insts.ensures.0 }
+
+pub labels_from-requires : goal.labels_from-requires
+labels_from-requires g c = subst (All (λ l. IsVRegBits l.0)) (sym c.as_slice-2.ensures.value) c.requires.names.vregs.labels
+
+pub returns-in_err-labels : goal.returns-in_err-labels
+returns-in_err-labels g c = let r = c.from_residual-in_err-labels.result in
+    record { function = IfOk-from_err r _ c.from_residual-in_err-labels.ensures.0; machine = IfOk-from_err r _ c.from_residual-in_err-labels.ensures.0 }
+
+pub sizes_from-requires : goal.sizes_from-requires
+sizes_from-requires g c = record {
+  three = ap length c.as_slice-3.ensures.value ∙ c.requires.lengths.slot_sizes;
+  sizes = subst (All IsSlotSize) (sym c.as_slice-3.ensures.value) c.requires.limits.slot_sizes;
+}
+
+pub invariant_of-result : goal.invariant_of-result
+invariant_of-result g c = record {
+  few_insts = omega (arith, c.in_ok-insts.ensures.count, ap length c.as_slice.ensures.value, c.requires.limits.insts, c.in_ok-insts.insts.ok.0);
+  few_blocks = omega (arith, c.in_ok-blocks.ensures.count, c.requires.limits.blocks, c.in_ok-blocks.blocks.ok.0);
+  few_vregs = c.requires.limits.vregs;
+  labels_below = all-under (λ l. l.vreg.number < c.args.stored.now.num_vregs) label_of stored_label c.in_ok-labels.labels.items
+      c.args.stored.now.debug_value_labels.items
+      (subst (λ ls. map label_of c.in_ok-labels.labels.items ≡ map stored_label ls) c.as_slice-2.ensures.value c.in_ok-labels.ensures) c.requires.within.labels;
+}
+
+pub returns-clause-function : goal.returns-clause-function
+returns-clause-function g c = record {
+  blocks = c.in_ok-blocks.ensures.blocks;
+  insts = subst (λ xs. AllZip (λ x i. NamesInst x i) xs (map inst_of c.in_ok-insts.insts.items)) c.as_slice.ensures.value c.in_ok-insts.ensures.insts;
+  entry = c.new.ensures;
+  num_vregs = refl;
+  slot_sizes = c.sizes_from.ensures ∙ ap stored_sizes c.as_slice-3.ensures.value;
+  named_by_last_slot = refl;
+  labels = subst (λ ls. map label_of c.in_ok-labels.labels.items ≡ map stored_label ls) c.as_slice-2.ensures.value c.in_ok-labels.ensures;
+  allows_multiple_defs = refl;
+}
+
+pub returns-clause-machine : goal.returns-clause-machine
+returns-clause-machine g c = c.in_ok-machine.ensures

@@ -1,0 +1,8 @@
+use Rattle.std.proofs.Common.{map, take}
+use Rattle.std.specs.List.{AllZip}
+use Rattle.regalloc2_serialize.specs.Decoded.{NamesInst}
+use Rattle.regalloc2_serialize.specs.Tables.{inst_of}
+use Rattle.regalloc2_serialize.proofs.encode.numbers_of_insts.Given as goal
+
+abbrev pub invariant-loop-inst : goal.invariant-loop-inst
+invariant-loop-inst g l = AllZip (λ x i. NamesInst x i) l.numbers.items (take l.inst-index (map inst_of l.insts))

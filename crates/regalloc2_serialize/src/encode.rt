@@ -1,0 +1,312 @@
+//! The numbers that name a function and a machine.
+
+ghost use Rattle.std.specs.Prelude.{◌≡◌, ℕ, IfOk, IfErr, length, map};
+ghost use Rattle.std.specs.List.{AllZip};
+ghost use Rattle.std.specs.Option.{option_map};
+ghost use Rattle.regalloc2_names.specs.Packing.{register_of_bits, vreg_of_bits, operand_of_bits};
+ghost use Rattle.regalloc2_function.specs.FunctionValue.{label_of};
+ghost use Rattle.regalloc2_function.specs.Views.{machine_of};
+ghost use Rattle.regalloc2_serialize.specs.Decoded.{HasIndexes, NamesInst, NamesMachine, NamesFunction, stored_range, stored_label, stored_sizes};
+ghost use Rattle.regalloc2_serialize.specs.Tables.{inst_of, block_of, sizes_of, function_of};
+
+use super::data::{StoredFunction, StoredInst, StoredMachine};
+use super::tables::{BlockTable, InstTable, SerializableFunction, SlotTable};
+use regalloc2_function::MachineEnv;
+use regalloc2_index::{Block, Inst};
+use regalloc2_names::{Operand, PReg, PRegSet, RegAllocError, VReg};
+use std::alloc::{AllocError, Allocator};
+
+/// The indexes of the registers of a set.
+fn indexes_of<A: Allocator>(alloc: A, set: PRegSet) -> Result<Vec<u8, A>, AllocError>
+    ensures { IfOk result (λ indexes. HasIndexes indexes.items set) }
+{
+    let mut indexes = Vec::new(alloc);
+    for reg in set {
+        indexes.push(reg.index() as u8)?;
+    }
+    Ok(indexes)
+}
+
+/// The indexes of the registers of each set.
+fn lists_of_indexes<A: Allocator + Copy>(
+    alloc: A,
+    sets: &[PRegSet],
+) -> Result<Vec<Vec<u8, A>, A>, AllocError>
+    ensures { IfOk result (λ lists. AllZip (λ l set. HasIndexes l.items set) lists.items sets.now) }
+{
+    let mut lists = Vec::with_capacity(alloc, sets.len())?;
+    for set in sets {
+        lists.push(indexes_of(alloc, *set)?)?;
+    }
+    Ok(lists)
+}
+
+/// The indexes of registers.
+fn indexes_of_registers<A: Allocator>(
+    alloc: A,
+    registers: &[PReg],
+) -> Result<Vec<u8, A>, AllocError>
+    ensures { IfOk result (λ indexes. map register_of_bits indexes.items ≡ registers.now) }
+{
+    let mut indexes = Vec::with_capacity(alloc, registers.len())?;
+    for reg in registers {
+        indexes.push(reg.index() as u8)?;
+    }
+    Ok(indexes)
+}
+
+/// The index of a register, if there is one.
+fn index_of(reg: Option<PReg>) -> Option<u8>
+    ensures { option_map register_of_bits result ≡ reg }
+{
+    match reg {
+        Some(reg) => Some(reg.index() as u8),
+        None => None,
+    }
+}
+
+/// The indexes of registers, where there are some.
+fn indexes_of_scratch<A: Allocator>(
+    alloc: A,
+    scratch: &[Option<PReg>],
+) -> Result<Vec<Option<u8>, A>, AllocError>
+    ensures { IfOk result (λ indexes. map (option_map register_of_bits) indexes.items ≡ scratch.now) }
+{
+    let mut indexes = Vec::with_capacity(alloc, scratch.len())?;
+    for reg in scratch {
+        indexes.push(index_of(*reg))?;
+    }
+    Ok(indexes)
+}
+
+/// The words of virtual registers.
+fn words_of_vregs<A: Allocator>(alloc: A, vregs: &[VReg]) -> Result<Vec<u32, A>, AllocError>
+    ensures { IfOk result (λ words. map vreg_of_bits words.items ≡ vregs.now) }
+{
+    let mut words = Vec::with_capacity(alloc, vregs.len())?;
+    for vreg in vregs {
+        words.push(vreg.bits() as u32)?;
+    }
+    Ok(words)
+}
+
+/// The words of lists of virtual registers.
+fn words_of_lists<A: Allocator, B: Allocator + Copy>(
+    alloc: B,
+    lists: &[Vec<VReg, A>],
+) -> Result<Vec<Vec<u32, B>, B>, AllocError>
+    ensures { IfOk result (λ words. map (λ l. map vreg_of_bits l.items) words.items ≡ map (λ v. v.items) lists.now) }
+{
+    let mut words = Vec::with_capacity(alloc, lists.len())?;
+    for list in lists {
+        words.push(words_of_vregs(alloc, list.as_slice())?)?;
+    }
+    Ok(words)
+}
+
+/// The words of operands.
+fn words_of_operands<A: Allocator>(
+    alloc: A,
+    operands: &[Operand],
+) -> Result<Vec<u64, A>, AllocError>
+    ensures { IfOk result (λ words. map operand_of_bits words.items ≡ operands.now) }
+{
+    let mut words = Vec::with_capacity(alloc, operands.len())?;
+    for operand in operands {
+        words.push(operand.bits())?;
+    }
+    Ok(words)
+}
+
+/// The numbers of blocks.
+fn numbers_of_blocks<A: Allocator>(alloc: A, blocks: &[Block]) -> Result<Vec<u32, A>, AllocError>
+    ensures { IfOk result (λ numbers. numbers.items ≡ blocks.now) }
+{
+    let mut numbers = Vec::with_capacity(alloc, blocks.len())?;
+    for block in blocks {
+        numbers.push(block.raw_u32())?;
+    }
+    Ok(numbers)
+}
+
+/// The numbers of labels.
+fn numbers_of_labels<A: Allocator>(
+    alloc: A,
+    labels: &[(VReg, Inst, Inst, u32)],
+) -> Result<Vec<(u32, u32, u32, u32), A>, AllocError>
+    ensures { IfOk result (λ numbers. map stored_label numbers.items ≡ map label_of labels.now) }
+{
+    let mut numbers = Vec::with_capacity(alloc, labels.len())?;
+    for label in labels {
+        let vreg = label.0.bits() as u32;
+        numbers.push((vreg, label.1.raw_u32(), label.2.raw_u32(), label.3))?;
+    }
+    Ok(numbers)
+}
+
+/// The sizes of slots.
+fn numbers_of_sizes<A: Allocator>(alloc: A, sizes: &SlotTable) -> Result<Vec<u64, A>, AllocError>
+    ensures { IfOk result (λ numbers. stored_sizes numbers.items ≡ sizes_of sizes.now) }
+{
+    let mut numbers = Vec::with_capacity(alloc, 3)?;
+    numbers.push(sizes.int.units as u64)?;
+    numbers.push(sizes.float.units as u64)?;
+    numbers.push(sizes.vector.units as u64)?;
+    Ok(numbers)
+}
+
+/// The numbers of a machine.
+fn numbers_of_machine<A: Allocator, B: Allocator + Copy>(
+    alloc: B,
+    machine: &MachineEnv<A>,
+) -> Result<StoredMachine<B>, AllocError>
+    ensures { IfOk result (λ numbers. NamesMachine numbers (machine_of machine.now)) }
+{
+    let preferred = lists_of_indexes(alloc, &machine.preferred_regs_by_class)?;
+    let non_preferred = lists_of_indexes(alloc, &machine.non_preferred_regs_by_class)?;
+    let scratch_by_class = indexes_of_scratch(alloc, &machine.scratch_by_class)?;
+    let fixed_stack_slots = indexes_of_registers(alloc, machine.fixed_stack_slots.as_slice())?;
+    Ok(StoredMachine {
+        preferred_regs_by_class: preferred,
+        non_preferred_regs_by_class: non_preferred,
+        scratch_by_class,
+        fixed_stack_slots,
+    })
+}
+
+/// The numbers of an instruction.
+fn numbers_of_inst<A: Allocator, B: Allocator + Copy>(
+    alloc: B,
+    inst: &InstTable<A>,
+) -> Result<StoredInst<B>, AllocError>
+    ensures { IfOk result (λ numbers. NamesInst numbers (inst_of inst.now)) }
+{
+    Ok(StoredInst {
+        op: inst.op,
+        operands: words_of_operands(alloc, inst.operands.as_slice())?,
+        clobbers: indexes_of(alloc, inst.clobbers)?,
+    })
+}
+
+/// The numbers of instructions.
+fn numbers_of_insts<A: Allocator, B: Allocator + Copy>(
+    alloc: B,
+    insts: &[InstTable<A>],
+) -> Result<Vec<StoredInst<B>, B>, AllocError>
+    ensures { IfOk result (λ numbers. AllZip (λ x i. NamesInst x i) numbers.items (map inst_of insts.now)) }
+{
+    let mut numbers = Vec::with_capacity(alloc, insts.len())?;
+    for inst in insts {
+        numbers.push(numbers_of_inst(alloc, inst)?)?;
+    }
+    Ok(numbers)
+}
+
+/// The ranges of blocks.
+fn ranges_of<A: Allocator, B: Allocator>(
+    alloc: B,
+    blocks: &[BlockTable<A>],
+) -> Result<Vec<(u32, u32), B>, AllocError>
+    ensures { IfOk result (λ ranges. map stored_range ranges.items ≡ map (λ b. (block_of b).range) blocks.now) }
+{
+    let mut ranges = Vec::with_capacity(alloc, blocks.len())?;
+    for block in blocks {
+        ranges.push((block.first.raw_u32(), block.end.raw_u32()))?;
+    }
+    Ok(ranges)
+}
+
+/// The successors of blocks.
+fn succs_of<A: Allocator, B: Allocator + Copy>(
+    alloc: B,
+    blocks: &[BlockTable<A>],
+) -> Result<Vec<Vec<u32, B>, B>, AllocError>
+    ensures { IfOk result (λ succs. map (λ l. l.items) succs.items ≡ map (λ b. (block_of b).succs) blocks.now) }
+{
+    let mut succs = Vec::with_capacity(alloc, blocks.len())?;
+    for block in blocks {
+        succs.push(numbers_of_blocks(alloc, block.succs.as_slice())?)?;
+    }
+    Ok(succs)
+}
+
+/// The predecessors of blocks.
+fn preds_of<A: Allocator, B: Allocator + Copy>(
+    alloc: B,
+    blocks: &[BlockTable<A>],
+) -> Result<Vec<Vec<u32, B>, B>, AllocError>
+    ensures { IfOk result (λ preds. map (λ l. l.items) preds.items ≡ map (λ b. (block_of b).preds) blocks.now) }
+{
+    let mut preds = Vec::with_capacity(alloc, blocks.len())?;
+    for block in blocks {
+        preds.push(numbers_of_blocks(alloc, block.preds.as_slice())?)?;
+    }
+    Ok(preds)
+}
+
+/// The parameters of blocks.
+fn params_of<A: Allocator, B: Allocator + Copy>(
+    alloc: B,
+    blocks: &[BlockTable<A>],
+) -> Result<Vec<Vec<u32, B>, B>, AllocError>
+    ensures { IfOk result (λ params. map (λ l. map vreg_of_bits l.items) params.items ≡ map (λ b. (block_of b).params) blocks.now) }
+{
+    let mut params = Vec::with_capacity(alloc, blocks.len())?;
+    for block in blocks {
+        params.push(words_of_vregs(alloc, block.params.as_slice())?)?;
+    }
+    Ok(params)
+}
+
+/// The arguments of blocks.
+fn arguments_of<A: Allocator, B: Allocator + Copy>(
+    alloc: B,
+    blocks: &[BlockTable<A>],
+) -> Result<Vec<Vec<Vec<u32, B>, B>, B>, AllocError>
+    ensures { IfOk result (λ arguments. map (λ l. map (λ k. map vreg_of_bits k.items) l.items) arguments.items ≡ map (λ b. (block_of b).arguments) blocks.now) }
+{
+    let mut arguments = Vec::with_capacity(alloc, blocks.len())?;
+    for block in blocks {
+        arguments.push(words_of_lists(alloc, block.arguments.as_slice())?)?;
+    }
+    Ok(arguments)
+}
+
+impl<A: Allocator + Copy> SerializableFunction<A> {
+    /// The numbers of this function and its machine, which [`SerializableFunction::from_stored`] takes back where they
+    /// pass its tests. They are made with the function's own allocator.
+    ///
+    /// `Memory` where memory ran out, and nothing else.
+    pub fn stored(&self) -> Result<StoredFunction<A>, RegAllocError>
+        ensures function { IfOk result (λ s. NamesFunction s (function_of self.now)) }
+        ensures machine { IfOk result (λ s. NamesMachine s.machine_env (machine_of self.now.machine)) }
+        ensures memory { IfErr result (λ e. e ≡ RegAllocError.Memory) }
+    {
+        let alloc = *self.blocks.allocator();
+        let tables = self.blocks.as_slice();
+        let machine_env = numbers_of_machine(alloc, &self.machine)?;
+        let insts = numbers_of_insts(alloc, self.insts.as_slice())?;
+        let blocks = ranges_of(alloc, tables)?;
+        let block_preds = preds_of(alloc, tables)?;
+        let block_succs = succs_of(alloc, tables)?;
+        let block_params_in = params_of(alloc, tables)?;
+        let block_params_out = arguments_of(alloc, tables)?;
+        let debug_value_labels = numbers_of_labels(alloc, self.labels.as_slice())?;
+        let spillslot_size = numbers_of_sizes(alloc, &self.slot_sizes)?;
+        Ok(StoredFunction {
+            machine_env,
+            entry_block: self.entry.raw_u32(),
+            insts,
+            blocks,
+            block_preds,
+            block_succs,
+            block_params_in,
+            block_params_out,
+            num_vregs: self.num_vregs as u64,
+            debug_value_labels,
+            spillslot_size,
+            multi_spillslot_named_by_last_slot: self.named_by_last_slot,
+            allow_multiple_vreg_defs: self.allows_multiple_defs,
+        })
+    }
+}

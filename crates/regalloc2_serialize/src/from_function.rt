@@ -1,0 +1,158 @@
+//! A function that is to be stored, from any other.
+
+ghost use Rattle.std.specs.Prelude.{◌≡◌, ℕ, ◌+◌, ◌<◌, ◌≤◌, ◌^◌, IsTrue, All, IfOk, IfErr, length, map};
+ghost use Rattle.std.specs.Int.{is_power_of_two};
+ghost use Rattle.regalloc2_function.specs.FunctionValue.{block_at, inst_at, slot_size};
+ghost use Rattle.regalloc2_function.specs.Views.{machine_of};
+ghost use Rattle.regalloc2_serialize.specs.CopyOfFunction.{shown_block, shown_inst, shown_function, HasNonemptyBlocks, IsKeptWhole};
+ghost use Rattle.regalloc2_serialize.specs.Tables.{inst_of, block_of, function_of};
+
+use super::data::InstOpcode;
+use super::tables::{BlockTable, InstTable, SerializableFunction, SlotTable, SlotUnits};
+use regalloc2_function::{Function, MachineEnv};
+use regalloc2_index::{Block, Inst};
+use regalloc2_names::{RegAllocError, RegClass, VReg};
+use std::alloc::{AllocError, Allocator};
+
+/// The arguments that a block passes to each of its successors.
+fn copied_arguments<F: Function, A: Allocator + Copy>(
+    alloc: A,
+    f: &F,
+    block: Block,
+) -> Result<Vec<Vec<VReg, A>, A>, AllocError>
+    requires block { block < length (F.function f.now).blocks }
+    requires nonempty { (block_at (F.function f.now) block).range.first < (block_at (F.function f.now) block).range.end }
+    ensures { IfOk result (λ arguments. map (λ v. v.items) arguments.items ≡ (shown_block (block_at (F.function f.now) block)).arguments) }
+{
+    let last = f.block_insns(block).last();
+    let count = f.block_succs(block).len();
+    let mut arguments = Vec::with_capacity(alloc, count)?;
+    for k in 0..count {
+        arguments.push(f.branch_blockparams(block, last, k).to_vec(alloc)?)?;
+    }
+    Ok(arguments)
+}
+
+/// A block.
+fn copied_block<F: Function, A: Allocator + Copy>(
+    alloc: A,
+    f: &F,
+    block: Block,
+) -> Result<BlockTable<A>, AllocError>
+    requires block { block < length (F.function f.now).blocks }
+    requires nonempty { (block_at (F.function f.now) block).range.first < (block_at (F.function f.now) block).range.end }
+    requires within { (block_at (F.function f.now) block).range.end ≤ length (F.function f.now).insts }
+    ensures { IfOk result (λ table. block_of table ≡ shown_block (block_at (F.function f.now) block)) }
+{
+    let range = f.block_insns(block);
+    let end = Inst::new(range.last().index() + 1);
+    Ok(BlockTable {
+        first: range.first(),
+        end,
+        succs: f.block_succs(block).to_vec(alloc)?,
+        preds: f.block_preds(block).to_vec(alloc)?,
+        params: f.block_params(block).to_vec(alloc)?,
+        arguments: copied_arguments(alloc, f, block)?,
+    })
+}
+
+/// The blocks.
+fn copied_blocks<F: Function, A: Allocator + Copy>(
+    alloc: A,
+    f: &F,
+) -> Result<Vec<BlockTable<A>, A>, AllocError>
+    requires { HasNonemptyBlocks (F.function f.now) }
+    ensures blocks { IfOk result (λ tables. map block_of tables.items ≡ map shown_block (F.function f.now).blocks) }
+    ensures count { IfOk result (λ tables. length tables.items ≡ length (F.function f.now).blocks) }
+{
+    let mut tables = Vec::with_capacity(alloc, f.num_blocks())?;
+    for block in 0..f.num_blocks() {
+        tables.push(copied_block(alloc, f, Block::new(block))?)?;
+    }
+    Ok(tables)
+}
+
+/// An instruction.
+fn copied_inst<F: Function, A: Allocator + Copy>(
+    alloc: A,
+    f: &F,
+    inst: Inst,
+) -> Result<InstTable<A>, AllocError>
+    requires { inst < length (F.function f.now).insts }
+    ensures { IfOk result (λ table. inst_of table ≡ shown_inst (inst_at (F.function f.now) inst)) }
+{
+    let op = if f.is_branch(inst) {
+        InstOpcode::Branch
+    } else if f.is_ret(inst) {
+        InstOpcode::Ret
+    } else {
+        InstOpcode::Op
+    };
+    Ok(InstTable {
+        operands: f.inst_operands(inst).to_vec(alloc)?,
+        clobbers: f.inst_clobbers(inst),
+        op,
+    })
+}
+
+/// The instructions.
+fn copied_insts<F: Function, A: Allocator + Copy>(
+    alloc: A,
+    f: &F,
+) -> Result<Vec<InstTable<A>, A>, AllocError>
+    ensures insts { IfOk result (λ tables. map inst_of tables.items ≡ map shown_inst (F.function f.now).insts) }
+    ensures count { IfOk result (λ tables. length tables.items ≡ length (F.function f.now).insts) }
+{
+    let mut tables = Vec::with_capacity(alloc, f.num_insts())?;
+    for inst in 0..f.num_insts() {
+        tables.push(copied_inst(alloc, f, Inst::new(inst))?)?;
+    }
+    Ok(tables)
+}
+
+/// The size of a slot for a class.
+fn copied_units<F: Function>(f: &F, class: RegClass) -> SlotUnits
+    ensures { result.units ≡ slot_size (F.function f.now).slot_sizes class }
+{
+    SlotUnits {
+        units: f.spillslot_size(class),
+    }
+}
+
+impl<A: Allocator + Copy> SerializableFunction<A> {
+    /// A function and the machine that it is for, to be stored. Each block has instructions, which are among the function's.
+    ///
+    /// Stored data have no instruction that is both a branch and a return: it is kept as a branch. All else is kept, so that
+    /// without such an instruction the value is `f`'s own.
+    /// `Memory` where a growth was refused, and nothing else.
+    pub fn new<F: Function>(
+        alloc: A,
+        f: &F,
+        env: MachineEnv<A>,
+    ) -> Result<SerializableFunction<A>, RegAllocError>
+        requires { HasNonemptyBlocks (F.function f.now) }
+        ensures function { IfOk result (λ s. function_of s ≡ shown_function (F.function f.now)) }
+        ensures whole { IsKeptWhole (F.function f.now) → IfOk result (λ s. function_of s ≡ F.function f.now) }
+        ensures machine { IfOk result (λ s. machine_of s.machine ≡ machine_of env) }
+        ensures memory { IfErr result (λ e. e ≡ RegAllocError.Memory) }
+    {
+        let blocks = copied_blocks(alloc, f)?;
+        let insts = copied_insts(alloc, f)?;
+        let labels = f.debug_value_labels().to_vec(alloc)?;
+        Ok(SerializableFunction {
+            machine: env,
+            blocks,
+            insts,
+            entry: f.entry_block(),
+            num_vregs: f.num_vregs(),
+            slot_sizes: SlotTable {
+                int: copied_units(f, RegClass::Int),
+                float: copied_units(f, RegClass::Float),
+                vector: copied_units(f, RegClass::Vector),
+            },
+            labels,
+            named_by_last_slot: f.multi_spillslot_named_by_last_slot(),
+            allows_multiple_defs: f.allow_multiple_vreg_defs(),
+        })
+    }
+}

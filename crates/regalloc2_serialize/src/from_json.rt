@@ -1,0 +1,225 @@
+//! Plain data from a JSON value.
+
+ghost use Rattle.std.specs.Prelude.{◌≡◌, ◌⊎◌, Some, None, Option, IfOk, IfErr};
+ghost use Rattle.serde_json.specs.Data.{Data};
+ghost use Rattle.serde_json.specs.View.{view};
+ghost use Rattle.regalloc2_serialize.specs.FromJson.{member, item_at};
+
+use regalloc2_function::StoredFault;
+use serde_json::Value;
+use std::alloc::Allocator;
+
+/// What is read from a JSON value.
+pub trait FromValue<A: Allocator> {
+    /// What stands for such a datum.
+    ghost Shown: { Type 0 };
+
+    /// What stands for this one.
+    ghost shows: { Self → Shown };
+
+    /// How it is read from a JSON value, where that has its shape.
+    ghost reads: { Data → Option Shown };
+
+    /// The datum that the value holds.
+    ///
+    /// `Shape` exactly where the value has another shape, and `Memory` where a growth was refused; no other fault comes.
+    fn from_value(alloc: A, value: &Value) -> Result<Self, StoredFault>
+        ensures ok { IfOk result (λ x. reads (view value.now) ≡ Some (shows x)) }
+        ensures shape { IfErr result (λ e. e ≡ StoredFault.Shape → reads (view value.now) ≡ None) }
+        ensures faults { IfErr result (λ e. (e ≡ StoredFault.Shape) ⊎ (e ≡ StoredFault.Memory)) };
+}
+
+impl<A: Allocator> FromValue<A> for u64 {
+    ghost use Rattle.std.specs.Prelude.{ℕ};
+    ghost use Rattle.regalloc2_serialize.specs.FromJson.{long};
+
+    ghost Shown = { ℕ };
+
+    ghost shows = { λ n. n };
+
+    ghost reads = { long };
+
+    fn from_value(_alloc: A, value: &Value) -> Result<u64, StoredFault> {
+        value.as_u64().ok_or(StoredFault::Shape)
+    }
+}
+
+impl<A: Allocator> FromValue<A> for u32 {
+    ghost use Rattle.std.specs.Prelude.{ℕ};
+    ghost use Rattle.regalloc2_serialize.specs.FromJson.{word};
+
+    ghost Shown = { ℕ };
+
+    ghost shows = { λ n. n };
+
+    ghost reads = { word };
+
+    fn from_value(_alloc: A, value: &Value) -> Result<u32, StoredFault> {
+        let number = value.as_u64().ok_or(StoredFault::Shape)?;
+        u32::try_from(number).map_err(|_| StoredFault::Shape)
+    }
+}
+
+impl<A: Allocator> FromValue<A> for u8 {
+    ghost use Rattle.std.specs.Prelude.{ℕ};
+    ghost use Rattle.regalloc2_serialize.specs.FromJson.{byte};
+
+    ghost Shown = { ℕ };
+
+    ghost shows = { λ n. n };
+
+    ghost reads = { byte };
+
+    fn from_value(_alloc: A, value: &Value) -> Result<u8, StoredFault> {
+        let number = value.as_u64().ok_or(StoredFault::Shape)?;
+        u8::try_from(number).map_err(|_| StoredFault::Shape)
+    }
+}
+
+impl<T: FromValue<A> + Drop, A: Allocator + Copy> FromValue<A> for Vec<T, A> {
+    ghost use Rattle.std.specs.Prelude.{List, map};
+    ghost use Rattle.regalloc2_serialize.specs.FromJson.{list};
+
+    ghost Shown = { List T.Shown };
+
+    ghost shows = { λ v. map T.shows v.items };
+
+    ghost reads = { list T.reads };
+
+    fn from_value(alloc: A, value: &Value) -> Result<Vec<T, A>, StoredFault> {
+        let Some(array) = value.as_array() else {
+            return Err(StoredFault::Shape);
+        };
+        let mut rest = array.as_slice();
+        let mut items = Vec::new(alloc);
+        while let Some((item, tail)) = rest.split_first() {
+            items.push(T::from_value(alloc, item)?)?;
+            rest = tail;
+        }
+        Ok(items)
+    }
+}
+
+impl<T: FromValue<A>, A: Allocator> FromValue<A> for Option<T> {
+    ghost use Rattle.std.specs.Option.{option_map};
+    ghost use Rattle.regalloc2_serialize.specs.FromJson.{or_null};
+
+    ghost Shown = { Option T.Shown };
+
+    ghost shows = { option_map T.shows };
+
+    ghost reads = { or_null T.reads };
+
+    fn from_value(alloc: A, value: &Value) -> Result<Option<T>, StoredFault> {
+        if value.is_null() {
+            return Ok(None);
+        }
+        Ok(Some(T::from_value(alloc, value)?))
+    }
+}
+
+impl<A: Allocator> FromValue<A> for bool {
+    ghost use Rattle.std.specs.Prelude.{Bool};
+    ghost use Rattle.serde_json.specs.Find.{as_bool};
+
+    ghost Shown = { Bool };
+
+    ghost shows = { λ b. b };
+
+    ghost reads = { as_bool };
+
+    fn from_value(_alloc: A, value: &Value) -> Result<bool, StoredFault> {
+        value.as_bool().ok_or(StoredFault::Shape)
+    }
+}
+
+/// The member of that name of an object.
+pub(crate) fn member_from<T: FromValue<A>, A: Allocator>(
+    alloc: A,
+    value: &Value,
+    name: &str,
+) -> Result<T, StoredFault>
+    ensures ok { IfOk result (λ x. member name.now T.reads (view value.now) ≡ Some (T.shows x)) }
+    ensures shape { IfErr result (λ e. e ≡ StoredFault.Shape → member name.now T.reads (view value.now) ≡ None) }
+    ensures faults { IfErr result (λ e. (e ≡ StoredFault.Shape) ⊎ (e ≡ StoredFault.Memory)) }
+{
+    let Some(found) = value.get(name) else {
+        return Err(StoredFault::Shape);
+    };
+    T::from_value(alloc, found)
+}
+
+/// The item at an index of an array.
+fn item_from<T: FromValue<A>, A: Allocator>(
+    alloc: A,
+    value: &Value,
+    index: usize,
+) -> Result<T, StoredFault>
+    ensures ok { IfOk result (λ x. item_at index T.reads (view value.now) ≡ Some (T.shows x)) }
+    ensures shape { IfErr result (λ e. e ≡ StoredFault.Shape → item_at index T.reads (view value.now) ≡ None) }
+    ensures faults { IfErr result (λ e. (e ≡ StoredFault.Shape) ⊎ (e ≡ StoredFault.Memory)) }
+{
+    let Some(found) = value.get(index) else {
+        return Err(StoredFault::Shape);
+    };
+    T::from_value(alloc, found)
+}
+
+impl<A: Allocator + Copy> FromValue<A> for (u32, u32) {
+    ghost use Rattle.std.specs.Prelude.{ℕ};
+    ghost use Rattle.regalloc2_serialize.specs.FromJson.{pair};
+
+    ghost Shown = { ℕ × ℕ };
+
+    ghost shows = { λ p. p };
+
+    ghost reads = { pair };
+
+    fn from_value(alloc: A, value: &Value) -> Result<(u32, u32), StoredFault> {
+        if value.get(2).is_some() {
+            return Err(StoredFault::Shape);
+        }
+        Ok((item_from(alloc, value, 0)?, item_from(alloc, value, 1)?))
+    }
+}
+
+impl<A: Allocator + Copy> FromValue<A> for (u32, u32, u32) {
+    ghost use Rattle.std.specs.Prelude.{ℕ};
+    ghost use Rattle.regalloc2_serialize.specs.FromJson.{triple};
+
+    ghost Shown = { ℕ × ℕ × ℕ };
+
+    ghost shows = { λ p. p };
+
+    ghost reads = { triple };
+
+    fn from_value(alloc: A, value: &Value) -> Result<(u32, u32, u32), StoredFault> {
+        if value.get(3).is_some() {
+            return Err(StoredFault::Shape);
+        }
+        let first = item_from(alloc, value, 0)?;
+        let second = item_from(alloc, value, 1)?;
+        Ok((first, second, item_from(alloc, value, 2)?))
+    }
+}
+
+impl<A: Allocator + Copy> FromValue<A> for (u32, u32, u32, u32) {
+    ghost use Rattle.std.specs.Prelude.{ℕ};
+    ghost use Rattle.regalloc2_serialize.specs.FromJson.{quadruple};
+
+    ghost Shown = { ℕ × ℕ × ℕ × ℕ };
+
+    ghost shows = { λ p. p };
+
+    ghost reads = { quadruple };
+
+    fn from_value(alloc: A, value: &Value) -> Result<(u32, u32, u32, u32), StoredFault> {
+        if value.get(4).is_some() {
+            return Err(StoredFault::Shape);
+        }
+        let first = item_from(alloc, value, 0)?;
+        let second = item_from(alloc, value, 1)?;
+        let third = item_from(alloc, value, 2)?;
+        Ok((first, second, third, item_from(alloc, value, 3)?))
+    }
+}

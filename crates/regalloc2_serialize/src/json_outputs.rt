@@ -1,0 +1,148 @@
+//! Stored functions and outputs from a JSON value.
+
+ghost use Rattle.std.specs.Prelude.{◌≡◌, ◌⊎◌, IfOk, IfErr};
+ghost use Rattle.serde_json.specs.View.{view};
+ghost use Rattle.regalloc2_serialize.specs.JsonShape.{HasShape, IsFunctionAt};
+
+use super::data::{InstOpcode, StoredFunction, StoredInst, StoredMachine};
+use super::from_json::{FromValue, member_from};
+use regalloc2_function::{StoredFault, StoredOutput};
+use serde_json::Value;
+use std::alloc::Allocator;
+
+impl<A: Allocator> FromValue<A> for InstOpcode {
+    ghost use Rattle.regalloc2_serialize.specs.declared.data.InstOpcode.{InstOpcode};
+    ghost use Rattle.regalloc2_serialize.specs.JsonShape.{opcode};
+
+    ghost Shown = { InstOpcode };
+
+    ghost shows = { λ op. op };
+
+    ghost reads = { opcode };
+
+    fn from_value(_alloc: A, value: &Value) -> Result<InstOpcode, StoredFault> {
+        let Some(name) = value.as_str() else {
+            return Err(StoredFault::Shape);
+        };
+        match name {
+            "Op" => Ok(InstOpcode::Op),
+            "Ret" => Ok(InstOpcode::Ret),
+            "Branch" => Ok(InstOpcode::Branch),
+            _ => Err(StoredFault::Shape),
+        }
+    }
+}
+
+impl<A: Allocator + Copy> FromValue<A> for StoredInst<A> {
+    ghost use Rattle.regalloc2_serialize.specs.JsonShape.{InstData, inst_data, inst};
+
+    ghost Shown = { InstData };
+
+    ghost shows = { inst_data };
+
+    ghost reads = { inst };
+
+    fn from_value(alloc: A, value: &Value) -> Result<StoredInst<A>, StoredFault> {
+        let op = member_from(alloc, value, "op")?;
+        let operands = member_from(alloc, value, "operands")?;
+        let clobbers = member_from(alloc, value, "clobbers")?;
+        Ok(StoredInst {
+            op,
+            operands,
+            clobbers,
+        })
+    }
+}
+
+impl<A: Allocator + Copy> FromValue<A> for StoredMachine<A> {
+    ghost use Rattle.regalloc2_serialize.specs.JsonShape.{MachineData, machine_data, machine};
+
+    ghost Shown = { MachineData };
+
+    ghost shows = { machine_data };
+
+    ghost reads = { machine };
+
+    fn from_value(alloc: A, value: &Value) -> Result<StoredMachine<A>, StoredFault> {
+        let preferred_regs_by_class = member_from(alloc, value, "preferred_regs_by_class")?;
+        let non_preferred_regs_by_class = member_from(alloc, value, "non_preferred_regs_by_class")?;
+        let scratch_by_class = member_from(alloc, value, "scratch_by_class")?;
+        let fixed_stack_slots = member_from(alloc, value, "fixed_stack_slots")?;
+        Ok(StoredMachine {
+            preferred_regs_by_class,
+            non_preferred_regs_by_class,
+            scratch_by_class,
+            fixed_stack_slots,
+        })
+    }
+}
+
+impl<A: Allocator + Copy> FromValue<A> for StoredOutput<A> {
+    ghost use Rattle.regalloc2_serialize.specs.JsonShape.{OutputData, output_data, output};
+
+    ghost Shown = { OutputData };
+
+    ghost shows = { output_data };
+
+    ghost reads = { output };
+
+    fn from_value(alloc: A, value: &Value) -> Result<StoredOutput<A>, StoredFault> {
+        let num_spillslots = member_from(alloc, value, "num_spillslots")?;
+        let edits = member_from(alloc, value, "edits")?;
+        let allocs = member_from(alloc, value, "allocs")?;
+        let inst_alloc_offsets = member_from(alloc, value, "inst_alloc_offsets")?;
+        let debug_locations = member_from(alloc, value, "debug_locations")?;
+        Ok(StoredOutput {
+            num_spillslots,
+            edits,
+            allocs,
+            inst_alloc_offsets,
+            debug_locations,
+        })
+    }
+}
+
+impl<A: Allocator + Copy> StoredFunction<A> {
+    /// The function that a JSON value holds: an object with a member for each field, by that name. Other members are
+    /// ignored.
+    ///
+    /// `Shape` exactly where the value has another shape, and `Memory` where a growth was refused; no other fault comes.
+    /// Whether the numbers name a function is tested by [`SerializableFunction::from_stored`].
+    ///
+    /// [`SerializableFunction::from_stored`]: super::SerializableFunction::from_stored
+    pub fn from_value(alloc: A, value: &Value) -> Result<StoredFunction<A>, StoredFault>
+        ensures fields { IfOk result (λ s. IsFunctionAt (view value.now) s) }
+        ensures shape { IfErr result (λ e. e ≡ StoredFault.Shape → HasShape (view value.now) → ⊥) }
+        ensures faults { IfErr result (λ e. (e ≡ StoredFault.Shape) ⊎ (e ≡ StoredFault.Memory)) }
+    {
+        // Numbers come first and the machine last: each refusal drops what was read before it.
+        let entry_block = member_from(alloc, value, "entry_block")?;
+        let num_vregs = member_from(alloc, value, "num_vregs")?;
+        let by_last_slot = member_from(alloc, value, "multi_spillslot_named_by_last_slot")?;
+        let multiple_defs = member_from(alloc, value, "allow_multiple_vreg_defs")?;
+        let spillslot_size = member_from(alloc, value, "spillslot_size")?;
+        let debug_value_labels = member_from(alloc, value, "debug_value_labels")?;
+        let blocks = member_from(alloc, value, "blocks")?;
+        let block_preds = member_from(alloc, value, "block_preds")?;
+        let block_succs = member_from(alloc, value, "block_succs")?;
+        let block_params_in = member_from(alloc, value, "block_params_in")?;
+        let block_params_out = member_from(alloc, value, "block_params_out")?;
+        let insts = member_from(alloc, value, "insts")?;
+        let machine_env = member_from(alloc, value, "machine_env")?;
+        Ok(StoredFunction {
+            machine_env,
+            entry_block,
+            insts,
+            blocks,
+            block_preds,
+            block_succs,
+            block_params_in,
+            block_params_out,
+            num_vregs,
+            debug_value_labels,
+            spillslot_size,
+            multi_spillslot_named_by_last_slot: by_last_slot,
+            allow_multiple_vreg_defs: multiple_defs,
+        })
+    }
+}

@@ -1,0 +1,251 @@
+//! The tests of stored functions, each over plain data.
+
+ghost use Rattle.std.specs.Prelude.{◌≡◌, ℕ, ◌↔◌, ◌<◌, ◌≤◌, ◌/◌, IsTrue, All, IfSome, length, map};
+ghost use Rattle.regalloc2_names.specs.Packing.{IsRegisterIndex, IsVRegBits, IsOperandBits};
+ghost use Rattle.regalloc2_function.specs.FunctionValue.{IsSlotSize};
+ghost use Rattle.regalloc2_serialize.specs.Validity.{HasThreeClasses, HasAllOfEachBlock, HasLengths, IsRangeWithin, IsWithin, NamesOperands};
+ghost use Rattle.regalloc2_serialize.specs.Validity.{NamesRegisters, NamesVRegs, NamesAll, KeepsLimits};
+
+use super::data::{StoredFunction, StoredInst, StoredMachine};
+use regalloc2_names::{Operand, PReg, VReg};
+use std::alloc::Allocator;
+
+impl<A: Allocator> StoredMachine<A> {
+    /// Whether lists by class have three members.
+    fn has_three_classes(&self) -> bool
+        ensures { IsTrue result ↔ HasThreeClasses self.now }
+    {
+        self.preferred_regs_by_class.len() == 3
+            && self.non_preferred_regs_by_class.len() == 3
+            && self.scratch_by_class.len() == 3
+    }
+
+    /// Whether each number is that of a register.
+    fn names_registers(&self) -> bool
+        ensures { IsTrue result ↔ NamesRegisters self.now }
+    {
+        are_lists_of_registers(self.preferred_regs_by_class.as_slice())
+            && are_lists_of_registers(self.non_preferred_regs_by_class.as_slice())
+            && are_scratch_registers(self.scratch_by_class.as_slice())
+            && are_registers(self.fixed_stack_slots.as_slice())
+    }
+}
+
+impl<A: Allocator> StoredFunction<A> {
+    /// Whether the lists by block are equally long, as are each block's successors and arguments.
+    fn has_all_of_each_block(&self) -> bool
+        ensures { IsTrue result ↔ HasAllOfEachBlock self.now }
+    {
+        let count = self.blocks.len();
+        self.block_preds.len() == count
+            && self.block_succs.len() == count
+            && self.block_params_in.len() == count
+            && are_as_long(
+                self.block_params_out.as_slice(),
+                self.block_succs.as_slice(),
+            )
+    }
+
+    /// Whether lists are of the lengths that they should have.
+    pub(crate) fn has_equal_lengths(&self) -> bool
+        ensures { IsTrue result ↔ HasLengths self.now }
+    {
+        self.has_all_of_each_block()
+            && self.machine_env.has_three_classes()
+            && self.spillslot_size.len() == 3
+    }
+
+    /// Whether blocks, instructions and labelled virtual registers are in range.
+    pub(crate) fn is_within(&self) -> bool
+        ensures { IsTrue result ↔ IsWithin self.now }
+    {
+        let count = self.blocks.len();
+        (self.entry_block as usize) < count
+            && are_lists_of_blocks(self.block_preds.as_slice(), count)
+            && are_lists_of_blocks(self.block_succs.as_slice(), count)
+            && are_ranges(self.blocks.as_slice(), self.insts.len())
+            && are_labels_below(self.debug_value_labels.as_slice(), self.num_vregs)
+    }
+
+    /// Whether the numbers of parameters, arguments and labels are those of virtual registers.
+    fn names_vregs(&self) -> bool
+        ensures { IsTrue result ↔ NamesVRegs self.now }
+    {
+        are_lists_of_vregs(self.block_params_in.as_slice())
+            && are_arguments(self.block_params_out.as_slice())
+            && are_labels(self.debug_value_labels.as_slice())
+    }
+
+    /// Whether each number is that of a name: registers, virtual registers and operands.
+    pub(crate) fn names_all(&self) -> bool
+        ensures { IsTrue result ↔ NamesAll self.now }
+    {
+        if !self.machine_env.names_registers() {
+            return false;
+        }
+        if !are_insts(self.insts.as_slice()) {
+            return false;
+        }
+        self.names_vregs()
+    }
+
+    /// Whether the limits of each function are kept.
+    pub(crate) fn keeps_limits(&self) -> bool
+        ensures { IsTrue result ↔ KeepsLimits self.now }
+    {
+        self.insts.len() < 1 << 30
+            && self.blocks.len() < u32::MAX as usize
+            && self.num_vregs < 1 << 30
+            && are_slot_sizes(self.spillslot_size.as_slice())
+    }
+}
+
+/// Whether lists are as long as others, one by one.
+fn are_as_long<A: Allocator>(lists: &[Vec<Vec<u32, A>, A>], others: &[Vec<u32, A>]) -> bool
+    ensures { IsTrue result ↔ (map (λ l. length l.items) lists.now ≡ map (λ l. length l.items) others.now) }
+{
+    if lists.len() != others.len() {
+        return false;
+    }
+    for i in 0..lists.len() {
+        if lists[i].len() != others[i].len() {
+            return false;
+        }
+    }
+    true
+}
+
+/// Whether all are numbers of blocks.
+fn are_blocks(words: &[u32], count: usize) -> bool
+    ensures { IsTrue result ↔ All (λ b. b < count) words.now }
+{
+    words.iter().all(|word| (*word as usize) < count)
+}
+
+/// Whether all lists are of numbers of blocks.
+fn are_lists_of_blocks<A: Allocator>(lists: &[Vec<u32, A>], count: usize) -> bool
+    ensures { IsTrue result ↔ All (λ l. All (λ b. b < count) l.items) lists.now }
+{
+    lists.iter().all(|list| are_blocks(list.as_slice(), count))
+}
+
+/// Whether all ranges rise and end within so many instructions.
+fn are_ranges(ranges: &[(u32, u32)], count: usize) -> bool
+    ensures { IsTrue result ↔ All (IsRangeWithin count) ranges.now }
+{
+    ranges
+        .iter()
+        .all(|range| range.0 <= range.1 && range.1 as usize <= count)
+}
+
+/// Whether all labels are of virtual registers with a number below that one.
+fn are_labels_below(labels: &[(u32, u32, u32, u32)], num_vregs: u64) -> bool
+    ensures { IsTrue result ↔ All (λ l. l.0 / 4 < num_vregs) labels.now }
+{
+    labels
+        .iter()
+        .all(|label| u64::from(label.0 >> 2) < num_vregs)
+}
+
+/// Whether all are indexes of registers.
+fn are_registers(indexes: &[u8]) -> bool
+    ensures { IsTrue result ↔ All IsRegisterIndex indexes.now }
+{
+    indexes
+        .iter()
+        .all(|index| PReg::is_index(usize::from(*index)))
+}
+
+/// Whether all lists are of indexes of registers.
+fn are_lists_of_registers<A: Allocator>(lists: &[Vec<u8, A>]) -> bool
+    ensures { IsTrue result ↔ All (λ l. All IsRegisterIndex l.items) lists.now }
+{
+    lists.iter().all(|list| are_registers(list.as_slice()))
+}
+
+/// Whether a register that may lack is none or has an index.
+fn is_scratch_register(index: Option<u8>) -> bool
+    ensures { IsTrue result ↔ IfSome index IsRegisterIndex }
+{
+    match index {
+        Some(index) => PReg::is_index(usize::from(index)),
+        None => true,
+    }
+}
+
+/// Whether all registers that are there have indexes.
+fn are_scratch_registers(indexes: &[Option<u8>]) -> bool
+    ensures { IsTrue result ↔ All (λ o. IfSome o IsRegisterIndex) indexes.now }
+{
+    indexes.iter().all(|index| is_scratch_register(*index))
+}
+
+/// Whether all are words of operands.
+fn are_operands(words: &[u64]) -> bool
+    ensures { IsTrue result ↔ All IsOperandBits words.now }
+{
+    words.iter().all(|word| Operand::is_bits(*word))
+}
+
+impl<A: Allocator> StoredInst<A> {
+    /// Whether each number is that of an operand or a register.
+    fn names_operands(&self) -> bool
+        ensures { IsTrue result ↔ NamesOperands self.now }
+    {
+        are_operands(self.operands.as_slice()) && are_registers(self.clobbers.as_slice())
+    }
+}
+
+/// Whether all instructions have words of operands and indexes of registers.
+fn are_insts<A: Allocator>(insts: &[StoredInst<A>]) -> bool
+    ensures { IsTrue result ↔ All (λ i. NamesOperands i) insts.now }
+{
+    for inst in insts {
+        if !inst.names_operands() {
+            return false;
+        }
+    }
+    true
+}
+
+/// Whether all are words of virtual registers.
+fn are_vregs(words: &[u32]) -> bool
+    ensures { IsTrue result ↔ All IsVRegBits words.now }
+{
+    words.iter().all(|word| VReg::is_bits(*word))
+}
+
+/// Whether all lists are of words of virtual registers.
+fn are_lists_of_vregs<A: Allocator>(lists: &[Vec<u32, A>]) -> bool
+    ensures { IsTrue result ↔ All (λ l. All IsVRegBits l.items) lists.now }
+{
+    lists.iter().all(|list| are_vregs(list.as_slice()))
+}
+
+/// Whether all lists of lists are of words of virtual registers.
+fn are_arguments<A: Allocator>(lists: &[Vec<Vec<u32, A>, A>]) -> bool
+    ensures { IsTrue result ↔ All (λ l. All (λ k. All IsVRegBits k.items) l.items) lists.now }
+{
+    lists.iter().all(|list| are_lists_of_vregs(list.as_slice()))
+}
+
+/// Whether all labels are of virtual registers.
+fn are_labels(labels: &[(u32, u32, u32, u32)]) -> bool
+    ensures { IsTrue result ↔ All (λ l. IsVRegBits l.0) labels.now }
+{
+    labels.iter().all(|label| VReg::is_bits(label.0))
+}
+
+/// Whether a number is a power of two from 1 to 2^24.
+fn is_slot_size(size: u64) -> bool
+    ensures { IsTrue result ↔ IsSlotSize size }
+{
+    1 <= size && size <= 1 << 24 && size.is_power_of_two()
+}
+
+/// Whether all are powers of two from 1 to 2^24.
+fn are_slot_sizes(sizes: &[u64]) -> bool
+    ensures { IsTrue result ↔ All IsSlotSize sizes.now }
+{
+    sizes.iter().all(|size| is_slot_size(*size))
+}

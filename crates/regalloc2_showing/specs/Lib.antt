@@ -1,3 +1,0 @@
-pub mod InSlots
-pub mod Places
-pub mod Written

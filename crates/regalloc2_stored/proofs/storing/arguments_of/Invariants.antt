@@ -1,7 +1,0 @@
-use Rattle.std.proofs.Common.{◌≡◌, map, take}
-use Rattle.regalloc2_names.specs.Packing.{vreg_of_bits}
-use Rattle.regalloc2_stored.specs.Tables.{block_of}
-use Rattle.regalloc2_stored.proofs.storing.arguments_of.Given as goal
-
-abbrev pub invariant-loop-block : goal.invariant-loop-block
-invariant-loop-block g l = map (λ v. map (λ k. map vreg_of_bits k.items) v.items) l.arguments.items ≡ map (λ b. (block_of b).arguments) (take l.block-index l.blocks)

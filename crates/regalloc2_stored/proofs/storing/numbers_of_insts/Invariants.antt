@@ -1,8 +1,0 @@
-use Rattle.std.proofs.Common.{map, take}
-use Rattle.std.specs.List.{AllZip}
-use Rattle.regalloc2_stored.specs.Named.{NamesInst}
-use Rattle.regalloc2_stored.specs.Tables.{inst_of}
-use Rattle.regalloc2_stored.proofs.storing.numbers_of_insts.Given as goal
-
-abbrev pub invariant-loop-inst : goal.invariant-loop-inst
-invariant-loop-inst g l = AllZip (λ x i. NamesInst x i) l.numbers.items (take l.inst-index (map inst_of l.insts))

@@ -1,7 +1,0 @@
-use Rattle.std.proofs.Common.{◌≡◌, map, take}
-use Rattle.regalloc2_names.specs.Packing.{vreg_of_bits}
-use Rattle.regalloc2_stored.specs.Tables.{block_of}
-use Rattle.regalloc2_stored.proofs.storing.params_of.Given as goal
-
-abbrev pub invariant-loop-block : goal.invariant-loop-block
-invariant-loop-block g l = map (λ v. map vreg_of_bits v.items) l.params.items ≡ map (λ b. (block_of b).params) (take l.block-index l.blocks)

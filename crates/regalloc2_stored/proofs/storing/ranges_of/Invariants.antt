@@ -1,7 +1,0 @@
-use Rattle.std.proofs.Common.{◌≡◌, map, take}
-use Rattle.regalloc2_stored.specs.Named.{stored_range}
-use Rattle.regalloc2_stored.specs.Tables.{block_of}
-use Rattle.regalloc2_stored.proofs.storing.ranges_of.Given as goal
-
-abbrev pub invariant-loop-block : goal.invariant-loop-block
-invariant-loop-block g l = map stored_range l.ranges.items ≡ map (λ b. (block_of b).range) (take l.block-index l.blocks)

@@ -1,6 +1,0 @@
-use Rattle.std.proofs.Common.{◌≡◌, map, take}
-use Rattle.regalloc2_names.specs.Packing.{vreg_of_bits}
-use Rattle.regalloc2_stored.proofs.storing.words_of_lists.Given as goal
-
-abbrev pub invariant-loop-list : goal.invariant-loop-list
-invariant-loop-list g l = map (λ v. map vreg_of_bits v.items) l.words.items ≡ map (λ v. v.items) (take l.list-index l.lists)

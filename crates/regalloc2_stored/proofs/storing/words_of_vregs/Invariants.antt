@@ -1,6 +1,0 @@
-use Rattle.std.proofs.Common.{◌≡◌, map, take}
-use Rattle.regalloc2_names.specs.Packing.{vreg_of_bits}
-use Rattle.regalloc2_stored.proofs.storing.words_of_vregs.Given as goal
-
-abbrev pub invariant-loop-vreg : goal.invariant-loop-vreg
-invariant-loop-vreg g l = map vreg_of_bits l.words.items ≡ take l.vreg-index l.vregs

@@ -1,3 +1,0 @@
-pub mod Reserving
-pub mod States
-pub mod Uncrowded
