@@ -50,6 +50,11 @@ pub record Owes {F G T : Type 0} (registers : F → Option Place → F → Type 
   pub no_memory : (p : Place) → MayAnswer registers f p → stack p true → ⊥
   pub borrowed_no_memory : stack borrowed true → ⊥
 
+-- both closures may be called
+pub record CanAsk (register slot : Type 0) : Type 0 where
+  pub registers : register
+  pub slots : slot
+
 -- the register or, where there is none, the slot that was handed out
 abbrev pub IsHanding : {F G : Type 0} → (F → Option Place → F → Type 0) → (G → Option Place → G → Type 0) → F → F → G → G → Handed → Type 0
 IsHanding registers slots f f' g g' (Register p) = registers f (Some p) f' × (g' ≡ g)

@@ -1,12 +1,16 @@
 //! A place among the tokens of a line.
 
-ghost use Rattle.std.specs.Prelude.{◌≡◌, ◌<◌, ◌≤◌, length, IsTrue, IfOk, IfSome};
+ghost use Rattle.std.specs.Prelude.{◌≡◌, ◌<◌, ◌≤◌, length, IsTrue, IfSome};
 ghost use Rattle.regalloc2_text.specs.Cursor.{tokens_left};
 
 use super::error::{Expected, Flaw, Found};
 use super::token::{Token, TokenKind};
+use std::alloc::Allocator;
 
 /// A place among the tokens of a line. What is read is passed, and no method goes back.
+///
+/// The cursor keeps the first flaw that is found, and no token is left after it: what is read from then on is zeros and
+/// empty lists, for `finish` to refuse.
 #[derive(Drop)]
 pub(crate) struct Cursor<'a, 't> {
     /// The tokens of the line.
@@ -15,6 +19,8 @@ pub(crate) struct Cursor<'a, 't> {
     at: usize,
     /// One more than the greatest number of a virtual register that was read.
     num_vregs: u64,
+    /// Why the line can't be read, where a flaw was found.
+    flaw: Option<Flaw<'t>>,
 }
 
 impl<'a, 't> Cursor<'a, 't> {
@@ -24,6 +30,7 @@ impl<'a, 't> Cursor<'a, 't> {
             tokens,
             at: 0,
             num_vregs,
+            flaw: None,
         }
     }
 
@@ -67,34 +74,68 @@ impl<'a, 't> Cursor<'a, 't> {
         self.tokens.get(self.at.wrapping_sub(1)).copied()
     }
 
-    /// The next token doesn't fit.
-    pub(crate) fn fault(&self, expected: Expected) -> Flaw<'t> {
-        if let Some(token) = self.next() {
-            return Flaw::new(token.column, expected, Found::Token(token.text));
-        }
-        let end = match self.previous() {
-            Some(token) => token.column.saturating_add(token.text.len()),
-            None => 1,
+    /// Notes that flaw, unless there is one already.
+    pub(crate) fn fail(&mut self, flaw: Flaw<'t>)
+        ensures { tokens_left self.new ≤ tokens_left self.old }
+    {
+        self.flaw = self.flaw.or(Some(flaw));
+        self.at = self.tokens.len();
+    }
+
+    /// Notes that the next token doesn't fit.
+    pub(crate) fn fault(&mut self, expected: Expected)
+        ensures { tokens_left self.new ≤ tokens_left self.old }
+    {
+        let (column, found) = match (self.next(), self.previous()) {
+            (Some(token), _) => (token.column, Found::Token(token.text)),
+            (None, Some(last)) => (last.column.saturating_add(last.text.len()), Found::LineEnd),
+            (None, None) => (1, Found::LineEnd),
         };
-        Flaw::new(end, expected, Found::LineEnd)
+        self.fail(Flaw::new(column, expected, found));
     }
 
-    /// The next token doesn't fit, in whose place these words say what could stand.
-    pub(crate) fn misfit(&self, expected: &'static str) -> Flaw<'t> {
-        self.fault(Expected::Words(expected))
+    /// Notes that the next token doesn't fit, in whose place these words say what could stand.
+    pub(crate) fn misfit(&mut self, expected: &'static str)
+        ensures { tokens_left self.new ≤ tokens_left self.old }
+    {
+        self.fault(Expected::Words(expected));
     }
 
-    /// The token before the next one doesn't fit.
-    pub(crate) fn fault_before(&self, expected: Expected) -> Flaw<'t> {
+    /// Notes that the token before the next one doesn't fit.
+    pub(crate) fn fault_before(&mut self, expected: Expected)
+        ensures { tokens_left self.new ≤ tokens_left self.old }
+    {
         match self.previous() {
-            Some(token) => Flaw::new(token.column, expected, Found::Token(token.text)),
+            Some(token) => {
+                self.fail(Flaw::new(token.column, expected, Found::Token(token.text)));
+            }
             None => self.fault(expected),
         }
     }
 
-    /// The token before the next one doesn't fit, in whose place these words say what could stand.
-    pub(crate) fn misfit_before(&self, expected: &'static str) -> Flaw<'t> {
-        self.fault_before(Expected::Words(expected))
+    /// Notes that the token before the next one doesn't fit, in whose place these words say what could stand.
+    pub(crate) fn misfit_before(&mut self, expected: &'static str)
+        ensures { tokens_left self.new ≤ tokens_left self.old }
+    {
+        self.fault_before(Expected::Words(expected));
+    }
+
+    /// Adds an item to a list, or notes that memory is out.
+    pub(crate) fn push<T: Drop, A: Allocator>(&mut self, list: &mut Vec<T, A>, item: T)
+        ensures { tokens_left self.new ≤ tokens_left self.old }
+    {
+        if let Err(refused) = list.push(item) {
+            self.fail(refused.into());
+        }
+    }
+
+    /// Adds copies of items to a list, or notes that memory is out.
+    pub(crate) fn extend<A: Allocator>(&mut self, list: &mut Vec<u32, A>, items: &[u32])
+        ensures { tokens_left self.new ≤ tokens_left self.old }
+    {
+        if let Err(refused) = list.extend_from_slice(items) {
+            self.fail(refused.into());
+        }
     }
 
     /// Passes the next token, where there is one.
@@ -121,66 +162,75 @@ impl<'a, 't> Cursor<'a, 't> {
     }
 
     /// Passes the next token, which is that one.
-    pub(crate) fn want(&mut self, text: &'static str) -> Result<(), Flaw<'t>>
+    pub(crate) fn want(&mut self, text: &'static str)
         ensures { tokens_left self.new ≤ tokens_left self.old }
     {
-        if self.has(text) {
-            Ok(())
-        } else {
-            Err(self.fault(Expected::Token(text)))
+        if !self.has(text) {
+            self.fault(Expected::Token(text));
         }
     }
 
-    /// No token is left.
-    pub(crate) fn done(&self) -> Result<(), Flaw<'t>> {
-        if self.next().is_none() {
-            Ok(())
-        } else {
-            Err(self.misfit("the end of the line"))
+    /// The line ends here, and no flaw was found in it.
+    pub(crate) fn finish(mut self) -> Result<(), Flaw<'t>> {
+        if self.next().is_some() {
+            self.misfit("the end of the line");
+        }
+        match self.flaw {
+            Some(flaw) => Err(flaw),
+            None => Ok(()),
         }
     }
 
     /// A number up to `max`, as a token of its own.
-    pub(crate) fn number(&mut self, max: u64) -> Result<u64, Flaw<'t>>
+    pub(crate) fn number(&mut self, max: u64) -> u64
         ensures left { tokens_left self.new ≤ tokens_left self.old }
-        ensures up_to { IfOk result (λ n. n ≤ max) }
+        ensures up_to { result ≤ max }
     {
-        let Some(token) = self.next() else {
-            return Err(self.misfit("a number"));
+        let digits = match self.next() {
+            Some(token) if token.kind == TokenKind::Number => token.text,
+            _ => {
+                self.misfit("a number");
+                return 0;
+            }
         };
-        if token.kind != TokenKind::Number {
-            return Err(self.misfit("a number"));
-        }
-        match token.text.parse::<u64>() {
+        match digits.parse::<u64>() {
             Ok(number) if number <= max => {
                 self.advance();
-                Ok(number)
+                number
             }
-            _ => Err(self.fault(Expected::NumberUpTo(max))),
+            _ => {
+                self.fault(Expected::NumberUpTo(max));
+                0
+            }
         }
     }
 
     /// A number of 32 bits, as a token of its own.
-    pub(crate) fn word(&mut self) -> Result<u32, Flaw<'t>>
+    pub(crate) fn word(&mut self) -> u32
         ensures { tokens_left self.new ≤ tokens_left self.old }
     {
-        let number = self.number(u64::from(u32::MAX))?;
-        Ok(number as u32)
+        self.number(u64::from(u32::MAX)) as u32
     }
 
     /// The number of 32 bits in a word that is made of `name` and a number, as `inst3`; `expected` says what it names.
-    pub(crate) fn named(&mut self, name: &str, expected: &'static str) -> Result<u32, Flaw<'t>>
+    pub(crate) fn named(&mut self, name: &str, expected: &'static str) -> u32
         ensures { tokens_left self.new ≤ tokens_left self.old }
     {
         let digits = self.peek().and_then(|text| text.strip_prefix(name));
         let Some(digits) = digits.filter(|digits| is_numeral(digits)) else {
-            return Err(self.misfit(expected));
+            self.misfit(expected);
+            return 0;
         };
-        let Ok(number) = digits.parse::<u32>() else {
-            return Err(self.fault(Expected::NumberUpTo(u64::from(u32::MAX))));
-        };
-        self.advance();
-        Ok(number)
+        match digits.parse::<u32>() {
+            Ok(number) => {
+                self.advance();
+                number
+            }
+            Err(_) => {
+                self.fault(Expected::NumberUpTo(u64::from(u32::MAX)));
+                0
+            }
+        }
     }
 }
 

@@ -5,7 +5,6 @@ ghost use Rattle.regalloc2_names.specs.Packing.{IsConstraintOf};
 ghost use Rattle.regalloc2_text.specs.Cursor.{tokens_left};
 
 use super::cursor::{Cursor, is_numeral};
-use super::error::Flaw;
 use regalloc2_index::Inst;
 use regalloc2_names::{
     Allocation, InstPosition, Operand, OperandConstraint, OperandKind, OperandPos, PReg, ProgPoint,
@@ -95,201 +94,212 @@ fn is_fixed_alone(operand: Operand) -> bool {
     }
 }
 
-impl<'t> Cursor<'_, 't> {
+/// The name of that letter, with a number up to `max`, that a word is, or what is said of the word.
+fn name_in(word: &str, letter: char, max: usize, misnamed: &Misnamed) -> Result<Named, &'static str>
+    ensures { IfOk result (λ named. named.number ≤ max) }
+{
+    let (digits, last) = split_letter(word.strip_prefix(letter).unwrap_or(""));
+    if !is_numeral(digits) {
+        return Err(misnamed.other);
+    }
+    let Some(class) = last.and_then(class_of_letter) else {
+        return Err(misnamed.no_class);
+    };
+    match digits.parse::<usize>() {
+        Ok(number) if number <= max => Ok(Named { number, class }),
+        _ => Err(misnamed.too_great),
+    }
+}
+
+impl Cursor<'_, '_> {
     /// The number in `bits(N)` up to `max`, where that is next; the bracket after it is not passed.
-    fn bits(&mut self, max: u64) -> Result<Option<u64>, Flaw<'t>>
+    fn bits(&mut self, max: u64) -> Option<u64>
         ensures left { tokens_left self.new ≤ tokens_left self.old }
-        ensures up_to { IfOk result (λ bits. IfSome bits (λ n. n ≤ max)) }
+        ensures up_to { IfSome result (λ n. n ≤ max) }
     {
         if !self.has("bits") {
-            return Ok(None);
+            return None;
         }
-        self.want("(")?;
-        Ok(Some(self.number(max)?))
+        self.want("(");
+        Some(self.number(max))
     }
 
     /// The bracket after a number in `bits(N)`, which is not that of a name.
-    fn bits_end(&mut self, is_named: bool) -> Result<(), Flaw<'t>>
+    fn bits_end(&mut self, is_named: bool)
         ensures { tokens_left self.new ≤ tokens_left self.old }
     {
         if is_named {
-            return Err(self.misfit_before("a word that names nothing (this one has a name)"));
+            self.misfit_before("a word that names nothing (this one has a name)");
         }
-        self.want(")")
+        self.want(")");
     }
 
     /// A name of that letter whose number is up to `max`.
-    fn letter_named(
-        &mut self,
-        letter: char,
-        max: usize,
-        misnamed: &Misnamed,
-    ) -> Result<Named, Flaw<'t>>
+    fn letter_named(&mut self, letter: char, max: usize, misnamed: &Misnamed) -> Named
         ensures left { tokens_left self.new ≤ tokens_left self.old }
-        ensures up_to { IfOk result (λ named. named.number ≤ max) }
+        ensures up_to { result.number ≤ max }
     {
-        let Some(body) = self.peek().and_then(|word| word.strip_prefix(letter)) else {
-            return Err(self.misfit(misnamed.other));
-        };
-        let (digits, last) = split_letter(body);
-        if !is_numeral(digits) {
-            return Err(self.misfit(misnamed.other));
-        }
-        let Some(class) = last.and_then(class_of_letter) else {
-            return Err(self.misfit(misnamed.no_class));
-        };
-        match digits.parse::<usize>() {
-            Ok(number) if number <= max => {
+        match name_in(self.peek().unwrap_or(""), letter, max, misnamed) {
+            Ok(named) => {
                 self.advance();
-                Ok(Named { number, class })
+                named
             }
-            _ => Err(self.misfit(misnamed.too_great)),
+            Err(expected) => {
+                self.misfit(expected);
+                Named {
+                    number: 0,
+                    class: RegClass::Int,
+                }
+            }
         }
     }
 
     /// A register.
-    pub(crate) fn register(&mut self) -> Result<Named, Flaw<'t>>
+    pub(crate) fn register(&mut self) -> Named
         ensures left { tokens_left self.new ≤ tokens_left self.old }
-        ensures up_to { IfOk result (λ named. named.number ≤ PReg.MAX) }
+        ensures up_to { result.number ≤ PReg.MAX }
     {
         self.letter_named('p', PReg::MAX, &NO_REGISTER)
     }
 
     /// The index of a register, or one that is of none.
-    pub(crate) fn register_bits(&mut self) -> Result<u8, Flaw<'t>>
+    pub(crate) fn register_bits(&mut self) -> u8
         ensures { tokens_left self.new ≤ tokens_left self.old }
     {
-        if let Some(bits) = self.bits(255)? {
-            self.bits_end(PReg::is_index(bits as usize))?;
-            return Ok(bits as u8);
+        match self.bits(255) {
+            Some(bits) => {
+                self.bits_end(PReg::is_index(bits as usize));
+                bits as u8
+            }
+            None => {
+                let named = self.register();
+                PReg::new(named.number, named.class).index() as u8
+            }
         }
-        let named = self.register()?;
-        Ok(PReg::new(named.number, named.class).index() as u8)
     }
 
     /// A virtual register.
-    fn vreg(&mut self) -> Result<Named, Flaw<'t>>
+    fn vreg(&mut self) -> Named
         ensures left { tokens_left self.new ≤ tokens_left self.old }
-        ensures up_to { IfOk result (λ named. named.number ≤ VReg.MAX) }
+        ensures up_to { result.number ≤ VReg.MAX }
     {
         self.letter_named('v', VReg::MAX, &NO_VREG)
     }
 
     /// The word of a virtual register, or one that is of none.
-    pub(crate) fn vreg_bits(&mut self) -> Result<u32, Flaw<'t>>
+    pub(crate) fn vreg_bits(&mut self) -> u32
         ensures { tokens_left self.new ≤ tokens_left self.old }
     {
-        if let Some(bits) = self.bits(u64::from(u32::MAX))? {
-            let bits = bits as u32;
-            self.bits_end(VReg::is_bits(bits))?;
-            return Ok(bits);
+        match self.bits(u64::from(u32::MAX)) {
+            Some(bits) => {
+                let bits = bits as u32;
+                self.bits_end(VReg::is_bits(bits));
+                bits
+            }
+            None => {
+                let named = self.vreg();
+                self.show_vreg(named.number as u64);
+                VReg::new(named.number, named.class).bits() as u32
+            }
         }
-        let named = self.vreg()?;
-        self.show_vreg(named.number as u64);
-        Ok(VReg::new(named.number, named.class).bits() as u32)
     }
 
     /// The word of an operand, or one that is of none.
-    pub(crate) fn operand_bits(&mut self) -> Result<u64, Flaw<'t>>
+    pub(crate) fn operand_bits(&mut self) -> u64
         ensures { tokens_left self.new ≤ tokens_left self.old }
     {
-        if let Some(bits) = self.bits(u64::MAX)? {
-            self.bits_end(Operand::is_bits(bits))?;
-            return Ok(bits);
+        if let Some(bits) = self.bits(u64::MAX) {
+            self.bits_end(Operand::is_bits(bits));
+            return bits;
         }
         if self.has("Fixed") {
-            self.want(":")?;
-            let named = self.register()?;
+            self.want(":");
+            let named = self.register();
             let register = PReg::new(named.number, named.class);
-            return Ok(Operand::fixed_nonallocatable(register).bits());
+            return Operand::fixed_nonallocatable(register).bits();
         }
         let Some((kind, pos)) = self.peek().and_then(kind_named) else {
-            return Err(self.misfit("an operand: `Def`, `Def@Early`, `Use`, `Use@Late` or `Fixed`"));
+            self.misfit("an operand: `Def`, `Def@Early`, `Use`, `Use@Late` or `Fixed`");
+            return 0;
         };
         self.advance();
-        self.want(":")?;
+        self.want(":");
         self.operand(kind, pos)
     }
 
     /// The word of an operand of that kind and position, from what follows its colon.
-    fn operand(&mut self, kind: OperandKind, pos: OperandPos) -> Result<u64, Flaw<'t>>
+    fn operand(&mut self, kind: OperandKind, pos: OperandPos) -> u64
         ensures { tokens_left self.new ≤ tokens_left self.old }
     {
-        let named = self.vreg()?;
-        let constraint = match self.constraint(named.class) {
-            Ok(constraint) => constraint,
-            Err(flaw) => return Err(flaw),
-        };
+        let named = self.vreg();
+        let constraint = self.constraint(named.class);
         let vreg = VReg::new(named.number, named.class);
         let operand = Operand::new(vreg, constraint, kind, pos);
         if !is_fixed_alone(operand) {
             self.show_vreg(named.number as u64);
         }
-        Ok(operand.bits())
+        operand.bits()
     }
 
     /// The constraint of an operand whose virtual register is of that class.
-    fn constraint(&mut self, class: RegClass) -> Result<OperandConstraint, Flaw<'t>>
+    fn constraint(&mut self, class: RegClass) -> OperandConstraint
         ensures left { tokens_left self.new ≤ tokens_left self.old }
-        ensures of_class { IfOk result (λ constraint. IsConstraintOf class constraint) }
+        ensures of_class { IsConstraintOf class result }
     {
         if self.has("any") {
-            return Ok(OperandConstraint::Any);
+            OperandConstraint::Any
+        } else if self.has("reg") {
+            OperandConstraint::Reg
+        } else if self.has("stack") {
+            OperandConstraint::Stack
+        } else if self.has("fixed") {
+            self.fixed(class)
+        } else if self.has("reuse") {
+            self.reuse()
+        } else if self.has("limit") {
+            self.limit()
+        } else {
+            self.misfit(
+                "a constraint: `any`, `reg`, `stack`, `fixed(..)`, `reuse(..)` or `limit(0..=..)`",
+            );
+            OperandConstraint::Any
         }
-        if self.has("reg") {
-            return Ok(OperandConstraint::Reg);
-        }
-        if self.has("stack") {
-            return Ok(OperandConstraint::Stack);
-        }
-        if self.has("fixed") {
-            return self.fixed(class);
-        }
-        if self.has("reuse") {
-            return self.reuse();
-        }
-        if self.has("limit") {
-            return self.limit();
-        }
-        Err(self.misfit(
-            "a constraint: `any`, `reg`, `stack`, `fixed(..)`, `reuse(..)` or `limit(0..=..)`",
-        ))
     }
 
     /// What follows `fixed`: a register of that class.
-    fn fixed(&mut self, class: RegClass) -> Result<OperandConstraint, Flaw<'t>>
+    fn fixed(&mut self, class: RegClass) -> OperandConstraint
         ensures left { tokens_left self.new ≤ tokens_left self.old }
-        ensures of_class { IfOk result (λ constraint. IsConstraintOf class constraint) }
+        ensures of_class { IsConstraintOf class result }
     {
-        self.want("(")?;
-        let named = self.register()?;
+        self.want("(");
+        let named = self.register();
         if named.class != class {
-            return Err(self.misfit_before("a register of the virtual register's class"));
+            self.misfit_before("a register of the virtual register's class");
         }
-        self.want(")")?;
-        Ok(OperandConstraint::FixedReg(PReg::new(named.number, class)))
+        self.want(")");
+        OperandConstraint::FixedReg(PReg::new(named.number, class))
     }
 
     /// What follows `reuse`: the index of an operand.
-    fn reuse(&mut self) -> Result<OperandConstraint, Flaw<'t>>
+    fn reuse(&mut self) -> OperandConstraint
         ensures left { tokens_left self.new ≤ tokens_left self.old }
-        ensures of_class { IfOk result (λ constraint. (class : RegClass) → IsConstraintOf class constraint) }
+        ensures of_class { (class : RegClass) → IsConstraintOf class result }
     {
-        self.want("(")?;
-        let index = self.number(31)?;
-        self.want(")")?;
-        Ok(OperandConstraint::Reuse(index as usize))
+        self.want("(");
+        let index = self.number(31);
+        self.want(")");
+        OperandConstraint::Reuse(index as usize)
     }
 
     /// What follows `limit`: the range of the hardware numbers.
-    fn limit(&mut self) -> Result<OperandConstraint, Flaw<'t>>
+    fn limit(&mut self) -> OperandConstraint
         ensures left { tokens_left self.new ≤ tokens_left self.old }
-        ensures of_class { IfOk result (λ constraint. (class : RegClass) → IsConstraintOf class constraint) }
+        ensures of_class { (class : RegClass) → IsConstraintOf class result }
     {
-        self.want("(")?;
-        self.want("0")?;
-        self.want("..=")?;
-        let bound = match self.number(63)? {
+        self.want("(");
+        self.want("0");
+        self.want("..=");
+        let bound = match self.number(63) {
             0 => 1,
             1 => 2,
             3 => 4,
@@ -297,79 +307,90 @@ impl<'t> Cursor<'_, 't> {
             15 => 16,
             31 => 32,
             63 => 64,
-            _ => return Err(self.misfit_before("0, 1, 3, 7, 15, 31 or 63")),
+            _ => {
+                self.misfit_before("0, 1, 3, 7, 15, 31 or 63");
+                1
+            }
         };
-        self.want(")")?;
-        Ok(OperandConstraint::Limit(bound))
+        self.want(")");
+        OperandConstraint::Limit(bound)
     }
 
     /// The word of a place, or one that is of none.
-    pub(crate) fn place_bits(&mut self) -> Result<u32, Flaw<'t>>
+    pub(crate) fn place_bits(&mut self) -> u32
         ensures { tokens_left self.new ≤ tokens_left self.old }
     {
-        if let Some(bits) = self.bits(u64::from(u32::MAX))? {
+        if let Some(bits) = self.bits(u64::from(u32::MAX)) {
             let bits = bits as u32;
-            self.bits_end(Allocation::is_bits(bits))?;
-            return Ok(bits);
+            self.bits_end(Allocation::is_bits(bits));
+            bits
+        } else if self.has("none") {
+            Allocation::none().bits()
+        } else if self.begins("stack") {
+            Allocation::stack(SpillSlot::new(self.slot())).bits()
+        } else if self.begins("p") {
+            let named = self.register();
+            Allocation::reg(PReg::new(named.number, named.class)).bits()
+        } else {
+            self.misfit("a place: a register, a slot or `none`");
+            0
         }
-        if self.has("none") {
-            return Ok(Allocation::none().bits());
-        }
-        if self.begins("stack") {
-            let number = self.slot()?;
-            return Ok(Allocation::stack(SpillSlot::new(number)).bits());
-        }
-        if !self.begins("p") {
-            return Err(self.misfit("a place: a register, a slot or `none`"));
-        }
-        let named = self.register()?;
-        Ok(Allocation::reg(PReg::new(named.number, named.class)).bits())
     }
 
     /// The number of a spill slot.
-    fn slot(&mut self) -> Result<usize, Flaw<'t>>
+    fn slot(&mut self) -> usize
         ensures left { tokens_left self.new ≤ tokens_left self.old }
-        ensures valid { IfOk result (λ number. number ≤ SpillSlot.MAX) }
+        ensures valid { result ≤ SpillSlot.MAX }
     {
-        let number = self.named("stack", "a place")? as usize;
+        let number = self.named("stack", "a place") as usize;
         if number > SpillSlot::MAX {
-            return Err(self.misfit_before("a slot with a number up to 16777215"));
+            self.misfit_before("a slot with a number up to 16777215");
+            return 0;
         }
-        Ok(number)
+        number
     }
 
     /// The number of a point, or one that is of none.
-    pub(crate) fn point_bits(&mut self) -> Result<u32, Flaw<'t>>
+    pub(crate) fn point_bits(&mut self) -> u32
         ensures { tokens_left self.new ≤ tokens_left self.old }
     {
-        if let Some(bits) = self.bits(u64::from(u32::MAX))? {
+        if let Some(bits) = self.bits(u64::from(u32::MAX)) {
             let bits = bits as u32;
-            self.bits_end(ProgPoint::is_index(bits))?;
-            return Ok(bits);
+            self.bits_end(ProgPoint::is_index(bits));
+            return bits;
         }
-        let inst = Inst(self.named("inst", "a point")?);
+        let inst = Inst(self.named("inst", "a point"));
         if inst != Inst::invalid() && inst.index() >= 1 << 30 {
-            return Err(self.misfit_before("an instruction below 1073741824"));
+            self.misfit_before("an instruction below 1073741824");
+            return 0;
         }
-        self.want("-")?;
-        let pos = if self.has("pre") {
+        self.want("-");
+        let pos = self.position();
+        ProgPoint::new(inst, pos).to_index()
+    }
+
+    /// Whether a point is before or after its instruction.
+    fn position(&mut self) -> InstPosition
+        ensures { tokens_left self.new ≤ tokens_left self.old }
+    {
+        if self.has("pre") {
             InstPosition::Before
         } else if self.has("post") {
             InstPosition::After
         } else {
-            return Err(self.misfit("`pre` or `post`"));
-        };
-        Ok(ProgPoint::new(inst, pos).to_index())
+            self.misfit("`pre` or `post`");
+            InstPosition::Before
+        }
     }
 
     /// The numbers of the first instruction of a range and of the one past its last.
-    pub(crate) fn range(&mut self) -> Result<(u32, u32), Flaw<'t>>
+    pub(crate) fn range(&mut self) -> (u32, u32)
         ensures { tokens_left self.new ≤ tokens_left self.old }
     {
-        self.want("from")?;
-        let from = self.named("inst", "an instruction")?;
-        self.want("until")?;
-        let until = self.named("inst", "an instruction")?;
-        Ok((from, until))
+        self.want("from");
+        let from = self.named("inst", "an instruction");
+        self.want("until");
+        let until = self.named("inst", "an instruction");
+        (from, until)
     }
 }

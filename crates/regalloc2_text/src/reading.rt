@@ -69,10 +69,12 @@ fn no_inst_after<'t>(line: usize) -> TextError<'t>
     Flaw::new(1, expected, Found::Nothing).on_line(line)
 }
 
-/// Reads the lines of a text, whose first line has the number `first_line`, into a draft. Answers the number of the last.
+/// Reads the lines of a text, whose first line has the number `first_line`, into a draft, by way of
+/// `tokens`. Answers the number of the last.
 fn read_lines<'t, A: Allocator + Copy>(
     draft: &mut Draft<A>,
     alloc: A,
+    tokens: &mut Vec<Token<'t>, A>,
     text: &'t str,
     first_line: usize,
 ) -> Result<usize, TextError<'t>>
@@ -80,7 +82,6 @@ fn read_lines<'t, A: Allocator + Copy>(
     ensures from { IfOk result (λ line. first_line ≤ line) }
     ensures until { IfOk result (λ line. line ≤ first_line + length text.now) }
 {
-    let mut tokens = Vec::new(alloc);
     let mut rest = text;
     let mut line = first_line;
     // Whether an instruction is to follow the move on the line `move_line`.
@@ -88,7 +89,7 @@ fn read_lines<'t, A: Allocator + Copy>(
     let mut move_line = first_line;
     'lines: loop {
         let (content, after) = split_line(rest);
-        if let Err(flaw) = tokenize(content, &mut tokens) {
+        if let Err(flaw) = tokenize(content, tokens) {
             return Err(flaw.on_line(line));
         }
         if waits && begins_block(tokens.as_slice()) {
@@ -123,7 +124,8 @@ pub fn read<'t, A: Allocator + Copy>(
     ensures { IfErr result (λ e. IsOnLineBetween first_line (first_line + length text.now) e) }
 {
     let mut draft = Draft::new(alloc);
-    let line = match read_lines(&mut draft, alloc, text, first_line) {
+    let mut tokens = Vec::new(alloc);
+    let line = match read_lines(&mut draft, alloc, &mut tokens, text, first_line) {
         Ok(line) => line,
         Err(error) => return Err(error),
     };

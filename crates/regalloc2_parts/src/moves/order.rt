@@ -7,8 +7,8 @@ ghost use Rattle.std.specs.List.Sorted.{IsPermutation, IsNonDecreasingBy};
 ghost use Rattle.regalloc2_names.specs.Place.{Place};
 ghost use Rattle.regalloc2_names.specs.PlaceBits.{bits_of_place};
 ghost use Rattle.regalloc2_parts.specs.AtOnce.{ends_of, AreReal, HasOneSourceEach, IsOfMoves, IsPlace};
-ghost use Rattle.regalloc2_parts.specs.Giving.{AreFair, AreProper, IsTidied, IsWriterOf, AreApart, AreNexts, IsOrder, IsChain, CanFollow, CanOpen, CanGive, CanBegin};
-ghost use Rattle.regalloc2_parts.specs.Giving.{IsGiving, LeadsTo, HasGoneOn, IsGivenOut, AreSameDone, state_at};
+ghost use Rattle.regalloc2_parts.specs.Giving.{AreFair, AreProper, IsTidied, IsWriterOf, AreApart, AreNexts, IsOrder, IsChain};
+ghost use Rattle.regalloc2_parts.specs.Giving.{CanFollow, CanOpen, CanGive, CanBegin, IsGiving, LeadsTo, HasGoneOn, IsGivenOut, AreSameDone, state_at};
 ghost use Rattle.regalloc2_parts.specs.Resolved.{listed, has_scratch, IsResolution, IsRunnable};
 ghost use Rattle.regalloc2_parts.specs.declared.moves.order.State.TheVariants.{Todo, Pending, Done};
 

@@ -3,8 +3,9 @@
 ghost use Rattle.std.specs.Prelude.{◌≡◌, ◌⊎◌, true, false, IfOk, IfErr, MatchResult};
 ghost use Rattle.regalloc2_names.specs.Place.{InRegister};
 ghost use Rattle.regalloc2_parts.specs.Resolved.{listed, has_scratch, IsRunnable};
-ghost use Rattle.regalloc2_parts.specs.Tracking.{CanExpand, IsExpanded};
-ghost use Rattle.regalloc2_parts.specs.Computed.{Owes, MayBeAskedTwice, IsHanding, IsRefusing, IsWay, IsChoice, Computes, AreApartInMemory, AreSeenApart};
+ghost use Rattle.regalloc2_parts.specs.Tracking.{CanExpandBy, IsExpanded};
+ghost use Rattle.regalloc2_parts.specs.Computed.{CanAsk, Owes, MayBeAskedTwice, IsHanding, IsRefusing, IsWay, IsChoice};
+ghost use Rattle.regalloc2_parts.specs.Computed.{Computes, AreApartInMemory, AreSeenApart};
 
 use super::passing::{self, Held, Way};
 use super::{MoveFault, MoveVec, MoveVecWithScratch};
@@ -117,8 +118,7 @@ where
         &mut self,
         moves: MoveVecWithScratch<T, A>,
     ) -> Result<MoveVec<T, A>, MoveFault>
-        requires registers { GetReg.pre self.old.find_free_reg }
-        requires slots { GetStackSlot.pre self.old.get_stackslot }
+        requires { CanAsk (GetReg.pre self.old.find_free_reg) (GetStackSlot.pre self.old.get_stackslot) }
         ensures stack { self.new.is_stack_alloc ≡ self.old.is_stack_alloc }
         ensures borrowed { self.new.borrowed_scratch_reg ≡ self.old.borrowed_scratch_reg }
         ensures chosen { IfOk result (λ made. IsChoice (λ s a t. GetReg.step s a t) (λ s a t. GetStackSlot.step s a t) self.old.find_free_reg
@@ -144,8 +144,7 @@ where
         way: &Way,
         first: Held,
     ) -> Result<MoveVec<T, A>, MoveFault>
-        requires callable { IsStackAlloc.IsAlwaysCallable self.now.is_stack_alloc }
-        requires can { CanExpand (λ p b. IsStackAlloc.post self.now.is_stack_alloc p b) way.now.register way.now.save first moves.now }
+        requires { CanExpandBy (λ s. IsStackAlloc.IsAlwaysCallable s) (λ s p b. IsStackAlloc.post s p b) self.now.is_stack_alloc way.now first moves.now }
         ensures expanded { MatchResult result (λ out. IsExpanded (λ p b. IsStackAlloc.post self.now.is_stack_alloc p b) way.now.register way.now.save moves.now
             out.items) (λ e. e ≡ MoveFault.Memory) }
     {

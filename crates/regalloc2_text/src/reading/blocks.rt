@@ -5,8 +5,8 @@ ghost use Rattle.regalloc2_text.specs.Cursor.{tokens_left};
 
 use super::stored::put;
 use crate::cursor::Cursor;
-use crate::error::{Expected, Flaw};
-use std::alloc::{AllocError, Allocator};
+use crate::error::Expected;
+use std::alloc::Allocator;
 
 /// What the lines so far say of a block.
 #[derive(Drop)]
@@ -27,139 +27,125 @@ pub(super) struct DraftBlock<A: Allocator> {
 }
 
 /// Virtual registers in brackets, or none.
-fn vregs<'t, A: Allocator>(alloc: A, cursor: &mut Cursor<'_, 't>) -> Result<Vec<u32, A>, Flaw<'t>>
+fn vregs<A: Allocator>(alloc: A, cursor: &mut Cursor<'_, '_>) -> Vec<u32, A>
     ensures { tokens_left cursor.new ≤ tokens_left cursor.old }
 {
     let mut vregs = Vec::new(alloc);
     if !cursor.has("(") || cursor.has(")") {
-        return Ok(vregs);
+        return vregs;
     }
-    vregs.push(cursor.vreg_bits()?)?;
-    'vregs: while cursor.has(",") {
-        vregs.push(cursor.vreg_bits()?)?;
+    'vregs: loop {
+        let vreg = cursor.vreg_bits();
+        cursor.push(&mut vregs, vreg);
+        if !cursor.has(",") {
+            break;
+        }
     }
-    cursor.want(")")?;
-    Ok(vregs)
+    cursor.want(")");
+    vregs
 }
 
 /// Numbers of blocks, or `none`.
-fn block_numbers<'t, A: Allocator>(
-    alloc: A,
-    cursor: &mut Cursor<'_, 't>,
-) -> Result<Vec<u32, A>, Flaw<'t>>
+fn block_numbers<A: Allocator>(alloc: A, cursor: &mut Cursor<'_, '_>) -> Vec<u32, A>
     ensures { tokens_left cursor.new ≤ tokens_left cursor.old }
 {
     let mut numbers = Vec::new(alloc);
     if cursor.has("none") {
-        return Ok(numbers);
+        return numbers;
     }
-    numbers.push(cursor.named("block", "a block")?)?;
-    'numbers: while cursor.has(",") {
-        numbers.push(cursor.named("block", "a block")?)?;
+    'numbers: loop {
+        let number = cursor.named("block", "a block");
+        cursor.push(&mut numbers, number);
+        if !cursor.has(",") {
+            break;
+        }
     }
-    Ok(numbers)
+    numbers
 }
 
 impl<A: Allocator + Copy> DraftBlock<A> {
     /// The block of a line whose number is to be `next`, before its instructions, of which `inst` is the first.
-    pub(super) fn read<'t>(
-        alloc: A,
-        cursor: &mut Cursor<'_, 't>,
-        next: usize,
-        inst: u32,
-    ) -> Result<Self, Flaw<'t>> {
-        let number = cursor.named("block", "a block")?;
+    pub(super) fn read(alloc: A, cursor: &mut Cursor<'_, '_>, next: usize, inst: u32) -> Self {
+        let number = cursor.named("block", "a block");
         if number as usize != next {
-            return Err(cursor.fault_before(Expected::NextBlock(next)));
+            cursor.fault_before(Expected::NextBlock(next));
         }
-        let params = vregs(alloc, cursor)?;
         let mut block = DraftBlock {
             number,
             range: (inst, inst),
             has_range: false,
-            params,
+            params: vregs(alloc, cursor),
             preds: None,
             has_succs: false,
             succs: Vec::new(alloc),
             args: Vec::new(alloc),
         };
         'parts: while cursor.has(";") {
-            block.read_part(alloc, cursor)?;
+            block.read_part(alloc, cursor);
         }
-        cursor.want(":")?;
-        Ok(block)
+        cursor.want(":");
+        block
     }
 
     /// Reads a part of a block's line.
-    fn read_part<'t>(&mut self, alloc: A, cursor: &mut Cursor<'_, 't>) -> Result<(), Flaw<'t>>
+    fn read_part(&mut self, alloc: A, cursor: &mut Cursor<'_, '_>)
         ensures { tokens_left cursor.new ≤ tokens_left cursor.old }
     {
         match cursor.peek().unwrap_or("") {
             "from" if !self.has_range => {
-                self.range = cursor.range()?;
+                self.range = cursor.range();
                 self.has_range = true;
-                Ok(())
             }
             "preds" if self.preds.is_none() => {
                 cursor.advance();
-                self.preds = Some(block_numbers(alloc, cursor)?);
-                Ok(())
+                self.preds = Some(block_numbers(alloc, cursor));
             }
             "succs" if !self.has_succs => {
                 cursor.advance();
                 self.has_succs = true;
-                if cursor.has("none") {
-                    return Ok(());
+                if !cursor.has("none") {
+                    self.read_targets(alloc, cursor);
                 }
-                self.read_targets(alloc, cursor)
             }
-            "from" | "preds" | "succs" => Err(cursor.misfit("each part once")),
-            _ => Err(cursor.misfit("`from`, `preds` or `succs`")),
+            "from" | "preds" | "succs" => cursor.misfit("each part once"),
+            _ => cursor.misfit("`from`, `preds` or `succs`"),
         }
     }
 
     /// Reads a successor and its arguments.
-    fn read_target<'t>(&mut self, alloc: A, cursor: &mut Cursor<'_, 't>) -> Result<(), Flaw<'t>>
+    fn read_target(&mut self, alloc: A, cursor: &mut Cursor<'_, '_>)
         ensures { tokens_left cursor.new ≤ tokens_left cursor.old }
     {
-        let succ = cursor.named("block", "a block")?;
-        let args = vregs(alloc, cursor)?;
-        self.succs.push(succ)?;
-        self.args.push(args)?;
-        Ok(())
+        let succ = cursor.named("block", "a block");
+        let args = vregs(alloc, cursor);
+        cursor.push(&mut self.succs, succ);
+        cursor.push(&mut self.args, args);
     }
 
     /// Reads successors and their arguments.
-    fn read_targets<'t>(&mut self, alloc: A, cursor: &mut Cursor<'_, 't>) -> Result<(), Flaw<'t>>
+    fn read_targets(&mut self, alloc: A, cursor: &mut Cursor<'_, '_>)
         ensures { tokens_left cursor.new ≤ tokens_left cursor.old }
     {
-        self.read_target(alloc, cursor)?;
+        self.read_target(alloc, cursor);
         'targets: while cursor.has(",") {
-            self.read_target(alloc, cursor)?;
+            self.read_target(alloc, cursor);
         }
-        Ok(())
     }
 
     /// Reads the successors behind the opcode of an instruction of the block, where they are there.
-    pub(super) fn read_succs<'t>(
-        &mut self,
-        alloc: A,
-        cursor: &mut Cursor<'_, 't>,
-    ) -> Result<(), Flaw<'t>>
+    pub(super) fn read_succs(&mut self, alloc: A, cursor: &mut Cursor<'_, '_>)
         ensures { tokens_left cursor.new ≤ tokens_left cursor.old }
     {
         if !self.has_succs && !self.succs.is_empty() {
-            return Err(cursor.misfit_before(
-                "no instruction after the one with the block's successors",
-            ));
+            cursor.misfit_before("no instruction after the one with the block's successors");
         }
         if !cursor.begins("block") {
-            return Ok(());
+            return;
         }
         if self.has_succs {
-            return Err(cursor.misfit("no successors here"));
+            cursor.misfit("no successors here");
         }
-        self.read_targets(alloc, cursor)
+        self.read_targets(alloc, cursor);
     }
 
     /// Notes that instructions of the block go up to `end`, unless its line says its range.
@@ -183,59 +169,65 @@ pub(super) struct BlockLists<A: Allocator> {
 /// As many empty lists.
 fn empty_lists<A: Allocator + Copy>(
     alloc: A,
+    cursor: &mut Cursor<'_, '_>,
     count: usize,
-) -> Result<Vec<Vec<u32, A>, A>, AllocError> {
+) -> Vec<Vec<u32, A>, A> {
     let mut lists = Vec::new(alloc);
     for _ in 0..count {
-        lists.push(Vec::new(alloc))?;
+        cursor.push(&mut lists, Vec::new(alloc));
     }
-    Ok(lists)
+    lists
 }
 
 /// Notes that a block is followed by its successors, as far as there are such blocks.
 fn add_pred<A: Allocator>(
+    cursor: &mut Cursor<'_, '_>,
     preds: &mut Vec<Vec<u32, A>, A>,
     block: u32,
     succs: &[u32],
-) -> Result<(), AllocError> {
+) {
     for succ in succs {
         if let Some(list) = preds.get_mut(*succ as usize) {
-            list.push(block)?;
+            cursor.push(list, block);
         }
     }
-    Ok(())
 }
 
 /// The predecessors of each block, as they follow from the successors.
 fn default_preds<A: Allocator + Copy>(
     alloc: A,
+    cursor: &mut Cursor<'_, '_>,
     blocks: &[DraftBlock<A>],
-) -> Result<Vec<Vec<u32, A>, A>, AllocError> {
-    let mut preds = empty_lists(alloc, blocks.len())?;
+) -> Vec<Vec<u32, A>, A> {
+    let mut preds = empty_lists(alloc, cursor, blocks.len());
     for block in blocks {
-        add_pred(&mut preds, block.number, block.succs.as_slice())?;
+        add_pred(cursor, &mut preds, block.number, block.succs.as_slice());
     }
-    Ok(preds)
+    preds
 }
 
 impl<A: Allocator + Copy> BlockLists<A> {
     /// The lists of those blocks.
-    pub(super) fn new(alloc: A, blocks: Vec<DraftBlock<A>, A>) -> Result<Self, AllocError> {
+    pub(super) fn new(
+        alloc: A,
+        cursor: &mut Cursor<'_, '_>,
+        blocks: Vec<DraftBlock<A>, A>,
+    ) -> Self {
         let mut lists = BlockLists {
             ranges: Vec::new(alloc),
-            preds: default_preds(alloc, blocks.as_slice())?,
+            preds: default_preds(alloc, cursor, blocks.as_slice()),
             succs: Vec::new(alloc),
             params_in: Vec::new(alloc),
             params_out: Vec::new(alloc),
         };
         for block in blocks {
-            lists.push(block)?;
+            lists.push(cursor, block);
         }
-        Ok(lists)
+        lists
     }
 
     /// Adds a block, whose predecessors take the place of the default ones where its line says them.
-    fn push(&mut self, block: DraftBlock<A>) -> Result<(), AllocError> {
+    fn push(&mut self, cursor: &mut Cursor<'_, '_>, block: DraftBlock<A>) {
         let DraftBlock {
             number,
             range,
@@ -246,13 +238,12 @@ impl<A: Allocator + Copy> BlockLists<A> {
             succs,
             args,
         } = block;
-        self.ranges.push(range)?;
+        cursor.push(&mut self.ranges, range);
         if let Some(list) = self.preds.get_mut(number as usize) {
             put(list, preds);
         }
-        self.succs.push(succs)?;
-        self.params_in.push(params)?;
-        self.params_out.push(args)?;
-        Ok(())
+        cursor.push(&mut self.succs, succs);
+        cursor.push(&mut self.params_in, params);
+        cursor.push(&mut self.params_out, args);
     }
 }

@@ -57,48 +57,36 @@ impl<A: Allocator + Copy> Draft<A> {
             return Ok(LineEffect::Nothing);
         };
         let mut cursor = Cursor::new(tokens, self.function.num_vregs);
-        let effect = self.read_kind(alloc, first.text, &mut cursor)?;
-        cursor.done()?;
+        let effect = self.read_kind(alloc, first.text, &mut cursor);
         self.function.num_vregs = cursor.num_vregs();
+        cursor.finish()?;
         Ok(effect)
     }
 
     /// Reads a line whose first word is `word`.
-    fn read_kind<'t>(
-        &mut self,
-        alloc: A,
-        word: &str,
-        cursor: &mut Cursor<'_, 't>,
-    ) -> Result<LineEffect, Flaw<'t>> {
+    fn read_kind(&mut self, alloc: A, word: &str, cursor: &mut Cursor<'_, '_>) -> LineEffect {
         if is_numbered(word, "block") {
-            self.function.read_block(alloc, cursor)?;
-            return Ok(LineEffect::Nothing);
+            self.function.read_block(alloc, cursor);
+            return LineEffect::Nothing;
         }
         if is_numbered(word, "inst") || opcode_named(word).is_some() {
-            self.function.read_inst(alloc, cursor, &mut self.output)?;
-            return Ok(LineEffect::Inst);
+            self.function.read_inst(alloc, cursor, &mut self.output);
+            return LineEffect::Inst;
         }
         cursor.advance();
         if word == "move" {
-            let next = self.function.next_inst(cursor)?;
-            let waits = self.output.read_move(cursor, next)?;
-            return Ok(if waits {
-                LineEffect::Waits
-            } else {
-                LineEffect::Nothing
-            });
+            let next = self.function.next_inst(cursor);
+            if self.output.read_move(cursor, next) {
+                return LineEffect::Waits;
+            }
+        } else {
+            self.read_other(alloc, word, cursor);
         }
-        self.read_other(alloc, word, cursor)?;
-        Ok(LineEffect::Nothing)
+        LineEffect::Nothing
     }
 
     /// Reads what follows the first word of a line that is no block's, instruction's or move's.
-    fn read_other<'t>(
-        &mut self,
-        alloc: A,
-        word: &str,
-        cursor: &mut Cursor<'_, 't>,
-    ) -> Result<(), Flaw<'t>> {
+    fn read_other(&mut self, alloc: A, word: &str, cursor: &mut Cursor<'_, '_>) {
         match word {
             "regs" => self.function.machine.read_preferred(alloc, cursor),
             "others" => self.function.machine.read_others(alloc, cursor),
@@ -112,7 +100,7 @@ impl<A: Allocator + Copy> Draft<A> {
             "slots" => self.output.read_slots(cursor),
             "debug" => self.output.read_debug(cursor),
             "stored" => self.lists.read(alloc, cursor),
-            _ => Err(cursor.fault_before(Expected::LineBeginning(None))),
+            _ => cursor.fault_before(Expected::LineBeginning(None)),
         }
     }
 
@@ -123,9 +111,12 @@ impl<A: Allocator + Copy> Draft<A> {
             output,
             lists,
         } = self;
-        let mut function = function.finish(alloc)?;
+        let no_tokens: [Token<'t>; 0] = [];
+        let mut cursor = Cursor::new(&no_tokens, 0);
+        let mut function = function.finish(alloc, &mut cursor);
         let (allocs, offsets) = lists.replace(&mut function);
-        let output = output.finish(allocs, offsets)?;
+        let output = output.finish(&mut cursor, allocs, offsets);
+        cursor.finish()?;
         Ok(Text { function, output })
     }
 }

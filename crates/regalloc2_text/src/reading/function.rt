@@ -1,14 +1,13 @@
 //! What the lines say of a function.
 
 use super::blocks::{BlockLists, DraftBlock};
-use super::insts::{DraftInst, opcode_named};
+use super::insts::{DraftInst, read_opcode};
 use super::machine::{ByClass, DraftMachine};
 use super::output::{DraftOutput, TOO_MANY};
 use super::settings::{Flags, Settings};
 use crate::cursor::Cursor;
-use crate::error::{Expected, Flaw};
 use regalloc2_serialize::{StoredFunction, StoredInst};
-use std::alloc::{AllocError, Allocator};
+use std::alloc::Allocator;
 
 /// What the lines so far say of a function and its machine.
 #[derive(Drop)]
@@ -36,69 +35,59 @@ impl<A: Allocator + Copy> DraftFunction<A> {
     }
 
     /// The number of the next instruction.
-    pub(super) fn next_inst<'t>(&self, cursor: &Cursor<'_, 't>) -> Result<u32, Flaw<'t>> {
+    pub(super) fn next_inst(&self, cursor: &mut Cursor<'_, '_>) -> u32 {
         match u32::try_from(self.insts.len()) {
-            Ok(number) => Ok(number),
-            Err(_) => Err(cursor.misfit(TOO_MANY)),
+            Ok(number) => number,
+            Err(_) => {
+                cursor.misfit(TOO_MANY);
+                0
+            }
         }
     }
 
     /// Reads the line of a block.
-    pub(super) fn read_block<'t>(
-        &mut self,
-        alloc: A,
-        cursor: &mut Cursor<'_, 't>,
-    ) -> Result<(), Flaw<'t>> {
-        let inst = self.next_inst(cursor)?;
-        let block = DraftBlock::read(alloc, cursor, self.blocks.len(), inst)?;
-        self.blocks.push(block)?;
-        Ok(())
+    pub(super) fn read_block(&mut self, alloc: A, cursor: &mut Cursor<'_, '_>) {
+        let inst = self.next_inst(cursor);
+        let block = DraftBlock::read(alloc, cursor, self.blocks.len(), inst);
+        cursor.push(&mut self.blocks, block);
     }
 
     /// Reads the line of an instruction, whose places go to `output`.
-    pub(super) fn read_inst<'t>(
+    pub(super) fn read_inst(
         &mut self,
         alloc: A,
-        cursor: &mut Cursor<'_, 't>,
+        cursor: &mut Cursor<'_, '_>,
         output: &mut DraftOutput<A>,
-    ) -> Result<(), Flaw<'t>> {
-        let number = self.next_inst(cursor)?;
-        if cursor.begins("inst") && cursor.named("inst", "an instruction")? != number {
-            return Err(cursor.fault_before(Expected::NextInst(number as usize)));
-        }
-        let Some(op) = cursor.peek().and_then(opcode_named) else {
-            return Err(cursor.misfit("`op`, `branch` or `ret`"));
-        };
-        cursor.advance();
+    ) {
+        let number = self.next_inst(cursor);
+        let op = read_opcode(cursor, number);
         if let Some(block) = self.blocks.last_mut() {
-            block.read_succs(alloc, cursor)?;
+            block.read_succs(alloc, cursor);
         } else if cursor.begins("block") {
-            return Err(cursor.misfit("no successors here"));
+            cursor.misfit("no successors here");
         }
-        let (inst, places) = DraftInst::read(alloc, cursor)?.into_parts(alloc, op);
-        let Some(end) = number.checked_add(1) else {
-            return Err(cursor.misfit(TOO_MANY));
-        };
-        output.add_places(places.as_slice(), cursor)?;
-        self.insts.push(inst)?;
+        let (inst, places) = DraftInst::read(alloc, cursor).into_parts(alloc, op);
+        if number == u32::MAX {
+            cursor.misfit(TOO_MANY);
+        }
+        output.add_places(places.as_slice(), cursor);
+        cursor.push(&mut self.insts, inst);
         if let Some(block) = self.blocks.last_mut() {
-            block.extend(end);
+            block.extend(number.saturating_add(1));
         }
-        Ok(())
     }
 
     /// Reads what follows `label`.
-    pub(super) fn read_label<'t>(&mut self, cursor: &mut Cursor<'_, 't>) -> Result<(), Flaw<'t>> {
-        let label = cursor.word()?;
-        cursor.want(":")?;
-        let vreg = cursor.vreg_bits()?;
-        let (from, until) = cursor.range()?;
-        self.labels.push((vreg, from, until, label))?;
-        Ok(())
+    pub(super) fn read_label(&mut self, cursor: &mut Cursor<'_, '_>) {
+        let label = cursor.word();
+        cursor.want(":");
+        let vreg = cursor.vreg_bits();
+        let (from, until) = cursor.range();
+        cursor.push(&mut self.labels, (vreg, from, until, label));
     }
 
     /// The function, with what follows from the lines where they don't say it.
-    pub(super) fn finish(self, alloc: A) -> Result<StoredFunction<A>, AllocError> {
+    pub(super) fn finish(self, alloc: A, cursor: &mut Cursor<'_, '_>) -> StoredFunction<A> {
         let DraftFunction {
             machine,
             settings,
@@ -113,7 +102,7 @@ impl<A: Allocator + Copy> DraftFunction<A> {
             succs,
             params_in,
             params_out,
-        } = BlockLists::new(alloc, blocks)?;
+        } = BlockLists::new(alloc, cursor, blocks);
         let Settings {
             entry_block,
             num_vregs: said_num_vregs,
@@ -121,8 +110,8 @@ impl<A: Allocator + Copy> DraftFunction<A> {
             flags,
         } = settings;
         let flags = flags.unwrap_or(Flags::NONE);
-        Ok(StoredFunction {
-            machine_env: machine.finish(alloc)?,
+        StoredFunction {
+            machine_env: machine.finish(alloc, cursor),
             entry_block: entry_block.unwrap_or(0),
             insts,
             blocks: ranges,
@@ -132,9 +121,11 @@ impl<A: Allocator + Copy> DraftFunction<A> {
             block_params_out: params_out,
             num_vregs: said_num_vregs.unwrap_or(num_vregs),
             debug_value_labels: labels,
-            spillslot_size: sizes.unwrap_or(ByClass::new(1, 1, 1)).into_vec(alloc)?,
+            spillslot_size: sizes
+                .unwrap_or(ByClass::new(1, 1, 1))
+                .into_vec(alloc, cursor),
             multi_spillslot_named_by_last_slot: flags.named_by_last,
             allow_multiple_vreg_defs: flags.several_definitions,
-        })
+        }
     }
 }

@@ -3,9 +3,9 @@
 ghost use Rattle.std.specs.Prelude.{◌≡◌, ◌≤◌};
 ghost use Rattle.regalloc2_text.specs.Cursor.{tokens_left};
 
-use super::machine::registers;
+use super::machine::read_registers;
 use crate::cursor::Cursor;
-use crate::error::Flaw;
+use crate::error::Expected;
 use regalloc2_serialize::{InstOpcode, StoredInst};
 use std::alloc::Allocator;
 
@@ -16,6 +16,23 @@ pub(super) fn opcode_named(name: &str) -> Option<InstOpcode> {
         "branch" => Some(InstOpcode::Branch),
         "ret" => Some(InstOpcode::Ret),
         _ => None,
+    }
+}
+
+/// The opcode of an instruction, after its number, which is to be `next` where it is there.
+pub(super) fn read_opcode(cursor: &mut Cursor<'_, '_>, next: u32) -> InstOpcode {
+    if cursor.begins("inst") && cursor.named("inst", "an instruction") != next {
+        cursor.fault_before(Expected::NextInst(next as usize));
+    }
+    match cursor.peek().and_then(opcode_named) {
+        Some(op) => {
+            cursor.advance();
+            op
+        }
+        None => {
+            cursor.misfit("`op`, `branch` or `ret`");
+            InstOpcode::Op
+        }
     }
 }
 
@@ -32,7 +49,7 @@ pub(super) struct DraftInst<A: Allocator> {
 
 impl<A: Allocator + Copy> DraftInst<A> {
     /// Reads the operands and the parts of an instruction's line.
-    pub(super) fn read<'t>(alloc: A, cursor: &mut Cursor<'_, 't>) -> Result<Self, Flaw<'t>> {
+    pub(super) fn read(alloc: A, cursor: &mut Cursor<'_, '_>) -> Self {
         let mut inst = DraftInst {
             operands: Vec::new(alloc),
             places: Vec::new(alloc),
@@ -40,73 +57,81 @@ impl<A: Allocator + Copy> DraftInst<A> {
             has_more: false,
         };
         if cursor.has(":") {
-            inst.read_operands(cursor)?;
+            inst.read_operands(cursor);
         }
         'parts: while cursor.has(";") {
-            inst.read_part(alloc, cursor)?;
+            inst.read_part(alloc, cursor);
         }
-        Ok(inst)
+        inst
     }
 
     /// Reads operands and their places.
-    fn read_operands<'t>(&mut self, cursor: &mut Cursor<'_, 't>) -> Result<(), Flaw<'t>>
+    fn read_operands(&mut self, cursor: &mut Cursor<'_, '_>)
         ensures { tokens_left cursor.new ≤ tokens_left cursor.old }
     {
-        self.read_operand(cursor)?;
+        self.read_operand(cursor);
         'operands: while cursor.has(",") {
-            self.read_operand(cursor)?;
+            self.read_operand(cursor);
         }
-        Ok(())
     }
 
     /// Reads an operand, and its place where that follows.
-    fn read_operand<'t>(&mut self, cursor: &mut Cursor<'_, 't>) -> Result<(), Flaw<'t>>
+    fn read_operand(&mut self, cursor: &mut Cursor<'_, '_>)
         ensures { tokens_left cursor.new ≤ tokens_left cursor.old }
     {
         let before = self.operands.len();
-        self.operands.push(cursor.operand_bits()?)?;
+        let operand = cursor.operand_bits();
+        cursor.push(&mut self.operands, operand);
         if !cursor.has("[") {
-            return Ok(());
+            return;
         }
         if self.places.len() != before {
-            return Err(cursor.misfit_before("no place after an operand without one"));
+            cursor.misfit_before("no place after an operand without one");
         }
-        self.places.push(cursor.place_bits()?)?;
-        cursor.want("]")
+        self.read_place(cursor);
+        cursor.want("]");
+    }
+
+    /// Reads a place.
+    fn read_place(&mut self, cursor: &mut Cursor<'_, '_>)
+        ensures { tokens_left cursor.new ≤ tokens_left cursor.old }
+    {
+        let place = cursor.place_bits();
+        cursor.push(&mut self.places, place);
     }
 
     /// Reads a part of an instruction's line.
-    fn read_part<'t>(&mut self, alloc: A, cursor: &mut Cursor<'_, 't>) -> Result<(), Flaw<'t>>
+    fn read_part(&mut self, alloc: A, cursor: &mut Cursor<'_, '_>)
         ensures { tokens_left cursor.new ≤ tokens_left cursor.old }
     {
         match cursor.peek().unwrap_or("") {
             "clobbers" if self.clobbers.is_none() => {
                 cursor.advance();
-                self.clobbers = Some(registers(alloc, cursor)?);
-                Ok(())
+                let mut clobbers = Vec::new(alloc);
+                read_registers(alloc, cursor, &mut clobbers);
+                self.clobbers = Some(clobbers);
             }
             "more" if !self.has_more => {
                 cursor.advance();
                 self.has_more = true;
-                self.read_more(cursor)
+                self.read_more(cursor);
             }
-            "clobbers" | "more" => Err(cursor.misfit("each part once")),
-            _ => Err(cursor.misfit("`clobbers` or `more`")),
+            "clobbers" | "more" => cursor.misfit("each part once"),
+            _ => cursor.misfit("`clobbers` or `more`"),
         }
     }
 
     /// Reads places past those of the operands.
-    fn read_more<'t>(&mut self, cursor: &mut Cursor<'_, 't>) -> Result<(), Flaw<'t>>
+    fn read_more(&mut self, cursor: &mut Cursor<'_, '_>)
         ensures { tokens_left cursor.new ≤ tokens_left cursor.old }
     {
         if self.places.len() != self.operands.len() {
-            return Err(cursor.misfit_before("`more` where each operand has a place"));
+            cursor.misfit_before("`more` where each operand has a place");
         }
-        self.places.push(cursor.place_bits()?)?;
+        self.read_place(cursor);
         'places: while cursor.has(",") {
-            self.places.push(cursor.place_bits()?)?;
+            self.read_place(cursor);
         }
-        Ok(())
     }
 
     /// The instruction with that opcode, and the places.

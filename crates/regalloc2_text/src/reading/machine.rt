@@ -4,11 +4,10 @@ ghost use Rattle.std.specs.Prelude.{◌≡◌, ◌≤◌};
 ghost use Rattle.regalloc2_text.specs.Cursor.{tokens_left};
 
 use crate::cursor::Cursor;
-use crate::error::Flaw;
 use crate::items::class_named;
 use regalloc2_names::{PReg, RegClass};
 use regalloc2_serialize::StoredMachine;
-use std::alloc::{AllocError, Allocator};
+use std::alloc::Allocator;
 
 /// A value of each class.
 #[derive(Drop)]
@@ -36,13 +35,13 @@ impl<T> ByClass<T> {
 
 impl<T: Drop> ByClass<T> {
     /// The values of the classes in order.
-    pub(super) fn into_vec<A: Allocator>(self, alloc: A) -> Result<Vec<T, A>, AllocError> {
+    pub(super) fn into_vec<A: Allocator>(self, alloc: A, cursor: &mut Cursor<'_, '_>) -> Vec<T, A> {
         let ByClass { int, float, vector } = self;
         let mut list = Vec::new(alloc);
-        list.push(int)?;
-        list.push(float)?;
-        list.push(vector)?;
-        Ok(list)
+        cursor.push(&mut list, int);
+        cursor.push(&mut list, float);
+        cursor.push(&mut list, vector);
+        list
     }
 }
 
@@ -65,64 +64,82 @@ fn class_of(index: u8) -> Option<RegClass> {
 }
 
 /// A register or neighbours, for the list of `class` or else of their own.
-fn read_span<'t>(cursor: &mut Cursor<'_, 't>, class: Option<RegClass>) -> Result<Span, Flaw<'t>>
+fn read_span(cursor: &mut Cursor<'_, '_>, class: Option<RegClass>) -> Span
     ensures { tokens_left cursor.new ≤ tokens_left cursor.old }
 {
-    let first = cursor.register_bits()?;
-    let Some(class) = class.or(class_of(first)) else {
-        return Err(cursor.misfit_before("a class before a register without one"));
-    };
+    let first = cursor.register_bits();
+    let own = class_of(first);
+    let class = class.or(own);
+    if class.is_none() {
+        cursor.misfit_before("a class before a register without one");
+    }
+    let class = class.unwrap_or(RegClass::Int);
     if !cursor.has("..") {
         let last = first;
-        return Ok(Span { class, first, last });
+        return Span { class, first, last };
     }
-    let named = cursor.register()?;
+    let named = cursor.register();
     let last = PReg::new(named.number, named.class).index() as u8;
-    if class_of(first) != Some(named.class) || last < first {
-        return Err(cursor.misfit_before("a register of the same class, not below the first"));
+    if own != Some(named.class) || last < first {
+        cursor.misfit_before("a register of the same class, not below the first");
     }
-    Ok(Span { class, first, last })
+    Span { class, first, last }
 }
 
 /// Registers for the list of `class` or else of their own, or `none`.
-fn read_span_list<'t, A: Allocator>(
+fn read_span_list<A: Allocator>(
     alloc: A,
-    cursor: &mut Cursor<'_, 't>,
+    cursor: &mut Cursor<'_, '_>,
     class: Option<RegClass>,
-) -> Result<Vec<Span, A>, Flaw<'t>>
+) -> Vec<Span, A>
     ensures { tokens_left cursor.new ≤ tokens_left cursor.old }
 {
     let mut spans = Vec::new(alloc);
     if cursor.has("none") {
-        return Ok(spans);
+        return spans;
     }
-    spans.push(read_span(cursor, class)?)?;
-    'spans: while cursor.has(",") {
-        spans.push(read_span(cursor, class)?)?;
+    'spans: loop {
+        let span = read_span(cursor, class);
+        cursor.push(&mut spans, span);
+        if !cursor.has(",") {
+            break;
+        }
     }
-    Ok(spans)
+    spans
 }
 
 /// Adds the registers of a span.
-fn push_span<A: Allocator>(list: &mut Vec<u8, A>, span: Span) -> Result<(), AllocError> {
-    for index in span.first..=span.last {
-        list.push(index)?;
-    }
-    Ok(())
-}
-
-/// The indexes of registers, or `none`.
-pub(super) fn registers<'t, A: Allocator + Copy>(
-    alloc: A,
-    cursor: &mut Cursor<'_, 't>,
-) -> Result<Vec<u8, A>, Flaw<'t>>
+fn push_span<A: Allocator>(cursor: &mut Cursor<'_, '_>, list: &mut Vec<u8, A>, span: Span)
     ensures { tokens_left cursor.new ≤ tokens_left cursor.old }
 {
-    let mut list = Vec::new(alloc);
-    for span in read_span_list(alloc, cursor, Some(RegClass::Int))? {
-        push_span(&mut list, span)?;
+    for index in span.first..=span.last {
+        cursor.push(list, index);
     }
-    Ok(list)
+}
+
+/// Reads registers, or `none`, and adds their indexes to a list.
+pub(super) fn read_registers<A: Allocator>(
+    alloc: A,
+    cursor: &mut Cursor<'_, '_>,
+    list: &mut Vec<u8, A>,
+)
+    ensures { tokens_left cursor.new ≤ tokens_left cursor.old }
+{
+    let spans = read_span_list(alloc, cursor, Some(RegClass::Int));
+    for span in &spans {
+        push_span(cursor, list, *span);
+    }
+}
+
+/// Adds the registers of spans to the lists of their classes.
+fn push_spans<A: Allocator>(
+    cursor: &mut Cursor<'_, '_>,
+    lists: &mut ByClass<Vec<u8, A>>,
+    spans: &[Span],
+) {
+    for span in spans {
+        push_span(cursor, lists.of(span.class), *span);
+    }
 }
 
 /// What the lines so far say of the machine.
@@ -149,11 +166,7 @@ impl<A: Allocator + Copy> DraftMachine<A> {
     }
 
     /// The spans of a line after its first word and the name of a class, where one is there.
-    fn read_spans<'t>(
-        &mut self,
-        alloc: A,
-        cursor: &mut Cursor<'_, 't>,
-    ) -> Result<Vec<Span, A>, Flaw<'t>> {
+    fn read_spans(&mut self, alloc: A, cursor: &mut Cursor<'_, '_>) -> Vec<Span, A> {
         self.is_named = true;
         let class = cursor.peek().and_then(class_named);
         if class.is_some() {
@@ -163,60 +176,37 @@ impl<A: Allocator + Copy> DraftMachine<A> {
     }
 
     /// Reads what follows `regs`.
-    pub(super) fn read_preferred<'t>(
-        &mut self,
-        alloc: A,
-        cursor: &mut Cursor<'_, 't>,
-    ) -> Result<(), Flaw<'t>> {
-        for span in self.read_spans(alloc, cursor)? {
-            push_span(self.preferred.of(span.class), span)?;
-        }
-        Ok(())
+    pub(super) fn read_preferred(&mut self, alloc: A, cursor: &mut Cursor<'_, '_>) {
+        let spans = self.read_spans(alloc, cursor);
+        push_spans(cursor, &mut self.preferred, spans.as_slice());
     }
 
     /// Reads what follows `others`.
-    pub(super) fn read_others<'t>(
-        &mut self,
-        alloc: A,
-        cursor: &mut Cursor<'_, 't>,
-    ) -> Result<(), Flaw<'t>> {
-        for span in self.read_spans(alloc, cursor)? {
-            push_span(self.others.of(span.class), span)?;
-        }
-        Ok(())
+    pub(super) fn read_others(&mut self, alloc: A, cursor: &mut Cursor<'_, '_>) {
+        let spans = self.read_spans(alloc, cursor);
+        push_spans(cursor, &mut self.others, spans.as_slice());
     }
 
     /// Reads what follows `scratch`.
-    pub(super) fn read_scratch<'t>(
-        &mut self,
-        alloc: A,
-        cursor: &mut Cursor<'_, 't>,
-    ) -> Result<(), Flaw<'t>> {
-        for span in self.read_spans(alloc, cursor)? {
+    pub(super) fn read_scratch(&mut self, alloc: A, cursor: &mut Cursor<'_, '_>) {
+        let spans = self.read_spans(alloc, cursor);
+        for span in &spans {
             let scratch = self.scratch.of(span.class);
             if scratch.is_some() || span.first != span.last {
-                return Err(cursor.misfit_before("one scratch register of a class"));
+                cursor.misfit_before("one scratch register of a class");
             }
             *scratch = Some(span.first);
         }
-        Ok(())
     }
 
     /// Reads what follows `stack`.
-    pub(super) fn read_stack<'t>(
-        &mut self,
-        alloc: A,
-        cursor: &mut Cursor<'_, 't>,
-    ) -> Result<(), Flaw<'t>> {
+    pub(super) fn read_stack(&mut self, alloc: A, cursor: &mut Cursor<'_, '_>) {
         self.is_named = true;
-        for span in read_span_list(alloc, cursor, Some(RegClass::Int))? {
-            push_span(&mut self.fixed_stack_slots, span)?;
-        }
-        Ok(())
+        read_registers(alloc, cursor, &mut self.fixed_stack_slots);
     }
 
     /// The machine, with the registers that it has where no line names any.
-    pub(super) fn finish(self, alloc: A) -> Result<StoredMachine<A>, AllocError> {
+    pub(super) fn finish(self, alloc: A, cursor: &mut Cursor<'_, '_>) -> StoredMachine<A> {
         let DraftMachine {
             is_named,
             preferred,
@@ -227,20 +217,18 @@ impl<A: Allocator + Copy> DraftMachine<A> {
         let mut preferred = preferred;
         if !is_named {
             let class = RegClass::Int;
-            push_span(
-                preferred.of(class),
-                Span {
-                    class,
-                    first: 0,
-                    last: 9,
-                },
-            )?;
+            let span = Span {
+                class,
+                first: 0,
+                last: 9,
+            };
+            push_span(cursor, preferred.of(class), span);
         }
-        Ok(StoredMachine {
-            preferred_regs_by_class: preferred.into_vec(alloc)?,
-            non_preferred_regs_by_class: others.into_vec(alloc)?,
-            scratch_by_class: scratch.into_vec(alloc)?,
+        StoredMachine {
+            preferred_regs_by_class: preferred.into_vec(alloc, cursor),
+            non_preferred_regs_by_class: others.into_vec(alloc, cursor),
+            scratch_by_class: scratch.into_vec(alloc, cursor),
             fixed_stack_slots,
-        })
+        }
     }
 }

@@ -24,6 +24,17 @@ pub(super) struct DraftOutput<A: Allocator> {
     debug_locations: Vec<(u32, u32, u32, u32), A>,
 }
 
+/// The number of the point before the instruction of that number.
+fn before_inst(cursor: &mut Cursor<'_, '_>, inst: u32) -> u32 {
+    match inst.checked_mul(2) {
+        Some(point) => point,
+        None => {
+            cursor.misfit(TOO_MANY);
+            0
+        }
+    }
+}
+
 impl<A: Allocator + Copy> DraftOutput<A> {
     /// Nothing is said.
     pub(super) fn new(alloc: A) -> Self {
@@ -38,68 +49,58 @@ impl<A: Allocator + Copy> DraftOutput<A> {
     }
 
     /// Adds the places of the next instruction, after all of its line is read.
-    pub(super) fn add_places<'t>(
-        &mut self,
-        places: &[u32],
-        cursor: &Cursor<'_, 't>,
-    ) -> Result<(), Flaw<'t>> {
-        let Ok(offset) = u32::try_from(self.allocs.len()) else {
-            return Err(cursor.misfit(TOO_MANY));
-        };
+    pub(super) fn add_places(&mut self, places: &[u32], cursor: &mut Cursor<'_, '_>) {
+        let offset = self.allocs.len();
+        if offset > u32::MAX as usize {
+            cursor.misfit(TOO_MANY);
+            return;
+        }
         if !places.is_empty() {
             self.is_named = true;
         }
-        self.inst_alloc_offsets.push(offset)?;
-        self.allocs.extend_from_slice(places)?;
-        Ok(())
+        cursor.push(&mut self.inst_alloc_offsets, offset as u32);
+        cursor.extend(&mut self.allocs, places);
     }
 
     /// Reads what follows `move`, before the instruction of number `next`. Answers whether it says no point.
-    pub(super) fn read_move<'t>(
-        &mut self,
-        cursor: &mut Cursor<'_, 't>,
-        next: u32,
-    ) -> Result<bool, Flaw<'t>> {
+    pub(super) fn read_move(&mut self, cursor: &mut Cursor<'_, '_>, next: u32) -> bool {
         self.is_named = true;
-        let from = cursor.place_bits()?;
-        cursor.want("->")?;
-        let to = cursor.place_bits()?;
-        if cursor.has("at") {
-            let point = cursor.point_bits()?;
-            self.edits.push((point, from, to))?;
-            return Ok(false);
-        }
-        let Some(point) = next.checked_mul(2) else {
-            return Err(cursor.misfit(TOO_MANY));
+        let from = cursor.place_bits();
+        cursor.want("->");
+        let to = cursor.place_bits();
+        let has_point = cursor.has("at");
+        let point = if has_point {
+            cursor.point_bits()
+        } else {
+            before_inst(cursor, next)
         };
-        self.edits.push((point, from, to))?;
-        Ok(true)
+        cursor.push(&mut self.edits, (point, from, to));
+        !has_point
     }
 
     /// Reads what follows `slots`.
-    pub(super) fn read_slots<'t>(&mut self, cursor: &mut Cursor<'_, 't>) -> Result<(), Flaw<'t>> {
-        first_of_kind(cursor, self.num_spillslots.is_some(), "slots")?;
-        self.num_spillslots = Some(cursor.number(u64::MAX)?);
-        Ok(())
+    pub(super) fn read_slots(&mut self, cursor: &mut Cursor<'_, '_>) {
+        first_of_kind(cursor, self.num_spillslots.is_some(), "slots");
+        self.num_spillslots = Some(cursor.number(u64::MAX));
     }
 
     /// Reads what follows `debug`.
-    pub(super) fn read_debug<'t>(&mut self, cursor: &mut Cursor<'_, 't>) -> Result<(), Flaw<'t>> {
+    pub(super) fn read_debug(&mut self, cursor: &mut Cursor<'_, '_>) {
         self.is_named = true;
-        let label = cursor.word()?;
-        let from = cursor.point_bits()?;
-        let until = cursor.point_bits()?;
-        let place = cursor.place_bits()?;
-        self.debug_locations.push((label, from, until, place))?;
-        Ok(())
+        let label = cursor.word();
+        let from = cursor.point_bits();
+        let until = cursor.point_bits();
+        let place = cursor.place_bits();
+        cursor.push(&mut self.debug_locations, (label, from, until, place));
     }
 
     /// The output, where lines say something of it, with those lists in place of its own.
-    pub(super) fn finish<'t>(
+    pub(super) fn finish(
         self,
+        cursor: &mut Cursor<'_, '_>,
         stored_allocs: Option<Vec<u32, A>>,
         stored_offsets: Option<Vec<u32, A>>,
-    ) -> Result<Option<StoredOutput<A>>, Flaw<'t>> {
+    ) -> Option<StoredOutput<A>> {
         let DraftOutput {
             is_named,
             num_spillslots,
@@ -111,16 +112,16 @@ impl<A: Allocator + Copy> DraftOutput<A> {
         let Some(num_spillslots) = num_spillslots else {
             if is_named || stored_allocs.is_some() || stored_offsets.is_some() {
                 let expected = Expected::Words("a line `slots N`, since the text has places");
-                return Err(Flaw::new(1, expected, Found::TextEnd));
+                cursor.fail(Flaw::new(1, expected, Found::TextEnd));
             }
-            return Ok(None);
+            return None;
         };
-        Ok(Some(StoredOutput {
+        Some(StoredOutput {
             num_spillslots,
             edits,
             allocs: stored_allocs.unwrap_or(allocs),
             inst_alloc_offsets: stored_offsets.unwrap_or(inst_alloc_offsets),
             debug_locations,
-        }))
+        })
     }
 }

@@ -5,7 +5,7 @@ ghost use Rattle.regalloc2_text.specs.Cursor.{tokens_left};
 
 use super::machine::ByClass;
 use crate::cursor::Cursor;
-use crate::error::{Expected, Flaw};
+use crate::error::Expected;
 use crate::items::class_named;
 
 /// Whether what the flags name holds.
@@ -32,32 +32,30 @@ pub(super) struct Settings {
     pub(super) flags: Option<Flags>,
 }
 
-/// The line that `cursor` has read the first word of is the first of its kind.
-pub(super) fn first_of_kind<'t>(
-    cursor: &Cursor<'_, 't>,
-    is_second: bool,
-    word: &'static str,
-) -> Result<(), Flaw<'t>> {
+/// Notes a flaw where the line that `cursor` has read the first word of is not the first of its kind.
+pub(super) fn first_of_kind(cursor: &mut Cursor<'_, '_>, is_second: bool, word: &'static str)
+    ensures { tokens_left cursor.new ≤ tokens_left cursor.old }
+{
     if is_second {
-        return Err(cursor.fault_before(Expected::NoSecond(word)));
+        cursor.fault_before(Expected::NoSecond(word));
     }
-    Ok(())
 }
 
 /// Reads the size of a slot for values of a class.
-fn read_size<'t>(cursor: &mut Cursor<'_, 't>, sizes: &mut ByClass<u64>) -> Result<(), Flaw<'t>>
+fn read_size(cursor: &mut Cursor<'_, '_>, sizes: &mut ByClass<u64>)
     ensures { tokens_left cursor.new ≤ tokens_left cursor.old }
 {
-    let Some(class) = cursor.peek().and_then(class_named) else {
-        return Err(cursor.misfit("`int`, `float` or `vector`"));
-    };
-    cursor.advance();
-    *sizes.of(class) = cursor.number(u64::MAX)?;
-    Ok(())
+    match cursor.peek().and_then(class_named) {
+        Some(class) => {
+            cursor.advance();
+            *sizes.of(class) = cursor.number(u64::MAX);
+        }
+        None => cursor.misfit("`int`, `float` or `vector`"),
+    }
 }
 
 /// Reads a flag.
-fn read_flag<'t>(cursor: &mut Cursor<'_, 't>, flags: &mut Flags) -> Result<(), Flaw<'t>>
+fn read_flag(cursor: &mut Cursor<'_, '_>, flags: &mut Flags)
     ensures { tokens_left cursor.new ≤ tokens_left cursor.old }
 {
     if cursor.has("named_by_last") {
@@ -65,9 +63,8 @@ fn read_flag<'t>(cursor: &mut Cursor<'_, 't>, flags: &mut Flags) -> Result<(), F
     } else if cursor.has("several_definitions") {
         flags.several_definitions = true;
     } else {
-        return Err(cursor.misfit("`named_by_last` or `several_definitions`"));
+        cursor.misfit("`named_by_last` or `several_definitions`");
     }
-    Ok(())
 }
 
 impl Settings {
@@ -82,43 +79,36 @@ impl Settings {
     }
 
     /// Reads what follows `entry`.
-    pub(super) fn read_entry<'t>(&mut self, cursor: &mut Cursor<'_, 't>) -> Result<(), Flaw<'t>> {
-        first_of_kind(cursor, self.entry_block.is_some(), "entry")?;
-        self.entry_block = Some(cursor.named("block", "a block")?);
-        Ok(())
+    pub(super) fn read_entry(&mut self, cursor: &mut Cursor<'_, '_>) {
+        first_of_kind(cursor, self.entry_block.is_some(), "entry");
+        self.entry_block = Some(cursor.named("block", "a block"));
     }
 
     /// Reads what follows `vregs`.
-    pub(super) fn read_num_vregs<'t>(
-        &mut self,
-        cursor: &mut Cursor<'_, 't>,
-    ) -> Result<(), Flaw<'t>> {
-        first_of_kind(cursor, self.num_vregs.is_some(), "vregs")?;
-        self.num_vregs = Some(cursor.number(u64::MAX)?);
-        Ok(())
+    pub(super) fn read_num_vregs(&mut self, cursor: &mut Cursor<'_, '_>) {
+        first_of_kind(cursor, self.num_vregs.is_some(), "vregs");
+        self.num_vregs = Some(cursor.number(u64::MAX));
     }
 
     /// Reads what follows `sizes`.
-    pub(super) fn read_sizes<'t>(&mut self, cursor: &mut Cursor<'_, 't>) -> Result<(), Flaw<'t>> {
-        first_of_kind(cursor, self.sizes.is_some(), "sizes")?;
+    pub(super) fn read_sizes(&mut self, cursor: &mut Cursor<'_, '_>) {
+        first_of_kind(cursor, self.sizes.is_some(), "sizes");
         let mut sizes = ByClass::new(1, 1, 1);
-        read_size(cursor, &mut sizes)?;
+        read_size(cursor, &mut sizes);
         'sizes: while cursor.has(",") {
-            read_size(cursor, &mut sizes)?;
+            read_size(cursor, &mut sizes);
         }
         self.sizes = Some(sizes);
-        Ok(())
     }
 
     /// Reads what follows `flags`.
-    pub(super) fn read_flags<'t>(&mut self, cursor: &mut Cursor<'_, 't>) -> Result<(), Flaw<'t>> {
-        first_of_kind(cursor, self.flags.is_some(), "flags")?;
+    pub(super) fn read_flags(&mut self, cursor: &mut Cursor<'_, '_>) {
+        first_of_kind(cursor, self.flags.is_some(), "flags");
         let mut flags = Flags::NONE;
-        read_flag(cursor, &mut flags)?;
+        read_flag(cursor, &mut flags);
         'flags: while cursor.has(",") {
-            read_flag(cursor, &mut flags)?;
+            read_flag(cursor, &mut flags);
         }
         self.flags = Some(flags);
-        Ok(())
     }
 }

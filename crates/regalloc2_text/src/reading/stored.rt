@@ -4,58 +4,60 @@ ghost use Rattle.std.specs.Prelude.{◌≡◌, ◌≤◌};
 ghost use Rattle.regalloc2_text.specs.Cursor.{tokens_left};
 
 use crate::cursor::Cursor;
-use crate::error::{Expected, Flaw};
+use crate::error::Expected;
 use regalloc2_serialize::StoredFunction;
 use std::alloc::Allocator;
 
 /// What is written as numbers and lists of them in brackets.
 pub(super) trait FromTokens<A: Allocator> {
     /// The value that is next.
-    fn from_tokens<'t>(alloc: A, cursor: &mut Cursor<'_, 't>) -> Result<Self, Flaw<'t>>
+    fn from_tokens(alloc: A, cursor: &mut Cursor<'_, '_>) -> Self
         ensures { tokens_left cursor.new ≤ tokens_left cursor.old };
 }
 
 impl<A: Allocator> FromTokens<A> for u8 {
-    fn from_tokens<'t>(_alloc: A, cursor: &mut Cursor<'_, 't>) -> Result<u8, Flaw<'t>> {
-        let number = cursor.number(u64::from(u8::MAX))?;
-        Ok(number as u8)
+    fn from_tokens(_alloc: A, cursor: &mut Cursor<'_, '_>) -> u8 {
+        cursor.number(u64::from(u8::MAX)) as u8
     }
 }
 
 impl<A: Allocator> FromTokens<A> for u32 {
-    fn from_tokens<'t>(_alloc: A, cursor: &mut Cursor<'_, 't>) -> Result<u32, Flaw<'t>> {
+    fn from_tokens(_alloc: A, cursor: &mut Cursor<'_, '_>) -> u32 {
         cursor.word()
     }
 }
 
 impl<A: Allocator> FromTokens<A> for u64 {
-    fn from_tokens<'t>(_alloc: A, cursor: &mut Cursor<'_, 't>) -> Result<u64, Flaw<'t>> {
+    fn from_tokens(_alloc: A, cursor: &mut Cursor<'_, '_>) -> u64 {
         cursor.number(u64::MAX)
     }
 }
 
 impl<T: FromTokens<A>, A: Allocator> FromTokens<A> for Option<T> {
-    fn from_tokens<'t>(alloc: A, cursor: &mut Cursor<'_, 't>) -> Result<Option<T>, Flaw<'t>> {
+    fn from_tokens(alloc: A, cursor: &mut Cursor<'_, '_>) -> Option<T> {
         if cursor.has("null") {
-            return Ok(None);
+            return None;
         }
-        Ok(Some(T::from_tokens(alloc, cursor)?))
+        Some(T::from_tokens(alloc, cursor))
     }
 }
 
 impl<T: FromTokens<A> + Drop, A: Allocator + Copy> FromTokens<A> for Vec<T, A> {
-    fn from_tokens<'t>(alloc: A, cursor: &mut Cursor<'_, 't>) -> Result<Vec<T, A>, Flaw<'t>> {
+    fn from_tokens(alloc: A, cursor: &mut Cursor<'_, '_>) -> Vec<T, A> {
         let mut items = Vec::new(alloc);
-        cursor.want("[")?;
+        cursor.want("[");
         if cursor.has("]") {
-            return Ok(items);
+            return items;
         }
-        items.push(T::from_tokens(alloc, cursor)?)?;
-        'items: while cursor.has(",") {
-            items.push(T::from_tokens(alloc, cursor)?)?;
+        'items: loop {
+            let item = T::from_tokens(alloc, cursor);
+            cursor.push(&mut items, item);
+            if !cursor.has(",") {
+                break;
+            }
         }
-        cursor.want("]")?;
-        Ok(items)
+        cursor.want("]");
+        items
     }
 }
 
@@ -82,18 +84,17 @@ pub(super) fn put<T: Drop>(list: &mut T, stored: Option<T>) {
 }
 
 /// Reads a list after its name, which is the last word of `line`, where there is none yet.
-fn read_once<'t, T: FromTokens<A> + Drop, A: Allocator>(
+fn read_once<T: FromTokens<A> + Drop, A: Allocator>(
     alloc: A,
-    cursor: &mut Cursor<'_, 't>,
+    cursor: &mut Cursor<'_, '_>,
     line: &'static str,
     list: &mut Option<T>,
-) -> Result<(), Flaw<'t>> {
+) {
     cursor.advance();
     if list.is_some() {
-        return Err(cursor.fault_before(Expected::NoSecond(line)));
+        cursor.fault_before(Expected::NoSecond(line));
     }
-    *list = Some(T::from_tokens(alloc, cursor)?);
-    Ok(())
+    *list = Some(T::from_tokens(alloc, cursor));
 }
 
 impl<A: Allocator + Copy> StoredLists<A> {
@@ -114,11 +115,7 @@ impl<A: Allocator + Copy> StoredLists<A> {
     }
 
     /// Reads what follows `stored`.
-    pub(super) fn read<'t>(
-        &mut self,
-        alloc: A,
-        cursor: &mut Cursor<'_, 't>,
-    ) -> Result<(), Flaw<'t>> {
+    pub(super) fn read(&mut self, alloc: A, cursor: &mut Cursor<'_, '_>) {
         match cursor.peek().unwrap_or("") {
             "block_preds" => read_once(alloc, cursor, "stored block_preds", &mut self.block_preds),
             "block_succs" => read_once(alloc, cursor, "stored block_succs", &mut self.block_succs),
@@ -167,9 +164,9 @@ impl<A: Allocator + Copy> StoredLists<A> {
                     &mut self.inst_alloc_offsets,
                 )
             }
-            _ => Err(cursor.misfit(
+            _ => cursor.misfit(
                 "a list: block_preds, block_succs, block_params_in, block_params_out, preferred_regs_by_class, non_preferred_regs_by_class, scratch_by_class, spillslot_size, allocs, inst_alloc_offsets",
-            )),
+            ),
         }
     }
 

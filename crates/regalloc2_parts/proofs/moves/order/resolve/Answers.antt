@@ -64,7 +64,8 @@ give_all-requires g c =
     let ns : AreNexts (ends_of new) nexts = subst (λ (xs : List (Place × Place × g.row.T.Denot)). AreNexts (ends_of xs) nexts) c.as_slice.ensures
     c.in_ok-nexts.ensures.ok in
     let many : length (ends_of new) ≡ length new = length_ends new in
-    let apart : AreApart (ends_of new) = tidied_apart (ends_of old) (ends_of new) (real_fair old c.requires.one_source c.requires.real) c.tidy.ensures.tidied in (
+    let fair = real_fair old c.requires.one_source c.requires.real in
+    let apart : AreApart (ends_of new) = tidied_apart (ends_of old) (ends_of new) fair c.tidy.ensures.tidied in (
       search rules,
       (
         subst (λ (xs : List (Place × Place × g.row.T.Denot)). AreApart (ends_of xs)) (sym c.as_slice-3.ensures) apart,

@@ -26,7 +26,8 @@ pub returns-then-is_passing-clause-tracks : goal.returns-then-is_passing-clause-
 returns-then-is_passing-clause-tracks g c = c.pass.ensures.tracks
 
 pub returns-then-is_one-clause-tracks : goal.returns-then-is_one-clause-tracks
-returns-then-is_one-clause-tracks g c = IfOk-weaker c.copy.result _ _ (λ after had x d was. had x d (c.in_ok-after.ensures.tracks x d was)) c.copy.ensures.tracks
+returns-then-is_one-clause-tracks g c =
+    IfOk-weaker c.copy.result _ _ (λ after had x d was. had x d (c.in_ok-after.ensures.tracks x d was)) c.copy.ensures.tracks
 
 pub returns-clause-tracks : goal.returns-clause-tracks
 returns-clause-tracks g c = c.copy-2.ensures.tracks

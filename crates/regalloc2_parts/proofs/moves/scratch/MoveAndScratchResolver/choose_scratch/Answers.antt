@@ -23,3 +23,9 @@ returns-in-Slot-clause-chosen g c =
     let handed = subst (λ h. IsHanding (λ s a t. goal.GetReg-step g s a t) (λ s a t. goal.GetStackSlot-step g s a t) c.args.self.now.find_free_reg
     c.hand_out.new.self.find_free_reg c.args.self.now.get_stackslot c.hand_out.new.self.get_stackslot h) c.in-Slot.is c.in_ok-register.ensures.handed in
     inr (Slot c.in-Slot.slot, need, handed, c.with_scratch-in-Slot.ensures.items)
+
+pub hand_out-requires-clause-registers : goal.hand_out-requires-clause-registers
+hand_out-requires-clause-registers g c = c.requires.registers
+
+pub hand_out-requires-clause-slots : goal.hand_out-requires-clause-slots
+hand_out-requires-clause-slots g c = c.requires.slots

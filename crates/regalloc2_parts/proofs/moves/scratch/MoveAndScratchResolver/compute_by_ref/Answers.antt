@@ -10,7 +10,8 @@ use Rattle.regalloc2_parts.proofs.Computing.{computes_by_way, not_apart}
 use Rattle.regalloc2_parts.proofs.moves.scratch.MoveAndScratchResolver.compute_by_ref.Goals as goal
 
 pub choose_scratch-requires : goal.choose_scratch-requires
-choose_scratch-requires g c = (search rules, (search rules, (c.requires.registers.0, c.requires.slots.0)))
+choose_scratch-requires g c =
+    (search rules, (search rules, record { registers = c.requires.registers.0; slots = c.requires.slots.0 }))
 
 pub returns-in_err-chosen : goal.returns-in_err-chosen
 returns-in_err-chosen g c =
@@ -124,11 +125,11 @@ expand-requires g c =
     c.requires.owes.borrowed_no_memory (λ e. let no : InRegister self.borrowed_scratch_reg ≡ NoPlace = e in absurd cc) handed c.in_ok-hand_out.ensures.handed
     way first is in (
       search rules,
-      (
-        subst (λ f. goal.IsStackAlloc-IsAlwaysCallable g f) (sym same) c.requires.stack,
-        subst (λ f. CanExpand (λ p b. goal.IsStackAlloc-post g f p b) way.register way.save first c.as_slice-list.result.now) (sym same)
-            (subst (λ xs. CanExpand stack way.register way.save first xs) (sym c.as_slice-list.ensures) can),
-      ),
+      record {
+        callable = subst (λ f. goal.IsStackAlloc-IsAlwaysCallable g f) (sym same) c.requires.stack;
+        can = subst (λ f. CanExpand (λ p b. goal.IsStackAlloc-post g f p b) way.register way.save first c.as_slice-list.result.now) (sym same)
+            (subst (λ xs. CanExpand stack way.register way.save first xs) (sym c.as_slice-list.ensures) can);
+      },
     )
 
 pub returns : goal.returns
