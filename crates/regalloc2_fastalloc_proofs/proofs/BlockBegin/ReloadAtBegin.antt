@@ -29,11 +29,11 @@ use Rattle.regalloc2_fastalloc_proofs.specs.BlockStart.{none_emptied, one_emptie
 use Rattle.regalloc2_fastalloc_proofs.proofs.Safety.StepsKeepState.{place_in, slot_in, IsWhole, whole_tidy}
 use Rattle.regalloc2_fastalloc_proofs.proofs.Operands.RecordOverState.{opt, opt_some, opt_from, stands_at, slots_at, no_register_slot, slots_grow}
 use Rattle.regalloc2_fastalloc_proofs.proofs.Operands.RecordOverState.{whole_given, Shifts, shifts, shift_whole, later_push}
-use Rattle.regalloc2_fastalloc_proofs.proofs.Evictions.EvictVReg.{Kept, kept_all, shift_kept}
+use Rattle.regalloc2_fastalloc_proofs.proofs.Evictions.EvictVReg.{Kept, kept_all, kept_edits, shift_kept}
 use Rattle.regalloc2_fastalloc_proofs.proofs.Moves.ScratchRegTaken.{IsIdle, of_machine, taken, Fit, Spare, spare_same, spare_more, scratch_back, scratch_off}
 use Rattle.regalloc2_fastalloc_proofs.proofs.Moves.ScratchRegTaken.{fit_same}
 use Rattle.regalloc2_fastalloc_proofs.proofs.Moves.ScratchRegMidMove.{put, put_same, put_other}
-use Rattle.regalloc2_fastalloc_proofs.proofs.Moves.MoveAfterInst.{kept_edits, spare_edits}
+use Rattle.regalloc2_fastalloc_proofs.proofs.Moves.MoveAfterInst.{spare_edits}
 use Rattle.regalloc2_fastalloc_proofs.proofs.Operands.FreeDef.{leave_whole}
 use Rattle.regalloc2_fastalloc_proofs.proofs.Inst.AcrossInst.{lives_in}
 use Rattle.regalloc2_fastalloc_proofs.proofs.Inst.BoundaryToFirstOperand.{no_scratch}

@@ -18,7 +18,7 @@ use Rattle.regalloc2_semantics.proofs.UnwrittenPlaces.{NoMoveTo}
 use Rattle.regalloc2_semantics.proofs.Points.{at_point-here, at_point-other, at_point-none, all_from-less}
 use Rattle.regalloc2_semantics.proofs.PushedMoves.{listed-push}
 use Rattle.regalloc2_fastalloc_state.specs.declared.inst_regs.InstRegs.{InstRegs}
-use Rattle.regalloc2_fastalloc_proofs.specs.InstSteps.{StateValue, AllocsInst, MovesUses, none_moved, not_moved, one_moved, AddsMoveIf, sent, unsent}
+use Rattle.regalloc2_fastalloc_proofs.specs.InstSteps.{StateValue, AllocsInst, MovesUses, none_moved, not_moved, one_moved}
 use Rattle.regalloc2_fastalloc_proofs.proofs.Safety.StepsKeepState.{place_in}
 use Rattle.regalloc2_fastalloc_proofs.proofs.Operands.RecordOverState.{slots_at}
 use Rattle.regalloc2_fastalloc_proofs.proofs.Inst.AcrossInst.{lives_in}
@@ -33,7 +33,7 @@ use Rattle.regalloc2_fastalloc_proofs.proofs.BlockEnd.NoMoveInLastInst.{still_en
 use Rattle.regalloc2_fastalloc_proofs.proofs.Inst.OneInstCarries.{Between, Needed, carried_nil}
 use Rattle.regalloc2_fastalloc_proofs.proofs.Moves.StepsAppendEdits.{Pushes, none_pushed, one_pushed, pushes_then, sends_pushes}
 use Rattle.regalloc2_fastalloc_proofs.proofs.BlockBegin.ReloadAtBegin.{SpareHere}
-use Rattle.regalloc2_fastalloc_proofs.proofs.Branches.ArgsSpilled.{crosses_less}
+use Rattle.regalloc2_fastalloc_proofs.proofs.Operands.ReuseDefs.{sends_less}
 
 -- a vreg in a register holds it at the early position
 abbrev pub IsHeldHere : InstRegs → StateValue → Type 0
@@ -44,11 +44,6 @@ abbrev pub IsUseMove : ℕ → List OperandValue → List Place → (ℕ × Move
 IsUseMove i ops places e =
     (e.0 ≡ before i) × (((r : Register) × (e.1.to ≡ InRegister r)) ⊎ ((j : ℕ) × (j < length ops) × (is_reading (op_at ops j) ≡ true)
     × (e.1.to ≡ slice_index_or places j NoPlace)))
-
-sends_less : (point : ℕ) (class : _) (is_made : Bool) (from to : Place) (t u : InstRegs) (old new : StateValue) →
-    AddsMoveIf point class is_made from to t u old new → Less t u
-sends_less point class is_made from to t u old new (sent made c) = crosses_less point class from to t u old new c
-sends_less point class is_made from to t u old new (unsent made eu en) = less_same t u eu
 
 uses_less : (point : ℕ) (ops : List OperandValue) (places : List Place) (t : InstRegs) (old : StateValue) (k : ℕ) (u : InstRegs) (new : StateValue) →
     MovesUses point ops places t old k u new → Less t u

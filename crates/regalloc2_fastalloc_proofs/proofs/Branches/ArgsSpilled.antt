@@ -2,7 +2,6 @@
 use Rattle.std.proofs.Common.{ℕ, ◌≡◌, ◌≢◌, ◌<◌, ◌≤◌, ◌⊎◌, inl, inr, Bool, true, false, List, refl, sym, ap, ◌∙◌, subst}
 use Rattle.std.specs.Prelude.{Option, None, Some}
 use Rattle.std.proofs.lemmas.Bool.{cases_eq}
-use Rattle.regalloc2_names.specs.declared.RegClass.{RegClass}
 use Rattle.regalloc2_names.specs.Register.{Register, VirtualRegister}
 use Rattle.regalloc2_names.specs.RegisterSet.{has_register}
 use Rattle.regalloc2_names.specs.Place.{Place, NoPlace, InRegister, InSlot, is_place}
@@ -16,28 +15,18 @@ use Rattle.regalloc2_semantics.specs.OperandsPlaced.{Need, located, in_slot, mad
 use Rattle.regalloc2_semantics.proofs.NeedsAcrossMoves.{claims_weaken, need_slot}
 use Rattle.regalloc2_fastalloc_state.specs.declared.inst_regs.InstRegs.{InstRegs}
 use Rattle.regalloc2_fastalloc_state.specs.StateParts.{VRegAllocsValue, alloc_of, slot_name, SetsAlloc, GetsSpillSlot}
-use Rattle.regalloc2_fastalloc_proofs.specs.InstSteps.{StateValue, SameMachine, AddsMove, direct, through, EvictsPReg, empty, cleared}
+use Rattle.regalloc2_fastalloc_proofs.specs.InstSteps.{StateValue, SameMachine, EvictsPReg}
 use Rattle.regalloc2_fastalloc_proofs.specs.BranchSteps.{SpillsArgument, from_register}
 use Rattle.regalloc2_fastalloc_proofs.specs.BranchSteps.SpillsArgument.{in_slot as settled_in_slot}
 use Rattle.regalloc2_fastalloc_proofs.proofs.Safety.StepsKeepState.{place_in, slot_in, IsWhole, away_holds, away_stands, given, given_own, given_below}
 use Rattle.regalloc2_fastalloc_proofs.proofs.Safety.StepsKeepState.{given_units}
 use Rattle.regalloc2_fastalloc_proofs.proofs.Operands.RecordOverState.{opt, opt_some, opt_from, stands_at, slots_at, slots_grow, whole_given}
-use Rattle.regalloc2_fastalloc_proofs.proofs.Moves.ScratchRegTaken.{scratch_back, Less, less_same, less_then, scratches_less, fit_same}
+use Rattle.regalloc2_fastalloc_proofs.proofs.Moves.ScratchRegTaken.{scratch_back, Less, less_same, less_then, fit_same}
 use Rattle.regalloc2_fastalloc_proofs.proofs.Slots.StepsKeepSlots.{Grown, cases_none, grown_none, grown_then, grown_slot, clears_grown}
+use Rattle.regalloc2_fastalloc_proofs.proofs.Evictions.EvictKeepsRecord.{clears_less}
 use Rattle.regalloc2_fastalloc_proofs.proofs.Moves.StepsAppendEdits.{Pushes, none_pushed, pushes_then}
 use Rattle.regalloc2_fastalloc_proofs.proofs.Slots.LocatedStaysLocated.{clears_lasts}
 use Rattle.regalloc2_fastalloc_proofs.proofs.BlockBegin.ReloadAtBegin.{SpareHere, IsReload, Leads, Reached, clears_reached}
-
--- what was held stays held
-pub crosses_less : (point : ℕ) (class : RegClass) (from to : Place) (t u : InstRegs) (old new : StateValue) → AddsMove point class from to t u old new
-    → Less t u
-crosses_less point class from to t u old new (direct flat eu en) = less_same t u eu
-crosses_less point class from to t u old new (through by m stack scratches en) = scratches_less point class t u by old m scratches
-
--- evicting an argument from its register makes no register available
-pub clears_less : (point : ℕ) (r : Register) (t u : InstRegs) (old new : StateValue) → EvictsPReg point r t u old new → Less t u
-clears_less point r t u old new (empty none eu en) = less_same t u eu
-clears_less point r t u old new (cleared v s m lt held gives settles edits machine crosses) = crosses_less point v.class s (InRegister r) t u m new crosses
 
 -- what each step keeps while arguments are spilled
 pub record Comes (i : ℕ) (t u : InstRegs) (old new : StateValue) : Type 0 where

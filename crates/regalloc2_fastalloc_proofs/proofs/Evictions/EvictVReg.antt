@@ -7,6 +7,7 @@ use Rattle.regalloc2_names.specs.RegisterSet.{has_register}
 use Rattle.regalloc2_names.specs.Place.{Place, NoPlace, InRegister, InSlot}
 use Rattle.regalloc2_names.specs.Point.{after}
 use Rattle.regalloc2_function.specs.FunctionValue.{InstValue}
+use Rattle.regalloc2_function.specs.OutputValue.{MoveValue}
 use Rattle.regalloc2_semantics.specs.OperandsPlaced.{What}
 use Rattle.regalloc2_fastalloc_state.specs.declared.inst_regs.InstRegs.{InstRegs}
 use Rattle.regalloc2_fastalloc_proofs.specs.InstSteps.{StateValue, SameMachine, EvictsVReg, nobody, moved}
@@ -44,6 +45,24 @@ kept_all t = record {
   slotted = λ x k e. e;
   unslotted = λ x e. refl;
   machine = record { allocatable = refl; fixed_stack = refl; dedicated_scratch = refl; sizes = refl; vregs = refl; num_temp_slots = refl };
+}
+
+-- edits are none of what no eviction changes, so other ones may take their place
+pub kept_edits : (s t : StateValue) (es : List (ℕ × MoveValue)) → Kept s t → Kept s (record t { edits = es })
+kept_edits s t es k = record {
+  slots = k.slots;
+  registers = k.registers;
+  nowhere = k.nowhere;
+  slotted = k.slotted;
+  unslotted = k.unslotted;
+  machine = record {
+    allocatable = k.machine.allocatable;
+    fixed_stack = k.machine.fixed_stack;
+    dedicated_scratch = k.machine.dedicated_scratch;
+    sizes = k.machine.sizes;
+    vregs = k.machine.vregs;
+    num_temp_slots = k.machine.num_temp_slots;
+  };
 }
 
 -- moving one vreg from its register to its spill slot is no change to what evictions keep

@@ -21,47 +21,12 @@ use Rattle.regalloc2_fastalloc_state.specs.declared.inst_regs.InstRegs.{InstRegs
 use Rattle.regalloc2_fastalloc_proofs.specs.InstSteps.{StateValue, AddsMove, direct, through, is_stack_in, a_move}
 use Rattle.regalloc2_fastalloc_proofs.proofs.Safety.StepsKeepState.{place_in, slot_in}
 use Rattle.regalloc2_fastalloc_proofs.proofs.Operands.RecordOverState.{opt_from, stands_at, slots_at, no_register_slot, Located, Owes, later_push}
-use Rattle.regalloc2_fastalloc_proofs.proofs.Evictions.EvictVReg.{held_early, held_late, Kept, kept_all}
+use Rattle.regalloc2_fastalloc_proofs.proofs.Operands.RecordOverState.{stands_edits}
+use Rattle.regalloc2_fastalloc_proofs.proofs.Evictions.EvictVReg.{held_early, held_late, Kept, kept_all, kept_edits}
 use Rattle.regalloc2_fastalloc_proofs.proofs.Moves.ScratchRegTaken.{of_machine, taken, Fit, Spare, Less, scratches_less, spare_more, scratch_off, fit_same}
 use Rattle.regalloc2_fastalloc_proofs.proofs.Moves.ScratchRegMidMove.{put, put_same, put_other, ScratchedBut, scratch_but, through_items, through_later}
 use Rattle.regalloc2_fastalloc_proofs.proofs.Operands.RecordOfInst.{Ready}
 use Rattle.regalloc2_fastalloc_proofs.proofs.Evictions.EvictKeepsRecord.{Nothing, none_crosses}
-
--- moves are no part of the locations of vregs
-pub stands_edits : (what : ℕ → What) (here : ℕ → Place) (claimed done lived out : ℕ → Bool) (clob : Place → Bool) (X : Place → ℕ → Bool) (t : StateValue)
-    (es : List (ℕ × MoveValue)) →
-    Located what here claimed done lived out clob X t → Located what here claimed done lived out clob X (record t { edits = es })
-stands_edits what here claimed done lived out clob X t es s = record {
-  whole = record {
-    holds = s.whole.holds;
-    stands_in = s.whole.stands_in;
-    own_slot = s.whole.own_slot;
-    below = s.whole.below;
-    own = s.whole.own;
-    units = s.whole.units;
-  };
-  placed = s.placed;
-  below = s.below;
-  calm = s.calm;
-}
-
--- what no eviction changes says nothing of edits: a state with other ones keeps it too
-pub kept_edits : (a t : StateValue) (es : List (ℕ × MoveValue)) → Kept a t → Kept a (record t { edits = es })
-kept_edits a t es k = record {
-  slots = k.slots;
-  registers = k.registers;
-  nowhere = k.nowhere;
-  slotted = k.slotted;
-  unslotted = k.unslotted;
-  machine = record {
-    allocatable = k.machine.allocatable;
-    fixed_stack = k.machine.fixed_stack;
-    dedicated_scratch = k.machine.dedicated_scratch;
-    sizes = k.machine.sizes;
-    vregs = k.machine.vregs;
-    num_temp_slots = k.machine.num_temp_slots;
-  };
-}
 
 -- scratch registers stay idle where edits alone change
 pub spare_edits : (here : ℕ → Place) (claimed : ℕ → Bool) (X : Place → ℕ → Bool) (u : InstRegs) (t : StateValue) (es : List (ℕ × MoveValue)) →

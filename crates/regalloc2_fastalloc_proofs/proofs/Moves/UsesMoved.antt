@@ -29,48 +29,12 @@ use Rattle.regalloc2_fastalloc_proofs.specs.InstSteps.{found, direct, through, A
 use Rattle.regalloc2_fastalloc_proofs.specs.InstSteps.{a_move}
 use Rattle.regalloc2_fastalloc_proofs.proofs.Safety.StepsKeepState.{place_in, slot_in, IsWhole}
 use Rattle.regalloc2_fastalloc_proofs.proofs.Operands.RecordOverState.{stands_at, slots_at, opt, opt_from, no_register_slot, Located, Shifts, shifts}
-use Rattle.regalloc2_fastalloc_proofs.proofs.Operands.RecordOverState.{shift_whole, shift_stands, later_push}
-use Rattle.regalloc2_fastalloc_proofs.proofs.Evictions.EvictVReg.{held_early, held_late, Kept, kept_all, shift_kept}
+use Rattle.regalloc2_fastalloc_proofs.proofs.Operands.RecordOverState.{shift_whole, shift_stands, later_push, stands_edits}
+use Rattle.regalloc2_fastalloc_proofs.proofs.Evictions.EvictVReg.{held_early, held_late, Kept, kept_all, kept_edits, shift_kept}
 use Rattle.regalloc2_fastalloc_proofs.proofs.Moves.ScratchRegTaken.{IsIdle, IsScratch, of_machine, taken, less_early, less_late, held_keeps}
 use Rattle.regalloc2_fastalloc_proofs.proofs.Moves.ScratchRegTaken.{free_unclaimed, Fit, Spare, spare_same, spare_kept, spare_more, scratch_off}
 use Rattle.regalloc2_fastalloc_proofs.proofs.Moves.ScratchRegTaken.{fit_same}
 use Rattle.regalloc2_fastalloc_proofs.proofs.Evictions.EvictPReg.{kept_then}
-
--- of the tables, all but the moves matter
-pub stands_edits : (what : ℕ → What) (here : ℕ → Place) (claimed done lived out : ℕ → Bool) (clob : Place → Bool) (X : Place → ℕ → Bool) (t : StateValue)
-    (es : List (ℕ × MoveValue)) →
-    Located what here claimed done lived out clob X t → Located what here claimed done lived out clob X (record t { edits = es })
-stands_edits what here claimed done lived out clob X t es st = record {
-  whole = record {
-    holds = st.whole.holds;
-    stands_in = st.whole.stands_in;
-    own_slot = st.whole.own_slot;
-    below = st.whole.below;
-    own = st.whole.own;
-    units = st.whole.units;
-  };
-  placed = st.placed;
-  below = st.below;
-  calm = st.calm;
-}
-
--- edits are none of what no eviction changes, so other ones may take their place
-pub kept_edits : (s t : StateValue) (es : List (ℕ × MoveValue)) → Kept s t → Kept s (record t { edits = es })
-kept_edits s t es k = record {
-  slots = k.slots;
-  registers = k.registers;
-  nowhere = k.nowhere;
-  slotted = k.slotted;
-  unslotted = k.unslotted;
-  machine = record {
-    allocatable = k.machine.allocatable;
-    fixed_stack = k.machine.fixed_stack;
-    dedicated_scratch = k.machine.dedicated_scratch;
-    sizes = k.machine.sizes;
-    vregs = k.machine.vregs;
-    num_temp_slots = k.machine.num_temp_slots;
-  };
-}
 
 module _ (Known : VirtualRegister → Type 0) (insts : ℕ → InstValue) (placesf : ℕ → List Place) (i n : ℕ) (item : Item)
     (E : VirtualRegister → Place → Type 0) where

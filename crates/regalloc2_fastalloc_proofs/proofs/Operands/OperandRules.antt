@@ -108,12 +108,3 @@ one_reuse i is_ret operands k here there t u old new o n request point p e g at 
     let P : ℕ → OperandRequest → Type 0 = λ j x. AllocsDefOp j x is_ret p t u old new in
     a_reuse n p (ap (λ (x : OperandValue). is_def x.kind) (sym e) ∙ def) (ap (λ (x : OperandValue). x.constraint) (sym e) ∙ names)
     (subst (P (after i)) (g ∙ ap (λ (x : OperandValue). reuse_request x (op_at operands n)) e) (subst (λ (j : ℕ). P j request) at placed)) set
-
-read_marked : (a b : Bool) → (not a && not b) ≡ true → b ≡ false
-read_marked true b h = absurd cc
-read_marked false true h = absurd cc
-read_marked false false h = refl
-
--- a use that reads a vreg isn't fixed to a nonallocatable register
-pub read_is_marked : (o : OperandValue) → is_reading o ≡ true → is_fixed_nonallocatable o ≡ false
-read_is_marked o h = read_marked (is_def o.kind) (is_fixed_nonallocatable o) h

@@ -263,3 +263,21 @@ module _ (Known : VirtualRegister → Type 0) (insts : ℕ → InstValue) (place
         claims = subst (λ l. Claims Known l (Need lived out X (stands_at new) (slots_at new)) E)
             (sym (after_part-more insts (record { from = s; to = InRegister r }) edits placesf i n)) c;
       }
+
+-- of the tables, all but the moves matter
+pub stands_edits : (what : ℕ → What) (here : ℕ → Place) (claimed done lived out : ℕ → Bool) (clob : Place → Bool) (X : Place → ℕ → Bool) (t : StateValue)
+    (es : List (ℕ × MoveValue)) →
+    Located what here claimed done lived out clob X t → Located what here claimed done lived out clob X (record t { edits = es })
+stands_edits what here claimed done lived out clob X t es st = record {
+  whole = record {
+    holds = st.whole.holds;
+    stands_in = st.whole.stands_in;
+    own_slot = st.whole.own_slot;
+    below = st.whole.below;
+    own = st.whole.own;
+    units = st.whole.units;
+  };
+  placed = st.placed;
+  below = st.below;
+  calm = st.calm;
+}

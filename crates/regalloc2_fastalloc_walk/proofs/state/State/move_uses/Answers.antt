@@ -9,7 +9,7 @@ use Rattle.regalloc2_fastalloc_proofs.specs.InstSteps.{none_moved, not_moved, on
 use Rattle.regalloc2_fastalloc_walk.specs.StateView.{tables_of}
 use Rattle.regalloc2_validate.proofs.OperandReads.{read_operand}
 use Rattle.regalloc2_fastalloc_proofs.proofs.Evictions.PushedAndRemoved.{same_then}
-use Rattle.regalloc2_fastalloc_proofs.proofs.Operands.OperandRules.{read_is_marked}
+use Rattle.regalloc2_fastalloc_proofs.proofs.Operands.AllocsSoFar.{reads_allocated}
 use Rattle.regalloc2_fastalloc_walk.proofs.state.State.move_uses.Goals as goal
 use Rattle.regalloc2_fastalloc_walk.proofs.state.State.move_uses.Goals.{then-is_reading+in_ok-move_use, else-is_reading}
 
@@ -29,7 +29,7 @@ move_use-requires g c =
     c.index-operands-k.is in
     let again : c.index-operands-k-then-is_reading.result ≡ op_at ops c.loop-k.k = read_operand ops c.loop-k.k c.index-operands-k-then-is_reading.result
     c.loop-k-test.true c.index-operands-k-then-is_reading.is in
-    let marked = read_is_marked (op_at ops c.loop-k.k) (sym (ap (λ (o : OperandValue). is_reading o) first) ∙ sym c.is_reading.ensures
+    let marked = reads_allocated (op_at ops c.loop-k.k) (sym (ap (λ (o : OperandValue). is_reading o) first) ∙ sym c.is_reading.ensures
     ∙ c.if-is_reading.true) in
     let within = c.requires.in_tables c.loop-k.k c.loop-k-test.true marked in (
       search rules,
