@@ -12,6 +12,7 @@ ghost use Rattle.regalloc2_fastalloc_walk.specs.StateView.{tables_of};
 ghost use Rattle.regalloc2_fastalloc_state.specs.StateParts.{AllAtOrAfter, vreg_of_preg, alloc_of};
 
 use super::inst::differ;
+use super::operand::PlaceMove;
 use super::state::State;
 use regalloc2_fastalloc_state::fill_order::FilledReg;
 use regalloc2_fastalloc_state::inst_regs::InstRegs;
@@ -44,7 +45,16 @@ impl<'a, A: Allocator> State<'a, A> {
         let slot = self.slots.get_spillslot(param)?;
         self.places.set_alloc(param, Allocation::none());
         let is_moved = differ(slot, current);
-        self.add_move_if(inst_regs, point, param.class(), is_moved, slot, current)?;
+        self.add_move_if(
+            inst_regs,
+            point,
+            is_moved,
+            PlaceMove {
+                class: param.class(),
+                from: slot,
+                to: current,
+            },
+        )?;
         Ok(())
     }
 

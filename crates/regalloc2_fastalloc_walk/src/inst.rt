@@ -20,6 +20,7 @@ ghost use Rattle.regalloc2_fastalloc_proofs.specs.OutOfRegs.{AddMoveIfFails};
 ghost use Rattle.regalloc2_fastalloc_walk.specs.StateView.{tables_of};
 ghost use Rattle.regalloc2_fastalloc_proofs.specs.BlockSteps.{AllocsInstInto, IsFresh};
 
+use super::operand::PlaceMove;
 use super::state::State;
 use regalloc2_fastalloc_state::inst_regs::{InstRegs, Positions};
 use regalloc2_fastalloc_state::request::{OperandRequest, Requirement};
@@ -131,35 +132,46 @@ fn set_place(places: &mut [Allocation], index: usize, place: Allocation)
     }
 }
 
+/// An instruction, as the walk meets it.
+#[derive(Clone, Copy)]
+pub struct InstCx<'a> {
+    pub inst: Inst,
+    /// Whether it is a return.
+    pub is_ret: bool,
+    pub operands: &'a [Operand],
+    /// The registers that it overwrites.
+    pub clobbers: PRegSet,
+}
+
 impl<'a, A: Allocator> State<'a, A> {
     /// Allocates the operand k. The place of a reuse is that of the operand that it names too.
     fn process_operand_allocation(
         &mut self,
         inst_regs: &mut InstRegs,
-        inst: Inst,
-        is_ret: bool,
-        operands: &[Operand],
+        cx: &InstCx<'_>,
         here: &mut [Allocation],
         k: usize,
     ) -> Result<(), RegAllocError>
-        requires inside { k < length operands.now }
-        requires inst { inst < 1073741824 }
-        requires later { AllAtOrAfter (after inst) self.old.edits }
-        requires in_tables { InTables operands.now (tables_of self.old) }
-        requires here_long { length here.old ≡ length operands.now }
-        ensures ok { OnOk result (ProcessesOperand inst is_ret operands.now k here.old here.new inst_regs.old inst_regs.new (tables_of self.old)
-            (tables_of self.new)) }
-        ensures later { OnOk result (AllAtOrAfter (after inst) self.new.edits) }
+        requires inside { k < length cx.now.operands.now }
+        requires inst { cx.now.inst < 1073741824 }
+        requires later { AllAtOrAfter (after cx.now.inst) self.old.edits }
+        requires in_tables { InTables cx.now.operands.now (tables_of self.old) }
+        requires here_long { length here.old ≡ length cx.now.operands.now }
+        ensures ok { OnOk result (ProcessesOperand cx.now.inst cx.now.is_ret cx.now.operands.now k here.old here.new inst_regs.old inst_regs.new
+            (tables_of self.old) (tables_of self.new)) }
+        ensures later { OnOk result (AllAtOrAfter (after cx.now.inst) self.new.edits) }
         ensures long { OnOk result (length self.new.places.vreg_allocs ≡ length self.old.places.vreg_allocs) }
         ensures machine { SameMachine (tables_of self.old) (tables_of self.new) }
         ensures err { IfErr result (IsResourceErrorIn self.new.slots) }
-        ensures stops { IfErr result (OutOfRegsOnlyIf (ProcessOperandFails inst is_ret operands.now k here.old inst_regs.old (tables_of self.old))) }
-        ensures takes { OnOk result ((op_at operands.now k).constraint ≡ OperandConstraint.Reg → slice_index_or here.old k NoPlace ≡ NoPlace →
-            AllocsAnyReg inst_regs.old (op_at operands.now k).vreg (slice_index_or here.new k NoPlace) (tables_of self.old) self.old.registers
+        ensures stops { IfErr result (OutOfRegsOnlyIf
+            (ProcessOperandFails cx.now.inst cx.now.is_ret cx.now.operands.now k here.old inst_regs.old (tables_of self.old))) }
+        ensures takes { OnOk result ((op_at cx.now.operands.now k).constraint ≡ OperandConstraint.Reg → slice_index_or here.old k NoPlace ≡ NoPlace →
+            AllocsAnyReg inst_regs.old (op_at cx.now.operands.now k).vreg (slice_index_or here.new k NoPlace) (tables_of self.old) self.old.registers
             self.new.registers) }
     {
+        let operands = cx.operands;
         let operand = operands[k];
-        let point = ProgPoint::after(inst);
+        let point = ProgPoint::after(cx.inst);
         if let Some(preg) = operand.as_fixed_nonallocatable() {
             here[k] = Allocation::reg(preg);
             return Ok(());
@@ -171,12 +183,12 @@ impl<'a, A: Allocator> State<'a, A> {
         }
         if let Some(index) = reused(operand) {
             let request = reuse_request(operand, operands, index);
-            let place = self.alloc_def_op(inst_regs, point, &request, is_ret)?;
+            let place = self.alloc_def_op(inst_regs, point, &request, cx.is_ret)?;
             here[k] = place;
             set_place(here, index, place);
             return Ok(());
         }
-        here[k] = self.alloc_def_op(inst_regs, point, &def_request(operand), is_ret)?;
+        here[k] = self.alloc_def_op(inst_regs, point, &def_request(operand), cx.is_ret)?;
         Ok(())
     }
 
@@ -185,32 +197,31 @@ impl<'a, A: Allocator> State<'a, A> {
         &mut self,
         inst_regs: &mut InstRegs,
         pos: OperandPos,
-        inst: Inst,
-        is_ret: bool,
-        operands: &[Operand],
+        cx: &InstCx<'_>,
         here: &mut [Allocation],
     ) -> Result<(), RegAllocError>
-        requires inst { inst < 1073741824 }
-        requires later { AllAtOrAfter (after inst) self.old.edits }
-        requires in_tables { InTables operands.now (tables_of self.old) }
-        requires here_long { length here.old ≡ length operands.now }
-        ensures ok { OnOk result (ProcessesOperandsAt inst is_ret (is_late pos) operands.now here.old inst_regs.old (tables_of self.old) (length operands.now)
-            here.new inst_regs.new (tables_of self.new)) }
-        ensures later { OnOk result (AllAtOrAfter (after inst) self.new.edits) }
+        requires inst { cx.now.inst < 1073741824 }
+        requires later { AllAtOrAfter (after cx.now.inst) self.old.edits }
+        requires in_tables { InTables cx.now.operands.now (tables_of self.old) }
+        requires here_long { length here.old ≡ length cx.now.operands.now }
+        ensures ok { OnOk result (ProcessesOperandsAt cx.now.inst cx.now.is_ret (is_late pos) cx.now.operands.now here.old inst_regs.old
+            (tables_of self.old) (length cx.now.operands.now) here.new inst_regs.new (tables_of self.new)) }
+        ensures later { OnOk result (AllAtOrAfter (after cx.now.inst) self.new.edits) }
         ensures long { OnOk result (length self.new.places.vreg_allocs ≡ length self.old.places.vreg_allocs) }
         ensures machine { SameMachine (tables_of self.old) (tables_of self.new) }
         ensures err { IfErr result (IsResourceErrorIn self.new.slots) }
         ensures stops { IfErr result (OutOfRegsOnlyIf
-            (ProcessOperandsAtFails inst is_ret (is_late pos) operands.now here.old inst_regs.old (tables_of self.old))) }
+            (ProcessOperandsAtFails cx.now.inst cx.now.is_ret (is_late pos) cx.now.operands.now here.old inst_regs.old (tables_of self.old))) }
         ensures spill_free { OnOk result ((names : List VirtualRegister) (gone : ℕ → Bool) → FitInRegs names self.old.registers.allocatable →
-            ArePlain names gone operands.now (is_late pos) → ((j : ℕ) → is_late (op_at operands.now j).position ≡ is_late pos →
+            ArePlain names gone cx.now.operands.now (is_late pos) → ((j : ℕ) → is_late (op_at cx.now.operands.now j).position ≡ is_late pos →
             slice_index_or here.old j NoPlace ≡ NoPlace) → IsSpillFree names gone self.old.registers (tables_of self.old) inst_regs.old
-            → ArePlaced names gone operands.now (is_late pos) (length operands.now) here.old here.new self.new.registers (tables_of self.old)
+            → ArePlaced names gone cx.now.operands.now (is_late pos) (length cx.now.operands.now) here.old here.new self.new.registers (tables_of self.old)
             (tables_of self.new) inst_regs.new) }
     {
+        let operands = cx.operands;
         for k in 0..operands.len() {
             if stands_at(operands[k], pos) {
-                self.process_operand_allocation(inst_regs, inst, is_ret, operands, here, k)?;
+                self.process_operand_allocation(inst_regs, cx, here, k)?;
             }
         }
         Ok(())
@@ -239,7 +250,16 @@ impl<'a, A: Allocator> State<'a, A> {
     {
         let current = self.places.current_alloc(operand.vreg());
         let is_moved = differ(current, place);
-        self.add_move_if(inst_regs, point, operand.class(), is_moved, current, place)?;
+        self.add_move_if(
+            inst_regs,
+            point,
+            is_moved,
+            PlaceMove {
+                class: operand.class(),
+                from: current,
+                to: place,
+            },
+        )?;
         Ok(())
     }
 
@@ -277,38 +297,38 @@ impl<'a, A: Allocator> State<'a, A> {
     pub fn alloc_inst(
         &mut self,
         inst_regs: &mut InstRegs,
-        inst: Inst,
-        is_ret: bool,
-        operands: &[Operand],
-        clobbers: PRegSet,
+        cx: &InstCx<'_>,
         here: &mut [Allocation],
     ) -> Result<(), RegAllocError>
-        requires inst { inst < 1073741824 }
-        requires later { AllAtOrAfter (after inst) self.old.edits }
-        requires in_tables { InTables operands.now (tables_of self.old) }
-        requires here_long { length here.old ≡ length operands.now }
+        requires inst { cx.now.inst < 1073741824 }
+        requires later { AllAtOrAfter (after cx.now.inst) self.old.edits }
+        requires in_tables { InTables cx.now.operands.now (tables_of self.old) }
+        requires here_long { length here.old ≡ length cx.now.operands.now }
         requires no_places { (k : ℕ) → slice_index_or here.old k NoPlace ≡ NoPlace }
         requires fresh { IsFresh inst_regs.old (tables_of self.old) }
-        ensures ok { OnOk result ((a : AllocsInst inst (record { operands = operands.now; clobbers = clobbers; is_branch = false; is_ret = is_ret }) here.old
-            here.new (tables_of self.old) (tables_of self.new)) × (a.ended ≡ inst_regs.new)) }
-        ensures later { OnOk result (AllAtOrAfter (before inst) self.new.edits) }
+        ensures ok { OnOk result ((a : AllocsInst cx.now.inst (record
+            { operands = cx.now.operands.now; clobbers = cx.now.clobbers; is_branch = false; is_ret = cx.now.is_ret }) here.old here.new (tables_of self.old)
+            (tables_of self.new)) × (a.ended ≡ inst_regs.new)) }
+        ensures later { OnOk result (AllAtOrAfter (before cx.now.inst) self.new.edits) }
         ensures long { OnOk result (length self.new.places.vreg_allocs ≡ length self.old.places.vreg_allocs) }
         ensures machine { SameMachine (tables_of self.old) (tables_of self.new) }
         ensures err { IfErr result (IsResourceErrorIn self.new.slots) }
-        ensures stops { IfErr result (OutOfRegsOnlyIf (AllocInstFails inst is_ret operands.now clobbers here.old inst_regs.old (tables_of self.old))) }
+        ensures stops { IfErr result (OutOfRegsOnlyIf
+            (AllocInstFails cx.now.inst cx.now.is_ret cx.now.operands.now cx.now.clobbers here.old inst_regs.old (tables_of self.old))) }
         ensures spill_free { OnOk result ((names : List VirtualRegister) (gone : ℕ → Bool) → FitInRegs names self.old.registers.allocatable →
-            ((late : Bool) → ArePlain names gone operands.now late) → ((r : Register) → has_register clobbers r ≡ false) →
+            ((late : Bool) → ArePlain names gone cx.now.operands.now late) → ((r : Register) → has_register cx.now.clobbers r ≡ false) →
             IsSpillFree names gone self.old.registers (tables_of self.old) inst_regs.old
-            → LeavesSpillFree names gone operands.now self.new.registers (tables_of self.new)) }
+            → LeavesSpillFree names gone cx.now.operands.now self.new.registers (tables_of self.new)) }
     {
-        let point = ProgPoint::after(inst);
+        let operands = cx.operands;
+        let point = ProgPoint::after(cx.inst);
         self.reserve(inst_regs, operands)?;
-        self.remove_clobbers_from_available_pregs(inst_regs, clobbers);
+        self.remove_clobbers_from_available_pregs(inst_regs, cx.clobbers);
         self.evict_fixed(inst_regs, point, operands)?;
-        self.evict_clobbers(inst_regs, point, clobbers)?;
-        self.process_operands_at(inst_regs, OperandPos::Late, inst, is_ret, operands, here)?;
-        self.process_operands_at(inst_regs, OperandPos::Early, inst, is_ret, operands, here)?;
-        self.move_uses(inst_regs, ProgPoint::before(inst), operands, here)?;
+        self.evict_clobbers(inst_regs, point, cx.clobbers)?;
+        self.process_operands_at(inst_regs, OperandPos::Late, cx, here)?;
+        self.process_operands_at(inst_regs, OperandPos::Early, cx, here)?;
+        self.move_uses(inst_regs, ProgPoint::before(cx.inst), operands, here)?;
         Ok(())
     }
 
@@ -316,42 +336,33 @@ impl<'a, A: Allocator> State<'a, A> {
     pub fn alloc_inst_at(
         &mut self,
         inst_regs: &mut InstRegs,
-        inst: Inst,
-        is_ret: bool,
-        operands: &[Operand],
-        clobbers: PRegSet,
+        cx: &InstCx<'_>,
         start: usize,
         allocs: &mut [Allocation],
     ) -> Result<(), RegAllocError>
-        requires inst { inst < 1073741824 }
-        requires later { AllAtOrAfter (after inst) self.old.edits }
-        requires in_tables { InTables operands.now (tables_of self.old) }
-        requires room { start + length operands.now ≤ length allocs.old }
-        requires no_places { (k : ℕ) → k < start + length operands.now → slice_index_or allocs.old k NoPlace ≡ NoPlace }
+        requires inst { cx.now.inst < 1073741824 }
+        requires later { AllAtOrAfter (after cx.now.inst) self.old.edits }
+        requires in_tables { InTables cx.now.operands.now (tables_of self.old) }
+        requires room { start + length cx.now.operands.now ≤ length allocs.old }
+        requires no_places { (k : ℕ) → k < start + length cx.now.operands.now → slice_index_or allocs.old k NoPlace ≡ NoPlace }
         requires fresh { IsFresh inst_regs.old (tables_of self.old) }
-        ensures ok { OnOk result (AllocsInstInto inst_regs.new inst (record
-            { operands = operands.now; clobbers = clobbers; is_branch = false; is_ret = is_ret }) start allocs.old allocs.new (tables_of self.old)
-            (tables_of self.new)) }
-        ensures later { OnOk result (AllAtOrAfter (before inst) self.new.edits) }
+        ensures ok { OnOk result (AllocsInstInto inst_regs.new cx.now.inst (record
+            { operands = cx.now.operands.now; clobbers = cx.now.clobbers; is_branch = false; is_ret = cx.now.is_ret }) start allocs.old allocs.new
+            (tables_of self.old) (tables_of self.new)) }
+        ensures later { OnOk result (AllAtOrAfter (before cx.now.inst) self.new.edits) }
         ensures long { OnOk result (length self.new.places.vreg_allocs ≡ length self.old.places.vreg_allocs) }
         ensures machine { SameMachine (tables_of self.old) (tables_of self.new) }
         ensures err { IfErr result (IsResourceErrorIn self.new.slots) }
-        ensures stops { IfErr result (OutOfRegsOnlyIf ((blank : List Place) × (length blank ≡ length operands.now)
-            × ((k : ℕ) → slice_index_or blank k NoPlace ≡ NoPlace) × AllocInstFails inst is_ret operands.now clobbers blank inst_regs.old (tables_of self.old))) }
+        ensures stops { IfErr result (OutOfRegsOnlyIf ((blank : List Place) × (length blank ≡ length cx.now.operands.now)
+            × ((k : ℕ) → slice_index_or blank k NoPlace ≡ NoPlace) × AllocInstFails cx.now.inst cx.now.is_ret cx.now.operands.now
+            cx.now.clobbers blank inst_regs.old (tables_of self.old))) }
         ensures spill_free { OnOk result ((names : List VirtualRegister) (gone : ℕ → Bool) → FitInRegs names self.old.registers.allocatable →
-            ((late : Bool) → ArePlain names gone operands.now late) → ((r : Register) → has_register clobbers r ≡ false) →
+            ((late : Bool) → ArePlain names gone cx.now.operands.now late) → ((r : Register) → has_register cx.now.clobbers r ≡ false) →
             IsSpillFree names gone self.old.registers (tables_of self.old) inst_regs.old
-            → LeavesSpillFree names gone operands.now self.new.registers (tables_of self.new)) }
+            → LeavesSpillFree names gone cx.now.operands.now self.new.registers (tables_of self.new)) }
     {
-        let end = start + operands.len();
-        self.alloc_inst(
-            inst_regs,
-            inst,
-            is_ret,
-            operands,
-            clobbers,
-            &mut allocs[start..end],
-        )?;
+        let end = start + cx.operands.len();
+        self.alloc_inst(inst_regs, cx, &mut allocs[start..end])?;
         Ok(())
     }
 }

@@ -23,6 +23,14 @@ use regalloc2_fastalloc_state::request::{OperandRequest, Requirement};
 use regalloc2_names::{Allocation, PReg, ProgPoint, RegAllocError, RegClass, VReg};
 use std::alloc::Allocator;
 
+/// A move of a value of a class, from one place to another.
+#[derive(Clone, Copy)]
+pub struct PlaceMove {
+    pub class: RegClass,
+    pub from: Allocation,
+    pub to: Allocation,
+}
+
 /// Whether a place is there, and isn't that other one.
 fn is_another(place: Allocation, other: Allocation) -> bool
     ensures { result ≡ is_another place other }
@@ -349,25 +357,23 @@ impl<'a, A: Allocator> State<'a, A> {
         &mut self,
         inst_regs: &mut InstRegs,
         point: ProgPoint,
-        class: RegClass,
         is_made: bool,
-        from: Allocation,
-        to: Allocation,
+        m: PlaceMove,
     ) -> Result<(), RegAllocError>
         requires { AllAtOrAfter point self.old.edits }
-        ensures ok { OnOk result (AddsMoveIf point class is_made from to inst_regs.old inst_regs.new (tables_of self.old) (tables_of self.new)) }
+        ensures ok { OnOk result (AddsMoveIf point m.class is_made m.from m.to inst_regs.old inst_regs.new (tables_of self.old) (tables_of self.new)) }
         ensures awaited { inst_regs.new.awaited ≡ inst_regs.old.awaited }
         ensures later { OnOk result (AllAtOrAfter point self.new.edits) }
         ensures long { OnOk result (length self.new.places.vreg_allocs ≡ length self.old.places.vreg_allocs) }
         ensures machine { SameMachine (tables_of self.old) (tables_of self.new) }
         ensures err { IfErr result (IsResourceErrorIn self.new.slots) }
-        ensures stops { IfErr result (OutOfRegsOnlyIf (AddMoveIfFails class is_made from to inst_regs.old (tables_of self.old))) }
+        ensures stops { IfErr result (OutOfRegsOnlyIf (AddMoveIfFails m.class is_made m.from m.to inst_regs.old (tables_of self.old))) }
         ensures registers { OnOk result (self.new.registers ≡ self.old.registers) }
     {
         if !is_made {
             return Ok(());
         }
-        self.add_move(inst_regs, point, class, from, to)?;
+        self.add_move(inst_regs, point, m.class, m.from, m.to)?;
         Ok(())
     }
 
@@ -398,9 +404,19 @@ impl<'a, A: Allocator> State<'a, A> {
         let slot = self.slots.find_spillslot(vreg);
         self.places.set_alloc(vreg, Allocation::none());
         let is_awaited = is_awaited(is_ret, awaited, place);
-        self.add_move_if(inst_regs, point, class, is_awaited, place, awaited)?;
+        let to_awaited = PlaceMove {
+            class,
+            from: place,
+            to: awaited,
+        };
+        self.add_move_if(inst_regs, point, is_awaited, to_awaited)?;
         let is_stored = is_stored(is_ret, slot, place, awaited);
-        self.add_move_if(inst_regs, point, class, is_stored, place, slot)?;
+        let to_slot = PlaceMove {
+            class,
+            from: place,
+            to: slot,
+        };
+        self.add_move_if(inst_regs, point, is_stored, to_slot)?;
         Ok(())
     }
 

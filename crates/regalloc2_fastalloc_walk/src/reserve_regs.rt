@@ -204,8 +204,8 @@ impl<'a, A: Allocator> State<'a, A> {
         ensures same { tables_of self.new ≡ tables_of self.old }
         ensures err { IfErr result (IsResourceErrorIn self.new.slots) }
         ensures stops { IfErr result (OutOfRegsOnlyIf (ReserveRegsFails operands.now (tables_of self.old))) }
-        ensures registers { OnOk result (((k : ℕ) (r : Register) → k < length operands.now → (op_at operands.now k).constraint ≡ OperandConstraint.FixedReg r → ⊥) →
-            self.new.registers ≡ self.old.registers) }
+        ensures registers { OnOk result (((k : ℕ) (r : Register) → k < length operands.now →
+            (op_at operands.now k).constraint ≡ OperandConstraint.FixedReg r → ⊥) → self.new.registers ≡ self.old.registers) }
     {
         let mut claims = ReservedRegs::none();
         for k in 0..operands.len() {

@@ -14,6 +14,7 @@ ghost use Rattle.regalloc2_fastalloc_proofs.specs.OutOfRegs.{OutOfRegsOnlyIf, Al
 ghost use Rattle.regalloc2_fastalloc_walk.specs.StateView.{tables_of};
 ghost use Rattle.regalloc2_fastalloc_proofs.specs.BlockSteps.{AllocsInstInBlock, MayBeAllocated, AllocsBlocks, AllocsBlockInsts, temp_slots_at, offset_of};
 
+use super::inst::InstCx;
 use super::state::State;
 use regalloc2_fastalloc_state::inst_regs::InstRegs;
 use regalloc2_function::Function;
@@ -47,7 +48,8 @@ impl<'a, A: Allocator> State<'a, A> {
         ensures later { OnOk result (AllAtOrAfter (before inst) self.new.edits) }
         ensures long { OnOk result (length self.new.places.vreg_allocs ≡ length self.old.places.vreg_allocs) }
         ensures machine { AddsTempSlotsAtMost (temp_slots_at (F.function f.now) inst) (tables_of self.old) (tables_of self.new) }
-        ensures err { IfErr result (IsResourceError (SlotsExhaustedWith self.old.slots (self.old.slots.num_temp_slots + temp_slots_at (F.function f.now) inst))) }
+        ensures err { IfErr result (IsResourceError
+            (SlotsExhaustedWith self.old.slots (self.old.slots.num_temp_slots + temp_slots_at (F.function f.now) inst))) }
         ensures stops { IfErr result (OutOfRegsOnlyIf (AllocInstInBlockFails (F.function f.now) block inst allocs.old (tables_of self.old))) }
         ensures spill_free { OnOk result ((names : List VirtualRegister) → FitInRegs names self.old.registers.allocatable →
             HasRegOperandsOnly names (F.function f.now) → IsSpillFreeFrom names (F.function f.now) (inst + 1) self.old.registers (tables_of self.old) →
@@ -57,15 +59,13 @@ impl<'a, A: Allocator> State<'a, A> {
         let operands = f.inst_operands(inst);
         let clobbers = f.inst_clobbers(inst);
         let is_ret = f.is_ret(inst);
-        self.alloc_inst_at(
-            &mut inst_regs,
+        let cx = InstCx {
             inst,
             is_ret,
             operands,
             clobbers,
-            start,
-            allocs,
-        )?;
+        };
+        self.alloc_inst_at(&mut inst_regs, &cx, start, allocs)?;
         if !f.is_branch(inst) {
             return Ok(());
         }
@@ -134,7 +134,8 @@ impl<'a, A: Allocator> State<'a, A> {
         requires no_places { (k : ℕ) → slice_index_or allocs.old k NoPlace ≡ NoPlace }
         ensures ok { OnOk result (AllocsBlocks (F.function f.now) allocs.old (tables_of self.old) 0 allocs.new (tables_of self.new)) }
         ensures machine { AddsTempSlotsAtMost (6 * length (F.function f.now).blocks) (tables_of self.old) (tables_of self.new) }
-        ensures err { IfErr result (IsResourceError (SlotsExhaustedWith self.old.slots (self.old.slots.num_temp_slots + 6 * length (F.function f.now).blocks))) }
+        ensures err { IfErr result (IsResourceError
+            (SlotsExhaustedWith self.old.slots (self.old.slots.num_temp_slots + 6 * length (F.function f.now).blocks))) }
         ensures stops { IfErr result (OutOfRegsOnlyIf (AllocBlocksFails (F.function f.now) allocs.old (tables_of self.old))) }
         ensures spill_free { OnOk result ((names : List VirtualRegister) → FitInRegs names self.old.registers.allocatable →
             HasRegOperandsOnly names (F.function f.now) → IsSpillFreeFrom names (F.function f.now) (length (F.function f.now).insts) self.old.registers

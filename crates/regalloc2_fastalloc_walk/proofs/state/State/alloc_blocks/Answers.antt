@@ -89,7 +89,8 @@ reload_at_begin-requires g c =
     let some = (c.requires.well_formed.1.follow b lt).0 in
     let within = block_within f c.requires.well_formed.1.follow b lt in
     let few = (g.met.F.Function.limited c.args.f.now).insts in
-    let long : length c.alloc_block.new.self.places.vreg_allocs ≡ f.num_vregs = c.in_ok-alloc_block.ensures.long ∙ c.loop-b.invariant.long ∙ c.requires.long in (
+    let long : length c.alloc_block.new.self.places.vreg_allocs ≡ f.num_vregs = c.in_ok-alloc_block.ensures.long ∙ c.loop-b.invariant.long
+    ∙ c.requires.long in (
       search rules,
       (
         omega (arith, first, some, within, few),

@@ -19,7 +19,7 @@ use Rattle.regalloc2_fastalloc_walk.proofs.state.State.alloc_inst.Goals as goal
 
 pub evict_fixed-requires : goal.evict_fixed-requires
 evict_fixed-requires g c =
-    let at : c.after-point.result ≡ after c.args.inst = c.after-point.ensures.point (λ e. omega (arith, c.requires.inst)) in
+    let at : c.after-point.result ≡ after c.args.cx.now.inst = c.after-point.ensures.point (λ e. omega (arith, c.requires.inst)) in
     let same : tables_of c.remove_clobbers_from_available_pregs.new.self ≡ tables_of c.args.self.now = c.remove_clobbers_from_available_pregs.ensures.same
     ∙ c.reserve.ensures.same in (
       search rules,
@@ -29,7 +29,7 @@ evict_fixed-requires g c =
 
 pub process_operands_at-requires : goal.process_operands_at-requires
 process_operands_at-requires g c =
-    let at : c.after-point.result ≡ after c.args.inst = c.after-point.ensures.point (λ e. omega (arith, c.requires.inst)) in
+    let at : c.after-point.result ≡ after c.args.cx.now.inst = c.after-point.ensures.point (λ e. omega (arith, c.requires.inst)) in
     let same : tables_of c.remove_clobbers_from_available_pregs.new.self ≡ tables_of c.args.self.now = c.remove_clobbers_from_available_pregs.ensures.same
     ∙ c.reserve.ensures.same in
     let long : length c.evict_clobbers.new.self.places.vreg_allocs ≡ length c.args.self.now.places.vreg_allocs =
@@ -66,7 +66,7 @@ process_operands_at-requires-2 g c =
 
 pub move_uses-requires : goal.move_uses-requires
 move_uses-requires g c =
-    let at : c.before-2.result ≡ before c.args.inst = c.before-2.ensures.point (λ e. omega (arith, c.requires.inst)) in
+    let at : c.before-2.result ≡ before c.args.cx.now.inst = c.before-2.ensures.point (λ e. omega (arith, c.requires.inst)) in
     let same : tables_of c.remove_clobbers_from_available_pregs.new.self ≡ tables_of c.args.self.now = c.remove_clobbers_from_available_pregs.ensures.same
     ∙ c.reserve.ensures.same in
     let long : length c.process_operands_at-2.new.self.places.vreg_allocs ≡ length c.args.self.now.places.vreg_allocs =
@@ -85,14 +85,14 @@ move_uses-requires g c =
 
 pub returns-clause-ok : goal.returns-clause-ok
 returns-clause-ok g c =
-    let ops : List OperandValue = c.args.operands.now in
-    let at : c.after-point.result ≡ after c.args.inst = c.after-point.ensures.point (λ e. omega (arith, c.requires.inst)) in
-    let early : c.before-2.result ≡ before c.args.inst = c.before-2.ensures.point (λ e. omega (arith, c.requires.inst)) in
+    let ops : List OperandValue = c.args.cx.now.operands.now in
+    let at : c.after-point.result ≡ after c.args.cx.now.inst = c.after-point.ensures.point (λ e. omega (arith, c.requires.inst)) in
+    let early : c.before-2.result ≡ before c.args.cx.now.inst = c.before-2.ensures.point (λ e. omega (arith, c.requires.inst)) in
     let same : tables_of c.remove_clobbers_from_available_pregs.new.self ≡ tables_of c.args.self.now = c.remove_clobbers_from_available_pregs.ensures.same
     ∙ c.reserve.ensures.same in
     let F : ℕ → StateValue → Type 0 = λ p t. EvictsFixed p ops c.remove_clobbers_from_available_pregs.new.inst_regs t (length ops) c.evict_fixed.new.inst_regs
     (tables_of c.evict_fixed.new.self) in
-    let C : ℕ → Type 0 = λ p. EvictsEach p (registers_of c.args.clobbers) c.evict_fixed.new.inst_regs (tables_of c.evict_fixed.new.self)
+    let C : ℕ → Type 0 = λ p. EvictsEach p (registers_of c.args.cx.now.clobbers) c.evict_fixed.new.inst_regs (tables_of c.evict_fixed.new.self)
     c.evict_clobbers.new.inst_regs (tables_of c.evict_clobbers.new.self) in
     let M : ℕ → Type 0 = λ p. MovesUses p ops c.process_operands_at-2.new.here c.process_operands_at-2.new.inst_regs
     (tables_of c.process_operands_at-2.new.self) (length ops) c.move_uses.new.inst_regs (tables_of c.move_uses.new.self) in (
@@ -120,7 +120,7 @@ returns-clause-ok g c =
             ∙ c.in_ok-reserve.ensures.ok.awaited c.requires.fresh.awaited class;
         reserves = c.in_ok-reserve.ensures.ok;
         holds = c.remove_clobbers_from_available_pregs.ensures.removed;
-        fixed = subst (F (after c.args.inst)) same
+        fixed = subst (F (after c.args.cx.now.inst)) same
             (subst (λ (p : ℕ). F p (tables_of c.remove_clobbers_from_available_pregs.new.self)) at c.in_ok-evict_fixed.ensures.ok);
         clobbers = subst C at c.in_ok-evict_clobbers.ensures.ok;
         lates = c.in_ok-process_operands_at.ensures.ok;
@@ -132,7 +132,7 @@ returns-clause-ok g c =
 
 pub returns-clause-later : goal.returns-clause-later
 returns-clause-later g c =
-    let early : c.before-2.result ≡ before c.args.inst = c.before-2.ensures.point (λ e. omega (arith, c.requires.inst)) in
+    let early : c.before-2.result ≡ before c.args.cx.now.inst = c.before-2.ensures.point (λ e. omega (arith, c.requires.inst)) in
     subst (λ (p : ℕ). AllAtOrAfter p c.move_uses.new.self.edits) early c.in_ok-move_uses.ensures.later
 
 -- the machine stays, wherever the walk stops
@@ -181,8 +181,8 @@ returns-in_err-reserve-clause-stops g c =
 
 pub returns-in_err-evict_fixed-clause-stops : goal.returns-in_err-evict_fixed-clause-stops
 returns-in_err-evict_fixed-clause-stops g c =
-    let ops : List OperandValue = c.args.operands.now in
-    let i : ℕ = c.args.inst in
+    let ops : List OperandValue = c.args.cx.now.operands.now in
+    let i : ℕ = c.args.cx.now.inst in
     let at : c.after-point.result ≡ after i = c.after-point.ensures.point (λ e. omega (arith, c.requires.inst)) in
     let old : StateValue = tables_of c.args.self.now in
     let same : tables_of c.remove_clobbers_from_available_pregs.new.self ≡ old = c.remove_clobbers_from_available_pregs.ensures.same ∙ c.reserve.ensures.same in
@@ -195,8 +195,8 @@ returns-in_err-evict_fixed-clause-stops g c =
 
 pub returns-in_err-evict_clobbers-clause-stops : goal.returns-in_err-evict_clobbers-clause-stops
 returns-in_err-evict_clobbers-clause-stops g c =
-    let ops : List OperandValue = c.args.operands.now in
-    let i : ℕ = c.args.inst in
+    let ops : List OperandValue = c.args.cx.now.operands.now in
+    let i : ℕ = c.args.cx.now.inst in
     let at : c.after-point.result ≡ after i = c.after-point.ensures.point (λ e. omega (arith, c.requires.inst)) in
     let old : StateValue = tables_of c.args.self.now in
     let same : tables_of c.remove_clobbers_from_available_pregs.new.self ≡ old = c.remove_clobbers_from_available_pregs.ensures.same ∙ c.reserve.ensures.same in
@@ -212,8 +212,8 @@ returns-in_err-evict_clobbers-clause-stops g c =
 
 pub returns-in_err-process_operands_at-clause-stops : goal.returns-in_err-process_operands_at-clause-stops
 returns-in_err-process_operands_at-clause-stops g c =
-    let ops : List OperandValue = c.args.operands.now in
-    let i : ℕ = c.args.inst in
+    let ops : List OperandValue = c.args.cx.now.operands.now in
+    let i : ℕ = c.args.cx.now.inst in
     let at : c.after-point.result ≡ after i = c.after-point.ensures.point (λ e. omega (arith, c.requires.inst)) in
     let old : StateValue = tables_of c.args.self.now in
     let same : tables_of c.remove_clobbers_from_available_pregs.new.self ≡ old = c.remove_clobbers_from_available_pregs.ensures.same ∙ c.reserve.ensures.same in
@@ -221,9 +221,10 @@ returns-in_err-process_operands_at-clause-stops g c =
     (tables_of c.evict_fixed.new.self) in
     let fixed : F (after i) old = subst (F (after i)) same
     (subst (λ (p : ℕ). F p (tables_of c.remove_clobbers_from_available_pregs.new.self)) at c.in_ok-evict_fixed.ensures.ok) in
-    let C : ℕ → Type 0 = λ p. EvictsEach p (registers_of c.args.clobbers) c.evict_fixed.new.inst_regs (tables_of c.evict_fixed.new.self)
+    let C : ℕ → Type 0 = λ p. EvictsEach p (registers_of c.args.cx.now.clobbers) c.evict_fixed.new.inst_regs (tables_of c.evict_fixed.new.self)
     c.evict_clobbers.new.inst_regs (tables_of c.evict_clobbers.new.self) in
-    let ready : PreparesRegs i ops c.args.clobbers c.args.inst_regs.now c.evict_clobbers.new.inst_regs old (tables_of c.evict_clobbers.new.self) = record {
+    let ready : PreparesRegs i ops c.args.cx.now.clobbers c.args.inst_regs.now c.evict_clobbers.new.inst_regs old
+    (tables_of c.evict_clobbers.new.self) = record {
       reserved = c.reserve.new.inst_regs;
       held = c.remove_clobbers_from_available_pregs.new.inst_regs;
       cleared = c.evict_fixed.new.inst_regs;
@@ -242,8 +243,8 @@ returns-in_err-process_operands_at-clause-stops g c =
 
 pub returns-in_err-process_operands_at-2-clause-stops : goal.returns-in_err-process_operands_at-2-clause-stops
 returns-in_err-process_operands_at-2-clause-stops g c =
-    let ops : List OperandValue = c.args.operands.now in
-    let i : ℕ = c.args.inst in
+    let ops : List OperandValue = c.args.cx.now.operands.now in
+    let i : ℕ = c.args.cx.now.inst in
     let at : c.after-point.result ≡ after i = c.after-point.ensures.point (λ e. omega (arith, c.requires.inst)) in
     let old : StateValue = tables_of c.args.self.now in
     let same : tables_of c.remove_clobbers_from_available_pregs.new.self ≡ old = c.remove_clobbers_from_available_pregs.ensures.same ∙ c.reserve.ensures.same in
@@ -251,9 +252,10 @@ returns-in_err-process_operands_at-2-clause-stops g c =
     (tables_of c.evict_fixed.new.self) in
     let fixed : F (after i) old = subst (F (after i)) same
     (subst (λ (p : ℕ). F p (tables_of c.remove_clobbers_from_available_pregs.new.self)) at c.in_ok-evict_fixed.ensures.ok) in
-    let C : ℕ → Type 0 = λ p. EvictsEach p (registers_of c.args.clobbers) c.evict_fixed.new.inst_regs (tables_of c.evict_fixed.new.self)
+    let C : ℕ → Type 0 = λ p. EvictsEach p (registers_of c.args.cx.now.clobbers) c.evict_fixed.new.inst_regs (tables_of c.evict_fixed.new.self)
     c.evict_clobbers.new.inst_regs (tables_of c.evict_clobbers.new.self) in
-    let ready : PreparesRegs i ops c.args.clobbers c.args.inst_regs.now c.evict_clobbers.new.inst_regs old (tables_of c.evict_clobbers.new.self) = record {
+    let ready : PreparesRegs i ops c.args.cx.now.clobbers c.args.inst_regs.now c.evict_clobbers.new.inst_regs old
+    (tables_of c.evict_clobbers.new.self) = record {
       reserved = c.reserve.new.inst_regs;
       held = c.remove_clobbers_from_available_pregs.new.inst_regs;
       cleared = c.evict_fixed.new.inst_regs;
@@ -273,8 +275,8 @@ returns-in_err-process_operands_at-2-clause-stops g c =
 
 pub returns-in_err-move_uses-clause-stops : goal.returns-in_err-move_uses-clause-stops
 returns-in_err-move_uses-clause-stops g c =
-    let ops : List OperandValue = c.args.operands.now in
-    let i : ℕ = c.args.inst in
+    let ops : List OperandValue = c.args.cx.now.operands.now in
+    let i : ℕ = c.args.cx.now.inst in
     let at : c.after-point.result ≡ after i = c.after-point.ensures.point (λ e. omega (arith, c.requires.inst)) in
     let old : StateValue = tables_of c.args.self.now in
     let same : tables_of c.remove_clobbers_from_available_pregs.new.self ≡ old = c.remove_clobbers_from_available_pregs.ensures.same ∙ c.reserve.ensures.same in
@@ -282,9 +284,10 @@ returns-in_err-move_uses-clause-stops g c =
     (tables_of c.evict_fixed.new.self) in
     let fixed : F (after i) old = subst (F (after i)) same
     (subst (λ (p : ℕ). F p (tables_of c.remove_clobbers_from_available_pregs.new.self)) at c.in_ok-evict_fixed.ensures.ok) in
-    let C : ℕ → Type 0 = λ p. EvictsEach p (registers_of c.args.clobbers) c.evict_fixed.new.inst_regs (tables_of c.evict_fixed.new.self)
+    let C : ℕ → Type 0 = λ p. EvictsEach p (registers_of c.args.cx.now.clobbers) c.evict_fixed.new.inst_regs (tables_of c.evict_fixed.new.self)
     c.evict_clobbers.new.inst_regs (tables_of c.evict_clobbers.new.self) in
-    let ready : PreparesRegs i ops c.args.clobbers c.args.inst_regs.now c.evict_clobbers.new.inst_regs old (tables_of c.evict_clobbers.new.self) = record {
+    let ready : PreparesRegs i ops c.args.cx.now.clobbers c.args.inst_regs.now c.evict_clobbers.new.inst_regs old
+    (tables_of c.evict_clobbers.new.self) = record {
       reserved = c.reserve.new.inst_regs;
       held = c.remove_clobbers_from_available_pregs.new.inst_regs;
       cleared = c.evict_fixed.new.inst_regs;
@@ -308,7 +311,7 @@ returns-in_err-move_uses-clause-stops g c =
 -- where registers suffice for all vregs
 pub returns-clause-spill_free : goal.returns-clause-spill_free
 returns-clause-spill_free g c = λ names gone few plain none h.
-    let ops : List OperandValue = c.args.operands.now in
+    let ops : List OperandValue = c.args.cx.now.operands.now in
     let here = c.args.here.now in
     let t0 : StateValue = tables_of c.args.self.now in
     let t4 : StateValue = tables_of c.evict_clobbers.new.self in
@@ -317,7 +320,8 @@ returns-clause-spill_free g c = λ names gone few plain none h.
     let same : tables_of c.remove_clobbers_from_available_pregs.new.self ≡ t0 = c.remove_clobbers_from_available_pregs.ensures.same ∙ c.reserve.ensures.same in
     let regs = c.in_ok-evict_clobbers.ensures.registers ∙ c.in_ok-evict_fixed.ensures.registers ∙ c.remove_clobbers_from_available_pregs.ensures.registers
     ∙ c.in_ok-reserve.ensures.registers (λ k r lt e. reg_not_fixed (op_at ops k) r (reg k lt) e) in
-    let begun = ready names gone ops c.args.clobbers c.after-point.result c.after-point.result c.args.self.now.registers c.evict_clobbers.new.self.registers t0
+    let begun = ready names gone ops c.args.cx.now.clobbers c.after-point.result c.after-point.result c.args.self.now.registers
+    c.evict_clobbers.new.self.registers t0
     (tables_of c.remove_clobbers_from_available_pregs.new.self) (tables_of c.evict_fixed.new.self) t4
     c.args.inst_regs.now c.reserve.new.inst_regs c.remove_clobbers_from_available_pregs.new.inst_regs c.evict_fixed.new.inst_regs c.evict_clobbers.new.inst_regs
     reg none regs same c.in_ok-reserve.ensures.ok c.remove_clobbers_from_available_pregs.ensures.removed c.in_ok-evict_fixed.ensures.ok

@@ -10,7 +10,7 @@ pub alloc_inst-requires : goal.alloc_inst-requires
 alloc_inst-requires g c =
     let xs : List Place = c.args.allocs.now in
     let a : ℕ = c.args.start in
-    let n : ℕ = length c.args.operands.now in
+    let n : ℕ = length c.args.cx.now.operands.now in
     let k : ℕ = (a + n) - a in
     let blank : length (take k (drop a xs)) ≡ n = length-take k (drop a xs) ∙ omega (arith, length-drop a xs, c.requires.room) in (
       search rules,
@@ -30,7 +30,7 @@ pub returns-clause-ok : goal.returns-clause-ok
 returns-clause-ok g c =
     let xs : List Place = c.args.allocs.now in
     let a : ℕ = c.args.start in
-    let n : ℕ = length c.args.operands.now in
+    let n : ℕ = length c.args.cx.now.operands.now in
     let k : ℕ = (a + n) - a in
     let same : k ≡ n = omega arith in
     let blank : length (take k (drop a xs)) ≡ n = length-take k (drop a xs) ∙ omega (arith, length-drop a xs, c.requires.room) in
@@ -54,7 +54,7 @@ pub returns-in_err-alloc_inst-clause-stops : goal.returns-in_err-alloc_inst-clau
 returns-in_err-alloc_inst-clause-stops g c =
     let xs : List Place = c.args.allocs.now in
     let a : ℕ = c.args.start in
-    let n : ℕ = length c.args.operands.now in
+    let n : ℕ = length c.args.cx.now.operands.now in
     let k : ℕ = (a + n) - a in
     let blank : length (take k (drop a xs)) ≡ n = length-take k (drop a xs) ∙ omega (arith, length-drop a xs, c.requires.room) in
     let e = err_from_is_err_and c.from_residual.result c.from_residual.ensures.1 in

@@ -17,18 +17,18 @@ use Rattle.regalloc2_fastalloc_walk.proofs.state.State.process_operand_allocatio
 
 pub returns-in-Some-clause-ok : goal.returns-in-Some-clause-ok
 returns-in-Some-clause-ok g c =
-    let ops : List OperandValue = c.args.operands.now in
+    let ops : List OperandValue = c.args.cx.now.operands.now in
     let o : c.index-operands-k.result ≡ op_at ops c.args.k = read_operand ops c.args.k c.index-operands-k.result c.requires.inside c.index-operands-k.is in
-    one_register c.args.inst c.args.is_ret ops c.args.k c.args.here.now c.args.inst_regs.now (tables_of c.args.self.now) c.index-operands-k.result
+    one_register c.args.cx.now.inst c.args.cx.now.is_ret ops c.args.k c.args.here.now c.args.inst_regs.now (tables_of c.args.self.now) c.index-operands-k.result
     c.in-Some.preg c.reg.result o (sym c.as_fixed_nonallocatable.ensures ∙ c.in-Some.is) c.reg.ensures
 
 pub alloc_use-requires : goal.alloc_use-requires
 alloc_use-requires g c =
-    let ops : List OperandValue = c.args.operands.now in
+    let ops : List OperandValue = c.args.cx.now.operands.now in
     let o : c.index-operands-k.result ≡ op_at ops c.args.k = read_operand ops c.args.k c.index-operands-k.result c.requires.inside c.index-operands-k.is in
     let not_it : is_fixed_nonallocatable c.index-operands-k.result ≡ false = is_unmarked c.index-operands-k.result
     (sym c.as_fixed_nonallocatable.ensures ∙ c.in_default.is) in
-    let at : c.after-point.result ≡ after c.args.inst = c.after-point.ensures.point (λ e. omega (arith, c.requires.inst)) in (
+    let at : c.after-point.result ≡ after c.args.cx.now.inst = c.after-point.ensures.point (λ e. omega (arith, c.requires.inst)) in (
       search rules,
       (
         subst (λ (p : ℕ). AllAtOrAfter p c.args.self.now.edits) (sym at) c.requires.later,
@@ -39,29 +39,29 @@ alloc_use-requires g c =
 
 pub returns-then-not-is_def-clause-ok : goal.returns-then-not-is_def-clause-ok
 returns-then-not-is_def-clause-ok g c =
-    let ops : List OperandValue = c.args.operands.now in
+    let ops : List OperandValue = c.args.cx.now.operands.now in
     let o : c.index-operands-k.result ≡ op_at ops c.args.k = read_operand ops c.args.k c.index-operands-k.result c.requires.inside c.index-operands-k.is in
     let not_it : is_fixed_nonallocatable c.index-operands-k.result ≡ false = is_unmarked c.index-operands-k.result
     (sym c.as_fixed_nonallocatable.ensures ∙ c.in_default.is) in
-    let at : c.after-point.result ≡ after c.args.inst = c.after-point.ensures.point (λ e. omega (arith, c.requires.inst)) in
+    let at : c.after-point.result ≡ after c.args.cx.now.inst = c.after-point.ensures.point (λ e. omega (arith, c.requires.inst)) in
     let h : c.index-here-k.result ≡ slice_index_or c.args.here.now c.args.k NoPlace = get_or_read c.args.here.now c.args.k c.index-here-k.result
     (omega (arith, c.requires.inside, c.requires.here_long)) c.index-here-k.is NoPlace in
-    one_use c.args.inst c.args.is_ret ops c.args.k c.args.here.now c.args.inst_regs.now c.alloc_use.new.inst_regs (tables_of c.args.self.now)
+    one_use c.args.cx.now.inst c.args.cx.now.is_ret ops c.args.k c.args.here.now c.args.inst_regs.now c.alloc_use.new.inst_regs (tables_of c.args.self.now)
     (tables_of c.alloc_use.new.self) c.index-operands-k.result c.index-here-k.result c.use_request-request.result
     c.after-point.result c.in_ok-here.field-0 o h c.use_request-request.ensures at not_it (sym c.is_def.ensures ∙ c.if-not-is_def.true) c.in_ok-here.ensures.ok
 
 pub returns-then-not-is_def-clause-later : goal.returns-then-not-is_def-clause-later
 returns-then-not-is_def-clause-later g c =
-    let at : c.after-point.result ≡ after c.args.inst = c.after-point.ensures.point (λ e. omega (arith, c.requires.inst)) in
+    let at : c.after-point.result ≡ after c.args.cx.now.inst = c.after-point.ensures.point (λ e. omega (arith, c.requires.inst)) in
     subst (λ (p : ℕ). AllAtOrAfter p c.alloc_use.new.self.edits) at c.in_ok-here.ensures.later
 
 pub alloc_def_op-requires : goal.alloc_def_op-requires
 alloc_def_op-requires g c =
-    let ops : List OperandValue = c.args.operands.now in
+    let ops : List OperandValue = c.args.cx.now.operands.now in
     let o : c.index-operands-k.result ≡ op_at ops c.args.k = read_operand ops c.args.k c.index-operands-k.result c.requires.inside c.index-operands-k.is in
     let not_it : is_fixed_nonallocatable c.index-operands-k.result ≡ false = is_unmarked c.index-operands-k.result
     (sym c.as_fixed_nonallocatable.ensures ∙ c.in_default.is) in
-    let at : c.after-point.result ≡ after c.args.inst = c.after-point.ensures.point (λ e. omega (arith, c.requires.inst)) in (
+    let at : c.after-point.result ≡ after c.args.cx.now.inst = c.after-point.ensures.point (λ e. omega (arith, c.requires.inst)) in (
       search rules,
       (
         subst (λ (p : ℕ). AllAtOrAfter p c.args.self.now.edits) (sym at) c.requires.later,
@@ -72,26 +72,26 @@ alloc_def_op-requires g c =
 
 pub returns-in-Some-reused-clause-ok : goal.returns-in-Some-reused-clause-ok
 returns-in-Some-reused-clause-ok g c =
-    let ops : List OperandValue = c.args.operands.now in
+    let ops : List OperandValue = c.args.cx.now.operands.now in
     let o : c.index-operands-k.result ≡ op_at ops c.args.k = read_operand ops c.args.k c.index-operands-k.result c.requires.inside c.index-operands-k.is in
-    let at : c.after-point.result ≡ after c.args.inst = c.after-point.ensures.point (λ e. omega (arith, c.requires.inst)) in
-    one_reuse c.args.inst c.args.is_ret ops c.args.k c.args.here.now c.set_place.new.places c.args.inst_regs.now c.alloc_def_op.new.inst_regs
+    let at : c.after-point.result ≡ after c.args.cx.now.inst = c.after-point.ensures.point (λ e. omega (arith, c.requires.inst)) in
+    one_reuse c.args.cx.now.inst c.args.cx.now.is_ret ops c.args.k c.args.here.now c.set_place.new.places c.args.inst_regs.now c.alloc_def_op.new.inst_regs
     (tables_of c.args.self.now) (tables_of c.alloc_def_op.new.self) c.index-operands-k.result c.in-Some-reused.index
     c.reuse_request-request.result c.after-point.result c.in_ok-place.place o c.reuse_request-request.ensures at (sym c.is_def.ensures ∙ c.if-not-is_def.false)
     c.in-Some-reused.ensures.some c.set_place.ensures c.in_ok-place.ensures.ok
 
 pub returns-in-Some-reused-clause-later : goal.returns-in-Some-reused-clause-later
 returns-in-Some-reused-clause-later g c =
-    let at : c.after-point.result ≡ after c.args.inst = c.after-point.ensures.point (λ e. omega (arith, c.requires.inst)) in
+    let at : c.after-point.result ≡ after c.args.cx.now.inst = c.after-point.ensures.point (λ e. omega (arith, c.requires.inst)) in
     subst (λ (p : ℕ). AllAtOrAfter p c.alloc_def_op.new.self.edits) at c.in_ok-place.ensures.later
 
 pub alloc_def_op-requires-2 : goal.alloc_def_op-requires-2
 alloc_def_op-requires-2 g c =
-    let ops : List OperandValue = c.args.operands.now in
+    let ops : List OperandValue = c.args.cx.now.operands.now in
     let o : c.index-operands-k.result ≡ op_at ops c.args.k = read_operand ops c.args.k c.index-operands-k.result c.requires.inside c.index-operands-k.is in
     let not_it : is_fixed_nonallocatable c.index-operands-k.result ≡ false = is_unmarked c.index-operands-k.result
     (sym c.as_fixed_nonallocatable.ensures ∙ c.in_default.is) in
-    let at : c.after-point.result ≡ after c.args.inst = c.after-point.ensures.point (λ e. omega (arith, c.requires.inst)) in (
+    let at : c.after-point.result ≡ after c.args.cx.now.inst = c.after-point.ensures.point (λ e. omega (arith, c.requires.inst)) in (
       search rules,
       (
         subst (λ (p : ℕ). AllAtOrAfter p c.args.self.now.edits) (sym at) c.requires.later,
@@ -102,51 +102,54 @@ alloc_def_op-requires-2 g c =
 
 pub returns-clause-ok : goal.returns-clause-ok
 returns-clause-ok g c =
-    let ops : List OperandValue = c.args.operands.now in
+    let ops : List OperandValue = c.args.cx.now.operands.now in
     let o : c.index-operands-k.result ≡ op_at ops c.args.k = read_operand ops c.args.k c.index-operands-k.result c.requires.inside c.index-operands-k.is in
-    let at : c.after-point.result ≡ after c.args.inst = c.after-point.ensures.point (λ e. omega (arith, c.requires.inst)) in
-    one_def c.args.inst c.args.is_ret ops c.args.k c.args.here.now c.args.inst_regs.now c.alloc_def_op-2.new.inst_regs (tables_of c.args.self.now)
+    let at : c.after-point.result ≡ after c.args.cx.now.inst = c.after-point.ensures.point (λ e. omega (arith, c.requires.inst)) in
+    one_def c.args.cx.now.inst c.args.cx.now.is_ret ops c.args.k c.args.here.now c.args.inst_regs.now c.alloc_def_op-2.new.inst_regs (tables_of c.args.self.now)
     (tables_of c.alloc_def_op-2.new.self) c.index-operands-k.result
     c.def_request.result c.after-point.result c.in_ok-here-2.field-0 o c.def_request.ensures at (sym c.is_def.ensures ∙ c.if-not-is_def.false)
     (c.in_default-reused.ensures.none refl) c.in_ok-here-2.ensures.ok
 
 pub returns-clause-later : goal.returns-clause-later
 returns-clause-later g c =
-    let at : c.after-point.result ≡ after c.args.inst = c.after-point.ensures.point (λ e. omega (arith, c.requires.inst)) in
+    let at : c.after-point.result ≡ after c.args.cx.now.inst = c.after-point.ensures.point (λ e. omega (arith, c.requires.inst)) in
     subst (λ (p : ℕ). AllAtOrAfter p c.alloc_def_op-2.new.self.edits) at c.in_ok-here-2.ensures.later
 
 -- an operand gets no place
 pub returns-in_err-here-clause-stops : goal.returns-in_err-here-clause-stops
 returns-in_err-here-clause-stops g c =
-    let ops : List OperandValue = c.args.operands.now in
+    let ops : List OperandValue = c.args.cx.now.operands.now in
     let o : c.index-operands-k.result ≡ op_at ops c.args.k = read_operand ops c.args.k c.index-operands-k.result c.requires.inside c.index-operands-k.is in
     let not_it : is_fixed_nonallocatable c.index-operands-k.result ≡ false = is_unmarked c.index-operands-k.result
     (sym c.as_fixed_nonallocatable.ensures ∙ c.in_default.is) in
     let h : c.index-here-k.result ≡ slice_index_or c.args.here.now c.args.k NoPlace = get_or_read c.args.here.now c.args.k c.index-here-k.result
     (omega (arith, c.requires.inside, c.requires.here_long)) c.index-here-k.is NoPlace in
     let e = err_from_is_err_and c.from_residual.result c.from_residual.ensures.1 in
-    rw e.1 (λ same. stop_use c.args.inst c.args.is_ret ops c.args.k c.args.here.now c.args.inst_regs.now (tables_of c.args.self.now) c.index-operands-k.result
+    rw e.1 (λ same. stop_use c.args.cx.now.inst c.args.cx.now.is_ret ops c.args.k c.args.here.now c.args.inst_regs.now
+    (tables_of c.args.self.now) c.index-operands-k.result
     c.index-here-k.result c.use_request-request.result
     o h c.use_request-request.ensures not_it (sym c.is_def.ensures ∙ c.if-not-is_def.true) (c.in_err-here.ensures.stops (sym e.2 ∙ same)))
 
 pub returns-in_err-place-clause-stops : goal.returns-in_err-place-clause-stops
 returns-in_err-place-clause-stops g c =
-    let ops : List OperandValue = c.args.operands.now in
+    let ops : List OperandValue = c.args.cx.now.operands.now in
     let o : c.index-operands-k.result ≡ op_at ops c.args.k = read_operand ops c.args.k c.index-operands-k.result c.requires.inside c.index-operands-k.is in
-    let at : c.after-point.result ≡ after c.args.inst = c.after-point.ensures.point (λ e. omega (arith, c.requires.inst)) in
+    let at : c.after-point.result ≡ after c.args.cx.now.inst = c.after-point.ensures.point (λ e. omega (arith, c.requires.inst)) in
     let e = err_from_is_err_and c.from_residual-in_err-place.result c.from_residual-in_err-place.ensures.1 in
-    rw e.1 (λ same. stop_reuse c.args.inst c.args.is_ret ops c.args.k c.args.here.now c.args.inst_regs.now (tables_of c.args.self.now) c.index-operands-k.result
+    rw e.1 (λ same. stop_reuse c.args.cx.now.inst c.args.cx.now.is_ret ops c.args.k c.args.here.now c.args.inst_regs.now
+    (tables_of c.args.self.now) c.index-operands-k.result
     c.in-Some-reused.index c.reuse_request-request.result
     c.after-point.result o c.reuse_request-request.ensures at (sym c.is_def.ensures ∙ c.if-not-is_def.false) c.in-Some-reused.ensures.some
     (c.in_err-place.ensures.stops (sym e.2 ∙ same)))
 
 pub returns-in_err-here-2-clause-stops : goal.returns-in_err-here-2-clause-stops
 returns-in_err-here-2-clause-stops g c =
-    let ops : List OperandValue = c.args.operands.now in
+    let ops : List OperandValue = c.args.cx.now.operands.now in
     let o : c.index-operands-k.result ≡ op_at ops c.args.k = read_operand ops c.args.k c.index-operands-k.result c.requires.inside c.index-operands-k.is in
-    let at : c.after-point.result ≡ after c.args.inst = c.after-point.ensures.point (λ e. omega (arith, c.requires.inst)) in
+    let at : c.after-point.result ≡ after c.args.cx.now.inst = c.after-point.ensures.point (λ e. omega (arith, c.requires.inst)) in
     let e = err_from_is_err_and c.from_residual-in_err-here-2.result c.from_residual-in_err-here-2.ensures.1 in
-    rw e.1 (λ same. stop_def c.args.inst c.args.is_ret ops c.args.k c.args.here.now c.args.inst_regs.now (tables_of c.args.self.now) c.index-operands-k.result
+    rw e.1 (λ same. stop_def c.args.cx.now.inst c.args.cx.now.is_ret ops c.args.k c.args.here.now c.args.inst_regs.now
+    (tables_of c.args.self.now) c.index-operands-k.result
     c.def_request.result
     c.after-point.result o c.def_request.ensures at (sym c.is_def.ensures ∙ c.if-not-is_def.false) (c.in_default-reused.ensures.none refl)
     (c.in_err-here-2.ensures.stops (sym e.2 ∙ same)))
@@ -154,14 +157,14 @@ returns-in_err-here-2-clause-stops g c =
 -- an operand under `Reg` takes its register
 pub returns-in-Some-clause-takes : goal.returns-in-Some-clause-takes
 returns-in-Some-clause-takes g c = λ reg none.
-    let ops : List OperandValue = c.args.operands.now in
+    let ops : List OperandValue = c.args.cx.now.operands.now in
     let o : c.index-operands-k.result ≡ op_at ops c.args.k = read_operand ops c.args.k c.index-operands-k.result c.requires.inside c.index-operands-k.is in
     absurd (reg_is_free c.index-operands-k.result c.in-Some.preg (ap (λ (x : OperandValue). x.constraint) o ∙ reg)
     (sym c.as_fixed_nonallocatable.ensures ∙ c.in-Some.is))
 
 pub returns-then-not-is_def-clause-takes : goal.returns-then-not-is_def-clause-takes
 returns-then-not-is_def-clause-takes g c = λ reg none.
-    let ops : List OperandValue = c.args.operands.now in
+    let ops : List OperandValue = c.args.cx.now.operands.now in
     let here = c.args.here.now in
     let o : c.index-operands-k.result ≡ op_at ops c.args.k = read_operand ops c.args.k c.index-operands-k.result c.requires.inside c.index-operands-k.is in
     let lt : c.args.k < length here = omega (arith, c.requires.inside, c.requires.here_long) in
@@ -173,13 +176,13 @@ returns-then-not-is_def-clause-takes g c = λ reg none.
 
 pub returns-in-Some-reused-clause-takes : goal.returns-in-Some-reused-clause-takes
 returns-in-Some-reused-clause-takes g c = λ reg none.
-    let ops : List OperandValue = c.args.operands.now in
+    let ops : List OperandValue = c.args.cx.now.operands.now in
     let o : c.index-operands-k.result ≡ op_at ops c.args.k = read_operand ops c.args.k c.index-operands-k.result c.requires.inside c.index-operands-k.is in
     absurd (reg_no_reuse (op_at ops c.args.k) c.in-Some-reused.index reg (sym (ap (λ (x : OperandValue). x.constraint) o) ∙ c.in-Some-reused.ensures.some))
 
 pub returns-clause-takes : goal.returns-clause-takes
 returns-clause-takes g c = λ reg none.
-    let ops : List OperandValue = c.args.operands.now in
+    let ops : List OperandValue = c.args.cx.now.operands.now in
     let here = c.args.here.now in
     let o : c.index-operands-k.result ≡ op_at ops c.args.k = read_operand ops c.args.k c.index-operands-k.result c.requires.inside c.index-operands-k.is in
     let lt : c.args.k < length here = omega (arith, c.requires.inside, c.requires.here_long) in

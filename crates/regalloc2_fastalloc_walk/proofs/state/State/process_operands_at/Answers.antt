@@ -17,7 +17,7 @@ loop-k-init g c = record {
   long = refl;
   machine = record { allocatable = refl; fixed_stack = refl; dedicated_scratch = refl; sizes = refl; vregs = refl; num_temp_slots = refl };
   spill_free =
-      λ names gone few plain blank h. none_placed_yet names gone c.args.operands.now (is_late c.args.pos) c.args.here.now (tables_of c.args.self.now)
+      λ names gone few plain blank h. none_placed_yet names gone c.args.cx.now.operands.now (is_late c.args.pos) c.args.here.now (tables_of c.args.self.now)
       c.args.inst_regs.now c.args.self.now.registers h;
 }
 
@@ -41,7 +41,7 @@ process_operand_allocation-requires g c = (
 
 pub loop-k-preserved : goal.loop-k-preserved
 loop-k-preserved g c =
-    let ops : List OperandValue = c.args.operands.now in
+    let ops : List OperandValue = c.args.cx.now.operands.now in
     let k : ℕ = c.loop-k.k in
     let o : c.index-operands-k.result ≡ op_at ops k = read_operand ops k c.index-operands-k.result c.loop-k-test.true c.index-operands-k.is in
     let late : is_late (op_at ops k).position ≡ is_late c.index-operands-k.result.position = sym (ap (λ (x : OperandValue). is_late x.position) o) in
@@ -54,8 +54,8 @@ loop-k-preserved g c =
         long = w.in_ok-process_operand_allocation.ensures.long ∙ c.loop-k.invariant.long;
         machine = same_then (tables_of c.args.self.now) (tables_of c.loop-k.self) (tables_of w.process_operand_allocation.new.self) c.loop-k.invariant.machine
             w.in_ok-process_operand_allocation.ensures.machine;
-        spill_free = λ names gone few plain blank h. one_placed_more names gone c.args.inst c.args.is_ret ops k (is_late c.args.pos) c.args.here.now
-            c.loop-k.here w.process_operand_allocation.new.here (tables_of c.args.self.now) (tables_of c.loop-k.self)
+        spill_free = λ names gone few plain blank h. one_placed_more names gone c.args.cx.now.inst c.args.cx.now.is_ret ops k (is_late c.args.pos)
+            c.args.here.now c.loop-k.here w.process_operand_allocation.new.here (tables_of c.args.self.now) (tables_of c.loop-k.self)
             (tables_of w.process_operand_allocation.new.self)
             c.loop-k.inst_regs w.process_operand_allocation.new.inst_regs c.loop-k.self.registers w.process_operand_allocation.new.self.registers few plain
             c.loop-k-test.true c.requires.here_long blank (late ∙ c.stands_at.ensures.0 w.if-stands_at.true)
@@ -77,14 +77,14 @@ loop-k-preserved g c =
 
 pub returns-clause-ok : goal.returns-clause-ok
 returns-clause-ok g c =
-    let e : c.loop-k.k ≡ length c.args.operands.now = omega arith in
-    let P : ℕ → Type 0 = λ k. ProcessesOperandsAt c.args.inst c.args.is_ret (is_late c.args.pos) c.args.operands.now c.args.here.now c.args.inst_regs.now
-    (tables_of c.args.self.now) k c.loop-k.here c.loop-k.inst_regs (tables_of c.loop-k.self) in
+    let e : c.loop-k.k ≡ length c.args.cx.now.operands.now = omega arith in
+    let P : ℕ → Type 0 = λ k. ProcessesOperandsAt c.args.cx.now.inst c.args.cx.now.is_ret (is_late c.args.pos) c.args.cx.now.operands.now
+    c.args.here.now c.args.inst_regs.now (tables_of c.args.self.now) k c.loop-k.here c.loop-k.inst_regs (tables_of c.loop-k.self) in
     subst P e c.loop-k.invariant.done
 
 pub returns-clause-spill_free : goal.returns-clause-spill_free
 returns-clause-spill_free g c = λ names gone few plain blank h.
-    let e : c.loop-k.k ≡ length c.args.operands.now = omega arith in
-    subst (λ (k : ℕ). ArePlaced names gone c.args.operands.now (is_late c.args.pos) k c.args.here.now c.loop-k.here c.loop-k.self.registers
+    let e : c.loop-k.k ≡ length c.args.cx.now.operands.now = omega arith in
+    subst (λ (k : ℕ). ArePlaced names gone c.args.cx.now.operands.now (is_late c.args.pos) k c.args.here.now c.loop-k.here c.loop-k.self.registers
     (tables_of c.args.self.now) (tables_of c.loop-k.self) c.loop-k.inst_regs) e
     (c.loop-k.invariant.spill_free names gone few plain blank h)

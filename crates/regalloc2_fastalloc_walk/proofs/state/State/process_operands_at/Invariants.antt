@@ -13,14 +13,14 @@ use Rattle.regalloc2_fastalloc_walk.proofs.state.State.process_operands_at.Given
 
 abbrev pub invariant-loop-k : goal.invariant-loop-k
 invariant-loop-k g l = record {
-  done : ProcessesOperandsAt l.inst l.is_ret (is_late l.pos) l.operands l.fn.here l.fn.inst_regs (tables_of l.fn.self) l.k l.here l.inst_regs
+  done : ProcessesOperandsAt l.cx.inst l.cx.is_ret (is_late l.pos) l.cx.operands.now l.fn.here l.fn.inst_regs (tables_of l.fn.self) l.k l.here l.inst_regs
       (tables_of l.self);
-  later : AllAtOrAfter (after l.inst) l.self.edits;
+  later : AllAtOrAfter (after l.cx.inst) l.self.edits;
   long : length l.self.places.vreg_allocs ≡ length l.fn.self.places.vreg_allocs;
   machine : SameMachine (tables_of l.fn.self) (tables_of l.self);
   spill_free : (names : List VirtualRegister) (gone : ℕ → Bool) → FitInRegs names l.fn.self.registers.allocatable →
-      ArePlain names gone l.operands (is_late l.pos) → ((j : ℕ) → is_late (op_at l.operands j).position ≡ is_late l.pos →
+      ArePlain names gone l.cx.operands.now (is_late l.pos) → ((j : ℕ) → is_late (op_at l.cx.operands.now j).position ≡ is_late l.pos →
       slice_index_or l.fn.here j NoPlace ≡ NoPlace)
       → IsSpillFree names gone l.fn.self.registers (tables_of l.fn.self) l.fn.inst_regs →
-      ArePlaced names gone l.operands (is_late l.pos) l.k l.fn.here l.here l.self.registers (tables_of l.fn.self) (tables_of l.self) l.inst_regs;
+      ArePlaced names gone l.cx.operands.now (is_late l.pos) l.k l.fn.here l.here l.self.registers (tables_of l.fn.self) (tables_of l.self) l.inst_regs;
 }
