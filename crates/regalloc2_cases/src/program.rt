@@ -141,6 +141,3 @@ pub fn run_file<O: Write>(
     tally.files = tally.files.saturating_add(1);
     Ok(())
 }
-
-#[cfg(test)]
-mod tests;

@@ -4,6 +4,7 @@ use super::moves::Moves;
 use super::places::Places;
 use super::registers::{separator, write_list, write_registers};
 use super::shown::{Shown, list_at};
+use crate::page::Page;
 use crate::spell::{BlockText, OperandText, PlaceText, VRegText};
 use regalloc2_serialize::{InstOpcode, StoredInst};
 use std::alloc::Allocator;
@@ -22,46 +23,43 @@ fn opcode_name(op: InstOpcode) -> &'static str {
 fn write_targets<A: Allocator, W: fmt::Write>(
     before: &str,
     targets: (&[u32], &[Vec<u32, A>]),
-    to: &mut W,
-) -> fmt::Result {
+    to: &mut Page<'_, W>,
+) {
     let (succs, params) = targets;
     for (k, (block, words)) in succs.iter().zip(params.iter()).enumerate() {
         let before = if k == 0 { before } else { ", " };
-        write!(to, "{before}{}(", BlockText(*block))?;
-        write_list(words.as_slice(), VRegText, to)?;
-        write!(to, ")")?;
+        to.put(&format_args!("{before}{}(", BlockText(*block)));
+        write_list(words.as_slice(), VRegText, to);
+        to.words(")");
     }
-    Ok(())
 }
 
 /// Writes operands, each with its place in brackets where it has one.
-fn write_operands<W: fmt::Write>(operands: &[u64], places: &[u32], to: &mut W) -> fmt::Result {
+fn write_operands<W: fmt::Write>(operands: &[u64], places: &[u32], to: &mut Page<'_, W>) {
     for (k, bits) in operands.iter().enumerate() {
         let before = if k == 0 { ": " } else { ", " };
-        write!(to, "{before}{}", OperandText(*bits))?;
+        to.put(&format_args!("{before}{}", OperandText(*bits)));
         if let Some(place) = places.get(k) {
-            write!(to, " [{}]", PlaceText(*place))?;
+            to.put(&format_args!(" [{}]", PlaceText(*place)));
         }
     }
-    Ok(())
 }
 
 /// Writes what stands behind an instruction's word and its successors.
 fn write_parts<A: Allocator, W: fmt::Write>(
     inst: &StoredInst<A>,
     places: &[u32],
-    to: &mut W,
-) -> fmt::Result {
-    write_operands(inst.operands.as_slice(), places, to)?;
+    to: &mut Page<'_, W>,
+) {
+    write_operands(inst.operands.as_slice(), places, to);
     if !inst.clobbers.is_empty() {
-        write!(to, "; clobbers ")?;
-        write_registers(inst.clobbers.as_slice(), to)?;
+        to.words("; clobbers ");
+        write_registers(inst.clobbers.as_slice(), to);
     }
     if places.len() > inst.operands.len() {
-        write!(to, "; more ")?;
-        write_list(&places[inst.operands.len()..], PlaceText, to)?;
+        to.words("; more ");
+        write_list(&places[inst.operands.len()..], PlaceText, to);
     }
-    Ok(())
 }
 
 impl<'a, A: Allocator + Copy> Shown<'a, A> {
@@ -72,47 +70,42 @@ impl<'a, A: Allocator + Copy> Shown<'a, A> {
         block: Option<usize>,
         places: &Places<'_>,
         moves: &mut Moves<'_>,
-        to: &mut W,
-    ) -> fmt::Result {
+        to: &mut Page<'_, W>,
+    ) {
         let Some(inst) = self.function.insts.get(number) else {
-            return Ok(());
+            return;
         };
-        moves.write_before(number, to)?;
-        write!(to, "  inst{number} {}", opcode_name(inst.op))?;
+        moves.write_before(number, to);
+        to.put(&format_args!("  inst{number} {}", opcode_name(inst.op)));
         if let Some(block) = block {
-            write_targets(" ", self.targets(block), to)?;
+            write_targets(" ", self.targets(block), to);
         }
-        write_parts(inst, places.of(number), to)?;
-        writeln!(to)?;
-        moves.write_after(number, to)
+        write_parts(inst, places.of(number), to);
+        to.words("\n");
+        moves.write_after(number, to);
     }
 
     /// Writes a block's own line.
-    fn write_header<W: fmt::Write>(
-        &self,
-        block: usize,
-        range: (u32, u32),
-        to: &mut W,
-    ) -> fmt::Result {
+    fn write_header<W: fmt::Write>(&self, block: usize, range: (u32, u32), to: &mut Page<'_, W>) {
         let (first, end) = range;
-        write!(to, "block{block}")?;
+        to.put(&format_args!("block{block}"));
         let params = list_at(self.params_in, block);
         if !params.is_empty() {
-            write!(to, "(")?;
-            write_list(params, VRegText, to)?;
-            write!(to, ")")?;
+            to.words("(");
+            write_list(params, VRegText, to);
+            to.words(")");
         }
         if !self.is_in_line {
-            write!(to, "; from inst{first} until inst{end}")?;
+            to.put(&format_args!("; from inst{first} until inst{end}"));
         }
         if let Some(preds) = self.odd_preds(block) {
-            write!(to, "; preds ")?;
-            write_blocks(preds, to)?;
+            to.words("; preds ");
+            write_blocks(preds, to);
         }
         if !self.is_in_line || first == end {
-            write_targets("; succs ", self.targets(block), to)?;
+            write_targets("; succs ", self.targets(block), to);
         }
-        writeln!(to, ":")
+        to.words(":\n");
     }
 
     /// Writes a block, with its instructions where blocks follow one another.
@@ -122,18 +115,17 @@ impl<'a, A: Allocator + Copy> Shown<'a, A> {
         range: (u32, u32),
         places: &Places<'_>,
         moves: &mut Moves<'_>,
-        to: &mut W,
-    ) -> fmt::Result {
-        self.write_header(block, range, to)?;
+        to: &mut Page<'_, W>,
+    ) {
+        self.write_header(block, range, to);
         let (first, end) = range;
         if !self.is_in_line {
-            return Ok(());
+            return;
         }
         for inst in first..end {
             let ended = if inst == end - 1 { Some(block) } else { None };
-            self.write_inst(inst as usize, ended, places, moves, to)?;
+            self.write_inst(inst as usize, ended, places, moves, to);
         }
-        Ok(())
     }
 
     /// Writes all instructions, where blocks don't follow one another.
@@ -141,15 +133,14 @@ impl<'a, A: Allocator + Copy> Shown<'a, A> {
         &self,
         places: &Places<'_>,
         moves: &mut Moves<'_>,
-        to: &mut W,
-    ) -> fmt::Result {
+        to: &mut Page<'_, W>,
+    ) {
         if self.is_in_line {
-            return Ok(());
+            return;
         }
         for inst in 0..self.function.insts.len() {
-            self.write_inst(inst, None, places, moves, to)?;
+            self.write_inst(inst, None, places, moves, to);
         }
-        Ok(())
     }
 
     /// Writes the blocks, each followed by its instructions. Where blocks don't follow one another from the first
@@ -158,20 +149,20 @@ impl<'a, A: Allocator + Copy> Shown<'a, A> {
         &self,
         places: &Places<'_>,
         moves: &mut Moves<'_>,
-        to: &mut W,
-    ) -> fmt::Result {
-        self.write_insts(places, moves, to)?;
+        to: &mut Page<'_, W>,
+    ) {
+        self.write_insts(places, moves, to);
         for (block, range) in self.function.blocks.iter().enumerate() {
-            self.write_block(block, *range, places, moves, to)?;
+            self.write_block(block, *range, places, moves, to);
         }
-        Ok(())
     }
 }
 
 /// Writes blocks, or `none`.
-fn write_blocks<W: fmt::Write>(blocks: &[u32], to: &mut W) -> fmt::Result {
+fn write_blocks<W: fmt::Write>(blocks: &[u32], to: &mut Page<'_, W>) {
     if blocks.is_empty() {
-        return write!(to, "none");
+        to.words("none");
+        return;
     }
-    write_list(blocks, BlockText, to)
+    write_list(blocks, BlockText, to);
 }

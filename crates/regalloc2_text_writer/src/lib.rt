@@ -7,6 +7,7 @@ mod lines;
 mod lists;
 mod machine;
 mod moves;
+mod page;
 mod places;
 mod preds;
 mod registers;

@@ -2,6 +2,7 @@
 
 use super::registers::{write_class, write_registers};
 use crate::lists::JsonText;
+use crate::page::Page;
 use crate::spell::RegisterText;
 use regalloc2_serialize::StoredMachine;
 use std::alloc::Allocator;
@@ -32,84 +33,76 @@ fn has_lines<A: Allocator>(machine: &StoredMachine<A>) -> bool {
 fn write_lists<A: Allocator, W: fmt::Write>(
     word: &str,
     lists: &[Vec<u8, A>],
-    to: &mut W,
-) -> fmt::Result {
+    to: &mut Page<'_, W>,
+) {
     if lists.len() != CLASSES {
-        return Ok(());
+        return;
     }
     for (class, registers) in lists.iter().enumerate() {
         if !registers.is_empty() {
-            write!(to, "{word} ")?;
-            write_class(class, registers.as_slice(), to)?;
-            write_registers(registers.as_slice(), to)?;
-            writeln!(to)?;
+            to.put(&format_args!("{word} "));
+            write_class(class, registers.as_slice(), to);
+            write_registers(registers.as_slice(), to);
+            to.words("\n");
         }
     }
-    Ok(())
 }
 
 /// Writes each class's register for moves, a line each, where there is an item for each class.
-fn write_scratch<W: fmt::Write>(registers: &[Option<u8>], to: &mut W) -> fmt::Result {
+fn write_scratch<W: fmt::Write>(registers: &[Option<u8>], to: &mut Page<'_, W>) {
     if registers.len() != CLASSES {
-        return Ok(());
+        return;
     }
     for (class, register) in registers.iter().enumerate() {
         if let Some(index) = register {
-            write!(to, "scratch ")?;
-            write_class(class, &[*index], to)?;
-            writeln!(to, "{}", RegisterText(*index))?;
+            to.words("scratch ");
+            write_class(class, &[*index], to);
+            to.put(&RegisterText(*index));
+            to.words("\n");
         }
     }
-    Ok(())
 }
 
 /// Writes the lines of a machine: its registers by class, then the fixed stack slots, or `regs none`.
 pub(crate) fn write_machine<A: Allocator, W: fmt::Write>(
     machine: &StoredMachine<A>,
-    to: &mut W,
-) -> fmt::Result {
-    write_lists("regs", machine.preferred_regs_by_class.as_slice(), to)?;
-    write_lists("others", machine.non_preferred_regs_by_class.as_slice(), to)?;
-    write_scratch(machine.scratch_by_class.as_slice(), to)?;
+    to: &mut Page<'_, W>,
+) {
+    write_lists("regs", machine.preferred_regs_by_class.as_slice(), to);
+    write_lists("others", machine.non_preferred_regs_by_class.as_slice(), to);
+    write_scratch(machine.scratch_by_class.as_slice(), to);
     if !machine.fixed_stack_slots.is_empty() {
-        write!(to, "stack ")?;
-        write_registers(machine.fixed_stack_slots.as_slice(), to)?;
-        writeln!(to)?;
+        to.words("stack ");
+        write_registers(machine.fixed_stack_slots.as_slice(), to);
+        to.words("\n");
     }
-    if has_lines(machine) {
-        Ok(())
-    } else {
-        writeln!(to, "regs none")
+    if !has_lines(machine) {
+        to.words("regs none\n");
     }
 }
 
 /// Writes a list as a `stored` line, with numbers as in JSON.
-pub(crate) fn write_stored<T: JsonText, W: fmt::Write>(
-    name: &str,
-    list: &T,
-    to: &mut W,
-) -> fmt::Result {
-    write!(to, "stored {name} ")?;
-    list.write_json(to)?;
-    writeln!(to)
+pub(crate) fn write_stored<T: JsonText, W: fmt::Write>(name: &str, list: &T, to: &mut Page<'_, W>) {
+    to.put(&format_args!("stored {name} "));
+    list.write_json(to);
+    to.words("\n");
 }
 
 /// Writes the lists by class that don't have an item for each class.
 pub(crate) fn write_stored_machine<A: Allocator, W: fmt::Write>(
     machine: &StoredMachine<A>,
-    to: &mut W,
-) -> fmt::Result {
+    to: &mut Page<'_, W>,
+) {
     let preferred = &machine.preferred_regs_by_class;
     if preferred.len() != CLASSES {
-        write_stored("preferred_regs_by_class", preferred, to)?;
+        write_stored("preferred_regs_by_class", preferred, to);
     }
     let others = &machine.non_preferred_regs_by_class;
     if others.len() != CLASSES {
-        write_stored("non_preferred_regs_by_class", others, to)?;
+        write_stored("non_preferred_regs_by_class", others, to);
     }
     let scratch = &machine.scratch_by_class;
     if scratch.len() != CLASSES {
-        write_stored("scratch_by_class", scratch, to)?;
+        write_stored("scratch_by_class", scratch, to);
     }
-    Ok(())
 }

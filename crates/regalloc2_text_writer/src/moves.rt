@@ -2,6 +2,7 @@
 
 ghost use Rattle.std.specs.Prelude.{◌<◌, IfSome, length};
 
+use crate::page::Page;
 use crate::spell::PlaceText;
 use std::fmt;
 
@@ -45,19 +46,17 @@ impl<'a> Moves<'a> {
     }
 
     /// Writes the next moves that are before an instruction.
-    pub(crate) fn write_before<W: fmt::Write>(&mut self, inst: usize, to: &mut W) -> fmt::Result {
+    pub(crate) fn write_before<W: fmt::Write>(&mut self, inst: usize, to: &mut Page<'_, W>) {
         while let Some((_, from, into)) = self.next_at(inst, false) {
-            writeln!(to, "  move {} -> {}", PlaceText(from), PlaceText(into))?;
+            to.put(&format_args!("  move {} -> {}\n", PlaceText(from), PlaceText(into)));
         }
-        Ok(())
     }
 
     /// Writes the next moves that are after an instruction, each with its point.
-    pub(crate) fn write_after<W: fmt::Write>(&mut self, inst: usize, to: &mut W) -> fmt::Result {
+    pub(crate) fn write_after<W: fmt::Write>(&mut self, inst: usize, to: &mut Page<'_, W>) {
         while let Some((_, from, into)) = self.next_at(inst, true) {
-            write!(to, "  move {} -> {}", PlaceText(from), PlaceText(into))?;
-            writeln!(to, " at inst{inst}-post")?;
+            to.put(&format_args!("  move {} -> {}", PlaceText(from), PlaceText(into)));
+            to.put(&format_args!(" at inst{inst}-post\n"));
         }
-        Ok(())
     }
 }

@@ -2,6 +2,7 @@
 
 use super::machine::write_stored;
 use super::moves::{Moves, run_in_order};
+use crate::page::Page;
 use crate::spell::{PlaceText, PointText};
 use regalloc2_function::StoredOutput;
 use std::alloc::Allocator;
@@ -92,42 +93,35 @@ impl<'a, A: Allocator + Copy> ShownOutput<'a, A> {
     }
 
     /// Writes the moves that don't stand beside their instructions, each with its point.
-    fn write_moves<W: fmt::Write>(self, to: &mut W) -> fmt::Result {
+    fn write_moves<W: fmt::Write>(self, to: &mut Page<'_, W>) {
         if self.has_moves {
-            return Ok(());
+            return;
         }
         for (point, from, into) in &self.output.edits {
-            write!(to, "move {} -> {}", PlaceText(*from), PlaceText(*into))?;
-            writeln!(to, " at {}", PointText(*point))?;
+            to.put(&format_args!("move {} -> {}", PlaceText(*from), PlaceText(*into)));
+            to.put(&format_args!(" at {}\n", PointText(*point)));
         }
-        Ok(())
     }
 
     /// Writes the places that don't stand beside their instructions.
-    fn write_places<W: fmt::Write>(self, to: &mut W) -> fmt::Result {
+    fn write_places<W: fmt::Write>(self, to: &mut Page<'_, W>) {
         if self.has_places {
-            return Ok(());
+            return;
         }
-        write_stored("allocs", &self.output.allocs, to)?;
-        write_stored("inst_alloc_offsets", &self.output.inst_alloc_offsets, to)
+        write_stored("allocs", &self.output.allocs, to);
+        write_stored("inst_alloc_offsets", &self.output.inst_alloc_offsets, to);
     }
 
     /// Writes an output's own lines: the size of the slots, what doesn't stand beside the instructions, and the debug
     /// locations.
-    pub(crate) fn write<W: fmt::Write>(self, to: &mut W) -> fmt::Result {
+    pub(crate) fn write<W: fmt::Write>(self, to: &mut Page<'_, W>) {
         let slots = self.output.num_spillslots;
-        writeln!(to, "slots {slots}")?;
-        self.write_moves(to)?;
-        self.write_places(to)?;
+        to.put(&format_args!("slots {slots}\n"));
+        self.write_moves(to);
+        self.write_places(to);
         for (label, from, until, place) in &self.output.debug_locations {
-            write!(
-                to,
-                "debug {label} {} {}",
-                PointText(*from),
-                PointText(*until)
-            )?;
-            writeln!(to, " {}", PlaceText(*place))?;
+            to.put(&format_args!("debug {label} {} {}", PointText(*from), PointText(*until)));
+            to.put(&format_args!(" {}\n", PlaceText(*place)));
         }
-        Ok(())
     }
 }

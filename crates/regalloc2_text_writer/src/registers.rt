@@ -2,6 +2,7 @@
 
 ghost use Rattle.std.specs.Prelude.{◌<◌, ◌≤◌, length};
 
+use crate::page::Page;
 use crate::spell::RegisterText;
 use regalloc2_names::PReg;
 use std::fmt;
@@ -15,34 +16,29 @@ pub(crate) fn separator(index: usize) -> &'static str {
 pub(crate) fn write_list<T: Copy, D: fmt::Display + Drop, F: Fn(T) -> D + Drop, W: fmt::Write>(
     items: &[T],
     show: F,
-    to: &mut W,
-) -> fmt::Result
+    to: &mut Page<'_, W>,
+)
     requires { F.IsAlwaysCallable show }
 {
     for (k, item) in items.iter().enumerate() {
         let before = separator(k);
         let text = show(*item);
-        write!(to, "{before}{text}")?;
+        to.put(&format_args!("{before}{text}"));
     }
-    Ok(())
 }
 
 /// Writes the name of a class and a space, where a register isn't of it.
-pub(crate) fn write_class<W: fmt::Write>(
-    class: usize,
-    registers: &[u8],
-    to: &mut W,
-) -> fmt::Result {
+pub(crate) fn write_class<W: fmt::Write>(class: usize, registers: &[u8], to: &mut Page<'_, W>) {
     if registers
         .iter()
         .all(|register| usize::from(*register >> 6) == class)
     {
-        return Ok(());
+        return;
     }
     match class {
-        0 => write!(to, "int "),
-        1 => write!(to, "float "),
-        _ => write!(to, "vector "),
+        0 => to.words("int "),
+        1 => to.words("float "),
+        _ => to.words("vector "),
     }
 }
 
@@ -77,19 +73,19 @@ fn span_end(registers: &[u8], first: usize) -> usize
 }
 
 /// Writes registers, three neighbours or more as a span, or `none`.
-pub(crate) fn write_registers<W: fmt::Write>(registers: &[u8], to: &mut W) -> fmt::Result {
+pub(crate) fn write_registers<W: fmt::Write>(registers: &[u8], to: &mut Page<'_, W>) {
     if registers.is_empty() {
-        return write!(to, "none");
+        to.words("none");
+        return;
     }
     let mut first = 0;
     while first < registers.len() {
         let last = span_end(registers, first);
         let before = separator(first);
-        write!(to, "{before}{}", RegisterText(registers[first]))?;
+        to.put(&format_args!("{before}{}", RegisterText(registers[first])));
         if first < last {
-            write!(to, "..{}", RegisterText(registers[last]))?;
+            to.put(&format_args!("..{}", RegisterText(registers[last])));
         }
         first = last + 1;
     }
-    Ok(())
 }
