@@ -1,5 +1,5 @@
 -- How many registers of a class are free at both positions.
-use Rattle.std.proofs.Common.{ℕ, ◌≡◌, ◌<◌, Bool, true, false, length, refl, sym, ◌∙◌}
+use Rattle.std.proofs.Common.{◌≡◌, Bool, true, false, length, refl, sym, ◌∙◌}
 use Rattle.std.specs.Prelude.{◌&&◌, ◌↔◌}
 use Rattle.std.proofs.lemmas.Bool.{and_parts}
 use Rattle.regalloc2_names.specs.declared.RegClass.{RegClass}

@@ -1,7 +1,7 @@
 -- Functions of one block with registers for all vregs: instruction after instruction no move is made, and no slot.
-use Rattle.std.proofs.Common.{ℕ, zero, suc, ◌≡◌, ◌≢◌, ◌+◌, ◌<◌, ◌≤◌, ◌⊎◌, inl, inr, Bool, true, false, List, [], ◌∷◌, ◌++◌, length, refl, arith, sym}
+use Rattle.std.proofs.Common.{ℕ, ◌≡◌, ◌≢◌, ◌+◌, ◌<◌, ◌≤◌, inl, inr, Bool, true, false, List, [], ◌∷◌, length, refl, arith, sym}
 use Rattle.std.proofs.Common.{ap, ◌∙◌, subst}
-use Rattle.std.specs.Prelude.{None, Option, Some, is_some, Contains, slice_index_or, ◌&&◌, ◌||◌, not}
+use Rattle.std.specs.Prelude.{None, Option, Some, is_some, Contains, slice_index_or, not}
 use Rattle.std.specs.List.{IsDistinct}
 use Rattle.std.proofs.lemmas.Bool.{and_parts, cases_Bool}
 use Rattle.std.proofs.lemmas.List.Elements.{Contains-append_right}
@@ -19,23 +19,23 @@ use Rattle.regalloc2_function.specs.Machine.{MachineValue}
 use Rattle.regalloc2_function.specs.SourceRun.{arguments_at}
 use Rattle.regalloc2_function.specs.WellFormed.{IsWellFormed}
 use Rattle.regalloc2_semantics.specs.Blocks.{HasEdge, target_at}
-use Rattle.regalloc2_semantics.proofs.SingleDef.{DefinesAt, TakesAt, MadeBefore, by_earlier, by_param, made_before, one_operand, reads_defined}
+use Rattle.regalloc2_semantics.proofs.SingleDef.{DefinesAt, MadeBefore, by_earlier, by_param, made_before, one_operand, reads_defined}
 use Rattle.regalloc2_fastalloc_state.proofs.VRegInPRegInverse.{same_number}
 use Rattle.regalloc2_fastalloc_state.specs.declared.inst_regs.InstRegs.{InstRegs}
 use Rattle.regalloc2_fastalloc_state.specs.ScratchPool.{Moves}
 use Rattle.regalloc2_fastalloc_state.specs.StateParts.{IsInverse, IsLruOf, VRegAllocsValue, AllocatableRegsValue, vreg_of_preg, lru_of, slot_name, alloc_of}
 use Rattle.regalloc2_fastalloc_state.specs.InstRegs.{is_free_throughout}
 use Rattle.regalloc2_validate.specs.Constraints.{op_at}
-use Rattle.regalloc2_fastalloc_proofs.specs.InstSteps.{StateValue, EvictsEach, EvictsFixed, RemovesClobbers, MovesUses, ReservesRegs, AddsMoveIf}
+use Rattle.regalloc2_fastalloc_proofs.specs.InstSteps.{StateValue, EvictsEach, EvictsFixed, RemovesClobbers, MovesUses, ReservesRegs}
 use Rattle.regalloc2_fastalloc_proofs.specs.InstSteps.{none_cleared, not_fixed, of_fixed, of_reuse, none_left, one_more, none_moved, not_moved}
-use Rattle.regalloc2_fastalloc_proofs.specs.InstSteps.{one_moved, sent, unsent}
+use Rattle.regalloc2_fastalloc_proofs.specs.InstSteps.{one_moved}
 use Rattle.regalloc2_fastalloc_proofs.specs.BranchSteps.{AreApart, ClassMove, GathersMoves, GathersEdgeMoves, no_edge, none_gathered, of_class, one_edge}
 use Rattle.regalloc2_fastalloc_proofs.specs.BranchSteps.{one_gathered}
 use Rattle.regalloc2_fastalloc_proofs.specs.BlockStart.{ReloadsParams, none_begun, one_begun}
 use Rattle.regalloc2_fastalloc_proofs.specs.BlockSteps.{IsFresh}
 use Rattle.regalloc2_fastalloc_walk.proofs.OperandsSpillFree.{unsent_same}
 use Rattle.regalloc2_fastalloc_walk.proofs.OperandTakesFreeReg.{cases_place}
-use Rattle.regalloc2_fastalloc_walk.specs.SpillFree.{FitInRegs, ArePlaced, ArePlain, HasRegOperandsOnly, IsDefinedIn, IsSpillFree, IsSpillFreeFrom}
+use Rattle.regalloc2_fastalloc_walk.specs.SpillFree.{ArePlaced, ArePlain, HasRegOperandsOnly, IsDefinedIn, IsSpillFree, IsSpillFreeFrom}
 use Rattle.regalloc2_fastalloc_walk.specs.SpillFree.{IsSpillFreeIn, LeavesSpillFree, is_same_number}
 
 -- the registers that weren't used are available at another instruction

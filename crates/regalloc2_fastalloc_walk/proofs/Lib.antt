@@ -5,3 +5,4 @@ pub mod LruUnusedLast
 pub mod OperandsSpillFree
 pub mod OperandOutOfRegs
 pub mod OperandTakesFreeReg
+pub mod Steps

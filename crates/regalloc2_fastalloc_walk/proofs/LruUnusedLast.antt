@@ -1,10 +1,10 @@
 -- LRU lists, of whose registers those that weren't used are at the end.
-use Rattle.std.proofs.Common.{ℕ, zero, suc, ◌≡◌, ◌+◌, ◌<◌, ◌≤◌, ◌⊎◌, inl, inr, Bool, true, false, List, [], ◌∷◌, ◌++◌, cond, slice_index_or, length}
-use Rattle.std.proofs.Common.{refl, arith, sym, ap, ◌∙◌, subst, length-append}
-use Rattle.std.specs.Prelude.{Option, None, Some, Contains, filter, find, not, reverse, if◌then◌else◌}
+use Rattle.std.proofs.Common.{ℕ, zero, suc, ◌≡◌, ◌+◌, ◌<◌, ◌≤◌, inl, inr, Bool, true, false, List, [], ◌∷◌, ◌++◌, cond, slice_index_or, length}
+use Rattle.std.proofs.Common.{refl, arith, sym, ap, ◌∙◌, subst}
+use Rattle.std.specs.Prelude.{Some, Contains, filter, find, not, reverse}
 use Rattle.std.proofs.lemmas.Bool.{cases_Bool}
 use Rattle.std.proofs.lemmas.List.{append_assoc, reverse-append}
-use Rattle.std.proofs.lemmas.List.Elements.{Contains-append_cases, Contains-append_left, Contains-append_right, filter-append}
+use Rattle.std.proofs.lemmas.List.Elements.{Contains-append_right, filter-append}
 use Rattle.regalloc2_names.specs.declared.RegClass.{RegClass}
 use Rattle.regalloc2_names.specs.Register.{Register, class_code, is_register}
 use Rattle.regalloc2_names.specs.Same.{is_register-same, is_register-true}

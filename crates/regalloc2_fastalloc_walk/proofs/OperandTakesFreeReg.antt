@@ -1,10 +1,10 @@
 -- An operand under `Reg` takes a register in which no other vreg is located, as long as registers suffice for all vregs.
-use Rattle.std.proofs.Common.{ℕ, zero, suc, ◌≡◌, ◌≢◌, ◌+◌, ◌<◌, ◌≤◌, ◌⊎◌, inl, inr, Bool, true, false, List, [], ◌∷◌, ◌++◌, length, refl, arith, sym}
+use Rattle.std.proofs.Common.{ℕ, zero, suc, ◌≡◌, ◌≢◌, ◌+◌, ◌<◌, ◌≤◌, ◌⊎◌, inl, inr, Bool, true, false, List, ◌∷◌, ◌++◌, length, refl, arith, sym}
 use Rattle.std.proofs.Common.{ap, ◌∙◌, subst, length-append, eqb-true}
-use Rattle.std.specs.Prelude.{Option, None, Some, All, Contains, find, filter, reverse, nat_eq, slice_index_or, ◌&&◌, not}
+use Rattle.std.specs.Prelude.{Some, All, Contains, find, reverse, slice_index_or}
 use Rattle.std.specs.List.{IsDistinct}
 use Rattle.std.proofs.lemmas.Bool.{cases_Bool}
-use Rattle.std.proofs.lemmas.List.Elements.{All-cons, Contains-append_cases, Contains-append_left, Contains-append_right, Contains-get_or, recursion_from_All}
+use Rattle.std.proofs.lemmas.List.Elements.{All-cons, Contains-append_cases, Contains-append_right, Contains-get_or, recursion_from_All}
 use Rattle.std.proofs.lemmas.Map.Keys.{IsDistinct-cons}
 use Rattle.regalloc2_names.specs.declared.RegClass.{RegClass}
 use Rattle.regalloc2_names.specs.declared.RegClass.TheVariants.{Int, Float, Vector}
@@ -16,17 +16,16 @@ use Rattle.regalloc2_names.specs.Same.{is_register-true}
 use Rattle.regalloc2_function.specs.Fitting.{count_below, register_number}
 use Rattle.regalloc2_parts.proofs.Poked.{same_members}
 use Rattle.regalloc2_fastalloc_state.specs.declared.request.OperandRequest.{OperandRequest}
-use Rattle.regalloc2_fastalloc_state.specs.declared.request.Requirement.{Requirement}
-use Rattle.regalloc2_fastalloc_state.specs.declared.request.Requirement.TheVariants.{AnyPlace, AnyReg, InMemory, InPReg}
+use Rattle.regalloc2_fastalloc_state.specs.declared.request.Requirement.TheVariants.{AnyPlace, AnyReg, InMemory}
 use Rattle.regalloc2_fastalloc_state.specs.declared.inst_regs.Positions.{Positions}
 use Rattle.regalloc2_fastalloc_state.specs.declared.inst_regs.InstRegs.{InstRegs}
-use Rattle.regalloc2_fastalloc_state.specs.StateParts.{IsInverse, IsLruOf, VRegAllocsValue, AllocatableRegsValue, SameRegisters, vreg_of_preg, lru_of}
-use Rattle.regalloc2_fastalloc_state.specs.StateParts.{slot_name, alloc_of}
+use Rattle.regalloc2_fastalloc_state.specs.StateParts.{IsLruOf, AllocatableRegsValue, vreg_of_preg, lru_of}
+use Rattle.regalloc2_fastalloc_state.specs.StateParts.{alloc_of}
 use Rattle.regalloc2_fastalloc_state.specs.InstRegs.{RemovesAvailable, is_free_throughout}
 use Rattle.regalloc2_fastalloc_proofs.specs.InstSteps.{StateValue, AllocsOperand, ClaimsPlace, SelectsPlace, MeetsRequirement, in_slot, in_register}
-use Rattle.regalloc2_fastalloc_proofs.specs.InstSteps.{own, others, empty, cleared, stays, fixed, slot, free, is_stack_in, EvictsOthers, EvictsPReg}
+use Rattle.regalloc2_fastalloc_proofs.specs.InstSteps.{own, others, empty, cleared, stays, fixed, slot, free, is_stack_in, EvictsOthers}
 use Rattle.regalloc2_fastalloc_walk.proofs.RegsReserved.{takes_held}
-use Rattle.regalloc2_fastalloc_walk.proofs.LruUnusedLast.{but, but_from, but_less, but_most, but_not, but_others, counted, found_last, newest_first}
+use Rattle.regalloc2_fastalloc_walk.proofs.LruUnusedLast.{but, but_from, but_less, but_most, but_not, counted, found_last, newest_first}
 use Rattle.regalloc2_fastalloc_walk.specs.SpillFree.{FitInRegs, SelectsAnyReg, IsSpillFree, IsSpillFreeIn, AllocsAnyReg, Pokes, is_same_number}
 use Rattle.regalloc2_fastalloc_walk.specs.SpillFree.{newest, not_allocatable, least_recently_used_free, where_it_stands}
 

@@ -1,31 +1,29 @@
 -- Operands of an instruction under `Reg`, one after another, as long as registers suffice for all vregs.
-use Rattle.std.proofs.Common.{ℕ, ◌≡◌, ◌≢◌, ◌+◌, ◌<◌, ◌≤◌, ◌⊎◌, inl, inr, Bool, true, false, List, [], ◌∷◌, ◌++◌, length, refl, arith, sym, ap, ◌∙◌}
-use Rattle.std.proofs.Common.{subst, eqb-true, eq-eqb, set, get_or-set_same}
+use Rattle.std.proofs.Common.{ℕ, ◌≡◌, ◌≢◌, ◌+◌, ◌<◌, ◌⊎◌, inl, inr, Bool, true, false, List, length, refl, arith, sym, ap, ◌∙◌}
+use Rattle.std.proofs.Common.{subst, eqb-true, eq-eqb, get_or-set_same}
 use Rattle.std.specs.Prelude.{None, Some, if◌then◌else◌, Contains, nat_eq, slice_index_or, slice_set, ◌&&◌, ◌||◌, not}
 use Rattle.std.proofs.lemmas.Bool.{cases_Bool}
 use Rattle.std.proofs.lemmas.List.{get_or-set_other, length-set}
 use Rattle.regalloc2_names.specs.declared.RegClass.{RegClass}
-use Rattle.regalloc2_names.specs.declared.OperandConstraint.{OperandConstraint}
 use Rattle.regalloc2_names.specs.declared.OperandConstraint.TheVariants.{Reg, FixedReg, Reuse}
 use Rattle.regalloc2_names.specs.declared.sets.PRegSet.{PRegSet}
 use Rattle.regalloc2_names.specs.Register.{Register, VirtualRegister, class_code}
 use Rattle.regalloc2_names.specs.RegisterSet.{has_register}
 use Rattle.regalloc2_names.specs.Operand.{OperandValue, nonallocatable_register, is_def, is_fixed_nonallocatable, is_late, is_reading}
-use Rattle.regalloc2_names.specs.Place.{Place, NoPlace, InRegister, InSlot, is_place}
+use Rattle.regalloc2_names.specs.Place.{Place, NoPlace, InRegister, is_place}
 use Rattle.regalloc2_names.specs.Point.{after as after_point}
 use Rattle.regalloc2_names.specs.Same.{is_place-same}
 use Rattle.regalloc2_fastalloc_state.proofs.VRegInPRegInverse.{same_number}
 use Rattle.regalloc2_fastalloc_state.specs.declared.request.OperandRequest.{OperandRequest}
 use Rattle.regalloc2_fastalloc_state.specs.declared.request.Requirement.TheVariants.{AnyReg}
 use Rattle.regalloc2_fastalloc_state.specs.declared.inst_regs.InstRegs.{InstRegs}
-use Rattle.regalloc2_fastalloc_state.specs.StateParts.{VRegAllocsValue, AllocatableRegsValue, SetsAlloc, lru_of, slot_name, alloc_of}
+use Rattle.regalloc2_fastalloc_state.specs.StateParts.{AllocatableRegsValue, lru_of, slot_name, alloc_of}
 use Rattle.regalloc2_validate.specs.Constraints.{op_at}
-use Rattle.regalloc2_fastalloc_proofs.specs.BranchSteps.{AreApart}
 use Rattle.regalloc2_fastalloc_proofs.specs.InstSteps.{StateValue, FreesDef, AllocsDefOp, ProcessesOperand, AllocsUse, AddsMoveIf, SameMachine}
 use Rattle.regalloc2_fastalloc_proofs.specs.InstSteps.{LocatesUse, a_register, a_use, a_def, a_reuse, requirement_of, def_request, is_another, sent}
 use Rattle.regalloc2_fastalloc_proofs.specs.InstSteps.{unsent, stays, located, use_request}
 use Rattle.regalloc2_fastalloc_walk.proofs.OperandTakesFreeReg.{Got, Taken, in_register_same, operand_got}
-use Rattle.regalloc2_fastalloc_walk.specs.SpillFree.{FitInRegs, ArePlaced, ArePlain, IsDefinedAmong, IsSpillFree, IsSpillFreeIn, AllocsAnyReg}
+use Rattle.regalloc2_fastalloc_walk.specs.SpillFree.{FitInRegs, ArePlaced, ArePlain, IsSpillFree, IsSpillFreeIn, AllocsAnyReg}
 
 -- the vreg of a register that was taken is there from now on, or its definition was met and it has no location
 class_settled : (names : List VirtualRegister) (gone gone_now : ℕ → Bool) (n : ℕ) (r : Register) (class : RegClass) (ring : List Register) (t u : StateValue)

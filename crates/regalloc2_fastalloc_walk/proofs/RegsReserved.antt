@@ -1,7 +1,7 @@
 -- What operands reserve, one after another.
 use Rattle.std.proofs.Common.{ℕ, ◌≡◌, ◌≢◌, ◌+◌, ◌<◌, ◌≤◌, ◌⊎◌, inl, inr, Bool, true, false, List, [], ◌∷◌, length, refl, arith, sym, ap, ◌∙◌, subst}
-use Rattle.std.proofs.Common.{set, get_or-set_same}
-use Rattle.std.specs.Prelude.{Option, None, Some, IfSome, not, ◌&&◌, ◌||◌, if◌then◌else◌, nat_eq, min, take, count_by, slice_index, slice_set}
+use Rattle.std.proofs.Common.{get_or-set_same}
+use Rattle.std.specs.Prelude.{Option, None, Some, IfSome, not, ◌&&◌, ◌||◌, if◌then◌else◌, nat_eq, min, take, slice_index, slice_set}
 use Rattle.std.proofs.lemmas.Bool.{cases_Bool, cases_eq, and_parts, eqb-true}
 use Rattle.std.proofs.lemmas.List.{get_or-set_other, length-take-le, take_all}
 use Rattle.std.proofs.lemmas.List.Sums.{count_by-le-length, count_by_more_yes, count_by_more_no}
@@ -21,7 +21,7 @@ use Rattle.regalloc2_fastalloc_state.specs.InstRegs.{RemovesAvailable, SameAvail
 use Rattle.regalloc2_validate.specs.Constraints.{op_at, no_operand}
 use Rattle.regalloc2_fastalloc_proofs.specs.InstSteps.{StateValue, NeedsFixedReg, own, named, IsFixedIn, ReservesRegs, asks, asking}
 use Rattle.regalloc2_fastalloc_walk.specs.ReserveSteps.{IsKnown, Shrinks, Grows, IsNewlyReserved, IsReserved, ReservesRegForOperand, TakesOnly}
-use Rattle.regalloc2_fastalloc_walk.specs.ReserveSteps.{TakesFixed, AwaitsOne, ReservesOnly, OperandReserves, ReserveForOperandFails, IsReservedAt}
+use Rattle.regalloc2_fastalloc_walk.specs.ReserveSteps.{TakesFixed, AwaitsOne, ReservesOnly, OperandReserves, ReserveForOperandFails}
 use Rattle.regalloc2_fastalloc_proofs.specs.OutOfRegs.{ReserveRegsFails, unknown, shared}
 
 -- no register becomes available where nothing changes

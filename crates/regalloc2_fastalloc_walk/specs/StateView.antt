@@ -1,6 +1,10 @@
--- The tables that a state holds, as the relations of steps see them.
+-- The tables that a state holds, as the relations of steps see them, and what each step keeps.
+use Rattle.std.specs.Prelude.{ℕ, ◌≡◌, length, Result, OnOk, IfErr}
+use Rattle.regalloc2_names.specs.declared.RegAllocError.{RegAllocError}
 use Rattle.regalloc2_fastalloc_walk.specs.declared.state.State.{State}
-use Rattle.regalloc2_fastalloc_proofs.specs.InstSteps.{StateValue}
+use Rattle.regalloc2_fastalloc_proofs.specs.InstSteps.{StateValue, SameMachine}
+use Rattle.regalloc2_fastalloc_state.specs.OutOfResources.{IsResourceErrorIn}
+use Rattle.regalloc2_fastalloc_state.specs.StateParts.{AllAtOrAfter}
 
 abbrev pub tables_of : {A : Type 0} → State A → StateValue
 tables_of s = record {
@@ -11,3 +15,11 @@ tables_of s = record {
   fixed_stack = s.registers.fixed_stack;
   dedicated_scratch = s.registers.dedicated_scratch;
 }
+
+-- a step of the walk that pushes edits at a point: the machine's registers and the sizes and numbers of the slots stay, also where it fails; where it
+-- succeeds, each edit is at the point or after it, and there are locations for as many vregs as before; it fails for want of a resource alone
+pub record IsStepAt {A T : Type 0} (point : ℕ) (result : Result T RegAllocError) (old new : State A) : Type 0 where
+  pub machine : SameMachine (tables_of old) (tables_of new)
+  pub later : OnOk result (AllAtOrAfter point new.edits)
+  pub long : OnOk result (length new.places.vreg_allocs ≡ length old.places.vreg_allocs)
+  pub err : IfErr result (IsResourceErrorIn new.slots)

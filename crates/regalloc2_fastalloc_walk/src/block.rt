@@ -5,10 +5,8 @@ ghost use Rattle.regalloc2_names.specs.Point.{before};
 ghost use Rattle.regalloc2_names.specs.Place.{NoPlace};
 ghost use Rattle.regalloc2_names.specs.Register.{Register};
 ghost use Rattle.regalloc2_fastalloc_proofs.specs.BlockStart.{ReloadsAtBegin, ReloadsParam, ReloadsParams, ReloadsRegs};
-ghost use Rattle.regalloc2_fastalloc_state.specs.OutOfResources.{IsResourceErrorIn};
-ghost use Rattle.regalloc2_fastalloc_proofs.specs.InstSteps.{SameMachine};
 ghost use Rattle.regalloc2_fastalloc_proofs.specs.OutOfRegs.{OutOfRegsOnlyIf, ReloadAtBeginFails, ReloadRegsFails, ReloadParamFails, ReloadParamsFails};
-ghost use Rattle.regalloc2_fastalloc_walk.specs.StateView.{tables_of};
+ghost use Rattle.regalloc2_fastalloc_walk.specs.StateView.{IsStepAt, tables_of};
 ghost use Rattle.regalloc2_fastalloc_state.specs.StateParts.{AllAtOrAfter, vreg_of_preg, alloc_of};
 
 use super::inst::differ;
@@ -32,10 +30,7 @@ impl<'a, A: Allocator> State<'a, A> {
         requires later { AllAtOrAfter point self.old.edits }
         requires known { param.number < length self.old.places.vreg_allocs }
         ensures ok { OnOk result (ReloadsParam point param inst_regs.old inst_regs.new (tables_of self.old) (tables_of self.new)) }
-        ensures later { OnOk result (AllAtOrAfter point self.new.edits) }
-        ensures long { OnOk result (length self.new.places.vreg_allocs ≡ length self.old.places.vreg_allocs) }
-        ensures machine { SameMachine (tables_of self.old) (tables_of self.new) }
-        ensures err { IfErr result (IsResourceErrorIn self.new.slots) }
+        ensures step { IsStepAt point result self.old self.new }
         ensures stops { IfErr result (OutOfRegsOnlyIf (ReloadParamFails param inst_regs.old (tables_of self.old))) }
     {
         let current = self.places.current_alloc(param);
@@ -68,10 +63,7 @@ impl<'a, A: Allocator> State<'a, A> {
         requires later { AllAtOrAfter point self.old.edits }
         requires known { All (λ v. v.number < length self.old.places.vreg_allocs) params.now }
         ensures ok { OnOk result (ReloadsParams point params.now inst_regs.old (tables_of self.old) (length params.now) inst_regs.new (tables_of self.new)) }
-        ensures later { OnOk result (AllAtOrAfter point self.new.edits) }
-        ensures long { OnOk result (length self.new.places.vreg_allocs ≡ length self.old.places.vreg_allocs) }
-        ensures machine { SameMachine (tables_of self.old) (tables_of self.new) }
-        ensures err { IfErr result (IsResourceErrorIn self.new.slots) }
+        ensures step { IsStepAt point result self.old self.new }
         ensures stops { IfErr result (OutOfRegsOnlyIf (ReloadParamsFails point params.now inst_regs.old (tables_of self.old))) }
     {
         for param in params {
@@ -91,10 +83,7 @@ impl<'a, A: Allocator> State<'a, A> {
         requires { AllAtOrAfter point self.old.edits }
         ensures ok { OnOk result (ReloadsRegs point inst_regs.old (tables_of self.old) inst_regs.new (tables_of self.new)) }
         ensures emptied { OnOk result ((r : Register) → r.number < 64 → vreg_of_preg self.new.places r ≡ None) }
-        ensures later { OnOk result (AllAtOrAfter point self.new.edits) }
-        ensures long { OnOk result (length self.new.places.vreg_allocs ≡ length self.old.places.vreg_allocs) }
-        ensures machine { SameMachine (tables_of self.old) (tables_of self.new) }
-        ensures err { IfErr result (IsResourceErrorIn self.new.slots) }
+        ensures step { IsStepAt point result self.old self.new }
         ensures stops { IfErr result (OutOfRegsOnlyIf (ReloadRegsFails point inst_regs.old (tables_of self.old))) }
         ensures nobody { OnOk result (((n : ℕ) → alloc_of self.old.places n ≡ NoPlace) → tables_of self.new ≡ tables_of self.old) }
     {
@@ -119,10 +108,7 @@ impl<'a, A: Allocator> State<'a, A> {
         requires later { AllAtOrAfter (before first) self.old.edits }
         requires known { All (λ v. v.number < length self.old.places.vreg_allocs) params.now }
         ensures ok { OnOk result (ReloadsAtBegin (before first) params.now (tables_of self.old) (tables_of self.new)) }
-        ensures later { OnOk result (AllAtOrAfter (before first) self.new.edits) }
-        ensures long { OnOk result (length self.new.places.vreg_allocs ≡ length self.old.places.vreg_allocs) }
-        ensures machine { SameMachine (tables_of self.old) (tables_of self.new) }
-        ensures err { IfErr result (IsResourceErrorIn self.new.slots) }
+        ensures step { IsStepAt (before first) result self.old self.new }
         ensures stops { IfErr result (OutOfRegsOnlyIf (ReloadAtBeginFails (before first) params.now (tables_of self.old))) }
         ensures nobody { OnOk result (((n : ℕ) → alloc_of self.old.places n ≡ NoPlace) → params.now ≡ [] → tables_of self.new ≡ tables_of self.old) }
     {

@@ -13,12 +13,11 @@ ghost use Rattle.regalloc2_fastalloc_proofs.specs.BranchSteps.{AreApart, AreBetw
 ghost use Rattle.regalloc2_fastalloc_proofs.specs.BranchSteps.{GathersEdgeMoves, IsScratchRegFor, AddsTempSlotsAtMost, MayBeParallel, MayBranch};
 ghost use Rattle.regalloc2_fastalloc_proofs.specs.BranchSteps.{OrdersMoves, ParametersDiffer, ProcessesBranch, Pushes, PushesAllClasses};
 ghost use Rattle.regalloc2_fastalloc_proofs.specs.BranchSteps.{SpillsArgument};
-ghost use Rattle.regalloc2_fastalloc_state.specs.OutOfResources.{SlotsExhaustedWith, IsResourceErrorIn, IsResourceError};
+ghost use Rattle.regalloc2_fastalloc_state.specs.OutOfResources.{SlotsExhaustedWith, IsResourceError};
 ghost use Rattle.regalloc2_fastalloc_state.specs.ScratchPool.{DoDiffer, IsOfScratchPair};
-ghost use Rattle.regalloc2_fastalloc_proofs.specs.InstSteps.{SameMachine};
 ghost use Rattle.regalloc2_fastalloc_proofs.specs.OutOfRegs.{OutOfRegsOnlyIf, GatherEdgeFails, GatherMovesFails, OrderMovesFails, ProcessBranchFails};
 ghost use Rattle.regalloc2_fastalloc_proofs.specs.OutOfRegs.{SpillArgumentFails};
-ghost use Rattle.regalloc2_fastalloc_walk.specs.StateView.{tables_of};
+ghost use Rattle.regalloc2_fastalloc_walk.specs.StateView.{IsStepAt, tables_of};
 ghost use Rattle.regalloc2_fastalloc_state.specs.StateParts.{SlotsHaveOneOwner, IsLeastRecentIn, AllAtOrAfter};
 
 use super::state::State;
@@ -238,10 +237,7 @@ impl<'a, A: Allocator> State<'a, A> {
         requires later { AllAtOrAfter point self.old.edits }
         requires known { argument.number < length self.old.places.vreg_allocs }
         ensures ok { IfOk result (λ s. SpillsArgument point argument s inst_regs.old inst_regs.new (tables_of self.old) (tables_of self.new)) }
-        ensures later { OnOk result (AllAtOrAfter point self.new.edits) }
-        ensures long { OnOk result (length self.new.places.vreg_allocs ≡ length self.old.places.vreg_allocs) }
-        ensures machine { SameMachine (tables_of self.old) (tables_of self.new) }
-        ensures err { IfErr result (IsResourceErrorIn self.new.slots) }
+        ensures step { IsStepAt point result self.old self.new }
         ensures stops { IfErr result (OutOfRegsOnlyIf (SpillArgumentFails argument inst_regs.old (tables_of self.old))) }
         ensures registers { OnOk result (self.new.registers ≡ self.old.registers) }
     {
@@ -271,10 +267,7 @@ impl<'a, A: Allocator> State<'a, A> {
             × AreOf moves.new.int moves.new.float moves.new.vector more
             × GathersEdgeMoves point params.now arguments.now inst_regs.old (tables_of self.old) given (length params.now) inst_regs.new
             (tables_of self.new) more) }
-        ensures later { OnOk result (AllAtOrAfter point self.new.edits) }
-        ensures long { OnOk result (length self.new.places.vreg_allocs ≡ length self.old.places.vreg_allocs) }
-        ensures machine { SameMachine (tables_of self.old) (tables_of self.new) }
-        ensures err { IfErr result (IsResourceErrorIn self.new.slots) }
+        ensures step { IsStepAt point result self.old self.new }
         ensures stops { IfErr result (OutOfRegsOnlyIf ((given : List ClassMove) → AreOf moves.old.int moves.old.float moves.old.vector given →
             GatherEdgeFails point params.now arguments.now inst_regs.old (tables_of self.old) given)) }
         ensures registers { OnOk result (self.new.registers ≡ self.old.registers) }
@@ -306,10 +299,7 @@ impl<'a, A: Allocator> State<'a, A> {
         ensures ok { IfOk result (λ m. (given : List ClassMove) × AreOf m.int m.float m.vector given
             × GathersMoves (F.function f.now) block (before inst) inst_regs.old (tables_of self.old) (length (block_at (F.function f.now) block).succs)
             inst_regs.new (tables_of self.new) given) }
-        ensures later { OnOk result (AllAtOrAfter (before inst) self.new.edits) }
-        ensures long { OnOk result (length self.new.places.vreg_allocs ≡ length self.old.places.vreg_allocs) }
-        ensures machine { SameMachine (tables_of self.old) (tables_of self.new) }
-        ensures err { IfErr result (IsResourceErrorIn self.new.slots) }
+        ensures step { IsStepAt (before inst) result self.old self.new }
         ensures stops { IfErr result (OutOfRegsOnlyIf (GatherMovesFails (F.function f.now) block (before inst) inst_regs.old (tables_of self.old))) }
         ensures registers { OnOk result (self.new.registers ≡ self.old.registers) }
     {

@@ -1,12 +1,11 @@
 //! Moves, by way of a register where both ends are stack places, and evictions.
 
-ghost use Rattle.std.specs.Prelude.{◌≡◌, length, OnOk, IfOk, IfErr, None};
+ghost use Rattle.std.specs.Prelude.{◌≡◌, OnOk, IfOk, IfErr, None};
 ghost use Rattle.regalloc2_names.specs.Place.{NoPlace};
 ghost use Rattle.regalloc2_fastalloc_state.specs.StateParts.{AllAtOrAfter, vreg_of_preg, alloc_of};
-ghost use Rattle.regalloc2_fastalloc_state.specs.OutOfResources.{IsResourceErrorIn};
-ghost use Rattle.regalloc2_fastalloc_proofs.specs.InstSteps.{is_stack_in, SameMachine, EvictsVReg, AllocsScratchReg, AddsMove, EvictsPReg, EvictsOthers};
+ghost use Rattle.regalloc2_fastalloc_proofs.specs.InstSteps.{is_stack_in, EvictsVReg, AllocsScratchReg, AddsMove, EvictsPReg, EvictsOthers};
 ghost use Rattle.regalloc2_fastalloc_proofs.specs.OutOfRegs.{OutOfRegsOnlyIf, EvictPRegFails, AddMoveFails, AllocScratchRegFails};
-ghost use Rattle.regalloc2_fastalloc_walk.specs.StateView.{tables_of};
+ghost use Rattle.regalloc2_fastalloc_walk.specs.StateView.{IsStepAt, tables_of};
 
 use super::state::State;
 use regalloc2_fastalloc_state::inst_regs::{InstRegs, Positions};
@@ -26,10 +25,7 @@ impl<'a, A: Allocator> State<'a, A> {
     fn evict_vreg_in_preg(&mut self, point: ProgPoint, preg: PReg) -> Result<(), RegAllocError>
         requires { AllAtOrAfter point self.old.edits }
         ensures ok { OnOk result (EvictsVReg point preg (tables_of self.old) (tables_of self.new)) }
-        ensures later { OnOk result (AllAtOrAfter point self.new.edits) }
-        ensures long { OnOk result (length self.new.places.vreg_allocs ≡ length self.old.places.vreg_allocs) }
-        ensures machine { SameMachine (tables_of self.old) (tables_of self.new) }
-        ensures err { IfErr result (IsResourceErrorIn self.new.slots) }
+        ensures step { IsStepAt point result self.old self.new }
         ensures stops { IfErr result (OutOfRegsOnlyIf (⊥)) }
         ensures registers { OnOk result (self.new.registers ≡ self.old.registers) }
     {
@@ -53,10 +49,7 @@ impl<'a, A: Allocator> State<'a, A> {
         requires { AllAtOrAfter point self.old.edits }
         ensures ok { IfOk result (λ r. AllocsScratchReg point class inst_regs.old inst_regs.new r (tables_of self.old) (tables_of self.new)) }
         ensures awaited { inst_regs.new.awaited ≡ inst_regs.old.awaited }
-        ensures later { OnOk result (AllAtOrAfter point self.new.edits) }
-        ensures long { OnOk result (length self.new.places.vreg_allocs ≡ length self.old.places.vreg_allocs) }
-        ensures machine { SameMachine (tables_of self.old) (tables_of self.new) }
-        ensures err { IfErr result (IsResourceErrorIn self.new.slots) }
+        ensures step { IsStepAt point result self.old self.new }
         ensures stops { IfErr result (OutOfRegsOnlyIf (AllocScratchRegFails class inst_regs.old (tables_of self.old))) }
         ensures registers { OnOk result (self.new.registers ≡ self.old.registers) }
     {
@@ -89,10 +82,7 @@ impl<'a, A: Allocator> State<'a, A> {
         requires { AllAtOrAfter point self.old.edits }
         ensures ok { OnOk result (AddsMove point class from to inst_regs.old inst_regs.new (tables_of self.old) (tables_of self.new)) }
         ensures awaited { inst_regs.new.awaited ≡ inst_regs.old.awaited }
-        ensures later { OnOk result (AllAtOrAfter point self.new.edits) }
-        ensures long { OnOk result (length self.new.places.vreg_allocs ≡ length self.old.places.vreg_allocs) }
-        ensures machine { SameMachine (tables_of self.old) (tables_of self.new) }
-        ensures err { IfErr result (IsResourceErrorIn self.new.slots) }
+        ensures step { IsStepAt point result self.old self.new }
         ensures stops { IfErr result (OutOfRegsOnlyIf (AddMoveFails class from to inst_regs.old (tables_of self.old))) }
         ensures registers { OnOk result (self.new.registers ≡ self.old.registers) }
     {
@@ -119,10 +109,7 @@ impl<'a, A: Allocator> State<'a, A> {
         ensures ok { OnOk result (EvictsPReg point preg inst_regs.old inst_regs.new (tables_of self.old) (tables_of self.new)) }
         ensures awaited { inst_regs.new.awaited ≡ inst_regs.old.awaited }
         ensures empty { OnOk result (vreg_of_preg self.new.places preg ≡ None) }
-        ensures later { OnOk result (AllAtOrAfter point self.new.edits) }
-        ensures long { OnOk result (length self.new.places.vreg_allocs ≡ length self.old.places.vreg_allocs) }
-        ensures machine { SameMachine (tables_of self.old) (tables_of self.new) }
-        ensures err { IfErr result (IsResourceErrorIn self.new.slots) }
+        ensures step { IsStepAt point result self.old self.new }
         ensures stops { IfErr result (OutOfRegsOnlyIf (EvictPRegFails preg inst_regs.old (tables_of self.old))) }
         ensures registers { OnOk result (self.new.registers ≡ self.old.registers) }
     {
@@ -148,10 +135,7 @@ impl<'a, A: Allocator> State<'a, A> {
         ensures ok { OnOk result (EvictsOthers point preg vreg inst_regs.old inst_regs.new (tables_of self.old) (tables_of self.new)) }
         ensures awaited { inst_regs.new.awaited ≡ inst_regs.old.awaited }
         ensures alone { OnOk result (alloc_of self.new.places vreg.number ≡ NoPlace → vreg_of_preg self.new.places preg ≡ None) }
-        ensures later { OnOk result (AllAtOrAfter point self.new.edits) }
-        ensures long { OnOk result (length self.new.places.vreg_allocs ≡ length self.old.places.vreg_allocs) }
-        ensures machine { SameMachine (tables_of self.old) (tables_of self.new) }
-        ensures err { IfErr result (IsResourceErrorIn self.new.slots) }
+        ensures step { IsStepAt point result self.old self.new }
         ensures stops { IfErr result (OutOfRegsOnlyIf (EvictPRegFails preg inst_regs.old (tables_of self.old))) }
         ensures registers { OnOk result (self.new.registers ≡ self.old.registers) }
     {

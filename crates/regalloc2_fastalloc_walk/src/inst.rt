@@ -1,23 +1,22 @@
 //! The operands of one instruction, of every kind but `Limit`.
 
-ghost use Rattle.std.specs.Prelude.{Bool, IfOk};
+ghost use Rattle.std.specs.Prelude.{Bool};
 ghost use Rattle.regalloc2_names.specs.RegisterSet.{has_register};
 ghost use Rattle.regalloc2_names.specs.Register.{Register, VirtualRegister};
 ghost use Rattle.regalloc2_fastalloc_walk.specs.SpillFree.{FitInRegs, ArePlaced, ArePlain, IsSpillFree, LeavesSpillFree, AllocsAnyReg};
-ghost use Rattle.std.specs.Prelude.{◌≡◌, ◌<◌, ◌≤◌, ◌+◌, ◌↔◌, [], length, not, false, slice_set, slice_index, slice_index_or, ℕ, OnOk, IfErr, IfSome};
+ghost use Rattle.std.specs.Prelude.{◌≡◌, ◌<◌, ◌≤◌, ◌+◌, ◌↔◌, [], length, not, false, slice_set, slice_index_or, ℕ, OnOk, IfErr, IfSome};
 ghost use Rattle.std.specs.Prelude.{IsNone, IsTrue, List};
 ghost use Rattle.regalloc2_names.specs.Point.{before, after};
 ghost use Rattle.regalloc2_names.specs.Place.{Place, NoPlace, is_place};
-ghost use Rattle.regalloc2_names.specs.Operand.{is_def, is_late, is_reading};
+ghost use Rattle.regalloc2_names.specs.Operand.{is_def, is_late};
 ghost use Rattle.regalloc2_fastalloc_state.specs.StateParts.{AllAtOrAfter, alloc_of};
-ghost use Rattle.regalloc2_fastalloc_state.specs.OutOfResources.{IsResourceErrorIn};
 ghost use Rattle.regalloc2_validate.specs.Constraints.{op_at};
 ghost use Rattle.regalloc2_fastalloc_proofs.specs.InstSteps.{AllocsInst, reuse_requirement_of, requirement_of, def_request, reuse_request};
-ghost use Rattle.regalloc2_fastalloc_proofs.specs.InstSteps.{use_request, InTables, MovesUses, ProcessesOperandsAt, ProcessesOperand, SameMachine};
+ghost use Rattle.regalloc2_fastalloc_proofs.specs.InstSteps.{use_request, InTables, MovesUses, ProcessesOperandsAt, ProcessesOperand};
 ghost use Rattle.regalloc2_fastalloc_proofs.specs.InstSteps.{AddsMoveIf};
 ghost use Rattle.regalloc2_fastalloc_proofs.specs.OutOfRegs.{OutOfRegsOnlyIf, ProcessOperandsAtFails, AllocInstFails, MoveUsesFails, ProcessOperandFails};
 ghost use Rattle.regalloc2_fastalloc_proofs.specs.OutOfRegs.{AddMoveIfFails};
-ghost use Rattle.regalloc2_fastalloc_walk.specs.StateView.{tables_of};
+ghost use Rattle.regalloc2_fastalloc_walk.specs.StateView.{IsStepAt, tables_of};
 ghost use Rattle.regalloc2_fastalloc_proofs.specs.BlockSteps.{AllocsInstInto, IsFresh};
 
 use super::operand::PlaceMove;
@@ -159,10 +158,7 @@ impl<'a, A: Allocator> State<'a, A> {
         requires here_long { length here.old ≡ length cx.now.operands.now }
         ensures ok { OnOk result (ProcessesOperand cx.now.inst cx.now.is_ret cx.now.operands.now k here.old here.new inst_regs.old inst_regs.new
             (tables_of self.old) (tables_of self.new)) }
-        ensures later { OnOk result (AllAtOrAfter (after cx.now.inst) self.new.edits) }
-        ensures long { OnOk result (length self.new.places.vreg_allocs ≡ length self.old.places.vreg_allocs) }
-        ensures machine { SameMachine (tables_of self.old) (tables_of self.new) }
-        ensures err { IfErr result (IsResourceErrorIn self.new.slots) }
+        ensures step { IsStepAt (after cx.now.inst) result self.old self.new }
         ensures stops { IfErr result (OutOfRegsOnlyIf
             (ProcessOperandFails cx.now.inst cx.now.is_ret cx.now.operands.now k here.old inst_regs.old (tables_of self.old))) }
         ensures takes { OnOk result ((op_at cx.now.operands.now k).constraint ≡ OperandConstraint.Reg → slice_index_or here.old k NoPlace ≡ NoPlace →
@@ -206,10 +202,7 @@ impl<'a, A: Allocator> State<'a, A> {
         requires here_long { length here.old ≡ length cx.now.operands.now }
         ensures ok { OnOk result (ProcessesOperandsAt cx.now.inst cx.now.is_ret (is_late pos) cx.now.operands.now here.old inst_regs.old
             (tables_of self.old) (length cx.now.operands.now) here.new inst_regs.new (tables_of self.new)) }
-        ensures later { OnOk result (AllAtOrAfter (after cx.now.inst) self.new.edits) }
-        ensures long { OnOk result (length self.new.places.vreg_allocs ≡ length self.old.places.vreg_allocs) }
-        ensures machine { SameMachine (tables_of self.old) (tables_of self.new) }
-        ensures err { IfErr result (IsResourceErrorIn self.new.slots) }
+        ensures step { IsStepAt (after cx.now.inst) result self.old self.new }
         ensures stops { IfErr result (OutOfRegsOnlyIf
             (ProcessOperandsAtFails cx.now.inst cx.now.is_ret (is_late pos) cx.now.operands.now here.old inst_regs.old (tables_of self.old))) }
         ensures spill_free { OnOk result ((names : List VirtualRegister) (gone : ℕ → Bool) → FitInRegs names self.old.registers.allocatable →
@@ -240,10 +233,7 @@ impl<'a, A: Allocator> State<'a, A> {
         ensures ok { OnOk result (AddsMoveIf point operand.vreg.class (not (is_place (alloc_of self.old.places operand.vreg.number) place))
             (alloc_of self.old.places operand.vreg.number) place
             inst_regs.old inst_regs.new (tables_of self.old) (tables_of self.new)) }
-        ensures later { OnOk result (AllAtOrAfter point self.new.edits) }
-        ensures long { OnOk result (length self.new.places.vreg_allocs ≡ length self.old.places.vreg_allocs) }
-        ensures machine { SameMachine (tables_of self.old) (tables_of self.new) }
-        ensures err { IfErr result (IsResourceErrorIn self.new.slots) }
+        ensures step { IsStepAt point result self.old self.new }
         ensures stops { IfErr result (OutOfRegsOnlyIf (AddMoveIfFails operand.vreg.class (not (is_place (alloc_of self.old.places operand.vreg.number) place))
             (alloc_of self.old.places operand.vreg.number) place inst_regs.old (tables_of self.old))) }
         ensures registers { OnOk result (self.new.registers ≡ self.old.registers) }
@@ -276,10 +266,7 @@ impl<'a, A: Allocator> State<'a, A> {
         requires here_long { length here.now ≡ length operands.now }
         ensures ok { OnOk result (MovesUses point operands.now here.now inst_regs.old (tables_of self.old) (length operands.now) inst_regs.new
             (tables_of self.new)) }
-        ensures later { OnOk result (AllAtOrAfter point self.new.edits) }
-        ensures long { OnOk result (length self.new.places.vreg_allocs ≡ length self.old.places.vreg_allocs) }
-        ensures machine { SameMachine (tables_of self.old) (tables_of self.new) }
-        ensures err { IfErr result (IsResourceErrorIn self.new.slots) }
+        ensures step { IsStepAt point result self.old self.new }
         ensures stops { IfErr result (OutOfRegsOnlyIf (MoveUsesFails point operands.now here.now inst_regs.old (tables_of self.old))) }
         ensures registers { OnOk result (self.new.registers ≡ self.old.registers) }
     {
@@ -309,10 +296,7 @@ impl<'a, A: Allocator> State<'a, A> {
         ensures ok { OnOk result ((a : AllocsInst cx.now.inst (record
             { operands = cx.now.operands.now; clobbers = cx.now.clobbers; is_branch = false; is_ret = cx.now.is_ret }) here.old here.new (tables_of self.old)
             (tables_of self.new)) × (a.ended ≡ inst_regs.new)) }
-        ensures later { OnOk result (AllAtOrAfter (before cx.now.inst) self.new.edits) }
-        ensures long { OnOk result (length self.new.places.vreg_allocs ≡ length self.old.places.vreg_allocs) }
-        ensures machine { SameMachine (tables_of self.old) (tables_of self.new) }
-        ensures err { IfErr result (IsResourceErrorIn self.new.slots) }
+        ensures step { IsStepAt (before cx.now.inst) result self.old self.new }
         ensures stops { IfErr result (OutOfRegsOnlyIf
             (AllocInstFails cx.now.inst cx.now.is_ret cx.now.operands.now cx.now.clobbers here.old inst_regs.old (tables_of self.old))) }
         ensures spill_free { OnOk result ((names : List VirtualRegister) (gone : ℕ → Bool) → FitInRegs names self.old.registers.allocatable →
@@ -349,10 +333,7 @@ impl<'a, A: Allocator> State<'a, A> {
         ensures ok { OnOk result (AllocsInstInto inst_regs.new cx.now.inst (record
             { operands = cx.now.operands.now; clobbers = cx.now.clobbers; is_branch = false; is_ret = cx.now.is_ret }) start allocs.old allocs.new
             (tables_of self.old) (tables_of self.new)) }
-        ensures later { OnOk result (AllAtOrAfter (before cx.now.inst) self.new.edits) }
-        ensures long { OnOk result (length self.new.places.vreg_allocs ≡ length self.old.places.vreg_allocs) }
-        ensures machine { SameMachine (tables_of self.old) (tables_of self.new) }
-        ensures err { IfErr result (IsResourceErrorIn self.new.slots) }
+        ensures step { IsStepAt (before cx.now.inst) result self.old self.new }
         ensures stops { IfErr result (OutOfRegsOnlyIf ((blank : List Place) × (length blank ≡ length cx.now.operands.now)
             × ((k : ℕ) → slice_index_or blank k NoPlace ≡ NoPlace) × AllocInstFails cx.now.inst cx.now.is_ret cx.now.operands.now
             cx.now.clobbers blank inst_regs.old (tables_of self.old))) }

@@ -4,7 +4,7 @@ ghost use Rattle.std.specs.Prelude.{Some, true, find, reverse};
 ghost use Rattle.regalloc2_names.specs.RegisterSet.{has_register};
 ghost use Rattle.regalloc2_names.specs.declared.sets.PRegSet.{PRegSet};
 ghost use Rattle.regalloc2_fastalloc_walk.specs.SpillFree.{SelectsAnyReg, AllocsAnyReg, Pokes};
-ghost use Rattle.std.specs.Prelude.{◌≡◌, ◌≢◌, ◌<◌, ◌≤◌, ◌↔◌, ◌⊎◌, ◌&&◌, ℕ, length, not, None, OnOk, IfOk, IfErr, IfNone, IfSome, IsTrue};
+ghost use Rattle.std.specs.Prelude.{◌≡◌, ◌≢◌, ◌<◌, ◌≤◌, ◌↔◌, ◌⊎◌, ◌&&◌, length, not, None, OnOk, IfOk, IfErr, IfNone, IfSome, IsTrue};
 ghost use Rattle.regalloc2_names.specs.Register.{Register};
 ghost use Rattle.regalloc2_names.specs.Place.{NoPlace, InRegister, is_place};
 ghost use Rattle.regalloc2_fastalloc_state.specs.StateParts.{IsInverse, AllAtOrAfter, vreg_of_preg, lru_of, alloc_of};
@@ -12,10 +12,10 @@ ghost use Rattle.regalloc2_fastalloc_state.specs.OutOfResources.{IsResourceError
 ghost use Rattle.regalloc2_fastalloc_state.specs.InstRegs.{IsAvailableAt, SameAvailable, free_count, is_free_throughout};
 ghost use Rattle.regalloc2_fastalloc_proofs.specs.InstSteps.{awaited_less, is_another, scratch_reserve_left, FreesDef, AllocsOperand, IsAffordable};
 ghost use Rattle.regalloc2_fastalloc_proofs.specs.InstSteps.{MayHold, ClaimsPlace, SelectsPlace, AllocsDefOp, AllocsUse, SameMachine, AddsMoveIf};
-ghost use Rattle.regalloc2_fastalloc_proofs.specs.InstSteps.{MeetsRequirement, LocatesUse};
+ghost use Rattle.regalloc2_fastalloc_proofs.specs.InstSteps.{MeetsRequirement};
 ghost use Rattle.regalloc2_fastalloc_proofs.specs.OutOfRegs.{NoneIsAvailable, OutOfRegsOnlyIf, EvictPRegFails, AllocDefOpFails, FreeDefFails};
 ghost use Rattle.regalloc2_fastalloc_proofs.specs.OutOfRegs.{AllocOperandFails, SelectPlaceFails, AddMoveIfFails};
-ghost use Rattle.regalloc2_fastalloc_walk.specs.StateView.{tables_of};
+ghost use Rattle.regalloc2_fastalloc_walk.specs.StateView.{IsStepAt, tables_of};
 
 use super::state::State;
 use regalloc2_fastalloc_state::inst_regs::{InstRegs, Positions};
@@ -280,10 +280,7 @@ impl<'a, A: Allocator> State<'a, A> {
         ensures ok { OnOk result (ClaimsPlace point request.now (InRegister preg) inst_regs.old inst_regs.new (tables_of self.old) (tables_of self.new)) }
         ensures awaited { inst_regs.new.awaited ≡ inst_regs.old.awaited }
         ensures alone { OnOk result (alloc_of self.new.places request.now.vreg.number ≡ NoPlace → vreg_of_preg self.new.places preg ≡ None) }
-        ensures later { OnOk result (AllAtOrAfter point self.new.edits) }
-        ensures long { OnOk result (length self.new.places.vreg_allocs ≡ length self.old.places.vreg_allocs) }
-        ensures machine { SameMachine (tables_of self.old) (tables_of self.new) }
-        ensures err { IfErr result (IsResourceErrorIn self.new.slots) }
+        ensures step { IsStepAt point result self.old self.new }
         ensures stops { IfErr result (OutOfRegsOnlyIf (EvictPRegFails preg inst_regs.old (tables_of self.old))) }
         ensures order { OnOk result (request.now.requirement ≡ Requirement.AnyReg → Pokes preg self.old.registers self.new.registers) }
     {
@@ -308,10 +305,7 @@ impl<'a, A: Allocator> State<'a, A> {
         ensures awaited { inst_regs.new.awaited ≡ inst_regs.old.awaited }
         ensures alone { OnOk result ((r : Register) → place ≡ InRegister r → alloc_of self.new.places request.now.vreg.number ≡ NoPlace →
             vreg_of_preg self.new.places r ≡ None) }
-        ensures later { OnOk result (AllAtOrAfter point self.new.edits) }
-        ensures long { OnOk result (length self.new.places.vreg_allocs ≡ length self.old.places.vreg_allocs) }
-        ensures machine { SameMachine (tables_of self.old) (tables_of self.new) }
-        ensures err { IfErr result (IsResourceErrorIn self.new.slots) }
+        ensures step { IsStepAt point result self.old self.new }
         ensures stops { IfErr result (OutOfRegsOnlyIf ((r : Register) × (place ≡ InRegister r) × EvictPRegFails r inst_regs.old (tables_of self.old))) }
         ensures order { OnOk result (request.now.requirement ≡ Requirement.AnyReg → (r : Register) → place ≡ InRegister r →
             Pokes r self.old.registers self.new.registers) }
@@ -337,10 +331,7 @@ impl<'a, A: Allocator> State<'a, A> {
         ensures awaited { OnOk result (inst_regs.new.awaited ≡ awaited_less request.now.requirement request.now.vreg.class inst_regs.old.awaited) }
         ensures alone { IfOk result (λ p. (r : Register) → p ≡ InRegister r → alloc_of self.new.places request.now.vreg.number ≡ NoPlace →
             vreg_of_preg self.new.places r ≡ None) }
-        ensures later { OnOk result (AllAtOrAfter point self.new.edits) }
-        ensures long { OnOk result (length self.new.places.vreg_allocs ≡ length self.old.places.vreg_allocs) }
-        ensures machine { SameMachine (tables_of self.old) (tables_of self.new) }
-        ensures err { IfErr result (IsResourceErrorIn self.new.slots) }
+        ensures step { IsStepAt point result self.old self.new }
         ensures stops { IfErr result (OutOfRegsOnlyIf (AllocOperandFails request.now inst_regs.old (tables_of self.old))) }
         ensures takes { IfOk result (λ p. request.now.requirement ≡ Requirement.AnyReg →
             AllocsAnyReg inst_regs.old request.now.vreg p (tables_of self.old) self.old.registers self.new.registers) }
@@ -363,10 +354,7 @@ impl<'a, A: Allocator> State<'a, A> {
         requires { AllAtOrAfter point self.old.edits }
         ensures ok { OnOk result (AddsMoveIf point m.class is_made m.from m.to inst_regs.old inst_regs.new (tables_of self.old) (tables_of self.new)) }
         ensures awaited { inst_regs.new.awaited ≡ inst_regs.old.awaited }
-        ensures later { OnOk result (AllAtOrAfter point self.new.edits) }
-        ensures long { OnOk result (length self.new.places.vreg_allocs ≡ length self.old.places.vreg_allocs) }
-        ensures machine { SameMachine (tables_of self.old) (tables_of self.new) }
-        ensures err { IfErr result (IsResourceErrorIn self.new.slots) }
+        ensures step { IsStepAt point result self.old self.new }
         ensures stops { IfErr result (OutOfRegsOnlyIf (AddMoveIfFails m.class is_made m.from m.to inst_regs.old (tables_of self.old))) }
         ensures registers { OnOk result (self.new.registers ≡ self.old.registers) }
     {
@@ -392,10 +380,7 @@ impl<'a, A: Allocator> State<'a, A> {
         requires vreg { vreg.number < length self.old.places.vreg_allocs }
         ensures ok { OnOk result (FreesDef point vreg is_ret place inst_regs.old inst_regs.new (tables_of self.old) (tables_of self.new)) }
         ensures awaited { inst_regs.new.awaited ≡ inst_regs.old.awaited }
-        ensures later { OnOk result (AllAtOrAfter point self.new.edits) }
-        ensures long { OnOk result (length self.new.places.vreg_allocs ≡ length self.old.places.vreg_allocs) }
-        ensures machine { SameMachine (tables_of self.old) (tables_of self.new) }
-        ensures err { IfErr result (IsResourceErrorIn self.new.slots) }
+        ensures step { IsStepAt point result self.old self.new }
         ensures stops { IfErr result (OutOfRegsOnlyIf (FreeDefFails point vreg is_ret place inst_regs.old (tables_of self.old))) }
         ensures registers { OnOk result (self.new.registers ≡ self.old.registers) }
     {
@@ -433,10 +418,7 @@ impl<'a, A: Allocator> State<'a, A> {
         requires later { AllAtOrAfter point self.old.edits }
         requires vreg { request.now.vreg.number < length self.old.places.vreg_allocs }
         ensures ok { IfOk result (λ p. AllocsDefOp point request.now is_ret p inst_regs.old inst_regs.new (tables_of self.old) (tables_of self.new)) }
-        ensures later { OnOk result (AllAtOrAfter point self.new.edits) }
-        ensures long { OnOk result (length self.new.places.vreg_allocs ≡ length self.old.places.vreg_allocs) }
-        ensures machine { SameMachine (tables_of self.old) (tables_of self.new) }
-        ensures err { IfErr result (IsResourceErrorIn self.new.slots) }
+        ensures step { IsStepAt point result self.old self.new }
         ensures stops { IfErr result (OutOfRegsOnlyIf (AllocDefOpFails point request.now is_ret inst_regs.old (tables_of self.old))) }
         ensures takes { IfOk result (λ p. request.now.requirement ≡ Requirement.AnyReg →
             AllocsAnyReg inst_regs.old request.now.vreg p (tables_of self.old) self.old.registers self.new.registers) }
@@ -456,10 +438,7 @@ impl<'a, A: Allocator> State<'a, A> {
         requires later { AllAtOrAfter point self.old.edits }
         requires vreg { request.now.vreg.number < length self.old.places.vreg_allocs }
         ensures ok { IfOk result (λ p. AllocsUse point request.now p inst_regs.old inst_regs.new (tables_of self.old) (tables_of self.new)) }
-        ensures later { OnOk result (AllAtOrAfter point self.new.edits) }
-        ensures long { OnOk result (length self.new.places.vreg_allocs ≡ length self.old.places.vreg_allocs) }
-        ensures machine { SameMachine (tables_of self.old) (tables_of self.new) }
-        ensures err { IfErr result (IsResourceErrorIn self.new.slots) }
+        ensures step { IsStepAt point result self.old self.new }
         ensures stops { IfErr result (OutOfRegsOnlyIf (AllocOperandFails request.now inst_regs.old (tables_of self.old))) }
         ensures takes { IfOk result (λ p. request.now.requirement ≡ Requirement.AnyReg →
             AllocsAnyReg inst_regs.old request.now.vreg p (tables_of self.old) self.old.registers self.new.registers) }

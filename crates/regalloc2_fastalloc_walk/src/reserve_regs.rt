@@ -6,9 +6,9 @@ ghost use Rattle.regalloc2_names.specs.RegisterSet.{has_register, registers_of};
 ghost use Rattle.regalloc2_fastalloc_state.specs.StateParts.{AllAtOrAfter};
 ghost use Rattle.regalloc2_fastalloc_state.specs.OutOfResources.{IsResourceErrorIn};
 ghost use Rattle.regalloc2_validate.specs.Constraints.{op_at};
-ghost use Rattle.regalloc2_fastalloc_proofs.specs.InstSteps.{SameMachine, NeedsFixedReg, ReservesRegs, RemovesClobbers, EvictsFixed, EvictsEach};
+ghost use Rattle.regalloc2_fastalloc_proofs.specs.InstSteps.{NeedsFixedReg, ReservesRegs, RemovesClobbers, EvictsFixed, EvictsEach};
 ghost use Rattle.regalloc2_fastalloc_proofs.specs.OutOfRegs.{OutOfRegsOnlyIf, EvictClobbersFails, EvictFixedFails, ReserveRegsFails};
-ghost use Rattle.regalloc2_fastalloc_walk.specs.StateView.{tables_of};
+ghost use Rattle.regalloc2_fastalloc_walk.specs.StateView.{IsStepAt, tables_of};
 ghost use Rattle.regalloc2_fastalloc_walk.specs.ReserveSteps.{AwaitsOne, ReservesOnly, IsNewlyReserved, IsReservedAt, IsReserved, Grows, Shrinks};
 ghost use Rattle.regalloc2_fastalloc_walk.specs.ReserveSteps.{ReservesRegForOperand, ReserveForOperandFails, TakesOnly};
 
@@ -243,10 +243,7 @@ impl<'a, A: Allocator> State<'a, A> {
         requires { AllAtOrAfter point self.old.edits }
         ensures ok { OnOk result (EvictsFixed point operands.now inst_regs.old (tables_of self.old) (length operands.now) inst_regs.new (tables_of self.new)) }
         ensures awaited { inst_regs.new.awaited ≡ inst_regs.old.awaited }
-        ensures later { OnOk result (AllAtOrAfter point self.new.edits) }
-        ensures long { OnOk result (length self.new.places.vreg_allocs ≡ length self.old.places.vreg_allocs) }
-        ensures machine { SameMachine (tables_of self.old) (tables_of self.new) }
-        ensures err { IfErr result (IsResourceErrorIn self.new.slots) }
+        ensures step { IsStepAt point result self.old self.new }
         ensures stops { IfErr result (OutOfRegsOnlyIf (EvictFixedFails point operands.now inst_regs.old (tables_of self.old))) }
         ensures registers { OnOk result (self.new.registers ≡ self.old.registers) }
     {
@@ -271,10 +268,7 @@ impl<'a, A: Allocator> State<'a, A> {
         requires { AllAtOrAfter point self.old.edits }
         ensures ok { OnOk result (EvictsEach point (registers_of clobbers) inst_regs.old (tables_of self.old) inst_regs.new (tables_of self.new)) }
         ensures awaited { inst_regs.new.awaited ≡ inst_regs.old.awaited }
-        ensures later { OnOk result (AllAtOrAfter point self.new.edits) }
-        ensures long { OnOk result (length self.new.places.vreg_allocs ≡ length self.old.places.vreg_allocs) }
-        ensures machine { SameMachine (tables_of self.old) (tables_of self.new) }
-        ensures err { IfErr result (IsResourceErrorIn self.new.slots) }
+        ensures step { IsStepAt point result self.old self.new }
         ensures stops { IfErr result (OutOfRegsOnlyIf (EvictClobbersFails point inst_regs.old (tables_of self.old))) }
         ensures registers { OnOk result (self.new.registers ≡ self.old.registers) }
     {

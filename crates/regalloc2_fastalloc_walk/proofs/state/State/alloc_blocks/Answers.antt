@@ -131,10 +131,10 @@ loop-b-preserved g c =
           (subst I same c.in_ok-alloc_block.ensures.ok) begins;
       blank = λ some k less. c.in_ok-alloc_block.ensures.no_places k
           (let e = ap (offset_of f) (joins some) in let h = ap (λ (n : ℕ). offset_of f (block_at f n).range.first) same in omega (arith, less, e, h));
-      later = λ some. subst N (first2 ∙ sym (joins some)) c.in_ok-reload_at_begin.ensures.later;
-      long = c.in_ok-reload_at_begin.ensures.long ∙ c.in_ok-alloc_block.ensures.long ∙ c.loop-b.invariant.long;
+      later = λ some. subst N (first2 ∙ sym (joins some)) c.in_ok-reload_at_begin.ensures.step.later;
+      long = c.in_ok-reload_at_begin.ensures.step.long ∙ c.in_ok-alloc_block.ensures.long ∙ c.loop-b.invariant.long;
       machine = lends_then (6 * (length f.blocks - c.loop-b.b)) 6 _ a t w (omega (arith, next, lt)) c.loop-b.invariant.machine
-          (lends_then 6 0 6 t u w (omega arith) c.alloc_block.ensures.machine (same_lends 0 u w c.reload_at_begin.ensures.machine));
+          (lends_then 6 0 6 t u w (omega arith) c.alloc_block.ensures.machine (same_lends 0 u w c.reload_at_begin.ensures.step.machine));
       begins = λ e. absurd (omega (arith, e, lt));
       spill_free = λ zero names few asks h.
           let whole : c.loop-b.b ≡ length f.blocks = omega (arith, next, zero, asks.one_block) in
@@ -173,7 +173,7 @@ returns-in_err-reload_at_begin-clause-machine g c =
     let w : StateValue = tables_of c.reload_at_begin.new.self in
     lends_then (6 * (length f.blocks - c.loop-b.b)) 6 _ (tables_of c.args.self.now) t w (omega (arith, c.loop-b-test.true, c.loop-b.invariant.within))
     c.loop-b.invariant.machine
-    (lends_then 6 0 6 t u w (omega arith) c.alloc_block.ensures.machine (same_lends 0 u w c.reload_at_begin.ensures.machine))
+    (lends_then 6 0 6 t u w (omega arith) c.alloc_block.ensures.machine (same_lends 0 u w c.reload_at_begin.ensures.step.machine))
 
 pub returns-in_err-alloc_block-clause-err : goal.returns-in_err-alloc_block-clause-err
 returns-in_err-alloc_block-clause-err g c =
@@ -197,8 +197,8 @@ returns-in_err-reload_at_begin-clause-err g c =
     rw p.1 (subst (IsResourceError (SlotsExhaustedWith a.slots (a.slots.num_temp_slots + most))) (sym p.2)
     (lack_all most most a w
     (lends_then (6 * (length f.blocks - c.loop-b.b)) 6 most a t w (omega (arith, c.loop-b-test.true, c.loop-b.invariant.within)) c.loop-b.invariant.machine
-    (lends_then 6 0 6 t u w (omega arith) c.alloc_block.ensures.machine (same_lends 0 u w c.reload_at_begin.ensures.machine)))
-    (omega arith) _ c.in_err-reload_at_begin.ensures.err))
+    (lends_then 6 0 6 t u w (omega arith) c.alloc_block.ensures.machine (same_lends 0 u w c.reload_at_begin.ensures.step.machine)))
+    (omega arith) _ c.in_err-reload_at_begin.ensures.step.err))
 
 pub returns-clause-ok : goal.returns-clause-ok
 returns-clause-ok g c =

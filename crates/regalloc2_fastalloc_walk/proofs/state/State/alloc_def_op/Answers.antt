@@ -1,6 +1,5 @@
 use Rattle.std.proofs.Common.{sym, ◌∙◌}
 use Rattle.std.proofs.lemmas.Result.{err_from_is_err_and}
-use Rattle.regalloc2_fastalloc_proofs.specs.OutOfRegs.{AllocDefOpFails}
 use Rattle.regalloc2_fastalloc_proofs.specs.OutOfRegs.AllocDefOpFails.{in_get, in_define}
 use Rattle.regalloc2_fastalloc_walk.specs.StateView.{tables_of}
 use Rattle.std.proofs.Common.{subst}

@@ -1,5 +1,4 @@
 use Rattle.std.proofs.Common.{ℕ, ◌≡◌, true, false, List, length, refl, sym, ap, ◌∙◌, subst, rules, arith, slice_index}
-use Rattle.regalloc2_names.specs.declared.RegClass.{RegClass}
 use Rattle.regalloc2_names.specs.Register.{class_code}
 use Rattle.regalloc2_names.specs.RegisterSet.{registers_of}
 use Rattle.regalloc2_names.specs.Point.{before, after}
@@ -9,6 +8,7 @@ use Rattle.regalloc2_fastalloc_proofs.specs.InstSteps.{StateValue, EvictsFixed, 
 use Rattle.regalloc2_fastalloc_proofs.specs.OutOfRegs.{PreparesRegs, EvictFixedFails, EvictClobbersFails, MoveUsesFails, in_reserve, in_fixed, in_clobbers}
 use Rattle.regalloc2_fastalloc_proofs.specs.OutOfRegs.{in_lates, in_earlies, in_moves}
 use Rattle.std.proofs.lemmas.Result.{err_from_is_err_and}
+use Rattle.regalloc2_fastalloc_walk.proofs.Steps.{fails_with, step_then_fails}
 use Rattle.regalloc2_fastalloc_walk.specs.StateView.{tables_of}
 use Rattle.regalloc2_fastalloc_proofs.proofs.Evictions.PushedAndRemoved.{same_of, same_then}
 use Rattle.regalloc2_validate.specs.Constraints.{op_at}
@@ -33,12 +33,12 @@ process_operands_at-requires g c =
     let same : tables_of c.remove_clobbers_from_available_pregs.new.self ≡ tables_of c.args.self.now = c.remove_clobbers_from_available_pregs.ensures.same
     ∙ c.reserve.ensures.same in
     let long : length c.evict_clobbers.new.self.places.vreg_allocs ≡ length c.args.self.now.places.vreg_allocs =
-    c.in_ok-evict_clobbers.ensures.long ∙ c.in_ok-evict_fixed.ensures.long ∙ ap (λ (t : StateValue). length t.places.vreg_allocs) same in (
+    c.in_ok-evict_clobbers.ensures.step.long ∙ c.in_ok-evict_fixed.ensures.step.long ∙ ap (λ (t : StateValue). length t.places.vreg_allocs) same in (
       search rules,
       (
         c.requires.inst,
         (
-          subst (λ (p : ℕ). AllAtOrAfter p c.evict_clobbers.new.self.edits) at c.in_ok-evict_clobbers.ensures.later,
+          subst (λ (p : ℕ). AllAtOrAfter p c.evict_clobbers.new.self.edits) at c.in_ok-evict_clobbers.ensures.step.later,
           (λ k lt f. let w = c.requires.in_tables k lt f in omega (arith, w, long), c.requires.here_long),
         ),
       ),
@@ -49,13 +49,13 @@ process_operands_at-requires-2 g c =
     let same : tables_of c.remove_clobbers_from_available_pregs.new.self ≡ tables_of c.args.self.now = c.remove_clobbers_from_available_pregs.ensures.same
     ∙ c.reserve.ensures.same in
     let long : length c.process_operands_at.new.self.places.vreg_allocs ≡ length c.args.self.now.places.vreg_allocs =
-    c.in_ok-process_operands_at.ensures.long ∙ c.in_ok-evict_clobbers.ensures.long ∙ c.in_ok-evict_fixed.ensures.long
+    c.in_ok-process_operands_at.ensures.step.long ∙ c.in_ok-evict_clobbers.ensures.step.long ∙ c.in_ok-evict_fixed.ensures.step.long
     ∙ ap (λ (t : StateValue). length t.places.vreg_allocs) same in (
       search rules,
       (
         c.requires.inst,
         (
-          c.in_ok-process_operands_at.ensures.later,
+          c.in_ok-process_operands_at.ensures.step.later,
           (
             λ k lt f. let w = c.requires.in_tables k lt f in omega (arith, w, long),
             c.process_operands_at.auto.here ∙ c.requires.here_long,
@@ -70,11 +70,11 @@ move_uses-requires g c =
     let same : tables_of c.remove_clobbers_from_available_pregs.new.self ≡ tables_of c.args.self.now = c.remove_clobbers_from_available_pregs.ensures.same
     ∙ c.reserve.ensures.same in
     let long : length c.process_operands_at-2.new.self.places.vreg_allocs ≡ length c.args.self.now.places.vreg_allocs =
-    c.in_ok-process_operands_at-2.ensures.long ∙ c.in_ok-process_operands_at.ensures.long ∙ c.in_ok-evict_clobbers.ensures.long
-    ∙ c.in_ok-evict_fixed.ensures.long ∙ ap (λ (t : StateValue). length t.places.vreg_allocs) same in (
+    c.in_ok-process_operands_at-2.ensures.step.long ∙ c.in_ok-process_operands_at.ensures.step.long ∙ c.in_ok-evict_clobbers.ensures.step.long
+    ∙ c.in_ok-evict_fixed.ensures.step.long ∙ ap (λ (t : StateValue). length t.places.vreg_allocs) same in (
       search rules,
       (
-        λ k d lt. let w = c.in_ok-process_operands_at-2.ensures.later k d lt in omega (arith, w, at),
+        λ k d lt. let w = c.in_ok-process_operands_at-2.ensures.step.later k d lt in omega (arith, w, at),
         (
           λ k lt f. let w = c.requires.in_tables k lt f in omega (arith, w, long),
           c.process_operands_at-2.auto.here ∙ c.process_operands_at.auto.here
@@ -130,48 +130,53 @@ returns-clause-ok g c =
       refl,
     )
 
-pub returns-clause-later : goal.returns-clause-later
-returns-clause-later g c =
-    let early : c.before-2.result ≡ before c.args.cx.now.inst = c.before-2.ensures.point (λ e. omega (arith, c.requires.inst)) in
-    subst (λ (p : ℕ). AllAtOrAfter p c.move_uses.new.self.edits) early c.in_ok-move_uses.ensures.later
-
 -- the machine stays, wherever the walk stops
-pub returns-in_err-reserve-clause-machine : goal.returns-in_err-reserve-clause-machine
-returns-in_err-reserve-clause-machine g c = same_of _ _ c.reserve.ensures.same
+pub returns-in_err-reserve-clause-step : goal.returns-in_err-reserve-clause-step
+returns-in_err-reserve-clause-step g c =
+    let e = err_from_is_err_and c.from_residual.result c.from_residual.ensures.1 in
+    fails_with c.from_residual.result c.args.self.now c.reserve.new.self e.1 e.2 (same_of _ _ c.reserve.ensures.same) c.in_err-reserve.ensures.err
 
-pub returns-in_err-evict_fixed-clause-machine : goal.returns-in_err-evict_fixed-clause-machine
-returns-in_err-evict_fixed-clause-machine g c = same_then _ _ _ (same_of _ _ (c.remove_clobbers_from_available_pregs.ensures.same ∙ c.reserve.ensures.same))
-    c.evict_fixed.ensures.machine
+pub returns-in_err-evict_fixed-clause-step : goal.returns-in_err-evict_fixed-clause-step
+returns-in_err-evict_fixed-clause-step g c =
+    let e = err_from_is_err_and c.from_residual-in_err-evict_fixed.result c.from_residual-in_err-evict_fixed.ensures.1 in
+    step_then_fails c.from_residual-in_err-evict_fixed.result c.args.self.now c.remove_clobbers_from_available_pregs.new.self c.evict_fixed.new.self e.1 e.2
+    (same_of _ _ (c.remove_clobbers_from_available_pregs.ensures.same ∙ c.reserve.ensures.same)) c.in_err-evict_fixed.ensures.step
 
-pub returns-in_err-evict_clobbers-clause-machine : goal.returns-in_err-evict_clobbers-clause-machine
-returns-in_err-evict_clobbers-clause-machine g c =
-    same_then _ _ _ (same_then _ _ _ (same_of _ _ (c.remove_clobbers_from_available_pregs.ensures.same ∙ c.reserve.ensures.same)) c.evict_fixed.ensures.machine)
-    c.evict_clobbers.ensures.machine
+pub returns-in_err-evict_clobbers-clause-step : goal.returns-in_err-evict_clobbers-clause-step
+returns-in_err-evict_clobbers-clause-step g c =
+    let e = err_from_is_err_and c.from_residual-in_err-evict_clobbers.result c.from_residual-in_err-evict_clobbers.ensures.1 in
+    step_then_fails c.from_residual-in_err-evict_clobbers.result c.args.self.now c.evict_fixed.new.self c.evict_clobbers.new.self e.1 e.2
+    (same_then _ _ _ (same_of _ _ (c.remove_clobbers_from_available_pregs.ensures.same ∙ c.reserve.ensures.same)) c.evict_fixed.ensures.step.machine) c.in_err-evict_clobbers.ensures.step
 
-pub returns-in_err-process_operands_at-clause-machine : goal.returns-in_err-process_operands_at-clause-machine
-returns-in_err-process_operands_at-clause-machine g c = same_then _ _ _
-    (same_then _ _ _ (same_then _ _ _ (same_of _ _ (c.remove_clobbers_from_available_pregs.ensures.same ∙ c.reserve.ensures.same))
-    c.evict_fixed.ensures.machine) c.evict_clobbers.ensures.machine) c.process_operands_at.ensures.machine
+pub returns-in_err-process_operands_at-clause-step : goal.returns-in_err-process_operands_at-clause-step
+returns-in_err-process_operands_at-clause-step g c =
+    let e = err_from_is_err_and c.from_residual-in_err-process_operands_at.result c.from_residual-in_err-process_operands_at.ensures.1 in
+    step_then_fails c.from_residual-in_err-process_operands_at.result c.args.self.now c.evict_clobbers.new.self c.process_operands_at.new.self e.1 e.2
+    (same_then _ _ _ (same_then _ _ _ (same_of _ _ (c.remove_clobbers_from_available_pregs.ensures.same ∙ c.reserve.ensures.same)) c.evict_fixed.ensures.step.machine) c.evict_clobbers.ensures.step.machine) c.in_err-process_operands_at.ensures.step
 
-pub returns-in_err-process_operands_at-2-clause-machine : goal.returns-in_err-process_operands_at-2-clause-machine
-returns-in_err-process_operands_at-2-clause-machine g c = same_then _ _ _
-    (same_then _ _ _ (same_then _ _ _ (same_then _ _ _ (same_of _ _ (c.remove_clobbers_from_available_pregs.ensures.same ∙ c.reserve.ensures.same))
-    c.evict_fixed.ensures.machine) c.evict_clobbers.ensures.machine) c.process_operands_at.ensures.machine) c.process_operands_at-2.ensures.machine
+pub returns-in_err-process_operands_at-2-clause-step : goal.returns-in_err-process_operands_at-2-clause-step
+returns-in_err-process_operands_at-2-clause-step g c =
+    let e = err_from_is_err_and c.from_residual-in_err-process_operands_at-2.result c.from_residual-in_err-process_operands_at-2.ensures.1 in
+    step_then_fails c.from_residual-in_err-process_operands_at-2.result c.args.self.now c.process_operands_at.new.self c.process_operands_at-2.new.self e.1 e.2
+    (same_then _ _ _ (same_then _ _ _ (same_then _ _ _ (same_of _ _ (c.remove_clobbers_from_available_pregs.ensures.same ∙ c.reserve.ensures.same)) c.evict_fixed.ensures.step.machine) c.evict_clobbers.ensures.step.machine) c.process_operands_at.ensures.step.machine) c.in_err-process_operands_at-2.ensures.step
 
-pub returns-in_err-move_uses-clause-machine : goal.returns-in_err-move_uses-clause-machine
-returns-in_err-move_uses-clause-machine g c =
-    same_then _ _ _
-    (same_then _ _ _
-    (same_then _ _ _ (same_then _ _ _ (same_then _ _ _ (same_of _ _ (c.remove_clobbers_from_available_pregs.ensures.same ∙ c.reserve.ensures.same))
-    c.evict_fixed.ensures.machine) c.evict_clobbers.ensures.machine) c.process_operands_at.ensures.machine) c.process_operands_at-2.ensures.machine)
-    c.move_uses.ensures.machine
+pub returns-in_err-move_uses-clause-step : goal.returns-in_err-move_uses-clause-step
+returns-in_err-move_uses-clause-step g c =
+    let e = err_from_is_err_and c.from_residual-in_err-move_uses.result c.from_residual-in_err-move_uses.ensures.1 in
+    step_then_fails c.from_residual-in_err-move_uses.result c.args.self.now c.process_operands_at-2.new.self c.move_uses.new.self e.1 e.2
+    (same_then _ _ _ (same_then _ _ _ (same_then _ _ _ (same_then _ _ _ (same_of _ _ (c.remove_clobbers_from_available_pregs.ensures.same ∙ c.reserve.ensures.same)) c.evict_fixed.ensures.step.machine) c.evict_clobbers.ensures.step.machine) c.process_operands_at.ensures.step.machine) c.process_operands_at-2.ensures.step.machine) c.in_err-move_uses.ensures.step
 
-pub returns-clause-machine : goal.returns-clause-machine
-returns-clause-machine g c = same_then _ _ _
-    (same_then _ _ _
-    (same_then _ _ _ (same_then _ _ _ (same_then _ _ _ (same_of _ _ (c.remove_clobbers_from_available_pregs.ensures.same ∙ c.reserve.ensures.same))
-    c.evict_fixed.ensures.machine) c.evict_clobbers.ensures.machine) c.process_operands_at.ensures.machine) c.process_operands_at-2.ensures.machine)
-    c.move_uses.ensures.machine
+pub returns-clause-step : goal.returns-clause-step
+returns-clause-step g c =
+    let early : c.before-2.result ≡ before c.args.cx.now.inst = c.before-2.ensures.point (λ e. omega (arith, c.requires.inst)) in
+    let same : tables_of c.remove_clobbers_from_available_pregs.new.self ≡ tables_of c.args.self.now = c.remove_clobbers_from_available_pregs.ensures.same ∙ c.reserve.ensures.same in
+    record {
+      machine = (same_then _ _ _ (same_then _ _ _ (same_then _ _ _ (same_then _ _ _ (same_then _ _ _ (same_of _ _ (c.remove_clobbers_from_available_pregs.ensures.same ∙ c.reserve.ensures.same)) c.evict_fixed.ensures.step.machine) c.evict_clobbers.ensures.step.machine) c.process_operands_at.ensures.step.machine) c.process_operands_at-2.ensures.step.machine) c.move_uses.ensures.step.machine);
+      later = subst (λ (p : ℕ). AllAtOrAfter p c.move_uses.new.self.edits) early c.in_ok-move_uses.ensures.step.later;
+      long = c.in_ok-move_uses.ensures.step.long ∙ c.in_ok-process_operands_at-2.ensures.step.long ∙ c.in_ok-process_operands_at.ensures.step.long
+          ∙ c.in_ok-evict_clobbers.ensures.step.long ∙ c.in_ok-evict_fixed.ensures.step.long ∙ ap (λ (t : StateValue). length t.places.vreg_allocs) same;
+      err = search rules;
+    }
 
 -- where an instruction stops
 pub returns-in_err-reserve-clause-stops : goal.returns-in_err-reserve-clause-stops

@@ -11,13 +11,11 @@ use Rattle.regalloc2_fastalloc_proofs.specs.BranchSteps.{ProcessesBranch}
 use Rattle.regalloc2_fastalloc_state.specs.OutOfResources.{IsResourceError, SlotsExhaustedWith}
 use Rattle.regalloc2_fastalloc_proofs.specs.InstSteps.{StateValue, InTables}
 use Rattle.regalloc2_fastalloc_proofs.specs.OutOfRegs.{AllocInstFails, ProcessBranchFails, in_inst, in_pass}
-use Rattle.regalloc2_names.specs.Place.{Place}
 use Rattle.regalloc2_fastalloc_walk.specs.StateView.{tables_of}
 use Rattle.regalloc2_fastalloc_proofs.specs.BlockSteps.{AllocsInstInto, offset_of, temp_slots_at}
 use Rattle.regalloc2_fastalloc_proofs.proofs.Safety.StateKept.{same_lends, lends_then, apart_kept, ends_in_branch, lack_all, lacks_all, lent_six, to_inst}
 use Rattle.regalloc2_fastalloc_proofs.proofs.Walk.UsesReadOwnDefs.{all_in_tables}
 use Rattle.regalloc2_fastalloc_proofs.proofs.Branches.WellFormedMayBranch.{may_pass, parameters_differ}
-use Rattle.regalloc2_names.specs.Register.{VirtualRegister}
 use Rattle.regalloc2_semantics.specs.Blocks.{target_at}
 use Rattle.regalloc2_fastalloc_state.specs.StateParts.{AllocatableRegsValue}
 use Rattle.regalloc2_fastalloc_proofs.specs.BlockSteps.{IsFresh}
@@ -119,14 +117,14 @@ process_branch-requires g c =
             (
               omega (arith, few, c.requires.inst),
               (
-                c.in_ok-alloc_inst_at.ensures.later,
+                c.in_ok-alloc_inst_at.ensures.step.later,
                 (
                   may_pass env f c.requires.well_formed.1 c.args.block c.requires.block (tables_of c.alloc_inst_at.new.self)
-                      (c.in_ok-alloc_inst_at.ensures.long ∙ c.requires.long),
+                      (c.in_ok-alloc_inst_at.ensures.step.long ∙ c.requires.long),
                   (
                     parameters_differ env f c.requires.well_formed.1 c.args.block c.requires.block,
                     apart_kept 0 (tables_of c.args.self.now) (tables_of c.alloc_inst_at.new.self)
-                        (same_lends 0 (tables_of c.args.self.now) (tables_of c.alloc_inst_at.new.self) c.alloc_inst_at.ensures.machine) c.requires.apart,
+                        (same_lends 0 (tables_of c.args.self.now) (tables_of c.alloc_inst_at.new.self) c.alloc_inst_at.ensures.step.machine) c.requires.apart,
                   ),
                 ),
               ),
@@ -138,10 +136,10 @@ process_branch-requires g c =
 
 -- the machine stays but for the temporary slots of a branch
 pub returns-in_err-alloc_inst_at-clause-machine : goal.returns-in_err-alloc_inst_at-clause-machine
-returns-in_err-alloc_inst_at-clause-machine g c = same_lends _ (tables_of c.args.self.now) (tables_of c.alloc_inst_at.new.self) c.alloc_inst_at.ensures.machine
+returns-in_err-alloc_inst_at-clause-machine g c = same_lends _ (tables_of c.args.self.now) (tables_of c.alloc_inst_at.new.self) c.alloc_inst_at.ensures.step.machine
 
 pub returns-then-not-is_branch-clause-machine : goal.returns-then-not-is_branch-clause-machine
-returns-then-not-is_branch-clause-machine g c = same_lends _ (tables_of c.args.self.now) (tables_of c.alloc_inst_at.new.self) c.alloc_inst_at.ensures.machine
+returns-then-not-is_branch-clause-machine g c = same_lends _ (tables_of c.args.self.now) (tables_of c.alloc_inst_at.new.self) c.alloc_inst_at.ensures.step.machine
 
 pub returns-in_err-process_branch-clause-machine : goal.returns-in_err-process_branch-clause-machine
 returns-in_err-process_branch-clause-machine g c =
@@ -149,7 +147,7 @@ returns-in_err-process_branch-clause-machine g c =
     let a : StateValue = tables_of c.args.self.now in
     let m : StateValue = tables_of c.alloc_inst_at.new.self in
     lends_then 0 6 (temp_slots_at (g.F.Function.function c.args.f.now) c.args.inst) a m (tables_of c.process_branch.new.self) (omega (arith, few))
-    (same_lends 0 a m c.alloc_inst_at.ensures.machine) c.process_branch.ensures.machine
+    (same_lends 0 a m c.alloc_inst_at.ensures.step.machine) c.process_branch.ensures.machine
 
 pub returns-clause-machine : goal.returns-clause-machine
 returns-clause-machine g c =
@@ -157,7 +155,7 @@ returns-clause-machine g c =
     let a : StateValue = tables_of c.args.self.now in
     let m : StateValue = tables_of c.alloc_inst_at.new.self in
     lends_then 0 6 (temp_slots_at (g.F.Function.function c.args.f.now) c.args.inst) a m (tables_of c.process_branch.new.self) (omega (arith, few))
-    (same_lends 0 a m c.alloc_inst_at.ensures.machine) c.process_branch.ensures.machine
+    (same_lends 0 a m c.alloc_inst_at.ensures.step.machine) c.process_branch.ensures.machine
 
 pub returns-in_err-alloc_inst_at-clause-err : goal.returns-in_err-alloc_inst_at-clause-err
 returns-in_err-alloc_inst_at-clause-err g c =
@@ -166,7 +164,7 @@ returns-in_err-alloc_inst_at-clause-err g c =
     let m : StateValue = tables_of c.alloc_inst_at.new.self in
     let p = err_from_is_err_and c.from_residual.result c.from_residual.ensures.1 in
     rw p.1 (subst (IsResourceError (SlotsExhaustedWith a.slots (a.slots.num_temp_slots + n))) (sym p.2)
-    (lack_all 0 n a m (same_lends 0 a m c.alloc_inst_at.ensures.machine) (omega arith) _ c.in_err-alloc_inst_at.ensures.err))
+    (lack_all 0 n a m (same_lends 0 a m c.alloc_inst_at.ensures.step.machine) (omega arith) _ c.in_err-alloc_inst_at.ensures.step.err))
 
 pub returns-in_err-process_branch-clause-err : goal.returns-in_err-process_branch-clause-err
 returns-in_err-process_branch-clause-err g c =
@@ -176,7 +174,7 @@ returns-in_err-process_branch-clause-err g c =
     let m : StateValue = tables_of c.alloc_inst_at.new.self in
     let p = err_from_is_err_and c.from_residual-in_err-process_branch.result c.from_residual-in_err-process_branch.ensures.1 in
     rw p.1 (subst (IsResourceError (SlotsExhaustedWith a.slots (a.slots.num_temp_slots + n))) (sym p.2)
-    (lacks_all 0 6 n a m (same_lends 0 a m c.alloc_inst_at.ensures.machine) (omega (arith, few)) _ c.in_err-process_branch.ensures.err))
+    (lacks_all 0 6 n a m (same_lends 0 a m c.alloc_inst_at.ensures.step.machine) (omega (arith, few)) _ c.in_err-process_branch.ensures.err))
 
 -- where it stops
 pub returns-in_err-alloc_inst_at-clause-stops : goal.returns-in_err-alloc_inst_at-clause-stops

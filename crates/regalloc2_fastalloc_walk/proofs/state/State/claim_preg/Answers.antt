@@ -1,8 +1,9 @@
 use Rattle.std.proofs.Common.{◌≡◌, refl, sym, subst}
 use Rattle.std.specs.Prelude.{None}
 use Rattle.regalloc2_names.specs.Place.{NoPlace}
-use Rattle.regalloc2_fastalloc_state.specs.StateParts.{AllAtOrAfter, vreg_of_preg, alloc_of}
+use Rattle.regalloc2_fastalloc_state.specs.StateParts.{vreg_of_preg, alloc_of}
 use Rattle.regalloc2_fastalloc_proofs.specs.InstSteps.{StateValue, EvictsOthers, in_register}
+use Rattle.regalloc2_fastalloc_walk.proofs.Steps.{step_same}
 use Rattle.regalloc2_fastalloc_walk.specs.StateView.{tables_of}
 use Rattle.regalloc2_fastalloc_state.specs.StateParts.{AllocatableRegsValue}
 use Rattle.regalloc2_fastalloc_walk.specs.SpillFree.{Pokes}
@@ -20,10 +21,8 @@ returns-clause-alone g c =
     let P : StateValue → Type 0 = λ t. alloc_of t.places c.args.request.now.vreg.number ≡ NoPlace → vreg_of_preg t.places c.args.preg ≡ None in
     subst P (sym c.note_taken.ensures.tables) c.in_ok-evict_others.ensures.alone
 
-pub returns-clause-later : goal.returns-clause-later
-returns-clause-later g c =
-    let P : StateValue → Type 0 = λ t. AllAtOrAfter c.args.point t.edits in
-    subst P (sym c.note_taken.ensures.tables) c.in_ok-evict_others.ensures.later
+pub returns-clause-step : goal.returns-clause-step
+returns-clause-step g c = step_same _ c.args.self.now c.evict_others.new.self c.note_taken.new.self c.note_taken.ensures.tables c.in_ok-evict_others.ensures.step
 
 pub returns-clause-order : goal.returns-clause-order
 returns-clause-order g c = λ any. subst (λ (r : AllocatableRegsValue). Pokes c.args.preg r c.note_taken.new.self.registers)

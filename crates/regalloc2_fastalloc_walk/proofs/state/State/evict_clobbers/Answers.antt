@@ -26,9 +26,9 @@ loop-preg-preserved g c = record {
       (tables_of c.args.self.now) (tables_of c.loop-preg.self) (tables_of c.evict_preg.new.self)
       c.loop-preg.invariant.cleared c.in_ok-evict_preg.ensures.ok;
   awaited = c.evict_preg.ensures.awaited ∙ c.loop-preg.invariant.awaited;
-  later = c.in_ok-evict_preg.ensures.later;
-  long = c.in_ok-evict_preg.ensures.long ∙ c.loop-preg.invariant.long;
-  machine = (let a = c.loop-preg.invariant.machine in let b = c.in_ok-evict_preg.ensures.machine in
+  later = c.in_ok-evict_preg.ensures.step.later;
+  long = c.in_ok-evict_preg.ensures.step.long ∙ c.loop-preg.invariant.long;
+  machine = (let a = c.loop-preg.invariant.machine in let b = c.in_ok-evict_preg.ensures.step.machine in
       record {
         allocatable = b.allocatable ∙ a.allocatable;
         fixed_stack = b.fixed_stack ∙ a.fixed_stack;

@@ -39,9 +39,9 @@ loop-k-preserved g c =
             cleared = of_fixed k w.in-Some.preg c.loop-k.inst_regs w.evict_others.new.inst_regs m n h.cleared (asks ∙ w.in-Some.ensures.some)
                 (subst P (read_vreg ops k o w.vreg.result c.loop-k-test.true c.index-operands-k.is w.vreg.ensures) w.in_ok-evict_others.ensures.ok);
             awaited = w.evict_others.ensures.awaited ∙ h.awaited;
-            later = w.in_ok-evict_others.ensures.later;
-            long = w.in_ok-evict_others.ensures.long ∙ h.long;
-            machine = machine_then begin m n h.machine w.in_ok-evict_others.ensures.machine;
+            later = w.in_ok-evict_others.ensures.step.later;
+            long = w.in_ok-evict_others.ensures.step.long ∙ h.long;
+            machine = machine_then begin m n h.machine w.in_ok-evict_others.ensures.step.machine;
             registers = w.in_ok-evict_others.ensures.registers ∙ h.registers;
           })
       | in_default+in-Some-reused_register+in_ok-evict_preg w ↦ rw (w.self-is, w.inst_regs-is) (
@@ -51,9 +51,9 @@ loop-k-preserved g c =
             cleared = of_reuse k named.0 w.in-Some-reused_register.preg c.loop-k.inst_regs w.evict_preg.new.inst_regs m n h.cleared (asks ∙ named.1) named.2
                 named.3 w.in_ok-evict_preg.ensures.ok;
             awaited = w.evict_preg.ensures.awaited ∙ h.awaited;
-            later = w.in_ok-evict_preg.ensures.later;
-            long = w.in_ok-evict_preg.ensures.long ∙ h.long;
-            machine = machine_then begin m n h.machine w.in_ok-evict_preg.ensures.machine;
+            later = w.in_ok-evict_preg.ensures.step.later;
+            long = w.in_ok-evict_preg.ensures.step.long ∙ h.long;
+            machine = machine_then begin m n h.machine w.in_ok-evict_preg.ensures.step.machine;
             registers = w.in_ok-evict_preg.ensures.registers ∙ h.registers;
           })
       | in_default+in_default-reused_register w ↦ rw (w.self-is, w.inst_regs-is) (record {

@@ -86,9 +86,9 @@ loop-k-preserved g c =
             c.branch_blockparams-arguments.result.now (arguments_at f c.args.block k)
             c.loop-k.inst_regs c.gather_edge.new.inst_regs m n x.0 y.0 at ps xs y.2),
       );
-      later = subst (λ (p : ℕ). AllAtOrAfter p c.gather_edge.new.self.edits) at c.in_ok-gather_edge.ensures.later;
-      long = c.in_ok-gather_edge.ensures.long ∙ c.loop-k.invariant.long;
-      machine = same_then (tables_of c.args.self.now) m n c.loop-k.invariant.machine c.gather_edge.ensures.machine;
+      later = subst (λ (p : ℕ). AllAtOrAfter p c.gather_edge.new.self.edits) at c.in_ok-gather_edge.ensures.step.later;
+      long = c.in_ok-gather_edge.ensures.step.long ∙ c.loop-k.invariant.long;
+      machine = same_then (tables_of c.args.self.now) m n c.loop-k.invariant.machine c.gather_edge.ensures.step.machine;
       registers = c.in_ok-gather_edge.ensures.registers ∙ c.loop-k.invariant.registers;
     }
 

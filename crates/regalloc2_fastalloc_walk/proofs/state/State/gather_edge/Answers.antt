@@ -90,8 +90,8 @@ loop-j-preserved g c =
                 (subst (λ (v : VirtualRegister). SpillsArgument c.args.point v from c.loop-j.inst_regs c.spill_argument.new.inst_regs n o) argument
                 c.in_ok-from.ensures.ok),
           );
-      later = c.in_ok-from.ensures.later;
-      long = c.in_ok-from.ensures.long ∙ c.loop-j.invariant.long;
+      later = c.in_ok-from.ensures.step.later;
+      long = c.in_ok-from.ensures.step.long ∙ c.loop-j.invariant.long;
       machine = same_then (tables_of c.args.self.now) n o
           (same_then (tables_of c.args.self.now) m n c.loop-j.invariant.machine
           (record {
@@ -102,7 +102,7 @@ loop-j-preserved g c =
             vregs = c.get_spillslot.ensures.vregs;
             num_temp_slots = c.get_spillslot.ensures.num_temp_slots;
           }))
-          c.spill_argument.ensures.machine;
+          c.spill_argument.ensures.step.machine;
       registers = c.in_ok-from.ensures.registers ∙ c.loop-j.invariant.registers;
     }
 

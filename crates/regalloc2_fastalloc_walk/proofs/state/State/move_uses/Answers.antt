@@ -59,10 +59,10 @@ loop-k-preserved g c =
             one_moved k c.loop-k.inst_regs w.move_use.new.inst_regs (tables_of c.loop-k.self) (tables_of w.move_use.new.self) c.loop-k.invariant.done
             (kind ∙ w.if-is_reading.true)
             (subst (S (op_at ops k)) place (subst (λ (o : OperandValue). S o w.index-here-k.result) again w.in_ok-move_use.ensures.ok)));
-        later = w.in_ok-move_use.ensures.later;
-        long = w.in_ok-move_use.ensures.long ∙ c.loop-k.invariant.long;
+        later = w.in_ok-move_use.ensures.step.later;
+        long = w.in_ok-move_use.ensures.step.long ∙ c.loop-k.invariant.long;
         machine = same_then (tables_of c.args.self.now) (tables_of c.loop-k.self) (tables_of w.move_use.new.self) c.loop-k.invariant.machine
-            w.in_ok-move_use.ensures.machine;
+            w.in_ok-move_use.ensures.step.machine;
         registers = w.in_ok-move_use.ensures.registers ∙ c.loop-k.invariant.registers;
       })
       | else-is_reading w ↦ rw (w.self-is, w.inst_regs-is) (record {

@@ -39,8 +39,8 @@ push_gathered-requires g c =
           (
             each Vector c.in_ok-moves.moves.vector x.1.vector,
             (
-              apart_lent 0 old m (lends_none old m c.gather.ensures.machine) c.requires.apart,
-              subst (λ (p : ℕ). AllAtOrAfter p c.gather.new.self.edits) (sym at) c.in_ok-moves.ensures.later,
+              apart_lent 0 old m (lends_none old m c.gather.ensures.step.machine) c.requires.apart,
+              subst (λ (p : ℕ). AllAtOrAfter p c.gather.new.self.edits) (sym at) c.in_ok-moves.ensures.step.later,
             ),
           ),
         ),
@@ -80,7 +80,7 @@ returns-clause-long g c =
     pushes_long p u Vector c.in_ok-moves.moves.vector y.after_floats (tables_of c.push_gathered.new.self) y.vector
     ∙ pushes_long p u Float c.in_ok-moves.moves.float y.after_ints y.after_floats y.float
     ∙ pushes_long p u Int c.in_ok-moves.moves.int (tables_of c.gather.new.self) y.after_ints y.int
-    ∙ c.in_ok-moves.ensures.long
+    ∙ c.in_ok-moves.ensures.step.long
 
 -- what is lacking, wherever it stops
 pub returns-in_err-moves-clause-err : goal.returns-in_err-moves-clause-err
@@ -90,8 +90,8 @@ returns-in_err-moves-clause-err g c =
     let p = err_from_is_err_and c.from_residual.result c.from_residual.ensures.1 in
     let Full : Type 0 = SlotsExhaustedWith old.slots (old.slots.num_temp_slots + 6) in
     rw p.1 (subst (IsResourceError Full) (sym p.2)
-    (lacks_then (SlotsExhausted b.slots) Full (full_before 0 b.slots.num_temp_slots 6 old b (lends_none old b c.gather.ensures.machine) (omega arith)) _
-    c.in_err-moves.ensures.err))
+    (lacks_then (SlotsExhausted b.slots) Full (full_before 0 b.slots.num_temp_slots 6 old b (lends_none old b c.gather.ensures.step.machine) (omega arith)) _
+    c.in_err-moves.ensures.step.err))
 
 pub returns-in_err-push_gathered-clause-err : goal.returns-in_err-push_gathered-clause-err
 returns-in_err-push_gathered-clause-err g c =
@@ -101,7 +101,7 @@ returns-in_err-push_gathered-clause-err g c =
     let Full : Type 0 = SlotsExhaustedWith old.slots (old.slots.num_temp_slots + 6) in
     rw p.1 (subst (IsResourceError Full) (sym p.2)
     (lacks_then (SlotsExhaustedWith b.slots (b.slots.num_temp_slots + 6)) Full
-    (full_before 0 (b.slots.num_temp_slots + 6) 6 old b (lends_none old b c.gather.ensures.machine) (omega arith)) _ c.in_err-push_gathered.ensures.err))
+    (full_before 0 (b.slots.num_temp_slots + 6) 6 old b (lends_none old b c.gather.ensures.step.machine) (omega arith)) _ c.in_err-push_gathered.ensures.err))
 
 -- moves of a class that has no register
 pub returns-in_err-push_gathered-clause-stops : goal.returns-in_err-push_gathered-clause-stops

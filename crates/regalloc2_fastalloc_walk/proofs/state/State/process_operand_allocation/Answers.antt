@@ -8,6 +8,7 @@ use Rattle.regalloc2_fastalloc_state.specs.declared.request.OperandRequest.{Oper
 use Rattle.regalloc2_validate.specs.Constraints.{op_at}
 use Rattle.std.proofs.lemmas.Result.{err_from_is_err_and}
 use Rattle.regalloc2_fastalloc_walk.proofs.OperandOutOfRegs.{stop_use, stop_def, stop_reuse}
+use Rattle.regalloc2_fastalloc_walk.proofs.Steps.{step_ok}
 use Rattle.regalloc2_fastalloc_walk.specs.StateView.{tables_of}
 use Rattle.regalloc2_validate.proofs.OperandReads.{read_operand}
 use Rattle.regalloc2_fastalloc_proofs.proofs.Operands.OperandRules.{is_unmarked, op_in_tables, use_in_tables, one_register, one_use, one_def, one_reuse}
@@ -50,10 +51,10 @@ returns-then-not-is_def-clause-ok g c =
     (tables_of c.alloc_use.new.self) c.index-operands-k.result c.index-here-k.result c.use_request-request.result
     c.after-point.result c.in_ok-here.field-0 o h c.use_request-request.ensures at not_it (sym c.is_def.ensures ∙ c.if-not-is_def.true) c.in_ok-here.ensures.ok
 
-pub returns-then-not-is_def-clause-later : goal.returns-then-not-is_def-clause-later
-returns-then-not-is_def-clause-later g c =
+pub returns-then-not-is_def-clause-step : goal.returns-then-not-is_def-clause-step
+returns-then-not-is_def-clause-step g c =
     let at : c.after-point.result ≡ after c.args.cx.now.inst = c.after-point.ensures.point (λ e. omega (arith, c.requires.inst)) in
-    subst (λ (p : ℕ). AllAtOrAfter p c.alloc_use.new.self.edits) at c.in_ok-here.ensures.later
+    step_ok c.args.self.now c.alloc_use.new.self at c.in_ok-here.ensures.step
 
 pub alloc_def_op-requires : goal.alloc_def_op-requires
 alloc_def_op-requires g c =
@@ -80,10 +81,10 @@ returns-in-Some-reused-clause-ok g c =
     c.reuse_request-request.result c.after-point.result c.in_ok-place.place o c.reuse_request-request.ensures at (sym c.is_def.ensures ∙ c.if-not-is_def.false)
     c.in-Some-reused.ensures.some c.set_place.ensures c.in_ok-place.ensures.ok
 
-pub returns-in-Some-reused-clause-later : goal.returns-in-Some-reused-clause-later
-returns-in-Some-reused-clause-later g c =
+pub returns-in-Some-reused-clause-step : goal.returns-in-Some-reused-clause-step
+returns-in-Some-reused-clause-step g c =
     let at : c.after-point.result ≡ after c.args.cx.now.inst = c.after-point.ensures.point (λ e. omega (arith, c.requires.inst)) in
-    subst (λ (p : ℕ). AllAtOrAfter p c.alloc_def_op.new.self.edits) at c.in_ok-place.ensures.later
+    step_ok c.args.self.now c.alloc_def_op.new.self at c.in_ok-place.ensures.step
 
 pub alloc_def_op-requires-2 : goal.alloc_def_op-requires-2
 alloc_def_op-requires-2 g c =
@@ -110,10 +111,10 @@ returns-clause-ok g c =
     c.def_request.result c.after-point.result c.in_ok-here-2.field-0 o c.def_request.ensures at (sym c.is_def.ensures ∙ c.if-not-is_def.false)
     (c.in_default-reused.ensures.none refl) c.in_ok-here-2.ensures.ok
 
-pub returns-clause-later : goal.returns-clause-later
-returns-clause-later g c =
+pub returns-clause-step : goal.returns-clause-step
+returns-clause-step g c =
     let at : c.after-point.result ≡ after c.args.cx.now.inst = c.after-point.ensures.point (λ e. omega (arith, c.requires.inst)) in
-    subst (λ (p : ℕ). AllAtOrAfter p c.alloc_def_op-2.new.self.edits) at c.in_ok-here-2.ensures.later
+    step_ok c.args.self.now c.alloc_def_op-2.new.self at c.in_ok-here-2.ensures.step
 
 -- an operand gets no place
 pub returns-in_err-here-clause-stops : goal.returns-in_err-here-clause-stops

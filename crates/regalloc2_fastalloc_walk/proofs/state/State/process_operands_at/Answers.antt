@@ -50,10 +50,10 @@ loop-k-preserved g c =
         done = one_placed k c.loop-k.here w.process_operand_allocation.new.here c.loop-k.inst_regs w.process_operand_allocation.new.inst_regs
             (tables_of c.loop-k.self) (tables_of w.process_operand_allocation.new.self) c.loop-k.invariant.done
             (late ∙ c.stands_at.ensures.0 w.if-stands_at.true) w.in_ok-process_operand_allocation.ensures.ok;
-        later = w.in_ok-process_operand_allocation.ensures.later;
-        long = w.in_ok-process_operand_allocation.ensures.long ∙ c.loop-k.invariant.long;
+        later = w.in_ok-process_operand_allocation.ensures.step.later;
+        long = w.in_ok-process_operand_allocation.ensures.step.long ∙ c.loop-k.invariant.long;
         machine = same_then (tables_of c.args.self.now) (tables_of c.loop-k.self) (tables_of w.process_operand_allocation.new.self) c.loop-k.invariant.machine
-            w.in_ok-process_operand_allocation.ensures.machine;
+            w.in_ok-process_operand_allocation.ensures.step.machine;
         spill_free = λ names gone few plain blank h. one_placed_more names gone c.args.cx.now.inst c.args.cx.now.is_ret ops k (is_late c.args.pos)
             c.args.here.now c.loop-k.here w.process_operand_allocation.new.here (tables_of c.args.self.now) (tables_of c.loop-k.self)
             (tables_of w.process_operand_allocation.new.self)

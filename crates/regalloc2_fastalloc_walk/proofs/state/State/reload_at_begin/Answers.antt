@@ -5,7 +5,9 @@ use Rattle.regalloc2_names.specs.RegisterSet.{has_register}
 use Rattle.regalloc2_fastalloc_proofs.specs.BlockStart.{ReloadsParams, ReloadsRegs}
 use Rattle.std.proofs.lemmas.Result.{err_from_is_err_and}
 use Rattle.regalloc2_fastalloc_proofs.specs.OutOfRegs.{ReloadParamsFails, ReloadRegsFails, at_parameter, at_register}
-use Rattle.regalloc2_fastalloc_walk.specs.StateView.{tables_of}
+use Rattle.regalloc2_fastalloc_walk.proofs.Steps.{step_then}
+use Rattle.std.specs.Prelude.{Ok}
+use Rattle.regalloc2_fastalloc_walk.specs.StateView.{tables_of, IsStepAt}
 use Rattle.regalloc2_fastalloc_state.specs.StateParts.{AllAtOrAfter}
 use Rattle.regalloc2_fastalloc_state.specs.StateParts.{alloc_of}
 use Rattle.regalloc2_fastalloc_proofs.specs.InstSteps.{StateValue}
@@ -36,10 +38,11 @@ returns-clause-ok g c =
       emptied = c.in_ok-reload_regs.ensures.emptied;
     }
 
-pub returns-clause-later : goal.returns-clause-later
-returns-clause-later g c =
+pub returns-clause-step : goal.returns-clause-step
+returns-clause-step g c =
     let at : c.before-point.result ≡ before c.args.first = c.before-point.ensures.point (λ e. omega (arith, c.requires.inst)) in
-    subst (λ (p : ℕ). AllAtOrAfter p c.reload_regs.new.self.edits) at c.in_ok-reload_regs.ensures.later
+    subst (λ (p : ℕ). IsStepAt p (Ok tt) c.args.self.now c.reload_regs.new.self) at
+    (step_then c.args.self.now c.reload_params.new.self c.reload_regs.new.self c.in_ok-reload_params.ensures.step c.in_ok-reload_regs.ensures.step)
 
 -- a parameter can't be moved, or a register can't be emptied
 pub returns-in_err-reload_params-clause-stops : goal.returns-in_err-reload_params-clause-stops

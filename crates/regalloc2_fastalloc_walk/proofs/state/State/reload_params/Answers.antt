@@ -42,9 +42,9 @@ loop-param-preserved g c =
       done = one_begun k c.loop-param.inst_regs c.reload_param.new.inst_regs m n c.loop-param-test.true c.loop-param.invariant.done
           (subst (λ (v : VirtualRegister). ReloadsParam c.args.point v c.loop-param.inst_regs c.reload_param.new.inst_regs m n) is
           c.in_ok-reload_param.ensures.ok);
-      later = c.in_ok-reload_param.ensures.later;
-      long = c.in_ok-reload_param.ensures.long ∙ c.loop-param.invariant.long;
-      machine = same_then (tables_of c.args.self.now) m n c.loop-param.invariant.machine c.in_ok-reload_param.ensures.machine;
+      later = c.in_ok-reload_param.ensures.step.later;
+      long = c.in_ok-reload_param.ensures.step.long ∙ c.loop-param.invariant.long;
+      machine = same_then (tables_of c.args.self.now) m n c.loop-param.invariant.machine c.in_ok-reload_param.ensures.step.machine;
     }
 
 pub returns-clause-ok : goal.returns-clause-ok

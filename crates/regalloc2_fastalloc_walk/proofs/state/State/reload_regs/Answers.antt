@@ -54,9 +54,9 @@ loop-arrival-preserved-in-Continue-branch-2 g c =
           (c.loop-arrival.invariant.left r small
           (λ e. h (clears_empty c.args.point c.in-Some.arrival.preg c.loop-arrival.inst_regs c.evict_preg.new.inst_regs m n c.in_ok-evict_preg.ensures.ok r
           small e))));
-      later = c.in_ok-evict_preg.ensures.later;
-      long = c.in_ok-evict_preg.ensures.long ∙ c.loop-arrival.invariant.long;
-      machine = same_then (tables_of c.args.self.now) m n c.loop-arrival.invariant.machine c.in_ok-evict_preg.ensures.machine;
+      later = c.in_ok-evict_preg.ensures.step.later;
+      long = c.in_ok-evict_preg.ensures.step.long ∙ c.loop-arrival.invariant.long;
+      machine = same_then (tables_of c.args.self.now) m n c.loop-arrival.invariant.machine c.in_ok-evict_preg.ensures.step.machine;
       nobody = λ none. absurd (no_vreg_there c.loop-arrival.self.places c.in-Some.arrival.preg c.vreg_in.result
           (λ k. ap (λ (t : StateValue). alloc_of t.places k) (c.loop-arrival.invariant.nobody none) ∙ none k) c.vreg_in.ensures.inverse
           (omega (arith, c.vreg_in.ensures.in_range)) c.vreg_in.ensures.vreg somebody);

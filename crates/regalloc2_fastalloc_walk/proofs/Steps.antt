@@ -1,0 +1,49 @@
+-- Steps of the walk, one after another.
+use Rattle.std.proofs.Common.{ℕ, ◌≡◌, length, sym, ◌∙◌, subst, rules}
+use Rattle.std.specs.Prelude.{Result, Ok, Err, OnOk, IfErr}
+use Rattle.regalloc2_names.specs.declared.RegAllocError.{RegAllocError}
+use Rattle.regalloc2_fastalloc_proofs.proofs.Evictions.PushedAndRemoved.{same_then}
+use Rattle.regalloc2_fastalloc_proofs.specs.InstSteps.{StateValue, SameMachine}
+use Rattle.regalloc2_fastalloc_state.specs.OutOfResources.{IsResourceErrorIn}
+use Rattle.regalloc2_fastalloc_state.specs.StateParts.{AllAtOrAfter}
+use Rattle.regalloc2_fastalloc_walk.specs.declared.state.State.{State}
+use Rattle.regalloc2_fastalloc_walk.specs.StateView.{tables_of, IsStepAt}
+
+-- a step after a step, at one point, both of which succeed
+pub step_then : {A T U V : Type 0} {point : ℕ} {t : T} {u : U} {v : V} (a b c : State A) → IsStepAt point (Ok t) a b → IsStepAt point (Ok u) b c
+    → IsStepAt point (Ok v) a c
+step_then a b c first second = record {
+  machine = same_then (tables_of a) (tables_of b) (tables_of c) first.machine second.machine;
+  later = second.later;
+  long = second.long ∙ first.long;
+  err = search rules;
+}
+
+-- a step that succeeds, whatever it returns, at a point that is the same
+pub step_ok : {A T U : Type 0} {point at : ℕ} {t : T} {u : U} (a b : State A) → point ≡ at → IsStepAt point (Ok t) a b → IsStepAt at (Ok u) a b
+step_ok {at = at} a b same step =
+    record { machine = step.machine; later = subst (λ (p : ℕ). AllAtOrAfter p b.edits) same step.later; long = step.long; err = search rules }
+
+-- the state is another with the same tables
+pub step_same : {A T : Type 0} {point : ℕ} (r : Result T RegAllocError) (a b c : State A) → tables_of c ≡ tables_of b → IsStepAt point r a b → IsStepAt point r a c
+step_same {point = point} r a b c same step = record {
+  machine = subst (SameMachine (tables_of a)) (sym same) step.machine;
+  later = subst (λ (t : StateValue). OnOk r (AllAtOrAfter point t.edits)) (sym same) step.later;
+  long = subst (λ (t : StateValue). OnOk r (length t.places.vreg_allocs ≡ length a.places.vreg_allocs)) (sym same) step.long;
+  err = subst (λ (t : StateValue). IfErr r (IsResourceErrorIn t.slots)) (sym same) step.err;
+}
+
+-- a step that fails, for want of a resource
+pub fails_with : {A T : Type 0} {at : ℕ} {e d : RegAllocError} (r : Result T RegAllocError) (a b : State A) → r ≡ Err d → d ≡ e
+    → SameMachine (tables_of a) (tables_of b) → IsResourceErrorIn b.slots e → IsStepAt at r a b
+fails_with r a b is same kept lacks = rw is (rw same (record { machine = kept; later = search rules; long = search rules; err = lacks }))
+
+-- a step that fails where another does
+pub step_fails : {A T U : Type 0} {point at : ℕ} {e d : RegAllocError} (r : Result U RegAllocError) (a b : State A) → r ≡ Err d → d ≡ e
+    → IsStepAt {T = T} point (Err e) a b → IsStepAt at r a b
+step_fails r a b is same step = fails_with r a b is same step.machine step.err
+
+-- the same after what keeps the machine
+pub step_then_fails : {A T U : Type 0} {point at : ℕ} {e d : RegAllocError} (r : Result U RegAllocError) (a b c : State A) → r ≡ Err d → d ≡ e
+    → SameMachine (tables_of a) (tables_of b) → IsStepAt {T = T} point (Err e) b c → IsStepAt at r a c
+step_then_fails r a b c is same kept step = fails_with r a c is same (same_then (tables_of a) (tables_of b) (tables_of c) kept step.machine) step.err
