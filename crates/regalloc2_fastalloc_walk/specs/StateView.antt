@@ -1,9 +1,10 @@
 -- The tables that a state holds, as the relations of steps see them, and what each step keeps.
-use Rattle.std.specs.Prelude.{ℕ, ◌≡◌, length, Result, OnOk, IfErr}
+use Rattle.std.specs.Prelude.{ℕ, ◌≡◌, ◌+◌, length, Result, OnOk, IfErr}
 use Rattle.regalloc2_names.specs.declared.RegAllocError.{RegAllocError}
 use Rattle.regalloc2_fastalloc_walk.specs.declared.state.State.{State}
 use Rattle.regalloc2_fastalloc_proofs.specs.InstSteps.{StateValue, SameMachine}
-use Rattle.regalloc2_fastalloc_state.specs.OutOfResources.{IsResourceErrorIn}
+use Rattle.regalloc2_fastalloc_proofs.specs.BranchSteps.{AddsTempSlotsAtMost}
+use Rattle.regalloc2_fastalloc_state.specs.OutOfResources.{IsResourceError, IsResourceErrorIn, SlotsExhaustedWith}
 use Rattle.regalloc2_fastalloc_state.specs.StateParts.{AllAtOrAfter}
 
 abbrev pub tables_of : {A : Type 0} → State A → StateValue
@@ -23,3 +24,10 @@ pub record IsStepAt {A T : Type 0} (point : ℕ) (result : Result T RegAllocErro
   pub later : OnOk result (AllAtOrAfter point new.edits)
   pub long : OnOk result (length new.places.vreg_allocs ≡ length old.places.vreg_allocs)
   pub err : IfErr result (IsResourceErrorIn new.slots)
+
+-- the same of a step that a branch may be part of: it adds at most so many temporary slots
+pub record IsBranchStepAt {A T : Type 0} (point more : ℕ) (result : Result T RegAllocError) (old new : State A) : Type 0 where
+  pub machine : AddsTempSlotsAtMost more (tables_of old) (tables_of new)
+  pub later : OnOk result (AllAtOrAfter point new.edits)
+  pub long : OnOk result (length new.places.vreg_allocs ≡ length old.places.vreg_allocs)
+  pub err : IfErr result (IsResourceError (SlotsExhaustedWith old.slots (old.slots.num_temp_slots + more)))

@@ -17,7 +17,7 @@ ghost use Rattle.regalloc2_fastalloc_state.specs.OutOfResources.{SlotsExhaustedW
 ghost use Rattle.regalloc2_fastalloc_state.specs.ScratchPool.{DoDiffer, IsOfScratchPair};
 ghost use Rattle.regalloc2_fastalloc_proofs.specs.OutOfRegs.{OutOfRegsOnlyIf, GatherEdgeFails, GatherMovesFails, OrderMovesFails, ProcessBranchFails};
 ghost use Rattle.regalloc2_fastalloc_proofs.specs.OutOfRegs.{SpillArgumentFails};
-ghost use Rattle.regalloc2_fastalloc_walk.specs.StateView.{IsStepAt, tables_of};
+ghost use Rattle.regalloc2_fastalloc_walk.specs.StateView.{IsBranchStepAt, IsStepAt, tables_of};
 ghost use Rattle.regalloc2_fastalloc_state.specs.StateParts.{SlotsHaveOneOwner, IsLeastRecentIn, AllAtOrAfter};
 
 use super::state::State;
@@ -369,10 +369,7 @@ impl<'a, A: Allocator> State<'a, A> {
         requires differ { ParametersDiffer (F.function f.now) block }
         requires apart { AreApart (tables_of self.old) }
         ensures ok { OnOk result (ProcessesBranch (F.function f.now) block inst inst_regs.old inst_regs.new (tables_of self.old) (tables_of self.new)) }
-        ensures later { OnOk result (AllAtOrAfter (before inst) self.new.edits) }
-        ensures long { OnOk result (length self.new.places.vreg_allocs ≡ length self.old.places.vreg_allocs) }
-        ensures machine { AddsTempSlotsAtMost 6 (tables_of self.old) (tables_of self.new) }
-        ensures err { IfErr result (IsResourceError (SlotsExhaustedWith self.old.slots (self.old.slots.num_temp_slots + 6))) }
+        ensures step { IsBranchStepAt (before inst) 6 result self.old self.new }
         ensures stops { IfErr result (OutOfRegsOnlyIf (ProcessBranchFails (F.function f.now) block inst inst_regs.old (tables_of self.old))) }
         ensures registers { OnOk result (self.new.registers ≡ self.old.registers) }
         ensures none { OnOk result (((k : ℕ) → HasEdge (F.function f.now) block k →

@@ -11,7 +11,7 @@ ghost use Rattle.regalloc2_fastalloc_state.specs.StateParts.{AllAtOrAfter};
 ghost use Rattle.regalloc2_fastalloc_proofs.specs.BranchSteps.{AreApart, AddsTempSlotsAtMost};
 ghost use Rattle.regalloc2_fastalloc_state.specs.OutOfResources.{SlotsExhaustedWith, IsResourceError};
 ghost use Rattle.regalloc2_fastalloc_proofs.specs.OutOfRegs.{OutOfRegsOnlyIf, AllocBlocksFails, AllocInstInBlockFails, AllocBlockInstsFails};
-ghost use Rattle.regalloc2_fastalloc_walk.specs.StateView.{tables_of};
+ghost use Rattle.regalloc2_fastalloc_walk.specs.StateView.{IsBranchStepAt, tables_of};
 ghost use Rattle.regalloc2_fastalloc_proofs.specs.BlockSteps.{AllocsInstInBlock, MayBeAllocated, AllocsBlocks, AllocsBlockInsts, temp_slots_at, offset_of};
 
 use super::inst::InstCx;
@@ -45,11 +45,7 @@ impl<'a, A: Allocator> State<'a, A> {
         requires allocs_long { length allocs.old ≡ operand_count (F.function f.now) }
         requires no_places { (k : ℕ) → k < offset_of (F.function f.now) (inst + 1) → slice_index_or allocs.old k NoPlace ≡ NoPlace }
         ensures ok { OnOk result (AllocsInstInBlock (F.function f.now) block inst allocs.old allocs.new (tables_of self.old) (tables_of self.new)) }
-        ensures later { OnOk result (AllAtOrAfter (before inst) self.new.edits) }
-        ensures long { OnOk result (length self.new.places.vreg_allocs ≡ length self.old.places.vreg_allocs) }
-        ensures machine { AddsTempSlotsAtMost (temp_slots_at (F.function f.now) inst) (tables_of self.old) (tables_of self.new) }
-        ensures err { IfErr result (IsResourceError
-            (SlotsExhaustedWith self.old.slots (self.old.slots.num_temp_slots + temp_slots_at (F.function f.now) inst))) }
+        ensures step { IsBranchStepAt (before inst) (temp_slots_at (F.function f.now) inst) result self.old self.new }
         ensures stops { IfErr result (OutOfRegsOnlyIf (AllocInstInBlockFails (F.function f.now) block inst allocs.old (tables_of self.old))) }
         ensures spill_free { OnOk result ((names : List VirtualRegister) → FitInRegs names self.old.registers.allocatable →
             HasRegOperandsOnly names (F.function f.now) → IsSpillFreeFrom names (F.function f.now) (inst + 1) self.old.registers (tables_of self.old) →
@@ -96,10 +92,7 @@ impl<'a, A: Allocator> State<'a, A> {
             allocs.new (tables_of self.new)) }
         ensures no_places { OnOk result ((k : ℕ) → k < offset_of (F.function f.now) (block_at (F.function f.now) block).range.first →
             slice_index_or allocs.new k NoPlace ≡ NoPlace) }
-        ensures later { OnOk result (AllAtOrAfter (before (block_at (F.function f.now) block).range.first) self.new.edits) }
-        ensures long { OnOk result (length self.new.places.vreg_allocs ≡ length self.old.places.vreg_allocs) }
-        ensures machine { AddsTempSlotsAtMost 6 (tables_of self.old) (tables_of self.new) }
-        ensures err { IfErr result (IsResourceError (SlotsExhaustedWith self.old.slots (self.old.slots.num_temp_slots + 6))) }
+        ensures step { IsBranchStepAt (before (block_at (F.function f.now) block).range.first) 6 result self.old self.new }
         ensures stops { IfErr result (OutOfRegsOnlyIf (AllocBlockInstsFails (F.function f.now) block allocs.old (tables_of self.old))) }
         ensures spill_free { OnOk result ((names : List VirtualRegister) → FitInRegs names self.old.registers.allocatable →
             HasRegOperandsOnly names (F.function f.now) → IsSpillFreeFrom names (F.function f.now) (block_at (F.function f.now) block).range.end

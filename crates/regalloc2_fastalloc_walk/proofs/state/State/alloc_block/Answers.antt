@@ -113,9 +113,9 @@ loop-i-preserved g c =
       inside = omega (arith, c.loop-i.invariant.inside);
       walks = one_in i c.loop-i.allocs c.alloc_inst_in_block.new.allocs t u from upto (subst P next c.loop-i.invariant.walks) a;
       blank = λ k less. a.allocates.outside k (inl less) ∙ c.loop-i.invariant.blank k (let e = ap (offset_of f) next in omega (arith, less, more, e));
-      later = subst Q at c.in_ok-alloc_inst_in_block.ensures.later;
-      long = c.in_ok-alloc_inst_in_block.ensures.long ∙ c.loop-i.invariant.long;
-      machine = lends_then so_far.0 (temp_slots_at f i) 6 (tables_of c.args.self.now) t u so_far.1 so_far.2 (subst L at c.alloc_inst_in_block.ensures.machine);
+      later = subst Q at c.in_ok-alloc_inst_in_block.ensures.step.later;
+      long = c.in_ok-alloc_inst_in_block.ensures.step.long ∙ c.loop-i.invariant.long;
+      machine = lends_then so_far.0 (temp_slots_at f i) 6 (tables_of c.args.self.now) t u so_far.1 so_far.2 (subst L at c.alloc_inst_in_block.ensures.step.machine);
       spill_free = λ names few asks h.
           let before = c.loop-i.invariant.spill_free names few asks h in
           let few_now : FitInRegs names t.allocatable = subst (FitInRegs names) (sym c.loop-i.invariant.machine.allocatable) few in
@@ -125,23 +125,11 @@ loop-i-preserved g c =
       begun = λ e. absurd (omega (arith, e, upto));
     }
 
-pub returns-in_err-alloc_inst_in_block-clause-machine : goal.returns-in_err-alloc_inst_in_block-clause-machine
-returns-in_err-alloc_inst_in_block-clause-machine g c =
-    let f : FunctionValue = g.F.Function.function c.args.f.now in
-    let L : ℕ → Type 0 = λ n. AddsTempSlotsAtMost (temp_slots_at f n) (tables_of c.loop-i.self) (tables_of c.alloc_inst_in_block.new.self) in
-    let i : ℕ = c.loop-i.i - 1 in
-    let next : c.loop-i.i ≡ i + 1 = omega (arith, c.loop-i-test.true) in
-    let from : (block_at f c.args.block).range.first ≤ i = omega (arith, c.loop-i.invariant.first, c.loop-i-test.true) in
-    let upto : i < (block_at f c.args.block).range.end = omega (arith, next, c.loop-i.invariant.within) in
-    let so_far = lent_so_far f c.requires.well_formed.1.end c.args.block i c.requires.block from upto (tables_of c.args.self.now) (tables_of c.loop-i.self)
-    c.loop-i.invariant.machine (λ e. c.loop-i.invariant.begun (next ∙ e)) in
-    lends_then so_far.0 (temp_slots_at f (c.loop-i.i - 1)) 6 (tables_of c.args.self.now) (tables_of c.loop-i.self) (tables_of c.alloc_inst_in_block.new.self)
-    so_far.1 so_far.2 (subst L c.new.ensures c.alloc_inst_in_block.ensures.machine)
-
-pub returns-in_err-alloc_inst_in_block-clause-err : goal.returns-in_err-alloc_inst_in_block-clause-err
-returns-in_err-alloc_inst_in_block-clause-err g c =
+pub returns-in_err-alloc_inst_in_block-clause-step : goal.returns-in_err-alloc_inst_in_block-clause-step
+returns-in_err-alloc_inst_in_block-clause-step g c =
     let f : FunctionValue = g.F.Function.function c.args.f.now in
     let a : StateValue = tables_of c.args.self.now in
+    let L : ℕ → Type 0 = λ n. AddsTempSlotsAtMost (temp_slots_at f n) (tables_of c.loop-i.self) (tables_of c.alloc_inst_in_block.new.self) in
     let m : StateValue = tables_of c.loop-i.self in
     let i : ℕ = c.loop-i.i - 1 in
     let next : c.loop-i.i ≡ i + 1 = omega (arith, c.loop-i-test.true) in
@@ -151,8 +139,14 @@ returns-in_err-alloc_inst_in_block-clause-err g c =
     c.loop-i.invariant.machine (λ e. c.loop-i.invariant.begun (next ∙ e)) in
     let few : so_far.0 + temp_slots_at f c.new.result ≤ 6 = subst (λ (n : ℕ). so_far.0 + temp_slots_at f n ≤ 6) (sym c.new.ensures) so_far.1 in
     let p = err_from_is_err_and c.from_residual.result c.from_residual.ensures.1 in
-    rw p.1 (subst (IsResourceError (SlotsExhaustedWith a.slots (a.slots.num_temp_slots + 6))) (sym p.2)
-    (lacks_all so_far.0 (temp_slots_at f c.new.result) 6 a m so_far.2 few _ c.in_err-alloc_inst_in_block.ensures.err))
+    rw p.1 (record {
+      machine = lends_then so_far.0 (temp_slots_at f (c.loop-i.i - 1)) 6 a m (tables_of c.alloc_inst_in_block.new.self)
+          so_far.1 so_far.2 (subst L c.new.ensures c.alloc_inst_in_block.ensures.step.machine);
+      later = search rules;
+      long = search rules;
+      err = subst (IsResourceError (SlotsExhaustedWith a.slots (a.slots.num_temp_slots + 6))) (sym p.2)
+          (lacks_all so_far.0 (temp_slots_at f c.new.result) 6 a m so_far.2 few _ c.in_err-alloc_inst_in_block.ensures.step.err);
+    })
 
 pub returns-clause-ok : goal.returns-clause-ok
 returns-clause-ok g c =
@@ -167,11 +161,16 @@ returns-clause-no_places g c =
     let at_first : c.loop-i.i ≡ (block_at f c.args.block).range.first = omega (arith, c.loop-i-test.false, c.loop-i.invariant.from, c.loop-i.invariant.first) in
     λ k less. c.loop-i.invariant.blank k (let e = ap (offset_of f) at_first in omega (arith, less, e))
 
-pub returns-clause-later : goal.returns-clause-later
-returns-clause-later g c =
+pub returns-clause-step : goal.returns-clause-step
+returns-clause-step g c =
     let f : FunctionValue = g.F.Function.function c.args.f.now in
     let at_first : c.loop-i.i ≡ (block_at f c.args.block).range.first = omega (arith, c.loop-i-test.false, c.loop-i.invariant.from, c.loop-i.invariant.first) in
-    subst (λ (n : ℕ). AllAtOrAfter (before n) c.loop-i.self.edits) at_first c.loop-i.invariant.later
+    record {
+      machine = c.loop-i.invariant.machine;
+      later = subst (λ (n : ℕ). AllAtOrAfter (before n) c.loop-i.self.edits) at_first c.loop-i.invariant.later;
+      long = c.loop-i.invariant.long;
+      err = search rules;
+    }
 
 pub returns-in_err-alloc_inst_in_block-clause-stops : goal.returns-in_err-alloc_inst_in_block-clause-stops
 returns-in_err-alloc_inst_in_block-clause-stops g c =

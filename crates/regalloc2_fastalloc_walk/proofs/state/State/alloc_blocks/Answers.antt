@@ -89,13 +89,13 @@ reload_at_begin-requires g c =
     let some = (c.requires.well_formed.1.follow b lt).0 in
     let within = block_within f c.requires.well_formed.1.follow b lt in
     let few = (g.met.F.Function.limited c.args.f.now).insts in
-    let long : length c.alloc_block.new.self.places.vreg_allocs ≡ f.num_vregs = c.in_ok-alloc_block.ensures.long ∙ c.loop-b.invariant.long
+    let long : length c.alloc_block.new.self.places.vreg_allocs ≡ f.num_vregs = c.in_ok-alloc_block.ensures.step.long ∙ c.loop-b.invariant.long
     ∙ c.requires.long in (
       search rules,
       (
         omega (arith, first, some, within, few),
         (
-          subst (λ (n : ℕ). AllAtOrAfter (before n) c.alloc_block.new.self.edits) (sym first) c.in_ok-alloc_block.ensures.later,
+          subst (λ (n : ℕ). AllAtOrAfter (before n) c.alloc_block.new.self.edits) (sym first) c.in_ok-alloc_block.ensures.step.later,
           subst (λ (vs : List VirtualRegister). All (λ v. v.number < length c.alloc_block.new.self.places.vreg_allocs) vs) (sym c.block_params.ensures)
               (params_known f c.requires.well_formed.1.defined_once _ b long lt),
         ),
@@ -132,9 +132,9 @@ loop-b-preserved g c =
       blank = λ some k less. c.in_ok-alloc_block.ensures.no_places k
           (let e = ap (offset_of f) (joins some) in let h = ap (λ (n : ℕ). offset_of f (block_at f n).range.first) same in omega (arith, less, e, h));
       later = λ some. subst N (first2 ∙ sym (joins some)) c.in_ok-reload_at_begin.ensures.step.later;
-      long = c.in_ok-reload_at_begin.ensures.step.long ∙ c.in_ok-alloc_block.ensures.long ∙ c.loop-b.invariant.long;
+      long = c.in_ok-reload_at_begin.ensures.step.long ∙ c.in_ok-alloc_block.ensures.step.long ∙ c.loop-b.invariant.long;
       machine = lends_then (6 * (length f.blocks - c.loop-b.b)) 6 _ a t w (omega (arith, next, lt)) c.loop-b.invariant.machine
-          (lends_then 6 0 6 t u w (omega arith) c.alloc_block.ensures.machine (same_lends 0 u w c.reload_at_begin.ensures.step.machine));
+          (lends_then 6 0 6 t u w (omega arith) c.alloc_block.ensures.step.machine (same_lends 0 u w c.reload_at_begin.ensures.step.machine));
       begins = λ e. absurd (omega (arith, e, lt));
       spill_free = λ zero names few asks h.
           let whole : c.loop-b.b ≡ length f.blocks = omega (arith, next, zero, asks.one_block) in
@@ -163,7 +163,7 @@ pub returns-in_err-alloc_block-clause-machine : goal.returns-in_err-alloc_block-
 returns-in_err-alloc_block-clause-machine g c =
     let f : FunctionValue = g.F.Function.function c.args.f.now in
     lends_then (6 * (length f.blocks - c.loop-b.b)) 6 _ (tables_of c.args.self.now) (tables_of c.loop-b.self) (tables_of c.alloc_block.new.self)
-    (omega (arith, c.loop-b-test.true, c.loop-b.invariant.within)) c.loop-b.invariant.machine c.alloc_block.ensures.machine
+    (omega (arith, c.loop-b-test.true, c.loop-b.invariant.within)) c.loop-b.invariant.machine c.alloc_block.ensures.step.machine
 
 pub returns-in_err-reload_at_begin-clause-machine : goal.returns-in_err-reload_at_begin-clause-machine
 returns-in_err-reload_at_begin-clause-machine g c =
@@ -173,7 +173,7 @@ returns-in_err-reload_at_begin-clause-machine g c =
     let w : StateValue = tables_of c.reload_at_begin.new.self in
     lends_then (6 * (length f.blocks - c.loop-b.b)) 6 _ (tables_of c.args.self.now) t w (omega (arith, c.loop-b-test.true, c.loop-b.invariant.within))
     c.loop-b.invariant.machine
-    (lends_then 6 0 6 t u w (omega arith) c.alloc_block.ensures.machine (same_lends 0 u w c.reload_at_begin.ensures.step.machine))
+    (lends_then 6 0 6 t u w (omega arith) c.alloc_block.ensures.step.machine (same_lends 0 u w c.reload_at_begin.ensures.step.machine))
 
 pub returns-in_err-alloc_block-clause-err : goal.returns-in_err-alloc_block-clause-err
 returns-in_err-alloc_block-clause-err g c =
@@ -183,7 +183,7 @@ returns-in_err-alloc_block-clause-err g c =
     let p = err_from_is_err_and c.from_residual.result c.from_residual.ensures.1 in
     rw p.1 (subst (IsResourceError (SlotsExhaustedWith a.slots (a.slots.num_temp_slots + most))) (sym p.2)
     (lacks_all (6 * (length f.blocks - c.loop-b.b)) 6 most a (tables_of c.loop-b.self) c.loop-b.invariant.machine
-    (omega (arith, c.loop-b-test.true, c.loop-b.invariant.within)) _ c.in_err-alloc_block.ensures.err))
+    (omega (arith, c.loop-b-test.true, c.loop-b.invariant.within)) _ c.in_err-alloc_block.ensures.step.err))
 
 pub returns-in_err-reload_at_begin-clause-err : goal.returns-in_err-reload_at_begin-clause-err
 returns-in_err-reload_at_begin-clause-err g c =
@@ -197,7 +197,7 @@ returns-in_err-reload_at_begin-clause-err g c =
     rw p.1 (subst (IsResourceError (SlotsExhaustedWith a.slots (a.slots.num_temp_slots + most))) (sym p.2)
     (lack_all most most a w
     (lends_then (6 * (length f.blocks - c.loop-b.b)) 6 most a t w (omega (arith, c.loop-b-test.true, c.loop-b.invariant.within)) c.loop-b.invariant.machine
-    (lends_then 6 0 6 t u w (omega arith) c.alloc_block.ensures.machine (same_lends 0 u w c.reload_at_begin.ensures.step.machine)))
+    (lends_then 6 0 6 t u w (omega arith) c.alloc_block.ensures.step.machine (same_lends 0 u w c.reload_at_begin.ensures.step.machine)))
     (omega arith) _ c.in_err-reload_at_begin.ensures.step.err))
 
 pub returns-clause-ok : goal.returns-clause-ok

@@ -135,46 +135,56 @@ process_branch-requires g c =
     )
 
 -- the machine stays but for the temporary slots of a branch
-pub returns-in_err-alloc_inst_at-clause-machine : goal.returns-in_err-alloc_inst_at-clause-machine
-returns-in_err-alloc_inst_at-clause-machine g c = same_lends _ (tables_of c.args.self.now) (tables_of c.alloc_inst_at.new.self) c.alloc_inst_at.ensures.step.machine
-
-pub returns-then-not-is_branch-clause-machine : goal.returns-then-not-is_branch-clause-machine
-returns-then-not-is_branch-clause-machine g c = same_lends _ (tables_of c.args.self.now) (tables_of c.alloc_inst_at.new.self) c.alloc_inst_at.ensures.step.machine
-
-pub returns-in_err-process_branch-clause-machine : goal.returns-in_err-process_branch-clause-machine
-returns-in_err-process_branch-clause-machine g c =
-    let few = lent_six (g.F.Function.function c.args.f.now) c.args.inst c.is_branch.result c.is_branch.ensures c.if-not-is_branch.false in
-    let a : StateValue = tables_of c.args.self.now in
-    let m : StateValue = tables_of c.alloc_inst_at.new.self in
-    lends_then 0 6 (temp_slots_at (g.F.Function.function c.args.f.now) c.args.inst) a m (tables_of c.process_branch.new.self) (omega (arith, few))
-    (same_lends 0 a m c.alloc_inst_at.ensures.step.machine) c.process_branch.ensures.machine
-
-pub returns-clause-machine : goal.returns-clause-machine
-returns-clause-machine g c =
-    let few = lent_six (g.F.Function.function c.args.f.now) c.args.inst c.is_branch.result c.is_branch.ensures c.if-not-is_branch.false in
-    let a : StateValue = tables_of c.args.self.now in
-    let m : StateValue = tables_of c.alloc_inst_at.new.self in
-    lends_then 0 6 (temp_slots_at (g.F.Function.function c.args.f.now) c.args.inst) a m (tables_of c.process_branch.new.self) (omega (arith, few))
-    (same_lends 0 a m c.alloc_inst_at.ensures.step.machine) c.process_branch.ensures.machine
-
-pub returns-in_err-alloc_inst_at-clause-err : goal.returns-in_err-alloc_inst_at-clause-err
-returns-in_err-alloc_inst_at-clause-err g c =
+pub returns-in_err-alloc_inst_at-clause-step : goal.returns-in_err-alloc_inst_at-clause-step
+returns-in_err-alloc_inst_at-clause-step g c =
     let n : ℕ = temp_slots_at (g.F.Function.function c.args.f.now) c.args.inst in
     let a : StateValue = tables_of c.args.self.now in
     let m : StateValue = tables_of c.alloc_inst_at.new.self in
     let p = err_from_is_err_and c.from_residual.result c.from_residual.ensures.1 in
-    rw p.1 (subst (IsResourceError (SlotsExhaustedWith a.slots (a.slots.num_temp_slots + n))) (sym p.2)
-    (lack_all 0 n a m (same_lends 0 a m c.alloc_inst_at.ensures.step.machine) (omega arith) _ c.in_err-alloc_inst_at.ensures.step.err))
+    rw p.1 (record {
+      machine = same_lends n a m c.alloc_inst_at.ensures.step.machine;
+      later = search rules;
+      long = search rules;
+      err = subst (IsResourceError (SlotsExhaustedWith a.slots (a.slots.num_temp_slots + n))) (sym p.2)
+          (lack_all 0 n a m (same_lends 0 a m c.alloc_inst_at.ensures.step.machine) (omega arith) _ c.in_err-alloc_inst_at.ensures.step.err);
+    })
 
-pub returns-in_err-process_branch-clause-err : goal.returns-in_err-process_branch-clause-err
-returns-in_err-process_branch-clause-err g c =
+pub returns-in_err-process_branch-clause-step : goal.returns-in_err-process_branch-clause-step
+returns-in_err-process_branch-clause-step g c =
     let n : ℕ = temp_slots_at (g.F.Function.function c.args.f.now) c.args.inst in
     let few : n ≡ 6 = lent_six (g.F.Function.function c.args.f.now) c.args.inst c.is_branch.result c.is_branch.ensures c.if-not-is_branch.false in
     let a : StateValue = tables_of c.args.self.now in
     let m : StateValue = tables_of c.alloc_inst_at.new.self in
     let p = err_from_is_err_and c.from_residual-in_err-process_branch.result c.from_residual-in_err-process_branch.ensures.1 in
-    rw p.1 (subst (IsResourceError (SlotsExhaustedWith a.slots (a.slots.num_temp_slots + n))) (sym p.2)
-    (lacks_all 0 6 n a m (same_lends 0 a m c.alloc_inst_at.ensures.step.machine) (omega (arith, few)) _ c.in_err-process_branch.ensures.err))
+    rw p.1 (record {
+      machine = lends_then 0 6 n a m (tables_of c.process_branch.new.self) (omega (arith, few))
+          (same_lends 0 a m c.alloc_inst_at.ensures.step.machine) c.process_branch.ensures.step.machine;
+      later = search rules;
+      long = search rules;
+      err = subst (IsResourceError (SlotsExhaustedWith a.slots (a.slots.num_temp_slots + n))) (sym p.2)
+          (lacks_all 0 6 n a m (same_lends 0 a m c.alloc_inst_at.ensures.step.machine) (omega (arith, few)) _ c.in_err-process_branch.ensures.step.err);
+    })
+
+pub returns-then-not-is_branch-clause-step : goal.returns-then-not-is_branch-clause-step
+returns-then-not-is_branch-clause-step g c = record {
+  machine = same_lends _ (tables_of c.args.self.now) (tables_of c.alloc_inst_at.new.self) c.alloc_inst_at.ensures.step.machine;
+  later = c.in_ok-alloc_inst_at.ensures.step.later;
+  long = c.in_ok-alloc_inst_at.ensures.step.long;
+  err = search rules;
+}
+
+pub returns-clause-step : goal.returns-clause-step
+returns-clause-step g c =
+    let few = lent_six (g.F.Function.function c.args.f.now) c.args.inst c.is_branch.result c.is_branch.ensures c.if-not-is_branch.false in
+    let a : StateValue = tables_of c.args.self.now in
+    let m : StateValue = tables_of c.alloc_inst_at.new.self in
+    record {
+      machine = lends_then 0 6 (temp_slots_at (g.F.Function.function c.args.f.now) c.args.inst) a m (tables_of c.process_branch.new.self) (omega (arith, few))
+          (same_lends 0 a m c.alloc_inst_at.ensures.step.machine) c.process_branch.ensures.step.machine;
+      later = c.in_ok-process_branch.ensures.step.later;
+      long = c.in_ok-process_branch.ensures.step.long ∙ c.in_ok-alloc_inst_at.ensures.step.long;
+      err = search rules;
+    }
 
 -- where it stops
 pub returns-in_err-alloc_inst_at-clause-stops : goal.returns-in_err-alloc_inst_at-clause-stops

@@ -12,6 +12,7 @@ use Rattle.regalloc2_fastalloc_proofs.specs.OutOfRegs.{OrderMovesFails, in_order
 use Rattle.regalloc2_fastalloc_walk.specs.StateView.{tables_of}
 use Rattle.regalloc2_fastalloc_state.specs.StateParts.{AllAtOrAfter}
 use Rattle.regalloc2_fastalloc_proofs.proofs.Branches.ArgMovesAreParallel.{apart_lent, full_before, gathered_below, gathered_sources, lends_none, pushes_at}
+use Rattle.regalloc2_fastalloc_proofs.proofs.Safety.StateKept.{lends_then, same_lends}
 use Rattle.regalloc2_fastalloc_proofs.proofs.Branches.ArgMovesAreParallel.{pushes_long}
 use Rattle.regalloc2_fastalloc_state.proofs.SpillSlotUnits.{lacks_then}
 use Rattle.regalloc2_fastalloc_walk.proofs.BlockSpillFree.{gathers_none, of_none}
@@ -67,41 +68,55 @@ returns-clause-ok g c =
           (tables_of c.push_gathered.new.self) at x.1.vector y.vector;
     }
 
-pub returns-clause-later : goal.returns-clause-later
-returns-clause-later g c =
+pub returns-clause-step : goal.returns-clause-step
+returns-clause-step g c =
     let at : c.before-point.result ≡ before c.args.inst = c.before-point.ensures.point (λ e. omega (arith, c.requires.inst)) in
-    subst (λ (p : ℕ). AllAtOrAfter p c.push_gathered.new.self.edits) at c.in_ok-push_gathered.ensures.later
-
-pub returns-clause-long : goal.returns-clause-long
-returns-clause-long g c =
+    let old : StateValue = tables_of c.args.self.now in
+    let b : StateValue = tables_of c.gather.new.self in
     let u = c.gather.new.inst_regs in
     let p : ℕ = c.before-point.result in
     let y = c.in_ok-push_gathered.ensures.ok in
-    pushes_long p u Vector c.in_ok-moves.moves.vector y.after_floats (tables_of c.push_gathered.new.self) y.vector
-    ∙ pushes_long p u Float c.in_ok-moves.moves.float y.after_ints y.after_floats y.float
-    ∙ pushes_long p u Int c.in_ok-moves.moves.int (tables_of c.gather.new.self) y.after_ints y.int
-    ∙ c.in_ok-moves.ensures.step.long
+    record {
+      machine = lends_then 0 6 6 old b (tables_of c.push_gathered.new.self) (omega arith) (lends_none old b c.gather.ensures.step.machine)
+          c.push_gathered.ensures.machine;
+      later = subst (λ (n : ℕ). AllAtOrAfter n c.push_gathered.new.self.edits) at c.in_ok-push_gathered.ensures.later;
+      long = pushes_long p u Vector c.in_ok-moves.moves.vector y.after_floats (tables_of c.push_gathered.new.self) y.vector
+          ∙ pushes_long p u Float c.in_ok-moves.moves.float y.after_ints y.after_floats y.float
+          ∙ pushes_long p u Int c.in_ok-moves.moves.int (tables_of c.gather.new.self) y.after_ints y.int
+          ∙ c.in_ok-moves.ensures.step.long;
+      err = search rules;
+    }
 
 -- what is lacking, wherever it stops
-pub returns-in_err-moves-clause-err : goal.returns-in_err-moves-clause-err
-returns-in_err-moves-clause-err g c =
+pub returns-in_err-moves-clause-step : goal.returns-in_err-moves-clause-step
+returns-in_err-moves-clause-step g c =
     let old : StateValue = tables_of c.args.self.now in
     let b : StateValue = tables_of c.gather.new.self in
     let p = err_from_is_err_and c.from_residual.result c.from_residual.ensures.1 in
     let Full : Type 0 = SlotsExhaustedWith old.slots (old.slots.num_temp_slots + 6) in
-    rw p.1 (subst (IsResourceError Full) (sym p.2)
-    (lacks_then (SlotsExhausted b.slots) Full (full_before 0 b.slots.num_temp_slots 6 old b (lends_none old b c.gather.ensures.step.machine) (omega arith)) _
-    c.in_err-moves.ensures.step.err))
+    rw p.1 (record {
+      machine = same_lends 6 old b c.gather.ensures.step.machine;
+      later = search rules;
+      long = search rules;
+      err = subst (IsResourceError Full) (sym p.2)
+          (lacks_then (SlotsExhausted b.slots) Full (full_before 0 b.slots.num_temp_slots 6 old b (lends_none old b c.gather.ensures.step.machine) (omega arith)) _
+          c.in_err-moves.ensures.step.err);
+    })
 
-pub returns-in_err-push_gathered-clause-err : goal.returns-in_err-push_gathered-clause-err
-returns-in_err-push_gathered-clause-err g c =
+pub returns-in_err-push_gathered-clause-step : goal.returns-in_err-push_gathered-clause-step
+returns-in_err-push_gathered-clause-step g c =
     let old : StateValue = tables_of c.args.self.now in
     let b : StateValue = tables_of c.gather.new.self in
     let p = err_from_is_err_and c.from_residual-in_err-push_gathered.result c.from_residual-in_err-push_gathered.ensures.1 in
     let Full : Type 0 = SlotsExhaustedWith old.slots (old.slots.num_temp_slots + 6) in
-    rw p.1 (subst (IsResourceError Full) (sym p.2)
-    (lacks_then (SlotsExhaustedWith b.slots (b.slots.num_temp_slots + 6)) Full
-    (full_before 0 (b.slots.num_temp_slots + 6) 6 old b (lends_none old b c.gather.ensures.step.machine) (omega arith)) _ c.in_err-push_gathered.ensures.err))
+    rw p.1 (record {
+      machine = lends_then 0 6 6 old b (tables_of c.push_gathered.new.self) (omega arith) (lends_none old b c.gather.ensures.step.machine) c.push_gathered.ensures.machine;
+      later = search rules;
+      long = search rules;
+      err = subst (IsResourceError Full) (sym p.2)
+          (lacks_then (SlotsExhaustedWith b.slots (b.slots.num_temp_slots + 6)) Full
+          (full_before 0 (b.slots.num_temp_slots + 6) 6 old b (lends_none old b c.gather.ensures.step.machine) (omega arith)) _ c.in_err-push_gathered.ensures.err);
+    })
 
 -- moves of a class that has no register
 pub returns-in_err-push_gathered-clause-stops : goal.returns-in_err-push_gathered-clause-stops
