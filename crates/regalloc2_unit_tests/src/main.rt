@@ -1,0 +1,25 @@
+//! `regalloc2_unit_tests`: prints what the parts of the library answer, a line for each row of its tables. The file `stdout` says
+//! what must come.
+#![tactic(auto)]
+
+mod cfg;
+mod names;
+mod parts;
+mod report;
+mod serialize;
+
+use report::Report;
+use std::io::{self, BufWriter, Write};
+
+fn main(rt: HostRuntime) -> io::Result<()> {
+    let alloc = rt.alloc();
+    let text = io::read_to_string(alloc, rt.stdin())?;
+    let mut report = Report::new(alloc);
+    names::write_all(alloc, &mut report)?;
+    parts::write_all(alloc, &mut report)?;
+    serialize::write_all(alloc, text.as_str(), &mut report)?;
+    cfg::write_all(alloc, &mut report)?;
+    let out = &mut BufWriter::new(alloc, rt.stdout())?;
+    report.print(out)?;
+    out.flush()
+}
