@@ -1,8 +1,8 @@
 //! `ra2`: allocates registers to a stored function, and prints what it gives.
 //!
-//! The word `run` prints the listing of the allocated function, and `check` then judges it. The stored function stands on
-//! standard input, as JSON. The status is 0, or 1 where the function is refused or a fault is found, or 2 where words or
-//! input are bad or the output can't be written.
+//! The word `run` prints the listing of the allocated function, and `check` then judges it; `replay` judges a stored output.
+//! On standard input is the stored function, as JSON; for `replay` an array of it and the output. The status is 0, or 1 if the
+//! function is refused or a fault is found, or 2 if words or input are bad or the output can't be written.
 #![tactic(auto)]
 
 use std::env::{self, Env};

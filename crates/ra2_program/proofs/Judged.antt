@@ -1,6 +1,7 @@
 -- What an output that is judged, and a task that is done or not, come to.
 use Rattle.std.proofs.Common.{◌≡◌, ℕ, List, [], ◌++◌, Option, None, Some, Bool, true, false, Result, Ok, Err, refl, sym, subst, ap, ◌∙◌, append-nil}
-use Rattle.std.specs.Prelude.{IfOk}
+use Rattle.std.specs.Prelude.{IfOk, IfSome}
+use Rattle.std.specs.Result.{result_ok}
 use Rattle.std.specs.Io.KnownBytes.{Appends, Keeps, append_known}
 use Rattle.std.proofs.KnownBytes.{Appends-kept, Appends-trans}
 use Rattle.regalloc2_function.specs.FunctionValue.{FunctionValue}
@@ -8,9 +9,11 @@ use Rattle.regalloc2_function.specs.Machine.{MachineValue}
 use Rattle.regalloc2_function.specs.OutputValue.{OutputValue}
 use Rattle.regalloc2_tool.specs.Listing.{listing_text}
 use Rattle.ra2_program.specs.Findings.{IsJudged, findings_text}
-use Rattle.ra2_program.specs.Input.{IsGiven}
+use Rattle.ra2_program.specs.Input.{AreGiven, IsGiven}
 use Rattle.ra2_program.specs.Outcome.{IsAllocated, IsAnswered, IsOutcome, HasOutcome, refused, unaccepted}
 use Rattle.ra2_program.specs.Text.{refusal_line, checked_line}
+use Rattle.ra2_program.specs.declared.task.Command.{Command}
+use Rattle.ra2_program.specs.declared.task.Command.TheVariants.{Allocate, Replay}
 use Rattle.ra2_program.specs.declared.task.Task.{Task}
 use Rattle.ra2_program.specs.declared.task.Task.TheVariants.{Run, Check}
 
@@ -43,10 +46,35 @@ unbuffered : (a : Option (List ℕ)) (bs : List ℕ) → bs ≡ [] → append_kn
 unbuffered None bs e = refl
 unbuffered (Some x) bs e = ap (λ ys. Some (x ++ ys)) e ∙ ap Some (append-nil x)
 
--- the function and the machine that are given have the outcome, once the buffer is empty
-pub outcome : (bytes : Option (List ℕ)) (task : Task) (f : FunctionValue) (env own : MachineValue) (old shown new : Option (List ℕ)) (buffer : List ℕ)
-    (accepted b : Bool) → IsGiven bytes f env → own ≡ env → accepted ≡ b →
-    Keeps shown (append_known new buffer) → buffer ≡ [] → IsOutcome task f own (Appends old shown) accepted → HasOutcome bytes task (Appends old new) b
-outcome bytes task f env own old shown new buffer accepted b given e d k n h =
-    let kept = flushed task f own old shown new accepted (subst (λ x. Keeps shown x) (unbuffered new buffer n) k) h in
-    (f, env, given, subst (λ m. IsOutcome task f m (Appends old new) b) e (subst (λ a. IsOutcome task f own (Appends old new) a) d kept))
+-- the outcome for a function that is given
+pub outcome : {E : Type 0} (bytes : Option (List ℕ)) (task : Task) (f : FunctionValue) (env own : MachineValue) (old new : Option (List ℕ))
+    (r : Result Bool E) (o : Option Bool) → IsGiven bytes f env → own ≡ env → o ≡ result_ok r → IfOk r (IsOutcome task f own (Appends old new)) →
+    IfSome o (HasOutcome bytes (Allocate task) (Appends old new))
+outcome bytes task f env own old new (Ok b) o given e k h = rw k (f, env, given, subst (λ m. IsOutcome task f m (Appends old new) b) e h)
+outcome bytes task f env own old new (Err y) o given e k h = rw k tt
+
+-- the outcome for an output that is given
+pub verdict : {E : Type 0} (bytes : Option (List ℕ)) (f : FunctionValue) (env own : MachineValue) (out : OutputValue) (old new : Option (List ℕ))
+    (r : Result Bool E) (o : Option Bool) → AreGiven bytes f env out → own ≡ env → o ≡ result_ok r → IfOk r (IsJudged f own out (Appends old new)) →
+    IfSome o (HasOutcome bytes Replay (Appends old new))
+verdict bytes f env own out old new (Ok b) o given e k h = rw k (f, env, out, given, subst (λ m. IsJudged f m out (Appends old new) b) e h)
+verdict bytes f env own out old new (Err y) o given e k h = rw k tt
+
+-- a flush changes no judgement
+still_judged : (f : FunctionValue) (env : MachineValue) (out : OutputValue) (old shown new : Option (List ℕ)) (accepted : Bool) → Keeps shown new →
+    IsJudged f env out (Appends old shown) accepted → IsJudged f env out (Appends old new) accepted
+unfolding IsJudged
+still_judged f env out old shown new true k h = (h.0, Appends-kept old shown new checked_line h.1 k)
+still_judged f env out old shown new false k h = (h.0, h.1, Appends-kept old shown new (findings_text h.0) h.2 k)
+
+kept : (bytes : Option (List ℕ)) (command : Command) (old shown new : Option (List ℕ)) (accepted : Bool) → Keeps shown new →
+    HasOutcome bytes command (Appends old shown) accepted → HasOutcome bytes command (Appends old new) accepted
+kept bytes (Allocate task) old shown new accepted k h = (h.0, h.1, h.2, flushed task h.0 h.1 old shown new accepted k h.3)
+kept bytes Replay old shown new accepted k h = (h.0, h.1, h.2, h.3, still_judged h.0 h.1 h.2 old shown new accepted k h.4)
+
+-- what is given has the outcome, once the buffer is empty
+pub flushed_outcome : (bytes : Option (List ℕ)) (command : Command) (old shown new : Option (List ℕ)) (buffer : List ℕ) (accepted b : Bool) → accepted ≡ b →
+    Keeps shown (append_known new buffer) → buffer ≡ [] → HasOutcome bytes command (Appends old shown) accepted → HasOutcome bytes command (Appends old new) b
+flushed_outcome bytes command old shown new buffer accepted b d k n h =
+    subst (λ a. HasOutcome bytes command (Appends old new) a) d
+    (kept bytes command old shown new accepted (subst (λ x. Keeps shown x) (unbuffered new buffer n) k) h)

@@ -9,9 +9,11 @@ use Rattle.regalloc2_function.specs.WellFormed.{IsWellFormed}
 use Rattle.regalloc2_fastalloc.specs.Promise.{IsAllocation}
 use Rattle.regalloc2_fastalloc.specs.ErrorReason.{IsReason}
 use Rattle.regalloc2_tool.specs.Listing.{listing_text}
-use Rattle.ra2_program.specs.Findings.{IsUnaccepted}
-use Rattle.ra2_program.specs.Input.{IsGiven}
+use Rattle.ra2_program.specs.Findings.{IsJudged, IsUnaccepted}
+use Rattle.ra2_program.specs.Input.{AreGiven, IsGiven}
 use Rattle.ra2_program.specs.Text.{refusal_line, checked_line}
+use Rattle.ra2_program.specs.declared.task.Command.{Command}
+use Rattle.ra2_program.specs.declared.task.Command.TheVariants.{Allocate, Replay}
 use Rattle.ra2_program.specs.declared.task.Task.{Task}
 use Rattle.ra2_program.specs.declared.task.Task.TheVariants.{Run, Check}
 
@@ -41,6 +43,9 @@ abbrev pub IsOutcome : Task → FunctionValue → MachineValue → (List ℕ →
 IsOutcome task f env IsWritten true = IsDone task f env IsWritten
 IsOutcome task f env IsWritten false = IsTurnedDown task f env IsWritten
 
--- what bytes and a task have for an outcome, for the function and the machine that the bytes name
-abbrev pub HasOutcome : Option (List ℕ) → Task → (List ℕ → Type 0) → Bool → Type 0
-HasOutcome bytes task IsWritten accepted = (f : FunctionValue) × (env : MachineValue) × IsGiven bytes f env × IsOutcome task f env IsWritten accepted
+-- what bytes and a command have for an outcome, for the function and the machine that the bytes name, and for the output where one is to be judged
+abbrev pub HasOutcome : Option (List ℕ) → Command → (List ℕ → Type 0) → Bool → Type 0
+HasOutcome bytes (Allocate task) IsWritten accepted = (f : FunctionValue) × (env : MachineValue) × IsGiven bytes f env
+    × IsOutcome task f env IsWritten accepted
+HasOutcome bytes Replay IsWritten accepted = (f : FunctionValue) × (env : MachineValue) × (out : OutputValue) × AreGiven bytes f env out
+    × IsJudged f env out IsWritten accepted

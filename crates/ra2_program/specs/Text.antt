@@ -5,13 +5,15 @@ use Rattle.regalloc2_names.specs.declared.RegAllocError.{RegAllocError}
 use Rattle.regalloc2_tool.specs.Fault.{fault_number}
 use Rattle.regalloc2_tool.specs.Refusal.{refusal_number}
 use Rattle.ra2_program.specs.declared.reading.InputError.{InputError}
-use Rattle.ra2_program.specs.declared.reading.InputError.TheVariants.{Unreadable, BadFunction, BadMachine}
+use Rattle.ra2_program.specs.declared.reading.InputError.TheVariants.{Unreadable, BadFunction, BadMachine, BadOutput, NotFramed}
 
--- why there is nothing to allocate, with the number of a fault
+-- why there is nothing to allocate or to judge, with the number of a fault
 abbrev pub input_text : InputError → List ℕ
 input_text Unreadable = codes "input unreadable"
 input_text (BadFunction fault) = codes "bad function " ++ decimal (fault_number fault)
 input_text BadMachine = codes "bad machine"
+input_text (BadOutput fault) = codes "bad output " ++ decimal (fault_number fault)
+input_text NotFramed = codes "not framed"
 
 -- the line of a refusal, with its number
 abbrev pub refusal_line : RegAllocError → List ℕ

@@ -1,4 +1,5 @@
-//! What the program `ra2` does: it reads a stored function, allocates registers to it, and prints what it gives.
+//! What the program `ra2` does: it reads a stored function, allocates registers to it, and prints what it gives; or it
+//! judges a stored output.
 #![tactic(auto)]
 
 mod judging;
@@ -8,5 +9,5 @@ mod task;
 
 pub use judging::{judge, show};
 pub use program::{UNUSABLE, answer, refuse_words};
-pub use reading::{InputError, function_from};
-pub use task::Task;
+pub use reading::{InputError, function_from, replay_from};
+pub use task::{Command, Task};

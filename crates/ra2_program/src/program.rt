@@ -1,14 +1,14 @@
 //! What the program does with its words.
 
-ghost use Rattle.std.specs.Prelude.{◌≡◌, ◌≤◌, None, Some, true, false};
+ghost use Rattle.std.specs.Prelude.{◌≡◌, ◌≤◌, None, Some, IfSome, true, false};
 ghost use Rattle.std.specs.Io.Buffered.{writer_inner, writer_contents};
 ghost use Rattle.std.specs.Io.KnownBytes.{Appends};
-ghost use Rattle.ra2_program.specs.Words.{task_of};
+ghost use Rattle.ra2_program.specs.Words.{command_of};
 ghost use Rattle.ra2_program.specs.Outcome.{HasOutcome};
 
-use super::judging::show;
-use super::reading::function_from;
-use super::task::Task;
+use super::judging::{judge, show};
+use super::reading::{function_from, replay_from};
+use super::task::{Command, Task};
 use std::alloc::Global;
 use std::io::{BufWriter, Read, Write};
 
@@ -26,27 +26,77 @@ pub fn refuse_words<E: Write>(err: &mut E) -> u8
     UNUSABLE
 }
 
-/// Does a task with what a reader gives, and answers the status. What it writes has left the buffer where that is 0 or 1.
-fn perform<R: Read + Drop, O: Write + Drop, E: Write>(
+/// Does a task with the function that a reader gives. Whether it was done; nothing after a failed write, or if there is no
+/// function, of which `err` then gets a line.
+fn allocate<R: Read + Drop, O: Write, E: Write>(
     alloc: Global,
     task: Task,
     input: R,
-    out: &mut BufWriter<O>,
+    out: &mut O,
     err: &mut E,
-) -> u8
-    ensures status { result ≤ 2 }
-    ensures done { result ≡ 0 → HasOutcome (R.remaining input) task (Appends (writer_contents O.contents out.old) (O.contents (writer_inner out.new))) true }
-    ensures turned_down { result ≡ 1 → HasOutcome (R.remaining input) task (Appends (writer_contents O.contents out.old) (O.contents (writer_inner out.new)))
-        false }
+) -> Option<bool>
+    ensures { IfSome result (HasOutcome (R.remaining input) (Command.Allocate task) (Appends (O.contents out.old) (O.contents out.new))) }
 {
     let f = match function_from(alloc, input) {
         Ok(f) => f,
         Err(error) => {
             let _ = writeln!(err, "ra2: {error}");
-            return UNUSABLE;
+            return None;
         }
     };
-    let Ok(accepted) = show(alloc, task, &f, f.machine_env(), out) else {
+    show(alloc, task, &f, f.machine_env(), out).ok()
+}
+
+/// Judges the output that a reader gives with its function. Whether it is accepted; nothing after a failed write, or if
+/// there is no output, of which `err` then gets a line.
+fn replay<R: Read + Drop, O: Write, E: Write>(
+    alloc: Global,
+    input: R,
+    out: &mut O,
+    err: &mut E,
+) -> Option<bool>
+    ensures { IfSome result (HasOutcome (R.remaining input) Command.Replay (Appends (O.contents out.old) (O.contents out.new))) }
+{
+    let (f, output) = match replay_from(alloc, input) {
+        Ok(given) => given,
+        Err(error) => {
+            let _ = writeln!(err, "ra2: {error}");
+            return None;
+        }
+    };
+    judge(alloc, &f, f.machine_env(), &output, out).ok()
+}
+
+/// Obeys a command with what a reader gives.
+fn obey<R: Read + Drop, O: Write, E: Write>(
+    alloc: Global,
+    command: Command,
+    input: R,
+    out: &mut O,
+    err: &mut E,
+) -> Option<bool>
+    ensures { IfSome result (HasOutcome (R.remaining input) command (Appends (O.contents out.old) (O.contents out.new))) }
+{
+    match command {
+        Command::Allocate(task) => allocate(alloc, task, input, out, err),
+        Command::Replay => replay(alloc, input, out, err),
+    }
+}
+
+/// Obeys a command with what a reader gives, and answers the status. What it writes has left the buffer where that is 0 or 1.
+fn perform<R: Read + Drop, O: Write + Drop, E: Write>(
+    alloc: Global,
+    command: Command,
+    input: R,
+    out: &mut BufWriter<O>,
+    err: &mut E,
+) -> u8
+    ensures status { result ≤ 2 }
+    ensures done { result ≡ 0 → HasOutcome (R.remaining input) command (Appends (writer_contents O.contents out.old) (O.contents (writer_inner out.new))) true }
+    ensures turned_down { result ≡ 1 → HasOutcome (R.remaining input) command (Appends (writer_contents O.contents out.old)
+        (O.contents (writer_inner out.new))) false }
+{
+    let Some(accepted) = obey(alloc, command, input, out, err) else {
         return UNUSABLE;
     };
     let Ok(()) = out.flush() else {
@@ -59,9 +109,12 @@ fn perform<R: Read + Drop, O: Write + Drop, E: Write>(
 /// behind `out`.
 ///
 /// The input is the JSON text of a stored function. `run` allocates registers to it, tests included, and writes its listing,
-/// or `refused` and the refusal's number; `check` also judges the output, and then writes `checked` or its faults. The status
-/// is 0; or 1 where the function is refused or a fault is found; or 2, with one line on `err`, where words, input, stored
-/// numbers or machine are bad, which is judged in this order. A failed write to `out` ends it with 2 and no further text.
+/// or `refused` and the refusal's number; `check` also judges the output, and then writes `checked` or its faults. For
+/// `replay` the input is an array of just two, a stored function and a stored output, of which it writes what `check` does.
+///
+/// The status is 0; or 1 where the function is refused or a fault is found; or 2, with one line on `err`, where words, input,
+/// stored numbers or machine are bad, which is judged in this order; for `replay` it is the words, the input, the function's
+/// numbers, the output's, and whether the function is framed. A failed write to `out` ends it with 2 and no further text.
 pub fn answer<R: Read + Drop, O: Write + Drop, E: Write>(
     alloc: Global,
     words: &[String],
@@ -70,17 +123,17 @@ pub fn answer<R: Read + Drop, O: Write + Drop, E: Write>(
     err: &mut E,
 ) -> (u8, O)
     ensures status { result.0 ≤ 2 }
-    ensures bad_words { task_of words.now ≡ None → result.0 ≡ 2 }
-    ensures done { result.0 ≡ 0 → (t : Task) × (task_of words.now ≡ Some t)
-        × HasOutcome (R.remaining input) t (Appends (writer_contents O.contents out) (O.contents result.1)) true }
-    ensures turned_down { result.0 ≡ 1 → (t : Task) × (task_of words.now ≡ Some t)
-        × HasOutcome (R.remaining input) t (Appends (writer_contents O.contents out) (O.contents result.1)) false }
+    ensures bad_words { command_of words.now ≡ None → result.0 ≡ 2 }
+    ensures done { result.0 ≡ 0 → (c : Command) × (command_of words.now ≡ Some c)
+        × HasOutcome (R.remaining input) c (Appends (writer_contents O.contents out) (O.contents result.1)) true }
+    ensures turned_down { result.0 ≡ 1 → (c : Command) × (command_of words.now ≡ Some c)
+        × HasOutcome (R.remaining input) c (Appends (writer_contents O.contents out) (O.contents result.1)) false }
 {
-    let Some(task) = Task::of(words) else {
+    let Some(command) = Command::of(words) else {
         let (untouched, _) = out.into_parts();
         return (refuse_words(err), untouched);
     };
-    let status = perform(alloc, task, input, &mut out, err);
+    let status = perform(alloc, command, input, &mut out, err);
     // a buffer that is dropped would write once more what a failed write left in it
     let (written, _) = out.into_parts();
     (status, written)

@@ -1,20 +1,22 @@
-//! The function and the machine that the program is given.
+//! The function, the machine and the output that the program is given.
 
 ghost use Rattle.std.specs.Prelude.{Some, IfOk, IfErr, IfSome};
-ghost use Rattle.regalloc2_function.specs.Views.{machine_of};
+ghost use Rattle.regalloc2_function.specs.Views.{machine_of, output_of};
 ghost use Rattle.regalloc2_serialize.specs.Tables.{function_of};
-ghost use Rattle.ra2_program.specs.Input.{IsTextOf, IsGiven, IsInputFault};
+ghost use Rattle.ra2_program.specs.Input.{AreGiven, IsTextOf, IsTextOfPair, IsGiven, IsInputFault, IsPairFault};
 ghost use Rattle.ra2_program.specs.Text.{input_text};
 
-use regalloc2::machine_fits;
-use regalloc2::serialize::{SerializableFunction, StoredFault, StoredFunction};
+use regalloc2::serialize::{
+    FromValue, SerializableFunction, StoredFault, StoredFunction, StoredOutput,
+};
+use regalloc2::{Output, is_framed, machine_fits};
 use regalloc2_tool::stored_fault::number_of;
 use serde_json::Value;
 use std::alloc::Global;
 use std::fmt;
 use std::io::{self, Read};
 
-/// Why there is nothing to allocate.
+/// Why there is nothing to allocate or to judge.
 #[derive(Drop)]
 pub enum InputError {
     /// The input can't be read, or is no JSON text of a stored function.
@@ -23,9 +25,13 @@ pub enum InputError {
     BadFunction(StoredFault),
     /// The machine doesn't suit the function.
     BadMachine,
+    /// The numbers name no output.
+    BadOutput(StoredFault),
+    /// The function isn't framed, so that no output of it can be judged.
+    NotFramed,
 }
 
-/// As `input unreadable`, `bad function 2` or `bad machine`.
+/// As `input unreadable`, `bad function 2`, `bad machine`, `bad output 3` or `not framed`.
 impl fmt::Display for InputError {
     ghost output = { λ e. Some (input_text e) };
 
@@ -37,6 +43,11 @@ impl fmt::Display for InputError {
                 write!(f, "bad function {number}")
             }
             InputError::BadMachine => write!(f, "bad machine"),
+            InputError::BadOutput(fault) => {
+                let number = number_of(*fault);
+                write!(f, "bad output {number}")
+            }
+            InputError::NotFramed => write!(f, "not framed"),
         }
     }
 }
@@ -69,4 +80,47 @@ pub fn function_from<R: Read + Drop>(
         return Err(InputError::BadMachine);
     }
     Ok(f)
+}
+
+/// The stored function and output whose JSON texts the reader gives, in an array of just these two.
+fn stored_pair_from<R: Read + Drop>(
+    alloc: Global,
+    input: R,
+) -> Option<(StoredFunction, StoredOutput)>
+    ensures { IfSome result (λ pair. IsTextOfPair (R.remaining input) pair.0 pair.1) }
+{
+    let text = io::read_to_string(alloc, input).ok()?;
+    let value = Value::from_str(alloc, &text).ok()?;
+    if value.get(2).is_some() {
+        return None;
+    }
+    let output = StoredOutput::from_value(alloc, value.get(1)?).ok()?;
+    let function = StoredFunction::from_value(alloc, value.get(0)?).ok()?;
+    Some((function, output))
+}
+
+/// The function, with its machine, and the output whose JSON texts the reader gives. The function is framed, so that the
+/// output can be judged.
+pub fn replay_from<R: Read + Drop>(
+    alloc: Global,
+    input: R,
+) -> Result<(SerializableFunction, Output), InputError>
+    ensures ok { IfOk result (λ pair. AreGiven (R.remaining input) (function_of pair.0) (machine_of pair.0.machine) (output_of pair.1)) }
+    ensures err { IfErr result (IsPairFault (R.remaining input)) }
+{
+    let Some((stored, stored_output)) = stored_pair_from(alloc, input) else {
+        return Err(InputError::Unreadable);
+    };
+    let f = match SerializableFunction::from_stored(alloc, &stored) {
+        Ok(f) => f,
+        Err(fault) => return Err(InputError::BadFunction(fault)),
+    };
+    let output = match Output::from_stored(alloc, &stored_output) {
+        Ok(output) => output,
+        Err(fault) => return Err(InputError::BadOutput(fault)),
+    };
+    if !is_framed(&f) {
+        return Err(InputError::NotFramed);
+    }
+    Ok((f, output))
 }

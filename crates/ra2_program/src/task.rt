@@ -1,9 +1,9 @@
 //! What the program is asked to do.
 
 ghost use Rattle.std.specs.Prelude.{◌≡◌};
-ghost use Rattle.ra2_program.specs.Words.{task_of};
+ghost use Rattle.ra2_program.specs.Words.{command_of};
 
-/// What the words ask for.
+/// What is done with a function.
 #[derive(Clone, Copy, PartialEq, Eq)]
 pub enum Task {
     /// To allocate registers.
@@ -12,17 +12,27 @@ pub enum Task {
     Check,
 }
 
-impl Task {
-    /// The task that the words name: one word, `run` or `check`. Any others are bad.
-    pub fn of(words: &[String]) -> Option<Task>
-        ensures { result ≡ task_of words.now }
+/// What the words ask for.
+#[derive(Clone, Copy, PartialEq, Eq)]
+pub enum Command {
+    /// A task with a stored function.
+    Allocate(Task),
+    /// To judge a stored output of a stored function.
+    Replay,
+}
+
+impl Command {
+    /// The command that the words name: one word, `run`, `check` or `replay`. Any others are bad.
+    pub fn of(words: &[String]) -> Option<Command>
+        ensures { result ≡ command_of words.now }
     {
         let [word] = words else {
             return None;
         };
         match word.as_str() {
-            "run" => Some(Task::Run),
-            "check" => Some(Task::Check),
+            "run" => Some(Command::Allocate(Task::Run)),
+            "check" => Some(Command::Allocate(Task::Check)),
+            "replay" => Some(Command::Replay),
             _ => None,
         }
     }

@@ -6,4 +6,6 @@ mod judging;
 #[cfg(test)]
 mod program;
 #[cfg(test)]
+mod replaying;
+#[cfg(test)]
 mod texts;

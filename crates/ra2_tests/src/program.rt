@@ -81,10 +81,10 @@ impl Write for Faulty {
 
 /// What the program writes, and its status.
 #[derive(Clone, Copy)]
-struct Answer<'a> {
-    out: &'a str,
-    err: &'a str,
-    status: u8,
+pub struct Answer<'a> {
+    pub out: &'a str,
+    pub err: &'a str,
+    pub status: u8,
 }
 
 /// The words of a command line.
@@ -97,7 +97,7 @@ fn words(alloc: Global, line: &[&str]) -> Result<Vec<String>, AllocError> {
 }
 
 /// Whether the program answers so to one word and a text.
-fn answers(alloc: Global, line: &[&str], text: &[u8], want: Answer) -> Result<bool, Fail> {
+pub fn answers(alloc: Global, line: &[&str], text: &[u8], want: Answer) -> Result<bool, Fail> {
     let words = words(alloc, line)?;
     let out = BufWriter::new(alloc, Vec::new(alloc))?;
     let mut err = Vec::new(alloc);
@@ -110,7 +110,7 @@ fn answers(alloc: Global, line: &[&str], text: &[u8], want: Answer) -> Result<bo
 }
 
 /// The text with one part replaced.
-fn replaced(alloc: Global, old: &str, new: &str) -> Result<String, AllocError> {
+pub fn replaced(alloc: Global, old: &str, new: &str) -> Result<String, AllocError> {
     match TEXT.split_once(old) {
         Some((before, after)) => format!(in alloc; "{before}{new}{after}"),
         None => Ok(String::new(alloc)),
@@ -147,7 +147,7 @@ fn bad_words_are_refused(rt: HostRuntime) -> Result<(), Fail> {
         err: "ra2: bad words\n",
         status: 2,
     };
-    for word in ["walk", "replay", "", "Run", "runs", "ru"] {
+    for word in ["walk", "replays", "", "Run", "runs", "ru"] {
         assert!(rt;
             answers(rt.alloc(), &[word], TEXT.as_bytes(), want)?,
             "{word}"
