@@ -3,7 +3,7 @@
 ghost use Rattle.std.specs.Prelude.{◌<◌, ◌^◌};
 
 use super::calls::run_fitting;
-use super::random::integer_machine;
+use super::random::small_machine;
 use regalloc2::count_operands;
 use regalloc2_function::Function;
 use regalloc2_index::{Block, Inst, InstRange};
@@ -101,7 +101,8 @@ impl Function for Same<'_> {
 }
 
 /// A list of 2^15 operands that is lent so many times: how many operands that makes, and how a run is refused. 2^32 of them, which no
-/// list holds, are refused before anything is allocated, and without a look at each of them.
+/// list holds, are refused before anything is allocated, and without a look at each of them. The machine has registers of each class,
+/// since one without is tested against each operand.
 pub fn lend(alloc: Global, insts: usize) -> Option<(Option<u32>, Option<RegAllocError>)>
     requires { insts < 2 ^ 30 }
 {
@@ -112,6 +113,6 @@ pub fn lend(alloc: Global, insts: usize) -> Option<(Option<u32>, Option<RegAlloc
         insts,
         succs: &[],
     };
-    let refused = run_fitting(alloc, &f, &integer_machine(alloc, 2))?.err();
+    let refused = run_fitting(alloc, &f, &small_machine(alloc))?.err();
     Some((count_operands(&f), refused))
 }

@@ -88,6 +88,15 @@ pub fn integer_machine(alloc: Global, count: usize) -> MachineEnv {
     env
 }
 
+/// A machine with two preferred registers of each class.
+pub fn small_machine(alloc: Global) -> MachineEnv {
+    let mut env = no_machine(alloc);
+    for class in CLASSES {
+        env.preferred_regs_by_class[class as usize] = pregs(class, 0, 2);
+    }
+    env
+}
+
 /// A machine: of each class up to seven registers, of which some aren't preferred, with or without two fixed stack slots and a
 /// register for moves. It comes with how many registers of each class an instruction may ask for.
 pub fn any_machine(alloc: Global, random: &mut Random) -> Option<(MachineEnv, [usize; 3])> {
