@@ -1,0 +1,4 @@
+pub mod CallPlaces
+pub mod Tables
+pub mod LentPlaces
+pub mod CallSchedule

@@ -1,0 +1,111 @@
+-- A table of the moves of a call by destination: which source each has.
+use Rattle.std.proofs.Common.{ℕ, ◌≡◌, ◌≢◌, ◌<◌, ◌+◌, Bool, true, false, cond, Option, None, Some, nat_eq, refl, sym, ap, ◌∙◌, inl, inr, ◌⊎◌, ⊎_elim, subst}
+use Rattle.std.proofs.Common.{arith, eqb-true, eq-eqb}
+use Rattle.regalloc2_names.specs.Place.{Place}
+use Rattle.regalloc2_names.specs.PlaceBits.{bits_of_place, place_of_bits}
+use Rattle.regalloc2_parts.specs.AtOnce.{IsPlace}
+use Rattle.regalloc2_parts.proofs.Places.{same_word}
+use Rattle.regalloc2_callmoves.specs.CallMoves.{CallMoves, source, target, HasNone, HasOtherSource}
+use Rattle.regalloc2_callmoves.proofs.CallPlaces.{split_more}
+
+abbrev pub Words : Type 0
+Words = ℕ → Option ℕ
+
+abbrev pub from_word : CallMoves → ℕ → ℕ
+from_word ms k = bits_of_place (source ms k)
+
+abbrev pub to_word : CallMoves → ℕ → ℕ
+to_word ms k = bits_of_place (target ms k)
+
+-- the table has just the words of the first n moves
+pub record IsTable (ms : CallMoves) (n : ℕ) (t : Words) : Type 0 where
+  pub there : (j : ℕ) → j < n → t (to_word ms j) ≡ Some (from_word ms j)
+  pub back : (w v : ℕ) → t w ≡ Some v → (j : ℕ) × (j < n) × (w ≡ to_word ms j) × (v ≡ from_word ms j)
+  pub words : (j : ℕ) → j < n → IsPlace (source ms j) × IsPlace (target ms j)
+
+pub table_none : (ms : CallMoves) (t : Words) → ((w : ℕ) → t w ≡ None) → IsTable ms 0 t
+table_none ms t h = record {
+  there = λ j lt. absurd (omega arith);
+  back = λ w v e. let no : None ≡ Some v = sym (h w) ∙ e in absurd cc;
+  words = λ j lt. absurd (omega arith);
+}
+
+some_word : (a b : ℕ) → ◌≡◌ {A = Option ℕ} (Some a) (Some b) → a ≡ b
+some_word a b e = cc
+
+-- so far no two of these moves have one destination and two sources
+pub table_apart : (ms : CallMoves) (n : ℕ) (t : Words) → IsTable ms n t → HasNone n (HasOtherSource ms)
+table_apart ms n t h k lt (j, less, to, from) =
+    let first = h.there j (omega arith) in
+    let e : Some (from_word ms j) ≡ Some (from_word ms k) = sym first ∙ ap (λ p. t (bits_of_place p)) to ∙ h.there k lt in
+    from (same_word (source ms j) (source ms k) (h.words j (omega arith)).0 (h.words k lt).0 (some_word (from_word ms j) (from_word ms k) e))
+
+-- an earlier move has the destination, and another source
+pub table_other : (ms : CallMoves) (n : ℕ) (t : Words) (earlier : ℕ) → IsTable ms n t → IsPlace (target ms n) → t (to_word ms n) ≡ Some earlier →
+    earlier ≢ from_word ms n → HasOtherSource ms n
+table_other ms n t earlier h place e other =
+    let j = h.back (to_word ms n) earlier e in (
+      j.0,
+      j.1,
+      same_word (target ms j.0) (target ms n) (h.words j.0 j.1).1 place (sym j.2),
+      λ same. other (j.3 ∙ ap bits_of_place same),
+    )
+
+module _ (ms : CallMoves) (n : ℕ) (t u : Words) (h : IsTable ms n t) (from : IsPlace (source ms n)) (to : IsPlace (target ms n))
+    (put : (w : ℕ) → u w ≡ cond (nat_eq (to_word ms n) w) (Some (from_word ms n)) (t w))
+    (old : (t (to_word ms n) ≡ None) ⊎ (t (to_word ms n) ≡ Some (from_word ms n))) where
+  put_here : (w : ℕ) → to_word ms n ≡ w → u w ≡ Some (from_word ms n)
+  put_here w e = put w ∙ ap (λ b. cond b (Some (from_word ms n)) (t w)) (eq-eqb (to_word ms n) w e)
+
+  put_case : (w : ℕ) (b : Bool) → nat_eq (to_word ms n) w ≡ b → ((to_word ms n ≡ w) × (u w ≡ Some (from_word ms n))) ⊎ (u w ≡ t w)
+  put_case w true e = inl (eqb-true (to_word ms n) w e, put_here w (eqb-true (to_word ms n) w e))
+  put_case w false e = inr (put w ∙ ap (λ b. cond b (Some (from_word ms n)) (t w)) e)
+
+  kept : (j : ℕ) → j < n → u (to_word ms j) ≡ Some (from_word ms j)
+  kept j lt = ⊎_elim
+      (λ here. ⊎_elim
+      (λ none. let no : None ≡ Some (from_word ms j) = sym none ∙ ap t here.0 ∙ h.there j lt in absurd cc)
+      (λ some. here.1 ∙ sym some ∙ ap t here.0 ∙ h.there j lt)
+      old)
+      (λ same. same ∙ h.there j lt)
+      (put_case (to_word ms j) (nat_eq (to_word ms n) (to_word ms j)) refl)
+
+  all_there : (j : ℕ) → j < n + 1 → (j < n) ⊎ (j ≡ n) → u (to_word ms j) ≡ Some (from_word ms j)
+  all_there j lt (inl less) = kept j less
+  all_there j lt (inr same) = subst (λ i. u (to_word ms i) ≡ Some (from_word ms i)) (sym same) (put_here (to_word ms n) refl)
+
+  all_words : (j : ℕ) → (j < n) ⊎ (j ≡ n) → IsPlace (source ms j) × IsPlace (target ms j)
+  all_words j (inl less) = h.words j less
+  all_words j (inr same) = subst (λ i. IsPlace (source ms i) × IsPlace (target ms i)) (sym same) (from, to)
+
+  pub table_more : IsTable ms (n + 1) u
+  table_more = record {
+    there = λ j lt. all_there j lt (split_more j n lt);
+    back = λ w v e. ⊎_elim
+        (λ here. (n, (omega arith), sym here.0, some_word v (from_word ms n) (sym e ∙ here.1)))
+        (λ same. let j = h.back w v (sym same ∙ e) in (j.0, (omega (arith, j.1)), j.2, j.3))
+        (put_case w (nat_eq (to_word ms n) w) refl);
+    words = λ j lt. all_words j (split_more j n lt);
+  }
+
+-- a place whose word gives it back
+place_is : (p q : Place) (v : ℕ) → p ≡ q → v ≡ bits_of_place p → place_of_bits v ≡ p → IsPlace q
+place_is p q v e bits back = subst IsPlace e (ap place_of_bits (sym bits) ∙ back)
+
+module _ (ms : CallMoves) (n : ℕ) (t : Words) (p q : Place) (v w : ℕ) (h : IsTable ms n t) (from : p ≡ source ms n) (to : q ≡ target ms n)
+    (v_bits : v ≡ bits_of_place p) (w_bits : w ≡ bits_of_place q) (v_back : place_of_bits v ≡ p) (w_back : place_of_bits w ≡ q) where
+  v_is : v ≡ from_word ms n
+  v_is = v_bits ∙ ap bits_of_place from
+
+  w_is : w ≡ to_word ms n
+  w_is = w_bits ∙ ap bits_of_place to
+
+  -- the table with a move more
+  pub table_with : (u : Words) → ((x : ℕ) → u x ≡ cond (nat_eq w x) (Some v) (t x)) → (t w ≡ None) ⊎ (t w ≡ Some v) → IsTable ms (n + 1) u
+  table_with u put old = table_more ms n t u h (place_is p (source ms n) v from v_bits v_back) (place_is q (target ms n) w to w_bits w_back)
+      (λ x. put x ∙ ap (λ k. cond (nat_eq k x) (Some v) (t x)) w_is ∙ ap (λ k. cond (nat_eq (to_word ms n) x) (Some k) (t x)) v_is)
+      (⊎_elim (λ a. inl (ap t (sym w_is) ∙ a)) (λ b. inr (ap t (sym w_is) ∙ b ∙ ap Some v_is)) old)
+
+  -- a move whose destination has another source in the table
+  pub table_faulty : (earlier : ℕ) → t w ≡ Some earlier → earlier ≢ v → HasOtherSource ms n
+  table_faulty earlier e other = table_other ms n t earlier h (place_is q (target ms n) w to w_bits w_back) (ap t (sym w_is) ∙ e) (λ same. other (same ∙ sym v_is))

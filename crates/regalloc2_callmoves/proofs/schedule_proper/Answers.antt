@@ -1,0 +1,46 @@
+use Rattle.std.proofs.Common.{subst, sym, rules}
+use Rattle.std.specs.Prelude.{List}
+use Rattle.std.proofs.lemmas.Result.{err_from_is_err_and}
+use Rattle.regalloc2_names.specs.Place.{Place}
+use Rattle.regalloc2_parts.specs.AtOnce.{ends_of, HasOneSourceEach}
+use Rattle.regalloc2_parts.specs.Resolved.{listed, has_scratch, IsResolution}
+use Rattle.regalloc2_parts.specs.declared.moves.MoveFault.{MoveFault}
+use Rattle.regalloc2_callmoves.specs.CallMoves.{fault_of, IsFault}
+use Rattle.regalloc2_callmoves.proofs.CallSchedule.{one_source, usable, outcome}
+use Rattle.regalloc2_callmoves.proofs.schedule_proper.Goals as goal
+
+pub in_parallel-requires : goal.in_parallel-requires
+in_parallel-requires c = let named = c.requires.proper.named in search (rules, named)
+
+pub resolve-requires : goal.resolve-requires
+resolve-requires c =
+    let one : HasOneSourceEach (ends_of c.in_ok-parallel.parallel) =
+    subst (λ (xs : List (Place × Place × Unit {0})). HasOneSourceEach (ends_of xs)) (sym c.in_ok-parallel.ensures.all)
+    (one_source c.args.moves.now c.requires.proper.one_source) in
+    search (rules, one)
+
+pub compute-requires-clause-serves : goal.compute-requires-clause-serves
+compute-requires-clause-serves c =
+    usable c.args.moves.now c.args.frame.now c.lent.result c.requires.proper c.lent.ensures (has_scratch c.in_ok-resolved.resolved)
+    (listed c.in_ok-resolved.resolved)
+    (subst (λ (xs : List (Place × Place × Unit {0})). IsResolution xs (has_scratch c.in_ok-resolved.resolved) (listed c.in_ok-resolved.resolved))
+    c.in_ok-parallel.ensures.all c.in_ok-resolved.ensures.resolved)
+
+pub returns-in_err-parallel : goal.returns-in_err-parallel
+returns-in_err-parallel c =
+    let p = err_from_is_err_and c.from_residual.result c.from_residual.ensures.1 in
+    rw (p.1, p.2)
+    (subst (λ (e : MoveFault). IsFault c.args.moves.now c.args.frame.now (fault_of e)) (sym c.in_err-parallel.ensures.memory) c.requires.proper)
+
+pub returns-in_err-resolved : goal.returns-in_err-resolved
+returns-in_err-resolved c =
+    let p = err_from_is_err_and c.from_residual-in_err-resolved.result c.from_residual-in_err-resolved.ensures.1 in
+    rw (p.1, p.2)
+    (subst (λ (e : MoveFault). IsFault c.args.moves.now c.args.frame.now (fault_of e)) (sym c.in_err-resolved.ensures.memory) c.requires.proper)
+
+pub returns : goal.returns
+returns c =
+    outcome c.args.moves.now c.args.frame.now c.lent.result c.requires.proper c.lent.ensures (has_scratch c.in_ok-resolved.resolved)
+    (listed c.in_ok-resolved.resolved)
+    (subst (λ (xs : List (Place × Place × Unit {0})). IsResolution xs (has_scratch c.in_ok-resolved.resolved) (listed c.in_ok-resolved.resolved))
+    c.in_ok-parallel.ensures.all c.in_ok-resolved.ensures.resolved) c.compute.result c.compute.ensures

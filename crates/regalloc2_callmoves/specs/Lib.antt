@@ -1,0 +1,2 @@
+pub mod CallMoves
+pub mod Lending

@@ -1,0 +1,116 @@
+//! The moves of one call, in an order in which they can be made one after another.
+//!
+//! The arguments of a call go to the places that a calling convention names, all at once. `schedule` makes of such moves a list that
+//! does the same step by step, with free registers and free slots as the only places that it changes beside.
+#![tactic(auto)]
+
+ghost use Rattle.std.specs.Prelude.{◌≡◌, ◌≤◌, length, IfOk, IfErr, MatchResult};
+ghost use Rattle.regalloc2_callmoves.specs.CallMoves.{fault_of, with_units, HasNone, NamesNone, IsFault, IsProper, IsScheduled};
+
+mod fault;
+mod lent;
+
+use regalloc2_names::{Allocation, PReg, PRegSet};
+use regalloc2_parts::moves::{MoveFault, MoveVec, ParallelMoves};
+use std::alloc::Global;
+use std::ops::Range;
+
+/// What the moves of a call may use, beside the places that they name.
+#[derive(Drop)]
+pub struct CallFrame {
+    /// Registers whose values are not needed. They are handed out from the front.
+    pub free_regs: Vec<PReg>,
+    /// A register that is used where none is free, and restored.
+    pub borrowed: PReg,
+    /// The registers that stand for places in memory: no move goes from memory to memory.
+    pub stack_pregs: PRegSet,
+    /// Slots whose values are not needed. They are handed out from the start.
+    pub slots: Range<usize>,
+}
+
+/// Why the moves of a call could not be scheduled: the first of the first three that applies, else one of the last two.
+#[derive(Clone, Copy, Debug, PartialEq, Eq)]
+pub enum CallFault {
+    /// The index of the first move that names `Allocation::none()`.
+    NoneNamed(usize),
+    /// The destination of the first move whose destination an earlier move has, with another source.
+    TwoSources(Allocation),
+    /// The first place in use that should be free: a free register that a move names, that stands earlier in the list or that stands
+    /// for a place in memory; the borrowed register, where it is free or stands for a place in memory; the lowest slot of the range
+    /// that a move names.
+    InUse(Allocation),
+    /// A slot was needed, and the range had none left.
+    NoSlot,
+    /// A growth was refused.
+    Memory,
+}
+
+impl From<MoveFault> for CallFault {
+    ghost use Rattle.std.specs.Prelude.{◌≡◌};
+    ghost use Rattle.regalloc2_callmoves.specs.CallMoves.{fault_of};
+
+    ghost from_gives = { λ e r. r ≡ fault_of e };
+
+    fn from(fault: MoveFault) -> Self {
+        match fault {
+            MoveFault::NoSlot => CallFault::NoSlot,
+            MoveFault::Memory => CallFault::Memory,
+        }
+    }
+}
+
+/// The moves as moves that are to be made at once.
+fn in_parallel(
+    alloc: Global,
+    moves: &[(Allocation, Allocation)],
+) -> Result<ParallelMoves<()>, MoveFault>
+    requires { HasNone (length moves.now) (NamesNone moves.now) }
+    ensures all { IfOk result (λ p. p ≡ with_units moves.now) }
+    ensures memory { IfErr result (λ e. e ≡ MoveFault.Memory) }
+{
+    let mut parallel = ParallelMoves::new(alloc);
+    for m in moves {
+        parallel.add(m.0, m.1, ())?;
+    }
+    Ok(parallel)
+}
+
+/// The same for moves and a frame without fault.
+fn schedule_proper(
+    alloc: Global,
+    moves: &[(Allocation, Allocation)],
+    frame: &CallFrame,
+) -> Result<MoveVec<()>, MoveFault>
+    requires range { frame.now.slots.start ≤ frame.now.slots.«end» }
+    requires small { frame.now.slots.«end» ≤ 16777216 }
+    requires proper { IsProper moves.now frame.now }
+    ensures { MatchResult result (λ made. IsScheduled moves.now frame.now made.items) (λ e. IsFault moves.now frame.now (fault_of e)) }
+{
+    let parallel = in_parallel(alloc, moves)?;
+    let resolved = parallel.resolve()?;
+    frame.lent().compute(resolved)
+}
+
+/// The moves of a call, put in an order in which they can be made one after another as if they were made at once.
+///
+/// A cycle goes through a free register, or else through a slot of the range; a move from memory to memory through a free register, or
+/// else through the borrowed one, which is saved in a slot and restored. The range ends at most at 2^24.
+///
+/// The contract leaves open in which order the moves come, and how many they are.
+pub fn schedule(
+    alloc: Global,
+    moves: &[(Allocation, Allocation)],
+    frame: &CallFrame,
+) -> Result<MoveVec<()>, CallFault>
+    requires range { frame.now.slots.start ≤ frame.now.slots.«end» }
+    requires small { frame.now.slots.«end» ≤ 16777216 }
+    ensures { MatchResult result (λ made. IsProper moves.now frame.now × IsScheduled moves.now frame.now made.items) (IsFault moves.now frame.now) }
+{
+    if let Some(fault) = fault::find_fault(alloc, moves, frame) {
+        return Err(fault);
+    }
+    match schedule_proper(alloc, moves, frame) {
+        Ok(made) => Ok(made),
+        Err(fault) => Err(CallFault::from(fault)),
+    }
+}
