@@ -32,6 +32,11 @@ pub use regalloc2_names::{
 pub use regalloc2_parts::moves;
 pub use tested::{AllocateError, TestedRunError, allocate, allocate_without_checker, run_tested};
 
+/// The moves of one call.
+pub mod callmoves {
+    pub use regalloc2_callmoves::{CallFault, CallFrame, schedule};
+}
+
 /// The checker of allocations.
 pub mod checker {
     pub use regalloc2_checker::{
