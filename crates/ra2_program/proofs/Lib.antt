@@ -1,3 +1,3 @@
-pub mod Found
-pub mod Judged
-pub mod Readings
+pub mod FindingsWritten
+pub mod Outcomes
+pub mod TextReadings

@@ -11,7 +11,7 @@ use Rattle.regalloc2_checker.specs.declared.errors.CheckerError.{CheckerError}
 use Rattle.regalloc2_checker.specs.declared.errors.CheckerError.TheVariants.{MalformedOutput, Memory}
 use Rattle.ra2_program.specs.Text.{checked_line}
 
--- that it is out of order, or the faults of one that isn't faithful, or that memory was refused
+-- that it is out of order, or the faults of one that isn't faithful, or that memory ran out
 pub data AreFindings (f : FunctionValue) (env : MachineValue) (out : OutputValue) : List (CheckerError Global) → Type 0 where
   malformed : (IsInOrder f out → ⊥) → AreFindings f env out (MalformedOutput ∷ [])
   faults : (es : List (CheckerError Global)) → (IsFaithful f env out → ⊥) → IsReport f env out es → AreFindings f env out es

@@ -4,7 +4,7 @@ ghost use Rattle.std.specs.Prelude.{◌≡◌};
 ghost use Rattle.ra2_program.specs.Words.{command_of};
 
 /// What is done with a function.
-#[derive(Clone, Copy, PartialEq, Eq)]
+#[derive(Clone, Copy)]
 pub enum Task {
     /// To allocate registers.
     Run,
@@ -13,7 +13,7 @@ pub enum Task {
 }
 
 /// What the words ask for.
-#[derive(Clone, Copy, PartialEq, Eq)]
+#[derive(Clone, Copy)]
 pub enum Command {
     /// A task with a stored function.
     Allocate(Task),

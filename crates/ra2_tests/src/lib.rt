@@ -2,8 +2,6 @@
 #![tactic(auto)]
 
 #[cfg(test)]
-mod judging;
-#[cfg(test)]
 mod program;
 #[cfg(test)]
 mod replaying;

@@ -1,6 +1,6 @@
 //! What the program answers to words and texts, and where a read or a write fails.
 
-use super::texts::{TEXT, TOO_MANY, TWO_BLOCKS};
+use super::texts::{TEXT, TOO_MANY};
 use ra2_program::answer;
 use std::alloc::{AllocError, Global};
 use std::io::{self, BufWriter, ErrorKind, Read, Write};
@@ -11,8 +11,6 @@ const LISTING: &str =
 
 const CHECKED: &str =
     "block0:\n  inst0 op: Def: v0i reg [p9i]\n  inst1 ret: Use: v0i reg [p9i]\nslots 0\nchecked\n";
-
-const BLOCKS_CHECKED: &str = "block0:\n  inst0 branch\nblock1:\n  inst1 ret\nslots 0\nchecked\n";
 
 const UNREADABLE: &str = "ra2: input unreadable\n";
 
@@ -102,11 +100,9 @@ pub fn answers(alloc: Global, line: &[&str], text: &[u8], want: Answer) -> Resul
     let out = BufWriter::new(alloc, Vec::new(alloc))?;
     let mut err = Vec::new(alloc);
     let (status, out) = answer(alloc, words.as_slice(), text, out, &mut err);
-    Ok(
-        status == want.status
-            && out.as_slice() == want.out.as_bytes()
-            && err.as_slice() == want.err.as_bytes(),
-    )
+    let is_out = out.as_slice() == want.out.as_bytes();
+    let is_err = err.as_slice() == want.err.as_bytes();
+    Ok(status == want.status && is_out && is_err)
 }
 
 /// The text with one part replaced.
@@ -117,41 +113,38 @@ pub fn replaced(alloc: Global, old: &str, new: &str) -> Result<String, AllocErro
     }
 }
 
+/// A line on the standard error.
+pub fn unusable(err: &str) -> Answer<'_> {
+    Answer {
+        out: "",
+        err,
+        status: 2,
+    }
+}
+
 #[test]
 fn functions_are_allocated(rt: HostRuntime) -> Result<(), Fail> {
     let rows = [
         ("run", TEXT, LISTING, 0),
         ("check", TEXT, CHECKED, 0),
-        ("check", TWO_BLOCKS, BLOCKS_CHECKED, 0),
         ("run", TOO_MANY, "refused 7\n", 1),
         ("check", TOO_MANY, "refused 7\n", 1),
     ];
     for (word, text, out, status) in rows {
-        let want = Answer {
-            out,
-            err: "",
-            status,
-        };
-        assert!(rt;
-            answers(rt.alloc(), &[word], text.as_bytes(), want)?,
-            "{word} {status}"
-        );
+        let err = "";
+        let want = Answer { out, err, status };
+        let is_so = answers(rt.alloc(), &[word], text.as_bytes(), want)?;
+        assert!(rt; is_so, "{word} {status}");
     }
     Ok(())
 }
 
 #[test]
 fn bad_words_are_refused(rt: HostRuntime) -> Result<(), Fail> {
-    let want = Answer {
-        out: "",
-        err: "ra2: bad words\n",
-        status: 2,
-    };
+    let want = unusable("ra2: bad words\n");
     for word in ["walk", "replays", "", "Run", "runs", "ru"] {
-        assert!(rt;
-            answers(rt.alloc(), &[word], TEXT.as_bytes(), want)?,
-            "{word}"
-        );
+        let is_so = answers(rt.alloc(), &[word], TEXT.as_bytes(), want)?;
+        assert!(rt; is_so, "{word}");
     }
     assert!(rt; answers(rt.alloc(), &[], TEXT.as_bytes(), want)?);
     assert!(rt; answers(rt.alloc(), &["run", "check"], TEXT.as_bytes(), want)?);
@@ -162,54 +155,39 @@ fn bad_words_are_refused(rt: HostRuntime) -> Result<(), Fail> {
 #[test]
 fn bad_functions_are_refused(rt: HostRuntime) -> Result<(), Fail> {
     let rows = [
-        (
-            "\"block_preds\":[[]]",
-            "\"block_preds\":[]",
-            "ra2: bad function 1\n",
-        ),
-        ("[[0,2]]", "[[0,3]]", "ra2: bad function 2\n"),
-        ("85899345920", "206158430208", "ra2: bad function 3\n"),
-        ("[1,1,1]", "[3,1,1]", "ra2: bad function 4\n"),
-        ("[1,1,1]", "[1,1]", "ra2: bad function 1\n"),
-        (
-            "\"fixed_stack_slots\":[]",
-            "\"fixed_stack_slots\":[0]",
-            "ra2: bad machine\n",
-        ),
-        ("\"num_vregs\":1,", "", UNREADABLE),
+        ("preds\":[[]]", "preds\":[]", "bad function 1"),
+        ("[[0,2]]", "[[0,3]]", "bad function 2"),
+        ("85899345920", "206158430208", "bad function 3"),
+        ("[1,1,1]", "[3,1,1]", "bad function 4"),
+        ("[1,1,1]", "[1,1]", "bad function 1"),
+        ("slots\":[]", "slots\":[0]", "bad machine"),
+        ("\"num_vregs\":1,", "", "input unreadable"),
+        ("\"num_vregs\":1", "\"vregs\":1", "input unreadable"),
+        ("vregs\":1", "vregs\":\"1\"", "input unreadable"),
+        ("vregs\":1", "vregs\":-1", "input unreadable"),
+        ("[[0,2]]", "[[0,2,2]]", "input unreadable"),
+        ("[[0,2]]", "[[0]]", "input unreadable"),
+        ("[[0,1,", "[[256,1,", "input unreadable"),
+        ("preds\":[[]]", "preds\":{}", "input unreadable"),
     ];
-    for (old, new, err) in rows {
+    for (old, new, words) in rows {
         let text = replaced(rt.alloc(), old, new)?;
-        let want = Answer {
-            out: "",
-            err,
-            status: 2,
-        };
-        assert!(rt;
-            answers(rt.alloc(), &["run"], text.as_bytes(), want)?,
-            "run with {new}"
-        );
-        assert!(rt;
-            answers(rt.alloc(), &["check"], text.as_bytes(), want)?,
-            "check with {new}"
-        );
+        let err = format!(in rt.alloc(); "ra2: {words}\n")?;
+        let want = unusable(err.as_str());
+        let run = answers(rt.alloc(), &["run"], text.as_bytes(), want)?;
+        let check = answers(rt.alloc(), &["check"], text.as_bytes(), want)?;
+        assert!(rt; run && check, "{new}");
     }
     Ok(())
 }
 
 #[test]
 fn texts_that_are_cut_or_no_text_are_refused(rt: HostRuntime) -> Result<(), Fail> {
-    let want = Answer {
-        out: "",
-        err: UNREADABLE,
-        status: 2,
-    };
+    let want = unusable(UNREADABLE);
     let whole = TEXT.as_bytes();
     for length in 0..whole.len() {
-        assert!(rt;
-            answers(rt.alloc(), &["run"], &whole[..length], want)?,
-            "{length} bytes"
-        );
+        let is_so = answers(rt.alloc(), &["run"], &whole[..length], want)?;
+        assert!(rt; is_so, "{length} bytes");
     }
     let no_text: [&[u8]; 4] = [b"{", b"null", &[34, 255, 34], &[195, 40]];
     for bytes in no_text {
@@ -229,11 +207,9 @@ fn failed_reads_are_refused(rt: HostRuntime) -> Result<(), Fail> {
         let out = BufWriter::new(rt.alloc(), Vec::new(rt.alloc()))?;
         let mut err = Vec::new(rt.alloc());
         let (status, out) = answer(rt.alloc(), words.as_slice(), input, out, &mut err);
-        assert_eq!(rt; status, 2, "after {sound_reads}");
-        assert!(rt; out.is_empty(), "after {sound_reads}");
-        assert_eq!(rt;
-            err.as_slice(),
-            UNREADABLE.as_bytes(),
+        let is_told = err.as_slice() == UNREADABLE.as_bytes();
+        assert!(rt;
+            status == 2 && out.is_empty() && is_told,
             "after {sound_reads}"
         );
     }
@@ -241,11 +217,7 @@ fn failed_reads_are_refused(rt: HostRuntime) -> Result<(), Fail> {
 }
 
 /// What the program writes and answers where the write that comes after so many others fails, over a buffer of so many bytes.
-fn answer_to_faulty(
-    alloc: Global,
-    capacity: usize,
-    sound_writes: u32,
-) -> Result<(u8, Faulty), Fail> {
+fn answer_faulty(alloc: Global, capacity: usize, sound_writes: u32) -> Result<(u8, Faulty), Fail> {
     let words = words(alloc, &["check"])?;
     let out = Faulty::new(alloc, sound_writes, true);
     let out = BufWriter::with_capacity(alloc, capacity, out)?;
@@ -260,7 +232,7 @@ fn answer_to_faulty(
 /// How many writes there are over a buffer of so many bytes, where each of them ends the program if it fails.
 fn fatal_writes(alloc: Global, capacity: usize) -> Result<Option<u32>, Fail> {
     for sound_writes in 0..1000u32 {
-        let (status, out) = answer_to_faulty(alloc, capacity, sound_writes)?;
+        let (status, out) = answer_faulty(alloc, capacity, sound_writes)?;
         if !out.has_failed {
             let is_whole = status == 0 && out.text.as_slice() == CHECKED.as_bytes();
             return Ok(is_whole.then_some(sound_writes));

@@ -1,6 +1,6 @@
 //! What `replay` answers to stored outputs.
 
-use super::program::{Answer, answers, replaced};
+use super::program::{Answer, answers, replaced, unusable};
 use super::texts::{FORK, FORK_OUTPUT, TEXT};
 use std::alloc::{AllocError, Global};
 use std::test::Fail;
@@ -28,15 +28,6 @@ fn judged(out: &str) -> Answer<'_> {
     }
 }
 
-/// A line on the standard error.
-fn unusable(err: &str) -> Answer<'_> {
-    Answer {
-        out: "",
-        err,
-        status: 2,
-    }
-}
-
 #[test]
 fn outputs_are_judged(rt: HostRuntime) -> Result<(), Fail> {
     let rows = [
@@ -51,10 +42,8 @@ fn outputs_are_judged(rt: HostRuntime) -> Result<(), Fail> {
     ];
     for (allocs, offsets, lines) in rows {
         let output = output(rt.alloc(), allocs, offsets)?;
-        assert!(rt;
-            replays(rt.alloc(), TEXT, output.as_str(), judged(lines))?,
-            "{allocs}"
-        );
+        let is_so = replays(rt.alloc(), TEXT, output.as_str(), judged(lines))?;
+        assert!(rt; is_so, "{allocs}");
     }
     let lines = "error 4 inst3 Use: v1i reg [p9i]\n";
     assert!(rt; replays(rt.alloc(), FORK, FORK_OUTPUT, judged(lines))?);
@@ -70,23 +59,11 @@ fn bad_pairs_are_refused(rt: HostRuntime) -> Result<(), Fail> {
     let want = unusable("ra2: bad output 3\n");
     assert!(rt; replays(alloc, TEXT, no_place.as_str(), want)?);
     let short = replaced(alloc, "\"block_preds\":[[]]", "\"block_preds\":[]")?;
-    assert!(rt;
-        replays(
-            alloc,
-            short.as_str(),
-            sound,
-            unusable("ra2: bad function 1\n")
-        )?
-    );
+    let want = unusable("ra2: bad function 1\n");
+    assert!(rt; replays(alloc, short.as_str(), sound, want)?);
     let unframed = replaced(alloc, "[[0,2]]", "[[0,1]]")?;
-    assert!(rt;
-        replays(
-            alloc,
-            unframed.as_str(),
-            sound,
-            unusable("ra2: not framed\n")
-        )?
-    );
+    let want = unusable("ra2: not framed\n");
+    assert!(rt; replays(alloc, unframed.as_str(), sound, want)?);
     let unreadable = unusable("ra2: input unreadable\n");
     let three = format!(in alloc; "{sound},{sound}")?;
     assert!(rt; replays(alloc, TEXT, three.as_str(), unreadable)?);

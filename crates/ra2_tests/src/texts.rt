@@ -25,17 +25,6 @@ pub const TOO_MANY: &str = "{\"machine_env\":{\"preferred_regs_by_class\":[[0,1]
     \"debug_value_labels\":[],\"spillslot_size\":[1,1,1],\
     \"multi_spillslot_named_by_last_slot\":false,\"allow_multiple_vreg_defs\":false}";
 
-/// Two blocks: a branch to the second, and a return there.
-pub const TWO_BLOCKS: &str = "{\"machine_env\":{\"preferred_regs_by_class\":[[0,1],[],[]],\
-    \"non_preferred_regs_by_class\":[[],[],[]],\"scratch_by_class\":[null,null,null],\
-    \"fixed_stack_slots\":[]},\"entry_block\":0,\"insts\":[\
-    {\"op\":\"Branch\",\"operands\":[],\"clobbers\":[]},\
-    {\"op\":\"Ret\",\"operands\":[],\"clobbers\":[]}],\
-    \"blocks\":[[0,1],[1,2]],\"block_preds\":[[],[0]],\"block_succs\":[[1],[]],\
-    \"block_params_in\":[[],[]],\"block_params_out\":[[[]],[]],\"num_vregs\":0,\
-    \"debug_value_labels\":[],\"spillslot_size\":[1,1,1],\
-    \"multi_spillslot_named_by_last_slot\":false,\"allow_multiple_vreg_defs\":false}";
-
 /// A fork whose second way reads the parameter of the first: on that way it was never written.
 pub const FORK: &str =
     "{\"machine_env\":{\"preferred_regs_by_class\":[[0,1,2,3,4,5,6,7,8,9],[],[]],\

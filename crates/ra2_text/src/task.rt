@@ -13,16 +13,19 @@ const HELP: &str = "\
 run     allocate registers, and write the function with its machine and output as a text:
         instructions with the places of their operands, clobbers, successors with their
         arguments, parameters of blocks, and the moves where they run
-check   allocate registers, and write `checked` or what the checker finds wrong
-replay  check the output that FILE gives with the function
+check   write `checked`, or what the checker finds wrong in the output that FILE gives: a text
+        with places, moves, debug locations or a line `slots N` gives one. If it gives none,
+        allocate registers, and check that output
+replay  the same, but an error if FILE gives no output
 text    the same as run
 reads   write whether each read and each argument comes after a write on every path: `written
         first` or `read before written`
 json    write the function in FILE with its machine as JSON, for ra2
 
-A refused function or output is one line with its number and the reason. The status is then 1,
-and also where the checker finds something. It is 2 where FILE can't be read as a text, whose first
-fault is on standard error with its line and column, and where nothing can be written.";
+run and text allocate anew, whatever output FILE gives. A refused function or output is one
+line with its number and the reason. The status is then 1, and also where the checker finds
+something. It is 2 where FILE can't be read as a text, whose first fault is on standard error
+with its line and column, and where nothing can be written.";
 
 /// What is to be done with a text.
 #[derive(Clone, Copy)]

@@ -1,2 +1,2 @@
-pub mod Judged
-pub mod Told
+pub mod CheckerErrorReasons
+pub mod AllocateErrorReasons

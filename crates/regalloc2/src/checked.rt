@@ -22,11 +22,11 @@ use std::alloc::{Allocator, Global};
 /// Why a run that is checked gives no output.
 #[derive(Debug, Drop)]
 pub enum CheckedRunError<A: Allocator = Global> {
-    /// The function was refused.
+    /// Why nothing was allocated: what `run` says of the function.
     Refused(RegAllocError),
     /// The checker found these faults in what was allocated.
     Faults(CheckerErrors<A>),
-    /// The checker was refused memory.
+    /// The checker ran out of memory.
     Unjudged,
 }
 
@@ -83,7 +83,7 @@ pub fn run_checked<A: Allocator + Copy, F: Function, B: Allocator>(
     ensures allocation { IfOk result (λ out. IsAllocation (F.function f.now) (machine_of env.now) (output_of out)) }
     ensures faithful { IfOk result (λ out. IsFaithful (F.function f.now) (machine_of env.now) (output_of out)) }
     ensures tested { OnOk result (IsWellFormed (machine_of env.now) (F.function f.now)) }
-    ensures owed { OnOk result (PassesAllChecks (F.function f.now) (machine_of env.now) options.now.validate_ssa) }
+    ensures passes_checks { OnOk result (PassesAllChecks (F.function f.now) (machine_of env.now) options.now.validate_ssa) }
     ensures accepted { IsWrittenFirst (F.function f.now) → IfErr result (λ e. IsFault e → ⊥) }
     ensures refused { IfErr result (IsCheckedReason (F.function f.now) (machine_of env.now) options.now.validate_ssa) }
 {

@@ -5,7 +5,7 @@
 //! [`allocate`], and reads the [`Output`]. That call has no conditions: it tests the machine and the function, and the checker
 //! accepts what it gives. [`run_tested`] has none either: it tests that no path reads before writing, and then its output needs
 //! no checker. [`allocate_without_checker`] makes neither test. [`run`] and [`run_checked`] make no test of the machine, which
-//! their caller proves to fit; a [`checker::Checker`] judges any output. What each item promises stands where it is declared,
+//! their caller proves to fit; a [`checker::Checker`] judges any output. What each item promises is said where it is declared,
 //! in words of this crate's `specs`, which passes on those of the crates below.
 #![tactic(auto)]
 

@@ -25,11 +25,11 @@ use std::fmt;
 pub enum AllocateError<A: Allocator = Global> {
     /// The machine doesn't suit the function.
     Misfit(MachineMisfit),
-    /// The function was refused, or registers, slots or memory ran out.
+    /// A test of the function failed, or registers, slots or memory ran out.
     Refused(RegAllocError),
     /// The checker found these faults in what was allocated.
     Faults(CheckerErrors<A>),
-    /// The checker was refused memory.
+    /// The checker ran out of memory.
     Unjudged,
 }
 
@@ -53,7 +53,7 @@ impl<A: Allocator + fmt::Debug> Error for AllocateError<A> {}
 pub enum TestedRunError {
     /// The machine doesn't suit the function.
     Misfit(MachineMisfit),
-    /// The function was refused, or registers, slots or memory ran out.
+    /// A test of the function failed, or registers, slots or memory ran out.
     Refused(RegAllocError),
     /// Some path from the entry reads or passes a virtual register before writing it.
     ReadBeforeWritten,
@@ -112,7 +112,7 @@ pub fn allocate<A: Allocator + Copy, F: Function, B: Allocator>(
     ensures faithful { IfOk result (λ out. IsFaithful (F.function f.now) (machine_of env.now) (output_of out)) }
     ensures fitting { OnOk result (MachineFits (F.function f.now) (machine_of env.now)) }
     ensures tested { OnOk result (IsWellFormed (machine_of env.now) (F.function f.now)) }
-    ensures owed { OnOk result (PassesAllChecks (F.function f.now) (machine_of env.now) true) }
+    ensures passes_checks { OnOk result (PassesAllChecks (F.function f.now) (machine_of env.now) true) }
     ensures accepted { IsWrittenFirst (F.function f.now) → IfErr result (λ e. IsAllocateFault e → ⊥) }
     ensures refused { IfErr result (IsAllocateReason (F.function f.now) (machine_of env.now)) }
 {
@@ -137,7 +137,7 @@ pub fn allocate_without_checker<A: Allocator + Copy, F: Function, B: Allocator>(
     ensures allocation { IfOk result (λ out. IsAllocation (F.function f.now) (machine_of env.now) (output_of out)) }
     ensures fitting { OnOk result (MachineFits (F.function f.now) (machine_of env.now)) }
     ensures tested { OnOk result (IsWellFormed (machine_of env.now) (F.function f.now)) }
-    ensures owed { OnOk result (PassesAllChecks (F.function f.now) (machine_of env.now) true) }
+    ensures passes_checks { OnOk result (PassesAllChecks (F.function f.now) (machine_of env.now) true) }
     ensures refused { IfErr result (IsTestedReason (F.function f.now) (machine_of env.now)) }
 {
     if let Err(misfit) = test_machine(f, env) {
@@ -160,7 +160,7 @@ pub fn allocate_without_checker<A: Allocator + Copy, F: Function, B: Allocator>(
 /// `ReadBeforeWritten`. The checker isn't asked: [`allocate`] asks it, and takes functions that read before writing where it
 /// accepts the output.
 ///
-/// Not promised: that `Memory` comes only where memory was refused.
+/// Not promised: that `Memory` comes only where memory ran out.
 pub fn run_tested<A: Allocator + Copy, F: Function, B: Allocator>(
     alloc: A,
     f: &F,
@@ -171,7 +171,7 @@ pub fn run_tested<A: Allocator + Copy, F: Function, B: Allocator>(
     ensures live { IfOk result (λ out. LiveInSlots (F.function f.now) (output_of out)) }
     ensures fitting { OnOk result (MachineFits (F.function f.now) (machine_of env.now)) }
     ensures tested { OnOk result (IsWellFormed (machine_of env.now) (F.function f.now)) }
-    ensures owed { OnOk result (PassesAllChecks (F.function f.now) (machine_of env.now) true) }
+    ensures passes_checks { OnOk result (PassesAllChecks (F.function f.now) (machine_of env.now) true) }
     ensures written { OnOk result (IsWrittenFirst (F.function f.now)) }
     ensures refused { IfErr result (IsTestedRunReason (F.function f.now) (machine_of env.now)) }
 {

@@ -3,12 +3,15 @@
 //!
 //! Words: the task, and how many times. `allocate` allocates without testing that the function is well-formed, `test` with
 //! those tests, `check` judges the output, and `reads` asks whether reads come after writes. The function comes on standard
-//! input. `docs/BENCH.md` says how to measure.
+//! input. Or `callmoves-cycle` or `callmoves-swaps`, how many times, and of how many moves: those of a call are scheduled, in one
+//! cycle or in swaps. `docs/BENCH.md` says how to measure.
 #![tactic(auto)]
 
+mod calls;
 mod input;
 mod task;
 
+use calls::{Shape, is_scheduled};
 use input::read_function;
 use std::alloc::Global;
 use std::env::{self, Env};
@@ -25,11 +28,23 @@ fn words(rt: &(impl Env + AllocGlobal)) -> std::io::Result<Vec<String>> {
     Ok(words)
 }
 
-/// The task that the words name, and how many times.
-fn task_of(words: &[String]) -> Option<(Task, usize)> {
-    let task = Task::of(words.get(0)?.as_str())?;
+/// What the words ask for, and how many times.
+#[derive(Clone, Copy)]
+enum Measure {
+    /// A task with the function that is read.
+    Function(Task, usize),
+    /// To schedule so many moves of a call.
+    Call(Shape, usize, usize),
+}
+
+/// What the words ask for.
+fn measure_of(words: &[String]) -> Option<Measure> {
+    let word = words.get(0)?.as_str();
     let times = words.get(1)?.parse().ok()?;
-    Some((task, times))
+    if let Some(shape) = Shape::of(word) {
+        return Some(Measure::Call(shape, times, words.get(2)?.parse().ok()?));
+    }
+    Some(Measure::Function(Task::of(word)?, times))
 }
 
 /// Whether a function was read from the input, and the task done with it so many times.
@@ -44,9 +59,12 @@ fn main(rt: HostRuntime) -> ExitCode {
     let Ok(words) = words(&rt) else {
         return ExitCode::from(2);
     };
-    let Some((task, times)) = task_of(&words) else {
+    let Some(measure) = measure_of(&words) else {
         return ExitCode::from(2);
     };
-    let is_done = is_measured(rt.alloc(), rt.stdin(), task, times);
+    let is_done = match measure {
+        Measure::Function(task, times) => is_measured(rt.alloc(), rt.stdin(), task, times),
+        Measure::Call(shape, times, many) => is_scheduled(rt.alloc(), shape, many, times),
+    };
     ExitCode::from(if is_done { 0 } else { 1 })
 }

@@ -12,6 +12,7 @@ use Rattle.regalloc2_parts.proofs.Places.{is_place-true, is_place-same}
 use Rattle.regalloc2_callmoves.specs.declared.CallFrame.{CallFrame}
 use Rattle.regalloc2_callmoves.specs.CallMoves.{CallMoves, call_move, source, target, free_at, HasNone, NamesNone, IsNamed, IsTaken, IsLower}
 
+-- the test of equality says yes for equal places
 pub is_place-along : (p q : Place) → p ≡ q → is_place p q ≡ true
 is_place-along p q e = ap (λ x. is_place p x) (sym e) ∙ is_place-same p
 
@@ -25,6 +26,7 @@ slot_there NoPlace s e = absurd cc
 slot_there (InRegister r) s e = absurd cc
 slot_there (InSlot n) s e = refl
 
+-- a place without a slot's number is no slot
 pub slot_not : (p : Place) → None ≡ slot_of_place p → (n : ℕ) → p ≢ InSlot n
 slot_not p e n is = let no : None ≡ Some n = e ∙ ap slot_of_place is in cc
 
@@ -32,6 +34,7 @@ slot_not p e n is = let no : None ≡ Some n = e ∙ ap slot_of_place is in cc
 pub split_more : (k n : ℕ) → k < n + 1 → (k < n) ⊎ (k ≡ n)
 split_more k n lt = ⊎_elim (λ l. inl l) (λ h. inr (omega arith)) (cases_lt k n)
 
+-- a number that isn't above another is below it or it
 pub split_le : (a b : ℕ) → a ≤ b → (a < b) ⊎ (a ≡ b)
 split_le a b le = ⊎_elim (λ l. inl l) (λ h. inr (omega arith)) (cases_lt a b)
 
@@ -54,9 +57,11 @@ move_real ms k m h lt is =
 abbrev pub IsNamedBelow : CallMoves → ℕ → Place → Type 0
 IsNamedBelow ms n p = (k : ℕ) × (k < n) × ((source ms k ≡ p) ⊎ (target ms k ≡ p))
 
+-- what the first n moves name, one move more names too
 pub named_later : (ms : CallMoves) (n : ℕ) (p : Place) → IsNamedBelow ms n p → IsNamedBelow ms (n + 1) p
 named_later ms n p (k, lt, is) = (k, (omega arith), is)
 
+-- a place that move n is from or to is named by the first n + 1
 pub named_here : (ms : CallMoves) (n : ℕ) (p : Place) → (source ms n ≡ p) ⊎ (target ms n ≡ p) → IsNamedBelow ms (n + 1) p
 named_here ms n p is = (n, (omega arith), is)
 
@@ -84,12 +89,14 @@ true_right : (a b : Bool) → b ≡ true → (a || b) ≡ true
 true_right true b e = refl
 true_right false b e = e
 
+-- an empty set has the registers that no moves name
 pub named_none : (ms : CallMoves) (s : PRegSet) → ((r : Register) → has_register s r ≡ false) → AreNamed ms 0 s
 named_none ms s h = record {
   yes = λ r e. let no : true ≡ false = sym e ∙ h r in cc;
   no = λ r x. absurd (omega (arith, x.1));
 }
 
+-- with the registers of move n put in, the set has those that one move more names
 pub named_more : (ms : CallMoves) (n : ℕ) (s t u : PRegSet) → AreNamed ms n s →
     ((r : Register) → has_register t r ≡ (is_place (source ms n) (InRegister r) || has_register s r)) →
     ((r : Register) → has_register u r ≡ (is_place (target ms n) (InRegister r) || has_register t r)) → AreNamed ms (n + 1) u
@@ -119,6 +126,7 @@ pub record AreTaken (ms : CallMoves) (f : CallFrame) (n : ℕ) (s : PRegSet) : T
   pub no : (r : Register) → IsNamed ms (InRegister r) ⊎ (((j : ℕ) × (j < n) × (free_at f j ≡ r)) ⊎ (has_register f.stack_pregs r ≡ true)) →
       has_register s r ≡ true
 
+-- the registers that moves name and those that stand for places in memory are the ones in use before the first free register is
 pub taken_none : (ms : CallMoves) (f : CallFrame) (s t : PRegSet) → ((r : Register) → has_register s r ≡ true → IsNamed ms (InRegister r)) →
     ((r : Register) → IsNamed ms (InRegister r) → has_register s r ≡ true) →
     ((r : Register) → has_register t r ≡ (has_register s r || has_register f.stack_pregs r)) → AreTaken ms f 0 t
@@ -133,6 +141,7 @@ taken_none ms f s t named unnamed h = record {
 register_along : (a b : Register) → is_register a b ≡ true → a ≡ b
 register_along a b e = let same : InRegister a ≡ InRegister b = is_place-true (InRegister a) (InRegister b) e in cc
 
+-- with the free register n put in, the set has those that are in use before the next one is
 pub taken_more : (ms : CallMoves) (f : CallFrame) (n : ℕ) (s t : PRegSet) → AreTaken ms f n s →
     ((r : Register) → has_register t r ≡ (is_register (free_at f n) r || has_register s r)) → AreTaken ms f (n + 1) t
 taken_more ms f n s t h put = record {
@@ -157,6 +166,7 @@ taken_more ms f n s t h put = record {
 pub taken_is : (ms : CallMoves) (f : CallFrame) (n : ℕ) (s : PRegSet) → AreTaken ms f n s → true ≡ has_register s (free_at f n) → IsTaken ms f n
 taken_is ms f n s h e = h.yes (free_at f n) (sym e)
 
+-- a free register that the set doesn't have isn't in use
 pub taken_not : (ms : CallMoves) (f : CallFrame) (n : ℕ) (s : PRegSet) → AreTaken ms f n s → false ≡ has_register s (free_at f n) → IsTaken ms f n → ⊥
 taken_not ms f n s h e x = let no : true ≡ false = sym (h.no (free_at f n) x) ∙ sym e in cc
 
@@ -166,6 +176,7 @@ pub record IsLowest (ms : CallMoves) (n start end_ lowest : ℕ) : Type 0 where
   pub named : lowest < end_ → (start ≤ lowest) × IsNamedBelow ms n (InSlot lowest)
   pub none : (k : ℕ) → start ≤ k → k < lowest → IsNamedBelow ms n (InSlot k) → ⊥
 
+-- with the slots of move n's two ends compared, it is the lowest slot that one move more names
 pub lowest_more : (ms : CallMoves) (n start end_ a b c : ℕ) → IsLowest ms n start end_ a → IsLower (source ms n) start a b →
     IsLower (target ms n) start b c → IsLowest ms (n + 1) start end_ c
 lowest_more ms n start end_ a b c h first second = record {

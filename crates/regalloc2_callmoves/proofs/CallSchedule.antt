@@ -76,6 +76,7 @@ same_source ms h j k lj lk e = ⊎_elim (λ less. below j k lk less e) (λ more.
     by (inl less) = sym (below k j lj less (sym e))
     by (inr same) = ap (source ms) (sym same)
 
+-- where no move has the destination of an earlier one and another source, each place has one source
 pub one_source : (ms : CallMoves) → HasNone (length ms) (HasOtherSource ms) → HasOneSourceEach (ends_of (with_units ms))
 one_source ms h a b ca cb e =
     let j = end_of ms a ca in
@@ -145,6 +146,7 @@ module _ (ms : CallMoves) (f : CallFrame) (l : Lent) (proper : IsProper ms f) (l
     all_spared : (p : Place) → IsLent f p → IsUnnamed p given
     all_spared p a k d lt = spared p a (get_or given k d) (resolved.of_moves k d lt)
 
+    -- what is lent serves the ordered moves: none of them names it
     pub usable : IsUsableFor l given
     usable = record {
       free = λ p a. let x = lent_of p (inl a) in ((λ e. lent_real p x (sym e)), all_spared p x, no_memory p a);
@@ -163,6 +165,7 @@ module _ (ms : CallMoves) (f : CallFrame) (l : Lent) (proper : IsProper ms f) (l
           ∙ not_true (has_register f.stack_pregs f.borrowed) (λ e. proper.free.borrowed (inr e));
     }
 
+    -- moves that do what the ordered ones do, but for what is lent, do what the call's moves do at once
     pub scheduled : (made : Moves) → IsMadeWith l given made → IsScheduled ms f made
     scheduled made with_ = record {
       assigned = λ k lt.

@@ -57,6 +57,7 @@ module _ {F G H : Type 0} (r : Mut F (Unit {0}) (Option Place)) (s : Mut G (Unit
     (h : H) (l : Lent) (given : Moves)
     (i : YieldsInOrder r f l.registers) (j : YieldsInOrder s g l.slots) (tells : DecidesStack m h l.stack_pregs) (serves : IsUsableFor l given)
     (borrowed : Register) (is : borrowed ≡ l.borrowed) where
+  -- closures that yield the lent registers and slots in order keep what the resolver is owed
   pub owes_lent : Owes (λ x a y. Called r x tt a y) (λ x a y. Called s x tt a y) (λ p b. m.post h (p, tt) b) (InRegister borrowed) given f g
   owes_lent = record {
     free = λ p a. let x = serves.free p (answered r f l.registers i p a) in (x.0, x.1);
@@ -99,6 +100,7 @@ module _ {F G H : Type 0} (r : Mut F (Unit {0}) (Option Place)) (s : Mut G (Unit
           };
     }
 
+    -- what the resolver computed with such closures is made with what was lent; where it ran out of slots, one of the two isn't there
     pub outcome_with : (scratch : Bool) (result : Result (SmallVec (Place × Place × Unit {0})) MoveFault) →
         MatchResult result
         (λ made. IsComputed (λ p b. m.post h (p, tt) b) (InRegister borrowed) (IsAnswered asked.answers slots_asked.answers) scratch given made.items)

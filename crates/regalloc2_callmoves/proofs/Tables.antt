@@ -23,6 +23,7 @@ pub record IsTable (ms : CallMoves) (n : ℕ) (t : Words) : Type 0 where
   pub back : (w v : ℕ) → t w ≡ Some v → (j : ℕ) × (j < n) × (w ≡ to_word ms j) × (v ≡ from_word ms j)
   pub words : (j : ℕ) → j < n → IsPlace (source ms j) × IsPlace (target ms j)
 
+-- a table without entries is that of no moves
 pub table_none : (ms : CallMoves) (t : Words) → ((w : ℕ) → t w ≡ None) → IsTable ms 0 t
 table_none ms t h = record {
   there = λ j lt. absurd (omega arith);
@@ -78,6 +79,7 @@ module _ (ms : CallMoves) (n : ℕ) (t u : Words) (h : IsTable ms n t) (from : I
   all_words j (inl less) = h.words j less
   all_words j (inr same) = subst (λ i. IsPlace (source ms i) × IsPlace (target ms i)) (sym same) (from, to)
 
+  -- with the words of move n put in, the table has those of one move more
   pub table_more : IsTable ms (n + 1) u
   table_more = record {
     there = λ j lt. all_there j lt (split_more j n lt);
@@ -108,4 +110,5 @@ module _ (ms : CallMoves) (n : ℕ) (t : Words) (p q : Place) (v w : ℕ) (h : I
 
   -- a move whose destination has another source in the table
   pub table_faulty : (earlier : ℕ) → t w ≡ Some earlier → earlier ≢ v → HasOtherSource ms n
-  table_faulty earlier e other = table_other ms n t earlier h (place_is q (target ms n) w to w_bits w_back) (ap t (sym w_is) ∙ e) (λ same. other (same ∙ sym v_is))
+  table_faulty earlier e other = table_other ms n t earlier h (place_is q (target ms n) w to w_bits w_back) (ap t (sym w_is) ∙ e)
+      (λ same. other (same ∙ sym v_is))

@@ -35,7 +35,7 @@ const OPTIONS: RegallocOptions = RegallocOptions {
 pub enum Call {
     /// To allocate registers; the answer is the listing.
     Run,
-    /// To allocate registers and to judge the output.
+    /// To judge the output that is given with the function or, if none is, the one that the allocator gives.
     Check,
     /// To judge the output that is given with the function.
     Replay,
@@ -214,7 +214,7 @@ fn write_text<W: Write>(
 }
 
 /// Allocates registers to a function, of which the stored one is given too, and answers a call, `Replay` and `Reads` as
-/// `Check`. Whether nothing was refused, and no fault found.
+/// a `Check` of the allocator's output. Whether nothing was refused, and no fault found.
 fn allocate<F: Function, W: Write>(
     alloc: Global,
     call: Call,
@@ -269,9 +269,11 @@ pub fn answer<W: Write>(
             return Ok(false);
         }
     };
-    match call {
-        Call::Replay => replay(alloc, &f, f.machine_env(), output, to),
-        Call::Reads => judge_reads(alloc, &f, to),
+    match (call, output) {
+        (Call::Replay, _) | (Call::Check, Some(_)) => {
+            replay(alloc, &f, f.machine_env(), output, to)
+        }
+        (Call::Reads, _) => judge_reads(alloc, &f, to),
         _ => allocate(alloc, call, &f, f.machine_env(), function, to),
     }
 }

@@ -1,18 +1,27 @@
-pub mod Parts
-pub mod Noted
-pub mod Ranges
-pub mod Counted
-pub mod Members
-pub mod Kept
-pub mod Bridges
-pub mod Faults
-pub mod Refused
-pub mod Tallies
-pub mod Ways
-pub mod Tabled
-pub mod Named
-pub mod Walks
-pub mod Reached
+-- The tests of blocks and of definitions answer their definitions, the order of blocks is that of a depth-first walk, and a set of numbers is
+-- seen as its members.
+-- Definitions and uses: `noted_once`, `usable_uses`, `taken_fault` and `unusable_fault` in `TableDecidesSSA`: the table of definitions decides
+-- both tests, and names the first failure. Read `Keeps` in `TableKeepsDefs` first; `ListingsOfFunction` and `DefsCounted` join the listings
+-- with the function, `NotedInParts`, `ListsInParts` and `ListMembers` serve loops. `ErrorOnlyOutOfMemory` has the case without failure.
+-- Blocks: `PredsListed` (`all_ways_end`), `TimesInList`, `BlockRanges`, `TablesByBlock`.
+-- The order: `leaves_once` and `leaves_reached` in `LeavesReached`; `walked_end` in `DepthFirstWalk`, whose invariant is `Walked`;
+-- `NamedBlocks` for what has to be a block.
+-- Sets: `NumberSets`, over `NumberMaps` and `NumberPlaces` (words by key), `NumberBits` (members of a word) and `NumberUnions`.
+pub mod ListsInParts
+pub mod NotedInParts
+pub mod BlockRanges
+pub mod DefsCounted
+pub mod ListMembers
+pub mod TableKeepsDefs
+pub mod ListingsOfFunction
+pub mod TableDecidesSSA
+pub mod ErrorOnlyOutOfMemory
+pub mod TimesInList
+pub mod PredsListed
+pub mod TablesByBlock
+pub mod NamedBlocks
+pub mod DepthFirstWalk
+pub mod LeavesReached
 pub mod NumberPlaces
 pub mod NumberBits
 pub mod NumberMaps

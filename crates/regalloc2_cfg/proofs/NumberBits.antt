@@ -8,7 +8,7 @@ use Rattle.std.proofs.lemmas.Bool.Decides.{nat_tests}
 use Rattle.std.specs.Int.{bit_at, trailing_zeros}
 use Rattle.std.proofs.lemmas.Nat.Bits.{bit_at-zero, bit_at-lt, bit_at_above, bit_at-trailing_zeros, bit_at_clear_same, bit_at_clear_other}
 use Rattle.regalloc2_cfg.specs.Numbers.{bits_from, bits_of, times_in, RisesFrom, numbers_of, word_of, has_number}
-use Rattle.regalloc2_cfg.specs.NumberWords.{KeysApart, StandsOnce}
+use Rattle.regalloc2_cfg.specs.NumberWords.{KeysApart, KeysInOneOnly}
 use Rattle.regalloc2_cfg.proofs.NumberPlaces.{word_of-lacks}
 
 bits_zero : (n k : ℕ) → bits_from k n 0 ≡ []
@@ -200,7 +200,7 @@ bit_is_test : (b : ℕ) → b < 2 → b ≡ (if nat_eq b 1 then 1 else 0)
 bit_is_test b less = grind (arith, nat_tests)
 
 -- where keys differ in each of two lists of words, and no key has a word in both, the words list each member of the set once
-pub lists_members : (few many : List (ℕ × ℕ)) → KeysApart few → KeysApart many → StandsOnce few many → (i : ℕ) →
+pub lists_members : (few many : List (ℕ × ℕ)) → KeysApart few → KeysApart many → KeysInOneOnly few many → (i : ℕ) →
     times_in (numbers_of (few ++ many)) i ≡ (if has_number (few ++ many) i then 1 else 0)
 unfolding has_number
 lists_members few many a b once i =

@@ -6,7 +6,7 @@ use Rattle.std.proofs.lemmas.Bool.{cases_eq}
 use Rattle.std.proofs.lemmas.Bool.Decides.{nat_tests}
 use Rattle.std.proofs.lemmas.Nat.Bits.{bit_at_set_same, bit_at_set_other, bit_at_clear_same, bit_at_clear_other, bit_at-zero}
 use Rattle.regalloc2_cfg.specs.Numbers.{word_of, has_number}
-use Rattle.regalloc2_cfg.specs.NumberWords.{Lacks, KeysApart, StandsOnce}
+use Rattle.regalloc2_cfg.specs.NumberWords.{Lacks, KeysApart, KeysInOneOnly}
 use Rattle.regalloc2_cfg.proofs.NumberBits.{word_of-append}
 
 -- a word of the whole
@@ -57,7 +57,7 @@ unfolding has_number
 has_none s i z = rw (z, bit_at-zero (i % 64)) refl
 
 -- the word of a set, inline or not
-pub word_first : (few many whole : List (ℕ × ℕ)) (k w : ℕ) → few ++ many ≡ whole → StandsOnce few many → w ≡ word_of few k → w ≢ 0 → w ≡ word_of whole k
+pub word_first : (few many whole : List (ℕ × ℕ)) (k w : ℕ) → few ++ many ≡ whole → KeysInOneOnly few many → w ≡ word_of few k → w ≢ 0 → w ≡ word_of whole k
 word_first few many whole k w e once at ne = rw (word_of-whole few many whole e k) (elim (once k) [
   | inl z ↦ absurd (ne (at ∙ z))
   | inr z ↦ omega (arith, z, at)
@@ -83,7 +83,7 @@ pub words_same : (few many copy whole : List (ℕ × ℕ)) → few ++ many ≡ w
     word_of (few ++ copy) k ≡ word_of whole k
 words_same few many copy whole e h k = rw (word_of-append few copy k, h k, word_of-whole few many whole e k) refl
 
--- what stands before a word has none of its key
+-- what comes before a word has none of its key
 Lacks-in : (k : ℕ) (bs rest : List (ℕ × ℕ)) (key word : ℕ) → Lacks k (bs ++ (key, word) ∷ rest) → nat_eq k key ≡ false
 unfolding Lacks
 Lacks-in k [] rest key word h = h.0

@@ -38,14 +38,18 @@ pub record IsFirstTaken (before : Table) (ds : List DefinitionSite) (d : Definit
   pub noted : Notes before earlier marks
   pub taken : IsTaken marks d.vreg
 
--- the refusal names that definition
+-- the error names that definition
 abbrev pub NamesTaken : Table → List DefinitionSite → RegAllocError → Type 0
 NamesTaken before ds e = (d : DefinitionSite) × (e ≡ SSA d.vreg d.inst) × IsFirstTaken before ds d
 
--- by the table, the virtual register is defined in number and class, before that instruction
-abbrev pub IsUsable : Table → UseSite → Type 0
-IsUsable t u = (e : Definition) × (entry_of t u.vreg.number ≡ Some e) × (e.class ≡ u.vreg.class) × (e.usable ≤ u.inst)
+-- by the table, the virtual register is defined in number and class, by that point
+abbrev pub IsDefinedIn : Table → VirtualRegister → ℕ → Type 0
+IsDefinedIn t v point = (e : Definition) × (entry_of t v.number ≡ Some e) × (e.class ≡ v.class) × (e.usable ≤ point)
 
--- the refusal names the first of these uses that isn't usable
+-- and so what is used
+abbrev pub IsUsable : Table → UseSite → Type 0
+IsUsable t u = IsDefinedIn t u.vreg u.point
+
+-- the error names the first of these uses that isn't usable
 abbrev pub NamesUnusable : Table → List UseSite → RegAllocError → Type 0
 NamesUnusable t us e = (u : UseSite) × (e ≡ SSA u.vreg u.inst) × IsFirstIn (IsUsable t) us u

@@ -2,7 +2,7 @@
 use Rattle.std.specs.Prelude.{ℕ, ◌≡◌, Bool, true, false, ◌||◌, nat_eq, List, [], ◌∷◌, ◌++◌}
 use Rattle.regalloc2_function.specs.FunctionValue.{FunctionValue, block_at}
 
--- whether a number stands in a list
+-- whether a number is in a list
 unfoldable pub met : List ℕ → ℕ → Bool
 met [] b = false
 met (x ∷ xs) b = nat_eq x b || met xs b
@@ -20,7 +20,7 @@ pub data Reaches (succs : ℕ → List ℕ) (entry : ℕ) : ℕ → Type 0 where
   here : Reaches succs entry entry
   onward : {b : ℕ} (s : ℕ) → Reaches succs entry b → met (succs b) s ≡ true → Reaches succs entry s
 
--- no number stands twice in the list
+-- no number is twice in the list
 abbrev pub Once : List ℕ → Type 0
 Once [] = Unit {0}
 Once (x ∷ xs) = (met xs x ≡ false) × Once xs

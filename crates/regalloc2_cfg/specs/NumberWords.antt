@@ -19,5 +19,5 @@ pub record IsPlaceFor (es : List (ℕ × ℕ)) (key p : ℕ) : Type 0 where
   pub past : p ≡ length es → Lacks key es
 
 -- no key has a word that isn't zero in both lists
-abbrev pub StandsOnce : List (ℕ × ℕ) → List (ℕ × ℕ) → Type 0
-StandsOnce few many = (k : ℕ) → (word_of few k ≡ 0) ⊎ (word_of many k ≡ 0)
+abbrev pub KeysInOneOnly : List (ℕ × ℕ) → List (ℕ × ℕ) → Type 0
+KeysInOneOnly few many = (k : ℕ) → (word_of few k ≡ 0) ⊎ (word_of many k ≡ 0)

@@ -91,7 +91,7 @@ fn add_all_ways<A: Allocator + Copy, F: Function>(
     Ok(())
 }
 
-// Adds to each block's count how often it stands in a list.
+// Adds to each block's count how often it is in a list.
 fn count_in(counts: &mut [usize], blocks: &[Block])
     requires within { All (λ b. b < length counts.old) blocks.now }
     requires room { (b : ℕ) → b < length counts.old → slice_index counts.old b + length blocks.now < 2 ^ 64 }
@@ -102,7 +102,7 @@ fn count_in(counts: &mut [usize], blocks: &[Block])
     }
 }
 
-// Takes from each block's count how often it stands in a list, and says whether the counts were enough.
+// Takes from each block's count how often it is in a list, and says whether the counts were enough.
 fn count_out(counts: &mut [usize], blocks: &[Block]) -> bool
     ensures enough { IsTrue result ↔ ((b : ℕ) → times_in b blocks.now ≤ slice_index counts.old b) }
     ensures taken { OnTrue result ((b : ℕ) → slice_index counts.new b + times_in b blocks.now ≡ slice_index counts.old b) }

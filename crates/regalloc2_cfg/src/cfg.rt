@@ -136,10 +136,10 @@ impl<A: Allocator + Copy> CFGInfo<A> {
     /// several ways has a predecessor with several successors; no branch into a block that is entered in several ways has
     /// operands. The function's start counts as one way into the entry.
     ///
-    /// The first test that fails decides, and the refusal names where it fails first: `BB` with the number that is no block, or
+    /// The first test that fails decides, and the error names where it fails first: `BB` with the number that is no block, or
     /// with the block whose range or whose predecessors don't fit; `CritEdge` with the predecessor and the block;
-    /// `DisallowedBranchArg` with the branch. `Memory` comes where memory was refused, which the tests of ranges and edges don't
-    /// ask for. A refusal leaves the four tables without entries.
+    /// `DisallowedBranchArg` with the branch. `Memory` comes where memory ran out; the tests of ranges and edges take none. An
+    /// error leaves the four tables without entries.
     ///
     /// Linear in the function's blocks, edges and instructions. The tables' lists keep their own allocators; other memory is
     /// taken from that of `ctx`. Upstream tests ranges and predecessors nowhere, and the rest block by block.

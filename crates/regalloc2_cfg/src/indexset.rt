@@ -6,7 +6,7 @@ ghost use Rattle.std.specs.Int.{bit_at};
 ghost use Rattle.std.specs.HashMap.{get};
 ghost use Rattle.std.specs.Iterator.{YieldsFirst, item_count};
 ghost use Rattle.regalloc2_cfg.specs.Numbers.{word_of, has_number, bits_of, numbers_of, times_in, RisesFrom, ListsMembers};
-ghost use Rattle.regalloc2_cfg.specs.NumberWords.{Lacks, KeysApart, IsPlaceFor, StandsOnce};
+ghost use Rattle.regalloc2_cfg.specs.NumberWords.{Lacks, KeysApart, IsPlaceFor, KeysInOneOnly};
 
 use std::alloc::{AllocError, Allocator, Global};
 use std::collections::{HashMap, hash_map};
@@ -14,7 +14,7 @@ use std::fmt;
 use std::hash::{BuildHasherDefault, FoldHasher};
 use std::marker::Model;
 
-/// How many words stand inline.
+/// How many words are inline.
 const INLINE: usize = 12;
 
 /// The place of a key among words.
@@ -250,7 +250,7 @@ impl<'a> Iterator for IndexSetIter<'a> {
     }
 }
 
-/// The words of a set that don't stand inline.
+/// The words of a set that aren't inline.
 type Many<A> = HashMap<u32, u64, BuildHasherDefault<FoldHasher>, A>;
 
 /// What a map has at a key, or zero.
@@ -313,15 +313,15 @@ fn copied<A: Allocator + Copy>(alloc: A, many: &Many<A>) -> Result<Many<A>, Allo
     Ok(copy)
 }
 
-/// Writes the word of a key where it stands, else where there is room inline, else among the others.
+/// Writes the word of a key where it is, else where there is room inline, else among the others.
 fn write<A: Allocator + Copy>(
     few: &mut Few,
     many: &mut Many<A>,
     key: u32,
     word: u64,
 ) -> Result<(), AllocError>
-    requires { StandsOnce few.old many.old.entries }
-    ensures once { StandsOnce few.new many.new.entries }
+    requires { KeysInOneOnly few.old many.old.entries }
+    ensures once { KeysInOneOnly few.new many.new.entries }
     ensures written { OnOk result ((k : ℕ) → word_of few.new k + word_of many.new.entries k ≡ cond (nat_eq k key) word
         (word_of few.old k + word_of many.old.entries k)) }
     ensures few { OnErr result (few.new ≡ few.old) }
@@ -344,8 +344,8 @@ fn write<A: Allocator + Copy>(
 
 /// A set of numbers below 2^38, sparse by words of 64 numbers.
 ///
-/// Twelve words stand inline, and a word that became zero is used again, so a set of members in up to twelve words takes
-/// no memory; further words stand in a hashed map. Contracts see a set through `has_number`.
+/// Twelve words are inline, and a word that became zero is used again, so a set of members in up to twelve words takes
+/// no memory; further words are in a hashed map. Contracts see a set through `has_number`.
 #[derive(Drop)]
 pub struct IndexSet<A: Allocator = Global> {
     few: Few,
@@ -358,11 +358,11 @@ impl<A: Allocator> Model for IndexSet<A> {
 
     ghost Value = { List (ℕ × ℕ) };
 
-    ghost use Rattle.regalloc2_cfg.specs.NumberWords.{StandsOnce};
+    ghost use Rattle.regalloc2_cfg.specs.NumberWords.{KeysInOneOnly};
 
     ghost view = { λ s. s.few ++ s.many.entries };
 
-    ghost invariant = { λ s. StandsOnce s.few s.many.entries };
+    ghost invariant = { λ s. KeysInOneOnly s.few s.many.entries };
 }
 
 impl<A: Allocator + Copy> IndexSet<A> {
@@ -409,7 +409,7 @@ impl<A: Allocator + Copy> IndexSet<A> {
 
     /// Makes a number below 2^38 a member, or no member where `val` is false.
     ///
-    /// A refusal of memory leaves the set as it was. It comes only where `val` is true and none of the 64 numbers that
+    /// Out of memory, the call leaves the set as it was. That comes only where `val` is true and none of the 64 numbers that
     /// share the number's word is a member: `set(index, false)` takes no memory.
     pub fn set(&mut self, index: usize, val: bool) -> Result<(), AllocError>
         requires { index < 2 ^ 38 }
@@ -431,7 +431,7 @@ impl<A: Allocator + Copy> IndexSet<A> {
 
     /// Gives the set the members of `other`.
     ///
-    /// A refusal of memory leaves the set as it was; none comes where `other`'s words stand inline.
+    /// Out of memory, the call leaves the set as it was; that never comes where `other`'s words are inline.
     pub fn assign(&mut self, other: &Self) -> Result<(), AllocError>
         ensures ok { OnOk result ((i : ℕ) → has_number self.new i ≡ has_number other.now i) }
         ensures err { OnErr result (self.new ≡ self.old) }
@@ -444,7 +444,7 @@ impl<A: Allocator + Copy> IndexSet<A> {
 
     /// Adds the members of `other`; answers whether that made any number a member.
     ///
-    /// A refusal of memory leaves a set between the set as it was and the union.
+    /// Out of memory, the call leaves a set between the set as it was and the union.
     pub fn union_with(&mut self, other: &Self) -> Result<bool, AllocError>
         ensures ok { OnOk result ((i : ℕ) → has_number self.new i ≡ has_number self.old i || has_number other.now i) }
         ensures added { IfOk result (λ added. added ≡ true → (i : ℕ) × (has_number self.old i ≡ false) × (has_number other.now i ≡ true)) }

@@ -100,7 +100,7 @@ fn walk<'a, A: Allocator + Copy, F: Fn(Block) -> &'a [Block]>(
 /// The closure answers for each of the `num_blocks` blocks, which are numbered from 0, the same successors whenever it is
 /// asked. It is asked for each block, reached or not: the entry and each successor has to be a block, and the first that
 /// isn't is named by `BB`: the entry, or else the first in the lists of successors by rising block. `Memory` comes where
-/// memory was refused. After a refusal `out` is empty. `visited_scratch` holds nothing that is wanted again.
+/// memory ran out. After an error `out` is empty. `visited_scratch` holds nothing that is needed again.
 ///
 /// Linear in the blocks and their successors. The stack is a list of its own, so that a chain of any length is walked.
 /// Upstream tests only the blocks that the walk meets.
@@ -149,7 +149,7 @@ pub fn calculate<'a, A: Allocator + Copy, F: Fn(Block) -> &'a [Block]>(
 /// Lists the blocks that the entry reaches, in the order in which a depth-first walk that takes successors in listed order leaves them, each once.
 ///
 /// The entry and each successor is a block, as `cfg` tests. Linear in the blocks that are reached and their edges. The stack is a list of its own, so
-/// that a chain of any length is walked. Where memory is refused, `out` is empty; `visited_scratch` holds nothing that is wanted again.
+/// that a chain of any length is walked. Where memory runs out, `out` is empty; `visited_scratch` holds nothing that is needed again.
 pub fn leave_order<A: Allocator + Copy, F: Function>(
     alloc: A,
     f: &F,

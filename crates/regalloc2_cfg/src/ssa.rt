@@ -11,25 +11,25 @@ ghost use Rattle.regalloc2_function.specs.Reasons.{IsSound, IsSoundnessFault};
 ghost use Rattle.regalloc2_names.specs.Operand.{is_def, is_reading};
 ghost use Rattle.regalloc2_function.specs.WellFormed.{ArgumentsFit, ArgumentsFitAt, BlocksFollow, DefinedOnce, EntryIsFirst, IsFirstToFail};
 ghost use Rattle.regalloc2_function.specs.WellFormed.{SuccessorsAreBlocks, UsesAreDefined, last_of};
-ghost use Rattle.regalloc2_cfg.specs.Definitions.{entry_of, IsTaken, IsUsable, NamesTaken, NamesUnusable, Notes};
+ghost use Rattle.regalloc2_cfg.specs.Definitions.{entry_of, IsDefinedIn, IsTaken, IsUsable, NamesTaken, NamesUnusable, Notes};
 ghost use Rattle.regalloc2_cfg.specs.Tables.{IsInfoOf};
 
 use super::cfg::CFGInfo;
 use regalloc2_function::{Function, test_ends};
 use regalloc2_index::{Block, Inst, InstRange};
-use regalloc2_names::{Operand, RegAllocError, RegClass, VReg};
+use regalloc2_names::{Operand, ProgPoint, RegAllocError, RegClass, VReg};
 use std::alloc::Allocator;
 
 /// Where a vreg is defined.
 #[derive(Clone, Copy, Debug, PartialEq, Eq)]
 struct Definition {
     class: RegClass,
-    // The first instruction that may use it: that after its definition, or the first of its block for a parameter.
-    usable: Inst,
+    // The point from which on it may be used: after the instruction that defines it, or before its block for a parameter.
+    usable: ProgPoint,
 }
 
 // Notes a definition, unless its number is past the table's or is defined already.
-fn note(defined: &mut [Option<Definition>], vreg: VReg, usable: Inst) -> bool
+fn note(defined: &mut [Option<Definition>], vreg: VReg, usable: ProgPoint) -> bool
     ensures room { OnTrue result (vreg.number < length defined.old) }
     ensures free { OnTrue result (entry_of defined.old vreg.number ≡ None) }
     ensures noted { OnTrue result (defined.new ≡ slice_set defined.old vreg.number (Some (record { class = vreg.class; usable = usable }))) }
@@ -55,11 +55,13 @@ fn note_params(
     params: &[VReg],
     first: Inst,
 ) -> Result<(), RegAllocError>
+    requires { first < 1073741824 }
     ensures ok { OnOk result (Notes defined.old (map (param_definition first) params.now) defined.new) }
     ensures err { IfErr result (NamesTaken defined.old (map (param_definition first) params.now)) }
 {
+    let usable = ProgPoint::before(first);
     for param in params {
-        if !note(defined, *param, first) {
+        if !note(defined, *param, usable) {
             return Err(RegAllocError::SSA(*param, Inst::invalid()));
         }
     }
@@ -72,12 +74,13 @@ fn note_operands(
     operands: &[Operand],
     inst: Inst,
 ) -> Result<(), RegAllocError>
-    requires { inst < 4294967295 }
+    requires { inst < 1073741824 }
     ensures ok { OnOk result (Notes defined.old (filter_map (operand_definition inst) operands.now) defined.new) }
     ensures err { IfErr result (NamesTaken defined.old (filter_map (operand_definition inst) operands.now)) }
 {
+    let usable = ProgPoint::after(inst);
     for operand in operands {
-        if operand.is_def() && !note(defined, operand.vreg(), inst.next()) {
+        if operand.is_def() && !note(defined, operand.vreg(), usable) {
             return Err(RegAllocError::SSA(operand.vreg(), inst));
         }
     }
@@ -131,18 +134,16 @@ fn note_blocks<F: Function>(defined: &mut [Option<Definition>], f: &F) -> Result
     Ok(())
 }
 
-// Whether a vreg is defined, in number and class, before an instruction.
-fn is_usable(defined: &[Option<Definition>], vreg: VReg, inst: Inst) -> bool
-    ensures { IsTrue result ↔ IsUsable defined.now (record { vreg = vreg; inst = inst }) }
+// Whether a vreg is defined, in number and class, by a point.
+fn is_usable(defined: &[Option<Definition>], vreg: VReg, point: ProgPoint) -> bool
+    ensures { IsTrue result ↔ IsDefinedIn defined.now vreg point }
 {
     let number = vreg.vreg();
     if number >= defined.len() {
         return false;
     }
     match defined[number] {
-        Some(definition) => {
-            definition.class == vreg.class() && definition.usable.index() <= inst.index()
-        }
+        Some(definition) => { definition.class == vreg.class() && definition.usable <= point }
         None => false,
     }
 }
@@ -153,11 +154,13 @@ fn test_operands(
     operands: &[Operand],
     inst: Inst,
 ) -> Result<(), RegAllocError>
+    requires { inst < 1073741824 }
     ensures ok { OnOk result (All (IsUsable defined.now) (filter_map (operand_read inst) operands.now)) }
     ensures err { IfErr result (NamesUnusable defined.now (filter_map (operand_read inst) operands.now)) }
 {
+    let point = ProgPoint::before(inst);
     for operand in operands {
-        if operand.is_reading() && !is_usable(defined, operand.vreg(), inst) {
+        if operand.is_reading() && !is_usable(defined, operand.vreg(), point) {
             return Err(RegAllocError::SSA(operand.vreg(), inst));
         }
     }
@@ -170,11 +173,13 @@ fn test_arguments(
     arguments: &[VReg],
     inst: Inst,
 ) -> Result<(), RegAllocError>
+    requires { inst < 1073741824 }
     ensures ok { OnOk result (All (IsUsable defined.now) (map (argument_use inst) arguments.now)) }
     ensures err { IfErr result (NamesUnusable defined.now (map (argument_use inst) arguments.now)) }
 {
+    let point = ProgPoint::after(inst);
     for argument in arguments {
-        if !is_usable(defined, *argument, inst) {
+        if !is_usable(defined, *argument, point) {
             return Err(RegAllocError::SSA(*argument, inst));
         }
     }
@@ -207,6 +212,7 @@ fn test_passed<F: Function>(
 ) -> Result<(), RegAllocError>
     requires block { block < length (F.function f.now).blocks }
     requires nonempty { (block_at (F.function f.now) block).range.first < (block_at (F.function f.now) block).range.end }
+    requires within { (block_at (F.function f.now) block).range.end ≤ length (F.function f.now).insts }
     ensures ok { OnOk result (All (IsUsable defined.now) (flat_map (passed_at (block_at (F.function f.now) block))
         (numbers_from 0 (length (block_at (F.function f.now) block).succs)))) }
     ensures err { IfErr result (NamesUnusable defined.now (flat_map (passed_at (block_at (F.function f.now) block))
@@ -264,9 +270,9 @@ fn test_over<F: Function>(defined: &mut [Option<Definition>], f: &F) -> Result<(
 ///
 /// Each vreg number has at most one definition, whatever the class, and each defined number is below `num_vregs`. Each use that reads a vreg, and
 /// each argument of a branch, names in number and class a vreg that is defined at a smaller instruction number, where a parameter counts as defined
-/// before its block.
+/// before its block. An argument may also name what its own branch defines.
 ///
-/// The refusal is `SSA` with the first vreg that fails the first of the two tests that fails, and the instruction where it does: block by block, in
+/// The error is `SSA` with the first vreg that fails the first of the two tests that fails, and the instruction where it does: block by block, in
 /// each first its parameters, which are named with `Inst::invalid()`, then its instructions with their operands in order, and after those of the last
 /// the arguments by successor. It is `Memory` where the table of definitions, one entry for each vreg number, could not be made.
 pub fn test_definitions<A: Allocator + Copy, F: Function>(
@@ -360,9 +366,9 @@ fn test_fit<F: Function>(f: &F) -> Result<(), RegAllocError>
 /// without successors, and no instruction is both; each successor is given as many arguments as it has parameters, of the
 /// same classes; definitions and then uses are as [`test_definitions`] says.
 ///
-/// The first test that fails decides, and the refusal names where it fails first: `BB` with the entry, or with the block that
+/// The first test that fails decides, and the error names where it fails first: `BB` with the entry, or with the block that
 /// doesn't end so; `EntryLivein`; `Branch` with the last instruction of the block that passes the arguments; `SSA` as
-/// [`test_definitions`] says. `Memory` comes where memory was refused.
+/// [`test_definitions`] says. `Memory` comes where memory ran out.
 ///
 /// Linear in the function's instructions, operands and arguments. Upstream tests uses by dominance where this tests the order of
 /// instruction numbers, counts arguments without looking at their classes, and judges the entry's parameters last.

@@ -5,44 +5,39 @@ use Rattle.regalloc2_function.specs.FunctionValue.{FunctionValue, block_at}
 use Rattle.regalloc2_function.specs.Machine.{MachineValue}
 use Rattle.regalloc2_function.specs.OutputValue.{OutputValue}
 use Rattle.regalloc2_function.specs.Path.{Location}
-use Rattle.regalloc2_function.specs.SourceRun.{Source}
-use Rattle.regalloc2_function.specs.AllocatedRun.{Cells}
 use Rattle.regalloc2_function.specs.WellFormed.{IsFramed}
 use Rattle.regalloc2_checker.specs.declared.errors.CheckerError.{CheckerError}
 use Rattle.regalloc2_checker.specs.Facts.{Facts, facts_after}
 use Rattle.regalloc2_checker.specs.Fixpoint.{IsReachedBlock, nth_of, facts_within}
-use Rattle.regalloc2_checker.specs.ValueNumbers.{Numbers, facts_in}
 use Rattle.regalloc2_checker.specs.CheckInputs.{IsKnown}
 use Rattle.regalloc2_checker.specs.Blocks.{IsKnownWithin, IsBlockJudged}
 use Rattle.regalloc2_checker.specs.Report.{InstReport, InstReports, BlockReport, BlockReports}
 use Rattle.regalloc2_checker.specs.Tables.{BlockView, IsSolved, facts_at, view_at}
-use Rattle.regalloc2_checker.specs.TransferTracks.{Tracks}
 use Rattle.regalloc2_checker.proofs.FactsFollowMaps.{AreEarlier}
 use Rattle.regalloc2_checker.proofs.Fixpoint.{located}
-use Rattle.regalloc2_checker.proofs.TransferFollowsFacts.{tracks_first, tracks_on}
+use Rattle.regalloc2_checker.proofs.TransferFollowsFacts.{within_none, within_more}
 use Rattle.regalloc2_checker.proofs.FixpointDecides.{facts_are_held}
 
--- the instructions of a block below one are checked: their errors are added, and the facts are tracked
+-- the instructions of a block below one are checked: their errors are added, and the facts are those after them
 pub record IsJudgedTo {A : Type 0} (f : FunctionValue) (env : MachineValue) (o : OutputValue) (b i : ℕ) (F : Facts) (old new : List (CheckerError A))
-    (c : Cells) (m : Source) : Type 0 where
+    (G : Facts) : Type 0 where
   pub errors : List (CheckerError A)
   pub whole : new ≡ old ++ errors
   pub reports : InstReports f env o b (i - (block_at f b).range.first) errors
-  pub tracks : Tracks (i + 1) c m (facts_within f o b F (i - (block_at f b).range.first))
+  pub now : G ≡ facts_within f o b F (i - (block_at f b).range.first)
 
 no_reports : {A : Type 0} (f : FunctionValue) (env : MachineValue) (o : OutputValue) (b n : ℕ) → n ≡ 0 → InstReports {A = A} f env o b n []
 no_reports f env o b zero e = InstReports.none
 no_reports f env o b (suc n) e = absurd (omega arith)
 
--- before a block's first instruction no error is added, and the facts tracked are those at the block's beginning
-pub judged_first : {A : Type 0} (f : FunctionValue) (env : MachineValue) (o : OutputValue) (b i : ℕ) (F : Facts) (old : List (CheckerError A)) (c : Cells)
-    (m : Source) →
-    i ≡ (block_at f b).range.first → Tracks ((block_at f b).range.first + 1) c m F → IsJudgedTo f env o b i F old old c m
-judged_first f env o b i F old c m e t = record {
+-- before a block's first instruction no error is added, and the facts are those at the block's beginning
+pub judged_first : {A : Type 0} (f : FunctionValue) (env : MachineValue) (o : OutputValue) (b i : ℕ) (F G : Facts) (old : List (CheckerError A)) →
+    i ≡ (block_at f b).range.first → G ≡ F → IsJudgedTo f env o b i F old old G
+judged_first f env o b i F G old e at = record {
   errors = [];
   whole = sym (append-nil old);
   reports = no_reports f env o b (i - (block_at f b).range.first) (omega arith);
-  tracks = tracks_first f o b i c m F e t;
+  now = at ∙ within_none f o b (i - (block_at f b).range.first) F (omega arith);
 }
 
 next_reports : {A : Type 0} (f : FunctionValue) (env : MachineValue) (o : OutputValue) (b i n : ℕ) (es fs : List (CheckerError A)) → n ≡ i →
@@ -56,33 +51,32 @@ next_reports f env o b i n es fs e low rs r =
     (located b n (first + (i - first)) (omega arith)) r in
     subst (λ (k : ℕ). InstReports f env o b k (es ++ fs)) one (InstReports.next (i - first) es fs rs here)
 
--- checking one instruction more appends that instruction's errors and transfers the tracked facts over it
+-- checking one instruction more appends that instruction's errors and goes on past it
 pub judged_next : {A : Type 0} (f : FunctionValue) (env : MachineValue) (o : OutputValue) (b i n : ℕ) (F : Facts) (old mid new : List (CheckerError A))
-    (c d : Cells) (m k : Source) →
+    (G H : Facts) →
     n ≡ i → (block_at f b).range.first ≤ i → i < (block_at f b).range.end → IsKnownWithin f o b F →
-    ((G : Facts) → Tracks (n + 1) c m G → Tracks (n + 2) d k (facts_after f o (record { block = b; inst = n }) G)) →
-    ((G : Facts) → Tracks (n + 1) c m G → IsKnown f o (record { block = b; inst = n }) G → (es : List (CheckerError A)) × (new ≡ mid ++ es)
+    H ≡ facts_after f o (record { block = b; inst = n }) G →
+    (IsKnown f o (record { block = b; inst = n }) G → (es : List (CheckerError A)) × (new ≡ mid ++ es)
     × InstReport f env o (record { block = b; inst = n }) es) →
-    IsJudgedTo f env o b i F old mid c m → IsJudgedTo f env o b (i + 1) F old new d k
-judged_next f env o b i n F old mid new c d m k e low high known run judge j =
+    IsJudgedTo f env o b i F old mid G → IsJudgedTo f env o b (i + 1) F old new H
+judged_next f env o b i n F old mid new G H e low high known run judge j =
     let first : ℕ = (block_at f b).range.first in
-    let G : Facts = facts_within f o b F (i - first) in
-    let here : IsKnown f o (record { block = b; inst = n }) G = subst (λ (l : Location). IsKnown f o l G) (located b (first + (i - first)) n (omega arith))
+    let there : IsKnown f o (record { block = b; inst = n }) (facts_within f o b F (i - first)) =
+    subst (λ (l : Location). IsKnown f o l (facts_within f o b F (i - first))) (located b (first + (i - first)) n (omega arith))
     (known (i - first) (omega arith)) in
-    let r = judge G (subst (λ (x : ℕ). Tracks (x + 1) c m G) (sym e) j.tracks) here in
+    let r = judge (subst (λ (X : Facts). IsKnown f o (record { block = b; inst = n }) X) (sym j.now) there) in
     record {
       errors = j.errors ++ r.0;
       whole = r.1 ∙ ap (λ (es : List (CheckerError _)). es ++ r.0) j.whole ∙ append_assoc old j.errors r.0;
       reports = next_reports f env o b i n j.errors r.0 e low j.reports r.2;
-      tracks = tracks_on f o b i n c d m k F e low run j.tracks;
+      now = within_more f o b i n F G H e low j.now run;
     }
 
 -- at a block's end, what was appended to the list of errors are those of all the block's instructions
-pub judged_end : {A : Type 0} (f : FunctionValue) (env : MachineValue) (o : OutputValue) (b i : ℕ) (F : Facts) (old new : List (CheckerError A)) (c : Cells)
-    (m : Source) →
-    i ≡ (block_at f b).range.end → IsJudgedTo f env o b i F old new c m →
+pub judged_end : {A : Type 0} (f : FunctionValue) (env : MachineValue) (o : OutputValue) (b i : ℕ) (F : Facts) (old new : List (CheckerError A)) (G : Facts) →
+    i ≡ (block_at f b).range.end → IsJudgedTo f env o b i F old new G →
     (es : List (CheckerError A)) × (new ≡ old ++ es) × InstReports f env o b ((block_at f b).range.end - (block_at f b).range.first) es
-judged_end f env o b i F old new c m e j =
+judged_end f env o b i F old new G e j =
     (j.errors, j.whole, subst (λ (k : ℕ). InstReports f env o b (k - (block_at f b).range.first) j.errors) e j.reports)
 
 -- what a solved table claims at a marked block is known within the block
@@ -91,14 +85,14 @@ known_within : AreEarlier → (f : FunctionValue) (o : OutputValue) (t : List Bl
 known_within law f o t ok s b r n less position p v = facts_are_held law f o (facts_at t) ok s.settled s.refuted b n r less position p v
 
 -- a block that is marked
-pub blocks_marked : AreEarlier → {A : Type 0} (f : FunctionValue) (env : MachineValue) (o : OutputValue) (t : List BlockView) (b n : ℕ) (have : Numbers)
+pub blocks_marked : AreEarlier → {A : Type 0} (f : FunctionValue) (env : MachineValue) (o : OutputValue) (t : List BlockView) (b n : ℕ) (have : Facts)
     (old new : List (CheckerError A)) → IsFramed f → IsSolved f o t → n ≡ b →
-    (view_at t b).reached ≡ true → (view_at t b).numbers ≡ have → IsBlockJudged f env o n (facts_in have) old new → BlockReports f env o b old →
+    (view_at t b).reached ≡ true → facts_at t b ≡ have → IsBlockJudged f env o n have old new → BlockReports f env o b old →
     BlockReports f env o (b + 1) new
 blocks_marked law f env o t b n have old new ok s at marked e judged rs =
     let reached : IsReachedBlock f b = (s.reached b).0 marked in
-    let r = subst (λ (k : ℕ). IsBlockJudged f env o k (facts_in have) old new) at judged
-    (subst (λ (n : Numbers). IsKnownWithin f o b (facts_in n)) e (known_within law f o t ok s b reached)) in
+    let r = subst (λ (k : ℕ). IsBlockJudged f env o k have old new) at judged
+    (subst (λ (X : Facts). IsKnownWithin f o b X) e (known_within law f o t ok s b reached)) in
     let one : suc b ≡ b + 1 = omega arith in
     let here : BlockReport f env o b r.0 = record { reached = λ _. r.2; unreached = λ no. absurd (no reached) } in
     subst (λ (n : ℕ). BlockReports f env o n new) one

@@ -11,7 +11,7 @@ use Rattle.regalloc2_function.specs.WellFormed.{IsFramed}
 use Rattle.regalloc2_function.specs.declared.listing.Edit.{Edit}
 use Rattle.regalloc2_checker.specs.declared.listing.Listed.{Listed}
 use Rattle.regalloc2_checker.specs.ListingCopied.{IsAdded, IsListedBefore}
-use Rattle.regalloc2_checker.specs.TransferTracks.{IsListing}
+use Rattle.regalloc2_checker.specs.Listing.{IsListing}
 use Rattle.regalloc2_checker.proofs.BlocksInRange.{insts_within, nonempty}
 
 -- the items of moves

@@ -11,17 +11,14 @@ use Rattle.regalloc2_function.specs.FunctionValue.{FunctionValue, inst_at}
 use Rattle.regalloc2_function.specs.Machine.{MachineValue}
 use Rattle.regalloc2_function.specs.OutputValue.{OutputValue, MoveValue, allocs_of, place_at}
 use Rattle.regalloc2_function.specs.Path.{Location}
-use Rattle.regalloc2_function.specs.SourceRun.{Source}
-use Rattle.regalloc2_function.specs.AllocatedRun.{Cells, moves_at, after_moves, after_early_defs}
+use Rattle.regalloc2_function.specs.AllocatedRun.{moves_at}
 use Rattle.regalloc2_function.specs.Held.{Holds}
 use Rattle.regalloc2_checker.specs.declared.errors.CheckerError.{CheckerError}
-use Rattle.regalloc2_checker.specs.Facts.{Facts, facts_of, facts_early, facts_after, facts_for}
+use Rattle.regalloc2_checker.specs.Facts.{Facts, facts_early, facts_after, facts_after_moves, facts_after_early_defs, facts_for}
 use Rattle.regalloc2_checker.specs.CheckInputs.{IsKnown}
-use Rattle.regalloc2_checker.specs.TransferTracks.{Tracks}
 use Rattle.regalloc2_checker.specs.Report.{operand_at, AreVRegsInValue, IsValueFault, IsFault, IsFine, IsJudged, AreMoveFaults, InstReport}
 use Rattle.regalloc2_checker.specs.Report.IsValueFault.{unknown, incorrect}
 use Rattle.regalloc2_checker.specs.Report.IsFault.{missing, of_value, of_constraint}
-use Rattle.regalloc2_checker.proofs.FactsFollowMaps.{Exact, early-Exact}
 
 -- what places hold, said in two ways
 module _ (A B : VirtualRegister → Type 0) (h : (v : VirtualRegister) → A v ↔ B v) where
@@ -57,33 +54,30 @@ judged_as env inst os ps position A B h (Some e) (k, less, at, before, f) = (
 )
 
 -- what holds where early uses are read
-pub early_facts : (f : FunctionValue) (o : OutputValue) (b i : ℕ) (c e : Cells) (m j : Source) (F : Facts) (ms : List MoveValue) (ps : List Place)
-    (os : List OperandValue) → Tracks (i + 1) c m F →
-    ms ≡ moves_at f o (record { block = b; inst = i }) → ps ≡ allocs_of o i → os ≡ (inst_at f i).operands → e ≡ after_early_defs ps 0 os (after_moves ms c) →
-    j ≡ m →
-    (p : Place) (v : VirtualRegister) → facts_of e j p v ≡ facts_early f o (record { block = b; inst = i }) F p v
-early_facts f o b i c e m j F ms ps os t em ep eo ee ej p v =
-    let l : Location = record { block = b; inst = i } in
-    let x : Exact c m F = record { same = t.same } in
-    rw (ee, ej, em, ep, eo) ((early-Exact f o l c m F x).same p v)
+pub early_run : (f : FunctionValue) (o : OutputValue) (b i : ℕ) (F E : Facts) (ms : List MoveValue) (ps : List Place) (os : List OperandValue) →
+    ms ≡ moves_at f o (record { block = b; inst = i }) → ps ≡ allocs_of o i → os ≡ (inst_at f i).operands →
+    E ≡ facts_after_early_defs ps 0 os (facts_after_moves ms F) → E ≡ facts_early f o (record { block = b; inst = i }) F
+early_run f o b i F E ms ps os em ep eo e = rw (e, em, ep, eo) refl
 
 -- what is known holds
-known_early : (f : FunctionValue) (o : OutputValue) (l : Location) (E F : Facts) → ((p : Place) (v : VirtualRegister) → E p v ≡ facts_early f o l F p v) →
+known_early : (f : FunctionValue) (o : OutputValue) (l : Location) (E F : Facts) → E ≡ facts_early f o l F →
     IsKnown f o l F → (p : Place) (v : VirtualRegister) → (E p v ≡ true) ↔ Holds f o l Early p v
 unfolding facts_for
-known_early f o l E F same known p v = (λ t. (known Early p v).0 (sym (same p v) ∙ t), λ h. same p v ∙ (known Early p v).1 h)
+known_early f o l E F same known p v =
+    let at : E p v ≡ facts_early f o l F p v = ap (λ (X : Facts). X p v) same in (λ t. (known Early p v).0 (sym at ∙ t), λ h. at ∙ (known Early p v).1 h)
 
-known_late : (f : FunctionValue) (o : OutputValue) (l : Location) (E F : Facts) → ((p : Place) (v : VirtualRegister) → E p v ≡ facts_after f o l F p v) →
+known_late : (f : FunctionValue) (o : OutputValue) (l : Location) (E F : Facts) → E ≡ facts_after f o l F →
     IsKnown f o l F → (p : Place) (v : VirtualRegister) → (E p v ≡ true) ↔ Holds f o l Late p v
 unfolding facts_for
-known_late f o l E F same known p v = (λ t. (known Late p v).0 (sym (same p v) ∙ t), λ h. same p v ∙ (known Late p v).1 h)
+known_late f o l E F same known p v =
+    let at : E p v ≡ facts_after f o l F p v = ap (λ (X : Facts). X p v) same in (λ t. (known Late p v).0 (sym at ∙ t), λ h. at ∙ (known Late p v).1 h)
 
 -- the errors of an instruction, as they were found
 pub inst_report : {T : Type 0} (f : FunctionValue) (env : MachineValue) (o : OutputValue) (l : Location) (E L F : Facts) (ms : List MoveValue) (ps : List Place)
     (os : List OperandValue) (of_moves : List (CheckerError T))
     (early late : Option (CheckerError T)) → ms ≡ moves_at f o l → ps ≡ allocs_of o l.inst → os ≡ (inst_at f l.inst).operands → AreMoveFaults env ms of_moves →
     IsJudged env l.inst os ps Early (λ p v. E p v ≡ true) early → IsJudged env l.inst os ps Late (λ p v. L p v ≡ true) late →
-    ((p : Place) (v : VirtualRegister) → E p v ≡ facts_early f o l F p v) → ((p : Place) (v : VirtualRegister) → L p v ≡ facts_after f o l F p v) →
+    E ≡ facts_early f o l F → L ≡ facts_after f o l F →
     IsKnown f o l F →
     InstReport f env o l (of_moves ++ (option_to_list early ++ option_to_list late))
 inst_report f env o l E L F ms ps os of_moves early late em ep eo moves je jl se sl known = record {

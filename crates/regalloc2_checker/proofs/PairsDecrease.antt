@@ -1,9 +1,7 @@
--- Fewer pairs of keys agree where one pair less does.
-use Rattle.std.proofs.Common.{ℕ, zero, suc, ◌≡◌, ◌<◌, ◌≤◌, arith, Bool, true, false, cond, refl, subst, inl, inr}
+-- Fewer pairs are held where one pair less is.
+use Rattle.std.proofs.Common.{ℕ, zero, suc, ◌≡◌, ◌<◌, ◌≤◌, arith, Bool, true, false, cond, refl, subst, inl, inr, ap, ◌∙◌}
 use Rattle.std.proofs.lemmas.Bool.{cases_eq}
-use Rattle.regalloc2_checker.specs.ValueNumbers.{Numbers}
-use Rattle.regalloc2_checker.specs.Meet.{agree}
-use Rattle.regalloc2_checker.specs.Tables.{count_below, sum_below, keys_end, agreeing, all_pairs}
+use Rattle.regalloc2_checker.specs.Tables.{count_below, sum_below, bits_end, pairs_held, all_pairs}
 
 one_le : (a b : Bool) → (a ≡ true → b ≡ true) → cond a 1 0 ≤ cond b 1 0
 one_le true true h = omega arith
@@ -38,36 +36,55 @@ count_lt (suc n) s t h x less a b = elim (cases_eq x n) [
       omega arith)
 ]
 
--- a sum over the numbers below a bound is at most another one whose terms are all at least as large
-pub sum_le : (n : ℕ) (g h : ℕ → ℕ) → ((x : ℕ) → g x ≤ h x) → sum_below n g ≤ sum_below n h
+-- a sum over the numbers below a bound is at most another one whose terms there are all at least as large
+pub sum_le : (n : ℕ) (g h : ℕ → ℕ) → ((x : ℕ) → x < n → g x ≤ h x) → sum_below n g ≤ sum_below n h
 unfolding sum_below
 sum_le zero g h le = omega arith
 sum_le (suc n) g h le =
-    let one : g n ≤ h n = le n in
-    let rest : sum_below n g ≤ sum_below n h = sum_le n g h le in
+    let one : g n ≤ h n = le n (omega arith) in
+    let rest : sum_below n g ≤ sum_below n h = sum_le n g h (λ x l. le x (omega (arith, l))) in
     omega arith
 
 -- it is smaller than that other sum if one of its terms is smaller
-pub sum_lt : (n : ℕ) (g h : ℕ → ℕ) → ((x : ℕ) → g x ≤ h x) → (x : ℕ) → x < n → g x < h x → sum_below n g < sum_below n h
+pub sum_lt : (n : ℕ) (g h : ℕ → ℕ) → ((x : ℕ) → x < n → g x ≤ h x) → (x : ℕ) → x < n → g x < h x → sum_below n g < sum_below n h
 unfolding sum_below
 sum_lt zero g h le x less l = absurd (omega arith)
 sum_lt (suc n) g h le x less l = elim (cases_eq x n) [
   | inl e ↦ (let one : g n < h n = subst (λ (y : ℕ). g y < h y) e l in
-      let rest : sum_below n g ≤ sum_below n h = sum_le n g h le in
+      let rest : sum_below n g ≤ sum_below n h = sum_le n g h (λ z k. le z (omega (arith, k))) in
       omega arith)
-  | inr ne ↦ (let one : g n ≤ h n = le n in
-      let rest : sum_below n g < sum_below n h = sum_lt n g h le x (omega (arith, less, ne)) l in
+  | inr ne ↦ (let one : g n ≤ h n = le n (omega arith) in
+      let rest : sum_below n g < sum_below n h = sum_lt n g h (λ z k. le z (omega (arith, k))) x (omega (arith, less, ne)) l in
       omega arith)
 ]
 
--- fewer pairs of keys share a value number in r than in m, if all that share one in r do in m, and one pair does in m alone
-pub fewer_agree : (r m : Numbers) → ((x y : ℕ) → agree r x y ≡ true → agree m x y ≡ true) → (x y : ℕ) → x < keys_end → y < keys_end → agree r x y ≡ false →
-    agree m x y ≡ true → agreeing r < agreeing m
-fewer_agree r m h x y lx ly a b =
-    sum_lt keys_end (λ z. count_below keys_end (agree r z)) (λ z. count_below keys_end (agree m z)) (λ z. count_le keys_end (agree r z) (agree m z) (h z)) x lx
-    (count_lt keys_end (agree r x) (agree m x) (h x) y ly a b)
+-- it is the other sum if all of its terms are those of the other
+pub sum-same : (n : ℕ) (g h : ℕ → ℕ) → ((x : ℕ) → x < n → g x ≡ h x) → sum_below n g ≡ sum_below n h
+unfolding sum_below
+sum-same zero g h e = refl
+sum-same (suc n) g h e =
+    let one : g n ≡ h n = e n (omega arith) in
+    let rest : sum_below n g ≡ sum_below n h = sum-same n g h (λ x l. e x (omega (arith, l))) in
+    omega arith
 
--- no more pairs of keys share a value number than there are pairs of keys
-pub at_most_all : (m : Numbers) → agreeing m ≤ all_pairs
-at_most_all m = sum_le keys_end (λ z. count_below keys_end (agree m z)) (λ z. count_below keys_end (λ y. true))
-    (λ z. count_le keys_end (agree m z) (λ y. true) (λ y h. refl))
+-- fewer pairs are held in one way than in another, if all that are held in the first are in the second, and one pair is in the second alone
+pub fewer-held : (size : ℕ) (r m : ℕ → ℕ → Bool) → ((x y : ℕ) → x < size → r x y ≡ true → m x y ≡ true) → (x y : ℕ) → x < size → y < bits_end →
+    r x y ≡ false → m x y ≡ true → pairs_held size r < pairs_held size m
+fewer-held size r m h x y lx ly a b =
+    sum_lt size (λ z. count_below bits_end (r z)) (λ z. count_below bits_end (m z)) (λ z l. count_le bits_end (r z) (m z) (λ w. h z w l)) x lx
+    (count_lt bits_end (r x) (m x) (λ w. h x w lx) y ly a b)
+
+-- no more pairs are held than there are
+pub at_most_all : (size : ℕ) (m : ℕ → ℕ → Bool) → pairs_held size m ≤ all_pairs size
+at_most_all size m = sum_le size (λ z. count_below bits_end (m z)) (λ z. count_below bits_end (λ y. true))
+    (λ z l. count_le bits_end (m z) (λ y. true) (λ y h. refl))
+
+-- as many are held in one way as in another, if the same are
+pub as-many-held : (size : ℕ) (r m : ℕ → ℕ → Bool) → ((x y : ℕ) → x < size → r x y ≡ m x y) → pairs_held size r ≡ pairs_held size m
+as-many-held size r m h = sum-same size (λ z. count_below bits_end (r z)) (λ z. count_below bits_end (m z))
+    (λ z l. ap (λ (s : ℕ → Bool). count_below bits_end s) (λ i y. h z y l i))
+
+-- words end at 2^32
+pub bits_end_is : bits_end ≡ 4294967296
+unfolding bits_end
+bits_end_is = refl

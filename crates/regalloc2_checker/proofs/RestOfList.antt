@@ -1,11 +1,14 @@
--- What is left of a list of moves, operands or arguments after one more.
-use Rattle.std.proofs.Common.{◌≡◌, ℕ, suc, ◌+◌, ◌<◌, ◌≤◌, List, [], ◌∷◌, ◌++◌, Bool, Option, None, Some, length, get_or, drop, map, refl, sym, ap}
+-- What is left of a list of moves, operands or parameters after one more.
+use Rattle.std.proofs.Common.{◌≡◌, ℕ, suc, ◌+◌, ◌-◌, ◌<◌, ◌≤◌, List, [], ◌∷◌, ◌++◌, Bool, length, get_or, drop, map, refl, sym, ap}
 use Rattle.std.proofs.Common.{◌∙◌, subst, arith, cond, true, false, inl, inr, zero}
-use Rattle.std.specs.Prelude.{◌&&◌, ◌⊎◌, not, min, Contains}
+use Rattle.std.specs.Prelude.{◌&&◌, ◌⊎◌, not, min, Contains, All}
+use Rattle.std.specs.declared.vec.Vec.{Vec}
 use Rattle.std.proofs.Math.Seq.{drop-cons}
-use Rattle.std.proofs.lemmas.List.{drop_all, length-map}
+use Rattle.std.proofs.Math.ListN.{length-append}
+use Rattle.std.proofs.lemmas.List.{drop_all, get_or_default, get_or_append_left, get_or-append_right}
+use Rattle.std.proofs.lemmas.List.Elements.{All-get_or}
 use Rattle.std.proofs.lemmas.Bool.{cases_lt}
-use Rattle.regalloc2_names.specs.Register.{VirtualRegister, Register}
+use Rattle.regalloc2_names.specs.Register.{VirtualRegister, Register, is_vreg}
 use Rattle.regalloc2_names.specs.RegisterSet.{has_register}
 use Rattle.regalloc2_names.specs.Listed.{IsWalkOf}
 use Rattle.regalloc2_names.specs.declared.sets.PRegSet.{PRegSet}
@@ -13,11 +16,12 @@ use Rattle.regalloc2_names.specs.Place.{Place, NoPlace, InRegister, InSlot, is_p
 use Rattle.regalloc2_names.specs.Operand.{OperandValue, is_def, is_late}
 use Rattle.regalloc2_function.specs.declared.listing.Edit.{Edit}
 use Rattle.regalloc2_function.specs.Views.{move_of}
-use Rattle.regalloc2_function.specs.OutputValue.{place_at}
-use Rattle.regalloc2_function.specs.SourceRun.{Stamp, Source, assigned, after_defs, passed}
-use Rattle.regalloc2_function.specs.AllocatedRun.{Cells, stored, after_moves, after_early_defs, after_writes, after_clobbers}
+use Rattle.regalloc2_function.specs.OutputValue.{MoveValue, place_at}
+use Rattle.regalloc2_checker.specs.Facts.{Facts, placed, defined, facts_after_moves, facts_after_early_defs, facts_after_defs, facts_after_clobbers, renaming}
+use Rattle.regalloc2_checker.specs.Renamed.{facts_renamed, HoldersAre, AreHoldersOf}
+use Rattle.regalloc2_checker.specs.TableFacts.{IsListed, IsListedVReg}
 use Rattle.regalloc2_checker.proofs.SameNames.{is_register-true, is_register-same}
-use Rattle.regalloc2_checker.proofs.Keys.{same_cells}
+use Rattle.regalloc2_checker.proofs.TableSteps.{one-facts}
 
 drop_at : (ms : List Edit) (k : ℕ) (e : Edit) → k < length ms → e ≡ get_or ms k e → drop k ms ≡ e ∷ drop (k + 1) ms
 drop_at ms k e l is =
@@ -25,183 +29,168 @@ drop_at ms k e l is =
     rw (← s) (drop-cons ms k e l ∙ ap (λ (x : Edit). x ∷ drop (suc k) ms) (sym is))
 
 -- the effect of the moves from the k-th on is that of the k-th, then of those after it
-pub moves_step : (ms : List Edit) (k : ℕ) (e : Edit) (c d : Cells) → k < length ms → e ≡ get_or ms k e → d ≡ stored c (move_of e).to (c (move_of e).from) →
-    after_moves (map move_of (drop k ms)) c ≡ after_moves (map move_of (drop (k + 1) ms)) d
-unfolding after_moves
-moves_step ms k e c d l is h =
-    ap (λ (xs : List Edit). after_moves (map move_of xs) c) (drop_at ms k e l is) ∙ ap (λ (x : Cells). after_moves (map move_of (drop (k + 1) ms)) x) (sym h)
+pub moves_step : (ms : List Edit) (k : ℕ) (e : Edit) (F G : Facts) → k < length ms → e ≡ get_or ms k e →
+    G ≡ placed (move_of e).to (F (move_of e).from) F →
+    facts_after_moves (map move_of (drop k ms)) F ≡ facts_after_moves (map move_of (drop (k + 1) ms)) G
+unfolding facts_after_moves
+moves_step ms k e F G l is h =
+    ap (λ (xs : List Edit). facts_after_moves (map move_of xs) F) (drop_at ms k e l is)
+    ∙ ap (λ (x : Facts). facts_after_moves (map move_of (drop (k + 1) ms)) x) (sym h)
 
--- past the last move the places hold what they hold
-pub moves_done : (ms : List Edit) (k : ℕ) (c : Cells) → length ms ≤ k → after_moves (map move_of (drop k ms)) c ≡ c
-unfolding after_moves
-moves_done ms k c l = let e : drop k ms ≡ [] = drop_all k ms l in rw e refl
+-- past the last move the facts are what they are
+pub moves_done : (ms : List Edit) (k : ℕ) (F : Facts) → length ms ≤ k → facts_after_moves (map move_of (drop k ms)) F ≡ F
+unfolding facts_after_moves
+moves_done ms k F l = let e : drop k ms ≡ [] = drop_all k ms l in rw e refl
 
 -- clearing early definitions' places from operand k on clears that of operand k, if it is one, then those after it
-pub early_step : (places : List Place) (os : List OperandValue) (k : ℕ) (o : OperandValue) (c d : Cells) → k < length os → o ≡ get_or os k o →
-    d ≡ cond (is_def o.kind && not (is_late o.position)) (stored c (place_at places k) None) c →
-    after_early_defs places k (drop k os) c ≡ after_early_defs places (k + 1) (drop (k + 1) os) d
-unfolding after_early_defs
-early_step places os k o c d l is e =
+pub early_step : (places : List Place) (os : List OperandValue) (k : ℕ) (o : OperandValue) (F G : Facts) → k < length os → o ≡ get_or os k o →
+    G ≡ cond (is_def o.kind && not (is_late o.position)) (placed (place_at places k) (λ v. false) F) F →
+    facts_after_early_defs places k (drop k os) F ≡ facts_after_early_defs places (k + 1) (drop (k + 1) os) G
+unfolding facts_after_early_defs
+early_step places os k o F G l is e =
     let split : drop k os ≡ get_or os k o ∷ drop (suc k) os = drop-cons os k o l in
     let s : suc k ≡ k + 1 = omega arith in
     rw (split, s, ← is, e) refl
 
 -- past the last operand no place of an early definition is left to clear
-pub early_done : (places : List Place) (os : List OperandValue) (k : ℕ) (c : Cells) → length os ≤ k → after_early_defs places k (drop k os) c ≡ c
-unfolding after_early_defs
-early_done places os k c l = let e : drop k os ≡ [] = drop_all k os l in rw e refl
+pub early_done : (places : List Place) (os : List OperandValue) (k : ℕ) (F : Facts) → length os ≤ k → facts_after_early_defs places k (drop k os) F ≡ F
+unfolding facts_after_early_defs
+early_done places os k F l = let e : drop k os ≡ [] = drop_all k os l in rw e refl
 
--- the writes to definitions' places from operand k on are that of operand k, if it is a definition, then those after it
-pub writes_step : (places : List Place) (step : ℕ) (os : List OperandValue) (k : ℕ) (o : OperandValue) (c d : Cells) → k < length os → o ≡ get_or os k o →
-    d ≡ cond (is_def o.kind) (stored c (place_at places k) (Some (record { step = step; operand = k }))) c →
-    after_writes places step k (drop k os) c ≡ after_writes places step (k + 1) (drop (k + 1) os) d
-unfolding after_writes
-writes_step places step os k o c d l is e =
+-- the definitions from operand k on are that of operand k, if it is one, then those after it
+pub defs_step : (places : List Place) (os : List OperandValue) (k : ℕ) (o : OperandValue) (F G : Facts) → k < length os → o ≡ get_or os k o →
+    G ≡ cond (is_def o.kind) (defined (place_at places k) o.vreg F) F →
+    facts_after_defs places k (drop k os) F ≡ facts_after_defs places (k + 1) (drop (k + 1) os) G
+unfolding facts_after_defs
+defs_step places os k o F G l is e =
     let split : drop k os ≡ get_or os k o ∷ drop (suc k) os = drop-cons os k o l in
     let s : suc k ≡ k + 1 = omega arith in
     rw (split, s, ← is, e) refl
 
--- past the last operand no place is left to write
-pub writes_done : (places : List Place) (step : ℕ) (os : List OperandValue) (k : ℕ) (c : Cells) → length os ≤ k → after_writes places step k (drop k os) c ≡ c
-unfolding after_writes
-writes_done places step os k c l = let e : drop k os ≡ [] = drop_all k os l in rw e refl
+-- past the last operand nothing is left to define
+pub defs_done : (places : List Place) (os : List OperandValue) (k : ℕ) (F : Facts) → length os ≤ k → facts_after_defs places k (drop k os) F ≡ F
+unfolding facts_after_defs
+defs_done places os k F l = let e : drop k os ≡ [] = drop_all k os l in rw e refl
 
--- the writes to defined vregs from operand k on are that of operand k, if it is a definition, then those after it
-pub defs_step : (step : ℕ) (os : List OperandValue) (k : ℕ) (o : OperandValue) (m n : Source) → k < length os → o ≡ get_or os k o →
-    n ≡ cond (is_def o.kind) (assigned m o.vreg (Some (record { step = step; operand = k }))) m →
-    after_defs step k (drop k os) m ≡ after_defs step (k + 1) (drop (k + 1) os) n
-unfolding after_defs
-defs_step step os k o m n l is e =
-    let split : drop k os ≡ get_or os k o ∷ drop (suc k) os = drop-cons os k o l in
-    let s : suc k ≡ k + 1 = omega arith in
-    rw (split, s, ← is, e) refl
+-- so many parameters took what their arguments had: what each virtual register has now one had before
+pub record AreRenamedTo (params arguments : List VirtualRegister) (k : ℕ) (F G : Facts) : Type 0 where
+  pub before : VirtualRegister → VirtualRegister
+  pub same : (p : Place) (v : VirtualRegister) → G p v ≡ F p (before v)
+  pub rest : (v : VirtualRegister) → renaming (drop k params) (drop k arguments) before v ≡ renaming params arguments (λ u. u) v
 
--- past the last operand no vreg is left to write
-pub defs_done : (step k : ℕ) (os : List OperandValue) (m : Source) → length os ≤ k → after_defs step k (drop k os) m ≡ m
-unfolding after_defs
-defs_done step k os m l = let e : drop k os ≡ [] = drop_all k os l in rw e refl
+-- none did
+pub renamed_none : (params arguments : List VirtualRegister) (F : Facts) → AreRenamedTo params arguments 0 F F
+renamed_none params arguments F = record { before = λ u. u; same = λ p v. refl; rest = λ v. refl }
 
--- assigning parameters from the k-th on assigns the k-th its argument's write, then those after it theirs
-pub passed_step : (ps as' : List VirtualRegister) (k : ℕ) (p a : VirtualRegister) (b m n : Source) → k < length ps → k < length as' → p ≡ get_or ps k p →
-    a ≡ get_or as' k a → n ≡ assigned m p (b a) →
-    passed (drop k ps) (drop k as') b m ≡ passed (drop (k + 1) ps) (drop (k + 1) as') b n
-unfolding passed
-passed_step ps as' k p a b m n lp la ip ia e =
+renaming_step : (ps as' : List VirtualRegister) (k : ℕ) (p a : VirtualRegister) (r : VirtualRegister → VirtualRegister) (v : VirtualRegister) →
+    k < length ps → k < length as' → p ≡ get_or ps k p → a ≡ get_or as' k a →
+    renaming (drop k ps) (drop k as') r v ≡ renaming (drop (k + 1) ps) (drop (k + 1) as') (λ q. cond (is_vreg p q) a (r q)) v
+unfolding renaming
+renaming_step ps as' k p a r v lp la ip ia =
     let x : drop k ps ≡ get_or ps k p ∷ drop (suc k) ps = drop-cons ps k p lp in
     let y : drop k as' ≡ get_or as' k a ∷ drop (suc k) as' = drop-cons as' k a la in
     let s : suc k ≡ k + 1 = omega arith in
-    rw (x, y, s, ← ip, ← ia, e) refl
+    rw (x, y, s, ← ip, ← ia) refl
 
-passed_none : (ps : List VirtualRegister) (b m : Source) → passed ps [] b m ≡ m
-unfolding passed
-passed_none [] b m = refl
-passed_none (p ∷ ps) b m = refl
-
--- past the last parameter or the last argument no parameter is left to assign
-pub passed_done : (ps as' : List VirtualRegister) (k : ℕ) (b m : Source) → (length ps ≤ k) ⊎ (length as' ≤ k) → passed (drop k ps) (drop k as') b m ≡ m
-unfolding passed
-passed_done ps as' k b m (inl h) = let e : drop k ps ≡ [] = drop_all k ps h in rw e refl
-passed_done ps as' k b m (inr h) = let e : drop k as' ≡ [] = drop_all k as' h in rw e (passed_none (drop k ps) b m)
+-- one more did
+pub renamed_more : (params arguments : List VirtualRegister) (k : ℕ) (p a : VirtualRegister) (F G H : Facts) → k < length params → k < length arguments →
+    p ≡ get_or params k p → a ≡ get_or arguments k a →
+    ((q : Place) (v : VirtualRegister) → H q v ≡ cond (is_vreg p v) (F q a) (G q v)) → AreRenamedTo params arguments k F G →
+    AreRenamedTo params arguments (k + 1) F H
+renamed_more params arguments k p a F G H lp la ip ia h r = record {
+  before = λ q. cond (is_vreg p q) a (r.before q);
+  same = λ q v. h q v ∙ ap (λ b. cond (is_vreg p v) (F q a) b) (r.same q v) ∙ by_test q (is_vreg p v) (r.before v);
+  rest = λ v. sym (renaming_step params arguments k p a r.before v lp la ip ia) ∙ r.rest v;
+}
+  where
+    by_test : (q : Place) (b : Bool) (u : VirtualRegister) → cond b (F q a) (F q u) ≡ F q (cond b a u)
+    by_test q true u = refl
+    by_test q false u = refl
 
 -- a number that is at least the smaller of two is at least one of them
-pub either_short : (a b k : ℕ) → min a b ≤ k → (a ≤ k) ⊎ (b ≤ k)
+either_short : (a b k : ℕ) → min a b ≤ k → (a ≤ k) ⊎ (b ≤ k)
 either_short a b k h = elim (cases_lt k a) [ inl l ↦ inr (omega arith) | inr l ↦ inl l ]
 
--- the registers of a list are emptied
-unfoldable pub emptied : List Register → Cells → Cells
-emptied [] c = c
-emptied (r ∷ rs) c = emptied rs (stored c (InRegister r) None)
+renaming_none : (ps : List VirtualRegister) (r : VirtualRegister → VirtualRegister) (v : VirtualRegister) → renaming ps [] r v ≡ r v
+unfolding renaming
+renaming_none [] r v = refl
+renaming_none (p ∷ ps) r v = refl
 
--- clearing no registers leaves what places hold
-pub emptied_none : (c : Cells) → emptied [] c ≡ c
+renaming_done : (ps as' : List VirtualRegister) (k : ℕ) (r : VirtualRegister → VirtualRegister) (v : VirtualRegister) → (length ps ≤ k) ⊎ (length as' ≤ k) →
+    renaming (drop k ps) (drop k as') r v ≡ r v
+unfolding renaming
+renaming_done ps as' k r v (inl h) = let e : drop k ps ≡ [] = drop_all k ps h in rw e refl
+renaming_done ps as' k r v (inr h) = let e : drop k as' ≡ [] = drop_all k as' h in rw e (renaming_none (drop k ps) r v)
+
+-- all did
+pub renamed_all : (params arguments : List VirtualRegister) (k : ℕ) (F G : Facts) → min (length params) (length arguments) ≤ k →
+    AreRenamedTo params arguments k F G → G ≡ facts_renamed params arguments F
+renamed_all params arguments k F G h r = one-facts G (facts_renamed params arguments F)
+    (λ p v. r.same p v ∙ ap (F p) (sym (renaming_done params arguments k r.before v (either_short _ _ k h)) ∙ r.rest v))
+
+-- the registers of a list are emptied
+unfoldable pub emptied : List Register → Facts → Facts
+emptied [] F = F
+emptied (r ∷ rs) F = emptied rs (placed (InRegister r) (λ v. false) F)
+
+-- clearing no registers leaves the facts
+pub emptied_none : (F : Facts) → emptied [] F ≡ F
 unfolding emptied
-emptied_none c = refl
+emptied_none F = refl
 
 -- clearing a list of registers with one more at its end clears the list, then that one
-pub emptied_more : (rs : List Register) (r : Register) (c : Cells) → emptied (rs ++ (r ∷ [])) c ≡ stored (emptied rs c) (InRegister r) None
+pub emptied_more : (rs : List Register) (r : Register) (F : Facts) → emptied (rs ++ (r ∷ [])) F ≡ placed (InRegister r) (λ v. false) (emptied rs F)
 unfolding emptied
-emptied_more [] r c = refl
-emptied_more (x ∷ rs) r c = emptied_more rs r (stored c (InRegister x) None)
+emptied_more [] r F = refl
+emptied_more (x ∷ rs) r F = emptied_more rs r (placed (InRegister x) (λ v. false) F)
 
-elsewhere : (rs : List Register) (c : Cells) (q : Place) → ((r : Register) → is_place (InRegister r) q ≡ false) → emptied rs c q ≡ c q
-unfolding emptied stored
-elsewhere [] c q h = refl
-elsewhere (r ∷ rs) c q h = elsewhere rs _ q h ∙ ap (λ b. cond b None (c q)) (h r)
+elsewhere : (rs : List Register) (F : Facts) (q : Place) (v : VirtualRegister) → ((r : Register) → is_place (InRegister r) q ≡ false) →
+    emptied rs F q v ≡ F q v
+unfolding emptied placed
+elsewhere [] F q v h = refl
+elsewhere (r ∷ rs) F q v h = elsewhere rs _ q v h ∙ ap (λ b. cond b false (F q v)) (h r)
 
 later : (x y : Register) (xs : List Register) → Contains xs x → Contains (y ∷ xs) x
 later x y xs (k, less, at) = (suc k, omega arith, at)
 
-gone : (rs : List Register) (c : Cells) (r : Register) → c (InRegister r) ≡ None → emptied rs c (InRegister r) ≡ None
-unfolding emptied stored
-gone [] c r h = h
-gone (x ∷ rs) c r h = gone rs _ r (elim (is_place (InRegister x) (InRegister r)) as (λ b. cond b None (c (InRegister r)) ≡ None) [ true ↦ refl | false ↦ h ])
+gone : (rs : List Register) (F : Facts) (r : Register) (v : VirtualRegister) → F (InRegister r) v ≡ false → emptied rs F (InRegister r) v ≡ false
+unfolding emptied placed
+gone [] F r v h = h
+gone (x ∷ rs) F r v h = gone rs _ r v (elim (is_place (InRegister x) (InRegister r)) as (λ b. cond b false (F (InRegister r) v) ≡ false)
+    [ true ↦ refl | false ↦ h ])
 
-listed_gone : (rs : List Register) (c : Cells) (r : Register) → Contains rs r → emptied rs c (InRegister r) ≡ None
-unfolding emptied stored
-listed_gone [] c r (k, less, at) = absurd (omega arith)
-listed_gone (x ∷ rs) c r (zero, less, at) =
+listed_gone : (rs : List Register) (F : Facts) (r : Register) (v : VirtualRegister) → Contains rs r → emptied rs F (InRegister r) v ≡ false
+unfolding emptied placed
+listed_gone [] F r v (k, less, at) = absurd (omega arith)
+listed_gone (x ∷ rs) F r v (zero, less, at) =
     let e : x ≡ r = at in
-    gone rs _ r (ap (λ b. cond b None (c (InRegister r))) (subst (λ (y : Register). is_place (InRegister x) (InRegister y) ≡ true) e (is_register-same x)))
-listed_gone (x ∷ rs) c r (suc k, less, at) = listed_gone rs _ r (k, omega arith, at)
+    gone rs _ r v (ap (λ b. cond b false (F (InRegister r) v))
+    (subst (λ (y : Register). is_place (InRegister x) (InRegister y) ≡ true) e (is_register-same x)))
+listed_gone (x ∷ rs) F r v (suc k, less, at) = listed_gone rs _ r v (k, omega arith, at)
 
-unlisted_stays : (rs : List Register) (c : Cells) (r : Register) → (Contains rs r → ⊥) → emptied rs c (InRegister r) ≡ c (InRegister r)
-unfolding emptied stored
-unlisted_stays [] c r h = refl
-unlisted_stays (x ∷ rs) c r h = unlisted_stays rs _ r (λ m. h (later r x rs m)) ∙ by_test (is_place (InRegister x) (InRegister r)) refl
+unlisted_stays : (rs : List Register) (F : Facts) (r : Register) (v : VirtualRegister) → (Contains rs r → ⊥) →
+    emptied rs F (InRegister r) v ≡ F (InRegister r) v
+unfolding emptied placed
+unlisted_stays [] F r v h = refl
+unlisted_stays (x ∷ rs) F r v h = unlisted_stays rs _ r v (λ m. h (later r x rs m)) ∙ by_test (is_place (InRegister x) (InRegister r)) refl
   where
-    by_test : (b : Bool) → is_place (InRegister x) (InRegister r) ≡ b → cond b None (c (InRegister r)) ≡ c (InRegister r)
+    by_test : (b : Bool) → is_place (InRegister x) (InRegister r) ≡ b → cond b false (F (InRegister r) v) ≡ F (InRegister r) v
     by_test true e = absurd (h (0, omega arith, is_register-true x r e))
     by_test false e = refl
 
 -- those of a set
-pub emptied_set : (s : PRegSet) (rs : List Register) (c : Cells) → IsWalkOf s rs → emptied rs c ≡ after_clobbers s c
-unfolding after_clobbers
-emptied_set s rs c w = same_cells _ _ at
+pub emptied_set : (s : PRegSet) (rs : List Register) (F : Facts) → IsWalkOf s rs → emptied rs F ≡ facts_after_clobbers s F
+unfolding facts_after_clobbers
+emptied_set s rs F w = one-facts _ _ at
   where
-    by_test : (r : Register) (b : Bool) → has_register s r ≡ b → emptied rs c (InRegister r) ≡ cond b None (c (InRegister r))
-    by_test r true e = listed_gone rs c r ((w.members r).0 e)
-    by_test r false e = unlisted_stays rs c r (λ m. let t = (w.members r).1 m in absurd cc)
+    by_test : (r : Register) (v : VirtualRegister) (b : Bool) → has_register s r ≡ b → emptied rs F (InRegister r) v ≡ cond b false (F (InRegister r) v)
+    by_test r v true e = listed_gone rs F r v ((w.members r).0 e)
+    by_test r v false e = unlisted_stays rs F r v (λ m. let t = (w.members r).1 m in absurd cc)
 
-    at : (q : Place) → emptied rs c q ≡ after_clobbers s c q
-    at NoPlace = elsewhere rs c NoPlace (λ r. refl)
-    at (InRegister r) = by_test r (has_register s r) refl
-    at (InSlot n) = elsewhere rs c (InSlot n) (λ r. refl)
-
--- the writes that stand in a list of numbers
-stamped_at : (g : Option ℕ → Option Stamp) (m : Source) (ns : List (Option ℕ)) (vs : List VirtualRegister) (k : ℕ) (c : Option ℕ) (d : VirtualRegister) →
-    map g ns ≡ map m vs → k < length ns → k < length vs → g (get_or ns k c) ≡ m (get_or vs k d)
-stamped_at g m [] vs k c d e l l2 = absurd (omega arith)
-stamped_at g m (x ∷ xs) [] k c d e l l2 = absurd (omega arith)
-stamped_at g m (x ∷ xs) (y ∷ ys) zero c d e l l2 = ap (λ (zs : List (Option Stamp)). get_or zs 0 None) e
-stamped_at g m (x ∷ xs) (y ∷ ys) (suc k) c d e l l2 =
-    stamped_at g m xs ys k c d (ap (λ (zs : List (Option Stamp)). drop 1 zs) e) (omega arith) (omega arith)
-
-at_any : (xs : List VirtualRegister) (k : ℕ) (d e : VirtualRegister) → k < length xs → get_or xs k d ≡ get_or xs k e
-at_any [] k d e l = absurd (omega arith)
-at_any (x ∷ xs) zero d e l = refl
-at_any (x ∷ xs) (suc k) d e l = at_any xs k d e (omega arith)
-
-as_long : (g : Option ℕ → Option Stamp) (m : Source) (ns : List (Option ℕ)) (vs : List VirtualRegister) → map g ns ≡ map m vs → length ns ≡ length vs
-as_long g m ns vs e = sym (length-map ns g) ∙ ap (λ (zs : List (Option Stamp)). length zs) e ∙ length-map vs m
-
--- assigning parameters from the k-th on, where arguments are given by their value numbers, assigns the k-th, then those after it
-pub passed_more : (g : Option ℕ → Option Stamp) (ps vs : List VirtualRegister) (ns : List (Option ℕ)) (k : ℕ) (p : VirtualRegister) (n : Option ℕ)
-    (b m m' : Source) →
-    map g ns ≡ map b vs → k < length ps → k < length ns → p ≡ get_or ps k p → n ≡ get_or ns k n → m' ≡ assigned m p (g n) →
-    passed (drop k ps) (drop k vs) b m ≡ passed (drop (k + 1) ps) (drop (k + 1) vs) b m'
-passed_more g ps vs ns k p n b m m' e lp ln ip is h =
-    let long : length ns ≡ length vs = as_long g b ns vs e in
-    let lv : k < length vs = omega arith in
-    let w : g n ≡ b (get_or vs k p) = ap g is ∙ stamped_at g b ns vs k n p e ln lv in
-    passed_step ps vs k p (get_or vs k p) b m m' lp lv ip (at_any vs k p (get_or vs k p) lv) (h ∙ ap (λ x. assigned m p x) w)
-
--- past the last parameter or the last argument's value number no parameter is left to assign
-pub passed_end : (g : Option ℕ → Option Stamp) (ps vs : List VirtualRegister) (ns : List (Option ℕ)) (k : ℕ) (b m : Source) → map g ns ≡ map b vs →
-    min (length ps) (length ns) ≤ k →
-    passed (drop k ps) (drop k vs) b m ≡ m
-passed_end g ps vs ns k b m e h =
-    let long : length ns ≡ length vs = as_long g b ns vs e in
-    passed_done ps vs k b m (either_short (length ps) (length vs) k (rw (← long) h))
+    at : (q : Place) (v : VirtualRegister) → emptied rs F q v ≡ facts_after_clobbers s F q v
+    at NoPlace v = elsewhere rs F NoPlace v (λ r. refl)
+    at (InRegister r) v = by_test r v (has_register s r) refl
+    at (InSlot n) v = elsewhere rs F (InSlot n) v (λ r. refl)
 
 -- a walk that has come to its end
 nothing_more : (xs : List Register) → xs ++ [] ≡ xs
@@ -211,3 +200,71 @@ nothing_more (x ∷ xs) = ap (λ (ys : List Register). x ∷ ys) (nothing_more x
 -- a walk over a set that has nothing left to visit has visited the whole set
 pub walk_end : (s : PRegSet) (xs ys : List Register) → ys ≡ [] → IsWalkOf s (xs ++ ys) → IsWalkOf s xs
 walk_end s xs ys e w = subst (λ (zs : List Register). IsWalkOf s zs) (ap (λ (zs : List Register). xs ++ zs) e ∙ nothing_more xs) w
+
+-- what is listed of each item is listed of the one at an index
+mapped-at : (ms : List Edit) (k : ℕ) (e : Edit) (d : MoveValue) → k < length ms → e ≡ get_or ms k e → get_or (map move_of ms) k d ≡ move_of e
+mapped-at [] k e d less is = absurd (omega arith)
+mapped-at (m ∷ ms) zero e d less is = ap move_of (sym is)
+mapped-at (m ∷ ms) (suc k) e d less is = mapped-at ms k e d (omega arith) is
+
+mapped-long : (ms : List Edit) → length (map move_of ms) ≡ length ms
+mapped-long [] = refl
+mapped-long (m ∷ ms) = ap suc (mapped-long ms)
+
+-- the destination of a move of the list is listed, where all are
+pub listed-at : (places : List ℕ) (ms : List Edit) (k : ℕ) (e : Edit) → k < length ms → e ≡ get_or ms k e →
+    All (λ (m : MoveValue). IsListed places m.to) (map move_of ms) → IsListed places (move_of e).to
+listed-at places ms k e less is h =
+    subst (λ (m : MoveValue). IsListed places m.to) (mapped-at ms k e (move_of e) less is) (h k (move_of e) (omega (arith, mapped-long ms, less)))
+
+-- so is the vreg of an operand
+pub operand-listed : (vregs : List ℕ) (os : List OperandValue) (k : ℕ) (o : OperandValue) → k < length os → o ≡ get_or os k o →
+    All (λ (op : OperandValue). IsListedVReg vregs op.vreg) os → IsListedVReg vregs o.vreg
+operand-listed vregs os k o less is h = subst (λ (op : OperandValue). IsListedVReg vregs op.vreg) (sym is) (h k o less)
+
+-- and a vreg of a list
+pub vreg-listed : (vregs : List ℕ) (vs : List VirtualRegister) (k : ℕ) (v : VirtualRegister) → k < length vs → v ≡ get_or vs k v →
+    All (IsListedVReg vregs) vs → IsListedVReg vregs v
+vreg-listed vregs vs k v less is h = subst (IsListedVReg vregs) (sym is) (h k v less)
+
+-- past the list's end there is no place
+pub place-listed : (places : List ℕ) (ps : List Place) (k : ℕ) → All (IsListed places) ps → IsListed places (place_at ps k)
+place-listed places ps k h = elim (cases_lt k (length ps)) [
+  | inl l ↦ h k NoPlace l
+  | inr g ↦ λ some. absurd (some (past ps k (omega (arith, g))))
+]
+  where
+    past : (qs : List Place) (n : ℕ) → length qs ≤ n → get_or qs n NoPlace ≡ NoPlace
+    past [] n l = refl
+    past (q ∷ qs) zero l = absurd (omega arith)
+    past (q ∷ qs) (suc n) l = past qs n (omega arith)
+
+-- the holders of so many virtual registers, and of one more
+pub record HoldersSoFar {A : Type 0} (places : List ℕ) (has : ℕ → ℕ → Bool) (vs : List VirtualRegister) (had : List (Vec ℕ A)) (k : ℕ) : Type 0 where
+  pub long : length had ≡ k
+  pub holders : AreHoldersOf places has vs had
+
+pub holders-more : {A : Type 0} (places : List ℕ) (has : ℕ → ℕ → Bool) (vs : List VirtualRegister) (had new : List (Vec ℕ A)) (x : Vec ℕ A) (k : ℕ)
+    (v : VirtualRegister) → new ≡ had ++ (x ∷ []) → length had ≡ k → v ≡ get_or vs k v → k < length vs → HoldersAre places has v x.items →
+    AreHoldersOf places has vs had → HoldersSoFar places has vs new (k + 1)
+holders-more places has vs had new x k v e long is less here h = record {
+  long = ap (λ (zs : List (Vec ℕ _)). length zs) e ∙ length-append had (x ∷ []) ∙ (omega (arith, long));
+  holders = λ j d u l. elim (cases_lt j k) [
+    | inl b ↦ (
+        let there : get_or new j d ≡ get_or had j d =
+        ap (λ (zs : List (Vec ℕ _)). get_or zs j d) e ∙ get_or_append_left had (x ∷ []) d j (omega (arith, b, long)) in
+        subst (λ (z : Vec ℕ _). HoldersAre places has (get_or vs j u) z.items) (sym there) (h j d u (omega (arith, b, long)))
+        )
+    | inr g ↦ (
+        let size : length new ≡ length had + 1 = ap (λ (zs : List (Vec ℕ _)). length zs) e ∙ length-append had (x ∷ []) in
+        let at : j ≡ k = omega (arith, g, l, size, long) in
+        let zero-is : j - length had ≡ 0 = omega (arith, at, long) in
+        let there : get_or new j d ≡ x =
+        ap (λ (zs : List (Vec ℕ _)). get_or zs j d) e ∙ get_or-append_right had (x ∷ []) (length had) j d refl (omega (arith, at, long))
+        ∙ ap (λ (n : ℕ). get_or (x ∷ []) n d) zero-is in
+        let reg : get_or vs j u ≡ v = ap (λ (n : ℕ). get_or vs n u) at ∙ get_or_default vs k u v less ∙ sym is in
+        subst (λ (z : Vec ℕ _). HoldersAre places has (get_or vs j u) z.items) (sym there)
+        (subst (λ (w : VirtualRegister). HoldersAre places has w x.items) (sym reg) here)
+        )
+  ];
+}

@@ -1,4 +1,4 @@
--- What a round over the edges keeps, and what it leaves at the end.
+-- What passing on over edges keeps, and what it leaves at the end.
 use Rattle.std.proofs.Common.{ℕ, zero, suc, ◌≡◌, ◌+◌, ◌-◌, ◌<◌, ◌≤◌, ◌⊎◌, inl, inr, arith, Bool, true, false, List, [], ◌∷◌, length, refl, sym, ap}
 use Rattle.std.proofs.Common.{◌∙◌, subst, below_more}
 use Rattle.std.specs.Prelude.{◌&&◌, slice_index, sum_by}
@@ -11,15 +11,11 @@ use Rattle.regalloc2_function.specs.Path.{Way, Onward, ToSuccessor, Location, fi
 use Rattle.regalloc2_function.specs.WellFormed.{IsFramed}
 use Rattle.regalloc2_checker.specs.Facts.{Facts, IsTraced, facts_over_edge, facts_after, true_facts}
 use Rattle.regalloc2_checker.specs.Fixpoint.{nth_of, IsReachedBlock, facts_within, facts_passed, IsRefuted}
-use Rattle.regalloc2_checker.specs.ValueNumbers.{Numbers, facts_in}
-use Rattle.regalloc2_checker.specs.Meet.{IsCommon}
-use Rattle.regalloc2_checker.specs.Tables.{BlockView, view_at, facts_at, weight, IsSound, AllSolved, BlockSolved, EdgeSolved, EdgesSolved, IsUpdated}
-use Rattle.regalloc2_checker.specs.Tables.{IsMeet, IsRound, IsSolved}
+use Rattle.regalloc2_checker.specs.Tables.{BlockView, view_at, facts_at, IsSound, AllSolved, IsUpdated, IsSolved}
 use Rattle.regalloc2_checker.proofs.FactsTraced.{traced-same, traced-after, traced-edge, traced-then, change-same}
 use Rattle.regalloc2_checker.proofs.FactsFollowMaps.{AreEarlier, true_facts-way}
 use Rattle.regalloc2_checker.proofs.Fixpoint.{reached_within, refuted_within, refuted_change, within-suc}
 use Rattle.regalloc2_checker.proofs.FixpointDecides.{reached_nonempty, block_within}
-use Rattle.regalloc2_checker.proofs.FactsOfNumbers.{common_facts, within_facts}
 
 -- a successor of a reached block is reached
 pub reached_passed : (f : FunctionValue) → IsFramed f → (b k : ℕ) → IsReachedBlock f b → k < length (block_at f b).succs →
@@ -70,32 +66,30 @@ nothing_and : (x y : Bool) → x ≡ false → (x && y) ≡ false
 nothing_and x y e = rw e refl
 
 -- an update keeps what is sound
-module _ (law : AreEarlier) (f : FunctionValue) (o : OutputValue) (ok : IsFramed f) (old new : List BlockView) (b k : ℕ) (F : Facts) (passed : Numbers)
+module _ (law : AreEarlier) (f : FunctionValue) (o : OutputValue) (ok : IsFramed f) (old new : List BlockView) (b k : ℕ) (F passed : Facts)
     (s : IsSound f o old) (r : IsReachedBlock f b) (dropped : (p : Place) (v : VirtualRegister) → F p v ≡ false → IsRefuted f o (first_of f b) p v)
     (less : k < length (block_at f b).succs)
-    (exact : (p : Place) (v : VirtualRegister) → facts_in passed p v ≡ facts_passed f o b k F p v)
+    (exact : (p : Place) (v : VirtualRegister) → passed p v ≡ facts_passed f o b k F p v)
     (u : IsUpdated old new (slice_index (block_at f b).succs k) passed) where
-  passed_refuted : (p : Place) (v : VirtualRegister) → facts_in passed p v ≡ false → IsRefuted f o (first_of f (slice_index (block_at f b).succs k)) p v
+  passed_refuted : (p : Place) (v : VirtualRegister) → passed p v ≡ false → IsRefuted f o (first_of f (slice_index (block_at f b).succs k)) p v
   passed_refuted p v h = refuted_passed law f o ok b k F r less dropped p v (sym (exact p v) ∙ h)
 
   target_refuted : (p : Place) (v : VirtualRegister) → facts_at new (slice_index (block_at f b).succs k) p v ≡ false →
       IsRefuted f o (first_of f (slice_index (block_at f b).succs k)) p v
   target_refuted p v h = elim (cases_Bool (view_at old (slice_index (block_at f b).succs k)).reached) [
-    | inl m ↦ elim (missing _ _ (sym (common_facts (view_at new (slice_index (block_at f b).succs k)).numbers
-        (view_at old (slice_index (block_at f b).succs k)).numbers passed (u.met m) p v) ∙ h)) [
-          | inl x ↦ s.refuted (slice_index (block_at f b).succs k) p v m x
-          | inr x ↦ passed_refuted p v x
-        ]
-    | inr m ↦ passed_refuted p v (ap (λ (x : Numbers). facts_in x p v) (sym (u.first m)) ∙ h)
+    | inl m ↦ elim (missing _ _ (sym (u.met m p v) ∙ h)) [
+      | inl x ↦ s.refuted (slice_index (block_at f b).succs k) p v m x
+      | inr x ↦ passed_refuted p v x
+    ]
+    | inr m ↦ passed_refuted p v (ap (λ (x : Facts). x p v) (sym (u.first m)) ∙ h)
   ]
 
   entry_empty : (p : Place) (v : VirtualRegister) → facts_at new f.entry p v ≡ false
   entry_empty p v = elim (cases_eq f.entry (slice_index (block_at f b).succs k)) [
-    | inl e ↦ common_facts (view_at new f.entry).numbers (view_at old f.entry).numbers passed
-        (subst (λ (t : ℕ). IsCommon (view_at new t).numbers (view_at old t).numbers passed) (sym e)
-        (u.met (subst (λ (t : ℕ). (view_at old t).reached ≡ true) e s.started))) p v
+    | inl e ↦ subst (λ (t : ℕ). facts_at new t p v ≡ (facts_at old t p v && passed p v)) (sym e)
+        (u.met (subst (λ (t : ℕ). (view_at old t).reached ≡ true) e s.started) p v)
         ∙ nothing_and _ _ (s.nothing p v)
-    | inr n ↦ ap (λ (x : BlockView). facts_in x.numbers p v) (u.others f.entry n) ∙ s.nothing p v
+    | inr n ↦ ap (λ (x : BlockView). x.facts p v) (u.others f.entry n) ∙ s.nothing p v
   ]
 
   -- a meet into its successor of what a reached block propagates over an edge keeps the table valid
@@ -114,7 +108,7 @@ module _ (law : AreEarlier) (f : FunctionValue) (o : OutputValue) (ok : IsFramed
     refuted = λ c p v h x. elim (cases_eq c (slice_index (block_at f b).succs k)) [
       | inl e ↦ subst (λ (t : ℕ). IsRefuted f o (first_of f t) p v) (sym e) (target_refuted p v (subst (λ (t : ℕ). facts_at new t p v ≡ false) e x))
       | inr n ↦ s.refuted c p v (ap (λ (x : BlockView). x.reached) (sym (u.others c n)) ∙ h)
-          (ap (λ (x : BlockView). facts_in x.numbers p v) (sym (u.others c n)) ∙ x)
+          (ap (λ (x : BlockView). x.facts p v) (sym (u.others c n)) ∙ x)
     ];
   }
 
@@ -162,89 +156,3 @@ passed-same f o b k F G e = change-same (facts_passed f o b k)
 pub over-same : (f : FunctionValue) (b k : ℕ) (F G : Facts) → ((p : Place) (v : VirtualRegister) → F p v ≡ G p v) → (p : Place) (v : VirtualRegister) →
     facts_over_edge f (first_of f b) (ToSuccessor k) F p v ≡ facts_over_edge f (first_of f b) (ToSuccessor k) G p v
 over-same f b k F G e = change-same (facts_over_edge f (first_of f b) (ToSuccessor k)) (traced-edge f (first_of f b) (ToSuccessor k)) F G e
-
-no_more : (f : FunctionValue) (o : OutputValue) (old t : List BlockView) (S : Type 0) (a : Bool) → IsRound f o old t S a → sum_by weight t ≤ sum_by weight old
-no_more f o old t S true r = let l = r.falls refl in omega arith
-no_more f o old t S false r = let e = ap (λ (x : List BlockView). sum_by weight x) (r.same refl).0 in omega arith
-
--- one part after another that changed something
-pub round-more : (f : FunctionValue) (o : OutputValue) (old t new : List BlockView) (S R T : Type 0) (a : Bool) → IsRound f o old t S a →
-    IsRound f o t new R true → IsRound f o old new T true
-round-more f o old t new S R T a r s = record {
-  sound = s.sound;
-  same = λ h. absurd cc;
-  falls = λ h. (let x = no_more f o old t S a r in let y = s.falls refl in omega arith);
-}
-
--- or changed nothing
-pub round-less : (f : FunctionValue) (o : OutputValue) (old t new : List BlockView) (S R T : Type 0) (a : Bool) → IsRound f o old t S a →
-    IsRound f o t new R false → (S → R → T) → IsRound f o old new T a
-round-less f o old t new S R T a r s join =
-    let e : new ≡ t = (s.same refl).0 in
-    let d = ap (λ (x : List BlockView). sum_by weight x) e in
-    record {
-      sound = s.sound;
-      same = λ h. (e ∙ (r.same h).0, join (r.same h).1 (s.same refl).1);
-      falls = λ h. (let x = r.falls h in omega arith);
-    }
-
--- where a part of a round solved one thing if nothing changed, it solved what follows from that too
-pub round-as : (f : FunctionValue) (o : OutputValue) (old t : List BlockView) (S T : Type 0) (a : Bool) → IsRound f o old t S a → (S → T) →
-    IsRound f o old t T a
-round-as f o old t S T a r h = record { sound = r.sound; same = λ e. ((r.same e).0, h (r.same e).1); falls = r.falls }
-
--- the blocks, so far
-pub blocks-less : (f : FunctionValue) (o : OutputValue) (old t new : List BlockView) (n : ℕ) (a : Bool) →
-    IsRound f o old t ((b : ℕ) → b < n → BlockSolved f o t b) a →
-    IsRound f o t new (BlockSolved f o new n) false → IsRound f o old new ((b : ℕ) → b < n + 1 → BlockSolved f o new b) a
-blocks-less f o old t new n a r s =
-    round-less f o old t new ((b : ℕ) → b < n → BlockSolved f o t b) (BlockSolved f o new n) ((b : ℕ) → b < n + 1 → BlockSolved f o new b) a r s
-    (λ so_far here. below_more (λ b. BlockSolved f o new b) n (subst (λ (x : List BlockView). (b : ℕ) → b < n → BlockSolved f o x b) (sym (s.same refl).0)
-    so_far) here)
-
--- one more edge of a block that had the facts F when it was run
-module _ (law : AreEarlier) (f : FunctionValue) (o : OutputValue) (ok : IsFramed f) (old t new : List BlockView) (b k : ℕ) (passed : Numbers)
-    (s : IsSound f o old) (mark : (view_at old b).reached ≡ true) (less : k < length (block_at f b).succs)
-    (exact : (p : Place) (v : VirtualRegister) → facts_in passed p v ≡ facts_passed f o b k (facts_at old b) p v) where
-  -- an edge whose meet changed its successor keeps the table valid, and leaves less to drop
-  pub edge-more : (a : Bool) → IsRound f o old t (EdgesSolved f o t b k) a → IsMeet t new (slice_index (block_at f b).succs k) passed true →
-      IsRound f o old new (EdgesSolved f o new b (k + 1)) true
-  edge-more a r m = record {
-    sound = sound-updated law f o ok t new b k (facts_at old b) passed r.sound (s.reached b mark) (λ p v. s.refuted b p v mark) less exact (m.updated refl);
-    same = λ h. absurd cc;
-    falls = λ h. (let x = no_more f o old t _ a r in let y = m.falls refl in omega arith);
-  }
-
-  -- with an edge whose meet changed nothing, all edges so far are solved if none before it changed anything either
-  pub edge-less : (a : Bool) → IsRound f o old t (EdgesSolved f o t b k) a → IsMeet t new (slice_index (block_at f b).succs k) passed false →
-      IsRound f o old new (EdgesSolved f o new b (k + 1)) a
-  edge-less a r m =
-      let e : new ≡ t = (m.same refl).0 in
-      let d = ap (λ (x : List BlockView). sum_by weight x) e in
-      record {
-        sound = subst (IsSound f o) (sym e) r.sound;
-        same = λ h. (
-          e ∙ (r.same h).0,
-          λ q. below_more (λ j. EdgeSolved f o new b j) k
-              (subst (λ (x : List BlockView). EdgesSolved f o x b k) (sym e) (r.same h).1 q) (settled h e),
-        );
-        falls = λ h. (let x = r.falls h in omega arith);
-      }
-    where
-      settled : a ≡ false → new ≡ t → EdgeSolved f o new b k
-      settled h e =
-          let back : t ≡ old = (r.same h).0 in
-          subst (λ (x : List BlockView). EdgeSolved f o x b k) (sym e) (record {
-            reached = (m.same refl).1;
-            within = λ p v g. passed-same f o b k (facts_at t b) (facts_at old b) (λ q u. ap (λ (x : List BlockView). facts_at x b q u) back) p v
-                ∙ sym (exact p v) ∙ within_facts _ _ (m.same refl).2 p v g;
-          })
-
--- no edge so far, and a block that is not marked
-pub edges-none : (f : FunctionValue) (o : OutputValue) (t : List BlockView) (b : ℕ) → IsSound f o t → IsRound f o t t (EdgesSolved f o t b 0) false
-edges-none f o t b s = record { sound = s; same = λ h. (refl, λ m k less. absurd (omega arith)); falls = λ h. absurd cc }
-
--- a block not marked reached has nothing to propagate: the table stays as it is, and none of its edges asks for more
-pub edges-skip : (f : FunctionValue) (o : OutputValue) (t : List BlockView) (b n : ℕ) → IsSound f o t → (view_at t b).reached ≡ false →
-    IsRound f o t t (EdgesSolved f o t b n) false
-edges-skip f o t b n s e = record { sound = s; same = λ h. (refl, λ m k less. absurd cc); falls = λ h. absurd cc }

@@ -11,13 +11,10 @@ use Rattle.regalloc2_function.specs.OutputValue.{OutputValue}
 use Rattle.regalloc2_function.specs.WellFormed.{IsFramed}
 use Rattle.regalloc2_checker.specs.Facts.{Facts}
 use Rattle.regalloc2_checker.specs.Fixpoint.{facts_passed}
-use Rattle.regalloc2_checker.specs.ValueNumbers.{Numbers, facts_in}
-use Rattle.regalloc2_checker.specs.Meet.{IsCommon}
-use Rattle.regalloc2_checker.specs.Tables.{BlockView, view_at, facts_at, IsSound, IsRound, BlockSolved, EdgeSolved, EdgesSolved, IsUpdated}
-use Rattle.regalloc2_checker.specs.Propagation.{mark_at, IsBlockEnd, IsPropagatedOver, IsKept, ArePropagated}
-use Rattle.regalloc2_checker.proofs.RoundInvariant.{over-same, edge-more, edge-less}
+use Rattle.regalloc2_checker.specs.Tables.{BlockView, view_at, facts_at, IsSound, BlockSolved, EdgeSolved, EdgesSolved, IsUpdated, IsMeet}
+use Rattle.regalloc2_checker.specs.Propagation.{mark_at, over, IsBlockEnd, IsPropagatedOver, IsKept, ArePropagated}
+use Rattle.regalloc2_checker.proofs.RoundInvariant.{over-same, sound-updated}
 use Rattle.regalloc2_checker.proofs.FactsFollowMaps.{AreEarlier}
-use Rattle.regalloc2_checker.proofs.FactsOfNumbers.{common_facts, within_facts}
 
 both : (x y : Bool) → (x && y) ≡ true → (x ≡ true) × (y ≡ true)
 both true true h = (refl, refl)
@@ -29,15 +26,15 @@ true_false true h g = absurd cc
 true_false false h g = absurd cc
 
 -- an update leaves the edges of every other block solved
-module _ (f : FunctionValue) (o : OutputValue) (t new : List BlockView) (target : ℕ) (passed : Numbers) (u : IsUpdated t new target passed) where
+module _ (f : FunctionValue) (o : OutputValue) (t new : List BlockView) (target : ℕ) (passed : Facts) (u : IsUpdated t new target passed) where
   -- a block has no more facts than it had, if it was reached
   fewer : (s : ℕ) → (view_at t s).reached ≡ true → (p : Place) (v : VirtualRegister) → facts_at new s p v ≡ true → facts_at t s p v ≡ true
   fewer s r p v h = elim (cases_eq s target) [
-    | inl e ↦ (let m : IsCommon (view_at new s).numbers (view_at t s).numbers passed =
-        subst (λ (n : ℕ). IsCommon (view_at new n).numbers (view_at t n).numbers passed) (sym e)
-        (u.met (subst (λ (n : ℕ). (view_at t n).reached ≡ true) e r)) in
-        (both _ _ (sym (common_facts (view_at new s).numbers (view_at t s).numbers passed m p v) ∙ h)).0)
-    | inr n ↦ ap (λ (x : BlockView). facts_in x.numbers p v) (sym (u.others s n)) ∙ h
+    | inl e ↦ (let m : facts_at new s p v ≡ (facts_at t s p v && passed p v) =
+        subst (λ (n : ℕ). facts_at new n p v ≡ (facts_at t n p v && passed p v)) (sym e)
+        (u.met (subst (λ (n : ℕ). (view_at t n).reached ≡ true) e r) p v) in
+        (both _ _ (sym m ∙ h)).0)
+    | inr n ↦ ap (λ (x : BlockView). x.facts p v) (sym (u.others s n)) ∙ h
   ]
 
   still : (s : ℕ) → (view_at t s).reached ≡ true → (view_at new s).reached ≡ true
@@ -49,7 +46,7 @@ module _ (f : FunctionValue) (o : OutputValue) (t new : List BlockView) (target 
   edge-keeps : (c j : ℕ) → (c ≡ target → ⊥) → EdgeSolved f o t c j → EdgeSolved f o new c j
   edge-keeps c j n e = record {
     reached = still (slice_index (block_at f c).succs j) e.reached;
-    within = λ p v h. subst (λ (x : BlockView). facts_passed f o c j (facts_in x.numbers) p v ≡ true) (sym (u.others c n))
+    within = λ p v h. subst (λ (x : BlockView). facts_passed f o c j x.facts p v ≡ true) (sym (u.others c n))
         (e.within p v (fewer (slice_index (block_at f c).succs j) e.reached p v h));
   }
 
@@ -57,10 +54,10 @@ module _ (f : FunctionValue) (o : OutputValue) (t new : List BlockView) (target 
   edges-keep c n d e r j less = edge-keeps c j d (e (ap (λ (x : BlockView). x.reached) (sym (u.others c d)) ∙ r) j less)
 
   -- what the successor has now was passed to it
-  given : (p : Place) (v : VirtualRegister) → facts_at new target p v ≡ true → facts_in passed p v ≡ true
+  given : (p : Place) (v : VirtualRegister) → facts_at new target p v ≡ true → passed p v ≡ true
   given p v h = elim (cases_Bool (view_at t target).reached) [
-    | inl m ↦ (both _ _ (sym (common_facts (view_at new target).numbers (view_at t target).numbers passed (u.met m) p v) ∙ h)).1
-    | inr m ↦ ap (λ (x : Numbers). facts_in x p v) (sym (u.first m)) ∙ h
+    | inl m ↦ (both _ _ (sym (u.met m p v) ∙ h)).1
+    | inr m ↦ ap (λ (x : Facts). x p v) (sym (u.first m)) ∙ h
   ]
 
 mark-set : (marks : List Bool) (i c : ℕ) → mark_at (set marks i true) c ≡ false → (c ≡ i → ⊥) → mark_at marks c ≡ false
@@ -77,7 +74,7 @@ module _ (f : FunctionValue) (o : OutputValue) (old t new : List BlockView) (mar
   -- an edge that changed its successor is propagated over: the successor has a mark, and blocks without one are still solved
   pub passed-changed : IsPropagatedOver f b k F t new marks after true → ArePropagated f o old new after b (k + 1)
   passed-changed s =
-      let u : IsUpdated t new (slice_index (block_at f b).succs k) s.passed = s.met.updated refl in
+      let u : IsUpdated t new (slice_index (block_at f b).succs k) (over f b k F) = s.met.updated refl in
       let there : slice_index (block_at f b).succs k < length marks = omega (arith, a.size, target_low) in
       let m : after ≡ set marks (slice_index (block_at f b).succs k) true = s.marked in
       record {
@@ -85,18 +82,19 @@ module _ (f : FunctionValue) (o : OutputValue) (old t new : List BlockView) (mar
         others = λ c less n h.
             let g : mark_at (set marks (slice_index (block_at f b).succs k) true) c ≡ false = subst (λ (x : List Bool). mark_at x c ≡ false) m h in
             let d = unmarked-apart marks (slice_index (block_at f b).succs k) c there g in
-            edges-keep f o t new (slice_index (block_at f b).succs k) s.passed u c _ d (a.others c less n (mark-set marks _ c g d));
+            edges-keep f o t new (slice_index (block_at f b).succs k) (over f b k F) u c _ d (a.others c less n (mark-set marks _ c g d));
         here = λ h.
             let g : mark_at (set marks (slice_index (block_at f b).succs k) true) b ≡ false = subst (λ (x : List Bool). mark_at x b ≡ false) m h in
             let d = unmarked-apart marks (slice_index (block_at f b).succs k) b there g in
             let was = a.here (mark-set marks _ b g d) in
             let same : view_at new b ≡ view_at old b = u.others b d ∙ was.0 in (
               same,
-              λ q. below_more (λ j. EdgeSolved f o new b j) k (edges-keep f o t new (slice_index (block_at f b).succs k) s.passed u b k d was.1 q) (record {
-                reached = u.reached;
-                within = λ p v y. subst (λ (x : BlockView). facts_passed f o b k (facts_in x.numbers) p v ≡ true) (sym same)
-                    (sym (s.exact p v ∙ over-same f b k F _ ends p v) ∙ given f o t new (slice_index (block_at f b).succs k) s.passed u p v y);
-              }),
+              λ q. below_more (λ j. EdgeSolved f o new b j) k (edges-keep f o t new (slice_index (block_at f b).succs k) (over f b k F) u b k d was.1 q)
+                  (record {
+                    reached = u.reached;
+                    within = λ p v y. subst (λ (x : BlockView). facts_passed f o b k x.facts p v ≡ true) (sym same)
+                        (sym (over-same f b k F _ ends p v) ∙ given f o t new (slice_index (block_at f b).succs k) (over f b k F) u p v y);
+                  }),
             );
       }
 
@@ -114,8 +112,8 @@ module _ (f : FunctionValue) (o : OutputValue) (old t new : List BlockView) (mar
               was.0,
               λ q. below_more (λ j. EdgeSolved f o t b j) k (was.1 q) (record {
                 reached = (s.met.same refl).1;
-                within = λ p v y. subst (λ (x : BlockView). facts_passed f o b k (facts_in x.numbers) p v ≡ true) (sym was.0)
-                    (sym (s.exact p v ∙ over-same f b k F _ ends p v) ∙ within_facts _ _ (s.met.same refl).2 p v y);
+                within = λ p v y. subst (λ (x : BlockView). facts_passed f o b k x.facts p v ≡ true) (sym was.0)
+                    (sym (over-same f b k F _ ends p v) ∙ (s.met.same refl).2 p v y);
               }),
             );
       }))
@@ -157,43 +155,29 @@ pub all-marked : (f : FunctionValue) (o : OutputValue) (t : List BlockView) (mar
 all-marked f o t marks size all = record { size = size; settled = λ b less h. true_false (mark_at marks b) (all b less) h }
 
 -- so many edges of a block are passed on
-pub record EdgesPassed (f : FunctionValue) (o : OutputValue) (old t : List BlockView) (marks : List Bool) (b k : ℕ) (changed : Bool) : Type 0 where
-  pub round : IsRound f o old t (EdgesSolved f o t b k) changed
+pub record EdgesPassed (f : FunctionValue) (o : OutputValue) (old t : List BlockView) (marks : List Bool) (b k : ℕ) : Type 0 where
+  pub sound : IsSound f o t
   pub kept : ArePropagated f o old t marks b k
 
+-- before any of them is
+pub edges-first : (f : FunctionValue) (o : OutputValue) (t : List BlockView) (marks : List Bool) (b : ℕ) → IsSound f o t → ArePropagated f o t t marks b 0 →
+    EdgesPassed f o t t marks b 0
+edges-first f o t marks b s a = record { sound = s; kept = a }
+
 -- one edge more, of a block that had the facts that led to F at its end
-module _ (law : AreEarlier) (f : FunctionValue) (o : OutputValue) (ok : IsFramed f) (old t new : List BlockView) (marks after : List Bool) (b k : ℕ) (F : Facts)
-    (changed : Bool)
-    (s : IsSound f o old) (mark : (view_at old b).reached ≡ true) (low : b < length f.blocks) (less : k < length (block_at f b).succs)
-    (ends : IsBlockEnd f o b (facts_at old b) F)
-    (so_far : EdgesPassed f o old t marks b k changed) where
-  -- propagating over an edge that changed its successor is a change of the round, and keeps blocks without a mark solved
-  pub edge-changed : IsPropagatedOver f b k F t new marks after true → EdgesPassed f o old new after b (k + 1) true
-  edge-changed p = record {
-    round = edge-more law f o ok old t new b k p.passed s mark less (λ q v. p.exact q v ∙ over-same f b k F _ ends q v) changed so_far.round p.met;
-    kept = passed-changed f o old t new marks after b k F so_far.kept low (ok.successors.1 b low k 0 less) ends p;
-  }
-
-  -- propagating over an edge that changed nothing leaves the round changed or not as it was, with one edge more solved
-  pub edge-unchanged : IsPropagatedOver f b k F t new marks after false → EdgesPassed f o old new after b (k + 1) changed
-  edge-unchanged p = record {
-    round = edge-less law f o ok old t new b k p.passed s mark less (λ q v. p.exact q v ∙ over-same f b k F _ ends q v) changed so_far.round p.met;
-    kept = passed-unchanged f o old t new marks after b k F so_far.kept low (ok.successors.1 b low k 0 less) ends p;
-  }
-
--- all of them
-pub edges-done : (f : FunctionValue) (o : OutputValue) (old t : List BlockView) (marks : List Bool) (b k : ℕ) (changed : Bool) →
-    k ≡ length (block_at f b).succs → EdgesPassed f o old t marks b k changed →
-    IsRound f o old t (BlockSolved f o t b) changed × IsKept f o t marks
-edges-done f o old t marks b k changed e d = (
-  subst (λ (n : ℕ). IsRound f o old t (EdgesSolved f o t b n) changed) e d.round,
-  all-kept f o old t marks b (subst (λ (n : ℕ). ArePropagated f o old t marks b n) e d.kept),
-)
-
--- a block that is solved needs no round
-pub round-settled : (f : FunctionValue) (o : OutputValue) (t : List BlockView) (b : ℕ) → IsSound f o t → BlockSolved f o t b →
-    IsRound f o t t (BlockSolved f o t b) false
-round-settled f o t b s h = record { sound = s; same = λ e. (refl, h); falls = λ e. absurd cc }
+pub edge-passed : AreEarlier → (f : FunctionValue) (o : OutputValue) → IsFramed f → (old t new : List BlockView) (marks after : List Bool) (b k : ℕ) (F : Facts)
+    (changed : Bool) → IsSound f o old → (view_at old b).reached ≡ true → b < length f.blocks → k < length (block_at f b).succs →
+    IsBlockEnd f o b (facts_at old b) F → EdgesPassed f o old t marks b k → IsPropagatedOver f b k F t new marks after changed →
+    EdgesPassed f o old new after b (k + 1)
+edge-passed law f o ok old t new marks after b k F true s mark low less ends so_far p = record {
+  sound = sound-updated law f o ok t new b k (facts_at old b) (over f b k F) so_far.sound (s.reached b mark) (λ q v. s.refuted b q v mark) less
+      (λ q v. over-same f b k F _ ends q v) (p.met.updated refl);
+  kept = passed-changed f o old t new marks after b k F so_far.kept low (ok.successors.1 b low k 0 less) ends p;
+}
+edge-passed law f o ok old t new marks after b k F false s mark low less ends so_far p = record {
+  sound = subst (IsSound f o) (sym (p.met.same refl).0) so_far.sound;
+  kept = passed-unchanged f o old t new marks after b k F so_far.kept low (ok.successors.1 b low k 0 less) ends p;
+}
 
 -- a mark, as it was read
 pub mark-is : (marks : List Bool) (i b : ℕ) (y m : Bool) → i < length marks → y ≡ get_or marks i y → i ≡ b → y ≡ m → mark_at marks b ≡ m

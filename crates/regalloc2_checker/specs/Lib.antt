@@ -1,10 +1,11 @@
 pub mod Facts
 pub mod Fixpoint
-pub mod ValueNumbers
-pub mod Meet
+pub mod TableFacts
+pub mod Renamed
+pub mod NamedBits
 pub mod Tables
 pub mod Propagation
-pub mod TransferTracks
+pub mod Listing
 pub mod ListingCopied
 pub mod FramedIsProp
 pub mod Prepared

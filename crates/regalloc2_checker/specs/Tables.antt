@@ -1,29 +1,29 @@
 -- What is known at the blocks' beginnings.
-use Rattle.std.specs.Prelude.{ℕ, zero, suc, ◌≡◌, ◌+◌, ◌<◌, ◌↔◌, Bool, true, false, if◌then◌else◌, List, length, slice_index, get_or, map, sum_by, None}
+use Rattle.std.specs.Prelude.{ℕ, zero, suc, ◌≡◌, ◌+◌, ◌<◌, ◌↔◌, Bool, true, false, ◌&&◌, if◌then◌else◌, List, [], ◌∷◌, length, slice_index, get_or, sum_by}
 use Rattle.regalloc2_names.specs.Register.{VirtualRegister}
 use Rattle.regalloc2_names.specs.Place.{Place}
 use Rattle.regalloc2_function.specs.FunctionValue.{FunctionValue, block_at}
 use Rattle.regalloc2_function.specs.OutputValue.{OutputValue}
 use Rattle.regalloc2_function.specs.Path.{first_of}
+use Rattle.regalloc2_checker_tables.specs.Holding.{Holding, holds_in, count_of}
 use Rattle.regalloc2_checker.specs.Facts.{Facts}
 use Rattle.regalloc2_checker.specs.Fixpoint.{IsReachedBlock, facts_passed, IsRefuted, IsFixpoint, IsRefutedElsewhere}
-use Rattle.regalloc2_checker.specs.ValueNumbers.{Numbers, facts_in, numbers_of}
-use Rattle.regalloc2_checker.specs.Meet.{agree, IsWithin, IsCommon}
-use Rattle.regalloc2_checker.specs.declared.analyze.BlockValues.{BlockValues}
+use Rattle.regalloc2_checker.specs.TableFacts.{facts_table}
 
--- what is known at a block's beginning: whether a path was found there, and the numbers that are left
+-- what is known at a block's beginning: whether a path was found there, the facts that are left, and how much may still be dropped
 pub record BlockView : Type 0 where
   pub reached : Bool
-  pub numbers : Numbers
+  pub facts : Facts
+  pub left : ℕ
 
 abbrev pub no_view : BlockView
-no_view = record { reached = false; numbers = λ k. None }
+no_view = record { reached = false; facts = λ p v. false; left = 0 }
 
 abbrev pub view_at : List BlockView → ℕ → BlockView
 view_at t b = get_or t b no_view
 
 abbrev pub facts_at : List BlockView → ℕ → Facts
-facts_at t b = facts_in (view_at t b).numbers
+facts_at t b = (view_at t b).facts
 
 -- how many numbers below a bound pass a test, and sums over them
 unfoldable pub count_below : ℕ → (ℕ → Bool) → ℕ
@@ -34,20 +34,36 @@ unfoldable pub sum_below : ℕ → (ℕ → ℕ) → ℕ
 sum_below zero g = 0
 sum_below (suc n) g = g n + sum_below n g
 
--- the bound of keys
-unfoldable pub keys_end : ℕ
-keys_end = 18446744073709551616
+-- the bound of bits
+unfoldable pub bits_end : ℕ
+bits_end = 4294967296
 
--- how many pairs of keys agree, and how many pairs there are
-abbrev pub agreeing : Numbers → ℕ
-agreeing m = sum_below keys_end (λ x. count_below keys_end (agree m x))
+-- how many pairs of a position and bits are held, and how many there are
+abbrev pub pairs_held : ℕ → (ℕ → ℕ → Bool) → ℕ
+pairs_held size has = sum_below size (λ i. count_below bits_end (has i))
 
-abbrev pub all_pairs : ℕ
-all_pairs = sum_below keys_end (λ x. count_below keys_end (λ y. true))
+abbrev pub all_pairs : ℕ → ℕ
+all_pairs size = sum_below size (λ i. count_below bits_end (λ y. true))
 
--- how much may still be dropped at a block
+-- how much may still be dropped where a path was found, or where none was
+abbrev pub left_in : ℕ → Bool → (ℕ → ℕ → Bool) → ℕ
+left_in size reached has = if reached then pairs_held size has else all_pairs size + 1
+
 abbrev pub weight : BlockView → ℕ
-weight x = if x.reached then agreeing x.numbers else all_pairs + 1
+weight x = x.left
+
+-- the view of a table
+abbrev pub view_of : Holding → ℕ → Bool → BlockView
+view_of t k reached = record { reached = reached; facts = facts_table t k; left = left_in (length t.places) reached (holds_in t k) }
+
+-- the views of tables from a number on
+unfoldable pub views_from : Holding → ℕ → List Bool → List BlockView
+views_from t k [] = []
+views_from t k (r ∷ rs) = view_of t k r ∷ views_from t (k + 1) rs
+
+-- each block's
+abbrev pub views : Holding → List Bool → List BlockView
+views t reached = views_from t 0 reached
 
 -- what is marked is reached, and what was dropped there fails on a path
 pub record IsSound (f : FunctionValue) (o : OutputValue) (t : List BlockView) : Type 0 where
@@ -73,23 +89,18 @@ abbrev pub AllSolved : FunctionValue → OutputValue → List BlockView → Type
 AllSolved f o t = (b : ℕ) → b < length f.blocks → BlockSolved f o t b
 
 -- what is passed to a block is met with what it has
-pub record IsUpdated (old new : List BlockView) (target : ℕ) (passed : Numbers) : Type 0 where
+pub record IsUpdated (old new : List BlockView) (target : ℕ) (passed : Facts) : Type 0 where
   pub size : length new ≡ length old
   pub others : (b : ℕ) → (b ≡ target → ⊥) → view_at new b ≡ view_at old b
   pub reached : (view_at new target).reached ≡ true
-  pub first : (view_at old target).reached ≡ false → (view_at new target).numbers ≡ passed
-  pub met : (view_at old target).reached ≡ true → IsCommon (view_at new target).numbers (view_at old target).numbers passed
+  pub first : (view_at old target).reached ≡ false → facts_at new target ≡ passed
+  pub met : (view_at old target).reached ≡ true → (p : Place) (v : VirtualRegister) → facts_at new target p v ≡ (facts_at old target p v && passed p v)
 
 -- what an update answers: whether anything changed
-pub record IsMeet (old new : List BlockView) (target : ℕ) (passed : Numbers) (changed : Bool) : Type 0 where
-  pub same : changed ≡ false → (new ≡ old) × ((view_at old target).reached ≡ true) × IsWithin (view_at old target).numbers passed
+pub record IsMeet (old new : List BlockView) (target : ℕ) (passed : Facts) (changed : Bool) : Type 0 where
+  pub same : changed ≡ false → (new ≡ old) × ((view_at old target).reached ≡ true)
+      × ((p : Place) (v : VirtualRegister) → facts_at old target p v ≡ true → passed p v ≡ true)
   pub updated : changed ≡ true → IsUpdated old new target passed
-  pub falls : changed ≡ true → sum_by weight new < sum_by weight old
-
--- what a part of a round answers: whether anything changed; where nothing did, what it went over is solved
-pub record IsRound (f : FunctionValue) (o : OutputValue) (old new : List BlockView) (Settled : Type 0) (changed : Bool) : Type 0 where
-  pub sound : IsSound f o new
-  pub same : changed ≡ false → (new ≡ old) × Settled
   pub falls : changed ≡ true → sum_by weight new < sum_by weight old
 
 -- the facts of a table are what the checker wants
@@ -99,8 +110,8 @@ pub record IsSolved (f : FunctionValue) (o : OutputValue) (t : List BlockView) :
   pub settled : IsFixpoint f o (facts_at t)
   pub refuted : IsRefutedElsewhere f o (facts_at t)
 
-abbrev pub view_of : {A : Type 0} → BlockValues A → BlockView
-view_of x = record { reached = x.reached; numbers = numbers_of x.values }
-
-abbrev pub views : {A : Type 0} → List (BlockValues A) → List BlockView
-views t = map view_of t
+-- tables list what they listed before, and there are as many
+pub record AreAlike (old new : Holding) : Type 0 where
+  pub places : new.places ≡ old.places
+  pub vregs : new.vregs ≡ old.vregs
+  pub count : count_of new ≡ count_of old

@@ -1,222 +1,236 @@
 //! What holds at the blocks' beginnings, passed on until it stands still.
 
-ghost use Rattle.std.specs.Prelude.{◌≡◌, ◌<◌, true, IfOk, OnOk, length};
+ghost use Rattle.std.specs.Prelude.{◌≡◌, ◌≢◌, ◌<◌, ◌≤◌, ◌+◌, ℕ, Bool, true, false, IfOk, OnOk, length, get_or, nat_eq, sum_by};
+ghost use Rattle.std.specs.BinaryHeap.{heap_items, heap_len};
 ghost use Rattle.regalloc2_function.specs.FunctionValue.{block_at};
 ghost use Rattle.regalloc2_function.specs.OutputValue.{OutputValue};
 ghost use Rattle.regalloc2_function.specs.WellFormed.{IsFramed};
-ghost use Rattle.regalloc2_checker.specs.ValueNumbers.{numbers_of, facts_in};
-ghost use Rattle.regalloc2_checker.specs.Propagation.{IsBlockEnd, IsPropagatedOver, ArePropagated, IsKept};
-ghost use Rattle.regalloc2_checker.specs.Tables.{view_at, facts_at, IsSound, IsMeet, IsRound, IsSolved, BlockSolved, AllSolved, views};
-ghost use Rattle.regalloc2_checker.specs.TransferTracks.{IsListing};
+ghost use Rattle.regalloc2_checker_tables.specs.Holding.{count_of, holds_in};
+ghost use Rattle.regalloc2_checker.specs.Listing.{IsListing};
+ghost use Rattle.regalloc2_checker.specs.Propagation.{IsBlockEnd, IsPropagatedOver, IsQueue, AreReached, IsReady, IsUnderWay, AreSized};
+ghost use Rattle.regalloc2_checker.specs.TableFacts.{facts_now, facts_table, AreNamed, AreNamedVRegs};
+ghost use Rattle.regalloc2_checker.specs.Tables.{view_at, facts_at, weight, AreAlike, IsMeet, IsSolved, views};
 
 use crate::listing::Listed;
-use crate::meet::{is_within, meet};
+use crate::order::ranks;
+use crate::queue::Queue;
 use crate::transfer_block::{transfer_block, transfer_edge};
-use crate::value_numbers::ValueNumbers;
+use regalloc2_checker_tables::Tables;
 use regalloc2_function::{Function, finds_earlier_writes};
 use regalloc2_index::Block;
 use std::alloc::{AllocError, Allocator};
+use std::collections::BinaryHeap;
 
-/// What is known at a block's beginning: whether a path was found there, and what holds.
+/// What is known at the blocks' beginnings: a table for each, and one beside them, whether a path was found there, and which
+/// changed since they were passed on.
 #[derive(Drop)]
-pub struct BlockValues<A: Allocator> {
-    pub reached: bool,
-    pub values: ValueNumbers<A>,
+pub struct Analysis<A: Allocator> {
+    pub values: Tables<A>,
+    pub reached: Vec<bool, A>,
+    pub queue: Queue<A>,
 }
 
-/// Meets what a block has with what is passed to it, and answers whether anything changed.
+/// Meets what a block has with what is worked on, and answers whether anything changed.
 fn update<A: Allocator + Copy>(
-    alloc: A,
-    table: &mut Vec<BlockValues<A>, A>,
+    values: &mut Tables<A>,
+    reached: &mut Vec<bool, A>,
     target: usize,
-    passed: ValueNumbers<A>,
 ) -> Result<bool, AllocError>
-    requires { target < length table.old.items }
-    ensures { IfOk result (λ changed. IsMeet (views table.old.items) (views table.new.items) target (numbers_of passed) changed) }
+    requires target { target < length reached.old.items }
+    requires count { length reached.old.items ≤ count_of values.old }
+    ensures alike { OnOk result (AreAlike values.old values.new) }
+    ensures long { OnOk result (length reached.new.items ≡ length reached.old.items) }
+    ensures others { OnOk result ((k : ℕ) → k ≢ target → facts_table values.new k ≡ facts_table values.old k) }
+    ensures met { IfOk result (λ changed. IsMeet (views values.old reached.old.items) (views values.new reached.new.items) target
+        (facts_now values.old) changed) }
 {
-    if !table[target].reached {
-        table[target] = BlockValues {
-            reached: true,
-            values: passed,
-        };
-        return Ok(true);
+    if reached[target] {
+        let changed = values.meet(target)?;
+        return Ok(changed);
     }
-    if is_within(alloc, &table[target].values, &passed)? {
-        return Ok(false);
-    }
-    let met = meet(alloc, &table[target].values, &passed)?;
-    table[target] = BlockValues {
-        reached: true,
-        values: met,
-    };
+    values.save(target)?;
+    reached[target] = true;
     Ok(true)
 }
 
-/// Passes on what holds at a block's end over one of its edges, and answers whether anything changed. Where it did, the
-/// successor gets a mark.
+/// Passes on what is worked on, which holds at a block's end, over one of its edges. Where its successor changed, it is put
+/// into the queue.
 fn propagate_over<F: Function, A: Allocator + Copy>(
     alloc: A,
     f: &F,
-    table: &mut Vec<BlockValues<A>, A>,
-    marks: &mut Vec<bool, A>,
+    state: &mut Analysis<A>,
     block: Block,
     position: usize,
-    values: ValueNumbers<A>,
-) -> Result<bool, AllocError>
+) -> Result<(), AllocError>
     requires framed { IsFramed (F.function f.now) }
+    requires named { AreNamedVRegs (F.function f.now) state.old.values.vregs }
     requires block { block < length (F.function f.now).blocks }
     requires position { position < length (block_at (F.function f.now) block).succs }
-    requires size { length table.old.items ≡ length (F.function f.now).blocks }
-    requires marks { length marks.old.items ≡ length (F.function f.now).blocks }
-    ensures { IfOk result (λ changed. IsPropagatedOver (F.function f.now) block position (facts_in (numbers_of values))
-        (views table.old.items) (views table.new.items) marks.old.items marks.new.items changed) }
+    requires sized { AreSized (F.function f.now) state.old.values state.old.reached.items state.old.queue.is_queued.items }
+    requires queue { IsQueue state.old.queue.is_queued.items (heap_items state.old.queue.heap) }
+    requires reached { AreReached (views state.old.values state.old.reached.items) (heap_items state.old.queue.heap) }
+    ensures alike { OnOk result (AreAlike state.old.values state.new.values) }
+    ensures sized { OnOk result (AreSized (F.function f.now) state.new.values state.new.reached.items state.new.queue.is_queued.items) }
+    ensures kept { OnOk result (facts_table state.new.values (length (F.function f.now).blocks)
+        ≡ facts_table state.old.values (length (F.function f.now).blocks)) }
+    ensures over { OnOk result ((changed : Bool) × IsPropagatedOver (F.function f.now) block position (facts_now state.old.values)
+        (views state.old.values state.old.reached.items) (views state.new.values state.new.reached.items)
+        state.old.queue.is_queued.items state.new.queue.is_queued.items changed) }
+    ensures queue { OnOk result (IsQueue state.new.queue.is_queued.items (heap_items state.new.queue.heap)) }
+    ensures reached { OnOk result (AreReached (views state.new.values state.new.reached.items) (heap_items state.new.queue.heap)) }
+    ensures falls { OnOk result (sum_by weight (views state.new.values state.new.reached.items) + heap_len state.new.queue.heap
+        ≤ sum_by weight (views state.old.values state.old.reached.items) + heap_len state.old.queue.heap) }
 {
     let target = f.block_succs(block)[position].index();
-    let passed = transfer_edge(alloc, f, block, position, values)?;
-    let changed = update(alloc, table, target, passed)?;
-    if changed {
-        marks[target] = true;
+    transfer_edge(alloc, f, block, position, &mut state.values)?;
+    let changed = update(&mut state.values, &mut state.reached, target)?;
+    if !changed {
+        return Ok(());
     }
-    Ok(changed)
+    state.queue.push(target)?;
+    Ok(())
 }
 
-/// Passes on what holds at a block's end over its edges, and answers whether anything changed. The last edge takes the
-/// values themselves.
+/// Passes on what is worked on, which holds at a block's end, over its edges.
 fn propagate_edges<F: Function, A: Allocator + Copy>(
     alloc: A,
     f: &F,
-    table: &mut Vec<BlockValues<A>, A>,
-    marks: &mut Vec<bool, A>,
+    state: &mut Analysis<A>,
     block: Block,
-    values: ValueNumbers<A>,
-) -> Result<bool, AllocError>
-    ghost o: { OutputValue }
-    requires framed { IsFramed (F.function f.now) }
-    requires block { block < length (F.function f.now).blocks }
-    requires sound { IsSound (F.function f.now) o (views table.old.items) }
-    requires reached { (view_at (views table.old.items) block).reached ≡ true }
-    requires values { IsBlockEnd (F.function f.now) o block (facts_at (views table.old.items) block) (facts_in (numbers_of values)) }
-    requires kept { ArePropagated (F.function f.now) o (views table.old.items) (views table.old.items) marks.old.items block 0 }
-    ensures round { IfOk result (λ changed. IsRound (F.function f.now) o (views table.old.items) (views table.new.items)
-        (BlockSolved (F.function f.now) o (views table.new.items) block) changed) }
-    ensures kept { OnOk result (IsKept (F.function f.now) o (views table.new.items) marks.new.items) }
-{
-    finds_earlier_writes();
-    let Some(last) = f.block_succs(block).len().checked_sub(1) else {
-        return Ok(false);
-    };
-    let mut changed = false;
-    for k in 0..last {
-        if propagate_over(alloc, f, table, marks, block, k, values.copy()?)? {
-            changed = true;
-        }
-    }
-    if propagate_over(alloc, f, table, marks, block, last, values)? {
-        changed = true;
-    }
-    Ok(changed)
-}
-
-/// Passes on what a block has over its edges, if it has a mark, and answers whether anything changed.
-fn propagate_block<F: Function, A: Allocator + Copy>(
-    alloc: A,
-    f: &F,
-    listing: &[Listed<A>],
-    table: &mut Vec<BlockValues<A>, A>,
-    marks: &mut Vec<bool, A>,
-    block: Block,
-) -> Result<bool, AllocError>
-    ghost o: { OutputValue }
-    requires listing { IsListing (F.function f.now) o listing.now }
-    requires framed { IsFramed (F.function f.now) }
-    requires sound { IsSound (F.function f.now) o (views table.old.items) }
-    requires kept { IsKept (F.function f.now) o (views table.old.items) marks.old.items }
-    requires block { block < length (F.function f.now).blocks }
-    ensures round { IfOk result (λ changed. IsRound (F.function f.now) o (views table.old.items) (views table.new.items)
-        (BlockSolved (F.function f.now) o (views table.new.items) block) changed) }
-    ensures kept { OnOk result (IsKept (F.function f.now) o (views table.new.items) marks.new.items) }
-{
-    if !marks[block.index()] {
-        return Ok(false);
-    }
-    marks[block.index()] = false;
-    if !table[block.index()].reached {
-        return Ok(false);
-    }
-    if f.block_succs(block).is_empty() {
-        return Ok(false);
-    }
-    let have = &table[block.index()].values;
-    let mut values = meet(alloc, have, have)?;
-    transfer_block(f, listing, block, &mut values)?;
-    propagate_edges(alloc, f, table, marks, block, values)
-}
-
-/// Passes on what each block with a mark has, and answers whether anything changed.
-fn propagate_all<F: Function, A: Allocator + Copy>(
-    alloc: A,
-    f: &F,
-    listing: &[Listed<A>],
-    table: &mut Vec<BlockValues<A>, A>,
-    marks: &mut Vec<bool, A>,
-) -> Result<bool, AllocError>
-    ghost o: { OutputValue }
-    requires listing { IsListing (F.function f.now) o listing.now }
-    requires framed { IsFramed (F.function f.now) }
-    requires sound { IsSound (F.function f.now) o (views table.old.items) }
-    requires kept { IsKept (F.function f.now) o (views table.old.items) marks.old.items }
-    ensures round { IfOk result (λ changed. IsRound (F.function f.now) o (views table.old.items) (views table.new.items)
-        (AllSolved (F.function f.now) o (views table.new.items)) changed) }
-    ensures kept { OnOk result (IsKept (F.function f.now) o (views table.new.items) marks.new.items) }
-{
-    let mut changed = false;
-    for b in 0..f.num_blocks() {
-        if propagate_block(alloc, f, listing, table, marks, Block::new(b))? {
-            changed = true;
-        }
-    }
-    Ok(changed)
-}
-
-/// Passes on what holds at the blocks' beginnings until nothing changes. A block has a mark until it is passed on, and
-/// again where it changes after.
-pub fn analyze<F: Function, A: Allocator + Copy>(
-    alloc: A,
-    f: &F,
-    listing: &[Listed<A>],
-    table: &mut Vec<BlockValues<A>, A>,
 ) -> Result<(), AllocError>
     ghost o: { OutputValue }
-    requires listing { IsListing (F.function f.now) o listing.now }
     requires framed { IsFramed (F.function f.now) }
-    requires sound { IsSound (F.function f.now) o (views table.old.items) }
-    ensures { IfOk result (λ _. IsSolved (F.function f.now) o (views table.new.items)) }
+    requires named { AreNamed (F.function f.now) o state.old.values }
+    requires block { block < length (F.function f.now).blocks }
+    requires sized { AreSized (F.function f.now) state.old.values state.old.reached.items state.old.queue.is_queued.items }
+    requires ready { IsReady (F.function f.now) o (views state.old.values state.old.reached.items) state.old.queue.is_queued.items
+        (heap_items state.old.queue.heap) block }
+    requires values { IsBlockEnd (F.function f.now) o block (facts_at (views state.old.values state.old.reached.items) block) (facts_now state.old.values) }
+    ensures alike { OnOk result (AreAlike state.old.values state.new.values) }
+    ensures sized { OnOk result (AreSized (F.function f.now) state.new.values state.new.reached.items state.new.queue.is_queued.items) }
+    ensures on_way { OnOk result (IsUnderWay (F.function f.now) o (views state.new.values state.new.reached.items) state.new.queue.is_queued.items
+        (heap_items state.new.queue.heap)) }
+    ensures falls { OnOk result (sum_by weight (views state.new.values state.new.reached.items) + heap_len state.new.queue.heap
+        ≤ sum_by weight (views state.old.values state.old.reached.items) + heap_len state.old.queue.heap) }
 {
-    let mut marks = Vec::new(alloc);
-    marks.resize(f.num_blocks(), true)?;
-    let mut again = true;
-    while again {
-        again = propagate_all(alloc, f, listing, table, &mut marks)?;
+    finds_earlier_writes();
+    let end = f.num_blocks();
+    state.values.save(end)?;
+    for k in 0..f.block_succs(block).len() {
+        state.values.load(end);
+        propagate_over(alloc, f, state, block, k)?;
     }
     Ok(())
 }
 
-/// What is known before anything is passed on: a path reaches the entry, and nothing holds there.
-pub fn start<F: Function, A: Allocator + Copy>(
+/// Passes on what a block has over its edges.
+fn propagate_block<F: Function, A: Allocator + Copy>(
     alloc: A,
     f: &F,
-) -> Result<Vec<BlockValues<A>, A>, AllocError>
-    requires { IsFramed (F.function f.now) }
-    ensures { IfOk result (λ t. (o : OutputValue) → IsSound (F.function f.now) o (views t.items)) }
+    listing: &[Listed<A>],
+    state: &mut Analysis<A>,
+    block: Block,
+) -> Result<(), AllocError>
+    ghost o: { OutputValue }
+    requires listing { IsListing (F.function f.now) o listing.now }
+    requires framed { IsFramed (F.function f.now) }
+    requires named { AreNamed (F.function f.now) o state.old.values }
+    requires block { block < length (F.function f.now).blocks }
+    requires sized { AreSized (F.function f.now) state.old.values state.old.reached.items state.old.queue.is_queued.items }
+    requires ready { IsReady (F.function f.now) o (views state.old.values state.old.reached.items) state.old.queue.is_queued.items
+        (heap_items state.old.queue.heap) block }
+    ensures alike { OnOk result (AreAlike state.old.values state.new.values) }
+    ensures sized { OnOk result (AreSized (F.function f.now) state.new.values state.new.reached.items state.new.queue.is_queued.items) }
+    ensures on_way { OnOk result (IsUnderWay (F.function f.now) o (views state.new.values state.new.reached.items) state.new.queue.is_queued.items
+        (heap_items state.new.queue.heap)) }
+    ensures falls { OnOk result (sum_by weight (views state.new.values state.new.reached.items) + heap_len state.new.queue.heap
+        ≤ sum_by weight (views state.old.values state.old.reached.items) + heap_len state.old.queue.heap) }
 {
-    let entry = f.entry_block();
-    let mut table = Vec::with_capacity(alloc, f.num_blocks())?;
-    for b in 0..f.num_blocks() {
-        let first = BlockValues {
-            reached: b == entry.index(),
-            values: ValueNumbers::new(alloc),
-        };
-        table.push(first)?;
+    finds_earlier_writes();
+    let count = f.block_succs(block).len();
+    if count == 0 {
+        return Ok(());
     }
-    Ok(table)
+    state.values.load(block.index());
+    transfer_block(f, listing, block, &mut state.values)?;
+    if count == 1 {
+        propagate_over(alloc, f, state, block, 0)?;
+        return Ok(());
+    }
+    propagate_edges(alloc, f, state, block)?;
+    Ok(())
+}
+
+/// So many marks, of which none is set.
+fn no_marks<A: Allocator>(alloc: A, count: usize) -> Result<Vec<bool, A>, AllocError>
+    ensures long { IfOk result (λ marks. length marks.items ≡ count) }
+    ensures none { IfOk result (λ marks. (b : ℕ) (d : Bool) → b < count → get_or marks.items b d ≡ false) }
+{
+    let mut marks = Vec::new(alloc);
+    marks.resize(count, false)?;
+    Ok(marks)
+}
+
+/// So many marks, of which one is set.
+fn one_mark<A: Allocator>(alloc: A, count: usize, at: usize) -> Result<Vec<bool, A>, AllocError>
+    requires { at < count }
+    ensures long { IfOk result (λ marks. length marks.items ≡ count) }
+    ensures one { IfOk result (λ marks. (b : ℕ) (d : Bool) → b < count → get_or marks.items b d ≡ nat_eq b at) }
+{
+    let mut marks = no_marks(alloc, count)?;
+    marks[at] = true;
+    Ok(marks)
+}
+
+/// What is known before anything is passed on: a path reaches the entry, and nothing holds there.
+fn start<F: Function, A: Allocator + Copy>(
+    alloc: A,
+    f: &F,
+    values: Tables<A>,
+) -> Result<Analysis<A>, AllocError>
+    requires framed { IsFramed (F.function f.now) }
+    requires count { count_of values ≡ length (F.function f.now).blocks + 1 }
+    requires empty { (k i y : ℕ) → holds_in values k i y ≡ false }
+    ensures values { IfOk result (λ s. s.values ≡ values) }
+    ensures sized { IfOk result (λ s. AreSized (F.function f.now) s.values s.reached.items s.queue.is_queued.items) }
+    ensures on_way { IfOk result (λ s. (o : OutputValue) → IsUnderWay (F.function f.now) o (views s.values s.reached.items) s.queue.is_queued.items
+        (heap_items s.queue.heap)) }
+{
+    let entry = f.entry_block().index();
+    let reached = one_mark(alloc, f.num_blocks(), entry)?;
+    let mut queue = Queue {
+        ranks: ranks(alloc, f)?,
+        is_queued: no_marks(alloc, f.num_blocks())?,
+        heap: BinaryHeap::new(alloc),
+    };
+    queue.push(entry)?;
+    Ok(Analysis {
+        values,
+        reached,
+        queue,
+    })
+}
+
+/// Passes on what holds at the blocks' beginnings until nothing changes.
+pub fn analyze<F: Function, A: Allocator + Copy>(
+    alloc: A,
+    f: &F,
+    listing: &[Listed<A>],
+    values: Tables<A>,
+) -> Result<Analysis<A>, AllocError>
+    ghost o: { OutputValue }
+    requires listing { IsListing (F.function f.now) o listing.now }
+    requires framed { IsFramed (F.function f.now) }
+    requires named { AreNamed (F.function f.now) o values }
+    requires count { count_of values ≡ length (F.function f.now).blocks + 1 }
+    requires empty { (k i y : ℕ) → holds_in values k i y ≡ false }
+    ensures alike { IfOk result (λ s. AreAlike values s.values) }
+    ensures long { IfOk result (λ s. length s.reached.items ≡ length (F.function f.now).blocks) }
+    ensures solved { IfOk result (λ s. IsSolved (F.function f.now) o (views s.values s.reached.items)) }
+{
+    let mut state = start(alloc, f, values)?;
+    'passes: while let Some(block) = state.queue.pop() {
+        propagate_block(alloc, f, listing, &mut state, Block::new(block))?;
+    }
+    Ok(state)
 }

@@ -10,20 +10,20 @@ ghost use Rattle.regalloc2_function.specs.OutputValue.{OutputValue};
 ghost use Rattle.regalloc2_function.specs.Faithful.{IsStackToStack};
 ghost use Rattle.regalloc2_names.specs.Operand.{is_reading};
 ghost use Rattle.regalloc2_function.specs.Views.{move_of};
-ghost use Rattle.regalloc2_checker.specs.Facts.{Facts, facts_after};
+ghost use Rattle.regalloc2_checker.specs.Facts.{facts_after};
 ghost use Rattle.regalloc2_checker.specs.CheckInputs.{AreStackSlots, IsKnown};
-ghost use Rattle.regalloc2_checker.specs.ValueNumbers.{numbers_of, facts_in, cells_in, source_in};
+ghost use Rattle.regalloc2_checker_tables.specs.Holding.{AreKeptTables};
+ghost use Rattle.regalloc2_checker.specs.TableFacts.{facts_now, AreNamed};
 ghost use Rattle.regalloc2_checker.specs.Report.{IsValueFault, IsFineAt, IsFaultAt, IsJudged, AreMoveFaults, InstReport};
-ghost use Rattle.regalloc2_checker.specs.TransferTracks.{IsListing, Tracks};
+ghost use Rattle.regalloc2_checker.specs.Listing.{IsListing};
 ghost use Rattle.regalloc2_checker.specs.declared.errors.CheckerError.{CheckerError};
 
 use crate::constraints::{check_constraint, is_stack};
 use crate::errors::CheckerError;
 use crate::listing::Listed;
 use crate::transfer::{go_to_early, go_to_late, place_at};
-use crate::transfer_block::step_of;
-use crate::value_numbers::ValueNumbers;
-use crate::vregs_in_value::vregs_in_value;
+use crate::vregs_in::{holds, vregs_in};
+use regalloc2_checker_tables::Tables;
 use regalloc2_function::{Edit, Function};
 use regalloc2_index::{Block, Inst};
 use regalloc2_names::{Allocation, Operand, OperandPos, PRegSet};
@@ -32,21 +32,21 @@ use std::alloc::{AllocError, Allocator};
 /// What an operand that reads finds wrong with what its place holds.
 fn check_val<A: Allocator + Copy>(
     alloc: A,
-    values: &ValueNumbers<A>,
+    values: &Tables<A>,
     inst: Inst,
     op: Operand,
     place: Allocation,
 ) -> Result<Option<CheckerError<A>>, AllocError>
-    ensures { IfOk result (λ r. MatchOption r (is_reading op ≡ true → facts_in (numbers_of values.now) place op.vreg ≡ true)
-        (λ e. (is_reading op ≡ true) × IsValueFault inst op place (λ v. facts_in (numbers_of values.now) place v ≡ true) e)) }
+    ensures { IfOk result (λ r. MatchOption r (is_reading op ≡ true → facts_now values.now place op.vreg ≡ true)
+        (λ e. (is_reading op ≡ true) × IsValueFault inst op place (λ v. facts_now values.now place v ≡ true) e)) }
 {
     if !op.is_reading() {
         return Ok(None);
     }
-    if values.holds(place, op.vreg()) {
+    if holds(values, place, op.vreg()) {
         return Ok(None);
     }
-    let actual = vregs_in_value(alloc, values, place)?;
+    let actual = vregs_in(alloc, values, place)?;
     if actual.is_empty() {
         return Ok(Some(CheckerError::UnknownValueInAllocation {
             inst,
@@ -65,7 +65,7 @@ fn check_val<A: Allocator + Copy>(
 /// The fault of the operand with an index, by what places hold.
 fn check_operand<A: Allocator + Copy>(
     alloc: A,
-    values: &ValueNumbers<A>,
+    values: &Tables<A>,
     slots: PRegSet,
     inst: Inst,
     operands: &[Operand],
@@ -74,8 +74,8 @@ fn check_operand<A: Allocator + Copy>(
 ) -> Result<Option<CheckerError<A>>, AllocError>
     requires { k < length operands.now }
     ensures { IfOk result (λ r. (env : MachineValue) → AreStackSlots env slots → MatchOption r
-        (IsFineAt env operands.now places.now (λ p v. facts_in (numbers_of values.now) p v ≡ true) k)
-        (λ e. IsFaultAt env inst operands.now places.now (λ p v. facts_in (numbers_of values.now) p v ≡ true) k e)) }
+        (IsFineAt env operands.now places.now (λ p v. facts_now values.now p v ≡ true) k)
+        (λ e. IsFaultAt env inst operands.now places.now (λ p v. facts_now values.now p v ≡ true) k e)) }
 {
     let op = operands[k];
     let place = place_at(places, k);
@@ -100,7 +100,7 @@ fn is_at(operand: Operand, position: OperandPos) -> bool
 /// The first fault among the operands of a position, by what places hold there.
 fn check_position<A: Allocator + Copy>(
     alloc: A,
-    values: &ValueNumbers<A>,
+    values: &Tables<A>,
     slots: PRegSet,
     inst: Inst,
     operands: &[Operand],
@@ -108,7 +108,7 @@ fn check_position<A: Allocator + Copy>(
     position: OperandPos,
 ) -> Result<Option<CheckerError<A>>, AllocError>
     ensures { IfOk result (λ r. (env : MachineValue) → AreStackSlots env slots →
-        IsJudged env inst operands.now places.now position (λ p v. facts_in (numbers_of values.now) p v ≡ true) r) }
+        IsJudged env inst operands.now places.now position (λ p v. facts_now values.now p v ≡ true) r) }
 {
     for k in 0..operands.len() {
         if !is_at(operands[k], position) {
@@ -177,20 +177,20 @@ pub fn check_inst<F: Function, A: Allocator + Copy>(
     listing: &[Listed<A>],
     block: Block,
     inst: Inst,
-    values: &mut ValueNumbers<A>,
+    values: &mut Tables<A>,
     errors: &mut Vec<CheckerError<A>, A>,
 ) -> Result<(), AllocError>
     ghost o: { OutputValue }
     requires listing { IsListing (F.function f.now) o listing.now }
+    requires named { AreNamed (F.function f.now) o values.old }
     requires block { block < length (F.function f.now).blocks }
     requires first { (block_at (F.function f.now) block).range.first ≤ inst }
     requires end { inst < (block_at (F.function f.now) block).range.end }
     requires inst { inst < length (F.function f.now).insts }
-    ensures walked { OnOk result ((G : Facts) → Tracks (inst + 1) (cells_in values.old) (source_in values.old) G
-        → Tracks (inst + 2) (cells_in values.new) (source_in values.new) (facts_after (F.function f.now) o (record { block = block; inst = inst }) G)) }
-    ensures judged { OnOk result ((env : MachineValue) → AreStackSlots env slots → (G : Facts) →
-        Tracks (inst + 1) (cells_in values.old) (source_in values.old) G
-        → IsKnown (F.function f.now) o (record { block = block; inst = inst }) G
+    ensures kept { OnOk result (AreKeptTables values.old values.new) }
+    ensures now { OnOk result (facts_now values.new ≡ facts_after (F.function f.now) o (record { block = block; inst = inst }) (facts_now values.old)) }
+    ensures judged { OnOk result ((env : MachineValue) → AreStackSlots env slots
+        → IsKnown (F.function f.now) o (record { block = block; inst = inst }) (facts_now values.old)
         → (es : List (CheckerError A)) × (errors.new.items ≡ errors.old.items ++ es)
         × InstReport (F.function f.now) env o (record { block = block; inst = inst }) es) }
 {
@@ -198,7 +198,6 @@ pub fn check_inst<F: Function, A: Allocator + Copy>(
     let moves = listed.moves.as_slice();
     let places = listed.places.as_slice();
     let operands = f.inst_operands(inst);
-    let step = step_of(inst);
     check_moves(slots, moves, errors)?;
     go_to_early(values, moves, places, operands)?;
     let early = check_position(
@@ -211,7 +210,7 @@ pub fn check_inst<F: Function, A: Allocator + Copy>(
         OperandPos::Early,
     )?;
     add(errors, early)?;
-    go_to_late(values, places, step, operands, f.inst_clobbers(inst))?;
+    go_to_late(values, places, operands, f.inst_clobbers(inst))?;
     let late = check_position(
         alloc,
         values,

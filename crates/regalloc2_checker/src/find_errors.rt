@@ -8,19 +8,20 @@ ghost use Rattle.regalloc2_function.specs.Views.{machine_of, output_of};
 ghost use Rattle.regalloc2_function.specs.WellFormed.{IsFramed};
 ghost use Rattle.regalloc2_checker.specs.Blocks.{IsBlockJudged};
 ghost use Rattle.regalloc2_checker.specs.CheckInputs.{AreStackSlots};
-ghost use Rattle.regalloc2_checker.specs.ValueNumbers.{facts_in, numbers_of};
+ghost use Rattle.regalloc2_checker_tables.specs.Holding.{count_of, AreKeptTables};
+ghost use Rattle.regalloc2_checker.specs.TableFacts.{facts_table, AreNamed};
 ghost use Rattle.regalloc2_checker.specs.Report.{IsReport};
 ghost use Rattle.regalloc2_checker.specs.Tables.{IsSolved, views};
-ghost use Rattle.regalloc2_checker.specs.TransferTracks.{IsListing};
+ghost use Rattle.regalloc2_checker.specs.Listing.{IsListing};
 
-use crate::analyze::{BlockValues, analyze, start};
+use crate::analyze::analyze;
 use crate::check::check_inst;
 use crate::constraints::stack_slots;
 use crate::errors::CheckerError;
 use crate::handle::handle_listing;
 use crate::listing::Listed;
-use crate::meet::meet;
-use crate::value_numbers::ValueNumbers;
+use crate::names::{named_places, named_vregs};
+use regalloc2_checker_tables::Tables;
 use regalloc2_function::{Function, MachineEnv, Output, finds_earlier_writes};
 use regalloc2_index::{Block, Inst};
 use regalloc2_names::PRegSet;
@@ -33,17 +34,20 @@ fn check_block<F: Function, A: Allocator + Copy>(
     slots: PRegSet,
     listing: &[Listed<A>],
     block: Block,
-    have: &ValueNumbers<A>,
+    values: &mut Tables<A>,
     errors: &mut Vec<CheckerError<A>, A>,
 ) -> Result<(), AllocError>
     ghost o: { OutputValue }
     requires listing { IsListing (F.function f.now) o listing.now }
     requires framed { IsFramed (F.function f.now) }
+    requires named { AreNamed (F.function f.now) o values.old }
     requires block { block < length (F.function f.now).blocks }
-    ensures { OnOk result ((env : MachineValue) → AreStackSlots env slots →
-        IsBlockJudged (F.function f.now) env o block (facts_in (numbers_of have.now)) errors.old.items errors.new.items) }
+    requires table { block < count_of values.old }
+    ensures kept { OnOk result (AreKeptTables values.old values.new) }
+    ensures judged { OnOk result ((env : MachineValue) → AreStackSlots env slots →
+        IsBlockJudged (F.function f.now) env o block (facts_table values.old block) errors.old.items errors.new.items) }
 {
-    let mut values = meet(alloc, have, have)?;
+    values.load(block.index());
     let range = f.block_insns(block);
     for i in range.first().index()..range.end().index() {
         check_inst(
@@ -53,7 +57,7 @@ fn check_block<F: Function, A: Allocator + Copy>(
             listing,
             block,
             Inst::new(i),
-            &mut values,
+            values,
             errors,
         )?;
     }
@@ -66,21 +70,25 @@ fn check_all<F: Function, A: Allocator + Copy>(
     f: &F,
     slots: PRegSet,
     listing: &[Listed<A>],
-    table: &[BlockValues<A>],
+    reached: &[bool],
+    values: &mut Tables<A>,
 ) -> Result<Vec<CheckerError<A>, A>, AllocError>
     ghost o: { OutputValue }
     requires listing { IsListing (F.function f.now) o listing.now }
     requires framed { IsFramed (F.function f.now) }
-    requires solved { IsSolved (F.function f.now) o (views table.now) }
+    requires named { AreNamed (F.function f.now) o values.old }
+    requires size { length reached.now ≡ length (F.function f.now).blocks }
+    requires count { count_of values.old ≡ length (F.function f.now).blocks + 1 }
+    requires solved { IsSolved (F.function f.now) o (views values.old reached.now) }
     ensures { IfOk result (λ r. (env : MachineValue) → AreStackSlots env slots → IsReport (F.function f.now) env o r.items) }
 {
     finds_earlier_writes();
     let mut errors = Vec::new(alloc);
     for b in 0..f.num_blocks() {
-        if table[b].reached {
-            let have = &table[b].values;
-            check_block(alloc, f, slots, listing, Block::new(b), have, &mut errors)?;
+        if !reached[b] {
+            continue;
         }
+        check_block(alloc, f, slots, listing, Block::new(b), values, &mut errors)?;
     }
     Ok(errors)
 }
@@ -99,8 +107,17 @@ pub fn find_errors<F: Function, A: Allocator + Copy, B: Allocator, C: Allocator>
     ensures { IfOk result (λ r. IsReport (F.function f.now) (machine_of env.now) o r.items) }
 {
     let listing = handle_listing(alloc, f, out)?;
-    let mut table = start(alloc, f)?;
-    analyze(alloc, f, &listing, &mut table)?;
-    let errors = check_all(alloc, f, stack_slots(env), &listing, &table)?;
+    let places = named_places(alloc, f, &listing)?;
+    let vregs = named_vregs(alloc, f)?;
+    let tables = Tables::new(alloc, f.num_blocks() + 1, places, vregs)?;
+    let mut state = analyze(alloc, f, &listing, tables)?;
+    let errors = check_all(
+        alloc,
+        f,
+        stack_slots(env),
+        &listing,
+        &state.reached,
+        &mut state.values,
+    )?;
     Ok(errors)
 }

@@ -5,7 +5,7 @@ ghost use Rattle.regalloc2_function.specs.OutputValue.{OffsetsInOrder, IsInOrder
 ghost use Rattle.regalloc2_function.specs.Views.{output_of};
 ghost use Rattle.regalloc2_function.specs.WellFormed.{IsFramed};
 ghost use Rattle.regalloc2_checker.specs.ListingCopied.{IsAdded, IsListedBefore};
-ghost use Rattle.regalloc2_checker.specs.TransferTracks.{IsListing};
+ghost use Rattle.regalloc2_checker.specs.Listing.{IsListing};
 
 use crate::listing::Listed;
 use regalloc2_function::{Edit, Function, InstOrEdit, Output};

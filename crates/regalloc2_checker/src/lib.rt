@@ -10,11 +10,12 @@ mod find_errors;
 mod handle;
 mod laws;
 mod listing;
-mod meet;
+mod names;
+mod order;
+mod queue;
 mod transfer;
 mod transfer_block;
-mod value_numbers;
-mod vregs_in_value;
+mod vregs_in;
 
 pub use checker::Checker;
 pub use errors::{CheckerError, CheckerErrors};

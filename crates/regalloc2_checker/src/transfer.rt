@@ -1,15 +1,16 @@
 //! One instruction, as the function's run and the allocated run make it.
 
-ghost use Rattle.std.specs.Prelude.{◌≡◌, OnOk, IfOk, None, Some, map, not, ◌&&◌, if◌then◌else◌};
-ghost use Rattle.std.specs.Option.{option_map};
-ghost use Rattle.regalloc2_function.specs.SourceRun.{assigned, after_defs, passed};
+ghost use Rattle.std.specs.Prelude.{◌≡◌, ◌<◌, ℕ, OnOk, IfOk, All, true, false, map, not, nat_lt, ◌&&◌, if◌then◌else◌, length};
 ghost use Rattle.regalloc2_names.specs.Operand.{is_def, is_late};
+ghost use Rattle.regalloc2_names.specs.RegisterBits.{bits_of_vreg};
 ghost use Rattle.regalloc2_function.specs.OutputValue.{place_at};
-ghost use Rattle.regalloc2_function.specs.AllocatedRun.{stored, after_moves, after_early_defs, after_writes, after_clobbers};
 ghost use Rattle.regalloc2_function.specs.Views.{move_of};
-ghost use Rattle.regalloc2_checker.specs.ValueNumbers.{stamp_of, cells_in, source_in};
+ghost use Rattle.regalloc2_checker_tables.specs.Holding.{holds_now, is_in, AreKeptTables};
+ghost use Rattle.regalloc2_checker.specs.Facts.{placed, defined, facts_after_moves, facts_after_early_defs, facts_after_defs, facts_after_clobbers};
+ghost use Rattle.regalloc2_checker.specs.TableFacts.{is_packed, is_packed_vreg, place_in, vreg_in, facts_now, IsMissingUnlisted, IsListed, IsListedVReg};
+ghost use Rattle.regalloc2_checker.specs.Renamed.{facts_renamed, HoldersAre, AreHoldersOf, given_to};
 
-use crate::value_numbers::ValueNumbers;
+use regalloc2_checker_tables::Tables;
 use regalloc2_function::Edit;
 use regalloc2_names::{Allocation, Operand, PRegSet, VReg};
 use std::alloc::{AllocError, Allocator};
@@ -25,175 +26,275 @@ pub fn place_at(places: &[Allocation], k: usize) -> Allocation
     }
 }
 
-/// The number of the write that an operand makes at a step.
-fn write_number(step: u32, operand: usize) -> u128
-    ensures { stamp_of result ≡ record { step = step; operand = operand } }
+/// Where a place is listed.
+pub fn position<A: Allocator + Copy>(values: &Tables<A>, place: Allocation) -> Option<usize>
+    ensures position { result ≡ place_in values.now.places place }
+    ensures packed { is_packed place ≡ true }
 {
-    u128::from(step) * (1 << 64) + operand as u128
+    values.place(place.bits())
+}
+
+/// Where a virtual register is listed.
+fn vreg_position<A: Allocator + Copy>(values: &Tables<A>, vreg: VReg) -> Option<usize>
+    ensures position { result ≡ vreg_in values.now.vregs vreg }
+    ensures packed { is_packed_vreg vreg ≡ true }
+{
+    values.vreg(vreg.bits() as u32)
+}
+
+/// Makes a move.
+fn make_move<A: Allocator + Copy>(
+    values: &mut Tables<A>,
+    from: Allocation,
+    to: Allocation,
+) -> Result<(), AllocError>
+    requires missing { IsMissingUnlisted values.old.places }
+    requires listed { IsListed values.old.places to }
+    ensures kept { OnOk result (AreKeptTables values.old values.new) }
+    ensures now { OnOk result (facts_now values.new ≡ placed to (facts_now values.old from) (facts_now values.old)) }
+{
+    let Some(target) = position(values, to) else {
+        return Ok(());
+    };
+    let Some(source) = position(values, from) else {
+        values.clear(target);
+        return Ok(());
+    };
+    values.copy(source, target)?;
+    Ok(())
 }
 
 /// Makes the moves, one by one.
-fn make_moves<A: Allocator + Copy>(
-    values: &mut ValueNumbers<A>,
-    moves: &[Edit],
-) -> Result<(), AllocError>
-    ensures cells { OnOk result (cells_in values.new ≡ after_moves (map move_of moves.now) (cells_in values.old)) }
-    ensures source { OnOk result (source_in values.new ≡ source_in values.old) }
+fn make_moves<A: Allocator + Copy>(values: &mut Tables<A>, moves: &[Edit]) -> Result<(), AllocError>
+    requires missing { IsMissingUnlisted values.old.places }
+    requires listed { All (λ m. IsListed values.old.places m.to) (map move_of moves.now) }
+    ensures kept { OnOk result (AreKeptTables values.old values.new) }
+    ensures now { OnOk result (facts_now values.new ≡ facts_after_moves (map move_of moves.now) (facts_now values.old)) }
 {
     for k in 0..moves.len() {
         let (from, to) = moves[k].places();
-        let number = values.get_value(from);
-        values.set_value(to, number)?;
+        make_move(values, from, to)?;
     }
     Ok(())
 }
 
+/// Empties a place.
+fn clear_place<A: Allocator + Copy>(values: &mut Tables<A>, place: Allocation)
+    requires { IsMissingUnlisted values.old.places }
+    ensures kept { AreKeptTables values.old values.new }
+    ensures now { facts_now values.new ≡ placed place (λ v. false) (facts_now values.old) }
+{
+    if let Some(place) = position(values, place) {
+        values.clear(place);
+    }
+}
+
 /// Empties an operand's place, if it is an early definition.
-fn clear_place<A: Allocator + Copy>(
-    values: &mut ValueNumbers<A>,
-    place: Allocation,
-    operand: Operand,
-) -> Result<(), AllocError>
-    ensures cells { OnOk result (cells_in values.new ≡ (if is_def operand.kind
-        && not (is_late operand.position) then stored (cells_in values.old) place None else cells_in values.old)) }
-    ensures source { OnOk result (source_in values.new ≡ source_in values.old) }
+fn clear_early_def<A: Allocator + Copy>(values: &mut Tables<A>, place: Allocation, operand: Operand)
+    requires { IsMissingUnlisted values.old.places }
+    ensures kept { AreKeptTables values.old values.new }
+    ensures now { facts_now values.new ≡ (if is_def operand.kind && not (is_late operand.position) then placed place (λ v. false) (facts_now values.old)
+        else facts_now values.old) }
 {
     if !operand.is_def() {
-        return Ok(());
+        return;
     }
     if operand.is_late() {
-        return Ok(());
+        return;
     }
-    values.set_value(place, None)?;
-    Ok(())
+    clear_place(values, place);
 }
 
 /// Empties the places of an instruction's early definitions.
 fn clear_early_defs<A: Allocator + Copy>(
-    values: &mut ValueNumbers<A>,
+    values: &mut Tables<A>,
     places: &[Allocation],
     operands: &[Operand],
-) -> Result<(), AllocError>
-    ensures cells { OnOk result (cells_in values.new ≡ after_early_defs places.now 0 operands.now (cells_in values.old)) }
-    ensures source { OnOk result (source_in values.new ≡ source_in values.old) }
+)
+    requires { IsMissingUnlisted values.old.places }
+    ensures kept { AreKeptTables values.old values.new }
+    ensures now { facts_now values.new ≡ facts_after_early_defs places.now 0 operands.now (facts_now values.old) }
 {
     for k in 0..operands.len() {
-        clear_place(values, place_at(places, k), operands[k])?;
+        clear_early_def(values, place_at(places, k), operands[k]);
     }
+}
+
+/// Writes a virtual register to a place.
+fn write_one<A: Allocator + Copy>(
+    values: &mut Tables<A>,
+    place: Allocation,
+    vreg: VReg,
+) -> Result<(), AllocError>
+    requires missing { IsMissingUnlisted values.old.places }
+    requires listed { IsListed values.old.places place }
+    requires vreg { IsListedVReg values.old.vregs vreg }
+    ensures kept { OnOk result (AreKeptTables values.old values.new) }
+    ensures now { OnOk result (facts_now values.new ≡ defined place vreg (facts_now values.old)) }
+{
+    let Some(vreg) = vreg_position(values, vreg) else {
+        return Ok(());
+    };
+    let Some(place) = position(values, place) else {
+        values.forget(vreg)?;
+        return Ok(());
+    };
+    values.define(place, vreg)?;
     Ok(())
 }
 
 /// Writes what an operand defines, if it does.
-fn write_one<A: Allocator + Copy>(
-    values: &mut ValueNumbers<A>,
+fn write_def<A: Allocator + Copy>(
+    values: &mut Tables<A>,
     place: Allocation,
     operand: Operand,
-    number: u128,
 ) -> Result<(), AllocError>
-    ensures cells { OnOk result (cells_in values.new ≡ (if is_def operand.kind then stored (cells_in values.old) place (Some (stamp_of number)) else cells_in
-        values.old)) }
-    ensures source { OnOk result (source_in values.new ≡ (if is_def operand.kind then assigned (source_in values.old) operand.vreg
-        (Some (stamp_of number)) else source_in values.old)) }
+    requires missing { IsMissingUnlisted values.old.places }
+    requires listed { IsListed values.old.places place }
+    requires vreg { IsListedVReg values.old.vregs operand.vreg }
+    ensures kept { OnOk result (AreKeptTables values.old values.new) }
+    ensures now { OnOk result (facts_now values.new ≡ (if is_def operand.kind then defined place operand.vreg (facts_now values.old)
+        else facts_now values.old)) }
 {
     if !operand.is_def() {
         return Ok(());
     }
-    values.set_value(place, Some(number))?;
-    values.assign_param(operand.vreg(), Some(number))?;
+    write_one(values, place, operand.vreg())?;
     Ok(())
 }
 
 /// Writes an instruction's definitions, in operand order.
 fn write_defs<A: Allocator + Copy>(
-    values: &mut ValueNumbers<A>,
+    values: &mut Tables<A>,
     places: &[Allocation],
-    step: u32,
     operands: &[Operand],
 ) -> Result<(), AllocError>
-    ensures cells { OnOk result (cells_in values.new ≡ after_writes places.now step 0 operands.now (cells_in values.old)) }
-    ensures source { OnOk result (source_in values.new ≡ after_defs step 0 operands.now (source_in values.old)) }
+    requires missing { IsMissingUnlisted values.old.places }
+    requires listed { All (IsListed values.old.places) places.now }
+    requires vregs { All (λ op. IsListedVReg values.old.vregs op.vreg) operands.now }
+    ensures kept { OnOk result (AreKeptTables values.old values.new) }
+    ensures now { OnOk result (facts_now values.new ≡ facts_after_defs places.now 0 operands.now (facts_now values.old)) }
 {
     for k in 0..operands.len() {
-        let number = write_number(step, k);
-        write_one(values, place_at(places, k), operands[k], number)?;
+        write_def(values, place_at(places, k), operands[k])?;
     }
     Ok(())
 }
 
 /// Empties the clobbered registers.
-fn clear_clobbers<A: Allocator + Copy>(
-    values: &mut ValueNumbers<A>,
-    clobbers: PRegSet,
-) -> Result<(), AllocError>
-    ensures cells { OnOk result (cells_in values.new ≡ after_clobbers clobbers (cells_in values.old)) }
-    ensures source { OnOk result (source_in values.new ≡ source_in values.old) }
+fn clear_clobbers<A: Allocator + Copy>(values: &mut Tables<A>, clobbers: PRegSet)
+    requires { IsMissingUnlisted values.old.places }
+    ensures kept { AreKeptTables values.old values.new }
+    ensures now { facts_now values.new ≡ facts_after_clobbers clobbers (facts_now values.old) }
 {
     for reg in clobbers {
-        values.set_value(Allocation::reg(reg), None)?;
+        clear_place(values, Allocation::reg(reg));
     }
-    Ok(())
 }
 
 /// Goes on to where an instruction's early uses are read: the moves before it are made, and the places of its early
 /// definitions are emptied.
 pub fn go_to_early<A: Allocator + Copy>(
-    values: &mut ValueNumbers<A>,
+    values: &mut Tables<A>,
     moves: &[Edit],
     places: &[Allocation],
     operands: &[Operand],
 ) -> Result<(), AllocError>
-    ensures cells { OnOk result (cells_in values.new ≡ after_early_defs places.now 0 operands.now (after_moves (map move_of moves.now) (cells_in values.old))) }
-    ensures source { OnOk result (source_in values.new ≡ source_in values.old) }
+    requires missing { IsMissingUnlisted values.old.places }
+    requires listed { All (λ m. IsListed values.old.places m.to) (map move_of moves.now) }
+    ensures kept { OnOk result (AreKeptTables values.old values.new) }
+    ensures now { OnOk result (facts_now values.new
+        ≡ facts_after_early_defs places.now 0 operands.now (facts_after_moves (map move_of moves.now) (facts_now values.old))) }
 {
     make_moves(values, moves)?;
-    clear_early_defs(values, places, operands)?;
+    clear_early_defs(values, places, operands);
     Ok(())
 }
 
 /// Goes on to where its late uses are read: the definitions are written, and the clobbered registers are emptied.
 pub fn go_to_late<A: Allocator + Copy>(
-    values: &mut ValueNumbers<A>,
+    values: &mut Tables<A>,
     places: &[Allocation],
-    step: u32,
     operands: &[Operand],
     clobbers: PRegSet,
 ) -> Result<(), AllocError>
-    ensures cells { OnOk result (cells_in values.new ≡ after_clobbers clobbers (after_writes places.now step 0 operands.now (cells_in values.old))) }
-    ensures source { OnOk result (source_in values.new ≡ after_defs step 0 operands.now (source_in values.old)) }
+    requires missing { IsMissingUnlisted values.old.places }
+    requires listed { All (IsListed values.old.places) places.now }
+    requires vregs { All (λ op. IsListedVReg values.old.vregs op.vreg) operands.now }
+    ensures kept { OnOk result (AreKeptTables values.old values.new) }
+    ensures now { OnOk result (facts_now values.new ≡ facts_after_clobbers clobbers (facts_after_defs places.now 0 operands.now (facts_now values.old))) }
 {
-    write_defs(values, places, step, operands)?;
-    clear_clobbers(values, clobbers)?;
+    write_defs(values, places, operands)?;
+    clear_clobbers(values, clobbers);
     Ok(())
 }
 
-/// What so many of the first arguments have.
-fn numbers_had<A: Allocator + Copy>(
+/// The places that hold a virtual register.
+fn holders<A: Allocator + Copy>(
     alloc: A,
-    values: &ValueNumbers<A>,
-    arguments: &[VReg],
-) -> Result<Vec<Option<u128>, A>, AllocError>
-    ensures { IfOk result (λ r. map (option_map stamp_of) r.items ≡ map (source_in values.now) arguments.now) }
+    values: &Tables<A>,
+    vreg: VReg,
+) -> Result<Vec<usize, A>, AllocError>
+    requires { IsListedVReg values.now.vregs vreg }
+    ensures { IfOk result (λ holders. HoldersAre values.now.places (holds_now values.now) vreg holders.items) }
 {
-    let mut numbers = Vec::with_capacity(alloc, arguments.len())?;
-    for k in 0..arguments.len() {
-        numbers.push(values.number_of_vreg(arguments[k]))?;
+    let Some(vreg) = vreg_position(values, vreg) else {
+        return Ok(Vec::new(alloc));
+    };
+    let found = values.holders(alloc, vreg)?;
+    Ok(found)
+}
+
+/// The places that hold each of some virtual registers.
+fn holders_of_all<A: Allocator + Copy>(
+    alloc: A,
+    values: &Tables<A>,
+    vregs: &[VReg],
+) -> Result<Vec<Vec<usize, A>, A>, AllocError>
+    requires { All (IsListedVReg values.now.vregs) vregs.now }
+    ensures long { IfOk result (λ had. length had.items ≡ length vregs.now) }
+    ensures holders { IfOk result (λ had. AreHoldersOf values.now.places (holds_now values.now) vregs.now had.items) }
+{
+    let mut had = Vec::with_capacity(alloc, vregs.len())?;
+    for k in 0..vregs.len() {
+        had.push(holders(alloc, values, vregs[k])?)?;
     }
-    Ok(numbers)
+    Ok(had)
+}
+
+/// Gives a parameter the places of its argument.
+fn give<A: Allocator + Copy>(
+    values: &mut Tables<A>,
+    param: VReg,
+    places: &[usize],
+) -> Result<(), AllocError>
+    requires param { IsListedVReg values.old.vregs param }
+    requires places { (i : ℕ) → is_in places.now i ≡ true → i < length values.old.places }
+    ensures kept { OnOk result (AreKeptTables values.old values.new) }
+    ensures now { OnOk result (facts_now values.new ≡ given_to param values.old.places places.now (facts_now values.old)) }
+{
+    let Some(param) = vreg_position(values, param) else {
+        return Ok(());
+    };
+    values.give(param, places)?;
+    Ok(())
 }
 
 /// Gives a block's parameters what its arguments had, all at once.
 pub fn assign_params<A: Allocator + Copy>(
     alloc: A,
-    values: &mut ValueNumbers<A>,
+    values: &mut Tables<A>,
     params: &[VReg],
     arguments: &[VReg],
 ) -> Result<(), AllocError>
-    ensures cells { OnOk result (cells_in values.new ≡ cells_in values.old) }
-    ensures source { OnOk result (source_in values.new ≡ passed params.now arguments.now (source_in values.old) (source_in values.old)) }
+    requires params { All (IsListedVReg values.old.vregs) params.now }
+    requires arguments { All (IsListedVReg values.old.vregs) arguments.now }
+    ensures kept { OnOk result (AreKeptTables values.old values.new) }
+    ensures now { OnOk result (facts_now values.new ≡ facts_renamed params.now arguments.now (facts_now values.old)) }
 {
-    let numbers = numbers_had(alloc, values, arguments)?;
-    for k in 0..params.len().min(numbers.len()) {
-        values.assign_param(params[k], numbers[k])?;
+    let had = holders_of_all(alloc, values, arguments)?;
+    for k in 0..params.len().min(had.len()) {
+        give(values, params[k], &had[k])?;
     }
     Ok(())
 }

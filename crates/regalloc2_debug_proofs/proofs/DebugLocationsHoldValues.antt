@@ -76,6 +76,7 @@ module _ (env : MachineValue) (f : FunctionValue) (limited : IsLimited f) (ok : 
     by_proper written v (by_definition o never d) none = operand_proper v o d.inst d.index
         ((all_orderly env f limited ok o.inst d.inst).allocated o.index d.index d.definition) d.vreg
 
+    -- where the function is written first, the place that a debugger is shown for a vreg is proper for its class
     pub place_proper : IsWrittenFirst f → (v : VirtualRegister) {by : Option InstOperand} → IsShownBy f v by →
         IsProperPlace env out v.class (shown_place out (slot_name last.slots v.number) by)
     place_proper written v {by} is = by_slot (slot_name last.slots v.number) refl (m.kept.safe.slots v.number)

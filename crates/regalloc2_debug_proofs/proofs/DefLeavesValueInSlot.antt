@@ -44,6 +44,7 @@ module _ (Known : VirtualRegister → Type 0) (insts : ℕ → InstValue) (place
   abbrev s : Place
   s = InSlot n
 
+  -- the slot is no register
   pub slotted : (r : Register) → s ≡ InRegister r → ⊥
   slotted r e = cc
 

@@ -82,6 +82,7 @@ module _ (s : Place) (slotted : (r : Register) → s ≡ InRegister r → ⊥) w
   same_off a b e = subst (Pushes Off a) (sym e) none_pushed
 
   module _ (point : ℕ) where
+    -- to allocate an operand's place adds no move to s
     pub gets_off : (o : OperandRequest) (p : Place) (t u : InstRegs) (old new : StateValue) → AllocsOperand point o p t u old new
         → Pushes Off old.edits new.edits
     gets_off o p t u old new g = pushes_then Off old.edits g.middle.edits new.edits (picked g.picks) (occupied g.occupies)
@@ -96,10 +97,12 @@ module _ (s : Place) (slotted : (r : Register) → s ≡ InRegister r → ⊥) w
         occupied (in_slot k is sets en) = same_off g.middle.edits new.edits (ap (λ (y : StateValue). y.edits) en)
         occupied (in_register r m is clears holds) = clears_but_pushes Off point (to_register point) r o.vreg t m g.middle new clears
 
+    -- to locate a use adds no move to s
     pub uses_off : (v : VirtualRegister) (p : Place) (old new : StateValue) → LocatesUse v p old new → Pushes Off old.edits new.edits
     uses_off v p old new (use_stays there en) = same_off old.edits new.edits (ap (λ (y : StateValue). y.edits) en)
     uses_off v p old new (located none settles slots edits machine) = same_off old.edits new.edits edits
 
+    -- to evict the vregs of fixed registers adds no move to s
     pub fixed_off : (ops : List OperandValue) (t : InstRegs) (old : StateValue) (k : ℕ) (u : InstRegs) (m : StateValue) → EvictsFixed point ops t old k u m →
         Pushes Off old.edits m.edits
     fixed_off ops t old k u m none_cleared = none_pushed
@@ -109,6 +112,7 @@ module _ (s : Place) (slotted : (r : Register) → s ≡ InRegister r → ⊥) w
     fixed_off ops t old k u m (of_reuse j l r y w z n prev a b c clears) =
         pushes_then Off old.edits z.edits m.edits (fixed_off ops t old j y z prev) (clears_pushes Off point (to_register point) r y u z m clears)
 
+    -- to evict the vregs of a list of registers adds no move to s
     pub all_off : (rs : List Register) (t : InstRegs) (old : StateValue) (u : InstRegs) (new : StateValue) → EvictsEach point rs t old u new
         → Pushes Off old.edits new.edits
     all_off rs t old u new (none_left y m) = none_pushed

@@ -31,13 +31,16 @@ use Rattle.regalloc2_fastalloc_proofs.specs.BranchSteps.SpillsArgument.{in_slot 
 use Rattle.regalloc2_fastalloc_proofs.specs.BlockSteps.{AllocsInstInBlock}
 
 module _ (x : ℕ) where
+  -- from one state to another x keeps a slot that it has, and where it has a location, this one or a slot
   pub record Holds (old new : StateValue) : Type 0 where
     pub slots : slot_name old.slots x ≢ NoPlace → slot_name new.slots x ≢ NoPlace
     pub same : alloc_of old.places x ≢ NoPlace → (alloc_of new.places x ≡ alloc_of old.places x) ⊎ (slot_name new.slots x ≢ NoPlace)
 
+  -- it holds from a state to the same state
   pub hold_same : (t u : StateValue) → u ≡ t → Holds t u
   hold_same t u e = subst (Holds t) (sym e) (record { slots = λ h. h; same = λ h. inl refl })
 
+  -- it holds over two steps that it holds over
   pub hold_then : (a b c : StateValue) → Holds a b → Holds b c → Holds a c
   hold_then a b c f g = record {
     slots = λ h. g.slots (f.slots h);
@@ -111,6 +114,7 @@ module _ (x : ℕ) where
   clears_but_hold point r v t u old new (own w held same eu en) = hold_same old new en
   clears_but_hold point r v t u old new (others ne clears) = clears_hold point r t u old new clears
 
+  -- it holds where an operand's place is allocated
   pub gets_hold : (point : ℕ) (o : OperandRequest) (p : Place) (t u : InstRegs) (old new : StateValue) → AllocsOperand point o p t u old new → Holds old new
   gets_hold point o p t u old new g = hold_then old g.middle new (picked g.picks) (occupied g.occupies)
     where
@@ -153,6 +157,7 @@ module _ (x : ℕ) where
       hold_then old d.middle new (gets_hold (after i) _ p t d.inst_regs old d.middle d.gets)
       (defines_hold (after i) _ ret p d.inst_regs u d.middle new d.defines (ne def))
 
+  -- it holds where operands are allocated of which none defines x
   pub placed_hold : (i : ℕ) (ret late : Bool) (ops : List OperandValue) (places : List Place) (t : InstRegs) (old : StateValue) →
       ((k : ℕ) → k < length ops → is_def (op_at ops k).kind ≡ true → x ≢ (op_at ops k).vreg.number)
       → (k : ℕ) (next : List Place) (u : InstRegs) (m : StateValue) → ProcessesOperandsAt i ret late ops places t old k next u m → k ≤ length ops → Holds old m
@@ -163,6 +168,7 @@ module _ (x : ℕ) where
       hold_then old s m (placed_hold i ret late ops places t old ne j l w s prev (omega (arith, le)))
       (one_hold i ret ops j l next w u s m (ne j (omega (arith, le))) placed)
 
+  -- it holds where the moves of uses are added
   pub moves_hold : (point : ℕ) (ops : List OperandValue) (here : List Place) (t : InstRegs) (old : StateValue) (k : ℕ) (u : InstRegs) (m : StateValue) →
       MovesUses point ops here t old k u m → Holds old m
   moves_hold point ops here t old k u m none_moved = hold_same old old refl

@@ -99,6 +99,7 @@ module _ (Known : VirtualRegister → Type 0) (f : FunctionValue)
         (un.undefined j sooner lt) a.allocates.allocates) (branch_hold x f b j p q s u a) in
         elim (h.same (λ z. un.real (sym at ∙ z))) [ inl e ↦ (e ∙ at) | inr has ↦ absurd (has (none_before u rest)) ]
 
+    -- one instruction of the walk keeps it: from where x is before the next instruction to where it is before this one
     pub step_stays : (j : ℕ) (p q : List Place) (s u : StateValue) → (block_at f b).range.first ≤ j → j < (block_at f b).range.end →
         (a : AllocsInstInBlock f b j p q s u) → ((k : ℕ) → k < length (inst_at f j).operands →
         place_at (placesf j) k ≡ slice_index_or a.allocates.here k NoPlace) →
@@ -144,6 +145,7 @@ module _ (Known : VirtualRegister → Type 0) (f : FunctionValue)
   -- around an instruction that is met
   module _ (start : List Place) (begin : StateValue) (absent : Absent x begin) (j : ℕ) (w : Met f placesf start begin j final)
       (upto : il < (block_at f w.block).range.end) where
+    -- in the state that the walk comes with, x is where it is before the next instruction
     pub old_stays : Stays placesf x id il ko (j + 1) w.old
     old_stays =
         let lt : j < length f.insts = of_function w.block w.within j w.less in
@@ -158,6 +160,7 @@ module _ (Known : VirtualRegister → Type 0) (f : FunctionValue)
         (in_grown Known f orderly avoids knows kept w.block j w.blank w.places w.old w.new lt w.allocates))
         (grown_weaken (IsBefore f j) AnyPlace w.new final (λ n y. tt) w.rest))
 
+    -- in the state that the walk goes on with, x is where it is before this one
     pub new_stays : Stays placesf x id il ko j w.new
     new_stays = step_stays w.block w.within j w.blank w.places w.old w.new w.ge w.less w.allocates w.at
         (grown_weaken (IsBefore f j) AnyPlace w.new final (λ n y. tt) w.rest) old_stays

@@ -61,6 +61,7 @@ module _ (f : FunctionValue) (out : OutputValue) (v : VirtualRegister) (p : Plac
   unfolding Untouched with_moves
   no_moves = tt
 
+  -- the moves listed before an instruction leave the place alone, or an operand there reads v in it
   pub moves_fine : (first i : ℕ) → (inst_at f i).is_branch ≡ false → Quiet first i → (es : List (ℕ × MoveValue)) →
       All (λ e. e.1.to ≡ p → MayWrite f out v p e.0) es → Fine i (map (λ e. e.1) (filter (λ e. is_listed_at first i e.0) es))
   moves_fine first i plain quiet [] h = inl no_moves
@@ -91,6 +92,7 @@ module _ (f : FunctionValue) (out : OutputValue) (v : VirtualRegister) (n : ℕ)
     no_clobber = refl;
   }
 
+  -- v's own slot keeps its value, where v is live, from a definition on
   pub kept_in_slot : IsKeptInSlot f out v (InSlot n)
   kept_in_slot = record {
     live = slot.live;

@@ -258,6 +258,7 @@ module _ (env : MachineValue) (f : FunctionValue) (limited : IsLimited f) (ok : 
       ShowsAt f out v p ws
   by_front ws c (front is) e = ap (λ (x : Cells). x p) is ∙ e
 
+  -- the place of the last use's operand holds v's value, where v has no slot
   pub register_shows : HoldsValue f out v p
   register_shows given (ToSuccessor k) here used s path is_given source on later_on uses no_branch =
       let here_path = start_path f out v plain here used later_on path in

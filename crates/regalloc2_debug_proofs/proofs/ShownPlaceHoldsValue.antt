@@ -12,7 +12,7 @@ use Rattle.regalloc2_function.specs.OutputValue.{OutputValue, allocs_of, place_a
 use Rattle.regalloc2_function.specs.Path.{end_of}
 use Rattle.regalloc2_function.specs.SourceRun.{IsWrittenFirst, arguments_at}
 use Rattle.regalloc2_function.specs.DebugPaths.{HoldsValue}
-use Rattle.regalloc2_function.specs.DebugPoints.{PassesAt, ReadsAt, UsesAt}
+use Rattle.regalloc2_function.specs.DebugPoints.{DefinesAt, PassesAt, ReadsAt, UsesAt}
 use Rattle.regalloc2_function.specs.WellFormed.{IsWellFormed, last_of}
 use Rattle.regalloc2_semantics.specs.Listing.{op_at, no_operand}
 use Rattle.regalloc2_semantics.specs.Blocks.{IsSound, IsUnwritten, target_at}
@@ -24,6 +24,7 @@ use Rattle.regalloc2_semantics.proofs.Order.{ends_within, reads_later, stands_la
 use Rattle.regalloc2_semantics.proofs.Soundness.{well_formed_are_sound}
 use Rattle.regalloc2_live_ranges.specs.declared.InstOperand.{InstOperand}
 use Rattle.regalloc2_live_ranges.specs.LiveRanges.{IsReader, IsShownBy}
+use Rattle.regalloc2_live_ranges.proofs.UsesInSSA.{defines_number}
 use Rattle.regalloc2_live_ranges.specs.LiveRanges.IsShownBy.{by_late_use, by_early_use, by_argument, by_definition}
 use Rattle.regalloc2_fastalloc_state.specs.StateParts.{SlotsHaveOneOwner, SpillSlotsValue, IsSlotOrNone, slot_name}
 use Rattle.regalloc2_fastalloc_proofs.specs.Safety.{MayBeLocatedAt}
@@ -90,7 +91,7 @@ module _ (env : MachineValue) (f : FunctionValue) (limited : IsLimited f) (ok : 
 
   -- a vreg that is passed has a slot
   pub passed_slot : (i : ℕ) → PassesAt f v i → slot_in last v.number ≢ NoPlace
-  passed_slot i (b, k, lb, at, edge, has) =
+  passed_slot i (b, k, lb, at, edge, has, other) =
       let j : ℕ = last_of (block_at f b) in
       let some : (block_at f b).range.first < (block_at f b).range.end = (ok.follow b lb).0 in
       let within = ends_within f ok.follow b lb in
@@ -132,6 +133,13 @@ module _ (env : MachineValue) (f : FunctionValue) (limited : IsLimited f) (ok : 
           (let one = one_operand f ok.defined_once v.number id j d k at (record { inst = jl; operand = less; definition = def; number = e }) in
           omega (arith, low, one.0))
 
+      -- a later branch doesn't define it
+      other : (b : ℕ) → il < last_of (block_at f b) → DefinesAt f v (last_of (block_at f b)) → ⊥
+      other b behind x =
+          let one = one_operand f ok.defined_once v.number id (last_of (block_at f b)) d x.1.0 at (defines_number f v (last_of (block_at f b)) x) in
+          let early = sooner in
+          omega (arith, behind, early, one.0)
+
       unslotted : ComesFirst (inst_at f il).operands v.number ko → IsUnslotted f (allocs_of out) last v.number id il ko
       unslotted first = record {
         within = within;
@@ -150,7 +158,7 @@ module _ (env : MachineValue) (f : FunctionValue) (limited : IsLimited f) (ok : 
               let inside : j < length xs = (let n = sound.arguments b k edge in omega (arith, few, n)) in
               let has : Contains xs w = (j, inside, any_default xs j w defined.no_vreg inside) in
               let same : w ≡ v = one_made f ok.defined_once w v (used_made f ok.defined_once ok.follow ok.uses_defined w b lb (inr (k, edge, has))) known e in
-              let most = greatest (last_of (block_at f b)) (inr (inr (b, k, lb, refl, edge, subst (Contains xs) same has))) in
+              let most = greatest (last_of (block_at f b)) (inr (inr (b, k, lb, refl, edge, subst (Contains xs) same has, other b behind))) in
               omega (arith, most, behind),
         );
         params = λ b lb k few e. not_both f ok.defined_once v.number id d b k at (record { block = lb; param = few; number = e });

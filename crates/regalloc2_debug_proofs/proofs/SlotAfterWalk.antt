@@ -45,6 +45,7 @@ module _ (env : MachineValue) (f : FunctionValue) (once : DefinedOnce f) (t : St
       }))
   may_write q (inr (b, i, k, j, lb, last, branch, at, edge, less, is)) = subst (MayWrite f out v (InSlot n)) (sym at) (before_branch i branch)
 
+  -- each edit into v's slot is at a point where the slot may be written
   pub moves_where : All (λ e. e.1.to ≡ InSlot n → MayWrite f out v (InSlot n) e.0) out.edits
   moves_where =
       let writes : All (λ e. e.1.to ≡ InSlot n → WritesAt f out.allocs e.0 v n) t.edits = own_written env (Made f) (one_made f once) (WritesAt f out.allocs)

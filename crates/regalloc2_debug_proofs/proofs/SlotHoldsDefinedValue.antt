@@ -62,15 +62,19 @@ use Rattle.regalloc2_debug_proofs.proofs.DefWithMovesStores.{stores}
 use Rattle.regalloc2_debug_proofs.proofs.MovesLeaveSlot.{moves_fine}
 
 module _ (env : MachineValue) (f : FunctionValue) (limited : IsLimited f) (ok : IsWellFormed env f) where
+  -- each instruction of the function has its operands in order
   pub all_orderly : (i : ℕ) → i < length f.insts → Orderly (inst_at f i).operands
   all_orderly = orderly env f limited ok
 
+  -- no register that is reserved at the late position of an instruction is one of its clobbers
   pub all_avoid : (i : ℕ) → i < length f.insts → AvoidClobbers (inst_at f i).operands (inst_at f i).clobbers
   all_avoid i lt = avoids (inst_at f i) (All-get_or FixedAvoidClobbers f.insts i no_inst lt ok.fixed)
 
+  -- each vreg that an operand names is one that the function makes
   pub all_known : (i : ℕ) → i < length f.insts → Knows (Made f) (inst_at f i).operands
   all_known = knows env f limited ok
 
+  -- the arguments of a branch keep what holds between instructions, slots and located vregs
   pub branch : BranchKept f
   branch = branch_kept f ok.counted (passes_between f)
 
@@ -110,9 +114,11 @@ module _ (env : MachineValue) (f : FunctionValue) (limited : IsLimited f) (ok : 
     are_listed : AreListed f (allocs_of out) 0 out.allocs
     are_listed j le lt k less = place_is f env (Made f) (MayInBlocks f) last out m j lt k less
 
+    -- the output's edits are in the order of their points
     pub rising : Rising out.edits
     rising = rising_by out.edits (made_in_order f env (Made f) (MayInBlocks f) last out m).points_never_fall
 
+    -- the walk comes to each instruction
     pub met_at : (i : ℕ) → i < length f.insts → Met f (allocs_of out) blank begin i last
     met_at i lt = meet (Made f) f all_orderly all_avoid all_known branch ok.follow ok.end (allocs_of out) blank begin i (begin_between f begin empty fit) lt 0
         out.allocs last walks 0 (first_edge f ok.follow some_block) are_listed (omega arith)
@@ -155,12 +161,14 @@ module _ (env : MachineValue) (f : FunctionValue) (limited : IsLimited f) (ok : 
                 (sym (walked-more (inst_at f) (listed (es ++ (before i, n) ∷ [])) (allocs_of out) i 0
                 ∙ before_part-more (inst_at f) n es (allocs_of out) i 0 item)) front_move)
 
+    -- an instruction that is no branch is allocated by `AllocsInst` alone
     pub allocated : (i : ℕ) (w : Met f (allocs_of out) blank begin i last) → (inst_at f i).is_branch ≡ false →
         AllocsInst i (inst_at f i) w.allocates.allocates.blank w.allocates.allocates.here w.old w.new
     allocated i w plain =
         subst (AllocsInst i (inst_at f i) w.allocates.allocates.blank w.allocates.allocates.here w.old) (sym (w.allocates.no_branch plain))
         w.allocates.allocates.allocates
 
+    -- what such an instruction does by itself: the state before it, and what its listing carries
     pub by_itself : (i : ℕ) (w : Met f (allocs_of out) blank begin i last) → i < length f.insts → (inst_at f i).is_branch ≡ false →
         Alone (Made f) f (allocs_of out) all_orderly all_avoid all_known i w.old w.new
     by_itself i w lt plain =

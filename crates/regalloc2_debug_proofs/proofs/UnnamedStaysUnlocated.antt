@@ -46,9 +46,11 @@ module _ (x : ℕ) where
   abbrev pub StaysOut : StateValue → StateValue → Type 0
   StaysOut old new = Absent old → Absent new × (slot_name new.slots x ≡ slot_name old.slots x)
 
+  -- a state that stays keeps x out
   pub out_same : (t u : StateValue) → u ≡ t → StaysOut t u
   out_same t u e a = subst (λ (y : StateValue). Absent y × (slot_name y.slots x ≡ slot_name t.slots x)) (sym e) (a, refl)
 
+  -- two steps keep x out if each does
   pub out_then : (a b c : StateValue) → StaysOut a b → StaysOut b c → StaysOut a c
   out_then a b c f g h = (let p = f h in let q = g p.0 in (q.0, q.1 ∙ p.1))
 
@@ -145,6 +147,7 @@ module _ (x : ℕ) where
       occupied (in_slot k is sets en) b = (out_same g.middle new en b).0
       occupied (in_register r m is clears holds) b = (clears_but_out point r o.vreg t m g.middle new clears b).0
 
+  -- a move that is added, or isn't, keeps x out
   pub sends_out : (point : ℕ) (class : RegClass) (made : Bool) (from to : Place) (t u : InstRegs) (old new : StateValue) →
       AddsMoveIf point class made from to t u old new → StaysOut old new
   sends_out point class made from to t u old new (sent is crosses) = crosses_out point class from to t u old new crosses
@@ -193,6 +196,7 @@ module _ (x : ℕ) where
       out_then old s m (placed_out i ret late ops places t old most few ne j l w s prev (omega (arith, le)))
       (one_out i ret ops j l next w u s m (omega (arith, le, few)) (λ c. ne j (omega (arith, le)) c inst_regs) placed)
 
+  -- the moves of uses keep x out
   pub moves_out : (point : ℕ) (ops : List OperandValue) (here : List Place) (t : InstRegs) (old : StateValue) (k : ℕ) (u : InstRegs) (m : StateValue) →
       MovesUses point ops here t old k u m → StaysOut old m
   moves_out point ops here t old k u m none_moved = out_same old old refl
@@ -200,6 +204,7 @@ module _ (x : ℕ) where
   moves_out point ops here t old k u m (one_moved j y w s n prev reads sends) =
       out_then old s m (moves_out point ops here t old j y s prev) (sends_out point _ _ _ _ y u s m sends)
 
+  -- evictions from fixed registers keep x out
   pub fixed_out : (point : ℕ) (ops : List OperandValue) (t : InstRegs) (old : StateValue) (k : ℕ) (u : InstRegs) (m : StateValue) →
       EvictsFixed point ops t old k u m → StaysOut old m
   fixed_out point ops t old k u m none_cleared = out_same old old refl
@@ -209,6 +214,7 @@ module _ (x : ℕ) where
   fixed_out point ops t old k u m (of_reuse j l r y w s n prev a b c clears) =
       out_then old s m (fixed_out point ops t old j y s prev) (clears_out point r y u s m clears)
 
+  -- evictions from a list of registers keep x out
   pub all_out : (point : ℕ) (rs : List Register) (t u : InstRegs) (old new : StateValue) → EvictsEach point rs t old u new → StaysOut old new
   all_out point rs t u old new (none_left y m) = out_same old new refl
   all_out point rs t u old new (one_more r rest y z w a m b clears more) =
@@ -261,6 +267,7 @@ module _ (x : ℕ) where
       out_still old new (ap (λ (y : StateValue). y.places) p.pushes ∙ p.orders.places)
       (ap (λ (y : StateValue). slot_name y.slots x) p.pushes ∙ ap (λ (l : List Place). slice_index_or l x NoPlace) p.orders.lends.2.vreg_spillslots)
 
+  -- a branch of whose edges no parameter or argument is x keeps x out
   pub passes_out : (f : FunctionValue) (b i : ℕ) (t u : InstRegs) (old new : StateValue) → IsUnpassed f b → ProcessesBranch f b i t u old new → StaysOut old new
   passes_out f b i t u old new ne p =
       out_then old p.gathered new (edges_out f b (before i) t old ne (length (block_at f b).succs) u p.gathered p.given p.gathers)
@@ -285,6 +292,7 @@ module _ (x : ℕ) where
   empties_out point t old u m (one_emptied r w y s n prev there clears) =
       out_then old s m (empties_out point t old w s prev) (clears_out point r w u s m clears)
 
+  -- the beginning of a block of which no parameter is x keeps x out
   pub begins_out : (point : ℕ) (params : List VirtualRegister) (old new : StateValue) →
       ((k : ℕ) → k < length params → (slice_index_or params k no_vreg).number ≢ x) → ReloadsAtBegin point params old new → StaysOut old new
   begins_out point params old new ne b =

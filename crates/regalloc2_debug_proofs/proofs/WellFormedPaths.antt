@@ -18,7 +18,7 @@ use Rattle.regalloc2_semantics.specs.Blocks.{names, target_at, IsSound}
 use Rattle.regalloc2_semantics.specs.Live.{IsLive, read_there, passed_there, IsAside}
 use Rattle.regalloc2_semantics.proofs.Cells.{is_vreg-true}
 use Rattle.regalloc2_semantics.proofs.SingleDef.{reads_defined}
-use Rattle.regalloc2_semantics.proofs.Order.{ends_within, stands_later, reads_later, passes_later}
+use Rattle.regalloc2_semantics.proofs.Order.{ends_within, stands_later, reads_later}
 use Rattle.regalloc2_semantics.proofs.Paths.{block_within}
 use Rattle.regalloc2_semantics.proofs.Soundness.{well_formed_are_sound}
 use Rattle.regalloc2_debug_proofs.proofs.SlotHoldsToUses.{IsPlain}
@@ -56,6 +56,7 @@ module _ (env : MachineValue) (f : FunctionValue) (ok : IsWellFormed env f) (wri
   sound : IsSound f
   sound = well_formed_are_sound env f ok
 
+  -- each path is in a block of the function
   pub within : (ws : List Way) → IsPath f ws → (end_of f ws).block < length f.blocks
   within ws path = block_within f sound written ws path
 
@@ -66,6 +67,7 @@ module _ (env : MachineValue) (f : FunctionValue) (ok : IsWellFormed env f) (wri
   inst_in (Onward ∷ ws) path = (let h = inst_in ws path.0 in let ge = h.0 in (omega (arith, ge), path.1))
   inst_in (ToSuccessor k ∷ ws) path = (omega arith, (ok.follow (target_at f (end_of f ws).block k) (within (ToSuccessor k ∷ ws) path)).0)
 
+  -- each path is at an instruction of the function
   pub inst_lt : (ws : List Way) → IsPath f ws → (end_of f ws).inst < length f.insts
   inst_lt ws path = (let h = inst_in ws path in let lt = h.1 in let most = ends_within f ok.follow (end_of f ws).block (within ws path) in
       omega (arith, lt, most))
@@ -103,7 +105,7 @@ module _ (env : MachineValue) (f : FunctionValue) (ok : IsWellFormed env f) (wri
 
   -- nor what passes it
   passes : (ws : List Way) → IsPath f ws → PassesAt f v (end_of f ws).inst → Undefined (inst_at f (end_of f ws).inst).operands v × IsLive f v (end_of f ws)
-  passes ws path (b, k, lb, last, edge, has) =
+  passes ws path (b, k, lb, last, edge, has, other) =
       let i : ℕ = (end_of f ws).inst in
       let c : ℕ = (end_of f ws).block in
       let lc = within ws path in
@@ -114,11 +116,9 @@ module _ (env : MachineValue) (f : FunctionValue) (ok : IsWellFormed env f) (wri
       let from : b ≤ c = stands_later f ok.follow b c i i lb lc (omega (arith, last, some)) (omega (arith, last, some)) ge less (omega arith) in
       let to : c ≤ b = stands_later f ok.follow c b i i lc lb ge less (omega (arith, last, some)) (omega (arith, last, some)) (omega arith) in
       let same : b ≡ c = omega (arith, from, to) in
-      let undefined : Undefined (inst_at f i).operands v = λ j jl d m.
-      let early = passes_later f ok.defined_once v.number i j b k v (record
-      { inst = inst_lt ws path; operand = jl; definition = d; number = ap (λ (w : VirtualRegister). w.number) m }) ok.follow ok.uses_defined lb edge has
-      refl in
-      omega (arith, early, last) in
+      let ops : List OperandValue = (inst_at f i).operands in
+      let undefined : Undefined ops v = λ j jl d m.
+      other (inst_lt ws path, (j, op_at ops j, jl, any_default ops j (op_at ops j) no_operand jl, d, m)) in
       let end : i + 1 ≡ (block_at f b).range.end = omega (arith, last, some) in (
         undefined,
         passed_there (end_of f ws) k (end ∙ ap (λ (n : ℕ). (block_at f n).range.end) same, subst (λ (n : ℕ). k < length (block_at f n).succs) same edge)
@@ -130,5 +130,6 @@ module _ (env : MachineValue) (f : FunctionValue) (ok : IsWellFormed env f) (wri
   use_finds ws path (inr (inl r)) = reads Late ws path r
   use_finds ws path (inr (inr p)) = passes ws path p
 
+  -- a well-formed function that is written first is as `IsPlain` asks
   pub plain_function : IsPlain f v
   plain_function = record { undefined = not_given; aside = goes_aside; onward = no_branch; uses = use_finds }

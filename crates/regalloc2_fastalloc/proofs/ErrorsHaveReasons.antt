@@ -1,4 +1,4 @@
--- What the tests and the walk refuse is refused for a reason.
+-- Each error of the tests and of the walk has its reason.
 use Rattle.std.proofs.Common.{◌≡◌, ◌^◌, ◌<◌, ◌≤◌, Bool, true, Err, refl, subst, inl, arith}
 use Rattle.std.specs.Prelude.{◌↔◌, IfErr, Result}
 use Rattle.regalloc2_names.specs.declared.RegAllocError.{RegAllocError}
@@ -72,7 +72,7 @@ lack_is_a_reason f env asked p (Unsupported i) h = absurd h
 lack_is_a_reason f env asked p TooManySpillSlots h = (p, h)
 lack_is_a_reason f env asked p Memory h = p.first
 
--- where operands are few, no refusal says that they are too many
+-- where operands are few, no error says that they are too many
 pub counted_alone : {T : Type 0} (f : FunctionValue) (env : MachineValue) (asked : Bool) (r : Result T RegAllocError) → HasFewOperands f →
     IfErr r (IsReason f env asked) → (r ≡ Err TooManyOperands) ↔ (2 ^ 32 ≤ operand_count f)
 counted_alone {T = T} f env asked r few h = (

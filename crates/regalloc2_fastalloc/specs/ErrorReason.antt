@@ -20,7 +20,7 @@ HasFewOperands f = operand_count f < 2 ^ 32
 abbrev pub IsValidIfChecked : FunctionValue → MachineValue → Bool → Type 0
 IsValidIfChecked f env asked = asked ≡ true → IsWellFormed env f
 
--- all tests that are owed
+-- all tests that were asked for
 pub record PassesAllChecks (f : FunctionValue) (env : MachineValue) (asked : Bool) : Type 0 where
   pub first : HasFewOperands f
   pub well_formed : IsValidIfChecked f env asked

@@ -48,14 +48,14 @@ pub record SlotsAreBounded (f : FunctionValue) (out : OutputValue) : Type 0 wher
   pub limit : out.num_spillslots ≤ 2 ^ 24
   pub needed : out.num_spillslots ≤ units_at_most f
 
--- an operand names the virtual register, and is in the place
-abbrev pub StandsIn : FunctionValue → OutputValue → VirtualRegister → Place → Type 0
-StandsIn f out v p = (i k : ℕ) × (d : OperandValue) × (i < length f.insts) × (k < length (inst_at f i).operands)
+-- an operand that names the virtual register has the place
+abbrev pub IsPlaceOfOperand : FunctionValue → OutputValue → VirtualRegister → Place → Type 0
+IsPlaceOfOperand f out v p = (i k : ℕ) × (d : OperandValue) × (i < length f.insts) × (k < length (inst_at f i).operands)
     × ((slice_index_or (inst_at f i).operands k d).vreg ≡ v) × (place_at (allocs_of out i) k ≡ p)
 
--- A place of a virtual register: an operand that names it is there, or it is a slot in which no operand of another one stands.
+-- A place of a virtual register: an operand that names it is there, or it is a slot that no operand of another one has.
 abbrev pub IsPlaceOf : FunctionValue → OutputValue → VirtualRegister → Place → Type 0
-IsPlaceOf f out v p = StandsIn f out v p ⊎ ((n : ℕ) × (p ≡ InSlot n) × ((w : VirtualRegister) → StandsInSlot f out w n → w ≡ v))
+IsPlaceOf f out v p = IsPlaceOfOperand f out v p ⊎ ((n : ℕ) × (p ≡ InSlot n) × ((w : VirtualRegister) → StandsInSlot f out w n → w ≡ v))
 
 -- The debug locations are those of the labels that are kept, each from its virtual register's first point to its last one, by rising label,
 -- and as listed where labels are equal. Each place is proper, and one of that virtual register; and where no path from the entry reads a

@@ -109,7 +109,7 @@ pub fn run<A: Allocator + Copy, F: Function, B: Allocator>(
     requires well_formed { options.now.validate_ssa ≡ false → IsWellFormed (machine_of env.now) (F.function f.now) }
     ensures allocation { IfOk result (λ out. IsAllocation (F.function f.now) (machine_of env.now) (output_of out)) }
     ensures tested { OnOk result (IsWellFormed (machine_of env.now) (F.function f.now)) }
-    ensures owed { OnOk result (PassesAllChecks (F.function f.now) (machine_of env.now) options.now.validate_ssa) }
+    ensures passes_checks { OnOk result (PassesAllChecks (F.function f.now) (machine_of env.now) options.now.validate_ssa) }
     ensures refused { IfErr result (IsReason (F.function f.now) (machine_of env.now) options.now.validate_ssa) }
     ensures many_operands { (result ≡ Err RegAllocError.TooManyOperands) ↔ (2 ^ 32 ≤ operand_count (F.function f.now)) }
 {
@@ -138,7 +138,7 @@ pub fn run_into_ctx<A: Allocator + Copy, F: Function, B: Allocator>(
     requires well_formed { options.now.validate_ssa ≡ false → IsWellFormed (machine_of env.now) (F.function f.now) }
     ensures allocation { OnOk result (IsAllocation (F.function f.now) (machine_of env.now) (output_of ctx.new.output)) }
     ensures tested { OnOk result (IsWellFormed (machine_of env.now) (F.function f.now)) }
-    ensures owed { OnOk result (PassesAllChecks (F.function f.now) (machine_of env.now) options.now.validate_ssa) }
+    ensures passes_checks { OnOk result (PassesAllChecks (F.function f.now) (machine_of env.now) options.now.validate_ssa) }
     ensures refused { IfErr result (IsReason (F.function f.now) (machine_of env.now) options.now.validate_ssa) }
     ensures many_operands { (result ≡ Err RegAllocError.TooManyOperands) ↔ (2 ^ 32 ≤ operand_count (F.function f.now)) }
     ensures kept { OnErr result (ctx.new.output ≡ ctx.old.output) }
@@ -160,7 +160,7 @@ pub fn run_with_ctx<'c, A: Allocator + Copy, F: Function, B: Allocator>(
     requires well_formed { options.now.validate_ssa ≡ false → IsWellFormed (machine_of env.now) (F.function f.now) }
     ensures allocation { IfOk result (λ out. IsAllocation (F.function f.now) (machine_of env.now) (output_of out.now)) }
     ensures tested { OnOk result (IsWellFormed (machine_of env.now) (F.function f.now)) }
-    ensures owed { OnOk result (PassesAllChecks (F.function f.now) (machine_of env.now) options.now.validate_ssa) }
+    ensures passes_checks { OnOk result (PassesAllChecks (F.function f.now) (machine_of env.now) options.now.validate_ssa) }
     ensures refused { IfErr result (IsReason (F.function f.now) (machine_of env.now) options.now.validate_ssa) }
     ensures many_operands { (result ≡ Err RegAllocError.TooManyOperands) ↔ (2 ^ 32 ≤ operand_count (F.function f.now)) }
 {

@@ -5,7 +5,7 @@ use Rattle.regalloc2_names.specs.Register.{Register, VirtualRegister}
 use Rattle.regalloc2_names.specs.RegisterSet.{has_register}
 use Rattle.regalloc2_names.specs.Place.{Place, NoPlace, is_place}
 use Rattle.regalloc2_fastalloc_state.specs.declared.inst_regs.InstRegs.{InstRegs}
-use Rattle.regalloc2_fastalloc_state.specs.StateParts.{alloc_of, vreg_of_preg, GetsSpillSlot, SetsAlloc}
+use Rattle.regalloc2_fastalloc_state.specs.StateParts.{IsNewest, alloc_of, vreg_of_preg, GetsSpillSlot, SetsAlloc}
 use Rattle.regalloc2_fastalloc_proofs.specs.InstSteps.{StateValue, SameMachine, EvictsPReg, AddsMoveIf}
 
 -- a parameter of the block: it comes in its slot, and has no location before
@@ -25,10 +25,10 @@ pub data ReloadsParams (point : ℕ) (params : List VirtualRegister) (t : InstRe
   one_begun : (k : ℕ) (u w : InstRegs) (m n : StateValue) → k < length params → ReloadsParams point params t old k u m →
       ReloadsParam point (slice_index_or params k no_vreg) u w m n → ReloadsParams point params t old (k + 1) w n
 
--- registers in which a vreg is located are emptied, one after another
+-- registers in which a vreg is located are emptied, one after another, the one to which a vreg came last first
 pub data ReloadsRegs (point : ℕ) (t : InstRegs) (old : StateValue) : InstRegs → StateValue → Type 0 where
   none_emptied : ReloadsRegs point t old t old
-  one_emptied : (r : Register) (u w : InstRegs) (m n : StateValue) → ReloadsRegs point t old u m → vreg_of_preg m.places r ≢ None → EvictsPReg point r u w m n →
+  one_emptied : (r : Register) (u w : InstRegs) (m n : StateValue) → ReloadsRegs point t old u m → IsNewest m.places r → EvictsPReg point r u w m n →
       ReloadsRegs point t old w n
 
 -- The beginning of a block: its parameters come in their slots, and so does each vreg that is in a register behind.

@@ -44,6 +44,7 @@ module _ {F : Type 0} (g : Mut F (Unit {0}) (Option Place)) (f : F) (pair : Scra
       (split_head b [] x rest)) (split_head a (b ∷ []) x c)
   which (a ∷ b ∷ d ∷ rest) f' few calls x c = absurd (omega arith)
 
+  -- where no place was handed out, the pair lacks one
   pub is_short : (f' : F) (asked : Asked (λ s a t. Called g s tt a t) f f') → Contains asked.answers None → HasTooFewSlots pair
   is_short f' asked c = ⊎_elim (λ e. inl (sym e)) (λ e. inr (sym e)) (which asked.answers f' asked.few asked.calls None c)
 
@@ -99,6 +100,7 @@ not_both b y n = let e : true ≡ false = sym y ∙ n in cc
 module _ {F G H : Type 0} (r : Mut F (Unit {0}) (Option Place)) (s : Mut G (Unit {0}) (Option Place)) (m : Shared H (Place × Unit {0}) Bool) (f : F) (g : G)
     (h : H) (l : ScratchPool) (given : Moves)
     (i : YieldsInOrder r f l.registers) (j : YieldsInOrder s g l.slots) (tells : DecidesStack m h l.fixed_stack) (serves : IsUsableFor l given) where
+  -- closures that yield the pool's registers and slots in order keep what the resolver is owed
   pub owes_lent : (borrowed : Register) → borrowed ≡ l.borrowed → Owes (λ x a y. Called r x tt a y) (λ x a y. Called s x tt a y) (λ p b. m.post h (p, tt) b)
       (InRegister borrowed) given f g
   owes_lent borrowed is = record {
@@ -138,6 +140,7 @@ module _ {F G H : Type 0} (r : Mut F (Unit {0}) (Option Place)) (s : Mut G (Unit
     lent_end borrowed is p (inl (inr c)) = inr (inl (slots_handed p c))
     lent_end borrowed is p (inr e) = inr (inr (e ∙ ap InRegister is))
 
+    -- what the resolver computed with such closures is ordered with the registers and the slots that were taken
     pub made_with : (borrowed : Register) → borrowed ≡ l.borrowed → (scratch : Bool) (made : Moves) →
         IsComputed (λ p b. m.post h (p, tt) b) (InRegister borrowed) (IsAnswered asked.answers slots_asked.answers) scratch given made
         → IsOrderedWith l taken given made

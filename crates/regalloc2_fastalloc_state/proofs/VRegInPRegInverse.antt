@@ -1,15 +1,19 @@
 -- The two tables of places stay inverse.
-use Rattle.std.proofs.Common.{ℕ, ◌≡◌, ◌≢◌, ◌<◌, Bool, true, false, cond, List, length, refl, sym, ap, ◌∙◌, ◌⊎◌, inl, inr, ⊎_elim, nat_eq, eqb-true}
-use Rattle.std.proofs.Common.{eq-eqb, slice_index_or, set, subst, get_or-set_same}
+use Rattle.std.proofs.Common.{ℕ, ◌≡◌, ◌≢◌, ◌<◌, Bool, true, false, cond, List, ◌∷◌, not, length, refl, sym, ap, ◌∙◌, ◌⊎◌, inl, inr, ⊎_elim, nat_eq, eqb-true}
+use Rattle.std.proofs.Common.{eq-eqb, slice_index_or, set, subst, get_or-set_same, arith}
 use Rattle.std.specs.Prelude.{Option, None, Some}
 use Rattle.std.proofs.lemmas.List.{get_or-set_other}
 use Rattle.std.proofs.Math.ListN.{length-set}
 use Rattle.regalloc2_names.specs.Register.{Register, VirtualRegister}
 use Rattle.regalloc2_names.specs.RegisterBits.{bits_of_register}
-use Rattle.regalloc2_names.specs.Place.{Place, NoPlace, InRegister, is_place}
+use Rattle.std.specs.Prelude.{Contains}
+use Rattle.std.proofs.lemmas.List.Elements.{Contains-get_or}
+use Rattle.regalloc2_names.specs.Place.{Place, NoPlace, InRegister, InSlot, is_in_register, is_place, register_of_place}
 use Rattle.regalloc2_semantics.proofs.Cells.{is_place-true, is_place-same, is_place-other}
 use Rattle.regalloc2_semantics.proofs.Plain.{chosen, no_some}
-use Rattle.regalloc2_fastalloc_state.specs.StateParts.{VRegAllocsValue, IsInverse, SetsAlloc, SetsVRegInPReg, alloc_of, vreg_of_preg}
+use Rattle.regalloc2_fastalloc_state.specs.StateParts.{VRegAllocsValue, IsInverse, SetsAlloc, SetsVRegInPReg, HasIf, IsNewest, alloc_of, vreg_of_preg}
+use Rattle.regalloc2_fastalloc_state.specs.StateParts.{without, in_front_if}
+use Rattle.regalloc2_fastalloc_state.proofs.TakenOut.{left_in, in_front, front_or_rest, member_kept, passes_other}
 
 -- a test is true or false
 pub whether : (b : Bool) → (b ≡ true) ⊎ (b ≡ false)
@@ -26,6 +30,12 @@ same_number n m = ⊎_elim
     (λ (t : nat_eq n m ≡ true). inl (eqb-true n m t))
     (λ (t : nat_eq n m ≡ false). inr (λ (q : n ≡ m). let s : nat_eq n m ≡ true = eq-eqb n m q in absurd cc))
     (whether (nat_eq n m))
+
+-- a place that is a register
+pub in_one : (p : Place) → is_in_register p ≡ true → (r : Register) × (p ≡ InRegister r)
+in_one NoPlace e = absurd cc
+in_one (InRegister r) e = (r, refl)
+in_one (InSlot n) e = absurd cc
 
 -- the tables after a vreg's location was set, read from the register
 pub after_settling : (t u : VRegAllocsValue) (v w : VirtualRegister) (p : Place) (r : Register) → r.number < 64 → IsInverse t → SetsAlloc t u v p →
@@ -81,6 +91,27 @@ inverse_kept t u v p known long small alone i s = record {
       let w = i.vreg_allocs n r was in
       (w.0, w.1, still t u v w.0 p n r (i.small n r was) alone i s q w.1 w.2))
       (same_number n v.number);
+  listed = λ r w lt h. subst (λ (vs : List VirtualRegister). Contains vs w) (sym s.order)
+      (in_front (is_in_register p) v (without v.number t.in_registers) w (⊎_elim
+      (λ (a : (w ≡ v) × (p ≡ InRegister r)). inl (a.0, ap is_in_register a.1))
+      (λ (a : (w.number ≢ v.number) × (vreg_of_preg t r ≡ Some w)). inr (member_kept (λ x. not (nat_eq x.number v.number)) t.in_registers w
+      (i.listed r w lt a.1) (passes_other v.number w a.0)))
+      (after_settling t u v w p r lt i s h)));
+  only = λ w h. ⊎_elim
+      (λ (a : (w ≡ v) × (is_in_register p ≡ true)).
+      let q = in_one p a.1 in
+      let yes : is_place p (InRegister q.0) ≡ true = ap (λ (x : Place). is_place x (InRegister q.0)) q.1 ∙ is_place-same (InRegister q.0) in
+      let lt = small q.0 q.1 in (
+        q.0,
+        lt,
+        s.holders q.0 lt ∙ ap (λ (b : Bool). cond b (Some v) (cond (is_place (alloc_of t v.number) (InRegister q.0)) None (vreg_of_preg t q.0))) yes
+            ∙ ap Some (sym a.0),
+      ))
+      (λ (a : Contains (without v.number t.in_registers) w).
+      let l = left_in v.number t.in_registers w a in
+      let x = i.only w l.0 in
+      (x.0, x.1, still t u v w p w.number x.0 x.1 alone i s l.1 refl x.2))
+      (front_or_rest (is_in_register p) v (without v.number t.in_registers) w (subst (λ (vs : List VirtualRegister). Contains vs w) s.order h));
 }
   where
     still : (t u : VRegAllocsValue) (v w : VirtualRegister) (p : Place) (n : ℕ) (r : Register) → r.number < 64
@@ -101,25 +132,57 @@ inverse_kept t u v p known long small alone i s = record {
         s.holders r lt ∙ rw (a, b) h
 
 -- one register is emptied, and another filled
-pub settles_by_marks : (T : List Place) (H H1 H2 : List (Option VirtualRegister)) (v : VirtualRegister) (n : ℕ) (p q : Place) → n ≡ v.number → n < length T
+pub settles_by_marks : (T : List Place) (H H1 H2 : List (Option VirtualRegister)) (L L2 : List VirtualRegister) (v : VirtualRegister) (n : ℕ) (p q : Place) →
+    n ≡ v.number → n < length T
     → q ≡ slice_index_or T n NoPlace → SetsVRegInPReg H H1 q None → SetsVRegInPReg H1 H2 p (Some v)
-    → SetsAlloc (record { vreg_allocs = T; vreg_in_preg = H }) (record { vreg_allocs = set T n p; vreg_in_preg = H2 }) v p
-settles_by_marks T H H1 H2 v n p q e known left m1 m2 = record {
+    → L2 ≡ in_front_if (is_in_register p) v (without n L)
+    → SetsAlloc (record { vreg_allocs = T; vreg_in_preg = H; in_registers = L }) (record { vreg_allocs = set T n p; vreg_in_preg = H2; in_registers = L2 }) v p
+settles_by_marks T H H1 H2 L L2 v n p q e known left m1 m2 order = record {
   long = length-set T n p;
   here = (let P : ℕ → Type 0 = λ k. slice_index_or (set T n p) k NoPlace ≡ p in subst P e (get_or-set_same T n p NoPlace known));
   others = λ k d. get_or-set_other T n k p NoPlace (λ x. d (x ∙ e));
   holders = λ r lt. m2.each r lt ∙ ap (λ (x : Option VirtualRegister). cond (is_place p (InRegister r)) (Some v) x)
       (m1.each r lt ∙ ap (λ (x : Place). cond (is_place x (InRegister r)) None (slice_index_or H (bits_of_register r) None))
       (left ∙ ap (λ (k : ℕ). slice_index_or T k NoPlace) e));
+  order = order ∙ ap (λ (k : ℕ). in_front_if (is_in_register p) v (without k L)) e;
 }
 
--- the same for the tables as code writes them: the old preg emptied, the new one filled, and the new location set
-pub inverse_marked : (T : List Place) (H H1 H2 : List (Option VirtualRegister)) (v : VirtualRegister) (n : ℕ) (p q : Place) → n ≡ v.number → n < length T
+-- the same for the tables as code writes them: the old preg emptied, the new one filled, the list told, and the new location set
+pub inverse_marked : (T : List Place) (H H1 H2 : List (Option VirtualRegister)) (L L2 : List VirtualRegister) (v : VirtualRegister) (n : ℕ) (p q : Place) →
+    n ≡ v.number → n < length T
     → q ≡ slice_index_or T n NoPlace → SetsVRegInPReg H H1 q None → SetsVRegInPReg H1 H2 p (Some v)
+    → L2 ≡ in_front_if (is_in_register p) v (without n L)
     → ((r : Register) → p ≡ InRegister r → r.number < 64)
     → ((r : Register) → p ≡ InRegister r → (slice_index_or H (bits_of_register r) None ≡ None) ⊎ (slice_index_or H (bits_of_register r) None ≡ Some v))
-    → IsInverse (record { vreg_allocs = T; vreg_in_preg = H }) → IsInverse (record { vreg_allocs = set T n p; vreg_in_preg = H2 })
-inverse_marked T H H1 H2 v n p q e known left m1 m2 small alone i =
-    inverse_kept (record { vreg_allocs = T; vreg_in_preg = H }) (record { vreg_allocs = set T n p; vreg_in_preg = H2 }) v p (rw (← e) known)
-    (m2.long ∙ m1.long ∙ i.registers) small alone i
-    (settles_by_marks T H H1 H2 v n p q e known left m1 m2)
+    → IsInverse (record { vreg_allocs = T; vreg_in_preg = H; in_registers = L })
+    → IsInverse (record { vreg_allocs = set T n p; vreg_in_preg = H2; in_registers = L2 })
+inverse_marked T H H1 H2 L L2 v n p q e known left m1 m2 order small alone i =
+    inverse_kept (record { vreg_allocs = T; vreg_in_preg = H; in_registers = L }) (record { vreg_allocs = set T n p; vreg_in_preg = H2; in_registers = L2 }) v p
+    (rw (← e) known) (m2.long ∙ m1.long ∙ i.registers) small alone i
+    (settles_by_marks T H H1 H2 L L2 v n p q e known left m1 m2 order)
+
+-- the vreg of a number is in the list exactly if it is in a register
+pub listed_if : (t : VRegAllocsValue) (n : ℕ) (p : Place) → p ≡ alloc_of t n → IsInverse t → HasIf (is_in_register p) t.in_registers n
+listed_if t n p e i = record {
+  has = λ yes.
+      let q = in_one p yes in
+      let there : alloc_of t n ≡ InRegister q.0 = sym e ∙ q.1 in
+      let w = i.vreg_allocs n q.0 there in
+      let h = i.listed q.0 w.0 (i.small n q.0 there) w.2 in (h.0, w.0, h.1, h.2, w.1);
+  absent = λ no k d less same.
+      let w : VirtualRegister = slice_index_or t.in_registers k d in
+      let x = i.only w (Contains-get_or t.in_registers k d less) in
+      let at : p ≡ InRegister x.0 = e ∙ ap (alloc_of t) (sym same) ∙ i.holds x.0 w x.1 x.2 in
+      let yes : is_in_register p ≡ true = ap is_in_register at in absurd cc;
+}
+
+-- the register of the vreg that is first in the list
+pub newest_in : (t : VRegAllocsValue) (v : VirtualRegister) (rest : List VirtualRegister) (p : Place) (o : Option Register) → IsInverse t →
+    t.in_registers ≡ v ∷ rest → p ≡ alloc_of t v.number → o ≡ register_of_place p → (r : Register) × (o ≡ Some r) × IsNewest t r
+newest_in t v rest p o i e at is =
+    let x = i.only v (rw e (0, omega arith, refl)) in
+    let there : p ≡ InRegister x.0 = at ∙ i.holds x.0 v x.1 x.2 in (
+      x.0,
+      is ∙ ap register_of_place there,
+      record { vreg = v; rest = rest; newest = e; small = x.1; held = x.2 },
+    )

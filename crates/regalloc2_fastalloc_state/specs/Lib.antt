@@ -1,4 +1,3 @@
-pub mod FillOrder
 pub mod OutOfResources
 pub mod ScratchPool
 pub mod StateParts

@@ -1,6 +1,7 @@
 -- The allocator's tables, as contracts see them.
-use Rattle.std.specs.Prelude.{ℕ, ◌≡◌, ◌≢◌, ◌+◌, ◌-◌, ◌*◌, ◌<◌, ◌≤◌, Bool, true, false, not, List, [], All, Contains, length, replicate, slice_index}
-use Rattle.std.specs.Prelude.{slice_index_or, Option, None, Some, if◌then◌else◌, ◌&&◌, ◌↔◌, nat_lt, is_none}
+use Rattle.std.specs.Prelude.{ℕ, ◌≡◌, ◌≢◌, ◌+◌, ◌-◌, ◌*◌, ◌<◌, ◌≤◌, Bool, true, false, not, List, [], ◌∷◌, All, Any, Contains, filter}
+use Rattle.std.specs.Prelude.{length, replicate, slice_index}
+use Rattle.std.specs.Prelude.{slice_index_or, Option, None, Some, if◌then◌else◌, ◌&&◌, ◌↔◌, ◌==◌, nat_lt, is_none}
 use Rattle.std.specs.Int.{next_multiple_of}
 use Rattle.std.specs.List.{count_by}
 use Rattle.regalloc2_names.specs.declared.RegClass.{RegClass}
@@ -13,12 +14,13 @@ use Rattle.regalloc2_names.specs.Register.{Register, VirtualRegister}
 use Rattle.regalloc2_names.specs.RegisterBits.{bits_of_register}
 use Rattle.regalloc2_names.specs.declared.sets.PRegSet.{PRegSet}
 use Rattle.regalloc2_names.specs.RegisterSet.{has_register}
-use Rattle.regalloc2_names.specs.Place.{Place, NoPlace, InRegister, InSlot, is_place, is_no_place}
+use Rattle.regalloc2_names.specs.Place.{Place, NoPlace, InRegister, InSlot, is_place, is_in_register, is_no_place}
 
--- where the vregs are located, by number, and which vreg is in each register, by index
+-- where the vregs are located, by number; which vreg is in each register, by index; and the vregs that are in registers, the one that came last first
 pub record VRegAllocsValue : Type 0 where
   pub vreg_allocs : List Place
   pub vreg_in_preg : List (Option VirtualRegister)
+  pub in_registers : List VirtualRegister
 
 -- the place where the vreg of a number is located
 abbrev pub alloc_of : VRegAllocsValue → ℕ → Place
@@ -28,25 +30,48 @@ alloc_of t n = slice_index_or t.vreg_allocs n NoPlace
 abbrev pub vreg_of_preg : VRegAllocsValue → Register → Option VirtualRegister
 vreg_of_preg t r = slice_index_or t.vreg_in_preg (bits_of_register r) None
 
--- each table is the inverse of the other
+-- each table is the inverse of the other, and the list has the vregs that are in registers
 pub record IsInverse (t : VRegAllocsValue) : Type 0 where
   pub registers : length t.vreg_in_preg ≡ 256
   pub small : (n : ℕ) (r : Register) → alloc_of t n ≡ InRegister r → r.number < 64
   pub known : (r : Register) (v : VirtualRegister) → r.number < 64 → vreg_of_preg t r ≡ Some v → v.number < length t.vreg_allocs
   pub holds : (r : Register) (v : VirtualRegister) → r.number < 64 → vreg_of_preg t r ≡ Some v → alloc_of t v.number ≡ InRegister r
   pub vreg_allocs : (n : ℕ) (r : Register) → alloc_of t n ≡ InRegister r → (v : VirtualRegister) × (v.number ≡ n) × (vreg_of_preg t r ≡ Some v)
+  pub listed : (r : Register) (v : VirtualRegister) → r.number < 64 → vreg_of_preg t r ≡ Some v → Contains t.in_registers v
+  pub only : (v : VirtualRegister) → Contains t.in_registers v → (r : Register) × (r.number < 64) × (vreg_of_preg t r ≡ Some v)
+
+-- of the registers in which vregs are, the one to which a vreg came last
+pub record IsNewest (t : VRegAllocsValue) (r : Register) : Type 0 where
+  pub vreg : VirtualRegister
+  pub rest : List VirtualRegister
+  pub newest : t.in_registers ≡ vreg ∷ rest
+  pub small : r.number < 64
+  pub held : vreg_of_preg t r ≡ Some vreg
+
+-- a list without the vreg of a number; and with a vreg in front of it, on a condition
+abbrev pub without : ℕ → List VirtualRegister → List VirtualRegister
+without n vregs = filter (λ v. not (v.number == n)) vregs
+
+abbrev pub in_front_if : Bool → VirtualRegister → List VirtualRegister → List VirtualRegister
+in_front_if b v vregs = if b then v ∷ vregs else vregs
+
+-- a list has the vreg of a number exactly on a condition
+pub record HasIf (b : Bool) (vregs : List VirtualRegister) (n : ℕ) : Type 0 where
+  pub has : b ≡ true → Any (λ v. v.number ≡ n) vregs
+  pub absent : b ≡ false → All (λ v. v.number ≢ n) vregs
 
 -- no vreg has a location, of so many vregs
 abbrev pub no_allocs : ℕ → VRegAllocsValue
-no_allocs n = record { vreg_allocs = replicate n NoPlace; vreg_in_preg = replicate 256 None }
+no_allocs n = record { vreg_allocs = replicate n NoPlace; vreg_in_preg = replicate 256 None; in_registers = [] }
 
--- the vreg is located at the place from now on, and nowhere else
+-- the vreg is located at the place from now on, and nowhere else; in a register it is the one that came last
 pub record SetsAlloc (old new : VRegAllocsValue) (v : VirtualRegister) (p : Place) : Type 0 where
   pub long : length new.vreg_allocs ≡ length old.vreg_allocs
   pub here : alloc_of new v.number ≡ p
   pub others : (n : ℕ) → n ≢ v.number → alloc_of new n ≡ alloc_of old n
   pub holders : (r : Register) → r.number < 64 →
       vreg_of_preg new r ≡ (if is_place p (InRegister r) then Some v else if is_place (alloc_of old v.number) (InRegister r) then None else vreg_of_preg old r)
+  pub order : new.in_registers ≡ in_front_if (is_in_register p) v (without v.number old.in_registers)
 
 -- a register of the table is given a vreg, or none; another place changes nothing
 pub record SetsVRegInPReg (old new : List (Option VirtualRegister)) (p : Place) (v : Option VirtualRegister) : Type 0 where

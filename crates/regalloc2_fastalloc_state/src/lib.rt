@@ -4,7 +4,6 @@
 
 pub mod allocatable;
 pub mod edits;
-pub mod fill_order;
 pub mod inst_regs;
 pub mod request;
 pub mod scratch_pool;

@@ -1,13 +1,13 @@
 //! The locations of vregs.
 
-ghost use Rattle.std.specs.Prelude.{◌≡◌, ◌≢◌, ℕ, ◌<◌, ◌≤◌, ◌⊎◌, length, IfOk, IfErr, OnOk, Option};
-ghost use Rattle.regalloc2_names.specs.Place.{Place, NoPlace, InRegister, is_place};
+ghost use Rattle.std.specs.Prelude.{◌≡◌, ◌≢◌, ℕ, ◌<◌, ◌≤◌, ◌⊎◌, [], All, length, IfOk, IfErr, IfSome, IfNone, Option};
+ghost use Rattle.regalloc2_names.specs.Place.{Place, NoPlace, InRegister, is_in_register, is_place};
 ghost use Rattle.regalloc2_names.specs.Register.{Register};
-ghost use Rattle.regalloc2_fastalloc_state.specs.FillOrder.{IsListed};
-ghost use Rattle.regalloc2_fastalloc_state.specs.StateParts.{IsInverse, alloc_of, vreg_of_preg, SetsAlloc, SetsVRegInPReg, no_allocs};
+ghost use Rattle.regalloc2_fastalloc_state.specs.StateParts.{IsInverse, IsNewest, alloc_of, vreg_of_preg, SetsAlloc, SetsVRegInPReg, no_allocs};
+ghost use Rattle.regalloc2_fastalloc_state.specs.StateParts.{HasIf, in_front_if, without};
 
-use super::fill_order::{FillOrder, FilledReg};
 use regalloc2_names::{Allocation, PReg, RegAllocError, VReg};
+use regalloc2_parts::vregset::VRegSet;
 use std::alloc::Allocator;
 use std::marker::Model;
 
@@ -19,35 +19,37 @@ pub struct VRegAllocs<A: Allocator> {
     vreg_allocs: Vec<Allocation, A>,
     /// By register index.
     vreg_in_preg: Vec<Option<VReg>, A>,
-    /// The registers in which vregs are located.
-    fill_order: FillOrder<A>,
+    /// The vregs that are in registers, the one that came last first.
+    in_registers: VRegSet<A>,
 }
 
 impl<A: Allocator> Model for VRegAllocs<A> {
-    ghost use Rattle.regalloc2_fastalloc_state.specs.FillOrder.{TracksFilled};
+    ghost use Rattle.std.specs.Prelude.{◌≡◌, length};
     ghost use Rattle.regalloc2_fastalloc_state.specs.StateParts.{VRegAllocsValue, IsInverse};
 
     ghost Value = { VRegAllocsValue };
 
-    ghost view = { λ t. record { vreg_allocs = t.vreg_allocs.items; vreg_in_preg = t.vreg_in_preg.items } };
+    ghost view = { λ t. record { vreg_allocs = t.vreg_allocs.items; vreg_in_preg = t.vreg_in_preg.items; in_registers = t.in_registers.members } };
 
-    ghost invariant = { λ t. IsInverse (record { vreg_allocs = t.vreg_allocs.items; vreg_in_preg = t.vreg_in_preg.items })
-        × TracksFilled t.fill_order t.vreg_in_preg.items };
+    ghost invariant = { λ t.
+        IsInverse (record { vreg_allocs = t.vreg_allocs.items; vreg_in_preg = t.vreg_in_preg.items; in_registers = t.in_registers.members })
+        × (t.in_registers.capacity ≡ length t.vreg_allocs.items) };
 }
 
 impl<A: Allocator + Copy> VRegAllocs<A> {
     /// Tables for so many vregs, in which no vreg has a location.
     pub fn new(alloc: A, vregs: usize) -> Result<Self, RegAllocError>
+        requires { vregs ≤ 1073741824 }
         ensures empty { IfOk result (λ t. t ≡ no_allocs vregs) }
         ensures err { IfErr result (λ e. e ≡ RegAllocError.Memory) }
     {
         let vreg_allocs = vec![in alloc; Allocation::none(); vregs]?;
         let vreg_in_preg = vec![in alloc; None; PReg::NUM_INDEX]?;
-        let fill_order = FillOrder::new(alloc)?;
+        let in_registers = VRegSet::with_capacity(alloc, vregs)?;
         Ok(VRegAllocs {
             vreg_allocs,
             vreg_in_preg,
-            fill_order,
+            in_registers,
         })
     }
 }
@@ -64,6 +66,27 @@ fn set_vreg_in_preg<A: Allocator>(
 {
     if let Some(preg) = place.as_reg() {
         vreg_in_preg[preg.index()] = vreg;
+    }
+}
+
+/// The vreg with this number, which is in the list if the place that it leaves is a register, is out of it from now on.
+fn take_out<A: Allocator>(in_registers: &mut VRegSet<A>, left: Allocation, number: usize)
+    requires { HasIf (is_in_register left) in_registers.old.members number }
+    ensures { in_registers.new ≡ record in_registers.old { members = without number in_registers.old.members } }
+{
+    if left.is_reg() {
+        in_registers.remove(number);
+    }
+}
+
+/// If the place is a register, the vreg, which isn't in the list, is in front from now on.
+fn put_in_front<A: Allocator>(in_registers: &mut VRegSet<A>, place: Allocation, vreg: VReg)
+    requires below { vreg.number < in_registers.old.capacity }
+    requires absent { All (λ v. v.number ≢ vreg.number) in_registers.old.members }
+    ensures { in_registers.new ≡ record in_registers.old { members = in_front_if (is_in_register place) vreg in_registers.old.members } }
+{
+    if place.is_reg() {
+        in_registers.insert(vreg);
     }
 }
 
@@ -86,15 +109,14 @@ impl<A: Allocator> VRegAllocs<A> {
         self.vreg_in_preg[preg.index()]
     }
 
-    /// Lists the registers in which vregs are located, the one to which a vreg came last at the end.
-    pub fn list_by_fill_order<B: Allocator>(
-        &self,
-        order: &mut Vec<FilledReg, B>,
-    ) -> Result<(), RegAllocError>
-        ensures listed { OnOk result ((r : Register) → r.number < 64 → vreg_of_preg self.now r ≢ None → IsListed order.new.items r) }
-        ensures err { IfErr result (λ e. e ≡ RegAllocError.Memory) }
+    /// The register to which a vreg came last, of those in which vregs are.
+    pub fn newest_filled(&self) -> Option<PReg>
+        ensures some { IfSome result (λ r. IsNewest self.now r) }
+        ensures none { IfNone result (self.now.in_registers ≡ []) }
+        ensures inverse { IsInverse self.now }
     {
-        self.fill_order.list(order)
+        let vreg = self.in_registers.iter().next()?;
+        self.vreg_allocs[vreg.vreg()].as_reg()
     }
 
     /// The vreg is located at the place from now on, and nowhere else.
@@ -108,8 +130,8 @@ impl<A: Allocator> VRegAllocs<A> {
         let left = self.vreg_allocs[number];
         set_vreg_in_preg(&mut self.vreg_in_preg, left, None);
         set_vreg_in_preg(&mut self.vreg_in_preg, place, Some(vreg));
-        self.fill_order.note_empty(left);
-        self.fill_order.note_filled(place);
+        take_out(&mut self.in_registers, left, number);
+        put_in_front(&mut self.in_registers, place, vreg);
         self.vreg_allocs[number] = place;
     }
 }

@@ -1,7 +1,7 @@
 -- Functions of one block with registers for all vregs: instruction after instruction no move is made, and no slot.
 use Rattle.std.proofs.Common.{ℕ, ◌≡◌, ◌≢◌, ◌+◌, ◌<◌, ◌≤◌, inl, inr, Bool, true, false, List, [], ◌∷◌, length, refl, arith, sym}
 use Rattle.std.proofs.Common.{ap, ◌∙◌, subst}
-use Rattle.std.specs.Prelude.{None, Option, Some, is_some, Contains, slice_index_or, not}
+use Rattle.std.specs.Prelude.{None, Contains, slice_index_or, not}
 use Rattle.std.specs.List.{IsDistinct}
 use Rattle.std.proofs.lemmas.Bool.{and_parts, cases_Bool}
 use Rattle.std.proofs.lemmas.List.Elements.{Contains-append_right}
@@ -23,7 +23,7 @@ use Rattle.regalloc2_semantics.proofs.SingleDef.{DefinesAt, MadeBefore, by_earli
 use Rattle.regalloc2_fastalloc_state.proofs.VRegInPRegInverse.{same_number}
 use Rattle.regalloc2_fastalloc_state.specs.declared.inst_regs.InstRegs.{InstRegs}
 use Rattle.regalloc2_fastalloc_state.specs.ScratchPool.{Moves}
-use Rattle.regalloc2_fastalloc_state.specs.StateParts.{IsInverse, IsLruOf, VRegAllocsValue, AllocatableRegsValue, vreg_of_preg, lru_of, slot_name, alloc_of}
+use Rattle.regalloc2_fastalloc_state.specs.StateParts.{IsLruOf, AllocatableRegsValue, lru_of, slot_name, alloc_of}
 use Rattle.regalloc2_fastalloc_state.specs.InstRegs.{is_free_throughout}
 use Rattle.regalloc2_validate.specs.Constraints.{op_at}
 use Rattle.regalloc2_fastalloc_proofs.specs.InstSteps.{StateValue, EvictsEach, EvictsFixed, RemovesClobbers, MovesUses, ReservesRegs}
@@ -375,13 +375,6 @@ begins_uncrowded f names regs t nobody edits slots count same apart lrus = recor
     };
   };
 }
-
--- no vreg is in a register where no vreg has a location
-pub no_vreg_there : (places : VRegAllocsValue) (r : Register) (v : Option VirtualRegister) → ((n : ℕ) → alloc_of places n ≡ NoPlace) → IsInverse places →
-    r.number < 64 → v ≡ vreg_of_preg places r → is_some v ≡ true → ⊥
-no_vreg_there places r None nobody inverse small is some = cc
-no_vreg_there places r (Some w) nobody inverse small is some = (let wrong : InRegister r ≡ NoPlace = sym (inverse.holds r w small (sym is)) ∙ nobody w.number in
-    cc)
 
 -- an edge leads to a block
 pub edge_block : (f : FunctionValue) (env : MachineValue) → IsWellFormed env f → (b k : ℕ) → b < length f.blocks → HasEdge f b k →

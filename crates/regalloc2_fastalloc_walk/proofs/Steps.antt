@@ -25,7 +25,8 @@ step_ok {at = at} a b same step =
     record { machine = step.machine; later = subst (λ (p : ℕ). AllAtOrAfter p b.edits) same step.later; long = step.long; err = search rules }
 
 -- the state is another with the same tables
-pub step_same : {A T : Type 0} {point : ℕ} (r : Result T RegAllocError) (a b c : State A) → tables_of c ≡ tables_of b → IsStepAt point r a b → IsStepAt point r a c
+pub step_same : {A T : Type 0} {point : ℕ} (r : Result T RegAllocError) (a b c : State A) → tables_of c ≡ tables_of b → IsStepAt point r a b →
+    IsStepAt point r a c
 step_same {point = point} r a b c same step = record {
   machine = subst (SameMachine (tables_of a)) (sym same) step.machine;
   later = subst (λ (t : StateValue). OnOk r (AllAtOrAfter point t.edits)) (sym same) step.later;
@@ -33,7 +34,7 @@ step_same {point = point} r a b c same step = record {
   err = subst (λ (t : StateValue). IfErr r (IsResourceErrorIn t.slots)) (sym same) step.err;
 }
 
--- a step that fails, for want of a resource
+-- a step that fails, since registers, slots or memory are out
 pub fails_with : {A T : Type 0} {at : ℕ} {e d : RegAllocError} (r : Result T RegAllocError) (a b : State A) → r ≡ Err d → d ≡ e
     → SameMachine (tables_of a) (tables_of b) → IsResourceErrorIn b.slots e → IsStepAt at r a b
 fails_with r a b is same kept lacks = rw is (rw same (record { machine = kept; later = search rules; long = search rules; err = lacks }))

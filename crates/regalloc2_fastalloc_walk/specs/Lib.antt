@@ -1,3 +1,4 @@
+pub mod OperandsAt
 pub mod ReserveSteps
 pub mod StateView
 pub mod SpillFree

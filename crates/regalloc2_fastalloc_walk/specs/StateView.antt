@@ -18,7 +18,7 @@ tables_of s = record {
 }
 
 -- a step of the walk that pushes edits at a point: the machine's registers and the sizes and numbers of the slots stay, also where it fails; where it
--- succeeds, each edit is at the point or after it, and there are locations for as many vregs as before; it fails for want of a resource alone
+-- succeeds, each edit is at the point or after it, and there are locations for as many vregs as before; it fails only where registers, slots or memory are out
 pub record IsStepAt {A T : Type 0} (point : ℕ) (result : Result T RegAllocError) (old new : State A) : Type 0 where
   pub machine : SameMachine (tables_of old) (tables_of new)
   pub later : OnOk result (AllAtOrAfter point new.edits)

@@ -12,7 +12,6 @@ ghost use Rattle.regalloc2_fastalloc_state.specs.StateParts.{AllAtOrAfter, vreg_
 use super::inst::differ;
 use super::operand::PlaceMove;
 use super::state::State;
-use regalloc2_fastalloc_state::fill_order::FilledReg;
 use regalloc2_fastalloc_state::inst_regs::InstRegs;
 use regalloc2_index::Inst;
 use regalloc2_names::{Allocation, ProgPoint, RegAllocError, VReg};
@@ -72,13 +71,11 @@ impl<'a, A: Allocator> State<'a, A> {
         Ok(())
     }
 
-    /// Each vreg in a register is reloaded from its slot, the one that came to a register last first. `order` is room for a
-    /// list.
-    fn reload_regs<B: Allocator>(
+    /// Each vreg in a register is reloaded from its slot, the one that came to a register last first.
+    fn reload_regs(
         &mut self,
         inst_regs: &mut InstRegs,
         point: ProgPoint,
-        order: &mut Vec<FilledReg, B>,
     ) -> Result<(), RegAllocError>
         requires { AllAtOrAfter point self.old.edits }
         ensures ok { OnOk result (ReloadsRegs point inst_regs.old (tables_of self.old) inst_regs.new (tables_of self.new)) }
@@ -87,23 +84,15 @@ impl<'a, A: Allocator> State<'a, A> {
         ensures stops { IfErr result (OutOfRegsOnlyIf (ReloadRegsFails point inst_regs.old (tables_of self.old))) }
         ensures nobody { OnOk result (((n : ℕ) → alloc_of self.old.places n ≡ NoPlace) → tables_of self.new ≡ tables_of self.old) }
     {
-        self.places.list_by_fill_order(order)?;
-        while let Some(arrival) = order.pop() {
-            if self.places.vreg_in(arrival.preg).is_some() {
-                self.evict_preg(inst_regs, point, arrival.preg)?;
-            }
+        while let Some(preg) = self.places.newest_filled() {
+            self.evict_preg(inst_regs, point, preg)?;
         }
         Ok(())
     }
 
     /// The beginning of a block: its parameters come in their slots, and so does each vreg that is in a register
-    /// behind. `order` is room for a list.
-    pub fn reload_at_begin<B: Allocator>(
-        &mut self,
-        first: Inst,
-        params: &[VReg],
-        order: &mut Vec<FilledReg, B>,
-    ) -> Result<(), RegAllocError>
+    /// behind.
+    pub fn reload_at_begin(&mut self, first: Inst, params: &[VReg]) -> Result<(), RegAllocError>
         requires inst { first < 1073741824 }
         requires later { AllAtOrAfter (before first) self.old.edits }
         requires known { All (λ v. v.number < length self.old.places.vreg_allocs) params.now }
@@ -115,7 +104,7 @@ impl<'a, A: Allocator> State<'a, A> {
         let mut inst_regs = InstRegs::new(self.registers.available_regs());
         let point = ProgPoint::before(first);
         self.reload_params(&mut inst_regs, point, params)?;
-        self.reload_regs(&mut inst_regs, point, order)?;
+        self.reload_regs(&mut inst_regs, point)?;
         Ok(())
     }
 }

@@ -4,11 +4,13 @@ ghost use Rattle.std.specs.Prelude.{Bool};
 ghost use Rattle.regalloc2_names.specs.RegisterSet.{has_register};
 ghost use Rattle.regalloc2_names.specs.Register.{Register, VirtualRegister};
 ghost use Rattle.regalloc2_fastalloc_walk.specs.SpillFree.{FitInRegs, ArePlaced, ArePlain, IsSpillFree, LeavesSpillFree, AllocsAnyReg};
-ghost use Rattle.std.specs.Prelude.{◌≡◌, ◌<◌, ◌≤◌, ◌+◌, ◌↔◌, [], length, not, false, slice_set, slice_index_or, ℕ, OnOk, IfErr, IfSome};
-ghost use Rattle.std.specs.Prelude.{IsNone, IsTrue, List};
+ghost use Rattle.std.specs.Prelude.{◌≡◌, ◌<◌, ◌≤◌, ◌+◌, [], length, not, false, slice_set, slice_index_or, ℕ, OnOk, IfErr, IfSome};
+ghost use Rattle.std.specs.Prelude.{IsNone, List};
 ghost use Rattle.regalloc2_names.specs.Point.{before, after};
 ghost use Rattle.regalloc2_names.specs.Place.{Place, NoPlace, is_place};
 ghost use Rattle.regalloc2_names.specs.Operand.{is_def, is_late};
+ghost use Rattle.regalloc2_parts.specs.Picked.{picked};
+ghost use Rattle.regalloc2_fastalloc_walk.specs.OperandsAt.{is_at};
 ghost use Rattle.regalloc2_fastalloc_state.specs.StateParts.{AllAtOrAfter, alloc_of};
 ghost use Rattle.regalloc2_validate.specs.Constraints.{op_at};
 ghost use Rattle.regalloc2_fastalloc_proofs.specs.InstSteps.{AllocsInst, reuse_requirement_of, requirement_of, def_request, reuse_request};
@@ -27,13 +29,18 @@ use regalloc2_index::Inst;
 use regalloc2_names::{
     Allocation, Operand, OperandConstraint, OperandPos, PRegSet, ProgPoint, RegAllocError,
 };
+use regalloc2_parts::iter::{Operands, PickedOperands};
 use std::alloc::Allocator;
 
-/// Whether an operand is at the position.
-fn stands_at(operand: Operand, pos: OperandPos) -> bool
-    ensures { IsTrue result ↔ (is_late operand.position ≡ is_late pos) }
+/// The operands at a position, with their indexes.
+fn operands_at<'o>(operands: &'o [Operand], pos: OperandPos) -> PickedOperands<'o>
+    ensures { result ≡ picked (is_at pos) operands.now }
 {
-    operand.pos() == pos
+    let operands = Operands::new(operands);
+    match pos {
+        OperandPos::Early => operands.early(),
+        OperandPos::Late => operands.late(),
+    }
 }
 
 /// Whether two places aren't one.
@@ -189,6 +196,7 @@ impl<'a, A: Allocator> State<'a, A> {
     }
 
     /// Allocates the operands of one position, in operand order.
+    #[inline(always)]
     pub fn process_operands_at(
         &mut self,
         inst_regs: &mut InstRegs,
@@ -211,11 +219,8 @@ impl<'a, A: Allocator> State<'a, A> {
             → ArePlaced names gone cx.now.operands.now (is_late pos) (length cx.now.operands.now) here.old here.new self.new.registers (tables_of self.old)
             (tables_of self.new) inst_regs.new) }
     {
-        let operands = cx.operands;
-        for k in 0..operands.len() {
-            if stands_at(operands[k], pos) {
-                self.process_operand_allocation(inst_regs, cx, here, k)?;
-            }
+        for (k, _operand) in operands_at(cx.operands, pos) {
+            self.process_operand_allocation(inst_regs, cx, here, k)?;
         }
         Ok(())
     }
@@ -270,9 +275,9 @@ impl<'a, A: Allocator> State<'a, A> {
         ensures stops { IfErr result (OutOfRegsOnlyIf (MoveUsesFails point operands.now here.now inst_regs.old (tables_of self.old))) }
         ensures registers { OnOk result (self.new.registers ≡ self.old.registers) }
     {
-        for k in 0..operands.len() {
-            if operands[k].is_reading() {
-                self.move_use(inst_regs, point, operands[k], here[k])?;
+        for (k, operand) in Operands::new(operands).use_ops() {
+            if operand.is_reading() {
+                self.move_use(inst_regs, point, operand, here[k])?;
             }
         }
         Ok(())

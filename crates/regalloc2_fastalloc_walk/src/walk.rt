@@ -1,4 +1,9 @@
 //! The walk over all blocks, from the last to the first, and over the instructions of each.
+//!
+//! It goes backward: when it comes to an instruction, all later uses of each vreg are known, and one place for each vreg is all that
+//! has to be remembered. The first use that the walk meets gives the vreg its location; from there a move fills the place of each
+//! other use, before its instruction; and the definition, which comes last, brings the value there. So liveness needs no analysis
+//! of its own, and no instruction is looked at twice.
 
 ghost use Rattle.std.specs.Prelude.{List};
 ghost use Rattle.regalloc2_names.specs.Register.{VirtualRegister};
@@ -134,14 +139,13 @@ impl<'a, A: Allocator> State<'a, A> {
             HasRegOperandsOnly names (F.function f.now) → IsSpillFreeFrom names (F.function f.now) (length (F.function f.now).insts) self.old.registers
             (tables_of self.old) → (self.new.edits ≡ []) × (self.new.slots.count ≡ 0)) }
     {
-        let mut order = Vec::new(alloc);
         let mut b = f.num_blocks();
         while b > 0 {
             b -= 1;
             let block = Block::new(b);
             self.alloc_block(alloc, f, block, offsets, allocs)?;
             let first = f.block_insns(block).first();
-            self.reload_at_begin(first, f.block_params(block), &mut order)?;
+            self.reload_at_begin(first, f.block_params(block))?;
         }
         Ok(())
     }

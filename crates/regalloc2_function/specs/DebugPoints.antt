@@ -13,7 +13,7 @@ use Rattle.regalloc2_function.specs.FunctionValue.{FunctionValue, Label, block_a
 use Rattle.regalloc2_function.specs.OutputValue.{OutputValue, DebugLocation}
 use Rattle.regalloc2_function.specs.WellFormed.{last_of}
 
--- an instruction defines v, or reads it at a position, or passes it
+-- An instruction defines v, or reads it at a position, or passes it. A branch that passes what it defines itself doesn't count.
 abbrev pub DefinesAt : FunctionValue → VirtualRegister → ℕ → Type 0
 DefinesAt f v i = (i < length f.insts) × ((k : ℕ) × (o : OperandValue) × (k < length (inst_at f i).operands) × (slice_index_or (inst_at f i).operands k o ≡ o)
     × (is_def o.kind ≡ true) × (o.vreg ≡ v))
@@ -24,7 +24,7 @@ ReadsAt f v position i = (i < length f.insts) × ((k : ℕ) × (o : OperandValue
 
 abbrev pub PassesAt : FunctionValue → VirtualRegister → ℕ → Type 0
 PassesAt f v i = (b k : ℕ) × (b < length f.blocks) × (i ≡ last_of (block_at f b)) × (k < length (block_at f b).succs)
-    × Contains (slice_index_or (block_at f b).arguments k []) v
+    × Contains (slice_index_or (block_at f b).arguments k []) v × (DefinesAt f v i → ⊥)
 
 abbrev pub UsesAt : FunctionValue → VirtualRegister → ℕ → Type 0
 UsesAt f v i = ReadsAt f v Early i ⊎ ReadsAt f v Late i ⊎ PassesAt f v i

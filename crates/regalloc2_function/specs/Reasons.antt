@@ -4,11 +4,12 @@ use Rattle.std.specs.Prelude.{slice_index_or, Option, None, Some, if◌then◌el
 use Rattle.regalloc2_index.specs.Range.{numbers_from, numbers_of}
 use Rattle.regalloc2_names.specs.Register.{VirtualRegister}
 use Rattle.regalloc2_names.specs.Operand.{OperandValue, is_def, is_reading}
+use Rattle.regalloc2_names.specs.Point.{before, after}
 use Rattle.regalloc2_names.specs.declared.RegAllocError.{RegAllocError}
 use Rattle.regalloc2_names.specs.declared.RegAllocError.TheVariants.{BB, Branch, CritEdge, DisallowedBranchArg, EntryLivein, Memory, SSA}
 use Rattle.regalloc2_function.specs.FunctionValue.{FunctionValue, BlockValue, block_at, inst_at}
 use Rattle.regalloc2_function.specs.WellFormed.{ArgumentsCounted, ArgumentsFit, BlocksEnd, BlocksFollow, DefinedOnce, EndsAt, EntryIsFirst, FollowsAt}
-use Rattle.regalloc2_function.specs.WellFormed.{IsDefinedBefore, IsFirstToFail, NoCriticalEdge, NoOperandsIntoJoins, PredecessorsAgree}
+use Rattle.regalloc2_function.specs.WellFormed.{IsDefinedBy, IsFirstToFail, NoCriticalEdge, NoOperandsIntoJoins, PredecessorsAgree}
 use Rattle.regalloc2_function.specs.WellFormed.{SuccessorsAreBlocks, UsesAreDefined, last_of, ArgumentsFitAt, NoOperandsAt, NotCriticalAt}
 use Rattle.regalloc2_function.specs.WellFormed.{PredecessorsAt}
 
@@ -24,7 +25,7 @@ pub record IsFirstIn {X : Type 0} (P : X → Type 0) (xs : List X) (x : X) : Typ
 abbrev pub no_instruction : ℕ
 no_instruction = 4294967295
 
--- a definition of a virtual register: the instruction that makes it, none for a parameter, and the first instruction that may use it
+-- a definition of a virtual register: the instruction that makes it, none for a parameter, and the point from which on it may be used
 pub record DefinitionSite : Type 0 where
   pub vreg : VirtualRegister
   pub inst : ℕ
@@ -32,11 +33,11 @@ pub record DefinitionSite : Type 0 where
 
 -- a parameter of a block that begins at an instruction
 abbrev pub param_definition : ℕ → VirtualRegister → DefinitionSite
-param_definition first v = record { vreg = v; inst = no_instruction; usable = first }
+param_definition first v = record { vreg = v; inst = no_instruction; usable = before first }
 
 -- the definition that an operand of an instruction makes, if it does
 abbrev pub operand_definition : ℕ → OperandValue → Option DefinitionSite
-operand_definition i o = if is_def o.kind then Some (record { vreg = o.vreg; inst = i; usable = i + 1 }) else None
+operand_definition i o = if is_def o.kind then Some (record { vreg = o.vreg; inst = i; usable = after i }) else None
 
 -- an instruction's definitions, in operand order
 abbrev pub inst_definitions : FunctionValue → ℕ → List DefinitionSite
@@ -69,14 +70,16 @@ pub record IsFirstRepeat (f : FunctionValue) (v : VirtualRegister) (i : ℕ) : T
   pub single : AreSingle f.num_vregs earlier
   pub fails : AreSingle f.num_vregs (earlier ++ site ∷ []) → ⊥
 
--- an instruction that reads or passes a virtual register
+-- an instruction that reads or passes a virtual register, and the point by which that has to be defined: before the instruction if it is read, after
+-- it if it is passed
 pub record UseSite : Type 0 where
   pub vreg : VirtualRegister
   pub inst : ℕ
+  pub point : ℕ
 
 -- the read that an operand of an instruction makes, if it does
 abbrev pub operand_read : ℕ → OperandValue → Option UseSite
-operand_read i o = if is_reading o then Some (record { vreg = o.vreg; inst = i }) else None
+operand_read i o = if is_reading o then Some (record { vreg = o.vreg; inst = i; point = before i }) else None
 
 -- an instruction's reads, in operand order
 abbrev pub inst_reads : FunctionValue → ℕ → List UseSite
@@ -84,7 +87,7 @@ inst_reads f i = filter_map (operand_read i) (inst_at f i).operands
 
 -- an argument that an instruction passes
 abbrev pub argument_use : ℕ → VirtualRegister → UseSite
-argument_use i v = record { vreg = v; inst = i }
+argument_use i v = record { vreg = v; inst = i; point = after i }
 
 -- the arguments that a block passes to its successor at a position
 abbrev pub passed_at : BlockValue → ℕ → List UseSite
@@ -98,11 +101,11 @@ block_uses f b = flat_map (inst_reads f) (numbers_of b.range) ++ flat_map (passe
 abbrev pub uses_in : FunctionValue → List UseSite
 uses_in f = flat_map (block_uses f) f.blocks
 
--- the first use that is not defined before
+-- the first use of what is not defined by then
 abbrev pub IsFirstUndefined : FunctionValue → VirtualRegister → ℕ → Type 0
-IsFirstUndefined f v i = IsFirstIn (λ u. IsDefinedBefore f u.vreg u.inst) (uses_in f) (record { vreg = v; inst = i })
+IsFirstUndefined f v i = (point : ℕ) × IsFirstIn (λ u. IsDefinedBy f u.vreg u.point) (uses_in f) (record { vreg = v; inst = i; point = point })
 
--- why the definitions of a function are refused: out of memory, or else the first repeat, or where there is none the first use that is not defined before
+-- why the definitions of a function are refused: out of memory, or else the first repeat, or where there is none the first use of what is not defined by then
 abbrev pub IsDefinitionFault : FunctionValue → RegAllocError → Type 0
 IsDefinitionFault f Memory = Unit {0}
 IsDefinitionFault f (SSA v i) = IsFirstRepeat f v i ⊎ (DefinedOnce f × IsFirstUndefined f v i)

@@ -10,6 +10,7 @@ use Rattle.regalloc2_names.specs.declared.OperandPos.TheVariants.{Early, Late}
 use Rattle.regalloc2_names.specs.Register.{Register, VirtualRegister}
 use Rattle.regalloc2_names.specs.RegisterSet.{has_register}
 use Rattle.regalloc2_names.specs.Operand.{OperandValue, is_def, is_reading}
+use Rattle.regalloc2_names.specs.Point.{before, after}
 use Rattle.regalloc2_function.specs.FunctionValue.{FunctionValue, BlockValue, InstValue, block_at, inst_at}
 use Rattle.regalloc2_function.specs.Machine.{MachineValue, is_allocatable}
 
@@ -118,18 +119,19 @@ definitions_of f n = sum_of (map (λ b. count_by (λ v. nat_eq v.number n) b.par
 abbrev pub DefinedOnce : FunctionValue → Type 0
 DefinedOnce f = (n : ℕ) → (definitions_of f n ≤ 1) × (0 < definitions_of f n → n < f.num_vregs)
 
--- a virtual register is defined before an instruction, by its number: as a parameter of a block that begins there or earlier, or at a smaller instruction
-abbrev pub IsDefinedBefore : FunctionValue → VirtualRegister → ℕ → Type 0
-IsDefinedBefore f v i =
-    ((b : ℕ) × (b < length f.blocks) × ((block_at f b).range.first ≤ i) × Contains (block_at f b).params v)
-    ⊎ ((j k : ℕ) × (d : OperandValue) × (j < i) × (k < length (inst_at f j).operands) × (is_def (slice_index_or (inst_at f j).operands k d).kind ≡ true)
-    × ((slice_index_or (inst_at f j).operands k d).vreg ≡ v))
+-- A virtual register is defined by a point: as a parameter, just before its block's first instruction, or by an operand, after its instruction.
+-- Points are in the order of instruction numbers.
+abbrev pub IsDefinedBy : FunctionValue → VirtualRegister → ℕ → Type 0
+IsDefinedBy f v point =
+    ((b : ℕ) × (b < length f.blocks) × (before (block_at f b).range.first ≤ point) × Contains (block_at f b).params v)
+    ⊎ ((j k : ℕ) × (d : OperandValue) × (after j ≤ point) × (k < length (inst_at f j).operands)
+    × (is_def (slice_index_or (inst_at f j).operands k d).kind ≡ true) × ((slice_index_or (inst_at f j).operands k d).vreg ≡ v))
 
--- each virtual register that is read or passed is defined at a smaller instruction
+-- each virtual register that is read is defined before its instruction, and each that is passed is defined before the branch, or by the branch itself
 abbrev pub UsesAreDefined : FunctionValue → Type 0
 UsesAreDefined f = EachBlock f (λ n b.
-    EachInst f b (λ i inst. EachOperand inst (λ k o. is_reading o ≡ true → IsDefinedBefore f o.vreg i))
-    × ((k : ℕ) → k < length b.succs → All (λ v. IsDefinedBefore f v (last_of b)) (slice_index_or b.arguments k [])))
+    EachInst f b (λ i inst. EachOperand inst (λ k o. is_reading o ≡ true → IsDefinedBy f o.vreg (before i)))
+    × ((k : ℕ) → k < length b.succs → All (λ v. IsDefinedBy f v (after (last_of b))) (slice_index_or b.arguments k [])))
 
 abbrev pub IsReuse : OperandConstraint → ℕ → Type 0
 IsReuse k n = k ≡ Reuse n

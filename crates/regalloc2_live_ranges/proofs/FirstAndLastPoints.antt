@@ -1,6 +1,8 @@
 -- First and last points: a virtual register has one of each, and the walk finds them.
-use Rattle.std.proofs.Common.{ℕ, ◌≡◌, ◌+◌, ◌<◌, ◌≤◌, ◌⊎◌, inl, inr, length, sym, ap, subst, arith}
-use Rattle.std.specs.Prelude.{Contains, MatchOption, Option, None, Some, unwrap_or}
+use Rattle.std.proofs.Common.{ℕ, ◌≡◌, ◌+◌, ◌<◌, ◌≤◌, ◌⊎◌, inl, inr, true, false, length, refl, sym, ap, subst, eq-eqb, arith}
+use Rattle.std.proofs.lemmas.Bool.{cases_Bool}
+use Rattle.std.proofs.lemmas.Bool.Decides.{Decides-eqb}
+use Rattle.std.specs.Prelude.{Contains, MatchOption, Option, None, Some, nat_eq}
 use Rattle.regalloc2_names.specs.declared.OperandPos.{OperandPos}
 use Rattle.regalloc2_names.specs.declared.OperandPos.TheVariants.{Early, Late}
 use Rattle.regalloc2_names.specs.Register.{VirtualRegister}
@@ -16,7 +18,7 @@ use Rattle.regalloc2_live_ranges.specs.declared.InstOperand.{InstOperand}
 use Rattle.regalloc2_live_ranges.specs.declared.ends.RangeEnd.{RangeEnd}
 use Rattle.regalloc2_live_ranges.specs.LiveRanges.{IsDefiner, IsFirstReader, IsLiveRange, IsSSA, IsShownBy}
 use Rattle.regalloc2_live_ranges.specs.LiveRanges.IsShownBy.{by_late_use, by_early_use, by_argument, by_definition}
-use Rattle.regalloc2_live_ranges.specs.LastUses.{EndsFrom, EndsUse, ReadsFirst, Unread, UsesNumber}
+use Rattle.regalloc2_live_ranges.specs.LastUses.{EndsFrom, EndsUse, ReadsFirst, Unread, UsesNumber, end_behind}
 use Rattle.regalloc2_live_ranges.specs.LastUses.EndsUse.{late, early, passed}
 use Rattle.regalloc2_live_ranges.proofs.UsesInSSA.{definer_defines, defines_number, is_reader, made_by_definition, made_by_parameter, passes_it}
 use Rattle.regalloc2_live_ranges.proofs.UsesInSSA.{read_number, reader_reads, takes_number, use_after, use_within, used_number}
@@ -88,46 +90,86 @@ module _ (f : FunctionValue) (ssa : IsSSA f) where
   greatest v j none m u = elim (cases_within j m) [ inl lt ↦ absurd (none m lt (used_number f v m u)) | inr le ↦ le ]
 
   -- what the walk notes is the last point, and the operand whose place shows the value
-  found_end : (v : VirtualRegister) → Made f v → (j : ℕ) {e : RangeEnd} → EndsUse f v.number j e → ((m : ℕ) → j < m → UsesNumber f v.number m → ⊥) →
-      IsLastPoint f v e.last × IsShownBy f v e.by
-  found_end v made j (late k lt r) none =
+  found_end : (v : VirtualRegister) → Made f v → (j : ℕ) {e : RangeEnd} → (DefinesAt f v j → ⊥) → EndsUse f v.number j e →
+      ((m : ℕ) → j < m → UsesNumber f v.number m → ⊥) → IsLastPoint f v e.last × IsShownBy f v e.by
+  found_end v made j other (late k lt r) none =
       let reader = first_reader v made Late j k lt r in
       let here : ReadsAt f v Late j = reader_reads f v Late (record { inst = j; index = k }) reader.reader in
       let last : IsLastUse f v j = (inr (inl here), greatest v j none) in
       (of_late_use j last here, by_late_use (record { inst = j; index = k }) last reader)
-  found_end v made j (early k lt never r) none =
+  found_end v made j other (early k lt never r) none =
       let reader = first_reader v made Early j k lt r in
       let here : ReadsAt f v Early j = reader_reads f v Early (record { inst = j; index = k }) reader.reader in
       let last : IsLastUse f v j = (inl here, greatest v j none) in
       (of_early_use j last (unread v Late j never) here, by_early_use (record { inst = j; index = k }) last (unread v Late j never) reader)
-  found_end v made j (passed never nor p) none =
-      let last : IsLastUse f v j = (inr (inr (passes_it f ssa v made j p)), greatest v j none) in
+  found_end v made j other (passed never nor p) none =
+      let last : IsLastUse f v j = (inr (inr (passes_it f ssa v made j other p)), greatest v j none) in
       (of_argument j last (unread v Late j never) (unread v Early j nor), by_argument j last (unread v Late j never) (unread v Early j nor))
 
-  -- a use from a definition on, or nothing after the definition
-  pub range_of_definition : (v : VirtualRegister) (i k : ℕ) (o : Option RangeEnd) (unused : RangeEnd) →
-      unused ≡ record { last = before (i + 1); by = Some (record { inst = i; index = k }) } → IsDefiner f v (record { inst = i; index = k }) →
-      EndsFrom f i v.number o
-      → IsLiveRange f (record { vreg = v; first = after i; last = (unwrap_or o unused).last; by = (unwrap_or o unused).by })
-  range_of_definition v i k None unused is d h =
+  -- where nothing uses it, a definition is the last point's
+  unused_range : (v : VirtualRegister) (i k : ℕ) (unused : RangeEnd) → unused ≡ record { last = before (i + 1); by = Some (record { inst = i; index = k }) } →
+      IsDefiner f v (record { inst = i; index = k }) → ((j : ℕ) → UsesAt f v j → ⊥) →
+      IsLiveRange f (record { vreg = v; first = after i; last = unused.last; by = unused.by })
+  unused_range v i k unused is d never =
       let here : DefinesAt f v i = definer_defines f v (record { inst = i; index = k }) d in
-      let never : (j : ℕ) → UsesAt f v j → ⊥ = λ j u. h j (let x = use_after f ssa v i j here u in omega (arith, x)) (used_number f v j u) in
       record {
         first = begins_at_definition i here;
         last = subst (λ (e : RangeEnd). IsLastPoint f v e.last) (sym is) (ends_at_definition i here never);
         by = subst (λ (e : RangeEnd). IsShownBy f v e.by) (sym is) (by_definition (record { inst = i; index = k }) never d);
       }
+
+  -- where the last use is at the instruction that defines, it is an argument that it passes, and ends before it
+  own_end : (v : VirtualRegister) (i : ℕ) {e : RangeEnd} → DefinesAt f v i → EndsUse f v.number i e → e.last ≡ before i
+  own_end v i here (late k lt r) =
+      let reader = is_reader f ssa v (made_by_definition f v i here) Late i k lt r.reads in
+      let sooner = use_after f ssa v i i here (inr (inl (reader_reads f v Late (record { inst = i; index = k }) reader))) in
+      absurd (omega (arith, sooner))
+  own_end v i here (early k lt never r) =
+      let reader = is_reader f ssa v (made_by_definition f v i here) Early i k lt r.reads in
+      let sooner = use_after f ssa v i i here (inl (reader_reads f v Early (record { inst = i; index = k }) reader)) in
+      absurd (omega (arith, sooner))
+  own_end v i here (passed never nor p) = refl
+
+  -- no other use of an instruction ends before it
+  end_from : (n j : ℕ) {e : RangeEnd} → EndsUse f n j e → before j ≤ e.last
+  end_from n j (late k lt r) = omega arith
+  end_from n j (early k lt never r) = omega arith
+  end_from n j (passed never nor p) = omega arith
+
+  -- a use from a definition on, or nothing after the definition
+  pub range_of_definition : (v : VirtualRegister) (i k : ℕ) (o : Option RangeEnd) (unused : RangeEnd) →
+      unused ≡ record { last = before (i + 1); by = Some (record { inst = i; index = k }) } → IsDefiner f v (record { inst = i; index = k }) →
+      EndsFrom f i v.number o
+      → IsLiveRange f (record { vreg = v; first = after i; last = (end_behind i o unused).last; by = (end_behind i o unused).by })
+  range_of_definition v i k None unused is d h =
+      let here : DefinesAt f v i = definer_defines f v (record { inst = i; index = k }) d in
+      unused_range v i k unused is d (λ j u. h j (let x = use_after f ssa v i j here u in omega (arith, x)) (used_number f v j u))
   range_of_definition v i k (Some e) unused is d h =
       let here : DefinesAt f v i = definer_defines f v (record { inst = i; index = k }) d in
-      let found = found_end v (made_by_definition f v i here) h.0 {e = e} h.2 h.3 in
-      record { first = begins_at_definition i here; last = found.0; by = found.1 }
+      elim (cases_within i h.0) [
+        | inl less ↦ (
+            let other : DefinesAt f v h.0 → ⊥ = λ x. (let same = one_definition v i h.0 here x in omega (arith, less, same)) in
+            let found = found_end v (made_by_definition f v i here) h.0 {e = e} other h.2 h.3 in
+            let from = end_from v.number h.0 h.2 in
+            let past : nat_eq e.last (before i) ≡ false = differ e.last (before i) (omega (arith, from, less)) in
+            rw past (record { first = begins_at_definition i here; last = found.0; by = found.1 }))
+        | inr le ↦ (
+            let same : h.0 ≡ i = let low = h.1 in omega (arith, low, le) in
+            let own : e.last ≡ before i = own_end v i here (subst (λ (j : ℕ). EndsUse f v.number j e) same h.2) in
+            let test : nat_eq e.last (before i) ≡ true = eq-eqb e.last (before i) own in
+            let never : (j : ℕ) → UsesAt f v j → ⊥ = λ j u. (let x = use_after f ssa v i j here u in h.3 j (omega (arith, x, same)) (used_number f v j u)) in
+            rw test (unused_range v i k unused is d never))
+      ]
+    where
+      differ : (a b : ℕ) → b < a → nat_eq a b ≡ false
+      differ a b lt = elim (cases_Bool (nat_eq a b)) [ inl e ↦ absurd (let same = (Decides-eqb a b).0 e in omega (arith, lt, same)) | inr e ↦ e ]
 
   -- in SSA form, a parameter with a last use from its block's beginning on is live from there to that use
   pub range_of_parameter : (v : VirtualRegister) (b : ℕ) (e : RangeEnd) → b < length f.blocks → Contains (block_at f b).params v →
       EndsFrom f (block_at f b).range.first v.number (Some e)
       → IsLiveRange f (record { vreg = v; first = before (block_at f b).range.first; last = e.last; by = e.by })
   range_of_parameter v b e lt h ends =
-      let found = found_end v (made_by_parameter f v b lt h) ends.0 {e = e} ends.2 ends.3 in
+      let found = found_end v (made_by_parameter f v b lt h) ends.0 {e = e} (λ d. no_both v ends.0 b d lt h) ends.2 ends.3 in
       record { first = of_parameter b lt h; last = found.0; by = found.1 }
 
   -- a parameter that is used has an end

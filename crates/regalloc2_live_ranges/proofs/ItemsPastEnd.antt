@@ -1,4 +1,4 @@
--- Items of lists, whatever stands past the end.
+-- Items of lists, whatever is read past the end.
 use Rattle.std.proofs.Common.{ℕ, zero, suc, ◌≡◌, ◌<◌, List, [], ◌∷◌, length, refl, ◌∙◌, arith}
 use Rattle.std.specs.Prelude.{slice_index_or}
 use Rattle.regalloc2_names.specs.Operand.{OperandValue}

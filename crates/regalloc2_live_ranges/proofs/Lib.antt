@@ -1,3 +1,7 @@
+-- First and last points of vregs, and the debug labels that are kept, are those of their definitions.
+-- Main theorems: `walked_all` in `LiveRangeTable`, the table after the walk has each vreg's live range; `kept_from` in `KeptLabels`.
+-- Read first: `FirstAndLastPoints` (`range_of_definition`, `used_ends`), then `UsesNoted` (`uses_last`, `uses_inside`), what the walk notes at
+-- one instruction. `UsesInSSA` says which instructions may use a vreg; `ItemsPastEnd` serves all.
 pub mod ItemsPastEnd
 pub mod UsesNoted
 pub mod UsesInSSA

@@ -1,7 +1,7 @@
 -- The table of live ranges, entry by entry, and over the whole walk.
 use Rattle.std.proofs.Common.{ℕ, ◌≡◌, ◌≢◌, ◌+◌, ◌-◌, ◌<◌, ◌≤◌, ◌⊎◌, inl, inr, true, false, List, length, set, replicate, refl, sym, ap, ◌∙◌, subst}
 use Rattle.std.proofs.Common.{arith, eq-eqb, get_or-set_same, get_or-set_other}
-use Rattle.std.specs.Prelude.{Contains, Option, None, Some, slice_index_or, unwrap_or, nat_eq}
+use Rattle.std.specs.Prelude.{Contains, Option, None, Some, slice_index_or, nat_eq}
 use Rattle.std.proofs.lemmas.Bool.{cases_Bool, cases_eq}
 use Rattle.std.proofs.lemmas.Bool.Decides.{Decides-eqb}
 use Rattle.std.proofs.lemmas.List.{get_or-replicate, get_or_past, length-replicate}
@@ -18,7 +18,7 @@ use Rattle.regalloc2_semantics.proofs.Order.{ends_within}
 use Rattle.regalloc2_live_ranges.specs.declared.LiveRange.{LiveRange}
 use Rattle.regalloc2_live_ranges.specs.declared.ends.RangeEnd.{RangeEnd}
 use Rattle.regalloc2_live_ranges.specs.LiveRanges.{AreLiveRanges, IsDefiner, IsLiveRange, IsSSA, range_at}
-use Rattle.regalloc2_live_ranges.specs.LastUses.{EndsFrom, NotesUses, UsesNumber, end_at, no_vreg}
+use Rattle.regalloc2_live_ranges.specs.LastUses.{EndsFrom, NotesUses, UsesNumber, end_at, end_behind, no_vreg}
 use Rattle.regalloc2_live_ranges.specs.LastUses.UsesNumber.{reads, passes}
 use Rattle.regalloc2_live_ranges.specs.WalkInvariant.{AreEndsFrom, AreRight, IsWalked, Stay, begin_of}
 use Rattle.regalloc2_live_ranges.proofs.ItemsPastEnd.{any_default, op_is}
@@ -235,7 +235,7 @@ param_within f b vs k v same lt is = subst (λ (ws : List VirtualRegister). Cont
 pub defined_range : (f : FunctionValue) (ssa : IsSSA f) (ends : List (Option RangeEnd)) (i k : ℕ) (v a : VirtualRegister) (n p q : ℕ) (o : Option RangeEnd)
     (d : RangeEnd) → IsDefiner f v (record { inst = i; index = k }) → length ends ≡ f.num_vregs → AreEndsFrom f i ends → n ≡ v.number →
     o ≡ slice_index_or ends n o
-    → a ≡ v → p ≡ after i → q ≡ before (i + 1) → d ≡ unwrap_or o (record { last = q; by = Some (record { inst = i; index = k }) }) →
+    → a ≡ v → p ≡ after i → q ≡ before (i + 1) → d ≡ end_behind i o (record { last = q; by = Some (record { inst = i; index = k }) }) →
     IsLiveRange f (record { vreg = a; first = p; last = d.last; by = d.by })
 defined_range f ssa ends i k v a n p q o d definer long noted number is same first point end =
     let small = definer_small f ssa v (record { inst = i; index = k }) definer in
@@ -243,7 +243,7 @@ defined_range f ssa ends i k v a n p q o d definer long noted number is same fir
     let unused : RangeEnd = record { last = q; by = Some (record { inst = i; index = k }) } in
     let right : unused ≡ record { last = before (i + 1); by = Some (record { inst = i; index = k }) } = ap (λ
     (x : ℕ). record { last = x; by = Some (record { inst = i; index = k }) }) point in
-    range_same f a v p (after i) d (unwrap_or (end_at ends v.number) unused) same first (end ∙ ap (λ (x : Option RangeEnd). unwrap_or x unused) entry)
+    range_same f a v p (after i) d (end_behind i (end_at ends v.number) unused) same first (end ∙ ap (λ (x : Option RangeEnd). end_behind i x unused) entry)
     (range_of_definition f ssa v i k (end_at ends v.number) unused right definer (noted v.number (omega (arith, small, long))))
 
 -- in SSA form, a parameter with an end noted for its number is live from its block's beginning to that end

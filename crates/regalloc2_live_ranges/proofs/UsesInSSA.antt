@@ -1,18 +1,20 @@
 -- What a number's uses say of the virtual register that has it, in a function in SSA form.
-use Rattle.std.proofs.Common.{ℕ, ◌≡◌, ◌<◌, ◌≤◌, inl, inr, true, List, [], length, refl, sym, ap, ◌∙◌, subst, arith}
+use Rattle.std.proofs.Common.{ℕ, ◌≡◌, ◌+◌, ◌<◌, ◌≤◌, inl, inr, true, List, [], length, refl, sym, ap, ◌∙◌, subst, arith}
 use Rattle.std.specs.Prelude.{Contains, slice_index_or}
 use Rattle.regalloc2_names.specs.declared.OperandPos.{OperandPos}
 use Rattle.regalloc2_names.specs.Register.{VirtualRegister}
 use Rattle.regalloc2_names.specs.Operand.{OperandValue, is_def, is_reading}
+use Rattle.regalloc2_names.specs.Point.{before, after}
 use Rattle.regalloc2_function.specs.FunctionValue.{FunctionValue, block_at, inst_at}
 use Rattle.regalloc2_function.specs.Machine.{MachineValue}
-use Rattle.regalloc2_function.specs.WellFormed.{IsDefinedBefore, IsWellFormed, last_of}
+use Rattle.regalloc2_function.specs.WellFormed.{IsDefinedBy, IsWellFormed, last_of}
 use Rattle.regalloc2_function.specs.DebugPoints.{DefinesAt, PassesAt, ReadsAt, UsesAt}
 use Rattle.regalloc2_semantics.specs.Listing.{no_operand, op_at}
-use Rattle.regalloc2_semantics.proofs.SingleDef.{DefinesAt as DefinesNumber, Made, TakesAt, is_made, made_before, made_small, not_both, one_made}
+use Rattle.regalloc2_semantics.proofs.SingleDef.{DefinesAt as DefinesNumber, Made, TakesAt, is_made, made_before, made_behind, made_small, not_both, one_made}
 use Rattle.regalloc2_semantics.proofs.SingleDef.{one_param, reads_defined}
 use Rattle.regalloc2_semantics.proofs.SingleDef.Made.{by_operand, by_param}
 use Rattle.regalloc2_semantics.proofs.SingleDef.{no_vreg as nowhere}
+use Rattle.regalloc2_semantics.proofs.Soundness.{cases_within}
 use Rattle.regalloc2_semantics.proofs.Order.{ends_within, passes_later, reads_later}
 use Rattle.regalloc2_live_ranges.specs.declared.InstOperand.{InstOperand}
 use Rattle.regalloc2_live_ranges.specs.LiveRanges.{IsDefiner, IsReader, IsSSA}
@@ -67,6 +69,7 @@ read_number f v at i r =
 has_number : (vs : List VirtualRegister) (v : VirtualRegister) → Contains vs v → HasNumber vs (length vs) v.number
 has_number vs v h = (h.0, h.1, h.1, ap (λ (w : VirtualRegister). w.number) (any_default vs h.0 no_vreg v h.1 ∙ h.2))
 
+-- an instruction that uses a vreg uses its number
 pub used_number : (f : FunctionValue) (v : VirtualRegister) (i : ℕ) → UsesAt f v i → UsesNumber f v.number i
 used_number f v i (inl r) = reads OperandPos.Early r.1.0 r.0 (read_number f v OperandPos.Early i r)
 used_number f v i (inr (inl r)) = reads OperandPos.Late r.1.0 r.0 (read_number f v OperandPos.Late i r)
@@ -138,21 +141,21 @@ module _ (f : FunctionValue) (ssa : IsSSA f) where
 
   -- what is used is defined before
   argument_defined : (b s k : ℕ) → b < length f.blocks → s < length (block_at f b).succs → k < length (slice_index_or (block_at f b).arguments s []) →
-      IsDefinedBefore f (slice_index_or (slice_index_or (block_at f b).arguments s []) k no_vreg) (last_of (block_at f b))
+      IsDefinedBy f (slice_index_or (slice_index_or (block_at f b).arguments s []) k no_vreg) (after (last_of (block_at f b)))
   argument_defined b s k lt edge less = (ssa.uses b lt).1 s edge k no_vreg less
 
-  -- and who passes one passes it
-  pub passes_it : (v : VirtualRegister) → Made f v → (i : ℕ) → PassesNumber f v.number i → PassesAt f v i
-  passes_it v made i p =
+  -- and who passes one passes it, unless it defines it
+  pub passes_it : (v : VirtualRegister) → Made f v → (i : ℕ) → (DefinesAt f v i → ⊥) → PassesNumber f v.number i → PassesAt f v i
+  passes_it v made i other p =
       let vs : List VirtualRegister = slice_index_or (block_at f p.0).arguments p.3.0 [] in
       let k : ℕ = p.3.2.0 in
       let w : VirtualRegister = slice_index_or vs k no_vreg in
       let within = ends_within f ssa.follow p.0 p.1 in
       let some = (ssa.follow p.0 p.1).0 in
       let last : ℕ = last_of (block_at f p.0) in
-      let here = is_made f w last (made_before f w last (omega (arith, within, some)) (argument_defined p.0 p.3.0 k p.1 p.3.1 p.3.2.2)) in
+      let here = is_made f w (last + 1) (made_behind f w last (omega (arith, within, some)) (argument_defined p.0 p.3.0 k p.1 p.3.1 p.3.2.2)) in
       let same : w ≡ v = one_made f ssa.once w v here made p.3.2.3 in
-      (p.0, p.3.0, p.1, p.2, p.3.1, (k, p.3.2.2, any_default vs k v no_vreg p.3.2.2 ∙ same))
+      (p.0, p.3.0, p.1, p.2, p.3.1, (k, p.3.2.2, any_default vs k v no_vreg p.3.2.2 ∙ same), other)
 
   -- a use comes after the definition
   pub use_after : (v : VirtualRegister) (i j : ℕ) → DefinesAt f v i → UsesAt f v j → i < j
@@ -163,35 +166,42 @@ module _ (f : FunctionValue) (ssa : IsSSA f) where
       reads_later f ssa.once v.number i d.1.0 j r.1.0 (defines_number f v i d) r.0 (reads_defined f ssa.some ssa.follow ssa.uses j r.0) n.within n.reading
       n.number
   use_after v i j d (inr (inr p)) =
-      let h = passes_later f ssa.once v.number i d.1.0 p.0 p.1 v (defines_number f v i d) ssa.follow ssa.uses p.2 p.4 p.5 refl in omega (arith, h, p.3)
+      let h = passes_later f ssa.once v.number i d.1.0 p.0 p.1 v (defines_number f v i d) ssa.follow ssa.uses p.2 p.4 p.5 refl in
+      elim (cases_within i j) [ inl less ↦ less | inr late ↦ absurd (p.6 (subst (DefinesAt f v) (omega (arith, h, late, p.3)) d)) ]
+
+  -- what is defined by a point is so by a later one
+  later_point : (v : VirtualRegister) (p q : ℕ) → p ≤ q → IsDefinedBy f v p → IsDefinedBy f v q
+  later_point v p q le (inl h) = inl (h.0, h.1, omega (arith, le, h.2), h.3)
+  later_point v p q le (inr h) = inr (h.0, h.1, h.2, omega (arith, le, h.3), h.4, h.5, h.6)
 
   -- or not before the block of which it is a parameter
-  used_defined : (v : VirtualRegister) (j : ℕ) → UsesAt f v j → IsDefinedBefore f v j
+  used_defined : (v : VirtualRegister) (j : ℕ) → UsesAt f v j → IsDefinedBy f v (after j)
   used_defined v j (inl r) = read_defined OperandPos.Early r
     where
-      read_defined : (at : OperandPos) (r : ReadsAt f v at j) → IsDefinedBefore f v j
-      read_defined at r = let n = read_number f v at j r in subst (λ (w : VirtualRegister). IsDefinedBefore f w j)
-          (ap (λ (o : OperandValue). o.vreg) (op_is (inst_at f j).operands r.1.0 r.1.1 r.1.2 r.1.3) ∙ r.1.6)
-          (reads_defined f ssa.some ssa.follow ssa.uses j r.0 r.1.0 n.within n.reading)
+      read_defined : (at : OperandPos) (r : ReadsAt f v at j) → IsDefinedBy f v (after j)
+      read_defined at r = let n = read_number f v at j r in later_point v (before j) (after j) (omega arith) (subst (λ (w : VirtualRegister). IsDefinedBy f w
+          (before j)) (ap (λ (o : OperandValue). o.vreg) (op_is (inst_at f j).operands r.1.0 r.1.1 r.1.2 r.1.3) ∙ r.1.6)
+          (reads_defined f ssa.some ssa.follow ssa.uses j r.0 r.1.0 n.within n.reading))
   used_defined v j (inr (inl r)) = read_defined OperandPos.Late r
     where
-      read_defined : (at : OperandPos) (r : ReadsAt f v at j) → IsDefinedBefore f v j
-      read_defined at r = let n = read_number f v at j r in subst (λ (w : VirtualRegister). IsDefinedBefore f w j)
-          (ap (λ (o : OperandValue). o.vreg) (op_is (inst_at f j).operands r.1.0 r.1.1 r.1.2 r.1.3) ∙ r.1.6)
-          (reads_defined f ssa.some ssa.follow ssa.uses j r.0 r.1.0 n.within n.reading)
+      read_defined : (at : OperandPos) (r : ReadsAt f v at j) → IsDefinedBy f v (after j)
+      read_defined at r = let n = read_number f v at j r in later_point v (before j) (after j) (omega arith) (subst (λ (w : VirtualRegister). IsDefinedBy f w
+          (before j)) (ap (λ (o : OperandValue). o.vreg) (op_is (inst_at f j).operands r.1.0 r.1.1 r.1.2 r.1.3) ∙ r.1.6)
+          (reads_defined f ssa.some ssa.follow ssa.uses j r.0 r.1.0 n.within n.reading))
   used_defined v j (inr (inr p)) =
       let vs : List VirtualRegister = slice_index_or (block_at f p.0).arguments p.1 [] in
       let at : slice_index_or vs p.5.0 no_vreg ≡ v = any_default vs p.5.0 no_vreg v p.5.1 ∙ p.5.2 in
-      subst (λ (w : VirtualRegister). IsDefinedBefore f w j) at (subst (IsDefinedBefore f (slice_index_or vs p.5.0 no_vreg)) (sym p.3)
+      subst (λ (w : VirtualRegister). IsDefinedBy f w (after j)) at (subst (λ (n : ℕ). IsDefinedBy f (slice_index_or vs p.5.0 no_vreg) (after n)) (sym p.3)
       (argument_defined p.0 p.1 p.5.0 p.2 p.4 p.5.1))
 
+  -- a block's parameter is used in that block or behind it
   pub use_within : (v : VirtualRegister) (b j : ℕ) → b < length f.blocks → Contains (block_at f b).params v → UsesAt f v j → (block_at f b).range.first ≤ j
   use_within v b j lt h u = by_case (used_defined v j u)
     where
-      by_case : IsDefinedBefore f v j → (block_at f b).range.first ≤ j
+      by_case : IsDefinedBy f v (after j) → (block_at f b).range.first ≤ j
       by_case (inl p) =
           let same = one_param f ssa.once v.number b p.0 h.0 p.3.0 (takes_number f v b lt h) (takes_number f v p.0 p.1 p.3) in
-          subst (λ (c : ℕ). (block_at f c).range.first ≤ j) (sym same.0) p.2
+          subst (λ (c : ℕ). (block_at f c).range.first ≤ j) (sym same.0) (let first = p.2 in omega (arith, first))
       by_case (inr o) =
           let used : j < length f.insts = inside v j u in
           let d : DefinesAt f v o.0 = (

@@ -1,5 +1,5 @@
 -- What the backward walk notes of a number's uses, instruction by instruction.
-use Rattle.std.specs.Prelude.{ℕ, ◌≡◌, ◌+◌, ◌<◌, ◌≤◌, List, length, slice_index_or, Bool, true, false, Option, None, Some}
+use Rattle.std.specs.Prelude.{ℕ, ◌≡◌, ◌+◌, ◌<◌, ◌≤◌, List, length, slice_index_or, Bool, true, false, Option, None, Some, nat_eq, if◌then◌else◌}
 use Rattle.regalloc2_names.specs.declared.OperandPos.{OperandPos}
 use Rattle.regalloc2_names.specs.declared.OperandPos.TheVariants.{Early, Late}
 use Rattle.regalloc2_names.specs.declared.RegClass.TheVariants.{Int}
@@ -100,6 +100,11 @@ pub data EndsUse (f : FunctionValue) (n i : ℕ) : RangeEnd → Type 0 where
 -- an instruction's uses are noted
 abbrev pub NotesUses : FunctionValue → ℕ → ℕ → Option RangeEnd → Option RangeEnd → Type 0
 NotesUses f i n = Notes (UsesNumber f n i) (EndsUse f n i)
+
+-- the end of what an instruction defines, where its last use from there on was noted; a use at the instruction is an argument that it passes itself
+abbrev pub end_behind : ℕ → Option RangeEnd → RangeEnd → RangeEnd
+end_behind i None unused = unused
+end_behind i (Some e) unused = if nat_eq e.last (before i) then unused else e
 
 -- the last of the number's uses from an instruction on
 abbrev pub EndsFrom : FunctionValue → ℕ → ℕ → Option RangeEnd → Type 0

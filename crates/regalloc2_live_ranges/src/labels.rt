@@ -66,7 +66,7 @@ fn keep_labels<A: Allocator + Copy, F: Function>(
 /// a spill slot in the end, that shows the value; else the place of the operand that `range.by` names does. It names none only
 /// where an argument is the last use, and arguments are passed in slots. Conditions are those of [`live_ranges`].
 ///
-/// Live ranges are found only where there are labels: for a function without them no memory is asked for. The refusal is `Memory`.
+/// Live ranges are found only where there are labels: for a function without them no memory is asked for. The only error is `Memory`.
 pub fn kept_labels<A: Allocator + Copy, F: Function>(
     alloc: A,
     f: &F,

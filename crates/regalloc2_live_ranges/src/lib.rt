@@ -1,7 +1,7 @@
 //! From where to where the value of each virtual register can be shown to a debugger, and which operand's place shows it.
 //!
 //! [`live_ranges`] finds that for each virtual register, [`kept_labels`] for each label that a client put on one. Nothing here
-//! knows the allocator: its walk decides the places, and these calls say of which operands they are wanted. Upstream keeps the
+//! knows the allocator: its walk decides the places, and these calls say of which operands they are needed. Upstream keeps the
 //! same points in `vreg_to_live_inst_range` while it allocates.
 #![tactic(auto)]
 
@@ -33,8 +33,8 @@ pub struct LiveRange {
     /// The point after its definition, or before the block of which it is a parameter.
     pub first: ProgPoint,
     /// The point at which its last use ends: before the next instruction for a late use, after the instruction for an early
-    /// one, before it for an argument that it passes. Where nothing uses it, the point before the instruction that follows
-    /// its definition.
+    /// one, before it for an argument that it passes. Where nothing uses it, but for the branch that defines and passes it,
+    /// the point before the instruction that follows its definition.
     pub last: ProgPoint,
     /// The operand whose place shows the value up to the last point: the first of the last use's instruction that reads it
     /// late, or where none does the first that reads it early. None where that instruction passes it as an argument

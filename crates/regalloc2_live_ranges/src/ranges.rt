@@ -5,7 +5,7 @@ ghost use Rattle.regalloc2_names.specs.Register.{VirtualRegister};
 ghost use Rattle.regalloc2_function.specs.FunctionValue.{block_at};
 ghost use Rattle.regalloc2_names.specs.Operand.{is_def};
 ghost use Rattle.regalloc2_function.specs.DebugPoints.{DefinesAt, UsesAt};
-ghost use Rattle.regalloc2_live_ranges.specs.LastUses.{end_at};
+ghost use Rattle.regalloc2_live_ranges.specs.LastUses.{end_at, end_behind};
 ghost use Rattle.regalloc2_live_ranges.specs.LiveRanges.{IsSSA, range_at};
 ghost use Rattle.regalloc2_live_ranges.specs.WalkInvariant.{AreEndsFrom, AreRight, Stay};
 
@@ -14,6 +14,19 @@ use super::{InstOperand, LiveRange};
 use regalloc2_function::Function;
 use regalloc2_index::{Block, Inst};
 use regalloc2_names::ProgPoint;
+
+// The end of what an instruction defines, of which the uses from the instruction on are noted. One right before it is an argument that
+// it passes itself, which doesn't count.
+fn end_of_defined(noted: Option<RangeEnd>, inst: Inst, unused: RangeEnd) -> RangeEnd
+    requires { inst < 1073741824 }
+    ensures { result ≡ end_behind inst noted unused }
+{
+    let own = ProgPoint::before(inst);
+    match noted {
+        Some(end) if end.last != own => end,
+        _ => unused,
+    }
+}
 
 /// Completes the live ranges of what an instruction defines. Where nothing uses it, its definition is its last point's.
 pub fn begin_at_defs<F: Function>(
@@ -39,7 +52,7 @@ pub fn begin_at_defs<F: Function>(
                 last: ProgPoint::before(inst.next()),
                 by: Some(InstOperand { inst, index }),
             };
-            let end = ends[vreg.vreg()].unwrap_or(unused);
+            let end = end_of_defined(ends[vreg.vreg()], inst, unused);
             ranges[vreg.vreg()] = Some(LiveRange {
                 vreg,
                 first: ProgPoint::after(inst),

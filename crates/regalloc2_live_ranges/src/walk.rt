@@ -56,8 +56,8 @@ fn walk_blocks<F: Function>(ends: &mut [Option<RangeEnd>], ranges: &mut [Option<
 ///
 /// Each is that of upstream's `vreg_to_live_inst_range`. Of the function is asked what each well-formed one has (`IsSSA`): its
 /// blocks follow one another, each number is defined once, and each use comes after its definition. The time is linear in the
-/// operands, the arguments, the parameters and `num_vregs`. The refusal is `Memory`, where memory for two tables by number was
-/// refused.
+/// operands, the arguments, the parameters and `num_vregs`. The only error is `Memory`, where memory for two tables by number
+/// ran out.
 pub fn live_ranges<A: Allocator + Copy, F: Function>(
     alloc: A,
     f: &F,

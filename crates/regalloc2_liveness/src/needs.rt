@@ -56,7 +56,7 @@ impl<A: Allocator + Copy> Needs<A> {
         self.found[index]
     }
 
-    /// Adds a pair, if it wasn't found yet. Where memory is refused, all stays as it was.
+    /// Adds a pair, if it wasn't found yet. Out of memory, it leaves all as it was.
     pub fn add(&mut self, block: Block, vreg: VReg) -> Result<(), AllocError>
         ensures ok { OnOk result (self.new ≡ (if lists self.old (block, vreg) then self.old else self.old ++ (block, vreg) ∷ [])) }
         ensures err { OnErr result (self.new ≡ self.old) }

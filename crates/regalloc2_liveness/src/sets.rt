@@ -57,7 +57,7 @@ impl<A: Allocator + Copy> BlockVRegs<A> {
         Ok(())
     }
 
-    /// Adds a virtual register to a block's set. Where memory is refused no set gains or loses one.
+    /// Adds a virtual register to a block's set. Out of memory, no set gains or loses one.
     pub fn add(&mut self, block: Block, vreg: VReg) -> Result<(), AllocError>
         ensures ok { OnOk result (Gains block (is_vreg vreg) (holds self.old) (holds self.new)) }
         ensures err { OnErr result ((p : Pair) → holds self.new p ≡ holds self.old p) }

@@ -17,18 +17,11 @@ use regalloc2_index::{Block, Inst};
 use regalloc2_names::{Operand, OperandPos, VReg};
 use std::alloc::{AllocError, Allocator};
 
-/// Whether an operand stands at the position.
-fn stands_at(operand: Operand, pos: OperandPos) -> bool
-    ensures { result ≡ is_position pos operand.position }
-{
-    operand.pos() == pos
-}
-
 /// Whether an operand reads its virtual register at the position.
 fn reads_at(operand: Operand, pos: OperandPos) -> bool
     ensures { result ≡ (is_reading operand && is_position pos operand.position) }
 {
-    operand.is_reading() && stands_at(operand, pos)
+    operand.is_reading() && operand.pos() == pos
 }
 
 /// Asks for what operands read at a position.

@@ -15,9 +15,9 @@ use Rattle.regalloc2_parts.specs.AtOnce.{ends_of, names, in_turn, WritesNoneFirs
 use Rattle.regalloc2_parts.specs.Resolved.{listed, has_scratch, with_place, place_or, filled, IsRunnable, IsUnnamed, AreBetweenPlaces}
 use Rattle.regalloc2_parts.specs.declared.moves.passing.Held.{Held}
 use Rattle.regalloc2_parts.specs.declared.moves.passing.Held.TheVariants.{Free, InRegister}
-use Rattle.regalloc2_parts.specs.declared.moves.passing.Way.{Way}
+use Rattle.regalloc2_parts.specs.declared.moves.passing.ScratchReg.{ScratchReg}
 use Rattle.regalloc2_parts.specs.Tracking.{CanExpand, IsExpanded, IsMade, IsOneOf, IsFirst}
-use Rattle.regalloc2_parts.specs.Computed.{Asked, MayBeAskedTwice, Owes, IsHanding, IsRefusing, IsWay, IsChoice, IsAnswered, IsComputed}
+use Rattle.regalloc2_parts.specs.Computed.{Asked, MayBeAskedTwice, Owes, IsHanding, IsRefusing, IsVia, IsChoice, IsAnswered, IsComputed}
 use Rattle.regalloc2_parts.specs.Computed.{AreApartInMemory, AreSeenApart}
 use Rattle.regalloc2_parts.proofs.Filling.{fills_same, fills_real, or_some, or_none}
 use Rattle.regalloc2_parts.proofs.Places.{cases_place}
@@ -185,6 +185,7 @@ module _ {F G T : Type 0} (registers : F → Option Place → F → Type 0) (slo
             (free.0, subst (λ x. IsUnnamed r x) (sym e) (fills_unnamed s r given (λ h. owes.slots_differ s r g' t step next (sym h)) free.1));
       }
 
+  -- so it is with each choice of the scratch place for moves that can be run
   pub chosen : {A : Type 0} (moves : MoveVecWithScratch T A) (made : List (Place × Place × T)) (f f' : F) (g g' : G) →
       Owes registers slots stack borrowed (listed moves) f g → IsRunnable moves → IsChoice registers slots f f' g g' moves made →
       Chosen (listed moves) (has_scratch moves) f f' g g' made
@@ -296,9 +297,9 @@ module _ {F G T : Type 0} (registers : F → Option Place → F → Type 0) (slo
 
   -- moves can be made by way of what was handed out
   pub can_expand : (given made : List (Place × Place × T)) (scratch : Bool) (f f' f'' : F) (g g' g'' : G) → Chosen given scratch f f' g g' made →
-      (stack borrowed true → ⊥) → borrowed ≢ NoPlace → (h : Handed) → IsHanding registers slots f' f'' g' g'' h → (way : Way) (first : Held) →
-      IsWay h borrowed way first → CanExpand stack way.register way.save first made
-  can_expand given made scratch f f' f'' g g' g'' c away real (Register p) h way first is =
+      (stack borrowed true → ⊥) → borrowed ≢ NoPlace → (h : Handed) → IsHanding registers slots f' f'' g' g'' h → (via : ScratchReg) (first : Held) →
+      IsVia h borrowed via first → CanExpand stack via.register via.save first made
+  can_expand given made scratch f f' f'' g g' g'' c away real (Register p) h via first is =
       let was = c.free p f'' h.0 in
       record {
         no_memory = λ x. was.2 (subst (λ q. stack q true) is.0 x);
@@ -308,7 +309,7 @@ module _ {F G T : Type 0} (registers : F → Option Place → F → Type 0) (slo
         real = ((λ e. was.0 (sym is.0 ∙ e)), (λ e. was.0 (sym is.1 ∙ e)));
         between = c.between;
       }
-  can_expand given made scratch f f' f'' g g' g'' c away real (Slot p) h way first is =
+  can_expand given made scratch f f' f'' g g' g'' c away real (Slot p) h via first is =
       let was = c.unused p g'' h.1 in
       record {
         no_memory = λ x. away (subst (λ q. stack q true) is.0 x);
@@ -321,21 +322,22 @@ module _ {F G T : Type 0} (registers : F → Option Place → F → Type 0) (slo
 
   -- all that was asked for, and what was made by way of what was handed out
   pub computes_by_way : (given made : List (Place × Place × T)) (scratch : Bool) (f f' f'' : F) (g g' g'' : G) → Chosen given scratch f f' g g' made →
-      (AreApartInMemory stack made → ⊥) → (h : Handed) → IsHanding registers slots f' f'' g' g'' h → (way : Way) (first : Held) → IsWay h borrowed way first
-      → (a : Asked registers f f'') × (b : Asked slots g g'') × ((out : List (Place × Place × T)) → IsExpanded stack way.register way.save made out →
+      (AreApartInMemory stack made → ⊥) → (h : Handed) → IsHanding registers slots f' f'' g' g'' h → (via : ScratchReg) (first : Held) →
+      IsVia h borrowed via first
+      → (a : Asked registers f f'') × (b : Asked slots g g'') × ((out : List (Place × Place × T)) → IsExpanded stack via.register via.save made out →
       IsComputed stack borrowed (IsAnswered a.answers b.answers) scratch given out)
-  computes_by_way given made scratch f f' f'' g g' g'' c some (Register p) h way first is =
+  computes_by_way given made scratch f f' f'' g g' g'' c some (Register p) h via first is =
       let answered : (q : Place) → q ≡ p → IsAnswered (c.rs ++ Some p ∷ []) (c.ss ++ []) q = λ q e. inl
       (subst (λ x. Contains (c.rs ++ Some p ∷ []) (Some x)) (sym e) (Contains-push c.rs (Some p))) in (
         more_registers given made scratch f f' f'' g g' c (Some p) h.0,
         no_more_slots given made scratch f f' g g' g'' c h.1,
-        (λ out x. computed_by_way given made out scratch f f' g g' c (Some p ∷ []) [] way.register way.save (inl (answered way.register is.0))
-            (answered way.save is.1) some x.same x.each),
+        (λ out x. computed_by_way given made out scratch f f' g g' c (Some p ∷ []) [] via.register via.save (inl (answered via.register is.0))
+            (answered via.save is.1) some x.same x.each),
       )
-  computes_by_way given made scratch f f' f'' g g' g'' c some (Slot p) h way first is = (
+  computes_by_way given made scratch f f' f'' g g' g'' c some (Slot p) h via first is = (
     more_registers given made scratch f f' f'' g g' c None h.0,
     more_slots given made scratch f f' g g' g'' c (Some p) h.1,
-    (λ out x. computed_by_way given made out scratch f f' g g' c (None ∷ []) (Some p ∷ []) way.register way.save (inr is.0)
+    (λ out x. computed_by_way given made out scratch f f' g g' c (None ∷ []) (Some p ∷ []) via.register via.save (inr is.0)
         (inr (subst (λ y. Contains (c.ss ++ Some p ∷ []) (Some y)) (sym is.1) (Contains-push c.ss (Some p)))) some x.same x.each),
   )
 

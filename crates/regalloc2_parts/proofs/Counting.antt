@@ -176,6 +176,7 @@ module _ (old new : List Ends) (nexts : List ℕ) (fair : AreFair old) (tidied :
       let counted : length given ≡ length new + length order.rings = order.counted in
       (ends_ring (ring_at order.rings 0), ring_cycle (ring_at order.rings 0) (order.each 0 (omega arith)))
 
+  -- where no more moves were given out than the tidied list has, there is no cycle
   pub no_more_cycle : (given : List Ends) → IsOrder new nexts given → length given ≤ length new → HasCycle old → ⊥
   no_more_cycle given order few has =
       let counted : length given ≡ length new + length order.rings = order.counted in
@@ -195,6 +196,7 @@ module _ (old new : List Ends) (nexts : List ℕ) (fair : AreFair old) (tidied :
       let e : number_at nexts (number_at found.0 0) ≡ number_at found.0 1 = found.1.linked 0 (omega arith) in
       omega arith
 
+  -- where no move has a next, the tidied list has one move for each that changes something
   pub free_counted : ((k : ℕ) → k < length nexts → length nexts ≤ number_at nexts k) → IsCounted old (length new)
   free_counted free = record {
     changes = new;

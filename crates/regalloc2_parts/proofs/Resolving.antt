@@ -40,10 +40,12 @@ module _ {T : Type 0} where
       let d : Place × Place × T = some_of ms h.0 within in
       subst P (sym (get_or-map ends ms h.0 d m within) ∙ h.2) (had h.0 d within)
 
+  -- the words of the places of real moves give these back
   pub real_proper : (ms : List (Place × Place × T)) → AreReal ms → AreProper (ends_of ms)
   real_proper ms real m h = of_ends (λ (m : Ends). IsPlace m.from × IsPlace m.to) ms
       (λ k d r. let one : IsRealMove (get_or ms k d) = real k d r in (one.0, one.1)) m h
 
+  -- real moves with one source for each destination are fair
   pub real_fair : (ms : List (Place × Place × T)) → HasOneSourceEach (ends_of ms) → AreReal ms → AreFair (ends_of ms)
   real_fair ms one real = record {
     one_source = one;

@@ -32,6 +32,7 @@ module _ {T : Type 0} (ms : List (Place × Place × T)) (proper : AreProper (end
       let rise : bits_of_place (get_or ms i d).1 ≤ bits_of_place (get_or ms j d).1 = sorted i j d le in_range in
       grind (arith, nat_tests)
 
+  -- a search that finds a move by its destination's word has found the move that writes the place
   pub found_writer : (at : ℕ) → at < length ms → IsBinarySearchResult (λ (m : Place × Place × T). nat_cmp (bits_of_place m.1) word) ms (Ok at) →
       IsWriterOf (ends_of ms) place at
   found_writer at in_range equal =
@@ -47,6 +48,7 @@ module _ {T : Type 0} (ms : List (Place × Place × T)) (proper : AreProper (end
         absent = λ n. absurd (n low);
       }
 
+  -- where it finds none, no move writes the place
   pub no_writer : (at : ℕ) → at ≤ length ms → IsBinarySearchResult (λ (m : Place × Place × T). nat_cmp (bits_of_place m.1) word) ms (Err at) →
       IsWriterOf (ends_of ms) place (length ms)
   no_writer at in_range parted =

@@ -205,6 +205,7 @@ module _ {T : Type 0} where
       let p : Place × Place × T → Bool = λ m. not (bits_of_place m.0 == bits_of_place m.1) in
       cond_ends (p x) (x ∷ filter p xs) (filter p xs) ∙ rw (filter_ends xs) refl
 
+  -- moves that are sorted by destinations, freed of repeats and of those from a place to itself, are the tidied ones
   pub tidies_ends : (old sorted new : List (Place × Place × T)) → AreProper (ends_of old) → AreFair (ends_of old) → IsPermutation old sorted →
       IsNonDecreasingBy (λ (m : Place × Place × T). bits_of_place m.1) sorted →
       new ≡ filter (λ (m : Place × Place × T). not (bits_of_place m.0 == bits_of_place m.1))
@@ -215,6 +216,7 @@ module _ {T : Type 0} where
       (ap ends_of e ∙ filter_ends (dedup same sorted) ∙ ap (λ xs. filter (λ (m : Ends). not (bits_of_place m.from == bits_of_place m.to)) xs)
       (dedup_ends sorted))
 
+  -- each of the tidied moves is one of the given ones
   pub tidied_given : (old sorted new : List (Place × Place × T)) (m : Place × Place × T) → IsPermutation old sorted →
       new ≡ filter (λ (m : Place × Place × T). not (bits_of_place m.0 == bits_of_place m.1))
       (dedup (λ (x y : Place × Place × T). bits_of_place x.1 == bits_of_place y.1) sorted) → Contains new m → Contains old m

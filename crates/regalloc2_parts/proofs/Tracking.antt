@@ -33,6 +33,7 @@ module _ (r s : Place) where
     borrowed = λ differ. moved_here d s s (d r) refl ∙ had.borrowed differ;
   }
 
+  -- so it is once a move from the register to the save slot is pushed
   pub saves_pushed : {T : Type 0} (c d : Cells Place) (old new : List (Place × Place × T)) (m : Place × Place × T) → m.0 ≡ r → m.1 ≡ s → new ≡ old ++ m ∷ [] →
       Tracks r s InRegister c (in_turn (ends_of old) d) → Tracks r s InSave c (in_turn (ends_of new) d)
   saves_pushed c d old new m from to e had =
@@ -48,6 +49,7 @@ module _ (r s : Place) where
     borrowed = λ differ. (moved_here d r r (d s) refl ∙ had.borrowed differ, moved_other d r s (d s) differ ∙ had.borrowed differ);
   }
 
+  -- so it is once a move from the save slot to the register is pushed
   pub restores_pushed : {T : Type 0} (c d : Cells Place) (old new : List (Place × Place × T)) (m : Place × Place × T) → m.0 ≡ s → m.1 ≡ r → new ≡ old
       ++ m ∷ [] → Tracks r s InSave c (in_turn (ends_of old) d) → Tracks r s InBoth c (in_turn (ends_of new) d)
   restores_pushed c d old new m from to e had =
@@ -122,6 +124,7 @@ module _ (r s : Place) where
   reads InBoth c d a n ready had = ⊎_elim (λ e. ap d e ∙ (had.borrowed (λ f. n (e ∙ f))).0 ∙ ap c (sym e)) (λ m. had.others a m n) (cases_place a r)
   reads InSave c d a n ready had = had.others a (λ e. ready e refl) n
 
+  -- a move that names no save slot and isn't into the register is tracked once it is pushed
   pub copies_pushed : {T : Type 0} (h : Held) (c d : Cells Place) (m : Place × Place × T) (old new : List (Place × Place × T)) → (m.0 ≢ s) × (m.1 ≢ s) →
       (m.0 ≡ r → h ≢ InSave) → m.1 ≢ r → new ≡ old ++ m ∷ [] → Tracks r s h c (in_turn (ends_of old) d) →
       Tracks r s h (moved c m.1 (c m.0)) (in_turn (ends_of new) d)
@@ -130,6 +133,7 @@ module _ (r s : Place) where
       subst (λ z. Tracks r s h (moved c m.1 (c m.0)) z) (sym (pushed old new m e d))
       (copies_other h c x m.1 (x m.0) (c m.0) other unnamed.1 (reads h c x m.0 unnamed.0 ready had) had)
 
+  -- a move into the register is tracked too, and the register holds its own from then on
   pub copies_pushed_into : {T : Type 0} (h : Held) (c d : Cells Place) (m : Place × Place × T) (old new : List (Place × Place × T)) → (m.0 ≢ s) × (m.1 ≢ s) →
       (m.0 ≡ r → h ≢ InSave) → m.1 ≡ r → new ≡ old ++ m ∷ [] → Tracks r s h c (in_turn (ends_of old) d) →
       Tracks r s InRegister (moved c m.1 (c m.0)) (in_turn (ends_of new) d)
@@ -154,6 +158,7 @@ module _ (r s : Place) where
   follows_none InBoth ms out first fits e d = absurd first
   follows_none InSave ms out first fits e d = absurd first
 
+  -- if what is pushed for one more move tracks it, the moves up to it are made
   pub follows_more : {T : Type 0} (h after : Held) (ms old new : List (Place × Place × T)) (i : ℕ) (m : Place × Place × T) → i < length (ends_of ms) →
       m.0 ≡ from_at (ends_of ms) i → m.1 ≡ to_at (ends_of ms) i → Follows h ms old i →
       ((c d : Cells Place) → Tracks r s h c (in_turn (ends_of old) d) → Tracks r s after (moved c m.1 (c m.0)) (in_turn (ends_of new) d)) →
@@ -165,6 +170,7 @@ module _ (r s : Place) where
       subst (λ x. Tracks r s after x (in_turn (ends_of new) d))
       (sym (e ∙ ap (λ p. moved c p (c (from_at (ends_of ms) i))) (sym to) ∙ ap (λ p. moved c m.1 (c p)) (sym from))) (step c d (had d))
 
+  -- once all moves are made and the register is restored, each place but the save slot holds what the given moves say
   pub follows_all : {T : Type 0} (h after : Held) (ms old new : List (Place × Place × T)) (i : ℕ) → length (ends_of ms) ≤ i → Follows h ms old i →
       ((c d : Cells Place) → Tracks r s h c (in_turn (ends_of old) d) → Tracks r s after c (in_turn (ends_of new) d)) → after ≢ InSave →
       (d : Cells Place) (q : Place) → q ≢ s → in_turn (ends_of new) d q ≡ in_turn (ends_of ms) d q
@@ -240,6 +246,7 @@ module _ {T : Type 0} (stack : Place → Bool → Type 0) (r s : Place) (no_stac
   made_step true m x inside ends apart h = made_through m x inside ends h
   made_step false m x inside ends apart h = made_itself m x inside ends (apart refl) h
 
+  -- moves that save or restore the register may be added to those that are made for the moves
   pub made_last : (old new : List (Place × Place × T)) → All (IsMade stack r s ms) old →
       ((x : Place × Place × T) → Contains new x → Contains old x ⊎ IsAside r s x) → All (IsMade stack r s ms) new
   made_last old new had added k d low = ⊎_elim
@@ -247,6 +254,7 @@ module _ {T : Type 0} (stack : Place → Bool → Type 0) (r s : Place) (no_stac
       (λ a. made_aside (get_or new k d) a)
       (added (get_or new k d) (Contains-get_or new k d low))
 
+  -- and so may be what is made of one more of the moves
   pub made_more : (passing : Bool) (m : Place × Place × T) (old new : List (Place × Place × T)) → Contains ms m → (m.0 ≢ NoPlace) × (m.1 ≢ NoPlace) →
       (passing ≡ false → stack m.0 false ⊎ stack m.1 false) → All (IsMade stack r s ms) old →
       ((x : Place × Place × T) → Contains new x → (Contains old x ⊎ IsAside r s x) ⊎ IsStep r passing m x) → All (IsMade stack r s ms) new

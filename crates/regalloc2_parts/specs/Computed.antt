@@ -9,7 +9,7 @@ use Rattle.regalloc2_parts.specs.declared.moves.scratch.Handed.{Handed}
 use Rattle.regalloc2_parts.specs.declared.moves.scratch.Handed.TheVariants.{Register, Slot}
 use Rattle.regalloc2_parts.specs.declared.moves.passing.Held.{Held}
 use Rattle.regalloc2_parts.specs.declared.moves.passing.Held.TheVariants.{Free, InRegister as Borrowed}
-use Rattle.regalloc2_parts.specs.declared.moves.passing.Way.{Way}
+use Rattle.regalloc2_parts.specs.declared.moves.passing.ScratchReg.{ScratchReg}
 use Rattle.regalloc2_parts.specs.declared.moves.scratch.MoveAndScratchResolver.{MoveAndScratchResolver}
 use Rattle.regalloc2_parts.specs.declared.moves.resolved.MoveVecWithScratch.{MoveVecWithScratch}
 use Rattle.regalloc2_parts.specs.AtOnce.{ends_of, names, in_turn}
@@ -65,9 +65,9 @@ abbrev pub IsRefusing : {F G : Type 0} → (F → Option Place → F → Type 0)
 IsRefusing registers slots f f' g g' = registers f None f' × slots g None g'
 
 -- the register through which moves go, and the slot in which it is saved: a free register needs none, and stands for its own
-abbrev pub IsWay : Handed → Place → Way → Held → Type 0
-IsWay (Register p) borrowed way held = (way.register ≡ p) × (way.save ≡ p) × (held ≡ Free)
-IsWay (Slot p) borrowed way held = (way.register ≡ borrowed) × (way.save ≡ p) × (held ≡ Borrowed)
+abbrev pub IsVia : Handed → Place → ScratchReg → Held → Type 0
+IsVia (Register p) borrowed via held = (via.register ≡ p) × (via.save ≡ p) × (held ≡ Free)
+IsVia (Slot p) borrowed via held = (via.register ≡ borrowed) × (via.save ≡ p) × (held ≡ Borrowed)
 
 abbrev pub handed_place : Handed → Place
 handed_place (Register p) = p

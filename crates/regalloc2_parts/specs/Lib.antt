@@ -9,3 +9,6 @@ pub mod Cycles
 pub mod Resolved
 pub mod Tracking
 pub mod Computed
+pub mod Links
+pub mod RingNodes
+pub mod VRegNodes

@@ -4,7 +4,7 @@ use Rattle.std.specs.List.{All}
 use Rattle.regalloc2_names.specs.Place.{Place, NoPlace}
 use Rattle.regalloc2_parts.specs.declared.moves.passing.Held.{Held}
 use Rattle.regalloc2_parts.specs.declared.moves.passing.Held.TheVariants.{Free, InRegister, InBoth, InSave}
-use Rattle.regalloc2_parts.specs.declared.moves.passing.Way.{Way}
+use Rattle.regalloc2_parts.specs.declared.moves.passing.ScratchReg.{ScratchReg}
 use Rattle.regalloc2_parts.specs.AtOnce.{Cells, ends_of, names, in_turn}
 use Rattle.regalloc2_parts.specs.Resolved.{IsUnnamed, AreBetweenPlaces}
 use Rattle.regalloc2_parts.specs.Computed.{IsEitherAway}
@@ -75,10 +75,10 @@ pub record CanExpand {T : Type 0} (stack : Place → Bool → Type 0) (register 
   pub between : AreBetweenPlaces ms
 
 -- the closure may be called at each place, and with what it says the moves can be made by way of the register and the slot
-pub record CanExpandBy {H T : Type 0} (is_callable : H → Type 0) (answers : H → Place → Bool → Type 0) (closure : H) (way : Way) (held : Held)
+pub record CanExpandBy {H T : Type 0} (is_callable : H → Type 0) (answers : H → Place → Bool → Type 0) (closure : H) (via : ScratchReg) (held : Held)
     (ms : List (Place × Place × T)) : Type 0 where
   pub callable : is_callable closure
-  pub can : CanExpand (answers closure) way.register way.save held ms
+  pub can : CanExpand (answers closure) via.register via.save held ms
 
 -- The moves `made` do what the moves ms do, but for the slot, and none of them goes from memory to memory.
 pub record IsExpanded {T : Type 0} (stack : Place → Bool → Type 0) (register save : Place) (ms made : List (Place × Place × T)) : Type 0 where

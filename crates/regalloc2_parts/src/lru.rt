@@ -1,6 +1,6 @@
 //! Registers in the order of their last use.
 
-ghost use Rattle.std.specs.Prelude.{◌≡◌, ◌-◌, ◌∷◌, ◌<◌, ◌≤◌, ◌↔◌, ◌==◌, IsTrue, false, IfSome, IfNone, IfOk, IfErr, IsNone, All, Contains, length};
+ghost use Rattle.std.specs.Prelude.{◌≡◌, ◌-◌, ◌∷◌, ◌<◌, ◌≤◌, ◌↔◌, ◌==◌, IsTrue, true, false, IfSome, IfNone, IfOk, IfErr, All, Contains, length};
 ghost use Rattle.std.specs.Prelude.{not, filter, find, reverse, slice_get, slice_index_or, ◌≢◌, [], IsOk};
 ghost use Rattle.std.specs.List.{IsDistinct};
 ghost use Rattle.regalloc2_names.specs.declared.RegClass.{RegClass};
@@ -8,61 +8,49 @@ ghost use Rattle.regalloc2_names.specs.Register.{Register, class_code, is_regist
 ghost use Rattle.regalloc2_names.specs.RegisterSet.{has_register};
 ghost use Rattle.regalloc2_parts.specs.Ring.{AreDistinctOf, IsNewRing, IsOldestAccepted, ring_of};
 
+use nodes::{LruNode, OldestFirst};
 use regalloc2_names::{PReg, PRegSet, RegAllocError, RegClass};
 use std::alloc::{Allocator, Global};
 use std::fmt;
 use std::marker::Model;
 use std::ops::{Index, IndexMut};
 
+mod nodes;
+
 /// The registers of one class in the order of their last use, seen as their list: the newest first.
 ///
-/// No register stands twice in it, and none comes or goes: only the order changes.
+/// No register stands twice in it, and none comes or goes: only the order changes. It is a ring of nodes, one for each
+/// number, that name their neighbours.
 #[derive(Debug, Drop)]
 pub struct Lru<A: Allocator = Global> {
-    regs: Vec<PReg, A>,
+    /// A node for each number; none for an empty ring.
+    nodes: Vec<LruNode, A>,
+    /// The number of the newest.
+    head: u8,
+    class: RegClass,
 }
 
 impl<A: Allocator> Model for Lru<A> {
     ghost use Rattle.std.specs.Prelude.{List};
-    ghost use Rattle.std.specs.List.{IsDistinct};
-    ghost use Rattle.regalloc2_names.specs.Register.{Register, is_register};
+    ghost use Rattle.regalloc2_names.specs.Register.{Register};
+    ghost use Rattle.regalloc2_parts.specs.RingNodes.{IsLruNodes, ring_registers};
 
     ghost Value = { List Register };
 
-    ghost view = { λ ring. ring.regs.items };
+    ghost view = { λ ring. ring_registers ring.nodes.items ring.head ring.class };
 
-    ghost invariant = { λ ring. IsDistinct is_register ring.regs.items };
+    ghost invariant = { λ ring. IsLruNodes ring.nodes.items ring.head };
 }
 
-/// Whether two names stand for one register.
-fn is_same(a: PReg, b: PReg) -> bool
-    ensures { result ≡ is_register a b }
+/// The set of some registers.
+fn set_of(regs: &[PReg]) -> PRegSet
+    ensures { (r : Register) → (has_register result r ≡ true) ↔ Contains regs.now r }
 {
-    a.class() as u8 == b.class() as u8 && a.hw_enc() == b.hw_enc()
-}
-
-/// Where a member stands, sought from the oldest on: a register that is poked is mostly one of the oldest.
-fn position(regs: &[PReg], preg: PReg) -> usize
-    requires { Contains regs.now preg }
-    ensures inside { result < length regs.now }
-    ensures there { slice_index_or regs.now result preg ≡ preg }
-{
-    let mut at = regs.len() - 1;
-    while !is_same(preg, regs[at]) {
-        at -= 1;
+    let mut set = PRegSet::empty();
+    for preg in regs {
+        set.add(*preg);
     }
-    at
-}
-
-/// Makes a member the first; the others keep their order.
-fn move_to_front(regs: &mut [PReg], preg: PReg)
-    requires member { Contains regs.old preg }
-    requires distinct { IsDistinct is_register regs.old }
-    ensures moved { regs.new ≡ preg ∷ filter (λ r. not (is_register preg r)) regs.old }
-    ensures long { length regs.new ≡ length regs.old }
-{
-    let at = position(regs, preg);
-    regs[..at + 1].rotate_right(1);
+    set
 }
 
 impl<A: Allocator> Lru<A> {
@@ -76,10 +64,22 @@ impl<A: Allocator> Lru<A> {
         ensures memory { IfErr result (λ e. e ≡ RegAllocError.Memory) }
         ensures empty { regs.now ≡ [] → IsOk result }
     {
-        let mut list = Vec::with_capacity(alloc, regs.len())?;
-        list.extend_from_slice(regs)?;
-        list.sort_unstable_by_key(|r| r.hw_enc());
-        Ok(Lru { regs: list })
+        let mut rest = set_of(regs).into_iter();
+        let Some(newest) = rest.next() else {
+            return Ok(Lru {
+                nodes: Vec::new(alloc),
+                head: 0,
+                class: regclass,
+            });
+        };
+        let mut nodes = vec![in alloc; LruNode { prev: 0, next: 0 }; PReg::MAX + 1]?;
+        let head = newest.hw_enc() as u8;
+        nodes::make_ring(&mut nodes, head, rest);
+        Ok(Lru {
+            nodes,
+            head,
+            class: regclass,
+        })
     }
 
     /// Makes a member the newest; the others keep their order.
@@ -89,7 +89,19 @@ impl<A: Allocator> Lru<A> {
         ensures members { (r : Register) → Contains self.new r ↔ Contains self.old r }
         ensures distinct { IsDistinct is_register self.new }
     {
-        move_to_front(&mut self.regs, preg);
+        nodes::poke_node(&mut self.nodes, &mut self.head, preg.hw_enc() as u8);
+    }
+
+    /// A walk over the members, the oldest first.
+    fn oldest_first(&self) -> OldestFirst<'_>
+        ensures walk { result ≡ reverse self.now }
+        ensures distinct { IsDistinct is_register self.now }
+    {
+        if self.nodes.is_empty() {
+            OldestFirst::none(&self.nodes, self.class)
+        } else {
+            OldestFirst::of(&self.nodes, self.head, self.class)
+        }
     }
 
     /// The oldest member, which stays in the ring; `None` for an empty ring.
@@ -99,7 +111,7 @@ impl<A: Allocator> Lru<A> {
         ensures unchanged { self.new ≡ self.old }
         ensures distinct { IsDistinct is_register self.new }
     {
-        self.regs.last().copied()
+        self.oldest_first().next()
     }
 
     /// The oldest member that is in the set; `None` where no member is.
@@ -110,7 +122,7 @@ impl<A: Allocator> Lru<A> {
         ensures none { IfNone result (All (λ r. has_register from r ≡ false) self.now) }
         ensures distinct { IsDistinct is_register self.now }
     {
-        self.regs.iter().rev().copied().find(|r| from.contains(*r))
+        self.oldest_first().find(|r| from.contains(*r))
     }
 
     /// The oldest member that `f` accepts; `None` where it accepts none. `f` is asked from the oldest on, and no more
@@ -120,11 +132,7 @@ impl<A: Allocator> Lru<A> {
         ensures oldest { IsOldestAccepted (λ r b. F.post f r b) self.now result }
         ensures member { IfSome result (λ r. Contains self.now r) }
     {
-        let regs = self.regs.as_slice();
-        let mut left = regs.len();
-        while left > 0 {
-            left -= 1;
-            let preg = regs[left];
+        for preg in self.oldest_first() {
             if f(preg) {
                 return Some(preg);
             }
@@ -136,7 +144,7 @@ impl<A: Allocator> Lru<A> {
     pub fn is_empty(&self) -> bool
         ensures { result ≡ (length self.now == 0) }
     {
-        self.regs.is_empty()
+        self.nodes.is_empty()
     }
 }
 

@@ -1,29 +1,84 @@
 //! The list of live virtual registers.
 
-ghost use Rattle.std.specs.Prelude.{◌≡◌, ◌≢◌, ◌∷◌, [], ◌<◌, ◌≤◌, ◌==◌, IfOk, IfErr, All, Any, length, not, filter};
+ghost use Rattle.std.specs.Prelude.{ℕ, ◌≡◌, ◌≢◌, ◌∷◌, [], ◌<◌, ◌≤◌, ◌==◌, IfOk, IfErr, All, Any, Contains, length, not, filter, nat_eq, slice_set};
 ghost use Rattle.std.specs.Iterator.{YieldsFirst, item_count};
 ghost use Rattle.regalloc2_parts.specs.LiveList.{NamesEachOnce};
+ghost use Rattle.regalloc2_parts.specs.VRegNodes.{IsVRegList, Lists, changed_links, nexts, members_of, numbers, prevs, vregs};
 
 use regalloc2_names::{RegAllocError, VReg};
 use std::alloc::{Allocator, Global};
 use std::marker::Model;
 
+/// A virtual register with its neighbours in the list, by number.
+#[derive(Clone, Copy, Debug)]
+struct VRegNode {
+    prev: u32,
+    next: u32,
+    vreg: VReg,
+}
+
+/// Makes two numbers neighbours: two links change.
+fn link(nodes: &mut [VRegNode], prev: u32, next: u32)
+    requires prev { prev < length nodes.old }
+    requires next { next < length nodes.old }
+    ensures nexts { nexts nodes.new ≡ slice_set (nexts nodes.old) prev next }
+    ensures prevs { prevs nodes.new ≡ slice_set (prevs nodes.old) next prev }
+    ensures vregs { vregs nodes.new ≡ vregs nodes.old }
+    ensures few { changed_links nodes.old nodes.new ≤ 2 }
+    ensures long { length nodes.new ≡ length nodes.old }
+{
+    nodes[prev as usize].next = next;
+    nodes[next as usize].prev = prev;
+}
+
+/// Puts a virtual register behind the head: four links and its node's vreg change.
+fn insert_node(nodes: &mut [VRegNode], head: u32, vreg: VReg)
+    requires list { IsVRegList nodes.old head }
+    requires below { vreg.number < head }
+    requires absent { All (λ n. n ≢ vreg.number) (numbers nodes.old head) }
+    ensures list { Lists nodes.new head (vreg ∷ members_of nodes.old head) }
+    ensures few { changed_links nodes.old nodes.new ≤ 4 }
+    ensures vregs { vregs nodes.new ≡ slice_set (vregs nodes.old) vreg.number vreg }
+    ensures long { length nodes.new ≡ length nodes.old }
+{
+    let number = vreg.vreg() as u32;
+    let first = nodes[head as usize].next;
+    nodes[number as usize].vreg = vreg;
+    link(nodes, number, first);
+    link(nodes, head, number);
+}
+
+/// Takes a number out of the list: two links change.
+fn remove_node(nodes: &mut [VRegNode], head: u32, number: u32)
+    requires list { IsVRegList nodes.old head }
+    requires member { Contains (numbers nodes.old head) number }
+    ensures list { Lists nodes.new head (filter (λ v. not (v.number == number)) (members_of nodes.old head)) }
+    ensures few { changed_links nodes.old nodes.new ≤ 2 }
+    ensures vregs { vregs nodes.new ≡ vregs nodes.old }
+    ensures long { length nodes.new ≡ length nodes.old }
+{
+    let node = nodes[number as usize];
+    link(nodes, node.prev, node.next);
+}
+
 /// Virtual registers with different numbers below a capacity, seen as their list, the newest first.
 #[derive(Debug, Drop)]
 pub struct VRegSet<A: Allocator = Global> {
-    vregs: Vec<VReg, A>,
-    capacity: usize,
+    /// A node for each number below the capacity, and the head, which stands before the newest and after the oldest.
+    nodes: Vec<VRegNode, A>,
+    /// The head's number, which is the capacity.
+    head: u32,
 }
 
 impl<A: Allocator> Model for VRegSet<A> {
-    ghost use Rattle.std.specs.Prelude.{◌≤◌, vec_capacity};
-    ghost use Rattle.regalloc2_parts.specs.LiveList.{LiveList, NamesEachOnce};
+    ghost use Rattle.regalloc2_parts.specs.LiveList.{LiveList};
+    ghost use Rattle.regalloc2_parts.specs.VRegNodes.{IsVRegList, members_of};
 
     ghost Value = { LiveList };
 
-    ghost view = { λ s. record { members = s.vregs.items; capacity = s.capacity } };
+    ghost view = { λ s. record { members = members_of s.nodes.items s.head; capacity = s.head } };
 
-    ghost invariant = { λ s. NamesEachOnce s.vregs.items s.capacity × (s.capacity ≤ vec_capacity s.vregs) };
+    ghost invariant = { λ s. IsVRegList s.nodes.items s.head };
 }
 
 impl<A: Allocator> VRegSet<A> {
@@ -35,11 +90,14 @@ impl<A: Allocator> VRegSet<A> {
         ensures made { IfOk result (λ set. set ≡ record { members = []; capacity = num_vregs }) }
         ensures memory { IfErr result (λ e. e ≡ RegAllocError.Memory) }
     {
-        let vregs = Vec::with_capacity(alloc, num_vregs)?;
-        Ok(VRegSet {
-            vregs,
-            capacity: num_vregs,
-        })
+        let head = num_vregs as u32;
+        let node = VRegNode {
+            prev: head,
+            next: head,
+            vreg: VReg::invalid(),
+        };
+        let nodes = vec![in alloc; node; num_vregs + 1]?;
+        Ok(VRegSet { nodes, head })
     }
 
     /// Puts a vreg in front. Its number is below the capacity and no member's.
@@ -49,7 +107,7 @@ impl<A: Allocator> VRegSet<A> {
         ensures inserted { self.new ≡ record self.old { members = vreg ∷ self.old.members } }
         ensures proper { NamesEachOnce self.new.members self.new.capacity }
     {
-        self.vregs.insert(0, vreg).unwrap();
+        insert_node(&mut self.nodes, self.head, vreg);
     }
 
     /// Takes the member with this number out; the others keep their order.
@@ -58,14 +116,14 @@ impl<A: Allocator> VRegSet<A> {
         ensures removed { self.new ≡ record self.old { members = filter (λ v. not (v.number == vreg_num)) self.old.members } }
         ensures proper { NamesEachOnce self.new.members self.new.capacity }
     {
-        self.vregs.retain(|v| v.vreg() != vreg_num);
+        remove_node(&mut self.nodes, self.head, vreg_num as u32);
     }
 
     /// Whether it has no member.
     pub fn is_empty(&self) -> bool
         ensures { result ≡ (length self.now.members == 0) }
     {
-        self.vregs.is_empty()
+        self.nodes[self.head as usize].next == self.head
     }
 
     /// Walks the members, the newest first.
@@ -73,23 +131,33 @@ impl<A: Allocator> VRegSet<A> {
         ensures members { result ≡ self.now.members }
         ensures proper { NamesEachOnce self.now.members self.now.capacity }
     {
-        VRegSetIter { rest: &self.vregs }
+        VRegSetIter {
+            nodes: &self.nodes,
+            head: self.head,
+            at: self.nodes[self.head as usize].next,
+        }
     }
 }
 
 /// The members that are left of a walk, seen as their list.
 #[derive(Debug, Drop)]
 pub struct VRegSetIter<'a> {
-    rest: &'a [VReg],
+    nodes: &'a [VRegNode],
+    head: u32,
+    at: u32,
 }
 
 impl<'a> Model for VRegSetIter<'a> {
     ghost use Rattle.std.specs.Prelude.{List};
     ghost use Rattle.regalloc2_names.specs.Register.{VirtualRegister};
+    ghost use Rattle.regalloc2_parts.specs.Links.{IsWalk, walked};
+    ghost use Rattle.regalloc2_parts.specs.VRegNodes.{nexts, rest_from};
 
     ghost Value = { List VirtualRegister };
 
-    ghost view = { λ it. it.rest.now };
+    ghost view = { λ it. rest_from it.nodes.now it.head it.at };
+
+    ghost invariant = { λ it. IsWalk (nexts it.nodes.now) it.head it.at (walked (nexts it.nodes.now) it.head it.at) };
 }
 
 impl<'a> Iterator for VRegSetIter<'a> {
@@ -100,8 +168,11 @@ impl<'a> Iterator for VRegSetIter<'a> {
     ghost remaining = { item_count (λ rest. rest) };
 
     fn next(&mut self) -> Option<VReg> {
-        let (first, others) = self.rest.split_first()?;
-        self.rest = others;
-        Some(*first)
+        if self.at == self.head {
+            return None;
+        }
+        let node = self.nodes[self.at as usize];
+        self.at = node.next;
+        Some(node.vreg)
     }
 }

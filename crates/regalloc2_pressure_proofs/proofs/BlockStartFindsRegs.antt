@@ -1,4 +1,4 @@
--- At a block's beginning registers suffice: all registers are available, and nothing is owed but the spare.
+-- At a block's beginning registers suffice: all registers are available, and nothing is needed but the scratch reserve.
 use Rattle.std.proofs.Common.{ℕ, ◌≡◌, ◌≢◌, ◌<◌, true, List, length, slice_index_or}
 use Rattle.std.specs.Prelude.{not}
 use Rattle.regalloc2_names.specs.declared.RegClass.{RegClass}
@@ -19,7 +19,7 @@ use Rattle.regalloc2_fastalloc_proofs.proofs.Safety.StepsKeepSafe.{IsApart, slot
 use Rattle.regalloc2_fastalloc_proofs.proofs.Slots.SlotsGrow.{gives_stay, end_grows}
 use Rattle.regalloc2_fastalloc_proofs.proofs.Safety.BlockStartKeepsSafe.{PartKept, parameters_kept, empties_kept}
 use Rattle.regalloc2_fastalloc_proofs.proofs.Safety.InstKeepsSafe.{fresh_turn}
-use Rattle.regalloc2_pressure_proofs.specs.EnoughRegs.{HasEnoughRegs, none_owed, AllWrite, AllMay, AreSafe}
+use Rattle.regalloc2_pressure_proofs.specs.EnoughRegs.{HasEnoughRegs, none_needed, AllWrite, AllMay, AreSafe}
 use Rattle.regalloc2_pressure_proofs.proofs.StepsKeepMachine.{keeps_of, HasAll, all_kept}
 use Rattle.regalloc2_pressure_proofs.proofs.OneRegTaken.{ample_none, ample_kept}
 use Rattle.regalloc2_pressure_proofs.proofs.StepsLeaveEnough.{ample_clears, never_clear, ample_sends, never_send}
@@ -32,7 +32,7 @@ use Rattle.regalloc2_pressure_proofs.proofs.WalkKeepsSafe.{parameters_keep}
 pub starts_fresh : (inst_regs : InstRegs) (t : StateValue) → IsFresh inst_regs t → StartsFree inst_regs t
 starts_fresh inst_regs t f = record { early = f.early; late = f.late; scratch = f.scratch }
 
-module _ (Named : RegClass → Type 0) (owed : RegClass → ℕ) (point : ℕ) (env : MachineValue) (apart : IsApart env) (Known : VirtualRegister → Type 0)
+module _ (Named : RegClass → Type 0) (needed : RegClass → ℕ) (point : ℕ) (env : MachineValue) (apart : IsApart env) (Known : VirtualRegister → Type 0)
     (named : (v : VirtualRegister) → Known v → Named v.class) where
   -- the ends of a parameter's move
   parameter_ends : (v : VirtualRegister) (s : Place) (old m : StateValue) → Known v → AreSafe env Known old → GetsSpillSlot old.slots m.slots v s →
@@ -47,29 +47,29 @@ module _ (Named : RegClass → Type 0) (owed : RegClass → ℕ) (point : ℕ) (
 
   -- a parameter
   ample_parameter : (v : VirtualRegister) (t u : InstRegs) (old new : StateValue) → ReloadsParam point v t u old new → Known v → AreSafe env Known old →
-      HasAll env old → AreSafeRegs env t → HasEnoughRegs Named owed t old → HasEnoughRegs Named owed u new
-  ample_parameter v t u old new (nowhere none eu en) known h all ht a = ample_none Named owed t u old new eu en a
+      HasAll env old → AreSafeRegs env t → HasEnoughRegs Named needed t old → HasEnoughRegs Named needed u new
+  ample_parameter v t u old new (nowhere none eu en) known h all ht a = ample_none Named needed t u old new eu en a
   ample_parameter v t u old new (comes s m there gives settles edits machine sends) known h all ht a =
-      ample_sends Named owed point env apart Known named v (not (is_place s (alloc_of old.places v.number))) s (alloc_of old.places v.number) t u m new sends
+      ample_sends Named needed point env apart Known named v (not (is_place s (alloc_of old.places v.number))) s (alloc_of old.places v.number) t u m new sends
       (parameter_ends v s old m known h gives there) (all_kept env old m (keeps_of old m machine) all) ht
-      (ample_kept Named owed t old m (keeps_of old m machine) a)
+      (ample_kept Named needed t old m (keeps_of old m machine) a)
 
   never_parameter : (v : VirtualRegister) (t : InstRegs) (old : StateValue) → ReloadParamFails v t old → Known v → AreSafe env Known old → HasAll env old →
-      HasEnoughRegs Named owed t old → ⊥
+      HasEnoughRegs Named needed t old → ⊥
   never_parameter v t old s known h all a =
-      never_send Named owed point env apart Known named v (not (is_place s.slot (alloc_of old.places v.number))) s.slot (alloc_of old.places v.number) t
+      never_send Named needed point env apart Known named v (not (is_place s.slot (alloc_of old.places v.number))) s.slot (alloc_of old.places v.number) t
       s.middle s.stops known (parameter_ends v s.slot old s.middle known h s.gives s.awaited)
-      (all_kept env old s.middle (keeps_of old s.middle s.machine) all) (ample_kept Named owed t old s.middle (keeps_of old s.middle s.machine) a)
+      (all_kept env old s.middle (keeps_of old s.middle s.machine) all) (ample_kept Named needed t old s.middle (keeps_of old s.middle s.machine) a)
 
   -- all parameters
   module _ (params : List VirtualRegister) (known : (k : ℕ) → k < length params → Known (slice_index_or params k no_vreg)) (t : InstRegs) (old : StateValue)
-      (h : AreSafe env Known old) (all : HasAll env old) (ht : AreSafeRegs env t) (a : HasEnoughRegs Named owed t old) where
+      (h : AreSafe env Known old) (all : HasAll env old) (ht : AreSafeRegs env t) (a : HasEnoughRegs Named needed t old) where
     -- reloading a block's first k parameters keeps the state safe
     pub parameters_part : (k : ℕ) (u : InstRegs) (m : StateValue) → ReloadsParams point params t old k u m → PartKept env Known AllWrite AllMay old u m
     parameters_part k u m begun = parameters_kept env apart Known AllWrite AllMay point tt params known t old h ht k u m begun
 
     -- reloading a block's first k parameters leaves registers enough
-    pub ample_parameters : (k : ℕ) (u : InstRegs) (m : StateValue) → ReloadsParams point params t old k u m → HasEnoughRegs Named owed u m
+    pub ample_parameters : (k : ℕ) (u : InstRegs) (m : StateValue) → ReloadsParams point params t old k u m → HasEnoughRegs Named needed u m
     ample_parameters k u new none_begun = a
     ample_parameters k u new (one_begun j w x m n lt prev one) =
         let p = parameters_part j w m prev in
@@ -85,21 +85,21 @@ module _ (Named : RegClass → Type 0) (owed : RegClass → ℕ) (point : ℕ) (
         (ample_parameters s.index s.inst_regs s.middle s.begun)
 
   -- all registers
-  module _ (t : InstRegs) (old : StateValue) (h : AreSafe env Known old) (ht : AreSafeRegs env t) (a : HasEnoughRegs Named owed t old) where
+  module _ (t : InstRegs) (old : StateValue) (h : AreSafe env Known old) (ht : AreSafeRegs env t) (a : HasEnoughRegs Named needed t old) where
     empties_part : (u : InstRegs) (m : StateValue) → ReloadsRegs point t old u m → PartKept env Known AllWrite AllMay old u m
     empties_part u m empties = empties_kept env apart Known AllWrite AllMay point tt t old h ht u m empties
 
-    ample_empties : (u : InstRegs) (m : StateValue) → ReloadsRegs point t old u m → HasEnoughRegs Named owed u m
+    ample_empties : (u : InstRegs) (m : StateValue) → ReloadsRegs point t old u m → HasEnoughRegs Named needed u m
     ample_empties u new none_emptied = a
     ample_empties u new (one_emptied r w x m n prev held clears) =
         let p = empties_part w m prev in
-        ample_clears Named owed point env apart Known named r w u m new clears (safe_held env Known m p.safe) p.inst_regs (ample_empties w m prev)
+        ample_clears Named needed point env apart Known named r w u m new clears (safe_held env Known m p.safe) p.inst_regs (ample_empties w m prev)
 
     -- where registers are enough, no reload at a block's beginning lacks one
     pub never_empties : ReloadRegsFails point t old → ⊥
     never_empties s =
         let p = empties_part s.inst_regs s.middle s.empties in
-        never_clear Named owed point env apart Known named s.register s.inst_regs s.middle s.stops (safe_held env Known s.middle p.safe)
+        never_clear Named needed point env apart Known named s.register s.inst_regs s.middle s.stops (safe_held env Known s.middle p.safe)
         (ample_empties s.inst_regs s.middle s.empties)
 
 -- a beginning never stops
@@ -109,11 +109,11 @@ pub never_begin : (f : FunctionValue) (env : MachineValue) → MachineFits f env
     → ((k : ℕ) → k < length params → Known (slice_index_or params k no_vreg)) → (old : StateValue) → AreSafe env Known old → HasAll env old →
     ReloadAtBeginFails point params old → ⊥
 never_begin f env fits apart Known named point params known old h all (at_parameter began fresh s) =
-    never_parameters (NamesClass f) none_owed point env apart Known named params known began old h all (fresh_turn env began fresh.scratch)
+    never_parameters (NamesClass f) none_needed point env apart Known named params known began old h all (fresh_turn env began fresh.scratch)
     (fresh_ample f env fits began old all (starts_fresh began old fresh)) s
 never_begin f env fits apart Known named point params known old h all (at_register began begun m fresh parameters s) =
     let ht = fresh_turn env began fresh.scratch in
     let a = fresh_ample f env fits began old all (starts_fresh began old fresh) in
-    let p = parameters_part (NamesClass f) none_owed point env apart Known named params known began old h all ht a (length params) begun m parameters in
-    never_empties (NamesClass f) none_owed point env apart Known named begun m p.safe p.inst_regs
-    (ample_parameters (NamesClass f) none_owed point env apart Known named params known began old h all ht a (length params) begun m parameters) s
+    let p = parameters_part (NamesClass f) none_needed point env apart Known named params known began old h all ht a (length params) begun m parameters in
+    never_empties (NamesClass f) none_needed point env apart Known named begun m p.safe p.inst_regs
+    (ample_parameters (NamesClass f) none_needed point env apart Known named params known began old h all ht a (length params) begun m parameters) s

@@ -1,4 +1,4 @@
--- A branch passes its arguments: the spare is left, and where there are moves of a class it has a register.
+-- A branch passes its arguments: the scratch reserve is left, and where there are moves of a class it has a register.
 use Rattle.std.proofs.Common.{ℕ, suc, ◌≡◌, ◌<◌, true, false, List, [], ◌∷◌, length, refl, sym, subst, inl, inr, arith, slice_index_or}
 use Rattle.std.specs.Prelude.{All}
 use Rattle.std.proofs.lemmas.Bool.{cases_Bool}
@@ -63,21 +63,21 @@ some_from f env fits t all c none named =
     let there : has_register t.allocatable q ≡ true = all.allocatable q (subst (λ k. is_allocatable env k q ≡ true) (sym same) r.1) in
     let away : has_register t.allocatable q ≡ false = none q same (omega arith) (all.fit.small q (inl there)) in cc
 
-module _ (Named : RegClass → Type 0) (owed : RegClass → ℕ) (point : ℕ) (env : MachineValue) (apart : IsApart env) (Known : VirtualRegister → Type 0)
+module _ (Named : RegClass → Type 0) (needed : RegClass → ℕ) (point : ℕ) (env : MachineValue) (apart : IsApart env) (Known : VirtualRegister → Type 0)
     (named : (v : VirtualRegister) → Known v → Named v.class) where
   -- an argument is spilled
   ample_settles : (a : VirtualRegister) (s : Place) (t u : InstRegs) (old new : StateValue) → SpillsArgument point a s t u old new → AreHeld Known old →
-      AreSafeRegs env t → HasEnoughRegs Named owed t old → HasEnoughRegs Named owed u new
+      AreSafeRegs env t → HasEnoughRegs Named needed t old → HasEnoughRegs Named needed u new
   ample_settles a s t u old new (from_register r m at gives places edits machine clears) held ht h =
-      ample_clears Named owed point env apart Known named r t u m new clears (held_same Known old m places held) ht
-      (ample_kept Named owed t old m (keeps_of old m machine) h)
+      ample_clears Named needed point env apart Known named r t u m new clears (held_same Known old m places held) ht
+      (ample_kept Named needed t old m (keeps_of old m machine) h)
   ample_settles a s t u old new (in_slot away gives settles edits machine eu) held ht h =
-      subst (λ (y : InstRegs). HasEnoughRegs Named owed y new) (sym eu) (ample_kept Named owed t old new (keeps_of old new machine) h)
+      subst (λ (y : InstRegs). HasEnoughRegs Named needed y new) (sym eu) (ample_kept Named needed t old new (keeps_of old new machine) h)
 
-  never_settle : (a : VirtualRegister) (t : InstRegs) (old : StateValue) → SpillArgumentFails a t old → AreHeld Known old → HasEnoughRegs Named owed t old → ⊥
+  never_settle : (a : VirtualRegister) (t : InstRegs) (old : StateValue) → SpillArgumentFails a t old → AreHeld Known old → HasEnoughRegs Named needed t old → ⊥
   never_settle a t old s held h =
-      never_clear Named owed point env apart Known named s.register t s.middle s.stops (held_same Known old s.middle s.places held)
-      (ample_kept Named owed t old s.middle (keeps_of old s.middle s.machine) h)
+      never_clear Named needed point env apart Known named s.register t s.middle s.stops (held_same Known old s.middle s.places held)
+      (ample_kept Named needed t old s.middle (keeps_of old s.middle s.machine) h)
 
   -- whatever parameter an argument is passed to
   abbrev AnyPasses : VirtualRegister → Type 0
@@ -87,31 +87,31 @@ module _ (Named : RegClass → Type 0) (owed : RegClass → ℕ) (point : ℕ) (
   module _ (params arguments : List VirtualRegister) (known : (j : ℕ) → j < length params → Known (slice_index_or params j no_vreg) × Unit {0}) (t : InstRegs)
       (old : StateValue) (before_it : List ClassMove)
       (h : AreSafe env Known old) (ht : AreSafeRegs env t) (given_before : AreGiven Known AnyPasses old.slots before_it)
-      (a : HasEnoughRegs Named owed t old) where
+      (a : HasEnoughRegs Named needed t old) where
     edge_kept : (k : ℕ) (u : InstRegs) (m : StateValue) (given : List ClassMove) → GathersEdgeMoves point params arguments t old before_it k u m given →
         StepKept env Known AllWrite AllMay old u m
     edge_kept k u m given edge = (gathers_edge_kept env apart Known AllWrite AllMay point tt AnyPasses (every_write point) params arguments known t old
         before_it h ht given_before k u m given edge).0
 
     ample_edge : (k : ℕ) (u : InstRegs) (m : StateValue) (given : List ClassMove) → GathersEdgeMoves point params arguments t old before_it k u m given →
-        HasEnoughRegs Named owed u m
+        HasEnoughRegs Named needed u m
     ample_edge k u new given none_gathered = a
     ample_edge k u new given (one_gathered j some to from w x m n o lt prev gives places edits machine settles) =
         let p = edge_kept j w m some prev in
         ample_settles (slice_index_or arguments j no_vreg) from w u n new settles (held_same Known m n places (safe_held env Known m p.safe)) p.inst_regs
-        (ample_kept Named owed w m n (keeps_of m n machine) (ample_edge j w m some prev))
+        (ample_kept Named needed w m n (keeps_of m n machine) (ample_edge j w m some prev))
 
     never_edge : GatherEdgeFails point params arguments t old before_it → ⊥
     never_edge s =
         let p = edge_kept s.index s.inst_regs s.middle s.given s.gathers in
         never_settle (slice_index_or arguments s.index no_vreg) s.inst_regs s.new s.stops
         (held_same Known s.middle s.new s.places (safe_held env Known s.middle p.safe))
-        (ample_kept Named owed s.inst_regs s.middle s.new (keeps_of s.middle s.new s.machine) (ample_edge s.index s.inst_regs s.middle s.given s.gathers))
+        (ample_kept Named needed s.inst_regs s.middle s.new (keeps_of s.middle s.new s.machine) (ample_edge s.index s.inst_regs s.middle s.given s.gathers))
 
   -- those of all edges
   module _ (f : FunctionValue) (b : ℕ) (known : (k j : ℕ) → k < length (block_at f b).succs → j < length (block_at f (target_at f b k)).params →
       Known (slice_index_or (block_at f (target_at f b k)).params j no_vreg) × Unit {0})
-      (t : InstRegs) (old : StateValue) (h : AreSafe env Known old) (ht : AreSafeRegs env t) (a : HasEnoughRegs Named owed t old) where
+      (t : InstRegs) (old : StateValue) (h : AreSafe env Known old) (ht : AreSafeRegs env t) (a : HasEnoughRegs Named needed t old) where
     gathered_kept : (k : ℕ) (u : InstRegs) (m : StateValue) (given : List ClassMove) → GathersMoves f b point t old k u m given →
         StepKept env Known AllWrite AllMay old u m × AreGiven Known AnyPasses m.slots given
     gathered_kept k u m given gathers = gathers_kept env apart Known AllWrite AllMay point tt AnyPasses (every_write point) f b known t old h ht k u m given
@@ -119,7 +119,7 @@ module _ (Named : RegClass → Type 0) (owed : RegClass → ℕ) (point : ℕ) (
 
     -- gathering the arguments of a block's first k edges leaves registers enough
     pub ample_gathers : (k : ℕ) (u : InstRegs) (m : StateValue) (given : List ClassMove) → GathersMoves f b point t old k u m given
-        → HasEnoughRegs Named owed u m
+        → HasEnoughRegs Named needed u m
     ample_gathers k u new given no_edge = a
     ample_gathers k u new given (one_edge j some more w x m n lt prev edge) =
         let p = gathered_kept j w m some prev in
@@ -153,16 +153,16 @@ module _ (P : RegClass → Type 0) (point : ℕ) where
 
 -- a branch never stops
 pub never_pass : (f : FunctionValue) (env : MachineValue) (fits : MachineFits f env) (apart : IsApart env) (Known : VirtualRegister → Type 0)
-    (named : (v : VirtualRegister) → Known v → NamesClass f v.class) (owed : RegClass → ℕ) (b i : ℕ)
+    (named : (v : VirtualRegister) → Known v → NamesClass f v.class) (needed : RegClass → ℕ) (b i : ℕ)
     → ((k j : ℕ) → k < length (block_at f b).succs → j < length (block_at f (target_at f b k)).params →
     Known (slice_index_or (block_at f (target_at f b k)).params j no_vreg) × Unit {0})
     → ((k j : ℕ) → k < length (block_at f b).succs → j < length (block_at f (target_at f b k)).params →
     NamesClass f (slice_index_or (arguments_at f b k) j no_vreg).class)
-    → (t : InstRegs) (old : StateValue) → AreSafe env Known old → HasAll env old → AreSafeRegs env t → HasEnoughRegs (NamesClass f) owed t old
+    → (t : InstRegs) (old : StateValue) → AreSafe env Known old → HasAll env old → AreSafeRegs env t → HasEnoughRegs (NamesClass f) needed t old
     → ProcessBranchFails f b i t old → ⊥
-never_pass f env fits apart Known named owed b i known each t old h all ht a (in_gather s) =
-    never_gather (NamesClass f) owed (before i) env apart Known named f b known t old h ht a s
-never_pass f env fits apart Known named owed b i known each t old h all ht a (in_order class u m n given gathers same stops) =
+never_pass f env fits apart Known named needed b i known each t old h all ht a (in_gather s) =
+    never_gather (NamesClass f) needed (before i) env apart Known named f b known t old h ht a s
+never_pass f env fits apart Known named needed b i known each t old h all ht a (in_order class u m n given gathers same stops) =
     stops.0 (none_of_class (NamesClass f) class given (all_classes (NamesClass f) (before i) f b each t old (length (block_at f b).succs) u m given gathers)
     (some_from f env fits m (all_kept env old m (gathers_keep f b (before i) t old (length (block_at f b).succs) u m given gathers) all) class
     (subst (λ (x : PRegSet). NoneIsFrom x class 0) same stops.1)))

@@ -59,16 +59,16 @@ held_same Known old new e h = subst (λ (x : VRegAllocsValue). (r : Register) (v
 
 -- What an operand takes is paid for: where its place is a register that is free at both positions, enough are left without it.
 abbrev pub IsPaid : (RegClass → ℕ) → OperandRequest → Place → InstRegs → StateValue → Type 0
-IsPaid owed o p t old = (r : Register) → p ≡ InRegister r → is_free old.allocatable t r ≡ true →
-    owed r.class + scratch_reserve_left old.fixed_stack old.dedicated_scratch t r.class + 1 ≤ free_count old.allocatable t r.class
+IsPaid needed o p t old = (r : Register) → p ≡ InRegister r → is_free old.allocatable t r ≡ true →
+    needed r.class + scratch_reserve_left old.fixed_stack old.dedicated_scratch t r.class + 1 ≤ free_count old.allocatable t r.class
 
 module _ (Named : RegClass → Type 0) (env : MachineValue) (apart : IsApart env) (Known : VirtualRegister → Type 0)
     (named : (v : VirtualRegister) → Known v → Named v.class) (point : ℕ) where
-  -- an operand gets a place; owed: before, and less: after it
-  pub ample_gets : (owed less : RegClass → ℕ) (o : OperandRequest) (p : Place) (t u : InstRegs) (old new : StateValue) → AllocsOperand point o p t u old new →
-      ((c : RegClass) → less c ≤ owed c) → IsPaid less o p t old
-      → AreHeld Known old → Fit old → AreSafeRegs env t → HasEnoughRegs Named owed t old → HasEnoughRegs Named less u new
-  ample_gets owed less o p t u old new g fewer paid held_by fit ht h = by_case g.occupies
+  -- an operand gets a place; needed: before, and less: after it
+  pub ample_gets : (needed less : RegClass → ℕ) (o : OperandRequest) (p : Place) (t u : InstRegs) (old new : StateValue) → AllocsOperand point o p t u old new →
+      ((c : RegClass) → less c ≤ needed c) → IsPaid less o p t old
+      → AreHeld Known old → Fit old → AreSafeRegs env t → HasEnoughRegs Named needed t old → HasEnoughRegs Named less u new
+  ample_gets needed less o p t u old new g fewer paid held_by fit ht h = by_case g.occupies
     where
       same : KeepsMachine old g.middle
       same = picks_keeps t o p old g.middle g.picks
@@ -76,20 +76,20 @@ module _ (Named : RegClass → Type 0) (env : MachineValue) (apart : IsApart env
       held_there : AreHeld Known g.middle
       held_there = held_same Known old g.middle (picks_places t o p old g.middle g.picks) held_by
 
-      at_middle : HasEnoughRegs Named owed t g.middle
-      at_middle = ample_kept Named owed t old g.middle same h
+      at_middle : HasEnoughRegs Named needed t g.middle
+      at_middle = ample_kept Named needed t old g.middle same h
 
       by_case : ClaimsPlace point o p t u g.middle new → HasEnoughRegs Named less u new
-      by_case (in_slot k is sets en) = ample_less Named owed less u new fewer
-          (subst (HasEnoughRegs Named owed u) (sym en) (ample_same Named owed t u g.middle g.middle sets.early sets.late sets.scratch
+      by_case (in_slot k is sets en) = ample_less Named needed less u new fewer
+          (subst (HasEnoughRegs Named needed u) (sym en) (ample_same Named needed t u g.middle g.middle sets.early sets.late sets.scratch
           (keeps_same g.middle g.middle refl) at_middle))
       by_case (in_register r m is clears holds) = after_it
         where
           then : KeepsMachine g.middle new
           then = clears_but_keeps point r o.vreg t m g.middle new clears
 
-          emptied : HasEnoughRegs Named owed m new
-          emptied = ample_clears_but Named owed point env apart Known named r o.vreg t m g.middle new clears held_there ht at_middle
+          emptied : HasEnoughRegs Named needed m new
+          emptied = ample_clears_but Named needed point env apart Known named r o.vreg t m g.middle new clears held_there ht at_middle
 
           sets : new.allocatable ≡ old.allocatable
           sets = then.allocatable ∙ same.allocatable
@@ -135,18 +135,18 @@ module _ (Named : RegClass → Type 0) (env : MachineValue) (apart : IsApart env
           ]
 
   -- and it finds one
-  pub never_get : (owed : RegClass → ℕ) (o : OperandRequest) (t : InstRegs) (old : StateValue) → AllocOperandFails o t old → Known o.vreg →
-      (o.requirement ≡ AnyReg → 0 < owed o.vreg.class) → AreHeld Known old → HasEnoughRegs Named owed t old → ⊥
-  never_get owed o t old (in_pick none) known some held_by h =
+  pub never_get : (needed : RegClass → ℕ) (o : OperandRequest) (t : InstRegs) (old : StateValue) → AllocOperandFails o t old → Known o.vreg →
+      (o.requirement ≡ AnyReg → 0 < needed o.vreg.class) → AreHeld Known old → HasEnoughRegs Named needed t old → ⊥
+  never_get needed o t old (in_pick none) known some held_by h =
       let c : RegClass = o.vreg.class in
       let one = some none.0 in
-      let r = ample_some Named owed t old c (named o.vreg known) (omega (arith, one)) h in
+      let r = ample_some Named needed t old c (named o.vreg known) (omega (arith, one)) h in
       let q : Register = register_number c r.0 in
       none.1 q (record { of_class = refl; small = r.1; allocatable = and_left (has_register old.allocatable q) _ r.2 })
       (and_right (has_register old.allocatable q) _ r.2)
-  never_get owed o t old (in_clear p r m picks is stops) known some held_by h =
-      never_clear Named owed point env apart Known named r t m stops (held_same Known old m (picks_places t o p old m picks) held_by)
-      (ample_kept Named owed t old m (picks_keeps t o p old m picks) h)
+  never_get needed o t old (in_clear p r m picks is stops) known some held_by h =
+      never_clear Named needed point env apart Known named r t m stops (held_same Known old m (picks_places t o p old m picks) held_by)
+      (ample_kept Named needed t old m (picks_keeps t o p old m picks) h)
 
 -- places that differ
 another_there : (p q : Place) → is_another p q ≡ true → p ≢ NoPlace
@@ -186,16 +186,16 @@ module _ (Named : RegClass → Type 0) (env : MachineValue) (apart : IsApart env
     (named : (v : VirtualRegister) → Known v → Named v.class)
     (same : (v w : VirtualRegister) → Known v → Known w → v.number ≡ w.number → v ≡ w) (point : ℕ) where
   -- the moves of a definition
-  module _ (owed : RegClass → ℕ) (v : VirtualRegister) (is_ret : Bool) (p : Place) (t : InstRegs) (old : StateValue) (known : Known v)
+  module _ (needed : RegClass → ℕ) (v : VirtualRegister) (is_ret : Bool) (p : Place) (t : InstRegs) (old : StateValue) (known : Known v)
       (place : MayBeLocatedAt env old.slots v p) (h : AreSafe env Known old) (m : HasAll env old)
-      (ht : AreSafeRegs env t) (a : HasEnoughRegs Named owed t old) where
+      (ht : AreSafeRegs env t) (a : HasEnoughRegs Named needed t old) where
     -- a vreg that is defined leaves the tables
     module _ (left : StateValue) (slots : left.slots ≡ old.slots) (machine : SameMachine old left) where
       left_all : HasAll env left
       left_all = all_kept env old left (keeps_of old left machine) m
 
-      left_ample : HasEnoughRegs Named owed t left
-      left_ample = ample_kept Named owed t old left (keeps_of old left machine) a
+      left_ample : HasEnoughRegs Named needed t left
+      left_ample = ample_kept Named needed t old left (keeps_of old left machine) a
 
       stay : SlotsStay old.slots left.slots
       stay = same_stay old.slots left.slots slots
@@ -230,7 +230,7 @@ module _ (Named : RegClass → Type 0) (env : MachineValue) (apart : IsApart env
       record Sent (inst_regs : InstRegs) (middle : StateValue) : Type 0 where
         stay_too : SlotsStay left.slots middle.slots
         all : HasAll env middle
-        ample : HasEnoughRegs Named owed inst_regs middle
+        ample : HasEnoughRegs Named needed inst_regs middle
 
       first_sent : (inst_regs : InstRegs) (middle : StateValue) → AddsMoveIf point v.class (not is_ret && is_another (alloc_of old.places v.number) p) p
           (alloc_of old.places v.number) t inst_regs left middle → Sent inst_regs middle
@@ -238,23 +238,23 @@ module _ (Named : RegClass → Type 0) (env : MachineValue) (apart : IsApart env
           record {
             stay_too = sends_stay point v.class _ p w t inst_regs left middle sends;
             all = all_kept env left middle (sends_keeps point v.class _ p w t inst_regs left middle sends) left_all;
-            ample = ample_sends Named owed point env apart Known named v _ p w t inst_regs left middle sends first_ends left_all ht left_ample;
+            ample = ample_sends Named needed point env apart Known named v _ p w t inst_regs left middle sends first_ends left_all ht left_ample;
           })
 
     -- where registers are enough, the moves of a definition lack none
     pub never_define : FreeDefFails point v is_ret p t old → ⊥
-    never_define (to_awaited left slots machine stops) = never_send Named owed point env apart Known named v _ p (alloc_of old.places v.number) t left stops
+    never_define (to_awaited left slots machine stops) = never_send Named needed point env apart Known named v _ p (alloc_of old.places v.number) t left stops
         known (first_ends left slots machine) (left_all left slots machine) (left_ample left slots machine)
     never_define (to_slot left middle inst_regs slots machine sends stops) =
         let s = first_sent left slots machine inst_regs middle sends in
-        never_send Named owed point env apart Known named v _ p (slot_name old.slots v.number) inst_regs middle stops known
+        never_send Named needed point env apart Known named v _ p (slot_name old.slots v.number) inst_regs middle stops known
         (second_ends left slots machine middle s.stay_too) s.all s.ample
 
     -- freeing a definition and adding its moves leaves registers enough
-    pub ample_defines : (u : InstRegs) (new : StateValue) → FreesDef point v is_ret p t u old new → HasEnoughRegs Named owed u new
+    pub ample_defines : (u : InstRegs) (new : StateValue) → FreesDef point v is_ret p t u old new → HasEnoughRegs Named needed u new
     ample_defines u new d =
         let s = first_sent d.left d.slots d.machine d.inst_regs d.middle d.awaited in
-        ample_sends Named owed point env apart Known named v _ p (slot_name old.slots v.number) d.inst_regs u d.middle new d.stored
+        ample_sends Named needed point env apart Known named v _ p (slot_name old.slots v.number) d.inst_regs u d.middle new d.stored
         (second_ends d.left d.slots d.machine d.middle s.stay_too) s.all
         (sends_kept env apart Known AllWrite AllMay point tt v _ p (alloc_of old.places v.number) t d.inst_regs d.left d.middle d.awaited known
         (λ made. let e = first_ends d.left d.slots d.machine made in (e.0, e.1, λ n x. tt))

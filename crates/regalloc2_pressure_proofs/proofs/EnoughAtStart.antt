@@ -20,7 +20,7 @@ use Rattle.regalloc2_fastalloc_state.specs.InstRegs.{is_free, is_free_throughout
 use Rattle.regalloc2_fastalloc_state.proofs.CountingLaws.{count_some, some_count}
 use Rattle.regalloc2_validate.specs.Constraints.{op_at, no_operand}
 use Rattle.regalloc2_fastalloc_proofs.specs.InstSteps.{StateValue, ReservesRegs, RemovesClobbers, IsFixedIn, scratch_reserve_left}
-use Rattle.regalloc2_pressure_proofs.specs.EnoughRegs.{HasEnoughRegs, waiting, none_owed}
+use Rattle.regalloc2_pressure_proofs.specs.EnoughRegs.{HasEnoughRegs, waiting, none_needed}
 use Rattle.regalloc2_pressure_proofs.proofs.StepsKeepMachine.{HasAll}
 use Rattle.regalloc2_pressure_proofs.proofs.OneRegTaken.{and_all}
 use Rattle.regalloc2_pressure_proofs.proofs.WaitingOperands.{is_taken_first, fits_enough, all_wait}
@@ -47,9 +47,9 @@ spare_small t inst_regs c = by_test (needs_scratch_reserve t.fixed_stack t.dedic
     by_test true = omega arith
     by_test false = omega arith
 
--- where a class is named, its spare is there at the start
+-- where a class is named, its scratch reserve is there at the start
 pub fresh_ample : (f : FunctionValue) (env : MachineValue) → MachineFits f env → (inst_regs : InstRegs) (t : StateValue) → HasAll env t →
-    StartsFree inst_regs t → HasEnoughRegs (NamesClass f) none_owed inst_regs t
+    StartsFree inst_regs t → HasEnoughRegs (NamesClass f) none_needed inst_regs t
 fresh_ample f env fits inst_regs t all s c named =
     let r = (fits c).has_a_register named in
     let q : Register = r.0 in

@@ -28,47 +28,48 @@ pub goes_away : (p q : Place) → not (is_place p q) ≡ true → p ≡ q → �
 goes_away p q made e = (let same : is_place p q ≡ true = subst (λ (x : Place). is_place p x ≡ true) e (is_place-same p) in
     let none : not (is_place p q) ≡ false = rw same refl in cc)
 
-module _ (Named : RegClass → Type 0) (owed : RegClass → ℕ) (point : ℕ) (env : MachineValue) (apart : IsApart env) (Known : VirtualRegister → Type 0)
+module _ (Named : RegClass → Type 0) (needed : RegClass → ℕ) (point : ℕ) (env : MachineValue) (apart : IsApart env) (Known : VirtualRegister → Type 0)
     (named : (v : VirtualRegister) → Known v → Named v.class) where
   -- fixed registers
   module _ (ops : List OperandValue) (t : InstRegs) (old : StateValue) (h : AreSafe env Known old) (ht : AreSafeRegs env t)
-      (a : HasEnoughRegs Named owed t old) where
+      (a : HasEnoughRegs Named needed t old) where
     fixed_kept : (k : ℕ) (u : InstRegs) (m : StateValue) → EvictsFixed point ops t old k u m → StepKept env Known AllWrite AllMay old u m
     fixed_kept k u m clears = clears_fixed_kept env apart Known AllWrite AllMay point tt ops t old h ht k u m clears
 
     -- evicting the fixed registers of the first k operands leaves registers enough
-    pub ample_fixed : (k : ℕ) (u : InstRegs) (m : StateValue) → EvictsFixed point ops t old k u m → HasEnoughRegs Named owed u m
+    pub ample_fixed : (k : ℕ) (u : InstRegs) (m : StateValue) → EvictsFixed point ops t old k u m → HasEnoughRegs Named needed u m
     ample_fixed k u m none_cleared = a
     ample_fixed k u m (not_fixed j x s prev b c) = ample_fixed j u m prev
     ample_fixed k u m (of_fixed j r x w s n prev is clears) =
         let p = fixed_kept j x s prev in
-        ample_clears_but Named owed point env apart Known named r (op_at ops j).vreg x u s m clears (safe_held env Known s p.safe) p.inst_regs
+        ample_clears_but Named needed point env apart Known named r (op_at ops j).vreg x u s m clears (safe_held env Known s p.safe) p.inst_regs
         (ample_fixed j x s prev)
     ample_fixed k u m (of_reuse j l r x w s n prev b c d clears) =
         let p = fixed_kept j x s prev in
-        ample_clears Named owed point env apart Known named r x u s m clears (safe_held env Known s p.safe) p.inst_regs (ample_fixed j x s prev)
+        ample_clears Named needed point env apart Known named r x u s m clears (safe_held env Known s p.safe) p.inst_regs (ample_fixed j x s prev)
 
     -- where registers are enough, evicting fixed registers lacks none
     pub never_fixed : EvictFixedFails point ops t old → ⊥
     never_fixed s =
         let p = fixed_kept s.index s.inst_regs s.middle s.clears in
-        never_clear Named owed point env apart Known named s.register s.inst_regs s.middle s.stops (safe_held env Known s.middle p.safe)
+        never_clear Named needed point env apart Known named s.register s.inst_regs s.middle s.stops (safe_held env Known s.middle p.safe)
         (ample_fixed s.index s.inst_regs s.middle s.clears)
 
   -- clobbers
   pub ample_all : (rs : List Register) (t u : InstRegs) (old new : StateValue) → EvictsEach point rs t old u new → AreSafe env Known old → AreSafeRegs env t →
-      HasEnoughRegs Named owed t old → HasEnoughRegs Named owed u new
+      HasEnoughRegs Named needed t old → HasEnoughRegs Named needed u new
   ample_all rs t u old new (none_left x m) h ht a = a
   ample_all rs t u old new (one_more r rest x y w b m d clears more) h ht a =
       let p = clears_kept env apart Known AllWrite AllMay point tt r t y old m clears h ht in
-      ample_all rest y u m new more p.safe p.inst_regs (ample_clears Named owed point env apart Known named r t y old m clears (safe_held env Known old h) ht a)
+      ample_all rest y u m new more p.safe p.inst_regs (ample_clears Named needed point env apart Known named r t y old m clears
+      (safe_held env Known old h) ht a)
 
   -- where registers are enough, evicting clobbers lacks none
   pub never_all : (t : InstRegs) (old : StateValue) → EvictClobbersFails point t old → AreSafe env Known old → AreSafeRegs env t
-      → HasEnoughRegs Named owed t old → ⊥
+      → HasEnoughRegs Named needed t old → ⊥
   never_all t old s h ht a =
       let p = clears_all_kept env apart Known AllWrite AllMay point tt s.cleared t s.inst_regs old s.middle s.clears h ht in
-      never_clear Named owed point env apart Known named s.register s.inst_regs s.middle s.stops (safe_held env Known s.middle p.safe)
+      never_clear Named needed point env apart Known named s.register s.inst_regs s.middle s.stops (safe_held env Known s.middle p.safe)
       (ample_all s.cleared t s.inst_regs old s.middle s.clears h ht a)
 
   -- the moves of uses
@@ -76,7 +77,7 @@ module _ (Named : RegClass → Type 0) (owed : RegClass → ℕ) (point : ℕ) (
       (all : HasAll env old) (ht : AreSafeRegs env t)
       (good : (j : ℕ) → j < length ops → is_reading (op_at ops j) ≡ true → MayBeLocatedAt env old.slots (op_at ops j).vreg (at_place here j))
       (found : (j : ℕ) → j < length ops → is_reading (op_at ops j) ≡ true → alloc_of old.places (op_at ops j).vreg.number ≢ NoPlace)
-      (a : HasEnoughRegs Named owed t old) where
+      (a : HasEnoughRegs Named needed t old) where
     uses_kept : (k : ℕ) (u : InstRegs) (m : StateValue) → MovesUses point ops here t old k u m → k ≤ length ops → StepKept env Known AllWrite AllMay old u m
     uses_kept k u m moves le = moves_kept env apart Known AllWrite AllMay point tt ops tame here t old h ht (λ j n less reads e. tt) good found k u m moves le
 
@@ -95,12 +96,12 @@ module _ (Named : RegClass → Type 0) (owed : RegClass → ℕ) (point : ℕ) (
         )
 
     -- moving the uses among the first k operands leaves registers enough
-    pub ample_uses : (k : ℕ) (u : InstRegs) (m : StateValue) → MovesUses point ops here t old k u m → k ≤ length ops → HasEnoughRegs Named owed u m
+    pub ample_uses : (k : ℕ) (u : InstRegs) (m : StateValue) → MovesUses point ops here t old k u m → k ≤ length ops → HasEnoughRegs Named needed u m
     ample_uses k u m none_moved le = a
     ample_uses k u m (not_moved j x s prev silent) le = ample_uses j u m prev (omega arith)
     ample_uses k u m (one_moved j x w s n prev reads sends) le =
         let p = uses_kept j x s prev (omega arith) in
-        ample_sends Named owed point env apart Known named (op_at ops j).vreg _ (alloc_of s.places (op_at ops j).vreg.number) (at_place here j) x u s m sends
+        ample_sends Named needed point env apart Known named (op_at ops j).vreg _ (alloc_of s.places (op_at ops j).vreg.number) (at_place here j) x u s m sends
         (ends j s x p (omega arith) reads)
         (all_kept env old s (moves_keep point ops here t old j x s prev) all) p.inst_regs (ample_uses j x s prev (omega arith))
 
@@ -109,7 +110,7 @@ module _ (Named : RegClass → Type 0) (owed : RegClass → ℕ) (point : ℕ) (
     never_uses s =
         let lt : s.index < length ops = s.inside in
         let p = uses_kept s.index s.inst_regs s.middle s.moves (omega (arith, lt)) in
-        never_send Named owed point env apart Known named (op_at ops s.index).vreg _ (alloc_of s.middle.places (op_at ops s.index).vreg.number)
+        never_send Named needed point env apart Known named (op_at ops s.index).vreg _ (alloc_of s.middle.places (op_at ops s.index).vreg.number)
         (at_place here s.index) s.inst_regs s.middle s.stops
         (tame.known s.index s.inside (reads_allocated (op_at ops s.index) s.reading)) (ends s.index s.middle s.inst_regs p s.inside s.reading)
         (all_kept env old s.middle (moves_keep point ops here t old s.index s.inst_regs s.middle s.moves) all)

@@ -1,4 +1,4 @@
--- An instruction that fits is allocated: registers suffice at each of its stages, and its spare is left for its branch.
+-- An instruction that fits is allocated: registers suffice at each of its stages, and its scratch reserve is left for its branch.
 use Rattle.std.proofs.Common.{ℕ, ◌≡◌, ◌<◌, Bool, true, false, List, length, refl, sym, ◌∙◌, inl, inr, arith}
 use Rattle.std.specs.Prelude.{not, ◌&&◌, slice_index_or}
 use Rattle.regalloc2_names.specs.declared.OperandConstraint.TheVariants.{FixedReg}
@@ -26,7 +26,7 @@ use Rattle.regalloc2_fastalloc_proofs.proofs.Evictions.EvictKeepsRecord.{clears_
 use Rattle.regalloc2_fastalloc_proofs.proofs.Operands.AllocsSoFar.{IsTame, Filled, FixedAreKnown, filled_same, reads_allocated}
 use Rattle.regalloc2_fastalloc_proofs.proofs.Safety.OperandPassesKeepSafe.{lates_kept, earlies_kept}
 use Rattle.regalloc2_fastalloc_proofs.proofs.Safety.InstKeepsSafe.{clears_fixed_kept, clears_all_kept, fresh_turn}
-use Rattle.regalloc2_pressure_proofs.specs.EnoughRegs.{HasEnoughRegs, waiting, none_owed, AllWrite, AllMay, AreSafe}
+use Rattle.regalloc2_pressure_proofs.specs.EnoughRegs.{HasEnoughRegs, waiting, none_needed, AllWrite, AllMay, AreSafe}
 use Rattle.regalloc2_pressure_proofs.proofs.StepsKeepMachine.{KeepsMachine, keeps_then, HasAll, all_kept, clears_fixed_keep, clears_all_keep, places_keep}
 use Rattle.regalloc2_pressure_proofs.proofs.OneRegTaken.{ample_less}
 use Rattle.regalloc2_pressure_proofs.proofs.WaitingOperands.{all_wait}
@@ -206,21 +206,21 @@ module _ (f : FunctionValue) (env : MachineValue) (apart : IsApart env) (Known :
         last_filled = earlies_kept env apart Known AllWrite AllMay old.slots ops tame fixed i inst.is_ret tt (defs_write i ops) half late n half_filled
             (length ops) places early o earlies (omega arith)
 
-        last_ample : HasEnoughRegs Named none_owed early o
-        last_ample = ample_less Named (waiting ops places) none_owed early o (λ c. omega arith)
+        last_ample : HasEnoughRegs Named none_needed early o
+        last_ample = ample_less Named (waiting ops places) none_needed early o (λ c. omega arith)
             (earlies_pay Named env apart Known named ops tame fixed old.slots i inst.is_ret half late n half_all half_filled half_paying (length ops) places
             early o earlies (omega arith)).ample
 
         never_in_moves : MoveUsesFails (before i) ops places early o → ⊥
-        never_in_moves stops = never_uses Named none_owed
+        never_in_moves stops = never_uses Named none_needed
             (before i) env apart Known named ops tame places early o last_filled.safe last_all last_filled.inst_regs
             (λ j less reads. (last_filled.good j less (inr less)).place (reads_allocated (op_at ops j) reads))
             (λ j less reads. last_filled.found j less (inr less) reads) last_ample stops
 
         -- uses are moved
         pub ended_ample : (ended : InstRegs) (new : StateValue) → MovesUses (before i) ops places early o (length ops) ended new
-            → HasEnoughRegs Named none_owed ended new
-        ended_ample ended new moves = ample_uses Named none_owed (before i) env apart Known named ops tame places early o last_filled.safe last_all
+            → HasEnoughRegs Named none_needed ended new
+        ended_ample ended new moves = ample_uses Named none_needed (before i) env apart Known named ops tame places early o last_filled.safe last_all
             last_filled.inst_regs
             (λ j less reads. (last_filled.good j less (inr less)).place (reads_allocated (op_at ops j) reads))
             (λ j less reads. last_filled.found j less (inr less) reads) last_ample (length ops) ended new moves (omega arith)

@@ -1,4 +1,4 @@
--- How many registers are free when one is taken, and what is owed then.
+-- How many registers are free when one is taken, and what is needed then.
 use Rattle.std.proofs.Common.{ℕ, ◌≡◌, ◌+◌, ◌<◌, ◌≤◌, Bool, true, false, List, refl, sym, ap, ◌∙◌, subst, arith, set}
 use Rattle.std.specs.Prelude.{not, ◌&&◌, nat_lt, is_none, if◌then◌else◌, Option, None, Some, slice_index_or}
 use Rattle.std.proofs.lemmas.Bool.{lt-ltb}
@@ -75,30 +75,31 @@ holds_loses by p t u h = record {
     by_test false b c e = refl
 
 -- instruction registers with the same sets and the same scratch registers
-pub ample_same : (Named : RegClass → Type 0) (owed : RegClass → ℕ) (t u : InstRegs) (old new : StateValue) → u.early ≡ t.early → u.late ≡ t.late →
-    u.scratch ≡ t.scratch → KeepsMachine old new → HasEnoughRegs Named owed t old → HasEnoughRegs Named owed u new
-ample_same Named owed t u old new e l s m h c named = rw (e, l, s, m.allocatable, m.fixed_stack, m.dedicated_scratch) (h c named)
+pub ample_same : (Named : RegClass → Type 0) (needed : RegClass → ℕ) (t u : InstRegs) (old new : StateValue) → u.early ≡ t.early → u.late ≡ t.late →
+    u.scratch ≡ t.scratch → KeepsMachine old new → HasEnoughRegs Named needed t old → HasEnoughRegs Named needed u new
+ample_same Named needed t u old new e l s m h c named = rw (e, l, s, m.allocatable, m.fixed_stack, m.dedicated_scratch) (h c named)
 
 -- the machine's registers stay
-pub ample_kept : (Named : RegClass → Type 0) (owed : RegClass → ℕ) (u : InstRegs) (old new : StateValue) → KeepsMachine old new →
-    HasEnoughRegs Named owed u old → HasEnoughRegs Named owed u new
-ample_kept Named owed u old new m h c named = rw (m.allocatable, m.fixed_stack, m.dedicated_scratch) (h c named)
+pub ample_kept : (Named : RegClass → Type 0) (needed : RegClass → ℕ) (u : InstRegs) (old new : StateValue) → KeepsMachine old new →
+    HasEnoughRegs Named needed u old → HasEnoughRegs Named needed u new
+ample_kept Named needed u old new m h c named = rw (m.allocatable, m.fixed_stack, m.dedicated_scratch) (h c named)
 
 -- nothing changes
-pub ample_none : (Named : RegClass → Type 0) (owed : RegClass → ℕ) (t u : InstRegs) (old new : StateValue) → u ≡ t → new ≡ old →
-    HasEnoughRegs Named owed t old → HasEnoughRegs Named owed u new
-ample_none Named owed t u old new eu en h = subst (λ (y : InstRegs). HasEnoughRegs Named owed y new) (sym eu) (subst (HasEnoughRegs Named owed t) (sym en) h)
+pub ample_none : (Named : RegClass → Type 0) (needed : RegClass → ℕ) (t u : InstRegs) (old new : StateValue) → u ≡ t → new ≡ old →
+    HasEnoughRegs Named needed t old → HasEnoughRegs Named needed u new
+ample_none Named needed t u old new eu en h = subst (λ (y : InstRegs). HasEnoughRegs Named needed y new) (sym eu)
+    (subst (HasEnoughRegs Named needed t) (sym en) h)
 
--- less is owed
-pub ample_less : (Named : RegClass → Type 0) (owed less : RegClass → ℕ) (u : InstRegs) (t : StateValue) → ((c : RegClass) → less c ≤ owed c) →
-    HasEnoughRegs Named owed u t → HasEnoughRegs Named less u t
-ample_less Named owed less u t fewer h c named = (let a = h c named in let b = fewer c in omega (arith, a, b))
+-- less is needed
+pub ample_less : (Named : RegClass → Type 0) (needed less : RegClass → ℕ) (u : InstRegs) (t : StateValue) → ((c : RegClass) → less c ≤ needed c) →
+    HasEnoughRegs Named needed u t → HasEnoughRegs Named less u t
+ample_less Named needed less u t fewer h c named = (let a = h c named in let b = fewer c in omega (arith, a, b))
 
--- where some are owed, or a spare is, one is free
-pub ample_some : (Named : RegClass → Type 0) (owed : RegClass → ℕ) (u : InstRegs) (t : StateValue) (c : RegClass) → Named c →
-    0 < owed c + scratch_reserve_left t.fixed_stack t.dedicated_scratch u c → HasEnoughRegs Named owed u t
+-- where some are needed, or a scratch reserve is, one is free
+pub ample_some : (Named : RegClass → Type 0) (needed : RegClass → ℕ) (u : InstRegs) (t : StateValue) (c : RegClass) → Named c →
+    0 < needed c + scratch_reserve_left t.fixed_stack t.dedicated_scratch u c → HasEnoughRegs Named needed u t
     → (n : ℕ) × (n < 64) × (is_free t.allocatable u (register_number c n) ≡ true)
-ample_some Named owed u t c named some h =
+ample_some Named needed u t c named some h =
     let enough = h c named in
     count_some (λ n. is_free t.allocatable u (register_number c n)) 64 (omega (arith, some, enough))
 

@@ -29,7 +29,7 @@ use Rattle.regalloc2_fastalloc_proofs.proofs.Safety.InitialState.{begun_safe}
 use Rattle.regalloc2_fastalloc_proofs.proofs.Operands.AllocsSoFar.{IsTame}
 use Rattle.regalloc2_fastalloc_proofs.proofs.Safety.OutputOfWalk.{machine_apart}
 use Rattle.regalloc2_fastalloc_proofs.proofs.Safety.WellFormedKeepsSafe.{tame_at}
-use Rattle.regalloc2_pressure_proofs.specs.EnoughRegs.{HasEnoughRegs, none_owed, AllWrite, AllMay}
+use Rattle.regalloc2_pressure_proofs.specs.EnoughRegs.{HasEnoughRegs, none_needed, AllWrite, AllMay}
 use Rattle.regalloc2_pressure_proofs.proofs.StepsKeepMachine.{all_kept}
 use Rattle.regalloc2_pressure_proofs.proofs.EnoughAtStart.{StartsFree}
 use Rattle.regalloc2_pressure_proofs.proofs.InstFindsRegs.{ended_ample, never_inst}
@@ -112,9 +112,9 @@ module _ (f : FunctionValue) (env : MachineValue) (fits : MachineFits f env) (li
   -- an instruction that fits, and the moves of its branch
   module _ (b i : ℕ) (lt : b < length f.blocks) (less : i < length f.insts) (inst_fits : Fits f env (inst_at f i)) (old : StateValue)
       (s : IsSound env (Made f) old) where
-    -- the spare is left for the branch
+    -- the scratch reserve is left for the branch
     left_ample : (blank places : List Place) (new : StateValue) → (a : AllocsInst i (inst_at f i) blank places old new) →
-        HasEnoughRegs (NamesClass f) none_owed a.ended new
+        HasEnoughRegs (NamesClass f) none_needed a.ended new
     left_ample blank places new a =
         let starts : StartsFree a.began old = record { early = a.begins_early; late = a.begins_late; scratch = a.begins_scratch } in
         ended_ample f env apart (Made f) named i (inst_at f i) (tame i less) inst_fits old s.safe s.all a.began starts blank a.long a.no_places a.quiet
@@ -126,7 +126,7 @@ module _ (f : FunctionValue) (env : MachineValue) (fits : MachineFits f env) (li
         never_inst f env apart (Made f) named i (inst_at f i) (tame i less) inst_fits old s.safe s.all t (starts_fresh t old fresh) blank long none stops
     never_in before_it (in_pass places m a branch stops) =
         let k = inst_kept env apart (Made f) f ok.follow tame params targets i less a.blank a.here old m a.allocates s.safe in
-        never_pass f env fits apart (Made f) named none_owed b i (λ e j edge within. (params (target_at f b e) j (targets b e lt edge) within, tt))
+        never_pass f env fits apart (Made f) named none_needed b i (λ e j edge within. (params (target_at f b e) j (targets b e lt edge) within, tt))
         (λ e j edge within. arguments_name b e j lt edge within)
         a.allocates.ended m k.safe (all_kept env old m (allocates_keep i (inst_at f i) a.blank a.here old m a.allocates) s.all) k.inst_regs
         (left_ample a.blank a.here m a.allocates) stops

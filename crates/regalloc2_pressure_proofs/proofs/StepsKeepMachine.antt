@@ -135,6 +135,7 @@ defines_keeps point v is_ret p t u old new d =
     keeps_then old d.left new (keeps_of old d.left d.machine) (keeps_then d.left d.middle new
     (sends_keeps point v.class _ p _ t d.inst_regs d.left d.middle d.awaited) (sends_keeps point v.class _ p _ d.inst_regs u d.middle new d.stored))
 
+-- to locate a use keeps the three sets of registers
 pub uses_keeps : (v : VirtualRegister) (p : Place) (old new : StateValue) → LocatesUse v p old new → KeepsMachine old new
 uses_keeps v p old new (use_stays there en) = keeps_same old new en
 uses_keeps v p old new (located none settles slots edits machine) = keeps_of old new machine

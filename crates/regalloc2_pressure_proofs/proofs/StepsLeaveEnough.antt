@@ -44,14 +44,14 @@ same_code Vector Vector e = refl
 abbrev pub AreHeld : (VirtualRegister → Type 0) → StateValue → Type 0
 AreHeld Known t = (r : Register) (v : VirtualRegister) → r.number < 64 → vreg_of_preg t.places r ≡ Some v → Known v × (r.class ≡ v.class)
 
-module _ (Named : RegClass → Type 0) (owed : RegClass → ℕ) (point : ℕ) where
-  -- a register through which moves from stack to stack go takes the place of the spare
+module _ (Named : RegClass → Type 0) (needed : RegClass → ℕ) (point : ℕ) where
+  -- a register through which moves from stack to stack go takes the place of the scratch reserve
   pub ample_scratches : (class : RegClass) (t u : InstRegs) (by : Register) (old new : StateValue) → AllocsScratchReg point class t u by old new →
-      length t.scratch ≡ 3 → HasStack old.fixed_stack class → HasEnoughRegs Named owed t old → HasEnoughRegs Named owed u new
-  ample_scratches class t u by old new (dedicated_scratch o eu en) three stack h = ample_none Named owed t u old new eu en h
-  ample_scratches class t u by old new (had none o eu en) three stack h = ample_none Named owed t u old new eu en h
+      length t.scratch ≡ 3 → HasStack old.fixed_stack class → HasEnoughRegs Named needed t old → HasEnoughRegs Named needed u new
+  ample_scratches class t u by old new (dedicated_scratch o eu en) three stack h = ample_none Named needed t u old new eu en h
+  ample_scratches class t u by old new (had none o eu en) three stack h = ample_none Named needed t u old new eu en h
   ample_scratches class t u by old new (found none unset may early late less_e less_l set evicts) three stack h =
-      ample_kept Named owed u old new (evicts_keeps point by old new evicts) after_it
+      ample_kept Named needed u old new (evicts_keeps point by old new evicts) after_it
     where
       loses : TakesAtMost by t u
       loses = record {
@@ -62,7 +62,7 @@ module _ (Named : RegClass → Type 0) (owed : RegClass → ℕ) (point : ℕ) w
           not_this : (b c : Bool) → b ≡ false → (not b && c) ≡ c
           not_this b c e = rw e refl
 
-      after_it : HasEnoughRegs Named owed u old
+      after_it : HasEnoughRegs Named needed u old
       after_it c named = elim (cases_eq (class_code c) (class_code class)) [
         | inl e ↦ (
             let same : c ≡ class = same_code c class e in
@@ -91,11 +91,11 @@ module _ (Named : RegClass → Type 0) (owed : RegClass → ℕ) (point : ℕ) w
 
   -- and there is one
   pub never_scratch : (class : RegClass) (t : InstRegs) (old : StateValue) → AllocScratchRegFails class t old → Named class → HasStack old.fixed_stack class →
-      HasEnoughRegs Named owed t old → ⊥
+      HasEnoughRegs Named needed t old → ⊥
   never_scratch class t old s named stack h =
       let one : scratch_reserve_left old.fixed_stack old.dedicated_scratch t class ≡ 1 = spare_is_one old.fixed_stack old.dedicated_scratch t class stack
       s.none_kept s.none_taken in
-      let r = ample_some Named owed t old class named (omega (arith, one)) h in
+      let r = ample_some Named needed t old class named (omega (arith, one)) h in
       let a = and_left (has_register old.allocatable (register_number class r.0)) _ r.2 in
       let b = and_right (has_register old.allocatable (register_number class r.0)) _ r.2 in
       s.none_free (register_number class r.0) (record { of_class = refl; small = r.1; allocatable = a }) b
@@ -103,15 +103,16 @@ module _ (Named : RegClass → Type 0) (owed : RegClass → ℕ) (point : ℕ) w
   -- a move, where the class has fixed stack slots if both ends are in memory
   pub ample_crosses : (class : RegClass) (from to : Place) (t u : InstRegs) (old new : StateValue) → AddsMove point class from to t u old new
       → length t.scratch ≡ 3
-      → ((is_stack_in old from && is_stack_in old to) ≡ true → HasStack old.fixed_stack class) → HasEnoughRegs Named owed t old → HasEnoughRegs Named owed u new
+      → ((is_stack_in old from && is_stack_in old to) ≡ true → HasStack old.fixed_stack class) → HasEnoughRegs Named needed t old →
+      HasEnoughRegs Named needed u new
   ample_crosses class from to t u old new (direct one eu en) three stack h =
-      subst (λ (y : InstRegs). HasEnoughRegs Named owed y new) (sym eu) (subst (HasEnoughRegs Named owed t) (sym en) h)
+      subst (λ (y : InstRegs). HasEnoughRegs Named needed y new) (sym eu) (subst (HasEnoughRegs Named needed t) (sym en) h)
   ample_crosses class from to t u old new (through by m two scratches en) three stack h =
-      subst (HasEnoughRegs Named owed u) (sym en) (ample_scratches class t u by old m scratches three (stack two) h)
+      subst (HasEnoughRegs Named needed u) (sym en) (ample_scratches class t u by old m scratches three (stack two) h)
 
   -- where registers are enough, a move between two places in memory has its scratch register
   pub never_cross : (class : RegClass) (from to : Place) (t : InstRegs) (old : StateValue) → AddMoveFails class from to t old → Named class
-      → ((is_stack_in old from && is_stack_in old to) ≡ true → HasStack old.fixed_stack class) → HasEnoughRegs Named owed t old → ⊥
+      → ((is_stack_in old from && is_stack_in old to) ≡ true → HasStack old.fixed_stack class) → HasEnoughRegs Named needed t old → ⊥
   never_cross class from to t old s named stack h = never_scratch class t old s.1 named (stack s.0) h
 
   module _ (env : MachineValue) (apart : IsApart env) (Known : VirtualRegister → Type 0) (named : (v : VirtualRegister) → Known v → Named v.class) where
@@ -136,22 +137,22 @@ module _ (Named : RegClass → Type 0) (owed : RegClass → ℕ) (point : ℕ) w
     -- a move of a known vreg's value
     pub ample_moves : (v : VirtualRegister) (from to : Place) (t u : InstRegs) (old new : StateValue) → AddsMove point v.class from to t u old new →
         HasAll env old → IsEndOfMove env old.slots v from → IsEndOfMove env old.slots v to → (from ≡ to → ⊥)
-        → AreSafeRegs env t → HasEnoughRegs Named owed t old → HasEnoughRegs Named owed u new
+        → AreSafeRegs env t → HasEnoughRegs Named needed t old → HasEnoughRegs Named needed u new
     ample_moves v from to t u old new c m f g differ ht h = ample_crosses v.class from to t u old new c ht.three (slot_or_stack old v from to m f g differ) h
 
     -- where registers are enough, a move of a vreg's value between two legal ends lacks none
     pub never_move : (v : VirtualRegister) (from to : Place) (t : InstRegs) (old : StateValue) → AddMoveFails v.class from to t old → Known v → HasAll env old →
         IsEndOfMove env old.slots v from → IsEndOfMove env old.slots v to → (from ≡ to → ⊥)
-        → HasEnoughRegs Named owed t old → ⊥
+        → HasEnoughRegs Named needed t old → ⊥
     never_move v from to t old s known m f g differ h = never_cross v.class from to t old s (named v known) (slot_or_stack old v from to m f g differ) h
 
     -- a register or fixed stack slot is emptied
     pub ample_clears : (r : Register) (t u : InstRegs) (old new : StateValue) → EvictsPReg point r t u old new → AreHeld Known old → AreSafeRegs env t →
-        HasEnoughRegs Named owed t old → HasEnoughRegs Named owed u new
-    ample_clears r t u old new (empty none eu en) held_by ht h = ample_none Named owed t u old new eu en h
+        HasEnoughRegs Named needed t old → HasEnoughRegs Named needed u new
+    ample_clears r t u old new (empty none eu en) held_by ht h = ample_none Named needed t u old new eu en h
     ample_clears r t u old new (cleared v s m lt held gives settles edits machine crosses) held_by ht h =
         ample_crosses v.class s (InRegister r) t u m new crosses ht.three (at_stack r v m machine lt (held_by r v lt held).1 s)
-        (ample_kept Named owed t old m (keeps_of old m machine) h)
+        (ample_kept Named needed t old m (keeps_of old m machine) h)
       where
         at_stack : (q : Register) (w : VirtualRegister) (n : StateValue) → SameMachine old n → q.number < 64 → q.class ≡ w.class → (p : Place) →
             (is_stack_in n p && is_stack_in n (InRegister q)) ≡ true → HasStack n.fixed_stack w.class
@@ -159,32 +160,32 @@ module _ (Named : RegClass → Type 0) (owed : RegClass → ℕ) (point : ℕ) w
             (has_stack n.fixed_stack q lt (and_right (is_stack_in n p) (has_register n.fixed_stack q) both))
 
     -- where registers are enough, an eviction lacks none
-    pub never_clear : (r : Register) (t : InstRegs) (old : StateValue) → EvictPRegFails r t old → AreHeld Known old → HasEnoughRegs Named owed t old → ⊥
+    pub never_clear : (r : Register) (t : InstRegs) (old : StateValue) → EvictPRegFails r t old → AreHeld Known old → HasEnoughRegs Named needed t old → ⊥
     never_clear r t old s held_by h =
         let was = held_by r s.vreg s.small s.held in
         never_cross s.vreg.class s.slot (InRegister r) t s.middle s.crosses (named s.vreg was.0)
         (λ two. subst (HasStack s.middle.fixed_stack) was.1 (has_stack s.middle.fixed_stack r s.small
         (and_right (is_stack_in s.middle s.slot) (has_register s.middle.fixed_stack r) two)))
-        (ample_kept Named owed t old s.middle (keeps_of old s.middle s.machine) h)
+        (ample_kept Named needed t old s.middle (keeps_of old s.middle s.machine) h)
 
     -- an eviction that spares one vreg leaves registers enough
     pub ample_clears_but : (r : Register) (v : VirtualRegister) (t u : InstRegs) (old new : StateValue) → EvictsOthers point r v t u old new →
-        AreHeld Known old → AreSafeRegs env t → HasEnoughRegs Named owed t old → HasEnoughRegs Named owed u new
-    ample_clears_but r v t u old new (own w held same eu en) held_by ht h = ample_none Named owed t u old new eu en h
+        AreHeld Known old → AreSafeRegs env t → HasEnoughRegs Named needed t old → HasEnoughRegs Named needed u new
+    ample_clears_but r v t u old new (own w held same eu en) held_by ht h = ample_none Named needed t u old new eu en h
     ample_clears_but r v t u old new (others not_own clears) held_by ht h = ample_clears r t u old new clears held_by ht h
 
     -- a move that is made unless it goes nowhere
     pub ample_sends : (v : VirtualRegister) (is_made : Bool) (from to : Place) (t u : InstRegs) (old new : StateValue)
         → AddsMoveIf point v.class is_made from to t u old new
         → (is_made ≡ true → IsEndOfMove env old.slots v from × IsEndOfMove env old.slots v to × (from ≡ to → ⊥)) → HasAll env old → AreSafeRegs env t
-        → HasEnoughRegs Named owed t old → HasEnoughRegs Named owed u new
+        → HasEnoughRegs Named needed t old → HasEnoughRegs Named needed u new
     ample_sends v is_made from to t u old new (sent made crosses) ends m ht h =
         (let e = ends made in ample_moves v from to t u old new crosses m e.0 e.1 e.2 ht h)
-    ample_sends v is_made from to t u old new (unsent not_made eu en) ends m ht h = ample_none Named owed t u old new eu en h
+    ample_sends v is_made from to t u old new (unsent not_made eu en) ends m ht h = ample_none Named needed t u old new eu en h
 
     -- where registers are enough, a move that is added, or none, lacks none
     pub never_send : (v : VirtualRegister) (is_made : Bool) (from to : Place) (t : InstRegs) (old : StateValue) → AddMoveIfFails v.class is_made from to t old
         → Known v
         → (is_made ≡ true → IsEndOfMove env old.slots v from × IsEndOfMove env old.slots v to × (from ≡ to → ⊥)) → HasAll env old
-        → HasEnoughRegs Named owed t old → ⊥
+        → HasEnoughRegs Named needed t old → ⊥
     never_send v is_made from to t old s known ends m h = (let e = ends s.0 in never_move v from to t old s.1 known m e.0 e.1 e.2 h)

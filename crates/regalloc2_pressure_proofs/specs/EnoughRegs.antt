@@ -1,4 +1,4 @@
--- Registers that are free at both positions of an instruction, and how many of them are owed.
+-- Registers that are free at both positions of an instruction, and how many of them are needed.
 use Rattle.std.specs.Prelude.{ℕ, ◌≡◌, ◌+◌, ◌≤◌, Bool, true, false, ◌&&◌, not, List, length, slice_index_or}
 use Rattle.regalloc2_names.specs.declared.RegClass.{RegClass}
 use Rattle.regalloc2_names.specs.Register.{Register, VirtualRegister, is_register}
@@ -13,9 +13,9 @@ use Rattle.regalloc2_fastalloc_state.specs.InstRegs.{free_count}
 use Rattle.regalloc2_fastalloc_proofs.specs.InstSteps.{StateValue, scratch_reserve_left, asks}
 use Rattle.regalloc2_fastalloc_proofs.specs.Safety.{IsSafe}
 
--- of each class that is named, enough registers are free for all that is owed and for the spare
+-- of each class that is named, enough registers are free for all that is needed and for the scratch reserve
 abbrev pub HasEnoughRegs : (RegClass → Type 0) → (RegClass → ℕ) → InstRegs → StateValue → Type 0
-HasEnoughRegs Named owed u t = (c : RegClass) → Named c → owed c + scratch_reserve_left t.fixed_stack t.dedicated_scratch u c ≤ free_count t.allocatable u c
+HasEnoughRegs Named needed u t = (c : RegClass) → Named c → needed c + scratch_reserve_left t.fixed_stack t.dedicated_scratch u c ≤ free_count t.allocatable u c
 
 -- all but one register are as free as before
 pub record TakesAtMost (by : Register) (t u : InstRegs) : Type 0 where
@@ -36,9 +36,9 @@ waits ops here c k = asks c (op_at ops k) && not (is_in_register (slice_index_or
 abbrev pub waiting : List OperandValue → List Place → RegClass → ℕ
 waiting ops here c = count_below (waits ops here c) (length ops)
 
--- nothing is owed
-abbrev pub none_owed : RegClass → ℕ
-none_owed c = 0
+-- nothing is needed
+abbrev pub none_needed : RegClass → ℕ
+none_needed c = 0
 
 -- the tables are safe, whatever is written and wherever moves are
 abbrev pub AllWrite : ℕ → VirtualRegister → ℕ → Type 0

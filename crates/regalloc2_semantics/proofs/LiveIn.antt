@@ -1,18 +1,22 @@
 -- In a well-formed function, a vreg that is live where a path comes to a block is read or passed by a block on that doesn't write it, nor does one up to there.
-use Rattle.std.proofs.Common.{ℕ, ◌≡◌, ◌+◌, ◌<◌, ◌≤◌, inl, inr, List, length, refl, ap, subst, arith}
+use Rattle.std.proofs.Common.{ℕ, ◌≡◌, ◌+◌, ◌<◌, ◌≤◌, inl, inr, [], List, length, refl, ap, subst, arith}
+use Rattle.std.specs.Prelude.{Contains, slice_index_or}
 use Rattle.regalloc2_names.specs.Register.{VirtualRegister}
 use Rattle.regalloc2_function.specs.FunctionValue.{FunctionValue, block_at, inst_at}
 use Rattle.regalloc2_function.specs.Machine.{MachineValue}
 use Rattle.regalloc2_function.specs.Path.{Way, Onward, ToSuccessor, Location, first_of, end_of, IsPath}
 use Rattle.regalloc2_function.specs.SourceRun.{IsWrittenFirst}
-use Rattle.regalloc2_function.specs.WellFormed.{IsWellFormed}
+use Rattle.regalloc2_function.specs.WellFormed.{IsWellFormed, last_of}
 use Rattle.regalloc2_semantics.specs.Carry.{Undefined}
 use Rattle.regalloc2_semantics.specs.Blocks.{IsUnwritten, IsSound, target_at}
-use Rattle.regalloc2_semantics.specs.Live.{IsLive, read_there, passed_there, later, HasEntered, LiveStandWhereBlocksCarry, LiveStandByPoints}
+use Rattle.regalloc2_semantics.specs.Listing.{block_items}
+use Rattle.regalloc2_semantics.specs.Live.{IsLive, read_there, passed_there, later}
+use Rattle.regalloc2_semantics.specs.Live.{HasEntered, LiveStandWhereBlocksCarry, LiveStandByPoints, LiveStandWhereBlocksCarryOn}
 use Rattle.regalloc2_semantics.proofs.SingleDef.{DefinesAt, reads_defined}
-use Rattle.regalloc2_semantics.proofs.Order.{ends_within, reads_later, passes_later}
+use Rattle.regalloc2_semantics.proofs.Order.{ends_within, reads_later, passes_defined_earlier}
 use Rattle.regalloc2_semantics.proofs.Soundness.{cases_within, well_formed_are_sound}
-use Rattle.regalloc2_semantics.proofs.Paths.{Live, UsedSomewhere, live_somewhere, block_within, holds_live, items_carry}
+use Rattle.regalloc2_semantics.proofs.Paths.{Live, UsedSomewhere, live_somewhere, block_within}
+use Rattle.regalloc2_semantics.proofs.Paths.{holds_live, items_carry, items_carry_on, slots_carry, in_its_slot}
 
 module _ (env : MachineValue) (f : FunctionValue) (ok : IsWellFormed env f) (v : VirtualRegister) where
   -- the instructions of a block before i don't write v
@@ -34,12 +38,22 @@ module _ (env : MachineValue) (f : FunctionValue) (ok : IsWellFormed env f) (v :
         absurd (omega (arith, early, late)))
   ]
 
+  -- what is passed, and not defined there, is defined earlier
+  passed_later : (b last k : ℕ) → b < length f.blocks → last + 1 ≡ (block_at f b).range.end → k < length (block_at f b).succs →
+      Contains (slice_index_or (block_at f b).arguments k []) v → Undefined (inst_at f last).operands v → (i j : ℕ) → DefinesAt f v.number i j → i < last
+  passed_later b last k lb end edge has here i j d =
+      let same : last ≡ last_of (block_at f b) = omega (arith, end) in
+      let other : Undefined (inst_at f (last_of (block_at f b))).operands v = subst (λ (m : ℕ). Undefined (inst_at f m).operands v) same here in
+      let early = passes_defined_earlier f ok.defined_once v.number i j b k v d ok.follow ok.uses_defined lb edge has refl other in
+      omega (arith, early, same)
+
   one_more : (b i : ℕ) → FreeUpTo b i → Undefined (inst_at f i).operands v → FreeUpTo b (i + 1)
   one_more b i free here j ge less = elim (cases_within j i) [
     | inl early ↦ free j ge early
     | inr late ↦ subst (λ (m : ℕ). Undefined (inst_at f m).operands v) (omega (arith, late, less)) here
   ]
 
+  -- v is live in a block if it is live at one of its instructions, before which the block doesn't write it
   pub live_on : (l : Location) → IsLive f v l → l.block < length f.blocks → (block_at f l.block).range.first ≤ l.inst →
       l.inst < (block_at f l.block).range.end → FreeUpTo l.block l.inst → Live f v l.block
   live_on l (read_there m j lt reads is) lb ge less free =
@@ -52,8 +66,7 @@ module _ (env : MachineValue) (f : FunctionValue) (ok : IsWellFormed env f) (v :
   live_on l (passed_there m k way has here) lb ge less free =
       let end = way.0 in
       Live.passed_on
-      (all_free m.block m.inst lb free (λ i j d. let early = passes_later f ok.defined_once v.number i j m.block k v d ok.follow ok.uses_defined lb way.1 has
-      refl in omega (arith, early, end)))
+      (all_free m.block m.inst lb free (λ i j d. passed_later m.block m.inst k lb end way.1 has here i j d))
       k way.1 has
   live_on l (later m Onward way here aside on) lb ge less free = live_on (record { block = m.block; inst = m.inst + 1 }) on lb (omega (arith, ge)) way
       (one_more m.block m.inst free here)
@@ -86,9 +99,17 @@ live_is_used env f ok written ws path entered v live =
 pub live_stand : LiveStandWhereBlocksCarry
 live_stand env f out slot ok written carries ws path entered v p live is =
     let sound : IsSound f = well_formed_are_sound env f ok in
-    holds_live f sound written out slot carries ws path entered v p (live_entered env f ok v ws entered (block_within f sound written ws path) live) is
+    holds_live f sound written out (in_its_slot slot) (λ b reached. slots_carry f slot b (block_items f out b) (carries b reached)) ws path entered v p
+    (live_entered env f ok v ws entered (block_within f sound written ws path) live) is
 
 -- the same as `live_stand`, with listings made by the edits' points: in order, none after a block's last instruction
 pub live_stand_by_points : LiveStandByPoints
 live_stand_by_points env f out slot ok written rising quiet carries = live_stand env f out slot ok written
     (items_carry f out slot (well_formed_are_sound env f ok) rising quiet carries)
+
+-- the same where values are in other places than slots
+pub live_stand_in_places : LiveStandWhereBlocksCarryOn
+live_stand_in_places env f out stand ok written rising quiet carries ws path entered v p live is =
+    let sound : IsSound f = well_formed_are_sound env f ok in
+    holds_live f sound written out stand (items_carry_on f out stand sound rising quiet carries) ws path entered v p
+    (live_entered env f ok v ws entered (block_within f sound written ws path) live) is

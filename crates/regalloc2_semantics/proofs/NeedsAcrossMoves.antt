@@ -102,12 +102,14 @@ module _ (what : ℕ → What) (here : ℕ → Place) (done out : ℕ → Bool) 
     | used j le lt u i e ↦ used j (let x : j ≡ k → ⊥ = λ y. ne (sym e ∙ ap here y) in omega arith) lt u i e
   ]
 
+  -- once it is listed in front, only the moves of the uses behind k are not listed
   pub pend_move : (Known : VirtualRegister → Type 0) (E : VirtualRegister → Place → Type 0) (L : List Item)
       → Claims Known L (Pending what here done out T S k) E → Claims Known (Move (record { from = c; to = here k }) ∷ L)
       (Pending what here done out T S (k + 1)) E
   pend_move Known E L = claims_move Known E L (Pending what here done out T S k) (Pending what here done out T S (k + 1)) c (here k) there moved_here
       moved_there
 
+  -- so it is where it goes in two moves, through a place that nothing needs
   pub pend_through : (by : Place) (Known : VirtualRegister → Type 0) (E : VirtualRegister → Place → Type 0) (L : List Item)
       → by ≢ NoPlace → ((v : ℕ) → Pending what here done out T S k v by → ⊥)
       → Claims Known L (Pending what here done out T S k) E → Claims Known
@@ -115,6 +117,7 @@ module _ (what : ℕ → What) (here : ℕ → Place) (done out : ℕ → Bool) 
   pend_through by Known E L real clear = claims_through Known E L (Pending what here done out T S k) (Pending what here done out T S (k + 1)) c by (here k) real
       there clear moved_here moved_there
 
+  -- and without a move, where the number is in the use's place already
   pub pend_stay : c ≡ here k → (Known : VirtualRegister → Type 0) (E : VirtualRegister → Place → Type 0) (L : List Item)
       → Claims Known L (Pending what here done out T S k) E → Claims Known L (Pending what here done out T S (k + 1)) E
   pend_stay same Known E L = claims_weaken Known E L (Pending what here done out T S k) (Pending what here done out T S (k + 1))
@@ -160,6 +163,7 @@ module _ (Known : VirtualRegister → Type 0) (E : VirtualRegister → Place →
         | used j le lt u i e ↦ used j le lt u i e
       ])
 
+  -- what is claimed with some slots is claimed with more
   pub pend_slot : (T S S2 : ℕ → Option Place) (k : ℕ)
       → ((x : ℕ) (p : Place) → S x ≡ Some p → S2 x ≡ Some p)
       → Claims Known L (Pending what here done out T S k) E → Claims Known L (Pending what here done out T S2 k) E

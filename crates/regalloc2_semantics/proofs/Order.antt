@@ -1,13 +1,17 @@
 -- The order of a well-formed function's blocks and instructions: what is defined comes before what reads or passes it.
-use Rattle.std.proofs.Common.{ℕ, zero, suc, ◌≡◌, ◌-◌, ◌<◌, ◌≤◌, inl, inr, true, [], length, sym, ap, ◌∙◌, subst, arith}
+use Rattle.std.proofs.Common.{ℕ, zero, suc, ◌≡◌, ◌+◌, ◌-◌, ◌<◌, ◌≤◌, inl, inr, true, [], length, refl, sym, ap, ◌∙◌, subst, arith}
 use Rattle.std.specs.Prelude.{Contains, slice_index_or}
 use Rattle.regalloc2_names.specs.Register.{VirtualRegister}
 use Rattle.regalloc2_names.specs.Operand.{is_reading}
+use Rattle.regalloc2_names.specs.Point.{after}
 use Rattle.regalloc2_function.specs.FunctionValue.{FunctionValue, block_at, inst_at}
-use Rattle.regalloc2_function.specs.WellFormed.{BlocksFollow, DefinedOnce, IsDefinedBefore, UsesAreDefined, last_of}
+use Rattle.regalloc2_function.specs.WellFormed.{BlocksFollow, DefinedOnce, IsDefinedBy, UsesAreDefined, last_of}
 use Rattle.regalloc2_semantics.specs.Listing.{op_at}
+use Rattle.regalloc2_semantics.specs.Carry.{Undefined}
 use Rattle.regalloc2_semantics.proofs.Soundness.{cases_within}
-use Rattle.regalloc2_semantics.proofs.SingleDef.{DefinesAt, MadeBefore, by_earlier, made_before, one_operand, not_both, ReadsDefined}
+use Rattle.regalloc2_semantics.proofs.SingleDef.{DefinesAt, Made, MadeBefore, by_earlier, is_made}
+use Rattle.regalloc2_semantics.proofs.SingleDef.{made_before, made_behind, one_made, one_operand, not_both, ReadsDefined}
+use Rattle.regalloc2_semantics.proofs.SingleDef.Made.{by_operand}
 
 module _ (f : FunctionValue) (follow : BlocksFollow f) where
   -- a block ends where the next begins
@@ -61,13 +65,41 @@ module _ (f : FunctionValue) (once : DefinedOnce f) where
   reads_later n i k j l d lt reads less read same = earlier_made f once n i k j d (op_at (inst_at f j).operands l).vreg same
       (made_before f (op_at (inst_at f j).operands l).vreg j lt (reads l less read))
 
-  -- and so does what passes it
+  -- and what passes it isn't earlier than what defines it
   pub passes_later : (n i k b e : ℕ) (v : VirtualRegister) → DefinesAt f n i k → BlocksFollow f → UsesAreDefined f → b < length f.blocks →
       e < length (block_at f b).succs
-      → Contains (slice_index_or (block_at f b).arguments e []) v → v.number ≡ n → i < last_of (block_at f b)
+      → Contains (slice_index_or (block_at f b).arguments e []) v → v.number ≡ n → i ≤ last_of (block_at f b)
   passes_later n i k b e v d follow uses lt edge has same =
       let within = ends_within f follow b lt in
       let some : (block_at f b).range.first < (block_at f b).range.end = (follow b lt).0 in
-      let before : IsDefinedBefore f v (last_of (block_at f b)) = subst (λ w. IsDefinedBefore f w (last_of (block_at f b))) has.2
-      ((uses b lt).1 e edge has.0 v has.1) in
-      earlier_made f once n i k (last_of (block_at f b)) d v same (made_before f v (last_of (block_at f b)) (omega (arith, within, some)) before)
+      let last : ℕ = last_of (block_at f b) in
+      let by : IsDefinedBy f v (after last) = subst (λ w. IsDefinedBy f w (after last)) has.2 ((uses b lt).1 e edge has.0 v has.1) in
+      let sooner = earlier_made f once n i k (last + 1) d v same (made_behind f v last (omega (arith, within, some)) by) in
+      omega (arith, sooner)
+
+  -- and so what is passed is made
+  pub passed_made : (b e : ℕ) (v : VirtualRegister) → BlocksFollow f → UsesAreDefined f → b < length f.blocks → e < length (block_at f b).succs →
+      Contains (slice_index_or (block_at f b).arguments e []) v → Made f v
+  passed_made b e v follow uses lt edge has =
+      let within = ends_within f follow b lt in
+      let some : (block_at f b).range.first < (block_at f b).range.end = (follow b lt).0 in
+      let last : ℕ = last_of (block_at f b) in
+      let by : IsDefinedBy f v (after last) = subst (λ w. IsDefinedBy f w (after last)) has.2 ((uses b lt).1 e edge has.0 v has.1) in
+      is_made f v (last + 1) (made_behind f v last (omega (arith, within, some)) by)
+
+  -- what is passed, and not defined by the branch that passes it, is defined earlier
+  pub passes_defined_earlier : (n i k b e : ℕ) (v : VirtualRegister) → DefinesAt f n i k → BlocksFollow f → UsesAreDefined f → b < length f.blocks →
+      e < length (block_at f b).succs → Contains (slice_index_or (block_at f b).arguments e []) v → v.number ≡ n →
+      Undefined (inst_at f (last_of (block_at f b))).operands v → i < last_of (block_at f b)
+  passes_defined_earlier n i k b e v d follow uses lt edge has same other =
+      let early = passes_later n i k b e v d follow uses lt edge has same in
+      elim (cases_within i (last_of (block_at f b))) [
+        | inl less ↦ less
+        | inr late ↦ (
+            let here : i ≡ last_of (block_at f b) = omega (arith, early, late) in
+            let x : DefinesAt f n (last_of (block_at f b)) k = subst (λ (m : ℕ). DefinesAt f n m k) here d in
+            let w : VirtualRegister = (op_at (inst_at f (last_of (block_at f b))).operands k).vreg in
+            let y : DefinesAt f w.number (last_of (block_at f b)) k = subst (λ (m : ℕ). DefinesAt f m (last_of (block_at f b)) k) (sym x.number) x in
+            let made : Made f w = by_operand (last_of (block_at f b)) k y refl in
+            absurd (other k x.operand x.definition (one_made f once w v made (passed_made b e v follow uses lt edge has) (x.number ∙ sym same))))
+      ]

@@ -11,16 +11,19 @@ use Rattle.regalloc2_names.specs.Place.{Place}
 use Rattle.regalloc2_function.specs.FunctionValue.{FunctionValue, block_at, inst_at}
 use Rattle.regalloc2_function.specs.OutputValue.{OutputValue}
 use Rattle.regalloc2_function.specs.Path.{Way, Onward, ToSuccessor, Location, first_of, end_of, last_inst, IsPath, HasWay}
-use Rattle.regalloc2_function.specs.SourceRun.{Stamp, read_of, over_edge, arguments_at, source_before, source_after, source_read, IsWrittenFirst}
-use Rattle.regalloc2_function.specs.AllocatedRun.{cells_before}
+use Rattle.regalloc2_function.specs.SourceRun.{Source, Stamp, after_defs, read_of, over_edge}
+use Rattle.regalloc2_function.specs.SourceRun.{arguments_at, source_before, source_after, source_read, IsWrittenFirst}
+use Rattle.regalloc2_function.specs.AllocatedRun.{Cells, cells_before, stored}
 use Rattle.regalloc2_function.specs.Faithful.{ReadsAgree}
 use Rattle.regalloc2_function.specs.Held.{IsReached}
-use Rattle.regalloc2_semantics.specs.Listing.{op_at, no_operand, items_by, items_from, block_items, IsReadIn}
-use Rattle.regalloc2_semantics.specs.Carry.{CarriesFrom, Carries, Undefined}
+use Rattle.regalloc2_semantics.specs.Listing.{Item, op_at, no_operand, items_by, items_from, block_items, IsReadIn}
+use Rattle.regalloc2_semantics.specs.Listing.Item.{Move, Exec}
+use Rattle.regalloc2_semantics.specs.Carry.{CarriesFrom, Carries, Undefined, late_cells}
 use Rattle.regalloc2_semantics.specs.BlockByPoints.{block_walked, Rising, EndsQuiet}
 use Rattle.regalloc2_semantics.specs.Live.{HasEntered, HoldsValue}
 use Rattle.regalloc2_semantics.specs.Blocks.{names, HasEdge, target_at, IsSound, IsUnwritten, IsUsed, IsUsedIn, IsWantedBehind, IsExcused}
 use Rattle.regalloc2_semantics.specs.Blocks.{ExcusedAreSilent, StandsBefore, StandsAfter, BlockCarries, BlocksAgree, BlocksAgreeByPoints}
+use Rattle.regalloc2_semantics.specs.Blocks.{ComesIn, GoesOut, BlockCarriesOn, BlocksAgreeInPlaces, BlocksAgreeInPlacesByPoints}
 use Rattle.regalloc2_semantics.proofs.BothRuns.{after_defs-other}
 use Rattle.regalloc2_semantics.proofs.ParamsOnEdge.{passed-other, passed-passes, passes_some, passes_contains}
 use Rattle.regalloc2_semantics.proofs.PathInBlock.{onwards, onwards-block, onwards-inst, onwards-path, onwards-source}
@@ -249,8 +252,8 @@ module _ (f : FunctionValue) (ok : IsSound f) (written : IsWrittenFirst f) where
     λ k edge c. live_not_excused b v ws block e (passed_on (excused_unwritten b v ex) k edge c) ex,
   )
 
-  module _ (out : OutputValue) (slot : VirtualRegister → Option Place) (carries : (b : ℕ) → IsReached f (first_of f b) →
-      BlockCarries f slot b (block_items f out b)) where
+  module _ (out : OutputValue) (stand : ℕ → VirtualRegister → Option Place) (carries : (b : ℕ) → IsReached f (first_of f b) →
+      BlockCarriesOn f stand b (block_items f out b)) where
     -- what is known at a path's last step: what is left of the block's listing carries each virtual register that is live at the block's
     -- beginning or written in the block
     record Rest (ws : List Way) : Type 0 where
@@ -259,17 +262,17 @@ module _ (f : FunctionValue) (ok : IsSound f) (written : IsWrittenFirst f) where
       left : ℕ
       counted : (end_of f ws).inst + suc left ≡ (block_at f (end_of f ws).block).range.end
       carried : (v : VirtualRegister) → IsUsed f v → (IsUnwritten f (end_of f ws).block v → Live f v (end_of f ws).block) →
-          CarriesFrom v (StandsAfter f slot (end_of f ws).block v) (left_at f out (end_of f ws) (suc left)) (source_before f ws) (cells_before f out ws)
+          CarriesFrom v (GoesOut f stand (end_of f ws).block v) (left_at f out (end_of f ws) (suc left)) (source_before f ws) (cells_before f out ws)
           (length ws)
 
     reached : (b : ℕ) (ws : List Way) → Entered f b ws → IsReached f (first_of f b)
     reached b ws e = (ws, e.path, locations (end_of f ws).block (end_of f ws).inst b (block_at f b).range.first e.block_is e.first_is)
 
-    -- at a block's beginning, where each live virtual register is located in its slot
+    -- at a block's beginning, where each live virtual register is in its places
     at_beginning : (b : ℕ) (ws : List Way) → b < length f.blocks → Entered f b ws →
-        ((v : VirtualRegister) (p : Place) → Live f v b → slot v ≡ Some p → cells_before f out ws p ≡ source_before f ws v) →
+        ((v : VirtualRegister) (p : Place) → Live f v b → stand b v ≡ Some p → cells_before f out ws p ≡ source_before f ws v) →
         (v : VirtualRegister) → IsUsed f v → (IsUnwritten f b v → Live f v b) →
-        CarriesFrom v (StandsAfter f slot b v) (block_items f out b) (source_before f ws) (cells_before f out ws) (length ws)
+        CarriesFrom v (GoesOut f stand b v) (block_items f out b) (source_before f ws) (cells_before f out ws) (length ws)
     unfolding Carries
     at_beginning b ws block e located v used live =
         carries b (reached b ws e) (excused_silent b ws block e) v used (λ ex. live_not_excused b v ws block e (live (excused_unwritten b v ex)) ex)
@@ -277,7 +280,8 @@ module _ (f : FunctionValue) (ok : IsSound f) (written : IsWrittenFirst f) where
 
     -- the same, as what is known at the last step of a path that has just entered a block
     rest_at : (ws : List Way) → Entered f (end_of f ws).block ws →
-        ((v : VirtualRegister) (p : Place) → Live f v (end_of f ws).block → slot v ≡ Some p → cells_before f out ws p ≡ source_before f ws v) → Rest ws
+        ((v : VirtualRegister) (p : Place) → Live f v (end_of f ws).block → stand (end_of f ws).block v ≡ Some p →
+        cells_before f out ws p ≡ source_before f ws v) → Rest ws
     rest_at ws e located =
         let b : ℕ = (end_of f ws).block in
         let within : b < length f.blocks = block_within ws e.path in
@@ -290,12 +294,12 @@ module _ (f : FunctionValue) (ok : IsSound f) (written : IsWrittenFirst f) where
           left = (block_at f b).range.end - (block_at f b).range.first - 1;
           counted = omega arith;
           carried = λ v used live.
-              let here : CarriesFrom v (StandsAfter f slot b v) (items_from f out (block_at f b).range.first (block_at f b).range.first
+              let here : CarriesFrom v (GoesOut f stand b v) (items_from f out (block_at f b).range.first (block_at f b).range.first
               ((block_at f b).range.end - (block_at f b).range.first)) (source_before f ws) (cells_before f out ws) (length ws) = at_beginning b ws within e
               located v used live in
-              subst (λ i. CarriesFrom v (StandsAfter f slot b v) (items_from f out (block_at f b).range.first i
+              subst (λ i. CarriesFrom v (GoesOut f stand b v) (items_from f out (block_at f b).range.first i
               (suc ((block_at f b).range.end - (block_at f b).range.first - 1))) (source_before f ws) (cells_before f out ws) (length ws)) first
-              (subst (λ n. CarriesFrom v (StandsAfter f slot b v) (items_from f out (block_at f b).range.first (block_at f b).range.first n)
+              (subst (λ n. CarriesFrom v (GoesOut f stand b v) (items_from f out (block_at f b).range.first (block_at f b).range.first n)
               (source_before f ws) (cells_before f out ws) (length ws)) count here);
         }
 
@@ -303,7 +307,7 @@ module _ (f : FunctionValue) (ok : IsSound f) (written : IsWrittenFirst f) where
     rest_onward : (ws : List Way) (start : List Way) (left : ℕ) → Entered f (end_of f ws).block start →
         (end_of f ws).inst + suc left ≡ (block_at f (end_of f ws).block).range.end →
         ((v : VirtualRegister) → IsUsed f v → (IsUnwritten f (end_of f ws).block v → Live f v (end_of f ws).block) →
-        CarriesFrom v (StandsAfter f slot (end_of f ws).block v) (left_at f out (end_of f ws) (suc left)) (source_before f ws) (cells_before f out ws)
+        CarriesFrom v (GoesOut f stand (end_of f ws).block v) (left_at f out (end_of f ws) (suc left)) (source_before f ws) (cells_before f out ws)
         (length ws)) →
         (end_of f ws).inst + 1 < (block_at f (end_of f ws).block).range.end → Rest (Onward ∷ ws)
     unfolding source_before over_edge cells_before
@@ -313,19 +317,19 @@ module _ (f : FunctionValue) (ok : IsSound f) (written : IsWrittenFirst f) where
       entered = entered;
       left = left;
       counted = omega arith;
-      carried = λ v used live. (stepped f out (end_of f ws) v (StandsAfter f slot (end_of f ws).block v) (suc left) (source_before f ws) (cells_before f out ws)
+      carried = λ v used live. (stepped f out (end_of f ws) v (GoesOut f stand (end_of f ws).block v) (suc left) (source_before f ws) (cells_before f out ws)
           (length ws) (carried v used live)).rest;
     }
 
     -- at the block's end
     ends : (k : ℕ) (ws : List Way) → Rest ws → (end_of f ws).inst + 1 ≡ (block_at f (end_of f ws).block).range.end → (v : VirtualRegister) → IsUsed f v →
         (IsUnwritten f (end_of f ws).block v → Live f v (end_of f ws).block) →
-        (p : Place) → StandsAfter f slot (end_of f ws).block v p → cells_before f out (ToSuccessor k ∷ ws) p ≡ source_after f ws v
+        (p : Place) → GoesOut f stand (end_of f ws).block v p → cells_before f out (ToSuccessor k ∷ ws) p ≡ source_after f ws v
     unfolding items_by CarriesFrom cells_before
     ends k ws r last v used live =
         let counted : (end_of f ws).inst + suc r.left ≡ (block_at f (end_of f ws).block).range.end = r.counted in
         let none : r.left ≡ 0 = omega arith in
-        let E : Place → Type 0 = StandsAfter f slot (end_of f ws).block v in
+        let E : Place → Type 0 = GoesOut f stand (end_of f ws).block v in
         let one : CarriesFrom v E (left_at f out (end_of f ws) (suc 0)) (source_before f ws) (cells_before f out ws) (length ws) =
         subst (λ n. CarriesFrom v E (left_at f out (end_of f ws) (suc n)) (source_before f ws) (cells_before f out ws) (length ws)) none
         (r.carried v used live) in
@@ -333,7 +337,7 @@ module _ (f : FunctionValue) (ok : IsSound f) (written : IsWrittenFirst f) where
 
     -- over an edge
     edge_stands : (k : ℕ) (ws : List Way) → IsPath f (ToSuccessor k ∷ ws) → Rest ws → (v : VirtualRegister) (p : Place) →
-        Live f v (target_at f (end_of f ws).block k) → slot v ≡ Some p →
+        Live f v (target_at f (end_of f ws).block k) → stand (target_at f (end_of f ws).block k) v ≡ Some p →
         cells_before f out (ToSuccessor k ∷ ws) p ≡ source_before f (ToSuccessor k ∷ ws) v
     unfolding source_before over_edge
     edge_stands k ws path r v p l s =
@@ -356,7 +360,7 @@ module _ (f : FunctionValue) (ok : IsSound f) (written : IsWrittenFirst f) where
                     (onward (λ i le lt. ok.no_definition (target_at f a j) i v is) k edge not l) (j, d, ok.no_critical_edge a k j edge d other, is)))
                 | inr n ↦ n
               ] in
-              ends k ws r path.1.0 v (live_used f v (target_at f a k) l) (λ n. onward n k edge not l) p (inl (none, live_wanted f ok v a k edge l, s))
+              ends k ws r path.1.0 v (live_used f v (target_at f a k) l) (λ n. onward n k edge not l) p (inl (k, edge, none, live_wanted f ok v a k edge l, s))
               ∙ sym (kept_on k ws v not))
         ]
 
@@ -381,8 +385,8 @@ module _ (f : FunctionValue) (ok : IsSound f) (written : IsWrittenFirst f) where
         let r = rest_on ws p in
         let at = within_block ws p r in
         let s : (v : VirtualRegister) → IsUsed f v → (IsUnwritten f (end_of f ws).block v → Live f v (end_of f ws).block) →
-        Stepped f out (end_of f ws) v (StandsAfter f slot (end_of f ws).block v) r.left (source_before f ws) (cells_before f out ws) (length ws) =
-        λ v used live. stepped f out (end_of f ws) v (StandsAfter f slot (end_of f ws).block v) r.left (source_before f ws) (cells_before f out ws) (length ws)
+        Stepped f out (end_of f ws) v (GoesOut f stand (end_of f ws).block v) r.left (source_before f ws) (cells_before f out ws) (length ws) =
+        λ v used live. stepped f out (end_of f ws) v (GoesOut f stand (end_of f ws).block v) r.left (source_before f ws) (cells_before f out ws) (length ws)
         (r.carried v used live) in
         let reading : (v : VirtualRegister) (j : ℕ) → j < length (last_inst f ws).operands → is_reading (op_at (last_inst f ws).operands j) ≡ true →
         (op_at (last_inst f ws).operands j).vreg ≡ v → IsReadIn f (end_of f ws).block v =
@@ -391,24 +395,51 @@ module _ (f : FunctionValue) (ok : IsSound f) (written : IsWrittenFirst f) where
         (λ v j lt reads early is. (s v (inl ((end_of f ws).block, reading v j lt reads is)) (λ n. read n (reading v j lt reads is))).early j lt reads early is)
         (λ v j lt reads late is. (s v (inl ((end_of f ws).block, reading v j lt reads is)) (λ n. read n (reading v j lt reads is))).late j lt reads late is)
 
-    -- where a path comes to a block, the slot of each virtual register that is live there holds what it has
-    pub holds_live : (ws : List Way) → IsPath f ws → HasEntered f ws → (v : VirtualRegister) (p : Place) → Live f v (end_of f ws).block → slot v ≡ Some p →
-        HoldsValue f out ws p v
+    -- where a path comes to a block, the places of each virtual register that is live there hold what it has
+    pub holds_live : (ws : List Way) → IsPath f ws → HasEntered f ws → (v : VirtualRegister) (p : Place) → Live f v (end_of f ws).block →
+        stand (end_of f ws).block v ≡ Some p → HoldsValue f out ws p v
     unfolding source_before cells_before
     holds_live ws path first v p l s = (
       some_where (source_before f ws v) (live_written v (end_of f ws).block ws (block_within ws path)
           (record { path = path; block_is = refl; first_is = first }) l),
-      holds ws path first l,
+      holds ws path first l s,
     )
       where
-        holds : (vs : List Way) → IsPath f vs → HasEntered f vs → Live f v (end_of f vs).block → cells_before f out vs p ≡ source_before f vs v
-        holds [] q e m = refl
-        holds (Onward ∷ vs) q e m = (let at = (within_block vs q.0 (rest_on vs q.0)).0 in absurd (omega (arith, at, e)))
-        holds (ToSuccessor k ∷ vs) q e m = edge_stands k vs q (rest_on vs q.0) v p m s
+        holds : (vs : List Way) → IsPath f vs → HasEntered f vs → Live f v (end_of f vs).block → stand (end_of f vs).block v ≡ Some p →
+            cells_before f out vs p ≡ source_before f vs v
+        holds [] q e m at = refl
+        holds (Onward ∷ vs) q e m at = (let inside = (within_block vs q.0 (rest_on vs q.0)).0 in absurd (omega (arith, inside, e)))
+        holds (ToSuccessor k ∷ vs) q e m at = edge_stands k vs q (rest_on vs q.0) v p m at
 
 -- if no path reads before writing, and every reached block carries what it owes, reads agree on every path
+pub blocks_agree_in_places : BlocksAgreeInPlaces
+blocks_agree_in_places f out stand ok written carries = agree_at f ok written out stand carries
+
+-- in its slot, at each block's beginning
+abbrev pub in_its_slot : (VirtualRegister → Option Place) → ℕ → VirtualRegister → Option Place
+in_its_slot slot b v = slot v
+
+-- what is carried to some places is carried to fewer
+fewer_from : (v : VirtualRegister) (items : List Item) (E F : Place → Type 0) (s : Source) (c : Cells) (n : ℕ) → ((p : Place) → F p → E p) →
+    CarriesFrom v E items s c n → CarriesFrom v F items s c n
+unfolding CarriesFrom
+fewer_from v [] E F s c n fewer h = λ p is. h p (fewer p is)
+fewer_from v (Move m ∷ items) E F s c n fewer h = fewer_from v items E F s (stored c m.to (c m.from)) n fewer h
+fewer_from v (Exec operands places clobbers ∷ items) E F s c n fewer h =
+    (h.0, h.1, fewer_from v items E F (after_defs n 0 operands s) (late_cells n operands places clobbers c) (suc n) fewer h.2)
+
+-- a block that carries values from slot to slot does so where each is in its slot wherever a block begins
+pub slots_carry : (f : FunctionValue) (slot : VirtualRegister → Option Place) (b : ℕ) (items : List Item) → BlockCarries f slot b items →
+    BlockCarriesOn f (in_its_slot slot) b items
+unfolding Carries
+slots_carry f slot b items carries = λ silent v used free s c n holds.
+    fewer_from v items (StandsAfter f slot b v) (GoesOut f (in_its_slot slot) b v) s c n
+    (λ p is. elim is [ inl h ↦ inl (h.2, h.3, h.4) | inr h ↦ inr h ]) (carries silent v used free s c n holds)
+
+-- so with slots
 pub blocks_agree : BlocksAgree
-blocks_agree f out slot ok written carries = agree_at f ok written out slot carries
+blocks_agree f out slot ok written carries = blocks_agree_in_places f out (in_its_slot slot) ok written
+    (λ b reached. slots_carry f slot b (block_items f out b) (carries b reached))
 
 -- a block that a path reaches is one
 reached_within : (f : FunctionValue) → IsSound f → (b : ℕ) → IsReached f (first_of f b) → b < length f.blocks
@@ -428,6 +459,21 @@ items_carry f out slot ok rising quiet carries b reached = λ silent v used free
     let within : b < length f.blocks = reached_within f ok b reached in
     subst (λ l. Carries v l (StandsBefore f slot b v) (StandsAfter f slot b v))
     (sym (block_items-walked f out b rising (ok.nonempty b within) (quiet b within))) (carries b reached silent v used free)
+
+-- and so where values are in other places than slots
+pub items_carry_on : (f : FunctionValue) (out : OutputValue) (stand : ℕ → VirtualRegister → Option Place) → IsSound f → Rising out.edits →
+    ((b : ℕ) → b < length f.blocks → EndsQuiet f out b) →
+    ((b : ℕ) → IsReached f (first_of f b) → BlockCarriesOn f stand b (block_walked f out b)) → (b : ℕ) → IsReached f (first_of f b) →
+    BlockCarriesOn f stand b (block_items f out b)
+items_carry_on f out stand ok rising quiet carries b reached = λ silent v used free.
+    let within : b < length f.blocks = reached_within f ok b reached in
+    subst (λ l. Carries v l (ComesIn f stand b v) (GoesOut f stand b v))
+    (sym (block_items-walked f out b rising (ok.nonempty b within) (quiet b within))) (carries b reached silent v used free)
+
+-- the same as `blocks_agree_in_places`, with listings made by the edits' points
+pub blocks_agree_in_places_by_points : BlocksAgreeInPlacesByPoints
+blocks_agree_in_places_by_points f out stand ok written rising quiet carries = blocks_agree_in_places f out stand ok written
+    (items_carry_on f out stand ok rising quiet carries)
 
 -- the same as `blocks_agree`, with listings made by the edits' points: in order, none after a block's last instruction
 pub blocks_agree_by_points : BlocksAgreeByPoints

@@ -1,5 +1,5 @@
 -- Where each number is defined once: it has one maker, an operand or a parameter, and no instruction reads what it defines.
-use Rattle.std.proofs.Common.{ℕ, zero, suc, ◌≡◌, ◌≢◌, ◌<◌, ◌≤◌, ◌-◌, Bool, true, false, cond, List, [], ◌∷◌, length, map, refl, arith, sym, ap, ◌∙◌}
+use Rattle.std.proofs.Common.{ℕ, zero, suc, ◌≡◌, ◌≢◌, ◌+◌, ◌<◌, ◌≤◌, ◌-◌, Bool, true, false, cond, List, [], ◌∷◌, length, map, refl, arith, sym, ap, ◌∙◌}
 use Rattle.std.proofs.Common.{subst, inl, inr, ◌⊎◌, eq-eqb, nat_eq}
 use Rattle.std.specs.Prelude.{slice_index_or, count_by}
 use Rattle.std.proofs.lemmas.Bool.{cases_eq}
@@ -7,8 +7,9 @@ use Rattle.std.proofs.lemmas.List.Sums.{sum_by-cons}
 use Rattle.regalloc2_names.specs.declared.RegClass.TheVariants.{Int}
 use Rattle.regalloc2_names.specs.Register.{VirtualRegister}
 use Rattle.regalloc2_names.specs.Operand.{OperandValue, is_def, is_reading}
+use Rattle.regalloc2_names.specs.Point.{before, after}
 use Rattle.regalloc2_function.specs.FunctionValue.{FunctionValue, BlockValue, InstValue, block_at, inst_at, no_block, no_inst}
-use Rattle.regalloc2_function.specs.WellFormed.{defines, BlocksFollow, DefinedOnce, IsDefinedBefore, UsesAreDefined}
+use Rattle.regalloc2_function.specs.WellFormed.{defines, BlocksFollow, DefinedOnce, IsDefinedBy, UsesAreDefined}
 use Rattle.regalloc2_semantics.specs.Listing.{op_at, no_operand}
 use Rattle.regalloc2_semantics.specs.Instruction.{Knows}
 use Rattle.regalloc2_semantics.specs.OperandsPlaced.{Once, Counts, what_of}
@@ -120,6 +121,7 @@ module _ (f : FunctionValue) (once : DefinedOnce f) where
       let os = total-one (λ (x : InstValue). count_by (defines n) x.operands) f.insts i no_inst x.inst in
       (once n).1 (omega (arith, o, os))
 
+  -- a number that a parameter has is one of the function's
   pub taken_small : (n b k : ℕ) → TakesAt f n b k → n < f.num_vregs
   unfolding in_blocks in_insts
   taken_small n b k y =
@@ -138,21 +140,29 @@ pub data MadeBefore (f : FunctionValue) (v : VirtualRegister) (i : ℕ) : Type 0
   by_earlier : (j k : ℕ) → j < i → DefinesAt f v.number j k → (op_at (inst_at f j).operands k).vreg ≡ v → MadeBefore f v i
   by_param : (b k : ℕ) → TakesAt f v.number b k → slice_index_or (block_at f b).params k no_vreg ≡ v → MadeBefore f v i
 
--- a vreg defined before an instruction of the function has a block parameter or an operand of an earlier instruction that defines it
-pub made_before : (f : FunctionValue) (v : VirtualRegister) (i : ℕ) → i < length f.insts → IsDefinedBefore f v i → MadeBefore f v i
-made_before f v i lt (inl p) =
+-- a vreg defined by a point has a block parameter or an operand of an earlier instruction that defines it
+made_by : (f : FunctionValue) (v : VirtualRegister) (i point : ℕ) → i ≤ length f.insts → point ≤ before i → IsDefinedBy f v point → MadeBefore f v i
+made_by f v i point lt le (inl p) =
     let same : slice_index_or (block_at f p.0).params p.3.0 no_vreg ≡ v = default_free (block_at f p.0).params p.3.0 no_vreg v p.3.1 ∙ p.3.2 in
     MadeBefore.by_param p.0 p.3.0 (record { block = p.1; param = p.3.1; number = ap (λ (w : VirtualRegister). w.number) same }) same
-made_before f v i lt (inr o) =
+made_by f v i point lt le (inr o) =
     let same : slice_index_or (inst_at f o.0).operands o.1 o.2 ≡ op_at (inst_at f o.0).operands o.1 = default_free (inst_at f o.0).operands o.1 o.2 no_operand
     o.4 in
     let is : (op_at (inst_at f o.0).operands o.1).vreg ≡ v = ap (λ (x : OperandValue). x.vreg) (sym same) ∙ o.6 in
-    by_earlier o.0 o.1 o.3 (record {
-      inst = omega (arith, o.3, lt);
+    by_earlier o.0 o.1 (omega (arith, o.3, le)) (record {
+      inst = omega (arith, o.3, le, lt);
       operand = o.4;
       definition = ap (λ (x : OperandValue). is_def x.kind) (sym same) ∙ o.5;
       number = ap (λ (w : VirtualRegister). w.number) is;
     }) is
+
+-- a vreg that is defined before an instruction of the function is made before it
+pub made_before : (f : FunctionValue) (v : VirtualRegister) (i : ℕ) → i < length f.insts → IsDefinedBy f v (before i) → MadeBefore f v i
+made_before f v i lt h = made_by f v i (before i) (omega (arith, lt)) (omega arith) h
+
+-- and one that is defined by the point after it is made before the next
+pub made_behind : (f : FunctionValue) (v : VirtualRegister) (i : ℕ) → i < length f.insts → IsDefinedBy f v (after i) → MadeBefore f v (i + 1)
+made_behind f v i lt h = made_by f v (i + 1) (after i) (omega (arith, lt)) (omega arith) h
 
 -- a number has one virtual register that is made
 pub one_made : (f : FunctionValue) → DefinedOnce f → (v w : VirtualRegister) → Made f v → Made f w → v.number ≡ w.number → v ≡ w
@@ -178,7 +188,7 @@ made_small f once v (Made.by_param b k x e) = taken_small f once v.number b k x
 -- what is read at an instruction is defined before it
 abbrev pub ReadsDefined : FunctionValue → ℕ → Type 0
 ReadsDefined f i = (k : ℕ) → k < length (inst_at f i).operands → is_reading (op_at (inst_at f i).operands k) ≡ true →
-    IsDefinedBefore f (op_at (inst_at f i).operands k).vreg i
+    IsDefinedBy f (op_at (inst_at f i).operands k).vreg (before i)
 
 -- an instruction's operands: a number is defined by one of them, and isn't read where it is defined
 pub once_at : (f : FunctionValue) → DefinedOnce f → (i : ℕ) → i < length f.insts → ReadsDefined f i →

@@ -115,6 +115,7 @@ module _ (f : FunctionValue) (once : DefinedOnce f) where
   unfoldable pub in_insts : ℕ → ℕ
   in_insts n = total (map (λ (i : InstValue). count_by (defines n) i.operands) f.insts)
 
+  -- all definitions and parameters of one number are one at most
   pub at_most_one : (n : ℕ) → in_blocks n + in_insts n ≤ 1
   unfolding in_blocks in_insts
   at_most_one n = (once n).0
@@ -133,6 +134,7 @@ module _ (f : FunctionValue) (once : DefinedOnce f) where
         let z = at_most_one v.number in absurd (omega arith))
   ]
 
+  -- no instruction defines a block's parameter
   pub no_definition : (b i : ℕ) (v : VirtualRegister) → IsParameter f b v → Undefined (inst_at f i).operands v
   unfolding in_blocks in_insts
   no_definition b i v h j lt d e =

@@ -5,11 +5,12 @@ use Rattle.std.proofs.lemmas.List.{get_or_past}
 use Rattle.regalloc2_names.specs.declared.OperandPos.{OperandPos}
 use Rattle.regalloc2_names.specs.declared.OperandPos.TheVariants.{Early, Late}
 use Rattle.regalloc2_names.specs.Operand.{OperandValue}
+use Rattle.regalloc2_names.specs.Point.{before}
 use Rattle.regalloc2_names.specs.Register.{VirtualRegister, is_vreg}
 use Rattle.regalloc2_function.specs.FunctionValue.{FunctionValue, InstValue, block_at, inst_at, no_inst}
 use Rattle.regalloc2_function.specs.Path.{Way, Onward, ToSuccessor, Location, end_of, last_inst, IsPath}
 use Rattle.regalloc2_function.specs.SourceRun.{Stamp, read_of, source_before, source_after, source_read}
-use Rattle.regalloc2_function.specs.WellFormed.{DefinedOnce, IsDefinedBefore}
+use Rattle.regalloc2_function.specs.WellFormed.{DefinedOnce, IsDefinedBy}
 use Rattle.regalloc2_function.specs.Laws.{SourceIsEarlier, NumbersGiveReads}
 use Rattle.regalloc2_semantics.specs.Carry.{Undefined}
 use Rattle.regalloc2_semantics.specs.Blocks.{names, IsSound}
@@ -52,9 +53,11 @@ has_operands f i k lt = elim (cases_within i (length f.insts)) [
 ]
 
 -- what is defined before an instruction is not defined by it
-not_here : (f : FunctionValue) → DefinedOnce f → (i : ℕ) (v : VirtualRegister) → i < length f.insts → IsDefinedBefore f v i → Undefined (inst_at f i).operands v
+not_here : (f : FunctionValue) → DefinedOnce f → (i : ℕ) (v : VirtualRegister) → i < length f.insts → IsDefinedBy f v (before i) →
+    Undefined (inst_at f i).operands v
 not_here f once i v within (inl h) = no_definition f once h.0 i v (names_element v (block_at f h.0).params h.3.0 h.3.1 h.3.2)
-not_here f once i v within (inr h) = no_second f once i h.0 v (λ e. absurd (let less = h.3 in omega arith)) within (has_operands f h.0 h.1 h.4) h.1 h.2 h.4 h.5
+not_here f once i v within (inr h) = no_second f once i h.0 v (λ e. absurd (let less = h.3 in omega (arith, less, e))) within
+    (has_operands f h.0 h.1 h.4) h.1 h.2 h.4 h.5
     h.6
 
 read_is : (q : OperandPos) (x y : Option Stamp) → y ≡ x → read_of q x y ≡ x
@@ -71,8 +74,8 @@ well_formed_read_earlier earlier env f ok ws p written k d lt reads =
     let o : OperandValue = slice_index_or (last_inst f ws).operands k d in
     let i : ℕ = (end_of f ws).inst in
     let at = inside f (well_formed_are_sound env f ok) ws p in
-    let before : IsDefinedBefore f o.vreg i = (ok.uses_defined (end_of f ws).block at.block).0 i at.first at.end k d lt reads in
-    let gone : Undefined (inst_at f i).operands o.vreg = not_here f ok.defined_once i o.vreg (has_operands f i k lt) before in
+    let by : IsDefinedBy f o.vreg (before i) = (ok.uses_defined (end_of f ws).block at.block).0 i at.first at.end k d lt reads in
+    let gone : Undefined (inst_at f i).operands o.vreg = not_here f ok.defined_once i o.vreg (has_operands f i k lt) by in
     let same : source_after f ws o.vreg ≡ source_before f ws o.vreg = after_defs-other (last_inst f ws).operands (length ws) 0 (source_before f ws) o.vreg
     gone in
     let read : source_read f ws o ≡ source_before f ws o.vreg = read_is o.position (source_before f ws o.vreg) (source_after f ws o.vreg) same in

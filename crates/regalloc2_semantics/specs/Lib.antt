@@ -2,6 +2,7 @@ pub mod Listing
 pub mod Carry
 pub mod BlockByPoints
 pub mod Laws
+pub mod Stores
 pub mod StraightBlock
 pub mod Blocks
 pub mod Sound

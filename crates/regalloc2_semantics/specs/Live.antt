@@ -14,7 +14,7 @@ use Rattle.regalloc2_function.specs.WellFormed.{IsWellFormed}
 use Rattle.regalloc2_semantics.specs.Listing.{op_at, block_items}
 use Rattle.regalloc2_semantics.specs.Carry.{Undefined}
 use Rattle.regalloc2_semantics.specs.BlockByPoints.{block_walked, Rising, EndsQuiet}
-use Rattle.regalloc2_semantics.specs.Blocks.{names, target_at, BlockCarries}
+use Rattle.regalloc2_semantics.specs.Blocks.{names, target_at, BlockCarries, BlockCarriesOn}
 
 -- a way on gives v no new value: it is no edge to a block of which v is a parameter
 abbrev pub IsAside : FunctionValue → VirtualRegister → Location → Way → Type 0
@@ -54,3 +54,14 @@ abbrev pub LiveStandByPoints : Type 0
 LiveStandByPoints = (env : MachineValue) (f : FunctionValue) (out : OutputValue) (slot : VirtualRegister → Option Place) → IsWellFormed env f →
     IsWrittenFirst f → Rising out.edits → ((b : ℕ) → b < length f.blocks → EndsQuiet f out b) →
     ((b : ℕ) → IsReached f (first_of f b) → BlockCarries f slot b (block_walked f out b)) → LiveStand f out slot
+
+-- on every path, where it comes to a block, the place where a virtual register is that is live there holds its value
+abbrev pub LiveStandInPlaces : FunctionValue → OutputValue → (ℕ → VirtualRegister → Option Place) → Type 0
+LiveStandInPlaces f out stand = (ws : List Way) → IsPath f ws → HasEntered f ws → (v : VirtualRegister) (p : Place) → IsLive f v (end_of f ws) →
+    stand (end_of f ws).block v ≡ Some p → HoldsValue f out ws p v
+
+-- so it is where blocks carry values from where they are at a block's beginning to where they are at the next one's
+abbrev pub LiveStandWhereBlocksCarryOn : Type 0
+LiveStandWhereBlocksCarryOn = (env : MachineValue) (f : FunctionValue) (out : OutputValue) (stand : ℕ → VirtualRegister → Option Place) →
+    IsWellFormed env f → IsWrittenFirst f → Rising out.edits → ((b : ℕ) → b < length f.blocks → EndsQuiet f out b) →
+    ((b : ℕ) → IsReached f (first_of f b) → BlockCarriesOn f stand b (block_walked f out b)) → LiveStandInPlaces f out stand

@@ -3,9 +3,9 @@
 //! A crate of laws: the public face is what its functions ensure, and the lemmas of `proofs/`.
 #![tactic(auto)]
 
-ghost use Rattle.regalloc2_semantics.specs.Blocks.{BlocksAgree, BlocksAgreeByPoints};
+ghost use Rattle.regalloc2_semantics.specs.Blocks.{BlocksAgree, BlocksAgreeByPoints, BlocksAgreeInPlaces, BlocksAgreeInPlacesByPoints};
 ghost use Rattle.regalloc2_semantics.specs.Laws.{AgreeingReadsFindEarlier, FaithfulWhereReadsAgree, ReadsAgreeWhereNumbersDo, WellFormedReadEarlier};
-ghost use Rattle.regalloc2_semantics.specs.Live.{LiveStandByPoints, LiveStandWhereBlocksCarry};
+ghost use Rattle.regalloc2_semantics.specs.Live.{LiveStandByPoints, LiveStandWhereBlocksCarry, LiveStandWhereBlocksCarryOn};
 ghost use Rattle.regalloc2_semantics.specs.Sound.{WellFormedAreSound};
 ghost use Rattle.regalloc2_semantics.specs.StraightBlock.{StraightAgrees, StraightAgreesByPoints};
 
@@ -23,17 +23,21 @@ pub fn agrees_in_a_straight_block()
 {}
 
 /// A law: where no path reads before writing, reads agree on every path if each block carries each virtual register
-/// from its slot to its slot, where it may be wanted behind the block, and to the slots of the parameters that it is passed to.
+/// from its slot to its slot, where it may be wanted behind the block, and to the slots of the parameters that it is passed to. And so if values
+/// are in other places where blocks begin, as those that a branch defines.
 pub fn agrees_where_blocks_carry()
     ensures listing { BlocksAgree }
     ensures by_points { BlocksAgreeByPoints }
+    ensures in_places { BlocksAgreeInPlaces }
+    ensures in_places_by_points { BlocksAgreeInPlacesByPoints }
 {}
 
 /// A law: under the same premises, and where the function is well-formed, on every path that comes to a block the slot of
-/// each virtual register that is live there holds its value, also those of the block's parameters.
+/// each virtual register that is live there holds its value, also those of the block's parameters; and so its places, if values are in others.
 pub fn stands_live_where_blocks_carry()
     ensures listing { LiveStandWhereBlocksCarry }
     ensures by_points { LiveStandByPoints }
+    ensures in_places { LiveStandWhereBlocksCarryOn }
 {}
 
 /// A law: a well-formed function has what the law on blocks wants.

@@ -5,7 +5,7 @@
 //! request, as a new block is; giving a block back is none.
 #![tactic(auto)]
 
-use std::alloc::{AllocError, Allocator};
+use std::alloc::{AllocError, Allocator, Global};
 use std::cell::Cell;
 
 /// Passes requests on to the allocator within, but for the one that it refuses.
@@ -68,6 +68,27 @@ unsafe impl<B: Allocator> Allocator for Refusing<B> {
     unsafe fn deallocate(&self, ptr: *mut u8, size: usize, align: usize) {
         self.inner.deallocate(ptr, size, align);
     }
+}
+
+/// A call that takes memory from an allocator.
+pub trait Call {
+    /// Whether the call is done, and answers and leaves what it should. An error says that it was told that memory ran out.
+    fn make(&self, alloc: &Refusing<Global>) -> Result<bool, AllocError>;
+}
+
+/// Whether a call that is refused a growth says so, for each of its growths, and is done if it is made again; and there is one.
+pub fn is_each_told<C: Call>(global: Global, call: &C) -> bool {
+    for nth in 1..10_000u64 {
+        let alloc = Refusing::new(global, nth);
+        let first = call.make(&alloc);
+        if !alloc.has_refused() {
+            return nth > 1 && matches!(first, Ok(true));
+        }
+        if first.is_ok() || !matches!(call.make(&alloc), Ok(true)) {
+            return false;
+        }
+    }
+    false
 }
 
 #[cfg(test)]

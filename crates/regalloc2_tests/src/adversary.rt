@@ -3,7 +3,7 @@
 ghost use Rattle.std.specs.Prelude.{◌<◌, ◌^◌};
 
 use super::calls::run_fitting;
-use super::random::small_machine;
+use super::random::{Random, any_machine};
 use regalloc2::count_operands;
 use regalloc2_function::Function;
 use regalloc2_index::{Block, Inst, InstRange};
@@ -113,6 +113,7 @@ pub fn lend(alloc: Global, insts: usize) -> Option<(Option<u32>, Option<RegAlloc
         insts,
         succs: &[],
     };
-    let refused = run_fitting(alloc, &f, &small_machine(alloc))?.err();
+    let (env, _) = any_machine(alloc, &mut Random::new(0))?;
+    let refused = run_fitting(alloc, &f, &env)?.err();
     Some((count_operands(&f), refused))
 }

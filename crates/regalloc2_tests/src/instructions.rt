@@ -105,13 +105,13 @@ impl Draft {
     /// Adds an operand: an early use or a late definition, most often.
     pub fn add(&mut self, random: &mut Random, vreg: VReg, kind: OperandKind) -> Option<()> {
         let is_use = kind == OperandKind::Use;
-        let pos = if is_use != random.once_in(3) {
+        let is_first = is_use != random.once_in(3);
+        let pos = if is_first {
             OperandPos::Early
         } else {
             OperandPos::Late
         };
-        let is_early = is_use || pos == OperandPos::Early;
-        let is_late = !is_use || pos == OperandPos::Late;
+        let (is_early, is_late) = (is_use || is_first, !is_use || !is_first);
         let constraint = self.constraint(random, vreg.class(), is_early, is_late);
         let operand = Operand::new(vreg, constraint, kind, pos);
         self.operands.push(operand).ok()
@@ -122,13 +122,11 @@ impl Draft {
         if !self.takes_one(vreg.class()) {
             return Some(());
         }
-        let pos = if random.once_in(3) {
-            OperandPos::Late
+        let operand = if random.once_in(3) {
+            Operand::reg_use_at_end(vreg)
         } else {
-            OperandPos::Early
+            Operand::reg_use(vreg)
         };
-        let constraint = OperandConstraint::Reg;
-        let operand = Operand::new(vreg, constraint, OperandKind::Use, pos);
         self.operands.push(operand).ok()
     }
 

@@ -3,32 +3,28 @@
 use super::calls::run_fitting;
 use super::random::integer_machine;
 use super::rows::{def, read, vreg};
-use regalloc2::{Operand, OperandConstraint, OperandKind, OperandPos};
+use regalloc2::Operand;
 use regalloc2_table::{BuildError, TableBuilder, TableFunction};
 use std::alloc::Global;
 
-/// Whether a function is allocated on so many registers, with as many places as it has operands and, where that is known, so many
-/// slots.
-fn is_allocated(
+/// How many places and slots a function gets on so many registers.
+fn size(
     alloc: Global,
     f: Result<TableFunction, BuildError>,
     registers: usize,
-    places: usize,
-    slots: Option<usize>,
-) -> Option<bool> {
+) -> Option<(usize, usize)> {
     let out = run_fitting(alloc, &f.ok()?, &integer_machine(alloc, registers))?.ok()?;
-    let has_slots = slots.is_none_or(|count| count == out.num_spillslots);
-    Some(out.allocs.len() == places && has_slots)
+    Some((out.allocs.len(), out.num_spillslots))
 }
 
-/// Whether each large function is allocated as it should be.
-pub fn are_allocated(alloc: Global) -> Option<[bool; 4]> {
-    Some([
-        is_allocated(alloc, many_live(alloc), 16, 100_000, None)?,
-        is_allocated(alloc, wide_instructions(alloc), 16, 40_000, Some(10_000))?,
-        is_allocated(alloc, long_chain(alloc), 4, 20_000, Some(20_000))?,
-        is_allocated(alloc, big_switch(alloc), 4, 20_001, Some(20_001))?,
-    ])
+/// How many places and slots each large function gets.
+pub fn sizes(alloc: Global) -> [Option<(usize, usize)>; 4] {
+    [
+        size(alloc, many_live(alloc), 16),
+        size(alloc, wide_instructions(alloc), 16),
+        size(alloc, long_chain(alloc), 4),
+        size(alloc, big_switch(alloc), 4),
+    ]
 }
 
 /// 50,000 definitions, all live, and then their reads.
@@ -45,25 +41,17 @@ fn many_live(alloc: Global) -> Result<TableFunction, BuildError> {
     f.finish(50_000)
 }
 
-/// An early use in memory.
-fn use_in_memory(number: usize) -> Operand {
-    let (constraint, pos) = (OperandConstraint::Stack, OperandPos::Early);
-    Operand::new(vreg(number), constraint, OperandKind::Use, pos)
-}
-
 /// Instructions of 10,000 operands each.
 fn wide_instructions(alloc: Global) -> Result<TableFunction, BuildError> {
-    let (mut defs, mut uses, mut stored) = (Vec::new(alloc), Vec::new(alloc), Vec::new(alloc));
+    let (mut defs, mut uses) = (Vec::new(alloc), Vec::new(alloc));
     for number in 0..10_000 {
         defs.push(Operand::any_def(vreg(number)))?;
         uses.push(Operand::any_use(vreg(number)))?;
-        stored.push(use_in_memory(number))?;
     }
     let mut f = TableBuilder::new(alloc);
     let block = f.block(&[])?;
-    for operands in [&defs, &uses, &stored] {
-        f.op(block, operands)?;
-    }
+    f.op(block, &defs)?;
+    f.op(block, &uses)?;
     f.ret(block, &uses)?;
     f.finish(10_000)
 }

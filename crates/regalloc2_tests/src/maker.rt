@@ -23,15 +23,16 @@ pub struct Maker {
     named: usize,
     /// Those that may be read.
     known: Vec<VReg>,
-    /// Whether instructions ask for registers as long as there are any.
+    /// Whether instructions ask for registers as long as there are any, as in most functions.
     is_filled: bool,
 }
 
 impl Maker {
     /// A machine, and no instruction yet.
-    pub fn new(alloc: Global, seed: u64, is_filled: bool) -> Option<Maker> {
+    pub fn new(alloc: Global, seed: u64) -> Option<Maker> {
         let mut random = Random::new(seed);
         let (env, most) = any_machine(alloc, &mut random)?;
+        let is_filled = !random.once_in(4);
         let mut usable = PRegSet::from(&env);
         for slot in &env.fixed_stack_slots {
             usable.add(*slot);
@@ -66,20 +67,14 @@ impl Maker {
 
     /// Adds a use of one of the first virtual registers that may be read.
     fn add_use(&mut self, draft: &mut Draft, defined: usize) -> Option<()> {
-        if defined == 0 {
-            return Some(());
-        }
-        let vreg = *self.known.get(self.random.below(defined))?;
+        let vreg = *self.known.get(self.random.below(defined.max(1)))?;
         draft.add(&mut self.random, vreg, OperandKind::Use)
     }
 
     /// Adds uses of the first virtual registers that may be read, as long as registers are left for them.
     fn fill_up(&mut self, draft: &mut Draft, defined: usize) -> Option<()> {
-        if defined == 0 || !self.is_filled {
-            return Some(());
-        }
         for _ in 0..32 {
-            let vreg = *self.known.get(self.random.below(defined))?;
+            let vreg = *self.known.get(self.random.below(defined.max(1)))?;
             draft.add_if_left(&mut self.random, vreg)?;
         }
         Some(())
@@ -104,14 +99,15 @@ impl Maker {
         draft.operands.push(operand).ok()
     }
 
-    /// An instruction of fewer than so many operands.
-    fn inst(&mut self, below: usize, is_ret: bool) -> Option<TableInst>
+    /// An instruction of fewer than so many operands, and those that fill it up. A branch has uses alone, and isn't filled up.
+    fn inst(&mut self, below: usize, is_branch: bool, is_ret: bool) -> Option<TableInst>
         requires { 0 < below }
     {
         let defined = self.known.len();
         let mut draft = Draft::new(self.alloc, self.usable, self.most);
         for _ in 0..self.random.below(below) {
-            match self.random.below(9) {
+            let choice = if is_branch { 8 } else { self.random.below(9) };
+            match choice {
                 0 | 1 | 2 => self.add_def(&mut draft)?,
                 3 | 4 => self.add_reuse(&mut draft)?,
                 5 => {
@@ -122,18 +118,10 @@ impl Maker {
                 _ => self.add_use(&mut draft, defined)?,
             }
         }
-        self.fill_up(&mut draft, defined)?;
-        Some(draft.finish(&mut self.random, false, is_ret))
-    }
-
-    /// A branch, which has up to two uses if it may have any.
-    fn branch(&mut self, may_use: bool) -> Option<TableInst> {
-        let defined = self.known.len();
-        let mut draft = Draft::new(self.alloc, self.usable, self.most);
-        for _ in 0..self.random.below(if may_use { 3 } else { 1 }) {
-            self.add_use(&mut draft, defined)?;
+        if self.is_filled && !is_branch {
+            self.fill_up(&mut draft, defined)?;
         }
-        Some(draft.finish(&mut self.random, true, false))
+        Some(draft.finish(&mut self.random, is_branch, is_ret))
     }
 
     /// Adds an instruction that defines the first virtual register of each class.
@@ -195,22 +183,17 @@ impl Maker {
     /// The last instruction of a block: a return where no other block comes next, most often.
     fn ending(&mut self, graph: &Graph, number: usize) -> Option<TableInst> {
         if graph.nodes.get(number)?.succs.is_empty() && !self.random.once_in(20) {
-            self.inst(5, true)
+            self.inst(5, false, true)
         } else {
-            self.branch(graph.may_use(number)?)
+            self.inst(if graph.may_use(number)? { 3 } else { 1 }, true, false)
         }
     }
 
-    /// Fills a block. A function of one block has longer instructions.
+    /// Fills a block.
     fn fill(&mut self, graph: &mut Graph, f: &mut TableBuilder, number: usize) -> Option<()> {
         let block = Block::new(number % 100);
-        let (count, below) = if graph.nodes.len() == 1 {
-            (9, 7)
-        } else {
-            (4, 5)
-        };
-        for _ in 0..self.random.below(count) {
-            f.inst(block, self.inst(below, false)?).ok()?;
+        for _ in 0..self.random.below(6) {
+            f.inst(block, self.inst(7, false, false)?).ok()?;
         }
         f.inst(block, self.ending(graph, number)?).ok()?;
         graph.nodes.get_mut(number)?.known = self.known.to_vec(self.alloc).ok()?;

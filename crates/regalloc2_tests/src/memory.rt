@@ -1,78 +1,102 @@
 //! Each growth of a call, refused in turn.
 
-use super::calls::{Verdict, check, run_fitting, run_with_ctx_fitting};
-use regalloc2::{Ctx, MachineEnv, Output, RegAllocError};
+use super::calls::{run_fitting, run_with_ctx_fitting};
+use super::rows::order;
+use regalloc2::cfg::{CFGInfo, CFGInfoCtx};
+use regalloc2::checker::{Checker, CheckerError};
+use regalloc2::ssa::{reads_written, validate_ssa};
+use regalloc2::{Ctx, MachineEnv, Output, RegAllocError, is_framed};
 use regalloc2_table::TableFunction;
-use regalloc2_test_alloc::Refusing;
-use std::alloc::Global;
+use regalloc2_test_alloc::{Call, Refusing};
+use std::alloc::{AllocError, Global};
 
-/// A call that asks for memory.
-#[derive(Clone, Copy, Debug, PartialEq, Eq)]
-pub enum Call {
+/// A call that takes memory.
+#[derive(Clone, Copy, Debug)]
+pub enum Name {
     Run,
     RunWithCtx,
     Check,
+    Tests,
 }
 
-/// A function, its machine and what it is given.
+/// A call, its function and machine, and what comes out.
 #[derive(Drop)]
 pub struct Given<'a> {
+    pub name: Name,
     pub f: &'a TableFunction,
     pub env: &'a MachineEnv,
     pub out: &'a Output,
 }
 
-impl Given<'_> {
-    /// Whether a run is told that it lacks memory where the nth growth is refused, and a second run serves. None where there is
-    /// no such growth.
-    fn is_run_told(&self, alloc: &Refusing<Global>) -> Option<bool> {
-        let slots = Some(Ok(self.out.num_spillslots));
-        let answer = run_fitting(alloc, self.f, self.env)?.map(|out| out.num_spillslots);
-        if !alloc.has_refused() {
-            return None;
+impl Call for Given<'_> {
+    fn make(&self, alloc: &Refusing<Global>) -> Result<bool, AllocError> {
+        match self.name {
+            Name::Run => told(run_fitting(alloc, self.f, self.env)),
+            Name::RunWithCtx => self.run_with_ctx(alloc),
+            Name::Check => self.check(alloc),
+            Name::Tests => told(Some(self.test(alloc))),
         }
-        let again = run_fitting(alloc, self.f, self.env)?.map(|out| out.num_spillslots);
-        Some(answer == Err(RegAllocError::Memory) && Some(again) == slots)
     }
+}
 
-    /// Whether a run into a context is, which leaves the context's output as it was.
-    fn is_run_with_ctx_told(&self, alloc: &Refusing<Global>) -> Option<bool> {
+/// Whether a call is done. An error says that it is out of memory.
+fn told<T: Drop>(answer: Option<Result<T, RegAllocError>>) -> Result<bool, AllocError> {
+    match answer {
+        Some(Ok(_)) => Ok(true),
+        Some(Err(RegAllocError::Memory)) => Err(AllocError),
+        _ => Ok(false),
+    }
+}
+
+impl Given<'_> {
+    /// Runs into a context, which keeps its output if memory runs out.
+    fn run_with_ctx(&self, alloc: &Refusing<Global>) -> Result<bool, AllocError> {
         let mut ctx = Ctx::new(alloc);
         ctx.output.num_spillslots = 7;
-        let answer = run_with_ctx_fitting(self.f, self.env, &mut ctx)?;
-        if !alloc.has_refused() {
-            return None;
+        let answer = told(run_with_ctx_fitting(self.f, self.env, &mut ctx));
+        let slots = ctx.output.num_spillslots;
+        match answer {
+            Err(_) if slots == 7 => Err(AllocError),
+            Ok(true) => Ok(slots == self.out.num_spillslots),
+            _ => Ok(false),
         }
-        let is_as_before = ctx.output.num_spillslots == 7 && ctx.output.allocs.is_empty();
-        let again = run_with_ctx_fitting(self.f, self.env, &mut ctx)?;
-        let is_told = answer == Err(RegAllocError::Memory) && is_as_before;
-        Some(is_told && again == Ok(self.out.num_spillslots))
     }
 
-    /// Whether a check is.
-    fn is_check_told(&self, alloc: &Refusing<Global>) -> Option<bool> {
-        let answer = check(alloc, self.f, self.env, self.out);
-        if !alloc.has_refused() {
-            return None;
+    /// Checks the output.
+    fn check(&self, alloc: &Refusing<Global>) -> Result<bool, AllocError> {
+        if !is_framed(self.f) {
+            return Ok(false);
         }
-        Some(answer == Err(Verdict::Memory))
+        let Ok(mut checker) = Checker::new(alloc, self.f, self.env) else {
+            return Err(AllocError);
+        };
+        match checker.prepare(self.out) {
+            Ok(()) => {}
+            Err(CheckerError::Memory) => return Err(AllocError),
+            Err(_) => return Ok(false),
+        }
+        match checker.run() {
+            Ok(()) => Ok(true),
+            Err(errors) => match errors.errors() {
+                [CheckerError::Memory] => Err(AllocError),
+                _ => Ok(false),
+            },
+        }
     }
 
-    /// Whether each growth of a call that is refused is told as such, and there is one.
-    pub fn is_each_told(&self, global: Global, call: Call) -> bool {
-        for nth in 1..10_000u64 {
-            let alloc = Refusing::new(global, nth);
-            let is_told = match call {
-                Call::Run => self.is_run_told(&alloc),
-                Call::RunWithCtx => self.is_run_with_ctx_told(&alloc),
-                Call::Check => self.is_check_told(&alloc),
-            };
-            match is_told {
-                Some(true) => {}
-                Some(false) => return false,
-                None => return nth > 1,
-            }
+    /// Tests the function, and makes its tables and the order of its blocks.
+    fn test(&self, alloc: &Refusing<Global>) -> Result<(), RegAllocError> {
+        let (mut info, mut blocks) = (CFGInfo::empty(alloc), Vec::new(alloc));
+        info.init(self.f, &mut CFGInfoCtx::new(alloc))?;
+        validate_ssa(alloc, self.f, &info)?;
+        order(alloc, self.f, &mut blocks)?;
+        if !is_framed(self.f) {
+            return Err(RegAllocError::EntryLivein);
         }
-        false
+        if reads_written(alloc, self.f)? {
+            Ok(())
+        } else {
+            Err(RegAllocError::EntryLivein)
+        }
     }
 }

@@ -71,36 +71,21 @@ fn pregs(class: RegClass, from: usize, to: usize) -> PRegSet {
     set
 }
 
-/// A machine without registers.
-fn no_machine(alloc: Global) -> MachineEnv {
+/// A machine whose only registers are so many preferred ones for integers.
+pub fn integer_machine(alloc: Global, count: usize) -> MachineEnv {
+    let empty = PRegSet::empty();
     MachineEnv {
-        preferred_regs_by_class: [PRegSet::empty(); 3],
-        non_preferred_regs_by_class: [PRegSet::empty(); 3],
+        preferred_regs_by_class: [pregs(RegClass::Int, 0, count), empty, empty],
+        non_preferred_regs_by_class: [empty; 3],
         scratch_by_class: [None; 3],
         fixed_stack_slots: Vec::new(alloc),
     }
 }
 
-/// A machine whose only registers are so many preferred ones for integers.
-pub fn integer_machine(alloc: Global, count: usize) -> MachineEnv {
-    let mut env = no_machine(alloc);
-    env.preferred_regs_by_class[0] = pregs(RegClass::Int, 0, count);
-    env
-}
-
-/// A machine with two preferred registers of each class.
-pub fn small_machine(alloc: Global) -> MachineEnv {
-    let mut env = no_machine(alloc);
-    for class in CLASSES {
-        env.preferred_regs_by_class[class as usize] = pregs(class, 0, 2);
-    }
-    env
-}
-
 /// A machine: of each class up to seven registers, of which some aren't preferred, with or without two fixed stack slots and a
 /// register for moves. It comes with how many registers of each class an instruction may ask for.
 pub fn any_machine(alloc: Global, random: &mut Random) -> Option<(MachineEnv, [usize; 3])> {
-    let mut env = no_machine(alloc);
+    let mut env = integer_machine(alloc, 0);
     let mut most = [0usize; 3];
     for class in CLASSES {
         let at = class as usize;

@@ -1,16 +1,17 @@
-//! A loop and a fork, and what calls answer of them that no listing shows.
+//! A loop and a fork, and what calls answer of them that no listing shows. The lemmas of `WorkedPaths` say what they read.
 
 ghost use Rattle.std.specs.Prelude.{◌≡◌};
 ghost use Rattle.regalloc2_names.specs.declared.RegClass.{RegClass};
 
-use super::calls::{Verdict, run_fitting, run_into_ctx_fitting, run_with_ctx_fitting, verdict_of};
-use super::judge::reads;
+use super::calls::{run_fitting, run_with_ctx_fitting};
 use super::random::integer_machine;
-use regalloc2::checker::Checker;
-use regalloc2::{Block, Ctx, Operand, Output, RegAllocError, RegClass, VReg, is_framed};
-use regalloc2_interp::logs::Stamp;
+use regalloc2::cfg::CFGInfo;
+use regalloc2::checker::{Checker, CheckerErrors};
+use regalloc2::postorder::calculate;
+use regalloc2::ssa::validate_ssa;
+use regalloc2::{Block, Ctx, Function, Operand, Output, RegAllocError, RegClass, VReg, is_framed};
 use regalloc2_table::{BuildError, TableBuilder, TableFunction};
-use std::alloc::Global;
+use std::alloc::{Allocator, Global};
 
 /// An integer virtual register, whose number is taken below 2^20.
 pub fn vreg(number: usize) -> VReg
@@ -29,26 +30,34 @@ pub fn read(number: usize) -> Operand {
     Operand::reg_use(vreg(number))
 }
 
-/// A loop whose two parameters change places on each turn, and then a return that reads both.
-fn swapping_loop(alloc: Global) -> Result<TableFunction, BuildError> {
+/// A loop whose parameters, as many as said, each take the next one's value on each turn; then a return that reads them all.
+pub fn turning_loop(alloc: Global, count: usize) -> Result<TableFunction, BuildError> {
+    let (mut given, mut params) = (Vec::new(alloc), Vec::new(alloc));
+    let (mut turned, mut reads) = (Vec::new(alloc), Vec::new(alloc));
     let mut f = TableBuilder::new(alloc);
-    let (start, head) = (f.block(&[])?, f.block(&[vreg(2), vreg(3)])?);
-    let (body, end) = (f.block(&[])?, f.block(&[])?);
-    f.op(start, &[def(0)])?;
-    f.op(start, &[def(1)])?;
+    let start = f.block(&[])?;
+    for number in 0..count {
+        f.op(start, &[def(number)])?;
+        given.push(vreg(number))?;
+        params.push(vreg(count.saturating_add(number)))?;
+        let next = number.saturating_add(1) % count.max(1);
+        turned.push(vreg(count.saturating_add(next)))?;
+        reads.push(read(count.saturating_add(number)))?;
+    }
+    let (head, body, end) = (f.block(&params)?, f.block(&[])?, f.block(&[])?);
     f.branch(start, &[])?;
-    f.succ(start, head, &[vreg(0), vreg(1)])?;
-    f.op(head, &[read(2)])?;
+    f.succ(start, head, &given)?;
+    f.op(head, &[read(count)])?;
     f.branch(head, &[])?;
     f.succ(head, body, &[])?;
     f.succ(head, end, &[])?;
     f.branch(body, &[])?;
-    f.succ(body, head, &[vreg(3), vreg(2)])?;
-    f.ret(end, &[read(2), read(3)])?;
-    f.finish(4)
+    f.succ(body, head, &turned)?;
+    f.ret(end, &reads)?;
+    f.finish(count.saturating_mul(2))
 }
 
-/// A fork that passes its value on one edge to a parameter, which is read on the other edge too.
+/// A fork that passes its value on one edge to a parameter.
 fn fork(alloc: Global) -> Result<TableFunction, BuildError> {
     let mut f = TableBuilder::new(alloc);
     let start = f.block(&[])?;
@@ -67,63 +76,57 @@ pub fn allocated(alloc: Global, f: &TableFunction) -> Option<Output> {
     run_fitting(alloc, f, &integer_machine(alloc, 10))?.ok()
 }
 
-/// What the first use at the end of a path reads, in the function and in what it is given: the step that wrote it.
-fn first_read(
-    alloc: Global,
-    f: &TableFunction,
-    out: &Output,
-    ways: &[Option<usize>],
-) -> Option<(Option<usize>, Option<usize>)> {
-    let found = reads(alloc, f, out, ways)?;
-    let step = |stamp: &Option<Stamp>| stamp.map(|write| write.step);
-    Some((step(found.source.get(0)?), step(found.allocated.get(0)?)))
+/// The tables of the loop and of the fork, and whether the order of the loop's blocks is theirs; the loop passes the tests.
+pub fn tables(alloc: Global) -> Option<(CFGInfo, CFGInfo, bool)> {
+    let (f, fork) = (turning_loop(alloc, 2).ok()?, fork(alloc).ok()?);
+    let (info, is_so) = tested(alloc, &f).ok()?;
+    Some((info, CFGInfo::new(alloc, &fork).ok()?, is_so))
 }
 
-/// What the head of the loop reads on its first three turns, and on the second turn where one of the slots is copied before the
-/// other one is read.
-pub fn reads_of_a_loop(alloc: Global) -> Option<[(Option<usize>, Option<usize>); 4]> {
-    let f = swapping_loop(alloc).ok()?;
-    let mut out = allocated(alloc, &f)?;
-    let (on, back) = (None, Some(0));
-    let first = first_read(alloc, &f, &out, &[back, on, on])?;
-    let second = first_read(alloc, &f, &out, &[back, back, on, back, on, on])?;
-    let third = [back, back, on, back, back, on, back, on, on];
-    let third = first_read(alloc, &f, &out, &third)?;
-    if out.edits.len() != 13 {
-        return None;
-    }
-    let kept = out.edits.remove(7);
-    out.edits.insert(9, kept).ok()?;
-    let wrong = first_read(alloc, &f, &out, &[back, back, on, back, on, on])?;
-    Some([first, second, third, wrong])
+/// The tables of a function that passes the tests, and whether the order of its blocks is theirs.
+fn tested(alloc: Global, f: &TableFunction) -> Result<(CFGInfo, bool), RegAllocError> {
+    let info = CFGInfo::new(alloc, f)?;
+    validate_ssa(alloc, f, &info)?;
+    let mut blocks = Vec::new(alloc);
+    order(alloc, f, &mut blocks)?;
+    let is_so = info.postorder.as_slice() == blocks.as_slice();
+    Ok((info, is_so))
 }
 
-/// What is read of the fork's parameter on either edge, of which only the first one passes it.
-pub fn reads_of_a_fork(alloc: Global) -> Option<[(Option<usize>, Option<usize>); 2]> {
-    let f = fork(alloc).ok()?;
-    let out = allocated(alloc, &f)?;
-    let passed = first_read(alloc, &f, &out, &[Some(0), None])?;
-    Some([passed, first_read(alloc, &f, &out, &[Some(1), None])?])
+/// The order of a function's blocks, asked for by a closure.
+pub fn order<A: Allocator + Copy, F: Function>(
+    alloc: A,
+    f: &F,
+    out: &mut Vec<Block, A>,
+) -> Result<(), RegAllocError> {
+    let mut visited = Vec::new(alloc);
+    let entry = f.entry_block();
+    calculate(
+        alloc,
+        f.num_blocks(),
+        entry,
+        &mut visited,
+        out,
+        |block| f.block_succs(block),
+    )
 }
 
 /// The slots that each call gives the loop. Then how it is refused where it has too few registers, where it goes on to no block, and
 /// where it starts at none; whether it is framed in the last two cases; and the slots in the context, which held an output before.
 pub fn slots_and_refusals(
     alloc: Global,
-) -> Option<([usize; 3], [Option<RegAllocError>; 3], [bool; 2], usize)> {
-    let mut f = swapping_loop(alloc).ok()?;
+) -> Option<([usize; 2], [Option<RegAllocError>; 3], [bool; 2], usize)> {
+    let mut f = turning_loop(alloc, 2).ok()?;
     let (env, few) = (integer_machine(alloc, 10), integer_machine(alloc, 1));
     let mut ctx = Ctx::new(alloc);
-    run_into_ctx_fitting(&f, &env, &mut ctx)?.ok()?;
-    let kept = ctx.output.num_spillslots;
     let lent = run_with_ctx_fitting(&f, &env, &mut ctx)?.ok()?;
-    let slots = [allocated(alloc, &f)?.num_spillslots, kept, lent];
-    let lacks = run_into_ctx_fitting(&f, &few, &mut ctx)?.err();
+    let slots = [allocated(alloc, &f)?.num_spillslots, lent];
+    let lacks = run_with_ctx_fitting(&f, &few, &mut ctx)?.err();
     *f.blocks.get_mut(2)?.succs.get_mut(0)? = Block(8);
-    let leads_nowhere = run_into_ctx_fitting(&f, &env, &mut ctx)?.err();
+    let leads_nowhere = run_with_ctx_fitting(&f, &env, &mut ctx)?.err();
     let is_framed_so = is_framed(&f);
     f.entry = Block(9);
-    let starts_nowhere = run_into_ctx_fitting(&f, &env, &mut ctx)?.err();
+    let starts_nowhere = run_with_ctx_fitting(&f, &env, &mut ctx)?.err();
     let answers = [lacks, leads_nowhere, starts_nowhere];
     let framed = [is_framed_so, is_framed(&f)];
     Some((slots, answers, framed, ctx.output.num_spillslots))
@@ -131,8 +134,8 @@ pub fn slots_and_refusals(
 
 /// What a checker says that has no output; that was given one which isn't in order, after a right one; and that was given the right
 /// one last.
-pub fn verdicts(alloc: Global) -> Option<[Result<(), Verdict>; 3]> {
-    let f = swapping_loop(alloc).ok()?;
+pub fn verdicts(alloc: Global) -> Option<[Result<(), CheckerErrors>; 3]> {
+    let f = turning_loop(alloc, 2).ok()?;
     let (out, mut bad) = (allocated(alloc, &f)?, allocated(alloc, &f)?);
     let env = integer_machine(alloc, 10);
     bad.inst_alloc_offsets.clear();
@@ -146,6 +149,5 @@ pub fn verdicts(alloc: Global) -> Option<[Result<(), Verdict>; 3]> {
     given_right.prepare(&bad).err()?;
     given_right.prepare(&out).ok()?;
     let unprepared = Checker::new(alloc, &f, &env).ok()?;
-    let answers = [unprepared.run(), given_both.run(), given_right.run()];
-    Some(answers.map(|answer| verdict_of(answer)))
+    Some([unprepared.run(), given_both.run(), given_right.run()])
 }

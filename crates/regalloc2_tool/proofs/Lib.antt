@@ -1,3 +1,3 @@
-pub mod Below
-pub mod Written
-pub mod Lines
+pub mod ListedInsts
+pub mod WrittenInParts
+pub mod ListingLines

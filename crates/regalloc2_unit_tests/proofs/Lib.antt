@@ -1,3 +1,2 @@
 mod Rising
-mod Lending
 mod MadeRings

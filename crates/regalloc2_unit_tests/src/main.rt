@@ -1,12 +1,11 @@
 //! `regalloc2_unit_tests`: prints what the parts of the library answer, a line for each row of its tables. The file `stdout` says
-//! what must come.
+//! what must come; the input has a function and an output as JSON.
 #![tactic(auto)]
 
-mod cfg;
 mod names;
 mod parts;
 mod report;
-mod serialize;
+mod sets;
 
 use report::Report;
 use std::io::{self, BufWriter, Write};
@@ -15,10 +14,10 @@ fn main(rt: HostRuntime) -> io::Result<()> {
     let alloc = rt.alloc();
     let text = io::read_to_string(alloc, rt.stdin())?;
     let mut report = Report::new(alloc);
-    names::write_all(alloc, &mut report)?;
+    names::write_all(&mut report);
+    sets::write_all(alloc, &mut report)?;
     parts::write_all(alloc, &mut report)?;
-    serialize::write_all(alloc, text.as_str(), &mut report)?;
-    cfg::write_all(alloc, &mut report)?;
+    parts::refused::write_all(alloc, text.as_str(), &mut report);
     let out = &mut BufWriter::new(alloc, rt.stdout())?;
     report.print(out)?;
     out.flush()

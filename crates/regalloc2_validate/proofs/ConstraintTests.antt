@@ -104,9 +104,9 @@ apart_more ops k m is none h i j n li lj a b = elim (cases_eq i k) [
 ]
 
 -- an instruction's reuses
-pub reuses_sound : (env : MachineValue) (i : InstValue) → ((k : ℕ) → k < length i.operands → IsSoundReuse env i.operands (op_at i.operands k)) →
+pub reuses_valid : (env : MachineValue) (i : InstValue) → ((k : ℕ) → k < length i.operands → IsSoundReuse env i.operands (op_at i.operands k)) →
     AreApart i.operands (length i.operands) → ReusesAreSound env i
-reuses_sound env i each apart = record {
+reuses_valid env i each apart = record {
   definitions = λ k d lt n e. let s = each k lt n (ap (λ (o : OperandValue). o.constraint) (get_or_default i.operands k no_operand d lt) ∙ e) in (
     ap (λ (o : OperandValue). o.kind) (get_or_default i.operands k d no_operand lt) ∙ s.0,
     ap (λ (o : OperandValue). o.position) (get_or_default i.operands k d no_operand lt) ∙ s.1,
@@ -132,9 +132,9 @@ reuses_sound env i each apart = record {
 }
 
 -- if an instruction's reuses are valid as a whole, each of them is
-pub sound_reuses : (env : MachineValue) (i : InstValue) → ReusesAreSound env i → (k : ℕ) → k < length i.operands →
+pub valid_reuses : (env : MachineValue) (i : InstValue) → ReusesAreSound env i → (k : ℕ) → k < length i.operands →
     IsSoundReuse env i.operands (op_at i.operands k)
-sound_reuses env i s k lt n is =
+valid_reuses env i s k lt n is =
     let d = s.definitions k no_operand lt n is in
     let t = s.targets k no_operand lt n no_operand is in (
       d.0,
@@ -169,21 +169,21 @@ clear_read clobbers ops k o named b is same n =
     subst (λ (x : OperandValue). AvoidsClobbers clobbers x b ↔ IsClear clobbers ops k) (sym is)
     (clear_by clobbers ops k b (λ t. n.0 (sym same ∙ t)) (λ r. same ∙ n.1 r))
 
--- an instruction's reuses are sound where each is and they are apart
-pub sound_then : (env : MachineValue) (i : InstValue) (ops : List OperandValue) (b : Bool) → ops ≡ i.operands →
+-- an instruction's reuses are valid where each is and they are apart
+pub valid_then : (env : MachineValue) (i : InstValue) (ops : List OperandValue) (b : Bool) → ops ≡ i.operands →
     ((k : ℕ) → k < length ops → IsSoundReuse env ops (op_at ops k))
     → (IsTrue b ↔ AreApart ops (length ops)) → IsTrue b ↔ ReusesAreSound env i
-sound_then env i ops b e each apart = (
-  λ t. reuses_sound env i (subst (λ os. (k : ℕ) → k < length os → IsSoundReuse env os (op_at os k)) e each)
+valid_then env i ops b e each apart = (
+  λ t. reuses_valid env i (subst (λ os. (k : ℕ) → k < length os → IsSoundReuse env os (op_at os k)) e each)
       (subst (λ os. AreApart os (length os)) e (apart.0 t)),
   λ s. apart.1 (subst (λ os. AreApart os (length os)) (sym e) (apart_reuses env i s)),
 )
 
 -- where the test of single reuses fails, its answer decides the instruction's reuses as a whole: they are not valid
-pub sound_else : (env : MachineValue) (i : InstValue) (ops : List OperandValue) (b : Bool) → ops ≡ i.operands → b ≡ false →
+pub valid_else : (env : MachineValue) (i : InstValue) (ops : List OperandValue) (b : Bool) → ops ≡ i.operands → b ≡ false →
     (IsTrue b ↔ ((k : ℕ) → k < length ops → IsSoundReuse env ops (op_at ops k)))
     → IsTrue b ↔ ReusesAreSound env i
-sound_else env i ops b e isnt each = (
+valid_else env i ops b e isnt each = (
   λ t. absurd (let f : false ≡ true = sym isnt ∙ t in cc),
-  λ s. each.1 (subst (λ os. (k : ℕ) → k < length os → IsSoundReuse env os (op_at os k)) (sym e) (sound_reuses env i s)),
+  λ s. each.1 (subst (λ os. (k : ℕ) → k < length os → IsSoundReuse env os (op_at os k)) (sym e) (valid_reuses env i s)),
 )

@@ -37,7 +37,7 @@ pub tested_on_ok : {T E : Type 0} (f : FunctionValue) (env : MachineValue) (r : 
 tested_on_ok f env (Ok x) shape sound reuses fixed = tested_well_formed f env shape sound reuses fixed
 tested_on_ok f env (Err e) shape sound reuses fixed = tt
 
--- the refusals of the first two tests
+-- out of memory or an error of the first tests is an error of the whole validation
 pub shape_fault : (f : FunctionValue) (env : MachineValue) (e : RegAllocError) → (e ≡ Memory) ⊎ IsShapeFault f e → IsFault f env e
 shape_fault f env e (inl m) = rw m memory
 shape_fault f env e (inr h) = misshapen h

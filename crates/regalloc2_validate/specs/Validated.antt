@@ -6,7 +6,7 @@ use Rattle.regalloc2_function.specs.Machine.{MachineValue}
 use Rattle.regalloc2_function.specs.Reasons.{HasShape, IsShapeFault, IsSound, IsSoundnessFault}
 use Rattle.regalloc2_validate.specs.Constraints.{IsFixedFault}
 
--- memory was refused, or a test failed: of blocks and edges; else of the entry, terminators, arguments, definitions and uses; else of
+-- memory ran out, or a test failed: of blocks and edges; else of the entry, terminators, arguments, definitions and uses; else of
 -- reuses and fixed registers
 pub data IsFault (f : FunctionValue) (env : MachineValue) : RegAllocError → Type 0 where
   memory : IsFault f env Memory

@@ -30,7 +30,7 @@ fn reused_index(operand: Operand) -> Option<usize>
     }
 }
 
-/// Whether an operand under that constraint may be reused by a definition of the class: it stands in any register, or in an
+/// Whether an operand under that constraint may be reused by a definition of the class: it is in any register, or in an
 /// allocatable one.
 fn may_be_reused<B: Allocator>(
     env: &MachineEnv<B>,
@@ -75,7 +75,7 @@ fn names_target<B: Allocator>(
 }
 
 /// Whether an operand is no reuse, or a late definition that names such an operand.
-fn is_sound_reuse<B: Allocator>(env: &MachineEnv<B>, operands: &[Operand], operand: Operand) -> bool
+fn is_valid_reuse<B: Allocator>(env: &MachineEnv<B>, operands: &[Operand], operand: Operand) -> bool
     ensures { IsTrue result ↔ IsSoundReuse (machine_of env.now) operands.now operand }
 {
     match reused_index(operand) {
@@ -84,12 +84,12 @@ fn is_sound_reuse<B: Allocator>(env: &MachineEnv<B>, operands: &[Operand], opera
     }
 }
 
-/// Whether all reuses are sound.
-fn are_sound_reuses<B: Allocator>(env: &MachineEnv<B>, operands: &[Operand]) -> bool
+/// Whether all reuses are valid.
+fn are_valid_reuses<B: Allocator>(env: &MachineEnv<B>, operands: &[Operand]) -> bool
     ensures { IsTrue result ↔ ((k : ℕ) → k < length operands.now → IsSoundReuse (machine_of env.now) operands.now (op_at operands.now k)) }
 {
     for k in 0..operands.len() {
-        if !is_sound_reuse(env, operands, operands[k]) {
+        if !is_valid_reuse(env, operands, operands[k]) {
             return false;
         }
     }
@@ -133,12 +133,12 @@ fn are_apart(operands: &[Operand]) -> bool
 }
 
 /// Whether an instruction's reuses are late definitions of early uses, each of its own.
-fn has_sound_reuses<F: Function, B: Allocator>(f: &F, env: &MachineEnv<B>, inst: Inst) -> bool
+fn has_valid_reuses<F: Function, B: Allocator>(f: &F, env: &MachineEnv<B>, inst: Inst) -> bool
     requires { inst < length (F.function f.now).insts }
     ensures { IsTrue result ↔ ReusesAreSound (machine_of env.now) (inst_at (F.function f.now) inst) }
 {
     let operands = f.inst_operands(inst);
-    are_sound_reuses(env, operands) && are_apart(operands)
+    are_valid_reuses(env, operands) && are_apart(operands)
 }
 
 /// Whether an operand is fixed to no clobber, if it is a definition, a late use or reused.
@@ -207,7 +207,7 @@ fn has_no_limit<F: Function>(f: &F, inst: Inst) -> bool
     are_unlimited(f.inst_operands(inst))
 }
 
-/// Tests reuses. Else the first instruction at fault is refused by `Unsupported`.
+/// Tests reuses. Else the error is `Unsupported` with the first instruction at fault.
 fn validate_reuses<F: Function, B: Allocator>(
     f: &F,
     env: &MachineEnv<B>,
@@ -217,14 +217,14 @@ fn validate_reuses<F: Function, B: Allocator>(
 {
     for i in 0..f.num_insts() {
         let inst = Inst::new(i);
-        if !has_sound_reuses(f, env, inst) {
+        if !has_valid_reuses(f, env, inst) {
             return Err(RegAllocError::Unsupported(inst));
         }
     }
     Ok(())
 }
 
-/// Tests fixed registers beside clobbers. Else the first instruction at fault is refused by `Unsupported`.
+/// Tests fixed registers beside clobbers. Else the error is `Unsupported` with the first instruction at fault.
 fn validate_clobbers<F: Function>(f: &F) -> Result<(), RegAllocError>
     ensures ok { IsOk result ↔ ((i : ℕ) → i < length (F.function f.now).insts → FixedAvoidClobbers (inst_at (F.function f.now) i)) }
     ensures first { IfErr result (λ e. (i : ℕ) × (e ≡ RegAllocError.Unsupported i) × IsFirst (F.function f.now) (FixedAvoidClobbers) i) }
@@ -242,8 +242,8 @@ fn validate_clobbers<F: Function>(f: &F) -> Result<(), RegAllocError>
 ///
 /// A reuse is a late definition; it names an early use that reads a vreg of its class, in any register or fixed to an
 /// allocatable one; and no two reuses name one operand. No definition, late use or reused operand is fixed to a clobber of its
-/// instruction. The first instruction that breaks the first rule, else the first that breaks the second, is refused by
-/// `Unsupported`. Upstream takes both for granted.
+/// instruction. Else the error is `Unsupported` with the first instruction that breaks the first rule, or where there is none
+/// the second. Upstream takes both for granted.
 pub fn validate_fixed<F: Function, B: Allocator>(
     f: &F,
     env: &MachineEnv<B>,
@@ -257,7 +257,7 @@ pub fn validate_fixed<F: Function, B: Allocator>(
     Ok(())
 }
 
-/// Tests that no operand has `Limit`. Else the first instruction that has one is refused by `Unsupported`.
+/// Tests that no operand has `Limit`. Else the error is `Unsupported` with the first instruction that has one.
 ///
 /// Upstream's fast allocator stops the program there.
 pub fn validate_limits<F: Function>(f: &F) -> Result<(), RegAllocError>

@@ -18,7 +18,7 @@ use constraints::validate_fixed;
 
 /// Tests that a function is well-formed: as [`CFGInfo::new`] says, then as [`validate_ssa`], then as [`validate_fixed`].
 ///
-/// The first test that fails decides. `Memory` comes where memory was refused.
+/// The first test that fails decides. `Memory` comes where memory ran out.
 pub fn validate_function<A: Allocator + Copy, F: Function, B: Allocator>(
     alloc: A,
     f: &F,

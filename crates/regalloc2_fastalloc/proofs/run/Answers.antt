@@ -27,7 +27,7 @@ returns-in_err-validate_function-clause-many_operands g c =
     let few : HasFewOperands f = search rules in
     counted_alone f env c.args.options.now.validate_ssa c.from_residual.result few (returns-in_err-validate_function-clause-refused g c)
 
--- when the walk begins, all tests that are owed have passed
+-- when the walk begins, all tests that were asked for have passed
 passed : (g : Over) (c : goal.After-allocate g)
     → PassesAllChecks (g.F.Function.function c.args.f.now) (machine_of c.args.env.now) c.args.options.now.validate_ssa
 passed g c =
@@ -46,8 +46,8 @@ passed g c =
           refl;
     }
 
-pub returns-clause-owed : goal.returns-clause-owed
-returns-clause-owed g c =
+pub returns-clause-passes_checks : goal.returns-clause-passes_checks
+returns-clause-passes_checks g c =
     let f : FunctionValue = g.F.Function.function c.args.f.now in
     let env : MachineValue = machine_of c.args.env.now in
     IfOk-weaker c.allocate.result (λ out. IsAllocation f env (output_of out)) (λ out. PassesAllChecks f env c.args.options.now.validate_ssa)

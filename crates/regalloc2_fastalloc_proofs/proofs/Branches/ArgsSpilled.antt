@@ -221,7 +221,8 @@ module _ (Known : VirtualRegister → Type 0) (insts : ℕ → InstValue) (place
         | in_slot f e ↦ in_slot f e
         | made y ↦ made y
       ]) more in
-      let back : (x : ℕ) (q : Register) → place_in new x ≡ InRegister q → place_in old x ≡ InRegister q = settle_registers old new a s gives settles h.whole in (
+      let back : (x : ℕ) (q : Register) → place_in new x ≡ InRegister q →
+      place_in old x ≡ InRegister q = settle_registers old new a s gives settles h.whole in (
         record {
           whole = settle_whole old new a s gives settles h.whole;
           later = subst (λ es. AllFrom (before i) (listed es)) (sym edits) h.later;

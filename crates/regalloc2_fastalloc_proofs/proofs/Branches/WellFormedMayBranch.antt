@@ -12,7 +12,7 @@ use Rattle.regalloc2_function.specs.SourceRun.{arguments_at}
 use Rattle.regalloc2_function.specs.WellFormed.{IsWellFormed, times_in, ways_into, last_of}
 use Rattle.regalloc2_function.specs.Following.{end_within}
 use Rattle.regalloc2_semantics.specs.Blocks.{HasEdge, target_at, IsSound}
-use Rattle.regalloc2_semantics.proofs.SingleDef.{TakesAt, one_param, taken_small, made_before, is_made, made_small}
+use Rattle.regalloc2_semantics.proofs.SingleDef.{TakesAt, one_param, taken_small, made_behind, is_made, made_small}
 use Rattle.regalloc2_semantics.proofs.Soundness.{count_at, well_formed_are_sound}
 use Rattle.regalloc2_fastalloc_proofs.specs.BlockStart.{no_vreg}
 use Rattle.regalloc2_fastalloc_proofs.specs.BranchSteps.{MayBranch, ParametersDiffer}
@@ -108,6 +108,6 @@ module _ (env : MachineValue) (f : FunctionValue) (ok : IsWellFormed env f) (b :
         let end = end_within f ok.follow b within in
         let last : last_of (block_at f b) < length f.insts = omega (arith, nonempty, end) in
         let small : v.number < f.num_vregs = made_small f ok.defined_once v
-        (is_made f v (last_of (block_at f b)) (made_before f v (last_of (block_at f b)) last ((ok.uses_defined b within).1 k edge i d lt))) in
+        (is_made f v (last_of (block_at f b) + 1) (made_behind f v (last_of (block_at f b)) last ((ok.uses_defined b within).1 k edge i d lt))) in
         omega (arith, small, long);
   }

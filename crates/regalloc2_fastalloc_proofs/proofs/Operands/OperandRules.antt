@@ -54,6 +54,7 @@ use_vreg o NoPlace = refl
 use_vreg o (InRegister r) = refl
 use_vreg o (InSlot n) = refl
 
+-- the vreg that a use asks a place for has an entry in the table of locations
 pub use_in_tables : (operands : List OperandValue) (k : ℕ) (o : OperandValue) (h : Place) (request : OperandRequest) (t : StateValue) → k < length operands →
     o ≡ op_at operands k → request ≡ use_request o h
     → is_fixed_nonallocatable o ≡ false → InTables operands t → request.vreg.number < length t.places.vreg_allocs

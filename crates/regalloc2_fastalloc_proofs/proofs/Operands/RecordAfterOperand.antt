@@ -137,6 +137,7 @@ module _ (Known : VirtualRegister → Type 0) (insts : ℕ → InstValue) (place
             small = g.ready.small;
           }
 
+      -- once a use is located, all holds with its operand among those that are placed
       pub use_step : (new : StateValue) → LocatesUse v p old new
           → Ready Known insts placesf i n E ops g.there g.claimed2 (and_one done k) lived out clob X ret u new
       use_step new (stays there en) = subst (Ready Known insts placesf i n E ops g.there g.claimed2 (and_one done k) lived out clob X ret u) (sym en) (record {

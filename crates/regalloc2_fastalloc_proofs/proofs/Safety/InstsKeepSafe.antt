@@ -109,6 +109,7 @@ module _ (env : MachineValue) (Known : VirtualRegister → Type 0) (f : Function
   pub defs_written : (i : ℕ) → i < length f.insts → DefsAreWritten (WritesAt f last) i (inst_at f i).operands
   defs_written i lt k n less def = inl (i, k, lt, less, refl, inl (refl, def))
 
+  -- before an instruction, the slot in which a use reads its vreg may be written with the vreg's value
   pub uses_written : (i : ℕ) (b p : List Place) (t u : StateValue) → i < length f.insts → (a : AllocsInstAt i (inst_at f i) (offset_of f i) b p t u) →
       AreLast f last i p → UsesAreWritten (WritesAt f last) i (inst_at f i).operands a.here
   uses_written i b p t u lt a are_last k n less reads is = inl (

@@ -107,6 +107,7 @@ module _ (f : FunctionValue) (once : DefinedOnce f) (follow : BlocksFollow f) (e
       let at = used_at f follow ends c v lc used in
       walk_found (Made f) f orderly avoids knows kept follow c lc p s behind v.number (block_at f c).range.first q u walk free at.0 at.1 at.2 at.3
 
+  -- v, which a block uses and doesn't write, has a slot once the walk has left that block
   pub used_has_slot : (b : ℕ) (places : List Place) (t : StateValue) → AllocsBlocks f blank begin b places t → b ≤ c → slot_in t v.number ≢ NoPlace
   used_has_slot b places t all_left = λ le. absurd (omega (arith, le, lc))
   used_has_slot b places t (one_block d p q s u w lt prev walk begins) = λ le.

@@ -12,7 +12,7 @@ use Rattle.regalloc2_function.specs.Following.{end_within}
 use Rattle.regalloc2_function.specs.SourceRun.{arguments_at}
 use Rattle.regalloc2_function.specs.WellFormed.{IsWellFormed, BlocksFollow, last_of}
 use Rattle.regalloc2_semantics.specs.Blocks.{HasEdge, target_at}
-use Rattle.regalloc2_semantics.proofs.SingleDef.{Made, one_made, made_before, is_made}
+use Rattle.regalloc2_semantics.proofs.SingleDef.{Made, one_made, made_behind, is_made}
 use Rattle.regalloc2_semantics.proofs.Soundness.{well_formed_are_sound}
 use Rattle.regalloc2_fastalloc_state.specs.StateParts.{SpillSlotsValue, IsSlotOrNone, no_allocs, no_slots, slot_name, units_of}
 use Rattle.regalloc2_validate.specs.NoLimits.{AreTaken}
@@ -114,7 +114,7 @@ made_alike env f ok b k j lt edge within =
     let end = end_within f ok.follow b lt in
     let a : VirtualRegister = slice_index_or (arguments_at f b k) j no_vreg in (
       Made.by_param (target_at f b k) j (record { block = target; param = within; number = refl }) refl,
-      is_made f a last (made_before f a last (omega (arith, nonempty, end)) ((ok.uses_defined b lt).1 k edge j no_vreg less)),
+      is_made f a (last + 1) (made_behind f a last (omega (arith, nonempty, end)) ((ok.uses_defined b lt).1 k edge j no_vreg less)),
       sym (same_at (λ (v : VirtualRegister). v.class) (arguments_at f b k) (block_at f (target_at f b k)).params no_vreg j (ok.classes b lt k edge) less
           within),
     )

@@ -10,7 +10,7 @@ use Rattle.regalloc2_function.specs.WellFormed.{BlocksFollow, BlocksEnd, Defined
 use Rattle.regalloc2_semantics.specs.Instruction.{Knows}
 use Rattle.regalloc2_semantics.specs.Blocks.{IsUsedIn, IsUnwritten, IsUsed}
 use Rattle.regalloc2_semantics.proofs.SingleDef.{Made, DefinesAt, one_made, one_operand, not_both, reads_defined, made_before, is_made}
-use Rattle.regalloc2_semantics.proofs.Order.{ends_before, ends_within, stands_later, reads_later, passes_later}
+use Rattle.regalloc2_semantics.proofs.Order.{ends_before, ends_within, stands_later, reads_later, passes_later, passed_made}
 use Rattle.regalloc2_validate.specs.Constraints.{op_at}
 use Rattle.regalloc2_fastalloc_proofs.specs.InstSteps.{StateValue}
 use Rattle.regalloc2_fastalloc_proofs.specs.BlockSteps.{AllocsBlocks}
@@ -34,18 +34,15 @@ used_at f follow ends c v lc (inr p) =
     (last_of (block_at f c), omega (arith, some), omega (arith, some), inr (branch, (p.0, v, p.1, p.2, refl)))
 
 module _ (f : FunctionValue) (once : DefinedOnce f) (follow : BlocksFollow f) (uses : UsesAreDefined f) where
-  -- a use comes after the definition
-  use_later : (v : VirtualRegister) (i k : ℕ) → DefinesAt f v.number i k → (c : ℕ) → c < length f.blocks → IsUsedIn f c v → (l : ℕ) × (i < l)
+  -- a use comes after the definition, or at the branch that defines and passes it
+  use_later : (v : VirtualRegister) (i k : ℕ) → DefinesAt f v.number i k → (c : ℕ) → c < length f.blocks → IsUsedIn f c v → (l : ℕ) × (i ≤ l)
       × ((block_at f c).range.first ≤ l) × (l < (block_at f c).range.end)
   use_later v i k d c lc (inl r) =
       let within = ends_within f follow c lc in
-      let lt : r.0 < length f.insts = omega (arith, r.3, within) in (
-        r.0,
-        reads_later f once v.number i k r.0 r.1 d lt (reads_defined f (omega (arith, lc)) follow uses r.0 lt) r.4 r.5
-            (ap (λ (w : VirtualRegister). w.number) r.6),
-        r.2,
-        r.3,
-      )
+      let lt : r.0 < length f.insts = omega (arith, r.3, within) in
+      let later = reads_later f once v.number i k r.0 r.1 d lt (reads_defined f (omega (arith, lc)) follow uses r.0 lt) r.4 r.5
+      (ap (λ (w : VirtualRegister). w.number) r.6) in
+      (r.0, omega (arith, later), r.2, r.3)
   use_later v i k d c lc (inr p) =
       let some : (block_at f c).range.first < (block_at f c).range.end = (follow c lc).0 in
       (last_of (block_at f c), passes_later f once v.number i k c p.0 v d follow uses lc p.1 p.2 refl, omega (arith, some), omega (arith, some))
@@ -58,13 +55,7 @@ module _ (f : FunctionValue) (once : DefinedOnce f) (follow : BlocksFollow f) (u
       subst (Made f) r.6 (is_made f (op_at (inst_at f r.0).operands r.1).vreg r.0
       (made_before f (op_at (inst_at f r.0).operands r.1).vreg r.0 lt (reads_defined f (omega (arith, lc)) follow uses r.0 lt r.1 r.4 r.5)))
   used_made v c lc (inr p) =
-      let some : (block_at f c).range.first < (block_at f c).range.end = (follow c lc).0 in
-      let within = ends_within f follow c lc in
-      let lt : last_of (block_at f c) < length f.insts = omega (arith, some, within) in
-      let has = p.2 in
-      subst (Made f) has.2 (is_made f (slice_index_or (slice_index_or (block_at f c).arguments p.0 []) has.0 v) (last_of (block_at f c))
-      (made_before f (slice_index_or (slice_index_or (block_at f c).arguments p.0 []) has.0 v) (last_of (block_at f c)) lt
-      ((uses c lc).1 p.0 p.1 has.0 v has.1)))
+      passed_made f once c p.0 v follow uses lc p.1 p.2
 
 module _ (f : FunctionValue) (once : DefinedOnce f) (follow : BlocksFollow f) (ends : BlocksEnd f) (uses : UsesAreDefined f)
     (orderly : (i : ℕ) → i < length f.insts → Orderly (inst_at f i).operands)
@@ -97,7 +88,7 @@ module _ (f : FunctionValue) (once : DefinedOnce f) (follow : BlocksFollow f) (e
       let at = w.4 in
       let x : ℕ = v.number in
       let later = use_later f once follow uses v w.0 w.1 at c lc used in
-      let order : b ≤ c = stands_later f follow b c w.0 later.0 lb lc w.2 w.3 later.2 later.3 (omega (arith, later.1)) in
+      let order : b ≤ c = stands_later f follow b c w.0 later.0 lb lc w.2 w.3 later.2 later.3 later.1 in
       let u = used_at f follow ends c v lc used in
       let more : b + 1 < length f.blocks = omega (arith, order, ne, lc) in
       let apart : (block_at f b).range.end ≤ (block_at f (b + 1)).range.first = ends_before f follow b (b + 1) (omega arith) more in

@@ -1,4 +1,13 @@
 //! The order in which moves that overlap are made.
+//!
+//! A move must come before the one that overwrites its source: call that one its next. A place has one writer, so each move has at
+//! most one next, and following nexts from a move gives a single chain. It ends where no move writes the last source, where the next
+//! was given out already, or where the next is on the chain. In the third case a ring is closed, and it is a simple one: each of its
+//! moves has just its neighbour as next, so no way leads out of a ring, and two rings share no move. A chain that meets itself is the
+//! whole cycle, and no search for strongly connected components is needed.
+//!
+//! A chain is given out from its end to its start, and what was given out is reversed in the end. A ring is broken by a scratch
+//! place: its last move is given out as one from there, and after its first a move to there, from what the last one reads.
 
 ghost use Rattle.std.specs.Prelude.{◌≡◌, ◌≢◌, ◌↔◌, true, false, ◌+◌, ◌<◌, ◌≤◌, length, reverse, slice_index, [], Contains, EachIndex, IsTrue, IsOk};
 ghost use Rattle.std.specs.Prelude.{IfOk, IfErr, OnOk};

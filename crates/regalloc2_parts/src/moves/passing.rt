@@ -25,7 +25,7 @@ pub(super) enum Held {
 
 /// The register by which moves go, and the slot in which what it held is saved. A free register is given in both.
 #[derive(Clone, Copy, Debug, PartialEq, Eq)]
-pub(super) struct Way {
+pub(super) struct ScratchReg {
     pub register: Allocation,
     pub save: Allocation,
 }
@@ -39,19 +39,19 @@ fn is_one(a: Allocation, b: Allocation) -> bool
 
 /// Saves what the register is to hold, unless it is saved.
 fn save_first<T: Copy + Default, A: Allocator + Copy>(
-    way: &Way,
+    via: &ScratchReg,
     held: Held,
     out: &mut MoveVec<T, A>,
 ) -> Result<Held, AllocError>
-    ensures tracks { IfOk result (λ after. (c d : Cells Place) → Tracks way.now.register way.now.save held c (in_turn (ends_of out.old.items) d) →
-        Tracks way.now.register way.now.save after c (in_turn (ends_of out.new.items) d)) }
+    ensures tracks { IfOk result (λ after. (c d : Cells Place) → Tracks via.now.register via.now.save held c (in_turn (ends_of out.old.items) d) →
+        Tracks via.now.register via.now.save after c (in_turn (ends_of out.new.items) d)) }
     ensures can_pass { IfOk result (λ after. CanPass after) }
-    ensures added { OnOk result ((x : Place × Place × _) → Contains out.new.items x → Contains out.old.items x ⊎ IsAside way.now.register way.now.save x) }
+    ensures added { OnOk result ((x : Place × Place × _) → Contains out.new.items x → Contains out.old.items x ⊎ IsAside via.now.register via.now.save x) }
 {
     match held {
         Held::Free => Ok(Held::Free),
         Held::InRegister => {
-            out.push((way.register, way.save, T::default()))?;
+            out.push((via.register, via.save, T::default()))?;
             Ok(Held::InSave)
         }
         Held::InBoth => Ok(Held::InSave),
@@ -61,21 +61,21 @@ fn save_first<T: Copy + Default, A: Allocator + Copy>(
 
 /// Has the register hold what the moves say.
 pub(super) fn restore_first<T: Copy + Default, A: Allocator + Copy>(
-    way: &Way,
+    via: &ScratchReg,
     held: Held,
     out: &mut MoveVec<T, A>,
 ) -> Result<Held, AllocError>
-    ensures tracks { IfOk result (λ after. (c d : Cells Place) → Tracks way.now.register way.now.save held c (in_turn (ends_of out.old.items) d) →
-        Tracks way.now.register way.now.save after c (in_turn (ends_of out.new.items) d)) }
+    ensures tracks { IfOk result (λ after. (c d : Cells Place) → Tracks via.now.register via.now.save held c (in_turn (ends_of out.old.items) d) →
+        Tracks via.now.register via.now.save after c (in_turn (ends_of out.new.items) d)) }
     ensures restored { IfOk result (λ after. after ≢ InSave) }
-    ensures added { OnOk result ((x : Place × Place × _) → Contains out.new.items x → Contains out.old.items x ⊎ IsAside way.now.register way.now.save x) }
+    ensures added { OnOk result ((x : Place × Place × _) → Contains out.new.items x → Contains out.old.items x ⊎ IsAside via.now.register via.now.save x) }
 {
     match held {
         Held::Free => Ok(Held::Free),
         Held::InRegister => Ok(Held::InRegister),
         Held::InBoth => Ok(Held::InBoth),
         Held::InSave => {
-            out.push((way.save, way.register, T::default()))?;
+            out.push((via.save, via.register, T::default()))?;
             Ok(Held::InBoth)
         }
     }
@@ -84,40 +84,40 @@ pub(super) fn restore_first<T: Copy + Default, A: Allocator + Copy>(
 /// Makes a move by way of the register.
 fn pass<T: Copy + Default, A: Allocator + Copy>(
     m: &(Allocation, Allocation, T),
-    way: &Way,
+    via: &ScratchReg,
     held: Held,
     out: &mut MoveVec<T, A>,
 ) -> Result<Held, AllocError>
-    requires from { (m.now.0 ≢ way.now.register) × (m.now.0 ≢ way.now.save) }
-    requires to { (m.now.1 ≢ way.now.register) × (m.now.1 ≢ way.now.save) }
-    ensures tracks { IfOk result (λ after. (c d : Cells Place) → Tracks way.now.register way.now.save held c (in_turn (ends_of out.old.items) d) →
-        Tracks way.now.register way.now.save after (moved c m.now.1 (c m.now.0)) (in_turn (ends_of out.new.items) d)) }
-    ensures added { OnOk result ((x : Place × Place × _) → Contains out.new.items x → (Contains out.old.items x ⊎ IsAside way.now.register way.now.save x)
-        ⊎ IsThrough way.now.register m.now x) }
+    requires from { (m.now.0 ≢ via.now.register) × (m.now.0 ≢ via.now.save) }
+    requires to { (m.now.1 ≢ via.now.register) × (m.now.1 ≢ via.now.save) }
+    ensures tracks { IfOk result (λ after. (c d : Cells Place) → Tracks via.now.register via.now.save held c (in_turn (ends_of out.old.items) d) →
+        Tracks via.now.register via.now.save after (moved c m.now.1 (c m.now.0)) (in_turn (ends_of out.new.items) d)) }
+    ensures added { OnOk result ((x : Place × Place × _) → Contains out.new.items x → (Contains out.old.items x ⊎ IsAside via.now.register via.now.save x)
+        ⊎ IsThrough via.now.register m.now x) }
 {
-    let after = save_first(way, held, out)?;
+    let after = save_first(via, held, out)?;
     let first = *m;
-    out.push((first.0, way.register, first.2))?;
+    out.push((first.0, via.register, first.2))?;
     let second = *m;
-    out.push((way.register, second.1, second.2))?;
+    out.push((via.register, second.1, second.2))?;
     Ok(after)
 }
 
 /// Makes a move as it is. What it reads is to be there: not in the save slot alone.
 fn copy<T: Copy + Default, A: Allocator + Copy>(
     m: &(Allocation, Allocation, T),
-    way: &Way,
+    via: &ScratchReg,
     held: Held,
     out: &mut MoveVec<T, A>,
 ) -> Result<Held, AllocError>
-    requires unnamed { (m.now.0 ≢ way.now.save) × (m.now.1 ≢ way.now.save) }
-    requires ready { m.now.0 ≡ way.now.register → held ≢ InSave }
-    ensures tracks { IfOk result (λ after. (c d : Cells Place) → Tracks way.now.register way.now.save held c (in_turn (ends_of out.old.items) d) →
-        Tracks way.now.register way.now.save after (moved c m.now.1 (c m.now.0)) (in_turn (ends_of out.new.items) d)) }
+    requires unnamed { (m.now.0 ≢ via.now.save) × (m.now.1 ≢ via.now.save) }
+    requires ready { m.now.0 ≡ via.now.register → held ≢ InSave }
+    ensures tracks { IfOk result (λ after. (c d : Cells Place) → Tracks via.now.register via.now.save held c (in_turn (ends_of out.old.items) d) →
+        Tracks via.now.register via.now.save after (moved c m.now.1 (c m.now.0)) (in_turn (ends_of out.new.items) d)) }
     ensures added { OnOk result ((x : Place × Place × _) → Contains out.new.items x → Contains out.old.items x ⊎ (x ≡ m.now)) }
 {
     out.push(*m)?;
-    if is_one(m.1, way.register) {
+    if is_one(m.1, via.register) {
         return Ok(Held::InRegister);
     }
     Ok(held)
@@ -127,23 +127,23 @@ fn copy<T: Copy + Default, A: Allocator + Copy>(
 pub(super) fn make<T: Copy + Default, A: Allocator + Copy>(
     m: &(Allocation, Allocation, T),
     is_passing: bool,
-    way: &Way,
+    via: &ScratchReg,
     held: Held,
     out: &mut MoveVec<T, A>,
 ) -> Result<Held, AllocError>
-    requires unnamed { (m.now.0 ≢ way.now.save) × (m.now.1 ≢ way.now.save) }
-    requires passing { IsTrue is_passing → (m.now.0 ≢ way.now.register) × (m.now.1 ≢ way.now.register) }
-    ensures tracks { IfOk result (λ after. (c d : Cells Place) → Tracks way.now.register way.now.save held c (in_turn (ends_of out.old.items) d) →
-        Tracks way.now.register way.now.save after (moved c m.now.1 (c m.now.0)) (in_turn (ends_of out.new.items) d)) }
-    ensures added { OnOk result ((x : Place × Place × _) → Contains out.new.items x → (Contains out.old.items x ⊎ IsAside way.now.register way.now.save x)
-        ⊎ IsStep way.now.register is_passing m.now x) }
+    requires unnamed { (m.now.0 ≢ via.now.save) × (m.now.1 ≢ via.now.save) }
+    requires passing { IsTrue is_passing → (m.now.0 ≢ via.now.register) × (m.now.1 ≢ via.now.register) }
+    ensures tracks { IfOk result (λ after. (c d : Cells Place) → Tracks via.now.register via.now.save held c (in_turn (ends_of out.old.items) d) →
+        Tracks via.now.register via.now.save after (moved c m.now.1 (c m.now.0)) (in_turn (ends_of out.new.items) d)) }
+    ensures added { OnOk result ((x : Place × Place × _) → Contains out.new.items x → (Contains out.old.items x ⊎ IsAside via.now.register via.now.save x)
+        ⊎ IsStep via.now.register is_passing m.now x) }
 {
     if is_passing {
-        return pass(m, way, held, out);
+        return pass(m, via, held, out);
     }
-    if is_one(m.0, way.register) {
-        let after = restore_first(way, held, out)?;
-        return copy(m, way, after, out);
+    if is_one(m.0, via.register) {
+        let after = restore_first(via, held, out)?;
+        return copy(m, via, after, out);
     }
-    copy(m, way, held, out)
+    copy(m, via, held, out)
 }

@@ -4,10 +4,10 @@ ghost use Rattle.std.specs.Prelude.{◌≡◌, ◌⊎◌, true, false, IfOk, IfE
 ghost use Rattle.regalloc2_names.specs.Place.{InRegister};
 ghost use Rattle.regalloc2_parts.specs.Resolved.{listed, has_scratch, IsRunnable};
 ghost use Rattle.regalloc2_parts.specs.Tracking.{CanExpandBy, IsExpanded};
-ghost use Rattle.regalloc2_parts.specs.Computed.{CanAsk, Owes, MayBeAskedTwice, IsHanding, IsRefusing, IsWay, IsChoice};
+ghost use Rattle.regalloc2_parts.specs.Computed.{CanAsk, Owes, MayBeAskedTwice, IsHanding, IsRefusing, IsVia, IsChoice};
 ghost use Rattle.regalloc2_parts.specs.Computed.{Computes, AreApartInMemory, AreSeenApart};
 
-use super::passing::{self, Held, Way};
+use super::passing::{self, Held, ScratchReg};
 use super::{MoveFault, MoveVec, MoveVecWithScratch};
 use regalloc2_names::{Allocation, PReg};
 use smallvec::SmallVec;
@@ -41,20 +41,20 @@ enum Handed {
 }
 
 impl Handed {
-    /// The way through this place: a free register stands for its own slot, and in a slot the borrowed register is saved.
-    fn way(self, borrowed: PReg) -> (Way, Held)
-        ensures { IsWay self (InRegister borrowed) result.0 result.1 }
+    /// The register to go through, where this place was handed out: a free register is its own save place, and in a slot the borrowed register is saved.
+    fn via(self, borrowed: PReg) -> (ScratchReg, Held)
+        ensures { IsVia self (InRegister borrowed) result.0 result.1 }
     {
         match self {
             Handed::Register(register) => (
-                Way {
+                ScratchReg {
                     register,
                     save: register,
                 },
                 Held::Free,
             ),
             Handed::Slot(save) => (
-                Way {
+                ScratchReg {
                     register: Allocation::reg(borrowed),
                     save,
                 },
@@ -141,20 +141,20 @@ where
         &self,
         alloc: A,
         moves: &[(Allocation, Allocation, T)],
-        way: &Way,
+        via: &ScratchReg,
         first: Held,
     ) -> Result<MoveVec<T, A>, MoveFault>
-        requires { CanExpandBy (λ s. IsStackAlloc.IsAlwaysCallable s) (λ s p b. IsStackAlloc.post s p b) self.now.is_stack_alloc way.now first moves.now }
-        ensures expanded { MatchResult result (λ out. IsExpanded (λ p b. IsStackAlloc.post self.now.is_stack_alloc p b) way.now.register way.now.save moves.now
+        requires { CanExpandBy (λ s. IsStackAlloc.IsAlwaysCallable s) (λ s p b. IsStackAlloc.post s p b) self.now.is_stack_alloc via.now first moves.now }
+        ensures expanded { MatchResult result (λ out. IsExpanded (λ p b. IsStackAlloc.post self.now.is_stack_alloc p b) via.now.register via.now.save moves.now
             out.items) (λ e. e ≡ MoveFault.Memory) }
     {
         let mut held = first;
         let mut out = SmallVec::new(alloc);
         for m in moves {
             let is_passing = self.is_stack_to_stack(m.0, m.1);
-            held = passing::make(m, is_passing, way, held, &mut out)?;
+            held = passing::make(m, is_passing, via, held, &mut out)?;
         }
-        let _held = passing::restore_first(way, held, &mut out)?;
+        let _held = passing::restore_first(via, held, &mut out)?;
         Ok(out)
     }
 
@@ -177,8 +177,8 @@ where
         if !self.has_stack_to_stack(list) {
             return Ok(chosen);
         }
-        let (way, first) = self.hand_out()?.way(self.borrowed_scratch_reg);
-        self.expand(*chosen.allocator(), list, &way, first)
+        let (via, first) = self.hand_out()?.via(self.borrowed_scratch_reg);
+        self.expand(*chosen.allocator(), list, &via, first)
     }
 
     /// The moves with the scratch places that they need, none of them from memory to memory. A cycle goes through a free

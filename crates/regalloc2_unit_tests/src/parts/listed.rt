@@ -1,4 +1,4 @@
-//! Moves between places by their numbers, beside their list, by which it is seen that no two into one place have two sources.
+//! Moves between places by their numbers, resolved where no two into one place have two sources, as their list shows.
 
 ghost use Rattle.std.specs.Prelude.{◌≢◌, IsTrue, IfOk, IfSome};
 ghost use Rattle.regalloc2_names.specs.Place.{NoPlace};
@@ -6,15 +6,31 @@ ghost use Rattle.regalloc2_parts.specs.AtOnce.{ends, ends_of, HasOneSourceEach};
 ghost use Rattle.regalloc2_parts.specs.Giving.{IsBefore};
 ghost use Rattle.regalloc2_parts.specs.Resolved.{IsRunnable};
 
+use crate::report::Report;
 use regalloc2_names::{Allocation, PReg, RegClass, SpillSlot};
+use regalloc2_parts::moves::MoveVecWithScratch::{NoScratch, Scratch};
 use regalloc2_parts::moves::{MoveFault, MoveVecWithScratch, ParallelMoves};
 use std::alloc::{Allocator, Global};
 
 /// A move from a place to a place.
-pub type Move = (Allocation, Allocation, u32);
+type Move = (Allocation, Allocation, u32);
 
 /// The number of the first spill slot.
 pub const SLOT: usize = 64;
+
+/// Moves by the numbers of their places.
+pub type Pairs = &'static [(usize, usize)];
+
+/// Moves as they are added: a swap, a move of a place to itself, a repeat, a cycle with a branch, two cycles and a chain, and cycles
+/// of registers and slots side by side.
+const RESOLVED: [Pairs; 6] = [
+    &[(0, 1), (1, 0)],
+    &[(0, 0)],
+    &[(0, 1), (0, 1), (2, 3)],
+    &[(0, 1), (1, 2), (2, 0), (0, 3)],
+    &[(5, 4), (4, 5), (2, 1), (3, 2), (1, 3), (0, 6), (6, 7)],
+    &[(0, SLOT), (SLOT, 0), (0, 1), (SLOT, SLOT + 1)],
+];
 
 /// The place of a number: registers below 64, then slots.
 pub fn place(number: usize) -> Allocation
@@ -74,4 +90,24 @@ fn list_rises(list: &[Move]) -> bool
         }
     }
     true
+}
+
+/// Writes moves in their order, in a row of their own.
+pub fn write_moves<T>(out: &mut Report, name: &str, moves: &[(Allocation, Allocation, T)]) {
+    out.put(&format_args!("{name}:"));
+    for m in moves {
+        out.put(&format_args!(" {} -> {},", m.0, m.1));
+    }
+    out.words("\n");
+}
+
+/// Writes what each row resolves to.
+pub fn write_resolved(alloc: Global, out: &mut Report) {
+    for pairs in RESOLVED {
+        match resolved(alloc, &alloc, pairs) {
+            Ok(Some(NoScratch(m))) => write_moves(out, "resolve", m.as_slice()),
+            Ok(Some(Scratch(m))) => write_moves(out, "with scratch", m.as_slice()),
+            _ => out.row("resolve", &"nothing"),
+        }
+    }
 }

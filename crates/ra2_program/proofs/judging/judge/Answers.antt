@@ -1,6 +1,6 @@
 use Rattle.std.proofs.Common.{ap, ◌∙◌}
 use Rattle.regalloc2_function.specs.Views.{output_of}
-use Rattle.ra2_program.proofs.Found.{unmade, untaken, faulty, faithful}
+use Rattle.ra2_program.proofs.FindingsWritten.{unmade, untaken, faulty, faithful}
 use Rattle.ra2_program.proofs.judging.judge.Goals as goal
 
 pub returns-in-Err : goal.returns-in-Err

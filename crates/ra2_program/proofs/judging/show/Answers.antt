@@ -2,7 +2,7 @@ use Rattle.std.proofs.Common.{rules}
 use Rattle.regalloc2_function.specs.Following.{end_within}
 use Rattle.regalloc2_function.specs.Views.{output_of}
 use Rattle.ra2_program.specs.Outcome.{refused}
-use Rattle.ra2_program.proofs.Judged.{judged}
+use Rattle.ra2_program.proofs.Outcomes.{judged}
 use Rattle.ra2_program.proofs.judging.show.Goals as goal
 
 pub write_listing-requires-clause-blocks : goal.write_listing-requires-clause-blocks

@@ -1,6 +1,6 @@
 use Rattle.std.proofs.Common.{refl}
 use Rattle.std.proofs.KnownBytes.{Appends-nil}
-use Rattle.ra2_program.proofs.Found.{one_more, no_more}
+use Rattle.ra2_program.proofs.FindingsWritten.{one_more, no_more}
 use Rattle.ra2_program.proofs.judging.write_findings.Goals as goal
 
 pub loop-error-init : goal.loop-error-init

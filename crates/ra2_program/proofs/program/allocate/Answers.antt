@@ -2,7 +2,7 @@ use Rattle.std.proofs.Common.{sym, subst}
 use Rattle.regalloc2_function.specs.Fitting.{MachineFits}
 use Rattle.regalloc2_function.specs.Views.{machine_of}
 use Rattle.regalloc2_serialize.specs.Tables.{function_of}
-use Rattle.ra2_program.proofs.Judged.{outcome}
+use Rattle.ra2_program.proofs.Outcomes.{outcome}
 use Rattle.ra2_program.proofs.program.allocate.Goals as goal
 
 pub show-requires : goal.show-requires

@@ -1,6 +1,6 @@
 use Rattle.std.proofs.Common.{true, false}
 use Rattle.std.specs.Io.Buffered.{writer_contents, writer_inner, writer_buffer}
-use Rattle.ra2_program.proofs.Judged.{flushed_outcome}
+use Rattle.ra2_program.proofs.Outcomes.{flushed_outcome}
 use Rattle.ra2_program.proofs.program.perform.Goals as goal
 
 pub returns-then-accepted-clause-done : goal.returns-then-accepted-clause-done

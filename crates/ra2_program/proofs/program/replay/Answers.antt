@@ -1,6 +1,6 @@
 use Rattle.regalloc2_function.specs.Views.{machine_of, output_of}
 use Rattle.regalloc2_serialize.specs.Tables.{function_of}
-use Rattle.ra2_program.proofs.Judged.{verdict}
+use Rattle.ra2_program.proofs.Outcomes.{verdict}
 use Rattle.ra2_program.proofs.program.replay.Goals as goal
 
 pub judge-requires : goal.judge-requires

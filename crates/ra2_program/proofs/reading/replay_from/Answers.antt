@@ -1,7 +1,7 @@
 use Rattle.std.proofs.Common.{◌≡◌, true, false, refl}
 use Rattle.regalloc2_function.specs.Views.{machine_of, output_of}
 use Rattle.regalloc2_serialize.specs.Tables.{function_of}
-use Rattle.ra2_program.proofs.Readings.{output_fault}
+use Rattle.ra2_program.proofs.TextReadings.{output_fault}
 use Rattle.ra2_program.proofs.reading.replay_from.Goals as goal
 
 pub returns-in-Err-from_stored-clause-err : goal.returns-in-Err-from_stored-clause-err

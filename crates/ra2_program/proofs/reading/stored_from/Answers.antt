@@ -1,7 +1,7 @@
 use Rattle.std.proofs.Common.{◌≡◌, sym, subst}
 use Rattle.std.specs.Prelude.{IfSome}
 use Rattle.serde_json.specs.View.{view}
-use Rattle.ra2_program.proofs.Readings.{taken, text_of}
+use Rattle.ra2_program.proofs.TextReadings.{taken, text_of}
 use Rattle.ra2_program.proofs.reading.stored_from.Goals as goal
 
 pub returns : goal.returns

@@ -2,7 +2,7 @@ use Rattle.std.proofs.Common.{◌≡◌, Some, None, refl, sym, subst}
 use Rattle.std.specs.Prelude.{IfSome}
 use Rattle.serde_json.specs.Find.{at}
 use Rattle.serde_json.specs.View.{view}
-use Rattle.ra2_program.proofs.Readings.{absent, taken, pair_of}
+use Rattle.ra2_program.proofs.TextReadings.{absent, taken, pair_of}
 use Rattle.ra2_program.proofs.reading.stored_pair_from.Goals as goal
 
 pub returns : goal.returns

@@ -2,7 +2,7 @@ use Rattle.std.proofs.Common.{◌∙◌}
 use Rattle.regalloc2_function.specs.Views.{machine_of, output_of}
 use Rattle.regalloc2_checker.specs.ErrorsFound.{errors_of}
 use Rattle.regalloc2_checker.specs.Prepared.{subject_of, machine_in}
-use Rattle.regalloc2.proofs.Judged.{same_found, told}
+use Rattle.regalloc2.proofs.CheckerErrorReasons.{same_found, told}
 use Rattle.regalloc2.proofs.checked.judge.Goals as goal
 
 pub returns-in-Err-clause-err : goal.returns-in-Err-clause-err

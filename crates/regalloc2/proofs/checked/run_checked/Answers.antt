@@ -1,5 +1,5 @@
 use Rattle.regalloc2_function.specs.Views.{machine_of, output_of}
-use Rattle.regalloc2.proofs.Judged.{no_fault, reason}
+use Rattle.regalloc2.proofs.CheckerErrorReasons.{no_fault, reason}
 use Rattle.regalloc2.proofs.checked.run_checked.Goals as goal
 
 pub run-requires-clause-machine : goal.run-requires-clause-machine
@@ -9,7 +9,7 @@ pub run-requires-clause-well_formed : goal.run-requires-clause-well_formed
 run-requires-clause-well_formed g c = c.requires.well_formed
 
 pub returns-in-Err : goal.returns-in-Err
-returns-in-Err g c = record { allocation = tt; faithful = tt; tested = tt; owed = tt; accepted = λ _ fault. fault; refused = c.in-Err.ensures.refused }
+returns-in-Err g c = record { allocation = tt; faithful = tt; tested = tt; passes_checks = tt; accepted = λ _ fault. fault; refused = c.in-Err.ensures.refused }
 
 pub judge-requires-clause-framed : goal.judge-requires-clause-framed
 judge-requires-clause-framed g c =
@@ -24,7 +24,7 @@ returns-in-Ok-judge g c = record {
   allocation = c.in-Ok.ensures.allocation;
   faithful = c.in-Ok-judge.ensures.ok;
   tested = c.in-Ok.ensures.tested;
-  owed = c.in-Ok.ensures.owed;
+  passes_checks = c.in-Ok.ensures.passes_checks;
   accepted = λ _. tt;
   refused = tt;
 }
@@ -38,8 +38,8 @@ returns-in-Err-judge g c =
       allocation = tt;
       faithful = tt;
       tested = tt;
-      owed = tt;
+      passes_checks = tt;
       accepted = λ written. no_fault f env out c.in-Err-judge.error (c.in-Ok.ensures.allocation.faithful written).faithful c.in-Err-judge.ensures.err;
-      refused = reason f env c.args.options.now.validate_ssa out c.in-Err-judge.error c.in-Ok.ensures.allocation c.in-Ok.ensures.owed
+      refused = reason f env c.args.options.now.validate_ssa out c.in-Err-judge.error c.in-Ok.ensures.allocation c.in-Ok.ensures.passes_checks
           c.in-Err-judge.ensures.err;
     }

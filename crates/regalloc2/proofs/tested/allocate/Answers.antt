@@ -1,5 +1,5 @@
 use Rattle.regalloc2_function.specs.Views.{machine_of}
-use Rattle.regalloc2.proofs.Told.{fault_told, reason_told}
+use Rattle.regalloc2.proofs.AllocateErrorReasons.{fault_told, reason_told}
 use Rattle.regalloc2.proofs.tested.allocate.Goals as goal
 
 pub returns-in-Err-run_checked-clause-accepted : goal.returns-in-Err-run_checked-clause-accepted

@@ -3,7 +3,7 @@ use Rattle.std.specs.Prelude.{if◌then◌else◌, nat_eq}
 use Rattle.regalloc2_function.specs.FunctionValue.{FunctionValue, block_at}
 use Rattle.regalloc2_function.specs.WellFormed.{times_in}
 use Rattle.regalloc2_cfg.specs.Ways.{listed_of}
-use Rattle.regalloc2_cfg.proofs.Ways.{all_ways_end, all_ways_more}
+use Rattle.regalloc2_cfg.proofs.PredsListed.{all_ways_end, all_ways_more}
 use Rattle.regalloc2_cfg.proofs.blocks.add_all_ways.Goals as goal
 
 pub loop-b-preserved : goal.loop-b-preserved

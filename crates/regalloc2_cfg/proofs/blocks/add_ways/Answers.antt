@@ -1,5 +1,5 @@
 use Rattle.std.proofs.Common.{◌<◌, length, arith}
-use Rattle.regalloc2_cfg.proofs.Ways.{ways_more}
+use Rattle.regalloc2_cfg.proofs.PredsListed.{ways_more}
 use Rattle.regalloc2_cfg.proofs.blocks.add_ways.Goals as goal
 
 pub loop-succ-preserved : goal.loop-succ-preserved

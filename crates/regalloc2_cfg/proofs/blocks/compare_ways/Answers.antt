@@ -3,8 +3,8 @@ use Rattle.std.proofs.lemmas.List.{length-replicate}
 use Rattle.regalloc2_function.specs.FunctionValue.{FunctionValue, block_at}
 use Rattle.regalloc2_function.specs.WellFormed.{PredecessorsAt, times_in}
 use Rattle.regalloc2_cfg.specs.Ways.{listed_of}
-use Rattle.regalloc2_cfg.proofs.Tallies.{zeros}
-use Rattle.regalloc2_cfg.proofs.Ways.{are_blocks, listed_here}
+use Rattle.regalloc2_cfg.proofs.TimesInList.{zeros}
+use Rattle.regalloc2_cfg.proofs.PredsListed.{are_blocks, listed_here}
 use Rattle.regalloc2_cfg.proofs.blocks.compare_ways.Goals as goal
 
 pub loop-b-init : goal.loop-b-init

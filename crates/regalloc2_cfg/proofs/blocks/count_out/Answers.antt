@@ -1,6 +1,6 @@
 use Rattle.std.proofs.Common.{◌≡◌, get_or, arith}
 use Rattle.std.proofs.lemmas.List.{get_or_past}
-use Rattle.regalloc2_cfg.proofs.Tallies.{too_many}
+use Rattle.regalloc2_cfg.proofs.TimesInList.{too_many}
 use Rattle.regalloc2_cfg.proofs.blocks.count_out.Goals as goal
 use Rattle.regalloc2_cfg.proofs.blocks.count_out.Goals.{then-index-counts-via-then-index-counts, then-index-counts-via-else-index-counts+then-counts-index-eq0}
 

@@ -1,6 +1,6 @@
 use Rattle.std.proofs.Common.{◌<◌, ◌≤◌, length, arith}
 use Rattle.regalloc2_function.specs.FunctionValue.{FunctionValue, block_at}
-use Rattle.regalloc2_cfg.proofs.Parts.{all_more, all_taken, first_here}
+use Rattle.regalloc2_cfg.proofs.ListsInParts.{all_more, all_taken, first_here}
 use Rattle.regalloc2_cfg.proofs.blocks.first_fork.Goals as goal
 
 pub returns-then-block_succs-gt1-clause-first : goal.returns-then-block_succs-gt1-clause-first

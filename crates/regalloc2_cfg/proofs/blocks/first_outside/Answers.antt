@@ -1,5 +1,5 @@
 use Rattle.std.proofs.Common.{◌<◌, arith}
-use Rattle.regalloc2_cfg.proofs.Parts.{all_more, all_taken, first_here}
+use Rattle.regalloc2_cfg.proofs.ListsInParts.{all_more, all_taken, first_here}
 use Rattle.regalloc2_cfg.proofs.blocks.first_outside.Goals as goal
 
 pub returns-then-index-num_blocks-clause-first : goal.returns-then-index-num_blocks-clause-first

@@ -1,7 +1,7 @@
 use Rattle.std.proofs.Common.{ℕ, ◌≡◌, ◌+◌, Bool, true, false, get_or, refl, arith}
 use Rattle.std.specs.Bool.{OnTrue}
 use Rattle.regalloc2_function.specs.WellFormed.{times_in}
-use Rattle.regalloc2_cfg.proofs.Tallies.{all_used, used_up}
+use Rattle.regalloc2_cfg.proofs.TimesInList.{all_used, used_up}
 use Rattle.regalloc2_cfg.proofs.blocks.same_blocks.Goals as goal
 
 on_true : (r : Bool) (P : Type 0) → (r ≡ true → P) → OnTrue r P

@@ -1,7 +1,7 @@
 use Rattle.std.proofs.Common.{ℕ, ◌<◌, ◌≤◌, length, refl, arith}
 use Rattle.regalloc2_function.specs.FunctionValue.{FunctionValue, block_at}
 use Rattle.regalloc2_function.specs.Reasons.{IsFirstFork}
-use Rattle.regalloc2_cfg.proofs.Parts.{first_not_all}
+use Rattle.regalloc2_cfg.proofs.ListsInParts.{first_not_all}
 use Rattle.regalloc2_cfg.proofs.blocks.test_edges.Goals as goal
 
 pub returns-in-Some-clause-err : goal.returns-in-Some-clause-err

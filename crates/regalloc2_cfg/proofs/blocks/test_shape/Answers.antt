@@ -6,8 +6,8 @@ use Rattle.regalloc2_function.specs.FunctionValue.{FunctionValue, block_at}
 use Rattle.regalloc2_function.specs.Reasons.{IsShapeFault}
 use Rattle.regalloc2_function.specs.Reasons.IsShapeFault.{apart, critical, operands, outside, unlisted}
 use Rattle.regalloc2_function.specs.WellFormed.{BlocksFollow}
-use Rattle.regalloc2_cfg.proofs.Refused.{shape_refused}
-use Rattle.regalloc2_cfg.proofs.Ways.{are_blocks}
+use Rattle.regalloc2_cfg.proofs.ErrorOnlyOutOfMemory.{shape_refused}
+use Rattle.regalloc2_cfg.proofs.PredsListed.{are_blocks}
 use Rattle.regalloc2_cfg.proofs.blocks.test_shape.Goals as goal
 
 abbrev Fault : FunctionValue → RegAllocError → Type 0

@@ -4,9 +4,9 @@ use Rattle.std.proofs.lemmas.List.Elements.{All-cons, All-nil}
 use Rattle.regalloc2_names.specs.declared.RegAllocError.TheVariants.{BB}
 use Rattle.regalloc2_function.specs.FunctionValue.{BlockValue, FunctionValue, block_at}
 use Rattle.regalloc2_function.specs.Reasons.{IsFirstIn}
-use Rattle.regalloc2_cfg.proofs.Parts.{all_of_part, first_of_part, flat_split, flat_taken}
+use Rattle.regalloc2_cfg.proofs.ListsInParts.{all_of_part, first_of_part, flat_split, flat_taken}
 use Rattle.std.proofs.lemmas.List.Elements.{All-same}
-use Rattle.regalloc2_cfg.proofs.Ranges.{block_is}
+use Rattle.regalloc2_cfg.proofs.BlockRanges.{block_is}
 use Rattle.regalloc2_cfg.proofs.blocks.test_successors.Goals as goal
 
 pub returns-then-index-num_blocks-clause-err : goal.returns-then-index-num_blocks-clause-err

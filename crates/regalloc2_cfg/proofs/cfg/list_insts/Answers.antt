@@ -1,9 +1,9 @@
 use Rattle.std.proofs.Common.{◌≡◌, ◌<◌, ◌∙◌, length, refl, ap, subst, arith}
 use Rattle.regalloc2_function.specs.FunctionValue.{FunctionValue, block_at}
 use Rattle.regalloc2_cfg.specs.Tables.{HaveBlocks}
-use Rattle.regalloc2_cfg.proofs.Bridges.{start_at_end}
-use Rattle.regalloc2_cfg.proofs.Counted.{start_of}
-use Rattle.regalloc2_cfg.proofs.Tabled.{blocks_more, start_more}
+use Rattle.regalloc2_cfg.proofs.ListingsOfFunction.{start_at_end}
+use Rattle.regalloc2_cfg.proofs.DefsCounted.{start_of}
+use Rattle.regalloc2_cfg.proofs.TablesByBlock.{blocks_more, start_more}
 use Rattle.regalloc2_cfg.proofs.cfg.list_insts.Goals as goal
 
 pub loop-b-preserved : goal.loop-b-preserved

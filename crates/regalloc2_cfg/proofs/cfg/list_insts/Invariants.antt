@@ -1,6 +1,6 @@
 use Rattle.std.proofs.Common.{◌≡◌, length}
 use Rattle.regalloc2_cfg.specs.Tables.{HaveBlocks}
-use Rattle.regalloc2_cfg.proofs.Counted.{start_of}
+use Rattle.regalloc2_cfg.proofs.DefsCounted.{start_of}
 use Rattle.regalloc2_cfg.proofs.cfg.list_insts.Given as goal
 
 -- the instructions of the blocks so far are listed

@@ -4,8 +4,8 @@ use Rattle.regalloc2_function.specs.FunctionValue.{FunctionValue, block_at}
 use Rattle.regalloc2_function.specs.WellFormed.{last_of}
 use Rattle.regalloc2_cfg.specs.Tables.{entry_point, exit_point}
 use Rattle.regalloc2_function.specs.Following.{end_within}
-use Rattle.regalloc2_cfg.proofs.Ranges.{block_is}
-use Rattle.regalloc2_cfg.proofs.Tabled.{points_more}
+use Rattle.regalloc2_cfg.proofs.BlockRanges.{block_is}
+use Rattle.regalloc2_cfg.proofs.TablesByBlock.{points_more}
 use Rattle.regalloc2_cfg.proofs.cfg.list_points.Goals as goal
 
 pub before-requires : goal.before-requires

@@ -1,6 +1,6 @@
 use Rattle.std.proofs.Common.{◌≡◌, length, sym, subst, arith}
 use Rattle.regalloc2_cfg.specs.Listed.{AreBlocks}
-use Rattle.regalloc2_cfg.proofs.Reached.{leaves_once, leaves_reached}
+use Rattle.regalloc2_cfg.proofs.LeavesReached.{leaves_once, leaves_reached}
 use Rattle.regalloc2_cfg.proofs.postorder.calculate.Goals as goal
 
 pub returns-in-Ok-clause-once : goal.returns-in-Ok-clause-once

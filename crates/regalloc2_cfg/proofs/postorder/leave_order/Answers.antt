@@ -3,8 +3,8 @@ use Rattle.regalloc2_function.specs.FunctionValue.{FunctionValue}
 use Rattle.regalloc2_function.specs.WellFormed.{SuccessorsAreBlocks}
 use Rattle.regalloc2_cfg.specs.Leaves.{succs_in}
 use Rattle.regalloc2_cfg.specs.Listed.{AreBlocks}
-use Rattle.regalloc2_cfg.proofs.Named.{function_blocks}
-use Rattle.regalloc2_cfg.proofs.Reached.{leaves_once, leaves_reached}
+use Rattle.regalloc2_cfg.proofs.NamedBlocks.{function_blocks}
+use Rattle.regalloc2_cfg.proofs.LeavesReached.{leaves_once, leaves_reached}
 use Rattle.regalloc2_cfg.proofs.postorder.leave_order.Goals as goal
 
 -- the function's blocks, by what the calls answer

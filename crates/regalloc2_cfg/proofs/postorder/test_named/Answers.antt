@@ -2,7 +2,7 @@ use Rattle.std.proofs.Common.{◌≡◌, ◌<◌, [], refl, subst, arith}
 use Rattle.std.specs.Prelude.{All, flat_map}
 use Rattle.std.proofs.lemmas.List.Elements.{All-nil, All-cons}
 use Rattle.regalloc2_index.specs.Range.{numbers_from}
-use Rattle.regalloc2_cfg.proofs.Named.{named_first, named_more, named_to}
+use Rattle.regalloc2_cfg.proofs.NamedBlocks.{named_first, named_more, named_to}
 use Rattle.regalloc2_cfg.proofs.postorder.test_named.Goals as goal
 
 pub returns-then-index-num_blocks-clause-err : goal.returns-then-index-num_blocks-clause-err

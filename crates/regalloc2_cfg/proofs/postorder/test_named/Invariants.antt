@@ -1,7 +1,7 @@
 use Rattle.std.proofs.Common.{ℕ, ◌<◌, List}
 use Rattle.std.specs.Prelude.{All}
 use Rattle.regalloc2_cfg.specs.Listed.{AreSuccessors}
-use Rattle.regalloc2_cfg.proofs.Named.{named_to}
+use Rattle.regalloc2_cfg.proofs.NamedBlocks.{named_to}
 use Rattle.regalloc2_cfg.proofs.postorder.test_named.Given as goal
 
 -- the entry and the successors so far are blocks, whatever the answers are

@@ -1,9 +1,9 @@
 use Rattle.std.proofs.Common.{ℕ, ◌≡◌, true, List, [], ◌∷◌, ◌++◌, length, refl, ap, sym, ◌∙◌, arith, set}
 use Rattle.std.proofs.lemmas.List.{nil_from_length}
 use Rattle.regalloc2_cfg.specs.declared.postorder.Frame.{Frame}
-use Rattle.regalloc2_cfg.proofs.Named.{entry_is_block, succ_in_range}
-use Rattle.regalloc2_cfg.proofs.Walks.{walked_frame, walked_start, again_step, enter_step, leave_step, again_less, enter_less, leave_less, walked_end}
-use Rattle.regalloc2_cfg.proofs.Walks.{read_zero}
+use Rattle.regalloc2_cfg.proofs.NamedBlocks.{entry_is_block, succ_in_range}
+use Rattle.regalloc2_cfg.proofs.DepthFirstWalk.{walked_frame, walked_start, again_step, enter_step, leave_step, again_less, enter_less, leave_less, walked_end}
+use Rattle.regalloc2_cfg.proofs.DepthFirstWalk.{read_zero}
 use Rattle.regalloc2_cfg.proofs.postorder.walk.Goals as goal
 
 pub loop-frame-init : goal.loop-frame-init
@@ -98,4 +98,5 @@ loop-frame-preserved g c = λ succs same blocks.
 
 pub returns : goal.returns
 returns g c = λ succs same blocks. walked_end succs (length c.args.visited.now) c.args.entry c.loop-frame.visited c.loop-frame.stack.items
-    c.loop-frame.out.items (nil_from_length c.loop-frame.stack.items (sym c.loop-frame.stack.ok.0 ∙ (rw c.in_default.is at c.pop.ensures.cases).0)) (c.loop-frame.invariant succs same blocks)
+    c.loop-frame.out.items (nil_from_length c.loop-frame.stack.items (sym c.loop-frame.stack.ok.0 ∙ (rw c.in_default.is at c.pop.ensures.cases).0))
+    (c.loop-frame.invariant succs same blocks)

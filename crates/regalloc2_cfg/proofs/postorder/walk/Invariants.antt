@@ -1,6 +1,6 @@
 use Rattle.std.proofs.Common.{ℕ, List, length}
 use Rattle.regalloc2_cfg.specs.Listed.{AreBlocks, AreSuccessors}
-use Rattle.regalloc2_cfg.proofs.Walks.{Walked, work}
+use Rattle.regalloc2_cfg.proofs.DepthFirstWalk.{Walked, work}
 use Rattle.regalloc2_cfg.proofs.postorder.walk.Given as goal
 
 -- the walk so far, whatever successors the answers are

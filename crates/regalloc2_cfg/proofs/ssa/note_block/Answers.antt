@@ -5,7 +5,7 @@ use Rattle.regalloc2_index.specs.Range.{numbers_of}
 use Rattle.regalloc2_function.specs.FunctionValue.{FunctionValue, BlockValue, block_at}
 use Rattle.regalloc2_function.specs.Reasons.{param_definition, inst_definitions, block_definitions}
 use Rattle.regalloc2_cfg.specs.Definitions.{Notes, NamesTaken}
-use Rattle.regalloc2_cfg.proofs.Noted.{names_in_part, notes_append}
+use Rattle.regalloc2_cfg.proofs.NotedInParts.{names_in_part, notes_append}
 use Rattle.regalloc2_cfg.proofs.ssa.note_block.Goals as goal
 
 pub returns-clause-ok : goal.returns-clause-ok

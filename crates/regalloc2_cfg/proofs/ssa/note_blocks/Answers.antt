@@ -4,10 +4,10 @@ use Rattle.std.proofs.lemmas.Result.{err_from_is_err_and}
 use Rattle.regalloc2_function.specs.FunctionValue.{FunctionValue, block_at}
 use Rattle.regalloc2_function.specs.Reasons.{block_definitions, definitions_in}
 use Rattle.regalloc2_cfg.specs.Definitions.Notes.{none}
-use Rattle.regalloc2_cfg.proofs.Parts.{flat_split, flat_more}
+use Rattle.regalloc2_cfg.proofs.ListsInParts.{flat_split, flat_more}
 use Rattle.regalloc2_function.specs.Following.{end_within}
-use Rattle.regalloc2_cfg.proofs.Ranges.{block_is}
-use Rattle.regalloc2_cfg.proofs.Noted.{names_in_part, notes_append}
+use Rattle.regalloc2_cfg.proofs.BlockRanges.{block_is}
+use Rattle.regalloc2_cfg.proofs.NotedInParts.{names_in_part, notes_append}
 use Rattle.regalloc2_cfg.proofs.ssa.note_blocks.Goals as goal
 
 pub loop-b-init : goal.loop-b-init

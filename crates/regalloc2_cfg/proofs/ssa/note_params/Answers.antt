@@ -1,9 +1,10 @@
-use Rattle.std.proofs.Common.{◌+◌, [], ◌∷◌, take, drop, ap}
+use Rattle.std.proofs.Common.{◌≡◌, ◌+◌, [], ◌∷◌, take, drop, ap, arith}
 use Rattle.std.specs.Prelude.{map}
+use Rattle.regalloc2_names.specs.Point.{before}
 use Rattle.regalloc2_function.specs.Reasons.{param_definition}
 use Rattle.regalloc2_cfg.specs.Definitions.Notes.{none, more}
-use Rattle.regalloc2_cfg.proofs.Parts.{map_split, map_more}
-use Rattle.regalloc2_cfg.proofs.Noted.{names_in_part, taken_now}
+use Rattle.regalloc2_cfg.proofs.ListsInParts.{map_split, map_more}
+use Rattle.regalloc2_cfg.proofs.NotedInParts.{names_in_part, taken_now}
 use Rattle.regalloc2_names.specs.declared.RegAllocError.TheVariants.{SSA}
 use Rattle.regalloc2_cfg.proofs.ssa.note_params.Goals as goal
 
@@ -24,8 +25,10 @@ returns-then-not-note-clause-err c =
 
 pub loop-param-preserved : goal.loop-param-preserved
 loop-param-preserved c =
+    let usable : c.before-usable.result ≡ before c.args.first = c.before-usable.ensures.point (λ e. absurd (omega (arith, c.requires, e))) in
     rw (
       map_more (param_definition c.args.first) c.args.params.now c.loop-param.param-index c.param-item.result c.loop-param-test.true c.param-item.is,
       c.if-not-note.ensures.noted,
+      usable,
     )
     (more (param_definition c.args.first c.param-item.result) c.loop-param.invariant c.if-not-note.ensures.room c.if-not-note.ensures.free)

@@ -6,4 +6,4 @@ use Rattle.regalloc2_cfg.proofs.ssa.note_params.Given as goal
 
 -- the parameters so far are noted
 abbrev pub invariant-loop-param : goal.invariant-loop-param
-invariant-loop-param l = Notes l.fn.defined (map (param_definition l.first) (take l.param-index l.params)) l.defined
+invariant-loop-param l = Notes l.fn.defined (map (param_definition l.fn.first) (take l.param-index l.params)) l.defined

@@ -6,7 +6,7 @@ use Rattle.regalloc2_index.specs.Range.{numbers_from, numbers_of}
 use Rattle.regalloc2_function.specs.FunctionValue.{FunctionValue, BlockValue, block_at}
 use Rattle.regalloc2_function.specs.Reasons.{inst_reads, passed_at, block_uses}
 use Rattle.regalloc2_cfg.specs.Definitions.{IsUsable, NamesUnusable}
-use Rattle.regalloc2_cfg.proofs.Noted.{unusable_in_part}
+use Rattle.regalloc2_cfg.proofs.NotedInParts.{unusable_in_part}
 use Rattle.regalloc2_cfg.proofs.ssa.test_block.Goals as goal
 
 pub returns-in_err-test_reads-clause-err : goal.returns-in_err-test_reads-clause-err

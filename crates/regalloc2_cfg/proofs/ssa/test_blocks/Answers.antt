@@ -5,10 +5,10 @@ use Rattle.std.proofs.lemmas.List.Elements.{All-append, All-same}
 use Rattle.regalloc2_function.specs.FunctionValue.{FunctionValue, block_at}
 use Rattle.regalloc2_function.specs.Reasons.{block_uses, uses_in}
 use Rattle.regalloc2_cfg.specs.Definitions.{IsUsable}
-use Rattle.regalloc2_cfg.proofs.Parts.{flat_split, flat_more, flat_taken}
+use Rattle.regalloc2_cfg.proofs.ListsInParts.{flat_split, flat_more, flat_taken}
 use Rattle.regalloc2_function.specs.Following.{end_within}
-use Rattle.regalloc2_cfg.proofs.Ranges.{block_is}
-use Rattle.regalloc2_cfg.proofs.Noted.{unusable_in_part}
+use Rattle.regalloc2_cfg.proofs.BlockRanges.{block_is}
+use Rattle.regalloc2_cfg.proofs.NotedInParts.{unusable_in_part}
 use Rattle.regalloc2_cfg.proofs.ssa.test_blocks.Goals as goal
 
 pub test_block-requires-clause-within : goal.test_block-requires-clause-within

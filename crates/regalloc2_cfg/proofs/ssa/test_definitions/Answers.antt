@@ -3,7 +3,7 @@ use Rattle.std.proofs.lemmas.Result.{IfErr-weaker}
 use Rattle.regalloc2_names.specs.declared.RegAllocError.TheVariants.{Memory}
 use Rattle.regalloc2_function.specs.FunctionValue.{FunctionValue}
 use Rattle.regalloc2_function.specs.Reasons.{IsDefinitionFault}
-use Rattle.regalloc2_cfg.proofs.Faults.{only_memory}
+use Rattle.regalloc2_cfg.proofs.TableDecidesSSA.{only_memory}
 use Rattle.regalloc2_cfg.proofs.ssa.test_definitions.Goals as goal
 
 pub returns-clause-accepted : goal.returns-clause-accepted

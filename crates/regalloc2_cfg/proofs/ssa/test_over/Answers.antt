@@ -3,7 +3,7 @@ use Rattle.std.proofs.lemmas.Result.{on_ok_weaker, IfErr-weaker, err_from_is_err
 use Rattle.regalloc2_function.specs.FunctionValue.{FunctionValue}
 use Rattle.regalloc2_function.specs.Reasons.{IsDefinitionFault, definitions_in}
 use Rattle.regalloc2_cfg.specs.Definitions.{Notes}
-use Rattle.regalloc2_cfg.proofs.Faults.{noted_once, taken_fault, unusable_fault, usable_uses}
+use Rattle.regalloc2_cfg.proofs.TableDecidesSSA.{noted_once, taken_fault, unusable_fault, usable_uses}
 use Rattle.regalloc2_cfg.proofs.ssa.test_over.Goals as goal
 
 pub returns-in_err-note_blocks-clause-refused : goal.returns-in_err-note_blocks-clause-refused

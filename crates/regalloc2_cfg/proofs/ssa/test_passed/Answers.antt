@@ -7,9 +7,16 @@ use Rattle.regalloc2_function.specs.FunctionValue.{BlockValue, block_at}
 use Rattle.regalloc2_function.specs.WellFormed.{last_of}
 use Rattle.regalloc2_function.specs.Reasons.{passed_at}
 use Rattle.regalloc2_cfg.specs.Definitions.{IsUsable}
-use Rattle.regalloc2_cfg.proofs.Parts.{numbers_split, numbers_more}
-use Rattle.regalloc2_cfg.proofs.Noted.{unusable_in_part}
+use Rattle.regalloc2_cfg.proofs.ListsInParts.{numbers_split, numbers_more}
+use Rattle.regalloc2_cfg.proofs.NotedInParts.{unusable_in_part}
 use Rattle.regalloc2_cfg.proofs.ssa.test_passed.Goals as goal
+
+pub test_arguments-requires : goal.test_arguments-requires
+test_arguments-requires g c =
+    let b : BlockValue = block_at (g.F.Function.function c.args.f.now) c.args.block in
+    let last : c.last-last.result ≡ last_of b = rw (c.last-last.ensures, c.block_insns.ensures) refl in
+    let limit = (g.met.F.Function.limited c.args.f.now).insts in
+    omega (arith, last, c.requires.nonempty, c.requires.within, limit)
 
 pub returns-in_err-test_arguments-clause-err : goal.returns-in_err-test_arguments-clause-err
 returns-in_err-test_arguments-clause-err g c =

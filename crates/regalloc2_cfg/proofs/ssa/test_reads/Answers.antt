@@ -6,8 +6,8 @@ use Rattle.regalloc2_index.specs.Range.{numbers_from, numbers_of}
 use Rattle.regalloc2_function.specs.FunctionValue.{FunctionValue}
 use Rattle.regalloc2_function.specs.Reasons.{inst_reads}
 use Rattle.regalloc2_cfg.specs.Definitions.{IsUsable}
-use Rattle.regalloc2_cfg.proofs.Parts.{numbers_split, numbers_more}
-use Rattle.regalloc2_cfg.proofs.Noted.{unusable_in_part}
+use Rattle.regalloc2_cfg.proofs.ListsInParts.{numbers_split, numbers_more}
+use Rattle.regalloc2_cfg.proofs.NotedInParts.{unusable_in_part}
 use Rattle.regalloc2_cfg.proofs.ssa.test_reads.Goals as goal
 
 pub returns-in_err-test_operands-clause-err : goal.returns-in_err-test_operands-clause-err

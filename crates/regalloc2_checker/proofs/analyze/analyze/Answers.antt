@@ -1,35 +1,66 @@
-use Rattle.std.proofs.Common.{ℕ, ◌≡◌, ◌<◌, true, length, refl, arith}
+use Rattle.std.proofs.Common.{◌≡◌, ◌<◌, ◌+◌, ℕ, List, Bool, length, ◌∙◌, ap, sym, subst, refl, arith, rules, false}
+use Rattle.std.proofs.lemmas.List.{length-set}
+use Rattle.std.specs.BinaryHeap.{heap_items}
 use Rattle.regalloc2_function.specs.FunctionValue.{FunctionValue}
-use Rattle.regalloc2_checker.specs.Propagation.{mark_at}
-use Rattle.regalloc2_checker.specs.Tables.{views}
-use Rattle.regalloc2_checker.proofs.UnmarkedStaySolved.{all-marked}
+use Rattle.regalloc2_checker.specs.Propagation.{IsReady}
+use Rattle.regalloc2_checker.specs.Tables.{BlockView, views}
+use Rattle.regalloc2_checker.proofs.Queues.{alike-same, alike-twice, all-settled, ready-popped}
 use Rattle.regalloc2_checker.proofs.RoundInvariant.{solved}
+use Rattle.regalloc2_checker.proofs.TransferFollowsFacts.{named_same}
 use Rattle.regalloc2_checker.proofs.analyze.analyze.Goals as goal
 
-pub loop-again-init : goal.loop-again-init
-loop-again-init g c =
-    let f : FunctionValue = g.F.Function.function c.args.f.now in
-    let size : length c.resize.new.self.items ≡ length f.blocks = omega (
-      arith,
-      c.in_ok-resize.ensures.len,
-      c.resize.new.self.ok.0,
-      c.num_blocks.ensures.count,
-    ) in
-    let none = c.new-marks.ensures.len in
-    let all : (b : ℕ) → b < length f.blocks → mark_at c.resize.new.self.items b ≡ true = λ b less. c.in_ok-resize.ensures.by_index.1 b true refl
-    (omega (arith, none)) (omega (arith, less, c.num_blocks.ensures.count)) in
+pub passes-init : goal.passes-init
+passes-init g c =
+    let s = c.in_ok-state.ensures in
     record {
-      sound = c.requires.1.1.1.1;
-      kept = all-marked f g.o (views c.args.table.now.items) c.resize.new.self.items size all;
-      settled = λ h. absurd cc;
+      alike = rw s.values (alike-same c.args.values);
+      sized = s.sized;
+      on_way = s.on_way g.o;
     }
 
-pub loop-again-preserved : goal.loop-again-preserved
-loop-again-preserved g c = record {
-  sound = c.in_ok-again.ensures.round.sound;
-  kept = c.in_ok-again.ensures.kept;
-  settled = λ h. (c.in_ok-again.ensures.round.same h).1;
-}
+pub new-requires : goal.new-requires
+new-requires g c = omega (arith, c.in-Some.ensures.marks.0, c.passes.invariant.sized.marks, (g.met.F.Function.limited c.args.f.now).blocks)
 
-pub returns : goal.returns
-returns g c = solved _ _ _ c.requires.1.1.1.0 c.loop-again.invariant.sound (c.loop-again.invariant.settled c.loop-again-test.false)
+pub propagate_block-requires : goal.propagate_block-requires
+propagate_block-requires g c κs within =
+    let f : FunctionValue = g.F.Function.function c.args.f.now in
+    let inv = c.passes.invariant in
+    let marks : List Bool = c.passes.state.queue.is_queued.items in
+    let t : List BlockView = views c.passes.state.values c.passes.state.reached.items in
+    let e = c.in-Some.ensures.entries in
+    let ready = ready-popped f g.o t marks (heap_items c.passes.state.queue.heap) (heap_items c.pop.new.self.heap) e.0 c.in-Some.block e.1 e.2 inv.on_way in
+    let less : c.new.result < length f.blocks = omega (arith, c.new.ensures, c.in-Some.ensures.marks.0, inv.sized.marks) in (
+      search rules,
+      (
+        search rules,
+        (
+          c.requires.1.1.0,
+          (
+            c.requires.1.1.1.0,
+            (
+              named_same f g.o c.args.values c.passes.state.values inv.alike.places inv.alike.vregs c.requires.1.1.1.1.0,
+              (
+                less,
+                (
+                  record {
+                    reached = inv.sized.reached;
+                    count = inv.sized.count;
+                    marks = ap (λ (xs : List Bool). length xs) c.in-Some.ensures.marks.1 ∙ length-set marks c.in-Some.block false ∙ inv.sized.marks;
+                  },
+                  rw c.new.ensures (subst (λ (ms : List Bool). IsReady f g.o t ms (heap_items c.pop.new.self.heap) c.in-Some.block)
+                      (sym c.in-Some.ensures.marks.1) ready),
+                ),
+              ),
+            ),
+          ),
+        ),
+      ),
+    )
+
+pub returns-clause-solved : goal.returns-clause-solved
+returns-clause-solved g c =
+    let f : FunctionValue = g.F.Function.function c.args.f.now in
+    let inv = c.passes.invariant in
+    let t : List BlockView = views c.passes.state.values c.passes.state.reached.items in
+    solved f g.o t c.requires.1.1.1.0 inv.on_way.sound
+    (all-settled f g.o t c.passes.state.queue.is_queued.items inv.on_way.kept (c.in_default.ensures.none refl))

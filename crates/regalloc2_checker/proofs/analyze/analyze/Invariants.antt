@@ -1,18 +1,21 @@
-use Rattle.std.proofs.Common.{◌≡◌, ◌+◌, false, cond}
+use Rattle.std.proofs.Common.{◌+◌}
 use Rattle.std.specs.Prelude.{sum_by}
-use Rattle.regalloc2_checker.specs.Tables.{IsSound, AllSolved, weight, views}
-use Rattle.regalloc2_checker.specs.Propagation.{IsKept}
+use Rattle.std.specs.BinaryHeap.{heap_items, heap_len}
+use Rattle.regalloc2_checker.specs.Propagation.{IsUnderWay, AreSized}
+use Rattle.regalloc2_checker.specs.Tables.{AreAlike, views, weight}
 use Rattle.regalloc2_checker.proofs.analyze.analyze.Given as goal
 
-abbrev pub ghost-propagate_all : goal.ghost-propagate_all
-ghost-propagate_all g a = g.o
+abbrev pub ghost-propagate_block : goal.ghost-propagate_block
+ghost-propagate_block g a = g.o
 
-abbrev pub invariant-loop-again : goal.invariant-loop-again
-invariant-loop-again g l = record {
-  sound : IsSound (g.F.Function.function l.f) g.o (views l.table.items);
-  kept : IsKept (g.F.Function.function l.f) g.o (views l.table.items) l.marks.items;
-  settled : l.again ≡ false → AllSolved (g.F.Function.function l.f) g.o (views l.table.items);
+-- what is under way
+abbrev pub invariant-passes : goal.invariant-passes
+invariant-passes g l = record {
+  alike : AreAlike l.fn.values l.state.values;
+  sized : AreSized (g.F.Function.function l.f) l.state.values l.state.reached.items l.state.queue.is_queued.items;
+  on_way : IsUnderWay (g.F.Function.function l.f) g.o (views l.state.values l.state.reached.items) l.state.queue.is_queued.items
+      (heap_items l.state.queue.heap);
 }
 
-abbrev pub decreases-loop-again : goal.decreases-loop-again
-decreases-loop-again g l = sum_by weight (views l.table.items) + cond l.again 1 0
+abbrev pub decreases-passes : goal.decreases-passes
+decreases-passes g l = sum_by weight (views l.state.values l.state.reached.items) + heap_len l.state.queue.heap

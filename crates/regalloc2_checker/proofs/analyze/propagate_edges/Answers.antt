@@ -1,42 +1,45 @@
-use Rattle.std.proofs.Common.{◌≡◌, ◌<◌, ◌+◌, ℕ, List, Bool, true, false, length, ap, sym, subst, arith}
+use Rattle.std.proofs.Common.{◌≡◌, ◌<◌, ◌+◌, ℕ, List, Bool, length, ◌∙◌, ap, sym, subst, refl, arith}
+use Rattle.std.specs.Prelude.{sum_by}
+use Rattle.std.specs.BinaryHeap.{heap_items}
 use Rattle.regalloc2_function.specs.FunctionValue.{FunctionValue, block_at}
 use Rattle.regalloc2_function.specs.OutputValue.{OutputValue}
+use Rattle.regalloc2_checker_tables.specs.Holding.{Holding, holds_in, holds_now}
 use Rattle.regalloc2_checker.specs.Facts.{Facts}
-use Rattle.regalloc2_checker.specs.ValueNumbers.{Numbers, numbers_of, facts_in}
-use Rattle.regalloc2_checker.specs.Propagation.{IsPropagatedOver, ArePropagated}
-use Rattle.regalloc2_checker.specs.Tables.{BlockView, views}
+use Rattle.regalloc2_checker.specs.Propagation.{IsBlockEnd, IsPropagatedOver, AreReached}
+use Rattle.regalloc2_checker.specs.TableFacts.{facts_now, facts_table}
+use Rattle.regalloc2_checker.specs.Tables.{BlockView, views, weight}
 use Rattle.regalloc2_checker.proofs.FactsFollowMaps.{AreEarlier}
-use Rattle.regalloc2_checker.proofs.UnmarkedStaySolved.{EdgesPassed, edge-changed, edge-unchanged, edges-done, all-kept}
-use Rattle.regalloc2_checker.proofs.RoundInvariant.{edges-none}
-use Rattle.regalloc2_checker.proofs.Updates.{long}
+use Rattle.regalloc2_checker.proofs.Queues.{views-kept, alike-after, alike-twice, way-done}
+use Rattle.regalloc2_checker.proofs.TableSteps.{now-as, table-kept}
+use Rattle.regalloc2_checker.proofs.UnmarkedStaySolved.{EdgesPassed, edges-first, edge-passed}
+use Rattle.regalloc2_checker.proofs.Updates.{views-beside, table-saved}
 use Rattle.regalloc2_checker.proofs.analyze.propagate_edges.Goals as goal
-use Rattle.regalloc2_checker.proofs.analyze.propagate_edges.Goals.{then-branch, else-branch}
-
-pub returns-in_default-clause-kept : goal.returns-in_default-clause-kept
-returns-in_default-clause-kept g c =
-    let f : FunctionValue = g.F.Function.function c.args.f.now in
-    let t : List BlockView = views c.args.table.now.items in
-    let e = ap (λ (xs : List ℕ). length xs) c.block_succs.ensures in
-    let none : 0 ≡ length (block_at f c.args.block).succs = omega (arith, c.in_default.ensures, e) in
-    all-kept f g.o t t c.args.marks.now.items c.args.block (subst (λ (n : ℕ). ArePropagated f g.o t t c.args.marks.now.items c.args.block n) none
-    c.requires.1.1.1.1.1.1.1)
 
 pub loop-k-init : goal.loop-k-init
 loop-k-init g c =
     let f : FunctionValue = g.F.Function.function c.args.f.now in
-    let e = ap (λ (xs : List ℕ). length xs) c.block_succs.ensures in
-    let some = c.in-Some.ensures in
+    let t : Holding = c.args.state.now.values in
+    let u : Holding = c.save.new.self in
+    let rs : List Bool = c.args.state.now.reached.items in
+    let marks : List Bool = c.args.state.now.queue.is_queued.items in
+    let sized = c.requires.1.1.1.1.1.0 in
+    let ready = c.requires.1.1.1.1.1.1.0 in
+    let end : c.num_blocks-end.result ≡ length f.blocks = c.num_blocks-end.ensures.count in
+    let same : views u rs ≡ views t rs = views-beside t u rs c.num_blocks-end.result (holds_now t) (omega (arith, end, sized.reached)) c.save.ensures.places
+    c.in_ok-save.ensures.tables in
+    let sums = ap (λ (vs : List BlockView). sum_by weight vs) same in
     record {
-      last = omega (arith, some.0, some.1, e);
+      last = ap (λ (xs : List ℕ). length xs) c.block_succs-k-end.ensures;
       low = omega arith;
-      done = record { round = edges-none f g.o (views c.args.table.now.items) c.args.block c.requires.1.1.1.1.0; kept = c.requires.1.1.1.1.1.1.1 };
+      alike = record { places = c.save.ensures.places; vregs = c.save.ensures.vregs; count = c.save.ensures.count };
+      sized = record { reached = sized.reached; count = c.save.ensures.count ∙ sized.count; marks = sized.marks };
+      table = subst (λ (n : ℕ). facts_table u n ≡ facts_now t) end (table-saved t u c.num_blocks-end.result c.save.ensures.places c.in_ok-save.ensures.tables);
+      done = subst (λ (vs : List BlockView). EdgesPassed f g.o (views t rs) vs marks c.args.block 0) (sym same)
+          (edges-first f g.o (views t rs) marks c.args.block ready.sound ready.none);
+      queue = ready.queue;
+      reached = subst (λ (vs : List BlockView). AreReached vs (heap_items c.args.state.now.queue.heap)) (sym same) ready.reached;
+      falls = omega (arith, sums);
     }
-
-pub propagate_over-requires-clause-size : goal.propagate_over-requires-clause-size
-propagate_over-requires-clause-size g c = long (g.F.Function.function c.args.f.now) g.o c.loop-k.table.items c.loop-k.invariant.done.round.sound
-
-pub propagate_over-requires-clause-marks : goal.propagate_over-requires-clause-marks
-propagate_over-requires-clause-marks g c = c.loop-k.invariant.done.kept.size
 
 pub loop-k-preserved : goal.loop-k-preserved
 loop-k-preserved g c =
@@ -44,82 +47,58 @@ loop-k-preserved g c =
     let o : OutputValue = g.o in
     let b : ℕ = c.args.block in
     let k : ℕ = c.loop-k.k in
-    let old : List BlockView = views c.args.table.now.items in
-    let t : List BlockView = views c.loop-k.table.items in
-    let new : List BlockView = views c.propagate_over.new.table.items in
-    let marks : List Bool = c.loop-k.marks.items in
-    let after : List Bool = c.propagate_over.new.marks.items in
-    let F : Facts = facts_in (numbers_of c.args.values) in
     let law : AreEarlier = record { source = c.finds_earlier_writes.ensures.source; cells = c.finds_earlier_writes.ensures.cells } in
-    let less : k < length (block_at f b).succs = omega (arith, c.loop-k-test.true, c.loop-k.invariant.last) in
-    let step : IsPropagatedOver f b k F t new marks after c.in_ok-propagate_over.field-0 =
-    subst (λ (m : Numbers). IsPropagatedOver f b k (facts_in m) t new marks after c.in_ok-propagate_over.field-0) c.in_ok-copy.ensures
-    c.in_ok-propagate_over.ensures in
+    let at : Holding = c.args.state.now.values in
+    let l : Holding = c.loop-k.state.values in
+    let m : Holding = c.load.new.self in
+    let n : Holding = c.propagate_over.new.state.values in
+    let old : List BlockView = views at c.args.state.now.reached.items in
+    let t : List BlockView = views l c.loop-k.state.reached.items in
+    let mid : List BlockView = views m c.loop-k.state.reached.items in
+    let new : List BlockView = views n c.propagate_over.new.state.reached.items in
+    let marks : List Bool = c.loop-k.state.queue.is_queued.items in
+    let after : List Bool = c.propagate_over.new.state.queue.is_queued.items in
+    let F : Facts = facts_now at in
+    let inv = c.loop-k.invariant in
+    let p = c.in_ok-propagate_over.ensures in
+    let ready = c.requires.1.1.1.1.1.1.0 in
+    let same : mid ≡ t = views-kept l m c.loop-k.state.reached.items c.load.ensures.kept in
+    let end : c.num_blocks-end.result ≡ length f.blocks = c.num_blocks-end.ensures.count in
+    let now : facts_now m ≡ F =
+    now-as l m (holds_in l c.num_blocks-end.result) c.load.ensures.kept.places c.load.ensures.now
+    ∙ ap (λ (i : ℕ). facts_table l i) end ∙ inv.table in
+    let less : k < length (block_at f b).succs = omega (arith, c.loop-k-test.true, inv.last) in
+    let over : IsPropagatedOver f b k F t new marks after p.over.0 =
+    subst (λ (X : Facts). IsPropagatedOver f b k X t new marks after p.over.0) now
+    (subst (λ (vs : List BlockView). IsPropagatedOver f b k (facts_now m) vs new marks after p.over.0) same p.over.1) in
+    let sums = ap (λ (vs : List BlockView). sum_by weight vs) same in
     record {
-      last = c.loop-k.invariant.last;
-      low = omega (arith, c.loop-k-test.true);
-      done = elim c.if-branch.branch [
-        | then-branch w ↦ subst (EdgesPassed f o old new after b (k + 1)) (sym w.changed-is)
-            (edge-changed law f o c.requires.1.1.0 old t new marks after b k F c.loop-k.changed c.requires.1.1.1.1.0 c.requires.1.1.1.1.1.0 c.requires.1.1.1.0
-            less c.requires.1.1.1.1.1.1.0 c.loop-k.invariant.done
-            (subst (IsPropagatedOver f b k F t new marks after) w.if-branch.true step))
-        | else-branch w ↦ subst (EdgesPassed f o old new after b (k + 1)) (sym w.changed-is)
-            (edge-unchanged law f o c.requires.1.1.0 old t new marks after b k F c.loop-k.changed c.requires.1.1.1.1.0 c.requires.1.1.1.1.1.0 c.requires.1.1.1.0
-            less c.requires.1.1.1.1.1.1.0 c.loop-k.invariant.done
-            (subst (IsPropagatedOver f b k F t new marks after) w.if-branch.false step))
-      ];
+      last = inv.last;
+      low = omega (arith, less);
+      alike = alike-twice at l n inv.alike (alike-after l m n c.load.ensures.kept p.alike);
+      sized = p.sized;
+      table = p.kept ∙ table-kept l m (length f.blocks) c.load.ensures.kept ∙ inv.table;
+      done = edge-passed law f o c.requires.1.1.0 old t new marks after b k F p.over.0 ready.sound ready.here c.requires.1.1.1.1.0 less
+          c.requires.1.1.1.1.1.1.1 inv.done over;
+      queue = p.queue;
+      reached = p.reached;
+      falls = omega (arith, sums, p.falls, inv.falls);
     }
 
-pub propagate_over-requires-2-clause-size : goal.propagate_over-requires-2-clause-size
-propagate_over-requires-2-clause-size g c = long (g.F.Function.function c.args.f.now) g.o c.loop-k.table.items c.loop-k.invariant.done.round.sound
-
-pub propagate_over-requires-2-clause-marks : goal.propagate_over-requires-2-clause-marks
-propagate_over-requires-2-clause-marks g c = c.loop-k.invariant.done.kept.size
-
-pub returns-then-branch-2 : goal.returns-then-branch-2
-returns-then-branch-2 g c =
+pub returns : goal.returns
+returns g c =
     let f : FunctionValue = g.F.Function.function c.args.f.now in
-    let o : OutputValue = g.o in
-    let b : ℕ = c.args.block in
-    let k : ℕ = c.in-Some.last in
-    let old : List BlockView = views c.args.table.now.items in
-    let t : List BlockView = views c.loop-k.table.items in
-    let new : List BlockView = views c.propagate_over-2.new.table.items in
-    let marks : List Bool = c.loop-k.marks.items in
-    let after : List Bool = c.propagate_over-2.new.marks.items in
-    let F : Facts = facts_in (numbers_of c.args.values) in
-    let law : AreEarlier = record { source = c.finds_earlier_writes.ensures.source; cells = c.finds_earlier_writes.ensures.cells } in
-    let less : k < length (block_at f b).succs = omega (arith, c.loop-k.invariant.last) in
-    let at : c.loop-k.k ≡ k = omega (arith, c.loop-k-test.false, c.loop-k.invariant.low) in
-    let so_far : EdgesPassed f o old t marks b k c.loop-k.changed = subst (λ (n : ℕ). EdgesPassed f o old t marks b n c.loop-k.changed) at
-    c.loop-k.invariant.done in
-    let step : IsPropagatedOver f b k F t new marks after true = subst
-    (IsPropagatedOver f b k F t new marks after) c.if-branch-2.true c.in_ok-propagate_over-2.ensures in
-    let all = edges-done f o old new after b (k + 1) true c.loop-k.invariant.last
-    (edge-changed law f o c.requires.1.1.0 old t new marks after b k F c.loop-k.changed c.requires.1.1.1.1.0 c.requires.1.1.1.1.1.0 c.requires.1.1.1.0 less
-    c.requires.1.1.1.1.1.1.0 so_far step) in
-    record { round = all.0; kept = all.1 }
+    let inv = c.loop-k.invariant in
+    let all : c.loop-k.k ≡ length (block_at f c.args.block).succs = omega (arith, c.loop-k-test.false, inv.last, inv.low) in
+    record {
+      alike = inv.alike;
+      sized = inv.sized;
+      on_way = way-done f g.o (views c.args.state.now.values c.args.state.now.reached.items) (views c.loop-k.state.values c.loop-k.state.reached.items)
+          c.loop-k.state.queue.is_queued.items (heap_items c.loop-k.state.queue.heap) c.args.block c.loop-k.k all inv.done inv.queue inv.reached;
+      falls = inv.falls;
+    }
 
-pub returns-else-branch-2 : goal.returns-else-branch-2
-returns-else-branch-2 g c =
-    let f : FunctionValue = g.F.Function.function c.args.f.now in
-    let o : OutputValue = g.o in
-    let b : ℕ = c.args.block in
-    let k : ℕ = c.in-Some.last in
-    let old : List BlockView = views c.args.table.now.items in
-    let t : List BlockView = views c.loop-k.table.items in
-    let new : List BlockView = views c.propagate_over-2.new.table.items in
-    let marks : List Bool = c.loop-k.marks.items in
-    let after : List Bool = c.propagate_over-2.new.marks.items in
-    let F : Facts = facts_in (numbers_of c.args.values) in
-    let law : AreEarlier = record { source = c.finds_earlier_writes.ensures.source; cells = c.finds_earlier_writes.ensures.cells } in
-    let less : k < length (block_at f b).succs = omega (arith, c.loop-k.invariant.last) in
-    let at : c.loop-k.k ≡ k = omega (arith, c.loop-k-test.false, c.loop-k.invariant.low) in
-    let so_far : EdgesPassed f o old t marks b k c.loop-k.changed = subst (λ (n : ℕ). EdgesPassed f o old t marks b n c.loop-k.changed) at
-    c.loop-k.invariant.done in
-    let step : IsPropagatedOver f b k F t new marks after false = subst
-    (IsPropagatedOver f b k F t new marks after) c.if-branch-2.false c.in_ok-propagate_over-2.ensures in
-    let all = edges-done f o old new after b (k + 1) c.loop-k.changed c.loop-k.invariant.last
-    (edge-unchanged law f o c.requires.1.1.0 old t new marks after b k F c.loop-k.changed c.requires.1.1.1.1.0 c.requires.1.1.1.1.1.0 c.requires.1.1.1.0 less
-    c.requires.1.1.1.1.1.1.0 so_far step) in
-    record { round = all.0; kept = all.1 }
+pub propagate_over-requires-clause-reached : goal.propagate_over-requires-clause-reached
+propagate_over-requires-clause-reached g c =
+    subst (λ (vs : List BlockView). AreReached vs (heap_items c.loop-k.state.queue.heap))
+    (sym (views-kept c.loop-k.state.values c.load.new.self c.loop-k.state.reached.items c.load.ensures.kept)) c.loop-k.invariant.reached

@@ -1,13 +1,25 @@
-use Rattle.std.proofs.Common.{◌≡◌, ◌+◌, ◌≤◌, length}
+use Rattle.std.proofs.Common.{◌≡◌, ◌≤◌, ◌+◌, length}
+use Rattle.std.specs.Prelude.{sum_by}
+use Rattle.std.specs.BinaryHeap.{heap_items, heap_len}
 use Rattle.regalloc2_function.specs.FunctionValue.{block_at}
-use Rattle.regalloc2_checker.specs.Tables.{views}
+use Rattle.regalloc2_checker.specs.Propagation.{IsQueue, AreReached, AreSized}
+use Rattle.regalloc2_checker.specs.TableFacts.{facts_now, facts_table}
+use Rattle.regalloc2_checker.specs.Tables.{AreAlike, views, weight}
 use Rattle.regalloc2_checker.proofs.UnmarkedStaySolved.{EdgesPassed}
 use Rattle.regalloc2_checker.proofs.analyze.propagate_edges.Given as goal
 
--- the edges before are passed on
+-- so many edges are passed on
 abbrev pub invariant-loop-k : goal.invariant-loop-k
 invariant-loop-k g l = record {
-  last : l.last + 1 ≡ length (block_at (g.F.Function.function l.f) l.block).succs;
-  low : l.k ≤ l.last;
-  done : EdgesPassed (g.F.Function.function l.f) g.o (views l.fn.table.items) (views l.table.items) l.marks.items l.block l.k l.changed;
+  last : l.k-end ≡ length (block_at (g.F.Function.function l.f) l.block).succs;
+  low : l.k ≤ length (block_at (g.F.Function.function l.f) l.block).succs;
+  alike : AreAlike l.fn.state.values l.state.values;
+  sized : AreSized (g.F.Function.function l.f) l.state.values l.state.reached.items l.state.queue.is_queued.items;
+  table : facts_table l.state.values (length (g.F.Function.function l.f).blocks) ≡ facts_now l.fn.state.values;
+  done : EdgesPassed (g.F.Function.function l.f) g.o (views l.fn.state.values l.fn.state.reached.items) (views l.state.values l.state.reached.items)
+      l.state.queue.is_queued.items l.block l.k;
+  queue : IsQueue l.state.queue.is_queued.items (heap_items l.state.queue.heap);
+  reached : AreReached (views l.state.values l.state.reached.items) (heap_items l.state.queue.heap);
+  falls : sum_by weight (views l.state.values l.state.reached.items) + heap_len l.state.queue.heap
+      ≤ sum_by weight (views l.fn.state.values l.fn.state.reached.items) + heap_len l.fn.state.queue.heap;
 }

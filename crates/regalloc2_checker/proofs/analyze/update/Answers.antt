@@ -1,19 +1,26 @@
-use Rattle.std.proofs.Common.{refl, ap, ◌∙◌, subst}
-use Rattle.regalloc2_checker.specs.declared.analyze.BlockValues.{BlockValues}
-use Rattle.regalloc2_checker.specs.Meet.{IsCommon}
-use Rattle.regalloc2_checker.specs.ValueNumbers.{numbers_of}
-use Rattle.regalloc2_checker.proofs.Updates.{update-first, update-less, one_item}
+use Rattle.std.proofs.Common.{◌≡◌, ℕ, ◌∙◌, sym, true, false, refl}
+use Rattle.std.specs.Prelude.{◌&&◌}
+use Rattle.regalloc2_checker_tables.specs.Holding.{holds_in, holds_now}
+use Rattle.regalloc2_checker.proofs.Updates.{update-first, update-less, others-kept, meet-as}
 use Rattle.regalloc2_checker.proofs.analyze.update.Goals as goal
 
-pub returns-then-not-index : goal.returns-then-not-index
-returns-then-not-index g c = update-first c.args.table.now.items c.args.target c.index.result.now _ (numbers_of c.args.passed) c.requires c.index.ensures
-    c.if-not-index.true refl refl
+pub returns-then-index : goal.returns-then-index
+returns-then-index g c =
+    let m = c.in_ok-changed.ensures in
+    record {
+      alike = record { places = c.meet.ensures.places; vregs = c.meet.ensures.vregs; count = c.meet.ensures.count };
+      long = refl;
+      others = others-kept c.args.values.now c.meet.new.self c.args.target (λ i y. holds_in c.args.values.now c.args.target i y
+          && holds_now c.args.values.now i y) c.meet.ensures.places
+          (λ k i y l. m.met k i y l ∙ meet-as c.args.values.now k c.args.target i y);
+      met = update-less c.args.values.now c.meet.new.self c.args.reached.now.items c.args.target c.index.result.now
+          c.requires.target (sym c.index.ensures ∙ c.if-index.true) c.meet.ensures.places m.met c.in_ok-changed.changed m.less m.same;
+    }
 
-pub returns : goal.returns
-returns g c =
-    let e = one_item c.args.table.now.items c.args.target c.index-2.result.now c.index.result.now c.requires c.index-2.ensures c.index.ensures in
-    let d = one_item c.args.table.now.items c.args.target c.index-3.result.now c.index-2.result.now c.requires c.index-3.ensures c.index-2.ensures in
-    update-less c.args.table.now.items c.args.target c.index-2.result.now _ (numbers_of c.args.passed) (numbers_of c.in_ok-met.met) c.requires c.index-2.ensures
-    (ap (λ (x : BlockValues _). x.reached) e ∙ c.if-not-index.false) refl refl
-    (subst (λ (x : BlockValues _). IsCommon (numbers_of c.in_ok-met.met) (numbers_of x.values) (numbers_of c.args.passed)) d c.in_ok-met.ensures.common)
-    (rw c.if-branch.false at c.in_ok-is_within.ensures.no)
+pub returns-clause-others : goal.returns-clause-others
+returns-clause-others g c = others-kept c.args.values.now c.save.new.self c.args.target (holds_now c.args.values.now) c.save.ensures.places
+    c.in_ok-save.ensures.tables
+
+pub returns-clause-met : goal.returns-clause-met
+returns-clause-met g c = update-first c.args.values.now c.save.new.self c.args.reached.now.items c.args.target c.index.result.now
+    c.requires.target (sym c.index.ensures ∙ c.if-index.false) c.save.ensures.places c.in_ok-save.ensures.tables

@@ -3,7 +3,7 @@ use Rattle.std.specs.Prelude.{true}
 use Rattle.regalloc2_names.specs.Register.{VirtualRegister}
 use Rattle.regalloc2_names.specs.Operand.{OperandValue}
 use Rattle.regalloc2_names.specs.Place.{Place}
-use Rattle.regalloc2_checker.specs.ValueNumbers.{numbers_of, facts_in}
+use Rattle.regalloc2_checker.specs.TableFacts.{facts_now}
 use Rattle.regalloc2_checker.specs.Report.{operand_at}
 use Rattle.regalloc2_checker.proofs.OperandErrors.{operand_is, fine_more, fine_of, judged_some, not_so}
 use Rattle.regalloc2_checker.proofs.check.check_position.Goals as goal
@@ -16,7 +16,7 @@ loop-k-preserved-then-not-is_at g c = λ env h.
     let same : c.index-operands-k.result ≡ operand_at c.args.operands.now c.loop-k.k = operand_is c.args.operands.now c.loop-k.k c.index-operands-k.result
     c.loop-k-test.true c.index-operands-k.is in
     fine_more env c.args.operands.now c.args.places.now c.args.position
-    (λ (p : Place) (v : VirtualRegister). facts_in (numbers_of c.args.values.now) p v ≡ true) c.loop-k.k (c.loop-k.invariant env h)
+    (λ (p : Place) (v : VirtualRegister). facts_now c.args.values.now p v ≡ true) c.loop-k.k (c.loop-k.invariant env h)
     (λ at. absurd (not_so _ _ c.is_at.ensures c.if-not-is_at.true (ap (λ (o : OperandValue). o.position) same ∙ at)))
 
 pub returns-then-is_some : goal.returns-then-is_some
@@ -24,14 +24,14 @@ returns-then-is_some g c = λ env h.
     let same : c.index-operands-k.result ≡ operand_at c.args.operands.now c.loop-k.k = operand_is c.args.operands.now c.loop-k.k c.index-operands-k.result
     c.loop-k-test.true c.index-operands-k.is in
     judged_some env c.args.inst c.args.operands.now c.args.places.now c.args.position
-    (λ (p : Place) (v : VirtualRegister). facts_in (numbers_of c.args.values.now) p v ≡ true) c.loop-k.k c.in_ok-fault.fault (sym c.if-is_some.ensures)
+    (λ (p : Place) (v : VirtualRegister). facts_now c.args.values.now p v ≡ true) c.loop-k.k c.in_ok-fault.fault (sym c.if-is_some.ensures)
     c.loop-k-test.true (sym (ap (λ (o : OperandValue). o.position) same) ∙ c.is_at.ensures.0 c.if-not-is_at.false) (c.loop-k.invariant env h)
     (c.in_ok-fault.ensures env h)
 
 pub loop-k-preserved : goal.loop-k-preserved
 loop-k-preserved g c = λ env h.
     fine_more env c.args.operands.now c.args.places.now c.args.position
-    (λ (p : Place) (v : VirtualRegister). facts_in (numbers_of c.args.values.now) p v ≡ true) c.loop-k.k (c.loop-k.invariant env h)
+    (λ (p : Place) (v : VirtualRegister). facts_now c.args.values.now p v ≡ true) c.loop-k.k (c.loop-k.invariant env h)
     (λ at. fine_of _ _ c.in_ok-fault.fault (sym c.if-is_some.ensures) (c.in_ok-fault.ensures env h))
 
 pub returns : goal.returns

@@ -2,7 +2,7 @@ use Rattle.std.proofs.Common.{◌≡◌, ◌∙◌, sym, arith, rules, eqb-true,
 use Rattle.std.specs.Prelude.{true}
 use Rattle.std.specs.Vec.{vec_len}
 use Rattle.regalloc2_names.specs.Register.{VirtualRegister}
-use Rattle.regalloc2_checker.specs.ValueNumbers.{numbers_of, facts_in}
+use Rattle.regalloc2_checker.specs.TableFacts.{facts_now}
 use Rattle.regalloc2_checker.proofs.OperandErrors.{unknown_fault, incorrect_fault, true_false}
 use Rattle.regalloc2_checker.proofs.check.check_val.Goals as goal
 
@@ -10,14 +10,14 @@ pub returns-then-is_empty : goal.returns-then-is_empty
 returns-then-is_empty g c =
     let none : vec_len c.in_ok-actual.actual ≡ 0 = eqb-true _ _ (sym c.if-is_empty.ensures) in (
       search rules,
-      unknown_fault c.args.inst c.args.op c.args.place (λ (v : VirtualRegister). facts_in (numbers_of c.args.values.now) c.args.place v ≡ true)
+      unknown_fault c.args.inst c.args.op c.args.place (λ (v : VirtualRegister). facts_now c.args.values.now c.args.place v ≡ true)
           c.in_ok-actual.actual.items (omega (arith, none, c.in_ok-actual.actual.ok.0)) c.in_ok-actual.ensures,
     )
 
 pub returns : goal.returns
 returns g c = (
   search rules,
-  incorrect_fault c.args.inst c.args.op c.args.place (λ (v : VirtualRegister). facts_in (numbers_of c.args.values.now) c.args.place v ≡ true)
+  incorrect_fault c.args.inst c.args.op c.args.place (λ (v : VirtualRegister). facts_now c.args.values.now c.args.place v ≡ true)
       c.in_ok-actual.actual
       (λ e. true_false _ (eq-eqb (vec_len c.in_ok-actual.actual) 0 (omega (arith, e, c.in_ok-actual.actual.ok.0))) (sym c.if-is_empty.ensures))
       (λ h. true_false _ h (rw c.vreg.ensures at (sym c.holds.ensures ∙ c.if-holds.false))) c.in_ok-actual.ensures,

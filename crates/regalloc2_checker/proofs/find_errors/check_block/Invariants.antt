@@ -1,9 +1,10 @@
 use Rattle.std.proofs.Common.{◌≡◌, ◌≤◌}
 use Rattle.regalloc2_function.specs.FunctionValue.{block_at}
 use Rattle.regalloc2_function.specs.Machine.{MachineValue}
+use Rattle.regalloc2_checker_tables.specs.Holding.{AreKeptTables}
 use Rattle.regalloc2_checker.specs.Blocks.{IsKnownWithin}
 use Rattle.regalloc2_checker.specs.CheckInputs.{AreStackSlots}
-use Rattle.regalloc2_checker.specs.ValueNumbers.{cells_in, source_in, facts_in, numbers_of}
+use Rattle.regalloc2_checker.specs.TableFacts.{facts_now, facts_table}
 use Rattle.regalloc2_checker.proofs.Blocks.{IsJudgedTo}
 use Rattle.regalloc2_checker.proofs.find_errors.check_block.Given as goal
 
@@ -16,7 +17,7 @@ invariant-loop-i g l = record {
   end : l.i-end ≡ (block_at (g.F.Function.function l.f) l.block).range.end;
   low : (block_at (g.F.Function.function l.f) l.block).range.first ≤ l.i;
   high : l.i ≤ (block_at (g.F.Function.function l.f) l.block).range.end;
-  judged : (env : MachineValue) → AreStackSlots env l.slots → IsKnownWithin (g.F.Function.function l.f) g.o l.block (facts_in (numbers_of l.fn.have)) →
-      IsJudgedTo (g.F.Function.function l.f) env g.o l.block l.i (facts_in (numbers_of l.fn.have)) l.initial.errors.items l.errors.items (cells_in l.values)
-      (source_in l.values);
+  kept : AreKeptTables l.fn.values l.values;
+  judged : (env : MachineValue) → AreStackSlots env l.slots → IsKnownWithin (g.F.Function.function l.f) g.o l.block (facts_table l.fn.values l.block) →
+      IsJudgedTo (g.F.Function.function l.f) env g.o l.block l.i (facts_table l.fn.values l.block) l.initial.errors.items l.errors.items (facts_now l.values);
 }

@@ -1,34 +1,66 @@
-use Rattle.std.proofs.Common.{map, arith}
+use Rattle.std.proofs.Common.{◌≡◌, map, arith, sym, rules, ◌∙◌, ap, subst, List, ℕ}
+use Rattle.std.specs.Prelude.{All}
+use Rattle.regalloc2_names.specs.Operand.{OperandValue}
+use Rattle.regalloc2_names.specs.Place.{Place}
+use Rattle.regalloc2_function.specs.FunctionValue.{FunctionValue}
+use Rattle.regalloc2_function.specs.OutputValue.{MoveValue, allocs_of}
+use Rattle.regalloc2_function.specs.AllocatedRun.{moves_at}
 use Rattle.regalloc2_function.specs.Views.{move_of}
-use Rattle.regalloc2_checker.specs.ValueNumbers.{cells_in, source_in}
-use Rattle.regalloc2_checker.proofs.TransferFollowsFacts.{tracks_run, listed_moves, listed_places}
+use Rattle.regalloc2_checker.specs.TableFacts.{facts_now, IsListed, IsListedVReg, IsMissingUnlisted}
+use Rattle.regalloc2_checker.proofs.TransferFollowsFacts.{after_run, listed_moves, listed_places}
 use Rattle.regalloc2_checker.proofs.transfer_block.transfer_inst.Goals as goal
 
-pub returns : goal.returns
-returns g c = λ G t.
-    tracks_run (g.F.Function.function c.args.f.now) g.o c.args.block c.args.inst (cells_in c.args.values.now) (cells_in c.go_to_early.new.values)
-    (cells_in c.go_to_late.new.values)
-    (source_in c.args.values.now) (source_in c.go_to_early.new.values) (source_in c.go_to_late.new.values) G
-    (map move_of c.deref.result.now) c.deref-2.result.now c.deref-3.result.now c.inst_operands-operands.result.now c.inst_clobbers.result c.step_of-step.result
-    t
+pub returns-clause-now : goal.returns-clause-now
+returns-clause-now g c =
+    after_run (g.F.Function.function c.args.f.now) g.o c.args.block c.args.inst (facts_now c.args.values.now) (facts_now c.go_to_early.new.values)
+    (facts_now c.go_to_late.new.values)
+    (map move_of c.deref.result.now) c.deref-2.result.now c.deref-3.result.now c.inst_operands-operands.result.now c.inst_clobbers.result
     (listed_moves (g.F.Function.function c.args.f.now) g.o c.args.listing.now c.args.block c.args.inst c.index.result c.index-listing-index.result
-    c.deref.result.now c.requires.1.1.0 c.deref.ensures.value c.index.ensures c.index-listing-index.is c.requires.1.1.1.0 c.requires.1.1.1.1.0
-    c.requires.1.1.1.1.1.0)
+    c.deref.result.now c.requires.1.1.0 c.deref.ensures.value c.index.ensures c.index-listing-index.is c.requires.1.1.1.1.0 c.requires.1.1.1.1.1.0
+    c.requires.1.1.1.1.1.1.0)
     (listed_places (g.F.Function.function c.args.f.now) g.o c.args.listing.now c.args.inst c.index.result c.index-listing-index.result c.deref-2.result.now
-    c.requires.1.1.0 c.deref-2.ensures.value c.index.ensures c.index-listing-index.is c.requires.1.1.1.1.1.1)
+    c.requires.1.1.0 c.deref-2.ensures.value c.index.ensures c.index-listing-index.is c.requires.1.1.1.1.1.1.1)
     (listed_places (g.F.Function.function c.args.f.now) g.o c.args.listing.now c.args.inst c.index.result c.index-listing-index.result c.deref-3.result.now
-    c.requires.1.1.0 c.deref-3.ensures.value c.index.ensures c.index-listing-index.is c.requires.1.1.1.1.1.1)
-    c.inst_operands-operands.ensures c.inst_clobbers.ensures c.step_of-step.ensures
-    c.in_ok-go_to_early.ensures.cells c.in_ok-go_to_early.ensures.source c.in_ok-go_to_late.ensures.cells c.in_ok-go_to_late.ensures.source
+    c.requires.1.1.0 c.deref-3.ensures.value c.index.ensures c.index-listing-index.is c.requires.1.1.1.1.1.1.1)
+    c.inst_operands-operands.ensures c.inst_clobbers.ensures
+    c.in_ok-go_to_early.ensures.now c.in_ok-go_to_late.ensures.now
+
+pub go_to_early-requires-clause-missing : goal.go_to_early-requires-clause-missing
+go_to_early-requires-clause-missing g c = c.requires.1.1.1.0.places.missing
+
+pub go_to_early-requires-clause-listed : goal.go_to_early-requires-clause-listed
+go_to_early-requires-clause-listed g c =
+    let f : FunctionValue = g.F.Function.function c.args.f.now in
+    let moves : map move_of c.deref.result.now ≡ moves_at f g.o (record { block = c.args.block; inst = c.args.inst }) =
+    listed_moves f g.o c.args.listing.now c.args.block c.args.inst c.index.result c.index-listing-index.result
+    c.deref.result.now c.requires.1.1.0 c.deref.ensures.value c.index.ensures c.index-listing-index.is c.requires.1.1.1.1.0 c.requires.1.1.1.1.1.0
+    c.requires.1.1.1.1.1.1.0 in
+    subst (λ (ms : List MoveValue). All (λ m. IsListed c.args.values.now.places m.to) ms) (sym moves)
+    (c.requires.1.1.1.0.places.moves c.args.block c.args.inst c.requires.1.1.1.1.0 c.requires.1.1.1.1.1.0 c.requires.1.1.1.1.1.1.0)
 
 pub bounds-listing-index : goal.bounds-listing-index
-bounds-listing-index g c = rw c.index.ensures (rw c.requires.1.1.0.size c.requires.1.1.1.1.1.1)
+bounds-listing-index g c = rw c.index.ensures (rw c.requires.1.1.0.size c.requires.1.1.1.1.1.1.1)
 
 pub offset_bounds-listing-index : goal.offset_bounds-listing-index
 offset_bounds-listing-index g c = omega (arith, bounds-listing-index g c)
 
 pub inst_operands-operands-requires : goal.inst_operands-operands-requires
-inst_operands-operands-requires g c = c.requires.1.1.1.1.1.1
+inst_operands-operands-requires g c = c.requires.1.1.1.1.1.1.1
 
 pub inst_clobbers-requires : goal.inst_clobbers-requires
-inst_clobbers-requires g c = c.requires.1.1.1.1.1.1
+inst_clobbers-requires g c = c.requires.1.1.1.1.1.1.1
+
+pub go_to_late-requires-clause-listed : goal.go_to_late-requires-clause-listed
+go_to_late-requires-clause-listed g c =
+    subst (λ (ps : List ℕ). All (IsListed ps) c.deref-3.result.now) (sym c.in_ok-go_to_early.ensures.kept.places)
+    (subst (λ (qs : List Place). All (IsListed c.args.values.now.places) qs)
+    (sym (listed_places (g.F.Function.function c.args.f.now) g.o c.args.listing.now c.args.inst c.index.result c.index-listing-index.result
+    c.deref-3.result.now c.requires.1.1.0 c.deref-3.ensures.value c.index.ensures c.index-listing-index.is c.requires.1.1.1.1.1.1.1))
+    (c.requires.1.1.1.0.places.operands c.args.inst c.requires.1.1.1.1.1.1.1))
+
+pub go_to_late-requires-clause-vregs : goal.go_to_late-requires-clause-vregs
+go_to_late-requires-clause-vregs g c =
+    subst (λ (vs : List ℕ). All (λ (op : OperandValue). IsListedVReg vs op.vreg) c.inst_operands-operands.result.now)
+    (sym c.in_ok-go_to_early.ensures.kept.vregs)
+    (subst (λ (os : List OperandValue). All (λ (op : OperandValue). IsListedVReg c.args.values.now.vregs op.vreg) os) (sym c.inst_operands-operands.ensures)
+    (c.requires.1.1.1.0.vregs.operands c.args.inst c.requires.1.1.1.1.1.1.1))

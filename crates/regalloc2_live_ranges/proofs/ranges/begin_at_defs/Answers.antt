@@ -47,8 +47,8 @@ loop-index-preserved g c =
           let last : w.before-then-is_def.result ≡ before (i + 1) = w.before-then-is_def.ensures.point
           (λ e. absurd (omega (arith, lt, limit, e, w.next.ensures))) ∙ ap before w.next.ensures in
           let range = defined_range f c.requires.ssa c.args.ends.now i k v w.vreg-vreg.result w.vreg.result w.after.result w.before-then-is_def.result
-          w.index-ends-vreg.result w.unwrap_or-end.result d c.requires.ends_long c.requires.ends one w.index-ends-vreg.is w.vreg-vreg.ensures first last
-          w.unwrap_or-end.ensures in
+          w.index-ends-vreg.result w.end_of_defined-end.result d c.requires.ends_long c.requires.ends one w.index-ends-vreg.is w.vreg-vreg.ensures first last
+          w.end_of_defined-end.ensures in
           rw w.ranges-is (record {
             right = right_set f c.loop-index.ranges w.vreg-then-is_def.result _ room (sym w.vreg-then-is_def.ensures.number) range c.loop-index.invariant.right;
             stay = λ n some. stay_set c.loop-index.ranges w.vreg-then-is_def.result _ room n (c.loop-index.invariant.stay n some);

@@ -4,9 +4,9 @@ use Rattle.std.proofs.lemmas.List.Elements.{All-tail}
 use Rattle.regalloc2_function.specs.FunctionValue.{block_at}
 use Rattle.regalloc2_function.specs.Views.{output_of}
 use Rattle.regalloc2_tool.specs.Listing.{item_line}
-use Rattle.regalloc2_tool.proofs.Below.{IsBelow, block_below, first_below}
-use Rattle.regalloc2_tool.proofs.Lines.{block_begun, next_inst, next_move}
-use Rattle.regalloc2_tool.proofs.Written.{none_written, more_written, all_written}
+use Rattle.regalloc2_tool.proofs.ListedInsts.{IsBelow, block_below, first_below}
+use Rattle.regalloc2_tool.proofs.ListingLines.{block_begun, next_inst, next_move}
+use Rattle.regalloc2_tool.proofs.WrittenInParts.{none_written, more_written, all_written}
 use Rattle.regalloc2_tool.proofs.listing.write_block.Goals as goal
 
 pub loop-item-init : goal.loop-item-init

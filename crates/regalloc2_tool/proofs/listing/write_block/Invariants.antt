@@ -1,8 +1,8 @@
 use Rattle.std.specs.Prelude.{All, flat_map, length}
 use Rattle.regalloc2_function.specs.Views.{output_of, rest_of}
 use Rattle.regalloc2_tool.specs.Listing.{block_text, item_line}
-use Rattle.regalloc2_tool.proofs.Below.{IsBelow}
-use Rattle.regalloc2_tool.proofs.Written.{IsLeft}
+use Rattle.regalloc2_tool.proofs.ListedInsts.{IsBelow}
+use Rattle.regalloc2_tool.proofs.WrittenInParts.{IsLeft}
 use Rattle.regalloc2_tool.proofs.listing.write_block.Given as goal
 
 abbrev pub invariant-loop-item : goal.invariant-loop-item

@@ -2,8 +2,8 @@ use Rattle.std.proofs.Common.{arith}
 use Rattle.std.proofs.KnownBytes.{Appends-nil}
 use Rattle.std.specs.Prelude.{[]}
 use Rattle.regalloc2_function.specs.Views.{output_of}
-use Rattle.regalloc2_tool.proofs.Written.{more_written, all_written}
-use Rattle.regalloc2_tool.proofs.Lines.{all_blocks, next_block, no_more_blocks}
+use Rattle.regalloc2_tool.proofs.WrittenInParts.{more_written, all_written}
+use Rattle.regalloc2_tool.proofs.ListingLines.{all_blocks, next_block, no_more_blocks}
 use Rattle.regalloc2_tool.proofs.listing.write_blocks.Goals as goal
 
 pub loop-b-init : goal.loop-b-init

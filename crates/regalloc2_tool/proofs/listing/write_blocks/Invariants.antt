@@ -2,7 +2,7 @@ use Rattle.std.specs.Prelude.{◌-◌, flat_map, length}
 use Rattle.std.specs.List.{range_with_len}
 use Rattle.regalloc2_function.specs.Views.{output_of}
 use Rattle.regalloc2_tool.specs.Listing.{block_text, blocks_text}
-use Rattle.regalloc2_tool.proofs.Written.{IsLeft}
+use Rattle.regalloc2_tool.proofs.WrittenInParts.{IsLeft}
 use Rattle.regalloc2_tool.proofs.listing.write_blocks.Given as goal
 
 abbrev pub invariant-loop-b : goal.invariant-loop-b

@@ -2,8 +2,8 @@ use Rattle.std.proofs.Common.{refl}
 use Rattle.std.proofs.KnownBytes.{Appends-nil}
 use Rattle.std.specs.Prelude.{[]}
 use Rattle.regalloc2_function.specs.Views.{output_of}
-use Rattle.regalloc2_tool.proofs.Written.{more_written, all_written}
-use Rattle.regalloc2_tool.proofs.Lines.{all_locations, next_location, no_more_locations}
+use Rattle.regalloc2_tool.proofs.WrittenInParts.{more_written, all_written}
+use Rattle.regalloc2_tool.proofs.ListingLines.{all_locations, next_location, no_more_locations}
 use Rattle.regalloc2_tool.proofs.listing.write_debug_locations.Goals as goal
 
 pub loop-location-init : goal.loop-location-init

@@ -1,7 +1,7 @@
 use Rattle.std.specs.Prelude.{drop, flat_map, map}
 use Rattle.regalloc2_function.specs.Views.{output_of}
 use Rattle.regalloc2_tool.specs.Listing.{debug_line, debug_text}
-use Rattle.regalloc2_tool.proofs.Written.{IsLeft}
+use Rattle.regalloc2_tool.proofs.WrittenInParts.{IsLeft}
 use Rattle.regalloc2_tool.proofs.listing.write_debug_locations.Given as goal
 
 abbrev pub invariant-loop-location : goal.invariant-loop-location

@@ -1,5 +1,5 @@
 use Rattle.regalloc2_function.specs.Views.{output_of}
-use Rattle.regalloc2_tool.proofs.Lines.{inst_written}
+use Rattle.regalloc2_tool.proofs.ListingLines.{inst_written}
 use Rattle.regalloc2_tool.proofs.listing.write_inst.Goals as goal
 
 pub returns : goal.returns

@@ -1,5 +1,5 @@
-use Rattle.regalloc2_tool.proofs.Written.{more_written, all_written}
-use Rattle.regalloc2_tool.proofs.Lines.{next_operand, no_more_operands}
+use Rattle.regalloc2_tool.proofs.WrittenInParts.{more_written, all_written}
+use Rattle.regalloc2_tool.proofs.ListingLines.{next_operand, no_more_operands}
 use Rattle.regalloc2_tool.proofs.listing.write_operands.Goals as goal
 
 pub loop-k-preserved : goal.loop-k-preserved

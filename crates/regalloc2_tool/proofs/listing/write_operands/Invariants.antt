@@ -1,6 +1,6 @@
 use Rattle.std.specs.Prelude.{drop}
 use Rattle.regalloc2_tool.specs.Listing.{operands_text}
-use Rattle.regalloc2_tool.proofs.Written.{IsLeft}
+use Rattle.regalloc2_tool.proofs.WrittenInParts.{IsLeft}
 use Rattle.regalloc2_tool.proofs.listing.write_operands.Given as goal
 
 abbrev pub invariant-loop-k : goal.invariant-loop-k

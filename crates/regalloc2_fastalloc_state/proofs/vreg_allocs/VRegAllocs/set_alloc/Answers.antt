@@ -1,28 +1,73 @@
-use Rattle.std.proofs.Common.{◌≡◌, ◌<◌, ◌⊎◌, length, sym, subst, ap, arith}
+use Rattle.std.proofs.Common.{ℕ, ◌≡◌, ◌≢◌, ◌<◌, ◌⊎◌, ◌∙◌, List, length, sym, subst, ap, arith, set}
+use Rattle.std.proofs.Math.ListN.{length-set}
 use Rattle.std.proofs.lemmas.List.{get_or_read}
+use Rattle.std.specs.Prelude.{All}
+use Rattle.regalloc2_names.specs.Place.{is_in_register}
+use Rattle.regalloc2_names.specs.Register.{VirtualRegister}
+use Rattle.regalloc2_parts.specs.LiveList.{LiveList}
+use Rattle.regalloc2_fastalloc_state.proofs.TakenOut.{all_other}
 use Rattle.std.specs.Prelude.{None, Some}
 use Rattle.regalloc2_names.specs.Place.{NoPlace}
-use Rattle.regalloc2_fastalloc_state.specs.StateParts.{VRegAllocsValue, vreg_of_preg}
-use Rattle.regalloc2_fastalloc_state.proofs.VRegInPRegInverse.{inverse_marked}
-use Rattle.regalloc2_fastalloc_state.proofs.FillOrderListed.{filled_kept}
+use Rattle.regalloc2_fastalloc_state.specs.StateParts.{VRegAllocsValue, SetsAlloc, vreg_of_preg, in_front_if, without}
+use Rattle.regalloc2_fastalloc_state.proofs.VRegInPRegInverse.{inverse_marked, listed_if, settles_by_marks}
 use Rattle.regalloc2_fastalloc_state.proofs.vreg_allocs.VRegAllocs.set_alloc.Goals as goal
+
+pub take_out-requires : goal.take_out-requires
+take_out-requires g c =
+    let t : VRegAllocsValue = record {
+      vreg_allocs = c.self.inside.vreg_allocs.items;
+      vreg_in_preg = c.self.inside.vreg_in_preg.items;
+      in_registers = c.self.inside.in_registers.members;
+    } in
+    let known : c.vreg-number.result < length c.self.inside.vreg_allocs.items = (let e = ap (λ (t : VRegAllocsValue). length t.vreg_allocs) c.self.view_is in
+    omega (arith, c.requires.vreg, c.vreg-number.ensures.number, e)) in
+    listed_if t c.vreg-number.result c.index-left.result.now (get_or_read _ _ _ known c.index-left.ensures NoPlace) c.self.invariant.0
+
+pub put_in_front-requires-clause-absent : goal.put_in_front-requires-clause-absent
+put_in_front-requires-clause-absent g c =
+    let L : List VirtualRegister = c.self.inside.in_registers.members in
+    let out : c.take_out.new.in_registers.members ≡ without c.vreg-number.result L = ap (λ (l : LiveList). l.members) c.take_out.ensures in
+    subst (λ (n : ℕ). All (λ v. v.number ≢ n) c.take_out.new.in_registers.members) c.vreg-number.ensures.number
+    (subst (λ (vs : List VirtualRegister). All (λ v. v.number ≢ c.vreg-number.result) vs) (sym out) (all_other c.vreg-number.result L))
 
 pub returns-clause-inverse : goal.returns-clause-inverse
 returns-clause-inverse g c =
     let known : c.vreg-number.result < length c.self.inside.vreg_allocs.items = (let e = ap (λ (t : VRegAllocsValue). length t.vreg_allocs) c.self.view_is in
     omega (arith, c.requires.vreg, c.vreg-number.ensures.number, e)) in
+    let L : List VirtualRegister = c.self.inside.in_registers.members in
+    let out : c.take_out.new.in_registers.members ≡ without c.vreg-number.result L = ap (λ (l : LiveList). l.members) c.take_out.ensures in
+    let order : c.put_in_front.new.in_registers.members ≡ in_front_if (is_in_register c.args.place) c.args.vreg (without c.vreg-number.result L) =
+    ap (λ (l : LiveList). l.members) c.put_in_front.ensures ∙ ap (in_front_if (is_in_register c.args.place) c.args.vreg) out in
     inverse_marked c.self.inside.vreg_allocs.items c.self.inside.vreg_in_preg.items c.set_vreg_in_preg.new.vreg_in_preg.items
-    c.set_vreg_in_preg-2.new.vreg_in_preg.items c.args.vreg c.vreg-number.result c.args.place c.index-left.result.now
-    c.vreg-number.ensures.number known (get_or_read _ _ _ known c.index-left.ensures NoPlace) c.set_vreg_in_preg.ensures.marks
-    c.set_vreg_in_preg-2.ensures.marks c.set_vreg_in_preg-2.ensures.in_range
+    c.set_vreg_in_preg-2.new.vreg_in_preg.items L c.put_in_front.new.in_registers.members c.args.vreg c.vreg-number.result c.args.place
+    c.index-left.result.now c.vreg-number.ensures.number known (get_or_read _ _ _ known c.index-left.ensures NoPlace) c.set_vreg_in_preg.ensures.marks
+    c.set_vreg_in_preg-2.ensures.marks order c.set_vreg_in_preg-2.ensures.in_range
     (λ r e. let P : VRegAllocsValue → Type 0 = λ t. (vreg_of_preg t r ≡ None)
     ⊎ (vreg_of_preg t r ≡ Some c.args.vreg) in subst P (sym c.self.view_is) (c.requires.alone r e))
     c.self.invariant.0
 
+pub returns-clause-settled : goal.returns-clause-settled
+returns-clause-settled g c =
+    let known : c.vreg-number.result < length c.self.inside.vreg_allocs.items = (let e = ap (λ (t : VRegAllocsValue). length t.vreg_allocs) c.self.view_is in
+    omega (arith, c.requires.vreg, c.vreg-number.ensures.number, e)) in
+    let L : List VirtualRegister = c.self.inside.in_registers.members in
+    let out : c.take_out.new.in_registers.members ≡ without c.vreg-number.result L = ap (λ (l : LiveList). l.members) c.take_out.ensures in
+    let order : c.put_in_front.new.in_registers.members ≡ in_front_if (is_in_register c.args.place) c.args.vreg (without c.vreg-number.result L) =
+    ap (λ (l : LiveList). l.members) c.put_in_front.ensures ∙ ap (in_front_if (is_in_register c.args.place) c.args.vreg) out in
+    let new : VRegAllocsValue = record {
+      vreg_allocs = set c.self.inside.vreg_allocs.items c.vreg-number.result c.args.place;
+      vreg_in_preg = c.set_vreg_in_preg-2.new.vreg_in_preg.items;
+      in_registers = c.put_in_front.new.in_registers.members;
+    } in
+    subst (λ (t : VRegAllocsValue). SetsAlloc t new c.args.vreg c.args.place) c.self.view_is
+    (settles_by_marks c.self.inside.vreg_allocs.items c.self.inside.vreg_in_preg.items c.set_vreg_in_preg.new.vreg_in_preg.items
+    c.set_vreg_in_preg-2.new.vreg_in_preg.items L c.put_in_front.new.in_registers.members c.args.vreg c.vreg-number.result c.args.place
+    c.index-left.result.now c.vreg-number.ensures.number known (get_or_read _ _ _ known c.index-left.ensures NoPlace) c.set_vreg_in_preg.ensures.marks
+    c.set_vreg_in_preg-2.ensures.marks order)
+
 pub invariant_of-self : goal.invariant_of-self
 invariant_of-self g c = (
   returns-clause-inverse g c,
-  filled_kept c.self.inside.vreg_in_preg.items c.set_vreg_in_preg.new.vreg_in_preg.items c.set_vreg_in_preg-2.new.vreg_in_preg.items c.args.vreg c.args.place
-      c.index-left.result.now c.self.inside.fill_order c.note_empty.new.self c.note_filled.new.self
-      c.set_vreg_in_preg.ensures.marks c.set_vreg_in_preg-2.ensures.marks c.note_empty.ensures c.note_filled.ensures c.self.invariant.1,
+  ap (λ (l : LiveList). l.capacity) c.put_in_front.ensures ∙ ap (λ (l : LiveList). l.capacity) c.take_out.ensures ∙ c.self.invariant.1
+      ∙ sym (length-set c.self.inside.vreg_allocs.items c.vreg-number.result c.args.place),
 )

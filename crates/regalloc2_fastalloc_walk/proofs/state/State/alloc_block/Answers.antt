@@ -115,7 +115,8 @@ loop-i-preserved g c =
       blank = λ k less. a.allocates.outside k (inl less) ∙ c.loop-i.invariant.blank k (let e = ap (offset_of f) next in omega (arith, less, more, e));
       later = subst Q at c.in_ok-alloc_inst_in_block.ensures.step.later;
       long = c.in_ok-alloc_inst_in_block.ensures.step.long ∙ c.loop-i.invariant.long;
-      machine = lends_then so_far.0 (temp_slots_at f i) 6 (tables_of c.args.self.now) t u so_far.1 so_far.2 (subst L at c.alloc_inst_in_block.ensures.step.machine);
+      machine = lends_then so_far.0 (temp_slots_at f i) 6 (tables_of c.args.self.now) t u so_far.1 so_far.2
+          (subst L at c.alloc_inst_in_block.ensures.step.machine);
       spill_free = λ names few asks h.
           let before = c.loop-i.invariant.spill_free names few asks h in
           let few_now : FitInRegs names t.allocatable = subst (FitInRegs names) (sym c.loop-i.invariant.machine.allocatable) few in

@@ -146,32 +146,43 @@ pub returns-in_err-evict_clobbers-clause-step : goal.returns-in_err-evict_clobbe
 returns-in_err-evict_clobbers-clause-step g c =
     let e = err_from_is_err_and c.from_residual-in_err-evict_clobbers.result c.from_residual-in_err-evict_clobbers.ensures.1 in
     step_then_fails c.from_residual-in_err-evict_clobbers.result c.args.self.now c.evict_fixed.new.self c.evict_clobbers.new.self e.1 e.2
-    (same_then _ _ _ (same_of _ _ (c.remove_clobbers_from_available_pregs.ensures.same ∙ c.reserve.ensures.same)) c.evict_fixed.ensures.step.machine) c.in_err-evict_clobbers.ensures.step
+    (same_then _ _ _ (same_of _ _ (c.remove_clobbers_from_available_pregs.ensures.same ∙ c.reserve.ensures.same)) c.evict_fixed.ensures.step.machine)
+    c.in_err-evict_clobbers.ensures.step
 
 pub returns-in_err-process_operands_at-clause-step : goal.returns-in_err-process_operands_at-clause-step
 returns-in_err-process_operands_at-clause-step g c =
     let e = err_from_is_err_and c.from_residual-in_err-process_operands_at.result c.from_residual-in_err-process_operands_at.ensures.1 in
     step_then_fails c.from_residual-in_err-process_operands_at.result c.args.self.now c.evict_clobbers.new.self c.process_operands_at.new.self e.1 e.2
-    (same_then _ _ _ (same_then _ _ _ (same_of _ _ (c.remove_clobbers_from_available_pregs.ensures.same ∙ c.reserve.ensures.same)) c.evict_fixed.ensures.step.machine) c.evict_clobbers.ensures.step.machine) c.in_err-process_operands_at.ensures.step
+    (same_then _ _ _ (same_then _ _ _ (same_of _ _ (c.remove_clobbers_from_available_pregs.ensures.same ∙ c.reserve.ensures.same))
+    c.evict_fixed.ensures.step.machine) c.evict_clobbers.ensures.step.machine) c.in_err-process_operands_at.ensures.step
 
 pub returns-in_err-process_operands_at-2-clause-step : goal.returns-in_err-process_operands_at-2-clause-step
 returns-in_err-process_operands_at-2-clause-step g c =
     let e = err_from_is_err_and c.from_residual-in_err-process_operands_at-2.result c.from_residual-in_err-process_operands_at-2.ensures.1 in
     step_then_fails c.from_residual-in_err-process_operands_at-2.result c.args.self.now c.process_operands_at.new.self c.process_operands_at-2.new.self e.1 e.2
-    (same_then _ _ _ (same_then _ _ _ (same_then _ _ _ (same_of _ _ (c.remove_clobbers_from_available_pregs.ensures.same ∙ c.reserve.ensures.same)) c.evict_fixed.ensures.step.machine) c.evict_clobbers.ensures.step.machine) c.process_operands_at.ensures.step.machine) c.in_err-process_operands_at-2.ensures.step
+    (same_then _ _ _ (same_then _ _ _ (same_then _ _ _ (same_of _ _ (c.remove_clobbers_from_available_pregs.ensures.same ∙ c.reserve.ensures.same))
+    c.evict_fixed.ensures.step.machine) c.evict_clobbers.ensures.step.machine) c.process_operands_at.ensures.step.machine)
+    c.in_err-process_operands_at-2.ensures.step
 
 pub returns-in_err-move_uses-clause-step : goal.returns-in_err-move_uses-clause-step
 returns-in_err-move_uses-clause-step g c =
     let e = err_from_is_err_and c.from_residual-in_err-move_uses.result c.from_residual-in_err-move_uses.ensures.1 in
     step_then_fails c.from_residual-in_err-move_uses.result c.args.self.now c.process_operands_at-2.new.self c.move_uses.new.self e.1 e.2
-    (same_then _ _ _ (same_then _ _ _ (same_then _ _ _ (same_then _ _ _ (same_of _ _ (c.remove_clobbers_from_available_pregs.ensures.same ∙ c.reserve.ensures.same)) c.evict_fixed.ensures.step.machine) c.evict_clobbers.ensures.step.machine) c.process_operands_at.ensures.step.machine) c.process_operands_at-2.ensures.step.machine) c.in_err-move_uses.ensures.step
+    (same_then _ _ _ (same_then _ _ _ (same_then _ _ _ (same_then _ _ _
+    (same_of _ _ (c.remove_clobbers_from_available_pregs.ensures.same ∙ c.reserve.ensures.same)) c.evict_fixed.ensures.step.machine)
+    c.evict_clobbers.ensures.step.machine) c.process_operands_at.ensures.step.machine) c.process_operands_at-2.ensures.step.machine)
+    c.in_err-move_uses.ensures.step
 
 pub returns-clause-step : goal.returns-clause-step
 returns-clause-step g c =
     let early : c.before-2.result ≡ before c.args.cx.now.inst = c.before-2.ensures.point (λ e. omega (arith, c.requires.inst)) in
-    let same : tables_of c.remove_clobbers_from_available_pregs.new.self ≡ tables_of c.args.self.now = c.remove_clobbers_from_available_pregs.ensures.same ∙ c.reserve.ensures.same in
+    let same : tables_of c.remove_clobbers_from_available_pregs.new.self ≡ tables_of c.args.self.now = c.remove_clobbers_from_available_pregs.ensures.same
+    ∙ c.reserve.ensures.same in
     record {
-      machine = (same_then _ _ _ (same_then _ _ _ (same_then _ _ _ (same_then _ _ _ (same_then _ _ _ (same_of _ _ (c.remove_clobbers_from_available_pregs.ensures.same ∙ c.reserve.ensures.same)) c.evict_fixed.ensures.step.machine) c.evict_clobbers.ensures.step.machine) c.process_operands_at.ensures.step.machine) c.process_operands_at-2.ensures.step.machine) c.move_uses.ensures.step.machine);
+      machine = (same_then _ _ _ (same_then _ _ _ (same_then _ _ _
+          (same_then _ _ _ (same_then _ _ _ (same_of _ _ (c.remove_clobbers_from_available_pregs.ensures.same ∙ c.reserve.ensures.same))
+          c.evict_fixed.ensures.step.machine) c.evict_clobbers.ensures.step.machine) c.process_operands_at.ensures.step.machine)
+          c.process_operands_at-2.ensures.step.machine) c.move_uses.ensures.step.machine);
       later = subst (λ (p : ℕ). AllAtOrAfter p c.move_uses.new.self.edits) early c.in_ok-move_uses.ensures.step.later;
       long = c.in_ok-move_uses.ensures.step.long ∙ c.in_ok-process_operands_at-2.ensures.step.long ∙ c.in_ok-process_operands_at.ensures.step.long
           ∙ c.in_ok-evict_clobbers.ensures.step.long ∙ c.in_ok-evict_fixed.ensures.step.long ∙ ap (λ (t : StateValue). length t.places.vreg_allocs) same;

@@ -22,7 +22,8 @@ returns-clause-alone g c =
     subst P (sym c.note_taken.ensures.tables) c.in_ok-evict_others.ensures.alone
 
 pub returns-clause-step : goal.returns-clause-step
-returns-clause-step g c = step_same _ c.args.self.now c.evict_others.new.self c.note_taken.new.self c.note_taken.ensures.tables c.in_ok-evict_others.ensures.step
+returns-clause-step g c = step_same _ c.args.self.now c.evict_others.new.self c.note_taken.new.self c.note_taken.ensures.tables
+    c.in_ok-evict_others.ensures.step
 
 pub returns-clause-order : goal.returns-clause-order
 returns-clause-order g c = λ any. subst (λ (r : AllocatableRegsValue). Pokes c.args.preg r c.note_taken.new.self.registers)

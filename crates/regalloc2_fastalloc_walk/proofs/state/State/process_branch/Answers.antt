@@ -99,7 +99,8 @@ returns-in_err-moves-clause-step g c =
       later = search rules;
       long = search rules;
       err = subst (IsResourceError Full) (sym p.2)
-          (lacks_then (SlotsExhausted b.slots) Full (full_before 0 b.slots.num_temp_slots 6 old b (lends_none old b c.gather.ensures.step.machine) (omega arith)) _
+          (lacks_then (SlotsExhausted b.slots) Full (full_before 0 b.slots.num_temp_slots 6 old b (lends_none old b c.gather.ensures.step.machine)
+          (omega arith)) _
           c.in_err-moves.ensures.step.err);
     })
 
@@ -110,12 +111,14 @@ returns-in_err-push_gathered-clause-step g c =
     let p = err_from_is_err_and c.from_residual-in_err-push_gathered.result c.from_residual-in_err-push_gathered.ensures.1 in
     let Full : Type 0 = SlotsExhaustedWith old.slots (old.slots.num_temp_slots + 6) in
     rw p.1 (record {
-      machine = lends_then 0 6 6 old b (tables_of c.push_gathered.new.self) (omega arith) (lends_none old b c.gather.ensures.step.machine) c.push_gathered.ensures.machine;
+      machine = lends_then 0 6 6 old b (tables_of c.push_gathered.new.self) (omega arith)
+          (lends_none old b c.gather.ensures.step.machine) c.push_gathered.ensures.machine;
       later = search rules;
       long = search rules;
       err = subst (IsResourceError Full) (sym p.2)
           (lacks_then (SlotsExhaustedWith b.slots (b.slots.num_temp_slots + 6)) Full
-          (full_before 0 (b.slots.num_temp_slots + 6) 6 old b (lends_none old b c.gather.ensures.step.machine) (omega arith)) _ c.in_err-push_gathered.ensures.err);
+          (full_before 0 (b.slots.num_temp_slots + 6) 6 old b (lends_none old b c.gather.ensures.step.machine) (omega arith)) _
+          c.in_err-push_gathered.ensures.err);
     })
 
 -- moves of a class that has no register

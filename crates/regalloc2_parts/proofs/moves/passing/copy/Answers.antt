@@ -4,7 +4,7 @@ use Rattle.regalloc2_parts.proofs.moves.passing.copy.Goals as goal
 
 pub returns-then-is_one-clause-tracks : goal.returns-then-is_one-clause-tracks
 returns-then-is_one-clause-tracks g c = λ x d had.
-    copies_pushed_into c.args.way.now.register c.args.way.now.save c.args.held x d c.args.m.now c.args.out.now.items c.push.new.self.items
+    copies_pushed_into c.args.via.now.register c.args.via.now.save c.args.held x d c.args.m.now c.args.out.now.items c.push.new.self.items
     c.requires.unnamed c.requires.ready (c.if-is_one.ensures.0 refl) c.in_ok-push.ensures.ok had
 
 pub returns-then-is_one-clause-added : goal.returns-then-is_one-clause-added
@@ -12,7 +12,7 @@ returns-then-is_one-clause-added g c = λ x h. added_one x c.args.out.now.items 
 
 pub returns-clause-tracks : goal.returns-clause-tracks
 returns-clause-tracks g c = λ x d had.
-    copies_pushed c.args.way.now.register c.args.way.now.save c.args.held x d c.args.m.now c.args.out.now.items c.push.new.self.items
+    copies_pushed c.args.via.now.register c.args.via.now.save c.args.held x d c.args.m.now c.args.out.now.items c.push.new.self.items
     c.requires.unnamed c.requires.ready (λ e. let no : false ≡ true = c.if-is_one.ensures.1 e in absurd cc) c.in_ok-push.ensures.ok had
 
 pub returns-clause-added : goal.returns-clause-added

@@ -6,20 +6,20 @@ use Rattle.regalloc2_parts.proofs.moves.passing.restore_first.Goals as goal
 
 pub returns-in_ok-push-in-InSave-clause-tracks : goal.returns-in_ok-push-in-InSave-clause-tracks
 returns-in_ok-push-in-InSave-clause-tracks g c = λ x d had.
-    let r = c.args.way.now.register in
-    let s = c.args.way.now.save in
+    let r = c.args.via.now.register in
+    let s = c.args.via.now.save in
     let old = c.args.out.now.items in
     restores_pushed r s x d old c.push.new.self.items (s, r, c.default.result) refl refl c.in_ok-push-in-InSave.ensures.ok
     (subst (λ h. Tracks r s h x (in_turn (ends_of old) d)) c.in-InSave.is had)
 
 pub returns-in_ok-push-in-InSave-clause-added : goal.returns-in_ok-push-in-InSave-clause-added
 returns-in_ok-push-in-InSave-clause-added g c = λ x h.
-    added_aside c.args.way.now.register c.args.way.now.save x c.args.out.now.items c.push.new.self.items
-    (c.args.way.now.save, c.args.way.now.register, c.default.result) (inr (refl, refl)) c.in_ok-push-in-InSave.ensures.ok h
+    added_aside c.args.via.now.register c.args.via.now.save x c.args.out.now.items c.push.new.self.items
+    (c.args.via.now.save, c.args.via.now.register, c.default.result) (inr (refl, refl)) c.in_ok-push-in-InSave.ensures.ok h
 
 pub returns-in-Free-clause-tracks : goal.returns-in-Free-clause-tracks
 returns-in-Free-clause-tracks g c = λ x d had.
-    subst (λ h. Tracks c.args.way.now.register c.args.way.now.save h x (in_turn (ends_of c.args.out.now.items) d)) c.in-Free.is had
+    subst (λ h. Tracks c.args.via.now.register c.args.via.now.save h x (in_turn (ends_of c.args.out.now.items) d)) c.in-Free.is had
 
 pub returns-in-Free-clause-restored : goal.returns-in-Free-clause-restored
 returns-in-Free-clause-restored g c = λ e. cc
@@ -29,7 +29,7 @@ returns-in-Free-clause-added g c = λ x h. inl h
 
 pub returns-in-InRegister-clause-tracks : goal.returns-in-InRegister-clause-tracks
 returns-in-InRegister-clause-tracks g c = λ x d had.
-    subst (λ h. Tracks c.args.way.now.register c.args.way.now.save h x (in_turn (ends_of c.args.out.now.items) d)) c.in-InRegister.is had
+    subst (λ h. Tracks c.args.via.now.register c.args.via.now.save h x (in_turn (ends_of c.args.out.now.items) d)) c.in-InRegister.is had
 
 pub returns-in-InRegister-clause-restored : goal.returns-in-InRegister-clause-restored
 returns-in-InRegister-clause-restored g c = λ e. cc
@@ -39,7 +39,7 @@ returns-in-InRegister-clause-added g c = λ x h. inl h
 
 pub returns-in-InBoth-clause-tracks : goal.returns-in-InBoth-clause-tracks
 returns-in-InBoth-clause-tracks g c = λ x d had.
-    subst (λ h. Tracks c.args.way.now.register c.args.way.now.save h x (in_turn (ends_of c.args.out.now.items) d)) c.in-InBoth.is had
+    subst (λ h. Tracks c.args.via.now.register c.args.via.now.save h x (in_turn (ends_of c.args.out.now.items) d)) c.in-InBoth.is had
 
 pub returns-in-InBoth-clause-restored : goal.returns-in-InBoth-clause-restored
 returns-in-InBoth-clause-restored g c = λ e. cc

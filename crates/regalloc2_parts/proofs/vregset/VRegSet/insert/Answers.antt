@@ -1,21 +1,29 @@
-use Rattle.std.proofs.Common.{◌≤◌, length, ◌∷◌, arith}
-use Rattle.regalloc2_parts.specs.LiveList.{NamesEachOnce}
-use Rattle.regalloc2_parts.proofs.LiveNumbers.{few, one_more}
+use Rattle.std.proofs.Common.{◌≡◌, ◌≢◌, ◌<◌, ◌∙◌, List, ap, arith, length, subst, sym}
+use Rattle.std.specs.Prelude.{All}
+use Rattle.std.proofs.lemmas.List.{with_items_is}
+use Rattle.regalloc2_parts.specs.declared.vregset.VRegNode.{VRegNode}
+use Rattle.regalloc2_parts.specs.LiveList.{LiveList, NamesEachOnce}
+use Rattle.regalloc2_parts.specs.VRegNodes.{IsVRegList, members_of, numbers}
+use Rattle.regalloc2_parts.proofs.VRegLinks.{absent_numbers, proper}
 use Rattle.regalloc2_parts.proofs.vregset.VRegSet.insert.Goals as goal
 
-pub unwrap-requires : goal.unwrap-requires
-unwrap-requires g c =
-    let more : NamesEachOnce (c.args.vreg ∷ c.self.inside.vregs.items) c.self.inside.capacity =
-    one_more c.args.vreg c.self.inside.vregs.items c.self.inside.capacity c.self.invariant.0 (rw (← c.self.view_is) at c.requires.below)
-    (rw (← c.self.view_is) at c.requires.absent) in
-    let room : length (c.args.vreg ∷ c.self.inside.vregs.items) ≤ c.self.inside.capacity = few _ _ more in
-    c.insert.ensures.succeeds (omega (arith, c.self.inside.vregs.ok.0, c.self.invariant.1))
+pub insert_node-requires : goal.insert_node-requires
+insert_node-requires g c =
+    let nodes = c.self.inside.nodes.items in
+    let head = c.self.inside.head in
+    let k = c.args.vreg.number in
+    let absent = subst (λ (s : LiveList). All (λ v. v.number ≢ k) s.members) (sym c.self.view_is) c.requires.absent in
+    record {
+      list = subst (λ (l : List VRegNode). IsVRegList l head) (sym c.deref_mut.ensures.value) c.self.invariant;
+      below = subst (λ (s : LiveList). k < s.capacity) (sym c.self.view_is) c.requires.below;
+      absent = subst (λ (l : List VRegNode). All (λ n. n ≢ k) (numbers l head)) (sym c.deref_mut.ensures.value)
+          (absent_numbers nodes head k c.self.invariant absent);
+    }
 
 pub returns-clause-proper : goal.returns-clause-proper
 returns-clause-proper g c =
-    rw (c.insert.ensures.items, c.unwrap.ensures)
-    (one_more c.args.vreg c.self.inside.vregs.items c.self.inside.capacity c.self.invariant.0 (rw (← c.self.view_is) at c.requires.below)
-    (rw (← c.self.view_is) at c.requires.absent))
-
-pub invariant_of-self : goal.invariant_of-self
-invariant_of-self g c = (returns-clause-proper g c, omega (arith, c.self.invariant.1, c.insert.ensures.capacity))
+    let long : length c.insert_node.new.nodes ≡ length c.self.inside.nodes.items =
+    c.insert_node.ensures.long ∙ ap (λ l. length l) c.deref_mut.ensures.value in
+    subst (λ (l : List VRegNode). NamesEachOnce (members_of l c.self.inside.head) c.self.inside.head)
+    (sym (with_items_is c.self.inside.nodes c.insert_node.new.nodes (omega (arith, long))))
+    (proper c.insert_node.new.nodes c.self.inside.head c.insert_node.ensures.list.list)

@@ -1,20 +1,35 @@
-use Rattle.std.proofs.Common.{◌≡◌, ◌==◌, not, rules, refl, arith}
-use Rattle.std.specs.Prelude.{filter}
-use Rattle.std.proofs.lemmas.Fn.{filter_same}
-use Rattle.regalloc2_parts.proofs.LiveNumbers.{some_out}
+use Rattle.std.proofs.Common.{◌≡◌, ◌∙◌, List, ap, arith, length, subst, sym}
+use Rattle.std.specs.Prelude.{Any, Contains}
+use Rattle.std.proofs.lemmas.List.{with_items_is}
+use Rattle.regalloc2_parts.specs.declared.vregset.VRegNode.{VRegNode}
+use Rattle.regalloc2_parts.specs.LiveList.{LiveList, NamesEachOnce}
+use Rattle.regalloc2_parts.specs.VRegNodes.{IsVRegList, members_of, numbers}
+use Rattle.regalloc2_parts.proofs.VRegLinks.{member_below, member_number, proper}
 use Rattle.regalloc2_parts.proofs.vregset.VRegSet.remove.Goals as goal
 
-pub returns-clause-removed : goal.returns-clause-removed
-returns-clause-removed g c =
-    let kept : c.retain.new.self.items ≡ filter (λ v. not (v.number == c.args.vreg_num)) c.self.inside.vregs.items =
-    filter_same _ (λ v. not (v.number == c.args.vreg_num)) _ (λ x b f' k. search rules) _ _ c.retain.ensures.filtered in
-    rw (kept, ← c.self.view_is) refl
+pub overflow_cast-vreg_num : goal.overflow_cast-vreg_num
+overflow_cast-vreg_num g c =
+    let nodes = c.self.inside.nodes.items in
+    let any = subst (λ (s : LiveList). Any (λ v. v.number ≡ c.args.vreg_num) s.members) (sym c.self.view_is) c.requires in
+    let below = member_below nodes c.self.inside.head c.args.vreg_num c.self.invariant
+    (member_number nodes c.self.inside.head c.args.vreg_num c.self.invariant any) in
+    let small = c.self.invariant.small in
+    omega arith
+
+pub remove_node-requires : goal.remove_node-requires
+remove_node-requires g c =
+    let nodes = c.self.inside.nodes.items in
+    let any = subst (λ (s : LiveList). Any (λ v. v.number ≡ c.args.vreg_num) s.members) (sym c.self.view_is) c.requires in
+    let there = member_number nodes c.self.inside.head c.args.vreg_num c.self.invariant any in
+    record {
+      list = subst (λ (l : List VRegNode). IsVRegList l c.self.inside.head) (sym c.deref_mut.ensures.value) c.self.invariant;
+      member = subst (λ (l : List VRegNode). Contains (numbers l c.self.inside.head) c.args.vreg_num) (sym c.deref_mut.ensures.value) there;
+    }
 
 pub returns-clause-proper : goal.returns-clause-proper
 returns-clause-proper g c =
-    let kept : c.retain.new.self.items ≡ filter (λ v. not (v.number == c.args.vreg_num)) c.self.inside.vregs.items =
-    filter_same _ (λ v. not (v.number == c.args.vreg_num)) _ (λ x b f' k. search rules) _ _ c.retain.ensures.filtered in
-    rw kept (some_out (λ v. not (v.number == c.args.vreg_num)) c.self.inside.vregs.items c.self.inside.capacity c.self.invariant.0)
-
-pub invariant_of-self : goal.invariant_of-self
-invariant_of-self g c = (returns-clause-proper g c, omega (arith, c.self.invariant.1, c.retain.ensures.capacity))
+    let long : length c.remove_node.new.nodes ≡ length c.self.inside.nodes.items =
+    c.remove_node.ensures.long ∙ ap (λ l. length l) c.deref_mut.ensures.value in
+    subst (λ (l : List VRegNode). NamesEachOnce (members_of l c.self.inside.head) c.self.inside.head)
+    (sym (with_items_is c.self.inside.nodes c.remove_node.new.nodes (omega (arith, long))))
+    (proper c.remove_node.new.nodes c.self.inside.head c.remove_node.ensures.list.list)

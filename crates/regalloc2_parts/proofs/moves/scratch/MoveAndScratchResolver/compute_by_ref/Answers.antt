@@ -4,7 +4,7 @@ use Rattle.regalloc2_parts.specs.declared.moves.MoveFault.TheVariants.{NoSlot, M
 use Rattle.regalloc2_names.specs.Place.{Place, NoPlace, InRegister}
 use Rattle.regalloc2_parts.specs.Resolved.{listed, has_scratch}
 use Rattle.regalloc2_parts.specs.Tracking.{CanExpand, IsExpanded}
-use Rattle.regalloc2_parts.specs.Computed.{IsWay, AreApartInMemory, AreSeenApart}
+use Rattle.regalloc2_parts.specs.Computed.{IsVia, AreApartInMemory, AreSeenApart}
 use Rattle.regalloc2_parts.proofs.Computing.{Chosen, chosen, may_ask_again, refused_first, computes_at_once, computes_refused, can_expand}
 use Rattle.regalloc2_parts.proofs.Computing.{computes_by_way, not_apart}
 use Rattle.regalloc2_parts.proofs.moves.scratch.MoveAndScratchResolver.compute_by_ref.Goals as goal
@@ -115,20 +115,20 @@ expand-requires g c =
     c.requires.owes c.requires.runnable c.in_ok-chosen.ensures.chosen in
     let same : last.is_stack_alloc ≡ self.is_stack_alloc = c.in_ok-hand_out.ensures.stack ∙ c.in_ok-chosen.ensures.stack in
     let borrowed : last.borrowed_scratch_reg ≡ self.borrowed_scratch_reg = c.in_ok-hand_out.ensures.borrowed ∙ c.in_ok-chosen.ensures.borrowed in
-    let way = c.way-way.result.0 in
-    let first = c.way-way.result.1 in
+    let via = c.via-via.result.0 in
+    let first = c.via-via.result.1 in
     let handed = c.in_ok-hand_out.field-0 in
-    let is : IsWay handed (InRegister self.borrowed_scratch_reg) way first = subst (λ r. IsWay handed (InRegister r) way first) borrowed c.way-way.ensures in
-    let can : CanExpand stack way.register way.save first made =
+    let is : IsVia handed (InRegister self.borrowed_scratch_reg) via first = subst (λ r. IsVia handed (InRegister r) via first) borrowed c.via-via.ensures in
+    let can : CanExpand stack via.register via.save first made =
     can_expand reg slots stack (InRegister self.borrowed_scratch_reg) (listed c.args.moves) made (has_scratch c.args.moves) self.find_free_reg mid.find_free_reg
     last.find_free_reg self.get_stackslot mid.get_stackslot last.get_stackslot ch
     c.requires.owes.borrowed_no_memory (λ e. let no : InRegister self.borrowed_scratch_reg ≡ NoPlace = e in absurd cc) handed c.in_ok-hand_out.ensures.handed
-    way first is in (
+    via first is in (
       search rules,
       record {
         callable = subst (λ f. goal.IsStackAlloc-IsAlwaysCallable g f) (sym same) c.requires.stack;
-        can = subst (λ f. CanExpand (λ p b. goal.IsStackAlloc-post g f p b) way.register way.save first c.as_slice-list.result.now) (sym same)
-            (subst (λ xs. CanExpand stack way.register way.save first xs) (sym c.as_slice-list.ensures) can);
+        can = subst (λ f. CanExpand (λ p b. goal.IsStackAlloc-post g f p b) via.register via.save first c.as_slice-list.result.now) (sym same)
+            (subst (λ xs. CanExpand stack via.register via.save first xs) (sym c.as_slice-list.ensures) can);
       },
     )
 
@@ -147,16 +147,16 @@ returns g c =
     c.requires.owes c.requires.runnable c.in_ok-chosen.ensures.chosen in
     let same : last.is_stack_alloc ≡ self.is_stack_alloc = c.in_ok-hand_out.ensures.stack ∙ c.in_ok-chosen.ensures.stack in
     let borrowed : last.borrowed_scratch_reg ≡ self.borrowed_scratch_reg = c.in_ok-hand_out.ensures.borrowed ∙ c.in_ok-chosen.ensures.borrowed in
-    let way = c.way-way.result.0 in
-    let first = c.way-way.result.1 in
+    let via = c.via-via.result.0 in
+    let first = c.via-via.result.1 in
     let handed = c.in_ok-hand_out.field-0 in
-    let is : IsWay handed (InRegister self.borrowed_scratch_reg) way first = subst (λ r. IsWay handed (InRegister r) way first) borrowed c.way-way.ensures in
+    let is : IsVia handed (InRegister self.borrowed_scratch_reg) via first = subst (λ r. IsVia handed (InRegister r) via first) borrowed c.via-via.ensures in
     let some : AreApartInMemory stack made → ⊥ =
     not_apart (λ (f : g.row.IsStackAlloc.Denot) (p : Place) (b : Bool). goal.IsStackAlloc-post g f p b) mid.is_stack_alloc self.is_stack_alloc
     c.as_slice-list.result.now made c.in_ok-chosen.ensures.stack c.as_slice-list.ensures c.if-not-has_stack_to_stack.ensures.some in
     let by = computes_by_way reg slots stack (InRegister self.borrowed_scratch_reg) (listed c.args.moves) made (has_scratch c.args.moves) self.find_free_reg
     mid.find_free_reg last.find_free_reg self.get_stackslot mid.get_stackslot last.get_stackslot ch some
-    handed c.in_ok-hand_out.ensures.handed way first is in
+    handed c.in_ok-hand_out.ensures.handed via first is in
     record {
       computed = record {
         asked = by.0;
@@ -165,8 +165,8 @@ returns g c =
         borrowed_kept = borrowed;
         outcome =
             MatchResult-weaker c.expand.result c.expand.ensures.expanded
-            (λ out x. by.2 out.items (subst (λ xs. IsExpanded stack way.register way.save xs out.items) c.as_slice-list.ensures
-            (subst (λ f. IsExpanded (λ p b. goal.IsStackAlloc-post g f p b) way.register way.save c.as_slice-list.result.now out.items) same x)))
+            (λ out x. by.2 out.items (subst (λ xs. IsExpanded stack via.register via.save xs out.items) c.as_slice-list.ensures
+            (subst (λ f. IsExpanded (λ p b. goal.IsStackAlloc-post g f p b) via.register via.save c.as_slice-list.result.now out.items) same x)))
             (λ fault memory slot. let no : Memory ≡ NoSlot = sym memory ∙ slot in absurd cc);
         plain = λ f a. absurd (some (subst (λ xs. AreApartInMemory stack xs) (sym (ch.plain f)) a));
       };

@@ -12,15 +12,15 @@ use Rattle.regalloc2_parts.proofs.moves.scratch.MoveAndScratchResolver.expand.Go
 
 pub loop-m-init : goal.loop-m-init
 loop-m-init g c = record {
-  follows = follows_none c.args.way.now.register c.args.way.now.save c.args.first c.args.moves.now c.new-out.result.items c.requires.can.first
+  follows = follows_none c.args.via.now.register c.args.via.now.save c.args.first c.args.moves.now c.new-out.result.items c.requires.can.first
       c.requires.can.fits c.new-out.ensures.items;
-  made = subst (λ xs. All (IsMade (λ p b. goal.IsStackAlloc-post g c.args.self.now.is_stack_alloc p b) c.args.way.now.register c.args.way.now.save
+  made = subst (λ xs. All (IsMade (λ p b. goal.IsStackAlloc-post g c.args.self.now.is_stack_alloc p b) c.args.via.now.register c.args.via.now.save
       c.args.moves.now) xs) (sym c.new-out.ensures.items) (All-nil _);
 }
 
 pub make-requires : goal.make-requires
 make-requires g c =
-    let s = c.args.way.now.save in
+    let s = c.args.via.now.save in
     let m = c.m-item.result in
     let inside : Contains c.args.moves.now m =
     read_in c.args.moves.now c.loop-m.m-index m c.loop-m-test.true c.m-item.is in
@@ -39,8 +39,8 @@ make-requires g c =
 
 pub loop-m-preserved : goal.loop-m-preserved
 loop-m-preserved g c =
-    let r = c.args.way.now.register in
-    let s = c.args.way.now.save in
+    let r = c.args.via.now.register in
+    let s = c.args.via.now.save in
     let ms = c.args.moves.now in
     let m = c.m-item.result in
     let stack : Place → Bool → Type 0 = λ p b. goal.IsStackAlloc-post g c.args.self.now.is_stack_alloc p b in
@@ -70,8 +70,8 @@ returns-in_err-_held g c =
 
 pub returns : goal.returns
 returns g c =
-    let r = c.args.way.now.register in
-    let s = c.args.way.now.save in
+    let r = c.args.via.now.register in
+    let s = c.args.via.now.save in
     let ms = c.args.moves.now in
     let stack : Place → Bool → Type 0 = λ p b. goal.IsStackAlloc-post g c.args.self.now.is_stack_alloc p b in
     let many : length (ends_of ms) ≡ length ms = length_ends ms in

@@ -5,6 +5,6 @@ use Rattle.regalloc2_parts.proofs.moves.scratch.MoveAndScratchResolver.expand.Gi
 
 abbrev pub invariant-loop-m : goal.invariant-loop-m
 invariant-loop-m g l = record {
-  follows : Follows l.way.register l.way.save l.held l.moves l.out.items l.m-index;
-  made : All (IsMade (λ p b. goal.IsStackAlloc-post g l.self.is_stack_alloc p b) l.way.register l.way.save l.moves) l.out.items;
+  follows : Follows l.via.register l.via.save l.held l.moves l.out.items l.m-index;
+  made : All (IsMade (λ p b. goal.IsStackAlloc-post g l.self.is_stack_alloc p b) l.via.register l.via.save l.moves) l.out.items;
 }

@@ -1,0 +1,122 @@
+//! The System V calling convention of x86-64, as far as arguments go, and places as assembly.
+
+ghost use Rattle.std.specs.Prelude.{◌≤◌};
+
+use regalloc2_names::{Allocation, PReg, RegClass, SpillSlot};
+use std::fmt;
+
+/// The names of the general registers, by their numbers in machine code.
+const INT_NAMES: [&str; 16] = [
+    "rax", "rcx", "rdx", "rbx", "rsp", "rbp", "rsi", "rdi", "r8", "r9", "r10", "r11", "r12", "r13",
+    "r14", "r15",
+];
+
+/// The general register of that number.
+pub fn int(number: usize) -> PReg
+    requires { number ≤ 15 }
+{
+    PReg::new(number, RegClass::Int)
+}
+
+/// The float register of that number.
+pub fn xmm(number: usize) -> PReg
+    requires { number ≤ 15 }
+{
+    PReg::new(number, RegClass::Float)
+}
+
+/// The slot of that number.
+pub fn slot(number: u8) -> Allocation {
+    Allocation::stack(SpillSlot::new(usize::from(number)))
+}
+
+/// The register of an integer argument, if so many came before it.
+fn int_param(before: u8) -> Option<PReg> {
+    match before {
+        0 => Some(int(7)),
+        1 => Some(int(6)),
+        2 => Some(int(2)),
+        3 => Some(int(1)),
+        4 => Some(int(8)),
+        5 => Some(int(9)),
+        _ => None,
+    }
+}
+
+/// The register of a float argument, if so many came before it.
+fn float_param(before: u8) -> Option<PReg> {
+    if before < 8 {
+        Some(xmm(usize::from(before)))
+    } else {
+        None
+    }
+}
+
+/// How many arguments have been given their places, by class, and how many of them in slots.
+#[derive(Drop)]
+pub struct Convention {
+    ints: u8,
+    floats: u8,
+    slots: u8,
+}
+
+impl Convention {
+    /// None yet.
+    pub fn new() -> Convention {
+        Convention {
+            ints: 0,
+            floats: 0,
+            slots: 0,
+        }
+    }
+
+    /// The register of the next argument, which has that class, if there is one left.
+    fn next_register(&mut self, class: RegClass) -> Option<PReg> {
+        if class == RegClass::Int {
+            let before = self.ints;
+            self.ints = before.saturating_add(1);
+            int_param(before)
+        } else {
+            let before = self.floats;
+            self.floats = before.saturating_add(1);
+            float_param(before)
+        }
+    }
+
+    /// The place of the next argument, which has that class.
+    pub fn next(&mut self, class: RegClass) -> Allocation {
+        match self.next_register(class) {
+            Some(preg) => Allocation::reg(preg),
+            None => {
+                let before = self.slots;
+                self.slots = before.saturating_add(1);
+                slot(before)
+            }
+        }
+    }
+}
+
+/// A place as an operand in assembly.
+#[derive(Clone, Copy)]
+pub struct Assembly(pub Allocation);
+
+/// As `rdi`, `xmm0`, `[rsp]` or `[rsp + 8]`; `nowhere` if there is no place.
+impl fmt::Display for Assembly {
+    fn fmt<W: fmt::Write>(&self, f: &mut fmt::Formatter<W>) -> fmt::Result {
+        if let Some(preg) = self.0.as_reg() {
+            let number = preg.hw_enc();
+            return match INT_NAMES.get(number) {
+                Some(name) if preg.class() == RegClass::Int => write!(f, "{name}"),
+                _ => write!(f, "xmm{number}"),
+            };
+        }
+        match self.0.as_stack() {
+            Some(slot) if slot.index() > 0 => {
+                let bytes = 8 * slot.index();
+                write!(f, "[rsp + {bytes}]")
+            }
+            Some(_) => write!(f, "[rsp]"),
+            None => write!(f, "nowhere"),
+        }
+    }
+}

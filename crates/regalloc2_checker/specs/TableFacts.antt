@@ -1,0 +1,76 @@
+-- Facts that tables keep: places and virtual registers are looked up by their bits.
+use Rattle.std.specs.Prelude.{ℕ, ◌≡◌, ◌≢◌, ◌<◌, ◌≤◌, Bool, true, false, ◌&&◌, nat_eq, nat_lt, List, All, Contains, Option, None, Some, length}
+use Rattle.std.specs.List.{position}
+use Rattle.regalloc2_names.specs.Register.{VirtualRegister}
+use Rattle.regalloc2_names.specs.RegisterBits.{bits_of_vreg}
+use Rattle.regalloc2_names.specs.Operand.{OperandValue}
+use Rattle.regalloc2_names.specs.Place.{Place, NoPlace, is_place}
+use Rattle.regalloc2_names.specs.PlaceBits.{bits_of_place, place_of_bits}
+use Rattle.regalloc2_function.specs.FunctionValue.{FunctionValue, block_at, inst_at}
+use Rattle.regalloc2_function.specs.OutputValue.{OutputValue, MoveValue, allocs_of}
+use Rattle.regalloc2_function.specs.SourceRun.{arguments_at}
+use Rattle.regalloc2_function.specs.AllocatedRun.{moves_at}
+use Rattle.regalloc2_checker_tables.specs.Holding.{Holding, holds_now, holds_in}
+use Rattle.regalloc2_checker.specs.Facts.{Facts}
+
+-- a place that a packed name can have
+abbrev pub is_packed : Place → Bool
+is_packed p = is_place (place_of_bits (bits_of_place p)) p
+
+-- a virtual register that a packed name can have
+abbrev pub is_packed_vreg : VirtualRegister → Bool
+is_packed_vreg v = nat_lt v.number 1073741824
+
+-- where a place is listed
+abbrev pub place_in : List ℕ → Place → Option ℕ
+place_in places p = position (λ n. nat_eq n (bits_of_place p)) places
+
+-- where a virtual register is listed
+abbrev pub vreg_in : List ℕ → VirtualRegister → Option ℕ
+vreg_in vregs v = position (λ n. nat_eq n (bits_of_vreg v)) vregs
+
+-- what is held at a position, if there is one
+abbrev pub held_at : Option ℕ → (ℕ → ℕ → Bool) → ℕ → Bool
+held_at None has y = false
+held_at (Some i) has y = has i y
+
+-- the facts of what listed places have at their positions
+unfoldable pub facts_in : List ℕ → (ℕ → ℕ → Bool) → Facts
+facts_in places has p v = is_packed p && (is_packed_vreg v && held_at (place_in places p) has (bits_of_vreg v))
+
+-- the facts of the table that is worked on, and of one by number
+abbrev pub facts_now : Holding → Facts
+facts_now t = facts_in t.places (holds_now t)
+
+abbrev pub facts_table : Holding → ℕ → Facts
+facts_table t k = facts_in t.places (holds_in t k)
+
+-- no missing place is listed
+abbrev pub IsMissingUnlisted : List ℕ → Type 0
+IsMissingUnlisted places = Contains places 0 → ⊥
+
+-- a place is listed, unless it is missing
+abbrev pub IsListed : List ℕ → Place → Type 0
+IsListed places p = p ≢ NoPlace → Contains places (bits_of_place p)
+
+-- a virtual register is listed
+abbrev pub IsListedVReg : List ℕ → VirtualRegister → Type 0
+IsListedVReg vregs v = Contains vregs (bits_of_vreg v)
+
+-- a list names the places that an output's moves fill and its operands have
+pub record AreNamedPlaces (f : FunctionValue) (o : OutputValue) (places : List ℕ) : Type 0 where
+  pub missing : IsMissingUnlisted places
+  pub moves : (b i : ℕ) → b < length f.blocks → (block_at f b).range.first ≤ i → i < (block_at f b).range.end →
+      All (λ m. IsListed places m.to) (moves_at f o (record { block = b; inst = i }))
+  pub operands : (i : ℕ) → i < length f.insts → All (IsListed places) (allocs_of o i)
+
+-- a list names the virtual registers of a function's operands, parameters and arguments
+pub record AreNamedVRegs (f : FunctionValue) (vregs : List ℕ) : Type 0 where
+  pub operands : (i : ℕ) → i < length f.insts → All (λ op. IsListedVReg vregs op.vreg) (inst_at f i).operands
+  pub params : (b : ℕ) → b < length f.blocks → All (IsListedVReg vregs) (block_at f b).params
+  pub arguments : (b k : ℕ) → b < length f.blocks → k < length (block_at f b).succs → All (IsListedVReg vregs) (arguments_at f b k)
+
+-- tables list all of these
+pub record AreNamed (f : FunctionValue) (o : OutputValue) (t : Holding) : Type 0 where
+  pub places : AreNamedPlaces f o t.places
+  pub vregs : AreNamedVRegs f t.vregs

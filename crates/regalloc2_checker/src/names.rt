@@ -1,0 +1,216 @@
+//! The places and virtual registers that a walk over an output may fill or write.
+
+ghost use Rattle.std.specs.Prelude.{◌≡◌, ◌<◌, ℕ, OnOk, IfOk, All, map, length};
+ghost use Rattle.regalloc2_function.specs.FunctionValue.{block_at, inst_at};
+ghost use Rattle.regalloc2_function.specs.OutputValue.{OutputValue};
+ghost use Rattle.regalloc2_function.specs.SourceRun.{arguments_at};
+ghost use Rattle.regalloc2_function.specs.Views.{move_of};
+ghost use Rattle.regalloc2_function.specs.WellFormed.{IsFramed};
+ghost use Rattle.regalloc2_checker.specs.Listing.{IsListing};
+ghost use Rattle.regalloc2_checker.specs.NamedBits.{IsMore, AreAdded, IsNamedIn};
+ghost use Rattle.regalloc2_checker.specs.TableFacts.{IsListed, IsListedVReg, AreNamedPlaces, AreNamedVRegs};
+
+use crate::listing::Listed;
+use regalloc2_checker_tables::Positions;
+use regalloc2_function::{Edit, Function};
+use regalloc2_index::{Block, Inst};
+use regalloc2_names::{Allocation, Operand, PRegSet, VReg};
+use std::alloc::{AllocError, Allocator};
+
+/// Lists a place, unless it is missing.
+fn list_place<A: Allocator>(bits: &mut Vec<u32, A>, place: Allocation) -> Result<(), AllocError>
+    ensures added { OnOk result (AreAdded bits.old.items bits.new.items) }
+    ensures listed { OnOk result (IsListed bits.new.items place) }
+{
+    if place.is_none() {
+        return Ok(());
+    }
+    bits.push(place.bits())?;
+    Ok(())
+}
+
+/// Lists the places of moves.
+fn list_moves<A: Allocator>(bits: &mut Vec<u32, A>, moves: &[Edit]) -> Result<(), AllocError>
+    ensures added { OnOk result (AreAdded bits.old.items bits.new.items) }
+    ensures listed { OnOk result (All (λ m. IsListed bits.new.items m.to) (map move_of moves.now)) }
+{
+    for k in 0..moves.len() {
+        let (from, to) = moves[k].places();
+        list_place(bits, from)?;
+        list_place(bits, to)?;
+    }
+    Ok(())
+}
+
+/// Lists an instruction's places.
+fn list_places<A: Allocator>(
+    bits: &mut Vec<u32, A>,
+    places: &[Allocation],
+) -> Result<(), AllocError>
+    ensures added { OnOk result (AreAdded bits.old.items bits.new.items) }
+    ensures listed { OnOk result (All (IsListed bits.new.items) places.now) }
+{
+    for k in 0..places.len() {
+        list_place(bits, places[k])?;
+    }
+    Ok(())
+}
+
+/// Lists the places of an instruction and of the moves before it.
+fn list_listed<A: Allocator>(bits: &mut Vec<u32, A>, listed: &Listed<A>) -> Result<(), AllocError>
+    ensures added { OnOk result (AreAdded bits.old.items bits.new.items) }
+    ensures named { OnOk result (IsNamedIn bits.new.items listed.now) }
+{
+    list_moves(bits, &listed.moves)?;
+    list_places(bits, &listed.places)?;
+    Ok(())
+}
+
+/// Lists clobbered registers.
+fn list_clobbers<A: Allocator>(bits: &mut Vec<u32, A>, clobbers: PRegSet) -> Result<(), AllocError>
+    ensures { OnOk result (AreAdded bits.old.items bits.new.items) }
+{
+    for reg in clobbers {
+        list_place(bits, Allocation::reg(reg))?;
+    }
+    Ok(())
+}
+
+/// The places that an output and the clobbers name.
+pub fn named_places<F: Function, A: Allocator + Copy>(
+    alloc: A,
+    f: &F,
+    listing: &[Listed<A>],
+) -> Result<Positions<A>, AllocError>
+    ghost o: { OutputValue }
+    requires listing { IsListing (F.function f.now) o listing.now }
+    requires framed { IsFramed (F.function f.now) }
+    ensures { IfOk result (λ r. AreNamedPlaces (F.function f.now) o r) }
+{
+    let mut bits = Vec::new(alloc);
+    let mut clobbers = PRegSet::empty();
+    for i in 0..f.num_insts() {
+        list_listed(&mut bits, &listing[i])?;
+        clobbers.union_from(f.inst_clobbers(Inst::new(i)));
+    }
+    list_clobbers(&mut bits, clobbers)?;
+    Ok(Positions::of(bits))
+}
+
+/// Lists a virtual register.
+fn list_vreg<A: Allocator>(bits: &mut Vec<u32, A>, vreg: VReg) -> Result<(), AllocError>
+    ensures more { OnOk result (IsMore bits.old.items bits.new.items) }
+    ensures listed { OnOk result (IsListedVReg bits.new.items vreg) }
+{
+    bits.push(vreg.bits() as u32)?;
+    Ok(())
+}
+
+/// Lists the virtual registers of operands.
+fn list_operands<A: Allocator>(
+    bits: &mut Vec<u32, A>,
+    operands: &[Operand],
+) -> Result<(), AllocError>
+    ensures more { OnOk result (IsMore bits.old.items bits.new.items) }
+    ensures listed { OnOk result (All (λ op. IsListedVReg bits.new.items op.vreg) operands.now) }
+{
+    for k in 0..operands.len() {
+        list_vreg(bits, operands[k].vreg())?;
+    }
+    Ok(())
+}
+
+/// Lists virtual registers.
+fn list_vregs<A: Allocator>(bits: &mut Vec<u32, A>, vregs: &[VReg]) -> Result<(), AllocError>
+    ensures more { OnOk result (IsMore bits.old.items bits.new.items) }
+    ensures listed { OnOk result (All (IsListedVReg bits.new.items) vregs.now) }
+{
+    for k in 0..vregs.len() {
+        list_vreg(bits, vregs[k])?;
+    }
+    Ok(())
+}
+
+/// Lists the virtual registers of all operands.
+fn list_inst_vregs<F: Function, A: Allocator>(
+    bits: &mut Vec<u32, A>,
+    f: &F,
+) -> Result<(), AllocError>
+    ensures more { OnOk result (IsMore bits.old.items bits.new.items) }
+    ensures listed { OnOk result ((i : ℕ) → i < length (F.function f.now).insts
+        → All (λ op. IsListedVReg bits.new.items op.vreg) (inst_at (F.function f.now) i).operands) }
+{
+    for i in 0..f.num_insts() {
+        list_operands(bits, f.inst_operands(Inst::new(i)))?;
+    }
+    Ok(())
+}
+
+/// Lists what a block passes over its edges.
+fn list_arguments<F: Function, A: Allocator>(
+    bits: &mut Vec<u32, A>,
+    f: &F,
+    block: Block,
+) -> Result<(), AllocError>
+    requires framed { IsFramed (F.function f.now) }
+    requires block { block < length (F.function f.now).blocks }
+    ensures more { OnOk result (IsMore bits.old.items bits.new.items) }
+    ensures listed { OnOk result ((k : ℕ) → k < length (block_at (F.function f.now) block).succs
+        → All (IsListedVReg bits.new.items) (arguments_at (F.function f.now) block k)) }
+{
+    let last = f.block_insns(block).last();
+    for k in 0..f.block_succs(block).len() {
+        list_vregs(bits, f.branch_blockparams(block, last, k))?;
+    }
+    Ok(())
+}
+
+/// Lists a block's parameters, and what it passes over its edges.
+fn list_block_vregs<F: Function, A: Allocator>(
+    bits: &mut Vec<u32, A>,
+    f: &F,
+    block: Block,
+) -> Result<(), AllocError>
+    requires framed { IsFramed (F.function f.now) }
+    requires block { block < length (F.function f.now).blocks }
+    ensures more { OnOk result (IsMore bits.old.items bits.new.items) }
+    ensures params { OnOk result (All (IsListedVReg bits.new.items) (block_at (F.function f.now) block).params) }
+    ensures arguments { OnOk result ((k : ℕ) → k < length (block_at (F.function f.now) block).succs
+        → All (IsListedVReg bits.new.items) (arguments_at (F.function f.now) block k)) }
+{
+    list_vregs(bits, f.block_params(block))?;
+    list_arguments(bits, f, block)?;
+    Ok(())
+}
+
+/// Lists the parameters of all blocks, and what they pass over their edges.
+fn list_all_blocks<F: Function, A: Allocator>(
+    bits: &mut Vec<u32, A>,
+    f: &F,
+) -> Result<(), AllocError>
+    requires { IsFramed (F.function f.now) }
+    ensures more { OnOk result (IsMore bits.old.items bits.new.items) }
+    ensures params { OnOk result ((b : ℕ) → b < length (F.function f.now).blocks
+        → All (IsListedVReg bits.new.items) (block_at (F.function f.now) b).params) }
+    ensures arguments { OnOk result ((b k : ℕ) → b < length (F.function f.now).blocks → k < length (block_at (F.function f.now) b).succs
+        → All (IsListedVReg bits.new.items) (arguments_at (F.function f.now) b k)) }
+{
+    for b in 0..f.num_blocks() {
+        list_block_vregs(bits, f, Block::new(b))?;
+    }
+    Ok(())
+}
+
+/// The virtual registers of a function's operands, parameters and arguments.
+pub fn named_vregs<F: Function, A: Allocator + Copy>(
+    alloc: A,
+    f: &F,
+) -> Result<Positions<A>, AllocError>
+    requires { IsFramed (F.function f.now) }
+    ensures { IfOk result (λ r. AreNamedVRegs (F.function f.now) r) }
+{
+    let mut bits = Vec::new(alloc);
+    list_inst_vregs(&mut bits, f)?;
+    list_all_blocks(&mut bits, f)?;
+    Ok(Positions::of(bits))
+}

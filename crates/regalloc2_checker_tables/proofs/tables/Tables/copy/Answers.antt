@@ -1,0 +1,118 @@
+use Rattle.std.proofs.Common.{ℕ, ◌≡◌, ◌<◌, ◌+◌, List, [], ◌∷◌, ◌++◌, length, get_or, arith, true, false, ap, sym, ◌∙◌, refl, subst, cond, nat_eq, nat_lt}
+use Rattle.std.specs.Prelude.{◌&&◌, ◌||◌, if◌then◌else◌, slice_set}
+use Rattle.regalloc2_cfg.specs.Numbers.{NumberSet, has_number}
+use Rattle.regalloc2_checker_tables.specs.SavedCopies.{Copies, saved_at, cell_at}
+use Rattle.regalloc2_checker_tables.specs.EntrySets.{is_member}
+use Rattle.regalloc2_checker_tables.specs.Holding.{Holding, held, holds_now, holds_in, IsHome, AreTables, AreKeptTables, HoldsNow, count_of, is_in}
+use Rattle.regalloc2_checker_tables.proofs.Bits.{read-is, same-sets, ok-as}
+use Rattle.regalloc2_checker_tables.proofs.Holders.{homes-same, homes-more, home-here, dropped-less}
+use Rattle.regalloc2_checker_tables.proofs.TableLaws.{more-all, put-all, clear-all, drop-all, drop-kept, drop-now, less_either, on_ok_as, kept_then, load-all}
+use Rattle.regalloc2_checker_tables.proofs.TableLaws.{get-below, listed-times, put-home, homes-kept-at, set-as, kept_same, holders-are, IsChanged}
+use Rattle.regalloc2_checker_tables.proofs.tables.Tables.copy.Goals as goal
+
+pub members-requires : goal.members-requires
+members-requires g c =
+    let old : Holding = record {
+      places = c.self.inside.places;
+      vregs = c.self.inside.vregs;
+      entries = c.self.inside.entries;
+      sets = c.self.inside.sets;
+      homes = c.self.inside.homes.items;
+    } in
+    get-below old c.args.from c.get-set.result c.self.invariant (subst (λ (o : Holding). c.args.from < length o.places) (sym c.self.view_is) c.requires.from)
+    c.get-set.ensures
+
+pub returns-in_err-members-clause-kept : goal.returns-in_err-members-clause-kept
+returns-in_err-members-clause-kept g c = kept_same c.args.self.now
+
+pub note_all-requires-clause-place : goal.note_all-requires-clause-place
+note_all-requires-clause-place g c =
+    let less : c.args.to < length c.self.inside.places = subst (λ (o : Holding). c.args.to < length o.places) (sym c.self.view_is) c.requires.to in
+    omega (arith, less, c.self.invariant.few)
+
+pub invariant_of-self : goal.invariant_of-self
+invariant_of-self g c =
+    let old : Holding = record {
+      places = c.self.inside.places;
+      vregs = c.self.inside.vregs;
+      entries = c.self.inside.entries;
+      sets = c.self.inside.sets;
+      homes = c.self.inside.homes.items;
+    } in
+    (more-all old c.self.inside.sets c.note_all.new.homes.items c.self.invariant (same-sets c.self.inside.sets c.self.inside.sets refl)
+    c.in_err-note_all.ensures.more).tables
+
+pub returns-in_err-note_all-clause-kept : goal.returns-in_err-note_all-clause-kept
+returns-in_err-note_all-clause-kept g c =
+    let old : Holding = record {
+      places = c.self.inside.places;
+      vregs = c.self.inside.vregs;
+      entries = c.self.inside.entries;
+      sets = c.self.inside.sets;
+      homes = c.self.inside.homes.items;
+    } in
+    subst (λ (o : Holding). AreKeptTables o (record old { homes = c.note_all.new.homes.items })) c.self.view_is
+    (more-all old c.self.inside.sets c.note_all.new.homes.items c.self.invariant (same-sets c.self.inside.sets c.self.inside.sets refl)
+    c.in_err-note_all.ensures.more).kept
+
+pub set-requires : goal.set-requires
+set-requires g c =
+    let less : c.args.to < length c.self.inside.places = subst (λ (o : Holding). c.args.to < length o.places) (sym c.self.view_is) c.requires.to in
+    omega (arith, less, c.self.invariant.long)
+
+pub get-set-requires : goal.get-set-requires
+get-set-requires g c =
+    let less : c.args.from < length c.self.inside.places = subst (λ (o : Holding). c.args.from < length o.places) (sym c.self.view_is) c.requires.from in
+    omega (arith, less, c.self.invariant.long)
+
+pub invariant_of-self-2 : goal.invariant_of-self-2
+invariant_of-self-2 g c =
+    let old : Holding = record {
+      places = c.self.inside.places;
+      vregs = c.self.inside.vregs;
+      entries = c.self.inside.entries;
+      sets = c.self.inside.sets;
+      homes = c.self.inside.homes.items;
+    } in
+    (put-all old c.note_all.new.homes.items c.args.to c.get-set.result c.set.new.self c.self.invariant
+    (subst (λ (o : Holding). c.args.to < length o.places) (sym c.self.view_is) c.requires.to)
+    (get-below old c.args.from c.get-set.result c.self.invariant (subst (λ (o : Holding). c.args.from < length o.places) (sym c.self.view_is) c.requires.from)
+    c.get-set.ensures) c.in_ok-note_all.ensures.more
+    (λ y is. c.in_ok-note_all.ensures.noted y (listed-times (is_member c.self.inside.sets c.get-set.result) c.in_ok-members.members.items c.deref.result.now
+    c.deref.ensures.value c.in_ok-members.ensures y is)) c.set.ensures).tables
+
+pub returns-clause-kept : goal.returns-clause-kept
+returns-clause-kept g c =
+    let old : Holding = record {
+      places = c.self.inside.places;
+      vregs = c.self.inside.vregs;
+      entries = c.self.inside.entries;
+      sets = c.self.inside.sets;
+      homes = c.self.inside.homes.items;
+    } in
+    subst (λ (o : Holding). AreKeptTables o (record old { entries = c.set.new.self; homes = c.note_all.new.homes.items })) c.self.view_is
+    (put-all old c.note_all.new.homes.items c.args.to c.get-set.result c.set.new.self c.self.invariant
+    (subst (λ (o : Holding). c.args.to < length o.places) (sym c.self.view_is) c.requires.to)
+    (get-below old c.args.from c.get-set.result c.self.invariant (subst (λ (o : Holding). c.args.from < length o.places) (sym c.self.view_is) c.requires.from)
+    c.get-set.ensures) c.in_ok-note_all.ensures.more
+    (λ y is. c.in_ok-note_all.ensures.noted y (listed-times (is_member c.self.inside.sets c.get-set.result) c.in_ok-members.members.items c.deref.result.now
+    c.deref.ensures.value c.in_ok-members.ensures y is)) c.set.ensures).kept
+
+pub returns-clause-now : goal.returns-clause-now
+returns-clause-now g c =
+    let old : Holding = record {
+      places = c.self.inside.places;
+      vregs = c.self.inside.vregs;
+      entries = c.self.inside.entries;
+      sets = c.self.inside.sets;
+      homes = c.self.inside.homes.items;
+    } in
+    let p = put-all old c.note_all.new.homes.items c.args.to c.get-set.result c.set.new.self c.self.invariant
+    (subst (λ (o : Holding). c.args.to < length o.places) (sym c.self.view_is) c.requires.to)
+    (get-below old c.args.from c.get-set.result c.self.invariant (subst (λ (o : Holding). c.args.from < length o.places) (sym c.self.view_is) c.requires.from)
+    c.get-set.ensures) c.in_ok-note_all.ensures.more
+    (λ y is. c.in_ok-note_all.ensures.noted y (listed-times (is_member c.self.inside.sets c.get-set.result) c.in_ok-members.members.items c.deref.result.now
+    c.deref.ensures.value c.in_ok-members.ensures y is)) c.set.ensures in
+    subst (λ (o : Holding). HoldsNow (record old { entries = c.set.new.self; homes = c.note_all.new.homes.items })
+    (λ i y. if nat_eq i c.args.to then holds_now o c.args.from y else holds_now o i y)) c.self.view_is
+    (λ i y l. p.now i y l ∙ ap (λ n. if nat_eq i c.args.to then is_member c.self.inside.sets n y else holds_now old i y) c.get-set.ensures)

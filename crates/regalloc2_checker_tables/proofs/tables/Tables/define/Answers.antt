@@ -1,0 +1,40 @@
+use Rattle.std.proofs.Common.{ℕ, ◌≡◌, ◌<◌, ◌+◌, List, [], ◌∷◌, ◌++◌, length, get_or, take, arith, true, false, ap, sym, ◌∙◌, refl, subst, cond, nat_eq, nat_lt}
+use Rattle.std.specs.Prelude.{◌&&◌, ◌||◌, if◌then◌else◌, slice_set}
+use Rattle.regalloc2_cfg.specs.Numbers.{NumberSet, has_number}
+use Rattle.regalloc2_checker_tables.specs.SavedCopies.{Copies, saved_at, cell_at}
+use Rattle.regalloc2_checker_tables.specs.EntrySets.{is_member}
+use Rattle.regalloc2_checker_tables.specs.Holding.{Holding, held, holds_now, holds_in, IsHome, AreTables, AreKeptTables, HoldsNow, count_of, is_in}
+use Rattle.regalloc2_checker_tables.proofs.Bits.{read-is, same-sets, ok-as}
+use Rattle.regalloc2_checker_tables.proofs.Holders.{homes-same, homes-more, home-here, dropped-less}
+use Rattle.regalloc2_checker_tables.proofs.TableLaws.{more-all, put-all, clear-all, drop-all, drop-kept, drop-now, less_either, on_ok_as, kept_then, load-all}
+use Rattle.regalloc2_checker_tables.proofs.TableLaws.{define-now, define-members, add-now, add-members, give-none, give-more, is_in-at, save-all, save-in}
+use Rattle.regalloc2_checker_tables.proofs.TableLaws.{get-below, listed-times, put-home, homes-kept-at, set-as, kept_same, holders-are, IsChanged}
+use Rattle.regalloc2_checker_tables.proofs.tables.Tables.define.Goals as goal
+
+pub returns-in_err-set-clause-kept : goal.returns-in_err-set-clause-kept
+returns-in_err-set-clause-kept g c = kept_then c.args.self.now c.forget.new.self c.single.new.self c.in_ok-forget.ensures.kept c.in_err-set.ensures.kept
+
+pub put-requires-clause-place : goal.put-requires-clause-place
+put-requires-clause-place g c =
+    let k = kept_then c.args.self.now c.forget.new.self c.single.new.self c.in_ok-forget.ensures.kept c.in_ok-set.ensures.kept in
+    subst (λ (ps : List ℕ). c.args.place < length ps) (sym k.places) c.requires.place
+
+pub put-requires-clause-vreg : goal.put-requires-clause-vreg
+put-requires-clause-vreg g c =
+    let k = kept_then c.args.self.now c.forget.new.self c.single.new.self c.in_ok-forget.ensures.kept c.in_ok-set.ensures.kept in
+    subst (λ (ps : List ℕ). c.args.vreg < length ps) (sym k.vregs) c.requires.vreg
+
+pub put-requires-clause-members : goal.put-requires-clause-members
+put-requires-clause-members g c =
+    define-members c.forget.new.self c.single.new.self c.args.place c.args.vreg c.in_ok-set.set c.in_ok-set.ensures.kept c.in_ok-set.ensures.set
+
+pub returns-clause-kept : goal.returns-clause-kept
+returns-clause-kept g c =
+    kept_then c.args.self.now c.single.new.self c.put.new.self
+    (kept_then c.args.self.now c.forget.new.self c.single.new.self c.in_ok-forget.ensures.kept c.in_ok-set.ensures.kept) c.put.ensures.kept
+
+pub returns-clause-now : goal.returns-clause-now
+returns-clause-now g c =
+    on_ok_as _ _ c.put.result
+    (define-now c.args.self.now c.forget.new.self c.single.new.self c.put.new.self c.args.place c.args.vreg c.in_ok-set.set c.in_ok-forget.ensures.kept
+    c.in_ok-set.ensures.kept c.put.ensures.kept c.in_ok-forget.ensures.now c.in_ok-set.ensures.now c.in_ok-set.ensures.set) c.put.ensures.now

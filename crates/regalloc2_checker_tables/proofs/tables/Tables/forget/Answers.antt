@@ -1,0 +1,62 @@
+use Rattle.std.proofs.Common.{ℕ, ◌≡◌, ◌<◌, ◌+◌, List, [], ◌∷◌, ◌++◌, length, get_or, arith, true, false, ap, sym, ◌∙◌, refl, subst, cond, nat_eq, nat_lt}
+use Rattle.std.specs.Prelude.{◌&&◌, ◌||◌, if◌then◌else◌, slice_set}
+use Rattle.regalloc2_cfg.specs.Numbers.{NumberSet, has_number}
+use Rattle.regalloc2_checker_tables.specs.SavedCopies.{Copies, saved_at, cell_at}
+use Rattle.regalloc2_checker_tables.specs.EntrySets.{is_member}
+use Rattle.regalloc2_checker_tables.specs.Holding.{Holding, held, holds_now, holds_in, IsHome, AreTables, AreKeptTables, HoldsNow, count_of, is_in}
+use Rattle.regalloc2_checker_tables.proofs.Bits.{read-is, same-sets, ok-as}
+use Rattle.regalloc2_checker_tables.proofs.Holders.{homes-same, homes-more, home-here, dropped-less}
+use Rattle.regalloc2_checker_tables.proofs.TableLaws.{more-all, put-all, clear-all, drop-all, drop-kept, drop-now, less_either, on_ok_as, kept_then, load-all}
+use Rattle.regalloc2_checker_tables.proofs.TableLaws.{get-below, listed-times, put-home, homes-kept-at, set-as, kept_same, holders-are, IsChanged}
+use Rattle.regalloc2_checker_tables.proofs.tables.Tables.forget.Goals as goal
+
+pub drop_everywhere-requires : goal.drop_everywhere-requires
+drop_everywhere-requires g c = c.self.invariant.now.below
+
+pub invariant_of-self : goal.invariant_of-self
+invariant_of-self g c =
+    let old : Holding = record {
+      places = c.self.inside.places;
+      vregs = c.self.inside.vregs;
+      entries = c.self.inside.entries;
+      sets = c.self.inside.sets;
+      homes = c.self.inside.homes.items;
+    } in
+    drop-all old c.drop_everywhere.new.sets c.drop_everywhere.new.entries c.self.invariant c.drop_everywhere.ensures.still
+    (less_either _ _ ((i y : ℕ) → i < length c.self.inside.entries.cells → held c.drop_everywhere.new.sets c.drop_everywhere.new.entries i y ≡ true →
+    holds_now old i y ≡ true) c.drop_everywhere.result
+    (λ ok. dropped-less (held c.self.inside.sets c.self.inside.entries) (held c.drop_everywhere.new.sets c.drop_everywhere.new.entries)
+    (λ i. has_number c.index.result.now i) c.number-bits.result (length c.self.inside.entries.cells) ok)
+    (λ err. err) c.drop_everywhere.ensures.ok c.drop_everywhere.ensures.err)
+
+pub returns-clause-kept : goal.returns-clause-kept
+returns-clause-kept g c =
+    let old : Holding = record {
+      places = c.self.inside.places;
+      vregs = c.self.inside.vregs;
+      entries = c.self.inside.entries;
+      sets = c.self.inside.sets;
+      homes = c.self.inside.homes.items;
+    } in
+    subst (λ (o : Holding). AreKeptTables o (record old { entries = c.drop_everywhere.new.entries; sets = c.drop_everywhere.new.sets })) c.self.view_is
+    (drop-kept old c.drop_everywhere.new.sets c.drop_everywhere.new.entries c.self.invariant c.drop_everywhere.ensures.still)
+
+pub returns-clause-now : goal.returns-clause-now
+returns-clause-now g c =
+    let old : Holding = record {
+      places = c.self.inside.places;
+      vregs = c.self.inside.vregs;
+      entries = c.self.inside.entries;
+      sets = c.self.inside.sets;
+      homes = c.self.inside.homes.items;
+    } in
+    let lv : c.args.vreg < length c.self.inside.vregs = subst (λ (o : Holding). c.args.vreg < length o.vregs) (sym c.self.view_is) c.requires in
+    let lh : c.args.vreg < length c.self.inside.homes.items = omega (arith, lv, c.self.invariant.homes_long) in
+    let had = read-is c.self.inside.homes.items c.self.inside.homes.items c.args.vreg c.index.result.now [] refl lh c.index.ensures in
+    on_ok_as _ _ c.drop_everywhere.result
+    (λ ok. subst (λ (o : Holding). HoldsNow (record old { entries = c.drop_everywhere.new.entries; sets = c.drop_everywhere.new.sets })
+    (λ i y. if nat_eq y (get_or o.vregs c.args.vreg 0) then false else holds_now o i y)) c.self.view_is
+    (drop-now old c.drop_everywhere.new.sets c.drop_everywhere.new.entries c.args.vreg c.self.invariant lv
+    (λ i y l. ok i y l ∙ ap (λ (s : NumberSet). if has_number s i && nat_eq y c.number-bits.result then false else holds_now old i y) had
+    ∙ ap (λ n. if has_number (get_or c.self.inside.homes.items c.args.vreg []) i && nat_eq y n then false else holds_now old i y) c.number-bits.ensures)))
+    c.drop_everywhere.ensures.ok

@@ -1,0 +1,39 @@
+use Rattle.std.proofs.Common.{ℕ, ◌≡◌, ◌<◌, ◌+◌, List, [], ◌∷◌, ◌++◌, length, get_or, take, arith, true, false, ap, sym, ◌∙◌, refl, subst, cond, nat_eq, nat_lt}
+use Rattle.std.specs.Prelude.{◌&&◌, ◌||◌, if◌then◌else◌, slice_set}
+use Rattle.regalloc2_cfg.specs.Numbers.{NumberSet, has_number}
+use Rattle.regalloc2_checker_tables.specs.SavedCopies.{Copies, saved_at, cell_at}
+use Rattle.regalloc2_checker_tables.specs.EntrySets.{is_member}
+use Rattle.regalloc2_checker_tables.specs.Holding.{Holding, held, holds_now, holds_in, IsHome, AreTables, AreKeptTables, HoldsNow, count_of, is_in}
+use Rattle.regalloc2_checker_tables.proofs.Bits.{read-is, same-sets, ok-as}
+use Rattle.regalloc2_checker_tables.proofs.Holders.{homes-same, homes-more, home-here, dropped-less}
+use Rattle.regalloc2_checker_tables.proofs.TableLaws.{more-all, put-all, clear-all, drop-all, drop-kept, drop-now, less_either, on_ok_as, kept_then, load-all}
+use Rattle.regalloc2_checker_tables.proofs.TableLaws.{define-now, define-members, add-now, add-members, give-none, give-more, is_in-at, save-all, save-in}
+use Rattle.regalloc2_checker_tables.proofs.TableLaws.{get-below, listed-times, put-home, homes-kept-at, set-as, kept_same, holders-are, IsChanged}
+use Rattle.regalloc2_checker_tables.proofs.tables.Tables.give.Goals as goal
+
+pub loop-place-init : goal.loop-place-init
+loop-place-init g c = record {
+  kept = c.in_ok-forget.ensures.kept;
+  now = give-none c.forget.new.self (holds_now c.args.self.now) (get_or c.args.self.now.vregs c.args.vreg 0) c.in_ok-forget.ensures.now;
+}
+
+pub add_at-requires-clause-place : goal.add_at-requires-clause-place
+add_at-requires-clause-place g c =
+    subst (λ (ps : List ℕ). get_or c.args.places.now c.loop-place.place-index 0 < length ps) (sym c.loop-place.invariant.kept.places)
+    (c.requires.places (get_or c.args.places.now c.loop-place.place-index 0) (is_in-at c.args.places.now c.loop-place.place-index c.loop-place-test.true))
+
+pub add_at-requires-clause-vreg : goal.add_at-requires-clause-vreg
+add_at-requires-clause-vreg g c = subst (λ (ps : List ℕ). c.args.vreg < length ps) (sym c.loop-place.invariant.kept.vregs) c.requires.vreg
+
+pub loop-place-preserved : goal.loop-place-preserved
+loop-place-preserved g c = record {
+  kept = kept_then c.args.self.now c.loop-place.self c.add_at.new.self c.loop-place.invariant.kept c.in_ok-add_at.ensures.kept;
+  now = give-more c.loop-place.self c.add_at.new.self (holds_now c.args.self.now) (get_or c.args.self.now.vregs c.args.vreg 0)
+      (get_or c.loop-place.self.vregs c.args.vreg 0) c.loop-place.place-index _ c.args.places.now c.loop-place-test.true refl
+      (ap (λ (vs : List ℕ). get_or vs c.args.vreg 0) c.loop-place.invariant.kept.vregs) c.in_ok-add_at.ensures.kept c.loop-place.invariant.now
+      c.in_ok-add_at.ensures.now;
+}
+
+pub returns-in_err-add_at-clause-kept : goal.returns-in_err-add_at-clause-kept
+returns-in_err-add_at-clause-kept g c =
+    kept_then c.args.self.now c.loop-place.self c.add_at.new.self c.loop-place.invariant.kept c.in_err-add_at.ensures.kept

@@ -1,0 +1,35 @@
+use Rattle.std.proofs.Common.{ℕ, ◌≡◌, ◌<◌, ◌+◌, List, [], ◌∷◌, ◌++◌, length, get_or, arith, true, false, ap, sym, ◌∙◌, refl, subst, cond, nat_eq, nat_lt}
+use Rattle.std.specs.Prelude.{◌&&◌, ◌||◌, if◌then◌else◌, slice_set}
+use Rattle.regalloc2_cfg.specs.Numbers.{NumberSet, has_number}
+use Rattle.regalloc2_checker_tables.specs.SavedCopies.{Copies, saved_at, cell_at}
+use Rattle.regalloc2_checker_tables.specs.EntrySets.{is_member}
+use Rattle.regalloc2_checker_tables.specs.Holding.{Holding, held, holds_now, holds_in, IsHome, AreTables, AreKeptTables, HoldsNow, count_of, is_in}
+use Rattle.regalloc2_checker_tables.proofs.Bits.{read-is, same-sets, ok-as}
+use Rattle.regalloc2_checker_tables.proofs.Holders.{homes-same, homes-more, home-here, dropped-less}
+use Rattle.regalloc2_checker_tables.proofs.TableLaws.{more-all, put-all, clear-all, drop-all, drop-kept, drop-now, less_either, on_ok_as, kept_then, load-all}
+use Rattle.regalloc2_checker_tables.proofs.TableLaws.{get-below, listed-times, put-home, homes-kept-at, set-as, kept_same, holders-are, IsChanged}
+use Rattle.regalloc2_checker_tables.proofs.tables.Tables.holders.Goals as goal
+
+pub holders_among-requires-clause-below : goal.holders_among-requires-clause-below
+holders_among-requires-clause-below g c = c.self.invariant.now.below
+
+pub returns : goal.returns
+returns g c =
+    let old : Holding = record {
+      places = c.self.inside.places;
+      vregs = c.self.inside.vregs;
+      entries = c.self.inside.entries;
+      sets = c.self.inside.sets;
+      homes = c.self.inside.homes.items;
+    } in
+    let lv : c.args.vreg < length c.self.inside.vregs = subst (λ (o : Holding). c.args.vreg < length o.vregs) (sym c.self.view_is) c.requires in
+    let lh : c.args.vreg < length c.self.inside.homes.items = omega (arith, lv, c.self.invariant.homes_long) in
+    let had = read-is c.self.inside.homes.items c.self.inside.homes.items c.args.vreg c.index.result.now [] refl lh c.index.ensures in
+    ok-as _ _ c.holders_among.result
+    (λ r h i. holders-are old c.args.vreg r.items c.self.invariant lv
+    (λ i. h i ∙ ap (λ (s : NumberSet). nat_lt i c.len.result && (has_number s i && held c.self.inside.sets c.self.inside.entries i c.number.result)) had
+    ∙ ap (λ k. nat_lt i c.len.result && (has_number (get_or c.self.inside.homes.items c.args.vreg []) i && held c.self.inside.sets c.self.inside.entries i
+    k)) c.number.ensures
+    ∙ ap (λ k. nat_lt i k && (has_number (get_or c.self.inside.homes.items c.args.vreg []) i && holds_now old i (get_or c.self.inside.vregs c.args.vreg 0)))
+    c.len.ensures) i
+    ∙ ap (λ (o : Holding). nat_lt i (length o.places) && holds_now o i (get_or o.vregs c.args.vreg 0)) c.self.view_is) c.holders_among.ensures

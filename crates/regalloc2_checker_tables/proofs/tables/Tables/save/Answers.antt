@@ -1,0 +1,51 @@
+use Rattle.std.proofs.Common.{ℕ, ◌≡◌, ◌<◌, ◌+◌, List, [], ◌∷◌, ◌++◌, length, get_or, take, arith, true, false, ap, sym, ◌∙◌, refl, subst, cond, nat_eq, nat_lt}
+use Rattle.std.specs.Prelude.{◌&&◌, ◌||◌, if◌then◌else◌, slice_set}
+use Rattle.regalloc2_cfg.specs.Numbers.{NumberSet, has_number}
+use Rattle.regalloc2_checker_tables.specs.SavedCopies.{Copies, saved_at, cell_at}
+use Rattle.regalloc2_checker_tables.specs.EntrySets.{is_member}
+use Rattle.regalloc2_checker_tables.specs.Holding.{Holding, held, holds_now, holds_in, IsHome, AreTables, AreKeptTables, HoldsNow, count_of, is_in}
+use Rattle.regalloc2_checker_tables.proofs.Bits.{read-is, same-sets, ok-as}
+use Rattle.regalloc2_checker_tables.proofs.Holders.{homes-same, homes-more, home-here, dropped-less}
+use Rattle.regalloc2_checker_tables.proofs.TableLaws.{more-all, put-all, clear-all, drop-all, drop-kept, drop-now, less_either, on_ok_as, kept_then, load-all}
+use Rattle.regalloc2_checker_tables.proofs.TableLaws.{define-now, define-members, add-now, add-members, give-none, give-more, is_in-at, save-all, save-in}
+use Rattle.regalloc2_checker_tables.proofs.TableLaws.{get-below, listed-times, put-home, homes-kept-at, set-as, kept_same, holders-are, IsChanged}
+use Rattle.regalloc2_checker_tables.proofs.tables.Tables.save.Goals as goal
+
+pub invariant_of-self : goal.invariant_of-self
+invariant_of-self g c =
+    let old : Holding = record {
+      places = c.self.inside.places;
+      vregs = c.self.inside.vregs;
+      entries = c.self.inside.entries;
+      sets = c.self.inside.sets;
+      homes = c.self.inside.homes.items;
+    } in
+    save-all old c.save.new.self c.args.table c.save.result c.self.invariant c.save.ensures.cells c.save.ensures.others c.save.ensures.saved
+    c.save.ensures.err
+
+pub returns-clause-places : goal.returns-clause-places
+returns-clause-places g c = ap (λ (o : Holding). o.places) c.self.view_is
+
+pub returns-clause-vregs : goal.returns-clause-vregs
+returns-clause-vregs g c = ap (λ (o : Holding). o.vregs) c.self.view_is
+
+pub returns-clause-count : goal.returns-clause-count
+returns-clause-count g c = c.save.ensures.count ∙ ap (λ (o : Holding). count_of o) c.self.view_is
+
+pub returns-clause-now : goal.returns-clause-now
+returns-clause-now g c i y l =
+    ap (λ (cs : List ℕ). is_member c.self.inside.sets (get_or cs i 0) y) c.save.ensures.cells ∙ ap (λ (o : Holding). holds_now o i y) c.self.view_is
+
+pub returns-clause-tables : goal.returns-clause-tables
+returns-clause-tables g c =
+    let old : Holding = record {
+      places = c.self.inside.places;
+      vregs = c.self.inside.vregs;
+      entries = c.self.inside.entries;
+      sets = c.self.inside.sets;
+      homes = c.self.inside.homes.items;
+    } in
+    on_ok_as _ _ c.save.result
+    (λ ok. subst (λ (o : Holding). (k i y : ℕ) → i < length o.places → holds_in (record old { entries = c.save.new.self }) k i y
+    ≡ (if nat_eq k c.args.table then holds_now o i y else holds_in o k i y)) c.self.view_is
+    (save-in old c.save.new.self c.args.table c.self.invariant c.save.ensures.others ok)) c.save.ensures.saved

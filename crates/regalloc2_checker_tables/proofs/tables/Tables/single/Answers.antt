@@ -1,0 +1,52 @@
+use Rattle.std.proofs.Common.{ℕ, ◌≡◌, ◌<◌, ◌+◌, List, [], ◌∷◌, ◌++◌, length, get_or, arith, true, false, ap, sym, ◌∙◌, refl, subst, cond, nat_eq, nat_lt}
+use Rattle.std.specs.Prelude.{◌&&◌, ◌||◌, if◌then◌else◌, slice_set}
+use Rattle.regalloc2_cfg.specs.Numbers.{NumberSet, has_number}
+use Rattle.regalloc2_checker_tables.specs.SavedCopies.{Copies, saved_at, cell_at}
+use Rattle.regalloc2_checker_tables.specs.EntrySets.{is_member}
+use Rattle.regalloc2_checker_tables.specs.Holding.{Holding, held, holds_now, holds_in, IsHome, AreTables, AreKeptTables, HoldsNow, count_of, is_in}
+use Rattle.regalloc2_checker_tables.proofs.Bits.{read-is, same-sets, ok-as}
+use Rattle.regalloc2_checker_tables.proofs.Holders.{homes-same, homes-more, home-here, dropped-less}
+use Rattle.regalloc2_checker_tables.proofs.TableLaws.{more-all, put-all, clear-all, drop-all, drop-kept, drop-now, less_either, on_ok_as, kept_then, load-all}
+use Rattle.regalloc2_checker_tables.proofs.TableLaws.{get-below, listed-times, put-home, homes-kept-at, set-as, kept_same, holders-are, IsChanged}
+use Rattle.regalloc2_checker_tables.proofs.tables.Tables.single.Goals as goal
+
+pub invariant_of-self : goal.invariant_of-self
+invariant_of-self g c =
+    let old : Holding = record {
+      places = c.self.inside.places;
+      vregs = c.self.inside.vregs;
+      entries = c.self.inside.entries;
+      sets = c.self.inside.sets;
+      homes = c.self.inside.homes.items;
+    } in
+    (more-all old c.single.new.self c.self.inside.homes.items c.self.invariant c.single.ensures.more (homes-same c.self.inside.homes.items)).tables
+
+pub returns-clause-kept : goal.returns-clause-kept
+returns-clause-kept g c =
+    let old : Holding = record {
+      places = c.self.inside.places;
+      vregs = c.self.inside.vregs;
+      entries = c.self.inside.entries;
+      sets = c.self.inside.sets;
+      homes = c.self.inside.homes.items;
+    } in
+    subst (λ (o : Holding). AreKeptTables o (record old { sets = c.single.new.self })) c.self.view_is
+    (more-all old c.single.new.self c.self.inside.homes.items c.self.invariant c.single.ensures.more (homes-same c.self.inside.homes.items)).kept
+
+pub returns-clause-now : goal.returns-clause-now
+returns-clause-now g c =
+    let old : Holding = record {
+      places = c.self.inside.places;
+      vregs = c.self.inside.vregs;
+      entries = c.self.inside.entries;
+      sets = c.self.inside.sets;
+      homes = c.self.inside.homes.items;
+    } in
+    subst (λ (o : Holding). HoldsNow (record old { sets = c.single.new.self }) (holds_now o)) c.self.view_is
+    (more-all old c.single.new.self c.self.inside.homes.items c.self.invariant c.single.ensures.more (homes-same c.self.inside.homes.items)).now
+
+pub returns-clause-set : goal.returns-clause-set
+returns-clause-set g c =
+    ok-as _ _ c.single.result
+    (λ n h. set-as c.single.new.self n _ _ (λ y. ap (λ k. nat_eq y k) (c.number.ensures ∙ ap (λ (o : Holding). get_or o.vregs c.args.vreg 0) c.self.view_is)) h)
+    c.single.ensures.found

@@ -1,0 +1,74 @@
+use Rattle.std.proofs.Common.{ℕ, ◌≡◌, ◌<◌, ◌+◌, List, [], ◌∷◌, ◌++◌, length, get_or, arith, true, false, ap, sym, ◌∙◌, refl, subst, cond, nat_eq, nat_lt}
+use Rattle.std.specs.Prelude.{◌&&◌, ◌||◌, if◌then◌else◌, slice_set}
+use Rattle.regalloc2_cfg.specs.Numbers.{NumberSet, has_number}
+use Rattle.regalloc2_checker_tables.specs.SavedCopies.{Copies, saved_at, cell_at}
+use Rattle.regalloc2_checker_tables.specs.EntrySets.{is_member}
+use Rattle.regalloc2_checker_tables.specs.Holding.{Holding, held, holds_now, holds_in, IsHome, AreTables, AreKeptTables, HoldsNow, count_of, is_in}
+use Rattle.regalloc2_checker_tables.proofs.Bits.{read-is, same-sets, ok-as}
+use Rattle.regalloc2_checker_tables.proofs.Holders.{homes-same, homes-more, home-here, dropped-less}
+use Rattle.regalloc2_checker_tables.proofs.TableLaws.{more-all, put-all, clear-all, drop-all, drop-kept, drop-now, less_either, on_ok_as, kept_then, load-all}
+use Rattle.regalloc2_checker_tables.proofs.TableLaws.{get-below, listed-times, put-home, homes-kept-at, set-as, kept_same, holders-are, IsChanged}
+use Rattle.regalloc2_checker_tables.proofs.tables.Tables.with.Goals as goal
+
+pub invariant_of-self : goal.invariant_of-self
+invariant_of-self g c =
+    let old : Holding = record {
+      places = c.self.inside.places;
+      vregs = c.self.inside.vregs;
+      entries = c.self.inside.entries;
+      sets = c.self.inside.sets;
+      homes = c.self.inside.homes.items;
+    } in
+    (more-all old c.with.new.self c.self.inside.homes.items c.self.invariant c.with.ensures.more (homes-same c.self.inside.homes.items)).tables
+
+pub returns-clause-kept : goal.returns-clause-kept
+returns-clause-kept g c =
+    let old : Holding = record {
+      places = c.self.inside.places;
+      vregs = c.self.inside.vregs;
+      entries = c.self.inside.entries;
+      sets = c.self.inside.sets;
+      homes = c.self.inside.homes.items;
+    } in
+    subst (λ (o : Holding). AreKeptTables o (record old { sets = c.with.new.self })) c.self.view_is
+    (more-all old c.with.new.self c.self.inside.homes.items c.self.invariant c.with.ensures.more (homes-same c.self.inside.homes.items)).kept
+
+pub returns-clause-now : goal.returns-clause-now
+returns-clause-now g c =
+    let old : Holding = record {
+      places = c.self.inside.places;
+      vregs = c.self.inside.vregs;
+      entries = c.self.inside.entries;
+      sets = c.self.inside.sets;
+      homes = c.self.inside.homes.items;
+    } in
+    subst (λ (o : Holding). HoldsNow (record old { sets = c.with.new.self }) (holds_now o)) c.self.view_is
+    (more-all old c.with.new.self c.self.inside.homes.items c.self.invariant c.with.ensures.more (homes-same c.self.inside.homes.items)).now
+
+pub with-requires : goal.with-requires
+with-requires g c =
+    let old : Holding = record {
+      places = c.self.inside.places;
+      vregs = c.self.inside.vregs;
+      entries = c.self.inside.entries;
+      sets = c.self.inside.sets;
+      homes = c.self.inside.homes.items;
+    } in
+    get-below old c.args.place c.get.result c.self.invariant (subst (λ (o : Holding). c.args.place < length o.places) (sym c.self.view_is) c.requires.place)
+    c.get.ensures
+
+pub returns-clause-set : goal.returns-clause-set
+returns-clause-set g c =
+    let old : Holding = record {
+      places = c.self.inside.places;
+      vregs = c.self.inside.vregs;
+      entries = c.self.inside.entries;
+      sets = c.self.inside.sets;
+      homes = c.self.inside.homes.items;
+    } in
+    ok-as _ _ c.with.result
+    (λ n h. set-as c.with.new.self n _ _
+    (λ y. ap (λ k. if nat_eq y c.number.result then true else is_member c.self.inside.sets k y) c.get.ensures
+    ∙ ap (λ k. if nat_eq y k then true else holds_now old c.args.place y) c.number.ensures
+    ∙ ap (λ (o : Holding). if nat_eq y (get_or o.vregs c.args.vreg 0) then true else holds_now o c.args.place y) c.self.view_is) h)
+    c.with.ensures.found

@@ -1,0 +1,5 @@
+use Rattle.std.proofs.Common.{ℕ, ◌≡◌, length}
+use Rattle.regalloc2_checker_tables.proofs.tables.empty_homes.Given as goal
+
+abbrev pub invariant-loop-k : goal.invariant-loop-k
+invariant-loop-k g l = length l.homes.items ≡ l.k

@@ -1,0 +1,20 @@
+use Rattle.std.proofs.Common.{ℕ, ◌≡◌, ◌<◌, ◌+◌, List, [], ◌∷◌, ◌++◌, length, get_or, take, arith, true, false, ap, sym, ◌∙◌, refl, cond, nat_eq, nat_lt}
+use Rattle.std.specs.Prelude.{◌&&◌, if◌then◌else◌}
+use Rattle.regalloc2_cfg.specs.Numbers.{times_in, has_number}
+use Rattle.regalloc2_checker_tables.specs.Holding.{held, IsHome, is_in}
+use Rattle.regalloc2_checker_tables.proofs.Bits.{read-is}
+use Rattle.regalloc2_checker_tables.proofs.Walked.{times-nil, walked-on}
+use Rattle.regalloc2_checker_tables.proofs.Listed.{at-position, not-listed}
+use Rattle.regalloc2_checker_tables.proofs.Holders.{still-same, still-then, dropped-none, dropped-more, dropped-all, dropped-less, holders-none, holders-more}
+use Rattle.regalloc2_checker_tables.proofs.Holders.{holders-skip, holders-all, homes-same, homes-then, home-here, noted-more}
+use Rattle.regalloc2_checker_tables.proofs.tables.note_all.Goals as goal
+
+pub loop-bits-init : goal.loop-bits-init
+loop-bits-init g c = record { more = homes-same c.args.homes.now.items; noted = λ y l. (let e = times-nil y in absurd (omega arith)) }
+
+pub loop-bits-preserved : goal.loop-bits-preserved
+loop-bits-preserved g c = let h = c.in_ok-note.ensures.noted in record {
+  more = homes-then c.args.homes.now.items c.loop-bits.homes.items c.note.new.homes.items c.loop-bits.invariant.more c.in_ok-note.ensures.more;
+  noted = noted-more c.args.vregs.now c.loop-bits.homes.items c.note.new.homes.items c.args.members.now c.loop-bits.bits-index c.args.place _
+      c.loop-bits-test.true refl c.in_ok-note.ensures.more c.loop-bits.invariant.noted c.in_ok-note.ensures.noted;
+}

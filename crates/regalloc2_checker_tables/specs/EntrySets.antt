@@ -1,0 +1,32 @@
+-- Sets of bits, by number. Bits are words of 32 bits.
+use Rattle.std.specs.Prelude.{ℕ, ◌≡◌, ◌<◌, ◌≤◌, Bool, true, false, ◌&&◌, nat_lt, List, [], length, get_or, if◌then◌else◌}
+use Rattle.regalloc2_cfg.specs.Numbers.{NumberSet, has_number, times_in}
+
+-- whether bits are a member
+abbrev pub has_bits : NumberSet → ℕ → Bool
+has_bits s y = nat_lt y 4294967296 && has_number s y
+
+-- whether bits are a member of the set of a number
+abbrev pub is_member : List NumberSet → ℕ → ℕ → Bool
+is_member sets n y = has_bits (get_or sets n []) y
+
+-- the sets that were there stay
+pub record AreMore (old new : List NumberSet) : Type 0 where
+  pub longer : length old ≤ length new
+  pub kept : (n y : ℕ) → n < length old → is_member new n y ≡ is_member old n y
+
+-- a set has a number, and these members
+pub record IsSetOf (sets : List NumberSet) (n : ℕ) (has : ℕ → Bool) : Type 0 where
+  pub below : n < length sets
+  pub members : (y : ℕ) → is_member sets n y ≡ has y
+
+-- each member is listed once, and nothing else
+abbrev pub ListsBits : (ℕ → Bool) → List ℕ → Type 0
+ListsBits has ys = (y : ℕ) → times_in ys y ≡ (if has y then 1 else 0)
+
+-- some bits are a member of a set and not of another
+pub record IsLess (has other : ℕ → Bool) : Type 0 where
+  pub bits : ℕ
+  pub small : bits < 4294967296
+  pub here : has bits ≡ true
+  pub not_there : other bits ≡ false

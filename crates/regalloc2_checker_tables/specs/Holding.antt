@@ -1,0 +1,101 @@
+-- Which virtual registers places hold, in tables by number and in the one that is worked on. Places are named by their positions.
+use Rattle.std.specs.Prelude.{ℕ, ◌≡◌, ◌<◌, ◌≤◌, Bool, true, false, ◌&&◌, not, nat_eq, if◌then◌else◌, List, [], length, get_or}
+use Rattle.std.specs.List.{list_any}
+use Rattle.std.specs.List.Sorted.{IsStrictlyIncreasing}
+use Rattle.regalloc2_cfg.specs.Numbers.{NumberSet, has_number}
+use Rattle.regalloc2_checker_tables.specs.SavedCopies.{Copies, saved_at, cell_at}
+use Rattle.regalloc2_checker_tables.specs.EntrySets.{is_member, AreMore, IsSetOf}
+
+-- the listed places and virtual registers, by their bits; the numbers of the sets that tables have; the sets; and the places where each virtual register may be
+pub record Holding : Type 0 where
+  pub places : List ℕ
+  pub vregs : List ℕ
+  pub entries : Copies
+  pub sets : List NumberSet
+  pub homes : List NumberSet
+
+-- how many tables there are
+abbrev pub count_of : Holding → ℕ
+count_of t = length t.entries.saved
+
+-- whether an array of numbers has a set with bits at a position
+abbrev pub held : List NumberSet → Copies → ℕ → ℕ → Bool
+held sets e i y = is_member sets (cell_at e i) y
+
+-- whether the place at a position holds the virtual register with bits, in the table that is worked on
+abbrev pub holds_now : Holding → ℕ → ℕ → Bool
+holds_now t i y = held t.sets t.entries i y
+
+-- and in a table
+abbrev pub holds_in : Holding → ℕ → ℕ → ℕ → Bool
+holds_in t k i y = is_member t.sets (saved_at t.entries k i) y
+
+-- a place is one where the virtual register with bits may be
+abbrev pub IsHome : List ℕ → List NumberSet → ℕ → ℕ → Type 0
+IsHome vregs homes i y = (j : ℕ) → j < length vregs → get_or vregs j 0 ≡ y → has_number (get_or homes j []) i ≡ true
+
+-- the numbers of an array are of sets, whose members may be there
+pub record AreEntries (sets : List NumberSet) (vregs : List ℕ) (homes : List NumberSet) (size : ℕ) (number : ℕ → ℕ) : Type 0 where
+  pub below : (i : ℕ) → i < size → number i < length sets
+  pub homed : (i y : ℕ) → i < size → is_member sets (number i) y ≡ true → IsHome vregs homes i y
+
+-- what stays true of tables: each has an entry for each place
+pub record AreTables (t : Holding) : Type 0 where
+  pub places_rise : IsStrictlyIncreasing t.places
+  pub vregs_rise : IsStrictlyIncreasing t.vregs
+  pub long : length t.places < length t.entries.cells
+  pub few : length t.places < 274877906944
+  pub empty : IsSetOf t.sets 0 (λ y. false)
+  pub homes_long : length t.homes ≡ length t.vregs
+  pub now : AreEntries t.sets t.vregs t.homes (length t.entries.cells) (cell_at t.entries)
+  pub tables : (k : ℕ) → AreEntries t.sets t.vregs t.homes (length t.entries.cells) (saved_at t.entries k)
+
+-- the numbers of the array that is worked on are of sets
+abbrev pub AreBelow : List NumberSet → Copies → Type 0
+AreBelow sets e = (i : ℕ) → i < length e.cells → cell_at e i < length sets
+
+-- only the array that is worked on changed, and sets were added
+pub record AreStill (s : List NumberSet) (e : Copies) (t : List NumberSet) (f : Copies) : Type 0 where
+  pub more : AreMore s t
+  pub long : length f.cells ≡ length e.cells
+  pub count : length f.saved ≡ length e.saved
+  pub saved : (k i : ℕ) → saved_at f k i ≡ saved_at e k i
+  pub below : AreBelow t f
+
+-- homes are added
+pub record AreMoreHomes (old new : List NumberSet) : Type 0 where
+  pub long : length new ≡ length old
+  pub kept : (j i : ℕ) → has_number (get_or old j []) i ≡ true → has_number (get_or new j []) i ≡ true
+
+-- whether a number is in a list
+abbrev pub is_in : List ℕ → ℕ → Bool
+is_in xs i = list_any (λ x. nat_eq x i) xs
+
+-- what is listed stays, and so do the tables
+pub record AreKeptTables (old new : Holding) : Type 0 where
+  pub places : new.places ≡ old.places
+  pub vregs : new.vregs ≡ old.vregs
+  pub count : count_of new ≡ count_of old
+  pub tables : (k i y : ℕ) → i < length old.places → holds_in new k i y ≡ holds_in old k i y
+
+-- what the table that is worked on holds
+abbrev pub HoldsNow : Holding → (ℕ → ℕ → Bool) → Type 0
+HoldsNow t has = (i y : ℕ) → i < length t.places → holds_now t i y ≡ has i y
+
+-- some place holds a virtual register in one way and not in another
+pub record LosesSome (size : ℕ) (has other : ℕ → ℕ → Bool) : Type 0 where
+  pub place : ℕ
+  pub bits : ℕ
+  pub place_small : place < size
+  pub bits_small : bits < 4294967296
+  pub here : has place bits ≡ true
+  pub not_there : other place bits ≡ false
+
+-- how far a meet went: the array has what it had and a saved copy has too, below a position
+pub record IsMetBelow (s : List NumberSet) (e : Copies) (t : List NumberSet) (f : Copies) (k from bound : ℕ) (changed : Bool) : Type 0 where
+  pub still : AreStill s e t f
+  pub done : (i y : ℕ) → i < from → i < bound → held t f i y ≡ (is_member s (saved_at e k i) y && held s e i y)
+  pub rest : (i : ℕ) → from ≤ i → cell_at f i ≡ cell_at e i
+  pub fewer : (i y : ℕ) → i < length e.cells → held t f i y ≡ true → held s e i y ≡ true
+  pub less : changed ≡ true → LosesSome bound (λ i y. is_member s (saved_at e k i) y) (held s e)
+  pub same : changed ≡ false → (i y : ℕ) → i < from → i < bound → is_member s (saved_at e k i) y ≡ true → held s e i y ≡ true

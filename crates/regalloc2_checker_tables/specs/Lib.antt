@@ -1,0 +1,3 @@
+pub mod SavedCopies
+pub mod EntrySets
+pub mod Holding

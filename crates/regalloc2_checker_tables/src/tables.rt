@@ -1,0 +1,517 @@
+//! Tables of which virtual registers places hold.
+
+ghost use Rattle.std.specs.Prelude.{◌≡◌, ◌≢◌, ◌⊎◌, None, Some, ℕ, ◌<◌, ◌≤◌, ◌^◌, ◌==◌, true, false, ◌&&◌, ◌||◌};
+ghost use Rattle.std.specs.Prelude.{nat_eq, nat_lt, if◌then◌else◌, length, get_or};
+ghost use Rattle.std.specs.Prelude.{◌↔◌, Contains, IfOk, OnOk, OnErr};
+ghost use Rattle.std.specs.Bool.{OnTrue, OnFalse};
+ghost use Rattle.std.specs.List.{position};
+ghost use Rattle.std.specs.List.Sorted.{IsStrictlyIncreasing};
+ghost use Rattle.regalloc2_cfg.specs.Numbers.{has_number, times_in};
+ghost use Rattle.regalloc2_checker_tables.specs.SavedCopies.{cell_at, saved_at};
+ghost use Rattle.regalloc2_checker_tables.specs.EntrySets.{is_member, IsSetOf, IsLess};
+ghost use Rattle.regalloc2_checker_tables.specs.Holding.{count_of, held, holds_now, holds_in, AreBelow, AreStill, AreMoreHomes};
+ghost use Rattle.regalloc2_checker_tables.specs.Holding.{is_in, AreKeptTables, HoldsNow, IsHome};
+ghost use Rattle.regalloc2_checker_tables.specs.Holding.{LosesSome};
+
+use crate::positions::Positions;
+use crate::sets::Sets;
+use crate::versions::Versions;
+use regalloc2_cfg::indexset::IndexSet;
+use std::alloc::{AllocError, Allocator};
+use std::marker::Model;
+
+/// Tables of which virtual registers places hold, by number, and one that is worked on.
+///
+/// Places and virtual registers are listed once, and named by their positions there. Each table has one set of the bits of
+/// virtual registers for each place. Tables share what they have in common.
+#[derive(Drop)]
+pub struct Tables<A: Allocator> {
+    places: Positions<A>,
+    vregs: Positions<A>,
+    entries: Versions<A>,
+    sets: Sets<A>,
+    homes: Vec<IndexSet<A>, A>,
+    hints: Hints<A>,
+}
+
+impl<A: Allocator> Model for Tables<A> {
+    ghost use Rattle.regalloc2_checker_tables.specs.Holding.{Holding, AreTables};
+
+    ghost Value = { Holding };
+
+    ghost view = { λ t. record { places = t.places; vregs = t.vregs; entries = t.entries; sets = t.sets; homes = t.homes.items } };
+
+    ghost invariant = { λ t. AreTables (record { places = t.places; vregs = t.vregs; entries = t.entries; sets = t.sets; homes = t.homes.items }) };
+}
+
+/// Where places may be listed: each register, and the first slot.
+#[derive(Drop)]
+struct Hints<A: Allocator> {
+    registers: Vec<usize, A>,
+    slots: usize,
+}
+
+impl<A: Allocator + Copy> Hints<A> {
+    /// Where places are listed, as far as it is found.
+    fn of(alloc: A, places: &Positions<A>) -> Result<Hints<A>, AllocError> {
+        let mut registers = Vec::with_capacity(alloc, 192)?;
+        for number in 0..192u32 {
+            registers.push(places.find(number + 536870912, 0).unwrap_or(0))?;
+        }
+        let slots = places.find(1073741824, 0).unwrap_or(0);
+        Ok(Hints { registers, slots })
+    }
+
+    /// Where the place with some bits may be listed.
+    fn position(&self, bits: u32) -> usize {
+        let index = (bits % 536870912) as usize;
+        if bits >= 1073741824 {
+            return self.slots.wrapping_add(index);
+        }
+        self.registers.get(index).copied().unwrap_or(0)
+    }
+}
+
+/// Takes a virtual register out of one place.
+fn drop_at<A: Allocator + Copy>(
+    entries: &mut Versions<A>,
+    sets: &mut Sets<A>,
+    place: usize,
+    bits: u32,
+) -> Result<(), AllocError>
+    requires { AreBelow sets.old entries.old }
+    ensures still { AreStill sets.old entries.old sets.new entries.new }
+    ensures ok { OnOk result ((i y : ℕ) → i < length entries.old.cells → held sets.new entries.new i y
+        ≡ (if nat_eq i place && nat_eq y bits then false else held sets.old entries.old i y)) }
+    ensures err { OnErr result (entries.new ≡ entries.old) }
+{
+    if place >= entries.len() {
+        return Ok(());
+    }
+    let set = entries.get(place);
+    let less = sets.without(set, bits)?;
+    entries.set(place, less);
+    Ok(())
+}
+
+/// Takes a virtual register out of the places where it may be.
+fn drop_everywhere<A: Allocator + Copy>(
+    entries: &mut Versions<A>,
+    sets: &mut Sets<A>,
+    homes: &IndexSet<A>,
+    bits: u32,
+) -> Result<(), AllocError>
+    requires { AreBelow sets.old entries.old }
+    ensures still { AreStill sets.old entries.old sets.new entries.new }
+    ensures ok { OnOk result ((i y : ℕ) → i < length entries.old.cells → held sets.new entries.new i y
+        ≡ (if has_number homes.now i && nat_eq y bits then false else held sets.old entries.old i y)) }
+    ensures err { OnErr result ((i y : ℕ) → i < length entries.old.cells → held sets.new entries.new i y ≡ true → held sets.old entries.old i y ≡ true) }
+{
+    for place in homes.iter() {
+        drop_at(entries, sets, place, bits)?;
+    }
+    Ok(())
+}
+
+/// The places below a bound where a virtual register may be and is.
+fn holders_among<A: Allocator + Copy>(
+    alloc: A,
+    entries: &Versions<A>,
+    sets: &Sets<A>,
+    homes: &IndexSet<A>,
+    bits: u32,
+    bound: usize,
+) -> Result<Vec<usize, A>, AllocError>
+    requires below { AreBelow sets.now entries.now }
+    requires bound { bound ≤ length entries.now.cells }
+    ensures { IfOk result (λ holders. (i : ℕ) → is_in holders.items i
+        ≡ (nat_lt i bound && (has_number homes.now i && held sets.now entries.now i bits))) }
+{
+    let mut holders = Vec::new(alloc);
+    for place in homes.iter() {
+        if place >= bound {
+            continue;
+        }
+        if !sets.has(entries.get(place), bits) {
+            continue;
+        }
+        holders.push(place)?;
+    }
+    Ok(holders)
+}
+
+/// Notes that a virtual register may be at a place, if it is listed.
+fn note<A: Allocator + Copy>(
+    vregs: &Positions<A>,
+    homes: &mut Vec<IndexSet<A>, A>,
+    bits: u32,
+    place: usize,
+) -> Result<(), AllocError>
+    requires rising { IsStrictlyIncreasing vregs.now }
+    requires homes { length homes.old.items ≡ length vregs.now }
+    requires place { place < 2 ^ 38 }
+    ensures more { AreMoreHomes homes.old.items homes.new.items }
+    ensures noted { OnOk result (IsHome vregs.now homes.new.items place bits) }
+{
+    let Some(vreg) = vregs.find(bits, bits as usize / 4) else {
+        return Ok(());
+    };
+    let home = &mut homes[vreg];
+    home.set(place, true)?;
+    Ok(())
+}
+
+/// Notes that listed virtual registers may be at a place.
+fn note_all<A: Allocator + Copy>(
+    vregs: &Positions<A>,
+    homes: &mut Vec<IndexSet<A>, A>,
+    members: &[u32],
+    place: usize,
+) -> Result<(), AllocError>
+    requires rising { IsStrictlyIncreasing vregs.now }
+    requires homes { length homes.old.items ≡ length vregs.now }
+    requires place { place < 2 ^ 38 }
+    ensures more { AreMoreHomes homes.old.items homes.new.items }
+    ensures noted { OnOk result ((y : ℕ) → 0 < times_in members.now y → IsHome vregs.now homes.new.items place y) }
+{
+    for bits in members {
+        note(vregs, homes, *bits, place)?;
+    }
+    Ok(())
+}
+
+/// Whether something changed before, or two numbers differ.
+fn is_changed(before: bool, had: u32, common: u32) -> bool
+    ensures yes { result ≡ true → (before ≡ true) ⊎ (common ≢ had) }
+    ensures no { result ≡ false → (before ≡ false) × (common ≡ had) }
+{
+    if before {
+        return true;
+    }
+    common != had
+}
+
+/// Leaves at a position what a saved copy has too; answers whether the copy has more, or had so before.
+fn meet_at<A: Allocator + Copy>(
+    entries: &mut Versions<A>,
+    sets: &mut Sets<A>,
+    table: usize,
+    place: usize,
+    before: bool,
+) -> Result<bool, AllocError>
+    requires table { table < length entries.old.saved }
+    requires place { place < length entries.old.cells }
+    requires below { AreBelow sets.old entries.old }
+    requires saved { saved_at entries.old table place < length sets.old }
+    ensures still { AreStill sets.old entries.old sets.new entries.new }
+    ensures others { (i : ℕ) → (i ≡ place → ⊥) → cell_at entries.new i ≡ cell_at entries.old i }
+    ensures met { OnOk result ((y : ℕ) → held sets.new entries.new place y
+        ≡ (is_member sets.old (saved_at entries.old table place) y && held sets.old entries.old place y)) }
+    ensures less { IfOk result (λ less. less ≡ true → (before ≡ true)
+        ⊎ IsLess (is_member sets.old (saved_at entries.old table place)) (held sets.old entries.old place)) }
+    ensures same { IfOk result (λ less. less ≡ false → (before ≡ false)
+        × ((y : ℕ) → is_member sets.old (saved_at entries.old table place) y ≡ true → held sets.old entries.old place y ≡ true)) }
+    ensures err { OnErr result (entries.new ≡ entries.old) }
+{
+    let had = entries.saved(table, place);
+    let common = sets.common(had, entries.get(place))?;
+    entries.set(place, common);
+    Ok(is_changed(before, had, common))
+}
+
+/// The first position from one on, below a bound, at which the array differs from a saved copy.
+fn next_below<A: Allocator + Copy>(
+    entries: &Versions<A>,
+    table: usize,
+    from: usize,
+    bound: usize,
+) -> Option<usize>
+    requires table { table < length entries.now.saved }
+    requires bound { bound ≤ length entries.now.cells }
+    ensures none { result ≡ None → (i : ℕ) → from ≤ i → i < bound → cell_at entries.now i ≡ saved_at entries.now table i }
+    ensures some { (p : ℕ) → result ≡ Some p → (from ≤ p) × (p < bound)
+        × ((i : ℕ) → from ≤ i → i < p → cell_at entries.now i ≡ saved_at entries.now table i) }
+{
+    let place = entries.next_difference(table, from)?;
+    if place < bound { Some(place) } else { None }
+}
+
+/// Leaves in the array what a saved copy has too, at the positions below a bound; answers whether the copy has more.
+fn meet_entries<A: Allocator + Copy>(
+    entries: &mut Versions<A>,
+    sets: &mut Sets<A>,
+    table: usize,
+    bound: usize,
+) -> Result<bool, AllocError>
+    requires table { table < length entries.old.saved }
+    requires bound { bound ≤ length entries.old.cells }
+    requires below { AreBelow sets.old entries.old }
+    requires saved { (i : ℕ) → i < length entries.old.cells → saved_at entries.old table i < length sets.old }
+    ensures still { AreStill sets.old entries.old sets.new entries.new }
+    ensures fewer { (i y : ℕ) → i < length entries.old.cells → held sets.new entries.new i y ≡ true → held sets.old entries.old i y ≡ true }
+    ensures met { OnOk result ((i y : ℕ) → i < bound → held sets.new entries.new i y
+        ≡ (is_member sets.old (saved_at entries.old table i) y && held sets.old entries.old i y)) }
+    ensures less { IfOk result (λ less. less ≡ true
+        → LosesSome bound (λ i y. is_member sets.old (saved_at entries.old table i) y) (held sets.old entries.old)) }
+    ensures same { IfOk result (λ less. less ≡ false
+        → (i y : ℕ) → i < bound → is_member sets.old (saved_at entries.old table i) y ≡ true → held sets.old entries.old i y ≡ true) }
+{
+    let mut is_less = false;
+    let mut from = 0;
+    'meets: while let Some(place) = next_below(entries, table, from, bound) {
+        is_less = meet_at(entries, sets, table, place, is_less)?;
+        from = place + 1;
+    }
+    Ok(is_less)
+}
+
+/// So many empty sets.
+fn empty_homes<A: Allocator + Copy>(
+    alloc: A,
+    count: usize,
+) -> Result<Vec<IndexSet<A>, A>, AllocError>
+    ensures { IfOk result (λ homes. length homes.items ≡ count) }
+{
+    let mut homes = Vec::with_capacity(alloc, count)?;
+    for k in 0..count {
+        let _number = k;
+        homes.push(IndexSet::new(alloc))?;
+    }
+    Ok(homes)
+}
+
+impl<A: Allocator + Copy> Tables<A> {
+    /// Tables without a member, over listed places and virtual registers. Past 2^38 places memory is refused.
+    pub fn new(
+        alloc: A,
+        count: usize,
+        places: Positions<A>,
+        vregs: Positions<A>,
+    ) -> Result<Tables<A>, AllocError>
+        requires places { IsStrictlyIncreasing places }
+        requires vregs { IsStrictlyIncreasing vregs }
+        ensures places { IfOk result (λ t. t.places ≡ places) }
+        ensures vregs { IfOk result (λ t. t.vregs ≡ vregs) }
+        ensures count { IfOk result (λ t. count_of t ≡ count) }
+        ensures now { IfOk result (λ t. (i y : ℕ) → holds_now t i y ≡ false) }
+        ensures tables { IfOk result (λ t. (k i y : ℕ) → holds_in t k i y ≡ false) }
+    {
+        if places.len() > 274877906943 {
+            return Err(AllocError);
+        }
+        let hints = Hints::of(alloc, &places)?;
+        let entries = Versions::new(alloc, count, places.len())?;
+        let sets = Sets::new(alloc)?;
+        let homes = empty_homes(alloc, vregs.len())?;
+        Ok(Tables {
+            places,
+            vregs,
+            entries,
+            sets,
+            homes,
+            hints,
+        })
+    }
+
+    /// The position of a place, by its bits.
+    pub fn place(&self, bits: u32) -> Option<usize>
+        ensures { result ≡ position (λ n. n == bits) self.now.places }
+    {
+        self.places.find(bits, self.hints.position(bits))
+    }
+
+    /// The position of a virtual register, by its bits.
+    pub fn vreg(&self, bits: u32) -> Option<usize>
+        ensures { result ≡ position (λ n. n == bits) self.now.vregs }
+    {
+        self.vregs.find(bits, bits as usize / 4)
+    }
+
+    /// Whether a place holds a virtual register.
+    pub fn has(&self, place: usize, bits: u32) -> bool
+        requires { place < length self.now.places }
+        ensures { result ≡ holds_now self.now place bits }
+    {
+        self.sets.has(self.entries.get(place), bits)
+    }
+
+    /// The virtual registers that a place holds, by rising bits.
+    pub fn members(&self, place: usize) -> Result<Vec<u32, A>, AllocError>
+        requires { place < length self.now.places }
+        ensures rising { IfOk result (λ members. IsStrictlyIncreasing members.items) }
+        ensures members { IfOk result (λ members. (y : ℕ) → Contains members.items y ↔ (holds_now self.now place y ≡ true)) }
+    {
+        let listed = self.sets.members(self.entries.get(place))?;
+        Ok(Positions::of(listed).into_numbers())
+    }
+
+    /// Empties a place.
+    pub fn clear(&mut self, place: usize)
+        requires { place < length self.old.places }
+        ensures kept { AreKeptTables self.old self.new }
+        ensures now { HoldsNow self.new (λ i y. if nat_eq i place then false else holds_now self.old i y) }
+    {
+        self.entries.set(place, 0);
+    }
+
+    /// Gives a place what another has.
+    pub fn copy(&mut self, from: usize, to: usize) -> Result<(), AllocError>
+        requires from { from < length self.old.places }
+        requires to { to < length self.old.places }
+        ensures kept { AreKeptTables self.old self.new }
+        ensures now { OnOk result (HoldsNow self.new (λ i y. if nat_eq i to then holds_now self.old from y else holds_now self.old i y)) }
+    {
+        let set = self.entries.get(from);
+        let members = self.sets.members(set)?;
+        note_all(&self.vregs, &mut self.homes, &members, to)?;
+        self.entries.set(to, set);
+        Ok(())
+    }
+
+    /// Takes a virtual register out of every place.
+    pub fn forget(&mut self, vreg: usize) -> Result<(), AllocError>
+        requires { vreg < length self.old.vregs }
+        ensures kept { AreKeptTables self.old self.new }
+        ensures now { OnOk result (HoldsNow self.new (λ i y. if nat_eq y (get_or self.old.vregs vreg 0) then false else holds_now self.old i y)) }
+    {
+        let bits = self.vregs.number(vreg);
+        drop_everywhere(&mut self.entries, &mut self.sets, &self.homes[vreg], bits)
+    }
+
+    /// Gives a place a set.
+    fn put(&mut self, place: usize, vreg: usize, set: u32) -> Result<(), AllocError>
+        requires place { place < length self.old.places }
+        requires vreg { vreg < length self.old.vregs }
+        requires set { set < length self.old.sets }
+        requires members { (y : ℕ) → is_member self.old.sets set y ≡ true
+            → (nat_eq y (get_or self.old.vregs vreg 0) || holds_now self.old place y) ≡ true }
+        ensures kept { AreKeptTables self.old self.new }
+        ensures now { OnOk result (HoldsNow self.new (λ i y. if nat_eq i place then is_member self.old.sets set y else holds_now self.old i y)) }
+    {
+        let home = &mut self.homes[vreg];
+        home.set(place, true)?;
+        self.entries.set(place, set);
+        Ok(())
+    }
+
+    /// A set of one virtual register alone.
+    fn single(&mut self, vreg: usize) -> Result<u32, AllocError>
+        requires { vreg < length self.old.vregs }
+        ensures kept { AreKeptTables self.old self.new }
+        ensures now { HoldsNow self.new (holds_now self.old) }
+        ensures set { IfOk result (λ n. IsSetOf self.new.sets n (λ y. nat_eq y (get_or self.old.vregs vreg 0))) }
+    {
+        self.sets.single(self.vregs.number(vreg))
+    }
+
+    /// Gives a place one virtual register alone, which no other place holds any more.
+    pub fn define(&mut self, place: usize, vreg: usize) -> Result<(), AllocError>
+        requires place { place < length self.old.places }
+        requires vreg { vreg < length self.old.vregs }
+        ensures kept { AreKeptTables self.old self.new }
+        ensures now { OnOk result (HoldsNow self.new (λ i y. if nat_eq i place then nat_eq y (get_or self.old.vregs vreg 0)
+            else (if nat_eq y (get_or self.old.vregs vreg 0) then false else holds_now self.old i y))) }
+    {
+        self.forget(vreg)?;
+        let set = self.single(vreg)?;
+        self.put(place, vreg, set)
+    }
+
+    /// The places that hold a virtual register.
+    pub fn holders(&self, alloc: A, vreg: usize) -> Result<Vec<usize, A>, AllocError>
+        requires { vreg < length self.now.vregs }
+        ensures { IfOk result (λ holders. (i : ℕ) → is_in holders.items i
+            ≡ (nat_lt i (length self.now.places) && holds_now self.now i (get_or self.now.vregs vreg 0))) }
+    {
+        holders_among(
+            alloc,
+            &self.entries,
+            &self.sets,
+            &self.homes[vreg],
+            self.vregs.number(vreg),
+            self.places.len(),
+        )
+    }
+
+    /// What a place holds, and a virtual register.
+    fn with(&mut self, place: usize, vreg: usize) -> Result<u32, AllocError>
+        requires place { place < length self.old.places }
+        requires vreg { vreg < length self.old.vregs }
+        ensures kept { AreKeptTables self.old self.new }
+        ensures now { HoldsNow self.new (holds_now self.old) }
+        ensures set { IfOk result (λ n. IsSetOf self.new.sets n
+            (λ y. if nat_eq y (get_or self.old.vregs vreg 0) then true else holds_now self.old place y)) }
+    {
+        self.sets
+            .with(self.entries.get(place), self.vregs.number(vreg))
+    }
+
+    /// Adds a virtual register to what a place holds.
+    fn add_at(&mut self, place: usize, vreg: usize) -> Result<(), AllocError>
+        requires place { place < length self.old.places }
+        requires vreg { vreg < length self.old.vregs }
+        ensures kept { AreKeptTables self.old self.new }
+        ensures now { OnOk result (HoldsNow self.new (λ i y. if nat_eq i place && nat_eq y (get_or self.old.vregs vreg 0) then true
+            else holds_now self.old i y)) }
+    {
+        let set = self.with(place, vreg)?;
+        self.put(place, vreg, set)
+    }
+
+    /// Gives a virtual register other places, which hold it beside what they hold.
+    pub fn give(&mut self, vreg: usize, places: &[usize]) -> Result<(), AllocError>
+        requires vreg { vreg < length self.old.vregs }
+        requires places { (i : ℕ) → is_in places.now i ≡ true → i < length self.old.places }
+        ensures kept { AreKeptTables self.old self.new }
+        ensures now { OnOk result (HoldsNow self.new (λ i y. if nat_eq y (get_or self.old.vregs vreg 0) then is_in places.now i else holds_now self.old i y)) }
+    {
+        self.forget(vreg)?;
+        for place in places {
+            self.add_at(*place, vreg)?;
+        }
+        Ok(())
+    }
+
+    /// Works on a table.
+    pub fn load(&mut self, table: usize)
+        requires { table < count_of self.old }
+        ensures kept { AreKeptTables self.old self.new }
+        ensures now { HoldsNow self.new (holds_in self.old table) }
+    {
+        self.entries.load(table);
+    }
+
+    /// Keeps the table that is worked on under a number.
+    pub fn save(&mut self, table: usize) -> Result<(), AllocError>
+        requires { table < count_of self.old }
+        ensures places { self.new.places ≡ self.old.places }
+        ensures vregs { self.new.vregs ≡ self.old.vregs }
+        ensures count { count_of self.new ≡ count_of self.old }
+        ensures now { HoldsNow self.new (holds_now self.old) }
+        ensures tables { OnOk result ((k i y : ℕ) → i < length self.old.places → holds_in self.new k i y
+            ≡ (if nat_eq k table then holds_now self.old i y else holds_in self.old k i y)) }
+    {
+        self.entries.save(table)
+    }
+
+    /// Leaves in a table what the one that is worked on holds too; answers whether that is less than it held. The one that
+    /// is worked on is lost.
+    pub fn meet(&mut self, table: usize) -> Result<bool, AllocError>
+        requires { table < count_of self.old }
+        ensures places { self.new.places ≡ self.old.places }
+        ensures vregs { self.new.vregs ≡ self.old.vregs }
+        ensures count { count_of self.new ≡ count_of self.old }
+        ensures met { OnOk result ((k i y : ℕ) → i < length self.old.places → holds_in self.new k i y
+            ≡ (if nat_eq k table then holds_in self.old k i y && holds_now self.old i y else holds_in self.old k i y)) }
+        ensures less { IfOk result (λ less. OnTrue less (LosesSome (length self.old.places) (holds_in self.old table) (holds_now self.old))) }
+        ensures same { IfOk result (λ less. OnFalse less ((i y : ℕ) → i < length self.old.places → holds_in self.old table i y ≡ true
+            → holds_now self.old i y ≡ true)) }
+    {
+        let is_less = meet_entries(&mut self.entries, &mut self.sets, table, self.places.len())?;
+        if !is_less {
+            return Ok(false);
+        }
+        self.entries.save(table)?;
+        Ok(true)
+    }
+}

@@ -1,0 +1,58 @@
+-- The list of the vregs that are in registers gets shorter with each reload of the newest.
+use Rattle.std.proofs.Common.{ℕ, ◌≡◌, ◌<◌, ◌≤◌, ◌∙◌, false, not, length, refl, sym, ap, arith, nat_eq, eq-eqb, true}
+use Rattle.std.specs.Prelude.{Contains, Some, None}
+use Rattle.regalloc2_names.specs.Register.{Register, VirtualRegister}
+use Rattle.regalloc2_names.specs.declared.RegClass.{RegClass}
+use Rattle.regalloc2_names.specs.Place.{Place, NoPlace, InRegister, InSlot, is_in_register}
+use Rattle.regalloc2_fastalloc_state.specs.StateParts.{VRegAllocsValue, SetsAlloc, IsSlotOrNone, IsNewest, in_front_if, without}
+use Rattle.regalloc2_fastalloc_state.specs.declared.inst_regs.InstRegs.{InstRegs}
+use Rattle.regalloc2_fastalloc_state.proofs.TakenOut.{length_kept, shorter}
+use Rattle.regalloc2_fastalloc_proofs.specs.InstSteps.{StateValue, EvictsVReg, nobody, moved, AllocsScratchReg}
+use Rattle.regalloc2_fastalloc_proofs.specs.InstSteps.{dedicated_scratch, had, found, AddsMove, direct, through, EvictsPReg, empty, cleared}
+
+-- a slot is no register
+slot_only : (count : ℕ) (s : Place) → IsSlotOrNone count s → is_in_register s ≡ false
+slot_only count NoPlace h = refl
+slot_only count (InRegister r) h = absurd h
+slot_only count (InSlot n) h = refl
+
+-- where a vreg goes to its slot, nobody comes in front
+left_alone : (old new : VRegAllocsValue) (v : VirtualRegister) (s : Place) (count : ℕ) → IsSlotOrNone count s → SetsAlloc old new v s →
+    new.in_registers ≡ without v.number old.in_registers
+left_alone old new v s count slot z = z.order
+    ∙ ap (λ b. in_front_if b v (without v.number old.in_registers)) (slot_only count s slot)
+
+no_longer : (old new : VRegAllocsValue) (v : VirtualRegister) (s : Place) (count : ℕ) → IsSlotOrNone count s → SetsAlloc old new v s →
+    length new.in_registers ≤ length old.in_registers
+no_longer old new v s count slot z = rw (left_alone old new v s count slot z) (length_kept (λ w. not (nat_eq w.number v.number)) old.in_registers)
+
+-- an eviction makes it no longer
+evicts_no_longer : (point : ℕ) (by : Register) (old new : StateValue) → EvictsVReg point by old new →
+    length new.places.in_registers ≤ length old.places.in_registers
+evicts_no_longer point by old new (nobody h e) = rw e (omega arith)
+evicts_no_longer point by old new (moved v s small h gives settles edits machine) = no_longer old.places new.places v s new.slots.count gives.below settles
+
+scratches_no_longer : (point : ℕ) (class : RegClass) (t u : InstRegs) (by : Register) (old new : StateValue) → AllocsScratchReg point class t u by old new →
+    length new.places.in_registers ≤ length old.places.in_registers
+scratches_no_longer point class t u by old new (dedicated_scratch d e f) = rw f (omega arith)
+scratches_no_longer point class t u by old new (had d h e f) = rw f (omega arith)
+scratches_no_longer point class t u by old new (found d n may e l he hl s evicts) = evicts_no_longer point by old new evicts
+
+-- nor does a move
+crosses_no_longer : (point : ℕ) (class : RegClass) (from to : Place) (t u : InstRegs) (old new : StateValue) → AddsMove point class from to t u old new →
+    length new.places.in_registers ≤ length old.places.in_registers
+crosses_no_longer point class from to t u old new (direct b e f) = rw f (omega arith)
+crosses_no_longer point class from to t u old new (through by m b s e) = rw e (scratches_no_longer point class t u by old m s)
+
+-- and the newest leaves it
+pub newest_leaves : (point : ℕ) (by : Register) (t u : InstRegs) (old new : StateValue) → EvictsPReg point by t u old new → IsNewest old.places by →
+    length new.places.in_registers < length old.places.in_registers
+newest_leaves point by t u old new (empty h e f) n = absurd (let held = n.held in cc)
+newest_leaves point by t u old new (cleared v s m small h gives settles edits machine crosses) n =
+    let same : n.vreg ≡ v = (let e : Some n.vreg ≡ Some v = sym n.held ∙ h in cc) in
+    let there : Contains old.places.in_registers v = rw n.newest (0, omega arith, same) in
+    let self : nat_eq v.number v.number ≡ true = eq-eqb v.number v.number refl in
+    let less : length (without v.number old.places.in_registers) < length old.places.in_registers =
+    shorter (λ w. not (nat_eq w.number v.number)) old.places.in_registers v there (ap not self) in
+    let one : length m.places.in_registers < length old.places.in_registers = rw (left_alone old.places m.places v s m.slots.count gives.below settles) less in
+    let two = crosses_no_longer point v.class s (InRegister by) t u m new crosses in omega (arith, one, two)

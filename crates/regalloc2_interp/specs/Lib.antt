@@ -1,4 +1,0 @@
-pub mod Logs
-pub mod Ways
-pub mod Inside
-pub mod Runs

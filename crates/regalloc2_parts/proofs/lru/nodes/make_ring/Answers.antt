@@ -1,0 +1,24 @@
+use Rattle.std.proofs.Common.{◌<◌, ◌∷◌, ◌++◌, ◌∙◌, ap, arith, length, List}
+use Rattle.std.specs.Prelude.{map}
+use Rattle.regalloc2_names.specs.Register.{Register}
+use Rattle.regalloc2_parts.specs.RingNodes.{ring_numbers}
+use Rattle.regalloc2_parts.proofs.RingLinks.{absent_before, node_alone}
+use Rattle.regalloc2_parts.proofs.lru.nodes.make_ring.Goals as goal
+
+pub loop-preg-init : goal.loop-preg-init
+loop-preg-init c =
+    let room = c.requires.room in
+    let fits : c.args.head < length c.args.nodes.now = omega (arith, c.requires.below) in
+    let one = node_alone c.args.nodes.now c.link.new.nodes c.args.head fits c.link.ensures.nexts c.link.ensures.prevs in
+    record {
+      ring = one.ring;
+      all = ap (λ l. l ++ map (λ (r : Register). r.number) c.into_iter-preg-iterator.result) one.are
+          ∙ ap (λ (l : List Register). c.args.head ∷ map (λ (r : Register). r.number) l) c.into_iter-preg-iterator.ensures.into_iter_gives;
+      long = c.link.ensures.long ∙ c.requires.room;
+    }
+
+pub append_node-requires-clause-absent : goal.append_node-requires-clause-absent
+append_node-requires-clause-absent c =
+    let numbers = ring_numbers c.loop-preg.nodes c.args.head in
+    absent_before numbers c.hw_enc.result (map (λ (r : Register). r.number) c.next.new.self) (c.args.head ∷ map (λ (r : Register). r.number) c.args.rest)
+    (rw c.hw_enc.ensures.number (rw c.in-Some.ensures.steps at c.loop-preg.invariant.all)) c.requires.distinct

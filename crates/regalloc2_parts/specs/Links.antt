@@ -1,0 +1,45 @@
+-- Numbers that are linked into a ring: a list says which number comes after each number, and another which one comes before it.
+use Rattle.std.specs.Prelude.{ℕ, zero, suc, ◌≡◌, ◌+◌, ◌<◌, ◌≤◌, cond, nat_eq, false, List, [], ◌∷◌, length, slice_index}
+use Rattle.std.specs.List.{AllByRecursion, IsDistinct}
+
+-- from one number the links lead over those of a list, in its order, to another, and from each back to the one before it
+unfoldable pub Leads : List ℕ → List ℕ → ℕ → List ℕ → ℕ → Type 0
+Leads nexts prevs from [] to = (slice_index nexts from ≡ to) × (slice_index prevs to ≡ from)
+Leads nexts prevs from (x ∷ xs) to = (slice_index nexts from ≡ x) × (slice_index prevs x ≡ from) × Leads nexts prevs x xs to
+
+-- none of a list's numbers is this one
+abbrev pub Lacks : ℕ → List ℕ → Type 0
+Lacks n xs = AllByRecursion (λ x. nat_eq n x ≡ false) xs
+
+-- the links stand for a ring: the head, then the others, none of them twice, and the head again
+pub record IsRing (nexts prevs : List ℕ) (head : ℕ) (others : List ℕ) : Type 0 where
+  pub leads : Leads nexts prevs head others head
+  pub distinct : IsDistinct nat_eq (head ∷ others)
+  pub below : AllByRecursion (λ n. n < length nexts) (head ∷ others)
+  pub long : length prevs ≡ length nexts
+
+-- the numbers from one on, each followed by the one that its link names, up to another that isn't among them; at most so many
+unfoldable pub walked_at_most : ℕ → List ℕ → ℕ → ℕ → List ℕ
+walked_at_most zero links stop at = []
+walked_at_most (suc most) links stop at = cond (nat_eq stop at) [] (at ∷ walked_at_most most links stop (slice_index links at))
+
+abbrev pub walked : List ℕ → ℕ → ℕ → List ℕ
+walked links stop at = walked_at_most (length links) links stop at
+
+-- the links of one direction lead from a number over those of a list to another
+unfoldable pub Passes : List ℕ → ℕ → List ℕ → ℕ → Type 0
+Passes links at [] stop = at ≡ stop
+Passes links at (x ∷ xs) stop = (at ≡ x) × Passes links (slice_index links x) xs stop
+
+-- a walk from a number along links of one direction has these numbers left before it stops at another
+pub record IsWalk (links : List ℕ) (stop at : ℕ) (xs : List ℕ) : Type 0 where
+  pub passes : Passes links at xs stop
+  pub apart : Lacks stop xs
+  pub below : AllByRecursion (λ n. n < length links) xs
+  pub short : length xs ≤ length links
+
+-- at how many places two lists of numbers differ
+unfoldable pub changed : List ℕ → List ℕ → ℕ
+changed [] ys = length ys
+changed (x ∷ xs) [] = length (x ∷ xs)
+changed (x ∷ xs) (y ∷ ys) = cond (nat_eq x y) 0 1 + changed xs ys

@@ -1,0 +1,170 @@
+//! The nodes of a ring of registers.
+
+ghost use Rattle.std.specs.Prelude.{◌≡◌, ◌≢◌, ◌∷◌, ◌++◌, [], ◌<◌, ◌≤◌, All, Contains, length, map, not, filter, nat_eq, reverse, slice_set};
+ghost use Rattle.std.specs.List.{IsDistinct};
+ghost use Rattle.std.specs.Iterator.{YieldsFirst, item_count};
+ghost use Rattle.regalloc2_parts.specs.RingNodes.{IsNodeRing, IsRingOf, changed_links, named, nexts, prevs, ring_numbers};
+
+use regalloc2_names::{PReg, PRegSetIter, RegClass};
+use std::marker::Model;
+
+/// The number before a register's in its ring, and the number after it.
+#[derive(Clone, Copy, Debug)]
+pub struct LruNode {
+    pub prev: u8,
+    pub next: u8,
+}
+
+/// Makes two numbers neighbours: two links change.
+fn link(nodes: &mut [LruNode], prev: u8, next: u8)
+    requires prev { prev < length nodes.old }
+    requires next { next < length nodes.old }
+    ensures nexts { nexts nodes.new ≡ slice_set (nexts nodes.old) prev next }
+    ensures prevs { prevs nodes.new ≡ slice_set (prevs nodes.old) next prev }
+    ensures few { changed_links nodes.old nodes.new ≤ 2 }
+    ensures long { length nodes.new ≡ length nodes.old }
+{
+    nodes[prev as usize].next = next;
+    nodes[next as usize].prev = prev;
+}
+
+/// Puts a number into a ring, as the oldest.
+pub fn append_node(nodes: &mut [LruNode], head: u8, number: u8)
+    requires ring { IsNodeRing nodes.old head }
+    requires below { number < length nodes.old }
+    requires absent { All (λ n. n ≢ number) (ring_numbers nodes.old head) }
+    ensures ring { IsRingOf nodes.new head (ring_numbers nodes.old head ++ number ∷ []) }
+    ensures few { changed_links nodes.old nodes.new ≤ 4 }
+    ensures long { length nodes.new ≡ length nodes.old }
+{
+    let oldest = nodes[head as usize].prev;
+    link(nodes, oldest, number);
+    link(nodes, number, head);
+}
+
+/// Takes a member that isn't the newest out of a ring.
+fn take_out_node(nodes: &mut [LruNode], head: u8, number: u8)
+    requires ring { IsNodeRing nodes.old head }
+    requires member { Contains (ring_numbers nodes.old head) number }
+    requires other { number ≢ head }
+    ensures ring { IsRingOf nodes.new head (filter (λ n. not (nat_eq number n)) (ring_numbers nodes.old head)) }
+    ensures few { changed_links nodes.old nodes.new ≤ 2 }
+    ensures long { length nodes.new ≡ length nodes.old }
+{
+    let node = nodes[number as usize];
+    link(nodes, node.prev, node.next);
+}
+
+/// Makes a member that isn't the newest the oldest of a ring; the others keep their order.
+fn make_oldest(nodes: &mut [LruNode], head: u8, number: u8)
+    requires ring { IsNodeRing nodes.old head }
+    requires member { Contains (ring_numbers nodes.old head) number }
+    requires other { number ≢ head }
+    ensures ring { IsRingOf nodes.new head (filter (λ n. not (nat_eq number n)) (ring_numbers nodes.old head) ++ number ∷ []) }
+    ensures few { changed_links nodes.old nodes.new ≤ 6 }
+    ensures long { length nodes.new ≡ length nodes.old }
+{
+    if nodes[head as usize].prev == number {
+        return;
+    }
+    take_out_node(nodes, head, number);
+    append_node(nodes, head, number);
+}
+
+/// Makes a member the newest of a ring; the others keep their order. At most six links and the head change.
+pub fn poke_node(nodes: &mut [LruNode], head: &mut u8, number: u8)
+    requires ring { IsNodeRing nodes.old head.old }
+    requires member { Contains (ring_numbers nodes.old head.old) number }
+    ensures ring { IsRingOf nodes.new head.new (number ∷ filter (λ n. not (nat_eq number n)) (ring_numbers nodes.old head.old)) }
+    ensures few { changed_links nodes.old nodes.new ≤ 6 }
+    ensures long { length nodes.new ≡ length nodes.old }
+{
+    if number == *head {
+        return;
+    }
+    make_oldest(nodes, *head, number);
+    *head = number;
+}
+
+/// Makes the ring of a register's number and of those that a walk over a set has left.
+pub fn make_ring(nodes: &mut [LruNode], head: u8, rest: PRegSetIter)
+    requires room { length nodes.old ≡ 64 }
+    requires below { head < 64 }
+    requires distinct { IsDistinct nat_eq (head ∷ map (λ r. r.number) rest) }
+    ensures ring { IsRingOf nodes.new head (head ∷ map (λ r. r.number) rest) }
+    ensures long { length nodes.new ≡ length nodes.old }
+{
+    link(nodes, head, head);
+    for preg in rest {
+        append_node(nodes, head, preg.hw_enc() as u8);
+    }
+}
+
+/// The registers of a ring that are left of a walk from the oldest to the newest, seen as their list.
+#[derive(Drop)]
+pub struct OldestFirst<'a> {
+    nodes: &'a [LruNode],
+    head: u8,
+    class: RegClass,
+    at: Option<u8>,
+}
+
+impl<'a> Model for OldestFirst<'a> {
+    ghost use Rattle.std.specs.Prelude.{List};
+    ghost use Rattle.regalloc2_names.specs.Register.{Register};
+    ghost use Rattle.regalloc2_parts.specs.RingNodes.{IsLeft, left_of};
+
+    ghost Value = { List Register };
+
+    ghost view = { λ it. left_of it.nodes.now it.head it.class it.at };
+
+    ghost invariant = { λ it. IsLeft it.nodes.now it.head it.at };
+}
+
+impl<'a> OldestFirst<'a> {
+    /// The walk over no register.
+    pub fn none(nodes: &'a [LruNode], class: RegClass) -> Self
+        requires { length nodes.now ≤ 64 }
+        ensures { result ≡ [] }
+    {
+        OldestFirst {
+            nodes,
+            head: 0,
+            class,
+            at: None,
+        }
+    }
+
+    /// The walk over a ring.
+    pub fn of(nodes: &'a [LruNode], head: u8, class: RegClass) -> Self
+        requires few { length nodes.now ≤ 64 }
+        requires ring { IsNodeRing nodes.now head }
+        ensures { result ≡ reverse (map (named class) (ring_numbers nodes.now head)) }
+    {
+        let oldest = nodes[head as usize].prev;
+        OldestFirst {
+            nodes,
+            head,
+            class,
+            at: Some(oldest),
+        }
+    }
+}
+
+impl<'a> Iterator for OldestFirst<'a> {
+    type Item = PReg;
+
+    ghost next_gives = { YieldsFirst (λ rest. rest) };
+
+    ghost remaining = { item_count (λ rest. rest) };
+
+    fn next(&mut self) -> Option<PReg> {
+        let at = self.at?;
+        self.at = if at == self.head {
+            None
+        } else {
+            Some(self.nodes[at as usize].prev)
+        };
+        Some(PReg::new(at as usize, self.class))
+    }
+}

@@ -1,0 +1,114 @@
+//! The moves of calls, which are resolved, and computed with the places of a frame.
+
+ghost use Rattle.std.specs.Prelude.{◌≤◌, IfOk};
+
+use super::listed::{Pairs, SLOT, place, write_moves};
+use crate::report::Report;
+use regalloc2_callmoves::{CallFrame, schedule};
+use regalloc2_names::{Allocation, PReg, PRegSet, RegClass};
+use std::alloc::{AllocError, Global};
+
+/// A number that stands for no place.
+const NONE: usize = 512;
+
+/// A register that stands for a place in memory.
+const IN_MEMORY: usize = 20;
+
+/// Two slots that are swapped.
+const SLOTS: Pairs = &[(SLOT, SLOT + 1), (SLOT + 1, SLOT)];
+
+/// Moves of which one goes from slot to slot, and others read and write p0i.
+const MIXED: Pairs = &[(SLOT, SLOT + 1), (0, 2), (SLOT + 3, 0)];
+
+/// A swap of two registers, and a slot that is copied to another.
+const CALL: Pairs = &[(0, 1), (1, 0), (SLOT, SLOT + 1)];
+
+/// Moves, the free registers, the borrowed one, the first slot of the range and how many it has.
+const CASES: [(Pairs, &[usize], usize, u8, u8); 19] = [
+    (SLOTS, &[], 0, 2, 2),
+    (MIXED, &[], 0, 4, 2),
+    (MIXED, &[], 0, 4, 0),
+    (&[(SLOT, SLOT)], &[5], 0, 4, 0),
+    (SLOTS, &[5, 6], 0, 4, 2),
+    (SLOTS, &[40], 0, 20, 0),
+    (SLOTS, &[40], 0, 20, 1),
+    (CALL, &[], 2, 8, 2),
+    (CALL, &[5, 6], 2, 8, 0),
+    (CALL, &[], 2, 8, 1),
+    (CALL, &[5], 2, 8, 2),
+    (&[(0, 1), (1, 0), (SLOT, SLOT + 1), (3, 0)], &[], 2, 8, 2),
+    (CALL, &[], 2, 1, 2),
+    (&[(0, 1), (NONE, 2), (3, NONE)], &[0], 2, 8, 2),
+    (CALL, &[5, 0], 2, 8, 2),
+    (CALL, &[5, 6, 5], 2, 8, 2),
+    (CALL, &[5, IN_MEMORY], 2, 8, 2),
+    (CALL, &[5, 2], 2, 8, 2),
+    (&[(IN_MEMORY, SLOT), (3, 4)], &[5], 2, 8, 0),
+];
+
+/// The register of a number.
+fn register(number: usize) -> PReg {
+    PReg::new(number % 64, RegClass::Int)
+}
+
+/// The place of a number, or none.
+fn any_place(number: usize) -> Allocation {
+    if number == NONE {
+        Allocation::none()
+    } else {
+        place(number)
+    }
+}
+
+/// The frame of a case.
+fn frame_of(
+    alloc: Global,
+    free: &[usize],
+    borrowed: usize,
+    start: u8,
+    slots: u8,
+) -> Result<CallFrame, AllocError>
+    ensures range { IfOk result (λ f. f.slots.start ≤ f.slots.«end») }
+    ensures small { IfOk result (λ f. f.slots.«end» ≤ 16777216) }
+{
+    let mut free_regs = Vec::new(alloc);
+    free_regs.extend(free.iter().map(|number| register(*number)))?;
+    let start = usize::from(start);
+    Ok(CallFrame {
+        free_regs,
+        borrowed: register(borrowed),
+        stack_pregs: PRegSet::empty().with(register(IN_MEMORY)),
+        slots: start..start + usize::from(slots),
+    })
+}
+
+/// Writes what is made of each case.
+pub fn write_scheduled(alloc: Global, out: &mut Report) -> Result<(), AllocError> {
+    for (pairs, free, borrowed, start, slots) in CASES {
+        let mut moves = Vec::new(alloc);
+        let places = pairs
+            .iter()
+            .map(|pair| (any_place(pair.0), any_place(pair.1)));
+        moves.extend(places)?;
+        let frame = frame_of(alloc, free, borrowed, start, slots)?;
+        match schedule(alloc, moves.as_slice(), &frame) {
+            Ok(made) => write_moves(out, "schedule", made.as_slice()),
+            Err(fault) => out.row("schedule", &fault),
+        }
+    }
+    Ok(())
+}
+
+/// Writes how many moves come of a chain of 50,000 and a cycle of 50,001.
+pub fn write_long(alloc: Global, out: &mut Report) -> Result<(), AllocError> {
+    let mut moves = vec![in alloc; (place(110_000), place(60_000))]?;
+    for at in 100..110_000usize {
+        if at < 50_100 || at >= 60_000 {
+            moves.push((place(at), place(at + 1)))?;
+        }
+    }
+    let frame = frame_of(alloc, &[], 3, 20, 2)?;
+    let made = schedule(alloc, moves.as_slice(), &frame);
+    out.row("long", &made.map(|moves| moves.len()));
+    Ok(())
+}

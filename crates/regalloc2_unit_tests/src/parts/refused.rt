@@ -1,0 +1,119 @@
+//! Calls that take memory: each growth, refused in turn.
+
+use super::listed::{SLOT, resolved};
+use super::structures::three_rings;
+use crate::report::Report;
+use regalloc2_cfg::indexset::IndexSet;
+use regalloc2_function::{MachineEnv, Output, StoredFault, StoredOutput, is_framed};
+use regalloc2_names::{PRegSet, RegAllocError};
+use regalloc2_parts::moves::MoveFault;
+use regalloc2_parts::vregset::VRegSet;
+use regalloc2_serialize::{FromValue, SerializableFunction, StoredFunction};
+use regalloc2_test_alloc::{Call, Refusing, is_each_told};
+use serde_json::Value;
+use std::alloc::{AllocError, Allocator, Global};
+
+/// Calls, and the JSON texts that they read.
+#[derive(Clone, Copy)]
+enum Made<'a> {
+    Parts(Global),
+    Sets,
+    Stored(Global, (&'a str, &'a str)),
+}
+
+impl Call for Made<'_> {
+    fn make(&self, alloc: &Refusing<Global>) -> Result<bool, AllocError> {
+        let answer = match *self {
+            Made::Parts(global) => make_parts(global, alloc),
+            Made::Sets => make_sets(alloc),
+            Made::Stored(global, texts) => stored(global, alloc, texts).map(|_| ()),
+        };
+        match answer {
+            Ok(()) => Ok(true),
+            Err(RegAllocError::Memory) => Err(AllocError),
+            Err(_) => Ok(false),
+        }
+    }
+}
+
+/// Makes rings and a list, and resolves a cycle of 17 slots.
+fn make_parts(global: Global, alloc: &Refusing<Global>) -> Result<(), RegAllocError> {
+    let _rings = three_rings(alloc)?;
+    let _list = VRegSet::with_capacity(alloc, 3)?;
+    let mut cycle = Vec::new(global);
+    for at in 0..17usize {
+        cycle.push((SLOT + at, SLOT + (at + 1) % 17))?;
+    }
+    match resolved(global, alloc, cycle.as_slice()) {
+        Ok(Some(_)) => Ok(()),
+        Err(MoveFault::Memory) => Err(RegAllocError::Memory),
+        _ => Err(RegAllocError::TooManySpillSlots),
+    }
+}
+
+/// Fills a set past its twelve words, assigns it and adds it to another one.
+fn make_sets(alloc: &Refusing<Global>) -> Result<(), RegAllocError> {
+    let mut set = IndexSet::new(alloc);
+    for word in 0..40usize {
+        set.set(64 * word, true)?;
+    }
+    let (mut assigned, mut added) = (IndexSet::new(alloc), IndexSet::new(alloc));
+    assigned.assign(&set)?;
+    added.union_with(&set)?;
+    Ok(())
+}
+
+/// Out of memory, or another fault, as other calls name them.
+fn fault_of(fault: StoredFault) -> RegAllocError {
+    if fault == StoredFault::Memory {
+        RegAllocError::Memory
+    } else {
+        RegAllocError::EntryLivein
+    }
+}
+
+/// A copy of a function that is framed, with a machine without registers.
+fn copied<A: Allocator + Copy>(
+    alloc: A,
+    f: &SerializableFunction<A>,
+) -> Result<SerializableFunction<A>, RegAllocError> {
+    if !is_framed(f) {
+        return Err(RegAllocError::EntryLivein);
+    }
+    let env = MachineEnv {
+        preferred_regs_by_class: [PRegSet::empty(); 3],
+        non_preferred_regs_by_class: [PRegSet::empty(); 3],
+        scratch_by_class: [None; 3],
+        fixed_stack_slots: Vec::new(alloc),
+    };
+    SerializableFunction::new(alloc, f, env)
+}
+
+/// The stored numbers of a function, copied with a machine without registers, and of an output that JSON texts give.
+fn stored<A: Allocator + Copy>(
+    global: Global,
+    alloc: A,
+    texts: (&str, &str),
+) -> Result<(StoredFunction<A>, StoredOutput<A>), RegAllocError> {
+    let value = Value::from_str(global, texts.0).map_err(|_| RegAllocError::EntryLivein)?;
+    let stored = StoredFunction::from_value(alloc, &value).map_err(|fault| fault_of(fault))?;
+    let f = SerializableFunction::from_stored(alloc, &stored).map_err(|fault| fault_of(fault))?;
+    let copy = copied(alloc, &f)?;
+    let value = Value::from_str(global, texts.1).map_err(|_| RegAllocError::EntryLivein)?;
+    let read = StoredOutput::from_value(alloc, &value).map_err(|fault| fault_of(fault))?;
+    let output = Output::from_stored(alloc, &read).map_err(|fault| fault_of(fault))?;
+    Ok((copy.stored()?, output.stored()?))
+}
+
+/// Writes the numbers that the texts of a function and an output give, and of each call whether it answers each growth that is refused.
+pub fn write_all(global: Global, text: &str, out: &mut Report) {
+    let texts = text.split_once('\n').unwrap_or(("", ""));
+    out.row("stored", &stored(global, global, texts).ok());
+    for (name, call) in [
+        ("rings, list, moves", Made::Parts(global)),
+        ("sets", Made::Sets),
+        ("a stored function and output", Made::Stored(global, texts)),
+    ] {
+        out.row(name, &is_each_told(global, &call));
+    }
+}

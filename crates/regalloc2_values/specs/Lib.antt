@@ -1,0 +1,2 @@
+pub mod Interpreters
+pub mod Alike
