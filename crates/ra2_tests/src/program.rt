@@ -115,11 +115,8 @@ pub fn replaced(alloc: Global, old: &str, new: &str) -> Result<String, AllocErro
 
 /// A line on the standard error.
 pub fn unusable(err: &str) -> Answer<'_> {
-    Answer {
-        out: "",
-        err,
-        status: 2,
-    }
+    let (out, status) = ("", 2);
+    Answer { out, err, status }
 }
 
 #[test]

@@ -1,11 +1,11 @@
 //! What `replay` answers to stored outputs.
 
 use super::program::{Answer, answers, replaced, unusable};
-use super::texts::{FORK, FORK_OUTPUT, TEXT};
+use super::texts::{TEXT, TOO_MANY};
 use std::alloc::{AllocError, Global};
 use std::test::Fail;
 
-/// An output of [`TEXT`] without moves, of these places and offsets.
+/// An output without moves, of these places and offsets.
 fn output(alloc: Global, allocs: &str, offsets: &str) -> Result<String, AllocError> {
     format!(in alloc;
         "{{\"num_spillslots\":0,\"edits\":[],\"allocs\":[{allocs}],\
@@ -21,11 +21,8 @@ fn replays(alloc: Global, function: &str, output: &str, want: Answer) -> Result<
 
 /// Lines on the standard output, and the status that goes with them.
 fn judged(out: &str) -> Answer<'_> {
-    Answer {
-        out,
-        err: "",
-        status: if out == "checked\n" { 0 } else { 1 },
-    }
+    let (err, status) = ("", u8::from(out != "checked\n"));
+    Answer { out, err, status }
 }
 
 #[test]
@@ -45,8 +42,10 @@ fn outputs_are_judged(rt: HostRuntime) -> Result<(), Fail> {
         let is_so = replays(rt.alloc(), TEXT, output.as_str(), judged(lines))?;
         assert!(rt; is_so, "{allocs}");
     }
-    let lines = "error 4 inst3 Use: v1i reg [p9i]\n";
-    assert!(rt; replays(rt.alloc(), FORK, FORK_OUTPUT, judged(lines))?);
+    let one_register = "536870912,536870912,536870913,536870912,536870912,536870913";
+    let output = output(rt.alloc(), one_register, "0,1,2,3")?;
+    let want = judged("error 4 inst3 Use: v0i reg [p0i]\n");
+    assert!(rt; replays(rt.alloc(), TOO_MANY, output.as_str(), want)?);
     Ok(())
 }
 

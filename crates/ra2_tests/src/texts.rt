@@ -24,23 +24,3 @@ pub const TOO_MANY: &str = "{\"machine_env\":{\"preferred_regs_by_class\":[[0,1]
     \"block_params_in\":[[]],\"block_params_out\":[[]],\"num_vregs\":3,\
     \"debug_value_labels\":[],\"spillslot_size\":[1,1,1],\
     \"multi_spillslot_named_by_last_slot\":false,\"allow_multiple_vreg_defs\":false}";
-
-/// A fork whose second way reads the parameter of the first: on that way it was never written.
-pub const FORK: &str =
-    "{\"machine_env\":{\"preferred_regs_by_class\":[[0,1,2,3,4,5,6,7,8,9],[],[]],\
-    \"non_preferred_regs_by_class\":[[],[],[]],\"scratch_by_class\":[null,null,null],\
-    \"fixed_stack_slots\":[]},\"entry_block\":0,\"insts\":[{\"op\":\"Op\",\
-    \"operands\":[85899345920],\"clobbers\":[]},{\"op\":\"Branch\",\"operands\":[],\
-    \"clobbers\":[]},{\"op\":\"Ret\",\"operands\":[103079215105],\"clobbers\":[]},\
-    {\"op\":\"Ret\",\"operands\":[103079215105],\"clobbers\":[]}],\"blocks\":[[0,2],[2,3],[3,\
-    4]],\"block_preds\":[[],[0],[0]],\"block_succs\":[[1,2],[],[]],\"block_params_in\":[[],[4],\
-    []],\"block_params_out\":[[[0],[]],[],[]],\"num_vregs\":2,\"debug_value_labels\":[],\
-    \"spillslot_size\":[1,1,1],\"multi_spillslot_named_by_last_slot\":false,\
-    \"allow_multiple_vreg_defs\":false}";
-
-/// An output of it.
-pub const FORK_OUTPUT: &str =
-    "{\"num_spillslots\":2,\"edits\":[[1,536870919,1073741825],[2,1073741825,536870919],[2,\
-    536870919,1073741824],[4,1073741824,536870920],[6,1073741824,536870921]],\
-    \"allocs\":[536870919,536870920,536870921],\"inst_alloc_offsets\":[0,1,1,2],\
-    \"debug_locations\":[]}";

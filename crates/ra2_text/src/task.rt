@@ -6,7 +6,7 @@ use regalloc2_calls::call::Call;
 use std::alloc::Global;
 
 /// The words that name what is to be done.
-const NAMES: [&str; 6] = ["run", "check", "replay", "text", "reads", "json"];
+const NAMES: [&str; 7] = ["run", "check", "replay", "text", "svg", "reads", "json"];
 
 /// What the help says of them.
 const HELP: &str = "\
@@ -18,11 +18,13 @@ check   write `checked`, or what the checker finds wrong in the output that FILE
         allocate registers, and check that output
 replay  the same, but an error if FILE gives no output
 text    the same as run
+svg     allocate registers, and write a picture of where each virtual register stands over the
+        instructions: registers and slots from left to right, moves as arrows
 reads   write whether each read and each argument comes after a write on every path: `written
         first` or `read before written`
 json    write the function in FILE with its machine as JSON, for ra2
 
-run and text allocate anew, whatever output FILE gives. A refused function or output is one
+run, text and svg allocate anew, whatever output FILE gives. A refused function or output is one
 line with its number and the reason. The status is then 1, and also where the checker finds
 something. It is 2 where FILE can't be read as a text, whose first fault is on standard error
 with its line and column, and where nothing can be written.";

@@ -64,7 +64,6 @@ pub use Rattle.regalloc2_parts.specs.Resolved
 pub use Rattle.regalloc2_parts.specs.Ring
 pub use Rattle.regalloc2_parts.specs.Tracking
 pub use Rattle.regalloc2_callmoves.specs.CallMoves
-pub use Rattle.regalloc2_callmoves.specs.Lending as CallLending
 pub use Rattle.regalloc2_serialize.specs.Validity
 pub use Rattle.regalloc2_serialize.specs.Decoded
 pub use Rattle.regalloc2_serialize.specs.FromJson

@@ -154,7 +154,8 @@ pub fn allocate_without_checker<A: Allocator + Copy, F: Function, B: Allocator>(
 /// It tests that the machine suits the function, as [`test_machine`] does, makes a `run` with all tests of the function, and
 /// asks [`reads_written`] whether some path from the entry reads or passes a virtual register before writing it. So nothing is
 /// left to assume: the output runs as the function does, along every path and whatever the instructions mean, and where a
-/// path comes to a block, the slot of each virtual register that is live there holds its value.
+/// path comes to a block, the slot of each virtual register that is live there holds its value, or the place where the branch into the
+/// block left it.
 ///
 /// An error is the first condition of a fitting machine that fails, else what `run` says of the function, else
 /// `ReadBeforeWritten`. The checker isn't asked: [`allocate`] asks it, and takes functions that read before writing where it

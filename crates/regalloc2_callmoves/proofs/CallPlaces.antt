@@ -8,17 +8,9 @@ use Rattle.regalloc2_names.specs.Place.{Place, NoPlace, InRegister, InSlot, is_p
 use Rattle.regalloc2_names.specs.PlaceBits.{index_of_place}
 use Rattle.regalloc2_names.specs.Register.{Register, is_register}
 use Rattle.regalloc2_names.specs.RegisterSet.{has_register}
-use Rattle.regalloc2_parts.proofs.Places.{is_place-true, is_place-same}
+use Rattle.regalloc2_names.proofs.EqualNames.{is_place-true, is_place-along}
 use Rattle.regalloc2_callmoves.specs.declared.CallFrame.{CallFrame}
 use Rattle.regalloc2_callmoves.specs.CallMoves.{CallMoves, call_move, source, target, free_at, HasNone, NamesNone, IsNamed, IsTaken, IsLower}
-
--- the test of equality says yes for equal places
-pub is_place-along : (p q : Place) → p ≡ q → is_place p q ≡ true
-is_place-along p q e = ap (λ x. is_place p x) (sym e) ∙ is_place-same p
-
--- places for which the test of equality says no differ
-pub not_same : (p q : Place) → is_place p q ≡ false → p ≢ q
-not_same p q n e = let no : true ≡ false = sym (is_place-along p q e) ∙ n in cc
 
 -- a slot's place and its number
 pub slot_there : (p : Place) (s : ℕ) → Some s ≡ slot_of_place p → p ≡ InSlot (index_of_place p)
@@ -126,18 +118,6 @@ pub record AreTaken (ms : CallMoves) (f : CallFrame) (n : ℕ) (s : PRegSet) : T
   pub no : (r : Register) → IsNamed ms (InRegister r) ⊎ (((j : ℕ) × (j < n) × (free_at f j ≡ r)) ⊎ (has_register f.stack_pregs r ≡ true)) →
       has_register s r ≡ true
 
--- the registers that moves name and those that stand for places in memory are the ones in use before the first free register is
-pub taken_none : (ms : CallMoves) (f : CallFrame) (s t : PRegSet) → ((r : Register) → has_register s r ≡ true → IsNamed ms (InRegister r)) →
-    ((r : Register) → IsNamed ms (InRegister r) → has_register s r ≡ true) →
-    ((r : Register) → has_register t r ≡ (has_register s r || has_register f.stack_pregs r)) → AreTaken ms f 0 t
-taken_none ms f s t named unnamed h = record {
-  yes = λ r e. ⊎_elim (λ a. inl (named r a)) (λ a. inr (inr a)) (either_true (has_register s r) (has_register f.stack_pregs r) (sym (h r) ∙ e));
-  no = λ r x. ⊎_elim
-      (λ a. h r ∙ true_left (has_register s r) (has_register f.stack_pregs r) (unnamed r a))
-      (λ y. ⊎_elim (λ j. absurd (omega (arith, j.1))) (λ b. h r ∙ true_right (has_register s r) (has_register f.stack_pregs r) b) y)
-      x;
-}
-
 register_along : (a b : Register) → is_register a b ≡ true → a ≡ b
 register_along a b e = let same : InRegister a ≡ InRegister b = is_place-true (InRegister a) (InRegister b) e in cc
 
@@ -161,10 +141,6 @@ taken_more ms f n s t h put = record {
     earlier r j lt is (inr same) =
         let here : InRegister (free_at f n) ≡ InRegister r = ap InRegister (ap (free_at f) (sym same) ∙ is) in
         put r ∙ true_left (is_register (free_at f n) r) (has_register s r) (is_place-along (InRegister (free_at f n)) (InRegister r) here)
-
--- what the set says of the free register n
-pub taken_is : (ms : CallMoves) (f : CallFrame) (n : ℕ) (s : PRegSet) → AreTaken ms f n s → true ≡ has_register s (free_at f n) → IsTaken ms f n
-taken_is ms f n s h e = h.yes (free_at f n) (sym e)
 
 -- a free register that the set doesn't have isn't in use
 pub taken_not : (ms : CallMoves) (f : CallFrame) (n : ℕ) (s : PRegSet) → AreTaken ms f n s → false ≡ has_register s (free_at f n) → IsTaken ms f n → ⊥

@@ -1,9 +1,8 @@
 -- What is made of the moves of a call that have no fault.
 use Rattle.std.proofs.Common.{ℕ, zero, suc, ◌≡◌, ◌≢◌, ◌<◌, ◌≤◌, ◌+◌, Bool, true, false, [], ◌∷◌, length, get_or, Option, None, Some, refl, sym, ap, ◌∙◌}
 use Rattle.std.proofs.Common.{subst, inl, inr, ◌⊎◌, ⊎_elim, arith}
-use Rattle.std.specs.Prelude.{Contains, Result, Ok, Err, MatchResult}
+use Rattle.std.specs.Prelude.{Contains}
 use Rattle.std.proofs.lemmas.Bool.{cases_lt}
-use Rattle.smallvec.specs.SmallVec.{SmallVec}
 use Rattle.regalloc2_names.specs.declared.sets.PRegSet.{PRegSet}
 use Rattle.regalloc2_names.specs.Place.{Place, NoPlace, InRegister, InSlot, is_memory}
 use Rattle.regalloc2_names.specs.Register.{Register}
@@ -12,13 +11,13 @@ use Rattle.regalloc2_parts.specs.declared.moves.MoveFault.{MoveFault}
 use Rattle.regalloc2_parts.specs.declared.moves.MoveFault.TheVariants.{NoSlot, Memory}
 use Rattle.regalloc2_parts.specs.AtOnce.{Ends, ends_of, HasOneSourceEach, IsOfMoves}
 use Rattle.regalloc2_parts.specs.Resolved.{IsResolution, IsUnnamed}
-use Rattle.regalloc2_parts.proofs.Places.{cases_place}
+use Rattle.regalloc2_parts.specs.declared.scratch_pool.ScratchPool.{ScratchPool}
+use Rattle.regalloc2_parts.specs.ScratchPool.{Moves, IsOfScratchPair, IsTaken as IsHandedOut, IsUsableFor, IsOrderedWith, HasTooFewSlots}
+use Rattle.regalloc2_names.proofs.EqualNames.{cases_place}
 use Rattle.regalloc2_callmoves.specs.declared.CallFrame.{CallFrame}
-use Rattle.regalloc2_callmoves.specs.declared.lent.Lent.{Lent}
-use Rattle.regalloc2_callmoves.specs.Lending.{Moves, IsOfPair, IsUsableFor, IsMadeWith, LacksSlots, IsMove}
 use Rattle.regalloc2_callmoves.specs.CallMoves.{CallMoves, with_units, source, target, free_at, fault_of, HasNone, HasOtherSource, IsNamed}
 use Rattle.regalloc2_callmoves.proofs.CallPlaces.{split_le}
-use Rattle.regalloc2_callmoves.specs.CallMoves.{IsProper, IsFault, IsLent, IsRegisterAt, IsSlotAt, IsLending, IsScheduled}
+use Rattle.regalloc2_callmoves.specs.CallMoves.{IsProper, IsFault, IsLent, IsRegisterAt, IsSlotAt, IsMove, IsPoolOf, IsScheduled}
 
 abbrev pub end_at : CallMoves → ℕ → Ends
 end_at ms k = record { from = source ms k; to = target ms k }
@@ -85,7 +84,7 @@ one_source ms h a b ca cb e =
     ∙ same_source ms h j.0 k.0 j.1 k.1 (to_is (end_at ms j.0) a j.2 ∙ e ∙ sym (to_is (end_at ms k.0) b k.2))
     ∙ from_is (end_at ms k.0) b k.2
 
-module _ (ms : CallMoves) (f : CallFrame) (l : Lent) (proper : IsProper ms f) (lends : IsLending f l) where
+module _ (ms : CallMoves) (f : CallFrame) (l : ScratchPool) (proper : IsProper ms f) (lends : IsPoolOf f l) where
   register_at : (k : ℕ) (o : Option Place) (p : Place) → IsRegisterAt f k o → o ≡ Some p → (k < length f.free_regs.items) × (p ≡ InRegister (free_at f k))
   register_at k o p h e = subst (IsRegisterAt f k) e h
 
@@ -93,15 +92,15 @@ module _ (ms : CallMoves) (f : CallFrame) (l : Lent) (proper : IsProper ms f) (l
       (f.slots.start + k < f.slots.«end») × (p ≡ InSlot (f.slots.start + k))
   slot_at k o p h e = subst (IsSlotAt f k) e h
 
-  of_registers : (p : Place) → IsOfPair l.registers p → (k : ℕ) × (k < length f.free_regs.items) × (p ≡ InRegister (free_at f k))
+  of_registers : (p : Place) → IsOfScratchPair l.registers p → (k : ℕ) × (k < length f.free_regs.items) × (p ≡ InRegister (free_at f k))
   of_registers p (inl e) = let x = register_at 0 l.registers.first p lends.first_register e in (0, x.0, x.1)
   of_registers p (inr e) = let x = register_at 1 l.registers.second p lends.second_register e in (1, x.0, x.1)
 
-  of_slots : (p : Place) → IsOfPair l.slots p → (n : ℕ) × (f.slots.start ≤ n) × (n < f.slots.«end») × (p ≡ InSlot n)
+  of_slots : (p : Place) → IsOfScratchPair l.slots p → (n : ℕ) × (f.slots.start ≤ n) × (n < f.slots.«end») × (p ≡ InSlot n)
   of_slots p (inl e) = let x = slot_at 0 l.slots.first p lends.first_slot e in (f.slots.start + 0, (omega arith), x.0, x.1)
   of_slots p (inr e) = let x = slot_at 1 l.slots.second p lends.second_slot e in (f.slots.start + 1, (omega arith), x.0, x.1)
 
-  lent_of : (p : Place) → (IsOfPair l.registers p) ⊎ (IsOfPair l.slots p) → IsLent f p
+  lent_of : (p : Place) → (IsOfScratchPair l.registers p) ⊎ (IsOfScratchPair l.slots p) → IsLent f p
   lent_of p (inl a) = inl (of_registers p a)
   lent_of p (inr a) = inr (of_slots p a)
 
@@ -118,11 +117,11 @@ module _ (ms : CallMoves) (f : CallFrame) (l : Lent) (proper : IsProper ms f) (l
   not_true true h = absurd (h refl)
   not_true false h = refl
 
-  no_memory : (p : Place) → IsOfPair l.registers p → is_memory l.stack_pregs p ≡ false
+  no_memory : (p : Place) → IsOfScratchPair l.registers p → is_memory l.fixed_stack p ≡ false
   no_memory p a =
       let x = of_registers p a in
-      ap (is_memory l.stack_pregs) x.2
-      ∙ ap (λ (s : PRegSet). has_register s (free_at f x.0)) lends.stack_pregs
+      ap (is_memory l.fixed_stack) x.2
+      ∙ ap (λ (s : PRegSet). has_register s (free_at f x.0)) lends.fixed_stack
       ∙ not_true (has_register f.stack_pregs (free_at f x.0)) (λ e. proper.free.registers x.0 x.1 (inr (inr e)))
 
   in_register : (a b : Register) → InRegister a ≡ InRegister b → a ≡ b
@@ -130,6 +129,14 @@ module _ (ms : CallMoves) (f : CallFrame) (l : Lent) (proper : IsProper ms f) (l
 
   in_slot : (a b : ℕ) → InSlot a ≡ InSlot b → a ≡ b
   in_slot a b e = cc
+
+  slot_missing : (k : ℕ) (o : Option Place) → IsSlotAt f k o → o ≡ None → f.slots.«end» ≤ f.slots.start + k
+  slot_missing k o h e = subst (IsSlotAt f k) e h
+
+  -- where the range is empty there is no second slot
+  elim_none : (o : Option Place) → IsSlotAt f 1 o → f.slots.«end» ≤ f.slots.start + 0 → o ≡ None
+  elim_none None h empty = refl
+  elim_none (Some p) h empty = absurd (omega (arith, h.0))
 
   module _ (scratch : Bool) (given : Moves) (resolved : IsResolution (with_units ms) scratch given) where
     -- a move that was made of the moves names none of the lent places
@@ -160,38 +167,36 @@ module _ (ms : CallMoves) (f : CallFrame) (l : Lent) (proper : IsProper ms f) (l
           let y = slot_at 1 l.slots.second q lends.second_slot b in
           let same : f.slots.start + 0 ≡ f.slots.start + 1 = in_slot (f.slots.start + 0) (f.slots.start + 1) (sym x.1 ∙ e ∙ y.1) in
           omega arith;
-      borrowed = ap (λ (s : PRegSet). has_register s l.borrowed) lends.stack_pregs
+      slots_in_order = λ none. elim_none l.slots.second lends.second_slot (slot_missing 0 l.slots.first lends.first_slot none);
+      borrowed = ap (λ (s : PRegSet). has_register s l.borrowed) lends.fixed_stack
           ∙ ap (has_register f.stack_pregs) lends.borrowed
           ∙ not_true (has_register f.stack_pregs f.borrowed) (λ e. proper.free.borrowed (inr e));
     }
 
-    -- moves that do what the ordered ones do, but for what is lent, do what the call's moves do at once
-    pub scheduled : (made : Moves) → IsMadeWith l given made → IsScheduled ms f made
-    scheduled made with_ = record {
+    -- a place that is handed out is one of the two
+    of_pair : (p : Place) (taken : ℕ) → IsHandedOut l.slots taken p → IsOfScratchPair l.slots p
+    of_pair p taken (inl a) = inl a.0
+    of_pair p taken (inr a) = inr a.0
+
+    -- moves that do what the ordered ones do, but for scratch places, do what the call's moves do at once
+    pub scheduled : (taken : ℕ) (made : Moves) → IsOrderedWith l taken given made → IsScheduled ms f made
+    scheduled taken made with_ = record {
       assigned = λ k lt.
           let named : IsNamed ms (target ms k) = (k, lt, inr refl) in
           with_.same (target ms k) (λ e. proper.named k lt (inr e)) (λ a. unnamed (target ms k) (lent_of (target ms k) (inl a)) named)
-          (λ a. unnamed (target ms k) (lent_of (target ms k) (inr a)) named)
+          (λ a. unnamed (target ms k) (lent_of (target ms k) (inr (of_pair (target ms k) taken a))) named)
           ∙ resolved.at_once.assigned (end_at ms k) (has_end ms k lt);
       kept = λ q real apart still.
-          with_.same q real (λ a. apart (lent_of q (inl a))) (λ a. apart (lent_of q (inr a)))
+          with_.same q real (λ a. apart (lent_of q (inl a))) (λ a. apart (lent_of q (inr (of_pair q taken a))))
           ∙ resolved.at_once.kept q real (λ m c e. let k = end_of ms m c in still k.0 k.1 (to_is (end_at ms k.0) m k.2 ∙ e));
-      each = λ k d lt. subst (λ (s : PRegSet). IsMove s (get_or made k d).0 (get_or made k d).1) lends.stack_pregs (with_.each k d lt);
+      each = λ k d lt.
+          let x = with_.each k d lt in
+          subst (λ (s : PRegSet). IsMove s (get_or made k d).0 (get_or made k d).1) lends.fixed_stack
+          (record { apart = λ a b. x.apart (sym a) (sym b); between = x.between });
     }
 
-  slot_missing : (k : ℕ) (o : Option Place) → IsSlotAt f k o → o ≡ None → f.slots.«end» ≤ f.slots.start + k
-  slot_missing k o h e = subst (IsSlotAt f k) e h
-
   -- a fault of the resolver is one of the call
-  pub fails : (fault : MoveFault) → LacksSlots l.slots fault → IsFault ms f (fault_of fault)
-  fails NoSlot (inl e) = (proper, (omega (arith, slot_missing 0 l.slots.first lends.first_slot e)))
-  fails NoSlot (inr e) = (proper, (omega (arith, slot_missing 1 l.slots.second lends.second_slot e)))
+  pub fails : (fault : MoveFault) → (fault ≡ NoSlot → HasTooFewSlots l.slots) → IsFault ms f (fault_of fault)
+  fails NoSlot h = ⊎_elim (λ e. (proper, omega (arith, slot_missing 0 l.slots.first lends.first_slot e)))
+      (λ e. (proper, omega (arith, slot_missing 1 l.slots.second lends.second_slot e))) (h refl)
   fails Memory h = proper
-
-  -- what is made of the moves, or why nothing is
-  pub outcome : (scratch : Bool) (given : Moves) → IsResolution (with_units ms) scratch given →
-      (result : Result (SmallVec (Place × Place × Unit {0})) MoveFault) →
-      MatchResult result (λ made. IsMadeWith l given made.items) (LacksSlots l.slots) →
-      MatchResult result (λ made. IsScheduled ms f made.items) (λ e. IsFault ms f (fault_of e))
-  outcome scratch given resolved (Ok made) x = scheduled scratch given resolved made.items x
-  outcome scratch given resolved (Err fault) x = fails fault x

@@ -5,7 +5,7 @@ use Rattle.regalloc2_names.specs.Place.{Place}
 use Rattle.regalloc2_names.specs.PlaceBits.{bits_of_place, place_of_bits}
 use Rattle.regalloc2_parts.specs.AtOnce.{IsPlace}
 use Rattle.regalloc2_parts.proofs.Places.{same_word}
-use Rattle.regalloc2_callmoves.specs.CallMoves.{CallMoves, source, target, HasNone, HasOtherSource}
+use Rattle.regalloc2_callmoves.specs.CallMoves.{CallMoves, source, target, HasOtherSource}
 use Rattle.regalloc2_callmoves.proofs.CallPlaces.{split_more}
 
 abbrev pub Words : Type 0
@@ -23,23 +23,8 @@ pub record IsTable (ms : CallMoves) (n : ℕ) (t : Words) : Type 0 where
   pub back : (w v : ℕ) → t w ≡ Some v → (j : ℕ) × (j < n) × (w ≡ to_word ms j) × (v ≡ from_word ms j)
   pub words : (j : ℕ) → j < n → IsPlace (source ms j) × IsPlace (target ms j)
 
--- a table without entries is that of no moves
-pub table_none : (ms : CallMoves) (t : Words) → ((w : ℕ) → t w ≡ None) → IsTable ms 0 t
-table_none ms t h = record {
-  there = λ j lt. absurd (omega arith);
-  back = λ w v e. let no : None ≡ Some v = sym (h w) ∙ e in absurd cc;
-  words = λ j lt. absurd (omega arith);
-}
-
 some_word : (a b : ℕ) → ◌≡◌ {A = Option ℕ} (Some a) (Some b) → a ≡ b
 some_word a b e = cc
-
--- so far no two of these moves have one destination and two sources
-pub table_apart : (ms : CallMoves) (n : ℕ) (t : Words) → IsTable ms n t → HasNone n (HasOtherSource ms)
-table_apart ms n t h k lt (j, less, to, from) =
-    let first = h.there j (omega arith) in
-    let e : Some (from_word ms j) ≡ Some (from_word ms k) = sym first ∙ ap (λ p. t (bits_of_place p)) to ∙ h.there k lt in
-    from (same_word (source ms j) (source ms k) (h.words j (omega arith)).0 (h.words k lt).0 (some_word (from_word ms j) (from_word ms k) e))
 
 -- an earlier move has the destination, and another source
 pub table_other : (ms : CallMoves) (n : ℕ) (t : Words) (earlier : ℕ) → IsTable ms n t → IsPlace (target ms n) → t (to_word ms n) ≡ Some earlier →
@@ -107,8 +92,3 @@ module _ (ms : CallMoves) (n : ℕ) (t : Words) (p q : Place) (v w : ℕ) (h : I
   table_with u put old = table_more ms n t u h (place_is p (source ms n) v from v_bits v_back) (place_is q (target ms n) w to w_bits w_back)
       (λ x. put x ∙ ap (λ k. cond (nat_eq k x) (Some v) (t x)) w_is ∙ ap (λ k. cond (nat_eq (to_word ms n) x) (Some k) (t x)) v_is)
       (⊎_elim (λ a. inl (ap t (sym w_is) ∙ a)) (λ b. inr (ap t (sym w_is) ∙ b ∙ ap Some v_is)) old)
-
-  -- a move whose destination has another source in the table
-  pub table_faulty : (earlier : ℕ) → t w ≡ Some earlier → earlier ≢ v → HasOtherSource ms n
-  table_faulty earlier e other = table_other ms n t earlier h (place_is q (target ms n) w to w_bits w_back) (ap t (sym w_is) ∙ e)
-      (λ same. other (same ∙ sym v_is))

@@ -1,17 +1,17 @@
 -- The moves of one call, what may be wrong with them, and what is made of them.
 use Rattle.std.specs.Prelude.{ℕ, ◌≡◌, ◌≢◌, ◌+◌, ◌<◌, ◌≤◌, ◌⊎◌, true, List, map, length, slice_index_or, Option, None, Some}
 use Rattle.std.specs.List.{All}
-use Rattle.regalloc2_names.specs.Place.{Place, NoPlace, InRegister, InSlot}
+use Rattle.regalloc2_names.specs.declared.sets.PRegSet.{PRegSet}
+use Rattle.regalloc2_names.specs.Place.{Place, NoPlace, InRegister, InSlot, is_memory}
 use Rattle.regalloc2_names.specs.Register.{Register, invalid_register}
 use Rattle.regalloc2_names.specs.RegisterSet.{has_register}
 use Rattle.regalloc2_parts.specs.AtOnce.{ends_of, names, in_turn}
 use Rattle.regalloc2_parts.specs.declared.moves.MoveFault.{MoveFault}
 use Rattle.regalloc2_parts.specs.declared.moves.MoveFault.TheVariants.{NoSlot as NoMoveSlot, Memory as NoMemory}
+use Rattle.regalloc2_parts.specs.declared.scratch_pool.ScratchPool.{ScratchPool}
 use Rattle.regalloc2_callmoves.specs.declared.CallFault.{CallFault}
 use Rattle.regalloc2_callmoves.specs.declared.CallFault.TheVariants.{NoneNamed, TwoSources, InUse, NoSlot, Memory}
 use Rattle.regalloc2_callmoves.specs.declared.CallFrame.{CallFrame}
-use Rattle.regalloc2_callmoves.specs.declared.lent.Lent.{Lent}
-use Rattle.regalloc2_callmoves.specs.Lending.{IsMove}
 
 -- the moves of a call: each from a place to a place
 abbrev pub CallMoves : Type 0
@@ -140,14 +140,19 @@ abbrev pub IsSlotAt : CallFrame → ℕ → Option Place → Type 0
 IsSlotAt f k None = f.slots.«end» ≤ f.slots.start + k
 IsSlotAt f k (Some p) = (f.slots.start + k < f.slots.«end») × (p ≡ InSlot (f.slots.start + k))
 
--- what is lent of a frame
-pub record IsLending (f : CallFrame) (l : Lent) : Type 0 where
+-- the scratch places of a frame
+pub record IsPoolOf (f : CallFrame) (l : ScratchPool) : Type 0 where
   pub first_register : IsRegisterAt f 0 l.registers.first
   pub second_register : IsRegisterAt f 1 l.registers.second
   pub first_slot : IsSlotAt f 0 l.slots.first
   pub second_slot : IsSlotAt f 1 l.slots.second
-  pub stack_pregs : l.stack_pregs ≡ f.stack_pregs
+  pub fixed_stack : l.fixed_stack ≡ f.stack_pregs
   pub borrowed : l.borrowed ≡ f.borrowed
+
+-- a move between places that are not both in memory
+pub record IsMove (stack_pregs : PRegSet) (from to : Place) : Type 0 where
+  pub apart : is_memory stack_pregs from ≡ true → is_memory stack_pregs to ≡ true → ⊥
+  pub between : (from ≢ NoPlace) × (to ≢ NoPlace)
 
 -- The moves `made`, one after another, are the moves ms at once, but for free registers and slots.
 pub record IsScheduled (ms : CallMoves) (f : CallFrame) (made : List (Place × Place × Unit {0})) : Type 0 where

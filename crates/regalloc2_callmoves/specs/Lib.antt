@@ -1,2 +1,1 @@
 pub mod CallMoves
-pub mod Lending

@@ -32,14 +32,6 @@ fn target_at(moves: &[(Allocation, Allocation)], at: usize) -> Allocation
     moves[at].1
 }
 
-/// Whether both are one place.
-fn is_same(p: Allocation, q: Allocation) -> bool
-    ensures yes { result ≡ true → p ≡ q }
-    ensures no { result ≡ false → p ≢ q }
-{
-    p == q
-}
-
 /// Whether a move names no place.
 fn names_none(moves: &[(Allocation, Allocation)], at: usize) -> bool
     requires { at < length moves.now }
@@ -47,7 +39,7 @@ fn names_none(moves: &[(Allocation, Allocation)], at: usize) -> bool
     ensures no { result ≡ false → NamesNone moves.now at → ⊥ }
 {
     let none = Allocation::none();
-    is_same(source_at(moves, at), none) || is_same(target_at(moves, at), none)
+    source_at(moves, at).is_same(none) || target_at(moves, at).is_same(none)
 }
 
 /// The index of the first move that names no place.
@@ -69,8 +61,8 @@ fn do_differ(moves: &[(Allocation, Allocation)], j: usize, at: usize) -> bool
     ensures yes { result ≡ true → (target moves.now j ≡ target moves.now at) × (source moves.now j ≢ source moves.now at) }
     ensures no { result ≡ false → target moves.now j ≡ target moves.now at → source moves.now j ≡ source moves.now at }
 {
-    is_same(target_at(moves, j), target_at(moves, at))
-        && !is_same(source_at(moves, j), source_at(moves, at))
+    target_at(moves, j).is_same(target_at(moves, at))
+        && !source_at(moves, j).is_same(source_at(moves, at))
 }
 
 /// Whether an earlier move has the destination of this one, and another source.
@@ -177,7 +169,7 @@ fn is_free(frame: &CallFrame, preg: PReg) -> bool
 {
     let place = Allocation::reg(preg);
     for at in 0..frame.free_regs.len() {
-        if is_same(Allocation::reg(frame.free_reg(at)), place) {
+        if place.is_same(Allocation::reg(frame.free_reg(at))) {
             return true;
         }
     }

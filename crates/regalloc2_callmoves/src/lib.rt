@@ -8,7 +8,7 @@ ghost use Rattle.std.specs.Prelude.{◌≡◌, ◌≤◌, length, IfOk, IfErr, M
 ghost use Rattle.regalloc2_callmoves.specs.CallMoves.{fault_of, with_units, HasNone, NamesNone, IsFault, IsProper, IsScheduled};
 
 mod fault;
-mod lent;
+mod frame;
 
 use regalloc2_names::{Allocation, PReg, PRegSet};
 use regalloc2_parts::moves::{MoveFault, MoveVec, ParallelMoves};
@@ -88,7 +88,8 @@ fn schedule_proper(
 {
     let parallel = in_parallel(alloc, moves)?;
     let resolved = parallel.resolve()?;
-    frame.lent().compute(resolved)
+    let made = frame.scratch_pool().compute(resolved)?;
+    Ok(made.moves)
 }
 
 /// The moves of a call, put in an order in which they can be made one after another as if they were made at once.

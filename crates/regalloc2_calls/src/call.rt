@@ -14,6 +14,7 @@ use regalloc2_function::{
 use regalloc2_liveness::reads_written;
 use regalloc2_names::RegAllocError;
 use regalloc2_serialize::{SerializableFunction, StoredFunction};
+use regalloc2_svg::Picture;
 use regalloc2_text::{WriteError, write};
 use regalloc2_tool::findings::FindingText;
 use regalloc2_tool::listing::write_listing;
@@ -41,18 +42,21 @@ pub enum Call {
     Replay,
     /// To allocate registers; the answer is the text of the function with its output.
     Text,
+    /// To allocate registers; the answer is a picture, as SVG, of where each virtual register stands.
+    Svg,
     /// To say whether each read and each argument comes after a write, on every path.
     Reads,
 }
 
 impl Call {
-    /// The call that a word names: `run`, `check`, `replay`, `text` or `reads`.
+    /// The call that a word names: `run`, `check`, `replay`, `text`, `svg` or `reads`.
     pub fn named(word: &str) -> Option<Call> {
         match word {
             "run" => Some(Call::Run),
             "check" => Some(Call::Check),
             "replay" => Some(Call::Replay),
             "text" => Some(Call::Text),
+            "svg" => Some(Call::Svg),
             "reads" => Some(Call::Reads),
             _ => None,
         }
@@ -240,6 +244,7 @@ fn allocate<F: Function, W: Write>(
         Call::Check | Call::Replay | Call::Reads => return judge(alloc, f, env, &output, to),
         Call::Run => write_listing(f, &output, to)?,
         Call::Text => write_text(alloc, function, &output, to)?,
+        Call::Svg => Picture::new(alloc, &output)?.draw(f, &output, to)?,
     }
     Ok(true)
 }
@@ -247,7 +252,7 @@ fn allocate<F: Function, W: Write>(
 /// Does a call for a stored function and the output that is given with it, and writes the answer. Whether nothing was
 /// refused, and no fault found.
 ///
-/// The answer is the listing, the text, `checked`, a line for each fault that the checker finds, `written first`, or
+/// The answer is the listing, the text, the picture, `checked`, a line for each fault that the checker finds, `written first`, or
 /// `read before written`, which counts as a fault. What turns the function or the output down is one line:
 /// `bad function 2: ..`, `bad machine`, `bad output 3: ..`, `not framed` or `refused 5: ..`.
 /// The numbers are those of `number_of` in [`crate::refusal`] and [`crate::stored_fault`], a fault's its own.

@@ -1,6 +1,6 @@
 //! The errors of an instruction.
 
-ghost use Rattle.std.specs.Prelude.{◌≡◌, ◌<◌, ◌≤◌, ◌+◌, ◌++◌, ◌↔◌, ℕ, List, true, map, length, IsTrue, IfOk, OnOk, MatchOption};
+ghost use Rattle.std.specs.Prelude.{◌≡◌, ◌<◌, ◌≤◌, ◌+◌, ◌++◌, ℕ, List, true, map, length, IfOk, OnOk, MatchOption};
 ghost use Rattle.std.specs.Option.{option_to_list};
 ghost use Rattle.regalloc2_names.specs.Place.{Place};
 ghost use Rattle.regalloc2_names.specs.Register.{VirtualRegister};
@@ -28,6 +28,23 @@ use regalloc2_function::{Edit, Function};
 use regalloc2_index::{Block, Inst};
 use regalloc2_names::{Allocation, Operand, OperandPos, PRegSet};
 use std::alloc::{AllocError, Allocator};
+
+/// What an output is judged by: a function, the fixed stack slots of its machine, and what the output lists.
+#[derive(Drop)]
+pub struct Judging<'a, F: Function, A: Allocator> {
+    pub alloc: A,
+    pub f: &'a F,
+    pub slots: PRegSet,
+    pub listing: &'a [Listed<A>],
+}
+
+/// An instruction's operands and their places.
+#[derive(Drop)]
+struct Placed<'a> {
+    inst: Inst,
+    operands: &'a [Operand],
+    places: &'a [Allocation],
+}
 
 /// What an operand that reads finds wrong with what its place holds.
 fn check_val<A: Allocator + Copy>(
@@ -67,16 +84,17 @@ fn check_operand<A: Allocator + Copy>(
     alloc: A,
     values: &Tables<A>,
     slots: PRegSet,
-    inst: Inst,
-    operands: &[Operand],
-    places: &[Allocation],
+    at: &Placed<'_>,
     k: usize,
 ) -> Result<Option<CheckerError<A>>, AllocError>
-    requires { k < length operands.now }
+    requires { k < length at.now.operands.now }
     ensures { IfOk result (λ r. (env : MachineValue) → AreStackSlots env slots → MatchOption r
-        (IsFineAt env operands.now places.now (λ p v. facts_now values.now p v ≡ true) k)
-        (λ e. IsFaultAt env inst operands.now places.now (λ p v. facts_now values.now p v ≡ true) k e)) }
+        (IsFineAt env at.now.operands.now at.now.places.now (λ p v. facts_now values.now p v ≡ true) k)
+        (λ e. IsFaultAt env at.now.inst at.now.operands.now at.now.places.now (λ p v. facts_now values.now p v ≡ true) k e)) }
 {
+    let inst = at.inst;
+    let operands = at.operands;
+    let places = at.places;
     let op = operands[k];
     let place = place_at(places, k);
     if place.is_none() {
@@ -90,31 +108,23 @@ fn check_operand<A: Allocator + Copy>(
     Ok(check_constraint(slots, inst, op, place, count, places))
 }
 
-/// Whether an operand is of a position.
-fn is_at(operand: Operand, position: OperandPos) -> bool
-    ensures { IsTrue result ↔ (operand.position ≡ position) }
-{
-    operand.pos() == position
-}
-
 /// The first fault among the operands of a position, by what places hold there.
 fn check_position<A: Allocator + Copy>(
     alloc: A,
     values: &Tables<A>,
     slots: PRegSet,
-    inst: Inst,
-    operands: &[Operand],
-    places: &[Allocation],
+    at: &Placed<'_>,
     position: OperandPos,
 ) -> Result<Option<CheckerError<A>>, AllocError>
     ensures { IfOk result (λ r. (env : MachineValue) → AreStackSlots env slots →
-        IsJudged env inst operands.now places.now position (λ p v. facts_now values.now p v ≡ true) r) }
+        IsJudged env at.now.inst at.now.operands.now at.now.places.now position (λ p v. facts_now values.now p v ≡ true) r) }
 {
+    let operands = at.operands;
     for k in 0..operands.len() {
-        if !is_at(operands[k], position) {
+        if !operands[k].is_at(position) {
             continue;
         }
-        let fault = check_operand(alloc, values, slots, inst, operands, places, k)?;
+        let fault = check_operand(alloc, values, slots, at, k)?;
         if fault.is_some() {
             return Ok(fault);
         }
@@ -171,55 +181,44 @@ fn add<A: Allocator>(
 /// Adds the errors of an instruction: those of the moves before it, then the first of its early operands, then the first
 /// of its late ones. Goes on past it.
 pub fn check_inst<F: Function, A: Allocator + Copy>(
-    alloc: A,
-    f: &F,
-    slots: PRegSet,
-    listing: &[Listed<A>],
+    by: &Judging<'_, F, A>,
     block: Block,
     inst: Inst,
     values: &mut Tables<A>,
     errors: &mut Vec<CheckerError<A>, A>,
 ) -> Result<(), AllocError>
     ghost o: { OutputValue }
-    requires listing { IsListing (F.function f.now) o listing.now }
-    requires named { AreNamed (F.function f.now) o values.old }
-    requires block { block < length (F.function f.now).blocks }
-    requires first { (block_at (F.function f.now) block).range.first ≤ inst }
-    requires end { inst < (block_at (F.function f.now) block).range.end }
-    requires inst { inst < length (F.function f.now).insts }
+    requires listing { IsListing (F.function by.now.f.now) o by.now.listing.now }
+    requires named { AreNamed (F.function by.now.f.now) o values.old }
+    requires block { block < length (F.function by.now.f.now).blocks }
+    requires first { (block_at (F.function by.now.f.now) block).range.first ≤ inst }
+    requires end { inst < (block_at (F.function by.now.f.now) block).range.end }
+    requires inst { inst < length (F.function by.now.f.now).insts }
     ensures kept { OnOk result (AreKeptTables values.old values.new) }
-    ensures now { OnOk result (facts_now values.new ≡ facts_after (F.function f.now) o (record { block = block; inst = inst }) (facts_now values.old)) }
-    ensures judged { OnOk result ((env : MachineValue) → AreStackSlots env slots
-        → IsKnown (F.function f.now) o (record { block = block; inst = inst }) (facts_now values.old)
+    ensures now { OnOk result (facts_now values.new ≡ facts_after (F.function by.now.f.now) o (record { block = block; inst = inst }) (facts_now values.old)) }
+    ensures judged { OnOk result ((env : MachineValue) → AreStackSlots env by.now.slots
+        → IsKnown (F.function by.now.f.now) o (record { block = block; inst = inst }) (facts_now values.old)
         → (es : List (CheckerError A)) × (errors.new.items ≡ errors.old.items ++ es)
-        × InstReport (F.function f.now) env o (record { block = block; inst = inst }) es) }
+        × InstReport (F.function by.now.f.now) env o (record { block = block; inst = inst }) es) }
 {
+    let f = by.f;
+    let slots = by.slots;
+    let listing = by.listing;
     let listed = &listing[inst.index()];
     let moves = listed.moves.as_slice();
     let places = listed.places.as_slice();
     let operands = f.inst_operands(inst);
+    let at = Placed {
+        inst,
+        operands,
+        places,
+    };
     check_moves(slots, moves, errors)?;
     go_to_early(values, moves, places, operands)?;
-    let early = check_position(
-        alloc,
-        values,
-        slots,
-        inst,
-        operands,
-        places,
-        OperandPos::Early,
-    )?;
+    let early = check_position(by.alloc, values, slots, &at, OperandPos::Early)?;
     add(errors, early)?;
     go_to_late(values, places, operands, f.inst_clobbers(inst))?;
-    let late = check_position(
-        alloc,
-        values,
-        slots,
-        inst,
-        operands,
-        places,
-        OperandPos::Late,
-    )?;
+    let late = check_position(by.alloc, values, slots, &at, OperandPos::Late)?;
     add(errors, late)?;
     Ok(())
 }

@@ -1,6 +1,6 @@
 //! What operands ask of their places.
 
-ghost use Rattle.std.specs.Prelude.{◌≡◌, ◌≢◌, ◌↔◌, ℕ, List, IsTrue, MatchOption};
+ghost use Rattle.std.specs.Prelude.{◌≢◌, ◌↔◌, ℕ, List, IsTrue, MatchOption};
 ghost use Rattle.regalloc2_names.specs.Place.{Place, NoPlace};
 ghost use Rattle.regalloc2_function.specs.Machine.{MachineValue, IsStackPlace, IsPlainRegister};
 ghost use Rattle.regalloc2_function.specs.Faithful.{Meets, IsNumberedBelow};
@@ -43,13 +43,6 @@ fn is_plain_reg(slots: PRegSet, place: Allocation) -> bool
     }
 }
 
-/// Whether two places are one.
-fn is_same(a: Allocation, b: Allocation) -> bool
-    ensures { IsTrue result ↔ (a ≡ b) }
-{
-    a.bits() == b.bits()
-}
-
 /// Whether a place is a register with a number below a bound.
 fn is_numbered_below(place: Allocation, bound: usize) -> bool
     ensures { IsTrue result ↔ IsNumberedBelow place bound }
@@ -79,7 +72,7 @@ fn check_reuse<A: Allocator>(
         return Some(CheckerError::ConstraintViolated { inst, op, alloc });
     }
     let expected_alloc = place_at(places, index);
-    if is_same(alloc, expected_alloc) {
+    if alloc.is_same(expected_alloc) {
         return None;
     }
     Some(CheckerError::AllocationIsNotReuse {
@@ -146,7 +139,7 @@ pub fn check_constraint<A: Allocator>(
             }
         }
         OperandConstraint::FixedReg(reg) => {
-            if is_same(alloc, Allocation::reg(reg)) {
+            if alloc.is_same(Allocation::reg(reg)) {
                 None
             } else {
                 Some(CheckerError::AllocationIsNotFixedReg { inst, op, alloc })

@@ -124,7 +124,7 @@ pub enum CheckerError<A: Allocator = Global> {
 }
 
 /// Writes the line of a fault of an operand.
-fn write_fault<W: fmt::Write>(
+fn write<W: fmt::Write>(
     f: &mut fmt::Formatter<W>,
     number: u32,
     inst: Inst,
@@ -144,50 +144,36 @@ impl<A: Allocator> fmt::Display for CheckerError<A> {
 
     fn fmt<W: fmt::Write>(&self, f: &mut fmt::Formatter<W>) -> fmt::Result {
         match self {
-            CheckerError::MissingAllocation { inst, op } => {
-                write_fault(f, 1, *inst, *op, Allocation::none())
-            }
-            CheckerError::UnknownValueInAllocation { inst, op, alloc } => {
-                write_fault(f, 2, *inst, *op, *alloc)
-            }
-            CheckerError::ConflictedValueInAllocation { inst, op, alloc } => {
-                write_fault(f, 3, *inst, *op, *alloc)
-            }
-            CheckerError::IncorrectValuesInAllocation {
+            Self::MissingAllocation { inst, op } => write(f, 1, *inst, *op, Allocation::none()),
+            Self::UnknownValueInAllocation { inst, op, alloc } => write(f, 2, *inst, *op, *alloc),
+            Self::ConflictedValueInAllocation { inst, op, alloc } => write(
+                f, 3, *inst, *op, *alloc,
+            ),
+            Self::IncorrectValuesInAllocation {
                 inst,
                 op,
                 alloc,
                 ..
-            } => write_fault(f, 4, *inst, *op, *alloc),
-            CheckerError::ConstraintViolated { inst, op, alloc } => {
-                write_fault(f, 5, *inst, *op, *alloc)
-            }
-            CheckerError::AllocationIsNotReg { inst, op, alloc } => {
-                write_fault(f, 6, *inst, *op, *alloc)
-            }
-            CheckerError::AllocationIsNotFixedReg { inst, op, alloc } => {
-                write_fault(f, 7, *inst, *op, *alloc)
-            }
-            CheckerError::AllocationIsNotReuse {
+            } => write(f, 4, *inst, *op, *alloc),
+            Self::ConstraintViolated { inst, op, alloc } => write(f, 5, *inst, *op, *alloc),
+            Self::AllocationIsNotReg { inst, op, alloc } => write(f, 6, *inst, *op, *alloc),
+            Self::AllocationIsNotFixedReg { inst, op, alloc } => write(f, 7, *inst, *op, *alloc),
+            Self::AllocationIsNotReuse {
                 inst,
                 op,
                 alloc,
                 ..
-            } => write_fault(f, 8, *inst, *op, *alloc),
-            CheckerError::AllocationIsNotStack { inst, op, alloc } => {
-                write_fault(f, 9, *inst, *op, *alloc)
-            }
-            CheckerError::StackToStackMove { into, from } => {
-                write!(f, "error 10 {from} -> {into}")
-            }
-            CheckerError::AllocationOutsideLimit {
+            } => write(f, 8, *inst, *op, *alloc),
+            Self::AllocationIsNotStack { inst, op, alloc } => write(f, 9, *inst, *op, *alloc),
+            Self::StackToStackMove { into, from } => { write!(f, "error 10 {from} -> {into}") }
+            Self::AllocationOutsideLimit {
                 inst,
                 op,
                 alloc,
                 ..
-            } => write_fault(f, 11, *inst, *op, *alloc),
-            CheckerError::MalformedOutput => write!(f, "error 12"),
-            CheckerError::Memory => write!(f, "error 13"),
+            } => write(f, 11, *inst, *op, *alloc),
+            Self::MalformedOutput => write!(f, "error 12"),
+            Self::Memory => write!(f, "error 13"),
         }
     }
 }

@@ -15,7 +15,7 @@ ghost use Rattle.regalloc2_checker.specs.Tables.{IsSolved, views};
 ghost use Rattle.regalloc2_checker.specs.Listing.{IsListing};
 
 use crate::analyze::analyze;
-use crate::check::check_inst;
+use crate::check::{Judging, check_inst};
 use crate::constraints::stack_slots;
 use crate::errors::CheckerError;
 use crate::handle::handle_listing;
@@ -29,37 +29,26 @@ use std::alloc::{AllocError, Allocator};
 
 /// Checks a block's instructions, from what holds at its beginning.
 fn check_block<F: Function, A: Allocator + Copy>(
-    alloc: A,
-    f: &F,
-    slots: PRegSet,
-    listing: &[Listed<A>],
+    by: &Judging<'_, F, A>,
     block: Block,
     values: &mut Tables<A>,
     errors: &mut Vec<CheckerError<A>, A>,
 ) -> Result<(), AllocError>
     ghost o: { OutputValue }
-    requires listing { IsListing (F.function f.now) o listing.now }
-    requires framed { IsFramed (F.function f.now) }
-    requires named { AreNamed (F.function f.now) o values.old }
-    requires block { block < length (F.function f.now).blocks }
+    requires listing { IsListing (F.function by.now.f.now) o by.now.listing.now }
+    requires framed { IsFramed (F.function by.now.f.now) }
+    requires named { AreNamed (F.function by.now.f.now) o values.old }
+    requires block { block < length (F.function by.now.f.now).blocks }
     requires table { block < count_of values.old }
     ensures kept { OnOk result (AreKeptTables values.old values.new) }
-    ensures judged { OnOk result ((env : MachineValue) → AreStackSlots env slots →
-        IsBlockJudged (F.function f.now) env o block (facts_table values.old block) errors.old.items errors.new.items) }
+    ensures judged { OnOk result ((env : MachineValue) → AreStackSlots env by.now.slots →
+        IsBlockJudged (F.function by.now.f.now) env o block (facts_table values.old block) errors.old.items errors.new.items) }
 {
     values.load(block.index());
+    let f = by.f;
     let range = f.block_insns(block);
     for i in range.first().index()..range.end().index() {
-        check_inst(
-            alloc,
-            f,
-            slots,
-            listing,
-            block,
-            Inst::new(i),
-            values,
-            errors,
-        )?;
+        check_inst(by, block, Inst::new(i), values, errors)?;
     }
     Ok(())
 }
@@ -83,12 +72,18 @@ fn check_all<F: Function, A: Allocator + Copy>(
     ensures { IfOk result (λ r. (env : MachineValue) → AreStackSlots env slots → IsReport (F.function f.now) env o r.items) }
 {
     finds_earlier_writes();
+    let by = Judging {
+        alloc,
+        f,
+        slots,
+        listing,
+    };
     let mut errors = Vec::new(alloc);
     for b in 0..f.num_blocks() {
         if !reached[b] {
             continue;
         }
-        check_block(alloc, f, slots, listing, Block::new(b), values, &mut errors)?;
+        check_block(&by, Block::new(b), values, &mut errors)?;
     }
     Ok(errors)
 }

@@ -2,17 +2,105 @@
 
 ghost use Rattle.regalloc2_function.specs.WellFormed.{IsFramed};
 
-use regalloc2_cfg::postorder;
 use regalloc2_function::Function;
+use regalloc2_index::Block;
 use std::alloc::{AllocError, Allocator};
+
+/// A block that a walk is in, and how many of its successors it has taken.
+#[derive(Clone, Copy)]
+struct Frame {
+    block: Block,
+    taken: usize,
+}
+
+/// The successor that a walk takes after so many: of two that which is laid out later, and of more the last that is left.
+fn successor(succs: &[Block], taken: usize) -> Option<Block> {
+    if let [first, second] = succs {
+        if first.index() > second.index() {
+            return succs.get(taken).copied();
+        }
+    }
+    let left = succs.len().checked_sub(taken)?;
+    succs.get(left.checked_sub(1)?).copied()
+}
+
+/// Marks a block as visited; answers whether it wasn't.
+fn is_new(visited: &mut [bool], block: Block) -> bool {
+    let index = block.index();
+    if index >= visited.len() {
+        return false;
+    }
+    if visited[index] {
+        return false;
+    }
+    visited[index] = true;
+    true
+}
+
+/// A walk in depth: the blocks that it is in, which it visited, and those that it left, in that order.
+#[derive(Drop)]
+struct Walk<A: Allocator> {
+    stack: Vec<Frame, A>,
+    visited: Vec<bool, A>,
+    order: Vec<Block, A>,
+}
+
+impl<A: Allocator> Walk<A> {
+    /// Goes into a block that wasn't visited.
+    fn enter(&mut self, block: Block) -> Result<(), AllocError> {
+        if is_new(&mut self.visited, block) {
+            self.stack.push(Frame { block, taken: 0 })?;
+        }
+        Ok(())
+    }
+
+    /// Goes on from a block to its next successor, or leaves it.
+    fn go_on<F: Function>(&mut self, f: &F, frame: Frame) -> Result<(), AllocError> {
+        let Frame { block, taken } = frame;
+        if block.index() >= f.num_blocks() {
+            return Ok(());
+        }
+        let Some(succ) = successor(f.block_succs(block), taken) else {
+            self.order.push(block)?;
+            return Ok(());
+        };
+        let taken = taken.wrapping_add(1);
+        self.stack.push(Frame { block, taken })?;
+        self.enter(succ)
+    }
+}
+
+/// The blocks that a path reaches, in the order in which a walk in depth leaves them.
+///
+/// It takes the exit of a loop before its body, where the body is laid out first; so in this order reversed, a loop's blocks
+/// come before those past it.
+fn leave_order<F: Function, A: Allocator + Copy>(
+    alloc: A,
+    f: &F,
+) -> Result<Vec<Block, A>, AllocError> {
+    let mut visited = Vec::new(alloc);
+    visited.resize(f.num_blocks(), false)?;
+    let mut walk = Walk {
+        stack: Vec::new(alloc),
+        visited,
+        order: Vec::new(alloc),
+    };
+    walk.enter(f.entry_block())?;
+    for _ in 0..u64::MAX {
+        let Some(frame) = walk.stack.pop() else {
+            break;
+        };
+        walk.go_on(f, frame)?;
+    }
+    let Walk { order, .. } = walk;
+    Ok(order)
+}
 
 /// Each block's rank in reverse postorder. A block that no path reaches has none of its own.
 pub fn ranks<F: Function, A: Allocator + Copy>(alloc: A, f: &F) -> Result<Vec<usize, A>, AllocError>
     requires { IsFramed (F.function f.now) }
 {
-    let mut order = Vec::new(alloc);
-    let mut scratch = Vec::new(alloc);
-    postorder::leave_order(alloc, f, &mut scratch, &mut order)?;
+    let order = leave_order(alloc, f)?;
     let mut ranks = Vec::new(alloc);
     ranks.resize(f.num_blocks(), 0)?;
     for k in 0..order.len() {

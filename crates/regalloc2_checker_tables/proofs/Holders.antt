@@ -9,7 +9,7 @@ use Rattle.std.proofs.lemmas.Bool.{cases_eq, cases_lt}
 use Rattle.std.proofs.lemmas.List.{get_or-set_other, get_or-set_same, length-set}
 use Rattle.regalloc2_cfg.specs.Numbers.{NumberSet, has_number, times_in, ListsMembers}
 use Rattle.regalloc2_cfg.proofs.NumberBits.{times_in-append}
-use Rattle.regalloc2_checker_tables.specs.SavedCopies.{Copies, saved_at, cell_at}
+use Rattle.regalloc2_checker_tables.specs.SavedNumbers.{Numbers, number_at, number_now}
 use Rattle.regalloc2_checker_tables.specs.EntrySets.{is_member, AreMore, IsSetOf}
 use Rattle.regalloc2_checker_tables.specs.Holding.{held, IsHome, AreEntries, AreBelow, AreStill, AreMoreHomes, is_in}
 use Rattle.regalloc2_checker_tables.proofs.Bits.{below, above, apart, other-times, same-times}
@@ -24,7 +24,7 @@ more-sets a b c h g =
     record { longer = omega arith; kept = λ n y l. g.kept n y (omega arith) ∙ h.kept n y l }
 
 -- where nothing is done, only the array that is worked on changed
-pub still-same : (s : List NumberSet) (e : Copies) → AreBelow s e → AreStill s e s e
+pub still-same : (s : List NumberSet) (e : Numbers) → AreBelow s e → AreStill s e s e
 still-same s e h = record {
   more = record { longer = omega arith; kept = λ n y l. refl };
   long = refl;
@@ -34,7 +34,7 @@ still-same s e h = record {
 }
 
 -- so it is over two steps over which it is
-pub still-then : (s t u : List NumberSet) (e f g : Copies) → AreStill s e t f → AreStill t f u g → AreStill s e u g
+pub still-then : (s t u : List NumberSet) (e f g : Numbers) → AreStill s e t f → AreStill t f u g → AreStill s e u g
 still-then s t u e f g h k = record {
   more = more-sets s t u h.more k.more;
   long = k.long ∙ h.long;
@@ -187,15 +187,20 @@ homes-same homes = record { long = refl; kept = λ j i e. e }
 pub homes-then : (a b c : List NumberSet) → AreMoreHomes a b → AreMoreHomes b c → AreMoreHomes a c
 homes-then a b c h g = record { long = g.long ∙ h.long; kept = λ j i e. g.kept j i (h.kept j i e) }
 
--- with a place put into a vreg's homes, it is one where the vreg may be
-pub home-here : (vregs : List ℕ) (homes : List NumberSet) (j place bits : ℕ) (set : NumberSet) → IsStrictlyIncreasing vregs → length homes ≡ length vregs →
-    j < length vregs → get_or vregs j 0 ≡ bits → ((i : ℕ) → has_number set i ≡ cond (nat_eq i place) true (has_number (get_or homes j []) i)) →
-    IsHome vregs (slice_set homes j set) place bits
-home-here vregs homes j place bits set rises long less is h k lk e =
-    let q : k ≡ j = listed-once vregs rises k j lk less (e ∙ sym is) in
-    ap (λ n. has_number (get_or (slice_set homes j set) n []) place) q
-    ∙ ap (λ (s : NumberSet). has_number s place) (get_or-set_same homes j set [] (omega arith)) ∙ h place
+-- a place that is put into a vreg's homes is there
+pub noted-here : (homes : List NumberSet) (j place : ℕ) (set : NumberSet) → j < length homes →
+    ((i : ℕ) → has_number set i ≡ cond (nat_eq i place) true (has_number (get_or homes j []) i)) →
+    has_number (get_or (slice_set homes j set) j []) place ≡ true
+noted-here homes j place set less h =
+    ap (λ (s : NumberSet). has_number s place) (get_or-set_same homes j set [] less) ∙ h place
     ∙ ap (λ b. cond b true (has_number (get_or homes j []) place)) (eq-eqb place place refl)
+
+-- with a place in a vreg's homes, it is one where the vreg may be
+pub home-at : (vregs : List ℕ) (homes : List NumberSet) (j place bits : ℕ) → IsStrictlyIncreasing vregs → j < length vregs → get_or vregs j 0 ≡ bits →
+    has_number (get_or homes j []) place ≡ true → IsHome vregs homes place bits
+home-at vregs homes j place bits rises less is here k lk e =
+    let q : k ≡ j = listed-once vregs rises k j lk less (e ∙ sym is) in
+    ap (λ n. has_number (get_or homes n []) place) q ∙ here
 
 -- a place where a vreg may be is one still as homes are added
 pub home-kept : (vregs : List ℕ) (old new : List NumberSet) (place bits : ℕ) → AreMoreHomes old new → IsHome vregs old place bits →

@@ -1,8 +1,10 @@
 mod Walked
 mod Bits
 mod Rows
+mod Chunks
 mod Listed
 mod Holders
 mod TableLaws
 mod Meets
 mod Times
+mod Lone

@@ -3,7 +3,7 @@ use Rattle.std.proofs.Common.{inl, inr, ◌⊎◌, ℕ, ◌≡◌, ◌+◌, ◌<
 use Rattle.std.specs.Prelude.{◌&&◌}
 use Rattle.std.proofs.lemmas.Bool.{cases_eq, cases_lt}
 use Rattle.regalloc2_cfg.specs.Numbers.{NumberSet}
-use Rattle.regalloc2_checker_tables.specs.SavedCopies.{Copies, saved_at, cell_at}
+use Rattle.regalloc2_checker_tables.specs.SavedNumbers.{Numbers, number_at, number_now}
 use Rattle.regalloc2_checker_tables.specs.EntrySets.{is_member, IsLess}
 use Rattle.regalloc2_checker_tables.specs.Holding.{held, AreBelow, AreStill, LosesSome, IsMetBelow}
 use Rattle.regalloc2_checker_tables.proofs.Holders.{still-same, still-then}
@@ -17,7 +17,7 @@ right-of true b e = e
 right-of false b e = absurd cc
 
 -- before the first position, nothing is met
-pub met-none : (s : List NumberSet) (e : Copies) (k bound : ℕ) → AreBelow s e → IsMetBelow s e s e k 0 bound false
+pub met-none : (s : List NumberSet) (e : Numbers) (k bound : ℕ) → AreBelow s e → IsMetBelow s e s e k 0 bound false
 met-none s e k bound h = record {
   still = still-same s e h;
   done = λ i y l b. absurd (omega arith);
@@ -28,28 +28,28 @@ met-none s e k bound h = record {
 }
 
 -- a position before the next that differs: both have the same
-module _ (s t : List NumberSet) (e f : Copies) (k from bound p : ℕ) (a : Bool) (m : IsMetBelow s e t f k from bound a)
-    (lb : bound ≤ length e.cells) (sb : AreBelow s e) (ss : (i : ℕ) → i < length e.cells → saved_at e k i < length s)
-    (between : (i : ℕ) → from ≤ i → i < p → cell_at f i ≡ saved_at f k i) where
+module _ (s t : List NumberSet) (e f : Numbers) (k from bound p : ℕ) (a : Bool) (m : IsMetBelow s e t f k from bound a)
+    (lb : bound ≤ length e.cells) (sb : AreBelow s e) (ss : (i : ℕ) → i < length e.cells → number_at e k i < length s)
+    (between : (i : ℕ) → from ≤ i → i < p → number_now f i ≡ number_at f k i) where
   -- from there on, the array holds what it held
   pub now-there : (i y : ℕ) → from ≤ i → i < length e.cells → held t f i y ≡ held s e i y
-  now-there i y l li = ap (λ n. is_member t n y) (m.rest i l) ∙ m.still.more.kept (cell_at e i) y (sb i li)
+  now-there i y l li = ap (λ n. is_member t n y) (m.rest i l) ∙ m.still.more.kept (number_now e i) y (sb i li)
 
   -- the saved copy has the members that it had
-  pub saved-there : (i y : ℕ) → i < length e.cells → is_member t (saved_at f k i) y ≡ is_member s (saved_at e k i) y
-  saved-there i y li = ap (λ n. is_member t n y) (m.still.saved k i) ∙ m.still.more.kept (saved_at e k i) y (ss i li)
+  pub saved-there : (i y : ℕ) → i < length e.cells → is_member t (number_at f k i) y ≡ is_member s (number_at e k i) y
+  saved-there i y li = ap (λ n. is_member t n y) (m.still.saved k i) ∙ m.still.more.kept (number_at e k i) y (ss i li)
 
   -- between, the array holds what the saved copy has
-  pub same-there : (i y : ℕ) → from ≤ i → i < p → i < length e.cells → is_member s (saved_at e k i) y ≡ held s e i y
+  pub same-there : (i y : ℕ) → from ≤ i → i < p → i < length e.cells → is_member s (number_at e k i) y ≡ held s e i y
   same-there i y l lp li = sym (saved-there i y li) ∙ ap (λ n. is_member t n y) (sym (between i l lp)) ∙ now-there i y l li
 
 -- one position more
-pub met-more : (s t u : List NumberSet) (e f g : Copies) (k from bound p : ℕ) (a b : Bool) → IsMetBelow s e t f k from bound a → bound ≤ length e.cells →
-    AreBelow s e → ((i : ℕ) → i < length e.cells → saved_at e k i < length s) → from ≤ p → p < bound →
-    ((i : ℕ) → from ≤ i → i < p → cell_at f i ≡ saved_at f k i) → AreStill t f u g → ((i : ℕ) → (i ≡ p → ⊥) → cell_at g i ≡ cell_at f i) →
-    ((y : ℕ) → held u g p y ≡ (is_member t (saved_at f k p) y && held t f p y)) →
-    (b ≡ true → (a ≡ true) ⊎ IsLess (is_member t (saved_at f k p)) (held t f p)) →
-    (b ≡ false → (a ≡ false) × ((y : ℕ) → is_member t (saved_at f k p) y ≡ true → held t f p y ≡ true)) →
+pub met-more : (s t u : List NumberSet) (e f g : Numbers) (k from bound p : ℕ) (a b : Bool) → IsMetBelow s e t f k from bound a → bound ≤ length e.cells →
+    AreBelow s e → ((i : ℕ) → i < length e.cells → number_at e k i < length s) → from ≤ p → p < bound →
+    ((i : ℕ) → from ≤ i → i < p → number_now f i ≡ number_at f k i) → AreStill t f u g → ((i : ℕ) → (i ≡ p → ⊥) → number_now g i ≡ number_now f i) →
+    ((y : ℕ) → held u g p y ≡ (is_member t (number_at f k p) y && held t f p y)) →
+    (b ≡ true → (a ≡ true) ⊎ IsLess (is_member t (number_at f k p)) (held t f p)) →
+    (b ≡ false → (a ≡ false) × ((y : ℕ) → is_member t (number_at f k p) y ≡ true → held t f p y ≡ true)) →
     IsMetBelow s e u g k (p + 1) bound b
 met-more s t u e f g k from bound p a b m lb sb ss lp pb between st others here more same = record {
   still = still-then s t u e f g m.still st;
@@ -67,15 +67,15 @@ met-more s t u e f g k from bound p a b m lb sb ss lp pb between st others here 
     above i l q = absurd (omega arith)
 
     unchanged : (i y : ℕ) → (i ≡ p → ⊥) → i < length e.cells → held u g i y ≡ held t f i y
-    unchanged i y n l = ap (λ x. is_member u x y) (others i n) ∙ st.more.kept (cell_at f i) y (m.still.below i (let h = long in omega arith))
+    unchanged i y n l = ap (λ x. is_member u x y) (others i n) ∙ st.more.kept (number_now f i) y (m.still.below i (let h = long in omega arith))
 
-    at-place : (y : ℕ) → held u g p y ≡ (is_member s (saved_at e k p) y && held s e p y)
+    at-place : (y : ℕ) → held u g p y ≡ (is_member s (number_at e k p) y && held s e p y)
     at-place y = here y ∙ ap (λ x. x && held t f p y) (saved-there s t e f k from bound p a m lb sb ss between p y (omega arith))
-        ∙ ap (λ x. is_member s (saved_at e k p) y && x) (now-there s t e f k from bound p a m lb sb ss between p y lp (omega arith))
+        ∙ ap (λ x. is_member s (number_at e k p) y && x) (now-there s t e f k from bound p a m lb sb ss between p y lp (omega arith))
 
-    done : (i y : ℕ) → i < p + 1 → i < bound → held u g i y ≡ (is_member s (saved_at e k i) y && held s e i y)
+    done : (i y : ℕ) → i < p + 1 → i < bound → held u g i y ≡ (is_member s (number_at e k i) y && held s e i y)
     done i y l lb' = elim (cases_eq i p) [
-      | inl q ↦ ap (λ n. held u g n y) q ∙ at-place y ∙ ap (λ n. is_member s (saved_at e k n) y && held s e n y) (sym q)
+      | inl q ↦ ap (λ n. held u g n y) q ∙ at-place y ∙ ap (λ n. is_member s (number_at e k n) y && held s e n y) (sym q)
       | inr n ↦ unchanged i y n (omega arith) ∙ elim (cases_lt i from) [
         | inl lf ↦ m.done i y lf lb'
         | inr gf ↦
@@ -91,11 +91,11 @@ met-more s t u e f g k from bound p a b m lb sb ss lp pb between st others here 
     fewer i y l is = elim (cases_eq i p) [
       | inl q ↦
           ap (λ n. held s e n y) q
-          ∙ right-of (is_member s (saved_at e k p) y) (held s e p y) (sym (at-place y) ∙ ap (λ n. held u g n y) (sym q) ∙ is)
+          ∙ right-of (is_member s (number_at e k p) y) (held s e p y) (sym (at-place y) ∙ ap (λ n. held u g n y) (sym q) ∙ is)
       | inr n ↦ m.fewer i y l (sym (unchanged i y n l) ∙ is)
     ]
 
-    lost : (a ≡ true) ⊎ IsLess (is_member t (saved_at f k p)) (held t f p) → LosesSome bound (λ i y. is_member s (saved_at e k i) y) (held s e)
+    lost : (a ≡ true) ⊎ IsLess (is_member t (number_at f k p)) (held t f p) → LosesSome bound (λ i y. is_member s (number_at e k i) y) (held s e)
     lost (inl q) = m.less q
     lost (inr d) = record {
       place = p;
@@ -106,12 +106,12 @@ met-more s t u e f g k from bound p a b m lb sb ss lp pb between st others here 
       not_there = sym (now-there s t e f k from bound p a m lb sb ss between p d.bits lp (omega arith)) ∙ d.not_there;
     }
 
-    kept : (a ≡ false) × ((y : ℕ) → is_member t (saved_at f k p) y ≡ true → held t f p y ≡ true) → (i y : ℕ) → i < p + 1 → i < bound →
-        is_member s (saved_at e k i) y ≡ true → held s e i y ≡ true
+    kept : (a ≡ false) × ((y : ℕ) → is_member t (number_at f k p) y ≡ true → held t f p y ≡ true) → (i y : ℕ) → i < p + 1 → i < bound →
+        is_member s (number_at e k i) y ≡ true → held s e i y ≡ true
     kept h i y l lb' is = elim (cases_eq i p) [
       | inl q ↦
           ap (λ n. held s e n y) q ∙ sym (now-there s t e f k from bound p a m lb sb ss between p y lp (omega arith))
-          ∙ h.1 y (saved-there s t e f k from bound p a m lb sb ss between p y (omega arith) ∙ ap (λ n. is_member s (saved_at e k n) y) (sym q) ∙ is)
+          ∙ h.1 y (saved-there s t e f k from bound p a m lb sb ss between p y (omega arith) ∙ ap (λ n. is_member s (number_at e k n) y) (sym q) ∙ is)
       | inr n ↦ elim (cases_lt i from) [
         | inl lf ↦ m.same h.0 i y lf lb' is
         | inr gf ↦ sym (same-there s t e f k from bound p a m lb sb ss between i y gf (omega arith) (omega arith)) ∙ is
@@ -119,10 +119,10 @@ met-more s t u e f g k from bound p a b m lb sb ss lp pb between st others here 
     ]
 
 -- the rest is the same
-pub met-all : (s t : List NumberSet) (e f : Copies) (k from bound : ℕ) (a : Bool) → IsMetBelow s e t f k from bound a → bound ≤ length e.cells →
-    AreBelow s e → ((i : ℕ) → i < length e.cells → saved_at e k i < length s) →
-    ((i : ℕ) → from ≤ i → i < bound → cell_at f i ≡ saved_at f k i) → (i y : ℕ) → i < bound →
-    held t f i y ≡ (is_member s (saved_at e k i) y && held s e i y)
+pub met-all : (s t : List NumberSet) (e f : Numbers) (k from bound : ℕ) (a : Bool) → IsMetBelow s e t f k from bound a → bound ≤ length e.cells →
+    AreBelow s e → ((i : ℕ) → i < length e.cells → number_at e k i < length s) →
+    ((i : ℕ) → from ≤ i → i < bound → number_now f i ≡ number_at f k i) → (i y : ℕ) → i < bound →
+    held t f i y ≡ (is_member s (number_at e k i) y && held s e i y)
 met-all s t e f k from bound a m lb sb ss between i y l = elim (cases_lt i from) [
   | inl lf ↦ m.done i y lf l
   | inr gf ↦
@@ -131,9 +131,9 @@ met-all s t e f k from bound a m lb sb ss between i y l = elim (cases_lt i from)
 ]
 
 -- a meet that changed nothing left out no member that the saved copy had
-pub met-same : (s t : List NumberSet) (e f : Copies) (k from bound : ℕ) (a : Bool) → IsMetBelow s e t f k from bound a → bound ≤ length e.cells →
-    AreBelow s e → ((i : ℕ) → i < length e.cells → saved_at e k i < length s) →
-    ((i : ℕ) → from ≤ i → i < bound → cell_at f i ≡ saved_at f k i) → a ≡ false → (i y : ℕ) → i < bound → is_member s (saved_at e k i) y ≡ true →
+pub met-same : (s t : List NumberSet) (e f : Numbers) (k from bound : ℕ) (a : Bool) → IsMetBelow s e t f k from bound a → bound ≤ length e.cells →
+    AreBelow s e → ((i : ℕ) → i < length e.cells → number_at e k i < length s) →
+    ((i : ℕ) → from ≤ i → i < bound → number_now f i ≡ number_at f k i) → a ≡ false → (i y : ℕ) → i < bound → is_member s (number_at e k i) y ≡ true →
     held s e i y ≡ true
 met-same s t e f k from bound a m lb sb ss between q i y l is = elim (cases_lt i from) [
   | inl lf ↦ m.same q i y lf l is

@@ -7,7 +7,7 @@ use Rattle.std.specs.List.Sorted.{IsStrictlyIncreasing}
 use Rattle.std.proofs.lemmas.Bool.{cases_eq, cases_lt, eqb-true}
 use Rattle.std.proofs.lemmas.List.{get_or-set_other, get_or-set_same, length-set, take_more}
 use Rattle.regalloc2_cfg.specs.Numbers.{NumberSet, has_number, times_in}
-use Rattle.regalloc2_checker_tables.specs.SavedCopies.{Copies, saved_at, cell_at, number_in}
+use Rattle.regalloc2_checker_tables.specs.SavedNumbers.{Numbers, copy_count, number_at, number_now}
 use Rattle.regalloc2_checker_tables.specs.EntrySets.{is_member, AreMore, IsSetOf, ListsBits}
 use Rattle.regalloc2_checker_tables.specs.Holding.{Holding, held, holds_now, holds_in, IsHome, AreEntries}
 use Rattle.regalloc2_checker_tables.specs.Holding.{AreTables, AreBelow, AreStill, AreMoreHomes, AreKeptTables, HoldsNow, is_in}
@@ -72,16 +72,16 @@ more-all t s h a m k =
         few = a.few;
         empty = record { below = omega arith; members = λ y. m.kept 0 y first ∙ zero-set.members y };
         homes_long = k.long ∙ a.homes_long;
-        now = entries-more t.sets s t.vregs t.homes h _ (cell_at t.entries) m k a.now;
-        tables = λ n. entries-more t.sets s t.vregs t.homes h _ (saved_at t.entries n) m k (a.tables n);
+        now = entries-more t.sets s t.vregs t.homes h _ (number_now t.entries) m k a.now;
+        tables = λ n. entries-more t.sets s t.vregs t.homes h _ (number_at t.entries n) m k (a.tables n);
       };
       kept = record {
         places = refl;
         vregs = refl;
         count = refl;
-        tables = λ n i y l. m.kept (saved_at t.entries n i) y ((a.tables n).below i (omega arith));
+        tables = λ n i y l. m.kept (number_at t.entries n i) y ((a.tables n).below i (omega arith));
       };
-      now = λ i y l. m.kept (cell_at t.entries i) y (a.now.below i (omega arith));
+      now = λ i y l. m.kept (number_now t.entries i) y (a.now.below i (omega arith));
     }
 
 -- a place gets a set
@@ -106,10 +106,10 @@ put-one t h place set a less small k home =
         empty = a.empty;
         homes_long = k.long ∙ a.homes_long;
         now = subst (λ (n : ℕ). AreEntries t.sets t.vregs h n (λ i. get_or (slice_set t.entries.cells place set) i 0)) size
-            (entries-set t.sets t.vregs h (length t.entries.cells) (cell_at t.entries) (λ i. get_or (slice_set t.entries.cells place set) i 0) place set small
-            other here home (entries-more t.sets t.sets t.vregs t.homes h _ (cell_at t.entries) more k a.now));
-        tables = λ n. subst (λ (m : ℕ). AreEntries t.sets t.vregs h m (saved_at t.entries n)) size
-            (entries-more t.sets t.sets t.vregs t.homes h _ (saved_at t.entries n) more k (a.tables n));
+            (entries-set t.sets t.vregs h (length t.entries.cells) (number_now t.entries) (λ i. get_or (slice_set t.entries.cells place set) i 0) place set small
+            other here home (entries-more t.sets t.sets t.vregs t.homes h _ (number_now t.entries) more k a.now));
+        tables = λ n. subst (λ (m : ℕ). AreEntries t.sets t.vregs h m (number_at t.entries n)) size
+            (entries-more t.sets t.sets t.vregs t.homes h _ (number_at t.entries n) more k (a.tables n));
       };
       kept = record { places = refl; vregs = refl; count = refl; tables = λ n i y l. refl };
       now = λ i y l. elim (cases_eq i place) [
@@ -122,17 +122,17 @@ put-one t h place set a less small k home =
     }
 
 -- a place that is given a set holds the set's members, and the others hold what they held
-pub put-all : (t : Holding) (h : List NumberSet) (place set : ℕ) (f : Copies) → AreTables t → place < length t.places → set < length t.sets →
+pub put-all : (t : Holding) (h : List NumberSet) (place set : ℕ) (f : Numbers) → AreTables t → place < length t.places → set < length t.sets →
     AreMoreHomes t.homes h → ((y : ℕ) → is_member t.sets set y ≡ true → IsHome t.vregs h place y) →
     f ≡ record t.entries { cells = slice_set t.entries.cells place set } →
     IsChanged t (record t { entries = f; homes = h }) (λ i y. if nat_eq i place then is_member t.sets set y else holds_now t i y)
 put-all t h place set f a less small k home e =
-    subst (λ (x : Copies). IsChanged t (record t { entries = x; homes = h }) (λ i y. if nat_eq i place then is_member t.sets set y else holds_now t i y))
+    subst (λ (x : Numbers). IsChanged t (record t { entries = x; homes = h }) (λ i y. if nat_eq i place then is_member t.sets set y else holds_now t i y))
     (sym e)
     (put-one t h place set a less small k home)
 
 -- the empty set is put
-pub clear-all : (t : Holding) (place : ℕ) (f : Copies) → AreTables t → place < length t.places →
+pub clear-all : (t : Holding) (place : ℕ) (f : Numbers) → AreTables t → place < length t.places →
     f ≡ record t.entries { cells = slice_set t.entries.cells place 0 } →
     IsChanged t (record t { entries = f }) (λ i y. if nat_eq i place then false else holds_now t i y)
 clear-all t place f a less e =
@@ -147,7 +147,7 @@ clear-all t place f a less e =
     no y is = true-false (is_member t.sets 0 y) is (a.empty.members y)
 
 -- a virtual register is dropped, in part or in all places
-pub drop-all : (t : Holding) (s : List NumberSet) (f : Copies) → AreTables t → AreStill t.sets t.entries s f →
+pub drop-all : (t : Holding) (s : List NumberSet) (f : Numbers) → AreTables t → AreStill t.sets t.entries s f →
     ((i y : ℕ) → i < length t.entries.cells → held s f i y ≡ true → holds_now t i y ≡ true) → AreTables (record t { entries = f; sets = s })
 drop-all t s f a k less =
     let zero-set = a.empty in
@@ -166,13 +166,13 @@ drop-all t s f a k less =
         below = k.below;
         homed = λ i y l is. a.now.homed i y (omega arith) (less i y (omega arith) is);
       };
-      tables = λ n. subst (λ (m : ℕ). AreEntries s t.vregs t.homes m (saved_at f n)) (sym same)
-          (entries-as s t.vregs t.homes (length t.entries.cells) (saved_at t.entries n) (saved_at f n) (λ i l. k.saved n i)
-          (entries-more t.sets s t.vregs t.homes t.homes _ (saved_at t.entries n) k.more (homes-same t.homes) (a.tables n)));
+      tables = λ n. subst (λ (m : ℕ). AreEntries s t.vregs t.homes m (number_at f n)) (sym same)
+          (entries-as s t.vregs t.homes (length t.entries.cells) (number_at t.entries n) (number_at f n) (λ i l. k.saved n i)
+          (entries-more t.sets s t.vregs t.homes t.homes _ (number_at t.entries n) k.more (homes-same t.homes) (a.tables n)));
     }
 
 -- where only the array that is worked on changed, the tables are kept
-pub drop-kept : (t : Holding) (s : List NumberSet) (f : Copies) → AreTables t → AreStill t.sets t.entries s f →
+pub drop-kept : (t : Holding) (s : List NumberSet) (f : Numbers) → AreTables t → AreStill t.sets t.entries s f →
     AreKeptTables t (record t { entries = f; sets = s })
 drop-kept t s f a k =
     let long = a.long in
@@ -180,11 +180,11 @@ drop-kept t s f a k =
       places = refl;
       vregs = refl;
       count = k.count;
-      tables = λ n i y l. ap (λ x. is_member s x y) (k.saved n i) ∙ k.more.kept (saved_at t.entries n i) y ((a.tables n).below i (omega arith));
+      tables = λ n i y l. ap (λ x. is_member s x y) (k.saved n i) ∙ k.more.kept (number_at t.entries n i) y ((a.tables n).below i (omega arith));
     }
 
 -- dropped where it may be is dropped everywhere
-pub drop-now : (t : Holding) (s : List NumberSet) (f : Copies) (j : ℕ) → AreTables t → j < length t.vregs →
+pub drop-now : (t : Holding) (s : List NumberSet) (f : Numbers) (j : ℕ) → AreTables t → j < length t.vregs →
     ((i y : ℕ) → i < length t.entries.cells → held s f i y ≡
     (if has_number (get_or t.homes j []) i && nat_eq y (get_or t.vregs j 0) then false else holds_now t i y)) →
     HoldsNow (record t { entries = f; sets = s }) (λ i y. if nat_eq y (get_or t.vregs j 0) then false else holds_now t i y)
@@ -223,13 +223,11 @@ kept_then a b c h g = record {
 }
 
 -- a table is loaded
-pub load-all : (t : Holding) (f : Copies) (k : ℕ) → AreTables t → f.words ≡ t.entries.words → f.saved ≡ t.entries.saved →
-    length f.cells ≡ length t.entries.cells → ((i : ℕ) → i < length f.cells → cell_at f i ≡ saved_at t.entries k i) →
+pub load-all : (t : Holding) (f : Numbers) (k : ℕ) → AreTables t → copy_count f ≡ copy_count t.entries →
+    ((n i : ℕ) → number_at f n i ≡ number_at t.entries n i) → length f.cells ≡ length t.entries.cells → ((i : ℕ) → i < length f.cells → number_now f i ≡ number_at t.entries k i) →
     IsChanged t (record t { entries = f }) (holds_in t k)
-load-all t f k a ew es el h =
+load-all t f k a ec same el h =
     let long = a.long in
-    let same : (n i : ℕ) → saved_at f n i ≡ saved_at t.entries n i = λ n i. ap (λ (w : List ℕ). number_in w (get_or f.saved n []) i) ew
-    ∙ ap (λ (s : List (List ℕ)). number_in t.entries.words (get_or s n []) i) es in
     record {
       tables = record {
         places_rise = a.places_rise;
@@ -238,15 +236,15 @@ load-all t f k a ew es el h =
         few = a.few;
         empty = a.empty;
         homes_long = a.homes_long;
-        now = subst (λ (m : ℕ). AreEntries t.sets t.vregs t.homes m (cell_at f)) (sym el)
-            (entries-as t.sets t.vregs t.homes (length t.entries.cells) (saved_at t.entries k) (cell_at f) (λ i l. h i (omega arith)) (a.tables k));
-        tables = λ n. subst (λ (m : ℕ). AreEntries t.sets t.vregs t.homes m (saved_at f n)) (sym el)
-            (entries-as t.sets t.vregs t.homes (length t.entries.cells) (saved_at t.entries n) (saved_at f n) (λ i l. same n i) (a.tables n));
+        now = subst (λ (m : ℕ). AreEntries t.sets t.vregs t.homes m (number_now f)) (sym el)
+            (entries-as t.sets t.vregs t.homes (length t.entries.cells) (number_at t.entries k) (number_now f) (λ i l. h i (omega arith)) (a.tables k));
+        tables = λ n. subst (λ (m : ℕ). AreEntries t.sets t.vregs t.homes m (number_at f n)) (sym el)
+            (entries-as t.sets t.vregs t.homes (length t.entries.cells) (number_at t.entries n) (number_at f n) (λ i l. same n i) (a.tables n));
       };
       kept = record {
         places = refl;
         vregs = refl;
-        count = ap (λ (s : List (List ℕ)). length s) es;
+        count = ec;
         tables =
             λ n i y l. ap (λ x. is_member t.sets x y) (same n i);
       };
@@ -254,8 +252,8 @@ load-all t f k a ew es el h =
     }
 
 -- saved copies change, each to one of the same kind
-pub save-tables : (t : Holding) (f : Copies) → AreTables t → f.cells ≡ t.entries.cells →
-    ((k : ℕ) → (h : ℕ → ℕ) × AreEntries t.sets t.vregs t.homes (length t.entries.cells) h × ((i : ℕ) → i < length t.entries.cells → saved_at f k i ≡ h i)) →
+pub save-tables : (t : Holding) (f : Numbers) → AreTables t → f.cells ≡ t.entries.cells →
+    ((k : ℕ) → (h : ℕ → ℕ) × AreEntries t.sets t.vregs t.homes (length t.entries.cells) h × ((i : ℕ) → i < length t.entries.cells → number_at f k i ≡ h i)) →
     AreTables (record t { entries = f })
 save-tables t f a ec h =
     let long = a.long in
@@ -268,12 +266,12 @@ save-tables t f a ec h =
       empty = a.empty;
       homes_long = a.homes_long;
       now = subst (λ (c : List ℕ). AreEntries t.sets t.vregs t.homes (length c) (λ i. get_or c i 0)) (sym ec) a.now;
-      tables = λ k. subst (λ (m : ℕ). AreEntries t.sets t.vregs t.homes m (saved_at f k)) (sym el)
-          (entries-as t.sets t.vregs t.homes (length t.entries.cells) (h k).0 (saved_at f k) (h k).2 (h k).1);
+      tables = λ k. subst (λ (m : ℕ). AreEntries t.sets t.vregs t.homes m (number_at f k)) (sym el)
+          (entries-as t.sets t.vregs t.homes (length t.entries.cells) (h k).0 (number_at f k) (h k).2 (h k).1);
     }
 
 -- the number that the array has for a place is that of a set
-pub get-below : (t : Holding) (from n : ℕ) → AreTables t → from < length t.places → n ≡ cell_at t.entries from → n < length t.sets
+pub get-below : (t : Holding) (from n : ℕ) → AreTables t → from < length t.places → n ≡ number_now t.entries from → n < length t.sets
 get-below t from n a less e = let long = a.long in subst (λ (x : ℕ). x < length t.sets) (sym e) (a.now.below from (omega arith))
 
 -- a listed member came
@@ -439,34 +437,34 @@ is_in-at (x ∷ xs) (suc k) l = ap (λ b. nat_eq x (get_or xs k 0) || b) (is_in-
     or-true false = refl
 
 -- a saved copy gets what is worked on, or stays
-pub save-all : (t : Holding) (f : Copies) (k : ℕ) (r : Result (Unit {0}) AllocError) → AreTables t → f.cells ≡ t.entries.cells →
-    ((n i : ℕ) → (n ≡ k → ⊥) → i < length t.entries.cells → saved_at f n i ≡ saved_at t.entries n i) →
-    OnOk r ((i : ℕ) → i < length t.entries.cells → saved_at f k i ≡ cell_at t.entries i) →
-    OnErr r ((i : ℕ) → i < length t.entries.cells → saved_at f k i ≡ saved_at t.entries k i) → AreTables (record t { entries = f })
+pub save-all : (t : Holding) (f : Numbers) (k : ℕ) (r : Result (Unit {0}) AllocError) → AreTables t → f.cells ≡ t.entries.cells →
+    ((n i : ℕ) → (n ≡ k → ⊥) → i < length t.entries.cells → number_at f n i ≡ number_at t.entries n i) →
+    OnOk r ((i : ℕ) → i < length t.entries.cells → number_at f k i ≡ number_now t.entries i) →
+    OnErr r ((i : ℕ) → i < length t.entries.cells → number_at f k i ≡ number_at t.entries k i) → AreTables (record t { entries = f })
 save-all t f k (Ok x) a ec others ok err = save-tables t f a ec (λ n. elim (cases_eq n k) [
-  | inl e ↦ (cell_at t.entries, a.now, λ i l. ap (λ m. saved_at f m i) e ∙ ok i l)
-  | inr d ↦ (saved_at t.entries n, a.tables n, λ i l. others n i d l)
+  | inl e ↦ (number_now t.entries, a.now, λ i l. ap (λ m. number_at f m i) e ∙ ok i l)
+  | inr d ↦ (number_at t.entries n, a.tables n, λ i l. others n i d l)
 ])
 save-all t f k (Err x) a ec others ok err = save-tables t f a ec (λ n. elim (cases_eq n k) [
-  | inl e ↦ (saved_at t.entries k, a.tables k, λ i l. ap (λ m. saved_at f m i) e ∙ err i l)
-  | inr d ↦ (saved_at t.entries n, a.tables n, λ i l. others n i d l)
+  | inl e ↦ (number_at t.entries k, a.tables k, λ i l. ap (λ m. number_at f m i) e ∙ err i l)
+  | inr d ↦ (number_at t.entries n, a.tables n, λ i l. others n i d l)
 ])
 
 -- a saved table holds what the one that is worked on held, and the others what they held
-pub save-in : (t : Holding) (f : Copies) (k : ℕ) → AreTables t →
-    ((n i : ℕ) → (n ≡ k → ⊥) → i < length t.entries.cells → saved_at f n i ≡ saved_at t.entries n i) →
-    ((i : ℕ) → i < length t.entries.cells → saved_at f k i ≡ cell_at t.entries i) → (n i y : ℕ) → i < length t.places →
+pub save-in : (t : Holding) (f : Numbers) (k : ℕ) → AreTables t →
+    ((n i : ℕ) → (n ≡ k → ⊥) → i < length t.entries.cells → number_at f n i ≡ number_at t.entries n i) →
+    ((i : ℕ) → i < length t.entries.cells → number_at f k i ≡ number_now t.entries i) → (n i y : ℕ) → i < length t.places →
     holds_in (record t { entries = f }) n i y ≡ (if nat_eq n k then holds_now t i y else holds_in t n i y)
 save-in t f k a others ok n i y l = (let long = a.long in elim (cases_eq n k) [
   | inl e ↦
-      ap (λ m. is_member t.sets (saved_at f m i) y) e ∙ ap (λ m. is_member t.sets m y) (ok i (omega arith))
+      ap (λ m. is_member t.sets (number_at f m i) y) e ∙ ap (λ m. is_member t.sets m y) (ok i (omega arith))
       ∙ sym (ap (λ b. if b then holds_now t i y else holds_in t n i y) (eq-eqb n k e))
   | inr d ↦
       ap (λ m. is_member t.sets m y) (others n i d (omega arith)) ∙ sym (ap (λ b. if b then holds_now t i y else holds_in t n i y) (apart n k d))
 ])
 
 -- a meet that loses nothing
-pub meet-false : (t : Holding) (s : List NumberSet) (f : Copies) (k : ℕ) → AreTables t → AreStill t.sets t.entries s f →
+pub meet-false : (t : Holding) (s : List NumberSet) (f : Numbers) (k : ℕ) → AreTables t → AreStill t.sets t.entries s f →
     ((i y : ℕ) → i < length t.places → holds_in t k i y ≡ true → holds_now t i y ≡ true) → (n i y : ℕ) → i < length t.places →
     holds_in (record t { entries = f; sets = s }) n i y ≡ (if nat_eq n k then holds_in t n i y && holds_now t i y else holds_in t n i y)
 meet-false t s f k a st same n i y l = (drop-kept t s f a st).tables n i y l ∙ elim (cases_eq n k) [
@@ -481,9 +479,9 @@ meet-false t s f k a st same n i y l = (drop-kept t s f a st).tables n i y l ∙
     whole false q h = refl
 
 -- and one that is saved
-pub meet-true : (t : Holding) (s : List NumberSet) (f h : Copies) (k : ℕ) → AreTables t → AreStill t.sets t.entries s f →
-    AreTables (record t { entries = f; sets = s }) → ((n i : ℕ) → (n ≡ k → ⊥) → i < length f.cells → saved_at h n i ≡ saved_at f n i) →
-    ((i : ℕ) → i < length f.cells → saved_at h k i ≡ cell_at f i) →
+pub meet-true : (t : Holding) (s : List NumberSet) (f h : Numbers) (k : ℕ) → AreTables t → AreStill t.sets t.entries s f →
+    AreTables (record t { entries = f; sets = s }) → ((n i : ℕ) → (n ≡ k → ⊥) → i < length f.cells → number_at h n i ≡ number_at f n i) →
+    ((i : ℕ) → i < length f.cells → number_at h k i ≡ number_now f i) →
     ((i y : ℕ) → i < length t.places → held s f i y ≡ (holds_in t k i y && holds_now t i y)) → (n i y : ℕ) → i < length t.places →
     holds_in (record t { entries = h; sets = s }) n i y ≡ (if nat_eq n k then holds_in t n i y && holds_now t i y else holds_in t n i y)
 meet-true t s f h k a st b others saved met n i y l =
@@ -501,9 +499,9 @@ meet-true t s f h k a st b others saved met n i y l =
     ]
 
 -- nothing is held yet
-pub new-all : (places vregs : List ℕ) (e : Copies) (s h : List NumberSet) → IsStrictlyIncreasing places → IsStrictlyIncreasing vregs →
-    length places < length e.cells → length places < 274877906944 → IsSetOf s 0 (λ y. false) → length h ≡ length vregs → ((i : ℕ) → cell_at e i ≡ 0) →
-    ((k i : ℕ) → saved_at e k i ≡ 0) → AreTables (record { places = places; vregs = vregs; entries = e; sets = s; homes = h })
+pub new-all : (places vregs : List ℕ) (e : Numbers) (s h : List NumberSet) → IsStrictlyIncreasing places → IsStrictlyIncreasing vregs →
+    length places < length e.cells → length places < 274877906944 → IsSetOf s 0 (λ y. false) → length h ≡ length vregs → ((i : ℕ) → number_now e i ≡ 0) →
+    ((k i : ℕ) → number_at e k i ≡ 0) → AreTables (record { places = places; vregs = vregs; entries = e; sets = s; homes = h })
 new-all places vregs e s h pr vr long few empty hl cells saved = record {
   places_rise = pr;
   vregs_rise = vr;
@@ -511,8 +509,8 @@ new-all places vregs e s h pr vr long few empty hl cells saved = record {
   few = few;
   empty = empty;
   homes_long = hl;
-  now = zeros (cell_at e) cells;
-  tables = λ k. zeros (saved_at e k) (saved k);
+  now = zeros (number_now e) cells;
+  tables = λ k. zeros (number_at e k) (saved k);
 }
   where
     true-false : (b : Bool) → b ≡ true → b ≡ false → ⊥

@@ -1,5 +1,6 @@
 -- Sets of bits, by number. Bits are words of 32 bits.
-use Rattle.std.specs.Prelude.{ℕ, ◌≡◌, ◌<◌, ◌≤◌, Bool, true, false, ◌&&◌, nat_lt, List, [], length, get_or, if◌then◌else◌}
+use Rattle.std.specs.Prelude.{ℕ, ◌≡◌, ◌<◌, ◌≤◌, Bool, true, false, ◌&&◌, nat_eq, nat_lt, List, [], length, get_or, if◌then◌else◌}
+use Rattle.std.specs.Prelude.{Option, None, Some}
 use Rattle.regalloc2_cfg.specs.Numbers.{NumberSet, has_number, times_in}
 
 -- whether bits are a member
@@ -19,6 +20,13 @@ pub record AreMore (old new : List NumberSet) : Type 0 where
 pub record IsSetOf (sets : List NumberSet) (n : ℕ) (has : ℕ → Bool) : Type 0 where
   pub below : n < length sets
   pub members : (y : ℕ) → is_member sets n y ≡ has y
+
+-- what stays true of sets, and of what is kept beside them: the first is empty, and each for which one member is kept has that alone
+pub record AreKnown (sets : List NumberSet) (only : List (Option ℕ)) : Type 0 where
+  pub long : length only ≡ length sets
+  pub first : 0 < length sets
+  pub empty : (y : ℕ) → is_member sets 0 y ≡ false
+  pub lone : (n b : ℕ) → n < length sets → get_or only n None ≡ Some b → (y : ℕ) → is_member sets n y ≡ nat_eq y b
 
 -- each member is listed once, and nothing else
 abbrev pub ListsBits : (ℕ → Bool) → List ℕ → Type 0

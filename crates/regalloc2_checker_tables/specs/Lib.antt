@@ -1,3 +1,4 @@
 pub mod SavedCopies
+pub mod SavedNumbers
 pub mod EntrySets
 pub mod Holding

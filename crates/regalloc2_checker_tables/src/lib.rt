@@ -1,6 +1,7 @@
 //! Tables of which virtual registers places hold, which share what they have in common.
 #![tactic(auto)]
 
+mod entries;
 mod positions;
 mod sets;
 mod tables;

@@ -10,19 +10,27 @@ use std::alloc::{AllocError, Allocator};
 use std::marker::Model;
 
 /// Sets of bits, by number. The first is the empty one.
+///
+/// Most have one member alone, which is kept beside the set, so that it needn't be looked for. `singles` says, for bits,
+/// which set may have them alone.
 #[derive(Drop)]
 pub struct Sets<A: Allocator> {
     sets: Vec<IndexSet<A>, A>,
+    lone: Vec<Option<u32>, A>,
+    singles: Vec<u32, A>,
     alloc: A,
 }
 
 impl<A: Allocator> Model for Sets<A> {
     ghost use Rattle.std.specs.Prelude.{List};
     ghost use Rattle.regalloc2_cfg.specs.Numbers.{NumberSet};
+    ghost use Rattle.regalloc2_checker_tables.specs.EntrySets.{AreKnown};
 
     ghost Value = { List NumberSet };
 
     ghost view = { λ s. s.sets.items };
+
+    ghost invariant = { λ s. AreKnown s.sets.items s.lone.items };
 }
 
 /// Whether bits are a member.
@@ -83,14 +91,59 @@ fn listed<A: Allocator + Copy>(alloc: A, set: &IndexSet<A>) -> Result<Vec<u32, A
     Ok(members)
 }
 
+/// A member of a set, if it has one.
+fn member_of<A: Allocator + Copy>(set: &IndexSet<A>) -> Option<u32>
+    ensures none { result ≡ None → (y : ℕ) → has_bits set.now y ≡ false }
+    ensures some { (b : ℕ) → result ≡ Some b → has_bits set.now b ≡ true }
+{
+    for member in set.iter() {
+        if let Ok(bits) = u32::try_from(member) {
+            return Some(bits);
+        }
+    }
+    None
+}
+
+/// Whether a set has no member but one.
+fn has_no_other<A: Allocator + Copy>(set: &IndexSet<A>, only: u32) -> bool
+    ensures { result ≡ true → (y : ℕ) → has_bits set.now y ≡ true → y ≡ only }
+{
+    for member in set.iter() {
+        let Ok(bits) = u32::try_from(member) else {
+            continue;
+        };
+        if bits != only {
+            return false;
+        }
+    }
+    true
+}
+
 impl<A: Allocator + Copy> Sets<A> {
-    /// The empty set alone.
-    pub fn new(alloc: A) -> Result<Sets<A>, AllocError>
+    /// The empty set alone. So many sets of one member will be kept for bits.
+    pub fn new(alloc: A, count: usize) -> Result<Sets<A>, AllocError>
         ensures { IfOk result (λ s. IsSetOf s 0 (λ y. false)) }
     {
         let mut sets = Vec::new(alloc);
         sets.push(IndexSet::new(alloc))?;
-        Ok(Sets { sets, alloc })
+        let mut lone = Vec::new(alloc);
+        lone.push(None)?;
+        let mut singles = Vec::new(alloc);
+        singles.resize(count, 0)?;
+        Ok(Sets {
+            sets,
+            lone,
+            singles,
+            alloc,
+        })
+    }
+
+    /// The one member of a set, if it is known to have one alone.
+    pub fn only(&self, set: u32) -> Option<u32>
+        requires { set < length self.now }
+        ensures { (b : ℕ) → result ≡ Some b → IsSetOf self.now set (λ y. nat_eq y b) }
+    {
+        self.lone[set as usize]
     }
 
     /// Whether bits are a member of a set.
@@ -98,7 +151,14 @@ impl<A: Allocator + Copy> Sets<A> {
         requires { set < length self.now }
         ensures { result ≡ is_member self.now set bits }
     {
-        has_bits(&self.sets[set as usize], bits)
+        let _ = &self.sets;
+        if set == 0 {
+            return false;
+        }
+        match self.only(set) {
+            Some(only) => bits == only,
+            None => has_bits(&self.sets[set as usize], bits),
+        }
     }
 
     /// The members of a set, in no order that is promised.
@@ -109,28 +169,53 @@ impl<A: Allocator + Copy> Sets<A> {
         listed(self.alloc, &self.sets[set as usize])
     }
 
-    /// Adds a set; answers its number.
-    fn add(&mut self, set: IndexSet<A>) -> Result<u32, AllocError>
-        ensures added { IfOk result (λ n. (n ≡ length self.old) × (self.new ≡ self.old ++ set ∷ [])) }
-        ensures err { OnErr result (self.new ≡ self.old) }
+    /// Adds a set, and its one member, if that is known; answers its number.
+    fn add(&mut self, set: IndexSet<A>, only: Option<u32>) -> Result<u32, AllocError>
+        requires { (b : ℕ) → only ≡ Some b → (y : ℕ) → has_bits set y ≡ nat_eq y b }
+        ensures more { AreMore self.old self.new }
+        ensures found { IfOk result (λ n. IsSetOf self.new n (has_bits set)) }
     {
         let Ok(number) = u32::try_from(self.sets.len()) else {
             return Err(AllocError);
         };
+        self.lone.reserve(1)?;
         self.sets.push(set)?;
+        self.lone.push_reserved(only);
         Ok(number)
     }
 
-    /// A set with its one member changed: `bits` is a member or none.
-    fn changed(&mut self, set: u32, bits: u32, is_in: bool) -> Result<u32, AllocError>
-        requires { set < length self.old }
-        ensures more { AreMore self.old self.new }
-        ensures found { IfOk result (λ n. IsSetOf self.new n (λ y. if nat_eq y bits then is_in else is_member self.old set y)) }
+    /// Where the number of the set that has bits alone is kept.
+    fn slot(&self, bits: u32) -> usize {
+        let index = bits as usize / 4;
+        if index < self.singles.len() {
+            return index;
+        }
+        index.checked_rem(self.singles.len()).unwrap_or(0)
+    }
+
+    /// The number of the set that has bits alone, if it is kept.
+    fn kept_single(&self, bits: u32) -> Option<u32>
+        ensures { (n : ℕ) → result ≡ Some n → IsSetOf self.now n (λ y. nat_eq y bits) }
     {
-        let mut copy = IndexSet::new(self.alloc);
-        copy.assign(&self.sets[set as usize])?;
-        copy.set(bits as usize, is_in)?;
-        self.add(copy)
+        let number = self.singles.get(self.slot(bits)).copied()?;
+        if number as usize >= self.sets.len() {
+            return None;
+        }
+        if self.only(number)? == bits {
+            Some(number)
+        } else {
+            None
+        }
+    }
+
+    /// Keeps the number of the set that has bits alone.
+    fn keep_single(&mut self, bits: u32, number: u32)
+        ensures { self.new ≡ self.old }
+    {
+        let slot = self.slot(bits);
+        if slot < self.singles.len() {
+            self.singles[slot] = number;
+        }
     }
 
     /// A set of one member.
@@ -138,9 +223,40 @@ impl<A: Allocator + Copy> Sets<A> {
         ensures more { AreMore self.old self.new }
         ensures found { IfOk result (λ n. IsSetOf self.new n (λ y. nat_eq y bits)) }
     {
+        if let Some(number) = self.kept_single(bits) {
+            return Ok(number);
+        }
         let mut set = IndexSet::new(self.alloc);
         set.set(bits as usize, true)?;
-        self.add(set)
+        let number = self.add(set, Some(bits))?;
+        self.keep_single(bits, number);
+        Ok(number)
+    }
+
+    /// The number of a set: that of the empty one, of one of one member, or one that is added.
+    fn settle(&mut self, set: IndexSet<A>) -> Result<u32, AllocError>
+        ensures more { AreMore self.old self.new }
+        ensures found { IfOk result (λ n. IsSetOf self.new n (has_bits set)) }
+    {
+        let _ = &self.sets;
+        let Some(member) = member_of(&set) else {
+            return Ok(0);
+        };
+        if has_no_other(&set, member) {
+            return self.single(member);
+        }
+        self.add(set, None)
+    }
+
+    /// A set with its one member changed: `bits` is a member or none.
+    fn changed(&self, set: u32, bits: u32, is_in: bool) -> Result<IndexSet<A>, AllocError>
+        requires { set < length self.now }
+        ensures { IfOk result (λ s. (y : ℕ) → has_bits s y ≡ (if nat_eq y bits then is_in else is_member self.now set y)) }
+    {
+        let mut copy = IndexSet::new(self.alloc);
+        copy.assign(&self.sets[set as usize])?;
+        copy.set(bits as usize, is_in)?;
+        Ok(copy)
     }
 
     /// A set and one member more.
@@ -149,10 +265,15 @@ impl<A: Allocator + Copy> Sets<A> {
         ensures more { AreMore self.old self.new }
         ensures found { IfOk result (λ n. IsSetOf self.new n (λ y. if nat_eq y bits then true else is_member self.old set y)) }
     {
+        let _ = &self.sets;
         if self.has(set, bits) {
             return Ok(set);
         }
-        self.changed(set, bits, true)
+        if set == 0 {
+            return self.single(bits);
+        }
+        let more = self.changed(set, bits, true)?;
+        self.add(more, None)
     }
 
     /// A set and one member less.
@@ -161,10 +282,48 @@ impl<A: Allocator + Copy> Sets<A> {
         ensures more { AreMore self.old self.new }
         ensures found { IfOk result (λ n. IsSetOf self.new n (λ y. if nat_eq y bits then false else is_member self.old set y)) }
     {
+        let _ = &self.sets;
         if !self.has(set, bits) {
             return Ok(set);
         }
-        self.changed(set, bits, false)
+        if let Some(_only) = self.only(set) {
+            return Ok(0);
+        }
+        let less = self.changed(set, bits, false)?;
+        self.settle(less)
+    }
+
+    /// The members of two sets.
+    fn both(&mut self, set: u32, other: u32) -> Result<u32, AllocError>
+        requires set { set < length self.old }
+        requires other { other < length self.old }
+        ensures more { AreMore self.old self.new }
+        ensures found { IfOk result (λ n. IsSetOf self.new n (λ y. is_member self.old set y && is_member self.old other y)) }
+    {
+        let _ = &self.sets;
+        if let Some(only) = self.only(other) {
+            if self.has(set, only) {
+                return Ok(other);
+            }
+            return Ok(0);
+        }
+        let first = &self.sets[set as usize];
+        let second = &self.sets[other as usize];
+        let both = intersection(self.alloc, first, second)?;
+        self.settle(both)
+    }
+
+    /// Whether each member of a set is one of another.
+    fn is_within(&self, set: u32, other: u32) -> bool
+        requires set { set < length self.now }
+        requires other { other < length self.now }
+        ensures yes { OnTrue result ((y : ℕ) → is_member self.now set y ≡ true → is_member self.now other y ≡ true) }
+        ensures no { OnFalse result (IsLess (is_member self.now set) (is_member self.now other)) }
+    {
+        if let Some(only) = self.only(set) {
+            return self.has(other, only);
+        }
+        is_subset(&self.sets[set as usize], &self.sets[other as usize])
     }
 
     /// The members of both sets. The number is that of the first exactly where each of its members is one of the other.
@@ -175,15 +334,16 @@ impl<A: Allocator + Copy> Sets<A> {
         ensures found { IfOk result (λ n. IsSetOf self.new n (λ y. is_member self.old set y && is_member self.old other y)) }
         ensures less { IfOk result (λ n. (n ≡ set → ⊥) → IsLess (is_member self.old set) (is_member self.old other)) }
     {
-        let first = &self.sets[set as usize];
-        let second = &self.sets[other as usize];
-        if is_subset(first, second) {
+        let _ = &self.sets;
+        if set == 0 {
             return Ok(set);
         }
-        if is_subset(second, first) {
-            return Ok(other);
+        if self.is_within(set, other) {
+            return Ok(set);
         }
-        let both = intersection(self.alloc, first, second)?;
-        self.add(both)
+        if let Some(_only) = self.only(set) {
+            return Ok(0);
+        }
+        self.both(set, other)
     }
 }

@@ -1,21 +1,21 @@
 //! Tables of which virtual registers places hold.
 
 ghost use Rattle.std.specs.Prelude.{◌≡◌, ◌≢◌, ◌⊎◌, None, Some, ℕ, ◌<◌, ◌≤◌, ◌^◌, ◌==◌, true, false, ◌&&◌, ◌||◌};
-ghost use Rattle.std.specs.Prelude.{nat_eq, nat_lt, if◌then◌else◌, length, get_or};
+ghost use Rattle.std.specs.Prelude.{[], nat_eq, nat_lt, if◌then◌else◌, length, get_or};
 ghost use Rattle.std.specs.Prelude.{◌↔◌, Contains, IfOk, OnOk, OnErr};
 ghost use Rattle.std.specs.Bool.{OnTrue, OnFalse};
 ghost use Rattle.std.specs.List.{position};
 ghost use Rattle.std.specs.List.Sorted.{IsStrictlyIncreasing};
 ghost use Rattle.regalloc2_cfg.specs.Numbers.{has_number, times_in};
-ghost use Rattle.regalloc2_checker_tables.specs.SavedCopies.{cell_at, saved_at};
+ghost use Rattle.regalloc2_checker_tables.specs.SavedNumbers.{copy_count, number_now, number_at};
 ghost use Rattle.regalloc2_checker_tables.specs.EntrySets.{is_member, IsSetOf, IsLess};
 ghost use Rattle.regalloc2_checker_tables.specs.Holding.{count_of, held, holds_now, holds_in, AreBelow, AreStill, AreMoreHomes};
 ghost use Rattle.regalloc2_checker_tables.specs.Holding.{is_in, AreKeptTables, HoldsNow, IsHome};
 ghost use Rattle.regalloc2_checker_tables.specs.Holding.{LosesSome};
 
+use crate::entries::Entries;
 use crate::positions::Positions;
 use crate::sets::Sets;
-use crate::versions::Versions;
 use regalloc2_cfg::indexset::IndexSet;
 use std::alloc::{AllocError, Allocator};
 use std::marker::Model;
@@ -28,7 +28,7 @@ use std::marker::Model;
 pub struct Tables<A: Allocator> {
     places: Positions<A>,
     vregs: Positions<A>,
-    entries: Versions<A>,
+    entries: Entries<A>,
     sets: Sets<A>,
     homes: Vec<IndexSet<A>, A>,
     hints: Hints<A>,
@@ -74,7 +74,7 @@ impl<A: Allocator + Copy> Hints<A> {
 
 /// Takes a virtual register out of one place.
 fn drop_at<A: Allocator + Copy>(
-    entries: &mut Versions<A>,
+    entries: &mut Entries<A>,
     sets: &mut Sets<A>,
     place: usize,
     bits: u32,
@@ -96,7 +96,7 @@ fn drop_at<A: Allocator + Copy>(
 
 /// Takes a virtual register out of the places where it may be.
 fn drop_everywhere<A: Allocator + Copy>(
-    entries: &mut Versions<A>,
+    entries: &mut Entries<A>,
     sets: &mut Sets<A>,
     homes: &IndexSet<A>,
     bits: u32,
@@ -116,7 +116,7 @@ fn drop_everywhere<A: Allocator + Copy>(
 /// The places below a bound where a virtual register may be and is.
 fn holders_among<A: Allocator + Copy>(
     alloc: A,
-    entries: &Versions<A>,
+    entries: &Entries<A>,
     sets: &Sets<A>,
     homes: &IndexSet<A>,
     bits: u32,
@@ -140,6 +140,24 @@ fn holders_among<A: Allocator + Copy>(
     Ok(holders)
 }
 
+/// Notes that the virtual register with a number may be at a place.
+fn note_at<A: Allocator + Copy>(
+    homes: &mut Vec<IndexSet<A>, A>,
+    vreg: usize,
+    place: usize,
+) -> Result<(), AllocError>
+    requires vreg { vreg < length homes.old.items }
+    requires place { place < 2 ^ 38 }
+    ensures more { AreMoreHomes homes.old.items homes.new.items }
+    ensures noted { OnOk result (has_number (get_or homes.new.items vreg []) place ≡ true) }
+{
+    if homes[vreg].get(place) {
+        return Ok(());
+    }
+    let home = &mut homes[vreg];
+    home.set(place, true)
+}
+
 /// Notes that a virtual register may be at a place, if it is listed.
 fn note<A: Allocator + Copy>(
     vregs: &Positions<A>,
@@ -156,9 +174,7 @@ fn note<A: Allocator + Copy>(
     let Some(vreg) = vregs.find(bits, bits as usize / 4) else {
         return Ok(());
     };
-    let home = &mut homes[vreg];
-    home.set(place, true)?;
-    Ok(())
+    note_at(homes, vreg, place)
 }
 
 /// Notes that listed virtual registers may be at a place.
@@ -180,6 +196,32 @@ fn note_all<A: Allocator + Copy>(
     Ok(())
 }
 
+/// Notes that the listed virtual registers of a set may be at a place.
+fn note_set<A: Allocator + Copy>(
+    vregs: &Positions<A>,
+    sets: &Sets<A>,
+    homes: &mut Vec<IndexSet<A>, A>,
+    set: u32,
+    place: usize,
+) -> Result<(), AllocError>
+    requires rising { IsStrictlyIncreasing vregs.now }
+    requires homes { length homes.old.items ≡ length vregs.now }
+    requires set { set < length sets.now }
+    requires empty { (y : ℕ) → is_member sets.now 0 y ≡ false }
+    requires place { place < 2 ^ 38 }
+    ensures more { AreMoreHomes homes.old.items homes.new.items }
+    ensures noted { OnOk result ((y : ℕ) → is_member sets.now set y ≡ true → IsHome vregs.now homes.new.items place y) }
+{
+    if set == 0 {
+        return Ok(());
+    }
+    if let Some(only) = sets.only(set) {
+        return note(vregs, homes, only, place);
+    }
+    let members = sets.members(set)?;
+    note_all(vregs, homes, &members, place)
+}
+
 /// Whether something changed before, or two numbers differ.
 fn is_changed(before: bool, had: u32, common: u32) -> bool
     ensures yes { result ≡ true → (before ≡ true) ⊎ (common ≢ had) }
@@ -193,24 +235,24 @@ fn is_changed(before: bool, had: u32, common: u32) -> bool
 
 /// Leaves at a position what a saved copy has too; answers whether the copy has more, or had so before.
 fn meet_at<A: Allocator + Copy>(
-    entries: &mut Versions<A>,
+    entries: &mut Entries<A>,
     sets: &mut Sets<A>,
     table: usize,
     place: usize,
     before: bool,
 ) -> Result<bool, AllocError>
-    requires table { table < length entries.old.saved }
+    requires table { table < copy_count entries.old }
     requires place { place < length entries.old.cells }
     requires below { AreBelow sets.old entries.old }
-    requires saved { saved_at entries.old table place < length sets.old }
+    requires saved { number_at entries.old table place < length sets.old }
     ensures still { AreStill sets.old entries.old sets.new entries.new }
-    ensures others { (i : ℕ) → (i ≡ place → ⊥) → cell_at entries.new i ≡ cell_at entries.old i }
+    ensures others { (i : ℕ) → (i ≡ place → ⊥) → number_now entries.new i ≡ number_now entries.old i }
     ensures met { OnOk result ((y : ℕ) → held sets.new entries.new place y
-        ≡ (is_member sets.old (saved_at entries.old table place) y && held sets.old entries.old place y)) }
+        ≡ (is_member sets.old (number_at entries.old table place) y && held sets.old entries.old place y)) }
     ensures less { IfOk result (λ less. less ≡ true → (before ≡ true)
-        ⊎ IsLess (is_member sets.old (saved_at entries.old table place)) (held sets.old entries.old place)) }
+        ⊎ IsLess (is_member sets.old (number_at entries.old table place)) (held sets.old entries.old place)) }
     ensures same { IfOk result (λ less. less ≡ false → (before ≡ false)
-        × ((y : ℕ) → is_member sets.old (saved_at entries.old table place) y ≡ true → held sets.old entries.old place y ≡ true)) }
+        × ((y : ℕ) → is_member sets.old (number_at entries.old table place) y ≡ true → held sets.old entries.old place y ≡ true)) }
     ensures err { OnErr result (entries.new ≡ entries.old) }
 {
     let had = entries.saved(table, place);
@@ -221,16 +263,16 @@ fn meet_at<A: Allocator + Copy>(
 
 /// The first position from one on, below a bound, at which the array differs from a saved copy.
 fn next_below<A: Allocator + Copy>(
-    entries: &Versions<A>,
+    entries: &Entries<A>,
     table: usize,
     from: usize,
     bound: usize,
 ) -> Option<usize>
-    requires table { table < length entries.now.saved }
+    requires table { table < copy_count entries.now }
     requires bound { bound ≤ length entries.now.cells }
-    ensures none { result ≡ None → (i : ℕ) → from ≤ i → i < bound → cell_at entries.now i ≡ saved_at entries.now table i }
+    ensures none { result ≡ None → (i : ℕ) → from ≤ i → i < bound → number_now entries.now i ≡ number_at entries.now table i }
     ensures some { (p : ℕ) → result ≡ Some p → (from ≤ p) × (p < bound)
-        × ((i : ℕ) → from ≤ i → i < p → cell_at entries.now i ≡ saved_at entries.now table i) }
+        × ((i : ℕ) → from ≤ i → i < p → number_now entries.now i ≡ number_at entries.now table i) }
 {
     let place = entries.next_difference(table, from)?;
     if place < bound { Some(place) } else { None }
@@ -238,23 +280,23 @@ fn next_below<A: Allocator + Copy>(
 
 /// Leaves in the array what a saved copy has too, at the positions below a bound; answers whether the copy has more.
 fn meet_entries<A: Allocator + Copy>(
-    entries: &mut Versions<A>,
+    entries: &mut Entries<A>,
     sets: &mut Sets<A>,
     table: usize,
     bound: usize,
 ) -> Result<bool, AllocError>
-    requires table { table < length entries.old.saved }
+    requires table { table < copy_count entries.old }
     requires bound { bound ≤ length entries.old.cells }
     requires below { AreBelow sets.old entries.old }
-    requires saved { (i : ℕ) → i < length entries.old.cells → saved_at entries.old table i < length sets.old }
+    requires saved { (i : ℕ) → i < length entries.old.cells → number_at entries.old table i < length sets.old }
     ensures still { AreStill sets.old entries.old sets.new entries.new }
     ensures fewer { (i y : ℕ) → i < length entries.old.cells → held sets.new entries.new i y ≡ true → held sets.old entries.old i y ≡ true }
     ensures met { OnOk result ((i y : ℕ) → i < bound → held sets.new entries.new i y
-        ≡ (is_member sets.old (saved_at entries.old table i) y && held sets.old entries.old i y)) }
+        ≡ (is_member sets.old (number_at entries.old table i) y && held sets.old entries.old i y)) }
     ensures less { IfOk result (λ less. less ≡ true
-        → LosesSome bound (λ i y. is_member sets.old (saved_at entries.old table i) y) (held sets.old entries.old)) }
+        → LosesSome bound (λ i y. is_member sets.old (number_at entries.old table i) y) (held sets.old entries.old)) }
     ensures same { IfOk result (λ less. less ≡ false
-        → (i y : ℕ) → i < bound → is_member sets.old (saved_at entries.old table i) y ≡ true → held sets.old entries.old i y ≡ true) }
+        → (i y : ℕ) → i < bound → is_member sets.old (number_at entries.old table i) y ≡ true → held sets.old entries.old i y ≡ true) }
 {
     let mut is_less = false;
     let mut from = 0;
@@ -300,8 +342,8 @@ impl<A: Allocator + Copy> Tables<A> {
             return Err(AllocError);
         }
         let hints = Hints::of(alloc, &places)?;
-        let entries = Versions::new(alloc, count, places.len())?;
-        let sets = Sets::new(alloc)?;
+        let entries = Entries::new(alloc, count, places.len())?;
+        let sets = Sets::new(alloc, vregs.len())?;
         let homes = empty_homes(alloc, vregs.len())?;
         Ok(Tables {
             places,
@@ -362,8 +404,7 @@ impl<A: Allocator + Copy> Tables<A> {
         ensures now { OnOk result (HoldsNow self.new (λ i y. if nat_eq i to then holds_now self.old from y else holds_now self.old i y)) }
     {
         let set = self.entries.get(from);
-        let members = self.sets.members(set)?;
-        note_all(&self.vregs, &mut self.homes, &members, to)?;
+        note_set(&self.vregs, &self.sets, &mut self.homes, set, to)?;
         self.entries.set(to, set);
         Ok(())
     }
@@ -388,8 +429,7 @@ impl<A: Allocator + Copy> Tables<A> {
         ensures kept { AreKeptTables self.old self.new }
         ensures now { OnOk result (HoldsNow self.new (λ i y. if nat_eq i place then is_member self.old.sets set y else holds_now self.old i y)) }
     {
-        let home = &mut self.homes[vreg];
-        home.set(place, true)?;
+        note_at(&mut self.homes, vreg, place)?;
         self.entries.set(place, set);
         Ok(())
     }

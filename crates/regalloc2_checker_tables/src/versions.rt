@@ -45,7 +45,7 @@ fn base_of(bases: &[u32], chunk: usize) -> usize
 }
 
 /// Copies a chunk of words into the array.
-fn copy_chunk(words: &[u32], base: usize, cells: &mut [u32], first: usize)
+pub fn copy_chunk(words: &[u32], base: usize, cells: &mut [u32], first: usize)
     requires words { base + 64 ≤ length words.now }
     requires cells { first + 64 ≤ length cells.old }
     ensures copied { (t : ℕ) → t < 64 → get_or cells.new (first + t) 0 ≡ get_or words.now (base + t) 0 }
@@ -58,7 +58,7 @@ fn copy_chunk(words: &[u32], base: usize, cells: &mut [u32], first: usize)
 }
 
 /// Whether a chunk of words is one of the array.
-fn is_same_chunk(words: &[u32], base: usize, cells: &[u32], first: usize) -> bool
+pub fn is_same_chunk(words: &[u32], base: usize, cells: &[u32], first: usize) -> bool
     requires words { base + 64 ≤ length words.now }
     requires cells { first + 64 ≤ length cells.now }
     ensures { result ≡ true → (t : ℕ) → t < 64 → get_or cells.now (first + t) 0 ≡ get_or words.now (base + t) 0 }
@@ -72,7 +72,7 @@ fn is_same_chunk(words: &[u32], base: usize, cells: &[u32], first: usize) -> boo
 }
 
 /// The first position from `from` on, in a chunk of the array, at which it differs from a chunk of words.
-fn difference_in(
+pub fn difference_in(
     words: &[u32],
     base: usize,
     cells: &[u32],
@@ -233,7 +233,7 @@ impl<A: Allocator + Copy> Versions<A> {
     /// Zeros, for so many positions and so many saved copies.
     pub fn new(alloc: A, count: usize, size: usize) -> Result<Versions<A>, AllocError>
         requires { size < 2 ^ 62 }
-        ensures long { IfOk result (λ v. size < length v.cells) }
+        ensures long { IfOk result (λ v. length v.cells ≡ 64 * (size / 64 + 1)) }
         ensures count { IfOk result (λ v. length v.saved ≡ count) }
         ensures cells { IfOk result (λ v. (i : ℕ) → cell_at v i ≡ 0) }
         ensures saved { IfOk result (λ v. (k i : ℕ) → saved_at v k i ≡ 0) }
@@ -253,6 +253,13 @@ impl<A: Allocator + Copy> Versions<A> {
             clean,
             alloc,
         })
+    }
+
+    /// How many saved copies there are.
+    pub fn count(&self) -> usize
+        ensures { result ≡ length self.now.saved }
+    {
+        self.saved.len()
     }
 
     /// How many positions there are.

@@ -4,7 +4,7 @@ use Rattle.std.specs.Prelude.{Option}
 use Rattle.regalloc2_names.specs.Register.{VirtualRegister}
 use Rattle.regalloc2_names.specs.Place.{Place, NoPlace, InRegister, InSlot}
 use Rattle.regalloc2_function.specs.FunctionValue.{FunctionValue, IsLimited, Label, inst_at}
-use Rattle.regalloc2_function.specs.Fitting.{IsProperPlace}
+use Rattle.regalloc2_function.specs.Fitting.{IsProperPlace, MachineFits}
 use Rattle.regalloc2_function.specs.Machine.{MachineValue}
 use Rattle.regalloc2_function.specs.OutputValue.{OutputValue, allocs_of, place_at}
 use Rattle.regalloc2_function.specs.SourceRun.{IsWrittenFirst}
@@ -13,7 +13,6 @@ use Rattle.regalloc2_function.specs.DebugPaths.{HoldsValue}
 use Rattle.regalloc2_function.specs.WellFormed.{IsWellFormed}
 use Rattle.regalloc2_semantics.specs.Laws.{ReadsAgreeOnPaths}
 use Rattle.regalloc2_semantics.specs.Listing.{op_at, no_operand}
-use Rattle.regalloc2_semantics.specs.Live.{LiveStand}
 use Rattle.regalloc2_semantics.proofs.SingleDef.{Made, by_operand}
 use Rattle.regalloc2_live_ranges.specs.declared.InstOperand.{InstOperand}
 use Rattle.regalloc2_live_ranges.specs.declared.LiveRange.{LiveRange}
@@ -27,11 +26,13 @@ use Rattle.regalloc2_fastalloc_proofs.proofs.Safety.OutputOfWalk.{IsMade, made_p
 use Rattle.regalloc2_fastalloc_proofs.proofs.Walk.InstsCarry.{Blank}
 use Rattle.regalloc2_fastalloc_proofs.proofs.Safety.BlocksKeepSafe.{MayInBlocks}
 use Rattle.regalloc2_fastalloc_proofs.proofs.Moves.ScratchRegTaken.{Fit}
+use Rattle.regalloc2_fastalloc_proofs.proofs.Safety.BranchArgsKeepState.{passes_between}
+use Rattle.regalloc2_fastalloc_proofs.proofs.Walk.BlocksCarryFromFreshState.{passed_slots}
 use Rattle.regalloc2_fastalloc_proofs.proofs.Walk.DefsBeforeUses.{used_made}
-use Rattle.regalloc2_fastalloc_proofs.proofs.Operands.RecordOverState.{slots_at}
 use Rattle.regalloc2_debug_proofs.specs.ShownPlace.{operand_place, shown_place}
 use Rattle.regalloc2_debug_proofs.proofs.SlotHoldsDefinedValue.{all_known, all_orderly}
-use Rattle.regalloc2_debug_proofs.proofs.ShownPlaceHoldsValue.{passed_slot, shown}
+use Rattle.regalloc2_debug_proofs.proofs.ShownPlaceHoldsValue.{shown}
+use Rattle.regalloc2_debug_proofs.proofs.SlotAtBlockBegin.{AreAtBegin}
 
 module _ (env : MachineValue) (f : FunctionValue) (limited : IsLimited f) (ok : IsWellFormed env f) where
   -- a vreg that is shown is made
@@ -69,8 +70,7 @@ module _ (env : MachineValue) (f : FunctionValue) (limited : IsLimited f) (ok : 
       | inl a ↦ nor a
       | inr rest ↦ elim rest [
         | inl b ↦ never b
-        | inr p ↦ passed_slot env f limited ok blank begin last out empty fit walks m written v
-            (shown_made v (by_argument i most never nor)) i p none
+        | inr p ↦ passed_slots env f limited ok (passes_between f) blank begin last out empty fit walks v i p none
       ]
     ])
     by_proper written v (by_definition o never d) none = operand_proper v o d.inst d.index
@@ -87,13 +87,14 @@ module _ (env : MachineValue) (f : FunctionValue) (limited : IsLimited f) (ok : 
         by_slot (InSlot n) e below = subst (λ (c : ℕ). n < c) (sym m.count) below
 
     -- what a debug location has to say of its label
-    pub label_shown : IsWrittenFirst f → SlotsHaveOneOwner last.slots → ((i : ℕ) → i < length f.insts → IsTame (Made f) (inst_at f i).operands) →
-        ReadsAgreeOnPaths f out → LiveStand f out (λ u. slots_at last u.number) → (l : Label) (r : LiveRange) → IsKeptRange f l r →
+    pub label_shown : MachineFits f env → IsWrittenFirst f → SlotsHaveOneOwner last.slots → ((i : ℕ) → i < length f.insts → IsTame (Made f)
+        (inst_at f i).operands) → ReadsAgreeOnPaths f out → (stand : ℕ → VirtualRegister → Option Place) → AreAtBegin env f blank begin last out stand →
+        (l : Label) (r : LiveRange) → IsKeptRange f l r →
         (let p : Place = shown_place out (slot_name last.slots r.vreg.number) r.by in IsProperPlace env out l.vreg.class p × HoldsValue f out l.vreg p)
-    label_shown written owned tame agree stand l r k =
+    label_shown fits written owned tame agree stand begins l r k =
         subst (λ (n : ℕ). IsProperPlace env out l.vreg.class (shown_place out (slot_name last.slots n) r.by)
         × HoldsValue f out l.vreg (shown_place out (slot_name last.slots n) r.by)) (ap (λ (w : VirtualRegister). w.number) (sym k.vreg)) (
           place_proper written l.vreg k.by,
-          shown env f limited ok blank begin last out empty fit walks m written l.vreg (shown_made l.vreg k.by) owned tame
-              agree stand k.by,
+          shown env f limited ok blank begin last out empty fit walks m written l.vreg (shown_made l.vreg k.by) fits owned tame
+              agree stand begins k.by,
         )

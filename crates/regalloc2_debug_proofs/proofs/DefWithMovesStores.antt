@@ -19,7 +19,7 @@ use Rattle.regalloc2_semantics.proofs.CarryRules.{carries_weaken}
 use Rattle.regalloc2_semantics.proofs.UnwrittenPlaces.{NoMoveTo}
 use Rattle.regalloc2_fastalloc_state.specs.declared.inst_regs.InstRegs.{InstRegs}
 use Rattle.regalloc2_validate.specs.Constraints.{op_at}
-use Rattle.regalloc2_fastalloc_proofs.specs.InstSteps.{StateValue, AllocsInst}
+use Rattle.regalloc2_fastalloc_proofs.specs.InstSteps.{StateValue, AllocsInst, ends_block}
 use Rattle.regalloc2_fastalloc_proofs.proofs.Safety.StepsKeepState.{place_in, slot_in}
 use Rattle.regalloc2_fastalloc_proofs.proofs.Operands.RecordOverState.{stands_at, slots_at, opt_none}
 use Rattle.regalloc2_fastalloc_proofs.proofs.Inst.AcrossInst.{lives_in}
@@ -42,7 +42,7 @@ module _ (Known : VirtualRegister → Type 0) (f : FunctionValue) (placesf : ℕ
     (knows : (i : ℕ) → i < length f.insts → Knows Known (inst_at f i).operands) where
   module _ (i : ℕ) (blank here : List Place) (old new : StateValue) (lt : i < length f.insts)
       (at : (k : ℕ) → k < length (inst_at f i).operands → place_at (placesf i) k ≡ slice_index_or here k NoPlace)
-      (b : Between (i + 1) old) (a : AllocsInst i (inst_at f i) blank here old new) (plain : (inst_at f i).is_ret ≡ false)
+      (b : Between (i + 1) old) (a : AllocsInst i (inst_at f i) blank here old new) (plain : ends_block (inst_at f i) ≡ false)
       (d : ℕ) (within : d < length (inst_at f i).operands) (def : is_def (op_at (inst_at f i).operands d).kind ≡ true) (n : ℕ)
       (mine : slot_in new (op_at (inst_at f i).operands d).vreg.number ≡ InSlot n) where
     abbrev ops : List OperandValue
@@ -55,10 +55,10 @@ module _ (Known : VirtualRegister → Type 0) (f : FunctionValue) (placesf : ℕ
     clob = is_clobbered (inst_at f i).clobbers
 
     abbrev BareAt : Bool → ℕ → List Place → InstRegs → StateValue → Type 0
-    BareAt = Bare Known (inst_at f) placesf i ops (lives_in old) clob (inst_at f i).is_ret (orderly i lt) plain d within def n
+    BareAt = Bare Known (inst_at f) placesf i ops (lives_in old) clob (ends_block (inst_at f i)) (orderly i lt) plain d within def n
 
     abbrev FullAt : Bool → ℕ → List Place → InstRegs → StateValue → Type 0
-    FullAt = Full Known (inst_at f) placesf i ops (lives_in old) clob (inst_at f i).is_ret (orderly i lt) plain d within def n
+    FullAt = Full Known (inst_at f) placesf i ops (lives_in old) clob (ends_block (inst_at f i)) (orderly i lt) plain d within def n
 
     by_itself : Alone Known f placesf orderly avoids knows i old new
     by_itself = alone Known f placesf orderly avoids knows i blank here old new lt at b a
@@ -86,7 +86,7 @@ module _ (Known : VirtualRegister → Type 0) (f : FunctionValue) (placesf : ℕ
         subst (NoMoveTo (InSlot n)) (sym (at_point-none (after i) (listed old.edits) (subst (λ (m : ℕ). AllFrom m (listed old.edits)) e b.later))) no_moves
 
     abbrev in_slots : (r : Register) → InSlot n ≡ InRegister r → ⊥
-    in_slots = slotted Known (inst_at f) placesf i ops (lives_in old) clob (inst_at f i).is_ret (orderly i lt) plain d within def n
+    in_slots = slotted Known (inst_at f) placesf i ops (lives_in old) clob (ends_block (inst_at f i)) (orderly i lt) plain d within def n
 
     none_begun : NoMoveTo (InSlot n) (at_point (listed a.after_clobbers.edits) (after i))
     none_begun = off_none (InSlot n) in_slots (after i) old.edits a.after_clobbers.edits
@@ -99,19 +99,21 @@ module _ (Known : VirtualRegister → Type 0) (f : FunctionValue) (placesf : ℕ
     grown_moved = moves_grown AnyPlace (before i) tt ops here a.early a.after_early (length ops) a.ended new a.moves
 
     grown_early : Grown AnyPlace a.after_late new
-    grown_early = grown_then AnyPlace a.after_late a.after_early new (placed_grown AnyPlace i tt (inst_at f i).is_ret false ops a.half a.late a.after_late
+    grown_early = grown_then AnyPlace a.after_late a.after_early new (placed_grown AnyPlace i tt (ends_block (inst_at f i)) false ops a.half a.late a.after_late
         (length ops) here a.early a.after_early a.earlies) grown_moved
 
     late_done : BareAt true (length ops) a.half a.late a.after_late
-    late_done = laid_all Known (inst_at f) placesf i 0 (λ w p. ⊥) ops (lives_in old) clob (inst_at f i).is_ret (orderly i lt) true blank a.quiet
+    late_done = laid_all Known (inst_at f) placesf i 0 (λ w p. ⊥) ops (lives_in old) clob (ends_block (inst_at f i)) (orderly i lt) true blank a.quiet
         a.after_clobbers (length ops) a.half a.late a.after_late a.lates (omega arith) begun
 
     early_begun : BareAt false 0 a.half a.late a.after_late
-    early_begun = laid_over Known (inst_at f) placesf i 0 (λ w p. ⊥) ops (lives_in old) clob (inst_at f i).is_ret (orderly i lt) a.half a.late a.after_late
+    early_begun = laid_over Known (inst_at f) placesf i 0 (λ w p. ⊥) ops (lives_in old) clob (ends_block (inst_at f i))
+        (orderly i lt) a.half a.late a.after_late
         late_done
 
     early_done : BareAt false (length ops) here a.early a.after_early
-    early_done = laid_all Known (inst_at f) placesf i 0 (λ w p. ⊥) ops (lives_in old) clob (inst_at f i).is_ret (orderly i lt) false a.half a.late a.after_late
+    early_done = laid_all Known (inst_at f) placesf i 0 (λ w p. ⊥) ops (lives_in old) clob (ends_block (inst_at f i))
+        (orderly i lt) false a.half a.late a.after_late
         (length ops) here a.early a.after_early a.earlies (omega arith) early_begun
 
     -- where the definition is placed late
@@ -121,17 +123,20 @@ module _ (Known : VirtualRegister → Type 0) (f : FunctionValue) (placesf : ℕ
         let absent : Absent v.number a.after_late = whole_absent v.number a.after_late late_done.ready.located.whole
         (opt_none (place_in a.after_late v.number) (late_done.ready.located.placed.gone v.number gone)) in
         let stays = out_then v.number a.after_late a.after_early new
-        (placed_out v.number i (inst_at f i).is_ret false ops a.half a.late a.after_late (length ops) (omega arith)
-        (λ k few c e. other_number Known (inst_at f) placesf i ops (lives_in old) clob (inst_at f i).is_ret (orderly i lt) plain d within def n new
+        (placed_out v.number i (ends_block (inst_at f i)) false ops a.half a.late a.after_late (length ops) (omega arith)
+        (λ k few c e. other_number Known (inst_at f) placesf i ops (lives_in old) clob (ends_block (inst_at f i)) (orderly i lt) plain d within def n new
         by_itself.between.whole mine k (λ same. let y : true ≡ false = sym late ∙ ap (λ (m : ℕ). is_late (op_at ops m).position) (sym same) ∙ e in cc) c)
         (length ops) here a.early a.after_early a.earlies (omega arith))
         (moves_out v.number (before i) ops here a.early a.after_early (length ops) a.ended new a.moves) absent in
-        laid_all Known (inst_at f) placesf i 0 (Into Known (inst_at f) placesf i ops (lives_in old) clob (inst_at f i).is_ret (orderly i lt) plain d within def
-        n) ops (lives_in old) clob (inst_at f i).is_ret (orderly i lt) false a.half a.late a.after_late (length ops) here a.early a.after_early a.earlies
+        laid_all Known (inst_at f) placesf i 0 (Into Known (inst_at f) placesf i ops (lives_in old) clob (ends_block (inst_at f i))
+        (orderly i lt) plain d within def
+        n) ops (lives_in old) clob (ends_block (inst_at f i)) (orderly i lt) false a.half a.late a.after_late (length ops) here a.early a.after_early a.earlies
         (omega arith)
-        (laid_over Known (inst_at f) placesf i 0 (Into Known (inst_at f) placesf i ops (lives_in old) clob (inst_at f i).is_ret (orderly i lt) plain d within
-        def n) ops (lives_in old) clob (inst_at f i).is_ret (orderly i lt) a.half a.late a.after_late
-        (pass_into Known (inst_at f) placesf i ops (lives_in old) clob (inst_at f i).is_ret (orderly i lt) plain d within def n new by_itself.between.whole mine
+        (laid_over Known (inst_at f) placesf i 0 (Into Known (inst_at f) placesf i ops (lives_in old) clob (ends_block (inst_at f i))
+        (orderly i lt) plain d within
+        def n) ops (lives_in old) clob (ends_block (inst_at f i)) (orderly i lt) a.half a.late a.after_late
+        (pass_into Known (inst_at f) placesf i ops (lives_in old) clob (ends_block (inst_at f i))
+        (orderly i lt) plain d within def n new by_itself.between.whole mine
         true blank a.quiet a.after_clobbers late none_begun begun
         (length ops) a.half a.late a.after_late a.lates (omega arith) within grown_early (sym stays.1 ∙ mine)))
 
@@ -144,10 +149,12 @@ module _ (Known : VirtualRegister → Type 0) (f : FunctionValue) (placesf : ℕ
         let stays = moves_out v.number (before i) ops here a.early a.after_early (length ops) a.ended new a.moves absent in
         let quiet : NoMoveTo (InSlot n) (at_point (listed a.after_late.edits) (after i)) = off_none (InSlot n) in_slots (after i) a.after_clobbers.edits
         a.after_late.edits
-        (before_off Known (inst_at f) placesf i ops (lives_in old) clob (inst_at f i).is_ret (orderly i lt) plain d within def n new by_itself.between.whole
+        (before_off Known (inst_at f) placesf i ops (lives_in old) clob (ends_block (inst_at f i))
+        (orderly i lt) plain d within def n new by_itself.between.whole
         mine true blank a.quiet a.after_clobbers (length ops) a.half a.late a.after_late a.lates (omega arith)
         (λ less e. let y : true ≡ false = sym e ∙ early in cc) begun grown_early) none_begun in
-        pass_into Known (inst_at f) placesf i ops (lives_in old) clob (inst_at f i).is_ret (orderly i lt) plain d within def n new by_itself.between.whole mine
+        pass_into Known (inst_at f) placesf i ops (lives_in old) clob (ends_block (inst_at f i))
+        (orderly i lt) plain d within def n new by_itself.between.whole mine
         false a.half a.late a.after_late early quiet early_begun
         (length ops) here a.early a.after_early a.earlies (omega arith) within grown_moved (sym stays.1 ∙ mine)
 
@@ -157,12 +164,13 @@ module _ (Known : VirtualRegister → Type 0) (f : FunctionValue) (placesf : ℕ
     -- from wherever it runs, the slot holds the value behind it
     pub stores : Carries v (walked (inst_at f) (at_point (listed new.edits)) placesf i 1) (λ p. ⊥) (λ p. p ≡ InSlot n)
     stores =
-        let E : VirtualRegister → Place → Type 0 = Into Known (inst_at f) placesf i ops (lives_in old) clob (inst_at f i).is_ret (orderly i lt) plain d within
+        let E : VirtualRegister → Place → Type 0 = Into Known (inst_at f) placesf i ops (lives_in old) clob (ends_block (inst_at f i))
+        (orderly i lt) plain d within
         def n in
         let is : defined_by ops v.number ≡ true = defined_by-at ops d within def in
         let nowhere : stands_at new v.number ≡ None = by_itself.ends.gone v.number is in
         let c : CarriedBut Known (inst_at f) placesf E (defined_by ops) i 1 new =
-        closed Known (inst_at f) placesf E i 0 (lives_in old) (inst_at f i).is_ret here a.early a.ended a.after_early new (orderly i lt)
+        closed Known (inst_at f) placesf E i 0 (lives_in old) (ends_block (inst_at f i)) here a.early a.ended a.after_early new (orderly i lt)
         (knows i lt) at all_placed a.moves in
         carries_weaken v (walked (inst_at f) (at_point (listed new.edits)) placesf i 1)
         (Need (lives_in new) (defined_by ops) (λ p x. false) (stands_at new) (slots_at new) v.number) (λ p. ⊥) (E v) (λ p. p ≡ InSlot n)

@@ -25,7 +25,7 @@ use Rattle.regalloc2_fastalloc_proofs.proofs.Inst.OneInstCarries.{Between}
 use Rattle.regalloc2_fastalloc_proofs.proofs.Walk.InstBoundaries.{BranchKept, IsEdge, IsWithin, grown_weaken, begins_grown, in_grown, walk_between}
 use Rattle.regalloc2_fastalloc_proofs.proofs.Walk.InstBoundaries.{walk_grown, edge_next, blocks_between}
 use Rattle.regalloc2_fastalloc_proofs.proofs.Walk.LastInstAndRest.{listed_behind, walk_listed}
-use Rattle.regalloc2_debug_proofs.proofs.UnnamedStaysUnlocated.{StaysOut, IsUnpassed, out_same, out_then, inst_out, begins_out}
+use Rattle.regalloc2_debug_proofs.proofs.UnnamedStaysUnlocated.{StaysOut, IsUnpassed, IsUnstored, out_same, out_then, inst_out, begun_out}
 
 -- a block begins at the instruction
 abbrev pub IsStart : FunctionValue → ℕ → Type 0
@@ -40,6 +40,7 @@ pub record IsUnnamedBefore (f : FunctionValue) (x i : ℕ) : Type 0 where
   pub insts : (j : ℕ) → j < i → (k : ℕ) → Counts (inst_at f j).operands k → (op_at (inst_at f j).operands k).vreg.number ≢ x
   pub passes : (b : ℕ) → b < length f.blocks → last_of (block_at f b) < i → IsUnpassed x f b
   pub params : (b : ℕ) → b < length f.blocks → (k : ℕ) → k < length (block_at f b).params → (slice_index_or (block_at f b).params k no_vreg).number ≢ x
+  pub stores : (b : ℕ) → b < length f.blocks → IsUnstored x f b
 
 -- the instruction i in the walk, with what comes after it until final
 pub record Met (f : FunctionValue) (placesf : ℕ → List Place) (start : List Place) (begin : StateValue) (i : ℕ) (final : StateValue) : Type 0 where
@@ -161,8 +162,8 @@ module _ (Known : VirtualRegister → Type 0) (f : FunctionValue)
       let here_listed : AreListed f placesf first q = subst (λ (m : ℕ). AreListed f placesf m q) at_first are in
       let beginning : Grown (IsBefore f i) u w = grown_weaken (λ z. z ≡ before first) (IsBefore f i) u w
       (λ z y. elim (cases_eq first i) [ inl same ↦ inr (y ∙ ap before same, (c, lc, same)) | inr ne ↦ inl (omega (arith, y, from, ne)) ])
-      (begins_grown (λ z. z ≡ before first) (before first) refl (block_at f c).params u w begins) in
-      let aside : (x : ℕ) → IsUnnamedBefore f x i → StaysOut x u w = λ x n. begins_out x (before first) (block_at f c).params u w (n.params c lc) begins in
+      (begins_grown (λ z. z ≡ before first) f c refl u w begins) in
+      let aside : (x : ℕ) → IsUnnamedBefore f x i → StaysOut x u w = λ x n. begun_out x f c u w (n.params c lc) (n.stores c lc) begins in
       elim (cases_within i end) [
         | inl inside ↦ extend u w beginning aside (meet_in c lc p s behind prev inside first q u walk here_listed from)
         | inr past ↦ extend u w beginning aside

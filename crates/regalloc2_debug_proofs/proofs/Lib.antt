@@ -2,12 +2,12 @@
 -- Main theorem: `label_shown` in `DebugLocationsHoldValues`: a kept label's place is proper, and holds the value. It is `shown` in
 -- `ShownPlaceHoldsValue`, which has two halves.
 -- With a slot: `left_slot_shows` in `SlotAfterWalk`. Read `IsKeptInSlot` in the specs, then `slot_shows` in `SlotHoldsToUses` (step by step
--- along a path), `defined_shows` in `SlotHoldsDefinedValue` (behind a definition, from `stores` in `DefWithMovesStores`), and
--- `kept_in_slot` in `MovesLeaveSlot`.
+-- along a path), `defined_shows` in `SlotHoldsDefinedValue` (behind a definition, from `stores` in `DefWithMovesStores`), `entered_shows` in
+-- `SlotAtBlockBegin` (where a block begins, from where values are then), and `kept_in_slot` in `MovesLeaveSlot`.
 -- Without one: `register_shows` in `OperandPlaceHoldsValue`. Read `IsUnslotted` and `in_stays` in `LocationWithoutSlot`, then `observed` in
 -- `PlaceKeepsValueOverMoves`.
 -- The others are steps of both: of the walk (`UnnamedStaysUnlocated`, `LocatedStaysOrHasSlot`, `LocationBeforeFirstRead`, `InstWithinWalk`,
--- `DefStoresIntoSlot`, `DefLeavesValueInSlot`) and of paths (`InstOnPath`, `PathStepLeaves`, `WellFormedPaths`, `SlotHoldsValueOnPaths`).
+-- `BlockWithinWalk`, `DefStoresIntoSlot`, `DefLeavesValueInSlot`) and of paths (`InstOnPath`, `PathStepLeaves`, `WellFormedPaths`, `SlotHoldsValueOnPaths`).
 pub mod UnnamedStaysUnlocated
 pub mod SlotHoldsDefinedValue
 pub mod InstOnPath
@@ -28,3 +28,5 @@ pub mod LocationWithoutSlot
 pub mod DefWithMovesStores
 pub mod DefStoresIntoSlot
 pub mod MovesLeaveSlot
+pub mod BlockWithinWalk
+pub mod SlotAtBlockBegin

@@ -16,7 +16,7 @@ use Rattle.regalloc2_fastalloc_state.specs.StateParts.{VRegAllocsValue, SpillSlo
 use Rattle.regalloc2_fastalloc_state.specs.declared.inst_regs.InstRegs.{InstRegs}
 use Rattle.regalloc2_fastalloc_state.specs.declared.request.OperandRequest.{OperandRequest}
 use Rattle.regalloc2_validate.specs.Constraints.{op_at}
-use Rattle.regalloc2_fastalloc_proofs.specs.InstSteps.{StateValue, EvictsVReg, nobody, moved, AllocsScratchReg, dedicated_scratch, had, found}
+use Rattle.regalloc2_fastalloc_proofs.specs.InstSteps.{StateValue, EvictsVReg, nobody, moved, AllocsScratchReg, dedicated_scratch, had, found, ends_block}
 use Rattle.regalloc2_fastalloc_proofs.specs.InstSteps.{AddsMove, direct, through, EvictsPReg, empty, cleared, EvictsOthers, own, others, SelectsPlace}
 use Rattle.regalloc2_fastalloc_proofs.specs.InstSteps.{ClaimsPlace, in_slot, in_register, AllocsOperand, AddsMoveIf, sent, unsent, FreesDef}
 use Rattle.regalloc2_fastalloc_proofs.specs.InstSteps.{LocatesUse, ProcessesOperand, a_register, a_use, a_def, a_reuse, ProcessesOperandsAt}
@@ -25,7 +25,7 @@ use Rattle.regalloc2_fastalloc_proofs.specs.InstSteps.{none_cleared, not_fixed, 
 use Rattle.regalloc2_fastalloc_proofs.specs.InstSteps.SelectsPlace.{stays, fixed, slot, free}
 use Rattle.regalloc2_fastalloc_proofs.specs.InstSteps.LocatesUse.{stays as use_stays, located}
 use Rattle.regalloc2_fastalloc_proofs.specs.BlockStart.{no_vreg}
-use Rattle.regalloc2_fastalloc_proofs.specs.BranchSteps.{Pushes, SpillsArgument, from_register, ClassMove, GathersEdgeMoves, none_gathered}
+use Rattle.regalloc2_fastalloc_proofs.specs.BranchSteps.{Pushes, SpillsArgument, from_register, ClassMove, GathersEdgeMoves, none_gathered, own_argument}
 use Rattle.regalloc2_fastalloc_proofs.specs.BranchSteps.{one_gathered, GathersMoves, no_edge, one_edge, ProcessesBranch}
 use Rattle.regalloc2_fastalloc_proofs.specs.BranchSteps.SpillsArgument.{in_slot as settled_in_slot}
 use Rattle.regalloc2_fastalloc_proofs.specs.BlockSteps.{AllocsInstInBlock}
@@ -198,9 +198,10 @@ module _ (x : ℕ) where
       hold_then old a.after_fixed new (fixed_hold (after i) inst.operands a.held old (length inst.operands) a.cleared a.after_fixed a.fixed)
       (hold_then a.after_fixed a.after_clobbers new (all_hold (after i) (registers_of inst.clobbers) a.cleared a.quiet a.after_fixed a.after_clobbers
       a.clobbers)
-      (hold_then a.after_clobbers a.after_late new (placed_hold i inst.is_ret true inst.operands blank a.quiet a.after_clobbers ne (length inst.operands) a.half
+      (hold_then a.after_clobbers a.after_late new (placed_hold i (ends_block inst) true inst.operands blank a.quiet a.after_clobbers ne
+      (length inst.operands) a.half
       a.late a.after_late a.lates (omega arith))
-      (hold_then a.after_late a.after_early new (placed_hold i inst.is_ret false inst.operands a.half a.late a.after_late ne (length inst.operands) places
+      (hold_then a.after_late a.after_early new (placed_hold i (ends_block inst) false inst.operands a.half a.late a.after_late ne (length inst.operands) places
       a.early a.after_early a.earlies (omega arith))
       (moves_hold (before i) inst.operands places a.early a.after_early (length inst.operands) a.ended new a.moves))))
 
@@ -209,13 +210,16 @@ module _ (x : ℕ) where
       hold_then old m new (hold_given old m a s gives places) (clears_hold point r t u m new clears)
   argument_hold point a s t u old new (settled_in_slot not gives settles edits machine eu) = hold_settled old new a s s gives settles
 
-  edge_hold : (point : ℕ) (params arguments : List VirtualRegister) (t : InstRegs) (old : StateValue) (given : List ClassMove) (j : ℕ) (u : InstRegs)
-      (m : StateValue) (more : List ClassMove) → GathersEdgeMoves point params arguments t old given j u m more → Holds old m
+  edge_hold : {Own : VirtualRegister → Type 0} (point : ℕ) (params arguments : List VirtualRegister) (t : InstRegs) (old : StateValue)
+      (given : List ClassMove) (j : ℕ) (u : InstRegs)
+      (m : StateValue) (more : List ClassMove) → GathersEdgeMoves Own point params arguments t old given j u m more → Holds old m
   edge_hold point params arguments t old given j u m more none_gathered = hold_same old old refl
-  edge_hold point params arguments t old given j u m more (one_gathered l some to from y w s n o lt prev gives places edits machine settles) =
+  edge_hold point params arguments t old given j u m more (one_gathered l some to from y w s n o lt prev gives places edits machine settles foreign) =
       hold_then old s m (edge_hold point params arguments t old given l y s some prev)
       (hold_then s n m (hold_given s n (slice_index_or params l no_vreg) to gives places)
       (argument_hold point (slice_index_or arguments l no_vreg) from y u n m settles))
+  edge_hold point params arguments t old given j u m more (own_argument l some y s lt prev is_own) =
+      edge_hold point params arguments t old given l u m more prev
 
   edges_hold : (f : FunctionValue) (b point : ℕ) (t : InstRegs) (old : StateValue) (k : ℕ) (u : InstRegs) (m : StateValue) (given : List ClassMove) →
       GathersMoves f b point t old k u m given → Holds old m
@@ -242,48 +246,3 @@ module _ (x : ℕ) where
     | inl is ↦ passes_hold f b i a.allocates.allocates.ended a.inst_regs a.middle new (a.branch is)
     | inr plain ↦ hold_same a.middle new (a.no_branch plain)
   ]
-
-  -- an argument has its slot
-  argument_slot : (point : ℕ) (a : VirtualRegister) (s : Place) (t u : InstRegs) (old new : StateValue) → SpillsArgument point a s t u old new → a.number ≡ x →
-      slot_name new.slots x ≢ NoPlace
-  argument_slot point a s t u old new (from_register r m at gives places edits machine clears) e =
-      (clears_hold point r t u m new clears).slots (λ z. gives.there (sym gives.gives ∙ ap (slot_name m.slots) e ∙ z))
-  argument_slot point a s t u old new (settled_in_slot not gives settles edits machine eu) e =
-      λ z. gives.there (sym gives.gives ∙ ap (slot_name new.slots) e ∙ z)
-
-  edge_slot : (point : ℕ) (params arguments : List VirtualRegister) (t : InstRegs) (old : StateValue) (given : List ClassMove) (j : ℕ) (u : InstRegs)
-      (m : StateValue) (more : List ClassMove) → GathersEdgeMoves point params arguments t old given j u m more →
-      (k : ℕ) → k < j → (slice_index_or arguments k no_vreg).number ≡ x → slot_name m.slots x ≢ NoPlace
-  edge_slot point params arguments t old given j u m more none_gathered = λ k less e. absurd (omega (arith, less))
-  edge_slot point params arguments t old given j u m more (one_gathered l some to from y w s n o lt prev gives places edits machine settles) =
-      λ k less e. elim (cases_eq k l) [
-        | inl same ↦ argument_slot point (slice_index_or arguments l no_vreg) from y u n m settles
-            (ap (λ (z : ℕ). (slice_index_or arguments z no_vreg).number) (sym same) ∙ e)
-        | inr ne ↦ (argument_hold point (slice_index_or arguments l no_vreg) from y u n m settles).slots
-            ((hold_given s n (slice_index_or params l no_vreg) to gives places).slots
-            (edge_slot point params arguments t old given l y s some prev k (omega (arith, less, ne)) e))
-      ]
-
-  edges_slot : (f : FunctionValue) (b point : ℕ) (t : InstRegs) (old : StateValue) (k : ℕ) (u : InstRegs) (m : StateValue) (given : List ClassMove) →
-      GathersMoves f b point t old k u m given →
-      (e : ℕ) → e < k → (j : ℕ) → j < length (block_at f (target_at f b e)).params → (slice_index_or (arguments_at f b e) j no_vreg).number ≡ x →
-      slot_name m.slots x ≢ NoPlace
-  edges_slot f b point t old k u m given no_edge = λ e less j few is. absurd (omega (arith, less))
-  edges_slot f b point t old k u m given (one_edge l some more y w s n lt prev edge) = λ e less j few is. elim (cases_eq e l) [
-    | inl same ↦ edge_slot point (block_at f (target_at f b l)).params (arguments_at f b l) y s some (length (block_at f (target_at f b l)).params) u m given
-        edge j
-        (subst (λ (z : ℕ). j < length (block_at f (target_at f b z)).params) same few)
-        (ap (λ (z : ℕ). (slice_index_or (arguments_at f b z) j no_vreg).number) (sym same) ∙ is)
-    | inr ne ↦ (edge_hold point (block_at f (target_at f b l)).params (arguments_at f b l) y s some (length (block_at f (target_at f b l)).params) u m given
-        edge).slots
-        (edges_slot f b point t old l y s some prev e (omega (arith, less, ne)) j few is)
-  ]
-
-  -- so a vreg that is passed has a slot
-  pub passes_slot : (f : FunctionValue) (b i : ℕ) (t u : InstRegs) (old new : StateValue) → ProcessesBranch f b i t u old new → (e : ℕ) →
-      e < length (block_at f b).succs → (j : ℕ) → j < length (block_at f (target_at f b e)).params →
-      (slice_index_or (arguments_at f b e) j no_vreg).number ≡ x → slot_name new.slots x ≢ NoPlace
-  passes_slot f b i t u old new p e less j few is =
-      (class_hold (before i) u _ _ p.floats new p.vector).slots ((class_hold (before i) u _ _ p.ints p.floats p.float).slots
-      ((class_hold (before i) u _ _ p.gathered p.ints p.int).slots
-      (edges_slot f b (before i) t old (length (block_at f b).succs) u p.gathered p.given p.gathers e less j few is)))

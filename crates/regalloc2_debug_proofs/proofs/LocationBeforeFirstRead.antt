@@ -13,7 +13,7 @@ use Rattle.regalloc2_semantics.specs.OperandsPlaced.{Counts}
 use Rattle.regalloc2_fastalloc_state.specs.StateParts.{alloc_of}
 use Rattle.regalloc2_fastalloc_state.specs.declared.inst_regs.InstRegs.{InstRegs}
 use Rattle.regalloc2_validate.specs.Constraints.{op_at}
-use Rattle.regalloc2_fastalloc_proofs.specs.InstSteps.{StateValue, use_request, LocatesUse, ProcessesOperand, a_register, a_use, a_def, a_reuse}
+use Rattle.regalloc2_fastalloc_proofs.specs.InstSteps.{StateValue, use_request, LocatesUse, ProcessesOperand, a_register, a_use, a_def, a_reuse, ends_block}
 use Rattle.regalloc2_fastalloc_proofs.specs.InstSteps.{ProcessesOperandsAt, none_placed, of_other, one_placed, AllocsInst}
 use Rattle.regalloc2_fastalloc_proofs.specs.InstSteps.LocatesUse.{stays as use_stays, located}
 use Rattle.regalloc2_fastalloc_proofs.proofs.Operands.AllocsSoFar.{reads_not_def}
@@ -166,19 +166,24 @@ reads_at i inst blank here old new orderly x k within reads is first a absent re
     ]
   where
     long_half : length a.half ≡ length inst.operands
-    long_half = places_long i inst.is_ret true inst.operands blank a.quiet a.after_clobbers (length inst.operands) a.half a.late a.after_late a.lates ∙ a.long
+    long_half = places_long i (ends_block inst) true inst.operands blank a.quiet a.after_clobbers (length inst.operands) a.half a.late a.after_late a.lates
+        ∙ a.long
 
     by_first : ComesFirst inst.operands x k → Absent x a.after_clobbers → (place_in a.after_early x ≡ slice_index_or here k NoPlace)
         ⊎ (slot_in a.after_early x ≢ NoPlace)
     by_first (late_first of_late sooner) b =
-        let same = over_list i inst.is_ret inst.operands orderly x k within reads is of_late a.half a.late a.after_late (length inst.operands) here a.early
+        let same = over_list i (ends_block inst) inst.operands orderly x k within reads is of_late a.half a.late a.after_late
+        (length inst.operands) here a.early
         a.after_early a.earlies (omega arith) in
-        over_at i inst.is_ret inst.operands orderly x k within reads is of_late a.half a.late a.after_late
-        (pass_at i inst.is_ret inst.operands orderly x k within reads is true blank a.quiet a.after_clobbers of_late a.long b sooner (length inst.operands)
+        over_at i (ends_block inst) inst.operands orderly x k within reads is of_late a.half a.late a.after_late
+        (pass_at i (ends_block inst) inst.operands orderly x k within reads is true blank a.quiet a.after_clobbers of_late a.long b sooner
+        (length inst.operands)
         a.half a.late a.after_late a.lates (omega arith) within (λ z. real (same ∙ z)))
         (length inst.operands) here a.early a.after_early a.earlies (omega arith) real
     by_first (early_first of_early no_late sooner) b =
-        let c = placed_out x i inst.is_ret true inst.operands blank a.quiet a.after_clobbers (length inst.operands) (omega arith) no_late (length inst.operands)
+        let c = placed_out x i (ends_block inst) true inst.operands blank a.quiet a.after_clobbers (length inst.operands) (omega arith) no_late
+        (length inst.operands)
         a.half a.late a.after_late a.lates (omega arith) b in
-        pass_at i inst.is_ret inst.operands orderly x k within reads is false a.half a.late a.after_late of_early long_half c.0 sooner (length inst.operands)
+        pass_at i (ends_block inst) inst.operands orderly x k within reads is false a.half a.late a.after_late of_early long_half c.0 sooner
+        (length inst.operands)
         here a.early a.after_early a.earlies (omega arith) within real

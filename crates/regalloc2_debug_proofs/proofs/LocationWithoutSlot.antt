@@ -4,7 +4,6 @@ use Rattle.std.proofs.Common.{ℕ, ◌≡◌, ◌≢◌, ◌+◌, ◌<◌, ◌�
 use Rattle.std.specs.Prelude.{slice_index_or}
 use Rattle.std.proofs.lemmas.Bool.{cases_eq}
 use Rattle.regalloc2_names.specs.Place.{Place, NoPlace}
-use Rattle.regalloc2_names.specs.Point.{before}
 use Rattle.regalloc2_function.specs.FunctionValue.{FunctionValue, block_at, inst_at}
 use Rattle.regalloc2_function.specs.OutputValue.{place_at}
 use Rattle.regalloc2_names.specs.Operand.{is_def, is_reading}
@@ -25,7 +24,7 @@ use Rattle.regalloc2_fastalloc_proofs.proofs.Slots.StepsKeepSlots.{Grown, IsAt, 
 use Rattle.regalloc2_fastalloc_proofs.proofs.Safety.StateKept.{ends_in_branch}
 use Rattle.regalloc2_fastalloc_proofs.proofs.Walk.InstBoundaries.{BranchKept, IsEdge, grown_weaken, in_grown, edge_next}
 use Rattle.regalloc2_fastalloc_proofs.proofs.Walk.LastInstAndRest.{AnyPlace, listed_behind}
-use Rattle.regalloc2_debug_proofs.proofs.UnnamedStaysUnlocated.{Absent, IsUnpassed, inst_out, begins_out}
+use Rattle.regalloc2_debug_proofs.proofs.UnnamedStaysUnlocated.{Absent, IsUnpassed, inst_out, begun_absent}
 use Rattle.regalloc2_debug_proofs.proofs.LocatedStaysOrHasSlot.{Holds, hold_then, allocates_hold, branch_hold}
 use Rattle.regalloc2_debug_proofs.proofs.InstWithinWalk.{Met, IsBefore}
 use Rattle.regalloc2_debug_proofs.proofs.LocationBeforeFirstRead.{ComesFirst, reads_at}
@@ -140,7 +139,7 @@ module _ (Known : VirtualRegister → Type 0) (f : FunctionValue)
       let some : first < end = (follow d lt).0 in
       let here : il < first = (let z = edge.0 lt in omega (arith, z, behind)) in
       let before_it : Absent x s = blocks_absent start begin h (d + 1) p s prev end (edge_next f follow d lt) (omega (arith, some, here)) in
-      (begins_out x (before first) (block_at f d).params u w (un.params d lt) begins (walk_absent d lt p s before_it first q u walk here)).0
+      begun_absent x f d u w (un.params d lt) begins (walk_absent d lt p s before_it first q u walk here)
 
   -- around an instruction that is met
   module _ (start : List Place) (begin : StateValue) (absent : Absent x begin) (j : ℕ) (w : Met f placesf start begin j final)

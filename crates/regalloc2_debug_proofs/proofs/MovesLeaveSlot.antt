@@ -1,5 +1,5 @@
 -- The moves before an instruction leave a virtual register's slot alone, or the instruction reads it there.
-use Rattle.std.proofs.Common.{ℕ, suc, ◌≡◌, ◌+◌, ◌<◌, Bool, true, false, List, [], ◌∷◌, length, map, nat_eq, nat_lt, refl, sym, ap, ◌∙◌, ◌⊎◌, inl, inr}
+use Rattle.std.proofs.Common.{ℕ, suc, ◌≡◌, ◌≢◌, ◌+◌, ◌<◌, ◌≤◌, Bool, true, false, List, [], ◌∷◌, length, map, nat_eq, nat_lt, refl, sym, ap, ◌∙◌, ◌⊎◌, inl, inr}
 use Rattle.std.proofs.Common.{subst, arith, eqb-true}
 use Rattle.std.specs.Prelude.{All, filter, ◌||◌, ◌&&◌}
 use Rattle.std.proofs.lemmas.Bool.{and_parts, ltb-true}
@@ -9,13 +9,14 @@ use Rattle.regalloc2_names.specs.Point.{before}
 use Rattle.regalloc2_function.specs.FunctionValue.{FunctionValue, block_at, inst_at}
 use Rattle.regalloc2_function.specs.OutputValue.{OutputValue, MoveValue, allocs_of, is_listed_at}
 use Rattle.regalloc2_function.specs.Path.{Way, Onward, end_of, IsPath}
+use Rattle.regalloc2_function.specs.WellFormed.{BlocksFollow}
 use Rattle.regalloc2_semantics.specs.Listing.{op_at, no_operand, with_moves}
 use Rattle.regalloc2_semantics.specs.Carry.{Spares, Undefined, Untouched}
-use Rattle.regalloc2_semantics.specs.Live.{HasEntered}
 use Rattle.regalloc2_semantics.proofs.Cells.{cases_place}
+use Rattle.regalloc2_semantics.proofs.Order.{stands_later}
 use Rattle.regalloc2_semantics.proofs.UnwrittenPlaces.{NoMoveTo}
 use Rattle.regalloc2_debug_proofs.specs.SlotHoldsValue.{IsReadIn, IsKeptInSlot}
-use Rattle.regalloc2_debug_proofs.specs.SlotWrites.{MayWrite, after_definition, before_read, before_branch, IsSlotOfValue}
+use Rattle.regalloc2_debug_proofs.specs.SlotWrites.{MayWrite, after_definition, before_read, before_branch, at_begin, IsSlotOfValue}
 
 either : (a b : Bool) → (a || b) ≡ true → (a ≡ true) ⊎ (b ≡ true)
 either true b h = inl refl
@@ -34,19 +35,25 @@ module _ (f : FunctionValue) (out : OutputValue) (v : VirtualRegister) (p : Plac
   abbrev Quiet : ℕ → ℕ → Type 0
   Quiet first i = first < i → (j : ℕ) → j + 1 ≡ i → Undefined (inst_at f j).operands v
 
+  -- no block begins at i
+  abbrev Inner : ℕ → Type 0
+  Inner i = (b : ℕ) → b < length f.blocks → (block_at f b).range.first ≢ i
+
   -- a move that is listed before an instruction and may write the place is there for a read
-  listed_reads : (first i q : ℕ) → (inst_at f i).is_branch ≡ false → Quiet first i → MayWrite f out v p q → (q ≡ before i)
+  listed_reads : (first i q : ℕ) → (inst_at f i).is_branch ≡ false → Inner i → Quiet first i → MayWrite f out v p q → (q ≡ before i)
       ⊎ ((first < i) × (q + 1 ≡ before i)) → (k : ℕ) × IsReadIn f out v p i k
-  listed_reads first i q plain quiet (after_definition j k lt def is) (inl e) = absurd (omega (arith, e))
-  listed_reads first i q plain quiet (after_definition j k lt def is) (inr (less, e)) = absurd (quiet less j (omega (arith, e)) k lt def is)
-  listed_reads first i q plain quiet (before_read j k r) (inl e) = (let same : j ≡ i = omega (arith, e) in
+  listed_reads first i q plain inner quiet (after_definition j k lt def is) (inl e) = absurd (omega (arith, e))
+  listed_reads first i q plain inner quiet (after_definition j k lt def is) (inr (less, e)) = absurd (quiet less j (omega (arith, e)) k lt def is)
+  listed_reads first i q plain inner quiet (before_read j k r) (inl e) = (let same : j ≡ i = omega (arith, e) in
       (k, subst (λ (m : ℕ). IsReadIn f out v p m k) same r))
-  listed_reads first i q plain quiet (before_read j k r) (inr (less, e)) = absurd (omega (arith, e))
-  listed_reads first i q plain quiet (before_branch j b) (inl e) =
+  listed_reads first i q plain inner quiet (before_read j k r) (inr (less, e)) = absurd (omega (arith, e))
+  listed_reads first i q plain inner quiet (before_branch j b) (inl e) =
       let same : j ≡ i = omega (arith, e) in
       let t : (inst_at f i).is_branch ≡ true = subst (λ (m : ℕ). (inst_at f m).is_branch ≡ true) same b in
       let n : true ≡ false = sym t ∙ plain in cc
-  listed_reads first i q plain quiet (before_branch j b) (inr (less, e)) = absurd (omega (arith, e))
+  listed_reads first i q plain inner quiet (before_branch j b) (inr (less, e)) = absurd (omega (arith, e))
+  listed_reads first i q plain inner quiet (at_begin b lb stored) (inl e) = absurd (inner b lb (omega (arith, e)))
+  listed_reads first i q plain inner quiet (at_begin b lb stored) (inr (less, e)) = absurd (omega (arith, e))
 
   abbrev Fine : ℕ → List MoveValue → Type 0
   Fine i ms = NoMoveTo p ms ⊎ ((k : ℕ) × IsReadIn f out v p i k)
@@ -62,28 +69,34 @@ module _ (f : FunctionValue) (out : OutputValue) (v : VirtualRegister) (p : Plac
   no_moves = tt
 
   -- the moves listed before an instruction leave the place alone, or an operand there reads v in it
-  pub moves_fine : (first i : ℕ) → (inst_at f i).is_branch ≡ false → Quiet first i → (es : List (ℕ × MoveValue)) →
+  pub moves_fine : (first i : ℕ) → (inst_at f i).is_branch ≡ false → Inner i → Quiet first i → (es : List (ℕ × MoveValue)) →
       All (λ e. e.1.to ≡ p → MayWrite f out v p e.0) es → Fine i (map (λ e. e.1) (filter (λ e. is_listed_at first i e.0) es))
-  moves_fine first i plain quiet [] h = inl no_moves
-  moves_fine first i plain quiet (e ∷ es) h = by (is_listed_at first i e.0) refl (moves_fine first i plain quiet es (λ k d lt. h (suc k) d (omega arith)))
+  moves_fine first i plain inner quiet [] h = inl no_moves
+  moves_fine first i plain inner quiet (e ∷ es) h = by (is_listed_at first i e.0) refl (moves_fine first i plain inner quiet es (λ k d lt. h (suc k) d
+      (omega arith)))
     where
       by : (b : Bool) → is_listed_at first i e.0 ≡ b → Fine i (map (λ x. x.1) (filter (λ x. is_listed_at first i x.0) es)) →
           Fine i (map (λ x. x.1) (filter (λ x. is_listed_at first i x.0) (e ∷ es)))
       by false is rest = rw is rest
       by true is rest = rw is (elim (cases_place p e.1.to) [
-        | inl same ↦ inr (listed_reads first i e.0 plain quiet (h 0 e (omega arith) (sym same)) (listed_where first i e.0 is))
+        | inl same ↦ inr (listed_reads first i e.0 plain inner quiet (h 0 e (omega arith) (sym same)) (listed_where first i e.0 is))
         | inr ne ↦ one_more i e.1 (map (λ x. x.1) (filter (λ x. is_listed_at first i x.0) es)) ne rest
       ])
 
-module _ (f : FunctionValue) (out : OutputValue) (v : VirtualRegister) (n : ℕ) (inst_lt : (ws : List Way) → IsPath f ws → (end_of f ws).inst < length f.insts)
-    (slot : IsSlotOfValue f out v n) where
-  quiet_before : (ws : List Way) → HasEntered f ws ⊎ ((us : List Way) × (ws ≡ Onward ∷ us) × Undefined (inst_at f (end_of f us).inst).operands v) →
-      Quiet f out v (InSlot n) (block_at f (end_of f ws).block).range.first (end_of f ws).inst
-  quiet_before ws (inl entered) less j e = (let first : (end_of f ws).inst ≡ (block_at f (end_of f ws).block).range.first = entered in
-      absurd (omega (arith, first, less)))
-  quiet_before ws (inr (us, is, undefined)) less j e = (let at : (end_of f ws).inst ≡ (end_of f us).inst + 1 = ap (λ (xs : List Way). (end_of f xs).inst) is in
-      let same : (end_of f us).inst ≡ j = omega (arith, e, at) in subst (λ (m : ℕ). Undefined (inst_at f m).operands v) same undefined)
+-- no block begins behind another one's first instruction and before its end
+pub inside_block : (f : FunctionValue) → BlocksFollow f → (c i : ℕ) → c < length f.blocks → (block_at f c).range.first < i → i < (block_at f c).range.end →
+    (b : ℕ) → b < length f.blocks → (block_at f b).range.first ≢ i
+inside_block f follow c i lc ge less b lb is =
+    let some : (block_at f b).range.first < (block_at f b).range.end = (follow b lb).0 in
+    let to : c ≤ b = stands_later f follow c b i i lc lb (omega (arith, ge)) less (omega (arith, is)) (omega (arith, is, some)) (omega arith) in
+    let from : b ≤ c = stands_later f follow b c i i lb lc (omega (arith, is)) (omega (arith, is, some)) (omega (arith, ge)) less (omega arith) in
+    let same : b ≡ c = omega (arith, to, from) in
+    let one : (block_at f b).range.first ≡ (block_at f c).range.first = ap (λ (x : ℕ). (block_at f x).range.first) same in
+    omega (arith, is, ge, one)
 
+module _ (f : FunctionValue) (out : OutputValue) (v : VirtualRegister) (n : ℕ) (inst_lt : (ws : List Way) → IsPath f ws → (end_of f ws).inst < length f.insts)
+    (inner : (ws : List Way) → IsPath f (Onward ∷ ws) → (b : ℕ) → b < length f.blocks → (block_at f b).range.first ≢ (end_of f ws).inst + 1)
+    (slot : IsSlotOfValue f out v n) where
   -- an instruction that doesn't define v has no operand that writes its slot
   spares_slot : (i : ℕ) → i < length f.insts → Undefined (inst_at f i).operands v →
       Spares (inst_at f i).operands (allocs_of out i) (inst_at f i).clobbers (InSlot n)
@@ -95,9 +108,10 @@ module _ (f : FunctionValue) (out : OutputValue) (v : VirtualRegister) (n : ℕ)
   -- v's own slot keeps its value, where v is live, from a definition on
   pub kept_in_slot : IsKeptInSlot f out v (InSlot n)
   kept_in_slot = record {
-    live = slot.live;
+    entered = slot.entered;
     defined = slot.defined;
-    written = λ ws path undefined plain how. moves_fine f out v (InSlot n) (block_at f (end_of f ws).block).range.first (end_of f ws).inst plain
-        (quiet_before ws how) out.edits slot.moves;
+    written = λ ws path before_it undefined plain. moves_fine f out v (InSlot n) (block_at f (end_of f ws).block).range.first ((end_of f ws).inst + 1) plain
+        (inner ws path) (λ less j e. (let same : (end_of f ws).inst ≡ j = omega (arith, e) in
+        subst (λ (m : ℕ). Undefined (inst_at f m).operands v) same before_it)) out.edits slot.moves;
     spared = λ ws path undefined. spares_slot (end_of f ws).inst (inst_lt ws path) undefined;
   }

@@ -150,7 +150,7 @@ module _ (env : MachineValue) (f : FunctionValue) (limited : IsLimited f) (ok : 
   module _ (j : ℕ) (lt : j < length f.insts) (flat : (inst_at f j).is_branch ≡ false) (onward : (inst_at f j).is_ret ≡ false) where
     alone_law : (w : MetAt j) → Carries v (walked (inst_at f) (at_point (listed w.new.edits)) (allocs_of out) j 1)
         (Needed (defined_by (inst_at f j).operands) w.new v) (Needed (λ x. false) w.old v)
-    alone_law w = ((by_itself env f limited ok blank begin last out empty fit walks m j w lt flat).carries onward v known)
+    alone_law w = ((by_itself env f limited ok blank begin last out empty fit walks m j w lt flat).carries (rw (flat, onward) refl) v known)
 
     law : (w : MetAt j) → (IsStart f j → ⊥) → Carries v (walked (inst_at f) (at_point out.edits) (allocs_of out) j 1)
         (Needed (defined_by (inst_at f j).operands) w.new v) (Needed (λ x. false) w.old v)

@@ -23,7 +23,7 @@ use Rattle.regalloc2_semantics.proofs.MoveInFront.{walked-none, before_part-clea
 use Rattle.regalloc2_semantics.proofs.CarryRules.{carries_nil, carries_moves, carries_exec, after_their_moves}
 use Rattle.regalloc2_semantics.proofs.BothRuns.{early-other}
 use Rattle.regalloc2_validate.specs.Constraints.{op_at}
-use Rattle.regalloc2_fastalloc_proofs.specs.InstSteps.{StateValue, AllocsInst}
+use Rattle.regalloc2_fastalloc_proofs.specs.InstSteps.{StateValue, AllocsInst, ends_block}
 use Rattle.regalloc2_fastalloc_proofs.proofs.Safety.StepsKeepState.{place_in, slot_in}
 use Rattle.regalloc2_fastalloc_proofs.proofs.Operands.RecordOverState.{stands_at, slots_at, opt, opt_some, opt_from}
 use Rattle.regalloc2_fastalloc_proofs.proofs.Evictions.EvictVReg.{kept_all}
@@ -64,10 +64,12 @@ module _ (Known : VirtualRegister → Type 0) (f : FunctionValue) (placesf : ℕ
     abbrev item : Item
     item = Exec (observer v ∷ []) (p ∷ []) (inst_at f i).clobbers
 
-    laid : Laid Known (inst_at f) placesf i 0 (λ w q. ⊥) ops (lives_in old) (is_clobbered (inst_at f i).clobbers) (inst_at f i).is_ret false (length ops) here
+    laid : Laid Known (inst_at f) placesf i 0 (λ w q. ⊥) ops (lives_in old) (is_clobbered (inst_at f i).clobbers) (ends_block (inst_at f i)) false
+        (length ops) here
         a.early t
     laid =
-        laid_both Known (inst_at f) placesf i 0 (λ w q. ⊥) ops (lives_in old) (is_clobbered (inst_at f i).clobbers) (inst_at f i).is_ret (orderly i lt) blank
+        laid_both Known (inst_at f) placesf i 0 (λ w q. ⊥) ops (lives_in old) (is_clobbered (inst_at f i).clobbers) (ends_block (inst_at f i))
+        (orderly i lt) blank
         a.half here a.quiet a.late a.early a.after_clobbers a.after_late t a.lates a.earlies
         (opened Known (inst_at f) placesf (λ w q. ⊥) i 0 (inst_at f i) blank here old new (orderly i lt) (avoids i lt)
         (λ e w k. carried_nil Known f placesf orderly avoids knows (λ u q. ⊥) (i + 1) old (λ u q. ⊥) (λ u q h. h) w)

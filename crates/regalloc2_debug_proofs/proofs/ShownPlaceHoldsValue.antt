@@ -1,5 +1,5 @@
 -- The place by which a virtual register is shown holds its value: its slot, or that of the operand which reads it last.
-use Rattle.std.proofs.Common.{ℕ, ◌≡◌, ◌≢◌, ◌<◌, ◌≤◌, inl, inr, true, false, List, length, refl, sym, ap, ◌∙◌, subst, arith}
+use Rattle.std.proofs.Common.{ℕ, ◌≡◌, ◌≢◌, ◌<◌, ◌≤◌, inl, inr, true, false, List, length, refl, sym, ap, subst, arith}
 use Rattle.std.specs.Prelude.{Option, Contains, slice_index_or}
 use Rattle.regalloc2_names.specs.declared.OperandPos.{OperandPos}
 use Rattle.regalloc2_names.specs.declared.OperandPos.TheVariants.{Early, Late}
@@ -7,20 +7,20 @@ use Rattle.regalloc2_names.specs.Register.{VirtualRegister}
 use Rattle.regalloc2_names.specs.Operand.{OperandValue, is_def, is_late, is_reading}
 use Rattle.regalloc2_names.specs.Place.{Place, NoPlace, InRegister, InSlot}
 use Rattle.regalloc2_function.specs.FunctionValue.{FunctionValue, IsLimited, block_at, inst_at}
+use Rattle.regalloc2_function.specs.Fitting.{MachineFits}
 use Rattle.regalloc2_function.specs.Machine.{MachineValue}
 use Rattle.regalloc2_function.specs.OutputValue.{OutputValue, allocs_of, place_at}
 use Rattle.regalloc2_function.specs.Path.{end_of}
 use Rattle.regalloc2_function.specs.SourceRun.{IsWrittenFirst, arguments_at}
 use Rattle.regalloc2_function.specs.DebugPaths.{HoldsValue}
-use Rattle.regalloc2_function.specs.DebugPoints.{DefinesAt, PassesAt, ReadsAt, UsesAt}
+use Rattle.regalloc2_function.specs.DebugPoints.{DefinesAt, ReadsAt, UsesAt}
 use Rattle.regalloc2_function.specs.WellFormed.{IsWellFormed, last_of}
 use Rattle.regalloc2_semantics.specs.Listing.{op_at, no_operand}
 use Rattle.regalloc2_semantics.specs.Blocks.{IsSound, IsUnwritten, target_at}
 use Rattle.regalloc2_semantics.specs.Laws.{ReadsAgreeOnPaths}
-use Rattle.regalloc2_semantics.specs.Live.{LiveStand}
 use Rattle.regalloc2_semantics.proofs.SingleDef.{Made, by_operand, one_made, one_operand, not_both, reads_defined}
 use Rattle.regalloc2_semantics.proofs.SingleDef as defined
-use Rattle.regalloc2_semantics.proofs.Order.{ends_within, reads_later, stands_later}
+use Rattle.regalloc2_semantics.proofs.Order.{ends_within, reads_later}
 use Rattle.regalloc2_semantics.proofs.Soundness.{well_formed_are_sound}
 use Rattle.regalloc2_live_ranges.specs.declared.InstOperand.{InstOperand}
 use Rattle.regalloc2_live_ranges.specs.LiveRanges.{IsReader, IsShownBy}
@@ -30,7 +30,7 @@ use Rattle.regalloc2_fastalloc_state.specs.StateParts.{SlotsHaveOneOwner, SpillS
 use Rattle.regalloc2_fastalloc_proofs.specs.Safety.{MayBeLocatedAt}
 use Rattle.regalloc2_fastalloc_proofs.specs.InstSteps.{StateValue}
 use Rattle.regalloc2_fastalloc_proofs.specs.BlockSteps.{AllocsBlocks}
-use Rattle.regalloc2_fastalloc_proofs.proofs.Walk.BlocksCarryFromFreshState.{at_walks_end, used_slots}
+use Rattle.regalloc2_fastalloc_proofs.proofs.Walk.BlocksCarryFromFreshState.{at_walks_end, used_slots, passed_slots}
 use Rattle.regalloc2_fastalloc_proofs.proofs.Operands.AllocsSoFar.{IsTame, reads_allocated}
 use Rattle.regalloc2_fastalloc_proofs.proofs.Safety.OutputOfWalk.{IsMade, operand_good}
 use Rattle.regalloc2_fastalloc_proofs.proofs.Safety.StepsKeepState.{slot_in}
@@ -38,13 +38,12 @@ use Rattle.regalloc2_fastalloc_proofs.proofs.Walk.InstsCarry.{Blank}
 use Rattle.regalloc2_fastalloc_proofs.proofs.Safety.BlocksKeepSafe.{MayInBlocks}
 use Rattle.regalloc2_fastalloc_proofs.proofs.Moves.ScratchRegTaken.{Fit}
 use Rattle.regalloc2_fastalloc_proofs.proofs.Walk.DefsBeforeUses.{used_made}
-use Rattle.regalloc2_fastalloc_proofs.proofs.Operands.RecordOverState.{slots_at}
 use Rattle.regalloc2_fastalloc_proofs.proofs.Safety.BranchArgsKeepState.{passes_between}
 use Rattle.regalloc2_debug_proofs.specs.ShownPlace.{operand_place, shown_place}
 use Rattle.regalloc2_debug_proofs.proofs.SlotHoldsDefinedValue.{all_known, defined_shows, met_at}
-use Rattle.regalloc2_debug_proofs.proofs.LocatedStaysOrHasSlot.{passes_slot}
 use Rattle.regalloc2_debug_proofs.proofs.OperandPlaceHoldsValue.{register_shows}
 use Rattle.regalloc2_debug_proofs.proofs.SlotAfterWalk.{left_slot_shows}
+use Rattle.regalloc2_debug_proofs.proofs.SlotAtBlockBegin.{AreAtBegin, entered_shows}
 use Rattle.regalloc2_debug_proofs.proofs.InstWithinWalk.{Met}
 use Rattle.regalloc2_debug_proofs.proofs.WellFormedPaths.{any_default}
 use Rattle.regalloc2_debug_proofs.proofs.LocationBeforeFirstRead.{ComesFirst, late_first, early_first}
@@ -88,28 +87,6 @@ module _ (env : MachineValue) (f : FunctionValue) (limited : IsLimited f) (ok : 
 
   some_block : 0 < length f.blocks
   some_block = (let e : f.entry < length f.blocks = ok.successors.0 in omega (arith, e))
-
-  -- a vreg that is passed has a slot
-  pub passed_slot : (i : ℕ) → PassesAt f v i → slot_in last v.number ≢ NoPlace
-  passed_slot i (b, k, lb, at, edge, has, other) =
-      let j : ℕ = last_of (block_at f b) in
-      let some : (block_at f b).range.first < (block_at f b).range.end = (ok.follow b lb).0 in
-      let within = ends_within f ok.follow b lb in
-      let lt : j < length f.insts = omega (arith, some, within) in
-      let w : Met f (allocs_of out) blank begin j last = met_at env f limited ok blank begin last out empty fit walks m j lt in
-      let from : w.block ≤ b = stands_later f ok.follow w.block b j j w.within lb w.ge w.less (omega (arith, some)) (omega (arith, some)) (omega arith) in
-      let to : b ≤ w.block = stands_later f ok.follow b w.block j j lb w.within (omega (arith, some)) (omega (arith, some)) w.ge w.less (omega arith) in
-      let same : b ≡ w.block = omega (arith, from, to) in
-      let branch : (inst_at f j).is_branch ≡ true = elim (ok.end b lb).0
-      [ inl x ↦ x.0 | inr r ↦ (let none : length (block_at f b).succs ≡ 0 = r.2 in absurd (omega (arith, none, edge))) ] in
-      let few : has.0 < length (block_at f (target_at f b k)).params = (let n = sound.arguments b k edge in let l = has.1 in omega (arith, n, l)) in
-      let is : (slice_index_or (arguments_at f b k) has.0 defined.no_vreg).number ≡ v.number = ap (λ (u : VirtualRegister). u.number)
-      (any_default (arguments_at f b k) has.0 defined.no_vreg v has.1 ∙ has.2) in
-      let there : slot_in w.new v.number ≢ NoPlace = passes_slot v.number f w.block j w.allocates.allocates.allocates.ended w.allocates.inst_regs
-      w.allocates.middle w.new (w.allocates.branch branch) k
-      (subst (λ (c : ℕ). k < length (block_at f c).succs) same edge) has.0 (subst (λ (c : ℕ). has.0 < length (block_at f (target_at f c k)).params) same few)
-      (subst (λ (c : ℕ). (slice_index_or (arguments_at f c k) has.0 defined.no_vreg).number ≡ v.number) same is) in
-      λ none. there (sym (w.rest.stay v.number there) ∙ none)
 
   -- an operand that reads it, where it has no slot
   module _ (il ko : ℕ) (lt : il < length f.insts) (within : ko < length (inst_at f il).operands) (reads : is_reading (op_at (inst_at f il).operands ko) ≡ true)
@@ -226,18 +203,27 @@ module _ (env : MachineValue) (f : FunctionValue) (limited : IsLimited f) (ok : 
   operand_shows (by_early_use o most never r) none = early_shows o.inst o.index r.reader.inst r.reader.index r.reader.reading r.reader.vreg most.1 none
       r.reader.position never r.first
   operand_shows (by_argument i most never nor) none =
-      absurd (elim most.0 [ inl a ↦ nor a | inr rest ↦ elim rest [ inl b ↦ never b | inr p ↦ passed_slot i p none ] ])
+      absurd (elim most.0 [
+        | inl a ↦ nor a
+        | inr rest ↦ elim rest [
+          | inl b ↦ never b
+          | inr p ↦ passed_slots env f limited ok
+              (passes_between f) blank begin last out empty fit walks v i p none
+        ]
+      ])
   operand_shows (by_definition o never d) none = λ given w here used s path is_given source on later_on uses no_branch. absurd (never (end_of f used).inst uses)
 
   -- so the place by which it is shown holds its value
-  pub shown : SlotsHaveOneOwner last.slots → ((i : ℕ) → i < length f.insts → IsTame (Made f) (inst_at f i).operands) → ReadsAgreeOnPaths f out →
-      LiveStand f out (λ u. slots_at last u.number) → {by : Option InstOperand} → IsShownBy f v by →
+  pub shown : MachineFits f env → SlotsHaveOneOwner last.slots → ((i : ℕ) → i < length f.insts → IsTame (Made f) (inst_at f i).operands) →
+      ReadsAgreeOnPaths f out → (stand : ℕ → VirtualRegister → Option Place) → AreAtBegin env f blank begin last out stand → {by : Option InstOperand} →
+      IsShownBy f v by →
       HoldsValue f out v (shown_place out (slot_name last.slots v.number) by)
-  shown owned tame agree stand {by} is = by_slot (slot_name last.slots v.number) refl
+  shown fits owned tame agree stand begins {by} is = by_slot (slot_name last.slots v.number) refl
       ((at_walks_end env f limited ok (passes_between f) blank begin last out empty fit walks).whole.below v.number)
     where
       by_slot : (q : Place) → slot_name last.slots v.number ≡ q → IsSlotOrNone last.slots.count q → HoldsValue f out v (shown_place out q by)
       by_slot NoPlace e below = operand_shows is e
       by_slot (InRegister r) e below = absurd below
-      by_slot (InSlot n) e below = left_slot_shows env f ok written last out m owned tame agree stand v known n e
+      by_slot (InSlot n) e below = left_slot_shows env f ok written last out m owned tame agree v known n e
           (defined_shows env f limited ok blank begin last out empty fit walks m written agree owned tame v known n e)
+          (entered_shows env f fits limited ok blank begin last out empty fit walks m written stand begins v known n e agree owned tame)

@@ -13,7 +13,8 @@ use Rattle.regalloc2_function.specs.DebugPaths.{HoldsValue}
 use Rattle.regalloc2_function.specs.DebugPoints.{DefinesAt}
 use Rattle.regalloc2_function.specs.WellFormed.{DefinedOnce, IsWellFormed}
 use Rattle.regalloc2_semantics.specs.Laws.{ReadsAgreeOnPaths}
-use Rattle.regalloc2_semantics.specs.Live.{IsLive, LiveStand}
+use Rattle.regalloc2_semantics.specs.Live.{IsLive, HasEntered}
+use Rattle.regalloc2_semantics.specs.Carry.{Undefined}
 use Rattle.regalloc2_semantics.proofs.SingleDef.{Made, one_made}
 use Rattle.regalloc2_fastalloc_state.specs.StateParts.{SlotsHaveOneOwner, slot_name}
 use Rattle.regalloc2_fastalloc_proofs.specs.InstSteps.{StateValue}
@@ -22,19 +23,20 @@ use Rattle.regalloc2_fastalloc_proofs.proofs.Safety.OutputOfWalk.{IsMade, place_
 use Rattle.regalloc2_fastalloc_proofs.proofs.Slots.InstLeavesOwnedSlot.{own_written}
 use Rattle.regalloc2_fastalloc_proofs.proofs.Slots.SlotsOwned.{owner_known}
 use Rattle.regalloc2_fastalloc_proofs.proofs.Safety.BlocksKeepSafe.{MayInBlocks}
-use Rattle.regalloc2_fastalloc_proofs.proofs.Operands.RecordOverState.{slots_at, opt}
-use Rattle.regalloc2_fastalloc_proofs.proofs.Safety.InstsKeepSafe.{WritesAt}
+use Rattle.regalloc2_fastalloc_proofs.proofs.Operands.RecordOverState.{opt}
+use Rattle.regalloc2_fastalloc_proofs.proofs.Safety.InstsKeepSafe.{WritesFrom}
 use Rattle.regalloc2_debug_proofs.specs.SlotHoldsValue.{ShowsAt}
-use Rattle.regalloc2_debug_proofs.specs.SlotWrites.{MayWrite, after_definition, before_read, before_branch}
+use Rattle.regalloc2_debug_proofs.specs.SlotWrites.{MayWrite, after_definition, before_read, before_branch, at_begin}
 use Rattle.regalloc2_debug_proofs.proofs.SlotHoldsValueOnPaths.{slot_shows_value}
 
 module _ (env : MachineValue) (f : FunctionValue) (once : DefinedOnce f) (t : StateValue) (out : OutputValue) (m : IsMade f env (Made f) (MayInBlocks f) t out)
     (owned : SlotsHaveOneOwner t.slots)
     (v : VirtualRegister) (known : Made f v) (n : ℕ) (mine : slot_name t.slots v.number ≡ InSlot n) where
   -- a point where the walk writes the slot is one where it may be written
-  may_write : (q : ℕ) → WritesAt f out.allocs q v n → MayWrite f out v (InSlot n) q
-  may_write q (inl (i, k, lt, less, is, inl (at, def))) = subst (MayWrite f out v (InSlot n)) (sym at) (after_definition i k less def is)
-  may_write q (inl (i, k, lt, less, is, inr (at, reading, place))) =
+  may_write : (q : ℕ) → WritesFrom f out.allocs 0 q v n → MayWrite f out v (InSlot n) q
+  may_write q (inr (b, ge, lb, at, stored)) = subst (MayWrite f out v (InSlot n)) (sym at) (at_begin b lb stored)
+  may_write q (inl (inl (i, k, lt, less, is, inl (at, def)))) = subst (MayWrite f out v (InSlot n)) (sym at) (after_definition i k less def is)
+  may_write q (inl (inl (i, k, lt, less, is, inr (at, reading, place)))) =
       subst (MayWrite f out v (InSlot n)) (sym at)
       (before_read i k (record {
         within = less;
@@ -43,12 +45,13 @@ module _ (env : MachineValue) (f : FunctionValue) (once : DefinedOnce f) (t : St
         place = place_is f env (Made f) (MayInBlocks f) t out m i lt k less
             ∙ place;
       }))
-  may_write q (inr (b, i, k, j, lb, last, branch, at, edge, less, is)) = subst (MayWrite f out v (InSlot n)) (sym at) (before_branch i branch)
+  may_write q (inl (inr (b, i, k, j, lb, last, branch, at, edge, less, is))) = subst (MayWrite f out v (InSlot n)) (sym at) (before_branch i branch)
 
   -- each edit into v's slot is at a point where the slot may be written
   pub moves_where : All (λ e. e.1.to ≡ InSlot n → MayWrite f out v (InSlot n) e.0) out.edits
   moves_where =
-      let writes : All (λ e. e.1.to ≡ InSlot n → WritesAt f out.allocs e.0 v n) t.edits = own_written env (Made f) (one_made f once) (WritesAt f out.allocs)
+      let writes : All (λ e. e.1.to ≡ InSlot n → WritesFrom f out.allocs 0 e.0 v n) t.edits = own_written env (Made f) (one_made f once)
+      (WritesFrom f out.allocs 0)
       (MayInBlocks f) t owned.own m.kept.safe.edits v known n (ap opt mine) in
       subst (All (λ e. e.1.to ≡ InSlot n → MayWrite f out v (InSlot n) e.0)) (sym m.edits)
       (all_reverse (λ e. e.1.to ≡ InSlot n → MayWrite f out v (InSlot n) e.0) t.edits
@@ -65,13 +68,18 @@ abbrev pub DefinedShows : FunctionValue → OutputValue → VirtualRegister → 
 DefinedShows f out v n = (ws : List Way) → IsPath f (Onward ∷ ws) → DefinesAt f v (end_of f ws).inst → IsLive f v (end_of f (Onward ∷ ws)) →
     (inst_at f ((end_of f ws).inst + 1)).is_branch ≡ false → ShowsAt f out v (InSlot n) (Onward ∷ ws)
 
--- so the slot that a virtual register has at the walk's end shows its value, where it does behind each definition
+-- where a path has come to a block at which v is live, and its first instruction is no branch and doesn't define v
+abbrev pub EnteredShows : FunctionValue → OutputValue → VirtualRegister → ℕ → Type 0
+EnteredShows f out v n = (ws : List Way) → IsPath f ws → HasEntered f ws → IsLive f v (end_of f ws) → Undefined (inst_at f (end_of f ws).inst).operands v →
+    (inst_at f (end_of f ws).inst).is_branch ≡ false → ShowsAt f out v (InSlot n) ws
+
+-- so the slot that a virtual register has at the walk's end shows its value, where it does behind each definition, and at each block's beginning
 pub left_slot_shows : (env : MachineValue) (f : FunctionValue) → IsWellFormed env f → IsWrittenFirst f → (t : StateValue) (out : OutputValue) →
     IsMade f env (Made f) (MayInBlocks f) t out → SlotsHaveOneOwner t.slots → ((i : ℕ) → i < length f.insts → IsTame (Made f) (inst_at f i).operands) →
-    ReadsAgreeOnPaths f out → LiveStand f out (λ u. slots_at t u.number) → (v : VirtualRegister) → Made f v → (n : ℕ) → slot_name t.slots v.number ≡ InSlot n →
-    DefinedShows f out v n → HoldsValue f out v (InSlot n)
-left_slot_shows env f ok written t out m owned tame agree stand v known n mine defined = slot_shows_value env f out v n ok written agree (record {
-  live = λ ws path entered live. stand ws path entered v (InSlot n) live (ap opt mine);
+    ReadsAgreeOnPaths f out → (v : VirtualRegister) → Made f v → (n : ℕ) → slot_name t.slots v.number ≡ InSlot n →
+    DefinedShows f out v n → EnteredShows f out v n → HoldsValue f out v (InSlot n)
+left_slot_shows env f ok written t out m owned tame agree v known n mine defined entered = slot_shows_value env f out v n ok written agree (record {
+  entered = entered;
   defined = defined;
   moves = moves_where env f ok.defined_once t out m owned v known n mine;
   own = own_alone env f ok.defined_once t out m owned v known n mine tame;

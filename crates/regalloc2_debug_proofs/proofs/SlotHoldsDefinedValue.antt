@@ -6,14 +6,14 @@ use Rattle.regalloc2_names.specs.Register.{VirtualRegister}
 use Rattle.regalloc2_names.specs.Operand.{OperandValue, is_def}
 use Rattle.regalloc2_names.specs.Place.{Place, InSlot}
 use Rattle.regalloc2_names.specs.Point.{before}
-use Rattle.regalloc2_function.specs.FunctionValue.{FunctionValue, IsLimited, inst_at, no_inst}
+use Rattle.regalloc2_function.specs.FunctionValue.{FunctionValue, IsLimited, block_at, inst_at, no_inst}
 use Rattle.regalloc2_function.specs.Machine.{MachineValue}
 use Rattle.regalloc2_function.specs.OutputValue.{OutputValue, MoveValue, allocs_of}
 use Rattle.regalloc2_function.specs.Path.{Way, Onward, ToSuccessor, end_of, IsPath}
 use Rattle.regalloc2_function.specs.SourceRun.{IsWrittenFirst, arguments_at, source_before}
 use Rattle.regalloc2_function.specs.AllocatedRun.{Cells, cells_before}
 use Rattle.regalloc2_function.specs.DebugPoints.{DefinesAt}
-use Rattle.regalloc2_function.specs.WellFormed.{IsWellFormed, FixedAvoidClobbers}
+use Rattle.regalloc2_function.specs.WellFormed.{IsWellFormed, FixedAvoidClobbers, last_of}
 use Rattle.regalloc2_semantics.specs.Listing.{Item, executed, op_at, no_operand}
 use Rattle.regalloc2_semantics.specs.Listing.Item.{Move}
 use Rattle.regalloc2_semantics.proofs.CarryRules.{carries_moves}
@@ -38,6 +38,7 @@ use Rattle.regalloc2_fastalloc_proofs.proofs.Inst.OneInstCarries.{Alone, alone}
 use Rattle.regalloc2_fastalloc_proofs.proofs.Evictions.FixedAvoidClobbers.{avoids}
 use Rattle.regalloc2_fastalloc_proofs.proofs.Branches.LocationsAfterBranch.{branch_kept}
 use Rattle.regalloc2_fastalloc_proofs.proofs.Operands.AllocsSoFar.{IsTame}
+use Rattle.regalloc2_fastalloc_proofs.proofs.Safety.StoredDefs.{last_within}
 use Rattle.regalloc2_fastalloc_proofs.proofs.Safety.OutputOfWalk.{IsMade, made_in_order, place_is}
 use Rattle.regalloc2_fastalloc_proofs.proofs.Safety.StepsKeepState.{place_in, slot_in}
 use Rattle.regalloc2_fastalloc_proofs.proofs.Operands.RecordOfInst.{Orderly}
@@ -57,7 +58,7 @@ use Rattle.regalloc2_debug_proofs.proofs.InstOnPath.{Fronts, entered_front, onwa
 use Rattle.regalloc2_debug_proofs.proofs.PathStepLeaves.{read_shows}
 use Rattle.regalloc2_debug_proofs.proofs.SlotAfterWalk.{DefinedShows, moves_where, own_alone}
 use Rattle.regalloc2_debug_proofs.proofs.InstWithinWalk.{IsStart, IsBefore, IsUnnamedBefore, Met, meet}
-use Rattle.regalloc2_debug_proofs.proofs.WellFormedPaths.{any_default, op_is, inst_in, inst_lt, within}
+use Rattle.regalloc2_debug_proofs.proofs.WellFormedPaths.{any_default, op_is, inst_in, inst_lt, next_inside, within}
 use Rattle.regalloc2_debug_proofs.proofs.DefWithMovesStores.{stores}
 use Rattle.regalloc2_debug_proofs.proofs.MovesLeaveSlot.{moves_fine}
 
@@ -81,12 +82,12 @@ module _ (env : MachineValue) (f : FunctionValue) (limited : IsLimited f) (ok : 
   sound : IsSound f
   sound = well_formed_are_sound env f ok
 
-  some_block : 0 < length f.blocks
+  pub some_block : 0 < length f.blocks
   some_block = (let e : f.entry < length f.blocks = ok.successors.0 in omega (arith, e))
 
   -- nothing before its definition names a number
-  pub unnamed : (x i d : ℕ) → defined.DefinesAt f x i d → IsUnnamedBefore f x i
-  unnamed x i d at = record {
+  pub unnamed : (x i d : ℕ) → (inst_at f i).is_branch ≡ false → defined.DefinesAt f x i d → IsUnnamedBefore f x i
+  unnamed x i d plain at = record {
     insts = λ j less k c e.
         let lj : j < length f.insts = (let l = at.inst in omega (arith, less, l)) in
         elim c.1 [
@@ -107,11 +108,29 @@ module _ (env : MachineValue) (f : FunctionValue) (limited : IsLimited f) (ok : 
           omega (arith, sooner, later),
     );
     params = λ b lb k less e. not_both f ok.defined_once x i d b k at (record { block = lb; param = less; number = e });
+    stores = λ b lb e k v edge is same. elim is [
+      | inl (j, def, named) ↦ (
+          let last : ℕ = last_of (block_at f e) in
+          let here : last ≡ i = (one_operand f ok.defined_once x last i j d (record {
+            inst = last_within f ok.follow e edge.block;
+            operand = def.operand;
+            definition = def.definition;
+            number = def.number ∙ same;
+          }) at).0 in
+          let branch : (inst_at f last).is_branch ≡ true = elim (ok.end e edge.block).0
+          [ inl y ↦ y.0 | inr r ↦ (let none : length (block_at f e).succs ≡ 0 = r.2 in let some = edge.edge in absurd (omega (arith, none, some))) ] in
+          let z : true ≡ false = sym branch ∙ ap (λ n. (inst_at f n).is_branch) here ∙ plain in absurd cc)
+      | inr (n, lt, named) ↦ not_both f ok.defined_once x i d (target_at f e k) n at (record {
+        block = sound.targets e k edge.edge;
+        param = lt;
+        number = ap (λ (w : VirtualRegister). w.number) named ∙ same;
+      })
+    ];
   }
 
   module _ (blank : List Place) (begin last : StateValue) (out : OutputValue) (empty : Blank begin) (fit : Fit begin)
       (walks : AllocsBlocks f blank begin 0 out.allocs last) (m : IsMade f env (Made f) (MayInBlocks f) last out) where
-    are_listed : AreListed f (allocs_of out) 0 out.allocs
+    pub are_listed : AreListed f (allocs_of out) 0 out.allocs
     are_listed j le lt k less = place_is f env (Made f) (MayInBlocks f) last out m j lt k less
 
     -- the output's edits are in the order of their points
@@ -188,8 +207,8 @@ module _ (env : MachineValue) (f : FunctionValue) (limited : IsLimited f) (ok : 
         (opt_none (place_in w.new v.number) (here.ends.gone v.number (defined_by-at (inst_at f i).operands d less def))) in
         from_nowhere v (λ p. p ≡ InSlot n) i w
         (stores (Made f) f (allocs_of out) all_orderly all_avoid all_known i w.allocates.allocates.blank w.allocates.allocates.here w.old w.new lt w.at w.behind
-        (allocated i w plain) onward d less def n
-        (sym (w.out v.number (unnamed v.number i d (record { inst = lt; operand = less; definition = def; number = refl })) absent).1 ∙ mine))
+        (allocated i w plain) (rw (plain, onward) refl) d less def n
+        (sym (w.out v.number (unnamed v.number i d plain (record { inst = lt; operand = less; definition = def; number = refl })) absent).1 ∙ mine))
 
     module _ (written : IsWrittenFirst f) where
       -- the cells at a path's end
@@ -245,7 +264,7 @@ module _ (env : MachineValue) (f : FunctionValue) (limited : IsLimited f) (ok : 
               number = ap (λ (x : VirtualRegister). x.number) is;
             } in
             let same = one_operand f ok.defined_once v.number i next o.0 j first second in omega (arith, same.0) in
-            elim (moves_fine f out v p next next plain (λ less. absurd (omega (arith, less))) out.edits
+            elim (moves_fine f out v p next next plain (next_inside env f ok written v ws path) (λ less. absurd (omega (arith, less))) out.edits
             (moves_where env f ok.defined_once last out m owned v known n mine)) [
               | inl none ↦ by_front ws path shown (subst (NoMoveTo p) (moves_before-first out next) none)
                   (onward_front f out rising ws (inst_in env f ok written v ws path.0).0)

@@ -10,7 +10,7 @@ use Rattle.regalloc2_function.specs.DebugPaths.{IsGiven, GoesOn, there, further,
 use Rattle.regalloc2_function.specs.DebugPoints.{UsesAt}
 use Rattle.regalloc2_semantics.specs.Carry.{Undefined}
 use Rattle.regalloc2_semantics.specs.Laws.{ReadsAgreeOnPaths}
-use Rattle.regalloc2_semantics.specs.Live.{IsLive, later, IsAside, HasEntered}
+use Rattle.regalloc2_semantics.specs.Live.{IsLive, later, IsAside}
 use Rattle.regalloc2_debug_proofs.specs.SlotHoldsValue.{IsKeptInSlot, ShowsAt}
 use Rattle.regalloc2_debug_proofs.proofs.PathStepLeaves.{source_on, cells_on, shows_after}
 
@@ -47,13 +47,6 @@ module _ (f : FunctionValue) (out : OutputValue) (v : VirtualRegister) (plain : 
       ∙ goes_source start us g path.0
 
   module _ (p : Place) (agree : ReadsAgreeOnPaths f out) (kept : IsKeptInSlot f out v p) where
-    -- at a block's beginning
-    entered_shows : (ws : List Way) → IsPath f ws → HasEntered f ws → IsLive f v (end_of f ws) → Undefined (inst_at f (end_of f ws).inst).operands v →
-        (inst_at f (end_of f ws).inst).is_branch ≡ false → ShowsAt f out v p ws
-    entered_shows ws path entered live undefined no_branch =
-        shows_after f out ws v p (agree ws path) undefined (kept.spared ws path undefined) (kept.live ws path entered live).1
-        (kept.written ws path undefined no_branch (inl entered))
-
     -- from the step that gives v its write on
     pub slot_shows : (given : List Way) (w : Way) → IsGiven f v given w → (here : List Way) → GoesOn f v (w ∷ given) here → IsPath f here →
         IsLive f v (end_of f here) → Undefined (inst_at f (end_of f here).inst).operands v →
@@ -61,9 +54,9 @@ module _ (f : FunctionValue) (out : OutputValue) (v : VirtualRegister) (plain : 
     slot_shows given Onward (inl defines) here there path live undefined no_branch = kept.defined given path defines live no_branch
     slot_shows given Onward (inr none) here there path live undefined no_branch = absurd none
     slot_shows given (ToSuccessor k) is_given here there path live undefined no_branch =
-        entered_shows (ToSuccessor k ∷ given) path refl live undefined no_branch
+        kept.entered (ToSuccessor k ∷ given) path refl live undefined no_branch
     slot_shows given w is_given here (further (ToSuccessor k) ws g not) path live undefined no_branch =
-        entered_shows (ToSuccessor k ∷ ws) path refl live undefined no_branch
+        kept.entered (ToSuccessor k ∷ ws) path refl live undefined no_branch
     slot_shows given w is_given here (further Onward ws g not) path live undefined no_branch =
         let before_it : Undefined (inst_at f (end_of f ws).inst).operands v = plain.undefined ws Onward path not in
         let aside : IsAside f v (end_of f ws) Onward = plain.aside ws Onward path not in
@@ -71,7 +64,7 @@ module _ (f : FunctionValue) (out : OutputValue) (v : VirtualRegister) (plain : 
         (plain.onward ws path) in
         shows_after f out (Onward ∷ ws) v p (agree (Onward ∷ ws) path) undefined (kept.spared (Onward ∷ ws) path undefined)
         (cells_on f out ws Onward p (kept.spared ws path.0 before_it) ∙ shown ∙ sym (source_on f ws Onward v before_it aside))
-        (kept.written (Onward ∷ ws) path undefined no_branch (inr (ws, refl, before_it)))
+        (kept.written ws path before_it undefined no_branch)
 
     -- so the slot holds v's value as debug locations are to
     pub slot_holds : HoldsValue f out v p

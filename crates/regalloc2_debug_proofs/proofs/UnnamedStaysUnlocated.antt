@@ -17,7 +17,7 @@ use Rattle.regalloc2_fastalloc_state.specs.StateParts.{VRegAllocsValue, SpillSlo
 use Rattle.regalloc2_fastalloc_state.specs.declared.inst_regs.InstRegs.{InstRegs}
 use Rattle.regalloc2_fastalloc_state.specs.declared.request.OperandRequest.{OperandRequest}
 use Rattle.regalloc2_validate.specs.Constraints.{op_at}
-use Rattle.regalloc2_fastalloc_proofs.specs.InstSteps.{StateValue, EvictsVReg, nobody, moved, AllocsScratchReg, dedicated_scratch, had, found}
+use Rattle.regalloc2_fastalloc_proofs.specs.InstSteps.{StateValue, EvictsVReg, nobody, moved, AllocsScratchReg, dedicated_scratch, had, found, ends_block}
 use Rattle.regalloc2_fastalloc_proofs.specs.InstSteps.{AddsMove, direct, through, EvictsPReg, empty, cleared, EvictsOthers, own, others, SelectsPlace}
 use Rattle.regalloc2_fastalloc_proofs.specs.InstSteps.{ClaimsPlace, in_slot, in_register, AllocsOperand, AddsMoveIf, sent, unsent, FreesDef}
 use Rattle.regalloc2_fastalloc_proofs.specs.InstSteps.{LocatesUse, use_request, ProcessesOperand, a_register, a_use, a_def, a_reuse}
@@ -28,10 +28,12 @@ use Rattle.regalloc2_fastalloc_proofs.specs.InstSteps.SelectsPlace.{stays, fixed
 use Rattle.regalloc2_fastalloc_proofs.specs.InstSteps.LocatesUse.{stays as use_stays, located}
 use Rattle.regalloc2_fastalloc_proofs.specs.BlockStart.{ReloadsParam, nowhere, comes, ReloadsParams, none_begun, one_begun, no_vreg, ReloadsRegs}
 use Rattle.regalloc2_fastalloc_proofs.specs.BlockStart.{none_emptied, one_emptied, ReloadsAtBegin}
-use Rattle.regalloc2_fastalloc_proofs.specs.BranchSteps.{Pushes, SpillsArgument, from_register, ClassMove, GathersEdgeMoves, none_gathered}
+use Rattle.regalloc2_fastalloc_proofs.specs.BranchSteps.{Pushes, SpillsArgument, from_register, ClassMove, GathersEdgeMoves, none_gathered, own_argument}
 use Rattle.regalloc2_fastalloc_proofs.specs.BranchSteps.{one_gathered, GathersMoves, no_edge, one_edge, ProcessesBranch}
 use Rattle.regalloc2_fastalloc_proofs.specs.BranchSteps.SpillsArgument.{in_slot as settled_in_slot}
-use Rattle.regalloc2_fastalloc_proofs.specs.BlockSteps.{AllocsInstInBlock}
+use Rattle.regalloc2_fastalloc_proofs.specs.StoreSteps.{IsConcerned, GetsSlots, no_slot, one_slot, StoresBranchDefs, none_stored, all_stored}
+use Rattle.regalloc2_fastalloc_proofs.specs.BlockSteps.{AllocsInstInBlock, BeginsBlock}
+use Rattle.regalloc2_branch_defs.specs.BranchDefs.{IsEdgeInto}
 use Rattle.regalloc2_fastalloc_proofs.proofs.Evictions.PushedAndRemoved.{settled_empty}
 use Rattle.regalloc2_fastalloc_proofs.proofs.Safety.StepsKeepState.{IsWhole}
 use Rattle.regalloc2_fastalloc_proofs.proofs.Safety.StepsKeepSafe.{settled_holder}
@@ -226,9 +228,10 @@ module _ (x : ℕ) where
   allocates_out i inst blank places old new ne a =
       out_then old a.after_fixed new (fixed_out (after i) inst.operands a.held old (length inst.operands) a.cleared a.after_fixed a.fixed)
       (out_then a.after_fixed a.after_clobbers new (all_out (after i) (registers_of inst.clobbers) a.cleared a.quiet a.after_fixed a.after_clobbers a.clobbers)
-      (out_then a.after_clobbers a.after_late new (placed_out i inst.is_ret true inst.operands blank a.quiet a.after_clobbers (length inst.operands)
+      (out_then a.after_clobbers a.after_late new (placed_out i (ends_block inst) true inst.operands blank a.quiet a.after_clobbers (length inst.operands)
       (omega arith) (λ k lt c e. ne k c) (length inst.operands) a.half a.late a.after_late a.lates (omega arith))
-      (out_then a.after_late a.after_early new (placed_out i inst.is_ret false inst.operands a.half a.late a.after_late (length inst.operands) (omega arith)
+      (out_then a.after_late a.after_early new (placed_out i (ends_block inst) false inst.operands a.half a.late a.after_late (length inst.operands)
+      (omega arith)
       (λ k lt c e. ne k c) (length inst.operands) places a.early a.after_early a.earlies (omega arith))
       (moves_out (before i) inst.operands places a.early a.after_early (length inst.operands) a.ended new a.moves))))
 
@@ -240,14 +243,16 @@ module _ (x : ℕ) where
   argument_out point a s t u old new (settled_in_slot not gives settles edits machine eu) ne =
       out_settled old new a s settles ne (other_slot old.slots new.slots a s gives ne)
 
-  edge_out : (point : ℕ) (params arguments : List VirtualRegister) (t : InstRegs) (old : StateValue) (given : List ClassMove) →
+  edge_out : {Own : VirtualRegister → Type 0} (point : ℕ) (params arguments : List VirtualRegister) (t : InstRegs) (old : StateValue) (given : List ClassMove) →
       ((j : ℕ) → j < length params → ((slice_index_or params j no_vreg).number ≢ x) × ((slice_index_or arguments j no_vreg).number ≢ x)) →
-      (j : ℕ) (u : InstRegs) (m : StateValue) (more : List ClassMove) → GathersEdgeMoves point params arguments t old given j u m more → StaysOut old m
+      (j : ℕ) (u : InstRegs) (m : StateValue) (more : List ClassMove) → GathersEdgeMoves Own point params arguments t old given j u m more → StaysOut old m
   edge_out point params arguments t old given ne j u m more none_gathered = out_same old old refl
-  edge_out point params arguments t old given ne j u m more (one_gathered l some to from y w s n o lt prev gives places edits machine settles) =
+  edge_out point params arguments t old given ne j u m more (one_gathered l some to from y w s n o lt prev gives places edits machine settles foreign) =
       out_then old s m (edge_out point params arguments t old given ne l y s some prev)
       (out_then s n m (out_still s n places (other_slot s.slots n.slots (slice_index_or params l no_vreg) to gives (ne l lt).0))
       (argument_out point (slice_index_or arguments l no_vreg) from y u n m settles (ne l lt).1))
+  edge_out point params arguments t old given ne j u m more (own_argument l some y s lt prev is_own) =
+      edge_out point params arguments t old given ne l u m more prev
 
   -- neither parameters nor arguments of the edges out of a block have it
   abbrev pub IsUnpassed : FunctionValue → ℕ → Type 0
@@ -298,6 +303,44 @@ module _ (x : ℕ) where
   begins_out point params old new ne b =
       out_then old b.middle new (parameters_out point params b.began old ne (length params) b.begun b.middle b.parameters)
       (empties_out point b.begun b.middle b.ended new b.empties)
+
+  -- what a block's beginning stores isn't for it
+  abbrev pub IsUnstored : FunctionValue → ℕ → Type 0
+  IsUnstored f b = (e k : ℕ) (v : VirtualRegister) → IsEdgeInto f b e k → IsConcerned f e k v → v.number ≢ x
+
+  slots_out : (P : VirtualRegister → Type 0) → ((v : VirtualRegister) → P v → v.number ≢ x) → (old s : SpillSlotsValue) → GetsSlots P old s →
+      slot_name s x ≡ slot_name old x
+  slots_out P ne old s no_slot = refl
+  slots_out P ne old s (one_slot v p m n prev is gives temps) = other_slot m n v p gives (ne v is) ∙ slots_out P ne old m prev
+
+  stores_out : (f : FunctionValue) (b : ℕ) (old new : StateValue) → IsUnstored f b → StoresBranchDefs f b old new → StaysOut old new
+  stores_out f b old new ne (none_stored none same) = out_same old new same
+  stores_out f b old new ne (all_stored e k edge s) =
+      out_still old new s.places (slots_out (IsConcerned f e k) (λ v is. ne e k v edge is) old.slots new.slots s.slots)
+
+  pub begun_out : (f : FunctionValue) (b : ℕ) (old new : StateValue) →
+      ((k : ℕ) → k < length (block_at f b).params → (slice_index_or (block_at f b).params k no_vreg).number ≢ x) → IsUnstored f b → BeginsBlock f b old new
+      → StaysOut old new
+  begun_out f b old new ne unstored h =
+      out_then old h.middle new (begins_out (before (block_at f b).range.first) (block_at f b).params old h.middle ne h.reloads)
+      (stores_out f b h.middle new unstored h.stores)
+
+  -- it stays absent over a block's beginning, whatever is stored
+  pub begun_absent : (f : FunctionValue) (b : ℕ) (old new : StateValue) →
+      ((k : ℕ) → k < length (block_at f b).params → (slice_index_or (block_at f b).params k no_vreg).number ≢ x) → BeginsBlock f b old new → Absent old
+      → Absent new
+  begun_absent f b old new ne h absent =
+      by_stores h.stores (begins_out (before (block_at f b).range.first) (block_at f b).params old h.middle ne h.reloads absent).0
+    where
+      by_places : (m n : StateValue) → n.places ≡ m.places → Absent m → Absent n
+      by_places m n places a = record {
+        nowhere = ap (λ (p : VRegAllocsValue). alloc_of p x) places ∙ a.nowhere;
+        unheld = λ r v small held. a.unheld r v small (ap (λ (p : VRegAllocsValue). vreg_of_preg p r) (sym places) ∙ held);
+      }
+
+      by_stores : StoresBranchDefs f b h.middle new → Absent h.middle → Absent new
+      by_stores (none_stored none same) a = subst Absent (sym same) a
+      by_stores (all_stored e k edge s) a = by_places h.middle new s.places a
 
   -- an instruction of a block, and what a branch passes
   pub inst_out : (f : FunctionValue) (b i : ℕ) (before_it places : List Place) (old new : StateValue) →

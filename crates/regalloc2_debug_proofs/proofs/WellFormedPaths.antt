@@ -1,5 +1,5 @@
 -- Well-formed functions have what the way of a value along a path needs.
-use Rattle.std.proofs.Common.{ℕ, zero, suc, ◌≡◌, ◌+◌, ◌<◌, ◌≤◌, Bool, true, false, List, [], ◌∷◌, length, refl, ap, ◌∙◌, inl, inr, subst, arith}
+use Rattle.std.proofs.Common.{ℕ, zero, suc, ◌≡◌, ◌≢◌, ◌+◌, ◌<◌, ◌≤◌, Bool, true, false, List, [], ◌∷◌, length, refl, ap, ◌∙◌, inl, inr, subst, arith}
 use Rattle.std.specs.Prelude.{slice_index_or, Contains}
 use Rattle.regalloc2_names.specs.declared.OperandPos.{OperandPos}
 use Rattle.regalloc2_names.specs.declared.OperandPos.TheVariants.{Early, Late}
@@ -21,6 +21,7 @@ use Rattle.regalloc2_semantics.proofs.SingleDef.{reads_defined}
 use Rattle.regalloc2_semantics.proofs.Order.{ends_within, stands_later, reads_later}
 use Rattle.regalloc2_semantics.proofs.Paths.{block_within}
 use Rattle.regalloc2_semantics.proofs.Soundness.{well_formed_are_sound}
+use Rattle.regalloc2_debug_proofs.proofs.MovesLeaveSlot.{inside_block}
 use Rattle.regalloc2_debug_proofs.proofs.SlotHoldsToUses.{IsPlain}
 
 -- within a list the default doesn't matter
@@ -71,6 +72,11 @@ module _ (env : MachineValue) (f : FunctionValue) (ok : IsWellFormed env f) (wri
   pub inst_lt : (ws : List Way) → IsPath f ws → (end_of f ws).inst < length f.insts
   inst_lt ws path = (let h = inst_in ws path in let lt = h.1 in let most = ends_within f ok.follow (end_of f ws).block (within ws path) in
       omega (arith, lt, most))
+
+  -- where a path goes on within its block, no block begins
+  pub next_inside : (ws : List Way) → IsPath f (Onward ∷ ws) → (b : ℕ) → b < length f.blocks → (block_at f b).range.first ≢ (end_of f ws).inst + 1
+  next_inside ws path = (let h = inst_in ws path.0 in let ge = h.0 in
+      inside_block f ok.follow (end_of f ws).block ((end_of f ws).inst + 1) (within ws path.0) (omega (arith, ge)) path.1)
 
   not_given : (ws : List Way) (w : Way) → IsPath f (w ∷ ws) → (IsGiven f v ws w → ⊥) → Undefined (inst_at f (end_of f ws).inst).operands v
   not_given ws w path not j lt d e =

@@ -11,7 +11,7 @@ use Rattle.regalloc2_function.specs.AllocatedRun.{after_moves, moves_at, cells_b
 use Rattle.regalloc2_function.specs.DebugPoints.{DefinesAt}
 use Rattle.regalloc2_semantics.specs.Listing.{op_at}
 use Rattle.regalloc2_semantics.specs.Carry.{Spares, Undefined}
-use Rattle.regalloc2_semantics.specs.Live.{IsLive, HasEntered, HoldsValue}
+use Rattle.regalloc2_semantics.specs.Live.{IsLive, HasEntered}
 use Rattle.regalloc2_semantics.proofs.UnwrittenPlaces.{NoMoveTo}
 
 -- an operand of an instruction reads v in a place
@@ -26,16 +26,18 @@ abbrev pub ShowsAt : FunctionValue → OutputValue → VirtualRegister → Place
 ShowsAt f out v p ws = after_moves (moves_at f out (end_of f ws)) (cells_before f out ws) p ≡ source_before f ws v
 
 -- What an output owes to the slot of v:
---     live      where a path comes to a block at which v is live, the slot holds its value
+--     entered   where a path comes to a block at which v is live, once the moves before its first instruction have run, the slot holds its value, if
+--               that is no branch and doesn't define v
 --     defined   behind a definition of v, once the moves before the next instruction have run, the slot holds its value, if v is live there and it is no branch
---     written   no move before any other instruction writes the slot, unless the instruction reads v there, or is a branch
+--     written   no move before any other instruction of a block writes the slot, unless the instruction reads v there, or is a branch
 --     spared    an instruction that doesn't define v writes no such place
 pub record IsKeptInSlot (f : FunctionValue) (out : OutputValue) (v : VirtualRegister) (p : Place) : Type 0 where
-  pub live : (ws : List Way) → IsPath f ws → HasEntered f ws → IsLive f v (end_of f ws) → HoldsValue f out ws p v
+  pub entered : (ws : List Way) → IsPath f ws → HasEntered f ws → IsLive f v (end_of f ws) → Undefined (inst_at f (end_of f ws).inst).operands v →
+      (inst_at f (end_of f ws).inst).is_branch ≡ false → ShowsAt f out v p ws
   pub defined : (ws : List Way) → IsPath f (Onward ∷ ws) → DefinesAt f v (end_of f ws).inst → IsLive f v (end_of f (Onward ∷ ws)) →
       (inst_at f ((end_of f ws).inst + 1)).is_branch ≡ false → ShowsAt f out v p (Onward ∷ ws)
-  pub written : (ws : List Way) → IsPath f ws → Undefined (inst_at f (end_of f ws).inst).operands v → (inst_at f (end_of f ws).inst).is_branch ≡ false →
-      HasEntered f ws ⊎ ((us : List Way) × (ws ≡ Onward ∷ us) × Undefined (inst_at f (end_of f us).inst).operands v) →
-      NoMoveTo p (moves_at f out (end_of f ws)) ⊎ ((k : ℕ) × IsReadIn f out v p (end_of f ws).inst k)
+  pub written : (ws : List Way) → IsPath f (Onward ∷ ws) → Undefined (inst_at f (end_of f ws).inst).operands v →
+      Undefined (inst_at f ((end_of f ws).inst + 1)).operands v → (inst_at f ((end_of f ws).inst + 1)).is_branch ≡ false →
+      NoMoveTo p (moves_at f out (end_of f (Onward ∷ ws))) ⊎ ((k : ℕ) × IsReadIn f out v p ((end_of f ws).inst + 1) k)
   pub spared : (ws : List Way) → IsPath f ws → Undefined (inst_at f (end_of f ws).inst).operands v →
       Spares (inst_at f (end_of f ws).inst).operands (allocs_of out (end_of f ws).inst) (inst_at f (end_of f ws).inst).clobbers p

@@ -46,7 +46,7 @@ and_false false b e = refl
 -- a vreg that shows the value of v, is an operand of it; an argument alone is in a slot
 module _ (env : MachineValue) (f : FunctionValue) (limited : IsLimited f) (ok : IsWellFormed env f) (May : ℕ → Type 0) (t : StateValue) (offsets : List ℕ)
     (allocs : List Place) (at : (i : ℕ) → i < length f.insts → slice_index offsets i ≡ offset_of f i)
-    (kept : WalkKept env (Made f) f May allocs 0 allocs t) (handed : (v : VirtualRegister) (i : ℕ) → PassesAt f v i →
+    (kept : WalkKept env (Made f) f May allocs 0 0 allocs t) (handed : (v : VirtualRegister) (i : ℕ) → PassesAt f v i →
     slot_name t.slots v.number ≢ NoPlace) where
   -- an operand of one that is made is allocated
   allocated : (o : OperandValue) → o.vreg.number < f.num_vregs → is_fixed_nonallocatable o ≡ false

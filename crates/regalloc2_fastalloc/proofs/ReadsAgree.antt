@@ -1,7 +1,7 @@
 -- The walk over the blocks of a well-formed function that the allocator takes, from a fresh state to the output: reads agree on every path,
--- and a vreg that is live where a path comes to a block is in its slot.
-use Rattle.std.proofs.Common.{ℕ, ◌≡◌, ◌≢◌, ◌-◌, ◌<◌, suc, List, [], ◌∷◌, length, map, nat_eq, refl, ap, subst, arith}
-use Rattle.std.specs.Prelude.{All, Bool, filter}
+-- and a vreg that is live where a path comes to a block is in its slot, or where the branch into the block left it.
+use Rattle.std.proofs.Common.{ℕ, ◌≡◌, ◌≢◌, ◌-◌, ◌<◌, suc, List, [], ◌∷◌, length, map, nat_eq, refl, sym, ap, ◌∙◌, ◌+◌, subst, arith}
+use Rattle.std.specs.Prelude.{All, Bool, filter, Option, Some}
 use Rattle.std.proofs.lemmas.Bool.{ne_eqb}
 use Rattle.std.proofs.lemmas.List.Elements.{All-get_or}
 use Rattle.regalloc2_names.specs.declared.RegClass.{RegClass}
@@ -17,45 +17,46 @@ use Rattle.regalloc2_function.specs.Path.{Way, end_of, IsPath}
 use Rattle.regalloc2_function.specs.SourceRun.{IsWrittenFirst}
 use Rattle.regalloc2_function.specs.WellFormed.{IsWellFormed, FixedAvoidClobbers}
 use Rattle.regalloc2_semantics.specs.BlockByPoints.{block_walked, Rising, EndsQuiet}
-use Rattle.regalloc2_semantics.specs.Blocks.{BlockCarries}
-use Rattle.regalloc2_semantics.specs.Live.{IsLive, HasEntered, HoldsValue, LiveStand}
+use Rattle.regalloc2_semantics.specs.Blocks.{BlockCarriesOn}
+use Rattle.regalloc2_semantics.specs.Live.{IsLive, HasEntered, HoldsValue, LiveStandInPlaces}
 use Rattle.regalloc2_semantics.specs.Laws.{ReadsAgreeOnPaths}
 use Rattle.regalloc2_semantics.proofs.Points.{rising_by}
-use Rattle.regalloc2_semantics.proofs.SingleDef.{Made, one_made}
+use Rattle.regalloc2_semantics.proofs.SingleDef.{Made}
 use Rattle.regalloc2_semantics.proofs.Soundness.{well_formed_are_sound}
-use Rattle.regalloc2_semantics.proofs.Paths.{blocks_agree_by_points}
-use Rattle.regalloc2_semantics.proofs.LiveIn.{live_is_used, live_stand_by_points}
+use Rattle.regalloc2_semantics.proofs.Paths.{blocks_agree_in_places_by_points}
+use Rattle.regalloc2_semantics.proofs.LiveIn.{live_is_used, live_stand_in_places}
 use Rattle.regalloc2_validate.specs.NoLimits.{AreTaken}
-use Rattle.regalloc2_validate.specs.Constraints.{BranchDefinesNothing}
+use Rattle.regalloc2_validate.specs.Constraints.{BranchDefinesInPlace}
 use Rattle.regalloc2_fastalloc_state.specs.StateParts.{SlotsHaveOneOwner, IsSlotOrNone, no_allocs, no_slots, slot_name, units_of}
 use Rattle.regalloc2_live_ranges.specs.declared.LiveRange.{LiveRange}
 use Rattle.regalloc2_live_ranges.specs.LiveRanges.{IsKeptRange}
 use Rattle.regalloc2_debug_proofs.specs.ShownPlace.{shown_place}
 use Rattle.regalloc2_debug_proofs.proofs.DebugLocationsHoldValues.{label_shown}
-use Rattle.regalloc2_fastalloc.specs.Promise.{LiveInSlots}
+use Rattle.regalloc2_fastalloc.specs.Promise.{LiveInSlots, ArrivesAt, defined, given, in_slot}
 use Rattle.regalloc2_fastalloc_proofs.specs.Safety.{HasMachine}
 use Rattle.regalloc2_fastalloc_proofs.specs.InstSteps.{StateValue}
 use Rattle.regalloc2_fastalloc_proofs.specs.BlockSteps.{AllocsBlocks}
 use Rattle.regalloc2_fastalloc_proofs.proofs.Moves.ScratchRegTaken.{Fit}
 use Rattle.regalloc2_fastalloc_proofs.proofs.Walk.InstsCarry.{AreListed, Blank}
-use Rattle.regalloc2_fastalloc_proofs.proofs.Safety.InstsKeepSafe.{WritesAt, WalkKept}
+use Rattle.regalloc2_fastalloc_proofs.proofs.Safety.InstsKeepSafe.{WritesFrom, WalkKept}
 use Rattle.regalloc2_fastalloc_proofs.proofs.Safety.OutputOfWalk.{IsMade, made_in_order, place_is}
-use Rattle.regalloc2_fastalloc_proofs.proofs.Slots.InstLeavesOwnedSlot.{own_written}
 use Rattle.regalloc2_fastalloc_proofs.proofs.Safety.BlocksKeepSafe.{MayInBlocks}
-use Rattle.regalloc2_fastalloc_proofs.proofs.Safety.FunctionKeepsSafe.{made_listed_blocks, walk_blocks_good}
+use Rattle.regalloc2_fastalloc_proofs.proofs.Safety.FunctionKeepsSafe.{SafeWithin, made_listed_blocks, walk_blocks_good, walk_safe}
 use Rattle.regalloc2_fastalloc_proofs.proofs.Operands.WellFormedInsts.{orderly, knows}
 use Rattle.regalloc2_fastalloc_proofs.proofs.Evictions.FixedAvoidClobbers.{avoids}
 use Rattle.regalloc2_fastalloc_proofs.proofs.Walk.InstBoundaries.{blocks_outside}
 use Rattle.regalloc2_fastalloc_proofs.proofs.Branches.LocationsAfterBranch.{branch_kept}
 use Rattle.regalloc2_fastalloc_proofs.proofs.Walk.AllBlocksCarry.{begin_between}
 use Rattle.regalloc2_fastalloc_proofs.proofs.Safety.BranchArgsKeepState.{passes_between}
-use Rattle.regalloc2_fastalloc_proofs.proofs.Slots.InstsLeaveSlots.{writes_sound}
-use Rattle.regalloc2_fastalloc_proofs.proofs.Branches.BranchInWalk.{branches_carry}
-use Rattle.regalloc2_fastalloc_proofs.proofs.Safety.StepsKeepState.{slot_in}
+use Rattle.regalloc2_fastalloc_proofs.proofs.Slots.InstsLeaveSlots.{writes_sound_in}
+use Rattle.regalloc2_fastalloc_proofs.proofs.BlockEnd.NoMoveForOperand.{IsOutside}
+use Rattle.regalloc2_fastalloc_proofs.proofs.Branches.Arrivals.{Arrive, left_at}
+use Rattle.regalloc2_fastalloc_proofs.proofs.Branches.PlacesOnArrival.{arrives, live_needed, live_used, stand_on}
+use Rattle.regalloc2_fastalloc_proofs.proofs.Safety.StepsKeepState.{IsWhole, slot_in}
 use Rattle.regalloc2_fastalloc_proofs.proofs.Operands.RecordOverState.{slots_at, opt_some}
 use Rattle.regalloc2_fastalloc_proofs.proofs.Operands.AllocsSoFar.{IsTame}
 use Rattle.regalloc2_fastalloc_proofs.proofs.Slots.SlotsOwned.{owner_known}
-use Rattle.regalloc2_fastalloc_proofs.proofs.Walk.BlocksCarryFromFreshState.{at_walks_end, blocks_carry, used_slots}
+use Rattle.regalloc2_fastalloc_proofs.proofs.Walk.BlocksCarryFromFreshState.{at_walks_end, blocks_carry, used_slots, walk_places_defs}
 
 -- where no move is at a point
 none_there : (q : ℕ) (es : List (ℕ × MoveValue)) → All (λ e. e.0 ≢ q) es → filter (λ e. nat_eq e.0 q) es ≡ []
@@ -74,9 +75,10 @@ is_numbered count (InRegister r) h there = absurd h
 is_numbered count (InSlot n) h there = refl
 
 module _ (env : MachineValue) (f : FunctionValue) (limited : IsLimited f) (ok : IsWellFormed env f) (taken : AreTaken f)
-    (nothing : (i : ℕ) → i < length f.insts → BranchDefinesNothing (inst_at f i))
+    (in_place : (i : ℕ) → i < length f.insts → BranchDefinesInPlace (inst_at f i))
     (blank : List Place) (begin last : StateValue) (out : OutputValue) (empty : Blank begin) (fit : Fit begin)
-    (walks : AllocsBlocks f blank begin 0 out.allocs last) (m : IsMade f env (Made f) (MayInBlocks f) last out) where
+    (walks : AllocsBlocks f blank begin 0 out.allocs last) (safe : SafeWithin env f blank begin out.allocs)
+    (m : IsMade f env (Made f) (MayInBlocks f) last out) where
   are_listed : AreListed f (allocs_of out) 0 out.allocs
   are_listed j le lt k less = place_is f env (Made f) (MayInBlocks f) last out m j lt k less
 
@@ -88,29 +90,33 @@ module _ (env : MachineValue) (f : FunctionValue) (limited : IsLimited f) (ok : 
       let not_at_end = (made_listed_blocks f env (Made f) last out ok.follow m).none_at_end b lb in
       ap (map (λ e. e.1)) (none_there (after (end - 1)) out.edits (λ k d lt e. not_at_end k d lt (omega (arith, e, some))))
 
+  -- where vregs are at a block's beginning
+  abbrev standing : ℕ → VirtualRegister → Option Place
+  standing = stand_on env f ok (allocs_of out) (slots_at last)
+
   -- each block carries what the laws on paths want
-  made_blocks_carry : (b : ℕ) → BlockCarries f (λ u. slots_at last u.number) b (block_walked f out b)
+  made_blocks_carry : (b : ℕ) → BlockCarriesOn f standing b (block_walked f out b)
   made_blocks_carry =
-      blocks_carry env f limited ok (passes_between f) blank begin last out empty fit walks m.edits are_listed (WritesAt f out.allocs)
-      (own_written env (Made f) (one_made f ok.defined_once) (WritesAt f out.allocs) (MayInBlocks f) last
-      (at_walks_end env f limited ok (passes_between f) blank begin last out empty fit walks).whole.own m.kept.safe.edits)
+      blocks_carry env f limited ok (passes_between f) blank begin last out empty fit walks m.edits are_listed (λ b. WritesFrom f out.allocs (b + 1))
+      (MayInBlocks f) (λ b lb p s prev i q u walk listed. safe b lb p s prev i q u walk
+      (λ j k le less within. sym (are_listed j (omega arith) less k within) ∙ listed j le less k within))
       (λ j k lt less. m.kept.good j k (omega arith) lt less)
-      (λ b i lb ge less. writes_sound f (allocs_of out) out.allocs are_listed i (((ok.end b lb).1 i ge (omega (arith, less)) less).0))
-      (branches_carry env f limited ok taken nothing (allocs_of out) last)
+      (λ b i lb ge less. writes_sound_in f ok.follow (allocs_of out) out.allocs are_listed b i lb ge less (((ok.end b lb).1 i ge (omega (arith, less)) less).0))
+      taken in_place
 
   made_rising : Rising out.edits
   made_rising = rising_by out.edits (made_in_order f env (Made f) (MayInBlocks f) last out m).points_never_fall
 
   -- each use finds in its place what the function wrote
   pub made_blocks_agree : IsWrittenFirst f → ReadsAgreeOnPaths f out
-  made_blocks_agree written = blocks_agree_by_points f out (λ u. slots_at last u.number) (well_formed_are_sound env f ok) written made_rising blocks_quiet
+  made_blocks_agree written = blocks_agree_in_places_by_points f out standing (well_formed_are_sound env f ok) written made_rising blocks_quiet
       (λ b reached. made_blocks_carry b)
 
-  -- and who is live where a path comes to a block is in its slot
-  pub made_live_stand : IsWrittenFirst f → LiveStand f out (λ u. slots_at last u.number)
-  made_live_stand written = live_stand_by_points env f out (λ u. slots_at last u.number) ok written made_rising blocks_quiet (λ b reached. made_blocks_carry b)
+  -- and who is live where a path comes to a block is where it stands there
+  pub made_live_stand : IsWrittenFirst f → LiveStandInPlaces f out standing
+  made_live_stand written = live_stand_in_places env f out standing ok written made_rising blocks_quiet (λ b reached. made_blocks_carry b)
 
-  -- which it has
+  -- it has a slot
   pub made_live_slots : IsWrittenFirst f → (ws : List Way) → IsPath f ws → HasEntered f ws → (v : VirtualRegister) → IsLive f v (end_of f ws) →
       slot_in last v.number ≢ NoPlace
   made_live_slots written ws path entered v live = used_slots env f limited ok (passes_between f) blank begin last out empty fit walks v
@@ -122,29 +128,57 @@ module _ (env : MachineValue) (f : FunctionValue) (limited : IsLimited f) (ok : 
   made_in_slots owned tame written = record {
     slot = λ v. number_of (slot_in last v.number);
     operands = λ v n h. ap number_of (owner_known f env (Made f) (MayInBlocks f) last out m owned tame v n h).1;
-    live = λ ws path entered v live.
-        let p : Place = slot_in last v.number in
-        let there : p ≢ NoPlace = made_live_slots written ws path entered v live in
-        let whole = (at_walks_end env f limited ok (passes_between f) blank begin last out empty fit walks).whole in
-        subst (λ q. HoldsValue f out ws q v) (is_numbered last.slots.count p (whole.below v.number) there)
-        (made_live_stand written ws path entered v p live (opt_some p there));
+    live = λ ws path entered v live p arrives_at. by_arrival ws path entered v live p arrives_at;
   }
+    where
+      whole : IsWhole last
+      whole = (at_walks_end env f limited ok (passes_between f) blank begin last out empty fit walks).whole
+
+      arrive : Arrive f (allocs_of out) (slots_at last) standing
+      arrive = arrives env f ok (allocs_of out) (slots_at last)
+
+      by_arrival : (ws : List Way) → IsPath f ws → HasEntered f ws → (v : VirtualRegister) → IsLive f v (end_of f ws) → (p : Place) →
+          ArrivesAt f out (λ w. number_of (slot_in last w.number)) (end_of f ws).block v p → HoldsValue f out ws p v
+      by_arrival ws path entered v live p (defined e k j edge d) =
+          made_live_stand written ws path entered v _ live (arrive.own (end_of f ws).block e k j v edge d (live_used f v (end_of f ws) live))
+      by_arrival ws path entered v live p (given e k n j edge lt is d) =
+          made_live_stand written ws path entered v _ live
+          (subst (λ w. standing (end_of f ws).block w ≡ Some (left_at f (allocs_of out) e j)) is (arrive.given (end_of f ws).block e k n j edge lt d))
+      by_arrival ws path entered v live p (in_slot no_own no_given) =
+          let q : Place = slot_in last v.number in
+          let there : q ≢ NoPlace = made_live_slots written ws path entered v live in
+          let at : standing (end_of f ws).block v ≡ slots_at last v.number = arrive.other (end_of f ws).block v (live_needed f v (end_of f ws) live)
+          (λ e k edge own. no_own e k own.0 edge own.1) (λ e k n edge lt is own. no_given e k n own.0 edge lt is own.1) in
+          subst (λ r. HoldsValue f out ws r v) (is_numbered last.slots.count q (whole.below v.number) there)
+          (made_live_stand written ws path entered v q live (at ∙ opt_some q there))
 
   -- the place by which a label's virtual register is shown holds its value
-  pub made_label_shown : SlotsHaveOneOwner last.slots → ((i : ℕ) → i < length f.insts → IsTame (Made f) (inst_at f i).operands) → IsWrittenFirst f →
-      (l : Label) (r : LiveRange) → IsKeptRange f l r →
+  pub made_label_shown : MachineFits f env → SlotsHaveOneOwner last.slots → ((i : ℕ) → i < length f.insts → IsTame (Made f) (inst_at f i).operands) →
+      IsWrittenFirst f → (l : Label) (r : LiveRange) → IsKeptRange f l r →
       ShowsValue f out l.vreg (shown_place out (slot_name last.slots r.vreg.number) r.by)
-  made_label_shown owned tame written l r k =
-      (label_shown env f limited ok blank begin last out empty fit walks m written owned tame (made_blocks_agree written) (made_live_stand written) l r k).1
+  made_label_shown fits owned tame written l r k =
+      (label_shown env f limited ok blank begin last out empty fit walks m fits written owned tame (made_blocks_agree written) standing (record {
+        arrive = arrives env f ok (allocs_of out) (slots_at last);
+        placed = walk_places_defs env f limited ok (passes_between f) blank begin last out empty fit walks are_listed
+            (λ j k lt less. m.kept.good j k (omega arith) lt less) taken in_place;
+        live = made_live_stand written;
+        safe = safe;
+      }) l r k).1
 
 -- The walk keeps the tables safe, since no vreg is in a register between blocks.
-pub walk_kept_through : (env : MachineValue) (f : FunctionValue) → MachineFits f env → (limited : IsLimited f) (ok : IsWellFormed env f) → AreTaken f →
-    ((i : ℕ) → i < length f.insts → BranchDefinesNothing (inst_at f i))
-    → (blank places : List Place) (begin last : StateValue) (n m : ℕ) (sizes : List ℕ) (by_last : Bool) → begin.places ≡ no_allocs n →
-    begin.slots ≡ no_slots m sizes by_last → begin.edits ≡ [] → ((c : RegClass) → 0 < units_of (no_slots m sizes by_last) c)
-    → HasMachine env begin → Blank begin → Fit begin → AllocsBlocks f blank begin 0 places last → WalkKept env (Made f) f (MayInBlocks f) places 0 places last
-walk_kept_through env f fits limited ok taken nothing blank places begin last n m sizes by_last nobody slots none units machine empty fit walks =
-    walk_blocks_good env f fits limited ok taken nothing blank places begin last n m sizes by_last nobody slots none units machine
-    (blocks_outside (Made f) f (orderly env f limited ok) (λ i lt. avoids (inst_at f i) (All-get_or FixedAvoidClobbers f.insts i no_inst lt ok.fixed))
-    (knows env f limited ok) (branch_kept f ok.counted (passes_between f)) ok.follow blank begin
-    (begin_between f begin empty fit) (record { nowhere = empty.nowhere; nobody = empty.nobody })) walks
+module _ (env : MachineValue) (f : FunctionValue) (fits : MachineFits f env) (limited : IsLimited f) (ok : IsWellFormed env f) (taken : AreTaken f)
+    (blank places : List Place) (begin last : StateValue) (n m : ℕ) (sizes : List ℕ) (by_last : Bool) (nobody : begin.places ≡ no_allocs n)
+    (slots : begin.slots ≡ no_slots m sizes by_last) (none : begin.edits ≡ []) (units : (c : RegClass) → 0 < units_of (no_slots m sizes by_last) c)
+    (machine : HasMachine env begin) (empty : Blank begin) (fit : Fit begin) (walks : AllocsBlocks f blank begin 0 places last) where
+  bare : (c : ℕ) (ps : List Place) (u : StateValue) → AllocsBlocks f blank begin c ps u → IsOutside u
+  bare = blocks_outside (Made f) f (orderly env f limited ok) (λ i lt. avoids (inst_at f i) (All-get_or FixedAvoidClobbers f.insts i no_inst lt ok.fixed))
+      (knows env f limited ok) (branch_kept f ok.counted (passes_between f)) ok.follow blank begin
+      (begin_between f begin empty fit) (record { nowhere = empty.nowhere; nobody = empty.nobody })
+
+  -- at its end
+  pub walk_kept_through : WalkKept env (Made f) f (MayInBlocks f) places 0 0 places last
+  walk_kept_through = walk_blocks_good env f fits limited ok taken blank places begin last n m sizes by_last nobody slots none units machine bare walks
+
+  -- and at each of its instructions
+  pub walk_safe_through : SafeWithin env f blank begin places
+  walk_safe_through = walk_safe env f fits limited ok taken blank places begin last n m sizes by_last nobody slots none units machine bare walks

@@ -1,19 +1,18 @@
 -- Functions with registers for all virtual registers: what they name, as a list.
-use Rattle.std.proofs.Common.{ℕ, zero, suc, ◌≡◌, ◌+◌, ◌<◌, ◌≤◌, inl, inr, List, [], ◌∷◌, ◌++◌, true, length, refl, arith, sym, ap, ◌∙◌, subst}
-use Rattle.std.specs.Prelude.{All, Contains, map, slice_index_or}
+use Rattle.std.proofs.Common.{ℕ, zero, suc, ◌≡◌, ◌<◌, ◌≤◌, inl, inr, List, [], ◌∷◌, ◌++◌, true, length, refl, arith}
+use Rattle.std.specs.Prelude.{Contains, map, slice_index_or}
 use Rattle.std.proofs.lemmas.List.Elements.{Contains-append_cases, Contains-append_left, Contains-append_right}
-use Rattle.regalloc2_names.specs.declared.RegClass.{RegClass}
 use Rattle.regalloc2_names.specs.declared.sets.PRegSet.{PRegSet}
 use Rattle.regalloc2_names.specs.Operand.{OperandValue}
 use Rattle.regalloc2_names.specs.Register.{Register, VirtualRegister}
 use Rattle.regalloc2_names.specs.RegisterSet.{has_register}
 use Rattle.regalloc2_function.specs.Fitting.{allocatable_count, count_below, register_number}
-use Rattle.regalloc2_function.specs.FunctionValue.{FunctionValue, InstValue, inst_at, no_inst}
+use Rattle.regalloc2_function.specs.FunctionValue.{FunctionValue, InstValue, no_inst}
 use Rattle.regalloc2_function.specs.Machine.{MachineValue, is_allocatable}
 use Rattle.regalloc2_fastalloc_state.proofs.CountingLaws.{count_le}
-use Rattle.regalloc2_validate.specs.Constraints.{no_operand, op_at}
+use Rattle.regalloc2_validate.specs.Constraints.{op_at}
 use Rattle.regalloc2_fastalloc_walk.specs.SpillFree.{FitInRegs, HasRegOperandsOnly}
-use Rattle.regalloc2_fastalloc.specs.Promise.{HasRegistersForAll, IsNamed}
+use Rattle.regalloc2_fastalloc.specs.Promise.{HasRegistersForAll}
 
 -- the vregs that some instructions name
 unfoldable pub names_in : List InstValue → List VirtualRegister

@@ -9,11 +9,12 @@ use Rattle.std.specs.List.{IsDistinct}
 use Rattle.regalloc2_names.specs.declared.OperandConstraint.TheVariants.{Reg}
 use Rattle.regalloc2_names.specs.declared.RegClass.{RegClass}
 use Rattle.regalloc2_names.specs.RegisterSet.{has_register}
-use Rattle.regalloc2_function.specs.FunctionValue.{FunctionValue, inst_at}
+use Rattle.regalloc2_function.specs.FunctionValue.{FunctionValue, block_at, inst_at}
 use Rattle.regalloc2_function.specs.Machine.{MachineValue}
 use Rattle.regalloc2_function.specs.OutputValue.{OutputValue, IsInOrder, allocs_of, place_at}
 use Rattle.regalloc2_function.specs.Path.{Way, end_of, IsPath}
-use Rattle.regalloc2_function.specs.SourceRun.{IsWrittenFirst}
+use Rattle.regalloc2_function.specs.SourceRun.{IsWrittenFirst, arguments_at}
+use Rattle.regalloc2_function.specs.WellFormed.{last_of}
 use Rattle.regalloc2_function.specs.Faithful.{ConstraintsMet, EditsAreListed, HasNoStackToStack, IsFaithful}
 use Rattle.regalloc2_function.specs.DebugPaths.{HoldsValue as ShowsValue}
 use Rattle.regalloc2_function.specs.DebugPoints.{AreDebugLocations}
@@ -21,6 +22,8 @@ use Rattle.regalloc2_function.specs.Fitting.{IsProperPlace, PlacesAreProper, all
 use Rattle.regalloc2_function.specs.Slots.{AreSlotsOwned, StandsInSlot}
 use Rattle.regalloc2_function.specs.Values.{Meaning, SameNumbers, numbers, source_reads}
 use Rattle.regalloc2_validate.specs.Constraints.{op_at}
+use Rattle.regalloc2_branch_defs.specs.BranchDefs.{DefinesNumber, IsEdgeInto}
+use Rattle.regalloc2_fastalloc_proofs.specs.BlockStart.{no_vreg}
 use Rattle.regalloc2_semantics.specs.Live.{IsLive, HasEntered, HoldsValue}
 use Rattle.regalloc2_fastalloc.specs.ErrorReason.{units_at_most}
 
@@ -36,12 +39,32 @@ pub record RunsAsTheFunction (f : FunctionValue) (env : MachineValue) (out : Out
   pub reads_numbers : ReadsNumbers f
   pub same_numbers : SameNumbers f out
 
--- Between blocks values are in memory: each virtual register has one slot, and on every path, where it comes to a block, the slot of each
--- that is live there holds its value, also those of the block's parameters.
+-- the operands of the branch at a block's end
+abbrev pub last_operands : FunctionValue → ℕ → List OperandValue
+last_operands f e = (inst_at f (last_of (block_at f e))).operands
+
+-- the argument that an edge gives for the parameter n
+abbrev pub argument_for : FunctionValue → ℕ → ℕ → ℕ → VirtualRegister
+argument_for f e k n = slice_index_or (arguments_at f e k) n no_vreg
+
+-- The place of v where a path comes to the block b. If the branch into b defines v, that is the place of the operand that does; and so if v is a parameter
+-- of b that is given what the branch defines. Else it is v's slot.
+pub data ArrivesAt (f : FunctionValue) (out : OutputValue) (slot : VirtualRegister → ℕ) (b : ℕ) (v : VirtualRegister) : Place → Type 0 where
+  defined : (e k j : ℕ) → IsEdgeInto f b e k → DefinesNumber (last_operands f e) v.number j →
+      ArrivesAt f out slot b v (place_at (allocs_of out (last_of (block_at f e))) j)
+  given : (e k n j : ℕ) → IsEdgeInto f b e k → n < length (block_at f b).params → slice_index_or (block_at f b).params n no_vreg ≡ v →
+      DefinesNumber (last_operands f e) (argument_for f e k n).number j → ArrivesAt f out slot b v (place_at (allocs_of out (last_of (block_at f e))) j)
+  in_slot : ((e k j : ℕ) → IsEdgeInto f b e k → DefinesNumber (last_operands f e) v.number j → ⊥) →
+      ((e k n j : ℕ) → IsEdgeInto f b e k → n < length (block_at f b).params → slice_index_or (block_at f b).params n no_vreg ≡ v →
+      DefinesNumber (last_operands f e) (argument_for f e k n).number j → ⊥) → ArrivesAt f out slot b v (InSlot (slot v))
+
+-- Between blocks values are in memory, but for what the branch between them defines: each virtual register has one slot, and on every path, where it comes to a
+-- block, the place of each that is live there holds its value, also those of the block's parameters.
 pub record LiveInSlots (f : FunctionValue) (out : OutputValue) : Type 0 where
   pub slot : VirtualRegister → ℕ
   pub operands : (v : VirtualRegister) (n : ℕ) → StandsInSlot f out v n → slot v ≡ n
-  pub live : (ws : List Way) → IsPath f ws → HasEntered f ws → (v : VirtualRegister) → IsLive f v (end_of f ws) → HoldsValue f out ws (InSlot (slot v)) v
+  pub live : (ws : List Way) → IsPath f ws → HasEntered f ws → (v : VirtualRegister) → IsLive f v (end_of f ws) → (p : Place) →
+      ArrivesAt f out slot (end_of f ws).block v p → HoldsValue f out ws p v
 
 -- Slots take no more units than these bounds.
 pub record SlotsAreBounded (f : FunctionValue) (out : OutputValue) : Type 0 where
@@ -88,7 +111,7 @@ pub record HasRegistersForAll (f : FunctionValue) (env : MachineValue) : Type 0 
 --     no_stack_to_stack   no move goes from a place in memory to another
 --     listed              each move is listed, none after the last instruction of a block
 --     faithful            the output runs as the function does
---     live                values that are live between blocks are in their slots
+--     live                values that are live between blocks are in their slots, or where the branch between them defined them
 --     slots               slots take few units
 --     unspilled           where each virtual register can have a register of its own, there are no moves and no slots
 --     owners              slots are memory: each that is named has one owner, a virtual register or a branch, and units of its own, of its owner's class

@@ -7,7 +7,7 @@ ghost use Rattle.regalloc2_function.specs.Stored.{location_of};
 ghost use Rattle.regalloc2_function.specs.Views.{edit_of, machine_of, output_of};
 ghost use Rattle.regalloc2_function.specs.WellFormed.{IsWellFormed};
 ghost use Rattle.regalloc2_function.specs.Fitting.{MachineFits};
-ghost use Rattle.regalloc2_validate.specs.Constraints.{BranchDefinesNothing};
+ghost use Rattle.regalloc2_validate.specs.Constraints.{BranchDefinesInPlace};
 ghost use Rattle.regalloc2_fastalloc_state.specs.OutOfResources.{Lacks};
 ghost use Rattle.regalloc2_fastalloc.specs.Promise.{IsAllocation};
 ghost use Rattle.regalloc2_fastalloc.specs.ErrorReason.{SomeDoesNotFit, units_at_most};
@@ -40,7 +40,7 @@ fn fill_places<A: Allocator + Copy, F: Function, B: Allocator>(
 ) -> Result<Rest<A>, RegAllocError>
     requires machine { MachineFits (F.function f.now) (machine_of env.now) }
     requires taken { AreTaken (F.function f.now) }
-    requires branches { (i : ℕ) → i < length (F.function f.now).insts → BranchDefinesNothing (inst_at (F.function f.now) i) }
+    requires branches { (i : ℕ) → i < length (F.function f.now).insts → BranchDefinesInPlace (inst_at (F.function f.now) i) }
     requires well_formed { IsWellFormed (machine_of env.now) (F.function f.now) }
     requires offsets_long { length offsets.now ≡ length (F.function f.now).insts }
     requires offsets { (i : ℕ) → i < length (F.function f.now).insts → slice_index offsets.now i ≡ offset_of (F.function f.now) i }
@@ -77,7 +77,7 @@ pub fn allocate<A: Allocator + Copy, F: Function, B: Allocator>(
 ) -> Result<Output<A>, RegAllocError>
     requires machine { MachineFits (F.function f.now) (machine_of env.now) }
     requires taken { AreTaken (F.function f.now) }
-    requires branches { (i : ℕ) → i < length (F.function f.now).insts → BranchDefinesNothing (inst_at (F.function f.now) i) }
+    requires branches { (i : ℕ) → i < length (F.function f.now).insts → BranchDefinesInPlace (inst_at (F.function f.now) i) }
     requires well_formed { IsWellFormed (machine_of env.now) (F.function f.now) }
     requires few { operand_count (F.function f.now) < 2 ^ 32 }
     ensures allocation { IfOk result (λ out. IsAllocation (F.function f.now) (machine_of env.now) (output_of out)) }

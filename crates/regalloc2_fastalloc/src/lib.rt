@@ -74,14 +74,15 @@ impl<A: Allocator + Copy> Ctx<A> {
 ///
 /// If no path from the entry reads a virtual register before writing it, the output runs as the function does: along every
 /// path, and whatever the instructions mean, each use reads the function's own value. Where a path comes to a block, the slot of
-/// each virtual register that is live there holds its value. And the place of each debug location holds its virtual register's
+/// each virtual register that is live there holds its value; but what the branch into the block defines is still in the place of the
+/// branch's operand, and so is each parameter that is given it. And the place of each debug location holds its virtual register's
 /// value, from where that is given up to each step that uses it, at all steps but branches. That premise isn't tested here.
 ///
 /// Errors come in this order: 2^32 operands or more, by `TooManyOperands`; where `options.validate_ssa` is true, first
 /// blocks and edges that aren't sound, as `CFGInfo::init` says, then an entry, terminators, arguments, definitions or uses
 /// that aren't, as `validate_ssa` says, and then reuses that aren't sound and registers fixed beside clobbers, by
-/// `Unsupported` with the first such instruction; an operand under `Limit`, and then a branch that has a definition, by
-/// `Unsupported` with the first such instruction. Only after all these tests comes `TooManyLiveRegs`, when no register is
+/// `Unsupported` with the first such instruction; an operand under `Limit`, and then a branch that defines in any register or by a
+/// reuse, by `Unsupported` with the first such instruction. Only after all these tests comes `TooManyLiveRegs`, when no register is
 /// found for an operand or a move: that happens only where some instruction doesn't fit, by `Fits`: it asks for more
 /// registers of a class than there are, or for a fixed one that the machine lacks or another operand holds. Or
 /// `TooManySpillSlots`, when a slot would end past 2^24: that happens only where `units_at_most` passes 2^24, which is twice

@@ -5,5 +5,7 @@
 -- `clears_reached` (a register is reloaded), `begins_reached` (a parameter), both over lists, and `entered` (all of it). `CarriesFromSlot`
 -- imports it and says the same for one vreg against the slots at the end of the whole walk (`entered_carried`): the listing carries a vreg
 -- from its final slot, unless the block writes it. This is what `Walk/BlockObligations` uses.
+pub mod BranchDefsCarried
 pub mod CarriesFromSlot
 pub mod ReloadAtBegin
+pub mod StoresOfDefs

@@ -9,6 +9,7 @@
 -- these: what is wanted behind a block (`owed_there`), and that behind a return nothing is (`nothing_after`).
 pub mod BranchAlone
 pub mod BranchEndsBlock
+pub mod DefsInSlots
 pub mod LastInst
 pub mod NoMoveForOperand
 pub mod NoMoveInLastInst

@@ -4,6 +4,8 @@
 -- Read first: `branch_carries` in `BranchCarries`, the same for one vreg and any block with its premises spelled out. It has two halves.
 -- Arguments are spilled: `ArgsSpilled` (`argued`, one argument), `EdgeArgsGathered` (`gathered`), `BranchInParts` (`settled_carries`). They
 -- are moved: `ArgMovesPushed` (`after_made`), `ArgMovesByClass` (`stepped`), `ArgMovesEffect` (`relied_kept`, `passed_moved`).
+-- `Arrivals` says where vregs are at a block's beginning, with what the branch into it defines, and `PlacesOnArrival` has a function that
+-- says so of each (`arrives`). `DefinitionsCarry` is what a branch defines, `EdgesInto` that such a branch alone leads into its successors.
 -- `BlockEnd/BranchEndsBlock` adds the branch itself; `WellFormedBranch` gives premises for well-formed functions. `LocationsAfterBranch`
 -- (`branch_kept`) says for `Walk` what a branch keeps of slots and locations. `ArgMovesAreParallel` and `WellFormedMayBranch` serve
 -- contracts of the code: no file here imports them.
@@ -12,10 +14,14 @@ pub mod ArgMovesByClass
 pub mod ArgMovesEffect
 pub mod ArgMovesPushed
 pub mod ArgsSpilled
+pub mod Arrivals
 pub mod BranchCarries
 pub mod BranchInParts
 pub mod BranchInWalk
+pub mod DefinitionsCarry
 pub mod EdgeArgsGathered
+pub mod EdgesInto
 pub mod LocationsAfterBranch
+pub mod PlacesOnArrival
 pub mod WellFormedBranch
 pub mod WellFormedMayBranch

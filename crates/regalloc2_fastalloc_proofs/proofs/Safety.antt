@@ -4,10 +4,11 @@
 -- output.
 -- Read first: the record `IsSafe` in the specs, then `sends_kept` in `StepsKeepSafe`, a typical step. Upwards from there:
 -- `OperandKeepsSafe` (`gets_kept`), `OperandPassesKeepSafe` (`lates_kept`, `earlies_kept`), `InstKeepsSafe` (`allocates_kept`, and
--- `allocates_last_kept` for a block's last instruction), `InstsKeepSafe` (what the walk may write); then, with `BlockStartKeepsSafe` and
--- `BranchKeepsSafe`, `BlocksKeepSafe` (`blocks_kept`). `InitialState` is its start; `WellFormedKeepsSafe` and `OperandAssumptions` give its
--- premises. `StepsKeepState` and `BranchArgsKeepState` are of another kind: a whole state (each table the other's inverse), on which the
--- folders on what listings carry rest. `MachineRegs` serves `Walk/UsesReadOwnDefs`; `StateKept` serves other crates alone.
+-- `allocates_last_kept` for a block's last instruction), `InstsKeepSafe` (what the walk may write); then, with `BlockStartKeepsSafe`,
+-- `StoresKeepSafe` and `BranchKeepsSafe`, `BlocksKeepSafe` (`blocks_kept`). `InitialState` is its start; `WellFormedKeepsSafe` and
+-- `OperandAssumptions` give its premises. `StepsKeepState` and `BranchArgsKeepState` are of another kind: a whole state (each table the
+-- other's inverse), on which the folders on what listings carry rest. `MachineRegs` serves `Walk/UsesReadOwnDefs`; `StateKept` serves other
+-- crates alone.
 pub mod BlockStartKeepsSafe
 pub mod BlocksKeepSafe
 pub mod BranchArgsKeepState
@@ -22,6 +23,10 @@ pub mod OperandKeepsSafe
 pub mod OperandPassesKeepSafe
 pub mod OutputOfWalk
 pub mod StateKept
+pub mod StepsKeepMachine
 pub mod StepsKeepSafe
 pub mod StepsKeepState
+pub mod StoredDefs
+pub mod StoresKeepSafe
+pub mod WalkKeepsMachine
 pub mod WellFormedKeepsSafe

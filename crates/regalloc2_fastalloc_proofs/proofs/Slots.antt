@@ -25,4 +25,5 @@ pub mod SlotsGrow
 pub mod SlotsOwned
 pub mod StepsKeepSlots
 pub mod StepsKeepSlotsApart
+pub mod StoresKeepSlotsApart
 pub mod WalkKeepsSlotsApart

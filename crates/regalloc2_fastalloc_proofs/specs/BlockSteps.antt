@@ -10,6 +10,7 @@ use Rattle.regalloc2_function.specs.WellFormed.{IsWellFormed}
 use Rattle.regalloc2_fastalloc_state.specs.declared.inst_regs.InstRegs.{InstRegs}
 use Rattle.regalloc2_fastalloc_proofs.specs.InstSteps.{StateValue, AllocsInst}
 use Rattle.regalloc2_fastalloc_proofs.specs.BlockStart.{ReloadsAtBegin}
+use Rattle.regalloc2_fastalloc_proofs.specs.StoreSteps.{StoresBranchDefs}
 use Rattle.regalloc2_fastalloc_proofs.specs.BranchSteps.{ProcessesBranch}
 
 -- where the places of an instruction's operands begin: so many operands have the instructions before it
@@ -59,9 +60,14 @@ pub data AllocsBlockInsts (f : FunctionValue) (b : ℕ) (blank : List Place) (ol
       AllocsBlockInsts f b blank old (i + 1) before_it t
       → AllocsInstInBlock f b i before_it places t u → AllocsBlockInsts f b blank old i places u
 
+-- The beginning of the block b: its reloads, and before them in the listing what the branch into it defines is stored.
+pub record BeginsBlock (f : FunctionValue) (b : ℕ) (old new : StateValue) : Type 0 where
+  pub middle : StateValue
+  pub reloads : ReloadsAtBegin (before (block_at f b).range.first) (block_at f b).params old middle
+  pub stores : StoresBranchDefs f b middle new
+
 -- The blocks from b on, from the last one down: the instructions of each, then its beginning.
 pub data AllocsBlocks (f : FunctionValue) (blank : List Place) (old : StateValue) : ℕ → List Place → StateValue → Type 0 where
   all_left : AllocsBlocks f blank old (length f.blocks) blank old
   one_block : (b : ℕ) (before_it places : List Place) (t u w : StateValue) → b < length f.blocks → AllocsBlocks f blank old (b + 1) before_it t
-      → AllocsBlockInsts f b before_it t (block_at f b).range.first places u → ReloadsAtBegin (before (block_at f b).range.first) (block_at f b).params u w →
-      AllocsBlocks f blank old b places w
+      → AllocsBlockInsts f b before_it t (block_at f b).range.first places u → BeginsBlock f b u w → AllocsBlocks f blank old b places w

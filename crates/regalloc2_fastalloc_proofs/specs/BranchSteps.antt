@@ -8,12 +8,14 @@ use Rattle.regalloc2_names.specs.Register.{Register, VirtualRegister, class_code
 use Rattle.regalloc2_names.specs.RegisterSet.{has_register}
 use Rattle.regalloc2_names.specs.Place.{Place, NoPlace, InRegister, InSlot, is_memory}
 use Rattle.regalloc2_names.specs.Point.{before}
-use Rattle.regalloc2_function.specs.FunctionValue.{FunctionValue, block_at}
+use Rattle.regalloc2_function.specs.FunctionValue.{FunctionValue, block_at, inst_at}
 use Rattle.regalloc2_function.specs.SourceRun.{arguments_at}
+use Rattle.regalloc2_function.specs.WellFormed.{last_of}
 use Rattle.regalloc2_semantics.specs.Blocks.{HasEdge, target_at}
+use Rattle.regalloc2_branch_defs.specs.BranchDefs.{DefinesNumber}
 use Rattle.regalloc2_parts.specs.AtOnce.{ends_of, names, in_turn, HasOneSourceEach}
 use Rattle.regalloc2_fastalloc_state.specs.declared.inst_regs.InstRegs.{InstRegs}
-use Rattle.regalloc2_fastalloc_state.specs.declared.scratch_pool.ScratchPair.{ScratchPair}
+use Rattle.regalloc2_parts.specs.declared.scratch_pool.ScratchPair.{ScratchPair}
 use Rattle.regalloc2_fastalloc_state.specs.StateParts.{SpillSlotsValue, alloc_of, SetsAlloc, GetsSpillSlot, SlotsHaveOneOwner, AddsTempSlots, later_end}
 use Rattle.regalloc2_fastalloc_state.specs.StateParts.{later_slot, most_units}
 use Rattle.regalloc2_fastalloc_proofs.specs.BlockStart.{no_vreg}
@@ -115,23 +117,33 @@ unfoldable pub of_class : RegClass → List ClassMove → Moves
 of_class c [] = []
 of_class c (g ∷ gs) = if is_class c g.class then (g.from, g.to, tt) ∷ of_class c gs else of_class c gs
 
--- the first n parameters of an edge with their arguments: each parameter's slot is made, then the argument is spilled, and its value is to go from slot to slot
-pub data GathersEdgeMoves (point : ℕ) (params arguments : List VirtualRegister) (t : InstRegs) (old : StateValue) (before_it : List ClassMove) : ℕ → InstRegs →
+-- what the branch at the end of the block b defines itself
+abbrev pub IsOwn : FunctionValue → ℕ → VirtualRegister → Type 0
+IsOwn f b v = (j : ℕ) × DefinesNumber (inst_at f (last_of (block_at f b))).operands v.number j
+
+-- The first n parameters of an edge with their arguments: each parameter's slot is made, then the argument is spilled, and its value is to go from slot to
+-- slot. Nothing is done for arguments that the branch defines itself.
+pub data GathersEdgeMoves (Own : VirtualRegister → Type 0) (point : ℕ) (params arguments : List VirtualRegister) (t : InstRegs) (old : StateValue)
+    (before_it : List ClassMove) : ℕ → InstRegs →
     StateValue → List ClassMove → Type 0 where
-  none_gathered : GathersEdgeMoves point params arguments t old before_it 0 t old before_it
+  none_gathered : GathersEdgeMoves Own point params arguments t old before_it 0 t old before_it
   one_gathered : (j : ℕ) (given : List ClassMove) (to from : Place) (u w : InstRegs) (m n o : StateValue) → j < length params →
-      GathersEdgeMoves point params arguments t old before_it j u m given
+      GathersEdgeMoves Own point params arguments t old before_it j u m given
       → GetsSpillSlot m.slots n.slots (slice_index_or params j no_vreg) to → n.places ≡ m.places → n.edits ≡ m.edits → SameMachine m n →
-      SpillsArgument point (slice_index_or arguments j no_vreg) from u w n o
-      → GathersEdgeMoves point params arguments t old before_it (j + 1) w o
+      SpillsArgument point (slice_index_or arguments j no_vreg) from u w n o → (Own (slice_index_or arguments j no_vreg) → ⊥)
+      → GathersEdgeMoves Own point params arguments t old before_it (j + 1) w o
       (given ++ record { class = (slice_index_or arguments j no_vreg).class; from = from; to = to } ∷ [])
+  own_argument : (j : ℕ) (given : List ClassMove) (u : InstRegs) (m : StateValue) → j < length params →
+      GathersEdgeMoves Own point params arguments t old before_it j u m given → Own (slice_index_or arguments j no_vreg)
+      → GathersEdgeMoves Own point params arguments t old before_it (j + 1) u m given
 
 -- those of the first k edges out of the block b
 pub data GathersMoves (f : FunctionValue) (b point : ℕ) (t : InstRegs) (old : StateValue) : ℕ → InstRegs → StateValue → List ClassMove → Type 0 where
   no_edge : GathersMoves f b point t old 0 t old []
   one_edge : (k : ℕ) (given more : List ClassMove) (u w : InstRegs) (m n : StateValue) → k < length (block_at f b).succs
       → GathersMoves f b point t old k u m given
-      → GathersEdgeMoves point (block_at f (target_at f b k)).params (arguments_at f b k) u m given (length (block_at f (target_at f b k)).params) w n more →
+      → GathersEdgeMoves (IsOwn f b) point (block_at f (target_at f b k)).params (arguments_at f b k) u m given (length (block_at f (target_at f b k)).params)
+      w n more →
       GathersMoves f b point t old (k + 1) w n more
 
 -- a branch at the end of the block b passes its arguments: all are spilled, then the moves of each class are pushed

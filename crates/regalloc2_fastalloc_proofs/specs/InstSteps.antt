@@ -141,6 +141,8 @@ pub record AllocsOperand (point : ℕ) (o : OperandRequest) (p : Place) (t u : I
   pub picks : SelectsPlace t o p old middle
   pub occupies : ClaimsPlace point o p t u middle new
   pub affordable : o.requirement ≡ AnyPlace → (r : Register) → p ≡ InRegister r → IsAffordable t old r
+  pub awaited_in : o.is_def ≡ true → o.requirement ≡ AnyPlace → (r : Register) → p ≡ InRegister r → (q : Register)
+      × (alloc_of old.places o.vreg.number ≡ InRegister q)
 
 -- a move that is made unless it goes nowhere
 pub data AddsMoveIf (point : ℕ) (class : RegClass) (is_made : Bool) (from to : Place) (t u : InstRegs) (old new : StateValue) : Type 0 where
@@ -314,6 +316,10 @@ pub data EvictsEach (point : ℕ) : List Register → InstRegs → StateValue �
   one_more : (r : Register) (rs : List Register) (t u w : InstRegs) (old m new : StateValue) → EvictsPReg point r t u old m → EvictsEach point rs u m w new →
       EvictsEach point (r ∷ rs) t old w new
 
+-- an instruction that ends its block, after which no move is listed
+abbrev pub ends_block : InstValue → Bool
+ends_block inst = inst.is_branch || inst.is_ret
+
 -- An instruction is allocated: fixed registers and clobbers are taken and emptied; late operands are allocated, then early ones; then uses are moved.
 pub record AllocsInst (i : ℕ) (inst : InstValue) (blank places : List Place) (old new : StateValue) : Type 0 where
   pub began : InstRegs
@@ -339,6 +345,6 @@ pub record AllocsInst (i : ℕ) (inst : InstValue) (blank places : List Place) (
   pub holds : RemovesClobbers inst.clobbers reserved held
   pub fixed : EvictsFixed (after i) inst.operands held old (length inst.operands) cleared after_fixed
   pub clobbers : EvictsEach (after i) (registers_of inst.clobbers) cleared after_fixed quiet after_clobbers
-  pub lates : ProcessesOperandsAt i inst.is_ret true inst.operands blank quiet after_clobbers (length inst.operands) half late after_late
-  pub earlies : ProcessesOperandsAt i inst.is_ret false inst.operands half late after_late (length inst.operands) places early after_early
+  pub lates : ProcessesOperandsAt i (ends_block inst) true inst.operands blank quiet after_clobbers (length inst.operands) half late after_late
+  pub earlies : ProcessesOperandsAt i (ends_block inst) false inst.operands half late after_late (length inst.operands) places early after_early
   pub moves : MovesUses (before i) inst.operands places early after_early (length inst.operands) ended new

@@ -1,4 +1,5 @@
 pub mod BlockStart
+pub mod StoreSteps
 pub mod BranchSteps
 pub mod SlotLayout
 pub mod Safety

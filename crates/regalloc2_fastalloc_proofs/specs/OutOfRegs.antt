@@ -13,6 +13,7 @@ use Rattle.regalloc2_names.specs.Point.{before, after}
 use Rattle.regalloc2_function.specs.FunctionValue.{FunctionValue, block_at, inst_at}
 use Rattle.regalloc2_function.specs.SourceRun.{arguments_at}
 use Rattle.regalloc2_semantics.specs.Blocks.{target_at}
+use Rattle.regalloc2_branch_defs.specs.BranchDefs.{IsEdgeInto}
 use Rattle.regalloc2_validate.specs.Constraints.{op_at}
 use Rattle.regalloc2_fastalloc_state.specs.declared.inst_regs.InstRegs.{InstRegs}
 use Rattle.regalloc2_fastalloc_state.specs.declared.inst_regs.Positions.{Positions}
@@ -23,9 +24,10 @@ use Rattle.regalloc2_fastalloc_state.specs.StateParts.{alloc_of, vreg_of_preg, s
 use Rattle.regalloc2_fastalloc_state.specs.InstRegs.{awaited_of, is_free_throughout}
 use Rattle.regalloc2_fastalloc_proofs.specs.InstSteps.{StateValue, SameMachine, MayHold, is_stack_in, is_another, SelectsPlace, AllocsOperand}
 use Rattle.regalloc2_fastalloc_proofs.specs.InstSteps.{AddsMoveIf, NeedsFixedReg, ReservesRegs, RemovesClobbers, EvictsFixed, EvictsEach}
-use Rattle.regalloc2_fastalloc_proofs.specs.InstSteps.{ProcessesOperandsAt, MovesUses, asking, def_request, reuse_request, use_request}
-use Rattle.regalloc2_fastalloc_proofs.specs.BlockStart.{ReloadsParams, ReloadsRegs, no_vreg}
-use Rattle.regalloc2_fastalloc_proofs.specs.BranchSteps.{ClassMove, GathersMoves, GathersEdgeMoves, of_class}
+use Rattle.regalloc2_fastalloc_proofs.specs.InstSteps.{ProcessesOperandsAt, MovesUses, asking, def_request, reuse_request, use_request, ends_block}
+use Rattle.regalloc2_fastalloc_proofs.specs.BlockStart.{ReloadsAtBegin, ReloadsParams, ReloadsRegs, no_vreg}
+use Rattle.regalloc2_fastalloc_proofs.specs.StoreSteps.{IsStoredFor, branch_operands}
+use Rattle.regalloc2_fastalloc_proofs.specs.BranchSteps.{ClassMove, GathersMoves, GathersEdgeMoves, IsOwn, of_class}
 use Rattle.regalloc2_fastalloc_proofs.specs.BlockSteps.{AllocsInstAt, IsFresh, AllocsBlocks, AllocsBlockInsts, offset_of}
 
 -- an error says that registers ran out only where that is so
@@ -182,13 +184,14 @@ pub record SpillArgumentFails (v : VirtualRegister) (t : InstRegs) (old : StateV
   pub stops : EvictPRegFails register t middle
 
 -- an argument of an edge, after those before it
-pub record GatherEdgeFails (point : ℕ) (params arguments : List VirtualRegister) (t : InstRegs) (old : StateValue) (before_it : List ClassMove) : Type 0 where
+pub record GatherEdgeFails (Own : VirtualRegister → Type 0) (point : ℕ) (params arguments : List VirtualRegister) (t : InstRegs) (old : StateValue)
+    (before_it : List ClassMove) : Type 0 where
   pub index : ℕ
   pub inst_regs : InstRegs
   pub middle : StateValue
   pub new : StateValue
   pub given : List ClassMove
-  pub gathers : GathersEdgeMoves point params arguments t old before_it index inst_regs middle given
+  pub gathers : GathersEdgeMoves Own point params arguments t old before_it index inst_regs middle given
   pub places : new.places ≡ middle.places
   pub machine : SameMachine middle new
   pub stops : SpillArgumentFails (slice_index_or arguments index no_vreg) inst_regs new
@@ -201,7 +204,7 @@ pub record GatherMovesFails (f : FunctionValue) (b point : ℕ) (t : InstRegs) (
   pub given : List ClassMove
   pub inside : index < length (block_at f b).succs
   pub gathers : GathersMoves f b point t old index inst_regs middle given
-  pub stops : GatherEdgeFails point (block_at f (target_at f b index)).params (arguments_at f b index) inst_regs middle given
+  pub stops : GatherEdgeFails (IsOwn f b) point (block_at f (target_at f b index)).params (arguments_at f b index) inst_regs middle given
 
 -- moves of a class that has no allocatable register
 abbrev pub OrderMovesFails : RegClass → Moves → StateValue → Type 0
@@ -246,10 +249,21 @@ pub data ReloadAtBeginFails (point : ℕ) (params : List VirtualRegister) (old :
   at_register : (began begun : InstRegs) (m : StateValue) → IsFresh began old → ReloadsParams point params began old (length params) begun m →
       ReloadRegsFails point begun m → ReloadAtBeginFails point params old
 
+-- a store from memory of what the branch into the block b defines, where its class has no allocatable register
+pub record StoreBranchDefsFails (f : FunctionValue) (b : ℕ) (old : StateValue) : Type 0 where
+  pub from : ℕ
+  pub position : ℕ
+  pub index : ℕ
+  pub vreg : VirtualRegister
+  pub edge : IsEdgeInto f b from position
+  pub stored : IsStoredFor f from position old.slots index vreg
+  pub none : NoneIsFrom old.allocatable (op_at (branch_operands f from) index).vreg.class 0
+
 -- an instruction of a block, or the moves of its branch
 pub data AllocInstInBlockFails (f : FunctionValue) (b i : ℕ) (before_it : List Place) (old : StateValue) : Type 0 where
   in_inst : (t : InstRegs) (blank : List Place) → IsFresh t old → length blank ≡ length (inst_at f i).operands →
-      ((k : ℕ) → slice_index_or blank k NoPlace ≡ NoPlace) → AllocInstFails i (inst_at f i).is_ret (inst_at f i).operands (inst_at f i).clobbers blank t old →
+      ((k : ℕ) → slice_index_or blank k NoPlace ≡ NoPlace) → AllocInstFails i (ends_block (inst_at f i)) (inst_at f i).operands (inst_at f i).clobbers blank t
+      old →
       AllocInstInBlockFails f b i before_it old
   in_pass : (places : List Place) (m : StateValue) (a : AllocsInstAt i (inst_at f i) (offset_of f i) before_it places old m) → (inst_at f i).is_branch ≡ true →
       ProcessBranchFails f b i a.allocates.ended m → AllocInstInBlockFails f b i before_it old
@@ -263,10 +277,13 @@ pub record AllocBlockInstsFails (f : FunctionValue) (b : ℕ) (blank : List Plac
   pub walks : AllocsBlockInsts f b blank old (index + 1) places middle
   pub stops : AllocInstInBlockFails f b index places middle
 
--- the blocks, after those behind: the instructions of one, or its beginning
+-- the blocks, after those behind: the instructions of one, or its beginning, while registers are emptied or while what a branch defines is stored
 pub data AllocBlocksFails (f : FunctionValue) (blank : List Place) (old : StateValue) : Type 0 where
   in_block : (b : ℕ) (places : List Place) (m : StateValue) → b < length f.blocks → AllocsBlocks f blank old (b + 1) places m →
       AllocBlockInstsFails f b places m → AllocBlocksFails f blank old
   at_beginning : (b : ℕ) (places there : List Place) (m n : StateValue) → b < length f.blocks → AllocsBlocks f blank old (b + 1) places m →
       AllocsBlockInsts f b places m (block_at f b).range.first there n
       → ReloadAtBeginFails (before (block_at f b).range.first) (block_at f b).params n → AllocBlocksFails f blank old
+  at_stores : (b : ℕ) (places there : List Place) (m n o : StateValue) → b < length f.blocks → AllocsBlocks f blank old (b + 1) places m →
+      AllocsBlockInsts f b places m (block_at f b).range.first there n
+      → ReloadsAtBegin (before (block_at f b).range.first) (block_at f b).params n o → StoreBranchDefsFails f b o → AllocBlocksFails f blank old

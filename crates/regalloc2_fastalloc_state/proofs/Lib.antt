@@ -1,15 +1,15 @@
 -- Lemmas for the contracts of the state's parts, each of which keeps its invariant; crates above cite some (see docs/ARCHITECTURE.md).
 -- Locations: `inverse_marked` in `VRegInPRegInverse`, the two tables stay inverse. Slots: `SpillSlotUnits` (how many units they take),
--- `SlotsAsPlaces`. Registers: `LrusOfMachine` and `LrusByClass`, over `ArraysByClass`, `ClassIsEmpty`, `SetMembers`, `SetOfList` and
--- `CountingLaws`. Edits: `PointsDescend` (points never rise), `EditsPushed`. Scratch places: `made_with` in `ResolverContracts`.
+-- `SlotsAsPlaces`. Registers: `LrusOfMachine` and `LrusByClass`, over `ArraysByClass`, `ClassIsEmpty`, `SetMembers`, `SetOfList`, `SetDifference` and
+-- `CountingLaws`. Edits: `PointsDescend` (points never rise), `EditsPushed`.
 pub mod CountingLaws
 pub mod PointsDescend
 pub mod LrusOfMachine
-pub mod ResolverContracts
 pub mod TakenOut
 pub mod VRegInPRegInverse
 pub mod SetMembers
 pub mod SetOfList
+pub mod SetDifference
 pub mod EditsPushed
 pub mod LrusByClass
 pub mod SpillSlotUnits

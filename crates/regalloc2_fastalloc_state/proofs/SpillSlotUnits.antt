@@ -13,6 +13,9 @@ use Rattle.regalloc2_names.specs.declared.RegAllocError.TheVariants.{TooManyOper
 use Rattle.regalloc2_names.specs.declared.RegClass.{RegClass}
 use Rattle.regalloc2_names.specs.Register.{class_code}
 use Rattle.regalloc2_names.specs.Place.{Place, NoPlace, InSlot, is_no_place}
+use Rattle.regalloc2_parts.specs.declared.moves.MoveFault.{MoveFault}
+use Rattle.regalloc2_parts.specs.declared.moves.MoveFault.TheVariants.{NoSlot, Memory as MemoryFault}
+use Rattle.regalloc2_parts.specs.ScratchPool.{error_of}
 use Rattle.regalloc2_fastalloc_state.specs.StateParts.{SpillSlotsValue, SlotsHaveOneOwner, AreUpTo, IsSlotOrNone, later_end, most_units, owners, slot_name}
 use Rattle.regalloc2_fastalloc_state.specs.OutOfResources.{IsResourceError, LacksSlots, SlotsExhausted}
 use Rattle.regalloc2_semantics.proofs.Forms.{nothing_there}
@@ -218,19 +221,10 @@ lacks_then P Q more (Unsupported i) h = h
 lacks_then P Q more TooManySpillSlots h = more h
 lacks_then P Q more Memory h = h
 
--- and where registers don't
-pub slots_then : (P Q : Type 0) → (P → Q) → (e : RegAllocError) → LacksSlots P e → LacksSlots Q e
-slots_then P Q more (CritEdge a b) h = h
-slots_then P Q more (SSA v i) h = h
-slots_then P Q more (BB b) h = h
-slots_then P Q more (Branch i) h = h
-slots_then P Q more EntryLivein h = h
-slots_then P Q more (DisallowedBranchArg i) h = h
-slots_then P Q more TooManyLiveRegs h = h
-slots_then P Q more TooManyOperands h = h
-slots_then P Q more (Unsupported i) h = h
-slots_then P Q more TooManySpillSlots h = more h
-slots_then P Q more Memory h = h
+-- a fault of moves is an error for slots or memory
+pub slots_of_fault : (P : Type 0) (fault : MoveFault) → (fault ≡ NoSlot → P) → LacksSlots P (error_of fault)
+slots_of_fault P NoSlot h = h refl
+slots_of_fault P MemoryFault h = tt
 
 -- an error for slots or memory alone is one for registers, slots or memory, also under a weaker claim that slots ran out
 pub lacks_slots : (P Q : Type 0) → (P → Q) → (e : RegAllocError) → LacksSlots P e → IsResourceError Q e

@@ -140,15 +140,7 @@ impl<A: Allocator> AllocatableRegs<A> {
         ensures greatest { IfSome result (λ r. NoneIsFrom self.now.allocatable class (r.number + 1)) }
         ensures none { IfNone result (NoneIsFrom self.now.allocatable class 0) }
     {
-        let mut number = PReg::MAX + 1;
-        while number > 0 {
-            number -= 1;
-            let preg = PReg::new(number, class);
-            if self.allocatable.contains(preg) {
-                return Some(preg);
-            }
-        }
-        None
+        self.of_class(class).max_preg()
     }
 
     /// Whether the place is in memory: a spill slot or a fixed stack slot.

@@ -54,15 +54,14 @@ pub struct InstRegs {
     awaited: [usize; 3],
 }
 
-/// The set, without the register if it is taken.
-fn left_of(set: PRegSet, preg: PReg, is_taken: bool) -> PRegSet
-    ensures { (q : Register) → has_register result q ≡ not (is_taken && is_register preg q) && has_register set q }
+/// The set has the register no more, if it is taken.
+#[inline(always)]
+fn take_out(set: &mut PRegSet, preg: PReg, is_taken: bool)
+    ensures { (q : Register) → has_register set.new q ≡ not (is_taken && is_register preg q) && has_register set.old q }
 {
-    let mut left = set;
     if is_taken {
-        left.remove(preg);
+        set.remove(preg);
     }
-    left
 }
 
 impl InstRegs {
@@ -97,12 +96,26 @@ impl InstRegs {
     }
 
     /// The register is no longer available at the positions.
+    #[inline(always)]
     pub fn remove_available(&mut self, preg: PReg, positions: Positions)
         ensures removed { RemovesAvailable self.old self.new preg positions }
         ensures awaited { self.new.awaited ≡ self.old.awaited }
     {
-        self.early = left_of(self.early, preg, positions.early);
-        self.late = left_of(self.late, preg, positions.late);
+        take_out(&mut self.early, preg, positions.early);
+        take_out(&mut self.late, preg, positions.late);
+    }
+
+    /// The registers of the set are no longer available at the end of the instruction.
+    pub fn remove_late(&mut self, taken: PRegSet)
+        ensures late { (r : Register) → has_register self.new.late r ≡ not (has_register taken r) && has_register self.old.late r }
+        ensures early { self.new.early ≡ self.old.early }
+        ensures scratch { self.new.scratch ≡ self.old.scratch }
+        ensures awaited { self.new.awaited ≡ self.old.awaited }
+    {
+        let late = self.late;
+        // no register of a walk has a number past a word's bits, which the contract needs: the call does nothing
+        let _walk = late.into_iter();
+        self.late = late & taken.invert();
     }
 
     /// One more operand of the class asks for any register.

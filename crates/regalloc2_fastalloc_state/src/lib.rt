@@ -6,6 +6,5 @@ pub mod allocatable;
 pub mod edits;
 pub mod inst_regs;
 pub mod request;
-pub mod scratch_pool;
 pub mod spillslots;
 pub mod vreg_allocs;

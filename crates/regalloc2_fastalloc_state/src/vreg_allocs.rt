@@ -55,6 +55,7 @@ impl<A: Allocator + Copy> VRegAllocs<A> {
 }
 
 /// If the place is a register, the vreg is what is held there from now on.
+#[inline(always)]
 fn set_vreg_in_preg<A: Allocator>(
     vreg_in_preg: &mut Vec<Option<VReg>, A>,
     place: Allocation,
@@ -70,6 +71,7 @@ fn set_vreg_in_preg<A: Allocator>(
 }
 
 /// The vreg with this number, which is in the list if the place that it leaves is a register, is out of it from now on.
+#[inline(always)]
 fn take_out<A: Allocator>(in_registers: &mut VRegSet<A>, left: Allocation, number: usize)
     requires { HasIf (is_in_register left) in_registers.old.members number }
     ensures { in_registers.new ≡ record in_registers.old { members = without number in_registers.old.members } }
@@ -80,6 +82,7 @@ fn take_out<A: Allocator>(in_registers: &mut VRegSet<A>, left: Allocation, numbe
 }
 
 /// If the place is a register, the vreg, which isn't in the list, is in front from now on.
+#[inline(always)]
 fn put_in_front<A: Allocator>(in_registers: &mut VRegSet<A>, place: Allocation, vreg: VReg)
     requires below { vreg.number < in_registers.old.capacity }
     requires absent { All (λ v. v.number ≢ vreg.number) in_registers.old.members }
@@ -129,8 +132,8 @@ impl<A: Allocator> VRegAllocs<A> {
         let number = vreg.vreg();
         let left = self.vreg_allocs[number];
         set_vreg_in_preg(&mut self.vreg_in_preg, left, None);
-        set_vreg_in_preg(&mut self.vreg_in_preg, place, Some(vreg));
         take_out(&mut self.in_registers, left, number);
+        set_vreg_in_preg(&mut self.vreg_in_preg, place, Some(vreg));
         put_in_front(&mut self.in_registers, place, vreg);
         self.vreg_allocs[number] = place;
     }

@@ -1,38 +1,43 @@
 -- Functions of one block with registers for all vregs: instruction after instruction no move is made, and no slot.
 use Rattle.std.proofs.Common.{ℕ, ◌≡◌, ◌≢◌, ◌+◌, ◌<◌, ◌≤◌, inl, inr, Bool, true, false, List, [], ◌∷◌, length, refl, arith, sym}
 use Rattle.std.proofs.Common.{ap, ◌∙◌, subst}
-use Rattle.std.specs.Prelude.{None, Contains, slice_index_or, not}
+use Rattle.std.specs.Prelude.{None, Contains, IsSome, slice_index_or, not, if◌then◌else◌}
 use Rattle.std.specs.List.{IsDistinct}
 use Rattle.std.proofs.lemmas.Bool.{and_parts, cases_Bool}
 use Rattle.std.proofs.lemmas.List.Elements.{Contains-append_right}
 use Rattle.regalloc2_names.specs.declared.RegClass.{RegClass}
+use Rattle.regalloc2_names.specs.declared.OperandConstraint.{OperandConstraint}
 use Rattle.regalloc2_names.specs.declared.OperandConstraint.TheVariants.{Reg, FixedReg, Reuse}
 use Rattle.regalloc2_names.specs.declared.sets.PRegSet.{PRegSet}
 use Rattle.regalloc2_names.specs.Register.{Register, VirtualRegister}
 use Rattle.regalloc2_names.specs.RegisterSet.{has_register, registers_of}
 use Rattle.regalloc2_names.specs.Listed.{listed_is}
-use Rattle.regalloc2_names.specs.Operand.{OperandValue, is_def, is_late, is_reading}
+use Rattle.regalloc2_names.specs.Operand.{OperandValue, fixed_register, is_def, is_late, is_reading}
 use Rattle.regalloc2_names.specs.Place.{Place, NoPlace, InRegister, is_place}
 use Rattle.regalloc2_names.specs.Same.{is_place-same}
 use Rattle.regalloc2_function.specs.FunctionValue.{FunctionValue, block_at, inst_at}
 use Rattle.regalloc2_function.specs.Machine.{MachineValue}
 use Rattle.regalloc2_function.specs.SourceRun.{arguments_at}
-use Rattle.regalloc2_function.specs.WellFormed.{IsWellFormed}
+use Rattle.regalloc2_function.specs.WellFormed.{IsWellFormed, last_of}
 use Rattle.regalloc2_semantics.specs.Blocks.{HasEdge, target_at}
 use Rattle.regalloc2_semantics.proofs.SingleDef.{DefinesAt, MadeBefore, by_earlier, by_param, made_before, one_operand, reads_defined}
+use Rattle.regalloc2_semantics.proofs.Soundness.{well_formed_are_sound}
+use Rattle.regalloc2_branch_defs.specs.BranchDefs.{IsEdgeInto, fixed_definition}
+use Rattle.regalloc2_branch_defs.proofs.BlockEnds.{last_within}
 use Rattle.regalloc2_fastalloc_state.proofs.VRegInPRegInverse.{same_number}
 use Rattle.regalloc2_fastalloc_state.specs.declared.inst_regs.InstRegs.{InstRegs}
 use Rattle.regalloc2_fastalloc_state.specs.ScratchPool.{Moves}
-use Rattle.regalloc2_fastalloc_state.specs.StateParts.{IsLruOf, AllocatableRegsValue, lru_of, slot_name, alloc_of}
+use Rattle.regalloc2_fastalloc_state.specs.StateParts.{IsLruOf, AllocatableRegsValue, SpillSlotsValue, lru_of, slot_name, alloc_of}
 use Rattle.regalloc2_fastalloc_state.specs.InstRegs.{is_free_throughout}
 use Rattle.regalloc2_validate.specs.Constraints.{op_at}
 use Rattle.regalloc2_fastalloc_proofs.specs.InstSteps.{StateValue, EvictsEach, EvictsFixed, RemovesClobbers, MovesUses, ReservesRegs}
 use Rattle.regalloc2_fastalloc_proofs.specs.InstSteps.{none_cleared, not_fixed, of_fixed, of_reuse, none_left, one_more, none_moved, not_moved}
 use Rattle.regalloc2_fastalloc_proofs.specs.InstSteps.{one_moved}
 use Rattle.regalloc2_fastalloc_proofs.specs.BranchSteps.{AreApart, ClassMove, GathersMoves, GathersEdgeMoves, no_edge, none_gathered, of_class, one_edge}
-use Rattle.regalloc2_fastalloc_proofs.specs.BranchSteps.{one_gathered}
+use Rattle.regalloc2_fastalloc_proofs.specs.BranchSteps.{one_gathered, own_argument}
 use Rattle.regalloc2_fastalloc_proofs.specs.BlockStart.{ReloadsParams, none_begun, one_begun}
 use Rattle.regalloc2_fastalloc_proofs.specs.BlockSteps.{IsFresh}
+use Rattle.regalloc2_fastalloc_proofs.specs.StoreSteps.{IsStoredFor, branch_operands, given as given_param, its_own}
 use Rattle.regalloc2_fastalloc_walk.proofs.OperandsSpillFree.{unsent_same}
 use Rattle.regalloc2_fastalloc_walk.proofs.OperandTakesFreeReg.{cases_place}
 use Rattle.regalloc2_fastalloc_walk.specs.SpillFree.{ArePlaced, ArePlain, HasRegOperandsOnly, IsDefinedIn, IsSpillFree, IsSpillFreeFrom}
@@ -310,11 +315,13 @@ nobody_left f env names regs t well asks h n = elim (cases_place (alloc_of t.pla
         ]
 
 -- edges to blocks without parameters pass nothing
-edge_none : (point : ℕ) (params arguments : List VirtualRegister) (t : InstRegs) (old : StateValue) (given : List ClassMove) (n : ℕ) (u : InstRegs)
-    (new : StateValue) (more : List ClassMove) → n ≡ 0 → GathersEdgeMoves point params arguments t old given n u new more → (new ≡ old) × (more ≡ given)
+edge_none : {Own : VirtualRegister → Type 0} (point : ℕ) (params arguments : List VirtualRegister) (t : InstRegs) (old : StateValue)
+    (given : List ClassMove) (n : ℕ) (u : InstRegs) (new : StateValue) (more : List ClassMove) → n ≡ 0 →
+    GathersEdgeMoves Own point params arguments t old given n u new more → (new ≡ old) × (more ≡ given)
 edge_none point params arguments t old given n u new more e none_gathered = (refl, refl)
-edge_none point params arguments t old given n u new more e (one_gathered j mid to from w x m k o lt before gives places edits machine settles) =
+edge_none point params arguments t old given n u new more e (one_gathered j mid to from w x m k o lt before gives places edits machine settles foreign) =
     absurd (omega (arith, e))
+edge_none point params arguments t old given n u new more e (own_argument j mid w m lt before own) = absurd (omega (arith, e))
 
 -- edges to blocks without parameters gather no move, and leave the state as it is
 pub gathers_none : (f : FunctionValue) (b point : ℕ) (t : InstRegs) (old : StateValue) (n : ℕ) (u : InstRegs) (new : StateValue) (given : List ClassMove) →
@@ -336,6 +343,25 @@ pub no_params : (f : FunctionValue) (env : MachineValue) (names : List VirtualRe
     b < length f.blocks → (block_at f b).params ≡ []
 no_params f env names b well asks lt = (let zero_block : b ≡ 0 = omega (arith, lt, asks.one_block) in ap (λ (x : ℕ). (block_at f x).params) zero_block
     ∙ well.entry.1)
+
+-- and no branch's definition is fixed
+none_fixed : (o : OperandValue) → o.constraint ≡ Reg → IsSome (fixed_definition o) → ⊥
+none_fixed o reg some = by (is_def o.kind) (subst (λ (x : OperandConstraint). IsSome (if is_def o.kind then fixed_register x else None)) reg some)
+  where
+    by : (b : Bool) → IsSome (if b then fixed_register Reg else None) → ⊥
+    by true h = cc
+    by false h = cc
+
+-- so a block's beginning stores nothing
+pub none_is_stored : (f : FunctionValue) (env : MachineValue) (names : List VirtualRegister) → IsWellFormed env f → HasRegOperandsOnly names f → (b e k j : ℕ)
+    (v : VirtualRegister) (slots : SpillSlotsValue) → IsEdgeInto f b e k → IsStoredFor f e k slots j v → ⊥
+none_is_stored f env names well asks b e k j v slots edge (its_own own is) =
+    none_fixed (op_at (branch_operands f e) j) (asks.under_reg (last_of (block_at f e)) j (last_within f (env, well) e edge.block) own.operand) own.fixed
+none_is_stored f env names well asks b e k j v slots edge (given_param n lt is d has) =
+    let target = (well_formed_are_sound env f well).targets e k edge.edge in
+    let none : length (block_at f (target_at f e k)).params ≡ 0 = ap (λ (l : List VirtualRegister). length l) (no_params f env names (target_at f e k) well asks
+    target) in
+    omega (arith, lt, none)
 
 none_alike : IsDistinct is_same_number []
 unfolding IsDistinct

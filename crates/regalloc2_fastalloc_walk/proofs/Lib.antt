@@ -3,14 +3,21 @@
 -- `OperandTakesFreeReg` (`operand_got`), then `OperandsSpillFree` (`one_placed_more`) and `inst_done`. `LruUnusedLast` and `AvailableCount` say
 -- which registers are found free.
 -- `RegsReserved` (`reserves_all`) is the loop over fixed registers, `OperandOutOfRegs` says where an operand stops, `Steps` chains steps.
+-- What a branch defines: `OwnDefs` (the tables say what is its own), `StoresListed` (`lists_stores`: what a block's beginning stores is listed, each
+-- once, counted in `CountedOnce`), `StoresPushed` (the moves of that, as they are pushed) and `StoresOnEdge` (`stores_on`: those are the stores).
 pub mod AvailableCount
 pub mod BlockSpillFree
+pub mod CountedOnce
 pub mod RegsReserved
 pub mod LruUnusedLast
 pub mod OperandsSpillFree
 pub mod OperandsProcessed
 pub mod OperandOutOfRegs
 pub mod OperandTakesFreeReg
+pub mod OwnDefs
 pub mod PickedInTurn
 pub mod Steps
+pub mod StoresListed
+pub mod StoresOnEdge
+pub mod StoresPushed
 pub mod UsesInTurn

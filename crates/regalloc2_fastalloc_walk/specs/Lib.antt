@@ -1,4 +1,6 @@
+pub mod BranchStores
 pub mod OperandsAt
+pub mod OwnDefs
 pub mod ReserveSteps
 pub mod StateView
 pub mod SpillFree

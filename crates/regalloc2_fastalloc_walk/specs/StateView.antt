@@ -1,6 +1,7 @@
 -- The tables that a state holds, as the relations of steps see them, and what each step keeps.
-use Rattle.std.specs.Prelude.{ℕ, ◌≡◌, ◌+◌, length, Result, OnOk, IfErr}
+use Rattle.std.specs.Prelude.{ℕ, ◌≡◌, ◌≢◌, ◌+◌, length, Result, OnOk, IfErr}
 use Rattle.regalloc2_names.specs.declared.RegAllocError.{RegAllocError}
+use Rattle.regalloc2_names.specs.declared.RegAllocError.TheVariants.{TooManyLiveRegs}
 use Rattle.regalloc2_fastalloc_walk.specs.declared.state.State.{State}
 use Rattle.regalloc2_fastalloc_proofs.specs.InstSteps.{StateValue, SameMachine}
 use Rattle.regalloc2_fastalloc_proofs.specs.BranchSteps.{AddsTempSlotsAtMost}
@@ -31,3 +32,10 @@ pub record IsBranchStepAt {A T : Type 0} (point more : ℕ) (result : Result T R
   pub later : OnOk result (AllAtOrAfter point new.edits)
   pub long : OnOk result (length new.places.vreg_allocs ≡ length old.places.vreg_allocs)
   pub err : IfErr result (IsResourceError (SlotsExhaustedWith old.slots (old.slots.num_temp_slots + more)))
+
+-- a step that makes slots at most, and fails only where slots or memory are out
+pub record MakesSlots {A T : Type 0} (result : Result T RegAllocError) (old new : State A) : Type 0 where
+  pub tables : tables_of new ≡ record (tables_of old) { slots = new.slots }
+  pub registers : new.registers ≡ old.registers
+  pub machine : SameMachine (tables_of old) (tables_of new)
+  pub err : IfErr result (λ e. IsResourceErrorIn new.slots e × (e ≢ TooManyLiveRegs))

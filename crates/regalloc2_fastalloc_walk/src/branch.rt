@@ -2,11 +2,11 @@
 
 ghost use Rattle.regalloc2_semantics.specs.Blocks.{HasEdge, target_at};
 ghost use Rattle.std.specs.Prelude.{ℕ, List, ◌≡◌, ◌↔◌, ◌≢◌, ◌<◌, ◌≤◌, ◌+◌, ◌++◌, ◌∷◌, ◌⊎◌, [], None, Some, length, IsTrue, IfOk, IfSome, IfErr, OnOk};
-ghost use Rattle.std.specs.Prelude.{OnErr, slice_index_or};
+ghost use Rattle.std.specs.Prelude.{OnErr, slice_index_or, true};
 ghost use Rattle.regalloc2_names.specs.Place.{Place, NoPlace, InRegister};
 ghost use Rattle.regalloc2_names.specs.Point.{before};
 ghost use Rattle.regalloc2_names.specs.Register.{Register, class_code};
-ghost use Rattle.regalloc2_function.specs.FunctionValue.{block_at};
+ghost use Rattle.regalloc2_function.specs.FunctionValue.{block_at, inst_at};
 ghost use Rattle.regalloc2_parts.specs.AtOnce.{ends_of, HasOneSourceEach};
 ghost use Rattle.regalloc2_parts.specs.Resolved.{has_scratch, listed, with_place, IsResolution, IsRunnable};
 ghost use Rattle.regalloc2_fastalloc_proofs.specs.BranchSteps.{AreApart, AreBetweenSlots, AreKnown, AreNextTempSlots, AreOf, ClassMove, GathersMoves};
@@ -14,20 +14,41 @@ ghost use Rattle.regalloc2_fastalloc_proofs.specs.BranchSteps.{GathersEdgeMoves,
 ghost use Rattle.regalloc2_fastalloc_proofs.specs.BranchSteps.{OrdersMoves, ParametersDiffer, ProcessesBranch, Pushes, PushesAllClasses};
 ghost use Rattle.regalloc2_fastalloc_proofs.specs.BranchSteps.{SpillsArgument};
 ghost use Rattle.regalloc2_fastalloc_state.specs.OutOfResources.{SlotsExhaustedWith, IsResourceError};
-ghost use Rattle.regalloc2_fastalloc_state.specs.ScratchPool.{DoDiffer, IsOfScratchPair};
+ghost use Rattle.regalloc2_parts.specs.ScratchPool.{DoDiffer, IsOfScratchPair};
 ghost use Rattle.regalloc2_fastalloc_proofs.specs.OutOfRegs.{OutOfRegsOnlyIf, GatherEdgeFails, GatherMovesFails, OrderMovesFails, ProcessBranchFails};
 ghost use Rattle.regalloc2_fastalloc_proofs.specs.OutOfRegs.{SpillArgumentFails};
+ghost use Rattle.regalloc2_branch_defs.specs.Tables.{AreBranchDefsOf};
+ghost use Rattle.regalloc2_fastalloc_proofs.specs.BlockSteps.{MayBeAllocated};
+ghost use Rattle.regalloc2_fastalloc_walk.specs.OwnDefs.{IsOwnBy, GathersArgument, GatherArgumentFails};
 ghost use Rattle.regalloc2_fastalloc_walk.specs.StateView.{IsBranchStepAt, IsStepAt, tables_of};
 ghost use Rattle.regalloc2_fastalloc_state.specs.StateParts.{SlotsHaveOneOwner, IsLeastRecentIn, AllAtOrAfter};
 
 use super::state::State;
+use super::walk::FunctionCx;
+use regalloc2_branch_defs::BranchDefs;
 use regalloc2_fastalloc_state::inst_regs::{InstRegs, Positions};
-use regalloc2_fastalloc_state::scratch_pool::{ScratchPair, ScratchPool};
 use regalloc2_function::Function;
 use regalloc2_index::{Block, Inst};
 use regalloc2_names::{Allocation, PReg, PRegSet, ProgPoint, RegAllocError, RegClass, VReg};
 use regalloc2_parts::moves::{MoveVec, MoveVecWithScratch, ParallelMoves};
+use regalloc2_parts::scratch_pool::{ScratchPair, ScratchPool};
 use std::alloc::Allocator;
+
+/// What a branch defines.
+#[derive(Clone, Copy)]
+struct OwnDefs<'f, A: Allocator> {
+    defs: &'f BranchDefs<A>,
+    branch: Inst,
+}
+
+impl<A: Allocator> OwnDefs<'_, A> {
+    /// Whether a vreg is defined by the branch.
+    fn has(&self, vreg: VReg) -> bool
+        ensures { IsTrue result ↔ IsOwnBy self.now.defs.now self.now.branch vreg }
+    {
+        self.defs.is_defined_by(vreg, self.branch)
+    }
+}
 
 /// A register as a place.
 fn as_place(preg: Option<PReg>) -> Option<Allocation>
@@ -250,66 +271,101 @@ impl<'a, A: Allocator> State<'a, A> {
         Ok(slot)
     }
 
-    /// The moves of one edge, to be made at once: each argument goes to its parameter's slot.
-    fn gather_edge<'b, B: Allocator>(
+    /// One more of the moves of an edge: the argument is spilled, and goes to its parameter's slot.
+    fn gather_argument<'b, B: Allocator>(
         &mut self,
         inst_regs: &mut InstRegs,
         point: ProgPoint,
+        param: VReg,
+        argument: VReg,
+        moves: &mut MovesByClass<'b, B>,
+    ) -> Result<(), RegAllocError>
+        requires later { AllAtOrAfter point self.old.edits }
+        requires param { param.number < length self.old.places.vreg_allocs }
+        requires argument { argument.number < length self.old.places.vreg_allocs }
+        ensures ok { OnOk result ((to from : Place)
+            × GathersArgument point param argument to from inst_regs.old inst_regs.new (tables_of self.old) (tables_of self.new)
+            × ((given : List ClassMove) → AreOf moves.old.int moves.old.float moves.old.vector given →
+            AreOf moves.new.int moves.new.float moves.new.vector (given ++ record { class = argument.class; from = from; to = to } ∷ []))) }
+        ensures step { IsStepAt point result self.old self.new }
+        ensures stops { IfErr result (OutOfRegsOnlyIf (GatherArgumentFails argument inst_regs.old (tables_of self.old))) }
+        ensures registers { OnOk result (self.new.registers ≡ self.old.registers) }
+    {
+        let to = self.slots.get_spillslot(param)?;
+        let from = self.spill_argument(inst_regs, point, argument)?;
+        moves.add(argument.class(), from, to)?;
+        Ok(())
+    }
+
+    /// The moves of one edge, to be made at once: each argument that the branch doesn't define goes to its parameter's slot.
+    fn gather_edge<'b, B: Allocator, C: Allocator>(
+        &mut self,
+        inst_regs: &mut InstRegs,
+        own: &OwnDefs<'_, C>,
         params: &[VReg],
         arguments: &[VReg],
         moves: &mut MovesByClass<'b, B>,
     ) -> Result<(), RegAllocError>
-        requires later { AllAtOrAfter point self.old.edits }
+        requires inst { own.now.branch < 1073741824 }
+        requires later { AllAtOrAfter (before own.now.branch) self.old.edits }
         requires counted { length arguments.now ≡ length params.now }
         requires parameters { AreKnown params.now (tables_of self.old) }
         requires arguments { AreKnown arguments.now (tables_of self.old) }
         ensures ok { OnOk result ((given : List ClassMove) → AreOf moves.old.int moves.old.float moves.old.vector given → (more : List ClassMove)
             × AreOf moves.new.int moves.new.float moves.new.vector more
-            × GathersEdgeMoves point params.now arguments.now inst_regs.old (tables_of self.old) given (length params.now) inst_regs.new
-            (tables_of self.new) more) }
-        ensures step { IsStepAt point result self.old self.new }
+            × GathersEdgeMoves (IsOwnBy own.now.defs.now own.now.branch) (before own.now.branch) params.now arguments.now inst_regs.old (tables_of self.old)
+            given (length params.now) inst_regs.new (tables_of self.new) more) }
+        ensures step { IsStepAt (before own.now.branch) result self.old self.new }
         ensures stops { IfErr result (OutOfRegsOnlyIf ((given : List ClassMove) → AreOf moves.old.int moves.old.float moves.old.vector given →
-            GatherEdgeFails point params.now arguments.now inst_regs.old (tables_of self.old) given)) }
+            GatherEdgeFails (IsOwnBy own.now.defs.now own.now.branch) (before own.now.branch) params.now arguments.now inst_regs.old (tables_of self.old)
+            given)) }
         ensures registers { OnOk result (self.new.registers ≡ self.old.registers) }
     {
+        let point = ProgPoint::before(own.branch);
         for j in 0..params.len() {
-            let to = self.slots.get_spillslot(params[j])?;
             let argument = arguments[j];
-            let from = self.spill_argument(inst_regs, point, argument)?;
-            moves.add(argument.class(), from, to)?;
+            if !own.has(argument) {
+                self.gather_argument(inst_regs, point, params[j], argument, moves)?;
+            }
         }
         Ok(())
     }
 
     /// The moves of all edges, to be made at once.
-    fn gather<'b, F: Function, B: Allocator>(
+    fn gather<'b, F: Function, B: Allocator, C: Allocator>(
         &mut self,
         inst_regs: &mut InstRegs,
         alloc: &'b B,
-        f: &F,
+        cx: &FunctionCx<'_, F, C>,
         block: Block,
         inst: Inst,
     ) -> Result<MovesByClass<'b, B>, RegAllocError>
-        requires block { block < length (F.function f.now).blocks }
-        requires last { inst + 1 ≡ (block_at (F.function f.now) block).range.end }
-        requires nonempty { (block_at (F.function f.now) block).range.first ≤ inst }
+        requires block { block < length (F.function cx.now.f.now).blocks }
+        requires last { inst + 1 ≡ (block_at (F.function cx.now.f.now) block).range.end }
+        requires nonempty { (block_at (F.function cx.now.f.now) block).range.first ≤ inst }
         requires inst { inst < 1073741824 }
+        requires well_formed { MayBeAllocated (F.function cx.now.f.now) }
+        requires branch { (inst_at (F.function cx.now.f.now) inst).is_branch ≡ true }
+        requires defs { AreBranchDefsOf (F.function cx.now.f.now) cx.now.defs.now }
         requires later { AllAtOrAfter (before inst) self.old.edits }
-        requires may_pass { MayBranch (F.function f.now) block (tables_of self.old) }
+        requires may_pass { MayBranch (F.function cx.now.f.now) block (tables_of self.old) }
         ensures ok { IfOk result (λ m. (given : List ClassMove) × AreOf m.int m.float m.vector given
-            × GathersMoves (F.function f.now) block (before inst) inst_regs.old (tables_of self.old) (length (block_at (F.function f.now) block).succs)
-            inst_regs.new (tables_of self.new) given) }
+            × GathersMoves (F.function cx.now.f.now) block (before inst) inst_regs.old (tables_of self.old)
+            (length (block_at (F.function cx.now.f.now) block).succs) inst_regs.new (tables_of self.new) given) }
         ensures step { IsStepAt (before inst) result self.old self.new }
-        ensures stops { IfErr result (OutOfRegsOnlyIf (GatherMovesFails (F.function f.now) block (before inst) inst_regs.old (tables_of self.old))) }
+        ensures stops { IfErr result (OutOfRegsOnlyIf (GatherMovesFails (F.function cx.now.f.now) block (before inst) inst_regs.old (tables_of self.old))) }
         ensures registers { OnOk result (self.new.registers ≡ self.old.registers) }
     {
-        let point = ProgPoint::before(inst);
-        let succs = f.block_succs(block);
+        let own = OwnDefs {
+            defs: cx.defs,
+            branch: inst,
+        };
+        let succs = cx.f.block_succs(block);
         let mut moves = MovesByClass::none(alloc);
         for k in 0..succs.len() {
-            let params = f.block_params(succs[k]);
-            let arguments = f.branch_blockparams(block, inst, k);
-            self.gather_edge(inst_regs, point, params, arguments, &mut moves)?;
+            let params = cx.f.block_params(succs[k]);
+            let arguments = cx.f.branch_blockparams(block, inst, k);
+            self.gather_edge(inst_regs, &own, params, arguments, &mut moves)?;
         }
         Ok(moves)
     }
@@ -352,30 +408,33 @@ impl<'a, A: Allocator> State<'a, A> {
     }
 
     /// A branch passes its arguments: all are spilled to their slots, and then moved to those of the parameters.
-    pub fn process_branch<F: Function, B: Allocator>(
+    pub fn process_branch<F: Function, B: Allocator, C: Allocator>(
         &mut self,
         inst_regs: &mut InstRegs,
         alloc: &B,
-        f: &F,
+        cx: &FunctionCx<'_, F, C>,
         block: Block,
         inst: Inst,
     ) -> Result<(), RegAllocError>
-        requires block { block < length (F.function f.now).blocks }
-        requires last { inst + 1 ≡ (block_at (F.function f.now) block).range.end }
-        requires nonempty { (block_at (F.function f.now) block).range.first ≤ inst }
+        requires block { block < length (F.function cx.now.f.now).blocks }
+        requires last { inst + 1 ≡ (block_at (F.function cx.now.f.now) block).range.end }
+        requires nonempty { (block_at (F.function cx.now.f.now) block).range.first ≤ inst }
         requires inst { inst < 1073741824 }
+        requires well_formed { MayBeAllocated (F.function cx.now.f.now) }
+        requires branch { (inst_at (F.function cx.now.f.now) inst).is_branch ≡ true }
+        requires defs { AreBranchDefsOf (F.function cx.now.f.now) cx.now.defs.now }
         requires later { AllAtOrAfter (before inst) self.old.edits }
-        requires may_pass { MayBranch (F.function f.now) block (tables_of self.old) }
-        requires differ { ParametersDiffer (F.function f.now) block }
+        requires may_pass { MayBranch (F.function cx.now.f.now) block (tables_of self.old) }
+        requires differ { ParametersDiffer (F.function cx.now.f.now) block }
         requires apart { AreApart (tables_of self.old) }
-        ensures ok { OnOk result (ProcessesBranch (F.function f.now) block inst inst_regs.old inst_regs.new (tables_of self.old) (tables_of self.new)) }
+        ensures ok { OnOk result (ProcessesBranch (F.function cx.now.f.now) block inst inst_regs.old inst_regs.new (tables_of self.old) (tables_of self.new)) }
         ensures step { IsBranchStepAt (before inst) 6 result self.old self.new }
-        ensures stops { IfErr result (OutOfRegsOnlyIf (ProcessBranchFails (F.function f.now) block inst inst_regs.old (tables_of self.old))) }
+        ensures stops { IfErr result (OutOfRegsOnlyIf (ProcessBranchFails (F.function cx.now.f.now) block inst inst_regs.old (tables_of self.old))) }
         ensures registers { OnOk result (self.new.registers ≡ self.old.registers) }
-        ensures none { OnOk result (((k : ℕ) → HasEdge (F.function f.now) block k →
-            (block_at (F.function f.now) (target_at (F.function f.now) block k)).params ≡ []) → tables_of self.new ≡ tables_of self.old) }
+        ensures none { OnOk result (((k : ℕ) → HasEdge (F.function cx.now.f.now) block k →
+            (block_at (F.function cx.now.f.now) (target_at (F.function cx.now.f.now) block k)).params ≡ []) → tables_of self.new ≡ tables_of self.old) }
     {
-        let moves = self.gather(inst_regs, alloc, f, block, inst)?;
+        let moves = self.gather(inst_regs, alloc, cx, block, inst)?;
         self.have_owners();
         let point = ProgPoint::before(inst);
         self.push_gathered(inst_regs, point, moves)?;

@@ -142,8 +142,8 @@ fn set_place(places: &mut [Allocation], index: usize, place: Allocation)
 #[derive(Clone, Copy)]
 pub struct InstCx<'a> {
     pub inst: Inst,
-    /// Whether it is a return.
-    pub is_ret: bool,
+    /// Whether it ends its block, so that no move comes after it.
+    pub ends_block: bool,
     pub operands: &'a [Operand],
     /// The registers that it overwrites.
     pub clobbers: PRegSet,
@@ -163,11 +163,11 @@ impl<'a, A: Allocator> State<'a, A> {
         requires later { AllAtOrAfter (after cx.now.inst) self.old.edits }
         requires in_tables { InTables cx.now.operands.now (tables_of self.old) }
         requires here_long { length here.old ≡ length cx.now.operands.now }
-        ensures ok { OnOk result (ProcessesOperand cx.now.inst cx.now.is_ret cx.now.operands.now k here.old here.new inst_regs.old inst_regs.new
+        ensures ok { OnOk result (ProcessesOperand cx.now.inst cx.now.ends_block cx.now.operands.now k here.old here.new inst_regs.old inst_regs.new
             (tables_of self.old) (tables_of self.new)) }
         ensures step { IsStepAt (after cx.now.inst) result self.old self.new }
         ensures stops { IfErr result (OutOfRegsOnlyIf
-            (ProcessOperandFails cx.now.inst cx.now.is_ret cx.now.operands.now k here.old inst_regs.old (tables_of self.old))) }
+            (ProcessOperandFails cx.now.inst cx.now.ends_block cx.now.operands.now k here.old inst_regs.old (tables_of self.old))) }
         ensures takes { OnOk result ((op_at cx.now.operands.now k).constraint ≡ OperandConstraint.Reg → slice_index_or here.old k NoPlace ≡ NoPlace →
             AllocsAnyReg inst_regs.old (op_at cx.now.operands.now k).vreg (slice_index_or here.new k NoPlace) (tables_of self.old) self.old.registers
             self.new.registers) }
@@ -186,12 +186,12 @@ impl<'a, A: Allocator> State<'a, A> {
         }
         if let Some(index) = reused(operand) {
             let request = reuse_request(operand, operands, index);
-            let place = self.alloc_def_op(inst_regs, point, &request, cx.is_ret)?;
+            let place = self.alloc_def_op(inst_regs, point, &request, cx.ends_block)?;
             here[k] = place;
             set_place(here, index, place);
             return Ok(());
         }
-        here[k] = self.alloc_def_op(inst_regs, point, &def_request(operand), cx.is_ret)?;
+        here[k] = self.alloc_def_op(inst_regs, point, &def_request(operand), cx.ends_block)?;
         Ok(())
     }
 
@@ -208,11 +208,11 @@ impl<'a, A: Allocator> State<'a, A> {
         requires later { AllAtOrAfter (after cx.now.inst) self.old.edits }
         requires in_tables { InTables cx.now.operands.now (tables_of self.old) }
         requires here_long { length here.old ≡ length cx.now.operands.now }
-        ensures ok { OnOk result (ProcessesOperandsAt cx.now.inst cx.now.is_ret (is_late pos) cx.now.operands.now here.old inst_regs.old
+        ensures ok { OnOk result (ProcessesOperandsAt cx.now.inst cx.now.ends_block (is_late pos) cx.now.operands.now here.old inst_regs.old
             (tables_of self.old) (length cx.now.operands.now) here.new inst_regs.new (tables_of self.new)) }
         ensures step { IsStepAt (after cx.now.inst) result self.old self.new }
         ensures stops { IfErr result (OutOfRegsOnlyIf
-            (ProcessOperandsAtFails cx.now.inst cx.now.is_ret (is_late pos) cx.now.operands.now here.old inst_regs.old (tables_of self.old))) }
+            (ProcessOperandsAtFails cx.now.inst cx.now.ends_block (is_late pos) cx.now.operands.now here.old inst_regs.old (tables_of self.old))) }
         ensures spill_free { OnOk result ((names : List VirtualRegister) (gone : ℕ → Bool) → FitInRegs names self.old.registers.allocatable →
             ArePlain names gone cx.now.operands.now (is_late pos) → ((j : ℕ) → is_late (op_at cx.now.operands.now j).position ≡ is_late pos →
             slice_index_or here.old j NoPlace ≡ NoPlace) → IsSpillFree names gone self.old.registers (tables_of self.old) inst_regs.old
@@ -299,11 +299,11 @@ impl<'a, A: Allocator> State<'a, A> {
         requires no_places { (k : ℕ) → slice_index_or here.old k NoPlace ≡ NoPlace }
         requires fresh { IsFresh inst_regs.old (tables_of self.old) }
         ensures ok { OnOk result ((a : AllocsInst cx.now.inst (record
-            { operands = cx.now.operands.now; clobbers = cx.now.clobbers; is_branch = false; is_ret = cx.now.is_ret }) here.old here.new (tables_of self.old)
-            (tables_of self.new)) × (a.ended ≡ inst_regs.new)) }
+            { operands = cx.now.operands.now; clobbers = cx.now.clobbers; is_branch = false; is_ret = cx.now.ends_block }) here.old here.new
+            (tables_of self.old) (tables_of self.new)) × (a.ended ≡ inst_regs.new)) }
         ensures step { IsStepAt (before cx.now.inst) result self.old self.new }
         ensures stops { IfErr result (OutOfRegsOnlyIf
-            (AllocInstFails cx.now.inst cx.now.is_ret cx.now.operands.now cx.now.clobbers here.old inst_regs.old (tables_of self.old))) }
+            (AllocInstFails cx.now.inst cx.now.ends_block cx.now.operands.now cx.now.clobbers here.old inst_regs.old (tables_of self.old))) }
         ensures spill_free { OnOk result ((names : List VirtualRegister) (gone : ℕ → Bool) → FitInRegs names self.old.registers.allocatable →
             ((late : Bool) → ArePlain names gone cx.now.operands.now late) → ((r : Register) → has_register cx.now.clobbers r ≡ false) →
             IsSpillFree names gone self.old.registers (tables_of self.old) inst_regs.old
@@ -336,11 +336,11 @@ impl<'a, A: Allocator> State<'a, A> {
         requires no_places { (k : ℕ) → k < start + length cx.now.operands.now → slice_index_or allocs.old k NoPlace ≡ NoPlace }
         requires fresh { IsFresh inst_regs.old (tables_of self.old) }
         ensures ok { OnOk result (AllocsInstInto inst_regs.new cx.now.inst (record
-            { operands = cx.now.operands.now; clobbers = cx.now.clobbers; is_branch = false; is_ret = cx.now.is_ret }) start allocs.old allocs.new
+            { operands = cx.now.operands.now; clobbers = cx.now.clobbers; is_branch = false; is_ret = cx.now.ends_block }) start allocs.old allocs.new
             (tables_of self.old) (tables_of self.new)) }
         ensures step { IsStepAt (before cx.now.inst) result self.old self.new }
         ensures stops { IfErr result (OutOfRegsOnlyIf ((blank : List Place) × (length blank ≡ length cx.now.operands.now)
-            × ((k : ℕ) → slice_index_or blank k NoPlace ≡ NoPlace) × AllocInstFails cx.now.inst cx.now.is_ret cx.now.operands.now
+            × ((k : ℕ) → slice_index_or blank k NoPlace ≡ NoPlace) × AllocInstFails cx.now.inst cx.now.ends_block cx.now.operands.now
             cx.now.clobbers blank inst_regs.old (tables_of self.old))) }
         ensures spill_free { OnOk result ((names : List VirtualRegister) (gone : ℕ → Bool) → FitInRegs names self.old.registers.allocatable →
             ((late : Bool) → ArePlain names gone cx.now.operands.now late) → ((r : Register) → has_register cx.now.clobbers r ≡ false) →

@@ -12,4 +12,5 @@ mod inst;
 mod operand;
 mod reserve_regs;
 pub mod state;
+mod store;
 mod walk;

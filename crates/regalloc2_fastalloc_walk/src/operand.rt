@@ -1,6 +1,6 @@
 //! The place of an operand.
 
-ghost use Rattle.std.specs.Prelude.{Some, true, find, reverse};
+ghost use Rattle.std.specs.Prelude.{Some, true, find, reverse, IsFalse};
 ghost use Rattle.regalloc2_names.specs.RegisterSet.{has_register};
 ghost use Rattle.regalloc2_names.specs.declared.sets.PRegSet.{PRegSet};
 ghost use Rattle.regalloc2_fastalloc_walk.specs.SpillFree.{SelectsAnyReg, AllocsAnyReg, Pokes};
@@ -38,13 +38,6 @@ fn is_another(place: Allocation, other: Allocation) -> bool
     place.is_some() && place != other
 }
 
-/// Whether a place is that register.
-fn is_at(place: Allocation, preg: PReg) -> bool
-    ensures { result ≡ is_place place (InRegister preg) }
-{
-    place == Allocation::reg(preg)
-}
-
 /// Whether any register will do.
 fn is_any_register(requirement: Requirement) -> bool
     ensures { IsTrue result ↔ (requirement ≡ Requirement.AnyReg) }
@@ -74,11 +67,12 @@ impl<'a, A: Allocator> State<'a, A> {
             Requirement::AnyPlace => true,
             Requirement::AnyReg => !self.is_stack(place),
             Requirement::InMemory => self.is_stack(place),
-            Requirement::InPReg(preg) => is_at(place, preg),
+            Requirement::InPReg(preg) => place.is_same(Allocation::reg(preg)),
         }
     }
 
     /// How many allocatable registers of the class are free at both positions.
+    #[inline(always)]
     fn free_count(&self, inst_regs: &InstRegs, class: RegClass) -> usize
         ensures count { result ≡ free_count self.now.registers.allocatable inst_regs.now class }
         ensures small { result ≤ 192 }
@@ -88,6 +82,7 @@ impl<'a, A: Allocator> State<'a, A> {
     }
 
     /// How many registers of the class are still kept for a move from stack to stack.
+    #[inline(always)]
     fn scratch_reserve_left(&self, inst_regs: &InstRegs, class: RegClass) -> usize
         ensures left { result ≡ scratch_reserve_left self.now.registers.fixed_stack self.now.registers.dedicated_scratch inst_regs.now class }
         ensures small { result ≤ 1 }
@@ -99,6 +94,7 @@ impl<'a, A: Allocator> State<'a, A> {
     }
 
     /// Whether enough registers are left for the operands that ask for any register, once this one is taken too.
+    #[inline(always)]
     fn is_enough(&self, inst_regs: &InstRegs, preg: PReg) -> bool
         ensures enough { IsTrue result → IsAffordable inst_regs.now (tables_of self.now) preg }
     {
@@ -109,6 +105,7 @@ impl<'a, A: Allocator> State<'a, A> {
     }
 
     /// Whether an operand that may be anywhere may hold the place.
+    #[inline(always)]
     fn leaves_enough_regs(
         &self,
         inst_regs: &InstRegs,
@@ -118,6 +115,7 @@ impl<'a, A: Allocator> State<'a, A> {
         ensures affordable { IsTrue result → requirement ≡ Requirement.AnyPlace → (r : Register) → place ≡ InRegister r
             → IsAffordable inst_regs.now (tables_of self.now) r }
         ensures others { requirement ≡ Requirement.AnyReg → IsTrue result }
+        ensures refused { IsFalse result → (r : Register) × (place ≡ InRegister r) }
     {
         match (requirement, place.as_reg()) {
             (Requirement::AnyPlace, Some(preg)) => {
@@ -141,6 +139,8 @@ impl<'a, A: Allocator> State<'a, A> {
             IsAffordable inst_regs.now (tables_of self.now) r) }
         ensures none { IfNone result (request.now.requirement ≡ Requirement.AnyReg →
             MeetsRequirement (tables_of self.now) Requirement.AnyReg (alloc_of self.now.places request.now.vreg.number) → ⊥) }
+        ensures leaves { IfNone result (request.now.requirement ≡ Requirement.AnyPlace → (alloc_of self.now.places request.now.vreg.number ≢ NoPlace) →
+            (r : Register) × (alloc_of self.now.places request.now.vreg.number ≡ InRegister r)) }
         ensures inverse { IsInverse self.now.places }
     {
         let current = self.places.current_alloc(request.vreg);
@@ -156,9 +156,11 @@ impl<'a, A: Allocator> State<'a, A> {
 
     /// Whether an operand that may be anywhere takes a register rather than a slot: there are enough, and its vreg
     /// isn't one that is defined and awaited nowhere.
+    #[inline(always)]
     fn prefers_register(&self, inst_regs: &InstRegs, request: &OperandRequest, preg: PReg) -> bool
         requires { request.now.vreg.number < length self.now.places.vreg_allocs }
-        ensures { IsTrue result → IsAffordable inst_regs.now (tables_of self.now) preg }
+        ensures affordable { IsTrue result → IsAffordable inst_regs.now (tables_of self.now) preg }
+        ensures awaited { IsTrue result → request.now.is_def ≡ true → alloc_of self.now.places request.now.vreg.number ≢ NoPlace }
     {
         if request.is_def && self.places.current_alloc(request.vreg).is_none() {
             return false;
@@ -174,6 +176,8 @@ impl<'a, A: Allocator> State<'a, A> {
         ensures may_hold { IfSome result (λ r. MayHold (tables_of self.now) request.now.vreg.class r) }
         ensures free { IfSome result (λ r. IsAvailableAt inst_regs.now request.now.positions r) }
         ensures affordable { IfSome result (λ r. request.now.requirement ≡ Requirement.AnyPlace → IsAffordable inst_regs.now (tables_of self.now) r) }
+        ensures awaited { IfSome result (λ r. request.now.requirement ≡ Requirement.AnyPlace → request.now.is_def ≡ true →
+            alloc_of self.now.places request.now.vreg.number ≢ NoPlace) }
         ensures none { IfNone result (request.now.requirement ≡ Requirement.AnyReg →
             NoneIsAvailable request.now.vreg.class inst_regs.now (tables_of self.now)) }
         ensures oldest { IfSome result (λ r. (free : PRegSet) × ((q : Register) → is_free_throughout inst_regs.now q ≡ true → has_register free q ≡ true)
@@ -211,6 +215,8 @@ impl<'a, A: Allocator> State<'a, A> {
         ensures chooses { IfOk result (λ p. request.now.requirement ≡ Requirement.AnyReg →
             (MeetsRequirement (tables_of self.old) Requirement.AnyReg (alloc_of self.old.places request.now.vreg.number) → ⊥) →
             SelectsAnyReg inst_regs.now request.now.vreg self.old.registers (tables_of self.old) p) }
+        ensures awaited { IfOk result (λ p. request.now.requirement ≡ Requirement.AnyPlace → request.now.is_def ≡ true → (r : Register) → p ≡ InRegister r →
+            alloc_of self.old.places request.now.vreg.number ≢ NoPlace) }
     {
         if let Requirement::InPReg(preg) = request.requirement {
             return Ok(Allocation::reg(preg));
@@ -245,6 +251,8 @@ impl<'a, A: Allocator> State<'a, A> {
         ensures registers { OnOk result (self.new.registers ≡ self.old.registers) }
         ensures chooses { IfOk result (λ p. request.now.requirement ≡ Requirement.AnyReg →
             SelectsAnyReg inst_regs.now request.now.vreg self.old.registers (tables_of self.old) p) }
+        ensures awaited_in { IfOk result (λ p. request.now.is_def ≡ true → request.now.requirement ≡ Requirement.AnyPlace → (r : Register) →
+            p ≡ InRegister r → (q : Register) × (alloc_of self.old.places request.now.vreg.number ≡ InRegister q)) }
         ensures inverse { IsInverse self.old.places }
     {
         if let Some(current) = self.current_if_allowed(inst_regs, request) {
@@ -255,6 +263,7 @@ impl<'a, A: Allocator> State<'a, A> {
     }
 
     /// An allocatable register counts as used just now if it wasn't asked for by name.
+    #[inline(always)]
     fn note_taken(&mut self, requirement: Requirement, preg: PReg)
         ensures tables { tables_of self.new ≡ tables_of self.old }
         ensures order { requirement ≡ Requirement.AnyReg → Pokes preg self.old.registers self.new.registers }

@@ -224,13 +224,7 @@ impl<'a, A: Allocator> State<'a, A> {
         ensures same { tables_of self.new ≡ tables_of self.old }
         ensures registers { self.new.registers ≡ self.old.registers }
     {
-        let late = Positions {
-            early: false,
-            late: true,
-        };
-        for preg in clobbers {
-            inst_regs.remove_available(preg, late);
-        }
+        inst_regs.remove_late(clobbers);
     }
 
     /// Empties the fixed registers of the operands, in operand order, of all vregs but each operand's own.

@@ -11,106 +11,159 @@ ghost use Rattle.regalloc2_fastalloc_walk.specs.SpillFree.{FitInRegs, HasRegOper
 ghost use Rattle.std.specs.Prelude.{◌≡◌, ◌<◌, ◌≤◌, ◌+◌, ◌*◌, [], length, slice_index, slice_index_or, ℕ, OnOk, IfErr};
 ghost use Rattle.regalloc2_names.specs.Point.{before, after};
 ghost use Rattle.regalloc2_names.specs.Place.{NoPlace};
-ghost use Rattle.regalloc2_function.specs.FunctionValue.{block_at, operand_count};
-ghost use Rattle.regalloc2_fastalloc_state.specs.StateParts.{AllAtOrAfter};
+ghost use Rattle.regalloc2_function.specs.FunctionValue.{block_at, inst_at, operand_count};
+ghost use Rattle.regalloc2_branch_defs.specs.Tables.{AreBranchDefsOf};
+ghost use Rattle.regalloc2_fastalloc_state.specs.StateParts.{AllAtOrAfter, SpillSlotsValue, alloc_of};
+ghost use Rattle.regalloc2_fastalloc_proofs.specs.InstSteps.{ends_block};
 ghost use Rattle.regalloc2_fastalloc_proofs.specs.BranchSteps.{AreApart, AddsTempSlotsAtMost};
 ghost use Rattle.regalloc2_fastalloc_state.specs.OutOfResources.{SlotsExhaustedWith, IsResourceError};
 ghost use Rattle.regalloc2_fastalloc_proofs.specs.OutOfRegs.{OutOfRegsOnlyIf, AllocBlocksFails, AllocInstInBlockFails, AllocBlockInstsFails};
-ghost use Rattle.regalloc2_fastalloc_walk.specs.StateView.{IsBranchStepAt, tables_of};
-ghost use Rattle.regalloc2_fastalloc_proofs.specs.BlockSteps.{AllocsInstInBlock, MayBeAllocated, AllocsBlocks, AllocsBlockInsts, temp_slots_at, offset_of};
+ghost use Rattle.regalloc2_branch_defs.specs.BranchDefs.{IsEdgeInto};
+ghost use Rattle.regalloc2_fastalloc_proofs.specs.StoreSteps.{IsStoredFor};
+ghost use Rattle.regalloc2_fastalloc_walk.specs.BranchStores.{BeginBlockFails};
+ghost use Rattle.regalloc2_fastalloc_walk.specs.StateView.{IsBranchStepAt, IsStepAt, tables_of};
+ghost use Rattle.regalloc2_fastalloc_proofs.specs.BlockSteps.{AllocsInstInBlock, BeginsBlock, MayBeAllocated, AllocsBlocks, AllocsBlockInsts, temp_slots_at};
+ghost use Rattle.regalloc2_fastalloc_proofs.specs.BlockSteps.{offset_of};
 
 use super::inst::InstCx;
 use super::state::State;
+use regalloc2_branch_defs::BranchDefs;
 use regalloc2_fastalloc_state::inst_regs::InstRegs;
 use regalloc2_function::Function;
 use regalloc2_index::{Block, Inst};
 use regalloc2_names::{Allocation, RegAllocError};
 use std::alloc::Allocator;
 
+/// The function that is walked, and what its branches define.
+#[derive(Clone, Copy)]
+pub struct FunctionCx<'f, F: Function, A: Allocator> {
+    pub f: &'f F,
+    pub defs: &'f BranchDefs<A>,
+}
+
+/// Whether an instruction ends its block, so that no move comes after it.
+fn ends_block<F: Function>(f: &F, inst: Inst) -> bool
+    requires { inst < length (F.function f.now).insts }
+    ensures { result ≡ ends_block (inst_at (F.function f.now) inst) }
+{
+    f.is_branch(inst) || f.is_ret(inst)
+}
+
 impl<'a, A: Allocator> State<'a, A> {
     /// Allocates an instruction of a block, whose operands' places begin at `start`. A branch passes its arguments.
-    fn alloc_inst_in_block<F: Function, B: Allocator>(
+    fn alloc_inst_in_block<F: Function, B: Allocator, C: Allocator>(
         &mut self,
         alloc: &B,
-        f: &F,
+        cx: &FunctionCx<'_, F, C>,
         block: Block,
         inst: Inst,
         start: usize,
         allocs: &mut [Allocation],
     ) -> Result<(), RegAllocError>
-        requires block { block < length (F.function f.now).blocks }
-        requires inst { inst < length (F.function f.now).insts }
-        requires first { (block_at (F.function f.now) block).range.first ≤ inst }
-        requires end { inst < (block_at (F.function f.now) block).range.end }
-        requires well_formed { MayBeAllocated (F.function f.now) }
-        requires long { length self.old.places.vreg_allocs ≡ (F.function f.now).num_vregs }
+        requires block { block < length (F.function cx.now.f.now).blocks }
+        requires inst { inst < length (F.function cx.now.f.now).insts }
+        requires first { (block_at (F.function cx.now.f.now) block).range.first ≤ inst }
+        requires end { inst < (block_at (F.function cx.now.f.now) block).range.end }
+        requires well_formed { MayBeAllocated (F.function cx.now.f.now) }
+        requires defs { AreBranchDefsOf (F.function cx.now.f.now) cx.now.defs.now }
+        requires long { length self.old.places.vreg_allocs ≡ (F.function cx.now.f.now).num_vregs }
         requires apart { AreApart (tables_of self.old) }
         requires later { AllAtOrAfter (after inst) self.old.edits }
-        requires start { start ≡ offset_of (F.function f.now) inst }
-        requires allocs_long { length allocs.old ≡ operand_count (F.function f.now) }
-        requires no_places { (k : ℕ) → k < offset_of (F.function f.now) (inst + 1) → slice_index_or allocs.old k NoPlace ≡ NoPlace }
-        ensures ok { OnOk result (AllocsInstInBlock (F.function f.now) block inst allocs.old allocs.new (tables_of self.old) (tables_of self.new)) }
-        ensures step { IsBranchStepAt (before inst) (temp_slots_at (F.function f.now) inst) result self.old self.new }
-        ensures stops { IfErr result (OutOfRegsOnlyIf (AllocInstInBlockFails (F.function f.now) block inst allocs.old (tables_of self.old))) }
+        requires start { start ≡ offset_of (F.function cx.now.f.now) inst }
+        requires allocs_long { length allocs.old ≡ operand_count (F.function cx.now.f.now) }
+        requires no_places { (k : ℕ) → k < offset_of (F.function cx.now.f.now) (inst + 1) → slice_index_or allocs.old k NoPlace ≡ NoPlace }
+        ensures ok { OnOk result (AllocsInstInBlock (F.function cx.now.f.now) block inst allocs.old allocs.new (tables_of self.old) (tables_of self.new)) }
+        ensures step { IsBranchStepAt (before inst) (temp_slots_at (F.function cx.now.f.now) inst) result self.old self.new }
+        ensures stops { IfErr result (OutOfRegsOnlyIf (AllocInstInBlockFails (F.function cx.now.f.now) block inst allocs.old (tables_of self.old))) }
         ensures spill_free { OnOk result ((names : List VirtualRegister) → FitInRegs names self.old.registers.allocatable →
-            HasRegOperandsOnly names (F.function f.now) → IsSpillFreeFrom names (F.function f.now) (inst + 1) self.old.registers (tables_of self.old) →
-            IsSpillFreeFrom names (F.function f.now) inst self.new.registers (tables_of self.new)) }
+            HasRegOperandsOnly names (F.function cx.now.f.now) →
+            IsSpillFreeFrom names (F.function cx.now.f.now) (inst + 1) self.old.registers (tables_of self.old) →
+            IsSpillFreeFrom names (F.function cx.now.f.now) inst self.new.registers (tables_of self.new)) }
     {
+        let f = cx.f;
         let mut inst_regs = InstRegs::new(self.registers.available_regs());
         let operands = f.inst_operands(inst);
         let clobbers = f.inst_clobbers(inst);
-        let is_ret = f.is_ret(inst);
-        let cx = InstCx {
+        let ends_block = ends_block(f, inst);
+        let inst_cx = InstCx {
             inst,
-            is_ret,
+            ends_block,
             operands,
             clobbers,
         };
-        self.alloc_inst_at(&mut inst_regs, &cx, start, allocs)?;
+        self.alloc_inst_at(&mut inst_regs, &inst_cx, start, allocs)?;
         if !f.is_branch(inst) {
             return Ok(());
         }
-        self.process_branch(&mut inst_regs, alloc, f, block, inst)?;
+        self.process_branch(&mut inst_regs, alloc, cx, block, inst)?;
         Ok(())
     }
 
     /// Allocates the instructions of a block, from the last to the first.
-    fn alloc_block<F: Function, B: Allocator>(
+    fn alloc_block<F: Function, B: Allocator, C: Allocator>(
         &mut self,
         alloc: &B,
-        f: &F,
+        cx: &FunctionCx<'_, F, C>,
         block: Block,
         offsets: &[u32],
         allocs: &mut [Allocation],
     ) -> Result<(), RegAllocError>
-        requires block { block < length (F.function f.now).blocks }
-        requires well_formed { MayBeAllocated (F.function f.now) }
-        requires long { length self.old.places.vreg_allocs ≡ (F.function f.now).num_vregs }
+        requires block { block < length (F.function cx.now.f.now).blocks }
+        requires well_formed { MayBeAllocated (F.function cx.now.f.now) }
+        requires defs { AreBranchDefsOf (F.function cx.now.f.now) cx.now.defs.now }
+        requires long { length self.old.places.vreg_allocs ≡ (F.function cx.now.f.now).num_vregs }
         requires apart { AreApart (tables_of self.old) }
-        requires later { AllAtOrAfter (before (block_at (F.function f.now) block).range.end) self.old.edits }
-        requires offsets_long { length offsets.now ≡ length (F.function f.now).insts }
-        requires offsets { (i : ℕ) → i < length (F.function f.now).insts → slice_index offsets.now i ≡ offset_of (F.function f.now) i }
-        requires allocs_long { length allocs.old ≡ operand_count (F.function f.now) }
-        requires no_places { (k : ℕ) → k < offset_of (F.function f.now) (block_at (F.function f.now) block).range.end →
+        requires later { AllAtOrAfter (before (block_at (F.function cx.now.f.now) block).range.end) self.old.edits }
+        requires offsets_long { length offsets.now ≡ length (F.function cx.now.f.now).insts }
+        requires offsets { (i : ℕ) → i < length (F.function cx.now.f.now).insts → slice_index offsets.now i ≡ offset_of (F.function cx.now.f.now) i }
+        requires allocs_long { length allocs.old ≡ operand_count (F.function cx.now.f.now) }
+        requires no_places { (k : ℕ) → k < offset_of (F.function cx.now.f.now) (block_at (F.function cx.now.f.now) block).range.end →
             slice_index_or allocs.old k NoPlace ≡ NoPlace }
-        ensures ok { OnOk result (AllocsBlockInsts (F.function f.now) block allocs.old (tables_of self.old) (block_at (F.function f.now) block).range.first
-            allocs.new (tables_of self.new)) }
-        ensures no_places { OnOk result ((k : ℕ) → k < offset_of (F.function f.now) (block_at (F.function f.now) block).range.first →
+        ensures ok { OnOk result (AllocsBlockInsts (F.function cx.now.f.now) block allocs.old (tables_of self.old)
+            (block_at (F.function cx.now.f.now) block).range.first allocs.new (tables_of self.new)) }
+        ensures no_places { OnOk result ((k : ℕ) → k < offset_of (F.function cx.now.f.now) (block_at (F.function cx.now.f.now) block).range.first →
             slice_index_or allocs.new k NoPlace ≡ NoPlace) }
-        ensures step { IsBranchStepAt (before (block_at (F.function f.now) block).range.first) 6 result self.old self.new }
-        ensures stops { IfErr result (OutOfRegsOnlyIf (AllocBlockInstsFails (F.function f.now) block allocs.old (tables_of self.old))) }
+        ensures step { IsBranchStepAt (before (block_at (F.function cx.now.f.now) block).range.first) 6 result self.old self.new }
+        ensures stops { IfErr result (OutOfRegsOnlyIf (AllocBlockInstsFails (F.function cx.now.f.now) block allocs.old (tables_of self.old))) }
         ensures spill_free { OnOk result ((names : List VirtualRegister) → FitInRegs names self.old.registers.allocatable →
-            HasRegOperandsOnly names (F.function f.now) → IsSpillFreeFrom names (F.function f.now) (block_at (F.function f.now) block).range.end
-            self.old.registers (tables_of self.old)
-            → IsSpillFreeFrom names (F.function f.now) (block_at (F.function f.now) block).range.first self.new.registers (tables_of self.new)) }
+            HasRegOperandsOnly names (F.function cx.now.f.now) → IsSpillFreeFrom names (F.function cx.now.f.now)
+            (block_at (F.function cx.now.f.now) block).range.end self.old.registers (tables_of self.old)
+            → IsSpillFreeFrom names (F.function cx.now.f.now) (block_at (F.function cx.now.f.now) block).range.first self.new.registers (tables_of self.new)) }
     {
-        let range = f.block_insns(block);
+        let range = cx.f.block_insns(block);
         let first = range.first().index();
         let mut i = range.end().index();
         while i > first {
             i -= 1;
-            self.alloc_inst_in_block(alloc, f, block, Inst::new(i), offsets[i] as usize, allocs)?;
+            self.alloc_inst_in_block(alloc, cx, block, Inst::new(i), offsets[i] as usize, allocs)?;
         }
+        Ok(())
+    }
+
+    /// The beginning of a block: its reloads, and in front of them in the listing, what the branch into it defines is stored.
+    fn begin_block<F: Function, B: Allocator, C: Allocator>(
+        &mut self,
+        alloc: &B,
+        cx: &FunctionCx<'_, F, C>,
+        block: Block,
+    ) -> Result<(), RegAllocError>
+        requires block { block < length (F.function cx.now.f.now).blocks }
+        requires well_formed { MayBeAllocated (F.function cx.now.f.now) }
+        requires defs { AreBranchDefsOf (F.function cx.now.f.now) cx.now.defs.now }
+        requires long { length self.old.places.vreg_allocs ≡ (F.function cx.now.f.now).num_vregs }
+        requires apart { AreApart (tables_of self.old) }
+        requires later { AllAtOrAfter (before (block_at (F.function cx.now.f.now) block).range.first) self.old.edits }
+        ensures ok { OnOk result (BeginsBlock (F.function cx.now.f.now) block (tables_of self.old) (tables_of self.new)) }
+        ensures step { IsStepAt (before (block_at (F.function cx.now.f.now) block).range.first) result self.old self.new }
+        ensures stops { IfErr result (OutOfRegsOnlyIf (BeginBlockFails (F.function cx.now.f.now) block (tables_of self.old))) }
+        ensures nobody { OnOk result (((n : ℕ) → alloc_of self.old.places n ≡ NoPlace) → (block_at (F.function cx.now.f.now) block).params ≡ [] →
+            ((e k j : ℕ) (v : VirtualRegister) (s : SpillSlotsValue) → IsEdgeInto (F.function cx.now.f.now) block e k →
+            IsStoredFor (F.function cx.now.f.now) e k s j v → ⊥) → tables_of self.new ≡ tables_of self.old) }
+    {
+        let f = cx.f;
+        let first = f.block_insns(block).first();
+        self.reload_at_begin(first, f.block_params(block))?;
+        self.store_branch_defs(alloc, f, cx.defs, block)?;
         Ok(())
     }
 
@@ -139,13 +192,14 @@ impl<'a, A: Allocator> State<'a, A> {
             HasRegOperandsOnly names (F.function f.now) → IsSpillFreeFrom names (F.function f.now) (length (F.function f.now).insts) self.old.registers
             (tables_of self.old) → (self.new.edits ≡ []) × (self.new.slots.count ≡ 0)) }
     {
+        let defs = BranchDefs::of(alloc, f)?;
+        let cx = FunctionCx { f, defs: &defs };
         let mut b = f.num_blocks();
         while b > 0 {
             b -= 1;
             let block = Block::new(b);
-            self.alloc_block(alloc, f, block, offsets, allocs)?;
-            let first = f.block_insns(block).first();
-            self.reload_at_begin(first, f.block_params(block))?;
+            self.alloc_block(alloc, &cx, block, offsets, allocs)?;
+            self.begin_block(alloc, &cx, block)?;
         }
         Ok(())
     }

@@ -1,8 +1,6 @@
 pub mod RunLaws
-pub mod Rows
 pub mod ValueLaws
 pub mod Converse
-pub mod CellLaws
 pub mod Steps
 pub mod ListingLaws
 pub mod Tests

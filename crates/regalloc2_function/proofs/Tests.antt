@@ -1,5 +1,5 @@
 -- Tests that answer exactly where a fact holds.
-use Rattle.std.proofs.Common.{◌≡◌, Bool, true, false, not, IsTrue, refl}
+use Rattle.std.proofs.Common.{◌≡◌, Bool, true, false, IsTrue}
 use Rattle.regalloc2_names.specs.declared.RegClass.{RegClass}
 use Rattle.regalloc2_names.specs.declared.RegClass.TheVariants.{Int, Float, Vector}
 use Rattle.std.specs.Bool.{OnTrue, OnFalse}
@@ -11,16 +11,6 @@ not_so b e f p = let t : b ≡ true = f p in cc
 -- a test that says no doesn't hold
 pub never_true : IsTrue false → ⊥
 never_true t = cc
-
--- if the negation of a test holds, the test says no
-pub no_of : (b : Bool) → IsTrue (not b) → b ≡ false
-no_of true e = absurd cc
-no_of false e = refl
-
--- if a test doesn't hold, its negation does
-pub is_not : (b : Bool) → (IsTrue b → ⊥) → IsTrue (not b)
-is_not true h = absurd (h refl)
-is_not false h = refl
 
 -- what holds where a test answers yes, and where it answers no
 pub holds_at : {P : Type 0} (b : Bool) → b ≡ true → OnTrue b P → P

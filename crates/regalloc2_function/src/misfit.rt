@@ -30,86 +30,80 @@ pub enum MachineMisfit {
 }
 
 impl MachineMisfit {
-    /// The register that the text begins with, the class that it names further on, and the words after each.
-    fn text(self) -> (Option<PReg>, &'static str, Option<RegClass>, &'static str) {
-        let (reg, after_reg, class, after_class) = match self {
-            Self::InvalidSlot => return (
-                None,
-                "a fixed stack slot is the invalid register",
-                None,
-                "",
-            ),
-            Self::OtherClass(class, reg) => (
-                Some(reg),
-                " is listed for the class ",
-                class,
-                ", and is of another class",
-            ),
-            Self::ListedTwice(class, reg) => (
-                Some(reg),
-                " is listed for the class ",
-                class,
-                " as preferred and as non-preferred",
-            ),
-            Self::InvalidRegister(class) => (
-                None,
-                "the invalid register is listed for the class ",
-                class,
-                "",
-            ),
-            Self::ScratchOfOtherClass(class, reg) => (
-                Some(reg),
-                ", the scratch register of the class ",
-                class,
-                ", is of another class",
-            ),
-            Self::ScratchAllocatable(class, reg) => (
-                Some(reg),
-                ", the scratch register of the class ",
-                class,
-                ", is listed to be allocated",
-            ),
-            Self::InvalidScratch(class) => (
-                None,
-                "the scratch register of the class ",
-                class,
-                " is the invalid register",
-            ),
-            Self::SlotAllocatable(class, reg) => (
-                Some(reg),
-                ", a fixed stack slot, is listed to be allocated for the class ",
-                class,
-                "",
-            ),
-            Self::SlotIsScratch(class, reg) => (
-                Some(reg),
-                ", a fixed stack slot, is the scratch register of the class ",
-                class,
-                "",
-            ),
-            Self::NoRegister(class) => (
-                None,
-                "the function has a virtual register of the class ",
-                class,
-                ", which has no register to allocate",
-            ),
-        };
-        (reg, after_reg, Some(class), after_class)
+    /// The register that its text begins with.
+    fn register(self) -> Option<PReg> {
+        match self {
+            Self::OtherClass(_, reg)
+            | Self::ListedTwice(_, reg)
+            | Self::ScratchOfOtherClass(_, reg)
+            | Self::ScratchAllocatable(_, reg)
+            | Self::SlotAllocatable(_, reg)
+            | Self::SlotIsScratch(_, reg) => Some(reg),
+            _ => None,
+        }
+    }
+
+    /// The class that its text names behind [`before_class`](Self::before_class).
+    fn class(self) -> Option<RegClass> {
+        match self {
+            Self::InvalidSlot => None,
+            Self::OtherClass(class, _)
+            | Self::ListedTwice(class, _)
+            | Self::InvalidRegister(class)
+            | Self::ScratchOfOtherClass(class, _)
+            | Self::ScratchAllocatable(class, _)
+            | Self::InvalidScratch(class)
+            | Self::SlotAllocatable(class, _)
+            | Self::SlotIsScratch(class, _)
+            | Self::NoRegister(class) => Some(class),
+        }
+    }
+
+    /// The words between the register and the class.
+    fn before_class(self) -> &'static str {
+        match self {
+            Self::InvalidSlot => "a fixed stack slot is the invalid register",
+            Self::OtherClass(..) | Self::ListedTwice(..) => " is listed for the class ",
+            Self::InvalidRegister(_) => "the invalid register is listed for the class ",
+            Self::ScratchOfOtherClass(..) | Self::ScratchAllocatable(..) => {
+                ", the scratch register of the class "
+            }
+            Self::InvalidScratch(_) => "the scratch register of the class ",
+            Self::SlotAllocatable(..) => {
+                ", a fixed stack slot, is listed to be allocated for the class "
+            }
+            Self::SlotIsScratch(..) => {
+                ", a fixed stack slot, is the scratch register of the class "
+            }
+            Self::NoRegister(_) => "the function has a virtual register of the class ",
+        }
+    }
+
+    /// The words behind the class.
+    fn after_class(self) -> &'static str {
+        match self {
+            Self::OtherClass(..) => ", and is of another class",
+            Self::ListedTwice(..) => " as preferred and as non-preferred",
+            Self::ScratchOfOtherClass(..) => ", is of another class",
+            Self::ScratchAllocatable(..) => ", is listed to be allocated",
+            Self::InvalidScratch(_) => " is the invalid register",
+            Self::NoRegister(_) => ", which has no register to allocate",
+            _ => "",
+        }
     }
 }
 
 /// As `p3f is listed for the class Int, and is of another class`.
 impl fmt::Display for MachineMisfit {
     fn fmt<W: fmt::Write>(&self, f: &mut fmt::Formatter<W>) -> fmt::Result {
-        let (reg, after_reg, class, after_class) = self.text();
-        if let Some(reg) = reg {
+        if let Some(reg) = self.register() {
             write!(f, "{reg}")?;
         }
-        f.write_str(after_reg)?;
-        if let Some(class) = class {
+        f.write_str(self.before_class())?;
+        if let Some(class) = self.class() {
             write!(f, "{class:?}")?;
         }
-        f.write_str(after_class)
+        f.write_str(self.after_class())
     }
 }
 

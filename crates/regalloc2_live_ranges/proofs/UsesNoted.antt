@@ -6,7 +6,8 @@ use Rattle.std.proofs.lemmas.Bool.{cases_eq}
 use Rattle.regalloc2_names.specs.declared.OperandPos.{OperandPos}
 use Rattle.regalloc2_names.specs.declared.OperandPos.TheVariants.{Early, Late}
 use Rattle.regalloc2_names.specs.Register.{VirtualRegister}
-use Rattle.regalloc2_names.specs.Operand.{OperandValue, is_reading}
+use Rattle.regalloc2_names.specs.Operand.{OperandValue, is_position, is_reading, reads_at}
+use Rattle.regalloc2_names.proofs.EqualNames.{is_position-true, is_position-same}
 use Rattle.regalloc2_function.specs.FunctionValue.{FunctionValue, block_at, inst_at}
 use Rattle.regalloc2_function.specs.SourceRun.{arguments_at}
 use Rattle.regalloc2_function.specs.WellFormed.{BlocksFollow}
@@ -14,8 +15,8 @@ use Rattle.regalloc2_semantics.specs.Listing.{op_at}
 use Rattle.regalloc2_semantics.proofs.Order.{stands_later}
 use Rattle.regalloc2_live_ranges.specs.declared.ends.RangeEnd.{RangeEnd}
 use Rattle.regalloc2_live_ranges.specs.LastUses.{EndsFrom, EndsUse, HasNumber, HasPassed, Notes, NotesArguments, NotesPassed, NotesReads, NotesUses}
-use Rattle.regalloc2_live_ranges.specs.LastUses.{PassesNumber, ReadsFirst, ReadsNumber, UsesNumber, end_at, end_of_argument, end_of_reader, is_at}
-use Rattle.regalloc2_live_ranges.specs.LastUses.{no_vreg, read_end}
+use Rattle.regalloc2_live_ranges.specs.LastUses.{PassesNumber, ReadsFirst, ReadsNumber, UsesNumber, end_at, end_of_argument, end_of_reader}
+use Rattle.regalloc2_live_ranges.specs.LastUses.{read_end}
 use Rattle.regalloc2_live_ranges.specs.LastUses.UsesNumber.{reads, passes}
 use Rattle.regalloc2_live_ranges.specs.LastUses.EndsUse.{late, early, passed}
 use Rattle.regalloc2_live_ranges.proofs.ItemsPastEnd.{op_is}
@@ -65,30 +66,19 @@ reads_same at i ops m n old mid never h =
     (λ s. elim (up_to s.0 m s.1) [ inl lt ↦ (s.0, lt, s.2) | inr same ↦ absurd (never (subst (λ (k : ℕ). ReadsNumber ops n at k) same s.2)) ])
     (λ e s. (s.0, omega (arith, s.1), s.2, s.3)) h
 
--- the test of an operand
-same_position : (a b : OperandPos) → is_at a b ≡ true → a ≡ b
-same_position Early Early h = refl
-same_position Early Late h = absurd cc
-same_position Late Early h = absurd cc
-same_position Late Late h = refl
-
-one_position : (a : OperandPos) → is_at a a ≡ true
-one_position Early = refl
-one_position Late = refl
-
 both_hold : (a b : Bool) → (a && b) ≡ true → (a ≡ true) × (b ≡ true)
 both_hold true true h = (refl, refl)
 both_hold true false h = absurd cc
 both_hold false b h = absurd cc
 
 -- an operand that passes the test reads, and at that position
-pub is_read : (o : OperandValue) (at : OperandPos) → (is_reading o && is_at o.position at) ≡ true → (is_reading o ≡ true) × (o.position ≡ at)
-is_read o at h = let two = both_hold (is_reading o) (is_at o.position at) h in (two.0, same_position o.position at two.1)
+pub is_read : (o : OperandValue) (at : OperandPos) → reads_at at o ≡ true → (is_reading o ≡ true) × (o.position ≡ at)
+is_read o at h = let two = both_hold (is_reading o) (is_position at o.position) h in (two.0, sym (is_position-true at o.position two.1))
 
 -- an operand that fails the test doesn't read at that position
-pub is_unread : (o : OperandValue) (at : OperandPos) → (is_reading o && is_at o.position at) ≡ false → (is_reading o ≡ true) × (o.position ≡ at) → ⊥
-is_unread o at h r = let here : is_at o.position at ≡ true = ap (λ (p : OperandPos). is_at p at) r.1 ∙ one_position at in
-    let test : (is_reading o && is_at o.position at) ≡ true = rw (r.0, here) refl in cc
+pub is_unread : (o : OperandValue) (at : OperandPos) → reads_at at o ≡ false → (is_reading o ≡ true) × (o.position ≡ at) → ⊥
+is_unread o at h r = let here : is_position at o.position ≡ true = ap (is_position at) r.1 ∙ is_position-same at in
+    let test : reads_at at o ≡ true = rw (r.0, here) refl in cc
 
 -- an operand that reads is noted
 pub reads_step : (at : OperandPos) (i : ℕ) (ops : List OperandValue) (m n : ℕ) (old : Option RangeEnd) (before after : List (Option RangeEnd))
@@ -126,28 +116,6 @@ pub reads_skip : (at : OperandPos) (i : ℕ) (ops : List OperandValue) (m n : �
 reads_skip at i ops m n old mid o less is never h =
     let item : op_at ops m ≡ o = op_is ops m o less (sym is) in
     reads_same at i ops m n old mid (λ r. never (ap is_reading (sym item) ∙ r.reading, ap (λ (p : OperandValue). p.position) (sym item) ∙ r.position)) h
-
--- arguments
-pub arguments_more : (i : ℕ) (vs : List VirtualRegister) (m n : ℕ) (old mid : Option RangeEnd) → m < length vs → (slice_index_or vs m no_vreg).number ≡ n →
-    NotesArguments i vs m n old mid → NotesArguments i vs (m + 1) n old (option_or mid (Some (end_of_argument i)))
-arguments_more i vs m n old mid lt is h =
-    notes_found (HasNumber vs m n) (HasNumber vs (m + 1) n) (λ e. HasNumber vs m n × (e ≡ end_of_argument i))
-    (λ e. HasNumber vs (m + 1) n × (e ≡ end_of_argument i)) old mid (end_of_argument i)
-    (λ e s. ((s.0.0, omega (arith, s.0.1), s.0.2, s.0.3), s.1))
-    (λ none. ((m, omega arith, lt, is), refl)) h
-
--- an argument more that has another number leaves what is noted of the arguments
-pub arguments_same : (i : ℕ) (vs : List VirtualRegister) (m n : ℕ) (old mid : Option RangeEnd) → ((slice_index_or vs m no_vreg).number ≡ n → ⊥) →
-    NotesArguments i vs m n old mid → NotesArguments i vs (m + 1) n old mid
-arguments_same i vs m n old mid never h =
-    notes_weaker (HasNumber vs m n) (HasNumber vs (m + 1) n) (λ e. HasNumber vs m n × (e ≡ end_of_argument i))
-    (λ e. HasNumber vs (m + 1) n × (e ≡ end_of_argument i)) old mid
-    (λ s. elim (up_to s.0 m s.1) [
-      | inl lt ↦ (s.0, lt, s.2, s.3)
-      | inr same ↦
-          absurd (never (subst (λ (k : ℕ). (slice_index_or vs k no_vreg).number ≡ n) same s.3))
-    ])
-    (λ e s. ((s.0.0, omega (arith, s.0.1), s.0.2, s.0.3), s.1)) h
 
 -- successors
 pub passed_more : (f : FunctionValue) (b i m n : ℕ) (old mid new : Option RangeEnd) → NotesPassed f b i m n old mid →

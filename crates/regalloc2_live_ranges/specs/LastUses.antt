@@ -1,5 +1,5 @@
 -- What the backward walk notes of a number's uses, instruction by instruction.
-use Rattle.std.specs.Prelude.{ℕ, ◌≡◌, ◌+◌, ◌<◌, ◌≤◌, List, length, slice_index_or, Bool, true, false, Option, None, Some, nat_eq, if◌then◌else◌}
+use Rattle.std.specs.Prelude.{ℕ, ◌≡◌, ◌+◌, ◌<◌, ◌≤◌, List, length, slice_index_or, true, Option, None, Some, nat_eq, if◌then◌else◌}
 use Rattle.regalloc2_names.specs.declared.OperandPos.{OperandPos}
 use Rattle.regalloc2_names.specs.declared.OperandPos.TheVariants.{Early, Late}
 use Rattle.regalloc2_names.specs.declared.RegClass.TheVariants.{Int}
@@ -21,13 +21,6 @@ abbrev pub Notes : Type 0 → (RangeEnd → Type 0) → Option RangeEnd → Opti
 Notes Found Fits (Some e) new = new ≡ Some e
 Notes Found Fits None None = Found → ⊥
 Notes Found Fits None (Some e) = Fits e
-
--- two names of one position
-abbrev pub is_at : OperandPos → OperandPos → Bool
-is_at Early Early = true
-is_at Early Late = false
-is_at Late Early = false
-is_at Late Late = true
 
 -- an operand reads the number at a position
 pub record ReadsNumber (ops : List OperandValue) (n : ℕ) (at : OperandPos) (k : ℕ) : Type 0 where

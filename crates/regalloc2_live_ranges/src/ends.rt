@@ -3,9 +3,8 @@
 ghost use Rattle.std.specs.Prelude.{◌≡◌, ◌≢◌, ◌+◌, ◌<◌, ◌≤◌, ℕ, [], length, slice_index_or, ◌&&◌, Some};
 ghost use Rattle.std.specs.Option.{option_or};
 ghost use Rattle.regalloc2_function.specs.FunctionValue.{block_at, inst_at};
-ghost use Rattle.regalloc2_names.specs.Operand.{is_reading};
 ghost use Rattle.regalloc2_function.specs.WellFormed.{BlocksFollow, last_of};
-ghost use Rattle.regalloc2_live_ranges.specs.LastUses.{NotesArguments, NotesPassed, NotesReads, NotesUses, end_at, is_at, read_end};
+ghost use Rattle.regalloc2_live_ranges.specs.LastUses.{NotesArguments, NotesPassed, NotesReads, NotesUses, end_at, read_end};
 
 use super::InstOperand;
 use regalloc2_function::Function;
@@ -30,13 +29,6 @@ fn note_end(ends: &mut [Option<RangeEnd>], vreg: VReg, end: RangeEnd)
     }
 }
 
-// Whether an operand reads its vreg at a position.
-fn reads_at(operand: Operand, pos: OperandPos) -> bool
-    ensures { result ≡ (is_reading operand && is_at operand.position pos) }
-{
-    operand.is_reading() && operand.pos() == pos
-}
-
 // The point at which a read of an instruction ends.
 fn end_of_read(inst: Inst, pos: OperandPos) -> ProgPoint
     requires { inst < 1073741823 }
@@ -55,7 +47,7 @@ fn note_reads(ends: &mut [Option<RangeEnd>], operands: &[Operand], inst: Inst, p
 {
     let last = end_of_read(inst, pos);
     for (index, operand) in operands.iter().enumerate() {
-        if reads_at(*operand, pos) {
+        if operand.reads_at(pos) {
             let by = Some(InstOperand { inst, index });
             note_end(ends, operand.vreg(), RangeEnd { last, by });
         }

@@ -122,14 +122,6 @@ walked_more f b i w0 n0 w n w' n' lb low high h wrote grew =
       ];
     }
 
--- no successor yet, and one more
-pub passes_start : (f : FunctionValue) (b : ℕ) (written : BlockSets) (needs : List Pair) → Passes f b 0 written needs needs
-passes_start f b written needs = record {
-  kept = λ p h. h;
-  only = λ p does not_so. absurd cc;
-  passed = λ k v less. absurd (omega arith);
-}
-
 -- a list that gains what a block passes to its successor k and doesn't write has that of its first k + 1 successors
 pub passes_more : (f : FunctionValue) (b k : ℕ) (written : BlockSets) (old mid new : List Pair) → Passes f b k written old mid →
     Grows b (λ v. names v (arguments_at f b k) && not (holds written (b, v))) mid new → Passes f b (k + 1) written old new

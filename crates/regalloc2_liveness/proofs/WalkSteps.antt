@@ -1,5 +1,5 @@
 -- Walks over operands, instructions and blocks.
-use Rattle.std.proofs.Common.{None, cond, nat_eq, ℕ, zero, suc, ◌≡◌, ◌+◌, ◌<◌, Bool, true, false, List, [], ◌∷◌, length, get_or, take, refl, sym, ap}
+use Rattle.std.proofs.Common.{None, cond, ℕ, zero, suc, ◌≡◌, ◌+◌, ◌<◌, Bool, true, false, List, [], ◌∷◌, length, get_or, take, refl, sym, ap}
 use Rattle.std.proofs.Common.{◌∙◌, subst, arith, inl, inr}
 use Rattle.std.specs.Prelude.{◌&&◌, ◌||◌, not, Contains}
 use Rattle.std.specs.List.{list_any}
@@ -7,20 +7,18 @@ use Rattle.std.proofs.lemmas.List.Folds.{list_any_more, list_any_at}
 use Rattle.std.specs.Option.{is_some}
 use Rattle.regalloc2_names.specs.declared.OperandConstraint.{OperandConstraint}
 use Rattle.regalloc2_names.specs.declared.OperandConstraint.TheVariants.{Any, Reg, Stack, FixedReg, Reuse, Limit}
-use Rattle.regalloc2_names.specs.declared.OperandKind.{OperandKind}
-use Rattle.regalloc2_names.specs.declared.OperandKind.TheVariants.{Def, Use}
 use Rattle.regalloc2_names.specs.declared.OperandPos.{OperandPos}
 use Rattle.regalloc2_names.specs.declared.OperandPos.TheVariants.{Early, Late}
 use Rattle.regalloc2_names.specs.Register.{VirtualRegister, is_vreg}
-use Rattle.regalloc2_names.specs.Operand.{OperandValue, fixed_register, nonallocatable_register, is_def, is_fixed, is_reading}
+use Rattle.regalloc2_names.specs.Operand.{OperandValue, fixed_register, is_def, is_fixed, is_position, is_reading, reads_at}
+use Rattle.regalloc2_names.proofs.EqualNames.{is_position-true, is_position-same, is_vreg-true, is_vreg-same}
 use Rattle.regalloc2_semantics.specs.Blocks.{names}
 use Rattle.regalloc2_semantics.specs.Carry.{Undefined}
 use Rattle.regalloc2_semantics.specs.Listing.{op_at, no_operand, defines}
-use Rattle.regalloc2_semantics.proofs.Cells.{is_vreg-true, is_vreg-same}
 use Rattle.regalloc2_semantics.proofs.UnwrittenPlaces.{defines_none}
 use Rattle.regalloc2_liveness.specs.LiveIn.{IsReadAt, IsRead}
 use Rattle.regalloc2_liveness.specs.BlockVRegPairs.{Pair, BlockSets, holds, Gains, Grows}
-use Rattle.regalloc2_liveness.specs.BlockWalk.{is_position, reads, asks}
+use Rattle.regalloc2_liveness.specs.BlockWalk.{reads, asks}
 use Rattle.regalloc2_liveness.proofs.PairLists.{and_true, or_true, or_none, not_true, grows_more, same_number}
 
 -- lists, one element more
@@ -35,13 +33,13 @@ or_no true w = refl
 or_no false w = refl
 
 is_read : OperandPos → VirtualRegister → OperandValue → Bool
-is_read pos v o = is_reading o && is_position pos o.position && is_vreg o.vreg v
+is_read pos v o = reads_at pos o && is_vreg o.vreg v
 
 reads_more : (pos : OperandPos) (v : VirtualRegister) (ops : List OperandValue) (i : ℕ) (o : OperandValue) → i < length ops → o ≡ get_or ops i o →
     reads pos v (take (i + 1) ops) ≡ (reads pos v (take i ops) || is_read pos v o)
 unfolding reads is_read
-reads_more pos v ops i o lt is = list_any_more (λ x. is_reading x && is_position pos x.position && is_vreg x.vreg v) ops i o lt
-    ∙ ap (λ x. reads pos v (take i ops) || (is_reading x && is_position pos x.position && is_vreg x.vreg v)) (sym is)
+reads_more pos v ops i o lt is = list_any_more (λ x. reads_at pos x && is_vreg x.vreg v) ops i o lt
+    ∙ ap (λ x. reads pos v (take i ops) || (reads_at pos x && is_vreg x.vreg v)) (sym is)
 
 -- without operands no vreg is asked for
 pub reads_none : (pos : OperandPos) (written : BlockSets) (b : ℕ) (v : VirtualRegister) → (reads pos v [] && not (holds written (b, v))) ≡ false
@@ -50,7 +48,7 @@ reads_none pos written b v = refl
 
 -- one operand more that reads at the position asks for its vreg too, unless the block wrote it before
 pub reads_yes : (pos : OperandPos) (ops : List OperandValue) (i : ℕ) (o : OperandValue) (written : BlockSets) (b : ℕ) → i < length ops → o ≡ get_or ops i o →
-    (is_reading o && is_position pos o.position) ≡ true → (v : VirtualRegister) →
+    reads_at pos o ≡ true → (v : VirtualRegister) →
     (reads pos v (take (i + 1) ops) && not (holds written (b, v))) ≡ ((reads pos v (take i ops) && not (holds written (b, v)))
     || (is_vreg o.vreg v && not (holds written (b, v))))
 unfolding is_read
@@ -60,7 +58,7 @@ reads_yes pos ops i o written b lt is does v =
 
 -- one operand more that doesn't read at the position asks for nothing more
 pub reads_no : (pos : OperandPos) (ops : List OperandValue) (i : ℕ) (o : OperandValue) (written : BlockSets) (b : ℕ) → i < length ops → o ≡ get_or ops i o →
-    (is_reading o && is_position pos o.position) ≡ false → (v : VirtualRegister) →
+    reads_at pos o ≡ false → (v : VirtualRegister) →
     (reads pos v (take (i + 1) ops) && not (holds written (b, v))) ≡ (reads pos v (take i ops) && not (holds written (b, v)))
 unfolding is_read
 reads_no pos ops i o written b lt is not_so v =
@@ -126,29 +124,19 @@ names_asked xs i x written b lt is v = rw (names_more xs i x lt is v) (or_last (
 reads_found : (pos : OperandPos) (v : VirtualRegister) (ops : List OperandValue) → reads pos v ops ≡ true → IsReadAt pos v ops
 unfolding reads
 reads_found pos v [] h = absurd cc
-reads_found pos v (o ∷ os) h = elim (or_true (is_reading o && is_position pos o.position && is_vreg o.vreg v) (reads pos v os) h) [
-  | inl here ↦ (let s = and_true (is_reading o && is_position pos o.position) (is_vreg o.vreg v) here in
+reads_found pos v (o ∷ os) h = elim (or_true (reads_at pos o && is_vreg o.vreg v) (reads pos v os) h) [
+  | inl here ↦ (let s = and_true (reads_at pos o) (is_vreg o.vreg v) here in
       let t = and_true (is_reading o) (is_position pos o.position) s.0 in
-      (0, omega arith, t.0, position_is pos o.position t.1, is_vreg-true o.vreg v s.1))
+      (0, omega arith, t.0, sym (is_position-true pos o.position t.1), is_vreg-true o.vreg v s.1))
   | inr there ↦ (let r = reads_found pos v os there in (suc r.0, omega (arith, r.1), r.2, r.3, r.4))
 ]
-  where
-    position_is : (p q : OperandPos) → is_position p q ≡ true → q ≡ p
-    position_is Early Early h = refl
-    position_is Late Late h = refl
-    position_is Early Late h = absurd cc
-    position_is Late Early h = absurd cc
 
 reads_there : (pos : OperandPos) (v : VirtualRegister) (ops : List OperandValue) → IsReadAt pos v ops → reads pos v ops ≡ true
 unfolding reads
 reads_there pos v ops (j, lt, reads, at, is) =
-    let same : is_position pos (op_at ops j).position ≡ true = subst (λ (q : OperandPos). is_position pos q ≡ true) (sym at) (position_same pos) in
+    let same : is_position pos (op_at ops j).position ≡ true = subst (λ (q : OperandPos). is_position pos q ≡ true) (sym at) (is_position-same pos) in
     let named : is_vreg (op_at ops j).vreg v ≡ true = subst (λ (w : VirtualRegister). is_vreg w v ≡ true) (sym is) (is_vreg-same v) in
-    list_any_at (λ x. is_reading x && is_position pos x.position && is_vreg x.vreg v) ops j no_operand lt (rw (reads, same, named) refl)
-  where
-    position_same : (p : OperandPos) → is_position p p ≡ true
-    position_same Early = refl
-    position_same Late = refl
+    list_any_at (λ x. reads_at pos x && is_vreg x.vreg v) ops j no_operand lt (rw (reads, same, named) refl)
 
 -- where the test finds no definition of v among the operands, none of them defines v
 pub defines_not : (ops : List OperandValue) (v : VirtualRegister) → defines v ops ≡ false → Undefined ops v
@@ -209,10 +197,6 @@ asks_twice ops old mid b needs asked new wrote early late =
     (λ v. let e : holds mid (b, v) ≡ (holds old (b, v) || defines v ops) = wrote (b, v) ∙ ap (λ x. holds old (b, v) || (x && defines v ops)) (same_number b) in
     rw e refl)
 
--- a definition reads nothing
-pub definition_reads : (o : OperandValue) → o.kind ≡ Def → false ≡ is_reading o
-definition_reads o is = ap (λ (k : OperandKind). not (is_def k) && not (is_fixed o.constraint && nat_eq o.vreg.number 1073741823)) (sym is)
-
 fixed_some : (c : OperandConstraint) (t : Bool) → is_some (cond t (fixed_register c) None) ≡ (is_fixed c && t)
 fixed_some Any true = refl
 fixed_some Any false = refl
@@ -230,9 +214,3 @@ fixed_some (Limit n) false = refl
 turned : (b x : Bool) → x ≡ not b → b ≡ not x
 turned true x h = rw h refl
 turned false x h = rw h refl
-
--- a use reads, unless it names a register and no virtual register
-pub use_reads : (o : OperandValue) (b : Bool) → o.kind ≡ Use → is_some (nonallocatable_register o) ≡ not b → b ≡ is_reading o
-use_reads o b is h =
-    let fixed : Bool = is_fixed o.constraint && nat_eq o.vreg.number 1073741823 in
-    turned b fixed (sym (fixed_some o.constraint (nat_eq o.vreg.number 1073741823)) ∙ h) ∙ ap (λ (k : OperandKind). not (is_def k) && not fixed) (sym is)

@@ -4,7 +4,7 @@ use Rattle.std.specs.List.{list_any}
 use Rattle.regalloc2_names.specs.declared.OperandPos.{OperandPos}
 use Rattle.regalloc2_names.specs.declared.OperandPos.TheVariants.{Early, Late}
 use Rattle.regalloc2_names.specs.Register.{VirtualRegister, is_vreg}
-use Rattle.regalloc2_names.specs.Operand.{OperandValue, is_reading}
+use Rattle.regalloc2_names.specs.Operand.{OperandValue, reads_at}
 use Rattle.regalloc2_function.specs.FunctionValue.{FunctionValue, block_at, inst_at}
 use Rattle.regalloc2_function.specs.Path.{first_of}
 use Rattle.regalloc2_function.specs.SourceRun.{arguments_at}
@@ -13,16 +13,9 @@ use Rattle.regalloc2_semantics.specs.Listing.{defines}
 use Rattle.regalloc2_liveness.specs.LiveIn.{IsRead, IsNeeded, IsUnwrittenTo}
 use Rattle.regalloc2_liveness.specs.BlockVRegPairs.{Pair, lists, BlockSets, holds}
 
--- two names of one position
-abbrev pub is_position : OperandPos → OperandPos → Bool
-is_position Early Early = true
-is_position Early Late = false
-is_position Late Early = false
-is_position Late Late = true
-
 -- whether some operand reads v at a position
 unfoldable pub reads : OperandPos → VirtualRegister → List OperandValue → Bool
-reads pos v ops = list_any (λ o. is_reading o && is_position pos o.position && is_vreg o.vreg v) ops
+reads pos v ops = list_any (λ o. reads_at pos o && is_vreg o.vreg v) ops
 
 -- whether an instruction of a block asks for v, where the block has written some before
 abbrev pub asks : List OperandValue → BlockSets → ℕ → VirtualRegister → Bool

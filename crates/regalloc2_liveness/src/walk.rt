@@ -3,12 +3,12 @@
 ghost use Rattle.std.specs.Prelude.{◌≡◌, ◌<◌, ◌&&◌, false, [], not, length, IfOk, OnOk};
 ghost use Rattle.regalloc2_names.specs.Register.{VirtualRegister};
 ghost use Rattle.regalloc2_function.specs.FunctionValue.{block_at};
-ghost use Rattle.regalloc2_names.specs.Operand.{is_reading, is_def};
+ghost use Rattle.regalloc2_names.specs.Operand.{is_def};
 ghost use Rattle.regalloc2_function.specs.WellFormed.{IsFramed};
 ghost use Rattle.regalloc2_semantics.specs.Blocks.{names};
 ghost use Rattle.regalloc2_semantics.specs.Listing.{defines};
 ghost use Rattle.regalloc2_liveness.specs.BlockVRegPairs.{Gains, Grows, holds};
-ghost use Rattle.regalloc2_liveness.specs.BlockWalk.{is_position, reads, asks, IsWalkedTo, IsWalked, AreWrites, AreAsked, Passes, AreParameters};
+ghost use Rattle.regalloc2_liveness.specs.BlockWalk.{reads, asks, IsWalkedTo, IsWalked, AreWrites, AreAsked, Passes, AreParameters};
 
 use crate::needs::Needs;
 use crate::sets::BlockVRegs;
@@ -16,13 +16,6 @@ use regalloc2_function::Function;
 use regalloc2_index::{Block, Inst};
 use regalloc2_names::{Operand, OperandPos, VReg};
 use std::alloc::{AllocError, Allocator};
-
-/// Whether an operand reads its virtual register at the position.
-fn reads_at(operand: Operand, pos: OperandPos) -> bool
-    ensures { result ≡ (is_reading operand && is_position pos operand.position) }
-{
-    operand.is_reading() && operand.pos() == pos
-}
 
 /// Asks for what operands read at a position.
 fn ask_reads<A: Allocator + Copy>(
@@ -35,7 +28,7 @@ fn ask_reads<A: Allocator + Copy>(
     ensures { OnOk result (Grows block (λ v. reads pos v operands.now && not (holds written.now (block, v))) needs.old needs.new) }
 {
     for operand in operands {
-        if reads_at(*operand, pos) {
+        if operand.reads_at(pos) {
             needs.ask(written, block, operand.vreg())?;
         }
     }

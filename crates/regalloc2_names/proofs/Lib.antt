@@ -6,3 +6,4 @@ pub mod EmptyWord
 pub mod TextLaws
 pub mod Counted
 pub mod Highest
+pub mod EqualNames

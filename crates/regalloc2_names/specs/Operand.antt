@@ -38,6 +38,13 @@ abbrev pub is_late : OperandPos → Bool
 is_late Early = false
 is_late Late = true
 
+-- two names of one position
+abbrev pub is_position : OperandPos → OperandPos → Bool
+is_position Early Early = true
+is_position Early Late = false
+is_position Late Early = false
+is_position Late Late = true
+
 -- it asks for a register by name
 abbrev pub is_fixed : OperandConstraint → Bool
 is_fixed Any = false
@@ -54,3 +61,7 @@ is_fixed_nonallocatable o = is_fixed o.constraint && nat_eq o.vreg.number 107374
 -- the operand reads its virtual register
 abbrev pub is_reading : OperandValue → Bool
 is_reading o = not (is_def o.kind) && not (is_fixed_nonallocatable o)
+
+-- and does so at that position
+abbrev pub reads_at : OperandPos → OperandValue → Bool
+reads_at position o = is_reading o && is_position position o.position

@@ -1,7 +1,7 @@
 //! Operands of instructions.
 
 ghost use Rattle.std.specs.Prelude.{None, Some, ◌≡◌, ℕ, ◌%◌, ◌<◌, ◌≤◌, ◌↔◌, IsTrue};
-ghost use Rattle.regalloc2_names.specs.Operand.{is_def, is_late, is_reading, nonallocatable_register};
+ghost use Rattle.regalloc2_names.specs.Operand.{is_def, is_late, is_position, is_reading, nonallocatable_register, reads_at};
 ghost use Rattle.regalloc2_names.specs.Packing.{IsConstraintOf, IsOperand, IsOperandBits, bits_of_operand, constraint_code, operand_of_bits};
 
 use super::{OperandConstraint, OperandKind, OperandPos, PReg, RegClass, VReg};
@@ -315,7 +315,22 @@ impl Operand {
     pub fn is_late(self) -> bool
         ensures { result ≡ is_late self.position }
     {
-        self.pos() == OperandPos::Late
+        self.is_at(OperandPos::Late)
+    }
+
+    /// Whether the operand is read or written at that position.
+    pub fn is_at(self, pos: OperandPos) -> bool
+        ensures test { result ≡ is_position pos self.position }
+        ensures same { IsTrue result ↔ (self.position ≡ pos) }
+    {
+        self.pos() == pos
+    }
+
+    /// Whether the operand reads its virtual register at that position.
+    pub fn reads_at(self, pos: OperandPos) -> bool
+        ensures { result ≡ reads_at pos self }
+    {
+        self.is_reading() && self.is_at(pos)
     }
 
     /// The word that holds the operand, and gives it back.

@@ -2,7 +2,7 @@
 
 ghost use Rattle.std.specs.Prelude.{None, Some, false, ◌≡◌, ℕ, ◌+◌, ◌%◌, ◌<◌, ◌≤◌, ◌↔◌, IsTrue};
 ghost use Rattle.regalloc2_names.specs.PlaceBits.{IsPlaceBits, bits_of_place, index_of_place, place_of_bits};
-ghost use Rattle.regalloc2_names.specs.Place.{NoPlace, InRegister, InSlot, invalid_slot, is_in_register, is_in_slot, is_memory, is_no_place};
+ghost use Rattle.regalloc2_names.specs.Place.{NoPlace, InRegister, InSlot, invalid_slot, is_in_register, is_in_slot, is_memory, is_no_place, is_place};
 ghost use Rattle.regalloc2_names.specs.Place.{kind_of_place, register_of_place, slot_of_place};
 
 use super::{AllocationKind, PReg, PRegSet};
@@ -155,6 +155,14 @@ impl Allocation {
         ensures { IsTrue result ↔ (is_no_place self ≡ false) }
     {
         self.kind() != AllocationKind::None
+    }
+
+    /// Whether both are one place.
+    pub fn is_same(self, other: Allocation) -> bool
+        ensures test { result ≡ is_place self other }
+        ensures same { IsTrue result ↔ (self ≡ other) }
+    {
+        self == other
     }
 
     /// Whether it is a register.

@@ -12,3 +12,4 @@ pub mod Computed
 pub mod Links
 pub mod RingNodes
 pub mod VRegNodes
+pub mod ScratchPool

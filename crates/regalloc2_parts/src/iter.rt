@@ -36,6 +36,7 @@ impl<'a> Operands<'a> {
         }
     }
 
+    #[inline(always)]
     fn picked(&self, pick: Pick) -> PickedOperands<'a>
         ensures { result ≡ picked (accepts pick) self.now.0.now }
     {
@@ -47,6 +48,7 @@ impl<'a> Operands<'a> {
     }
 
     /// The definitions, with their indexes.
+    #[inline(always)]
     pub fn def_ops(&self) -> PickedOperands<'a>
         ensures { result ≡ picked is_def self.now.0.now }
     {
@@ -54,6 +56,7 @@ impl<'a> Operands<'a> {
     }
 
     /// The uses, with their indexes.
+    #[inline(always)]
     pub fn use_ops(&self) -> PickedOperands<'a>
         ensures { result ≡ picked is_use self.now.0.now }
     {
@@ -82,6 +85,7 @@ impl<'a> Operands<'a> {
     }
 
     /// The late operands, with their indexes.
+    #[inline(always)]
     pub fn late(&self) -> PickedOperands<'a>
         ensures { result ≡ picked is_late self.now.0.now }
     {
@@ -89,6 +93,7 @@ impl<'a> Operands<'a> {
     }
 
     /// The early operands, with their indexes.
+    #[inline(always)]
     pub fn early(&self) -> PickedOperands<'a>
         ensures { result ≡ picked is_early self.now.0.now }
     {
@@ -121,6 +126,7 @@ enum Pick {
 }
 
 impl Pick {
+    #[inline(always)]
     fn accepts(self, operand: Operand) -> bool
         ensures { result ≡ accepts self operand }
     {
@@ -137,6 +143,7 @@ impl Pick {
 }
 
 /// The first index from `from` on whose operand is picked.
+#[inline(always)]
 fn next_picked(operands: &[Operand], from: usize, pick: Pick) -> Option<usize>
     ensures none { IfNone result (left_from (accepts pick) from operands.now ≡ []) }
     ensures bound { IfSome result (λ i. i < length operands.now) }
@@ -176,6 +183,7 @@ impl<'a> Iterator for PickedOperands<'a> {
 
     ghost remaining = { item_count (λ left. left) };
 
+    #[inline(always)]
     fn next(&mut self) -> Option<(usize, Operand)> {
         let index = next_picked(self.operands, self.from, self.pick)?;
         self.from = index + 1;

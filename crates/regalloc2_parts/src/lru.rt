@@ -93,6 +93,7 @@ impl<A: Allocator> Lru<A> {
     }
 
     /// A walk over the members, the oldest first.
+    #[inline(always)]
     fn oldest_first(&self) -> OldestFirst<'_>
         ensures walk { result ≡ reverse self.now }
         ensures distinct { IsDistinct is_register self.now }

@@ -13,7 +13,7 @@ mod passing;
 mod resolved;
 mod scratch;
 
-use regalloc2_names::Allocation;
+use regalloc2_names::{Allocation, RegAllocError};
 pub use resolved::MoveVecWithScratch;
 pub use scratch::MoveAndScratchResolver;
 use smallvec::SmallVec;
@@ -51,6 +51,20 @@ impl<T: Drop> From<AllocFailed<T>> for MoveFault {
 
     fn from(_: AllocFailed<T>) -> Self {
         MoveFault::Memory
+    }
+}
+
+impl From<MoveFault> for RegAllocError {
+    ghost use Rattle.std.specs.Prelude.{◌≡◌};
+    ghost use Rattle.regalloc2_parts.specs.ScratchPool.{error_of};
+
+    ghost from_gives = { λ e r. r ≡ error_of e };
+
+    fn from(fault: MoveFault) -> Self {
+        match fault {
+            MoveFault::NoSlot => RegAllocError::TooManySpillSlots,
+            MoveFault::Memory => RegAllocError::Memory,
+        }
     }
 }
 

@@ -20,13 +20,14 @@ use Rattle.regalloc2_fastalloc_proofs.proofs.Slots.SlotsGrow.{gives_stay, end_gr
 use Rattle.regalloc2_fastalloc_proofs.proofs.Safety.BlockStartKeepsSafe.{PartKept, parameters_kept, empties_kept}
 use Rattle.regalloc2_fastalloc_proofs.proofs.Safety.InstKeepsSafe.{fresh_turn}
 use Rattle.regalloc2_pressure_proofs.specs.EnoughRegs.{HasEnoughRegs, none_needed, AllWrite, AllMay, AreSafe}
-use Rattle.regalloc2_pressure_proofs.proofs.StepsKeepMachine.{keeps_of, HasAll, all_kept}
+use Rattle.regalloc2_fastalloc_proofs.proofs.Safety.StepsKeepMachine.{keeps_of}
+use Rattle.regalloc2_pressure_proofs.proofs.StepsKeepMachine.{HasAll, all_kept}
 use Rattle.regalloc2_pressure_proofs.proofs.OneRegTaken.{ample_none, ample_kept}
 use Rattle.regalloc2_pressure_proofs.proofs.StepsLeaveEnough.{ample_clears, never_clear, ample_sends, never_send}
 use Rattle.regalloc2_pressure_proofs.proofs.ClaimLeavesEnough.{safe_held}
 use Rattle.regalloc2_pressure_proofs.proofs.EvictionsLeaveEnough.{goes_away}
 use Rattle.regalloc2_pressure_proofs.proofs.EnoughAtStart.{StartsFree, fresh_ample}
-use Rattle.regalloc2_pressure_proofs.proofs.WalkKeepsSafe.{parameters_keep}
+use Rattle.regalloc2_fastalloc_proofs.proofs.Safety.WalkKeepsMachine.{parameters_keep}
 
 -- where the available registers are fresh, all of the machine's are available, and no scratch register is taken
 pub starts_fresh : (inst_regs : InstRegs) (t : StateValue) → IsFresh inst_regs t → StartsFree inst_regs t

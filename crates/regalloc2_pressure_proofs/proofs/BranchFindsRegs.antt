@@ -20,17 +20,19 @@ use Rattle.regalloc2_fastalloc_state.specs.StateParts.{NoneIsFrom}
 use Rattle.regalloc2_fastalloc_proofs.specs.InstSteps.{StateValue}
 use Rattle.regalloc2_fastalloc_proofs.specs.BlockStart.{no_vreg}
 use Rattle.regalloc2_fastalloc_proofs.specs.BranchSteps.{ClassMove, is_class, of_class, SpillsArgument, from_register, in_slot, GathersEdgeMoves}
-use Rattle.regalloc2_fastalloc_proofs.specs.BranchSteps.{none_gathered, one_gathered, GathersMoves, no_edge, one_edge}
+use Rattle.regalloc2_fastalloc_proofs.specs.BranchSteps.{none_gathered, one_gathered, own_argument, IsOwn, GathersMoves, no_edge, one_edge}
 use Rattle.regalloc2_fastalloc_proofs.specs.OutOfRegs.{SpillArgumentFails, GatherEdgeFails, GatherMovesFails, ProcessBranchFails, in_gather, in_order}
 use Rattle.regalloc2_fastalloc_proofs.specs.Safety.{AreSafeRegs}
 use Rattle.regalloc2_fastalloc_proofs.proofs.Safety.StepsKeepSafe.{IsApart, StepKept}
 use Rattle.regalloc2_fastalloc_proofs.proofs.Safety.BranchKeepsSafe.{AreGiven, gathers_edge_kept, gathers_kept}
 use Rattle.regalloc2_pressure_proofs.specs.EnoughRegs.{HasEnoughRegs, AllWrite, AllMay, AreSafe}
-use Rattle.regalloc2_pressure_proofs.proofs.StepsKeepMachine.{keeps_of, HasAll, all_kept}
+use Rattle.regalloc2_fastalloc_proofs.proofs.Safety.StepsKeepMachine.{keeps_of}
+use Rattle.regalloc2_pressure_proofs.proofs.StepsKeepMachine.{HasAll, all_kept}
 use Rattle.regalloc2_pressure_proofs.proofs.OneRegTaken.{ample_kept}
 use Rattle.regalloc2_pressure_proofs.proofs.StepsLeaveEnough.{AreHeld, ample_clears, never_clear}
 use Rattle.regalloc2_pressure_proofs.proofs.ClaimLeavesEnough.{held_same, safe_held}
-use Rattle.regalloc2_pressure_proofs.proofs.WalkKeepsSafe.{every_write, gathers_keep}
+use Rattle.regalloc2_fastalloc_proofs.proofs.Safety.WalkKeepsMachine.{gathers_keep}
+use Rattle.regalloc2_pressure_proofs.proofs.WalkKeepsSafe.{every_write}
 
 same_class : (a b : RegClass) → is_class a b ≡ true → b ≡ a
 unfolding is_class
@@ -54,7 +56,7 @@ none_of_class P c (g ∷ gs) h no_one = elim (cases_Bool (is_class c g.class)) [
 ]
 
 -- where a class is named, an allocatable register is there
-some_from : (f : FunctionValue) (env : MachineValue) → MachineFits f env → (t : StateValue) → HasAll env t → (c : RegClass) → NoneIsFrom t.allocatable c 0 →
+pub some_from : (f : FunctionValue) (env : MachineValue) → MachineFits f env → (t : StateValue) → HasAll env t → (c : RegClass) → NoneIsFrom t.allocatable c 0 →
     NamesClass f c → ⊥
 some_from f env fits t all c none named =
     let r = (fits c).has_a_register named in
@@ -84,24 +86,26 @@ module _ (Named : RegClass → Type 0) (needed : RegClass → ℕ) (point : ℕ)
   AnyPasses v = Unit {0}
 
   -- those of an edge
-  module _ (params arguments : List VirtualRegister) (known : (j : ℕ) → j < length params → Known (slice_index_or params j no_vreg) × Unit {0}) (t : InstRegs)
+  module _ (Own : VirtualRegister → Type 0) (params arguments : List VirtualRegister)
+      (known : (j : ℕ) → j < length params → Known (slice_index_or params j no_vreg) × Unit {0}) (t : InstRegs)
       (old : StateValue) (before_it : List ClassMove)
       (h : AreSafe env Known old) (ht : AreSafeRegs env t) (given_before : AreGiven Known AnyPasses old.slots before_it)
       (a : HasEnoughRegs Named needed t old) where
-    edge_kept : (k : ℕ) (u : InstRegs) (m : StateValue) (given : List ClassMove) → GathersEdgeMoves point params arguments t old before_it k u m given →
+    edge_kept : (k : ℕ) (u : InstRegs) (m : StateValue) (given : List ClassMove) → GathersEdgeMoves Own point params arguments t old before_it k u m given →
         StepKept env Known AllWrite AllMay old u m
     edge_kept k u m given edge = (gathers_edge_kept env apart Known AllWrite AllMay point tt AnyPasses (every_write point) params arguments known t old
         before_it h ht given_before k u m given edge).0
 
-    ample_edge : (k : ℕ) (u : InstRegs) (m : StateValue) (given : List ClassMove) → GathersEdgeMoves point params arguments t old before_it k u m given →
+    ample_edge : (k : ℕ) (u : InstRegs) (m : StateValue) (given : List ClassMove) → GathersEdgeMoves Own point params arguments t old before_it k u m given →
         HasEnoughRegs Named needed u m
     ample_edge k u new given none_gathered = a
-    ample_edge k u new given (one_gathered j some to from w x m n o lt prev gives places edits machine settles) =
+    ample_edge k u new given (one_gathered j some to from w x m n o lt prev gives places edits machine settles foreign) =
         let p = edge_kept j w m some prev in
         ample_settles (slice_index_or arguments j no_vreg) from w u n new settles (held_same Known m n places (safe_held env Known m p.safe)) p.inst_regs
         (ample_kept Named needed w m n (keeps_of m n machine) (ample_edge j w m some prev))
+    ample_edge k u new given (own_argument j some w m lt prev is_own) = ample_edge j u new given prev
 
-    never_edge : GatherEdgeFails point params arguments t old before_it → ⊥
+    never_edge : GatherEdgeFails Own point params arguments t old before_it → ⊥
     never_edge s =
         let p = edge_kept s.index s.inst_regs s.middle s.given s.gathers in
         never_settle (slice_index_or arguments s.index no_vreg) s.inst_regs s.new s.stops
@@ -123,25 +127,29 @@ module _ (Named : RegClass → Type 0) (needed : RegClass → ℕ) (point : ℕ)
     ample_gathers k u new given no_edge = a
     ample_gathers k u new given (one_edge j some more w x m n lt prev edge) =
         let p = gathered_kept j w m some prev in
-        ample_edge (block_at f (target_at f b j)).params (arguments_at f b j) (λ i less. known j i lt less) w m some p.0.safe p.0.inst_regs p.1
+        ample_edge (IsOwn f b) (block_at f (target_at f b j)).params (arguments_at f b j) (λ i less. known j i lt less) w m some p.0.safe p.0.inst_regs p.1
         (ample_gathers j w m some prev) (length (block_at f (target_at f b j)).params) u new given edge
 
     never_gather : GatherMovesFails f b point t old → ⊥
     never_gather s =
         let p = gathered_kept s.index s.inst_regs s.middle s.given s.gathers in
-        never_edge (block_at f (target_at f b s.index)).params (arguments_at f b s.index) (λ i less. known s.index i s.inside less) s.inst_regs s.middle s.given
+        never_edge (IsOwn f b) (block_at f (target_at f b s.index)).params (arguments_at f b s.index) (λ i less. known s.index i s.inside less) s.inst_regs
+        s.middle s.given
         p.0.safe p.0.inst_regs p.1 (ample_gathers s.index s.inst_regs s.middle s.given s.gathers) s.stops
 
 -- the class of each move is that of an argument
 module _ (P : RegClass → Type 0) (point : ℕ) where
-  edge_classes : (params arguments : List VirtualRegister) → ((j : ℕ) → j < length params → P (slice_index_or arguments j no_vreg).class) →
+  edge_classes : {Own : VirtualRegister → Type 0} (params arguments : List VirtualRegister) →
+      ((j : ℕ) → j < length params → P (slice_index_or arguments j no_vreg).class) →
       (t : InstRegs) (old : StateValue) (before_it : List ClassMove) → All (λ g. P g.class) before_it
-      → (k : ℕ) (u : InstRegs) (m : StateValue) (given : List ClassMove) → GathersEdgeMoves point params arguments t old before_it k u m given
+      → (k : ℕ) (u : InstRegs) (m : StateValue) (given : List ClassMove) → GathersEdgeMoves Own point params arguments t old before_it k u m given
       → All (λ g. P g.class) given
   edge_classes params arguments each t old before_it h k u m given none_gathered = h
-  edge_classes params arguments each t old before_it h k u m given (one_gathered j some to from w x n o q lt prev gives places edits machine settles) =
+  edge_classes params arguments each t old before_it h k u m given (one_gathered j some to from w x n o q lt prev gives places edits machine settles foreign) =
       All-push (λ (g : ClassMove). P g.class) some (record { class = (slice_index_or arguments j no_vreg).class; from = from; to = to })
       (edge_classes params arguments each t old before_it h j w n some prev) (each j lt)
+  edge_classes params arguments each t old before_it h k u m given (own_argument j some w n lt prev is_own) =
+      edge_classes params arguments each t old before_it h j u m given prev
 
   all_classes : (f : FunctionValue) (b : ℕ) → ((k j : ℕ) → k < length (block_at f b).succs → j < length (block_at f (target_at f b k)).params →
       P (slice_index_or (arguments_at f b k) j no_vreg).class) → (t : InstRegs) (old : StateValue)

@@ -27,7 +27,8 @@ use Rattle.regalloc2_fastalloc_proofs.proofs.Slots.SlotsGrow.{SlotsStay, same_st
 use Rattle.regalloc2_fastalloc_proofs.proofs.Moves.ScratchRegTaken.{Fit}
 use Rattle.regalloc2_fastalloc_proofs.proofs.Safety.OperandKeepsSafe.{leaves_safe}
 use Rattle.regalloc2_pressure_proofs.specs.EnoughRegs.{HasEnoughRegs, AllWrite, AllMay, AreSafe}
-use Rattle.regalloc2_pressure_proofs.proofs.StepsKeepMachine.{KeepsMachine, keeps_of, keeps_same, HasAll, all_kept, picks_keeps, clears_but_keeps, sends_keeps}
+use Rattle.regalloc2_fastalloc_proofs.proofs.Safety.StepsKeepMachine.{KeepsMachine, keeps_of, keeps_same, picks_keeps, clears_but_keeps, sends_keeps}
+use Rattle.regalloc2_pressure_proofs.proofs.StepsKeepMachine.{HasAll, all_kept}
 use Rattle.regalloc2_pressure_proofs.proofs.OneRegTaken.{and_left, and_right, free_but_one, free_kept, holds_loses, ample_same, ample_kept, ample_less}
 use Rattle.regalloc2_pressure_proofs.proofs.OneRegTaken.{ample_some}
 use Rattle.regalloc2_pressure_proofs.proofs.StepsLeaveEnough.{same_code, AreHeld, ample_clears_but, never_clear, ample_sends, never_send}

@@ -19,7 +19,8 @@ use Rattle.regalloc2_fastalloc_proofs.proofs.Slots.SlotsGrow.{end_grows}
 use Rattle.regalloc2_fastalloc_proofs.proofs.Operands.AllocsSoFar.{at_place, IsTame, reads_allocated}
 use Rattle.regalloc2_fastalloc_proofs.proofs.Safety.InstKeepsSafe.{clears_fixed_kept, clears_all_kept, moves_kept}
 use Rattle.regalloc2_pressure_proofs.specs.EnoughRegs.{HasEnoughRegs, AllWrite, AllMay, AreSafe}
-use Rattle.regalloc2_pressure_proofs.proofs.StepsKeepMachine.{HasAll, all_kept, moves_keep}
+use Rattle.regalloc2_fastalloc_proofs.proofs.Safety.StepsKeepMachine.{moves_keep}
+use Rattle.regalloc2_pressure_proofs.proofs.StepsKeepMachine.{HasAll, all_kept}
 use Rattle.regalloc2_pressure_proofs.proofs.StepsLeaveEnough.{ample_clears, ample_clears_but, never_clear, ample_sends, never_send}
 use Rattle.regalloc2_pressure_proofs.proofs.ClaimLeavesEnough.{safe_held}
 

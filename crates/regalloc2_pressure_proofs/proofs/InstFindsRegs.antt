@@ -15,7 +15,7 @@ use Rattle.regalloc2_function.specs.Fitting.{Fits, NamesClass}
 use Rattle.regalloc2_fastalloc_state.specs.declared.inst_regs.InstRegs.{InstRegs}
 use Rattle.regalloc2_fastalloc_state.specs.InstRegs.{is_free, positions_of}
 use Rattle.regalloc2_validate.specs.Constraints.{op_at, no_operand}
-use Rattle.regalloc2_fastalloc_proofs.specs.InstSteps.{StateValue, ReservesRegs, RemovesClobbers, own as claims_own, EvictsFixed, none_cleared}
+use Rattle.regalloc2_fastalloc_proofs.specs.InstSteps.{StateValue, ReservesRegs, RemovesClobbers, own as claims_own, EvictsFixed, none_cleared, ends_block}
 use Rattle.regalloc2_fastalloc_proofs.specs.InstSteps.{not_fixed, of_fixed, of_reuse, EvictsEach, none_left, one_more, ProcessesOperandsAt, MovesUses}
 use Rattle.regalloc2_fastalloc_proofs.specs.OutOfRegs.{EvictFixedFails, EvictClobbersFails, ProcessOperandsAtFails, MoveUsesFails, PreparesRegs}
 use Rattle.regalloc2_fastalloc_proofs.specs.OutOfRegs.{AllocInstFails, in_reserve, in_fixed, in_clobbers, in_lates, in_earlies, in_moves}
@@ -27,7 +27,8 @@ use Rattle.regalloc2_fastalloc_proofs.proofs.Operands.AllocsSoFar.{IsTame, Fille
 use Rattle.regalloc2_fastalloc_proofs.proofs.Safety.OperandPassesKeepSafe.{lates_kept, earlies_kept}
 use Rattle.regalloc2_fastalloc_proofs.proofs.Safety.InstKeepsSafe.{clears_fixed_kept, clears_all_kept, fresh_turn}
 use Rattle.regalloc2_pressure_proofs.specs.EnoughRegs.{HasEnoughRegs, waiting, none_needed, AllWrite, AllMay, AreSafe}
-use Rattle.regalloc2_pressure_proofs.proofs.StepsKeepMachine.{KeepsMachine, keeps_then, HasAll, all_kept, clears_fixed_keep, clears_all_keep, places_keep}
+use Rattle.regalloc2_fastalloc_proofs.proofs.Safety.StepsKeepMachine.{KeepsMachine, keeps_then, clears_fixed_keep, clears_all_keep, places_keep}
+use Rattle.regalloc2_pressure_proofs.proofs.StepsKeepMachine.{HasAll, all_kept}
 use Rattle.regalloc2_pressure_proofs.proofs.OneRegTaken.{ample_less}
 use Rattle.regalloc2_pressure_proofs.proofs.WaitingOperands.{all_wait}
 use Rattle.regalloc2_pressure_proofs.proofs.FreeRegsCoverWaiting.{Paying, unfree_kept, some_position}
@@ -78,10 +79,10 @@ module _ (f : FunctionValue) (env : MachineValue) (apart : IsApart env) (Known :
   fixed k r lt allocated is = fits.fixed k no_operand lt allocated r is
 
   abbrev InLates : ℕ → ℕ → Type 0
-  InLates = Late Named env apart Known named ops tame fixed old.slots i inst.is_ret
+  InLates = Late Named env apart Known named ops tame fixed old.slots i (ends_block inst)
 
   abbrev InEarlies : ℕ → ℕ → Type 0
-  InEarlies = Early Named env apart Known named ops tame fixed old.slots i inst.is_ret
+  InEarlies = Early Named env apart Known named ops tame fixed old.slots i (ends_block inst)
 
   -- fixed registers and clobbers are held
   module _ (reserved held : InstRegs) (reserves : ReservesRegs ops began reserved old) (holds : RemovesClobbers inst.clobbers reserved held) where
@@ -173,42 +174,46 @@ module _ (f : FunctionValue) (env : MachineValue) (apart : IsApart env) (Known :
       named = λ j q lt not_d there. absurd (no_place_there (slice_index_or blank j NoPlace) q (none j) there);
     }
 
-    never_in_lates : ProcessOperandsAtFails i inst.is_ret true ops blank quiet m → ⊥
-    never_in_lates stops = never_late Named env apart Known named ops tame fixed old.slots i inst.is_ret blank quiet m quiet_all filled paying stops
+    never_in_lates : ProcessOperandsAtFails i (ends_block inst) true ops blank quiet m → ⊥
+    never_in_lates stops = never_late Named env apart Known named ops tame fixed old.slots i (ends_block inst) blank quiet m quiet_all filled paying stops
 
     -- late operands are allocated
     module _ (half : List Place) (late : InstRegs) (n : StateValue)
-        (lates : ProcessesOperandsAt i inst.is_ret true ops blank quiet m (length ops) half late n) where
+        (lates : ProcessesOperandsAt i (ends_block inst) true ops blank quiet m (length ops) half late n) where
       half_all : HasAll env n
-      half_all = all_kept env m n (places_keep i inst.is_ret true ops blank quiet m (length ops) half late n lates) quiet_all
+      half_all = all_kept env m n (places_keep i (ends_block inst) true ops blank quiet m (length ops) half late n lates) quiet_all
 
       half_filled : Filled env Known AllWrite AllMay old.slots ops (InEarlies 0) half late n
       half_filled = filled_same env Known AllWrite AllMay old.slots ops tame (InLates (length ops)) (InEarlies 0) half late n
           (λ j less e. elim e [ inl is ↦ (less, is) | inr below ↦ absurd (omega (arith, below)) ]) (λ j less d. inl d.1)
-          (lates_kept env apart Known AllWrite AllMay old.slots ops tame fixed i inst.is_ret tt (defs_write i ops) blank quiet m filled (length ops) half late n
+          (lates_kept env apart Known AllWrite AllMay old.slots ops tame fixed i (ends_block inst) tt (defs_write i ops) blank quiet m filled (length ops)
+          half late n
           lates (omega arith))
 
       half_paying : Paying Named ops (InEarlies 0) half late n
       half_paying = paying_more Named ops (InLates (length ops)) (InEarlies 0) half late n (λ j less d. inl d.1)
-          (lates_pay Named env apart Known named ops tame fixed old.slots i inst.is_ret blank quiet m quiet_all filled paying (length ops) half late n lates
+          (lates_pay Named env apart Known named ops tame fixed old.slots i (ends_block inst) blank quiet m quiet_all filled paying (length ops) half late n
+          lates
           (omega arith))
 
-      never_in_earlies : ProcessOperandsAtFails i inst.is_ret false ops half late n → ⊥
-      never_in_earlies stops = never_early Named env apart Known named ops tame fixed old.slots i inst.is_ret half late n half_all half_filled half_paying stops
+      never_in_earlies : ProcessOperandsAtFails i (ends_block inst) false ops half late n → ⊥
+      never_in_earlies stops = never_early Named env apart Known named ops tame fixed old.slots i (ends_block inst) half late n half_all half_filled
+          half_paying stops
 
       -- early operands are allocated
       module _ (places : List Place) (early : InstRegs) (o : StateValue)
-          (earlies : ProcessesOperandsAt i inst.is_ret false ops half late n (length ops) places early o) where
+          (earlies : ProcessesOperandsAt i (ends_block inst) false ops half late n (length ops) places early o) where
         last_all : HasAll env o
-        last_all = all_kept env n o (places_keep i inst.is_ret false ops half late n (length ops) places early o earlies) half_all
+        last_all = all_kept env n o (places_keep i (ends_block inst) false ops half late n (length ops) places early o earlies) half_all
 
         last_filled : Filled env Known AllWrite AllMay old.slots ops (InEarlies (length ops)) places early o
-        last_filled = earlies_kept env apart Known AllWrite AllMay old.slots ops tame fixed i inst.is_ret tt (defs_write i ops) half late n half_filled
+        last_filled = earlies_kept env apart Known AllWrite AllMay old.slots ops tame fixed i (ends_block inst) tt (defs_write i ops) half late n half_filled
             (length ops) places early o earlies (omega arith)
 
         last_ample : HasEnoughRegs Named none_needed early o
         last_ample = ample_less Named (waiting ops places) none_needed early o (λ c. omega arith)
-            (earlies_pay Named env apart Known named ops tame fixed old.slots i inst.is_ret half late n half_all half_filled half_paying (length ops) places
+            (earlies_pay Named env apart Known named ops tame fixed old.slots i (ends_block inst) half late n half_all half_filled half_paying (length ops)
+            places
             early o earlies (omega arith)).ample
 
         never_in_moves : MoveUsesFails (before i) ops places early o → ⊥
@@ -226,7 +231,7 @@ module _ (f : FunctionValue) (env : MachineValue) (apart : IsApart env) (Known :
             (λ j less reads. last_filled.found j less (inr less) reads) last_ample (length ops) ended new moves (omega arith)
 
   -- an instruction that fits never stops
-  pub never_inst : AllocInstFails i inst.is_ret ops inst.clobbers blank began old → ⊥
+  pub never_inst : AllocInstFails i (ends_block inst) ops inst.clobbers blank began old → ⊥
   never_inst (in_reserve stops) = never_reserve f env inst fits Known tame old all stops
   never_inst (in_fixed reserved held reserves holds stops) = never_in_fixed reserved held reserves holds stops
   never_inst (in_clobbers reserved held cleared m reserves holds clears stops) = never_in_clobbers reserved held reserves holds cleared m clears stops

@@ -15,6 +15,7 @@ pub mod OneRegTaken
 pub mod StepsKeepMachine
 pub mod OperandFindsReg
 pub mod BranchFindsRegs
+pub mod BranchRegsKnown
 pub mod PassesLeaveEnough
 pub mod FreeRegsCoverWaiting
 pub mod OperandsLeaveEnough

@@ -15,7 +15,7 @@ use Rattle.regalloc2_fastalloc_state.specs.InstRegs.{RemovesAvailable, is_free, 
 use Rattle.regalloc2_fastalloc_state.proofs.CountingLaws.{count_le, count_but_one, count_some, some_count}
 use Rattle.regalloc2_fastalloc_proofs.specs.InstSteps.{StateValue, scratch_reserve_left}
 use Rattle.regalloc2_pressure_proofs.specs.EnoughRegs.{HasEnoughRegs, TakesAtMost}
-use Rattle.regalloc2_pressure_proofs.proofs.StepsKeepMachine.{KeepsMachine}
+use Rattle.regalloc2_fastalloc_proofs.proofs.Safety.StepsKeepMachine.{KeepsMachine}
 
 not_true : (b : Bool) → (b ≡ true → ⊥) → b ≡ false
 not_true true h = absurd (h refl)

@@ -29,7 +29,8 @@ use Rattle.regalloc2_fastalloc_proofs.proofs.Operands.ReuseDefs.{defines_less}
 use Rattle.regalloc2_fastalloc_proofs.proofs.Safety.OperandKeepsSafe.{PlaceKept, gets_kept}
 use Rattle.regalloc2_fastalloc_proofs.proofs.Operands.AllocsSoFar.{at_place, IsTame, Filled, FixedAreKnown, not_both}
 use Rattle.regalloc2_pressure_proofs.specs.EnoughRegs.{HasEnoughRegs, waiting, AllWrite, AllMay}
-use Rattle.regalloc2_pressure_proofs.proofs.StepsKeepMachine.{KeepsMachine, keeps_then, HasAll, all_kept, gets_keeps, uses_keeps, defines_keeps}
+use Rattle.regalloc2_fastalloc_proofs.proofs.Safety.StepsKeepMachine.{KeepsMachine, keeps_then, gets_keeps, uses_keeps, defines_keeps}
+use Rattle.regalloc2_pressure_proofs.proofs.StepsKeepMachine.{HasAll, all_kept}
 use Rattle.regalloc2_pressure_proofs.proofs.OneRegTaken.{ample_kept}
 use Rattle.regalloc2_pressure_proofs.proofs.ClaimLeavesEnough.{ample_gets, never_get, never_define, ample_defines, safe_held}
 use Rattle.regalloc2_pressure_proofs.proofs.FreeRegsCoverWaiting.{Paying, Pays, pays_fewer, pays_awaited, pays_paid, unfree_kept, some_position, gets_settled}

@@ -13,15 +13,16 @@ use Rattle.regalloc2_function.specs.Machine.{MachineValue, is_allocatable}
 use Rattle.regalloc2_function.specs.SourceRun.{arguments_at}
 use Rattle.regalloc2_function.specs.Fitting.{Fits, MachineFits, NamesClass}
 use Rattle.regalloc2_function.specs.Following.{end_within}
-use Rattle.regalloc2_function.specs.WellFormed.{IsWellFormed}
+use Rattle.regalloc2_function.specs.WellFormed.{IsWellFormed, last_of}
 use Rattle.regalloc2_semantics.specs.Blocks.{target_at}
 use Rattle.regalloc2_semantics.proofs.SingleDef.{Made, by_operand}
-use Rattle.regalloc2_fastalloc_state.specs.StateParts.{no_allocs, no_slots, units_of}
+use Rattle.regalloc2_fastalloc_state.specs.StateParts.{SpillSlotsValue, no_allocs, no_slots, units_of}
 use Rattle.regalloc2_validate.specs.Constraints.{no_operand}
 use Rattle.regalloc2_validate.specs.NoLimits.{AreTaken}
 use Rattle.regalloc2_fastalloc_proofs.specs.InstSteps.{StateValue, AllocsInst}
 use Rattle.regalloc2_fastalloc_proofs.specs.BlockStart.{no_vreg}
 use Rattle.regalloc2_fastalloc_proofs.specs.OutOfRegs.{PreparesRegs, AllocInstInBlockFails, in_inst, in_pass, AllocBlocksFails, in_block, at_beginning}
+use Rattle.regalloc2_fastalloc_proofs.specs.OutOfRegs.{at_stores}
 use Rattle.regalloc2_fastalloc_proofs.specs.Safety.{HasMachine}
 use Rattle.regalloc2_fastalloc_proofs.proofs.Safety.StepsKeepSafe.{IsApart}
 use Rattle.regalloc2_fastalloc_proofs.proofs.Moves.ScratchRegTaken.{Fit}
@@ -33,8 +34,15 @@ use Rattle.regalloc2_pressure_proofs.specs.EnoughRegs.{HasEnoughRegs, none_neede
 use Rattle.regalloc2_pressure_proofs.proofs.StepsKeepMachine.{all_kept}
 use Rattle.regalloc2_pressure_proofs.proofs.EnoughAtStart.{StartsFree}
 use Rattle.regalloc2_pressure_proofs.proofs.InstFindsRegs.{ended_ample, never_inst}
-use Rattle.regalloc2_pressure_proofs.proofs.WalkKeepsSafe.{IsSound, allocates_keep, inst_kept, insts_sound, blocks_sound}
-use Rattle.regalloc2_pressure_proofs.proofs.BranchFindsRegs.{never_pass}
+use Rattle.regalloc2_fastalloc_proofs.proofs.Safety.WalkKeepsMachine.{allocates_keep, begins_block_keep}
+use Rattle.regalloc2_semantics.specs.Listing.{op_at}
+use Rattle.regalloc2_branch_defs.specs.BranchDefs.{IsEdgeInto}
+use Rattle.regalloc2_fastalloc_proofs.specs.StoreSteps.{branch_operands, IsStoredFor}
+use Rattle.regalloc2_fastalloc_proofs.proofs.Safety.StoresKeepSafe.{IsAlike, stored_defines}
+use Rattle.regalloc2_fastalloc_proofs.proofs.Safety.StoredDefs.{concerned_made, last_within, stored_of_class}
+use Rattle.regalloc2_pressure_proofs.proofs.BranchRegsKnown.{FixedKnown, all_known_or}
+use Rattle.regalloc2_pressure_proofs.proofs.WalkKeepsSafe.{IsSound, inst_kept, insts_sound, blocks_sound}
+use Rattle.regalloc2_pressure_proofs.proofs.BranchFindsRegs.{never_pass, some_from}
 use Rattle.regalloc2_pressure_proofs.proofs.BlockStartFindsRegs.{starts_fresh, never_begin}
 
 -- what holds of an element at an index holds of some
@@ -75,7 +83,8 @@ readies_of i f blank places old new a = record {
   awaited = a.awaited;
 }
 
-module _ (f : FunctionValue) (env : MachineValue) (fits : MachineFits f env) (limited : IsLimited f) (ok : IsWellFormed env f) (taken : AreTaken f) where
+module _ (f : FunctionValue) (env : MachineValue) (fits : MachineFits f env) (limited : IsLimited f) (ok : IsWellFormed env f) (taken : AreTaken f)
+    (alike : (b e k j : ℕ) (v : VirtualRegister) (slots : SpillSlotsValue) → IsEdgeInto f b e k → IsStoredFor f e k slots j v → IsAlike env f e j v) where
   apart : IsApart env
   apart = machine_apart f env fits
 
@@ -125,7 +134,8 @@ module _ (f : FunctionValue) (env : MachineValue) (fits : MachineFits f env) (li
     never_in before_it (in_inst t blank fresh long none stops) =
         never_inst f env apart (Made f) named i (inst_at f i) (tame i less) inst_fits old s.safe s.all t (starts_fresh t old fresh) blank long none stops
     never_in before_it (in_pass places m a branch stops) =
-        let k = inst_kept env apart (Made f) f ok.follow tame params targets i less a.blank a.here old m a.allocates s.safe in
+        let k = inst_kept env apart (Made f) f ok.follow tame params targets (concerned_made f ok.successors ok.follow) alike i less a.blank a.here old m
+        a.allocates s.safe in
         never_pass f env fits apart (Made f) named none_needed b i (λ e j edge within. (params (target_at f b e) j (targets b e lt edge) within, tt))
         (λ e j edge within. arguments_name b e j lt edge within)
         a.allocates.ended m k.safe (all_kept env old m (allocates_keep i (inst_at f i) a.blank a.here old m a.allocates) s.all) k.inst_regs
@@ -138,14 +148,28 @@ module _ (f : FunctionValue) (env : MachineValue) (fits : MachineFits f env) (li
       let end = end_within f ok.follow b lt in
       let inside = stops.inside in
       let less : stops.index < length f.insts = omega (arith, end, inside) in
-      let first = blocks_sound env apart (Made f) f ok.follow tame params targets blank old s (b + 1) places m walks in
-      let here = insts_sound env apart (Made f) f ok.follow tame params targets b lt places m first (stops.index + 1) stops.places stops.middle stops.walks in
+      let first = blocks_sound env apart (Made f) f ok.follow tame params targets (concerned_made f ok.successors ok.follow) alike blank old s (b + 1) places
+      m walks in
+      let here = insts_sound env apart (Made f) f ok.follow tame params targets (concerned_made f ok.successors ok.follow) alike b lt places m first
+      (stops.index + 1) stops.places stops.middle stops.walks in
       (stops.index, less, λ inst_fits. never_in b stops.index lt less inst_fits stops.middle here stops.places stops.stops)
   stops_there blank old s (at_beginning b places there m n lt walks walked stops) =
-      let first = blocks_sound env apart (Made f) f ok.follow tame params targets blank old s (b + 1) places m walks in
-      let here = insts_sound env apart (Made f) f ok.follow tame params targets b lt places m first (block_at f b).range.first there n walked in
+      let first = blocks_sound env apart (Made f) f ok.follow tame params targets (concerned_made f ok.successors ok.follow) alike blank old s (b + 1) places
+      m walks in
+      let here = insts_sound env apart (Made f) f ok.follow tame params targets (concerned_made f ok.successors ok.follow) alike b lt places m first
+      (block_at f b).range.first there n walked in
       absurd (never_begin f env fits apart (Made f) named (before (block_at f b).range.first) (block_at f b).params (λ k less. params b k lt less) n here.safe
       here.all stops)
+  stops_there blank old s (at_stores b places there m n o lt walks walked reloads stops) =
+      let first = blocks_sound env apart (Made f) f ok.follow tame params targets (concerned_made f ok.successors ok.follow) alike blank old s (b + 1) places m
+      walks in
+      let here = insts_sound env apart (Made f) f ok.follow tame params targets (concerned_made f ok.successors ok.follow) alike b lt places m first
+      (block_at f b).range.first there n walked in
+      let all = all_kept env n o (begins_block_keep (before (block_at f b).range.first) (block_at f b).params n o reloads) here.all in
+      let d = stored_defines f stops.from stops.position o.slots stops.index stops.vreg stops.stored in
+      let made = concerned_made f ok.successors ok.follow b stops.from stops.position (op_at (branch_operands f stops.from) stops.index).vreg stops.edge
+      (inl (stops.index, d, refl)) in
+      absurd (some_from f env fits o all (op_at (branch_operands f stops.from) stops.index).vreg.class stops.none (named _ made))
 
 -- From the tables with which the walk begins: where it stops because registers run out, it stops at an instruction that doesn't fit.
 pub walk_stops : (f : FunctionValue) (env : MachineValue) → MachineFits f env → IsLimited f → IsWellFormed env f → AreTaken f
@@ -155,9 +179,20 @@ pub walk_stops : (f : FunctionValue) (env : MachineValue) → MachineFits f env 
     old.dedicated_scratch ≡ env.scratch
     → AllocBlocksFails f blank old → (i : ℕ) × (i < length f.insts) × (Fits f env (inst_at f i) → ⊥)
 walk_stops f env fits limited ok taken blank old n m sizes by_last nobody slots none units machine fit allocatable dedicated_scratch stops =
-    stops_there f env fits limited ok taken blank old
-    (record {
-      all = record { machine = machine; fit = fit; allocatable = allocatable; dedicated_scratch = dedicated_scratch };
-      safe = begun_safe env (Made f) AllWrite AllMay old n m sizes by_last nobody slots none units machine;
-    })
-    stops
+    elim (all_known_or env f (Made f) old machine (tame_at env f limited ok taken)) [
+      | inr one ↦ one
+      | inl known ↦ stops_there f env fits limited ok taken (alike_known known) blank old
+          (record {
+            all = record { machine = machine; fit = fit; allocatable = allocatable; dedicated_scratch = dedicated_scratch };
+            safe = begun_safe env (Made f) AllWrite AllMay old n m sizes by_last nobody slots none units machine;
+          }) stops
+    ]
+  where
+    alike_known : ((i : ℕ) → i < length f.insts → FixedKnown env f i) → (b e k j : ℕ) (v : VirtualRegister) (s : SpillSlotsValue) → IsEdgeInto f b e k →
+        IsStoredFor f e k s j v → IsAlike env f e j v
+    alike_known known b e k j v s edge is =
+        let c = stored_of_class env f limited ok taken b e k j v s edge is in
+        let d = stored_defines f e k s j v is in record {
+          class = c.class;
+          fixed = λ r at. (known (last_of (block_at f e)) (last_within f ok.follow e edge.block) j d.operand d.definition r at, c.fixed r at);
+        }

@@ -15,7 +15,8 @@ use Rattle.regalloc2_fastalloc_proofs.proofs.Safety.StepsKeepSafe.{IsApart}
 use Rattle.regalloc2_fastalloc_proofs.proofs.Operands.AllocsSoFar.{IsTame, Filled, FixedAreKnown, DefsAreWritten, not_both}
 use Rattle.regalloc2_fastalloc_proofs.proofs.Safety.OperandPassesKeepSafe.{InLate, InEarly, late_more, early_more, lates_kept, earlies_kept}
 use Rattle.regalloc2_pressure_proofs.specs.EnoughRegs.{AllWrite, AllMay}
-use Rattle.regalloc2_pressure_proofs.proofs.StepsKeepMachine.{HasAll, all_kept, places_keep}
+use Rattle.regalloc2_fastalloc_proofs.proofs.Safety.StepsKeepMachine.{places_keep}
+use Rattle.regalloc2_pressure_proofs.proofs.StepsKeepMachine.{HasAll, all_kept}
 use Rattle.regalloc2_pressure_proofs.proofs.FreeRegsCoverWaiting.{Paying}
 use Rattle.regalloc2_pressure_proofs.proofs.OperandsLeaveEnough.{one_pays, never_one}
 

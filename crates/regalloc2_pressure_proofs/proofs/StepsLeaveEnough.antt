@@ -19,7 +19,8 @@ use Rattle.regalloc2_fastalloc_proofs.specs.Safety.{IsEndOfMove, AreSafeRegs}
 use Rattle.regalloc2_fastalloc_proofs.proofs.Safety.StepsKeepSafe.{IsApart}
 use Rattle.regalloc2_pressure_proofs.specs.EnoughRegs.{HasEnoughRegs, TakesAtMost}
 use Rattle.regalloc2_fastalloc_proofs.specs.OutOfRegs.{AllocScratchRegFails, AddMoveFails, EvictPRegFails, AddMoveIfFails}
-use Rattle.regalloc2_pressure_proofs.proofs.StepsKeepMachine.{HasAll, evicts_keeps, keeps_of}
+use Rattle.regalloc2_fastalloc_proofs.proofs.Safety.StepsKeepMachine.{evicts_keeps, keeps_of}
+use Rattle.regalloc2_pressure_proofs.proofs.StepsKeepMachine.{HasAll}
 use Rattle.regalloc2_pressure_proofs.proofs.OneRegTaken.{and_left, and_right, free_but_one, free_kept, ample_kept, ample_none, ample_some, HasStack}
 use Rattle.regalloc2_pressure_proofs.proofs.OneRegTaken.{has_stack, spare_is_one, spare_is_none}
 

@@ -11,7 +11,7 @@ use Rattle.regalloc2_semantics.specs.Carry.{is_clobbered}
 use Rattle.regalloc2_semantics.specs.Instruction.{Claims, Knows}
 use Rattle.regalloc2_semantics.specs.OperandsPlaced.{what_of, Need, located, in_slot, made, Pending, still, slotted, used, Counts, Placed, Once}
 use Rattle.regalloc2_semantics.proofs.CarryRules.{carries_exec}
-use Rattle.regalloc2_semantics.proofs.InstAndItsMoves.{reads_use}
+use Rattle.regalloc2_semantics.proofs.Operands.{reads_use}
 use Rattle.regalloc2_semantics.proofs.SharedPlace.{share_defs, share_late, share_early}
 
 -- all operands are allocated: what is needed after the instruction is needed before it, and the uses' places

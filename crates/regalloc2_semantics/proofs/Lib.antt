@@ -5,7 +5,7 @@
 -- How a listing is put together from edits: `Points`, `MoveInFront`, `PushedMoves`, `ListingParts`, `StoresInFront`. How it carries backward:
 -- `BlockBackward` (`step_carried`), `NotRead`, `UnwrittenPlaces`, `Slots`, `ParamsOnEdge`; along a path: `PathSteps`, `PathInBlock`.
 -- One instruction: `cross_all` in `InstCarries`, over the record of `Operands`: `RecordSteps` (each step keeps it), `AllowedPlaces`,
--- `SharedPlace`, `NeedsAcrossMoves`, `InstAndItsMoves`, `BoundaryToBoundary`. What a well-formed function gives: `Soundness`, `SingleDef`,
+-- `SharedPlace`, `NeedsAcrossMoves`, `BoundaryToBoundary`. What a well-formed function gives: `Soundness`, `SingleDef`,
 -- `Order`, `UsesReadEarlierDefs`. `OneBlock` is the case of one block; `Cells`, `BothRuns`, `Plain` and `Forms` serve all.
 pub mod Cells
 pub mod BothRuns
@@ -23,7 +23,6 @@ pub mod Slots
 pub mod Soundness
 pub mod UsesReadEarlierDefs
 pub mod Operands
-pub mod InstAndItsMoves
 pub mod SharedPlace
 pub mod RecordSteps
 pub mod AllowedPlaces

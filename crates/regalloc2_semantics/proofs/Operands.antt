@@ -1,7 +1,9 @@
 -- The operands of one instruction, placed one after another.
-use Rattle.std.proofs.Common.{ℕ, ◌≡◌, ◌≢◌, sym, ap, ◌∙◌, inl, inr}
-use Rattle.std.proofs.lemmas.Bool.{cases_eq}
+use Rattle.std.proofs.Common.{ℕ, ◌≡◌, ◌≢◌, Bool, true, false, refl, sym, ap, ◌∙◌, inl, inr}
+use Rattle.std.specs.Prelude.{not}
+use Rattle.std.proofs.lemmas.Bool.{and_parts, cases_eq}
 use Rattle.regalloc2_names.specs.Register.{Register}
+use Rattle.regalloc2_names.specs.Operand.{OperandValue, is_def, is_reading, is_fixed_nonallocatable}
 use Rattle.regalloc2_names.specs.Place.{Place, NoPlace, InRegister, InSlot}
 use Rattle.regalloc2_semantics.specs.Instruction.{IsTidy}
 
@@ -12,6 +14,14 @@ registers_apart r k p e g = let x : InRegister r ≡ InSlot k = sym e ∙ g in c
 -- a place that is a preg is not none
 pub register_there : (r : Register) (p : Place) → p ≡ InRegister r → p ≡ NoPlace → ⊥
 register_there r p e g = let x : InRegister r ≡ NoPlace = sym e ∙ g in cc
+
+-- a reading operand is a use
+pub reads_use : (o : OperandValue) → is_reading o ≡ true → is_def o.kind ≡ false
+reads_use o h = by_test (is_def o.kind) (and_parts (not (is_def o.kind)) (not (is_fixed_nonallocatable o)) h).0
+  where
+    by_test : (b : Bool) → not b ≡ true → b ≡ false
+    by_test true x = absurd cc
+    by_test false x = refl
 
 -- the number w, which is in the register r, is evicted to its slot s
 pub record Evicted (T S T' S' : ℕ → Place) (w : ℕ) (r : Register) (s : Place) : Type 0 where

@@ -1,5 +1,5 @@
 -- Choices, options, lists and sizes, whatever they are of.
-use Rattle.std.proofs.Common.{ℕ, zero, suc, ◌≡◌, ◌≢◌, ◌⊎◌, inl, inr, ◌+◌, ◌-◌, ◌*◌, ◌%◌, ◌<◌, ◌≤◌, Bool, true, false, cond, List, [], ◌∷◌, ◌++◌}
+use Rattle.std.proofs.Common.{ℕ, zero, suc, ◌≡◌, ◌⊎◌, inl, inr, ◌+◌, ◌-◌, ◌*◌, ◌%◌, ◌<◌, ◌≤◌, Bool, true, false, cond, List, [], ◌∷◌, ◌++◌}
 use Rattle.std.proofs.Common.{length, take, drop, replicate, refl, sym, ap, ◌∙◌, arith, slice_index_or, slice_index, length-append, length-drop}
 use Rattle.std.specs.Prelude.{Option, None, Some, is_some}
 use Rattle.std.specs.Int.{next_multiple_of}
@@ -21,11 +21,6 @@ no_some x h = cc
 pub nobody_there : {X : Type 0} (o : Option X) → is_some o ≡ false → o ≡ None
 nobody_there None h = refl
 nobody_there (Some x) h = absurd cc
-
--- an option that passes the test for a value is not `None`
-pub somebody_there : {X : Type 0} (o : Option X) → is_some o ≡ true → o ≢ None
-somebody_there None h = λ e. cc
-somebody_there (Some x) h = λ e. cc
 
 -- a list of one value has it everywhere
 pub always : {X : Type 0} (n k : ℕ) (x : X) → slice_index_or (replicate n x) k x ≡ x

@@ -34,7 +34,7 @@ impl fmt::Display for PointText {
 }
 
 /// What an instruction is, as `op`, `branch` or `ret`.
-fn opcode_name<F: Function>(f: &F, inst: Inst) -> &'static str
+pub fn opcode_name<F: Function>(f: &F, inst: Inst) -> &'static str
     requires { inst < length (F.function f.now).insts }
     ensures { result.now ≡ opcode_text (inst_at (F.function f.now) inst) }
 {

@@ -14,10 +14,6 @@ use Rattle.regalloc2_parts.specs.Giving.{IsBefore}
 abbrev pub RisesTo : List Ends → ℕ → Type 0
 RisesTo ms n = (i j : ℕ) → i ≤ j → j < n → IsBefore (move_at ms i) (move_at ms j)
 
--- the first move alone is in order of destinations
-pub rises_first : (ms : List Ends) → RisesTo ms 1
-rises_first ms i j le r = let e : i ≡ j = omega arith in inr (ap (λ k. (move_at ms k).from) e, ap (λ k. (move_at ms k).to) e)
-
 before_trans : (a b c : Ends) → IsBefore a b → IsBefore b c → IsBefore a c
 before_trans a b c p q = ⊎_elim
     (λ l. ⊎_elim

@@ -49,11 +49,7 @@ fn write_changes(alloc: Global, out: &mut Report) -> Result<(), AllocError> {
     ];
     write_sets(out, &sets);
     out.row("inverse of none", &PRegSet::empty().invert().len());
-    let mut last = None;
-    for p in &set {
-        last = Some(p);
-    }
-    out.row("walked", &(last, count_of(set)));
+    out.row("walked", &((&set).into_iter().last(), count_of(set)));
     Ok(())
 }
 

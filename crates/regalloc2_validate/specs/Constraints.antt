@@ -1,6 +1,7 @@
 -- What the tests of operands' constraints say, one instruction at a time.
 use Rattle.std.specs.Prelude.{ℕ, ◌≡◌, ◌<◌, ◌⊎◌, Bool, true, false, List, length, slice_index_or}
-use Rattle.regalloc2_names.specs.declared.OperandConstraint.TheVariants.{Any, FixedReg, Reuse, Limit}
+use Rattle.regalloc2_names.specs.declared.OperandConstraint.{OperandConstraint}
+use Rattle.regalloc2_names.specs.declared.OperandConstraint.TheVariants.{Any, Reg, Stack, FixedReg, Reuse, Limit}
 use Rattle.regalloc2_names.specs.declared.OperandKind.TheVariants.{Def, Use}
 use Rattle.regalloc2_names.specs.declared.OperandPos.TheVariants.{Early, Late}
 use Rattle.regalloc2_names.specs.declared.RegClass.{RegClass}
@@ -60,9 +61,21 @@ IsUnlimited o = (n : ℕ) → o.constraint ≡ Limit n → ⊥
 abbrev pub AreUnlimited : InstValue → Type 0
 AreUnlimited i = (k : ℕ) → k < length i.operands → IsUnlimited (op_at i.operands k)
 
--- a branch defines nothing
-abbrev pub BranchDefinesNothing : InstValue → Type 0
-BranchDefinesNothing i = i.is_branch ≡ true → (k : ℕ) → k < length i.operands → is_def (op_at i.operands k).kind ≡ false
+-- the place of an operand under a constraint is known before registers are chosen: a register by name, or memory where need be
+abbrev pub IsInPlace : OperandConstraint → Type 0
+IsInPlace Any = Unit {0}
+IsInPlace Reg = ⊥
+IsInPlace Stack = Unit {0}
+IsInPlace (FixedReg r) = Unit {0}
+IsInPlace (Reuse n) = ⊥
+IsInPlace (Limit n) = Unit {0}
+
+abbrev pub DefinesInPlace : OperandValue → Type 0
+DefinesInPlace o = is_def o.kind ≡ true → IsInPlace o.constraint
+
+-- a branch defines in such places alone
+abbrev pub BranchDefinesInPlace : InstValue → Type 0
+BranchDefinesInPlace i = i.is_branch ≡ true → (k : ℕ) → k < length i.operands → DefinesInPlace (op_at i.operands k)
 
 -- the first instruction that fails a test
 pub record IsFirst (f : FunctionValue) (P : InstValue → Type 0) (i : ℕ) : Type 0 where

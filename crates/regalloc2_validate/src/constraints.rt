@@ -7,8 +7,7 @@ ghost use Rattle.regalloc2_function.specs.WellFormed.{MayBeReused, ReusesAreSoun
 ghost use Rattle.regalloc2_names.specs.Packing.{IsConstraintOf};
 ghost use Rattle.regalloc2_validate.specs.NoLimits.{IsTaken, AreTaken};
 ghost use Rattle.regalloc2_validate.specs.Constraints.{op_at, IsReused, IsTarget, IsSoundReuse, AreApart, AvoidsClobbers, IsClear, IsUnlimited};
-ghost use Rattle.regalloc2_validate.specs.Constraints.{AreUnlimited, BranchDefinesNothing, IsFirst, IsFixedFault};
-ghost use Rattle.regalloc2_names.specs.Operand.{is_def};
+ghost use Rattle.regalloc2_validate.specs.Constraints.{AreUnlimited, BranchDefinesInPlace, DefinesInPlace, IsFirst, IsFixedFault};
 
 use regalloc2_fastalloc_state::allocatable::allocatable_of;
 use regalloc2_function::{Function, MachineEnv};
@@ -274,32 +273,48 @@ pub fn validate_limits<F: Function>(f: &F) -> Result<(), RegAllocError>
     Ok(())
 }
 
-/// Whether no operand defines.
-fn define_nothing(operands: &[Operand]) -> bool
-    ensures { IsTrue result ↔ ((k : ℕ) → k < length operands.now → is_def (op_at operands.now k).kind ≡ false) }
+/// Whether an operand defines nothing, or in a register that it names or in memory where need be.
+fn defines_in_place(operand: Operand) -> bool
+    ensures { IsTrue result ↔ DefinesInPlace operand }
+{
+    if !operand.is_def() {
+        return true;
+    }
+    match operand.constraint() {
+        OperandConstraint::Reg | OperandConstraint::Reuse(_) => false,
+        _ => true,
+    }
+}
+
+/// Whether each operand does.
+fn define_in_place(operands: &[Operand]) -> bool
+    ensures { IsTrue result ↔ ((k : ℕ) → k < length operands.now → DefinesInPlace (op_at operands.now k)) }
 {
     for k in 0..operands.len() {
-        if operands[k].is_def() {
+        if !defines_in_place(operands[k]) {
             return false;
         }
     }
     true
 }
 
-/// Whether an instruction is no branch, or defines nothing.
+/// Whether an instruction is no branch, or defines in registers that it names and in memory alone.
 fn is_sound_branch<F: Function>(f: &F, inst: Inst) -> bool
     requires { inst < length (F.function f.now).insts }
-    ensures { IsTrue result ↔ BranchDefinesNothing (inst_at (F.function f.now) inst) }
+    ensures { IsTrue result ↔ BranchDefinesInPlace (inst_at (F.function f.now) inst) }
 {
-    !f.is_branch(inst) || define_nothing(f.inst_operands(inst))
+    !f.is_branch(inst) || define_in_place(f.inst_operands(inst))
 }
 
-/// Tests that no branch has a definition. Else the first one that has is refused by `Unsupported`.
+/// Tests that no branch has a definition in any register or in the place of another operand. Else the first one that has is
+/// refused by `Unsupported`.
 ///
-/// A value that a branch defines would have to be moved behind it. Upstream's fast allocator stops the program there.
+/// What a branch defines is stored behind it, at the beginning of each block that it leads to, and blocks are walked before
+/// those that lead to them: so the place has to be known before the branch is allocated. Upstream's fast allocator stops the
+/// program there.
 pub fn validate_branches<F: Function>(f: &F) -> Result<(), RegAllocError>
-    ensures ok { IsOk result ↔ ((i : ℕ) → i < length (F.function f.now).insts → BranchDefinesNothing (inst_at (F.function f.now) i)) }
-    ensures first { IfErr result (λ e. (i : ℕ) × (e ≡ RegAllocError.Unsupported i) × IsFirst (F.function f.now) (BranchDefinesNothing) i) }
+    ensures ok { IsOk result ↔ ((i : ℕ) → i < length (F.function f.now).insts → BranchDefinesInPlace (inst_at (F.function f.now) i)) }
+    ensures first { IfErr result (λ e. (i : ℕ) × (e ≡ RegAllocError.Unsupported i) × IsFirst (F.function f.now) (BranchDefinesInPlace) i) }
 {
     for i in 0..f.num_insts() {
         let inst = Inst::new(i);

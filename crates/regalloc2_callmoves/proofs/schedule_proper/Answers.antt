@@ -6,7 +6,7 @@ use Rattle.regalloc2_parts.specs.AtOnce.{ends_of, HasOneSourceEach}
 use Rattle.regalloc2_parts.specs.Resolved.{listed, has_scratch, IsResolution}
 use Rattle.regalloc2_parts.specs.declared.moves.MoveFault.{MoveFault}
 use Rattle.regalloc2_callmoves.specs.CallMoves.{fault_of, IsFault}
-use Rattle.regalloc2_callmoves.proofs.CallSchedule.{one_source, usable, outcome}
+use Rattle.regalloc2_callmoves.proofs.CallSchedule.{one_source, usable, scheduled, fails}
 use Rattle.regalloc2_callmoves.proofs.schedule_proper.Goals as goal
 
 pub in_parallel-requires : goal.in_parallel-requires
@@ -19,12 +19,17 @@ resolve-requires c =
     (one_source c.args.moves.now c.requires.proper.one_source) in
     search (rules, one)
 
-pub compute-requires-clause-serves : goal.compute-requires-clause-serves
-compute-requires-clause-serves c =
-    usable c.args.moves.now c.args.frame.now c.lent.result c.requires.proper c.lent.ensures (has_scratch c.in_ok-resolved.resolved)
-    (listed c.in_ok-resolved.resolved)
-    (subst (λ (xs : List (Place × Place × Unit {0})). IsResolution xs (has_scratch c.in_ok-resolved.resolved) (listed c.in_ok-resolved.resolved))
-    c.in_ok-parallel.ensures.all c.in_ok-resolved.ensures.resolved)
+pub compute-requires : goal.compute-requires
+compute-requires c = (
+  search rules,
+  (
+    usable c.args.moves.now c.args.frame.now c.scratch_pool.result c.requires.proper c.scratch_pool.ensures (has_scratch c.in_ok-resolved.resolved)
+        (listed c.in_ok-resolved.resolved)
+        (subst (λ (xs : List (Place × Place × Unit {0})). IsResolution xs (has_scratch c.in_ok-resolved.resolved) (listed c.in_ok-resolved.resolved))
+        c.in_ok-parallel.ensures.all c.in_ok-resolved.ensures.resolved),
+    c.in_ok-resolved.ensures.runnable,
+  ),
+)
 
 pub returns-in_err-parallel : goal.returns-in_err-parallel
 returns-in_err-parallel c =
@@ -38,9 +43,15 @@ returns-in_err-resolved c =
     rw (p.1, p.2)
     (subst (λ (e : MoveFault). IsFault c.args.moves.now c.args.frame.now (fault_of e)) (sym c.in_err-resolved.ensures.memory) c.requires.proper)
 
+pub returns-in_err-made : goal.returns-in_err-made
+returns-in_err-made c =
+    let p = err_from_is_err_and c.from_residual-in_err-made.result c.from_residual-in_err-made.ensures.1 in
+    rw (p.1, p.2)
+    (fails c.args.moves.now c.args.frame.now c.scratch_pool.result c.requires.proper c.scratch_pool.ensures _ c.in_err-made.ensures.err)
+
 pub returns : goal.returns
 returns c =
-    outcome c.args.moves.now c.args.frame.now c.lent.result c.requires.proper c.lent.ensures (has_scratch c.in_ok-resolved.resolved)
+    scheduled c.args.moves.now c.args.frame.now c.scratch_pool.result c.requires.proper c.scratch_pool.ensures (has_scratch c.in_ok-resolved.resolved)
     (listed c.in_ok-resolved.resolved)
     (subst (λ (xs : List (Place × Place × Unit {0})). IsResolution xs (has_scratch c.in_ok-resolved.resolved) (listed c.in_ok-resolved.resolved))
-    c.in_ok-parallel.ensures.all c.in_ok-resolved.ensures.resolved) c.compute.result c.compute.ensures
+    c.in_ok-parallel.ensures.all c.in_ok-resolved.ensures.resolved) c.in_ok-made.made.slots c.in_ok-made.made.moves.items c.in_ok-made.ensures.made

@@ -4,7 +4,7 @@ use Rattle.std.specs.Prelude.{Some, slice_index_or}
 use Rattle.std.proofs.lemmas.Bool.{cases_eq}
 use Rattle.regalloc2_names.specs.Register.{Register, VirtualRegister}
 use Rattle.regalloc2_names.specs.RegisterSet.{has_register}
-use Rattle.regalloc2_names.specs.Operand.{OperandValue, is_def, is_reading}
+use Rattle.regalloc2_names.specs.Operand.{OperandValue, is_reading}
 use Rattle.regalloc2_names.specs.Place.{Place, NoPlace, InRegister, InSlot}
 use Rattle.regalloc2_names.specs.Point.{before}
 use Rattle.regalloc2_function.specs.FunctionValue.{FunctionValue, inst_at}
@@ -19,6 +19,7 @@ use Rattle.regalloc2_semantics.proofs.Points.{at_point-here, at_point-other, at_
 use Rattle.regalloc2_semantics.proofs.PushedMoves.{listed-push}
 use Rattle.regalloc2_fastalloc_state.specs.declared.inst_regs.InstRegs.{InstRegs}
 use Rattle.regalloc2_fastalloc_proofs.specs.InstSteps.{StateValue, AllocsInst, MovesUses, none_moved, not_moved, one_moved}
+use Rattle.regalloc2_fastalloc_proofs.specs.InstSteps.{ends_block}
 use Rattle.regalloc2_fastalloc_proofs.proofs.Safety.StepsKeepState.{place_in}
 use Rattle.regalloc2_fastalloc_proofs.proofs.Operands.RecordOverState.{slots_at}
 use Rattle.regalloc2_fastalloc_proofs.proofs.Inst.AcrossInst.{lives_in}
@@ -101,7 +102,7 @@ module _ (Known : VirtualRegister → Type 0) (f : FunctionValue) (placesf : ℕ
   shown_at i blank here old new lt are_listed b a =
       let nothing : VirtualRegister → Place → Type 0 = λ v p. ⊥ in
       let ops : List OperandValue = (inst_at f i).operands in
-      let ret : Bool = (inst_at f i).is_ret in
+      let ret : Bool = ends_block (inst_at f i) in
       shown Known (inst_at f) placesf nothing i 0 (lives_in old) ret here a.early a.ended a.after_early new (orderly i lt) (knows i lt) are_listed
       (laid_both Known (inst_at f) placesf i 0 nothing ops (lives_in old) (is_clobbered (inst_at f i).clobbers) ret (orderly i lt) blank a.half here a.quiet
       a.late a.early a.after_clobbers a.after_late a.after_early a.lates a.earlies
@@ -130,13 +131,13 @@ module _ (Known : VirtualRegister → Type 0) (f : FunctionValue) (placesf : ℕ
   -- a branch at its block's end, with no vreg in a register behind it, moves its uses alone, before it
   pub branched : (i : ℕ) (blank here : List Place) (old new : StateValue) → i < length f.insts →
       ((k : ℕ) → k < length (inst_at f i).operands → place_at (placesf i) k ≡ slice_index_or here k NoPlace) → IsTame Known (inst_at f i).operands →
-      ((k : ℕ) → k < length (inst_at f i).operands → is_def (op_at (inst_at f i).operands k).kind ≡ true → ⊥) → Between (i + 1) old → IsOutside old →
+      ends_block (inst_at f i) ≡ true → Between (i + 1) old → IsOutside old →
       (a : AllocsInst i (inst_at f i) blank here old new) → Branched i here a.ended old new
-  branched i blank here old new lt are_listed tame no_defs b bare a =
+  branched i blank here old new lt are_listed tame ends b bare a =
       let ops : List OperandValue = (inst_at f i).operands in
       let s : Shown ops here a.ended a.after_early new = shown_at i blank here old new lt are_listed b a in
       let still : Still ops false old.edits a.early a.after_early = still_end Known i (inst_at f i) blank here old new tame
-      (λ k less def. absurd (no_defs k less def)) a bare in
+      (λ k less def. ends) a bare in
       let less : Less a.early a.ended = uses_less (before i) ops here a.early a.after_early (length ops) a.ended new a.moves in
       record {
         shows = s.slot_own;

@@ -1,6 +1,6 @@
 -- A branch at the end of its block, with its own moves: what it carries, and the slots that it leaves alone.
-use Rattle.std.proofs.Common.{ℕ, ◌≡◌, ◌+◌, ◌<◌, ◌≤◌, ◌⊎◌, inl, inr, Bool, true, false, List, ◌++◌, length, refl, sym, ap, ◌∙◌, subst, arith}
-use Rattle.std.specs.Prelude.{Option, None, Some, ◌||◌, slice_index_or}
+use Rattle.std.proofs.Common.{ℕ, ◌≡◌, ◌+◌, ◌<◌, ◌≤◌, ◌⊎◌, inl, inr, Bool, true, false, List, length, refl, sym, ap, ◌∙◌, subst, arith}
+use Rattle.std.specs.Prelude.{Option, None, Some, slice_index_or}
 use Rattle.regalloc2_names.specs.Register.{VirtualRegister}
 use Rattle.regalloc2_names.specs.Place.{Place, NoPlace, InRegister, InSlot}
 use Rattle.regalloc2_names.specs.Point.{before, after}
@@ -11,22 +11,20 @@ use Rattle.regalloc2_semantics.specs.Listing.{Item, op_at}
 use Rattle.regalloc2_semantics.specs.Carry.{Carries}
 use Rattle.regalloc2_semantics.specs.BlockByPoints.{at_point, walked, listed}
 use Rattle.regalloc2_semantics.specs.Instruction.{Knows}
-use Rattle.regalloc2_semantics.proofs.UnwrittenPlaces.{NoMoveTo, IsReadAt, Keeps}
-use Rattle.regalloc2_semantics.proofs.CarryRules.{carries_nil}
-use Rattle.regalloc2_semantics.proofs.ListingParts.{walked_split}
-use Rattle.regalloc2_semantics.proofs.MoveInFront.{walked-none}
-use Rattle.regalloc2_semantics.proofs.BlockBackward.{Relied, step_carried}
-use Rattle.regalloc2_fastalloc_proofs.specs.InstSteps.{StateValue, AllocsInst}
+use Rattle.regalloc2_semantics.proofs.UnwrittenPlaces.{NoMoveTo, IsReadAt, Keeps, carries_kept_walked}
+use Rattle.regalloc2_semantics.proofs.CarryRules.{carries_weaken}
+use Rattle.regalloc2_semantics.proofs.BlockBackward.{Relied}
+use Rattle.regalloc2_fastalloc_proofs.specs.InstSteps.{StateValue, AllocsInst, ends_block}
 use Rattle.regalloc2_fastalloc_state.specs.declared.inst_regs.InstRegs.{InstRegs}
 use Rattle.regalloc2_fastalloc_state.specs.StateParts.{slot_name, units_of}
 use Rattle.regalloc2_fastalloc_proofs.proofs.Safety.StepsKeepState.{slot_in, IsWhole}
 use Rattle.regalloc2_fastalloc_proofs.proofs.Operands.RecordOverState.{opt, opt_from, opt_real, opt_none, stands_at, slots_at, no_register_slot, slot_below}
 use Rattle.regalloc2_fastalloc_proofs.proofs.Operands.RecordOfInst.{Orderly}
 use Rattle.regalloc2_fastalloc_proofs.proofs.Inst.BoundaryToFirstOperand.{AvoidClobbers}
-use Rattle.regalloc2_fastalloc_proofs.proofs.Slots.StepsKeepSlots.{Grown}
-use Rattle.regalloc2_fastalloc_proofs.proofs.Operands.DefinedNumbers.{defined_by}
-use Rattle.regalloc2_fastalloc_proofs.proofs.Inst.OneInstCarries.{Between, Alone, alone}
-use Rattle.regalloc2_fastalloc_proofs.proofs.Walk.InstForOneVReg.{step_at, Leaves, step_of}
+use Rattle.regalloc2_fastalloc_proofs.proofs.Slots.StepsKeepSlots.{Grown, IsAt, allocates_grown}
+use Rattle.regalloc2_fastalloc_proofs.proofs.Operands.DefinedNumbers.{defined_by, defined_by-at}
+use Rattle.regalloc2_fastalloc_proofs.proofs.Inst.OneInstCarries.{Between, Needed, alone}
+use Rattle.regalloc2_fastalloc_proofs.proofs.Walk.InstForOneVReg.{needed_parts, undefined_by}
 use Rattle.regalloc2_fastalloc_proofs.proofs.Moves.StepsAppendEdits.{pushed_at}
 use Rattle.regalloc2_fastalloc_proofs.proofs.BlockEnd.BranchAlone.{IsUseMove, Branched, moved_or, none_below}
 
@@ -73,7 +71,9 @@ module _ (Known : VirtualRegister → Type 0) (f : FunctionValue) (placesf : ℕ
     (knows : (i : ℕ) → i < length f.insts → Knows Known (inst_at f i).operands) (F : ℕ → Option Place) (last : ℕ) (blank here : List Place)
     (old middle : StateValue) (within : last < length f.insts)
     (are_listed : (k : ℕ) → k < length (inst_at f last).operands → place_at (placesf last) k ≡ slice_index_or here k NoPlace)
-    (no_defs : (k : ℕ) → k < length (inst_at f last).operands → is_def (op_at (inst_at f last).operands k).kind ≡ true → ⊥)
+    (ends : ends_block (inst_at f last) ≡ true)
+    (own_defs : (k : ℕ) → k < length (inst_at f last).operands → is_def (op_at (inst_at f last).operands k).kind ≡ true → (n : ℕ) →
+    place_at (placesf last) k ≡ InSlot n → F (op_at (inst_at f last).operands k).vreg.number ≡ Some (InSlot n))
     (between : Between (last + 1) old) (a : AllocsInst last (inst_at f last) blank here old middle) (u : InstRegs)
     (br : Branched Known f placesf orderly avoids knows last here u old middle) where
   -- whose slot an operand is in
@@ -89,52 +89,86 @@ module _ (Known : VirtualRegister → Type 0) (f : FunctionValue) (placesf : ℕ
         (knows last within).same (op_at (inst_at f last).operands j).vreg v ((knows last within).reading j lt reads) known (sym number))
   ]
 
-  -- it leaves a slot that comes to its own vreg
-  pub leaves_own : ToCome F middle → ((p : Place) → (x : ℕ) → slots_at old x ≡ Some p → F x ≡ Some p) → (v : VirtualRegister) → Known v →
-      Leaves f placesf F v last old middle
-  leaves_own h stays v known = record {
-    stays = λ p at. stays p v.number at;
-    keeps = λ s unwritten none comes.
-        let n = h.only v.number s comes in
-        let mine : F v.number ≡ Some (InSlot n.0) = comes ∙ ap Some n.1 in
-        subst (Keeps (inst_at f last).operands (placesf last) (inst_at f last).clobbers (at_point (listed middle.edits) (before last))
-        (at_point (listed middle.edits) (after last)) v) (sym n.1) (record {
-          spared = record { no_definition = λ k lt d at. no_defs k lt d; no_clobber = refl };
-          no_move_later = subst (NoMoveTo (InSlot n.0))
-              (sym (pushed_at (IsUseMove last (inst_at f last).operands here) (after last) old.edits middle.edits
-              (λ e is at. let x : e.0 ≡ before last = is.0 in omega (arith, x, at)) br.pushes))
-              (none_below (InSlot n.0) (after last) (before (last + 1)) old.edits (omega arith) between.later);
-          before_it = moved_or (IsUseMove last (inst_at f last).operands here) (InSlot n.0) (before last)
-              (IsReadAt (inst_at f last).operands (placesf last) v (InSlot n.0)) old.edits middle.edits
-              (λ e is to. elim is.1 [
-                | inl r ↦ (let x : InRegister r.0 ≡ InSlot n.0 = sym r.1 ∙ to in absurd cc)
-                | inr j ↦ (j.0, j.1, j.2, reads_own h v known n.0 j.0 mine j.1 j.2 (sym to ∙ j.3), are_listed j.0 j.1 ∙ sym j.3 ∙ to)
-              ])
-              (none_below (InSlot n.0) (before last) (before (last + 1)) old.edits (omega arith) between.later) br.pushes;
-        });
-  }
+  -- it leaves a vreg's slot to that vreg, unless it defines it
+  pub keeps_own : ToCome F middle → (v : VirtualRegister) → Known v → defined_by (inst_at f last).operands v.number ≡ false → (s : Place) →
+      F v.number ≡ Some s →
+      Keeps (inst_at f last).operands (placesf last) (inst_at f last).clobbers (at_point (listed middle.edits) (before last))
+      (at_point (listed middle.edits) (after last)) v s
+  keeps_own h v known undefined s comes =
+      let n = h.only v.number s comes in
+      let mine : F v.number ≡ Some (InSlot n.0) = comes ∙ ap Some n.1 in
+      subst (Keeps (inst_at f last).operands (placesf last) (inst_at f last).clobbers (at_point (listed middle.edits) (before last))
+      (at_point (listed middle.edits) (after last)) v) (sym n.1) (record {
+        spared = record {
+          no_definition = λ k lt d at.
+              let w : ℕ = (op_at (inst_at f last).operands k).vreg.number in
+              let same : w ≡ v.number = h.own w v.number n.0 (own_defs k lt d n.0 at) mine in
+              let yes_defined : defined_by (inst_at f last).operands v.number ≡ true = subst (λ x. defined_by (inst_at f last).operands x ≡ true) same
+              (defined_by-at (inst_at f last).operands k lt d) in cc;
+          no_clobber = refl;
+        };
+        no_move_later = subst (NoMoveTo (InSlot n.0))
+            (sym (pushed_at (IsUseMove last (inst_at f last).operands here) (after last) old.edits middle.edits
+            (λ e is at. let x : e.0 ≡ before last = is.0 in omega (arith, x, at)) br.pushes))
+            (none_below (InSlot n.0) (after last) (before (last + 1)) old.edits (omega arith) between.later);
+        before_it = moved_or (IsUseMove last (inst_at f last).operands here) (InSlot n.0) (before last)
+            (IsReadAt (inst_at f last).operands (placesf last) v (InSlot n.0)) old.edits middle.edits
+            (λ e is to. elim is.1 [
+              | inl r ↦ (let x : InRegister r.0 ≡ InSlot n.0 = sym r.1 ∙ to in absurd cc)
+              | inr j ↦ (j.0, j.1, j.2, reads_own h v known n.0 j.0 mine j.1 j.2 (sym to ∙ j.3), are_listed j.0 j.1 ∙ sym j.3 ∙ to)
+            ])
+            (none_below (InSlot n.0) (before last) (before (last + 1)) old.edits (omega arith) between.later) br.pushes;
+      })
 
-  -- what it carries with its own moves: from what may be relied on behind it to what may be before it
-  pub own_moves : (v : VirtualRegister) → Known v → defined_by (inst_at f last).operands v.number ≡ false → (inst_at f last).is_ret ≡ false →
-      Leaves f placesf F v last old middle → (block : Bool) (E : Place → Type 0) →
-      ((p : Place) → E p → Relied false block (stands_at old v.number) (slots_at old v.number) (F v.number) p) →
-      Carries v (walked (inst_at f) (at_point (listed middle.edits)) placesf last 1)
-      (Relied false block (stands_at middle v.number) (slots_at middle v.number) (F v.number)) E
-  own_moves v known undefined goes leaves block E owed =
-      let x : Alone Known f placesf orderly avoids knows last old middle = alone Known f placesf orderly avoids knows last blank here old middle within
-      are_listed between a in
-      let rest : List Item = walked (inst_at f) (at_point (listed old.edits)) placesf (last + 1) 0 in
-      let whole : walked (inst_at f) (at_point (listed middle.edits)) placesf last 1 ≡ step_at f placesf F last middle ++ rest =
-      walked_split (inst_at f) (at_point (listed middle.edits)) placesf last 0 ∙ ap (λ l. step_at f placesf F last middle ++ l) (x.same 0) in
-      let base : Carries v rest (Relied false block (stands_at old v.number) (slots_at old v.number) (F v.number)) E =
-      subst (λ l. Carries v l (Relied false block (stands_at old v.number) (slots_at old v.number) (F v.number)) E)
-      (sym (walked-none (inst_at f) (at_point (listed old.edits)) placesf (last + 1)))
-      (carries_nil v (Relied false block (stands_at old v.number) (slots_at old v.number) (F v.number)) E owed) in
-      let k = step_of f placesf F v last old middle false (x.carries goes v known) (x.ends.gone v.number) leaves (λ e. absurd cc) in
-      let all : Carries v (step_at f placesf F last middle ++ rest) (Relied (defined_by (inst_at f last).operands v.number || false) block
-      (stands_at middle v.number) (slots_at middle v.number) (F v.number)) E =
-      step_carried v (step_at f placesf F last middle) rest (defined_by (inst_at f last).operands v.number) false block (stands_at middle v.number)
-      (slots_at middle v.number) (stands_at old v.number) (slots_at old v.number) (F v.number) E (λ free. undefined) k base in
-      subst (λ l. Carries v l (Relied false block (stands_at middle v.number) (slots_at middle v.number) (F v.number)) E) (sym whole)
-      (subst (λ d. Carries v (step_at f placesf F last middle ++ rest) (Relied (d || false) block (stands_at middle v.number) (slots_at middle v.number)
-      (F v.number)) E) undefined all)
+  -- what it carries with its own moves, of a vreg that it doesn't define: from what may be relied on before it to the vreg's slot
+  module _ (h : ToCome F middle) (v : VirtualRegister) (known : Known v) (undefined : defined_by (inst_at f last).operands v.number ≡ false) (block : Bool)
+      (E : Place → Type 0) (mine : (p : Place) → E p → F v.number ≡ Some p) (there : block ≡ true → (p : Place) → E p → slots_at old v.number ≡ Some p) where
+    abbrev L : List Item
+    L = walked (inst_at f) (at_point (listed middle.edits)) placesf last 1
+
+    abbrev On : Place → Type 0
+    On = Relied false block (stands_at middle v.number) (slots_at middle v.number) (F v.number)
+
+    abbrev Has : Place → Type 0
+    Has = Needed (defined_by (inst_at f last).operands) middle v
+
+    relied : (p : Place) → Has p → On p
+    relied p n = (refl, elim (needed_parts (defined_by (inst_at f last).operands) middle v p n) [ inl at ↦ inl at | inr o ↦ inr (inl o.1) ])
+
+    base : Carries v L Has (λ p. ⊥)
+    base = (alone Known f placesf orderly avoids knows last blank here old middle within are_listed between a).returns ends v known
+
+    nothing : ((p : Place) → E p → ⊥) → Carries v L On E
+    nothing none = carries_weaken v L Has On (λ p. ⊥) E relied none base
+
+    kept : (s : Place) → F v.number ≡ Some s → Carries v L (λ p. Has p ⊎ (p ≡ s)) (λ p. ⊥ ⊎ (p ≡ s))
+    kept s is = carries_kept_walked v (inst_at f) (at_point (listed middle.edits)) placesf last Has (λ p. ⊥) (λ p. p ≡ s)
+        (undefined_by f placesf F v last undefined)
+        (λ p e. subst (Keeps (inst_at f last).operands (placesf last) (inst_at f last).clobbers (at_point (listed middle.edits) (before last))
+        (at_point (listed middle.edits) (after last)) v) (sym e) (keeps_own h v known undefined s is)) base
+
+    slotted : (s : Place) → F v.number ≡ Some s → On s → Carries v L On E
+    slotted s is on = carries_weaken v L (λ p. Has p ⊎ (p ≡ s)) On (λ p. ⊥ ⊎ (p ≡ s)) E
+        (λ p n. elim n [ inl y ↦ relied p y | inr e ↦ subst On (sym e) on ])
+        (λ p o. inr (let x : Some p ≡ Some s = sym (mine p o) ∙ is in cc)) (kept s is)
+
+    by_table : (s : Place) → F v.number ≡ Some s → block ≡ true → (x : Option Place) → slots_at middle v.number ≡ x → Carries v L On E
+    by_table s is yes_block None none = nothing (λ p o.
+        let now : slots_at middle v.number ≡ Some p = grown_slots (IsAt last) old middle (allocates_grown last (inst_at f last) blank here old middle a)
+        v.number p
+        (there yes_block p o) in
+        let x : None ≡ Some p = sym none ∙ now in cc)
+    by_table s is yes_block (Some q) at =
+        let same : Some q ≡ Some s = sym (h.stays v.number q at) ∙ is in
+        slotted s is (refl, inr (inl (at ∙ same)))
+
+    by_block : (s : Place) → F v.number ≡ Some s → (b : Bool) → block ≡ b → Carries v L On E
+    by_block s is false free = slotted s is (refl, inr (inr (free, is)))
+    by_block s is true yes_block = by_table s is yes_block (slots_at middle v.number) refl
+
+    by_slot : (x : Option Place) → F v.number ≡ x → Carries v L On E
+    by_slot None none = nothing (λ p o. let x : None ≡ Some p = sym none ∙ mine p o in cc)
+    by_slot (Some s) is = by_block s is block refl
+
+    pub own_moves : Carries v L On E
+    own_moves = by_slot (F v.number) refl

@@ -11,7 +11,7 @@ use Rattle.regalloc2_semantics.specs.Instruction.{Knows}
 use Rattle.regalloc2_semantics.specs.Blocks.{names, HasEdge, target_at, IsUnwritten, IsUsedIn, IsWantedBehind, StandsAfter}
 use Rattle.regalloc2_semantics.proofs.CarryRules.{carries_weaken}
 use Rattle.regalloc2_semantics.proofs.BlockBackward.{Relied}
-use Rattle.regalloc2_fastalloc_proofs.specs.InstSteps.{StateValue}
+use Rattle.regalloc2_fastalloc_proofs.specs.InstSteps.{StateValue, ends_block}
 use Rattle.regalloc2_fastalloc_proofs.proofs.Safety.StepsKeepState.{place_in, slot_in}
 use Rattle.regalloc2_fastalloc_proofs.proofs.Operands.RecordOverState.{opt, stands_at, slots_at}
 use Rattle.regalloc2_fastalloc_proofs.proofs.Operands.RecordOfInst.{Orderly}
@@ -41,7 +41,7 @@ module _ (Known : VirtualRegister → Type 0) (f : FunctionValue) (placesf : ℕ
     (knows : (i : ℕ) → i < length f.insts → Knows Known (inst_at f i).operands) (F : ℕ → Option Place) where
   -- a return carries what is needed before it
   pub return_owes : (last : ℕ) (old new : StateValue) (v : VirtualRegister) → Known v → (block : Bool) (E : Place → Type 0) →
-      Alone Known f placesf orderly avoids knows last old new → (inst_at f last).is_ret ≡ true → ((p : Place) → E p → ⊥) →
+      Alone Known f placesf orderly avoids knows last old new → ends_block (inst_at f last) ≡ true → ((p : Place) → E p → ⊥) →
       Carries v (walked (inst_at f) (at_point (listed new.edits)) placesf last 1)
       (Relied (defined_from f v.number last 1) block (stands_at new v.number) (slots_at new v.number) (F v.number)) E
   return_owes last old new v known block E a ret nothing =

@@ -19,6 +19,7 @@ use Rattle.regalloc2_validate.specs.Constraints.{op_at}
 use Rattle.regalloc2_fastalloc_proofs.specs.InstSteps.{StateValue, EvictsPReg, empty, cleared, EvictsOthers, own as its_own, others, EvictsFixed}
 use Rattle.regalloc2_fastalloc_proofs.specs.InstSteps.{none_cleared, not_fixed, of_fixed, of_reuse, EvictsEach, none_left, one_more}
 use Rattle.regalloc2_fastalloc_proofs.specs.InstSteps.{ProcessesOperandsAt, none_placed, of_other, one_placed, NeedsFixedReg, own, named, AllocsInst}
+use Rattle.regalloc2_fastalloc_proofs.specs.InstSteps.{ends_block}
 use Rattle.regalloc2_fastalloc_proofs.proofs.Operands.AllocsSoFar.{at_place, IsTame, not_both, reads_not_def}
 use Rattle.regalloc2_fastalloc_proofs.proofs.BlockEnd.NoMoveForOperand.{IsOutside, Asks, claims, chosen, Still, later_none, none_some}
 use Rattle.regalloc2_fastalloc_proofs.proofs.BlockEnd.NoMoveInPasses.{NextDone, Calm, one_calm, awaiting_on, early_overlap, late_overlap}
@@ -99,10 +100,10 @@ all_empty point rs t u old new (one_more r rest x y w a m b clears more) e =
     (q.0 ∙ p.0, q.1 ∙ p.1)
 
 -- which operands are done in the pass over late operands, and in that over early ones
-LateDone : List OperandValue → ℕ → ℕ → Type 0
+abbrev pub LateDone : List OperandValue → ℕ → ℕ → Type 0
 LateDone ops k j = (j < k) × (is_late (op_at ops j).position ≡ true)
 
-EarlyDone : List OperandValue → ℕ → ℕ → Type 0
+abbrev pub EarlyDone : List OperandValue → ℕ → ℕ → Type 0
 EarlyDone ops k j = (is_late (op_at ops j).position ≡ true) ⊎ (j < k)
 
 is_early : (b : Bool) → (b ≡ true → ⊥) → b ≡ false
@@ -122,7 +123,6 @@ module _ (Known : VirtualRegister → Type 0) (ops : List OperandValue) (tame : 
   )
 
   late_next : (k : ℕ) → is_late (op_at ops k).position ≡ true → NextDone (LateDone ops k) (LateDone ops (k + 1)) k
-  unfolding LateDone
   late_next k late = record {
     before_it = λ d. (let a = d.0 in omega arith);
     back = λ j not_e. (
@@ -133,7 +133,6 @@ module _ (Known : VirtualRegister → Type 0) (ops : List OperandValue) (tame : 
   }
 
   early_next : (k : ℕ) → is_late (op_at ops k).position ≡ false → NextDone (EarlyDone ops k) (EarlyDone ops (k + 1)) k
-  unfolding EarlyDone
   early_next k early = record {
     before_it = λ d. elim d [
       | inl late ↦ not_both (is_late (op_at ops k).position) late early
@@ -148,10 +147,9 @@ module _ (Known : VirtualRegister → Type 0) (ops : List OperandValue) (tame : 
     );
   }
 
-  late_calm : (blank : List Place) (t : InstRegs) (old : StateValue) → Calm Known ops tame i is_ret ret true edits (LateDone ops 0) blank t old
+  pub late_calm : (blank : List Place) (t : InstRegs) (old : StateValue) → Calm Known ops tame i is_ret ret true edits (LateDone ops 0) blank t old
       → (k : ℕ) (there : List Place) (u : InstRegs) (m : StateValue) → ProcessesOperandsAt i is_ret true ops blank t old k there u m → k ≤ length ops →
       Calm Known ops tame i is_ret ret true edits (LateDone ops k) there u m
-  unfolding LateDone
   late_calm blank t old c k there u m none_placed le = c
   late_calm blank t old c k there u m (of_other j l w s prev other) le =
       fewer true (LateDone ops j) (LateDone ops (j + 1)) there u m (λ x less d. ((let a = d.0 in omega arith), d.1))
@@ -168,10 +166,9 @@ module _ (Known : VirtualRegister → Type 0) (ops : List OperandValue) (tame : 
       ])
       (late_calm blank t old c j l w s prev (omega arith))
 
-  early_calm : (half : List Place) (t : InstRegs) (old : StateValue) → Calm Known ops tame i is_ret ret false edits (EarlyDone ops 0) half t old
+  pub early_calm : (half : List Place) (t : InstRegs) (old : StateValue) → Calm Known ops tame i is_ret ret false edits (EarlyDone ops 0) half t old
       → (k : ℕ) (there : List Place) (u : InstRegs) (m : StateValue) → ProcessesOperandsAt i is_ret false ops half t old k there u m → k ≤ length ops →
       Calm Known ops tame i is_ret ret false edits (EarlyDone ops k) there u m
-  unfolding EarlyDone
   early_calm half t old c k there u m none_placed le = c
   early_calm half t old c k there u m (of_other j l w s prev other) le =
       fewer false (EarlyDone ops j) (EarlyDone ops (j + 1)) there u m (λ x less d. elim d [ inl late ↦ inl late | inr below ↦ inr (omega arith) ])
@@ -187,9 +184,8 @@ module _ (Known : VirtualRegister → Type 0) (ops : List OperandValue) (tame : 
       (early_calm half t old c j l w s prev (omega arith))
 
   -- from the one pass to the other
-  other_pass : (half : List Place) (t : InstRegs) (old : StateValue) → Calm Known ops tame i is_ret ret true edits (LateDone ops (length ops)) half t old →
+  pub other_pass : (half : List Place) (t : InstRegs) (old : StateValue) → Calm Known ops tame i is_ret ret true edits (LateDone ops (length ops)) half t old →
       Calm Known ops tame i is_ret ret false edits (EarlyDone ops 0) half t old
-  unfolding LateDone EarlyDone
   other_pass half t old c = fewer false (LateDone ops (length ops)) (EarlyDone ops 0) half t old (λ j less d. inl d.1) (
     record {
       edits_are = c.0.edits_are;
@@ -210,15 +206,17 @@ false_or : (a b : Bool) → b ≡ false → (a && b) ≡ false
 false_or true b h = h
 false_or false b h = refl
 
--- nothing was pushed when all operands are allocated, and a vreg in a register holds it
-pub still_end : (Known : VirtualRegister → Type 0) (i : ℕ) (inst : InstValue) (blank places : List Place) (old new : StateValue) → IsTame Known inst.operands
-    → ((k : ℕ) → k < length inst.operands → is_def (op_at inst.operands k).kind ≡ true → inst.is_ret ≡ true) → (a : AllocsInst i inst blank places old new)
-    → IsOutside old → Still inst.operands false old.edits a.early a.after_early
-still_end Known i inst blank places old new tame ret a bare =
+-- before any operand is allocated
+pub calm_start : (Known : VirtualRegister → Type 0) (i : ℕ) (inst : InstValue) (blank places : List Place) (old new : StateValue)
+    (tame : IsTame Known inst.operands)
+    (ret : (k : ℕ) → k < length inst.operands → is_def (op_at inst.operands k).kind ≡ true → ends_block inst ≡ true) → (a : AllocsInst i inst blank places old
+    new) → IsOutside old →
+    Calm Known inst.operands tame i (ends_block inst) ret true old.edits (LateDone inst.operands 0) blank a.quiet a.after_clobbers
+calm_start Known i inst blank places old new tame ret a bare =
     let ops : List OperandValue = inst.operands in
     let f = fixed_empty (after i) ops a.held old bare (length ops) a.cleared a.after_fixed a.fixed in
     let q = all_empty (after i) (registers_of inst.clobbers) a.cleared a.quiet a.after_fixed a.after_clobbers a.clobbers (subst IsOutside (sym f.1) bare) in
-    let begin : Calm Known ops tame i inst.is_ret ret true old.edits (LateDone ops 0) blank a.held old = (
+    let begin : Calm Known ops tame i (ends_block inst) ret true old.edits (LateDone ops 0) blank a.held old = (
       record {
         edits_are = refl;
         early = λ r v small held. absurd (none_some (vreg_of_preg old.places r) v (bare.nobody r small) held);
@@ -238,22 +236,30 @@ still_end Known i inst blank places old new tame ret a bare =
       },
       a.long,
     ) in
-    let start : Calm Known ops tame i inst.is_ret ret true old.edits (LateDone ops 0) blank a.quiet a.after_clobbers =
-    subst (λ (x : InstRegs). Calm Known ops tame i inst.is_ret ret true old.edits (LateDone ops 0) blank x a.after_clobbers) (sym (q.0 ∙ f.0))
-    (subst (Calm Known ops tame i inst.is_ret ret true old.edits (LateDone ops 0) blank a.held) (sym (q.1 ∙ f.1)) begin) in
-    let l = late_calm Known ops tame i inst.is_ret ret old.edits blank a.quiet a.after_clobbers start (length ops) a.half a.late a.after_late a.lates
-    (omega arith) in
-    let e = early_calm Known ops tame i inst.is_ret ret old.edits a.half a.late a.after_late
-    (other_pass Known ops tame i inst.is_ret ret old.edits a.half a.late a.after_late l) (length ops) places a.early a.after_early a.earlies
-    (omega arith) in
-    e.0
+    subst (λ (x : InstRegs). Calm Known ops tame i (ends_block inst) ret true old.edits (LateDone ops 0) blank x a.after_clobbers) (sym (q.0 ∙ f.0))
+    (subst (Calm Known ops tame i (ends_block inst) ret true old.edits (LateDone ops 0) blank a.held) (sym (q.1 ∙ f.1)) begin)
   where
     first : (k : ℕ) (r : Register) (p : Positions) → Asks inst.operands blank k r p → NeedsFixedReg inst.operands k r p
     first k r p (claims c) = c
     first k r p (chosen at e) = absurd (no_place_there (at_place blank k) r (a.no_places k) at)
 
--- at an instruction that defines only if it returns, with no vreg in a register behind it, allocating the operands adds no edit
+-- nothing was pushed when all operands are allocated, and a vreg in a register holds it
+pub still_end : (Known : VirtualRegister → Type 0) (i : ℕ) (inst : InstValue) (blank places : List Place) (old new : StateValue) → IsTame Known inst.operands
+    → ((k : ℕ) → k < length inst.operands → is_def (op_at inst.operands k).kind ≡ true → ends_block inst ≡ true) → (a : AllocsInst i inst blank places old new)
+    → IsOutside old → Still inst.operands false old.edits a.early a.after_early
+still_end Known i inst blank places old new tame ret a bare =
+    let ops : List OperandValue = inst.operands in
+    let start : Calm Known ops tame i (ends_block inst) ret true old.edits (LateDone ops 0) blank a.quiet a.after_clobbers =
+    calm_start Known i inst blank places old new tame ret a bare in
+    let l = late_calm Known ops tame i (ends_block inst) ret old.edits blank a.quiet a.after_clobbers start (length ops) a.half a.late a.after_late a.lates
+    (omega arith) in
+    let e = early_calm Known ops tame i (ends_block inst) ret old.edits a.half a.late a.after_late
+    (other_pass Known ops tame i (ends_block inst) ret old.edits a.half a.late a.after_late l) (length ops) places a.early a.after_early a.earlies
+    (omega arith) in
+    e.0
+
+-- at an instruction that defines only if it ends its block, with no vreg in a register behind it, allocating the operands adds no edit
 pub calm_end : (Known : VirtualRegister → Type 0) (i : ℕ) (inst : InstValue) (blank places : List Place) (old new : StateValue) → IsTame Known inst.operands
-    → ((k : ℕ) → k < length inst.operands → is_def (op_at inst.operands k).kind ≡ true → inst.is_ret ≡ true) → (a : AllocsInst i inst blank places old new)
+    → ((k : ℕ) → k < length inst.operands → is_def (op_at inst.operands k).kind ≡ true → ends_block inst ≡ true) → (a : AllocsInst i inst blank places old new)
     → IsOutside old → a.after_early.edits ≡ old.edits
 calm_end Known i inst blank places old new tame ret a bare = (still_end Known i inst blank places old new tame ret a bare).edits_are

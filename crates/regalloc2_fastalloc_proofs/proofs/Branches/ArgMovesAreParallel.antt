@@ -24,7 +24,8 @@ use Rattle.regalloc2_fastalloc_state.specs.ScratchPool.{Moves}
 use Rattle.regalloc2_fastalloc_proofs.specs.InstSteps.{StateValue, SameMachine}
 use Rattle.regalloc2_fastalloc_proofs.specs.BranchSteps.{AreBetweenSlots, AreOf, ClassMove, GathersEdgeMoves, GathersMoves, IsSlotBelow}
 use Rattle.regalloc2_fastalloc_proofs.specs.BranchSteps.{AddsTempSlotsAtMost, Pushes, AreApart, AreKnown, ParametersDiffer, SpillsArgument}
-use Rattle.regalloc2_fastalloc_proofs.specs.BranchSteps.{from_register, in_slot, is_class, of_class, none_gathered, one_gathered, no_edge, one_edge}
+use Rattle.regalloc2_fastalloc_proofs.specs.BranchSteps.{from_register, in_slot, is_class, of_class, none_gathered, one_gathered, own_argument, no_edge}
+use Rattle.regalloc2_fastalloc_proofs.specs.BranchSteps.{one_edge, IsOwn}
 use Rattle.regalloc2_fastalloc_proofs.proofs.Slots.StepsKeepSlots.{Grown, grown_then, grown_slot, clears_grown}
 
 -- one more move of a class
@@ -146,9 +147,9 @@ module _ (f : FunctionValue) (b : ℕ) where
 
   module _ (point k : ℕ) (edge : HasEdge f b k) (t : InstRegs) (old : StateValue) (before_it : List ClassMove) (all : All (IsPassed old.slots) before_it) where
     edge_passed : (j : ℕ) (u : InstRegs) (m : StateValue) (given : List ClassMove) →
-        GathersEdgeMoves point (block_at f (target_at f b k)).params (arguments_at f b k) t old before_it j u m given → All (IsPassed m.slots) given
+        GathersEdgeMoves (IsOwn f b) point (block_at f (target_at f b k)).params (arguments_at f b k) t old before_it j u m given → All (IsPassed m.slots) given
     edge_passed j u m given none_gathered = all
-    edge_passed j u m given (one_gathered i prev to from w x l n o lt before gives places edits machine settles) =
+    edge_passed j u m given (one_gathered i prev to from w x l n o lt before gives places edits machine settles foreign) =
         let gives_more : Grows l n = grown_slot AnyPlace l n (slice_index_or (block_at f (target_at f b k)).params i no_vreg) to gives edits in
         let settles_more : Grows n m = settles_grown point (slice_index_or (arguments_at f b k) i no_vreg) from w u n m settles in
         All-append (IsPassed m.slots) prev _ (passed_later l m prev (grown_then AnyPlace l n m gives_more settles_more) (edge_passed i w l prev before))
@@ -161,6 +162,7 @@ module _ (f : FunctionValue) (b : ℕ) where
               (given_slot l.slots n.slots (slice_index_or (block_at f (target_at f b k)).params i no_vreg) to gives);
           from = settled_slot point (slice_index_or (arguments_at f b k) i no_vreg) from w u n m settles;
         }) (All-nil (IsPassed m.slots)))
+    edge_passed j u m given (own_argument i prev w l lt before own) = edge_passed i u m given before
 
   -- all that is gathered
   pub all_passed : (point : ℕ) (t : InstRegs) (old : StateValue) (k : ℕ) (u : InstRegs) (m : StateValue) (given : List ClassMove) →
@@ -303,12 +305,13 @@ pub known_still : (vs ws : List VirtualRegister) (t u : StateValue) → ws ≡ v
 known_still vs ws t u e long known = subst (λ (l : List VirtualRegister). AreKnown l u) (sym e) (λ i d lt. let w = known i d lt in omega (arith, w, long))
 
 -- the lists of an edge, as they were read
-pub edge_at : (p q : ℕ) (ps qs xs ys : List VirtualRegister) (t u : InstRegs) (old new : StateValue) (given more : List ClassMove) → p ≡ q → ps ≡ qs → xs ≡ ys →
-    GathersEdgeMoves p ps xs t old given (length ps) u new more → GathersEdgeMoves q qs ys t old given (length qs) u new more
-edge_at p q ps qs xs ys t u old new given more e f h x =
-    subst (λ (n : ℕ). GathersEdgeMoves n qs ys t old given (length qs) u new more) e
-    (subst (λ (l : List VirtualRegister). GathersEdgeMoves p l ys t old given (length l) u new more) f
-    (subst (λ (l : List VirtualRegister). GathersEdgeMoves p ps l t old given (length ps) u new more) h x))
+pub edge_at : {Own : VirtualRegister → Type 0} (p q : ℕ) (ps qs xs ys : List VirtualRegister) (t u : InstRegs) (old new : StateValue)
+    (given more : List ClassMove) → p ≡ q → ps ≡ qs → xs ≡ ys →
+    GathersEdgeMoves Own p ps xs t old given (length ps) u new more → GathersEdgeMoves Own q qs ys t old given (length qs) u new more
+edge_at {Own} p q ps qs xs ys t u old new given more e f h x =
+    subst (λ (n : ℕ). GathersEdgeMoves Own n qs ys t old given (length qs) u new more) e
+    (subst (λ (l : List VirtualRegister). GathersEdgeMoves Own p l ys t old given (length l) u new more) f
+    (subst (λ (l : List VirtualRegister). GathersEdgeMoves Own p ps l t old given (length ps) u new more) h x))
 
 -- slots below a count are below a greater one
 pub between_more : (a b : ℕ) (ms : Moves) → a ≤ b → AreBetweenSlots a ms → AreBetweenSlots b ms

@@ -16,7 +16,7 @@ use Rattle.regalloc2_semantics.proofs.Slots.{PassedTo}
 use Rattle.regalloc2_semantics.proofs.BlockBackward.{Relied}
 use Rattle.regalloc2_fastalloc_state.specs.declared.inst_regs.InstRegs.{InstRegs}
 use Rattle.regalloc2_fastalloc_proofs.specs.InstSteps.{StateValue}
-use Rattle.regalloc2_fastalloc_proofs.specs.BranchSteps.{IsScratchRegFor, ClassMove, of_class}
+use Rattle.regalloc2_fastalloc_proofs.specs.BranchSteps.{IsScratchRegFor, ClassMove, of_class, IsOwn}
 use Rattle.regalloc2_fastalloc_proofs.proofs.Safety.StepsKeepState.{place_in, IsWhole}
 use Rattle.regalloc2_fastalloc_proofs.proofs.Operands.RecordOverState.{opt, opt_from, stands_at, slots_at}
 use Rattle.regalloc2_fastalloc_proofs.proofs.Branches.ArgMovesByClass.{Stepped, IsNoTarget, all_moves, all_kept, all_above, all_moved}
@@ -52,7 +52,7 @@ module _ (Known : VirtualRegister → Type 0) (same : (v w : VirtualRegister) �
     (whole : IsWhole g) (apart : (c : RegClass) (r : Register) → slice_index_or g.dedicated_scratch (class_code c) None ≡ Some r → (x : ℕ) →
     place_in g x ≡ InRegister r → ⊥) (held : IsHeldHere u g)
     (origin : (m : ClassMove) → Contains given m → (e j : ℕ) × HasEdge f b e × IsArgued (params_on f b e) (arguments_at f b e) j g m)
-    (all : (e j : ℕ) → HasEdge f b e → j < length (params_on f b e) → (m : ClassMove) × Contains given m
+    (all : (e j : ℕ) → HasEdge f b e → j < length (params_on f b e) → (IsOwn f b (argument_at (arguments_at f b e) j) → ⊥) → (m : ClassMove) × Contains given m
     × IsArgued (params_on f b e) (arguments_at f b e) j g m) where
   -- the parameter to whose slot a move goes
   record Target (c : RegClass) (n : ℕ) : Type 0 where
@@ -159,12 +159,12 @@ module _ (Known : VirtualRegister → Type 0) (same : (v w : VirtualRegister) �
             (all_kept point u given g ints floats new int float vector (InRegister r) (λ e. cc) (not_spare v.number r is) (λ k e. absurd cc) (no_register r) c))
         by_place p (InSlot n) is at = slot_kept free p (ap opt (whole.own_slot v.number n is) ∙ ap opt (sym is) ∙ at) c
 
-    -- a parameter's slot has what was in that of its argument
-    pub passed_moved : (q : Place) → PassedTo f (λ w. F w.number) b v q → (r : Place) × (slots_at g v.number ≡ Some r)
+    -- a parameter's slot has what was in that of its argument, which the branch doesn't define itself
+    pub passed_moved : (IsOwn f b v → ⊥) → (q : Place) → PassedTo f (λ w. F w.number) b v q → (r : Place) × (slots_at g v.number ≡ Some r)
         × ((c : Cells) → after_moves ms c q ≡ c r)
-    passed_moved q (k, w, edge, passes, slot) =
+    passed_moved foreign q (k, w, edge, passes, slot) =
         let j = passes_at (params_on f b k) (arguments_at f b k) w v passes in
-        let m = all k j.0 edge j.1 in
+        let m = all k j.0 edge j.1 (λ own. foreign (subst (IsOwn f b) j.3 own)) in
         let arg : IsArgued (params_on f b k) (arguments_at f b k) j.0 g m.0 = m.2 in
         let from_at : slots_at g v.number ≡ Some m.0.from = subst (λ (x : VirtualRegister). slots_at g x.number ≡ Some m.0.from) j.3 arg.2 in
         let to_at : slots_at g w.number ≡ Some m.0.to = subst (λ (x : VirtualRegister). slots_at g x.number ≡ Some m.0.to) j.2 arg.3 in

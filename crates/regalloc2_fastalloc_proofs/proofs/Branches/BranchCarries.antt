@@ -26,8 +26,8 @@ use Rattle.regalloc2_semantics.proofs.Slots.{PassedTo, pass_arguments}
 use Rattle.regalloc2_semantics.proofs.BlockBackward.{Relied}
 use Rattle.regalloc2_fastalloc_state.specs.declared.inst_regs.InstRegs.{InstRegs}
 use Rattle.regalloc2_fastalloc_state.specs.StateParts.{VRegAllocsValue, IsSlotOrNone, alloc_of, vreg_of_preg}
-use Rattle.regalloc2_fastalloc_proofs.specs.InstSteps.{StateValue, AllocsInst}
-use Rattle.regalloc2_fastalloc_proofs.specs.BranchSteps.{of_class, ProcessesBranch}
+use Rattle.regalloc2_fastalloc_proofs.specs.InstSteps.{StateValue, AllocsInst, ends_block}
+use Rattle.regalloc2_fastalloc_proofs.specs.BranchSteps.{of_class, ProcessesBranch, IsOwn}
 use Rattle.regalloc2_fastalloc_proofs.proofs.Safety.StepsKeepState.{place_in, slot_in, IsWhole}
 use Rattle.regalloc2_fastalloc_proofs.proofs.Operands.RecordOverState.{opt, stands_at, slots_at}
 use Rattle.regalloc2_fastalloc_proofs.proofs.Moves.ScratchRegTaken.{of_machine, Fit}
@@ -35,10 +35,11 @@ use Rattle.regalloc2_fastalloc_proofs.proofs.Operands.RecordOfInst.{Orderly}
 use Rattle.regalloc2_fastalloc_proofs.proofs.Inst.BoundaryToFirstOperand.{AvoidClobbers}
 use Rattle.regalloc2_fastalloc_proofs.proofs.Operands.AllocsSoFar.{IsTame}
 use Rattle.regalloc2_fastalloc_proofs.proofs.Slots.StepsKeepSlots.{IsAt, allocates_grown}
-use Rattle.regalloc2_fastalloc_proofs.proofs.Operands.DefinedNumbers.{defined_by, defined_by-some}
+use Rattle.regalloc2_fastalloc_proofs.proofs.Operands.DefinedNumbers.{defined_by, defined_by-at}
 use Rattle.regalloc2_fastalloc_proofs.proofs.BlockEnd.NoMoveForOperand.{IsOutside}
 use Rattle.regalloc2_fastalloc_proofs.proofs.Moves.StepsAppendEdits.{Pushes, pushes_then, pushes_weaken}
 use Rattle.regalloc2_fastalloc_proofs.proofs.Inst.OneInstCarries.{Between, Alone, alone}
+use Rattle.regalloc2_fastalloc_proofs.proofs.Walk.InstForOneVReg.{undefined_by}
 use Rattle.regalloc2_fastalloc_proofs.proofs.Walk.InstsBeforeLastCarry.{defined_from}
 use Rattle.regalloc2_fastalloc_proofs.proofs.Walk.BlockObligations.{defined_from-some}
 use Rattle.regalloc2_fastalloc_proofs.proofs.BlockEnd.LastInst.{OwedOwn, owed_there}
@@ -47,7 +48,7 @@ use Rattle.regalloc2_fastalloc_proofs.proofs.Branches.ArgMovesPushed.{walked_mad
 use Rattle.regalloc2_fastalloc_proofs.proofs.Branches.ArgMovesByClass.{Stepped, stepped, all_moves, all_at, all_other, all_places, all_slots, all_grow}
 use Rattle.regalloc2_fastalloc_proofs.proofs.Branches.EdgeArgsGathered.{passes_at, argument_at, params_on}
 use Rattle.regalloc2_fastalloc_proofs.proofs.BlockEnd.BranchAlone.{IsHeldHere, IsUseMove, Branched, branched, unmoved, none_below}
-use Rattle.regalloc2_fastalloc_proofs.proofs.BlockEnd.BranchEndsBlock.{ToCome, grown_slots, to_come-back, reads_own, leaves_own, own_moves}
+use Rattle.regalloc2_fastalloc_proofs.proofs.BlockEnd.BranchEndsBlock.{ToCome, grown_slots, to_come-back, reads_own, own_moves}
 use Rattle.regalloc2_fastalloc_proofs.proofs.Branches.ArgMovesEffect.{names_at, relied_kept, passed_moved}
 use Rattle.regalloc2_fastalloc_proofs.proofs.Branches.BranchInParts.{settled_carries, Parted, parted}
 
@@ -111,7 +112,11 @@ module _ (Known : VirtualRegister → Type 0) (f : FunctionValue) (placesf : ℕ
     (old middle new : StateValue) (within : last < length f.insts)
     (are_listed : (k : ℕ) → k < length (inst_at f last).operands → place_at (placesf last) k ≡ slice_index_or here k NoPlace)
     (tame : IsTame Known (inst_at f last).operands)
-    (no_defs : (k : ℕ) → k < length (inst_at f last).operands → is_def (op_at (inst_at f last).operands k).kind ≡ true → ⊥)
+    (ends : ends_block (inst_at f last) ≡ true)
+    (own_defs : (k : ℕ) → k < length (inst_at f last).operands → is_def (op_at (inst_at f last).operands k).kind ≡ true → (n : ℕ) →
+    place_at (placesf last) k ≡ InSlot n → F (op_at (inst_at f last).operands k).vreg.number ≡ Some (InSlot n))
+    (undefined_params : (e : ℕ) (w : VirtualRegister) → HasEdge f b e → names w (params_on f b e) ≡ true →
+    defined_by (inst_at f last).operands w.number ≡ false)
     (known_params : (e j : ℕ) → HasEdge f b e → j < length (params_on f b e) → Known (argument_at (params_on f b e) j))
     (classes : (e j : ℕ) → HasEdge f b e → j < length (params_on f b e) → (argument_at (arguments_at f b e) j).class ≡ (argument_at (params_on f b e) j).class)
     (unread_params : (e : ℕ) (w : VirtualRegister) → HasEdge f b e → names w (params_on f b e) ≡ true → Unread (inst_at f last).operands w)
@@ -121,7 +126,7 @@ module _ (Known : VirtualRegister → Type 0) (f : FunctionValue) (placesf : ℕ
   by_itself = alone Known f placesf orderly avoids knows last blank here old middle within are_listed between a
 
   br : Branched Known f placesf orderly avoids knows last here a.ended old middle
-  br = branched Known f placesf orderly avoids knows last blank here old middle within are_listed tame no_defs between bare a
+  br = branched Known f placesf orderly avoids knows last blank here old middle within are_listed tame ends between bare a
 
   abbrev edges : ℕ
   edges = length (block_at f b).succs
@@ -179,12 +184,6 @@ module _ (Known : VirtualRegister → Type 0) (f : FunctionValue) (placesf : ℕ
       → place_in p.gathered x ≡ InRegister r → ⊥
   apart c r at = (part.stage.scratch_reserve.idle c r (of_machine at)).no_allocs
 
-  undefined : (x : ℕ) → defined_by (inst_at f last).operands x ≡ false
-  undefined x = elim (cases_Bool (defined_by (inst_at f last).operands x)) [
-    | inl is ↦ (let d = defined_by-some (inst_at f last).operands x is in absurd (no_defs d.0 d.1 d.2))
-    | inr not ↦ not
-  ]
-
   -- what was walked before the moves of the arguments
   abbrev L : List Item
   L = walked (inst_at f) (at_point (listed p.gathered.edits)) placesf last 1
@@ -212,13 +211,21 @@ module _ (Known : VirtualRegister → Type 0) (f : FunctionValue) (placesf : ℕ
         | inl x ↦ elim x.1 [
           | inl r ↦ (let y : InRegister r.0 ≡ InSlot n = sym r.1 ∙ to in cc)
           | inr j ↦ unread_params e w edge named j.0 j.1 j.2 (reads_own Known f placesf orderly avoids knows F last blank here old middle within are_listed
-              no_defs between a a.ended br come_middle w known n j.0 mine j.1 j.2 (sym to ∙ j.3))
+              ends own_defs between a a.ended br come_middle w known n j.0 mine j.1 j.2 (sym to ∙ j.3))
         ]
         | inr x ↦ (let y : InRegister x.1.0 ≡ InSlot n = sym x.1.1 ∙ to in cc)
       ])
       (none_below (InSlot n) q (before (last + 1)) old.edits lt between.later) pushes)
       (λ j le lt. let same : last ≡ j = omega (arith, le, lt) in subst (λ k. Spares (inst_at f k).operands (placesf k) (inst_at f k).clobbers (InSlot n)) same
-      (record { no_definition = λ k less def at. no_defs k less def; no_clobber = refl }))
+      (record {
+        no_definition = λ k less def at.
+            let x : ℕ = (op_at (inst_at f last).operands k).vreg.number in
+            let number : x ≡ w.number = come.own x w.number n (own_defs k less def n at) mine in
+            let yes_defined : defined_by (inst_at f last).operands w.number ≡ true = subst (λ y. defined_by (inst_at f last).operands y ≡ true) number
+            (defined_by-at (inst_at f last).operands k less def) in
+            let no_defined : defined_by (inst_at f last).operands w.number ≡ false = undefined_params e w edge named in cc;
+        no_clobber = refl;
+      }))
 
   passed_untouched : (v : VirtualRegister) (q : Place) → PassedTo f (λ w. F w.number) b v q → Untouched q L
   passed_untouched v q (k, w, edge, passes, slot) =
@@ -227,11 +234,11 @@ module _ (Known : VirtualRegister → Type 0) (f : FunctionValue) (placesf : ℕ
       subst (λ x. Untouched x L) (sym n.1) (slot_untouched k w edge (subst Known j.2 (known_params k j.0 edge j.1)) (names_at (params_on f b k) j.0 w j.1 j.2)
       n.0 (slot ∙ ap Some n.1))
 
-  unwritten : (v : VirtualRegister) → writes v L ≡ false
-  unwritten v = unwritten_walked v (inst_at f) (at_point (listed p.gathered.edits)) placesf last 1
-      (λ j le lt. let same : last ≡ j = omega (arith, le, lt) in subst (λ k. Undefined (inst_at f k).operands v) same (λ i less def is. no_defs i less def))
+  unwritten : (v : VirtualRegister) → defined_by (inst_at f last).operands v.number ≡ false → writes v L ≡ false
+  unwritten v free = unwritten_walked v (inst_at f) (at_point (listed p.gathered.edits)) placesf last 1
+      (λ j le lt. let same : last ≡ j = omega (arith, le, lt) in subst (λ k. Undefined (inst_at f k).operands v) same (undefined_by f placesf F v last free))
 
-  module _ (v : VirtualRegister) (known : Known v) (goes : (inst_at f last).is_ret ≡ false) (block : Bool)
+  module _ (v : VirtualRegister) (known : Known v) (free : defined_by (inst_at f last).operands v.number ≡ false) (foreign : IsOwn f b v → ⊥) (block : Bool)
       (settled : (place_in old v.number ≡ NoPlace) ⊎ ((k : ℕ) × (place_in old v.number ≡ InSlot k) × (slot_in old v.number ≡ InSlot k)))
       (writes_it : block ≡ true → IsUnwritten f b v → ⊥) (lives : block ≡ true → (c : ℕ) → c < length f.blocks → c ≢ b → IsUsedIn f c v →
       place_in old v.number ≢ NoPlace) where
@@ -248,27 +255,34 @@ module _ (Known : VirtualRegister → Type 0) (f : FunctionValue) (placesf : ℕ
         settled_carries (inst_at f) placesf last v block (F v.number) (λ r e. let n = come.only v.number (InRegister r) e in
         let x : InRegister r ≡ InSlot n.0 = n.1 in cc) Own f b a.ended inst_regs middle p.gathered edges p.given p.gathers by_itself.between
         br.scratch_reserve
-        (own_moves Known f placesf orderly avoids knows F last blank here old middle within are_listed no_defs between a a.ended br v known (undefined v.number)
-        goes
-        (leaves_own Known f placesf orderly avoids knows F last blank here old middle within are_listed no_defs between a a.ended br come_middle
-        (λ q x at. stays_old x q at) v known) block Own
-        (owed_there f F b v block old (stays_old v.number) settled writes_it lives))
+        (own_moves Known f placesf orderly avoids knows F last blank here old middle within are_listed ends own_defs between a a.ended br come_middle v known
+        free block Own (λ q o. o.2)
+        (λ yes_block q o. elim (owed_there f F b v block old (stays_old v.number) settled writes_it lives q o).1 [
+          | inl at ↦ by_settled settled q at
+          | inr (inl at) ↦ at
+          | inr (inr at) ↦ (let x : block ≡ false = at.0 in cc)
+        ]))
+      where
+        by_settled : (place_in old v.number ≡ NoPlace) ⊎ ((k : ℕ) × (place_in old v.number ≡ InSlot k) × (slot_in old v.number ≡ InSlot k)) → (q : Place) →
+            stands_at old v.number ≡ Some q → slots_at old v.number ≡ Some q
+        by_settled (inl none) q at = (let x : None ≡ Some q = ap opt (sym none) ∙ at in absurd cc)
+        by_settled (inr k) q at = ap opt k.2 ∙ ap opt (sym k.1) ∙ at
 
     abbrev Slot : Place → Type 0
     Slot q = slots_at p.gathered v.number ≡ Some q
 
     moved : (q : Place) → PassedTo f (λ w. F w.number) b v q → (r : Place) × Slot r × ((c : Cells) → after_moves moves c q ≡ c r)
     moved q passed = passed_moved Known tame.same f F b (before last) known_params classes inst_regs p.given p.gathered p.ints p.floats new ints floats vectors
-        come_gathered above part.stage.whole apart held part.origin part.all v known q passed
+        come_gathered above part.stage.whole apart held part.origin part.all v known foreign q passed
 
     -- where v is no parameter of a successor
     carries_free : ((e : ℕ) → HasEdge f b e → names v (params_on f b e) ≡ false) →
         Carries v (with_moves moves L) (λ q. On p.gathered q ⊎ Slot q) (StandsAfter f (λ u. F u.number) b v)
-    carries_free free =
+    carries_free none =
         pass_arguments f (λ u. F u.number) b v moves L (On p.gathered) Slot Own
         (λ q h c. relied_kept Known tame.same f F b (before last) known_params classes inst_regs p.given p.gathered p.ints p.floats new ints floats vectors
-        come_gathered above part.stage.whole apart held part.origin part.all v known free block q h c)
-        moved (passed_untouched v) (unwritten v) (λ q h. h) reloaded
+        come_gathered above part.stage.whole apart held part.origin part.all v known none block q h c)
+        moved (passed_untouched v) (unwritten v free) (λ q h. h) reloaded
 
     -- where it is one, the branch doesn't read it
     carries_param : (e : ℕ) → HasEdge f b e → names v (params_on f b e) ≡ true →
@@ -276,7 +290,7 @@ module _ (Known : VirtualRegister → Type 0) (f : FunctionValue) (placesf : ℕ
     carries_param e edge named =
         let silent : Silent v L = silent_walked v (inst_at f) (at_point (listed p.gathered.edits)) placesf last 1
         (λ j le lt. let same : last ≡ j = omega (arith, le, lt) in subst (λ k. Unread (inst_at f k).operands v) same (unread_params e v edge named)) in
-        pass_arguments f (λ u. F u.number) b v moves L (λ q. ⊥) Slot (λ q. ⊥) (λ q h c. absurd h) moved (passed_untouched v) (unwritten v)
+        pass_arguments f (λ u. F u.number) b v moves L (λ q. ⊥) Slot (λ q. ⊥) (λ q h c. absurd h) moved (passed_untouched v) (unwritten v free)
         (λ q h. let x : names v (params_on f b e) ≡ false = h.0 e edge in cc) (carries_silent v L (λ q. ⊥) silent)
 
     undefined_last : defined_from f v.number last 1 ≡ false
@@ -284,7 +298,7 @@ module _ (Known : VirtualRegister → Type 0) (f : FunctionValue) (placesf : ℕ
       | inl is ↦ (let d = defined_from-some f v.number last 1 is in
           let same : d.0 ≡ last = (let ge : last ≤ d.0 = d.1 in let lt : d.0 < last + 1 = d.2 in omega (arith, ge, lt)) in
           let yes : defined_by (inst_at f last).operands v.number ≡ true = subst (λ k. defined_by (inst_at f k).operands v.number ≡ true) same d.3 in
-          let no : defined_by (inst_at f last).operands v.number ≡ false = undefined v.number in absurd cc)
+          absurd cc)
       | inr not ↦ not
     ]
 

@@ -15,8 +15,9 @@ use Rattle.regalloc2_semantics.specs.Blocks.{target_at, Passes}
 use Rattle.regalloc2_fastalloc_state.specs.declared.inst_regs.InstRegs.{InstRegs}
 use Rattle.regalloc2_fastalloc_proofs.specs.InstSteps.{StateValue}
 use Rattle.regalloc2_fastalloc_proofs.specs.BlockStart.{no_vreg}
-use Rattle.regalloc2_fastalloc_proofs.specs.BranchSteps.{ClassMove, is_class, of_class, GathersEdgeMoves, none_gathered, one_gathered, GathersMoves, no_edge}
-use Rattle.regalloc2_fastalloc_proofs.specs.BranchSteps.{one_edge}
+use Rattle.regalloc2_fastalloc_proofs.specs.BranchSteps.{ClassMove, is_class, of_class, GathersEdgeMoves, none_gathered, one_gathered, own_argument}
+use Rattle.regalloc2_fastalloc_proofs.specs.BranchSteps.{GathersMoves}
+use Rattle.regalloc2_fastalloc_proofs.specs.BranchSteps.{no_edge, one_edge, IsOwn}
 use Rattle.regalloc2_fastalloc_proofs.proofs.Safety.StepsKeepState.{place_in}
 use Rattle.regalloc2_fastalloc_proofs.proofs.Operands.RecordOverState.{opt, opt_some, slots_at}
 use Rattle.regalloc2_fastalloc_proofs.proofs.Branches.ArgsSpilled.{Comes, comes_all, comes_then, Stage, gives_stage, argued}
@@ -120,29 +121,30 @@ params_on f b k = (block_at f (target_at f b k)).params
 module _ (Known : VirtualRegister → Type 0) (insts : ℕ → InstValue) (placesf : ℕ → List Place) (i n : ℕ) (item : Item) (E : VirtualRegister → Place → Type 0)
     (X : Place → ℕ → Bool) (clear : (r : Register) (x : ℕ) → X (InRegister r) x ≡ false) where
   -- the first k arguments of an edge
-  pub record EdgeDone (params arguments : List VirtualRegister) (before_it : List ClassMove) (k : ℕ) (t u : InstRegs) (old new : StateValue)
+  pub record EdgeDone (Own : VirtualRegister → Type 0) (params arguments : List VirtualRegister) (before_it : List ClassMove) (k : ℕ) (t u : InstRegs)
+      (old new : StateValue)
       (given : List ClassMove) : Type 0 where
     pub stage : Stage Known insts placesf i n item E X clear u new
     pub comes : Comes i t u old new
     pub kept : (g : ClassMove) → Contains before_it g → Contains given g
     pub origin : (g : ClassMove) → Contains given g → Contains before_it g ⊎ ((j : ℕ) × IsArgued params arguments j new g)
-    pub all : (j : ℕ) → j < k → (g : ClassMove) × Contains given g × IsArgued params arguments j new g
-    pub there : (j : ℕ) → j < k → place_in new (argument_at arguments j).number ≢ NoPlace
+    pub all : (j : ℕ) → j < k → (Own (argument_at arguments j) → ⊥) → (g : ClassMove) × Contains given g × IsArgued params arguments j new g
+    pub there : (j : ℕ) → j < k → (Own (argument_at arguments j) → ⊥) → place_in new (argument_at arguments j).number ≢ NoPlace
 
   -- gathering the first k arguments of an edge keeps the state at the branch, and its moves go from the arguments' slots to the parameters'
-  pub edge_done : (params arguments : List VirtualRegister) (t : InstRegs) (old : StateValue) (before_it : List ClassMove) →
+  pub edge_done : {Own : VirtualRegister → Type 0} (params arguments : List VirtualRegister) (t : InstRegs) (old : StateValue) (before_it : List ClassMove) →
       Stage Known insts placesf i n item E X clear t old
-      → (k : ℕ) (u : InstRegs) (new : StateValue) (given : List ClassMove) → GathersEdgeMoves (before i) params arguments t old before_it k u new given →
-      EdgeDone params arguments before_it k t u old new given
+      → (k : ℕ) (u : InstRegs) (new : StateValue) (given : List ClassMove) → GathersEdgeMoves Own (before i) params arguments t old before_it k u new given →
+      EdgeDone Own params arguments before_it k t u old new given
   edge_done params arguments t old before_it h k u new given none_gathered = record {
     stage = h;
     comes = comes_all i t old;
     kept = λ g has. has;
     origin = λ g has. inl has;
-    all = λ j lt. absurd (omega arith);
-    there = λ j lt. absurd (omega arith);
+    all = λ j lt not_own. absurd (omega arith);
+    there = λ j lt not_own. absurd (omega arith);
   }
-  edge_done params arguments t old before_it h k w o given (one_gathered j had to from u x m p q lt prev gives places edits machine settles) =
+  edge_done params arguments t old before_it h k w o given (one_gathered j had to from u x m p q lt prev gives places edits machine settles foreign) =
       let a = edge_done params arguments t old before_it h j u m had prev in
       let g = gives_stage Known insts placesf i n item E X clear (argument_at params j) to u m p gives places edits machine a.stage in
       let s = argued Known insts placesf i n item E X clear (argument_at arguments j) from u w p o settles g.0 in
@@ -169,17 +171,33 @@ module _ (Known : VirtualRegister → Type 0) (insts : ℕ → InstValue) (place
             | inr y ↦ absurd (let less : y.0 < 0 = y.1 in omega (arith, less))
           ]
         ];
-        all = λ l less. elim (cases_eq l j) [
+        all = λ l less not_own. elim (cases_eq l j) [
           | inl e ↦ (one, Contains-append_right had (one ∷ []) one (0, omega arith, refl), subst (λ z. IsArgued params arguments z o one) (sym e) is)
-          | inr ne ↦ (let y = a.all l (omega (arith, less, ne)) in (
+          | inr ne ↦ (let y = a.all l (omega (arith, less, ne)) not_own in (
             y.0,
             Contains-append_left had (one ∷ []) y.0 y.1,
             argued_on params arguments l m o y.0 c.slots y.2,
           ))
         ];
-        there = λ l less. elim (cases_eq l j) [
+        there = λ l less not_own. elim (cases_eq l j) [
           | inl e ↦ subst (λ z. place_in o (argument_at arguments z).number ≢ NoPlace) (sym e) s.there
-          | inr ne ↦ (λ none. a.there l (omega (arith, less, ne)) (c.lasts (argument_at arguments l).number none))
+          | inr ne ↦ (λ none. a.there l (omega (arith, less, ne)) not_own (c.lasts (argument_at arguments l).number none))
+        ];
+      }
+  edge_done {Own} params arguments t old before_it h k w o given (own_argument j had u m lt prev own) =
+      let a : EdgeDone Own params arguments before_it j t w old o given = edge_done params arguments t old before_it h j w o given prev in
+      record {
+        stage = a.stage;
+        comes = a.comes;
+        kept = a.kept;
+        origin = a.origin;
+        all = λ l less not_own. elim (cases_eq l j) [
+          | inl e ↦ absurd (not_own (subst (λ z. Own (argument_at arguments z)) (sym e) own))
+          | inr ne ↦ a.all l (omega (arith, less, ne)) not_own
+        ];
+        there = λ l less not_own. elim (cases_eq l j) [
+          | inl e ↦ absurd (not_own (subst (λ z. Own (argument_at arguments z)) (sym e) own))
+          | inr ne ↦ a.there l (omega (arith, less, ne)) not_own
         ];
       }
 
@@ -188,8 +206,10 @@ module _ (Known : VirtualRegister → Type 0) (insts : ℕ → InstValue) (place
     pub stage : Stage Known insts placesf i n item E X clear u new
     pub comes : Comes i t u old new
     pub origin : (g : ClassMove) → Contains given g → (e j : ℕ) × (e < k) × IsArgued (params_on f b e) (arguments_at f b e) j new g
-    pub all : (e j : ℕ) → e < k → j < length (params_on f b e) → (g : ClassMove) × Contains given g × IsArgued (params_on f b e) (arguments_at f b e) j new g
-    pub there : (e j : ℕ) → e < k → j < length (params_on f b e) → place_in new (argument_at (arguments_at f b e) j).number ≢ NoPlace
+    pub all : (e j : ℕ) → e < k → j < length (params_on f b e) → (IsOwn f b (argument_at (arguments_at f b e) j) → ⊥) → (g : ClassMove) × Contains given g
+        × IsArgued (params_on f b e) (arguments_at f b e) j new g
+    pub there : (e j : ℕ) → e < k → j < length (params_on f b e) → (IsOwn f b (argument_at (arguments_at f b e) j) → ⊥) →
+        place_in new (argument_at (arguments_at f b e) j).number ≢ NoPlace
 
   -- gathering the arguments of the first k edges keeps the state at the branch, and gives the moves of all their arguments
   pub gathered : (f : FunctionValue) (b : ℕ) (t : InstRegs) (old : StateValue) → Stage Known insts placesf i n item E X clear t old
@@ -199,8 +219,8 @@ module _ (Known : VirtualRegister → Type 0) (insts : ℕ → InstValue) (place
     stage = h;
     comes = comes_all i t old;
     origin = λ g has. absurd (let lt : has.0 < 0 = has.1 in omega (arith, lt));
-    all = λ e j lt less. absurd (omega arith);
-    there = λ e j lt less. absurd (omega arith);
+    all = λ e j lt less not_own. absurd (omega arith);
+    there = λ e j lt less not_own. absurd (omega arith);
   }
   gathered f b t old h k u new given (one_edge d had more x w m o lt prev edge) =
       let a = gathered f b t old h d x m had prev in
@@ -218,15 +238,17 @@ module _ (Known : VirtualRegister → Type 0) (insts : ℕ → InstValue) (place
           ))
           | inr here ↦ (d, here.0, omega arith, here.1)
         ];
-        all = λ e j less short. elim (cases_eq e d) [
-          | inl same ↦ (let s : j < length (params_on f b d) = subst (λ z. j < length (params_on f b z)) same short in let y = g.all j s in
+        all = λ e j less short not_own. elim (cases_eq e d) [
+          | inl same ↦ (let s : j < length (params_on f b d) = subst (λ z. j < length (params_on f b z)) same short in
+              let y = g.all j s (subst (λ z. IsOwn f b (argument_at (arguments_at f b z) j) → ⊥) same not_own) in
               (y.0, y.1, subst (λ z. IsArgued (params_on f b z) (arguments_at f b z) j new y.0) (sym same) y.2))
-          | inr ne ↦ (let y = a.all e j (omega (arith, less, ne)) short in
+          | inr ne ↦ (let y = a.all e j (omega (arith, less, ne)) short not_own in
               (y.0, g.kept y.0 y.1, argued_on (params_on f b e) (arguments_at f b e) j m new y.0 c.slots y.2))
         ];
-        there = λ e j less short. elim (cases_eq e d) [
+        there = λ e j less short not_own. elim (cases_eq e d) [
           | inl same ↦ (let s : j < length (params_on f b d) = subst (λ z. j < length (params_on f b z)) same short in
-              subst (λ z. place_in new (argument_at (arguments_at f b z) j).number ≢ NoPlace) (sym same) (g.there j s))
-          | inr ne ↦ (λ none. a.there e j (omega (arith, less, ne)) short (c.lasts (argument_at (arguments_at f b e) j).number none))
+              subst (λ z. place_in new (argument_at (arguments_at f b z) j).number ≢ NoPlace) (sym same)
+              (g.there j s (subst (λ z. IsOwn f b (argument_at (arguments_at f b z) j) → ⊥) same not_own)))
+          | inr ne ↦ (λ none. a.there e j (omega (arith, less, ne)) short not_own (c.lasts (argument_at (arguments_at f b e) j).number none))
         ];
       }

@@ -19,7 +19,7 @@ use Rattle.regalloc2_fastalloc_proofs.specs.BlockStart.{no_vreg}
 use Rattle.regalloc2_fastalloc_state.specs.ScratchPool.{Moves, pushed}
 use Rattle.regalloc2_fastalloc_proofs.specs.InstSteps.{StateValue}
 use Rattle.regalloc2_fastalloc_proofs.specs.BranchSteps.{Pushes, SpillsArgument, from_register, in_slot, ClassMove, of_class, GathersEdgeMoves}
-use Rattle.regalloc2_fastalloc_proofs.specs.BranchSteps.{none_gathered, one_gathered, GathersMoves, no_edge, one_edge, ProcessesBranch}
+use Rattle.regalloc2_fastalloc_proofs.specs.BranchSteps.{none_gathered, one_gathered, own_argument, IsOwn, GathersMoves, no_edge, one_edge, ProcessesBranch}
 use Rattle.std.proofs.lemmas.List.Elements.{All-push}
 use Rattle.regalloc2_fastalloc_proofs.proofs.Slots.StepsKeepSlots.{Grown, grown_none, grown_then, grown_slot, clears_grown}
 use Rattle.regalloc2_fastalloc_proofs.proofs.Slots.LocatedStaysLocated.{settled_lasts, clears_lasts}
@@ -34,13 +34,15 @@ module _ (At : ℕ → Type 0) (point : ℕ) (here : At point) where
   argument_grown a s t u old new (in_slot not gives settles edits machine eu) = grown_slot At old new a s gives edits
 
   -- gathering the arguments of one edge lets slots grow, and adds edits at the branch's point alone
-  pub edge_grown : (params arguments : List VirtualRegister) (t : InstRegs) (old : StateValue) (given : List ClassMove) (j : ℕ) (u : InstRegs) (m : StateValue)
-      (more : List ClassMove) → GathersEdgeMoves point params arguments t old given j u m more → Grown At old m
+  pub edge_grown : {Own : VirtualRegister → Type 0} (params arguments : List VirtualRegister) (t : InstRegs) (old : StateValue) (given : List ClassMove)
+      (j : ℕ) (u : InstRegs) (m : StateValue)
+      (more : List ClassMove) → GathersEdgeMoves Own point params arguments t old given j u m more → Grown At old m
   edge_grown params arguments t old given j u m more none_gathered = grown_none At old old refl
-  edge_grown params arguments t old given j u m more (one_gathered l some to from x w s n o lt prev gives places edits machine settles) =
+  edge_grown params arguments t old given j u m more (one_gathered l some to from x w s n o lt prev gives places edits machine settles foreign) =
       grown_then At old s o (edge_grown params arguments t old given l x s some prev)
       (grown_then At s n o (grown_slot At s n (slice_index_or params l no_vreg) to gives edits)
       (argument_grown (slice_index_or arguments l no_vreg) from x w n o settles))
+  edge_grown params arguments t old given j u m more (own_argument l some x s lt prev own) = edge_grown params arguments t old given l u m more prev
 
   edges_grown : (f : FunctionValue) (b : ℕ) (t : InstRegs) (old : StateValue) (k : ℕ) (u : InstRegs) (m : StateValue) (given : List ClassMove) →
       GathersMoves f b point t old k u m given → Grown At old m
@@ -93,23 +95,29 @@ module _ (point : ℕ) where
       (λ none. (let y : InRegister r ≡ NoPlace = sym at ∙ ap (λ (p : VRegAllocsValue). alloc_of p a.number) (sym places) ∙ none in cc))
   argument_stands a s t u old new (in_slot not gives settles edits machine eu) = λ none. gives.there (sym settles.here ∙ none)
 
-  module _ (params arguments : List VirtualRegister) (t : InstRegs) (old : StateValue) (given : List ClassMove) where
-    edge_lasts : (x j : ℕ) (u : InstRegs) (m : StateValue) (more : List ClassMove) → GathersEdgeMoves point params arguments t old given j u m more →
+  module _ {Own : VirtualRegister → Type 0} (params arguments : List VirtualRegister) (t : InstRegs) (old : StateValue) (given : List ClassMove) where
+    edge_lasts : (x j : ℕ) (u : InstRegs) (m : StateValue) (more : List ClassMove) → GathersEdgeMoves Own point params arguments t old given j u m more →
         alloc_of old.places x ≢ NoPlace → alloc_of m.places x ≢ NoPlace
     edge_lasts x j u m more none_gathered h = h
-    edge_lasts x j u m more (one_gathered l some to from v w s n o lt prev gives places edits machine settles) h =
+    edge_lasts x j u m more (one_gathered l some to from v w s n o lt prev gives places edits machine settles foreign) h =
         argument_lasts x (slice_index_or arguments l no_vreg) from v w n o settles
         (subst (λ (p : VRegAllocsValue). alloc_of p x ≢ NoPlace) (sym places) (edge_lasts x l v s some prev h))
+    edge_lasts x j u m more (own_argument l some v s lt prev own) h = edge_lasts x l u m more prev h
 
-    edge_stands : (j : ℕ) (u : InstRegs) (m : StateValue) (more : List ClassMove) → GathersEdgeMoves point params arguments t old given j u m more → (l : ℕ) →
-        l < j → alloc_of m.places (slice_index_or arguments l no_vreg).number ≢ NoPlace
-    edge_stands j u m more none_gathered l less = absurd (omega (arith, less))
-    edge_stands j u m more (one_gathered e some to from v w s n o lt prev gives places edits machine settles) l less = elim (cases_eq l e) [
+    edge_stands : (j : ℕ) (u : InstRegs) (m : StateValue) (more : List ClassMove) → GathersEdgeMoves Own point params arguments t old given j u m more →
+        (l : ℕ) →
+        l < j → (Own (slice_index_or arguments l no_vreg) → ⊥) → alloc_of m.places (slice_index_or arguments l no_vreg).number ≢ NoPlace
+    edge_stands j u m more none_gathered l less not_own = absurd (omega (arith, less))
+    edge_stands j u m more (one_gathered e some to from v w s n o lt prev gives places edits machine settles foreign) l less not_own = elim (cases_eq l e) [
       | inl same ↦ subst (λ (k : ℕ). alloc_of o.places (slice_index_or arguments k no_vreg).number ≢ NoPlace) (sym same)
           (argument_stands (slice_index_or arguments e no_vreg) from v w n o settles)
       | inr ne ↦ argument_lasts (slice_index_or arguments l no_vreg).number (slice_index_or arguments e no_vreg) from v w n o settles
           (subst (λ (p : VRegAllocsValue). alloc_of p (slice_index_or arguments l no_vreg).number ≢ NoPlace) (sym places)
-          (edge_stands e v s some prev l (omega (arith, less, ne))))
+          (edge_stands e v s some prev l (omega (arith, less, ne)) not_own))
+    ]
+    edge_stands j u m more (own_argument e some v s lt prev own) l less not_own = elim (cases_eq l e) [
+      | inl same ↦ absurd (not_own (subst (λ (k : ℕ). Own (slice_index_or arguments k no_vreg)) (sym same) own))
+      | inr ne ↦ edge_stands e u m more prev l (omega (arith, less, ne)) not_own
     ]
 
   module _ (f : FunctionValue) (b : ℕ) (t : InstRegs) (old : StateValue) where
@@ -121,17 +129,18 @@ module _ (point : ℕ) where
         (edges_last x e v s some prev h)
 
     edges_stand : (k : ℕ) (u : InstRegs) (m : StateValue) (given : List ClassMove) → GathersMoves f b point t old k u m given → (e l : ℕ) → e < k →
-        l < length (block_at f (target_at f b e)).params →
+        l < length (block_at f (target_at f b e)).params → (IsOwn f b (slice_index_or (arguments_at f b e) l no_vreg) → ⊥) →
         alloc_of m.places (slice_index_or (arguments_at f b e) l no_vreg).number ≢ NoPlace
-    edges_stand k u m given no_edge e l less low = absurd (omega (arith, less))
-    edges_stand k u m given (one_edge d some more v w s n lt prev edge) e l less low =
+    edges_stand k u m given no_edge e l less low not_own = absurd (omega (arith, less))
+    edges_stand k u m given (one_edge d some more v w s n lt prev edge) e l less low not_own =
         let all : ℕ = length (block_at f (target_at f b d)).params in
         elim (cases_eq e d) [
           | inl same ↦ subst (λ (c : ℕ). l < length (block_at f (target_at f b c)).params →
+              (IsOwn f b (slice_index_or (arguments_at f b c) l no_vreg) → ⊥) →
               alloc_of n.places (slice_index_or (arguments_at f b c) l no_vreg).number ≢ NoPlace) (sym same)
-              (λ below. edge_stands (block_at f (target_at f b d)).params (arguments_at f b d) v s some all w n more edge l below) low
+              (λ below foreign. edge_stands (block_at f (target_at f b d)).params (arguments_at f b d) v s some all w n more edge l below foreign) low not_own
           | inr ne ↦ edge_lasts (block_at f (target_at f b d)).params (arguments_at f b d) v s some (slice_index_or (arguments_at f b e) l no_vreg).number all w
-              n more edge (edges_stand d v s some prev e l (omega (arith, less, ne)) low)
+              n more edge (edges_stand d v s some prev e l (omega (arith, less, ne)) low not_own)
         ]
 
 class_last : (x point : ℕ) (u : InstRegs) (class : RegClass) (given : Moves) (old new : StateValue) → Pushes point u class given old new →
@@ -155,13 +164,14 @@ passes_last f b i t u old new p x h = moved_last x f b i t u old new p (edges_la
 -- and so does each argument
 pub passes_stand : (f : FunctionValue) (b i : ℕ) (t u : InstRegs) (old new : StateValue) → ProcessesBranch f b i t u old new → (k : ℕ) →
     k < length (block_at f b).succs → length (arguments_at f b k) ≡ length (block_at f (target_at f b k)).params →
-    (v : VirtualRegister) → Contains (arguments_at f b k) v → alloc_of new.places v.number ≢ NoPlace
-passes_stand f b i t u old new p k lt long v has =
+    (v : VirtualRegister) → Contains (arguments_at f b k) v → (IsOwn f b v → ⊥) → alloc_of new.places v.number ≢ NoPlace
+passes_stand f b i t u old new p k lt long v has not_own =
     let args : List VirtualRegister = arguments_at f b k in
     let is : slice_index_or args has.0 no_vreg ≡ v = get_or_default args has.0 no_vreg v has.1 ∙ has.2 in
     subst (λ (w : VirtualRegister). alloc_of new.places w.number ≢ NoPlace) is
     (moved_last (slice_index_or args has.0 no_vreg).number f b i t u old new p
-    (edges_stand (before i) f b t old (length (block_at f b).succs) u p.gathered p.given p.gathers k has.0 lt (omega (arith, has.1, long))))
+    (edges_stand (before i) f b t old (length (block_at f b).succs) u p.gathered p.given p.gathers k has.0 lt (omega (arith, has.1, long))
+    (λ own. not_own (subst (IsOwn f b) is own))))
 
 -- what the arguments of a branch keep, where the tables between instructions stay sound
 pub branch_kept : (f : FunctionValue) → ArgumentsCounted f → ((b i : ℕ) (t u : InstRegs) (old new : StateValue) → ProcessesBranch f b i t u old new →
@@ -170,5 +180,5 @@ branch_kept f counted between = record {
   between = between;
   grown = passes_grown f;
   lasts = passes_last f;
-  found = λ b i t u old new p lb k lt v has. passes_stand f b i t u old new p k lt (counted b lb k lt) v has;
+  found = λ b i t u old new p lb k lt v has not_own. passes_stand f b i t u old new p k lt (counted b lb k lt) v has not_own;
 }

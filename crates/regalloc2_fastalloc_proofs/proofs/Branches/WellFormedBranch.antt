@@ -14,7 +14,7 @@ use Rattle.regalloc2_semantics.proofs.Soundness.{entered_once}
 use Rattle.regalloc2_fastalloc_proofs.specs.BlockStart.{no_vreg}
 use Rattle.regalloc2_fastalloc_proofs.proofs.Branches.EdgeArgsGathered.{argument_at, params_on}
 
-few_or_more : (n : ℕ) → (n ≤ 1) ⊎ (1 < n)
+pub few_or_more : (n : ℕ) → (n ≤ 1) ⊎ (1 < n)
 few_or_more zero = inl (omega arith)
 few_or_more (suc zero) = inl (omega arith)
 few_or_more (suc (suc n)) = inr (omega arith)

@@ -59,7 +59,7 @@ module _ (env : MachineValue) (f : FunctionValue) (ok : IsWellFormed env f) (b :
   sound = well_formed_are_sound env f ok
 
   -- two edges out of a block lead to two blocks
-  one_edge_each : (k l : ℕ) → HasEdge f b k → HasEdge f b l → target_at f b k ≡ target_at f b l → k ≡ l
+  pub one_edge_each : (k l : ℕ) → HasEdge f b k → HasEdge f b l → target_at f b k ≡ target_at f b l → k ≡ l
   one_edge_each k l x y same = elim (cases_eq k l) [
     | inl e ↦ e
     | inr ne ↦ (

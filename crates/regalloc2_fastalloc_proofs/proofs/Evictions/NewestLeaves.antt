@@ -1,6 +1,6 @@
 -- The list of the vregs that are in registers gets shorter with each reload of the newest.
 use Rattle.std.proofs.Common.{ℕ, ◌≡◌, ◌<◌, ◌≤◌, ◌∙◌, false, not, length, refl, sym, ap, arith, nat_eq, eq-eqb, true}
-use Rattle.std.specs.Prelude.{Contains, Some, None}
+use Rattle.std.specs.Prelude.{Contains, Some}
 use Rattle.regalloc2_names.specs.Register.{Register, VirtualRegister}
 use Rattle.regalloc2_names.specs.declared.RegClass.{RegClass}
 use Rattle.regalloc2_names.specs.Place.{Place, NoPlace, InRegister, InSlot, is_in_register}

@@ -22,7 +22,7 @@ use Rattle.regalloc2_fastalloc_state.specs.declared.inst_regs.Positions.{Positio
 use Rattle.regalloc2_fastalloc_state.specs.InstRegs.{positions_of}
 use Rattle.regalloc2_validate.specs.Constraints.{op_at}
 use Rattle.regalloc2_fastalloc_proofs.specs.InstSteps.{StateValue, NeedsFixedReg, own, named, ReservesRegs, RemovesClobbers, EvictsEach, none_left, one_more}
-use Rattle.regalloc2_fastalloc_proofs.specs.InstSteps.{AllocsInst}
+use Rattle.regalloc2_fastalloc_proofs.specs.InstSteps.{AllocsInst, ends_block}
 use Rattle.regalloc2_fastalloc_proofs.proofs.Safety.StepsKeepState.{place_in, IsWhole}
 use Rattle.regalloc2_fastalloc_proofs.proofs.Operands.RecordOverState.{opt_from, stands_at, slots_at, Located, Owes}
 use Rattle.regalloc2_fastalloc_proofs.proofs.Evictions.EvictVReg.{Kept, kept_all}
@@ -185,17 +185,19 @@ module _ (Known : VirtualRegister → Type 0) (insts : ℕ → InstValue) (place
 
     -- the operands may be allocated
     pub opened : (inst : InstValue) (blank places : List Place) (old new : StateValue) → Orderly inst.operands → AvoidClobbers inst.operands inst.clobbers →
-        EndsHere (i + 1) n inst.is_ret old → Carried (i + 1) n old → (a : AllocsInst i inst blank places old new) →
-        Laid Known insts placesf i n E inst.operands (lives_in old) (is_clobbered inst.clobbers) inst.is_ret true 0 blank a.quiet a.after_clobbers
+        EndsHere (i + 1) n (ends_block inst) old → Carried (i + 1) n old → (a : AllocsInst i inst blank places old new) →
+        Laid Known insts placesf i n E inst.operands (lives_in old) (is_clobbered inst.clobbers) (ends_block inst) true 0 blank a.quiet a.after_clobbers
     opened inst blank places old new o v ends c a =
         let ops : List OperandValue = inst.operands in
         let none : a.held.scratch ≡ None ∷ None ∷ None ∷ [] = a.holds.scratch ∙ a.reserves.scratch ∙ a.begins_scratch in
-        let x : FixedUpTo Known insts placesf i n E ops (lives_in old) inst.is_ret a.held old (length ops) a.cleared a.after_fixed =
-        fixed_done Known insts placesf i n E ops (lives_in old) inst.is_ret a.held old o
-        (reserved_all ops inst.clobbers a.began a.reserved a.held old c.fit a.reserves a.holds) (start ops inst.is_ret a.held old c ends none) (length ops)
+        let x : FixedUpTo Known insts placesf i n E ops (lives_in old) (ends_block inst) a.held old (length ops) a.cleared a.after_fixed =
+        fixed_done Known insts placesf i n E ops (lives_in old) (ends_block inst) a.held old o
+        (reserved_all ops inst.clobbers a.began a.reserved a.held old c.fit a.reserves a.holds) (start ops (ends_block inst) a.held old c ends none)
+        (length ops)
         a.cleared a.after_fixed a.fixed (omega arith) in
-        let y : Quieted ops x.here x.claimed (lives_in old) inst.is_ret (registers_of inst.clobbers) a.cleared a.quiet a.after_fixed a.after_clobbers =
-        all_cleared ops x.here x.claimed (lives_in old) inst.is_ret (registers_of inst.clobbers) a.cleared a.quiet a.after_fixed a.after_clobbers a.clobbers
+        let y : Quieted ops x.here x.claimed (lives_in old) (ends_block inst) (registers_of inst.clobbers) a.cleared a.quiet a.after_fixed a.after_clobbers =
+        all_cleared ops x.here x.claimed (lives_in old) (ends_block inst) (registers_of inst.clobbers) a.cleared a.quiet a.after_fixed a.after_clobbers
+        a.clobbers
         x.ready in
         let less : Less a.held a.quiet = less_then a.held a.cleared a.quiet x.less y.less in
         record {

@@ -8,7 +8,7 @@ use Rattle.regalloc2_function.specs.FunctionValue.{FunctionValue, inst_at}
 use Rattle.regalloc2_function.specs.OutputValue.{place_at}
 use Rattle.regalloc2_semantics.specs.Carry.{is_clobbered}
 use Rattle.regalloc2_semantics.specs.Instruction.{Knows}
-use Rattle.regalloc2_fastalloc_proofs.specs.InstSteps.{StateValue, AllocsInst}
+use Rattle.regalloc2_fastalloc_proofs.specs.InstSteps.{StateValue, AllocsInst, ends_block}
 use Rattle.regalloc2_fastalloc_proofs.proofs.Inst.AcrossInst.{lives_in}
 use Rattle.regalloc2_fastalloc_proofs.proofs.Operands.RecordOfInst.{Orderly}
 use Rattle.regalloc2_fastalloc_proofs.proofs.Operands.AllOperands.{laid_both}
@@ -23,12 +23,12 @@ module _ (Known : VirtualRegister → Type 0) (f : FunctionValue) (placesf : ℕ
   pub each_exactly : ((i : ℕ) → i < length f.insts → Knows Known (inst_at f i).operands) →
       (i n : ℕ) (blank here : List Place) (old new : StateValue) → i < length f.insts →
       ((k : ℕ) → k < length (inst_at f i).operands → place_at (placesf i) k ≡ slice_index_or here k NoPlace) →
-      EndsHere Known (inst_at f) placesf E (i + 1) n (inst_at f i).is_ret old → AllocsInst i (inst_at f i) blank here old new →
+      EndsHere Known (inst_at f) placesf E (i + 1) n (ends_block (inst_at f i)) old → AllocsInst i (inst_at f i) blank here old new →
       Carried Known (inst_at f) placesf E (i + 1) n old →
       CarriedBut Known (inst_at f) placesf E (defined_by (inst_at f i).operands) i (suc n) new
   each_exactly knows i n blank here old new lt are_listed ends a c =
       let ops : List OperandValue = (inst_at f i).operands in
-      let ret : Bool = (inst_at f i).is_ret in
+      let ret : Bool = ends_block (inst_at f i) in
       closed Known (inst_at f) placesf E i n (lives_in old) ret here a.early a.ended a.after_early new (orderly i lt) (knows i lt) are_listed
       (laid_both Known (inst_at f) placesf i n E ops (lives_in old) (is_clobbered (inst_at f i).clobbers) ret (orderly i lt) blank a.half here a.quiet a.late
       a.early a.after_clobbers a.after_late a.after_early a.lates a.earlies
@@ -38,12 +38,12 @@ module _ (Known : VirtualRegister → Type 0) (f : FunctionValue) (placesf : ℕ
   pub each_ended : ((i : ℕ) → i < length f.insts → Knows Known (inst_at f i).operands) →
       (i n : ℕ) (blank here : List Place) (old new : StateValue) → i < length f.insts →
       ((k : ℕ) → k < length (inst_at f i).operands → place_at (placesf i) k ≡ slice_index_or here k NoPlace) →
-      EndsHere Known (inst_at f) placesf E (i + 1) n (inst_at f i).is_ret old → AllocsInst i (inst_at f i) blank here old new →
+      EndsHere Known (inst_at f) placesf E (i + 1) n (ends_block (inst_at f i)) old → AllocsInst i (inst_at f i) blank here old new →
       Carried Known (inst_at f) placesf E (i + 1) n old →
       Ended (inst_at f i).operands (lives_in old) new
   each_ended knows i n blank here old new lt are_listed ends a c =
       let ops : List OperandValue = (inst_at f i).operands in
-      let ret : Bool = (inst_at f i).is_ret in
+      let ret : Bool = ends_block (inst_at f i) in
       ended Known (inst_at f) placesf E i n (lives_in old) ret here a.early a.ended a.after_early new (orderly i lt) (knows i lt) are_listed
       (laid_both Known (inst_at f) placesf i n E ops (lives_in old) (is_clobbered (inst_at f i).clobbers) ret (orderly i lt) blank a.half here a.quiet a.late
       a.early a.after_clobbers a.after_late a.after_early a.lates a.earlies

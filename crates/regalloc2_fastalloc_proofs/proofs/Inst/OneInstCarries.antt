@@ -13,7 +13,7 @@ use Rattle.regalloc2_semantics.specs.Instruction.{Knows}
 use Rattle.regalloc2_semantics.specs.OperandsPlaced.{Need}
 use Rattle.regalloc2_semantics.proofs.CarryRules.{carries_nil}
 use Rattle.regalloc2_semantics.proofs.MoveInFront.{walked-none}
-use Rattle.regalloc2_fastalloc_proofs.specs.InstSteps.{StateValue, AllocsInst}
+use Rattle.regalloc2_fastalloc_proofs.specs.InstSteps.{StateValue, AllocsInst, ends_block}
 use Rattle.regalloc2_fastalloc_proofs.proofs.Safety.StepsKeepState.{place_in, IsWhole}
 use Rattle.regalloc2_fastalloc_proofs.proofs.Operands.RecordOverState.{stands_at, slots_at}
 use Rattle.regalloc2_fastalloc_proofs.proofs.Moves.ScratchRegTaken.{Fit}
@@ -52,8 +52,8 @@ module _ (Known : VirtualRegister → Type 0) (f : FunctionValue) (placesf : ℕ
   -- what allocating the instruction i by itself gives: the state before it, what its listing carries, and its edits around it alone
   pub record Alone (i : ℕ) (old new : StateValue) : Type 0 where
     pub between : Between i new
-    pub carries : (inst_at f i).is_ret ≡ false → StepCarries i (Needed (λ x. false) old) new
-    pub returns : (inst_at f i).is_ret ≡ true → StepCarries i (λ v p. ⊥) new
+    pub carries : ends_block (inst_at f i) ≡ false → StepCarries i (Needed (λ x. false) old) new
+    pub returns : ends_block (inst_at f i) ≡ true → StepCarries i (λ v p. ⊥) new
     pub ends : Ended (inst_at f i).operands (lives_in old) new
     pub pushes : Pushes (IsAround i) old.edits new.edits
     pub same : (n : ℕ) → walked (inst_at f) (at_point (listed new.edits)) placesf (i + 1) n ≡ walked (inst_at f) (at_point (listed old.edits)) placesf (i + 1) n
@@ -71,7 +71,7 @@ module _ (Known : VirtualRegister → Type 0) (f : FunctionValue) (placesf : ℕ
       Between (i + 1) old → AllocsInst i (inst_at f i) blank here old new → Alone i old new
   alone i blank here old new lt are_listed b a =
       let carried : (E : VirtualRegister → Place → Type 0) → ((v : VirtualRegister) (p : Place) → E v p → Needed (λ x. false) old v p) →
-      EndsHere Known (inst_at f) placesf E (i + 1) 0 (inst_at f i).is_ret old →
+      EndsHere Known (inst_at f) placesf E (i + 1) 0 (ends_block (inst_at f i)) old →
       CarriedBut Known (inst_at f) placesf E (defined_by (inst_at f i).operands) i 1 new =
       λ E h ends. each_exactly Known f placesf E orderly avoids knows i 0 blank here old new lt are_listed ends a
       (record { whole = b.whole; later = b.later; claims = λ v known. carried_nil E (i + 1) old (Needed (λ x. false) old) h v; fit = b.fit; apart = b.apart })

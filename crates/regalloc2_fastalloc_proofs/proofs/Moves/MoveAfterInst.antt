@@ -14,7 +14,7 @@ use Rattle.regalloc2_semantics.specs.Listing.{Item}
 use Rattle.regalloc2_semantics.specs.Listing.Item.{Move}
 use Rattle.regalloc2_semantics.specs.Instruction.{Claims}
 use Rattle.regalloc2_semantics.specs.BlockByPoints.{after_part, listed}
-use Rattle.regalloc2_semantics.specs.OperandsPlaced.{What, what_of, Held, Counts, Need, located, in_slot, made}
+use Rattle.regalloc2_semantics.specs.OperandsPlaced.{what_of, Held, Counts, Need, located, in_slot, made}
 use Rattle.regalloc2_semantics.proofs.NeedsAcrossMoves.{claims_move, claims_through}
 use Rattle.regalloc2_semantics.proofs.PushedMoves.{after_part-more}
 use Rattle.regalloc2_fastalloc_state.specs.declared.inst_regs.InstRegs.{InstRegs}

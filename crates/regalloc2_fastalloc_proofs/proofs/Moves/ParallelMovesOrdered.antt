@@ -17,8 +17,8 @@ use Rattle.regalloc2_names.specs.Place.{Place, NoPlace, InRegister, InSlot, is_n
 use Rattle.regalloc2_parts.specs.AtOnce.{Ends, ends, ends_of, names, in_turn, IsOfMoves}
 use Rattle.regalloc2_parts.specs.Resolved.{IsResolution, IsUnnamed}
 use Rattle.regalloc2_fastalloc_state.specs.declared.inst_regs.InstRegs.{InstRegs}
-use Rattle.regalloc2_fastalloc_state.specs.declared.scratch_pool.ScratchPair.{ScratchPair}
-use Rattle.regalloc2_fastalloc_state.specs.declared.scratch_pool.ScratchPool.{ScratchPool}
+use Rattle.regalloc2_parts.specs.declared.scratch_pool.ScratchPair.{ScratchPair}
+use Rattle.regalloc2_parts.specs.declared.scratch_pool.ScratchPool.{ScratchPool}
 use Rattle.regalloc2_fastalloc_state.specs.StateParts.{SpillSlotsValue, AllocatableRegsValue, IsLeastRecentIn, SlotsHaveOneOwner, AddsTempSlots, later_end}
 use Rattle.regalloc2_fastalloc_state.specs.StateParts.{later_slot, units_of, most_units, owners}
 use Rattle.regalloc2_fastalloc_state.specs.OutOfResources.{SlotsExhaustedWith}

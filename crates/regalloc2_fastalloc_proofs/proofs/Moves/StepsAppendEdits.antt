@@ -21,6 +21,7 @@ use Rattle.regalloc2_fastalloc_proofs.specs.InstSteps.{LocatesUse, AllocsDefOp, 
 use Rattle.regalloc2_fastalloc_proofs.specs.InstSteps.{ProcessesOperandsAt, none_placed, of_other, one_placed, MovesUses, none_moved, not_moved}
 use Rattle.regalloc2_fastalloc_proofs.specs.InstSteps.{one_moved, EvictsFixed, none_cleared, not_fixed, of_fixed, of_reuse, EvictsEach, none_left}
 use Rattle.regalloc2_fastalloc_proofs.specs.InstSteps.{one_more, AllocsInst}
+use Rattle.regalloc2_fastalloc_proofs.specs.InstSteps.{ends_block}
 use Rattle.regalloc2_fastalloc_proofs.specs.InstSteps.SelectsPlace.{stays, fixed, slot, free}
 use Rattle.regalloc2_fastalloc_proofs.specs.InstSteps.LocatesUse.{stays as use_stays, located}
 
@@ -196,9 +197,11 @@ module _ (P : (ℕ × MoveValue) → Type 0) (i : ℕ) (late : (from to : Place)
       let fixed : Pushes P old.edits a.after_fixed.edits = clears_fixed_pushes P (after i) late inst.operands a.held old _ a.cleared a.after_fixed a.fixed in
       let clobbers : Pushes P a.after_fixed.edits a.after_clobbers.edits = clears_all_pushes P (after i) late _ a.cleared a.after_fixed a.quiet a.after_clobbers
       a.clobbers in
-      let lates : Pushes P a.after_clobbers.edits a.after_late.edits = places_at_pushes inst.is_ret _ inst.operands blank a.quiet a.after_clobbers _ a.half
+      let lates : Pushes P a.after_clobbers.edits a.after_late.edits = places_at_pushes (ends_block inst) _ inst.operands blank a.quiet a.after_clobbers _
+      a.half
       a.late a.after_late a.lates in
-      let earlies : Pushes P a.after_late.edits a.after_early.edits = places_at_pushes inst.is_ret _ inst.operands a.half a.late a.after_late _ places a.early
+      let earlies : Pushes P a.after_late.edits a.after_early.edits = places_at_pushes (ends_block inst) _ inst.operands a.half a.late a.after_late _ places
+      a.early
       a.after_early a.earlies in
       let moves : Pushes P a.after_early.edits new.edits = moves_uses_pushes P (before i) early inst.operands places a.early a.after_early _ a.ended new
       a.moves in

@@ -19,7 +19,7 @@ use Rattle.regalloc2_semantics.specs.OperandsPlaced.{What, what_of, Pending, sti
 use Rattle.regalloc2_semantics.proofs.Cells.{is_place-true}
 use Rattle.regalloc2_semantics.proofs.PushedMoves.{before_part-more}
 use Rattle.regalloc2_semantics.proofs.SharedPlace.{share_uses}
-use Rattle.regalloc2_semantics.proofs.InstAndItsMoves.{reads_use}
+use Rattle.regalloc2_semantics.proofs.Operands.{reads_use}
 use Rattle.regalloc2_semantics.proofs.NeedsAcrossMoves.{pend_move, pend_through, pend_stay, pend_pass, pend_evict, pend_slot}
 use Rattle.regalloc2_semantics.proofs.BoundaryToBoundary.{FreeAt, scratch_idle}
 use Rattle.regalloc2_fastalloc_state.specs.declared.inst_regs.InstRegs.{InstRegs}

@@ -1,10 +1,11 @@
 -- The numbers that an instruction's operands define.
-use Rattle.std.proofs.Common.{ℕ, zero, suc, ◌≡◌, ◌<◌, Bool, true, false, List, [], ◌∷◌, length, nat_eq, eq-eqb, refl, arith, inl, inr}
+use Rattle.std.proofs.Common.{ℕ, zero, suc, ◌≡◌, ◌<◌, Bool, true, false, List, [], ◌∷◌, length, nat_eq, eq-eqb, refl, arith, inl, inr, subst}
 use Rattle.std.specs.Prelude.{◌&&◌, ◌||◌}
 use Rattle.std.specs.Cmp.Derive.{both_true}
 use Rattle.std.proofs.lemmas.Bool.{eqb-true, and_parts, or_cases, or_left, or_right}
 use Rattle.regalloc2_names.specs.Operand.{OperandValue, is_def}
 use Rattle.regalloc2_validate.specs.Constraints.{op_at}
+use Rattle.regalloc2_branch_defs.specs.BranchDefs.{DefinesNumber}
 
 -- whether an operand defines the number
 unfoldable pub defined_by : List OperandValue → ℕ → Bool
@@ -29,3 +30,11 @@ defined_by-at (o ∷ os) zero lt d = or_left (is_def o.kind && nat_eq o.vreg.num
     (both_true d (eq-eqb o.vreg.number o.vreg.number refl))
 defined_by-at (o ∷ os) (suc j) lt d = or_right (is_def o.kind && nat_eq o.vreg.number (op_at os j).vreg.number) (defined_by os (op_at os j).vreg.number)
     (defined_by-at os j (omega arith) d)
+
+-- a number that an operand defines is defined
+pub defined_by-number : (ops : List OperandValue) (n k : ℕ) → DefinesNumber ops n k → defined_by ops n ≡ true
+defined_by-number ops n k d = subst (λ x. defined_by ops x ≡ true) d.number (defined_by-at ops k d.operand d.definition)
+
+-- and the other way round
+pub number_defined : (ops : List OperandValue) (n : ℕ) → defined_by ops n ≡ true → (k : ℕ) × DefinesNumber ops n k
+number_defined ops n h = (let d = defined_by-some ops n h in (d.0, record { operand = d.1; definition = d.2; number = d.3 }))

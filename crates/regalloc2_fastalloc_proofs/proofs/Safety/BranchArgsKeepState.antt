@@ -19,7 +19,7 @@ use Rattle.regalloc2_fastalloc_state.specs.ScratchPool.{Moves}
 use Rattle.regalloc2_fastalloc_proofs.specs.InstSteps.{StateValue, SameMachine, EvictsVReg, nobody, moved, AllocsScratchReg, dedicated_scratch, had}
 use Rattle.regalloc2_fastalloc_proofs.specs.InstSteps.{found, AddsMove, direct, through, EvictsPReg, empty, cleared}
 use Rattle.regalloc2_fastalloc_proofs.specs.BranchSteps.{Pushes, SpillsArgument, from_register, in_slot, ClassMove, of_class, GathersEdgeMoves}
-use Rattle.regalloc2_fastalloc_proofs.specs.BranchSteps.{none_gathered, one_gathered, GathersMoves, no_edge, one_edge, ProcessesBranch}
+use Rattle.regalloc2_fastalloc_proofs.specs.BranchSteps.{none_gathered, one_gathered, own_argument, GathersMoves, no_edge, one_edge, ProcessesBranch}
 use Rattle.regalloc2_fastalloc_proofs.proofs.Safety.StepsKeepState.{place_in, IsWhole}
 use Rattle.regalloc2_fastalloc_proofs.proofs.Operands.RecordOverState.{whole_given}
 use Rattle.regalloc2_fastalloc_proofs.proofs.Inst.OneInstCarries.{Between}
@@ -117,13 +117,15 @@ module _ (point : ℕ) where
       steady_then old m new (steady_given old m a s gives places machine w) (clears_steady r t u m new clears)
   argument_steady a s t u old new (in_slot not gives settles edits machine eu) w = steady_settled old new a s gives settles machine w
 
-  edge_steady : (params arguments : List VirtualRegister) (t : InstRegs) (old : StateValue) (given : List ClassMove) (j : ℕ) (u : InstRegs) (m : StateValue)
-      (more : List ClassMove) → GathersEdgeMoves point params arguments t old given j u m more → IsWhole old → Steady old m
+  edge_steady : {Own : VirtualRegister → Type 0} (params arguments : List VirtualRegister) (t : InstRegs) (old : StateValue) (given : List ClassMove) (j : ℕ)
+      (u : InstRegs) (m : StateValue)
+      (more : List ClassMove) → GathersEdgeMoves Own point params arguments t old given j u m more → IsWhole old → Steady old m
   edge_steady params arguments t old given j u m more none_gathered w = steady_all old w
-  edge_steady params arguments t old given j u m more (one_gathered l some to from x y s n o lt prev gives places edits machine settles) w =
+  edge_steady params arguments t old given j u m more (one_gathered l some to from x y s n o lt prev gives places edits machine settles foreign) w =
       steady_then old s o (edge_steady params arguments t old given l x s some prev w)
       (λ z. steady_then s n o (steady_given s n (slice_index_or params l no_vreg) to gives places machine z)
       (argument_steady (slice_index_or arguments l no_vreg) from x y n o settles))
+  edge_steady params arguments t old given j u m more (own_argument l some x s lt prev own) w = edge_steady params arguments t old given l u m more prev w
 
   edges_steady : (f : FunctionValue) (b : ℕ) (t : InstRegs) (old : StateValue) (k : ℕ) (u : InstRegs) (m : StateValue) (given : List ClassMove) →
       GathersMoves f b point t old k u m given → IsWhole old → Steady old m

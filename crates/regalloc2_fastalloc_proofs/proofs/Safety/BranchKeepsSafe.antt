@@ -20,7 +20,7 @@ use Rattle.regalloc2_fastalloc_state.specs.StateParts.{VRegAllocsValue, SpillSlo
 use Rattle.regalloc2_fastalloc_proofs.specs.InstSteps.{StateValue, SameMachine}
 use Rattle.regalloc2_fastalloc_proofs.specs.BlockStart.{no_vreg}
 use Rattle.regalloc2_fastalloc_state.specs.ScratchPool.{Moves, pushed}
-use Rattle.regalloc2_fastalloc_proofs.specs.BranchSteps.{SpillsArgument, from_register, in_slot, GathersEdgeMoves, none_gathered, one_gathered}
+use Rattle.regalloc2_fastalloc_proofs.specs.BranchSteps.{SpillsArgument, from_register, in_slot, GathersEdgeMoves, none_gathered, one_gathered, own_argument}
 use Rattle.regalloc2_fastalloc_proofs.specs.BranchSteps.{GathersMoves, no_edge, one_edge, ClassMove, is_class, of_class, MayBeScratch, IsScratchUsed}
 use Rattle.regalloc2_fastalloc_proofs.specs.BranchSteps.{IsOrdered, OrdersMoves, Pushes, ProcessesBranch}
 use Rattle.regalloc2_fastalloc_proofs.specs.Safety.{MayBeLocatedAtOrNone, HasMachine, IsThrough, IsEndOfArgMove, IsSafe, IsSafeEdit, AreSafeRegs}
@@ -151,15 +151,16 @@ module _ (env : MachineValue) (apart : IsApart env) (Known : VirtualRegister →
     Good v = Known v × Passed v
 
     -- gathering the arguments of one edge keeps the state safe, and its moves go between slots of vregs
-    pub gathers_edge_kept : (params arguments : List VirtualRegister) → ((j : ℕ) → j < length params → Good (slice_index_or params j no_vreg)) →
+    pub gathers_edge_kept : {Own : VirtualRegister → Type 0} (params arguments : List VirtualRegister) →
+        ((j : ℕ) → j < length params → Good (slice_index_or params j no_vreg)) →
         (t : InstRegs) (old : StateValue) (before_it : List ClassMove)
         → IsSafe env Known Writes May old → AreSafeRegs env t → AreGiven Known Passed old.slots before_it
-        → (k : ℕ) (u : InstRegs) (new : StateValue) (given : List ClassMove) → GathersEdgeMoves point params arguments t old before_it k u new given →
+        → (k : ℕ) (u : InstRegs) (new : StateValue) (given : List ClassMove) → GathersEdgeMoves Own point params arguments t old before_it k u new given →
         StepKept env Known Writes May old u new × AreGiven Known Passed new.slots given
     gathers_edge_kept params arguments good t old before_it h ht begin k u new given none_gathered =
         (kept_none env Known Writes May old old t t refl refl h ht, begin)
     gathers_edge_kept params arguments good t old before_it h ht begin k u new given
-        (one_gathered j some to from w x m n o lt prev gives places edits machine settles) =
+        (one_gathered j some to from w x m n o lt prev gives places edits machine settles foreign) =
         let p = gathers_edge_kept params arguments good t old before_it h ht begin j w m some prev in
         let v : VirtualRegister = slice_index_or params j no_vreg in
         let a : VirtualRegister = slice_index_or arguments j no_vreg in
@@ -183,6 +184,8 @@ module _ (env : MachineValue) (apart : IsApart env) (Known : VirtualRegister →
                 to_there = number.1;
               }),
         )
+    gathers_edge_kept params arguments good t old before_it h ht begin k u new given (own_argument j some w m lt prev own) =
+        gathers_edge_kept params arguments good t old before_it h ht begin j u new given prev
 
     -- gathering the arguments of a block's edges keeps the state safe, and its moves go between slots of vregs
     pub gathers_kept : (f : FunctionValue) (b : ℕ) → ((k j : ℕ) → k < length (block_at f b).succs → j < length (block_at f (target_at f b k)).params →

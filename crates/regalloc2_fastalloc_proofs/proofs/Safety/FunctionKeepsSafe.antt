@@ -1,6 +1,7 @@
 -- The whole walk over a well-formed function of any blocks keeps the tables safe, and what its end gives.
 use Rattle.std.proofs.Common.{ℕ, ◌≡◌, ◌≢◌, ◌+◌, ◌<◌, ◌≤◌, ◌⊎◌, ◌||◌, ◌&&◌, Bool, true, false, List, [], length, nat_eq, nat_lt, eq-eqb, refl, sym, ap}
 use Rattle.std.proofs.Common.{◌∙◌, inl, inr, subst, arith}
+use Rattle.std.specs.Prelude.{slice_index_or}
 use Rattle.std.proofs.lemmas.Bool.{lt-ltb, cases_eq}
 use Rattle.std.proofs.lemmas.List.Elements.{All-get_or}
 use Rattle.regalloc2_names.specs.declared.RegClass.{RegClass}
@@ -10,43 +11,39 @@ use Rattle.regalloc2_names.specs.Point.{before, after}
 use Rattle.regalloc2_function.specs.FunctionValue.{FunctionValue, IsLimited, block_at, inst_at}
 use Rattle.regalloc2_function.specs.Machine.{MachineValue}
 use Rattle.regalloc2_function.specs.OutputValue.{OutputValue, is_listed_at}
-use Rattle.regalloc2_names.specs.Operand.{is_def}
 use Rattle.regalloc2_function.specs.Faithful.{EditsAreListed}
 use Rattle.regalloc2_function.specs.Fitting.{MachineFits}
-use Rattle.regalloc2_function.specs.WellFormed.{IsWellFormed, BlocksFollow, EndsBlock, last_of}
-use Rattle.regalloc2_function.specs.Following.{end_within}
+use Rattle.regalloc2_function.specs.WellFormed.{IsWellFormed, BlocksFollow, last_of}
+use Rattle.regalloc2_semantics.specs.Blocks.{target_at}
 use Rattle.regalloc2_semantics.proofs.SingleDef.{Made}
 use Rattle.regalloc2_semantics.proofs.Soundness.{cases_within}
 use Rattle.regalloc2_semantics.proofs.Order.{ends_before}
 use Rattle.regalloc2_validate.specs.NoLimits.{AreTaken}
 use Rattle.regalloc2_fastalloc_state.specs.StateParts.{no_allocs, no_slots, units_of}
-use Rattle.regalloc2_validate.specs.Constraints.{op_at}
-use Rattle.regalloc2_fastalloc_proofs.specs.InstSteps.{StateValue}
-use Rattle.regalloc2_validate.specs.Constraints.{BranchDefinesNothing}
-use Rattle.regalloc2_fastalloc_proofs.specs.Safety.{HasMachine}
-use Rattle.regalloc2_fastalloc_proofs.specs.BlockSteps.{AllocsBlocks}
+use Rattle.regalloc2_fastalloc_proofs.specs.InstSteps.{StateValue, ends_block}
+use Rattle.regalloc2_fastalloc_proofs.specs.Safety.{HasMachine, IsSafe}
+use Rattle.regalloc2_fastalloc_proofs.specs.BlockStart.{no_vreg}
+use Rattle.regalloc2_fastalloc_proofs.specs.BlockSteps.{AllocsBlockInsts, AllocsBlocks}
 use Rattle.regalloc2_fastalloc_proofs.proofs.Safety.InitialState.{begun_safe}
 use Rattle.regalloc2_fastalloc_proofs.proofs.BlockEnd.NoMoveForOperand.{IsOutside}
 use Rattle.regalloc2_fastalloc_proofs.proofs.Safety.OutputOfWalk.{IsMade, each_edit, machine_apart}
 use Rattle.regalloc2_fastalloc_proofs.proofs.Safety.WellFormedKeepsSafe.{tame_at}
-use Rattle.regalloc2_fastalloc_proofs.proofs.Safety.InstsKeepSafe.{WalkKept, WritesByBranch, WritesAt}
-use Rattle.regalloc2_fastalloc_proofs.proofs.Safety.BlocksKeepSafe.{MayInBlocks, blocks_kept}
+use Rattle.regalloc2_fastalloc_proofs.proofs.Safety.InstsKeepSafe.{AreLast, WalkKept, WritesByBranch, WritesFrom}
+use Rattle.regalloc2_fastalloc_proofs.proofs.Safety.BlocksKeepSafe.{MayInBlocks, blocks_kept, within_kept}
+use Rattle.regalloc2_fastalloc_proofs.proofs.Safety.StoredDefs.{concerned_made, stored_alike}
 
 -- a block's last instruction
 is_last : (f : FunctionValue) (b i : ℕ) → i + 1 ≡ (block_at f b).range.end → i ≡ last_of (block_at f b)
 is_last f b i e = omega (arith, e)
 
--- it defines something only where it is a return
-last_defines : (env : MachineValue) (f : FunctionValue) → IsWellFormed env f → ((i : ℕ) → i < length f.insts → BranchDefinesNothing (inst_at f i)) → (b i : ℕ) →
-    b < length f.blocks → i < length f.insts → i + 1 ≡ (block_at f b).range.end
-    → (k : ℕ) → k < length (inst_at f i).operands → is_def (op_at (inst_at f i).operands k).kind ≡ true → (inst_at f i).is_ret ≡ true
-last_defines env f ok nothing b i lt within e k less def =
-    let at : EndsBlock (inst_at f i) (length (block_at f b).succs) = subst (λ n. EndsBlock (inst_at f n) (length (block_at f b).succs)) (sym (is_last f b i e))
-    (ok.end b lt).0 in
-    elim at [
-      | inl branch ↦ absurd (let none : is_def (op_at (inst_at f i).operands k).kind ≡ false = nothing i within branch.0 k less in cc)
-      | inr ret ↦ ret.1
-    ]
+-- it ends its block
+last_ends : (env : MachineValue) (f : FunctionValue) → IsWellFormed env f → (b i : ℕ) → b < length f.blocks → i + 1 ≡ (block_at f b).range.end →
+    ends_block (inst_at f i) ≡ true
+last_ends env f ok b i lt e =
+    subst (λ n. ends_block (inst_at f n) ≡ true) (sym (is_last f b i e)) (elim (ok.end b lt).0 [
+      | inl branch ↦ rw branch.0 refl
+      | inr ret ↦ rw (ret.0, ret.1) refl
+    ])
 
 -- a branch is at a block's end
 branch_last : (env : MachineValue) (f : FunctionValue) → IsWellFormed env f → (b i : ℕ) → b < length f.blocks → (block_at f b).range.first ≤ i →
@@ -56,23 +53,46 @@ branch_last env f ok b i lt ge less branch = elim (cases_eq (i + 1) (block_at f 
   | inr d ↦ absurd (let none : (inst_at f i).is_branch ≡ false = ((ok.end b lt).1 i ge less (omega (arith, d, less))).0 in cc)
 ]
 
--- allocating all blocks of a well-formed function from a fresh state ends in a safe one, with a good place for each operand
-pub walk_blocks_good : (env : MachineValue) (f : FunctionValue) → MachineFits f env → IsLimited f → IsWellFormed env f → AreTaken f →
-    ((i : ℕ) → i < length f.insts → BranchDefinesNothing (inst_at f i))
-    → (blank places : List Place) (old t : StateValue) (n m : ℕ) (sizes : List ℕ) (by_last : Bool) → old.places ≡ no_allocs n →
-    old.slots ≡ no_slots m sizes by_last → old.edits ≡ [] → ((c : RegClass) → 0 < units_of (no_slots m sizes by_last) c) → HasMachine env old
-    → ((c : ℕ) (ps : List Place) (u : StateValue) → AllocsBlocks f blank old c ps u → IsOutside u)
-    → AllocsBlocks f blank old 0 places t → WalkKept env (Made f) f (MayInBlocks f) places 0 places t
-walk_blocks_good env f fits limited ok taken nothing blank places old t n m sizes by_last nobody slots none units machine outside walks =
-    let some : 0 < length f.blocks = (let entry = ok.successors.0 in omega (arith, entry)) in
-    blocks_kept env (machine_apart f env fits) (Made f) f (tame_at env f limited ok taken) places ok.follow
-    (λ b i lt e k less def. last_defines env f ok nothing b i lt (let end = end_within f ok.follow b lt in omega (arith, end, e)) e k less def)
-    (λ b i lt ge less branch. branch_last env f ok b i lt ge less branch)
-    (λ b k lt less. Made.by_param b k (record { block = lt; param = less; number = refl }) refl)
-    (λ b k lt less. All-get_or (λ s. s < length f.blocks) (block_at f b).succs k 0 less (ok.successors.1 b lt))
-    blank old (begun_safe env (Made f) (WritesAt f places) (MayInBlocks f) old n m sizes by_last nobody slots none units machine) outside 0 places t walks 0
-    (record { block = λ lt. sym ((ok.follow 0 some).1 refl); end = λ e. absurd (omega (arith, e, some)) })
-    (λ j k le less within. refl)
+-- The tables are safe at each instruction of the walk, where stores are written at the beginnings of the blocks behind.
+abbrev pub SafeWithin : MachineValue → FunctionValue → List Place → StateValue → List Place → Type 0
+SafeWithin env f blank old places = (b : ℕ) → b < length f.blocks → (p : List Place) (s : StateValue) → AllocsBlocks f blank old (b + 1) p s → (i : ℕ)
+    (q : List Place) (u : StateValue) → AllocsBlockInsts f b p s i q u → AreLast f places i q →
+    IsSafe env (Made f) (WritesFrom f places (b + 1)) (MayInBlocks f) u
+
+-- All blocks of a well-formed function are allocated from a fresh state.
+module _ (env : MachineValue) (f : FunctionValue) (fits : MachineFits f env) (limited : IsLimited f) (ok : IsWellFormed env f) (taken : AreTaken f)
+    (blank places : List Place) (old t : StateValue) (n m : ℕ) (sizes : List ℕ) (by_last : Bool) (nobody : old.places ≡ no_allocs n)
+    (slots : old.slots ≡ no_slots m sizes by_last) (none : old.edits ≡ []) (units : (c : RegClass) → 0 < units_of (no_slots m sizes by_last) c)
+    (machine : HasMachine env old)
+    (outside : (c : ℕ) (ps : List Place) (u : StateValue) → AllocsBlocks f blank old c ps u → IsOutside u)
+    (walks : AllocsBlocks f blank old 0 places t) where
+  begun : IsSafe env (Made f) (WritesFrom f places (length f.blocks)) (MayInBlocks f) old
+  begun = begun_safe env (Made f) (WritesFrom f places (length f.blocks)) (MayInBlocks f) old n m sizes by_last nobody slots none units machine
+
+  params_made : (b k : ℕ) → b < length f.blocks → k < length (block_at f b).params → Made f (slice_index_or (block_at f b).params k no_vreg)
+  params_made b k lt less = Made.by_param b k (record { block = lt; param = less; number = refl }) refl
+
+  targets : (b k : ℕ) → b < length f.blocks → k < length (block_at f b).succs → target_at f b k < length f.blocks
+  targets b k lt less = All-get_or (λ s. s < length f.blocks) (block_at f b).succs k 0 less (ok.successors.1 b lt)
+
+  -- the walk ends in a safe state, with a good place for each operand
+  pub walk_blocks_good : WalkKept env (Made f) f (MayInBlocks f) places 0 0 places t
+  walk_blocks_good =
+      let some : 0 < length f.blocks = (let entry = ok.successors.0 in omega (arith, entry)) in
+      blocks_kept env (machine_apart f env fits) (Made f) f (tame_at env f limited ok taken) places ok.follow
+      (λ b i lt e k less def. last_ends env f ok b i lt e) (branch_last env f ok) params_made targets
+      (concerned_made f ok.successors ok.follow) (stored_alike env f limited ok taken blank places old t machine walks) blank old begun outside 0 places t
+      walks 0
+      (record { block = λ lt. sym ((ok.follow 0 some).1 refl); end = λ e. absurd (omega (arith, e, some)) })
+      (λ j k le less within. refl)
+
+  -- and its states are safe
+  pub walk_safe : SafeWithin env f blank old places
+  walk_safe b lt p s prev i q u walk are_last = (within_kept env (machine_apart f env fits) (Made f) f (tame_at env f limited ok taken) places ok.follow
+      (λ c j lc e k less def. last_ends env f ok c j lc e) (branch_last env f ok) params_made targets
+      (concerned_made f ok.successors ok.follow) (stored_alike env f limited ok taken blank places old t machine walks) blank old begun outside b lt p s prev
+      i q u
+      walk are_last).safe
 
 -- two numbers are equal, or one is less than the other
 pub cases_order : (b c : ℕ) → (b < c) ⊎ (b ≡ c) ⊎ (c < b)

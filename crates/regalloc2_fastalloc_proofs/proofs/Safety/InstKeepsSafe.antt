@@ -19,6 +19,7 @@ use Rattle.regalloc2_fastalloc_state.specs.InstRegs.{positions_of}
 use Rattle.regalloc2_validate.specs.Constraints.{op_at}
 use Rattle.regalloc2_fastalloc_proofs.specs.InstSteps.{StateValue, MovesUses, none_moved, not_moved, one_moved, own, ReservesRegs, EvictsFixed}
 use Rattle.regalloc2_fastalloc_proofs.specs.InstSteps.{none_cleared, not_fixed, of_fixed, of_reuse, EvictsEach, none_left, one_more, AllocsInst}
+use Rattle.regalloc2_fastalloc_proofs.specs.InstSteps.{ends_block}
 use Rattle.regalloc2_fastalloc_proofs.specs.Safety.{MayBeLocatedAt, HasMachine, IsSafe, AreSafeRegs}
 use Rattle.regalloc2_fastalloc_proofs.proofs.Safety.StepsKeepSafe.{IsApart, StepKept, kept_both, kept_none, clears_kept, clears_but_kept, sends_kept, stand_end}
 use Rattle.regalloc2_fastalloc_proofs.proofs.Safety.StepsKeepSafe.{there_stands, safe_turn}
@@ -131,7 +132,7 @@ all_placed env apart Known Writes May i inst blank places old new can tame defs 
     let cf = clears_fixed_kept env apart Known Writes May (after i) can ops a.held old h ht (length ops) a.cleared a.after_fixed a.fixed in
     let ca = clears_all_kept env apart Known Writes May (after i) can (registers_of inst.clobbers) a.cleared a.quiet a.after_fixed a.after_clobbers a.clobbers
     cf.safe cf.inst_regs in
-    let begin : Filled env Known Writes May base ops (InLate env apart Known Writes May base ops tame fixed i inst.is_ret can defs 0) blank a.quiet
+    let begin : Filled env Known Writes May base ops (InLate env apart Known Writes May base ops tame fixed i (ends_block inst) can defs 0) blank a.quiet
     a.after_clobbers = record {
       safe = ca.safe;
       inst_regs = ca.inst_regs;
@@ -142,12 +143,15 @@ all_placed env apart Known Writes May i inst blank places old new can tame defs 
       waits = λ j less not_d. inl (a.no_places j);
       found = λ j less d. (let z = d.0 in absurd (omega arith));
     } in
-    let l = lates_kept env apart Known Writes May base ops tame fixed i inst.is_ret can defs blank a.quiet a.after_clobbers begin (length ops) a.half a.late
+    let l = lates_kept env apart Known Writes May base ops tame fixed i (ends_block inst) can defs blank a.quiet a.after_clobbers begin (length ops) a.half
+    a.late
     a.after_late a.lates (omega arith) in
-    let middle = filled_same env Known Writes May base ops tame (InLate env apart Known Writes May base ops tame fixed i inst.is_ret can defs (length ops))
-    (InEarly env apart Known Writes May base ops tame fixed i inst.is_ret can defs 0) a.half a.late a.after_late
+    let middle = filled_same env Known Writes May base ops tame (InLate env apart Known Writes May base ops tame fixed i (ends_block inst) can defs
+    (length ops))
+    (InEarly env apart Known Writes May base ops tame fixed i (ends_block inst) can defs 0) a.half a.late a.after_late
     (λ j less e. elim e [ inl late ↦ (less, late) | inr below ↦ absurd (omega arith) ]) (λ j less d. inl d.1) l in
-    let e = earlies_kept env apart Known Writes May base ops tame fixed i inst.is_ret can defs a.half a.late a.after_late middle (length ops) places a.early
+    let e = earlies_kept env apart Known Writes May base ops tame fixed i (ends_block inst) can defs a.half a.late a.after_late middle (length ops) places
+    a.early
     a.after_early a.earlies (omega arith) in
     record {
       safe = e.safe;

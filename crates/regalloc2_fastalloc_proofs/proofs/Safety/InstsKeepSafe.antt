@@ -12,7 +12,9 @@ use Rattle.regalloc2_function.specs.Machine.{MachineValue}
 use Rattle.regalloc2_names.specs.Operand.{is_def, is_reading}
 use Rattle.regalloc2_semantics.specs.Blocks.{target_at}
 use Rattle.regalloc2_fastalloc_state.specs.StateParts.{SpillSlotsValue}
+use Rattle.regalloc2_branch_defs.specs.BranchDefs.{IsEdgeInto}
 use Rattle.regalloc2_fastalloc_proofs.specs.BlockStart.{no_vreg}
+use Rattle.regalloc2_fastalloc_proofs.specs.StoreSteps.{IsConcerned}
 use Rattle.regalloc2_validate.specs.Constraints.{op_at}
 use Rattle.regalloc2_fastalloc_proofs.specs.InstSteps.{StateValue}
 use Rattle.regalloc2_fastalloc_proofs.specs.Safety.{IsSafe}
@@ -55,16 +57,35 @@ WritesByBranch f point v =
 abbrev pub WritesAt : FunctionValue → List Place → ℕ → VirtualRegister → ℕ → Type 0
 WritesAt f places point v n = WritesByOperand f places point v n ⊎ WritesByBranch f point v
 
+-- the value of a branch's operand is stored at the beginning of the block b for v: v is what it defines, or a parameter that is given it
+abbrev pub IsStoredAt : FunctionValue → ℕ → VirtualRegister → Type 0
+IsStoredAt f b v = (e k : ℕ) × IsEdgeInto f b e k × IsConcerned f e k v
+
+-- at the beginnings of the blocks from c on what branches define
+abbrev pub WritesByStore : FunctionValue → ℕ → ℕ → VirtualRegister → Type 0
+WritesByStore f c point v = (b : ℕ) × (c ≤ b) × (b < length f.blocks) × (point ≡ before (block_at f b).range.first) × IsStoredAt f b v
+
+-- so once the blocks from c on were walked
+abbrev pub WritesFrom : FunctionValue → List Place → ℕ → ℕ → VirtualRegister → ℕ → Type 0
+WritesFrom f places c point v n = WritesAt f places point v n ⊎ WritesByStore f c point v
+
+-- more may be written than before
+pub more_written : (f : FunctionValue) (places : List Place) (c d : ℕ) → d ≤ c → (point : ℕ) (v : VirtualRegister) (n : ℕ) → WritesFrom f places c point v n →
+    WritesFrom f places d point v n
+more_written f places c d le point v n (inl w) = inl w
+more_written f places c d le point v n (inr (b, ge, lt, at, stored)) = inr (b, omega (arith, le, ge), lt, at, stored)
+
 -- an operand has a good place, and a reuse that of the operand that it names
 pub record HasGood (env : MachineValue) (slots : SpillSlotsValue) (f : FunctionValue) (places : List Place) (j k : ℕ) : Type 0 where
   pub good : IsGood env slots (op_at (inst_at f j).operands k) (place_of f places j k)
   pub shared : (n : ℕ) → (op_at (inst_at f j).operands k).constraint ≡ Reuse n → (n < length (inst_at f j).operands)
       × (place_of f places j k ≡ place_of f places j n)
 
--- the tables are safe, and the operands of the instructions from i on have good places; at the walk's end all places are the last ones
-pub record WalkKept (env : MachineValue) (Known : VirtualRegister → Type 0) (f : FunctionValue) (May : ℕ → Type 0) (last : List Place) (i : ℕ)
+-- the tables are safe while the block before c is walked, and the operands of the instructions from i on have good places; at the walk's end all places
+-- are the last ones
+pub record WalkKept (env : MachineValue) (Known : VirtualRegister → Type 0) (f : FunctionValue) (May : ℕ → Type 0) (last : List Place) (c i : ℕ)
     (places : List Place) (t : StateValue) : Type 0 where
-  pub safe : IsSafe env Known (WritesAt f last) May t
+  pub safe : IsSafe env Known (WritesFrom f last c) May t
   pub good : (j k : ℕ) → i ≤ j → j < length f.insts → k < length (inst_at f j).operands → HasGood env t.slots f places j k
 
 -- the places of later instructions stay
@@ -82,10 +103,10 @@ abbrev pub AreLast : FunctionValue → List Place → ℕ → List Place → Typ
 AreLast f last i places = (j k : ℕ) → i ≤ j → j < length f.insts → k < length (inst_at f j).operands → place_of f last j k ≡ place_of f places j k
 
 module _ (env : MachineValue) (Known : VirtualRegister → Type 0) (f : FunctionValue) (tame : (i : ℕ) → i < length f.insts → IsTame Known (inst_at f i).operands)
-    (May : ℕ → Type 0) (last : List Place) where
+    (May : ℕ → Type 0) (last : List Place) (c : ℕ) where
   -- the places of one more instruction
   pub more_places : (i : ℕ) (b p : List Place) (t u : StateValue) → (lt : i < length f.insts) → (a : AllocsInstAt i (inst_at f i) (offset_of f i) b p t u)
-      → InstKept env Known (WritesAt f last) May (inst_at f i).operands a.here t a.allocates.ended u
+      → InstKept env Known (WritesFrom f last c) May (inst_at f i).operands a.here t a.allocates.ended u
       → ((j k : ℕ) → i + 1 ≤ j → j < length f.insts → k < length (inst_at f j).operands → HasGood env t.slots f b j k)
       → (j k : ℕ) → i ≤ j → j < length f.insts → k < length (inst_at f j).operands → HasGood env u.slots f p j k
   more_places i b p t u lt a here rest j k le less within = elim (cases_eq j i) [
@@ -106,17 +127,17 @@ module _ (env : MachineValue) (Known : VirtualRegister → Type 0) (f : Function
   ]
 
   -- what an instruction writes to slots
-  pub defs_written : (i : ℕ) → i < length f.insts → DefsAreWritten (WritesAt f last) i (inst_at f i).operands
-  defs_written i lt k n less def = inl (i, k, lt, less, refl, inl (refl, def))
+  pub defs_written : (i : ℕ) → i < length f.insts → DefsAreWritten (WritesFrom f last c) i (inst_at f i).operands
+  defs_written i lt k n less def = inl (inl (i, k, lt, less, refl, inl (refl, def)))
 
   -- before an instruction, the slot in which a use reads its vreg may be written with the vreg's value
   pub uses_written : (i : ℕ) (b p : List Place) (t u : StateValue) → i < length f.insts → (a : AllocsInstAt i (inst_at f i) (offset_of f i) b p t u) →
-      AreLast f last i p → UsesAreWritten (WritesAt f last) i (inst_at f i).operands a.here
-  uses_written i b p t u lt a are_last k n less reads is = inl (
+      AreLast f last i p → UsesAreWritten (WritesFrom f last c) i (inst_at f i).operands a.here
+  uses_written i b p t u lt a are_last k n less reads is = inl (inl (
     i,
     k,
     lt,
     less,
     refl,
     inr (refl, reads, are_last i k (omega arith) lt less ∙ a.inside k less ∙ is),
-  )
+  ))

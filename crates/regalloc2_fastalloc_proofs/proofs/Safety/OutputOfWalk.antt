@@ -28,7 +28,7 @@ use Rattle.regalloc2_fastalloc_state.proofs.PointsDescend.{rising_reverse}
 use Rattle.regalloc2_fastalloc_proofs.proofs.Operands.AllocsSoFar.{MeetsAlone, IsGood}
 use Rattle.regalloc2_fastalloc_proofs.proofs.Safety.StepsKeepSafe.{IsApart}
 use Rattle.std.proofs.lemmas.List.{get_or_default}
-use Rattle.regalloc2_fastalloc_proofs.proofs.Safety.InstsKeepSafe.{WalkKept, WritesAt, offset_next, offset_rises}
+use Rattle.regalloc2_fastalloc_proofs.proofs.Safety.InstsKeepSafe.{WalkKept, WritesFrom, offset_next, offset_rises}
 
 -- what the machine keeps apart
 pub machine_apart : (f : FunctionValue) (env : MachineValue) → MachineFits f env → IsApart env
@@ -56,7 +56,7 @@ pub record IsMade (f : FunctionValue) (env : MachineValue) (Known : VirtualRegis
   pub offsets : (i : ℕ) → i < length f.insts → slice_index o.offsets i ≡ offset_of f i
   pub allocs_long : length o.allocs ≡ operand_count f
   pub debug : All (IsOfLabel f env Known t.slots) o.debug_locations
-  pub kept : WalkKept env Known f May o.allocs 0 o.allocs t
+  pub kept : WalkKept env Known f May o.allocs 0 0 o.allocs t
 
 -- what holds of each element holds the other way round
 pub all_reverse : {X : Type 0} (P : X → Type 0) (xs : List X) → All P xs → All P (reverse xs)
@@ -70,9 +70,9 @@ all_weaker P Q xs f h k d lt = f (slice_index_or xs k d) (h k d lt)
 -- what holds of each move that was pushed holds of each that is listed
 pub each_edit : (f : FunctionValue) (env : MachineValue) (Known : VirtualRegister → Type 0) (May : ℕ → Type 0) (t : StateValue) (o : OutputValue)
     (Q : ℕ × MoveValue → Type 0) → IsMade f env Known May t o
-    → ((e : ℕ × MoveValue) → IsSafeEdit env Known (WritesAt f o.allocs) t.slots May e → Q e) → All Q o.edits
+    → ((e : ℕ × MoveValue) → IsSafeEdit env Known (WritesFrom f o.allocs 0) t.slots May e → Q e) → All Q o.edits
 each_edit f env Known May t o Q m g =
-    subst (All Q) (sym m.edits) (all_reverse Q t.edits (all_weaker (IsSafeEdit env Known (WritesAt f o.allocs) t.slots May) Q t.edits g m.kept.safe.edits))
+    subst (All Q) (sym m.edits) (all_reverse Q t.edits (all_weaker (IsSafeEdit env Known (WritesFrom f o.allocs 0) t.slots May) Q t.edits g m.kept.safe.edits))
 
 -- the places of all operands end where those of the last instruction do
 last_offset : (f : FunctionValue) (n : ℕ) → n ≡ length f.insts → offset_of f n ≡ operand_count f

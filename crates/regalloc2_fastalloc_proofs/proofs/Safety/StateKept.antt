@@ -1,6 +1,6 @@
 -- What stays of the tables over several steps, where temporary slots are added; and an instruction whose fields are known, with the registers that it leaves.
 use Rattle.std.proofs.Common.{ℕ, zero, suc, ◌≡◌, ◌+◌, ◌-◌, ◌*◌, ◌<◌, ◌≤◌, Bool, true, false, List, length, refl, sym, ap, ◌∙◌, subst, inl, inr, arith}
-use Rattle.std.specs.Prelude.{if◌then◌else◌, All, Option, None, slice_index_or}
+use Rattle.std.specs.Prelude.{if◌then◌else◌, All, Option, None, slice_index_or, ◌||◌}
 use Rattle.std.proofs.Math.Nat.{mul-le-mul_right}
 use Rattle.std.proofs.lemmas.Bool.{cases_eq}
 use Rattle.std.proofs.lemmas.List.Elements.{All-from_get_or}
@@ -17,7 +17,7 @@ use Rattle.regalloc2_fastalloc_state.specs.declared.inst_regs.InstRegs.{InstRegs
 use Rattle.regalloc2_fastalloc_state.specs.StateParts.{SpillSlotsValue, AreUpTo, most_units}
 use Rattle.regalloc2_fastalloc_state.specs.OutOfResources.{IsResourceError, SlotsExhaustedWith, IsResourceErrorIn}
 use Rattle.regalloc2_fastalloc_proofs.specs.BranchSteps.{AreApart, AddsTempSlotsAtMost}
-use Rattle.regalloc2_fastalloc_proofs.specs.InstSteps.{StateValue, SameMachine}
+use Rattle.regalloc2_fastalloc_proofs.specs.InstSteps.{StateValue, SameMachine, ProcessesOperandsAt, ends_block}
 use Rattle.regalloc2_fastalloc_proofs.specs.BlockSteps.{AllocsInstAt, AllocsInstInto, temp_slots_at}
 use Rattle.regalloc2_fastalloc_state.proofs.SpillSlotUnits.{lacks_then}
 
@@ -139,17 +139,18 @@ params_known f once n b same lt = All-from_get_or (λ (v : VirtualRegister). v.n
     (λ k less. let small = taken_small f once (slice_index_or (block_at f b).params k no_vreg).number b k
     (record { block = lt; param = less; number = refl }) in omega (arith, small, same))
 
--- an instruction is allocated by its operands, clobbers and whether it returns
+-- an instruction is allocated by its operands, clobbers and whether it ends its block
 pub to_inst : (inst_regs : InstRegs) (i : ℕ) (v : InstValue) (start : ℕ) (before_it places : List Place) (old new : StateValue) (ops : List OperandValue)
     (clobbers : PRegSet) (b ret : Bool)
-    → ops ≡ v.operands → clobbers ≡ v.clobbers → ret ≡ v.is_ret
+    → ops ≡ v.operands → clobbers ≡ v.clobbers → (b || ret) ≡ ends_block v
     → AllocsInstInto inst_regs i (record { operands = ops; clobbers = clobbers; is_branch = b; is_ret = ret }) start before_it places old new →
     AllocsInstInto inst_regs i v start before_it places old new
 to_inst inst_regs i v start before_it places old new ops clobbers b ret e f g h =
-    let P : List OperandValue → PRegSet → Bool → Type 0 = λ o s r. AllocsInstInto inst_regs i
-    (record { operands = o; clobbers = s; is_branch = v.is_branch; is_ret = r }) start before_it places old new in
+    let P : List OperandValue → PRegSet → Type 0 = λ o s. AllocsInstInto inst_regs i
+    (record { operands = o; clobbers = s; is_branch = v.is_branch; is_ret = v.is_ret }) start before_it places old new in
     let a = h.0.allocates in
-    let same : AllocsInstAt i (record { operands = ops; clobbers = clobbers; is_branch = v.is_branch; is_ret = ret }) start before_it places old new = record {
+    let same : AllocsInstAt i (record { operands = ops; clobbers = clobbers; is_branch = v.is_branch; is_ret = v.is_ret }) start before_it places old
+    new = record {
       blank = h.0.blank;
       here = h.0.here;
       allocates = record {
@@ -176,13 +177,12 @@ to_inst inst_regs i v start before_it places old new ops clobbers b ret e f g h 
         holds = a.holds;
         fixed = a.fixed;
         clobbers = a.clobbers;
-        lates = a.lates;
-        earlies = a.earlies;
+        lates = subst (λ (r : Bool). ProcessesOperandsAt i r true ops h.0.blank a.quiet a.after_clobbers (length ops) a.half a.late a.after_late) g a.lates;
+        earlies = subst (λ (r : Bool). ProcessesOperandsAt i r false ops a.half a.late a.after_late (length ops) h.0.here a.early a.after_early) g a.earlies;
         moves = a.moves;
       };
       long = h.0.long;
       inside = h.0.inside;
       outside = h.0.outside;
     } in
-    subst (λ (r : Bool). P v.operands v.clobbers r) g (subst (λ (s : PRegSet). P v.operands s ret) f
-    (subst (λ (o : List OperandValue). P o clobbers ret) e (same, h.1)))
+    subst (λ (s : PRegSet). P v.operands s) f (subst (λ (o : List OperandValue). P o clobbers) e (same, h.1))

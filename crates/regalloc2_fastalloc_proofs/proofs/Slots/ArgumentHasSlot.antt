@@ -18,7 +18,7 @@ use Rattle.regalloc2_fastalloc_state.specs.declared.inst_regs.InstRegs.{InstRegs
 use Rattle.regalloc2_fastalloc_proofs.specs.InstSteps.{StateValue}
 use Rattle.regalloc2_fastalloc_proofs.specs.BlockStart.{no_vreg}
 use Rattle.regalloc2_fastalloc_proofs.specs.BranchSteps.{SpillsArgument, from_register, in_slot, ClassMove, of_class, GathersEdgeMoves, none_gathered}
-use Rattle.regalloc2_fastalloc_proofs.specs.BranchSteps.{one_gathered, GathersMoves, no_edge, one_edge, ProcessesBranch}
+use Rattle.regalloc2_fastalloc_proofs.specs.BranchSteps.{one_gathered, own_argument, GathersMoves, no_edge, one_edge, ProcessesBranch, IsOwn}
 use Rattle.regalloc2_fastalloc_proofs.specs.BlockSteps.{AllocsBlockInsts, at_end, one_in, AllocsBlocks, all_left, one_block}
 use Rattle.regalloc2_fastalloc_proofs.proofs.Safety.StepsKeepState.{slot_in}
 use Rattle.regalloc2_fastalloc_proofs.proofs.Operands.RecordOfInst.{Orderly}
@@ -36,40 +36,47 @@ module _ (point : ℕ) where
       slot_stays AnyPlace a.number m new (clears_grown AnyPlace point tt r t u m new clears) (λ none. gives.there (sym gives.gives ∙ none))
   argument_slot a s t u old new (in_slot not gives settles edits machine eu) = λ none. gives.there (sym gives.gives ∙ none)
 
-  edge_slots : (params arguments : List VirtualRegister) (t : InstRegs) (old : StateValue) (given : List ClassMove) (j : ℕ) (u : InstRegs) (m : StateValue)
-      (more : List ClassMove) → GathersEdgeMoves point params arguments t old given j u m more →
-      (l : ℕ) → l < j → slot_in m (slice_index_or arguments l no_vreg).number ≢ NoPlace
-  edge_slots params arguments t old given j u m more none_gathered l less = absurd (omega (arith, less))
-  edge_slots params arguments t old given j u m more (one_gathered e some to from v w s n o lt prev gives places edits machine settles) l less =
+  edge_slots : {Own : VirtualRegister → Type 0} (params arguments : List VirtualRegister) (t : InstRegs) (old : StateValue) (given : List ClassMove) (j : ℕ)
+      (u : InstRegs) (m : StateValue)
+      (more : List ClassMove) → GathersEdgeMoves Own point params arguments t old given j u m more →
+      (l : ℕ) → l < j → (Own (slice_index_or arguments l no_vreg) → ⊥) → slot_in m (slice_index_or arguments l no_vreg).number ≢ NoPlace
+  edge_slots params arguments t old given j u m more none_gathered l less not_own = absurd (omega (arith, less))
+  edge_slots params arguments t old given j u m more (one_gathered e some to from v w s n o lt prev gives places edits machine settles foreign) l less not_own =
       elim (cases_eq l e) [
         | inl same ↦ subst (λ (k : ℕ). slot_in o (slice_index_or arguments k no_vreg).number ≢ NoPlace) (sym same)
             (argument_slot (slice_index_or arguments e no_vreg) from v w n o settles)
         | inr ne ↦ slot_stays AnyPlace (slice_index_or arguments l no_vreg).number s o
             (grown_then AnyPlace s n o (grown_slot AnyPlace s n (slice_index_or params e no_vreg) to gives edits)
             (argument_grown AnyPlace point tt (slice_index_or arguments e no_vreg) from v w n o settles))
-            (edge_slots params arguments t old given e v s some prev l (omega (arith, less, ne)))
+            (edge_slots params arguments t old given e v s some prev l (omega (arith, less, ne)) not_own)
       ]
+  edge_slots {Own} params arguments t old given j u m more (own_argument e some v s lt prev own) l less not_own = elim (cases_eq l e) [
+    | inl same ↦ absurd (not_own (subst (λ (k : ℕ). Own (slice_index_or arguments k no_vreg)) (sym same) own))
+    | inr ne ↦ edge_slots params arguments t old given e u m more prev l (omega (arith, less, ne)) not_own
+  ]
 
   edges_slots : (f : FunctionValue) (b : ℕ) (t : InstRegs) (old : StateValue) (k : ℕ) (u : InstRegs) (m : StateValue) (given : List ClassMove) →
       GathersMoves f b point t old k u m given →
-      (e l : ℕ) → e < k → l < length (block_at f (target_at f b e)).params → slot_in m (slice_index_or (arguments_at f b e) l no_vreg).number ≢ NoPlace
-  edges_slots f b t old k u m given no_edge e l less low = absurd (omega (arith, less))
-  edges_slots f b t old k u m given (one_edge d some more v w s n lt prev edge) e l less low =
+      (e l : ℕ) → e < k → l < length (block_at f (target_at f b e)).params → (IsOwn f b (slice_index_or (arguments_at f b e) l no_vreg) → ⊥) →
+      slot_in m (slice_index_or (arguments_at f b e) l no_vreg).number ≢ NoPlace
+  edges_slots f b t old k u m given no_edge e l less low not_own = absurd (omega (arith, less))
+  edges_slots f b t old k u m given (one_edge d some more v w s n lt prev edge) e l less low not_own =
       let all : ℕ = length (block_at f (target_at f b d)).params in
       elim (cases_eq e d) [
         | inl same ↦ subst (λ (c : ℕ). l < length (block_at f (target_at f b c)).params →
+            (IsOwn f b (slice_index_or (arguments_at f b c) l no_vreg) → ⊥) →
             slot_in n (slice_index_or (arguments_at f b c) l no_vreg).number ≢ NoPlace) (sym same)
-            (λ below. edge_slots (block_at f (target_at f b d)).params (arguments_at f b d) v s some all w n more edge l below) low
+            (λ below foreign. edge_slots (block_at f (target_at f b d)).params (arguments_at f b d) v s some all w n more edge l below foreign) low not_own
         | inr ne ↦ slot_stays AnyPlace (slice_index_or (arguments_at f b e) l no_vreg).number s n
             (edge_grown AnyPlace point tt (block_at f (target_at f b d)).params (arguments_at f b d) v s some all w n more edge)
-            (edges_slots f b t old d v s some prev e l (omega (arith, less, ne)) low)
+            (edges_slots f b t old d v s some prev e l (omega (arith, less, ne)) low not_own)
       ]
 
--- a branch gives each argument a slot
+-- a branch gives each argument a slot that it doesn't define itself
 pub passes_slots : (f : FunctionValue) (b i : ℕ) (t u : InstRegs) (old new : StateValue) → ProcessesBranch f b i t u old new → (k : ℕ) →
     k < length (block_at f b).succs → length (arguments_at f b k) ≡ length (block_at f (target_at f b k)).params →
-    (v : VirtualRegister) → Contains (arguments_at f b k) v → slot_in new v.number ≢ NoPlace
-passes_slots f b i t u old new p k lt long v has =
+    (v : VirtualRegister) → Contains (arguments_at f b k) v → (IsOwn f b v → ⊥) → slot_in new v.number ≢ NoPlace
+passes_slots f b i t u old new p k lt long v has not_own =
     let args : List VirtualRegister = arguments_at f b k in
     let x : ℕ = (slice_index_or args has.0 no_vreg).number in
     let is : slice_index_or args has.0 no_vreg ≡ v = get_or_default args has.0 no_vreg v has.1 ∙ has.2 in
@@ -79,13 +86,14 @@ passes_slots f b i t u old new p k lt long v has =
     (class_grown AnyPlace (before i) tt u Vector (of_class Vector p.given) p.floats new p.vector)) in
     subst (λ (w : VirtualRegister). slot_in new w.number ≢ NoPlace) is
     (slot_stays AnyPlace x p.gathered new moved (edges_slots (before i) f b t old (length (block_at f b).succs) u p.gathered p.given p.gathers k has.0 lt
-    (omega (arith, has.1, long))))
+    (omega (arith, has.1, long)) (λ own. not_own (subst (IsOwn f b) is own))))
 
 module _ (f : FunctionValue) (counted : ArgumentsCounted f) (follow : BlocksFollow f) (ends : BlocksEnd f)
     (orderly : (i : ℕ) → i < length f.insts → Orderly (inst_at f i).operands)
     (avoids : (i : ℕ) → i < length f.insts → AvoidClobbers (inst_at f i).operands (inst_at f i).clobbers)
     (knows : (i : ℕ) → i < length f.insts → Knows (Made f) (inst_at f i).operands) (kept : BranchKept f)
-    (c : ℕ) (lc : c < length f.blocks) (k : ℕ) (edge : k < length (block_at f c).succs) (v : VirtualRegister) (has : Contains (arguments_at f c k) v) where
+    (c : ℕ) (lc : c < length f.blocks) (k : ℕ) (edge : k < length (block_at f c).succs) (v : VirtualRegister) (has : Contains (arguments_at f c k) v)
+    (not_own : IsOwn f c v → ⊥) where
   -- in the block that passes it, from its branch on
   block_slots : (blank : List Place) (old : StateValue) (i : ℕ) (places : List Place) (t : StateValue) → AllocsBlockInsts f c blank old i places t → (l : ℕ) →
       i ≤ l → l < (block_at f c).range.end → (inst_at f l).is_branch ≡ true → slot_in t v.number ≢ NoPlace
@@ -94,7 +102,7 @@ module _ (f : FunctionValue) (counted : ArgumentsCounted f) (follow : BlocksFoll
       let within = ends_within f follow c lc in
       elim (cases_eq l j) [
         | inl e ↦ passes_slots f c j a.allocates.allocates.ended a.inst_regs a.middle u (a.branch (subst (λ (m : ℕ). (inst_at f m).is_branch ≡ true) e is)) k
-            edge (counted c lc k edge) v has
+            edge (counted c lc k edge) v has not_own
         | inr ne ↦ slot_stays (IsAt j) v.number s u (in_grown (Made f) f orderly avoids knows kept c j p q s u (omega (arith, less, within)) a)
             (block_slots blank old (j + 1) p s prev l (omega (arith, le, ne)) lt is)
       ]
@@ -113,7 +121,7 @@ module _ (f : FunctionValue) (counted : ArgumentsCounted f) (follow : BlocksFoll
   handed_has_slot blank begin b places t (one_block d p q s u w lt prev walk begins) = λ le.
       let first : ℕ = (block_at f d).range.first in
       let some : (block_at f c).range.first < (block_at f c).range.end = (follow c lc).0 in
-      let here : Grown AnyPlace u w = begins_grown AnyPlace (before first) tt (block_at f d).params u w begins in
+      let here : Grown AnyPlace u w = begins_grown AnyPlace f d tt u w begins in
       elim (cases_eq d c) [
         | inl same ↦ slot_stays AnyPlace v.number u w here
             (block_slots p s (block_at f c).range.first q u (subst (λ (m : ℕ). AllocsBlockInsts f m p s (block_at f m).range.first q u) same walk)

@@ -21,7 +21,8 @@ use Rattle.regalloc2_fastalloc_proofs.specs.InstSteps.{StateValue}
 use Rattle.regalloc2_fastalloc_proofs.specs.BlockStart.{no_vreg, ReloadsParam, nowhere, comes, ReloadsParams, none_begun, one_begun, ReloadsRegs}
 use Rattle.regalloc2_fastalloc_proofs.specs.BlockStart.{none_emptied, one_emptied, ReloadsAtBegin}
 use Rattle.regalloc2_fastalloc_proofs.specs.BranchSteps.{SpillsArgument, from_register, in_slot, ClassMove, of_class, GathersEdgeMoves, none_gathered}
-use Rattle.regalloc2_fastalloc_proofs.specs.BranchSteps.{one_gathered, GathersMoves, no_edge, one_edge, IsScratchUsed, IsOrdered, OrdersMoves, Pushes}
+use Rattle.regalloc2_fastalloc_proofs.specs.BranchSteps.{one_gathered, own_argument, GathersMoves, no_edge, one_edge, IsScratchUsed, IsOrdered, OrdersMoves}
+use Rattle.regalloc2_fastalloc_proofs.specs.BranchSteps.{Pushes}
 use Rattle.regalloc2_fastalloc_proofs.specs.BranchSteps.{ProcessesBranch}
 use Rattle.regalloc2_fastalloc_proofs.proofs.Slots.SlotsGrow.{SlotsStay, gives_stay}
 use Rattle.regalloc2_fastalloc_proofs.proofs.Safety.StepsKeepSafe.{same_units}
@@ -140,15 +141,15 @@ module _ (Known : VirtualRegister → Type 0) (same : (v w : VirtualRegister) �
       pub step : StepClassed Known named Met old u new
       pub passed : ArePassed Known new.slots given
 
-    edge_classed : (params arguments : List VirtualRegister) → ((j : ℕ) → j < length params →
+    edge_classed : {Own : VirtualRegister → Type 0} (params arguments : List VirtualRegister) → ((j : ℕ) → j < length params →
         AreAlike Known (slice_index_or params j no_vreg) (slice_index_or arguments j no_vreg)) → (t : InstRegs) (old : StateValue) (before_it : List ClassMove)
         → IsClassed Known named Met old → IsClassedTurn t → ArePassed Known old.slots before_it →
-        (k : ℕ) (u : InstRegs) (new : StateValue) (given : List ClassMove) → GathersEdgeMoves point params arguments t old before_it k u new given →
+        (k : ℕ) (u : InstRegs) (new : StateValue) (given : List ClassMove) → GathersEdgeMoves Own point params arguments t old before_it k u new given →
         GatherClassed old u new given
     edge_classed params arguments alike t old before_it h ht begin k u new given none_gathered =
         record { step = classed_same Known same named Met old old t t refl refl h ht; passed = begin }
     edge_classed params arguments alike t old before_it h ht begin k u new given
-        (one_gathered j some to from w x m n o lt prev gives places edits machine settles) =
+        (one_gathered j some to from w x m n o lt prev gives places edits machine settles foreign) =
         let p = edge_classed params arguments alike t old before_it h ht begin j w m some prev in
         let v : VirtualRegister = slice_index_or params j no_vreg in
         let a : VirtualRegister = slice_index_or arguments j no_vreg in
@@ -170,6 +171,8 @@ module _ (Known : VirtualRegister → Type 0) (same : (v w : VirtualRegister) �
                 (v, known.0, known.2, own_grows n.slots new.slots v to second.step.stay (slot_own n.slots v to n.slots.count gives.gives gives.below)),
               );
         }
+    edge_classed params arguments alike t old before_it h ht begin k u new given (own_argument j some w m lt prev own) =
+        edge_classed params arguments alike t old before_it h ht begin j u new given prev
 
     gathers_classed : (f : FunctionValue) (b : ℕ)
         → ((k j : ℕ) → k < length (block_at f b).succs → j < length (block_at f (target_at f b k)).params →

@@ -26,6 +26,7 @@ use Rattle.regalloc2_fastalloc_proofs.specs.InstSteps.{def_request, reuse_reques
 use Rattle.regalloc2_fastalloc_proofs.specs.InstSteps.{ProcessesOperandsAt, none_placed, of_other, one_placed, MovesUses, none_moved, not_moved}
 use Rattle.regalloc2_fastalloc_proofs.specs.InstSteps.{one_moved, EvictsFixed, none_cleared, not_fixed, of_fixed, of_reuse, EvictsEach, none_left}
 use Rattle.regalloc2_fastalloc_proofs.specs.InstSteps.{one_more, AllocsInst}
+use Rattle.regalloc2_fastalloc_proofs.specs.InstSteps.{ends_block}
 use Rattle.regalloc2_fastalloc_proofs.specs.InstSteps.SelectsPlace.{stays, fixed, slot, free}
 use Rattle.regalloc2_fastalloc_proofs.specs.InstSteps.LocatesUse.{stays as use_stays, located}
 use Rattle.regalloc2_fastalloc_proofs.proofs.Slots.SlotsGrow.{SlotsStay, gives_stay, same_stay}
@@ -329,9 +330,11 @@ allocates_classed Known named Met i inst blank places old new tame a h =
       long = a.long;
       own = λ j lt allocated. subst (IsOwnPlace a.after_clobbers.slots (op_at ops j).vreg) (sym (a.no_places j)) tt;
     } in
-    let l = placed_classed Known named Met i ops tame inst.is_ret true blank a.quiet a.after_clobbers blank_own c.classed c.inst_regs (length ops) a.half a.late
+    let l = placed_classed Known named Met i ops tame (ends_block inst) true blank a.quiet a.after_clobbers blank_own c.classed c.inst_regs (length ops)
+    a.half a.late
     a.after_late a.lates (omega arith) in
-    let e = placed_classed Known named Met i ops tame inst.is_ret false a.half a.late a.after_late l.own l.step.classed l.step.inst_regs (length ops) places
+    let e = placed_classed Known named Met i ops tame (ends_block inst) false a.half a.late a.after_late l.own l.step.classed l.step.inst_regs (length ops)
+    places
     a.early a.after_early a.earlies (omega arith) in
     let m = moves_classed Known named Met i ops tame places a.early a.after_early e.own e.step.classed e.step.inst_regs (length ops) a.ended new a.moves
     (omega arith) in

@@ -6,29 +6,30 @@ use Rattle.regalloc2_names.specs.Place.{Place, NoPlace, InRegister, InSlot}
 use Rattle.regalloc2_names.specs.Point.{before, after}
 use Rattle.regalloc2_function.specs.FunctionValue.{FunctionValue, block_at, inst_at}
 use Rattle.regalloc2_function.specs.Machine.{MachineValue}
-use Rattle.regalloc2_function.specs.OutputValue.{MoveValue, place_at}
+use Rattle.regalloc2_function.specs.OutputValue.{place_at}
 use Rattle.regalloc2_names.specs.Operand.{is_def}
 use Rattle.regalloc2_function.specs.WellFormed.{BlocksFollow, BlocksEnd, last_of}
 use Rattle.regalloc2_semantics.specs.Instruction.{Knows}
 use Rattle.regalloc2_semantics.specs.BlockByPoints.{at_point, listed}
 use Rattle.regalloc2_semantics.proofs.UnwrittenPlaces.{IsReadAt, Keeps}
-use Rattle.regalloc2_semantics.proofs.Order.{ends_within, stands_later}
+use Rattle.regalloc2_semantics.proofs.Order.{ends_before, ends_within, stands_later}
 use Rattle.regalloc2_fastalloc_state.specs.StateParts.{slot_name}
 use Rattle.regalloc2_validate.specs.Constraints.{op_at}
 use Rattle.regalloc2_fastalloc_proofs.specs.InstSteps.{StateValue}
-use Rattle.regalloc2_fastalloc_proofs.specs.Safety.{MayBeLocatedAt}
+use Rattle.regalloc2_fastalloc_proofs.specs.Safety.{MayBeLocatedAt, IsSafe}
 use Rattle.regalloc2_fastalloc_proofs.proofs.Safety.StepsKeepState.{slot_in, IsWhole}
 use Rattle.regalloc2_fastalloc_proofs.proofs.Operands.RecordOverState.{slots_at, opt_from, opt_real, no_register_slot}
 use Rattle.regalloc2_fastalloc_proofs.proofs.Operands.RecordOfInst.{Orderly}
 use Rattle.regalloc2_fastalloc_proofs.proofs.Inst.BoundaryToFirstOperand.{AvoidClobbers}
 use Rattle.regalloc2_fastalloc_proofs.proofs.Operands.DefinedNumbers.{defined_by, defined_by-at}
 use Rattle.regalloc2_fastalloc_proofs.proofs.Walk.InstsCarry.{AreListed}
-use Rattle.regalloc2_fastalloc_proofs.proofs.Safety.InstsKeepSafe.{HasGood, WritesAt, place_of}
+use Rattle.regalloc2_fastalloc_proofs.proofs.Safety.InstsKeepSafe.{HasGood, WritesAt, WritesFrom, place_of}
 use Rattle.regalloc2_fastalloc_proofs.proofs.Safety.OutputOfWalk.{all_reverse}
-use Rattle.regalloc2_fastalloc_proofs.proofs.Slots.InstLeavesOwnedSlot.{no_move_or}
+use Rattle.regalloc2_fastalloc_proofs.proofs.Slots.InstLeavesOwnedSlot.{no_move_or, writes_allowed}
+use Rattle.regalloc2_fastalloc_proofs.proofs.Slots.StepsKeepSlots.{Grown, cases_none}
 use Rattle.regalloc2_fastalloc_proofs.proofs.Safety.FunctionKeepsSafe.{no_branch_writes, none_written_behind}
-use Rattle.regalloc2_fastalloc_proofs.proofs.Walk.InstBoundaries.{BranchKept}
-use Rattle.regalloc2_fastalloc_proofs.proofs.Walk.LastInstAndRest.{KeepsSlots}
+use Rattle.regalloc2_fastalloc_proofs.proofs.Walk.InstBoundaries.{BranchKept, grown_slots}
+use Rattle.regalloc2_fastalloc_proofs.proofs.Walk.LastInstAndRest.{AnyPlace, KeepsSlots}
 
 -- what holds of all holds of the first ones
 pub all_front : {X : Type 0} (P : X → Type 0) (xs ys : List X) → All P (xs ++ ys) → All P xs
@@ -70,6 +71,24 @@ writes_sound f placesf places are_listed i plain = record {
   ];
 }
 
+-- nor does a store: it comes before another block's first instruction
+pub writes_sound_in : (f : FunctionValue) → BlocksFollow f → (placesf : ℕ → List Place) (places : List Place) → AreListed f placesf 0 places → (b i : ℕ) →
+    b < length f.blocks → (block_at f b).range.first ≤ i → i < last_of (block_at f b) → (inst_at f i).is_branch ≡ false →
+    WritesSound f placesf (WritesFrom f places (b + 1)) i
+writes_sound_in f follow placesf places are_listed b i lb ge less plain =
+    let w = writes_sound f placesf places are_listed i plain in
+    record {
+      sooner = λ v n x. elim x [
+        | inl y ↦ w.sooner v n y
+        | inr s ↦ (let at : before i ≡ before (block_at f s.0).range.first = s.3 in
+            let apart = ends_before f follow b s.0 (let ge2 = s.1 in omega (arith, ge2)) s.2 in absurd (omega (arith, at, apart, less)))
+      ];
+      later = λ v n x. elim x [
+        | inl y ↦ w.later v n y
+        | inr s ↦ (let at : after i ≡ before (block_at f s.0).range.first = s.3 in absurd (omega (arith, at)))
+      ];
+    }
+
 -- an instruction before the last one of its block is the last one of none
 pub not_last : (f : FunctionValue) → BlocksFollow f → (b i : ℕ) → b < length f.blocks → (block_at f b).range.first ≤ i → i < last_of (block_at f b) → (c : ℕ) →
     c < length f.blocks → i + 1 ≡ (block_at f c).range.end → ⊥
@@ -86,12 +105,11 @@ module _ (env : MachineValue) (Known : VirtualRegister → Type 0) (f : Function
     (avoids : (i : ℕ) → i < length f.insts → AvoidClobbers (inst_at f i).operands (inst_at f i).clobbers)
     (knows : (i : ℕ) → i < length f.insts → Knows Known (inst_at f i).operands) (kept : BranchKept f) (follow : BlocksFollow f) (ends : BlocksEnd f)
     (placesf : ℕ → List Place) (final : StateValue)
-    (Writes : ℕ → VirtualRegister → ℕ → Type 0) (whole : IsWhole final)
-    (allowed : (v : VirtualRegister) → Known v → (n : ℕ) → slots_at final v.number ≡ Some (InSlot n) →
-    All (λ e. e.1.to ≡ InSlot n → Writes e.0 v n) final.edits)
+    (Writes : ℕ → ℕ → VirtualRegister → ℕ → Type 0) (May : ℕ → Type 0) (whole : IsWhole final)
+    (same : (v w : VirtualRegister) → Known v → Known w → v.number ≡ w.number → v ≡ w)
     (places : List Place) (are_listed : AreListed f placesf 0 places) (good : (j k : ℕ) → j < length f.insts → k < length (inst_at f j).operands →
     HasGood env final.slots f places j k)
-    (sound : (b i : ℕ) → b < length f.blocks → (block_at f b).range.first ≤ i → i < last_of (block_at f b) → WritesSound f placesf Writes i) where
+    (sound : (b i : ℕ) → b < length f.blocks → (block_at f b).range.first ≤ i → i < last_of (block_at f b) → WritesSound f placesf (Writes b) i) where
   -- a definition in a slot is in its own
   own_definition : (i : ℕ) → i < length f.insts → (k : ℕ) → k < length (inst_at f i).operands → is_def (op_at (inst_at f i).operands k).kind ≡ true → (n : ℕ) →
       place_at (placesf i) k ≡ InSlot n →
@@ -103,7 +121,8 @@ module _ (env : MachineValue) (Known : VirtualRegister → Type 0) (f : Function
 
   module _ (b i : ℕ) (lb : b < length f.blocks) (ge : (block_at f b).range.first ≤ i) (less : i < last_of (block_at f b)) (lt : i < length f.insts)
       (v : VirtualRegister) (known : Known v)
-      (free : defined_by (inst_at f i).operands v.number ≡ false) (es more : List (ℕ × MoveValue)) (parts : final.edits ≡ es ++ more) (n : ℕ)
+      (free : defined_by (inst_at f i).operands v.number ≡ false) (u : StateValue) (safe : IsSafe env Known (Writes b) May u) (rest : Grown AnyPlace u final)
+      (n : ℕ)
       (mine : slots_at final v.number ≡ Some (InSlot n)) where
     not_defined : (k : ℕ) → k < length (inst_at f i).operands → is_def (op_at (inst_at f i).operands k).kind ≡ true →
         (op_at (inst_at f i).operands k).vreg.number ≡ v.number → ⊥
@@ -111,39 +130,46 @@ module _ (env : MachineValue) (Known : VirtualRegister → Type 0) (f : Function
         (defined_by-at (inst_at f i).operands k few d) in cc)
 
     -- the moves so far that go there
-    so_far : All (λ e. e.1.to ≡ InSlot n → Writes e.0 v n) (listed es)
-    so_far = all_reverse (λ e. e.1.to ≡ InSlot n → Writes e.0 v n) es (all_front (λ e. e.1.to ≡ InSlot n → Writes e.0 v n) es more
-        (subst (All (λ e. e.1.to ≡ InSlot n → Writes e.0 v n)) parts (allowed v known n mine)))
+    so_far : All (λ e. e.1.to ≡ InSlot n → Writes b e.0 v n) (listed u.edits)
+    so_far = all_reverse (λ e. e.1.to ≡ InSlot n → Writes b e.0 v n) u.edits
+        (writes_allowed env Known same (Writes b) May (slots_at final)
+        (λ x y k c d. whole.own x y k (opt_from (slot_in final x) (InSlot k) c) (opt_from (slot_in final y) (InSlot k) d)) u safe.edits
+        (grown_slots AnyPlace u final rest)
+        (λ x k is. elim (cases_none (slot_name u.slots x)) [
+          | inl none ↦ inr (rest.fresh safe.units x k none (opt_from (slot_in final x) (InSlot k) is))
+          | inr there ↦ inl (sym (rest.stay x there) ∙ opt_from (slot_in final x) (InSlot k) is)
+        ]) n v known mine)
 
-    keeps_slot : Keeps (inst_at f i).operands (placesf i) (inst_at f i).clobbers (at_point (listed es) (before i)) (at_point (listed es) (after i)) v (InSlot n)
+    keeps_slot : Keeps (inst_at f i).operands (placesf i) (inst_at f i).clobbers (at_point (listed u.edits) (before i)) (at_point (listed u.edits) (after i))
+        v (InSlot n)
     keeps_slot = record {
       spared = record {
         no_definition = λ k few d at. not_defined k few d (whole.own (op_at (inst_at f i).operands k).vreg.number v.number n (own_definition i lt k few d n at)
             (opt_from (slot_in final v.number) (InSlot n) mine));
         no_clobber = refl;
       };
-      no_move_later = elim (no_move_or (InSlot n) (after i) (listed es) ⊥ (λ k d few at to.
-          let w = (sound b i lb ge less).later v n (subst (λ q. Writes q v n) at (so_far k d few to)) in
+      no_move_later = elim (no_move_or (InSlot n) (after i) (listed u.edits) ⊥ (λ k d few at to.
+          let w = (sound b i lb ge less).later v n (subst (λ q. Writes b q v n) at (so_far k d few to)) in
           not_defined w.0 w.1 w.2 (ap (λ (x : VirtualRegister). x.number) w.3))) [
             | inl none ↦ none
             | inr r ↦ absurd r
           ];
-      before_it = no_move_or (InSlot n) (before i) (listed es) (IsReadAt (inst_at f i).operands (placesf i) v (InSlot n))
-          (λ k d few at to. (sound b i lb ge less).sooner v n (subst (λ q. Writes q v n) at (so_far k d few to)));
+      before_it = no_move_or (InSlot n) (before i) (listed u.edits) (IsReadAt (inst_at f i).operands (placesf i) v (InSlot n))
+          (λ k d few at to. (sound b i lb ge less).sooner v n (subst (λ q. Writes b q v n) at (so_far k d few to)));
     }
 
   -- each instruction but a block's last one leaves a vreg's final slot alone, unless it defines that vreg
-  pub keeps_slots : KeepsSlots Known f orderly avoids knows kept follow ends placesf final
-  keeps_slots b i lb ge less v known free s is es more parts = by_place s refl
+  pub keeps_slots : KeepsSlots Known f orderly avoids knows kept follow ends placesf final (λ b u. IsSafe env Known (Writes b) May u)
+  keeps_slots b i lb ge less u safe rest v known free s is = by_place s refl
     where
       lt : i < length f.insts
       lt = (let within = ends_within f follow b lb in omega (arith, less, within))
 
-      by_place : (p : Place) → s ≡ p → Keeps (inst_at f i).operands (placesf i) (inst_at f i).clobbers (at_point (listed es) (before i))
-          (at_point (listed es) (after i)) v s
+      by_place : (p : Place) → s ≡ p → Keeps (inst_at f i).operands (placesf i) (inst_at f i).clobbers (at_point (listed u.edits) (before i))
+          (at_point (listed u.edits) (after i)) v s
       by_place NoPlace e = absurd (opt_real (slot_in final v.number) s is e)
       by_place (InRegister r) e = absurd (no_register_slot final.slots.count (slot_in final v.number) r (whole.below v.number)
           (opt_from (slot_in final v.number) (InRegister r) (is ∙ ap Some e)))
-      by_place (InSlot n) e = subst (Keeps (inst_at f i).operands (placesf i) (inst_at f i).clobbers (at_point (listed es) (before i))
-          (at_point (listed es) (after i)) v) (sym e)
-          (keeps_slot b i lb ge less lt v known free es more parts n (is ∙ ap Some e))
+      by_place (InSlot n) e = subst (Keeps (inst_at f i).operands (placesf i) (inst_at f i).clobbers (at_point (listed u.edits) (before i))
+          (at_point (listed u.edits) (after i)) v) (sym e)
+          (keeps_slot b i lb ge less lt v known free u safe rest n (is ∙ ap Some e))

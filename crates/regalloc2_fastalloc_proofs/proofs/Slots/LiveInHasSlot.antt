@@ -16,7 +16,7 @@ use Rattle.regalloc2_validate.specs.Constraints.{op_at}
 use Rattle.regalloc2_fastalloc_proofs.specs.InstSteps.{StateValue}
 use Rattle.regalloc2_fastalloc_proofs.specs.BlockStart.{ReloadsParam, nowhere, comes, ReloadsParams, none_begun, one_begun, no_vreg, ReloadsRegs}
 use Rattle.regalloc2_fastalloc_proofs.specs.BlockStart.{none_emptied, one_emptied, ReloadsAtBegin}
-use Rattle.regalloc2_fastalloc_proofs.specs.BlockSteps.{AllocsBlockInsts, AllocsBlocks, all_left, one_block}
+use Rattle.regalloc2_fastalloc_proofs.specs.BlockSteps.{AllocsBlockInsts, BeginsBlock, AllocsBlocks, all_left, one_block}
 use Rattle.regalloc2_fastalloc_proofs.proofs.Safety.StepsKeepState.{place_in, slot_in}
 use Rattle.regalloc2_fastalloc_proofs.proofs.Operands.RecordOfInst.{Orderly}
 use Rattle.regalloc2_fastalloc_proofs.proofs.Inst.BoundaryToFirstOperand.{AvoidClobbers}
@@ -25,9 +25,10 @@ use Rattle.regalloc2_fastalloc_proofs.proofs.Walk.BlockObligations.{defines_at}
 use Rattle.regalloc2_fastalloc_proofs.proofs.Slots.StepsKeepSlots.{Grown, grown_then, grown_slot, sends_grown, clears_grown}
 use Rattle.regalloc2_fastalloc_proofs.proofs.Inst.OneInstCarries.{Between}
 use Rattle.regalloc2_fastalloc_proofs.proofs.BlockBegin.ReloadAtBegin.{begun}
+use Rattle.regalloc2_fastalloc_proofs.proofs.BlockBegin.StoresOfDefs.{stores_grown}
 use Rattle.regalloc2_fastalloc_proofs.proofs.Slots.LocatedStaysLocated.{sends_lasts, clears_lasts}
 use Rattle.regalloc2_fastalloc_proofs.proofs.Walk.LastInstAndRest.{AnyPlace}
-use Rattle.regalloc2_fastalloc_proofs.proofs.Walk.InstBoundaries.{BranchKept, grown_weaken, begins_grown, walk_between, walk_grown, walk_found, edge_next}
+use Rattle.regalloc2_fastalloc_proofs.proofs.Walk.InstBoundaries.{BranchKept, grown_weaken, reloads_grown, walk_between, walk_grown, walk_found, edge_next}
 use Rattle.regalloc2_fastalloc_proofs.proofs.Walk.InstBoundaries.{blocks_between}
 use Rattle.regalloc2_fastalloc_proofs.proofs.Walk.DefsBeforeUses.{used_at, used_made}
 
@@ -107,22 +108,33 @@ module _ (f : FunctionValue) (once : DefinedOnce f) (follow : BlocksFollow f) (e
       let at = used_at f follow ends c v lc used in
       walk_found (Made f) f orderly avoids knows kept follow c lc p s behind v.number (block_at f c).range.first q u walk free at.0 at.1 at.2 at.3
 
-  -- v, which a block uses and doesn't write, has a slot once the walk has left that block
-  pub used_has_slot : (b : ℕ) (places : List Place) (t : StateValue) → AllocsBlocks f blank begin b places t → b ≤ c → slot_in t v.number ≢ NoPlace
-  used_has_slot b places t all_left = λ le. absurd (omega (arith, le, lc))
-  used_has_slot b places t (one_block d p q s u w lt prev walk begins) = λ le.
+  -- where the block d or an earlier one begins, once its reloads are pushed
+  begun_has : (d : ℕ) → d < length f.blocks → (p q : List Place) (s u w : StateValue) → AllocsBlocks f blank begin (d + 1) p s →
+      AllocsBlockInsts f d p s (block_at f d).range.first q u → (h : BeginsBlock f d u w) → d ≤ c → (d + 1 ≤ c → slot_in s v.number ≢ NoPlace) →
+      slot_in h.middle v.number ≢ NoPlace
+  begun_has d lt p q s u w prev walk h le later =
       let first : ℕ = (block_at f d).range.first in
       let end : ℕ = (block_at f d).range.end in
       let behind : Between end s = blocks_between (Made f) f orderly avoids knows kept follow blank begin start (d + 1) p s prev end
       (edge_next f follow d lt) in
       let here : Between first u = walk_between (Made f) f orderly avoids knows kept follow d lt p s behind first q u walk in
       elim (cases_eq d c) [
-        | inl same ↦ begun_slot v.number first (block_at f d).params u w begins here
+        | inl same ↦ begun_slot v.number first (block_at f d).params u h.middle h.reloads here
             (found p q s u (subst (λ (m : ℕ). Between (block_at f m).range.end s) same behind)
             (subst (λ (m : ℕ). AllocsBlockInsts f m p s (block_at f m).range.first q u) same walk))
-        | inr ne ↦ slot_stays AnyPlace v.number s w
-            (grown_then AnyPlace s u w (grown_weaken _ AnyPlace s u (λ m h. tt)
+        | inr ne ↦ slot_stays AnyPlace v.number s h.middle
+            (grown_then AnyPlace s u h.middle (grown_weaken _ AnyPlace s u (λ m x. tt)
             (walk_grown (Made f) f orderly avoids knows kept follow d lt p s first q u walk))
-            (begins_grown AnyPlace (before first) tt (block_at f d).params u w begins))
-            (used_has_slot (d + 1) p s prev (omega (arith, le, ne)))
+            (reloads_grown AnyPlace (before first) tt (block_at f d).params u h.middle h.reloads))
+            (later (omega (arith, le, ne)))
       ]
+
+  pub used_has_slot : (b : ℕ) (places : List Place) (t : StateValue) → AllocsBlocks f blank begin b places t → b ≤ c → slot_in t v.number ≢ NoPlace
+  used_has_slot b places t all_left = λ le. absurd (omega (arith, le, lc))
+  used_has_slot b places t (one_block d p q s u w lt prev walk begins) = λ le.
+      slot_stays AnyPlace v.number begins.middle w (stores_grown AnyPlace f d begins.middle w tt begins.stores)
+      (begun_has d lt p q s u w prev walk begins le (λ more. used_has_slot (d + 1) p s prev more))
+
+  pub used_at_begin : (d : ℕ) → d < length f.blocks → (p q : List Place) (s u w : StateValue) → AllocsBlocks f blank begin (d + 1) p s →
+      AllocsBlockInsts f d p s (block_at f d).range.first q u → (h : BeginsBlock f d u w) → d ≤ c → slot_in h.middle v.number ≢ NoPlace
+  used_at_begin d lt p q s u w prev walk h le = begun_has d lt p q s u w prev walk h le (λ more. used_has_slot (d + 1) p s prev more)

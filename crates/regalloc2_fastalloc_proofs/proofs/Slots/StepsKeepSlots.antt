@@ -24,6 +24,7 @@ use Rattle.regalloc2_fastalloc_proofs.specs.InstSteps.{ClaimsPlace, in_slot, in_
 use Rattle.regalloc2_fastalloc_proofs.specs.InstSteps.{LocatesUse, ProcessesOperand, a_register, a_use, a_def, a_reuse, ProcessesOperandsAt}
 use Rattle.regalloc2_fastalloc_proofs.specs.InstSteps.{none_placed, of_other, one_placed, MovesUses, none_moved, not_moved, one_moved, EvictsFixed}
 use Rattle.regalloc2_fastalloc_proofs.specs.InstSteps.{none_cleared, not_fixed, of_fixed, of_reuse, EvictsEach, none_left, one_more, AllocsInst}
+use Rattle.regalloc2_fastalloc_proofs.specs.InstSteps.{ends_block}
 use Rattle.regalloc2_fastalloc_proofs.specs.InstSteps.SelectsPlace.{stays, fixed, slot, free}
 use Rattle.regalloc2_fastalloc_proofs.specs.InstSteps.LocatesUse.{stays as stays_there, located}
 
@@ -260,8 +261,8 @@ allocates_grown i inst blank places old new a =
     a.fixed)
     (grown_then (IsAt i) a.after_fixed a.after_clobbers new (all_grown (IsAt i) (after i) behind (registers_of inst.clobbers) a.cleared a.quiet a.after_fixed
     a.after_clobbers a.clobbers)
-    (grown_then (IsAt i) a.after_clobbers a.after_late new (placed_grown (IsAt i) i behind inst.is_ret true inst.operands blank a.quiet a.after_clobbers
+    (grown_then (IsAt i) a.after_clobbers a.after_late new (placed_grown (IsAt i) i behind (ends_block inst) true inst.operands blank a.quiet a.after_clobbers
     (length inst.operands) a.half a.late a.after_late a.lates)
-    (grown_then (IsAt i) a.after_late a.after_early new (placed_grown (IsAt i) i behind inst.is_ret false inst.operands a.half a.late a.after_late
+    (grown_then (IsAt i) a.after_late a.after_early new (placed_grown (IsAt i) i behind (ends_block inst) false inst.operands a.half a.late a.after_late
     (length inst.operands) places a.early a.after_early a.earlies)
     (moves_grown (IsAt i) (before i) (inl refl) inst.operands places a.early a.after_early (length inst.operands) a.ended new a.moves))))

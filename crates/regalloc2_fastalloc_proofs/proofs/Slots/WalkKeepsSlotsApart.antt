@@ -1,7 +1,6 @@
 -- The whole walk keeps slots apart and moves within a class.
-use Rattle.std.proofs.Common.{ℕ, ◌≡◌, ◌+◌, ◌<◌, ◌≤◌, ◌∙◌, List, [], true, Bool, length, map, slice_index_or, refl, sym, ap, inl, inr, subst, arith}
+use Rattle.std.proofs.Common.{ℕ, ◌≡◌, ◌+◌, ◌<◌, ◌≤◌, ◌∙◌, List, [], true, Bool, length, slice_index_or, refl, sym, ap, inl, inr, subst, arith}
 use Rattle.std.proofs.lemmas.Bool.{cases_Bool}
-use Rattle.std.proofs.lemmas.List.{get_or-map}
 use Rattle.regalloc2_names.specs.declared.RegClass.{RegClass}
 use Rattle.regalloc2_names.specs.Register.{VirtualRegister}
 use Rattle.regalloc2_names.specs.Place.{Place, NoPlace}
@@ -10,15 +9,16 @@ use Rattle.regalloc2_function.specs.FunctionValue.{FunctionValue, IsLimited, blo
 use Rattle.regalloc2_function.specs.Machine.{MachineValue}
 use Rattle.regalloc2_function.specs.Following.{end_within}
 use Rattle.regalloc2_function.specs.SourceRun.{arguments_at}
-use Rattle.regalloc2_function.specs.WellFormed.{IsWellFormed, BlocksFollow, last_of}
+use Rattle.regalloc2_function.specs.WellFormed.{IsWellFormed, BlocksFollow}
 use Rattle.regalloc2_semantics.specs.Blocks.{HasEdge, target_at}
-use Rattle.regalloc2_semantics.proofs.SingleDef.{Made, one_made, made_behind, is_made}
-use Rattle.regalloc2_semantics.proofs.Soundness.{well_formed_are_sound}
+use Rattle.regalloc2_branch_defs.specs.BranchDefs.{IsEdgeInto}
+use Rattle.regalloc2_semantics.proofs.SingleDef.{Made, one_made}
 use Rattle.regalloc2_fastalloc_state.specs.StateParts.{SpillSlotsValue, IsSlotOrNone, no_allocs, no_slots, slot_name, units_of}
 use Rattle.regalloc2_validate.specs.NoLimits.{AreTaken}
 use Rattle.regalloc2_fastalloc_proofs.specs.InstSteps.{StateValue}
 use Rattle.regalloc2_fastalloc_proofs.specs.Safety.{HasMachine}
 use Rattle.regalloc2_fastalloc_proofs.specs.BlockStart.{no_vreg}
+use Rattle.regalloc2_fastalloc_proofs.specs.StoreSteps.{IsConcerned, IsStoredFor}
 use Rattle.regalloc2_fastalloc_proofs.specs.BlockSteps.{AllocsInstInBlock, AllocsBlockInsts, at_end, one_in, AllocsBlocks, all_left, one_block}
 use Rattle.regalloc2_fastalloc_proofs.proofs.Safety.InitialState.{begun_empty}
 use Rattle.regalloc2_fastalloc_proofs.proofs.Operands.AllocsSoFar.{IsTame}
@@ -26,6 +26,8 @@ use Rattle.regalloc2_fastalloc_proofs.proofs.Safety.WellFormedKeepsSafe.{tame_at
 use Rattle.regalloc2_fastalloc_proofs.proofs.Slots.NewSlotsApart.{none_laid}
 use Rattle.regalloc2_fastalloc_proofs.proofs.Slots.StepsKeepSlotsApart.{IsOwnPlace, IsClassed}
 use Rattle.regalloc2_fastalloc_proofs.proofs.Slots.InstKeepsSlotsApart.{allocates_classed}
+use Rattle.regalloc2_fastalloc_proofs.proofs.Safety.StoredDefs.{IsOfClass, concerned_made, made_alike, stored_of_class}
+use Rattle.regalloc2_fastalloc_proofs.proofs.Slots.StoresKeepSlotsApart.{stores_classed}
 use Rattle.regalloc2_fastalloc_proofs.proofs.Slots.BranchKeepsSlotsApart.{AreAlike, met_more, passes_classed, begins_block_classed}
 use Rattle.regalloc2_fastalloc_proofs.proofs.Safety.BlocksKeepSafe.{StartsAt, start_next}
 use Rattle.regalloc2_fastalloc_proofs.proofs.Slots.OutputOwnsSlots.{KeepsOfClass}
@@ -40,7 +42,9 @@ module _ (f : FunctionValue) (Known : VirtualRegister → Type 0) (same : (v w :
     (tame : (i : ℕ) → i < length f.insts → IsTame Known (inst_at f i).operands) (follow : BlocksFollow f)
     (params : (b k : ℕ) → b < length f.blocks → k < length (block_at f b).params → Known (slice_index_or (block_at f b).params k no_vreg))
     (alike : (b k j : ℕ) → b < length f.blocks → HasEdge f b k → j < length (block_at f (target_at f b k)).params →
-    AreAlike Known (slice_index_or (block_at f (target_at f b k)).params j no_vreg) (slice_index_or (arguments_at f b k) j no_vreg)) where
+    AreAlike Known (slice_index_or (block_at f (target_at f b k)).params j no_vreg) (slice_index_or (arguments_at f b k) j no_vreg))
+    (concerned : (b e k : ℕ) (v : VirtualRegister) → IsEdgeInto f b e k → IsConcerned f e k v → Known v)
+    (of_class : (b e k j : ℕ) (v : VirtualRegister) (slots : SpillSlotsValue) → IsEdgeInto f b e k → IsStoredFor f e k slots j v → IsOfClass f e j v) where
   -- the tables before an instruction is walked
   abbrev ClassedAt : ℕ → StateValue → Type 0
   ClassedAt i t = IsClassed Known named (BranchesFrom f i) t
@@ -74,8 +78,9 @@ module _ (f : FunctionValue) (Known : VirtualRegister → Type 0) (same : (v w :
       let first : ℕ = (block_at f b).range.first in
       let later = blocks_classed blank old h (b + 1) before_it s prev (block_at f b).range.end (start_next f follow b lt) in
       let here : ClassedAt first u = in_block_classed b lt before_it s later first places u walks in
-      subst (λ (n : ℕ). ClassedAt n t) (sym (starts.block lt)) (begins_block_classed Known same named (BranchesFrom f first) (before first)
-      (block_at f b).params (λ k less. params b k lt less) u t begins here)
+      subst (λ (n : ℕ). ClassedAt n t) (sym (starts.block lt)) (stores_classed Known same named (BranchesFrom f first) f b (concerned b) (of_class b)
+      begins.middle t begins.stores (begins_block_classed Known same named (BranchesFrom f first) (before first)
+      (block_at f b).params (λ k less. params b k lt less) u begins.middle begins.reloads here))
 
 -- the fresh tables
 begun_classed : (f : FunctionValue) (env : MachineValue) (Known : VirtualRegister → Type 0) (named : Bool) → KeepsOfClass env →
@@ -97,28 +102,6 @@ begun_classed f env Known named kept t n m sizes places slots edits units machin
       edits = rw edits (λ k d lt. absurd (omega (arith, lt)));
     }
 
--- an argument is of its parameter's class
-same_at : {X Y : Type 0} (g : X → Y) (xs ys : List X) (d : X) (k : ℕ) → map g xs ≡ map g ys → k < length xs → k < length ys →
-    g (slice_index_or xs k d) ≡ g (slice_index_or ys k d)
-same_at g xs ys d k e lx ly = sym (get_or-map g xs k d (g d) lx) ∙ ap (λ l. slice_index_or l k (g d)) e ∙ get_or-map g ys k d (g d) ly
-
-made_alike : (env : MachineValue) (f : FunctionValue) → IsWellFormed env f → (b k j : ℕ) → b < length f.blocks → HasEdge f b k →
-    j < length (block_at f (target_at f b k)).params
-    → AreAlike (Made f) (slice_index_or (block_at f (target_at f b k)).params j no_vreg) (slice_index_or (arguments_at f b k) j no_vreg)
-made_alike env f ok b k j lt edge within =
-    let target : target_at f b k < length f.blocks = (well_formed_are_sound env f ok).targets b k edge in
-    let counted : length (arguments_at f b k) ≡ length (block_at f (target_at f b k)).params = ok.counted b lt k edge in
-    let less : j < length (arguments_at f b k) = omega (arith, within, counted) in
-    let last : ℕ = last_of (block_at f b) in
-    let nonempty = (ok.follow b lt).0 in
-    let end = end_within f ok.follow b lt in
-    let a : VirtualRegister = slice_index_or (arguments_at f b k) j no_vreg in (
-      Made.by_param (target_at f b k) j (record { block = target; param = within; number = refl }) refl,
-      is_made f a (last + 1) (made_behind f a last (omega (arith, nonempty, end)) ((ok.uses_defined b lt).1 k edge j no_vreg less)),
-      sym (same_at (λ (v : VirtualRegister). v.class) (arguments_at f b k) (block_at f (target_at f b k)).params no_vreg j (ok.classes b lt k edge) less
-          within),
-    )
-
 -- what the walk leaves of a well-formed function
 pub walk_classed : (env : MachineValue) (f : FunctionValue) → KeepsOfClass env → IsLimited f → IsWellFormed env f → AreTaken f →
     (blank places : List Place) (begin last : StateValue) (n m : ℕ) (sizes : List ℕ) (named : Bool)
@@ -129,6 +112,7 @@ walk_classed env f kept limited ok taken blank places begin last n m sizes named
     let some : 0 < length f.blocks = (let entry = ok.successors.0 in omega (arith, entry)) in
     blocks_classed f (Made f) (one_made f ok.defined_once) named (tame_at env f limited ok taken) ok.follow
     (λ b k lt less. Made.by_param b k (record { block = lt; param = less; number = refl }) refl) (made_alike env f ok)
+    (concerned_made f ok.successors ok.follow) (stored_of_class env f limited ok taken)
     blank begin (begun_classed f env (Made f) named kept begin n m sizes nobody slots none units machine (BranchesFrom f (length f.insts))) 0 places last walks
     0
     (record { block = λ lt. sym ((ok.follow 0 some).1 refl); end = λ e. absurd (omega (arith, e, some)) })

@@ -7,17 +7,17 @@ use Rattle.regalloc2_names.specs.Register.{VirtualRegister}
 use Rattle.regalloc2_names.specs.Place.{Place}
 use Rattle.regalloc2_names.specs.Point.{before}
 use Rattle.regalloc2_function.specs.FunctionValue.{FunctionValue, BlockValue, block_at, inst_at, no_block}
-use Rattle.regalloc2_function.specs.WellFormed.{BlocksFollow, BlocksEnd, DefinedOnce, UsesAreDefined}
+use Rattle.regalloc2_function.specs.WellFormed.{ArgumentsCounted, BlocksFollow, BlocksEnd, DefinedOnce, UsesAreDefined}
 use Rattle.regalloc2_function.specs.OutputValue.{OutputValue, allocs_of}
 use Rattle.regalloc2_semantics.specs.Carry.{Carries}
 use Rattle.regalloc2_semantics.specs.BlockByPoints.{at_point, walked, block_walked, listed}
 use Rattle.regalloc2_semantics.specs.Instruction.{Knows}
-use Rattle.regalloc2_semantics.specs.Blocks.{IsUsed, IsExcused, ExcusedAreSilent, StandsBefore, StandsAfter, BlockCarries}
+use Rattle.regalloc2_semantics.specs.Blocks.{IsUsed, IsExcused, ExcusedAreSilent, ComesIn, GoesOut, BlockCarriesOn}
 use Rattle.regalloc2_semantics.proofs.CarryRules.{carries_nil}
 use Rattle.regalloc2_semantics.proofs.MoveInFront.{walked-none}
 use Rattle.regalloc2_semantics.proofs.SingleDef.{Made}
 use Rattle.regalloc2_fastalloc_proofs.specs.InstSteps.{StateValue}
-use Rattle.regalloc2_fastalloc_proofs.specs.BlockSteps.{AllocsBlocks, all_left, one_block}
+use Rattle.regalloc2_fastalloc_proofs.specs.BlockSteps.{AllocsBlockInsts, AllocsBlocks, all_left, one_block}
 use Rattle.regalloc2_fastalloc_proofs.proofs.Safety.StepsKeepState.{IsWhole}
 use Rattle.regalloc2_fastalloc_proofs.proofs.Operands.RecordOverState.{slots_at}
 use Rattle.regalloc2_fastalloc_proofs.proofs.Moves.ScratchRegTaken.{Fit}
@@ -27,25 +27,36 @@ use Rattle.regalloc2_fastalloc_proofs.proofs.Walk.InstsCarry.{AreListed, Blank, 
 use Rattle.regalloc2_fastalloc_proofs.proofs.Slots.StepsKeepSlots.{Grown, grown_none, grown_then}
 use Rattle.regalloc2_fastalloc_proofs.proofs.BlockEnd.NoMoveForOperand.{IsEmpty}
 use Rattle.regalloc2_fastalloc_proofs.proofs.Inst.OneInstCarries.{Between}
-use Rattle.regalloc2_fastalloc_proofs.proofs.BlockEnd.LastInst.{nothing_after}
+use Rattle.regalloc2_branch_defs.specs.BranchDefs.{IsEdgeInto}
+use Rattle.regalloc2_fastalloc_proofs.specs.StoreSteps.{IsConcerned}
+use Rattle.regalloc2_fastalloc_proofs.proofs.Branches.Arrivals.{IsNeeded, Arrive, DefsPlaced}
 use Rattle.regalloc2_fastalloc_proofs.proofs.Walk.InstBoundaries.{BranchKept, IsEdge, IsWithin, grown_weaken, begins_grown, walk_grown, edge_next}
 use Rattle.regalloc2_fastalloc_proofs.proofs.Walk.InstBoundaries.{blocks_between}
 use Rattle.regalloc2_fastalloc_proofs.proofs.Walk.LastInstAndRest.{KeepsSlots, walk_listed}
-use Rattle.regalloc2_fastalloc_proofs.proofs.Walk.BlockCarries.{BranchCarries, IsBelow, block_carries}
+use Rattle.regalloc2_fastalloc_proofs.proofs.Walk.BlockCarries.{BranchCarries, IsBelow, IsUnused, nothing_goes, block_carries}
 
-module _ (f : FunctionValue) (once : DefinedOnce f) (follow : BlocksFollow f) (ends : BlocksEnd f) (uses : UsesAreDefined f)
+module _ (f : FunctionValue) (once : DefinedOnce f) (follow : BlocksFollow f) (ends : BlocksEnd f) (uses : UsesAreDefined f) (counted : ArgumentsCounted f)
     (orderly : (i : ℕ) → i < length f.insts → Orderly (inst_at f i).operands)
     (avoids : (i : ℕ) → i < length f.insts → AvoidClobbers (inst_at f i).operands (inst_at f i).clobbers)
-    (knows : (i : ℕ) → i < length f.insts → Knows (Made f) (inst_at f i).operands) (kept : BranchKept f) (placesf : ℕ → List Place) (final : StateValue) where
+    (knows : (i : ℕ) → i < length f.insts → Knows (Made f) (inst_at f i).operands) (kept : BranchKept f) (placesf : ℕ → List Place) (final : StateValue)
+    (stand : ℕ → VirtualRegister → Option Place) where
   -- what a block carries, with the moves that the whole walk lists
   abbrev pub CarriesAt : ℕ → Type 0
   CarriesAt b = ExcusedAreSilent f b → (v : VirtualRegister) → IsUsed f v → (IsExcused f b v → ⊥) →
       Carries v (walked (inst_at f) (at_point (listed final.edits)) placesf (block_at f b).range.first ((block_at f b).range.end - (block_at f b).range.first))
-      (StandsBefore f (λ x. slots_at final x.number) b v) (StandsAfter f (λ x. slots_at final x.number) b v)
+      (ComesIn f stand b v) (GoesOut f stand b v)
 
-  module _ (whole : IsWhole final) (keeps : KeepsSlots (Made f) f orderly avoids knows kept follow ends placesf final)
-      (branches : BranchCarries f placesf (slots_at final))
-      (blank : List Place) (begin : StateValue) (start : Between (length f.insts) begin) (empty : IsEmpty begin) where
+  module _ (whole : IsWhole final) (SafeIn : ℕ → StateValue → Type 0)
+      (keeps : KeepsSlots (Made f) f orderly avoids knows kept follow ends placesf final SafeIn)
+      (arrive : Arrive f placesf (slots_at final) stand)
+      (placed : (b e k : ℕ) → IsEdgeInto f b e k → DefsPlaced f placesf (slots_at final) e)
+      (one_edge_into : (b e k d l : ℕ) → IsEdgeInto f b e k → IsEdgeInto f b d l → (d ≡ e) × (l ≡ k))
+      (concerned : (b e k : ℕ) (v : VirtualRegister) → IsEdgeInto f b e k → IsConcerned f e k v → Made f v)
+      (decide : (v : VirtualRegister) → IsUsed f v → IsNeeded f v ⊎ IsUnused f v)
+      (branches : BranchCarries f placesf (slots_at final) stand)
+      (blank : List Place) (begin : StateValue) (start : Between (length f.insts) begin) (empty : IsEmpty begin)
+      (safe : (b : ℕ) → b < length f.blocks → (p : List Place) (s : StateValue) → AllocsBlocks f blank begin (b + 1) p s → (i : ℕ) (q : List Place)
+      (u : StateValue) → AllocsBlockInsts f b p s i q u → AreListed f placesf i q → SafeIn b u) where
     -- each block from b on carries what paths want of it, with the edits of the whole walk
     pub all_carry : (b : ℕ) (places : List Place) (t : StateValue) → AllocsBlocks f blank begin b places t → (n : ℕ) → IsEdge f b n →
         AreListed f placesf n places → Grown (IsBelow n) t final → (c : ℕ) → b ≤ c → c < length f.blocks → CarriesAt c
@@ -59,29 +70,30 @@ module _ (f : FunctionValue) (once : DefinedOnce f) (follow : BlocksFollow f) (e
         let rest_here : Grown (IsBelow first) w final = subst (λ m. Grown (IsBelow m) w final) here rest in
         elim (cases_eq c d) [
           | inl same ↦ subst CarriesAt (sym same)
-              (block_carries f once follow ends uses orderly avoids knows kept placesf final whole keeps branches blank begin start empty d lt p q s u w prev
+              (block_carries f once follow ends uses counted orderly avoids knows kept placesf final whole SafeIn keeps stand arrive placed one_edge_into
+              concerned decide branches blank begin start empty safe d lt p q s u w prev
               walk begins are_here rest_here)
           | inr ne ↦ all_carry (d + 1) p s prev end (edge_next f follow d lt)
               (walk_listed (Made f) f orderly avoids knows kept follow ends placesf final d lt p s first q u walk are_here)
               (grown_then (IsBelow end) s u final (grown_weaken (IsWithin first end) (IsBelow end) s u (λ m h. h.1)
               (walk_grown (Made f) f orderly avoids knows kept follow d lt p s first q u walk))
               (grown_then (IsBelow end) u w final (grown_weaken (λ m. m ≡ before first) (IsBelow end) u w (λ m h. omega (arith, h, some))
-              (begins_grown (λ m. m ≡ before first) (before first) refl (block_at f d).params u w begins))
+              (begins_grown (λ m. m ≡ before first) f d refl u w begins))
               (grown_weaken (IsBelow first) (IsBelow end) w final (λ m h. omega (arith, h, some)) rest_here)))
               c (omega (arith, le, ne)) lc
         ]
 
 -- a block that no function has carries nothing
-past_carries : (f : FunctionValue) (out : OutputValue) (slot : VirtualRegister → Option Place) (b : ℕ) → length f.blocks ≤ b →
-    BlockCarries f slot b (block_walked f out b)
-past_carries f out slot b le = λ silent v used excused.
+past_carries : (f : FunctionValue) (out : OutputValue) (stand : ℕ → VirtualRegister → Option Place) (b : ℕ) → length f.blocks ≤ b →
+    BlockCarriesOn f stand b (block_walked f out b)
+past_carries f out stand b le = λ silent v used excused.
     let none : block_at f b ≡ no_block = get_or_past f.blocks b no_block le in
     let first : ℕ = (block_at f b).range.first in
     let many : (block_at f b).range.end - first ≡ 0 = ap (λ (x : BlockValue). x.range.end - x.range.first) none in
     let nothing : block_walked f out b ≡ [] = ap (walked (inst_at f) (at_point out.edits) (allocs_of out) first) many
     ∙ walked-none (inst_at f) (at_point out.edits) (allocs_of out) first in
-    subst (λ l. Carries v l (StandsBefore f slot b v) (StandsAfter f slot b v)) (sym nothing)
-    (carries_nil v (StandsBefore f slot b v) (StandsAfter f slot b v) (λ p e. absurd (nothing_after f slot b v p (ap (λ (x : BlockValue). x.succs) none) e)))
+    subst (λ l. Carries v l (ComesIn f stand b v) (GoesOut f stand b v)) (sym nothing)
+    (carries_nil v (ComesIn f stand b v) (GoesOut f stand b v) (λ p e. absurd (nothing_goes f stand b v p (ap (λ (x : BlockValue). x.succs) none) e)))
 
 -- Before the walk, with fresh tables.
 pub begin_between : (f : FunctionValue) (begin : StateValue) → Blank begin → Fit begin → Between (length f.insts) begin
@@ -94,7 +106,7 @@ first_edge f follow some = (λ h. sym ((follow 0 h).1 refl), λ e. absurd (omega
 
 -- The walk begins blank, and its moves and places become the output's. If a branch keeps tables sound and carries what it has to, and every
 -- other instruction leaves slots to their vregs, each block carries what the law on paths wants.
-module _ (f : FunctionValue) (once : DefinedOnce f) (follow : BlocksFollow f) (ends : BlocksEnd f) (uses : UsesAreDefined f)
+module _ (f : FunctionValue) (once : DefinedOnce f) (follow : BlocksFollow f) (ends : BlocksEnd f) (uses : UsesAreDefined f) (counted : ArgumentsCounted f)
     (orderly : (i : ℕ) → i < length f.insts → Orderly (inst_at f i).operands)
     (avoids : (i : ℕ) → i < length f.insts → AvoidClobbers (inst_at f i).operands (inst_at f i).clobbers)
     (knows : (i : ℕ) → i < length f.insts → Knows (Made f) (inst_at f i).operands) (kept : BranchKept f) (out : OutputValue) (last : StateValue)
@@ -102,25 +114,34 @@ module _ (f : FunctionValue) (once : DefinedOnce f) (follow : BlocksFollow f) (e
     (some : 0 < length f.blocks) (empty : Blank begin) (fit : Fit begin) (walks : AllocsBlocks f blank begin 0 out.allocs last)
     (edits : out.edits ≡ listed last.edits)
     (are_listed : AreListed f (allocs_of out) 0 out.allocs)
-    (keeps : KeepsSlots (Made f) f orderly avoids knows kept follow ends (allocs_of out) last)
-    (branches : BranchCarries f (allocs_of out) (slots_at last)) where
+    (SafeIn : ℕ → StateValue → Type 0)
+    (keeps : KeepsSlots (Made f) f orderly avoids knows kept follow ends (allocs_of out) last SafeIn)
+    (stand : ℕ → VirtualRegister → Option Place) (arrive : Arrive f (allocs_of out) (slots_at last) stand)
+    (placed : (b e k : ℕ) → IsEdgeInto f b e k → DefsPlaced f (allocs_of out) (slots_at last) e)
+    (one_edge_into : (b e k d l : ℕ) → IsEdgeInto f b e k → IsEdgeInto f b d l → (d ≡ e) × (l ≡ k))
+    (concerned : (b e k : ℕ) (v : VirtualRegister) → IsEdgeInto f b e k → IsConcerned f e k v → Made f v)
+    (decide : (v : VirtualRegister) → IsUsed f v → IsNeeded f v ⊎ IsUnused f v)
+    (branches : BranchCarries f (allocs_of out) (slots_at last) stand)
+    (safe : (b : ℕ) → b < length f.blocks → (p : List Place) (s : StateValue) → AllocsBlocks f blank begin (b + 1) p s → (i : ℕ) (q : List Place)
+    (u : StateValue) → AllocsBlockInsts f b p s i q u → AreListed f (allocs_of out) i q → SafeIn b u) where
   -- each block of the output carries what paths want of it
-  pub each_carries : (b : ℕ) → b < length f.blocks → BlockCarries f (λ u. slots_at last u.number) b (block_walked f out b)
+  pub each_carries : (b : ℕ) → b < length f.blocks → BlockCarriesOn f stand b (block_walked f out b)
   each_carries b lb =
       let start : Between (length f.insts) begin = begin_between f begin empty fit in
       let whole : IsWhole last = (blocks_between (Made f) f orderly avoids knows kept follow blank begin start 0 out.allocs last walks 0
       (first_edge f follow some)).whole in
-      subst (λ es. BlockCarries f (λ u. slots_at last u.number) b (walked (inst_at f) (at_point es) (allocs_of out) (block_at f b).range.first
+      subst (λ es. BlockCarriesOn f stand b (walked (inst_at f) (at_point es) (allocs_of out) (block_at f b).range.first
       ((block_at f b).range.end - (block_at f b).range.first))) (sym edits)
-      (all_carry f once follow ends uses orderly avoids knows kept (allocs_of out) last whole keeps branches blank begin start
-      (record { nowhere = empty.nowhere; nobody = empty.nobody }) 0 out.allocs last walks 0 (first_edge f follow some) are_listed
+      (all_carry f once follow ends uses counted orderly avoids knows kept (allocs_of out) last stand whole SafeIn keeps arrive placed one_edge_into concerned
+      decide branches blank begin start (record { nowhere = empty.nowhere; nobody = empty.nobody }) safe 0 out.allocs last walks 0 (first_edge f follow some)
+      are_listed
       (grown_none (IsBelow 0) last last refl) b (omega arith) lb)
 
   -- and so does each number past the blocks
-  pub all_blocks_carry : (b : ℕ) → BlockCarries f (λ u. slots_at last u.number) b (block_walked f out b)
+  pub all_blocks_carry : (b : ℕ) → BlockCarriesOn f stand b (block_walked f out b)
   all_blocks_carry b = elim (cases_lt b (length f.blocks)) [
     | inl lt ↦ each_carries b lt
-    | inr le ↦ past_carries f out (λ u. slots_at last u.number) b le
+    | inr le ↦ past_carries f out stand b le
   ]
     where
       cases_lt : (m n : ℕ) → (m < n) ⊎ (n ≤ m)

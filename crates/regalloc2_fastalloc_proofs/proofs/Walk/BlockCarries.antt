@@ -1,24 +1,40 @@
 -- One block of the walk: its listing carries each vreg that is used somewhere, as the law on paths wants it.
-use Rattle.std.proofs.Common.{ℕ, suc, ◌≡◌, ◌≢◌, ◌+◌, ◌-◌, ◌<◌, ◌≤◌, ◌⊎◌, inl, inr, Bool, true, List, [], ◌∷◌, length, refl, sym, subst, arith}
+use Rattle.std.proofs.Common.{ℕ, suc, ◌≡◌, ◌≢◌, ◌+◌, ◌-◌, ◌<◌, ◌≤◌, ◌⊎◌, inl, inr, Bool, true, false, List, [], ◌∷◌, length, refl, sym, ap, ◌∙◌, subst, arith}
 use Rattle.std.specs.Prelude.{Option, None, Some, slice_index_or}
 use Rattle.regalloc2_names.specs.Register.{Register, VirtualRegister}
 use Rattle.regalloc2_names.specs.Place.{Place, NoPlace, InRegister, InSlot}
 use Rattle.regalloc2_names.specs.Point.{before}
-use Rattle.regalloc2_function.specs.FunctionValue.{FunctionValue, block_at, inst_at}
-use Rattle.regalloc2_function.specs.WellFormed.{BlocksFollow, BlocksEnd, DefinedOnce, UsesAreDefined, last_of}
+use Rattle.regalloc2_function.specs.FunctionValue.{FunctionValue, InstValue, block_at, inst_at, no_inst}
+use Rattle.regalloc2_function.specs.WellFormed.{ArgumentsCounted, BlocksFollow, BlocksEnd, DefinedOnce, UsesAreDefined, last_of}
 use Rattle.regalloc2_function.specs.OutputValue.{place_at}
 use Rattle.regalloc2_semantics.specs.Carry.{Carries}
 use Rattle.regalloc2_semantics.specs.BlockByPoints.{at_point, walked, listed}
 use Rattle.regalloc2_semantics.specs.Instruction.{Knows}
-use Rattle.regalloc2_semantics.specs.Blocks.{IsUsed, IsUsedIn, IsUnwritten, IsExcused, ExcusedAreSilent, StandsBefore, StandsAfter}
+use Rattle.regalloc2_semantics.specs.Blocks.{target_at, IsUsed, IsUsedIn, IsUnwritten, IsExcused, ExcusedAreSilent, StandsBefore, ComesIn, GoesOut}
 use Rattle.regalloc2_semantics.proofs.BlockBackward.{Relied}
-use Rattle.regalloc2_semantics.proofs.SingleDef.{Made, ReadsDefined, reads_defined}
+use Rattle.regalloc2_semantics.proofs.SingleDef.{Made, ReadsDefined, reads_defined, one_made, not_both}
+use Rattle.regalloc2_semantics.proofs.SingleDef.Made.{by_operand}
+use Rattle.regalloc2_semantics.proofs.Soundness.{cases_within}
+use Rattle.regalloc2_semantics.proofs.CarryRules.{carries_weaken, carries_moves}
+use Rattle.regalloc2_semantics.proofs.NotRead.{Unread, silent_walked, carries_silent}
+use Rattle.regalloc2_semantics.specs.Listing.{Item, op_at, no_operand}
+use Rattle.regalloc2_semantics.specs.Stores.{store_moves}
+use Rattle.regalloc2_function.specs.DebugPoints.{UsesAt}
+use Rattle.regalloc2_function.specs.SourceRun.{arguments_at}
+use Rattle.regalloc2_names.specs.Operand.{OperandValue, is_def}
+use Rattle.regalloc2_names.specs.declared.OperandPos.{OperandPos}
+use Rattle.regalloc2_names.specs.declared.OperandPos.TheVariants.{Early, Late}
+use Rattle.regalloc2_branch_defs.specs.BranchDefs.{IsUsedElsewhere, IsEdgeInto}
+use Rattle.std.proofs.lemmas.List.{get_or_default, get_or_past}
+use Rattle.std.proofs.lemmas.Bool.{cases_Bool}
 use Rattle.regalloc2_semantics.proofs.Order.{ends_within}
 use Rattle.regalloc2_fastalloc_proofs.specs.InstSteps.{StateValue}
-use Rattle.regalloc2_fastalloc_proofs.specs.BlockStart.{ReloadsAtBegin}
-use Rattle.regalloc2_fastalloc_proofs.specs.BlockSteps.{AllocsInstInBlock, AllocsBlockInsts, AllocsBlocks}
+use Rattle.regalloc2_fastalloc_proofs.specs.BlockStart.{no_vreg}
+use Rattle.regalloc2_fastalloc_proofs.specs.BranchSteps.{IsOwn}
+use Rattle.regalloc2_fastalloc_proofs.specs.StoreSteps.{branch_operands, IsConcerned, StoresBranchDefs, none_stored, all_stored}
+use Rattle.regalloc2_fastalloc_proofs.specs.BlockSteps.{AllocsInstInBlock, AllocsBlockInsts, BeginsBlock, AllocsBlocks}
 use Rattle.regalloc2_fastalloc_proofs.proofs.Safety.StepsKeepState.{place_in, slot_in, IsWhole}
-use Rattle.regalloc2_fastalloc_proofs.proofs.Operands.RecordOverState.{stands_at, slots_at, opt_from, no_register_slot}
+use Rattle.regalloc2_fastalloc_proofs.proofs.Operands.RecordOverState.{stands_at, slots_at, opt_from, opt_real, no_register_slot}
 use Rattle.regalloc2_fastalloc_proofs.proofs.Operands.RecordOfInst.{Orderly}
 use Rattle.regalloc2_fastalloc_proofs.proofs.Inst.BoundaryToFirstOperand.{AvoidClobbers}
 use Rattle.regalloc2_fastalloc_proofs.proofs.Walk.InstsCarry.{AreListed}
@@ -29,10 +45,16 @@ use Rattle.regalloc2_fastalloc_proofs.proofs.Inst.OneInstCarries.{Between, Alone
 use Rattle.regalloc2_fastalloc_proofs.proofs.Walk.InstForOneVReg.{Leaves}
 use Rattle.regalloc2_fastalloc_proofs.proofs.Walk.InstsBeforeLastCarry.{defined_from}
 use Rattle.regalloc2_fastalloc_proofs.proofs.Walk.BlockObligations.{Walked, block_owes}
-use Rattle.regalloc2_fastalloc_proofs.proofs.BlockEnd.LastInst.{nothing_after, return_owes}
+use Rattle.regalloc2_fastalloc_proofs.proofs.BlockEnd.LastInst.{return_owes}
+use Rattle.regalloc2_fastalloc_proofs.proofs.Operands.DefinedNumbers.{defined_by, defined_by-number, number_defined}
+use Rattle.regalloc2_fastalloc_proofs.proofs.BlockBegin.StoresOfDefs.{stores_grown, walked_stores}
+use Rattle.regalloc2_fastalloc_proofs.proofs.BlockBegin.BranchDefsCarried.{stores_carried}
+use Rattle.regalloc2_fastalloc_proofs.proofs.Branches.Arrivals.{IsNeeded, Arrive, DefsPlaced}
+use Rattle.regalloc2_fastalloc_proofs.proofs.Branches.EdgeArgsGathered.{params_on, passes_at}
+use Rattle.regalloc2_fastalloc_proofs.proofs.Slots.LiveInHasSlot.{used_at_begin}
 use Rattle.regalloc2_fastalloc_proofs.proofs.Walk.InstBoundaries.{BranchKept, IsEdge, grown_weaken, grown_slots, grown_fresh, grown_pushes}
 use Rattle.regalloc2_fastalloc_proofs.proofs.Walk.InstBoundaries.{begins_grown, in_between, edge_next, blocks_between, blocks_settled, blocks_outside}
-use Rattle.regalloc2_fastalloc_proofs.proofs.Walk.DefsBeforeUses.{used_made, used_somewhere, written_there, stands_behind}
+use Rattle.regalloc2_fastalloc_proofs.proofs.Walk.DefsBeforeUses.{used_made, used_somewhere, param_before, written_there, stands_behind}
 use Rattle.regalloc2_fastalloc_proofs.proofs.Walk.LastInstAndRest.{AnyPlace, Split, split, KeepsSlots, leaves_at}
 
 -- whether a block writes a number
@@ -58,16 +80,26 @@ pub record BlockEnd (f : FunctionValue) (placesf : ℕ → List Place) (F : ℕ 
       place_in old v.number ≢ NoPlace
 
 -- What the last instruction of a block carries: each vreg that is used somewhere, but for parameters for which nothing is owed.
-abbrev pub EndCarries : FunctionValue → (ℕ → List Place) → (ℕ → Option Place) → ℕ → ℕ → StateValue → Type 0
-EndCarries f placesf F b last new = ExcusedAreSilent f b → (v : VirtualRegister) → IsUsed f v → (IsExcused f b v → ⊥) →
+abbrev pub EndCarries : FunctionValue → (ℕ → List Place) → (ℕ → Option Place) → (ℕ → VirtualRegister → Option Place) → ℕ → ℕ → StateValue → Type 0
+EndCarries f placesf F stand b last new = ExcusedAreSilent f b → (v : VirtualRegister) → IsUsed f v → (IsExcused f b v → ⊥) →
     Carries v (walked (inst_at f) (at_point (listed new.edits)) placesf last 1)
     (Relied (defined_from f v.number last 1) (writes_in f b last v.number) (stands_at new v.number) (slots_at new v.number) (F v.number))
-    (StandsAfter f (λ u. F u.number) b v)
+    (GoesOut f stand b v)
 
 -- a branch carries it
-abbrev pub BranchCarries : FunctionValue → (ℕ → List Place) → (ℕ → Option Place) → Type 0
-BranchCarries f placesf F = (b last : ℕ) (old new : StateValue) → b < length f.blocks → BlockEnd f placesf F b last old new →
-    (inst_at f last).is_branch ≡ true → EndCarries f placesf F b last new
+abbrev pub BranchCarries : FunctionValue → (ℕ → List Place) → (ℕ → Option Place) → (ℕ → VirtualRegister → Option Place) → Type 0
+BranchCarries f placesf F stand = (b last : ℕ) (old new : StateValue) → b < length f.blocks → BlockEnd f placesf F b last old new →
+    (inst_at f last).is_branch ≡ true → EndCarries f placesf F stand b last new
+
+-- nothing goes out of a block without successors
+pub nothing_goes : (f : FunctionValue) (stand : ℕ → VirtualRegister → Option Place) (b : ℕ) (v : VirtualRegister) (p : Place) → (block_at f b).succs ≡ [] →
+    GoesOut f stand b v p → ⊥
+nothing_goes f stand b v p none (inl own) = (let edge = own.1 in let n : length (block_at f b).succs ≡ 0 = ap length none in omega (arith, edge, n))
+nothing_goes f stand b v p none (inr passed) = (let edge = passed.2 in let n : length (block_at f b).succs ≡ 0 = ap length none in omega (arith, edge, n))
+
+-- a vreg that a branch defines and only its own edges pass
+abbrev pub IsUnused : FunctionValue → VirtualRegister → Type 0
+IsUnused f v = (b e k : ℕ) × IsEdgeInto f b e k × IsOwn f e v × (IsUsedElsewhere f v → ⊥)
 
 -- points before an instruction
 abbrev pub IsBelow : ℕ → ℕ → Type 0
@@ -77,13 +109,22 @@ no_element : {X : Type 0} (xs : List X) → length xs ≡ 0 → xs ≡ []
 no_element [] e = refl
 no_element (x ∷ xs) e = absurd (omega (arith, e))
 
-module _ (f : FunctionValue) (once : DefinedOnce f) (follow : BlocksFollow f) (ends : BlocksEnd f) (uses : UsesAreDefined f)
+module _ (f : FunctionValue) (once : DefinedOnce f) (follow : BlocksFollow f) (ends : BlocksEnd f) (uses : UsesAreDefined f) (counted : ArgumentsCounted f)
     (orderly : (i : ℕ) → i < length f.insts → Orderly (inst_at f i).operands)
     (avoids : (i : ℕ) → i < length f.insts → AvoidClobbers (inst_at f i).operands (inst_at f i).clobbers)
     (knows : (i : ℕ) → i < length f.insts → Knows (Made f) (inst_at f i).operands) (kept : BranchKept f) (placesf : ℕ → List Place) (final : StateValue)
     (whole : IsWhole final)
-    (keeps : KeepsSlots (Made f) f orderly avoids knows kept follow ends placesf final) (branches : BranchCarries f placesf (slots_at final))
-    (blank : List Place) (begin : StateValue) (start : Between (length f.insts) begin) (empty : IsEmpty begin) where
+    (SafeIn : ℕ → StateValue → Type 0)
+    (keeps : KeepsSlots (Made f) f orderly avoids knows kept follow ends placesf final SafeIn)
+    (stand : ℕ → VirtualRegister → Option Place) (arrive : Arrive f placesf (slots_at final) stand)
+    (placed : (b e k : ℕ) → IsEdgeInto f b e k → DefsPlaced f placesf (slots_at final) e)
+    (one_edge_into : (b e k d l : ℕ) → IsEdgeInto f b e k → IsEdgeInto f b d l → (d ≡ e) × (l ≡ k))
+    (concerned : (b e k : ℕ) (v : VirtualRegister) → IsEdgeInto f b e k → IsConcerned f e k v → Made f v)
+    (decide : (v : VirtualRegister) → IsUsed f v → IsNeeded f v ⊎ IsUnused f v)
+    (branches : BranchCarries f placesf (slots_at final) stand)
+    (blank : List Place) (begin : StateValue) (start : Between (length f.insts) begin) (empty : IsEmpty begin)
+    (safe : (b : ℕ) → b < length f.blocks → (p : List Place) (s : StateValue) → AllocsBlocks f blank begin (b + 1) p s → (i : ℕ) (q : List Place)
+    (u : StateValue) → AllocsBlockInsts f b p s i q u → AreListed f placesf i q → SafeIn b u) where
   -- a slot of the walk's end
   slot_only : (x : ℕ) (r : Register) → slots_at final x ≡ Some (InRegister r) → ⊥
   slot_only x r e = no_register_slot final.slots.count (slot_in final x) r (whole.below x) (opt_from (slot_in final x) (InRegister r) e)
@@ -96,7 +137,7 @@ module _ (f : FunctionValue) (once : DefinedOnce f) (follow : BlocksFollow f) (e
 
   module _ (b : ℕ) (lb : b < length f.blocks) (p q : List Place) (s u w : StateValue) (prev : AllocsBlocks f blank begin (b + 1) p s)
       (walk : AllocsBlockInsts f b p s (block_at f b).range.first q u)
-      (begins : ReloadsAtBegin (before (block_at f b).range.first) (block_at f b).params u w) (are_listed : AreListed f placesf (block_at f b).range.first q)
+      (begins : BeginsBlock f b u w) (are_listed : AreListed f placesf (block_at f b).range.first q)
       (rest : Grown (IsBelow (block_at f b).range.first) w final) where
     abbrev last : ℕ
     last = last_of (block_at f b)
@@ -123,12 +164,13 @@ module _ (f : FunctionValue) (once : DefinedOnce f) (follow : BlocksFollow f) (e
 
     -- from the block's first instruction to the walk's end
     onward : Grown AnyPlace u final
-    onward = grown_then AnyPlace u w final (begins_grown AnyPlace (before (block_at f b).range.first) tt (block_at f b).params u w begins)
+    onward = grown_then AnyPlace u w final (begins_grown AnyPlace f b tt u w begins)
         (grown_weaken (IsBelow (block_at f b).range.first) AnyPlace w final (λ n x. tt) rest)
 
     parts : Split f placesf each_leaves final b last s (block_at f b).range.first u
     parts = split (Made f) f orderly avoids knows kept follow ends placesf final b lb p s each_leaves
-        (λ i x y ge sooner g h. leaves_at (Made f) f orderly avoids knows kept follow ends placesf final keeps b i x y lb ge sooner g h)
+        (λ i q x y ge sooner walked_to listed_to g h. leaves_at (Made f) f orderly avoids knows kept follow ends placesf final SafeIn keeps b i x y lb ge sooner
+        (safe b lb p s prev i q y walked_to listed_to) g h)
         (block_at f b).range.first q u walk some are_listed onward
 
     before_last : Between last parts.begin
@@ -157,7 +199,7 @@ module _ (f : FunctionValue) (once : DefinedOnce f) (follow : BlocksFollow f) (e
     }
 
     -- its last instruction
-    end_carries : EndCarries f placesf (slots_at final) b last parts.begin
+    end_carries : EndCarries f placesf (slots_at final) stand b last parts.begin
     end_carries = elim (ends b lb).0 [
       | inl branch ↦ branches b last s parts.begin lb at_block_end branch.0
       | inr ret ↦ λ silent v used excused. (
@@ -167,38 +209,166 @@ module _ (f : FunctionValue) (once : DefinedOnce f) (follow : BlocksFollow f) (e
           let there = used_somewhere f v used in
           return_owes (Made f) f placesf orderly avoids knows (slots_at final) last s parts.begin v (used_made f once follow uses v there.0 there.1 there.2)
           (writes_in f b last v.number)
-          (StandsAfter f (λ x. slots_at final x.number) b v) (subst (Alone (Made f) f placesf orderly avoids knows last s) (sym (parts.ends.no_branch ret.0)) a)
-          ret.1
-          (λ x e. nothing_after f (λ y. slots_at final y.number) b v x (no_element (block_at f b).succs ret.2) e))
+          (GoesOut f stand b v) (subst (Alone (Made f) f placesf orderly avoids knows last s) (sym (parts.ends.no_branch ret.0)) a)
+          (rw (ret.0, ret.1) refl)
+          (λ x e. nothing_goes f stand b v x (no_element (block_at f b).succs ret.2) e))
     ]
 
-    all_walked : Walked (Made f) f placesf orderly avoids knows once reads (slots_at final) slot_only b last parts.begin u w
+    -- from the reloads at its beginning to the walk's end
+    from_middle : Grown AnyPlace begins.middle final
+    from_middle = grown_then AnyPlace begins.middle w final (stores_grown AnyPlace f b begins.middle w tt begins.stores)
+        (grown_weaken (IsBelow (block_at f b).range.first) AnyPlace w final (λ n x. tt) rest)
+
+    all_walked : Walked (Made f) f placesf orderly avoids knows once reads (slots_at final) slot_only b last parts.begin u begins.middle
     all_walked = record {
       end = ended;
       some = (let h = some in omega (arith, h));
       within = within;
       start = before_last;
       goes = parts.goes;
-      begins = begins;
-      returns = λ i ge less. ((ends b lb).1 i ge (let e = ended in omega (arith, less, e)) less).1;
-      stays = grown_slots (IsBelow (block_at f b).range.first) w final rest;
+      begins = begins.reloads;
+      returns = λ i ge less. (let flat = (ends b lb).1 i ge (let e = ended in omega (arith, less, e)) less in rw (flat.0, flat.1) refl);
+      stays = grown_slots AnyPlace begins.middle final from_middle;
     }
+
+    abbrev first : ℕ
+    first = (block_at f b).range.first
+
+    -- the listing of the block, with the moves of the tables t
+    abbrev Listing : StateValue → List Item
+    Listing t = walked (inst_at f) (at_point (listed t.edits)) placesf first (suc (last - first))
+
+    -- with its reloads
+    reloaded : ExcusedAreSilent f b → (v : VirtualRegister) → IsUsed f v → (IsExcused f b v → ⊥) →
+        Carries v (Listing begins.middle) (StandsBefore f (λ x. slots_at final x.number) b v) (GoesOut f stand b v)
+    reloaded silent v used excused =
+        let there = used_somewhere f v used in
+        block_owes (Made f) f placesf orderly avoids knows once reads (slots_at final) slot_only b last parts.begin u begins.middle all_walked v
+        (used_made f once follow uses v there.0 there.1 there.2) (GoesOut f stand b v) (end_carries silent v used excused)
+
+    -- stores in front do nothing to what is carried from nowhere
+    from_nowhere : (v : VirtualRegister) (E : Place → Type 0) → Carries v (Listing begins.middle) (λ p. ⊥) E → StoresBranchDefs f b begins.middle w →
+        Carries v (Listing w) (λ p. ⊥) E
+    from_nowhere v E c (none_stored none same) = subst (λ (t : StateValue). Carries v (Listing t) (λ p. ⊥) E) (sym same) c
+    from_nowhere v E c (all_stored e k edge st) =
+        subst (λ l. Carries v l (λ p. ⊥) E)
+        (sym (ap (λ es. walked (inst_at f) (at_point (listed es)) placesf first (suc (last - first))) st.edits
+        ∙ walked_stores (inst_at f) placesf first (last - first) (store_moves st.stores) begins.middle.edits))
+        (carries_moves v (store_moves st.stores) (Listing begins.middle) (λ p. ⊥) (λ p. ⊥) E (λ src c2 holds p h. absurd h) c)
+
+    -- a vreg that only the branch passes that defines it
+    unused_carries : ExcusedAreSilent f b → (v : VirtualRegister) → IsUsed f v → (IsExcused f b v → ⊥) → IsUnused f v →
+        Carries v (Listing w) (ComesIn f stand b v) (GoesOut f stand b v)
+    unused_carries silent v used excused un =
+        carries_weaken v (Listing w) (λ p. ⊥) (ComesIn f stand b v) (GoesOut f stand b v) (GoesOut f stand b v) (λ p h. absurd h) (λ p h. h)
+        (from_nowhere v (GoesOut f stand b v) (elim (cases_Bool (defined_by (branch_operands f b) v.number)) [
+          | inl is ↦ carries_weaken v (Listing begins.middle) (StandsBefore f (λ x. slots_at final x.number) b v) (λ p. ⊥) (GoesOut f stand b v)
+              (GoesOut f stand b v) (λ p h. written is h.0) (λ p h. h) (reloaded silent v used excused)
+          | inr none ↦ carries_weaken v (Listing begins.middle) (λ p. ⊥) (λ p. ⊥) (λ p. ⊥) (GoesOut f stand b v) (λ p h. h) (λ p h. no_way none h)
+              (carries_silent v (Listing begins.middle) (λ p. ⊥) (silent_walked v (inst_at f) (at_point (listed begins.middle.edits)) placesf first
+              (suc (last - first)) (λ i ge lt. unread i (let e = ended in omega (arith, ge, lt, e, some, within)))))
+        ]) begins.stores)
+      where
+        made : Made f v
+        made = (let there = used_somewhere f v used in used_made f once follow uses v there.0 there.1 there.2)
+
+        written : defined_by (branch_operands f b) v.number ≡ true → IsUnwritten f b v → ⊥
+        written is unwritten =
+            let d = number_defined (branch_operands f b) v.number is in
+            unwritten last (let e = ended in omega (arith, e, some)) (let e = ended in omega (arith, e)) d.0 d.1.operand d.1.definition
+            (one_made f once (op_at (branch_operands f b) d.0).vreg v (by_operand last d.0 (record {
+              inst = within;
+              operand = d.1.operand;
+              definition = d.1.definition;
+              number = refl;
+            }) refl) made d.1.number)
+
+        unread : (i : ℕ) → i < length f.insts → Unread (inst_at f i).operands v
+        unread i lt j less reads is = un.5 (i, by_position (op_at (inst_at f i).operands j).position refl)
+          where
+            by_position : (q : OperandPos) → (op_at (inst_at f i).operands j).position ≡ q → UsesAt f v i
+            by_position Early e = inl (lt, (j, op_at (inst_at f i).operands j, less, get_or_default (inst_at f i).operands j _ no_operand less, reads, e, is))
+            by_position Late e = inr (inl (
+              lt,
+              (
+                j,
+                op_at (inst_at f i).operands j,
+                less,
+                get_or_default (inst_at f i).operands j _ no_operand less,
+                reads,
+                e,
+                is,
+              ),
+            ))
+
+        no_way : {p : Place} → defined_by (branch_operands f b) v.number ≡ false → GoesOut f stand b v p → ⊥
+        no_way {p} none (inl h) = (let x : None ≡ Some p = sym (arrive.unused (target_at f b h.0) un.0 un.1 un.2 v un.3 un.4 un.5) ∙ h.4 in cc)
+        no_way {p} none (inr h) =
+            let j = passes_at (params_on f b h.0) (arguments_at f b h.0) h.1 v h.3 in
+            let long = counted b lb h.0 h.2 in
+            let inside : j.0 < length (arguments_at f b h.0) = (let less = j.1 in omega (arith, long, less)) in
+            un.5 (
+              last,
+              inr (inr (
+                b,
+                h.0,
+                lb,
+                refl,
+                h.2,
+                (j.0, inside, get_or_default (arguments_at f b h.0) j.0 v no_vreg inside ∙ j.3),
+                λ d.
+                    let o : (op_at (branch_operands f b) d.1.0).vreg.number ≡ v.number =
+                    ap (λ (x : OperandValue). x.vreg.number) (get_or_default (branch_operands f b) d.1.0 no_operand d.1.1 d.1.2 ∙ d.1.3)
+                    ∙ ap (λ (x : VirtualRegister). x.number) d.1.5 in
+                    let def : is_def (op_at (branch_operands f b) d.1.0).kind ≡ true =
+                    ap (λ (x : OperandValue). is_def x.kind) (get_or_default (branch_operands f b) d.1.0 no_operand d.1.1 d.1.2 ∙ d.1.3) ∙ d.1.4 in
+                    let is : defined_by (branch_operands f b) v.number ≡ true = defined_by-number (branch_operands f b) v.number d.1.0
+                    (record { operand = d.1.2; definition = def; number = o }) in cc,
+              )),
+            )
 
     -- the block, with the moves that the whole walk lists
     pub block_carries : ExcusedAreSilent f b → (v : VirtualRegister) → IsUsed f v → (IsExcused f b v → ⊥) →
         Carries v (walked (inst_at f) (at_point (listed final.edits)) placesf (block_at f b).range.first
-        ((block_at f b).range.end - (block_at f b).range.first)) (StandsBefore f (λ x. slots_at final x.number) b v)
-        (StandsAfter f (λ x. slots_at final x.number) b v)
+        ((block_at f b).range.end - (block_at f b).range.first)) (ComesIn f stand b v) (GoesOut f stand b v)
     block_carries silent v used excused =
-        let first : ℕ = (block_at f b).range.first in
         let n : ℕ = suc (last - first) in
         let there = used_somewhere f v used in
-        let c = block_owes (Made f) f placesf orderly avoids knows once reads (slots_at final) slot_only b last parts.begin u w all_walked v
-        (used_made f once follow uses v there.0 there.1 there.2) (StandsAfter f (λ x. slots_at final x.number) b v)
-        (end_carries silent v used excused) in
+        let made : Made f v = used_made f once follow uses v there.0 there.1 there.2 in
+        let c : Carries v (Listing w) (ComesIn f stand b v) (GoesOut f stand b v) = elim (decide v used) [
+          | inl needed ↦ stores_carried f once placesf (slots_at final) stand arrive slot_own
+              (λ x q is. slot_there x q is)
+              (λ e le. (let h = ends_within f follow e le in let h2 = (follow e le).0 in omega (arith, h, h2))) concerned b lb begins.middle w
+              (grown_slots (IsBelow first) w final rest) (λ e k edge. placed b e k edge) v made needed
+              (λ m lt is. used_at_begin f once follow ends uses orderly avoids knows kept blank begin start there.0 there.1 v
+              (param_unwritten m lt is there.0) there.2 b lb p q s u w prev walk begins (before_use m lt is there.0 there.1 there.2))
+              (λ e k d l x y. one_edge_into b e k d l x y) begins.stores (last - first) (GoesOut f stand b v) (reloaded silent v used excused)
+          | inr un ↦ unused_carries silent v used excused un
+        ] in
         let same : walked (inst_at f) (at_point (listed final.edits)) placesf first n ≡ walked (inst_at f) (at_point (listed w.edits)) placesf first n =
         pushed_walked (λ e. IsBelow first e.0) (inst_at f) placesf first n w.edits final.edits (λ e h. h) (grown_pushes (IsBelow first) w final rest) in
         let many : n ≡ (block_at f b).range.end - first = (let h = count in omega (arith, h)) in
-        subst (λ m. Carries v (walked (inst_at f) (at_point (listed final.edits)) placesf first m) (StandsBefore f (λ x. slots_at final x.number) b v)
-        (StandsAfter f (λ x. slots_at final x.number) b v)) many
-        (subst (λ l. Carries v l (StandsBefore f (λ x. slots_at final x.number) b v) (StandsAfter f (λ x. slots_at final x.number) b v)) (sym same) c)
+        subst (λ m. Carries v (walked (inst_at f) (at_point (listed final.edits)) placesf first m) (ComesIn f stand b v) (GoesOut f stand b v)) many
+        (subst (λ l. Carries v l (ComesIn f stand b v) (GoesOut f stand b v)) (sym same) c)
+      where
+        slot_there : (x : ℕ) (q : Place) → slots_at final x ≡ Some q → (n : ℕ) × (q ≡ InSlot n)
+        slot_there x NoPlace is = absurd (opt_real (slot_in final x) NoPlace is refl)
+        slot_there x (InRegister r) is = absurd (slot_only x r is)
+        slot_there x (InSlot n) is = (n, refl)
+
+        param_unwritten : (m : ℕ) → m < length (block_at f b).params → slice_index_or (block_at f b).params m no_vreg ≡ v → (c : ℕ) → IsUnwritten f c v
+        param_unwritten m lt is c i ge less j lj def at = elim (cases_within i (length f.insts)) [
+          | inl inside ↦ not_both f once v.number i j b m
+              (record { inst = inside; operand = lj; definition = def; number = ap (λ (x : VirtualRegister). x.number) at })
+              (record { block = lb; param = lt; number = ap (λ (x : VirtualRegister). x.number) is })
+          | inr past ↦ (let none : (inst_at f i).operands ≡ [] = ap (λ (x : InstValue). x.operands) (get_or_past f.insts i no_inst past) in
+              let few : length (inst_at f i).operands ≡ 0 = ap length none in omega (arith, few, lj))
+        ]
+
+        before_use : (m : ℕ) → m < length (block_at f b).params → slice_index_or (block_at f b).params m no_vreg ≡ v → (c : ℕ) → c < length f.blocks →
+            IsUsedIn f c v → b ≤ c
+        before_use m lt is c lc used_in = param_before f once follow uses b m v (record {
+          block = lb;
+          param = lt;
+          number = ap (λ (x : VirtualRegister). x.number) is;
+        }) lb c lc used_in

@@ -16,7 +16,7 @@ use Rattle.regalloc2_semantics.proofs.NotRead.{Unread}
 use Rattle.regalloc2_semantics.proofs.BlockBackward.{Relied}
 use Rattle.regalloc2_semantics.proofs.SingleDef.{DefinesAt, ReadsDefined}
 use Rattle.regalloc2_semantics.proofs.Order.{reads_later}
-use Rattle.regalloc2_fastalloc_proofs.specs.InstSteps.{StateValue}
+use Rattle.regalloc2_fastalloc_proofs.specs.InstSteps.{StateValue, ends_block}
 use Rattle.regalloc2_fastalloc_proofs.specs.BlockStart.{ReloadsAtBegin}
 use Rattle.regalloc2_fastalloc_proofs.proofs.Operands.RecordOverState.{stands_at, slots_at}
 use Rattle.regalloc2_fastalloc_proofs.proofs.Operands.RecordOfInst.{Orderly}
@@ -91,7 +91,7 @@ module _ (Known : VirtualRegister → Type 0) (f : FunctionValue) (placesf : ℕ
     pub start : Between last begin
     pub goes : Goes f placesf EachLeaves begin first_of last first_of middle
     pub begins : ReloadsAtBegin (before first_of) (block_at f b).params middle new
-    pub returns : (i : ℕ) → first_of ≤ i → i < last → (inst_at f i).is_ret ≡ false
+    pub returns : (i : ℕ) → first_of ≤ i → i < last → ends_block (inst_at f i) ≡ false
     pub stays : (x : ℕ) (p : Place) → slots_at new x ≡ Some p → F x ≡ Some p
 
   module _ (last : ℕ) (begin middle new : StateValue) (w : Walked last begin middle new) (v : VirtualRegister) (known : Known v) (E : Place → Type 0) where

@@ -1,26 +1,31 @@
 -- The walk over the blocks of a well-formed function, from a fresh state to the output: each block carries what the laws on paths want, and
 -- a vreg that is used in a block that doesn't write it, or passed as an argument, has a slot.
-use Rattle.std.proofs.Common.{ℕ, ◌≡◌, ◌≢◌, ◌<◌, ◌≤◌, List, length, arith}
-use Rattle.std.specs.Prelude.{All, Contains, Some}
+use Rattle.std.proofs.Common.{ℕ, ◌≡◌, ◌≢◌, ◌<◌, ◌≤◌, ◌+◌, true, List, length, subst, refl, sym, inr, arith}
+use Rattle.std.specs.Prelude.{Contains, Option}
+use Rattle.std.proofs.lemmas.List.{get_or_default}
 use Rattle.std.proofs.lemmas.List.Elements.{All-get_or}
 use Rattle.regalloc2_names.specs.Register.{VirtualRegister}
-use Rattle.regalloc2_names.specs.Place.{Place, NoPlace, InSlot}
+use Rattle.regalloc2_names.specs.Operand.{OperandValue}
+use Rattle.regalloc2_names.specs.Place.{Place, NoPlace}
+use Rattle.regalloc2_function.specs.DebugPoints.{DefinesAt, PassesAt}
 use Rattle.regalloc2_function.specs.FunctionValue.{FunctionValue, IsLimited, block_at, inst_at, no_inst}
 use Rattle.regalloc2_function.specs.Machine.{MachineValue}
 use Rattle.regalloc2_function.specs.OutputValue.{OutputValue, allocs_of}
 use Rattle.regalloc2_function.specs.SourceRun.{arguments_at}
 use Rattle.regalloc2_function.specs.WellFormed.{IsWellFormed, FixedAvoidClobbers, last_of}
 use Rattle.regalloc2_semantics.specs.BlockByPoints.{listed, block_walked}
-use Rattle.regalloc2_semantics.specs.Blocks.{BlockCarries}
+use Rattle.regalloc2_semantics.specs.Blocks.{BlockCarriesOn}
 use Rattle.regalloc2_semantics.specs.Instruction.{Knows}
-use Rattle.regalloc2_semantics.proofs.SingleDef.{Made}
+use Rattle.regalloc2_semantics.proofs.SingleDef.{Made, one_made}
+use Rattle.regalloc2_semantics.proofs.SingleDef.Made.{by_operand}
 use Rattle.regalloc2_semantics.proofs.Paths.{UsedSomewhere}
 use Rattle.regalloc2_fastalloc_state.specs.declared.inst_regs.InstRegs.{InstRegs}
 use Rattle.regalloc2_fastalloc_proofs.specs.InstSteps.{StateValue}
-use Rattle.regalloc2_fastalloc_proofs.specs.BranchSteps.{ProcessesBranch}
-use Rattle.regalloc2_fastalloc_proofs.specs.BlockSteps.{AllocsBlocks}
+use Rattle.regalloc2_fastalloc_proofs.specs.BranchSteps.{ProcessesBranch, IsOwn}
+use Rattle.regalloc2_fastalloc_proofs.specs.BlockSteps.{AllocsBlockInsts, AllocsBlocks}
 use Rattle.regalloc2_fastalloc_proofs.proofs.Operands.RecordOverState.{slots_at}
 use Rattle.regalloc2_fastalloc_proofs.proofs.Moves.ScratchRegTaken.{Fit}
+use Rattle.regalloc2_fastalloc_proofs.proofs.Operands.AllocsSoFar.{IsGood}
 use Rattle.regalloc2_fastalloc_proofs.proofs.Operands.RecordOfInst.{Orderly}
 use Rattle.regalloc2_fastalloc_proofs.proofs.Inst.BoundaryToFirstOperand.{AvoidClobbers}
 use Rattle.regalloc2_fastalloc_proofs.proofs.Operands.WellFormedInsts.{orderly, knows}
@@ -28,9 +33,18 @@ use Rattle.regalloc2_fastalloc_proofs.proofs.Evictions.FixedAvoidClobbers.{avoid
 use Rattle.regalloc2_fastalloc_proofs.proofs.Walk.InstsCarry.{AreListed, Blank}
 use Rattle.regalloc2_fastalloc_proofs.proofs.Inst.OneInstCarries.{Between}
 use Rattle.regalloc2_fastalloc_proofs.proofs.Safety.InstsKeepSafe.{HasGood}
-use Rattle.regalloc2_fastalloc_proofs.proofs.Walk.InstBoundaries.{BranchKept, blocks_between}
+use Rattle.regalloc2_fastalloc_proofs.proofs.Walk.InstBoundaries.{BranchKept, blocks_between, blocks_outside}
 use Rattle.regalloc2_fastalloc_proofs.proofs.Branches.LocationsAfterBranch.{branch_kept}
-use Rattle.regalloc2_fastalloc_proofs.proofs.Walk.BlockCarries.{BranchCarries}
+use Rattle.regalloc2_fastalloc_proofs.proofs.Walk.DefsBeforeUses.{used_made}
+use Rattle.regalloc2_fastalloc_proofs.proofs.Walk.BranchesPlaceDefs.{last_allocated, defs_placed}
+use Rattle.regalloc2_fastalloc_proofs.proofs.Branches.Arrivals.{Arrive, DefsPlaced}
+use Rattle.regalloc2_fastalloc_proofs.proofs.Branches.PlacesOnArrival.{stand_on, arrives, needed_or_unused}
+use Rattle.regalloc2_fastalloc_proofs.proofs.Branches.EdgesInto.{one_edge_into}
+use Rattle.regalloc2_fastalloc_proofs.proofs.Branches.BranchInWalk.{branches_carry}
+use Rattle.regalloc2_fastalloc_proofs.proofs.Safety.StoredDefs.{concerned_made, last_within}
+use Rattle.regalloc2_fastalloc_proofs.specs.Safety.{IsSafe}
+use Rattle.regalloc2_validate.specs.Constraints.{BranchDefinesInPlace, no_operand, op_at}
+use Rattle.regalloc2_validate.specs.NoLimits.{AreTaken}
 use Rattle.regalloc2_fastalloc_proofs.proofs.Slots.InstsLeaveSlots.{WritesSound, keeps_slots}
 use Rattle.regalloc2_fastalloc_proofs.proofs.Walk.AllBlocksCarry.{begin_between, first_edge, all_blocks_carry}
 use Rattle.regalloc2_fastalloc_proofs.proofs.Slots.LiveInHasSlot.{used_has_slot}
@@ -62,18 +76,44 @@ module _ (env : MachineValue) (f : FunctionValue) (limited : IsLimited f) (ok : 
     at_walks_end = blocks_between (Made f) f all_orderly all_avoid all_known branch ok.follow blank begin (begin_between f begin empty fit) 0 out.allocs last
         walks 0 (first_edge f ok.follow some_block)
 
-    -- If a branch carries what it has to, and moves write only what they may, each block carries what the laws on paths want.
-    pub blocks_carry : out.edits ≡ listed last.edits → AreListed f (allocs_of out) 0 out.allocs → (Writes : ℕ → VirtualRegister → ℕ → Type 0)
-        → ((v : VirtualRegister) → Made f v → (n : ℕ) → slots_at last v.number ≡ Some (InSlot n) → All (λ e. e.1.to ≡ InSlot n → Writes e.0 v n) last.edits)
+    -- where vregs are at a block's beginning
+    abbrev pub standing : ℕ → VirtualRegister → Option Place
+    standing = stand_on env f ok (allocs_of out) (slots_at last)
+
+    -- where branches leave what they define, if they define in places that are known
+    pub walk_places_defs : AreListed f (allocs_of out) 0 out.allocs
+        → ((j k : ℕ) → j < length f.insts → k < length (inst_at f j).operands → HasGood env last.slots f out.allocs j k) → AreTaken f
+        → ((i : ℕ) → i < length f.insts → BranchDefinesInPlace (inst_at f i)) → (b : ℕ) → b < length f.blocks
+        → (inst_at f (last_of (block_at f b))).is_branch ≡ true → DefsPlaced f (allocs_of out) (slots_at last) b
+    walk_places_defs are_listed good taken places b lb is_branch =
+        defs_placed env f limited ok taken (allocs_of out) last
+        (λ i k lt less. subst (IsGood env last.slots (op_at (inst_at f i).operands k)) (sym (are_listed i (omega arith) lt k less)) (good i k lt less).good)
+        places b lb is_branch
+        (last_allocated (Made f) f all_orderly all_avoid all_known branch ok.follow ok.end (allocs_of out) blank begin
+        (blocks_outside (Made f) f all_orderly all_avoid all_known branch ok.follow blank begin (begin_between f begin empty fit)
+        (record { nowhere = empty.nowhere; nobody = empty.nobody })) 0 out.allocs last walks 0 (first_edge f ok.follow some_block) are_listed b (omega arith)
+        lb)
+
+    -- If the tables are safe all along the walk, and branches define in places that are known, each block carries what the laws on paths want.
+    pub blocks_carry : out.edits ≡ listed last.edits → AreListed f (allocs_of out) 0 out.allocs → (Writes : ℕ → ℕ → VirtualRegister → ℕ → Type 0)
+        → (May : ℕ → Type 0)
+        → ((b : ℕ) → b < length f.blocks → (p : List Place) (s : StateValue) → AllocsBlocks f blank begin (b + 1) p s → (i : ℕ) (q : List Place)
+        (u : StateValue) → AllocsBlockInsts f b p s i q u → AreListed f (allocs_of out) i q → IsSafe env (Made f) (Writes b) May u)
         → ((j k : ℕ) → j < length f.insts → k < length (inst_at f j).operands → HasGood env last.slots f out.allocs j k)
-        → ((b i : ℕ) → b < length f.blocks → (block_at f b).range.first ≤ i → i < last_of (block_at f b) → WritesSound f (allocs_of out) Writes i)
-        → BranchCarries f (allocs_of out) (slots_at last) → (b : ℕ) → BlockCarries f (λ u. slots_at last u.number) b (block_walked f out b)
-    blocks_carry edits are_listed Writes allowed good sound carries =
-        all_blocks_carry f ok.defined_once ok.follow ok.end ok.uses_defined all_orderly all_avoid all_known branch out last blank begin some_block empty fit
-        walks edits are_listed
-        (keeps_slots env (Made f) f all_orderly all_avoid all_known branch ok.follow ok.end (allocs_of out) last Writes at_walks_end.whole allowed out.allocs
-        are_listed good sound)
-        carries
+        → ((b i : ℕ) → b < length f.blocks → (block_at f b).range.first ≤ i → i < last_of (block_at f b) → WritesSound f (allocs_of out) (Writes b) i)
+        → AreTaken f → ((i : ℕ) → i < length f.insts → BranchDefinesInPlace (inst_at f i))
+        → (b : ℕ) → BlockCarriesOn f standing b (block_walked f out b)
+    blocks_carry edits are_listed Writes May safe good sound taken places =
+        let arrive : Arrive f (allocs_of out) (slots_at last) standing = arrives env f ok (allocs_of out) (slots_at last) in
+        let placed : (b : ℕ) → b < length f.blocks → (inst_at f (last_of (block_at f b))).is_branch ≡ true → DefsPlaced f (allocs_of out) (slots_at last) b
+        = walk_places_defs are_listed good taken places in
+        all_blocks_carry f ok.defined_once ok.follow ok.end ok.uses_defined ok.counted all_orderly all_avoid all_known branch out last blank begin some_block
+        empty fit walks edits are_listed (λ b u. IsSafe env (Made f) (Writes b) May u)
+        (keeps_slots env (Made f) f all_orderly all_avoid all_known branch ok.follow ok.end (allocs_of out) last Writes May at_walks_end.whole
+        (one_made f ok.defined_once) out.allocs are_listed good sound)
+        standing arrive (λ b e k edge. placed e edge.block edge.definitions.0) (one_edge_into env f ok) (concerned_made f ok.successors ok.follow)
+        (needed_or_unused f)
+        (branches_carry env f limited ok taken (allocs_of out) last standing arrive placed (needed_or_unused f)) safe
 
     -- a vreg that is used in a block that doesn't write it has a slot at the walk's end
     pub used_slots : (v : VirtualRegister) → UsedSomewhere f v → slot_in last v.number ≢ NoPlace
@@ -82,8 +122,33 @@ module _ (env : MachineValue) (f : FunctionValue) (limited : IsLimited f) (ok : 
         u.block u.within v u.unwritten u.used
         0 out.allocs last walks (omega arith)
 
-    -- and so has a vreg that is passed as an argument
+    -- and so has a vreg that is passed as an argument, and not defined by the branch
     pub handed_slots : (v : VirtualRegister) (b k : ℕ) → b < length f.blocks → k < length (block_at f b).succs → Contains (arguments_at f b k) v →
-        slot_in last v.number ≢ NoPlace
-    handed_slots v b k lb edge has =
-        handed_has_slot f ok.counted ok.follow ok.end all_orderly all_avoid all_known branch b lb k edge v has blank begin 0 out.allocs last walks (omega arith)
+        (IsOwn f b v → ⊥) → slot_in last v.number ≢ NoPlace
+    handed_slots v b k lb edge has foreign =
+        handed_has_slot f ok.counted ok.follow ok.end all_orderly all_avoid all_known branch b lb k edge v has foreign blank begin 0 out.allocs last walks
+        (omega arith)
+
+    -- as one that an instruction passes, which then doesn't define it
+    pub passed_slots : (v : VirtualRegister) (i : ℕ) → PassesAt f v i → slot_in last v.number ≢ NoPlace
+    passed_slots v i p = handed_slots v p.0 p.1 p.2 p.4 p.5 (λ own.
+        let within : last_of (block_at f p.0) < length f.insts = last_within f ok.follow p.0 p.2 in
+        let made : Made f v = used_made f ok.defined_once ok.follow ok.uses_defined v p.0 p.2 (inr (p.1, p.4, p.5)) in
+        let o : OperandValue = op_at (inst_at f (last_of (block_at f p.0))).operands own.0 in
+        let is : o.vreg ≡ v = one_made f ok.defined_once o.vreg v (by_operand (last_of (block_at f p.0)) own.0 (record {
+          inst = within;
+          operand = own.1.operand;
+          definition = own.1.definition;
+          number = refl;
+        }) refl) made own.1.number in
+        p.6 (subst (DefinesAt f v) (sym p.3) (
+          within,
+          (
+            own.0,
+            o,
+            own.1.operand,
+            get_or_default (inst_at f (last_of (block_at f p.0))).operands own.0 o no_operand own.1.operand,
+            own.1.definition,
+            is,
+          ),
+        )))

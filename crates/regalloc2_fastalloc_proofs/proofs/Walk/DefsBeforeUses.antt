@@ -1,15 +1,20 @@
 -- Definitions come before uses: what a block writes and another one uses is used in a later block, and has a location at its end.
-use Rattle.std.proofs.Common.{ℕ, ◌≡◌, ◌≢◌, ◌+◌, ◌<◌, ◌≤◌, ◌⊎◌, inl, inr, true, List, [], length, refl, sym, ap, subst, arith}
+use Rattle.std.proofs.Common.{ℕ, ◌≡◌, ◌≢◌, ◌+◌, ◌<◌, ◌≤◌, ◌⊎◌, inl, inr, true, List, [], length, refl, sym, ap, ◌∙◌, subst, arith}
 use Rattle.std.specs.Prelude.{slice_index_or}
 use Rattle.std.proofs.lemmas.Bool.{cases_Bool}
 use Rattle.regalloc2_names.specs.Register.{VirtualRegister}
 use Rattle.regalloc2_names.specs.Place.{Place, NoPlace}
-use Rattle.std.proofs.lemmas.List.{get_or_past}
-use Rattle.regalloc2_function.specs.FunctionValue.{FunctionValue, BlockValue, block_at, no_block, inst_at}
-use Rattle.regalloc2_function.specs.WellFormed.{BlocksFollow, BlocksEnd, DefinedOnce, UsesAreDefined, last_of}
+use Rattle.std.proofs.lemmas.List.{get_or_default, get_or_past}
+use Rattle.regalloc2_function.specs.FunctionValue.{FunctionValue, BlockValue, InstValue, block_at, no_block, inst_at, no_inst}
+use Rattle.regalloc2_names.specs.Operand.{OperandValue, is_def}
+use Rattle.regalloc2_names.specs.Point.{before, after}
+use Rattle.regalloc2_semantics.specs.Listing.{no_operand}
+use Rattle.regalloc2_semantics.proofs.Soundness.{cases_within}
+use Rattle.regalloc2_fastalloc_proofs.specs.BlockStart.{no_vreg}
+use Rattle.regalloc2_function.specs.WellFormed.{BlocksFollow, BlocksEnd, DefinedOnce, IsDefinedBy, UsesAreDefined, last_of}
 use Rattle.regalloc2_semantics.specs.Instruction.{Knows}
 use Rattle.regalloc2_semantics.specs.Blocks.{IsUsedIn, IsUnwritten, IsUsed}
-use Rattle.regalloc2_semantics.proofs.SingleDef.{Made, DefinesAt, one_made, one_operand, not_both, reads_defined, made_before, is_made}
+use Rattle.regalloc2_semantics.proofs.SingleDef.{Made, DefinesAt, TakesAt, one_made, one_operand, one_param, not_both, reads_defined, made_before, is_made}
 use Rattle.regalloc2_semantics.proofs.Order.{ends_before, ends_within, stands_later, reads_later, passes_later, passed_made}
 use Rattle.regalloc2_validate.specs.Constraints.{op_at}
 use Rattle.regalloc2_fastalloc_proofs.specs.InstSteps.{StateValue}
@@ -31,7 +36,7 @@ used_at f follow ends c v lc (inr p) =
     let some : (block_at f c).range.first < (block_at f c).range.end = (follow c lc).0 in
     let branch : (inst_at f (last_of (block_at f c))).is_branch ≡ true = elim (ends c lc).0
     [ inl b ↦ b.0 | inr r ↦ (let none : length (block_at f c).succs ≡ 0 = r.2 in let edge = p.1 in absurd (omega (arith, none, edge))) ] in
-    (last_of (block_at f c), omega (arith, some), omega (arith, some), inr (branch, (p.0, v, p.1, p.2, refl)))
+    (last_of (block_at f c), omega (arith, some), omega (arith, some), inr (branch, (p.0, v, p.1, p.2, refl, refl)))
 
 module _ (f : FunctionValue) (once : DefinedOnce f) (follow : BlocksFollow f) (uses : UsesAreDefined f) where
   -- a use comes after the definition, or at the branch that defines and passes it
@@ -122,3 +127,42 @@ used_somewhere f v (inr p) = elim (cases_lt p.0 (length f.blocks)) [
   where
     cases_lt : (m n : ℕ) → (m < n) ⊎ (n ≤ m)
     cases_lt m n = grind (arith)
+
+module _ (f : FunctionValue) (once : DefinedOnce f) (follow : BlocksFollow f) (uses : UsesAreDefined f) (b m : ℕ) (v : VirtualRegister)
+    (takes : TakesAt f v.number b m) where
+  -- what a parameter is defined by lies behind its block's beginning
+  defined_behind : (point : ℕ) → IsDefinedBy f v point → before (block_at f b).range.first ≤ point
+  defined_behind point (inl p) =
+      let is : slice_index_or (block_at f p.0).params p.3.0 no_vreg ≡ v = get_or_default (block_at f p.0).params p.3.0 no_vreg v p.3.1 ∙ p.3.2 in
+      let same : p.0 ≡ b = (one_param f once v.number p.0 b p.3.0 m
+      (record { block = p.1; param = p.3.1; number = ap (λ (w : VirtualRegister). w.number) is }) takes).0 in
+      subst (λ c. before (block_at f c).range.first ≤ point) same p.2
+  defined_behind point (inr o) =
+      let is : op_at (inst_at f o.0).operands o.1 ≡ slice_index_or (inst_at f o.0).operands o.1 o.2 =
+      get_or_default (inst_at f o.0).operands o.1 no_operand o.2 o.4 in
+      let inside : o.0 < length f.insts = elim (cases_within o.0 (length f.insts)) [
+        | inl lt ↦ lt
+        | inr past ↦ (let none : (inst_at f o.0).operands ≡ [] = ap (λ (x : InstValue). x.operands) (get_or_past f.insts o.0 no_inst past) in
+            let few : length (inst_at f o.0).operands ≡ 0 = ap length none in let some = o.4 in absurd (omega (arith, few, some)))
+      ] in
+      absurd (not_both f once v.number o.0 o.1 b m (record {
+        inst = inside;
+        operand = o.4;
+        definition = ap (λ (x : OperandValue). is_def x.kind) is ∙ o.5;
+        number = ap (λ (x : OperandValue). x.vreg.number) is ∙ ap (λ (w : VirtualRegister). w.number) o.6;
+      }) takes)
+
+  -- a parameter is used in its block or in a later one
+  pub param_before : b < length f.blocks → (c : ℕ) → c < length f.blocks → IsUsedIn f c v → b ≤ c
+  param_before lb c lc (inl r) =
+      let by : IsDefinedBy f v (before r.0) = subst (λ w. IsDefinedBy f w (before r.0)) r.6 ((uses c lc).0 r.0 r.2 r.3 r.1 no_operand r.4 r.5) in
+      let h = defined_behind (before r.0) by in
+      let some = (follow b lb).0 in
+      stands_later f follow b c (block_at f b).range.first r.0 lb lc (omega arith) some r.2 r.3 (omega (arith, h))
+  param_before lb c lc (inr p) =
+      let last : ℕ = last_of (block_at f c) in
+      let by : IsDefinedBy f v (after last) = subst (λ w. IsDefinedBy f w (after last)) p.2.2 ((uses c lc).1 p.0 p.1 p.2.0 v p.2.1) in
+      let h = defined_behind (after last) by in
+      let some = (follow b lb).0 in
+      let more = (follow c lc).0 in
+      stands_later f follow b c (block_at f b).range.first last lb lc (omega arith) some (omega (arith, more)) (omega (arith, more)) (omega (arith, h))

@@ -8,40 +8,42 @@ use Rattle.regalloc2_names.specs.Place.{Place, NoPlace, InRegister, InSlot}
 use Rattle.regalloc2_names.specs.Point.{before}
 use Rattle.regalloc2_function.specs.FunctionValue.{FunctionValue, block_at, inst_at}
 use Rattle.regalloc2_function.specs.OutputValue.{MoveValue}
-use Rattle.regalloc2_function.specs.WellFormed.{BlocksFollow}
+use Rattle.regalloc2_function.specs.WellFormed.{BlocksFollow, last_of}
 use Rattle.regalloc2_function.specs.SourceRun.{arguments_at}
 use Rattle.regalloc2_names.specs.Operand.{is_reading}
 use Rattle.regalloc2_semantics.specs.Instruction.{Knows}
 use Rattle.regalloc2_semantics.proofs.Order.{ends_within}
 use Rattle.regalloc2_fastalloc_state.specs.declared.inst_regs.InstRegs.{InstRegs}
-use Rattle.regalloc2_fastalloc_state.specs.StateParts.{vreg_of_preg}
+use Rattle.regalloc2_fastalloc_state.specs.StateParts.{VRegAllocsValue, alloc_of, vreg_of_preg}
 use Rattle.regalloc2_validate.specs.Constraints.{op_at}
 use Rattle.regalloc2_fastalloc_proofs.specs.InstSteps.{StateValue}
 use Rattle.regalloc2_fastalloc_proofs.specs.BlockStart.{ReloadsParam, nowhere, comes, ReloadsParams, none_begun, one_begun, no_vreg, ReloadsRegs}
 use Rattle.regalloc2_fastalloc_proofs.specs.BlockStart.{none_emptied, one_emptied, ReloadsAtBegin}
-use Rattle.regalloc2_fastalloc_proofs.specs.BranchSteps.{ProcessesBranch}
-use Rattle.regalloc2_fastalloc_proofs.specs.BlockSteps.{AllocsInstInBlock, AllocsBlockInsts, at_end, one_in, AllocsBlocks, all_left, one_block}
+use Rattle.regalloc2_fastalloc_proofs.specs.BranchSteps.{ProcessesBranch, IsOwn}
+use Rattle.regalloc2_fastalloc_proofs.specs.BlockSteps.{AllocsInstInBlock, AllocsBlockInsts, at_end, one_in, BeginsBlock, AllocsBlocks, all_left, one_block}
 use Rattle.regalloc2_fastalloc_proofs.proofs.Safety.StepsKeepState.{place_in, slot_in, IsWhole}
 use Rattle.regalloc2_fastalloc_proofs.proofs.Operands.RecordOverState.{opt, opt_none, opt_from, stands_at, slots_at, opt_some}
 use Rattle.regalloc2_fastalloc_proofs.proofs.Inst.AcrossInst.{lives_in}
 use Rattle.regalloc2_fastalloc_proofs.proofs.Operands.RecordOfInst.{Orderly}
 use Rattle.regalloc2_fastalloc_proofs.proofs.Inst.BoundaryToFirstOperand.{AvoidClobbers}
-use Rattle.regalloc2_fastalloc_proofs.proofs.Operands.DefinedNumbers.{defined_by}
+use Rattle.regalloc2_fastalloc_proofs.proofs.Operands.DefinedNumbers.{defined_by, defined_by-number}
 use Rattle.regalloc2_fastalloc_proofs.proofs.Slots.StepsKeepSlots.{Grown, IsAt, grown_none, grown_then, grown_slot, sends_grown, clears_grown, allocates_grown}
 use Rattle.regalloc2_fastalloc_proofs.proofs.Inst.OneInstCarries.{Between, Alone, alone}
 use Rattle.regalloc2_fastalloc_proofs.proofs.Moves.StepsAppendEdits.{Pushes, none_pushed, one_pushed, pushes_then}
 use Rattle.regalloc2_fastalloc_proofs.proofs.BlockEnd.NoMoveForOperand.{IsEmpty, IsOutside}
 use Rattle.regalloc2_fastalloc_proofs.proofs.BlockBegin.ReloadAtBegin.{begun}
+use Rattle.regalloc2_fastalloc_proofs.proofs.BlockBegin.StoresOfDefs.{stores_grown, stores_places, stores_between}
 use Rattle.regalloc2_fastalloc_proofs.proofs.Slots.LocatedStaysLocated.{begins_lasts}
 
--- The arguments of a branch keep what holds between instructions; slots stay, located vregs stay located, and so does each argument from there on.
+-- The arguments of a branch keep what holds between instructions; slots stay, located vregs stay located, and so does each argument from there on that
+-- the branch doesn't define.
 pub record BranchKept (f : FunctionValue) : Type 0 where
   pub between : (b i : ℕ) (t u : InstRegs) (old new : StateValue) → ProcessesBranch f b i t u old new → Between i old → Between i new
   pub grown : (b i : ℕ) (t u : InstRegs) (old new : StateValue) → ProcessesBranch f b i t u old new → Grown (λ p. p ≡ before i) old new
   pub lasts : (b i : ℕ) (t u : InstRegs) (old new : StateValue) → ProcessesBranch f b i t u old new → (x : ℕ) → place_in old x ≢ NoPlace
       → place_in new x ≢ NoPlace
   pub found : (b i : ℕ) (t u : InstRegs) (old new : StateValue) → ProcessesBranch f b i t u old new → b < length f.blocks → (k : ℕ) →
-      k < length (block_at f b).succs → (v : VirtualRegister) → Contains (arguments_at f b k) v → place_in new v.number ≢ NoPlace
+      k < length (block_at f b).succs → (v : VirtualRegister) → Contains (arguments_at f b k) v → (IsOwn f b v → ⊥) → place_in new v.number ≢ NoPlace
 
 -- moves at other points too
 pub grown_weaken : (At B : ℕ → Type 0) (t u : StateValue) → ((p : ℕ) → At p → B p) → Grown At t u → Grown B t u
@@ -92,11 +94,42 @@ module _ (At : ℕ → Type 0) (point : ℕ) (here : At point) where
   empties_grown t old u m (one_emptied r w y s n prev there clears) = grown_then At old s m (empties_grown t old w s prev)
       (clears_grown At point here r w u s m clears)
 
-  -- a block's beginning
-  pub begins_grown : (params : List VirtualRegister) (old new : StateValue) → ReloadsAtBegin point params old new → Grown At old new
-  begins_grown params old new b =
+  -- the reloads at a block's beginning
+  pub reloads_grown : (params : List VirtualRegister) (old new : StateValue) → ReloadsAtBegin point params old new → Grown At old new
+  reloads_grown params old new b =
       grown_then At old b.middle new (parameters_grown params b.began old (length params) b.begun b.middle b.parameters)
       (empties_grown b.begun b.middle b.ended new b.empties)
+
+-- a block's beginning
+pub begins_grown : (At : ℕ → Type 0) (f : FunctionValue) (b : ℕ) → At (before (block_at f b).range.first) → (old new : StateValue) → BeginsBlock f b old new →
+    Grown At old new
+begins_grown At f b here old new h =
+    grown_then At old h.middle new (reloads_grown At (before (block_at f b).range.first) here (block_at f b).params old h.middle h.reloads)
+    (stores_grown At f b h.middle new here h.stores)
+
+-- the tables at a block's beginning: they are sound, each vreg is in its slot or nowhere, and its parameters have no location
+pub record HasBegun (f : FunctionValue) (b : ℕ) (new : StateValue) : Type 0 where
+  pub between : Between (block_at f b).range.first new
+  pub settled : (x : ℕ) → (place_in new x ≡ NoPlace) ⊎ ((k : ℕ) × (place_in new x ≡ InSlot k) × (slot_in new x ≡ InSlot k))
+  pub emptied : (r : Register) → r.number < 64 → vreg_of_preg new.places r ≡ None
+
+pub has_begun : (f : FunctionValue) (b : ℕ) (old new : StateValue) → BeginsBlock f b old new → Between (block_at f b).range.first old → HasBegun f b new
+has_begun f b old new h t =
+    let x = begun (block_at f b).range.first (block_at f b).params old h.middle h.reloads t in
+    let same : new.places ≡ h.middle.places = stores_places f b h.middle new h.stores in
+    let grown : Grown (λ p. Unit {0}) h.middle new = stores_grown (λ p. Unit {0}) f b h.middle new tt h.stores in
+    record {
+      between = stores_between f b h.middle new h.stores x.between;
+      settled = λ y. elim (x.settled y) [
+        | inl none ↦ inl (ap (λ (z : VRegAllocsValue). alloc_of z y) same ∙ none)
+        | inr k ↦ inr (
+          k.0,
+          ap (λ (z : VRegAllocsValue). alloc_of z y) same ∙ k.1,
+          grown.stay y (λ none. (let n : InSlot k.0 ≡ NoPlace = sym k.2 ∙ none in cc)) ∙ k.2,
+        )
+      ];
+      emptied = λ r small. ap (λ (z : VRegAllocsValue). vreg_of_preg z r) same ∙ h.reloads.emptied r small;
+    }
 
 -- the points from one instruction on that lie before another
 abbrev pub IsWithin : ℕ → ℕ → ℕ → Type 0
@@ -115,7 +148,7 @@ abbrev pub IsUsedAt : FunctionValue → ℕ → ℕ → ℕ → Type 0
 IsUsedAt f b i x =
     ((k : ℕ) × (k < length (inst_at f i).operands) × (is_reading (op_at (inst_at f i).operands k) ≡ true) × ((op_at (inst_at f i).operands k).vreg.number ≡ x))
     ⊎ ((inst_at f i).is_branch ≡ true × ((k : ℕ) × (v : VirtualRegister) × (k < length (block_at f b).succs) × Contains (arguments_at f b k) v
-    × (v.number ≡ x)))
+    × (v.number ≡ x) × (i ≡ last_of (block_at f b))))
 
 module _ (Known : VirtualRegister → Type 0) (f : FunctionValue)
     (orderly : (i : ℕ) → i < length f.insts → Orderly (inst_at f i).operands)
@@ -164,11 +197,16 @@ module _ (Known : VirtualRegister → Type 0) (f : FunctionValue)
     pub in_lasts : Between (i + 1) old → (x : ℕ) → defined_by (inst_at f i).operands x ≡ false → place_in old x ≢ NoPlace → place_in new x ≢ NoPlace
     in_lasts h x free there = on_from_middle x (stands_not_none a.middle x ((by_itself h).ends.lasts x (stands_some old x there) free))
 
-    -- a vreg that is used here is before it
-    pub in_found : b < length f.blocks → Between (i + 1) old → (x : ℕ) → IsUsedAt f b i x → place_in new x ≢ NoPlace
-    in_found lb h x (inl r) = on_from_middle x (stands_not_none a.middle x (λ none. (by_itself h).ends.found r.0 r.1 r.2 (ap (stands_at a.middle) r.3 ∙ none)))
-    in_found lb h x (inr r) = subst (λ n. place_in new n ≢ NoPlace) r.1.4
-        (kept.found b i a.allocates.allocates.ended a.inst_regs a.middle new (a.branch r.0) lb r.1.0 r.1.2 r.1.1 r.1.3)
+    -- a vreg that is used here, and not defined, is before it
+    pub in_found : b < length f.blocks → Between (i + 1) old → (x : ℕ) → defined_by (inst_at f i).operands x ≡ false → IsUsedAt f b i x
+        → place_in new x ≢ NoPlace
+    in_found lb h x free (inl r) = on_from_middle x (stands_not_none a.middle x
+        (λ none. (by_itself h).ends.found r.0 r.1 r.2 (ap (stands_at a.middle) r.3 ∙ none)))
+    in_found lb h x free (inr r) = subst (λ n. place_in new n ≢ NoPlace) r.1.4
+        (kept.found b i a.allocates.allocates.ended a.inst_regs a.middle new (a.branch r.0) lb r.1.0 r.1.2 r.1.1 r.1.3 (λ own.
+        let yes_defined : defined_by (inst_at f i).operands x ≡ true = subst (λ j. defined_by (inst_at f j).operands x ≡ true) (sym r.1.5)
+        (subst (λ n. defined_by (inst_at f (last_of (block_at f b))).operands n ≡ true) r.1.4
+        (defined_by-number (inst_at f (last_of (block_at f b))).operands r.1.1.number own.0 own.1)) in cc))
 
 -- the number of the instruction before which a block begins, or of all instructions behind all blocks
 abbrev pub IsEdge : FunctionValue → ℕ → ℕ → Type 0
@@ -227,7 +265,8 @@ module _ (Known : VirtualRegister → Type 0) (f : FunctionValue)
       walk_found i places t (one_in j p q s u ge less prev a) = λ free l le lt used.
           let here : Between (j + 1) s = walk_between h (j + 1) p s prev in
           elim (cases_eq l j) [
-            | inl e ↦ in_found Known f orderly avoids knows kept b j p q s u (of_function j less) a lb here x (subst (λ (m : ℕ). IsUsedAt f b m x) e used)
+            | inl e ↦ in_found Known f orderly avoids knows kept b j p q s u (of_function j less) a lb here x (free j (omega arith) less)
+                (subst (λ (m : ℕ). IsUsedAt f b m x) e used)
             | inr ne ↦ in_lasts Known f orderly avoids knows kept b j p q s u (of_function j less) a here x (free j (omega arith) less)
                 (walk_found (j + 1) p s prev (λ k ge2 lt2. free k (omega (arith, ge2)) lt2) l (omega (arith, le, ne)) lt used)
           ]
@@ -239,7 +278,7 @@ module _ (Known : VirtualRegister → Type 0) (f : FunctionValue)
     blocks_between b places t (one_block c p q s u w lt prev walk begins) = λ n e.
         let behind : Between (block_at f c).range.end s = blocks_between (c + 1) p s prev (block_at f c).range.end (edge_next f follow c lt) in
         let first : Between (block_at f c).range.first u = walk_between c lt p s behind (block_at f c).range.first q u walk in
-        subst (λ (m : ℕ). Between m w) (sym (e.0 lt)) (begun (block_at f c).range.first (block_at f c).params u w begins first).between
+        subst (λ (m : ℕ). Between m w) (sym (e.0 lt)) (has_begun f c u w begins first).between
 
     -- at a block's end each number is in its own slot or nowhere
     pub blocks_settled : ((x : ℕ) → place_in old x ≡ NoPlace) → (b : ℕ) (places : List Place) (t : StateValue) → AllocsBlocks f blank old b places t → (x : ℕ) →
@@ -248,7 +287,7 @@ module _ (Known : VirtualRegister → Type 0) (f : FunctionValue)
     blocks_settled nobody b places t (one_block c p q s u w lt prev walk begins) x =
         let behind : Between (block_at f c).range.end s = blocks_between (c + 1) p s prev (block_at f c).range.end (edge_next f follow c lt) in
         let first : Between (block_at f c).range.first u = walk_between c lt p s behind (block_at f c).range.first q u walk in
-        (begun (block_at f c).range.first (block_at f c).params u w begins first).settled x
+        (has_begun f c u w begins first).settled x
 
     -- and no vreg is in a register
     pub blocks_outside : IsEmpty old → (b : ℕ) (places : List Place) (t : StateValue) → AllocsBlocks f blank old b places t → IsOutside t
@@ -262,7 +301,8 @@ module _ (Known : VirtualRegister → Type 0) (f : FunctionValue)
       where
         by_walk : (c : ℕ) (p : List Place) (s : StateValue) → AllocsBlocks f blank old c p s → (r : Register) → r.number < 64 → vreg_of_preg s.places r ≡ None
         by_walk c p s all_left = empty.nobody
-        by_walk c p s (one_block d q y m u w lt prev walks begins) = begins.emptied
+        by_walk c p s (one_block d q y m u w lt prev walks begins) = λ r small.
+            ap (λ (z : VRegAllocsValue). vreg_of_preg z r) (stores_places f d begins.middle w begins.stores) ∙ begins.reloads.emptied r small
 
     -- a vreg that is used in a block, is defined nowhere from an earlier one on and is no parameter, is where the earlier one begins
     pub blocks_live : (x c l : ℕ) → ((d k : ℕ) → d < length f.blocks → k < length (block_at f d).params →
@@ -278,7 +318,8 @@ module _ (Known : VirtualRegister → Type 0) (f : FunctionValue)
         let some : first < end = (follow d lt).0 in
         let behind : Between end s = blocks_between (d + 1) p s prev end (edge_next f follow d lt) in
         let here : (k : ℕ) → first ≤ k → k < end → defined_by (inst_at f k).operands x ≡ false = λ k ge less. free k ge (omega (arith, less, within)) in
-        begins_lasts x (before first) (block_at f d).params u w (λ k less. none d k lt less) begins
+        subst (λ (z : VRegAllocsValue). alloc_of z x ≢ NoPlace) (sym (stores_places f d begins.middle w begins.stores))
+        (begins_lasts x (before first) (block_at f d).params u begins.middle (λ k less. none d k lt less) begins.reloads
         (elim (cases_eq c d) [
           | inl e ↦ walk_found d lt p s behind x first q u walk here l (subst (λ (m : ℕ). (block_at f m).range.first ≤ l) e low)
               (subst (λ (m : ℕ). l < (block_at f m).range.end) e high) (subst (λ (m : ℕ). IsUsedAt f m l x) e used)
@@ -286,4 +327,4 @@ module _ (Known : VirtualRegister → Type 0) (f : FunctionValue)
               let next : end ≡ (block_at f (d + 1)).range.first = (edge_next f follow d lt).0 (omega (arith, le, ne, lc)) in
               walk_lasts d lt p s behind x first q u walk here
               (blocks_live x c l none lc low high used (d + 1) p s prev (omega (arith, le, ne)) (λ k ge less. free k (omega (arith, ge, next, some)) less)))
-        ])
+        ]))

@@ -12,7 +12,7 @@ use Rattle.regalloc2_semantics.specs.Instruction.{Knows}
 use Rattle.regalloc2_semantics.proofs.ListingParts.{walked_split}
 use Rattle.regalloc2_semantics.proofs.NotRead.{Unread}
 use Rattle.regalloc2_semantics.proofs.BlockBackward.{Relied, step_carried}
-use Rattle.regalloc2_fastalloc_proofs.specs.InstSteps.{StateValue, AllocsInst}
+use Rattle.regalloc2_fastalloc_proofs.specs.InstSteps.{StateValue, AllocsInst, ends_block}
 use Rattle.regalloc2_fastalloc_proofs.proofs.Operands.RecordOverState.{stands_at, slots_at}
 use Rattle.regalloc2_fastalloc_proofs.proofs.Operands.RecordOfInst.{Orderly}
 use Rattle.regalloc2_fastalloc_proofs.proofs.Inst.BoundaryToFirstOperand.{AvoidClobbers}
@@ -57,7 +57,7 @@ module _ (Known : VirtualRegister → Type 0) (f : FunctionValue) (placesf : ℕ
       (omega (arith, within)) at (goes_between (i + 1) t prev) a
 
   module _ (F : ℕ → Option Place) (v : VirtualRegister) (known : Known v) (block : Bool) (m : ℕ) (E : Place → Type 0)
-      (returns : (i : ℕ) → first ≤ i → i < stop → (inst_at f i).is_ret ≡ false)
+      (returns : (i : ℕ) → first ≤ i → i < stop → ends_block (inst_at f i) ≡ false)
       (writes : (i : ℕ) → first ≤ i → i < stop → block ≡ false → defined_by (inst_at f i).operands v.number ≡ false)
       (leaves : (i : ℕ) (t u : StateValue) → first ≤ i → i < stop → L i t u → Leaves f placesf F v i t u)
       (unread : (i n : ℕ) → first ≤ i → i < stop → i + 1 + n ≡ stop + m → defined_from f v.number (i + 1) n ≡ true → Unread (inst_at f i).operands v) where

@@ -1,5 +1,5 @@
 -- The instructions of a block in the walk: its last one, and those before it, which are no branches and no returns.
-use Rattle.std.proofs.Common.{ℕ, ◌≡◌, ◌+◌, ◌<◌, ◌≤◌, inl, inr, false, List, ◌++◌, length, refl, sym, ◌∙◌, subst, arith}
+use Rattle.std.proofs.Common.{ℕ, ◌≡◌, ◌+◌, ◌<◌, ◌≤◌, inl, inr, false, List, length, refl, sym, ◌∙◌, subst, arith}
 use Rattle.std.specs.Prelude.{Some, slice_index_or}
 use Rattle.std.proofs.lemmas.Bool.{cases_eq}
 use Rattle.regalloc2_names.specs.Register.{VirtualRegister}
@@ -7,7 +7,7 @@ use Rattle.regalloc2_names.specs.Place.{Place, NoPlace}
 use Rattle.regalloc2_names.specs.Point.{before, after}
 use Rattle.regalloc2_function.specs.FunctionValue.{FunctionValue, block_at, inst_at}
 use Rattle.regalloc2_function.specs.WellFormed.{BlocksFollow, BlocksEnd, last_of}
-use Rattle.regalloc2_function.specs.OutputValue.{MoveValue, place_at}
+use Rattle.regalloc2_function.specs.OutputValue.{place_at}
 use Rattle.regalloc2_semantics.specs.Instruction.{Knows}
 use Rattle.regalloc2_semantics.specs.BlockByPoints.{at_point, listed}
 use Rattle.regalloc2_semantics.proofs.Order.{ends_within}
@@ -30,7 +30,7 @@ abbrev pub AnyPlace : ℕ → Type 0
 AnyPlace p = Unit {0}
 
 -- at a block's end nothing is done yet
-at_its_end : (f : FunctionValue) (b : ℕ) (blank : List Place) (old : StateValue) (i : ℕ) (places : List Place) (t : StateValue) →
+pub at_its_end : (f : FunctionValue) (b : ℕ) (blank : List Place) (old : StateValue) (i : ℕ) (places : List Place) (t : StateValue) →
     AllocsBlockInsts f b blank old i places t → i ≡ (block_at f b).range.end → t ≡ old
 at_its_end f b blank old i places t at_end e = refl
 at_its_end f b blank old i places t (one_in j p q s u ge less prev a) e = absurd (omega (arith, less, e))
@@ -66,7 +66,8 @@ module _ (Known : VirtualRegister → Type 0) (f : FunctionValue)
     walk_listed i places t at_end = λ h. h
     walk_listed i places t (one_in j p q s u ge less prev a) = λ h. walk_listed (j + 1) p s prev (listed_behind b j p q s u (within j less) a h)
 
-    module _ (L : ℕ → StateValue → StateValue → Type 0) (each : (i : ℕ) (s u : StateValue) → (block_at f b).range.first ≤ i → i < last_of (block_at f b) →
+    module _ (L : ℕ → StateValue → StateValue → Type 0) (each : (i : ℕ) (q : List Place) (s u : StateValue) → (block_at f b).range.first ≤ i →
+        i < last_of (block_at f b) → AllocsBlockInsts f b blank old i q u → AreListed f placesf i q →
         Grown AnyPlace s final → Grown AnyPlace u final → L i s u) where
       -- the walk over a block from i on is its last instruction and those from i on before it, each of which has the property L
       pub split : (i : ℕ) (places : List Place) (t : StateValue) → AllocsBlockInsts f b blank old i places t → i < (block_at f b).range.end →
@@ -103,22 +104,25 @@ module _ (Known : VirtualRegister → Type 0) (f : FunctionValue)
                   at = sp.at;
                   goes = one_more j s u a.allocates.blank a.allocates.here ge sooner sp.goes here
                       (subst (λ (z : StateValue). AllocsInst j (inst_at f j) a.allocates.blank a.allocates.here s z) (sym (a.no_branch plain))
-                      a.allocates.allocates) (each j s u ge sooner before_it rest);
+                      a.allocates.allocates) (each j q s u ge sooner (one_in j p q s u ge less prev a) h before_it rest);
                   rest = sp.rest;
                 })
           ]
 
-  -- Each instruction but a block's last one leaves a slot of the walk's end to its own vreg, with the moves that were pushed so far.
-  abbrev pub KeepsSlots : Type 0
-  KeepsSlots = (b i : ℕ) → b < length f.blocks → (block_at f b).range.first ≤ i → i < last_of (block_at f b) → (v : VirtualRegister) → Known v →
+  -- Each instruction but a block's last one leaves a slot of the walk's end to its own vreg, with the moves that were pushed so far, where the tables are
+  -- safe.
+  abbrev pub KeepsSlots : (ℕ → StateValue → Type 0) → Type 0
+  KeepsSlots SafeIn = (b i : ℕ) → b < length f.blocks → (block_at f b).range.first ≤ i → i < last_of (block_at f b) → (u : StateValue) → SafeIn b u →
+      Grown AnyPlace u final → (v : VirtualRegister) → Known v →
       defined_by (inst_at f i).operands v.number ≡ false → (s : Place) → slots_at final v.number ≡ Some s →
-      (es more : List (ℕ × MoveValue)) → final.edits ≡ es ++ more → Keeps (inst_at f i).operands (placesf i) (inst_at f i).clobbers
-      (at_point (listed es) (before i)) (at_point (listed es) (after i)) v s
+      Keeps (inst_at f i).operands (placesf i) (inst_at f i).clobbers
+      (at_point (listed u.edits) (before i)) (at_point (listed u.edits) (after i)) v s
 
   -- an instruction before its block's last one leaves a vreg's final slot to that vreg, as the law for one vreg wants it
-  pub leaves_at : KeepsSlots → (b i : ℕ) (s u : StateValue) → b < length f.blocks → (block_at f b).range.first ≤ i → i < last_of (block_at f b) →
+  pub leaves_at : (SafeIn : ℕ → StateValue → Type 0) → KeepsSlots SafeIn → (b i : ℕ) (s u : StateValue) → b < length f.blocks →
+      (block_at f b).range.first ≤ i → i < last_of (block_at f b) → SafeIn b u →
       Grown AnyPlace s final → Grown AnyPlace u final → (v : VirtualRegister) → Known v → Leaves f placesf (slots_at final) v i s u
-  leaves_at keeps b i s u lb ge sooner before_it rest v known = record {
+  leaves_at SafeIn keeps b i s u lb ge sooner safe before_it rest v known = record {
     stays = grown_slots AnyPlace s final before_it v.number;
-    keeps = λ p free none is. keeps b i lb ge sooner v known free p is u.edits rest.moves rest.pushed;
+    keeps = λ p free none is. keeps b i lb ge sooner u safe rest v known free p is;
   }

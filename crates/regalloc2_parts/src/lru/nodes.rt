@@ -136,6 +136,7 @@ impl<'a> OldestFirst<'a> {
     }
 
     /// The walk over a ring.
+    #[inline(always)]
     pub fn of(nodes: &'a [LruNode], head: u8, class: RegClass) -> Self
         requires few { length nodes.now ≤ 64 }
         requires ring { IsNodeRing nodes.now head }
@@ -158,6 +159,7 @@ impl<'a> Iterator for OldestFirst<'a> {
 
     ghost remaining = { item_count (λ rest. rest) };
 
+    #[inline(always)]
     fn next(&mut self) -> Option<PReg> {
         let at = self.at?;
         self.at = if at == self.head {

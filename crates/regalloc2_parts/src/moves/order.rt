@@ -100,20 +100,20 @@ fn open_ring<'a, T: Copy + Default, A: Allocator + Copy>(
     Ok((last, stop))
 }
 
-/// Gives out the moves of a chain from its end on. Where it holds a ring, that is down to `first`, what the ring's last move,
-/// `cut`, reads is then put aside; where it holds none, both are past the end.
+/// Gives out the moves of a chain from its end on. Where it holds a ring, given as its last move and its first one, that is down to
+/// the first, and what the last one reads is then put aside; where it holds none, both are past the end.
 fn give_chain<'a, T: Copy + Default, A: Allocator + Copy>(
     moves: &[(Allocation, Allocation, T)],
     nexts: &[usize],
     state: &mut [State],
     chain: &mut Indexes<'a, A>,
     given: &mut MoveVec<T, A>,
-    mut cut: usize,
-    mut first: usize,
+    ring: (usize, usize),
 ) -> Result<(), AllocError>
-    requires { CanGive moves.now nexts.now state.old chain.old.items given.old.items cut first }
+    requires { CanGive moves.now nexts.now state.old chain.old.items given.old.items ring.0 ring.1 }
     ensures given { OnOk result (IsGivenOut moves.now nexts.now state.old state.new chain.new.items given.new.items) }
 {
+    let (mut cut, mut first) = ring;
     while let Some(top) = chain.pop() {
         given.push(moves[top])?;
         state[top] = State::Done;
@@ -140,8 +140,8 @@ fn give_from<'a, T: Copy + Default, A: Allocator + Copy>(
     ensures given { OnOk result (IsGivenOut moves.now nexts.now state.old state.new chain.new.items given.new.items × (state_at state.new start ≢ Todo)) }
 {
     let stop = follow(start, nexts, state, chain)?;
-    let (cut, first) = open_ring(moves, nexts, state, chain, given, stop)?;
-    give_chain(moves, nexts, state, chain, given, cut, first)
+    let ring = open_ring(moves, nexts, state, chain, given, stop)?;
+    give_chain(moves, nexts, state, chain, given, ring)
 }
 
 /// The moves from the last to the first.

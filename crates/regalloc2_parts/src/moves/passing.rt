@@ -1,6 +1,6 @@
 //! Moves from stack to stack, made by way of a register.
 
-ghost use Rattle.std.specs.Prelude.{◌≡◌, ◌≢◌, ◌↔◌, ◌⊎◌, Contains, IsTrue, IfOk, OnOk};
+ghost use Rattle.std.specs.Prelude.{◌≡◌, ◌≢◌, ◌⊎◌, Contains, IsTrue, IfOk, OnOk};
 ghost use Rattle.regalloc2_names.specs.Place.{Place};
 ghost use Rattle.regalloc2_parts.specs.AtOnce.{Cells, ends_of, in_turn, moved};
 ghost use Rattle.regalloc2_parts.specs.Tracking.{Tracks, CanPass, IsAside, IsThrough, IsStep};
@@ -28,13 +28,6 @@ pub(super) enum Held {
 pub(super) struct ScratchReg {
     pub register: Allocation,
     pub save: Allocation,
-}
-
-/// Whether two places are one.
-fn is_one(a: Allocation, b: Allocation) -> bool
-    ensures { IsTrue result ↔ (a ≡ b) }
-{
-    a.bits() == b.bits()
 }
 
 /// Saves what the register is to hold, unless it is saved.
@@ -117,7 +110,7 @@ fn copy<T: Copy + Default, A: Allocator + Copy>(
     ensures added { OnOk result ((x : Place × Place × _) → Contains out.new.items x → Contains out.old.items x ⊎ (x ≡ m.now)) }
 {
     out.push(*m)?;
-    if is_one(m.1, via.register) {
+    if m.1.is_same(via.register) {
         return Ok(Held::InRegister);
     }
     Ok(held)
@@ -141,7 +134,7 @@ pub(super) fn make<T: Copy + Default, A: Allocator + Copy>(
     if is_passing {
         return pass(m, via, held, out);
     }
-    if is_one(m.0, via.register) {
+    if m.0.is_same(via.register) {
         let after = restore_first(via, held, out)?;
         return copy(m, via, after, out);
     }

@@ -116,6 +116,18 @@ impl<A: Allocator + Copy> StoredLists<A> {
 
     /// Reads what follows `stored`.
     pub(super) fn read(&mut self, alloc: A, cursor: &mut Cursor<'_, '_>) {
+        let is_read = self.read_of_blocks(alloc, cursor)
+            || self.read_of_classes(alloc, cursor)
+            || self.read_of_output(alloc, cursor);
+        if !is_read {
+            cursor.misfit(
+                "a list: block_preds, block_succs, block_params_in, block_params_out, preferred_regs_by_class, non_preferred_regs_by_class, scratch_by_class, spillslot_size, allocs, inst_alloc_offsets",
+            );
+        }
+    }
+
+    /// Reads a list by block, where its name is next, and says whether it is.
+    fn read_of_blocks(&mut self, alloc: A, cursor: &mut Cursor<'_, '_>) -> bool {
         match cursor.peek().unwrap_or("") {
             "block_preds" => read_once(alloc, cursor, "stored block_preds", &mut self.block_preds),
             "block_succs" => read_once(alloc, cursor, "stored block_succs", &mut self.block_succs),
@@ -131,6 +143,14 @@ impl<A: Allocator + Copy> StoredLists<A> {
                 "stored block_params_out",
                 &mut self.block_params_out,
             ),
+            _ => return false,
+        }
+        true
+    }
+
+    /// Reads a list by class, where its name is next, and says whether it is.
+    fn read_of_classes(&mut self, alloc: A, cursor: &mut Cursor<'_, '_>) -> bool {
+        match cursor.peek().unwrap_or("") {
             "preferred_regs_by_class" => read_once(
                 alloc,
                 cursor,
@@ -155,19 +175,24 @@ impl<A: Allocator + Copy> StoredLists<A> {
                 "stored spillslot_size",
                 &mut self.spillslot_size,
             ),
-            "allocs" => read_once(alloc, cursor, "stored allocs", &mut self.allocs),
-            "inst_alloc_offsets" => {
-                read_once(
-                    alloc,
-                    cursor,
-                    "stored inst_alloc_offsets",
-                    &mut self.inst_alloc_offsets,
-                )
-            }
-            _ => cursor.misfit(
-                "a list: block_preds, block_succs, block_params_in, block_params_out, preferred_regs_by_class, non_preferred_regs_by_class, scratch_by_class, spillslot_size, allocs, inst_alloc_offsets",
-            ),
+            _ => return false,
         }
+        true
+    }
+
+    /// Reads a list of an output, where its name is next, and says whether it is.
+    fn read_of_output(&mut self, alloc: A, cursor: &mut Cursor<'_, '_>) -> bool {
+        match cursor.peek().unwrap_or("") {
+            "allocs" => read_once(alloc, cursor, "stored allocs", &mut self.allocs),
+            "inst_alloc_offsets" => read_once(
+                alloc,
+                cursor,
+                "stored inst_alloc_offsets",
+                &mut self.inst_alloc_offsets,
+            ),
+            _ => return false,
+        }
+        true
     }
 
     /// Puts the lists in the place of those of a function, and answers the places and the offsets of an output.

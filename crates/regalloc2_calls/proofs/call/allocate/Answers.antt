@@ -9,3 +9,8 @@ pub write_listing-requires-clause-blocks : goal.write_listing-requires-clause-bl
 write_listing-requires-clause-blocks g c =
     let tested = c.in-Ok.ensures.tested in
     λ b less. ((tested.follow b less).0, end_within (g.F.Function.function c.args.f.now) tested.follow b less)
+
+pub draw-requires-clause-blocks : goal.draw-requires-clause-blocks
+draw-requires-clause-blocks g c =
+    let tested = c.in-Ok.ensures.tested in
+    λ b less. ((tested.follow b less).0, end_within (g.F.Function.function c.args.f.now) tested.follow b less)

@@ -15,12 +15,12 @@ use Rattle.regalloc2_checker.proofs.check.check_inst.Goals as goal
 
 pub returns-clause-now : goal.returns-clause-now
 returns-clause-now g c =
-    let f : FunctionValue = g.F.Function.function c.args.f.now in
+    let f : FunctionValue = g.F.Function.function c.args.by.now.f.now in
     let moves : map move_of c.as_slice-moves.result.now ≡ moves_at f g.o (record { block = c.args.block; inst = c.args.inst }) =
-    listed_moves f g.o c.args.listing.now c.args.block c.args.inst c.index.result c.index-listing-index.result c.as_slice-moves.result.now c.requires.1.1.0
+    listed_moves f g.o c.args.by.now.listing.now c.args.block c.args.inst c.index.result c.index-listing-index.result c.as_slice-moves.result.now c.requires.1.1.0
     c.as_slice-moves.ensures.value c.index.ensures c.index-listing-index.is c.requires.1.1.1.1.0 c.requires.1.1.1.1.1.0 c.requires.1.1.1.1.1.1.0 in
     let places : c.as_slice-places.result.now ≡ allocs_of g.o c.args.inst =
-    listed_places f g.o c.args.listing.now c.args.inst c.index.result c.index-listing-index.result c.as_slice-places.result.now c.requires.1.1.0
+    listed_places f g.o c.args.by.now.listing.now c.args.inst c.index.result c.index-listing-index.result c.as_slice-places.result.now c.requires.1.1.0
     c.as_slice-places.ensures.value c.index.ensures c.index-listing-index.is c.requires.1.1.1.1.1.1.1 in
     after_run f g.o c.args.block c.args.inst (facts_now c.args.values.now) (facts_now c.go_to_early.new.values) (facts_now c.go_to_late.new.values)
     (map move_of c.as_slice-moves.result.now)
@@ -30,12 +30,12 @@ returns-clause-now g c =
 
 pub returns-clause-judged : goal.returns-clause-judged
 returns-clause-judged g c = λ env h known.
-    let f : FunctionValue = g.F.Function.function c.args.f.now in
+    let f : FunctionValue = g.F.Function.function c.args.by.now.f.now in
     let moves : map move_of c.as_slice-moves.result.now ≡ moves_at f g.o (record { block = c.args.block; inst = c.args.inst }) =
-    listed_moves f g.o c.args.listing.now c.args.block c.args.inst c.index.result c.index-listing-index.result c.as_slice-moves.result.now c.requires.1.1.0
+    listed_moves f g.o c.args.by.now.listing.now c.args.block c.args.inst c.index.result c.index-listing-index.result c.as_slice-moves.result.now c.requires.1.1.0
     c.as_slice-moves.ensures.value c.index.ensures c.index-listing-index.is c.requires.1.1.1.1.0 c.requires.1.1.1.1.1.0 c.requires.1.1.1.1.1.1.0 in
     let places : c.as_slice-places.result.now ≡ allocs_of g.o c.args.inst =
-    listed_places f g.o c.args.listing.now c.args.inst c.index.result c.index-listing-index.result c.as_slice-places.result.now c.requires.1.1.0
+    listed_places f g.o c.args.by.now.listing.now c.args.inst c.index.result c.index-listing-index.result c.as_slice-places.result.now c.requires.1.1.0
     c.as_slice-places.ensures.value c.index.ensures c.index-listing-index.is c.requires.1.1.1.1.1.1.1 in
     let added = c.in_ok-check_moves.ensures env h in (
       _,
@@ -57,9 +57,9 @@ go_to_early-requires-clause-missing g c = c.requires.1.1.1.0.places.missing
 
 pub go_to_early-requires-clause-listed : goal.go_to_early-requires-clause-listed
 go_to_early-requires-clause-listed g c =
-    let f : FunctionValue = g.F.Function.function c.args.f.now in
+    let f : FunctionValue = g.F.Function.function c.args.by.now.f.now in
     let moves : map move_of c.as_slice-moves.result.now ≡ moves_at f g.o (record { block = c.args.block; inst = c.args.inst }) =
-    listed_moves f g.o c.args.listing.now c.args.block c.args.inst c.index.result c.index-listing-index.result c.as_slice-moves.result.now c.requires.1.1.0
+    listed_moves f g.o c.args.by.now.listing.now c.args.block c.args.inst c.index.result c.index-listing-index.result c.as_slice-moves.result.now c.requires.1.1.0
     c.as_slice-moves.ensures.value c.index.ensures c.index-listing-index.is c.requires.1.1.1.1.0 c.requires.1.1.1.1.1.0 c.requires.1.1.1.1.1.1.0 in
     subst (λ (ms : List MoveValue). All (λ m. IsListed c.args.values.now.places m.to) ms) (sym moves)
     (c.requires.1.1.1.0.places.moves c.args.block c.args.inst c.requires.1.1.1.1.0 c.requires.1.1.1.1.1.0 c.requires.1.1.1.1.1.1.0)

@@ -11,4 +11,4 @@ returns-else-is_stack g c = λ env h there. rw (← c.in-Stack.ensures.constrain
 
 pub returns-else-is_same : goal.returns-else-is_same
 returns-else-is_same g c = λ env h there. rw (← c.in-FixedReg.ensures.constraint)
-    (not_fixed c.in-FixedReg.reg (λ e. not_so _ _ c.is_same.ensures c.if-is_same.false (rw c.reg.ensures e)))
+    (not_fixed c.in-FixedReg.reg (λ e. not_so _ _ c.is_same.ensures.same c.if-is_same.false (rw c.reg.ensures e)))

@@ -14,5 +14,5 @@ invariant-loop-b g l = record {
   within : l.b-end ≡ length (g.F.Function.function l.f).blocks;
   low : l.b ≤ length (g.F.Function.function l.f).blocks;
   kept : AreKeptTables l.fn.values l.values;
-  reports : (env : MachineValue) → AreStackSlots env l.slots → BlockReports (g.F.Function.function l.f) env g.o l.b l.errors.items;
+  reports : (env : MachineValue) → AreStackSlots env l.by.slots → BlockReports (g.F.Function.function l.f) env g.o l.b l.errors.items;
 }

@@ -15,7 +15,7 @@ load-requires g c = rw c.index.ensures c.requires.1.1.1.1.1.1
 
 pub loop-i-init : goal.loop-i-init
 loop-i-init g c =
-    let f : FunctionValue = g.F.Function.function c.args.f.now in
+    let f : FunctionValue = g.F.Function.function c.args.by.now.f.now in
     let first : c.index-i.result ≡ (block_at f c.args.block).range.first = c.index-i.ensures ∙ c.first.ensures
     ∙ ap (λ (s : Span). s.first) c.block_insns-range.ensures in
     let some : (block_at f c.args.block).range.first < (block_at f c.args.block).range.end = nonempty f c.requires.1.1.1.0 c.args.block
@@ -33,7 +33,7 @@ loop-i-init g c =
 
 pub check_inst-requires : goal.check_inst-requires
 check_inst-requires g c κs within =
-    let f : FunctionValue = g.F.Function.function c.args.f.now in
+    let f : FunctionValue = g.F.Function.function c.args.by.now.f.now in
     let inside : (block_at f c.args.block).range.end ≤ length f.insts = insts_within f c.requires.1.1.1.0 c.args.block c.requires.1.1.1.1.1.0 in (
       search rules,
       (
@@ -59,7 +59,7 @@ check_inst-requires g c κs within =
 
 pub loop-i-preserved : goal.loop-i-preserved
 loop-i-preserved g c =
-    let f : FunctionValue = g.F.Function.function c.args.f.now in
+    let f : FunctionValue = g.F.Function.function c.args.by.now.f.now in
     record {
       end = c.loop-i.invariant.end;
       low = omega (arith, c.loop-i.invariant.low);
@@ -74,7 +74,7 @@ loop-i-preserved g c =
 
 pub returns : goal.returns
 returns g c =
-    let f : FunctionValue = g.F.Function.function c.args.f.now in
+    let f : FunctionValue = g.F.Function.function c.args.by.now.f.now in
     let at : c.loop-i.i ≡ (block_at f c.args.block).range.end = omega (arith, c.loop-i-test.false, c.loop-i.invariant.end, c.loop-i.invariant.high) in
     record {
       kept = c.loop-i.invariant.kept;

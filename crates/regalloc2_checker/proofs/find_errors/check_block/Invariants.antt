@@ -14,10 +14,10 @@ ghost-check_inst g a = g.o
 -- the instructions so far are checked
 abbrev pub invariant-loop-i : goal.invariant-loop-i
 invariant-loop-i g l = record {
-  end : l.i-end ≡ (block_at (g.F.Function.function l.f) l.block).range.end;
-  low : (block_at (g.F.Function.function l.f) l.block).range.first ≤ l.i;
-  high : l.i ≤ (block_at (g.F.Function.function l.f) l.block).range.end;
+  end : l.i-end ≡ (block_at (g.F.Function.function l.by.f.now) l.block).range.end;
+  low : (block_at (g.F.Function.function l.by.f.now) l.block).range.first ≤ l.i;
+  high : l.i ≤ (block_at (g.F.Function.function l.by.f.now) l.block).range.end;
   kept : AreKeptTables l.fn.values l.values;
-  judged : (env : MachineValue) → AreStackSlots env l.slots → IsKnownWithin (g.F.Function.function l.f) g.o l.block (facts_table l.fn.values l.block) →
-      IsJudgedTo (g.F.Function.function l.f) env g.o l.block l.i (facts_table l.fn.values l.block) l.initial.errors.items l.errors.items (facts_now l.values);
+  judged : (env : MachineValue) → AreStackSlots env l.by.slots → IsKnownWithin (g.F.Function.function l.by.f.now) g.o l.block (facts_table l.fn.values l.block) →
+      IsJudgedTo (g.F.Function.function l.by.f.now) env g.o l.block l.i (facts_table l.fn.values l.block) l.initial.errors.items l.errors.items (facts_now l.values);
 }

@@ -6,7 +6,7 @@ use Rattle.regalloc2_checker_tables.proofs.Bits.{read-is}
 use Rattle.regalloc2_checker_tables.proofs.Walked.{times-nil, walked-on}
 use Rattle.regalloc2_checker_tables.proofs.Listed.{at-position, not-listed}
 use Rattle.regalloc2_checker_tables.proofs.Holders.{still-same, still-then, dropped-none, dropped-more, dropped-all, dropped-less, holders-none, holders-more}
-use Rattle.regalloc2_checker_tables.proofs.Holders.{holders-skip, holders-all, homes-same, homes-then, home-here, noted-more}
+use Rattle.regalloc2_checker_tables.proofs.Holders.{holders-skip, holders-all, homes-same, homes-then, noted-more}
 use Rattle.regalloc2_checker_tables.proofs.tables.note_all.Goals as goal
 
 pub loop-bits-init : goal.loop-bits-init

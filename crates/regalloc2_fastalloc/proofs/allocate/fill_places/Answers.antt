@@ -26,9 +26,9 @@ use Rattle.regalloc2_fastalloc_walk.specs.StateView.{tables_of}
 use Rattle.regalloc2_fastalloc_proofs.specs.BranchSteps.{AddsTempSlotsAtMost}
 use Rattle.regalloc2_fastalloc_proofs.specs.Safety.{HasMachine}
 use Rattle.regalloc2_fastalloc_state.specs.StateParts.{VRegAllocsValue, SpillSlotsValue, no_slots, slot_name, units_of}
-use Rattle.regalloc2_fastalloc.proofs.ReadsAgree.{made_blocks_agree, made_in_slots, made_label_shown, walk_kept_through}
+use Rattle.regalloc2_fastalloc.proofs.ReadsAgree.{made_blocks_agree, made_in_slots, made_label_shown, walk_kept_through, walk_safe_through}
 use Rattle.regalloc2_fastalloc.proofs.DebugLocationPlaces.{locations_stand, shows_labels}
-use Rattle.regalloc2_fastalloc_proofs.proofs.Walk.BlocksCarryFromFreshState.{handed_slots}
+use Rattle.regalloc2_fastalloc_proofs.proofs.Walk.BlocksCarryFromFreshState.{passed_slots}
 use Rattle.regalloc2_fastalloc_proofs.proofs.Safety.InitialState.{begun_machine}
 use Rattle.regalloc2_fastalloc_proofs.proofs.Safety.OutputOfWalk.{IsMade, made_in_order, made_constraints, made_proper, made_in_registers}
 use Rattle.regalloc2_fastalloc_proofs.proofs.Safety.WellFormedKeepsSafe.{tame_at}
@@ -42,7 +42,7 @@ use Rattle.regalloc2_fastalloc.proofs.ErrorsHaveReasons.{lacks_where}
 use Rattle.regalloc2_fastalloc.proofs.UsesReadNumbers.{reads_numbers}
 use Rattle.regalloc2_fastalloc.proofs.UnitsNeeded.{sizes_of, sizes_agree, few_slots, full_needs}
 use Rattle.regalloc2_fastalloc_proofs.proofs.Walk.InstsCarry.{Blank}
-use Rattle.regalloc2_fastalloc_proofs.proofs.Safety.FunctionKeepsSafe.{made_listed_blocks}
+use Rattle.regalloc2_fastalloc_proofs.proofs.Safety.FunctionKeepsSafe.{SafeWithin, made_listed_blocks}
 use Rattle.regalloc2_fastalloc_proofs.proofs.Safety.BlocksKeepSafe.{MayInBlocks}
 use Rattle.regalloc2_fastalloc_proofs.proofs.Moves.ScratchRegTaken.{Fit}
 use Rattle.regalloc2_fastalloc_proofs.proofs.Safety.BranchArgsKeepState.{passes_between}
@@ -150,12 +150,21 @@ fit_is g c = fresh_fit (g.F.Function.function c.args.f.now) (machine_of c.args.e
 -- what the walk left
 walked : (g : Over) (c : goal.After-array_drop-state-2 g) →
     WalkKept (machine_of c.args.env.now) (Made (g.F.Function.function c.args.f.now)) (g.F.Function.function c.args.f.now)
-    (MayInBlocks (g.F.Function.function c.args.f.now)) c.alloc_blocks.new.allocs 0 c.alloc_blocks.new.allocs (left g c)
+    (MayInBlocks (g.F.Function.function c.args.f.now)) c.alloc_blocks.new.allocs 0 0 c.alloc_blocks.new.allocs (left g c)
 walked g c =
     let f : FunctionValue = g.F.Function.function c.args.f.now in
     let e = c.in_ok-state.ensures in
     walk_kept_through (machine_of c.args.env.now) f c.requires.machine (g.met.F.Function.limited c.args.f.now) c.requires.well_formed c.requires.taken
-    c.requires.branches
+    c.args.allocs.now c.alloc_blocks.new.allocs (begun g c) (left g c) f.num_vregs f.num_vregs (sizes_of f) f.named_by_last_slot e.places e.slots e.edits
+    (units_are g c) (machine_is g c) (blank_is g c) (fit_is g c) c.in_ok-alloc_blocks.ensures.ok
+
+-- and at each of its instructions
+safe_is : (g : Over) (c : goal.After-array_drop-state-2 g) →
+    SafeWithin (machine_of c.args.env.now) (g.F.Function.function c.args.f.now) c.args.allocs.now (begun g c) c.alloc_blocks.new.allocs
+safe_is g c =
+    let f : FunctionValue = g.F.Function.function c.args.f.now in
+    let e = c.in_ok-state.ensures in
+    walk_safe_through (machine_of c.args.env.now) f c.requires.machine (g.met.F.Function.limited c.args.f.now) c.requires.well_formed c.requires.taken
     c.args.allocs.now c.alloc_blocks.new.allocs (begun g c) (left g c) f.num_vregs f.num_vregs (sizes_of f) f.named_by_last_slot e.places e.slots e.edits
     (units_are g c) (machine_is g c) (blank_is g c) (fit_is g c) c.in_ok-alloc_blocks.ensures.ok
 
@@ -164,9 +173,9 @@ handed_is : (g : Over) (c : goal.After-array_drop-state-2 g) → (v : VirtualReg
     slot_name (left g c).slots v.number ≢ NoPlace
 handed_is g c v i p =
     let f : FunctionValue = g.F.Function.function c.args.f.now in
-    handed_slots (machine_of c.args.env.now) f (g.met.F.Function.limited c.args.f.now) c.requires.well_formed (passes_between f) c.args.allocs.now (begun g c)
+    passed_slots (machine_of c.args.env.now) f (g.met.F.Function.limited c.args.f.now) c.requires.well_formed (passes_between f) c.args.allocs.now (begun g c)
     (left g c) (out_of g c) (blank_is g c) (fit_is g c)
-    c.in_ok-alloc_blocks.ensures.ok v p.0 p.1 p.2 p.4 p.5
+    c.in_ok-alloc_blocks.ensures.ok v i p
 
 made : (g : Over) (c : goal.After-array_drop-state-2 g) →
     IsMade (g.F.Function.function c.args.f.now) (machine_of c.args.env.now) (Made (g.F.Function.function c.args.f.now))
@@ -197,7 +206,7 @@ faithful_is g c = λ written.
     faithful f env (out_of g c) (made_constraints f env (Made f) (MayInBlocks f) (left g c) (out_of g c) m)
     (made_in_registers f env (Made f) (MayInBlocks f) (left g c) (out_of g c) m)
     (made_blocks_agree env f (g.met.F.Function.limited c.args.f.now) c.requires.well_formed c.requires.taken c.requires.branches c.args.allocs.now (begun g c)
-    (left g c) (out_of g c) (blank_is g c) (fit_is g c) c.in_ok-alloc_blocks.ensures.ok m written)
+    (left g c) (out_of g c) (blank_is g c) (fit_is g c) c.in_ok-alloc_blocks.ensures.ok (safe_is g c) m written)
 
 live_is : (g : Over) (c : goal.After-array_drop-state-2 g) → IsWrittenFirst (g.F.Function.function c.args.f.now) →
     LiveInSlots (g.F.Function.function c.args.f.now) (out_of g c)
@@ -205,7 +214,7 @@ live_is g c =
     let f : FunctionValue = g.F.Function.function c.args.f.now in
     let env : MachineValue = machine_of c.args.env.now in
     made_in_slots env f (g.met.F.Function.limited c.args.f.now) c.requires.well_formed c.requires.taken c.requires.branches c.args.allocs.now (begun g c)
-    (left g c) (out_of g c) (blank_is g c) (fit_is g c) c.in_ok-alloc_blocks.ensures.ok (made g c)
+    (left g c) (out_of g c) (blank_is g c) (fit_is g c) c.in_ok-alloc_blocks.ensures.ok (safe_is g c) (made g c)
     c.num_units.ensures.owned (tame_at env f (g.met.F.Function.limited c.args.f.now) c.requires.well_formed c.requires.taken)
 
 -- and debug locations name places of their virtual registers, which hold their values
@@ -217,8 +226,8 @@ labels_are g c =
     let tame = tame_at env f limited c.requires.well_formed c.requires.taken in
     shows_labels env f limited c.requires.well_formed (MayInBlocks f) (left g c) (out_of g c) (made g c) (handed_is g c) c.num_units.ensures.owned tame
     (made_label_shown env f limited c.requires.well_formed c.requires.taken c.requires.branches c.args.allocs.now (begun g c) (left g c) (out_of g c)
-    (blank_is g c) (fit_is g c) c.in_ok-alloc_blocks.ensures.ok (made g c)
-    c.num_units.ensures.owned tame) c.in_ok-debug_locations.ensures.ok
+    (blank_is g c) (fit_is g c) c.in_ok-alloc_blocks.ensures.ok (safe_is g c) (made g c)
+    c.requires.machine c.num_units.ensures.owned tame) c.in_ok-debug_locations.ensures.ok
 
 -- there are few temporary slots
 few_lent : (f : FunctionValue) (begun left : StateValue) (by_last : Bool) (most : ℕ) → begun.slots ≡ no_slots f.num_vregs (sizes_of f) by_last →

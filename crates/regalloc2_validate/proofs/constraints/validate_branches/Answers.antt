@@ -1,6 +1,6 @@
 use Rattle.std.proofs.Common.{◌<◌, length, refl, arith, below_more}
 use Rattle.regalloc2_function.specs.FunctionValue.{FunctionValue, inst_at}
-use Rattle.regalloc2_validate.specs.Constraints.{BranchDefinesNothing}
+use Rattle.regalloc2_validate.specs.Constraints.{BranchDefinesInPlace}
 use Rattle.regalloc2_validate.proofs.constraints.validate_branches.Goals as goal
 
 pub returns-then-not-is_sound_branch-clause-ok : goal.returns-then-not-is_sound_branch-clause-ok
@@ -27,6 +27,6 @@ loop-i-preserved g c =
     let f : FunctionValue = g.F.Function.function c.args.f.now in
     record {
       within = c.loop-i.invariant.within;
-      so_far = below_more (λ n. BranchDefinesNothing (inst_at f n)) _ c.loop-i.invariant.so_far
+      so_far = below_more (λ n. BranchDefinesInPlace (inst_at f n)) _ c.loop-i.invariant.so_far
           (rw c.new-inst.ensures at (c.is_sound_branch.ensures.0 c.if-not-is_sound_branch.false));
     }

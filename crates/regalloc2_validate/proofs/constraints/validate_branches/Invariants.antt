@@ -1,11 +1,11 @@
 use Rattle.std.proofs.Common.{ℕ, ◌≡◌, ◌<◌, length}
 use Rattle.regalloc2_function.specs.FunctionValue.{inst_at}
-use Rattle.regalloc2_validate.specs.Constraints.{BranchDefinesNothing}
+use Rattle.regalloc2_validate.specs.Constraints.{BranchDefinesInPlace}
 use Rattle.regalloc2_validate.proofs.constraints.validate_branches.Given as goal
 
 -- the instructions so far pass
 abbrev pub invariant-loop-i : goal.invariant-loop-i
 invariant-loop-i g l = record {
   within : l.i-end ≡ length (g.F.Function.function l.f).insts;
-  so_far : (n : ℕ) → n < l.i → BranchDefinesNothing (inst_at (g.F.Function.function l.f) n);
+  so_far : (n : ℕ) → n < l.i → BranchDefinesInPlace (inst_at (g.F.Function.function l.f) n);
 }

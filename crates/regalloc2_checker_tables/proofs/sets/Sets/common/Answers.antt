@@ -1,24 +1,29 @@
-use Rattle.std.proofs.Common.{ℕ, ◌≡◌, ◌<◌, List, [], ◌∷◌, ◌++◌, arith, true, false, ap, sym, ◌∙◌, refl, cond, nat_eq, nat_lt}
-use Rattle.std.specs.Prelude.{◌&&◌}
-use Rattle.regalloc2_cfg.specs.Numbers.{has_number}
-use Rattle.regalloc2_checker_tables.specs.EntrySets.{has_bits, is_member}
-use Rattle.regalloc2_checker_tables.proofs.Bits.{changed-is, added-is, added-more, same-sets, within-and}
-use Rattle.regalloc2_checker_tables.proofs.Bits.{within-and-right, none-is, alone, ok-as, added-either, read-is}
-use Rattle.std.specs.Prelude.{if◌then◌else◌}
+use Rattle.std.proofs.Common.{ℕ, ◌≡◌, ◌<◌, List, [], ◌∷◌, ◌++◌, arith, Bool, true, false, ap, sym, ◌∙◌, refl, subst, cond, nat_eq, nat_lt}
+use Rattle.std.specs.Prelude.{◌&&◌, if◌then◌else◌, Option, None, Some}
+use Rattle.regalloc2_cfg.specs.Numbers.{NumberSet, has_number, times_in}
+use Rattle.regalloc2_checker_tables.specs.EntrySets.{has_bits, is_member, IsSetOf, AreMore, AreKnown, IsLess}
+use Rattle.regalloc2_checker_tables.proofs.Bits.{added-is, added-more, same-sets, within-and, none-is, ok-as, read-is, bits-in, bits-small, changed-is}
+use Rattle.regalloc2_checker_tables.proofs.Walked.{times-nil, walked-on, walked-is, walked-more, walked-end}
+use Rattle.regalloc2_checker_tables.proofs.Lone.{single-is, single-as, none-kept, alone-is, known-first, known-more, empty-is, set-of, set-is, with-empty}
+use Rattle.regalloc2_checker_tables.proofs.Lone.{without-lone, both-lone, both-apart, lone-within, lone-less, lone-none, empty-common}
 use Rattle.regalloc2_checker_tables.proofs.sets.Sets.common.Goals as goal
 
-pub returns-clause-more : goal.returns-clause-more
-returns-clause-more g c = added-either c.args.self.now c.add.new.self c.in_ok-both.both c.add.result c.add.ensures.added c.add.ensures.err
+pub returns-then-set-eq0-clause-found : goal.returns-then-set-eq0-clause-found
+returns-then-set-eq0-clause-found g c = record {
+  below = c.requires.set;
+  members = empty-common c.args.self.now c.args.set c.args.other
+      (subst (λ (s : List NumberSet). (y : ℕ) → is_member s 0 y ≡ false) c.self.view_is c.self.invariant.empty) c.if-set-eq0.true;
+}
 
-pub returns-clause-found : goal.returns-clause-found
-returns-clause-found g c =
-    let first = read-is c.self.inside.sets.items c.args.self.now c.args.set c.index-first.result.now [] c.self.view_is c.requires.set c.index-first.ensures in
-    let second = read-is c.self.inside.sets.items c.args.self.now c.args.other c.index-second.result.now [] c.self.view_is c.requires.other
-    c.index-second.ensures
-    in
-    ok-as _ _ c.add.result
-    (λ n e. added-is c.args.self.now c.add.new.self n c.in_ok-both.both
-    (λ y. is_member c.args.self.now c.args.set y && is_member c.args.self.now c.args.other y) e.0 e.1
-    (λ y. c.in_ok-both.ensures y ∙ ap (λ s. has_bits s y && has_bits c.index-second.result.now y) first
-    ∙ ap (λ s. is_member c.args.self.now c.args.set y && has_bits s y) second))
-    c.add.ensures.added
+pub returns-then-is_within-clause-found : goal.returns-then-is_within-clause-found
+returns-then-is_within-clause-found g c = record {
+  below = c.requires.set;
+  members = within-and (is_member c.args.self.now c.args.set) (is_member c.args.self.now c.args.other) c.if-is_within.ensures.yes;
+}
+
+pub returns-in-Some-clause-found : goal.returns-in-Some-clause-found
+returns-in-Some-clause-found g c =
+    set-of c.self.inside.sets.items c.args.self.now 0 _ c.self.view_is
+    (empty-is c.self.inside.sets.items c.self.inside.lone.items _ c.self.invariant
+    (lone-none (is_member c.args.self.now c.args.set) (is_member c.args.self.now c.args.other) c.in-Some._only
+    (c.in-Some.ensures c.in-Some._only refl).members c.if-is_within.ensures.no))

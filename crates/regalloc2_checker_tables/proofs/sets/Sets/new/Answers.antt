@@ -1,11 +1,18 @@
-use Rattle.std.proofs.Common.{ℕ, ◌≡◌, ◌<◌, List, [], ◌∷◌, ◌++◌, arith, true, false, ap, sym, ◌∙◌, refl, cond, nat_eq, nat_lt}
-use Rattle.std.specs.Prelude.{◌&&◌}
-use Rattle.regalloc2_cfg.specs.Numbers.{has_number}
-use Rattle.regalloc2_checker_tables.specs.EntrySets.{has_bits, is_member}
-use Rattle.regalloc2_checker_tables.proofs.Bits.{changed-is, added-is, added-more, same-sets, within-and}
-use Rattle.regalloc2_checker_tables.proofs.Bits.{within-and-right, none-is, alone, ok-as, added-either, read-is}
-use Rattle.std.specs.Prelude.{if◌then◌else◌}
+use Rattle.std.proofs.Common.{ℕ, ◌≡◌, ◌<◌, List, [], ◌∷◌, ◌++◌, arith, Bool, true, false, ap, sym, ◌∙◌, refl, subst, cond, nat_eq, nat_lt}
+use Rattle.std.specs.Prelude.{◌&&◌, if◌then◌else◌, Option, None, Some}
+use Rattle.regalloc2_cfg.specs.Numbers.{NumberSet, has_number, times_in}
+use Rattle.regalloc2_checker_tables.specs.EntrySets.{has_bits, is_member, IsSetOf, AreMore, AreKnown, IsLess}
+use Rattle.regalloc2_checker_tables.proofs.Bits.{added-is, added-more, same-sets, within-and, none-is, ok-as, read-is, bits-in, bits-small, changed-is}
+use Rattle.regalloc2_checker_tables.proofs.Walked.{times-nil, walked-on, walked-is, walked-more, walked-end}
+use Rattle.regalloc2_checker_tables.proofs.Lone.{single-is, single-as, none-kept, alone-is, known-first, known-more, empty-is, set-of, set-is, with-empty}
+use Rattle.regalloc2_checker_tables.proofs.Lone.{without-lone, both-lone, both-apart, lone-within, lone-less, lone-none, empty-common}
 use Rattle.regalloc2_checker_tables.proofs.sets.Sets.new.Goals as goal
+
+pub invariant_of-result : goal.invariant_of-result
+invariant_of-result g c =
+    known-first c.push.new.self.items c.push-2.new.self.items c.new.result
+    (c.in_ok-push.ensures.items ∙ ap (λ l. l ++ c.new.result ∷ []) c.new-sets.ensures.items)
+    (c.in_ok-push-2.ensures.items ∙ ap (λ l. l ++ None ∷ []) c.new-lone.ensures.items) c.new.ensures
 
 pub returns : goal.returns
 returns g c =

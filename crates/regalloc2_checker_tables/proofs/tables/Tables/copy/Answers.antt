@@ -1,17 +1,24 @@
-use Rattle.std.proofs.Common.{ℕ, ◌≡◌, ◌<◌, ◌+◌, List, [], ◌∷◌, ◌++◌, length, get_or, arith, true, false, ap, sym, ◌∙◌, refl, subst, cond, nat_eq, nat_lt}
+use Rattle.std.proofs.Common.{ℕ, ◌≡◌, ◌<◌, ◌+◌, List, [], ◌∷◌, ◌++◌, length, get_or, arith, Bool, true, false, ap, sym, ◌∙◌, refl, subst, cond, nat_eq, nat_lt}
 use Rattle.std.specs.Prelude.{◌&&◌, ◌||◌, if◌then◌else◌, slice_set}
+use Rattle.std.proofs.lemmas.Bool.{eqb-true}
 use Rattle.regalloc2_cfg.specs.Numbers.{NumberSet, has_number}
-use Rattle.regalloc2_checker_tables.specs.SavedCopies.{Copies, saved_at, cell_at}
+use Rattle.regalloc2_checker_tables.specs.SavedNumbers.{Numbers, number_at, number_now}
 use Rattle.regalloc2_checker_tables.specs.EntrySets.{is_member}
-use Rattle.regalloc2_checker_tables.specs.Holding.{Holding, held, holds_now, holds_in, IsHome, AreTables, AreKeptTables, HoldsNow, count_of, is_in}
+use Rattle.regalloc2_checker_tables.specs.Holding.{Holding, held, holds_now, holds_in, IsHome, AreTables, AreKeptTables, HoldsNow, count_of, is_in, AreMoreHomes}
 use Rattle.regalloc2_checker_tables.proofs.Bits.{read-is, same-sets, ok-as}
-use Rattle.regalloc2_checker_tables.proofs.Holders.{homes-same, homes-more, home-here, dropped-less}
-use Rattle.regalloc2_checker_tables.proofs.TableLaws.{more-all, put-all, clear-all, drop-all, drop-kept, drop-now, less_either, on_ok_as, kept_then, load-all}
-use Rattle.regalloc2_checker_tables.proofs.TableLaws.{get-below, listed-times, put-home, homes-kept-at, set-as, kept_same, holders-are, IsChanged}
+use Rattle.regalloc2_checker_tables.proofs.Listed.{at-position, not-listed}
+use Rattle.regalloc2_checker_tables.proofs.Holders.{homes-same, homes-more, home-at, noted-here}
+use Rattle.regalloc2_checker_tables.proofs.TableLaws.{more-all, put-all, less_either, on_ok_as}
+use Rattle.regalloc2_checker_tables.proofs.TableLaws.{get-below, listed-times, put-home, homes-kept-at, kept_same, IsChanged}
 use Rattle.regalloc2_checker_tables.proofs.tables.Tables.copy.Goals as goal
 
-pub members-requires : goal.members-requires
-members-requires g c =
+pub get-set-requires : goal.get-set-requires
+get-set-requires g c =
+    let less : c.args.from < length c.self.inside.places = subst (λ (o : Holding). c.args.from < length o.places) (sym c.self.view_is) c.requires.from in
+    omega (arith, less, c.self.invariant.long)
+
+pub note_set-requires : goal.note_set-requires
+note_set-requires g c =
     let old : Holding = record {
       places = c.self.inside.places;
       vregs = c.self.inside.vregs;
@@ -19,16 +26,15 @@ members-requires g c =
       sets = c.self.inside.sets;
       homes = c.self.inside.homes.items;
     } in
-    get-below old c.args.from c.get-set.result c.self.invariant (subst (λ (o : Holding). c.args.from < length o.places) (sym c.self.view_is) c.requires.from)
-    c.get-set.ensures
-
-pub returns-in_err-members-clause-kept : goal.returns-in_err-members-clause-kept
-returns-in_err-members-clause-kept g c = kept_same c.args.self.now
-
-pub note_all-requires-clause-place : goal.note_all-requires-clause-place
-note_all-requires-clause-place g c =
     let less : c.args.to < length c.self.inside.places = subst (λ (o : Holding). c.args.to < length o.places) (sym c.self.view_is) c.requires.to in
-    omega (arith, less, c.self.invariant.few)
+    record {
+      rising = c.self.invariant.vregs_rise;
+      homes = c.self.invariant.homes_long;
+      set = get-below old c.args.from c.get-set.result c.self.invariant
+          (subst (λ (o : Holding). c.args.from < length o.places) (sym c.self.view_is) c.requires.from) c.get-set.ensures;
+      empty = c.self.invariant.empty.members;
+      place = omega (arith, less, c.self.invariant.few);
+    }
 
 pub invariant_of-self : goal.invariant_of-self
 invariant_of-self g c =
@@ -39,11 +45,11 @@ invariant_of-self g c =
       sets = c.self.inside.sets;
       homes = c.self.inside.homes.items;
     } in
-    (more-all old c.self.inside.sets c.note_all.new.homes.items c.self.invariant (same-sets c.self.inside.sets c.self.inside.sets refl)
-    c.in_err-note_all.ensures.more).tables
+    (more-all old c.self.inside.sets c.note_set.new.homes.items c.self.invariant (same-sets c.self.inside.sets c.self.inside.sets refl)
+    c.in_err-note_set.ensures.more).tables
 
-pub returns-in_err-note_all-clause-kept : goal.returns-in_err-note_all-clause-kept
-returns-in_err-note_all-clause-kept g c =
+pub returns-in_err-note_set-clause-kept : goal.returns-in_err-note_set-clause-kept
+returns-in_err-note_set-clause-kept g c =
     let old : Holding = record {
       places = c.self.inside.places;
       vregs = c.self.inside.vregs;
@@ -51,18 +57,13 @@ returns-in_err-note_all-clause-kept g c =
       sets = c.self.inside.sets;
       homes = c.self.inside.homes.items;
     } in
-    subst (λ (o : Holding). AreKeptTables o (record old { homes = c.note_all.new.homes.items })) c.self.view_is
-    (more-all old c.self.inside.sets c.note_all.new.homes.items c.self.invariant (same-sets c.self.inside.sets c.self.inside.sets refl)
-    c.in_err-note_all.ensures.more).kept
+    subst (λ (o : Holding). AreKeptTables o (record old { homes = c.note_set.new.homes.items })) c.self.view_is
+    (more-all old c.self.inside.sets c.note_set.new.homes.items c.self.invariant (same-sets c.self.inside.sets c.self.inside.sets refl)
+    c.in_err-note_set.ensures.more).kept
 
 pub set-requires : goal.set-requires
 set-requires g c =
     let less : c.args.to < length c.self.inside.places = subst (λ (o : Holding). c.args.to < length o.places) (sym c.self.view_is) c.requires.to in
-    omega (arith, less, c.self.invariant.long)
-
-pub get-set-requires : goal.get-set-requires
-get-set-requires g c =
-    let less : c.args.from < length c.self.inside.places = subst (λ (o : Holding). c.args.from < length o.places) (sym c.self.view_is) c.requires.from in
     omega (arith, less, c.self.invariant.long)
 
 pub invariant_of-self-2 : goal.invariant_of-self-2
@@ -74,12 +75,10 @@ invariant_of-self-2 g c =
       sets = c.self.inside.sets;
       homes = c.self.inside.homes.items;
     } in
-    (put-all old c.note_all.new.homes.items c.args.to c.get-set.result c.set.new.self c.self.invariant
+    (put-all old c.note_set.new.homes.items c.args.to c.get-set.result c.set.new.self c.self.invariant
     (subst (λ (o : Holding). c.args.to < length o.places) (sym c.self.view_is) c.requires.to)
     (get-below old c.args.from c.get-set.result c.self.invariant (subst (λ (o : Holding). c.args.from < length o.places) (sym c.self.view_is) c.requires.from)
-    c.get-set.ensures) c.in_ok-note_all.ensures.more
-    (λ y is. c.in_ok-note_all.ensures.noted y (listed-times (is_member c.self.inside.sets c.get-set.result) c.in_ok-members.members.items c.deref.result.now
-    c.deref.ensures.value c.in_ok-members.ensures y is)) c.set.ensures).tables
+    c.get-set.ensures) c.in_ok-note_set.ensures.more c.in_ok-note_set.ensures.noted c.set.ensures).tables
 
 pub returns-clause-kept : goal.returns-clause-kept
 returns-clause-kept g c =
@@ -90,13 +89,11 @@ returns-clause-kept g c =
       sets = c.self.inside.sets;
       homes = c.self.inside.homes.items;
     } in
-    subst (λ (o : Holding). AreKeptTables o (record old { entries = c.set.new.self; homes = c.note_all.new.homes.items })) c.self.view_is
-    (put-all old c.note_all.new.homes.items c.args.to c.get-set.result c.set.new.self c.self.invariant
+    subst (λ (o : Holding). AreKeptTables o (record old { entries = c.set.new.self; homes = c.note_set.new.homes.items })) c.self.view_is
+    (put-all old c.note_set.new.homes.items c.args.to c.get-set.result c.set.new.self c.self.invariant
     (subst (λ (o : Holding). c.args.to < length o.places) (sym c.self.view_is) c.requires.to)
     (get-below old c.args.from c.get-set.result c.self.invariant (subst (λ (o : Holding). c.args.from < length o.places) (sym c.self.view_is) c.requires.from)
-    c.get-set.ensures) c.in_ok-note_all.ensures.more
-    (λ y is. c.in_ok-note_all.ensures.noted y (listed-times (is_member c.self.inside.sets c.get-set.result) c.in_ok-members.members.items c.deref.result.now
-    c.deref.ensures.value c.in_ok-members.ensures y is)) c.set.ensures).kept
+    c.get-set.ensures) c.in_ok-note_set.ensures.more c.in_ok-note_set.ensures.noted c.set.ensures).kept
 
 pub returns-clause-now : goal.returns-clause-now
 returns-clause-now g c =
@@ -107,12 +104,10 @@ returns-clause-now g c =
       sets = c.self.inside.sets;
       homes = c.self.inside.homes.items;
     } in
-    let p = put-all old c.note_all.new.homes.items c.args.to c.get-set.result c.set.new.self c.self.invariant
+    let p = put-all old c.note_set.new.homes.items c.args.to c.get-set.result c.set.new.self c.self.invariant
     (subst (λ (o : Holding). c.args.to < length o.places) (sym c.self.view_is) c.requires.to)
     (get-below old c.args.from c.get-set.result c.self.invariant (subst (λ (o : Holding). c.args.from < length o.places) (sym c.self.view_is) c.requires.from)
-    c.get-set.ensures) c.in_ok-note_all.ensures.more
-    (λ y is. c.in_ok-note_all.ensures.noted y (listed-times (is_member c.self.inside.sets c.get-set.result) c.in_ok-members.members.items c.deref.result.now
-    c.deref.ensures.value c.in_ok-members.ensures y is)) c.set.ensures in
-    subst (λ (o : Holding). HoldsNow (record old { entries = c.set.new.self; homes = c.note_all.new.homes.items })
+    c.get-set.ensures) c.in_ok-note_set.ensures.more c.in_ok-note_set.ensures.noted c.set.ensures in
+    subst (λ (o : Holding). HoldsNow (record old { entries = c.set.new.self; homes = c.note_set.new.homes.items })
     (λ i y. if nat_eq i c.args.to then holds_now o c.args.from y else holds_now o i y)) c.self.view_is
     (λ i y l. p.now i y l ∙ ap (λ n. if nat_eq i c.args.to then is_member c.self.inside.sets n y else holds_now old i y) c.get-set.ensures)

@@ -1,10 +1,9 @@
-use Rattle.std.proofs.Common.{rules, ℕ, ◌≡◌, ◌<◌, Bool, true, false, refl, sym, ap, ◌∙◌, slice_index, slice_index_or}
-use Rattle.std.specs.Prelude.{Option, None, is_none, is_some}
+use Rattle.std.proofs.Common.{◌≡◌, true, false, refl, sym, ap, ◌∙◌, slice_index_or}
+use Rattle.std.specs.Prelude.{Option, None, is_some}
 use Rattle.regalloc2_names.specs.declared.sets.PRegSet.{PRegSet}
 use Rattle.regalloc2_names.specs.Register.{Register, class_code}
 use Rattle.regalloc2_fastalloc_state.specs.StateParts.{AllocatableRegsValue, scratch_reserve_for}
 use Rattle.regalloc2_fastalloc_state.proofs.ClassIsEmpty.{has_some, none_there, some_there, spare_none, spare_kept, spare_one}
-use Rattle.regalloc2_fastalloc_state.proofs.allocatable.AllocatableRegs.scratch_reserve_of.Given.{Over}
 use Rattle.regalloc2_fastalloc_state.proofs.allocatable.AllocatableRegs.scratch_reserve_of.Goals as goal
 use Rattle.regalloc2_fastalloc_state.proofs.allocatable.AllocatableRegs.scratch_reserve_of.Goals.{then-is_empty, else-is_empty}
 

@@ -17,13 +17,13 @@ use Rattle.regalloc2_fastalloc_walk.proofs.state.State.alloc_block.Goals as goal
 
 pub first-requires : goal.first-requires
 first-requires g c =
-    let f : FunctionValue = g.F.Function.function c.args.f.now in
+    let f : FunctionValue = g.F.Function.function c.args.cx.now.f.now in
     let some = (c.requires.well_formed.1.follow c.args.block c.requires.block).0 in
     subst (λ (r : Span). r.first < r.end) (sym c.block_insns-range.ensures) some
 
 pub loop-i-init : goal.loop-i-init
 loop-i-init g c =
-    let f : FunctionValue = g.F.Function.function c.args.f.now in
+    let f : FunctionValue = g.F.Function.function c.args.cx.now.f.now in
     let t : StateValue = tables_of c.args.self.now in
     let end : c.index-i.result ≡ (block_at f c.args.block).range.end = c.index-i.ensures ∙ c.end.ensures
     ∙ ap (λ (r : Span). r.end) c.block_insns-range.ensures in
@@ -49,7 +49,7 @@ loop-i-init g c =
 
 pub alloc_inst_in_block-requires : goal.alloc_inst_in_block-requires
 alloc_inst_in_block-requires g c =
-    let f : FunctionValue = g.F.Function.function c.args.f.now in
+    let f : FunctionValue = g.F.Function.function c.args.cx.now.f.now in
     let i : ℕ = c.loop-i.i - 1 in
     let at : c.new.result ≡ i = c.new.ensures in
     let next : c.loop-i.i ≡ i + 1 = omega (arith, c.loop-i-test.true) in
@@ -68,14 +68,17 @@ alloc_inst_in_block-requires g c =
               (
                 c.requires.well_formed,
                 (
-                  c.loop-i.invariant.long ∙ c.requires.long,
+                  c.requires.defs,
                   (
-                    apart_kept 6 (tables_of c.args.self.now) (tables_of c.loop-i.self) c.loop-i.invariant.machine c.requires.apart,
+                    c.loop-i.invariant.long ∙ c.requires.long,
                     (
-                      λ k d less. omega (arith, c.loop-i.invariant.later k d less, at, next),
+                      apart_kept 6 (tables_of c.args.self.now) (tables_of c.loop-i.self) c.loop-i.invariant.machine c.requires.apart,
                       (
-                        start ∙ sym (ap (offset_of f) at),
-                        (c.loop-i.auto.allocs ∙ c.requires.allocs_long, λ k less. c.loop-i.invariant.blank k (omega (arith, less, upto))),
+                        λ k d less. omega (arith, c.loop-i.invariant.later k d less, at, next),
+                        (
+                          start ∙ sym (ap (offset_of f) at),
+                          (c.loop-i.auto.allocs ∙ c.requires.allocs_long, λ k less. c.loop-i.invariant.blank k (omega (arith, less, upto))),
+                        ),
                       ),
                     ),
                   ),
@@ -89,7 +92,7 @@ alloc_inst_in_block-requires g c =
 
 pub loop-i-preserved : goal.loop-i-preserved
 loop-i-preserved g c =
-    let f : FunctionValue = g.F.Function.function c.args.f.now in
+    let f : FunctionValue = g.F.Function.function c.args.cx.now.f.now in
     let i : ℕ = c.loop-i.i - 1 in
     let t : StateValue = tables_of c.loop-i.self in
     let u : StateValue = tables_of c.alloc_inst_in_block.new.self in
@@ -128,7 +131,7 @@ loop-i-preserved g c =
 
 pub returns-in_err-alloc_inst_in_block-clause-step : goal.returns-in_err-alloc_inst_in_block-clause-step
 returns-in_err-alloc_inst_in_block-clause-step g c =
-    let f : FunctionValue = g.F.Function.function c.args.f.now in
+    let f : FunctionValue = g.F.Function.function c.args.cx.now.f.now in
     let a : StateValue = tables_of c.args.self.now in
     let L : ℕ → Type 0 = λ n. AddsTempSlotsAtMost (temp_slots_at f n) (tables_of c.loop-i.self) (tables_of c.alloc_inst_in_block.new.self) in
     let m : StateValue = tables_of c.loop-i.self in
@@ -151,20 +154,20 @@ returns-in_err-alloc_inst_in_block-clause-step g c =
 
 pub returns-clause-ok : goal.returns-clause-ok
 returns-clause-ok g c =
-    let f : FunctionValue = g.F.Function.function c.args.f.now in
+    let f : FunctionValue = g.F.Function.function c.args.cx.now.f.now in
     let at_first : c.loop-i.i ≡ (block_at f c.args.block).range.first = omega (arith, c.loop-i-test.false, c.loop-i.invariant.from, c.loop-i.invariant.first) in
     subst (λ (n : ℕ). AllocsBlockInsts f c.args.block c.args.allocs.now (tables_of c.args.self.now) n c.loop-i.allocs (tables_of c.loop-i.self)) at_first
     c.loop-i.invariant.walks
 
 pub returns-clause-no_places : goal.returns-clause-no_places
 returns-clause-no_places g c =
-    let f : FunctionValue = g.F.Function.function c.args.f.now in
+    let f : FunctionValue = g.F.Function.function c.args.cx.now.f.now in
     let at_first : c.loop-i.i ≡ (block_at f c.args.block).range.first = omega (arith, c.loop-i-test.false, c.loop-i.invariant.from, c.loop-i.invariant.first) in
     λ k less. c.loop-i.invariant.blank k (let e = ap (offset_of f) at_first in omega (arith, less, e))
 
 pub returns-clause-step : goal.returns-clause-step
 returns-clause-step g c =
-    let f : FunctionValue = g.F.Function.function c.args.f.now in
+    let f : FunctionValue = g.F.Function.function c.args.cx.now.f.now in
     let at_first : c.loop-i.i ≡ (block_at f c.args.block).range.first = omega (arith, c.loop-i-test.false, c.loop-i.invariant.from, c.loop-i.invariant.first) in
     record {
       machine = c.loop-i.invariant.machine;
@@ -175,7 +178,7 @@ returns-clause-step g c =
 
 pub returns-in_err-alloc_inst_in_block-clause-stops : goal.returns-in_err-alloc_inst_in_block-clause-stops
 returns-in_err-alloc_inst_in_block-clause-stops g c =
-    let f : FunctionValue = g.F.Function.function c.args.f.now in
+    let f : FunctionValue = g.F.Function.function c.args.cx.now.f.now in
     let i : ℕ = c.loop-i.i - 1 in
     let next : c.loop-i.i ≡ i + 1 = omega (arith, c.loop-i-test.true) in
     let m : StateValue = tables_of c.loop-i.self in
@@ -193,6 +196,6 @@ returns-in_err-alloc_inst_in_block-clause-stops g c =
 
 pub returns-clause-spill_free : goal.returns-clause-spill_free
 returns-clause-spill_free g c = λ names few asks h.
-    let f : FunctionValue = g.F.Function.function c.args.f.now in
+    let f : FunctionValue = g.F.Function.function c.args.cx.now.f.now in
     let at_first : c.loop-i.i ≡ (block_at f c.args.block).range.first = omega (arith, c.loop-i-test.false, c.loop-i.invariant.from, c.loop-i.invariant.first) in
     subst (λ (n : ℕ). IsSpillFreeFrom names f n c.loop-i.self.registers (tables_of c.loop-i.self)) at_first (c.loop-i.invariant.spill_free names few asks h)

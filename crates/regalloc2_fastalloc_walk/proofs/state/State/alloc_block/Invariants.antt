@@ -13,19 +13,20 @@ use Rattle.regalloc2_fastalloc_walk.proofs.state.State.alloc_block.Given as goal
 
 abbrev pub invariant-loop-i : goal.invariant-loop-i
 invariant-loop-i g l = record {
-  first : l.first ≡ (block_at (g.F.Function.function l.f) l.block).range.first;
+  first : l.first ≡ (block_at (g.F.Function.function l.cx.f.now) l.block).range.first;
   from : l.first ≤ l.i;
-  within : l.i ≤ (block_at (g.F.Function.function l.f) l.block).range.end;
-  inside : l.i ≤ length (g.F.Function.function l.f).insts;
-  walks : AllocsBlockInsts (g.F.Function.function l.f) l.block l.fn.allocs (tables_of l.fn.self) l.i l.allocs (tables_of l.self);
-  blank : (k : ℕ) → k < offset_of (g.F.Function.function l.f) l.i → slice_index_or l.allocs k NoPlace ≡ NoPlace;
+  within : l.i ≤ (block_at (g.F.Function.function l.cx.f.now) l.block).range.end;
+  inside : l.i ≤ length (g.F.Function.function l.cx.f.now).insts;
+  walks : AllocsBlockInsts (g.F.Function.function l.cx.f.now) l.block l.fn.allocs (tables_of l.fn.self) l.i l.allocs (tables_of l.self);
+  blank : (k : ℕ) → k < offset_of (g.F.Function.function l.cx.f.now) l.i → slice_index_or l.allocs k NoPlace ≡ NoPlace;
   later : AllAtOrAfter (before l.i) l.self.edits;
   long : length l.self.places.vreg_allocs ≡ length l.fn.self.places.vreg_allocs;
   machine : AddsTempSlotsAtMost 6 (tables_of l.fn.self) (tables_of l.self);
-  spill_free : (names : List VirtualRegister) → FitInRegs names l.fn.self.registers.allocatable → HasRegOperandsOnly names (g.F.Function.function l.f) →
-      IsSpillFreeFrom names (g.F.Function.function l.f) (block_at (g.F.Function.function l.f) l.block).range.end l.fn.self.registers (tables_of l.fn.self)
-      → IsSpillFreeFrom names (g.F.Function.function l.f) l.i l.self.registers (tables_of l.self);
-  begun : l.i ≡ (block_at (g.F.Function.function l.f) l.block).range.end → AddsTempSlotsAtMost 0 (tables_of l.fn.self) (tables_of l.self);
+  spill_free : (names : List VirtualRegister) → FitInRegs names l.fn.self.registers.allocatable → HasRegOperandsOnly names (g.F.Function.function l.cx.f.now) →
+      IsSpillFreeFrom names (g.F.Function.function l.cx.f.now) (block_at (g.F.Function.function l.cx.f.now) l.block).range.end l.fn.self.registers
+      (tables_of l.fn.self)
+      → IsSpillFreeFrom names (g.F.Function.function l.cx.f.now) l.i l.self.registers (tables_of l.self);
+  begun : l.i ≡ (block_at (g.F.Function.function l.cx.f.now) l.block).range.end → AddsTempSlotsAtMost 0 (tables_of l.fn.self) (tables_of l.self);
 }
 
 abbrev pub decreases-loop-i : goal.decreases-loop-i

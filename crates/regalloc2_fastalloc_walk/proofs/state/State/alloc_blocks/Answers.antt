@@ -1,22 +1,18 @@
 use Rattle.std.proofs.Common.{[], ℕ, ◌≡◌, ◌+◌, ◌-◌, ◌*◌, ◌<◌, List, length, refl, sym, ap, ◌∙◌, subst, rules, arith}
-use Rattle.std.specs.Prelude.{All}
 use Rattle.std.proofs.lemmas.Result.{err_from_is_err_and}
-use Rattle.regalloc2_index.specs.Range.{Span}
 use Rattle.regalloc2_names.specs.Point.{before}
-use Rattle.regalloc2_names.specs.Register.{VirtualRegister}
 use Rattle.regalloc2_function.specs.OutputValue.{MoveValue}
 use Rattle.regalloc2_function.specs.FunctionValue.{FunctionValue, block_at}
-use Rattle.regalloc2_fastalloc_proofs.specs.BlockStart.{ReloadsAtBegin}
 use Rattle.regalloc2_fastalloc_state.specs.OutOfResources.{IsResourceError, SlotsExhaustedWith}
 use Rattle.regalloc2_fastalloc_state.specs.StateParts.{AllAtOrAfter}
 use Rattle.regalloc2_fastalloc_proofs.specs.InstSteps.{StateValue}
-use Rattle.regalloc2_fastalloc_proofs.specs.OutOfRegs.{AllocBlockInstsFails, ReloadAtBeginFails, in_block, at_beginning}
+use Rattle.regalloc2_fastalloc_proofs.specs.OutOfRegs.{AllocBlockInstsFails, in_block, at_beginning, at_stores}
+use Rattle.regalloc2_fastalloc_walk.specs.BranchStores.{BeginBlockFails, at_reloads, at_its_stores}
 use Rattle.regalloc2_fastalloc_walk.specs.StateView.{tables_of}
-use Rattle.regalloc2_fastalloc_proofs.specs.BlockSteps.{AllocsBlockInsts, AllocsBlocks, all_left, one_block, offset_of}
-use Rattle.regalloc2_fastalloc_proofs.proofs.Safety.StateKept.{none_lends, same_lends, lends_then, apart_kept, lacks_all, lack_all, block_within, joins_at}
-use Rattle.regalloc2_fastalloc_proofs.proofs.Safety.StateKept.{params_known}
+use Rattle.regalloc2_fastalloc_proofs.specs.BlockSteps.{AllocsBlockInsts, AllocsBlocks, BeginsBlock, all_left, one_block, offset_of}
+use Rattle.regalloc2_fastalloc_proofs.proofs.Safety.StateKept.{none_lends, same_lends, lends_then, apart_kept, lacks_all, lack_all, joins_at}
 use Rattle.regalloc2_fastalloc_state.specs.StateParts.{AllocatableRegsValue}
-use Rattle.regalloc2_fastalloc_walk.proofs.BlockSpillFree.{no_params, nobody_left, none_left_over}
+use Rattle.regalloc2_fastalloc_walk.proofs.BlockSpillFree.{no_params, nobody_left, none_is_stored, none_left_over}
 use Rattle.regalloc2_fastalloc_walk.specs.SpillFree.{FitInRegs, IsSpillFreeFrom}
 use Rattle.regalloc2_fastalloc_walk.proofs.state.State.alloc_blocks.Goals as goal
 
@@ -50,18 +46,21 @@ alloc_block-requires g c =
         (
           c.requires.well_formed,
           (
-            c.loop-b.invariant.long ∙ c.requires.long,
+            c.in_ok-defs.ensures.ok,
             (
-              apart_kept _ (tables_of c.args.self.now) (tables_of c.loop-b.self) c.loop-b.invariant.machine c.requires.apart,
+              c.loop-b.invariant.long ∙ c.requires.long,
               (
-                subst Q (sym same) (c.loop-b.invariant.later some),
+                apart_kept _ (tables_of c.args.self.now) (tables_of c.loop-b.self) c.loop-b.invariant.machine c.requires.apart,
                 (
-                  c.requires.offsets_long,
+                  subst Q (sym same) (c.loop-b.invariant.later some),
                   (
-                    c.requires.offsets,
+                    c.requires.offsets_long,
                     (
-                      c.loop-b.auto.allocs ∙ c.requires.allocs_long,
-                      λ k less. c.loop-b.invariant.blank some k (let e = ap (λ (n : ℕ). offset_of f (block_at f n).range.end) same in omega (arith, less, e)),
+                      c.requires.offsets,
+                      (
+                        c.loop-b.auto.allocs ∙ c.requires.allocs_long,
+                        λ k less. c.loop-b.invariant.blank some k (let e = ap (λ (n : ℕ). offset_of f (block_at f n).range.end) same in omega (arith, less, e)),
+                      ),
                     ),
                   ),
                 ),
@@ -72,32 +71,29 @@ alloc_block-requires g c =
       ),
     )
 
-pub first-first-requires : goal.first-first-requires
-first-first-requires g c =
+pub begin_block-requires : goal.begin_block-requires
+begin_block-requires g c =
     let f : FunctionValue = g.F.Function.function c.args.f.now in
     let same : c.new-block.result ≡ c.loop-b.b - 1 = c.new-block.ensures in
-    let some = (c.requires.well_formed.1.follow c.new-block.result (omega (arith, same, c.loop-b-test.true, c.loop-b.invariant.within))).0 in
-    subst (λ (r : Span). r.first < r.end) (sym c.block_insns.ensures) some
-
-pub reload_at_begin-requires : goal.reload_at_begin-requires
-reload_at_begin-requires g c =
-    let f : FunctionValue = g.F.Function.function c.args.f.now in
-    let b : ℕ = c.new-block.result in
-    let same : b ≡ c.loop-b.b - 1 = c.new-block.ensures in
-    let lt : b < length f.blocks = omega (arith, same, c.loop-b-test.true, c.loop-b.invariant.within) in
-    let first : c.first-first.result ≡ (block_at f b).range.first = c.first-first.ensures ∙ ap (λ (r : Span). r.first) c.block_insns.ensures in
-    let some = (c.requires.well_formed.1.follow b lt).0 in
-    let within = block_within f c.requires.well_formed.1.follow b lt in
-    let few = (g.met.F.Function.limited c.args.f.now).insts in
-    let long : length c.alloc_block.new.self.places.vreg_allocs ≡ f.num_vregs = c.in_ok-alloc_block.ensures.step.long ∙ c.loop-b.invariant.long
-    ∙ c.requires.long in (
+    let lt : c.new-block.result < length f.blocks = omega (arith, same, c.loop-b-test.true, c.loop-b.invariant.within) in
+    let machine = lends_then (6 * (length f.blocks - c.loop-b.b)) 6 (6 * (length f.blocks - c.loop-b.b) + 6) (tables_of c.args.self.now) (tables_of
+    c.loop-b.self)
+    (tables_of c.alloc_block.new.self) (omega arith) c.loop-b.invariant.machine c.alloc_block.ensures.step.machine in (
       search rules,
       (
-        omega (arith, first, some, within, few),
+        lt,
         (
-          subst (λ (n : ℕ). AllAtOrAfter (before n) c.alloc_block.new.self.edits) (sym first) c.in_ok-alloc_block.ensures.step.later,
-          subst (λ (vs : List VirtualRegister). All (λ v. v.number < length c.alloc_block.new.self.places.vreg_allocs) vs) (sym c.block_params.ensures)
-              (params_known f c.requires.well_formed.1.defined_once _ b long lt),
+          c.requires.well_formed,
+          (
+            c.in_ok-defs.ensures.ok,
+            (
+              c.in_ok-alloc_block.ensures.step.long ∙ c.loop-b.invariant.long ∙ c.requires.long,
+              (
+                apart_kept _ (tables_of c.args.self.now) (tables_of c.alloc_block.new.self) machine c.requires.apart,
+                c.in_ok-alloc_block.ensures.step.later,
+              ),
+            ),
+          ),
         ),
       ),
     )
@@ -110,31 +106,26 @@ loop-b-preserved g c =
     let a : StateValue = tables_of c.args.self.now in
     let t : StateValue = tables_of c.loop-b.self in
     let u : StateValue = tables_of c.alloc_block.new.self in
-    let w : StateValue = tables_of c.reload_at_begin.new.self in
+    let w : StateValue = tables_of c.begin_block.new.self in
     let same : d ≡ b = c.new-block.ensures in
     let next : c.loop-b.b ≡ b + 1 = omega (arith, c.loop-b-test.true) in
     let lt : b < length f.blocks = omega (arith, next, c.loop-b.invariant.within) in
-    let first : c.first-first.result ≡ (block_at f d).range.first = c.first-first.ensures ∙ ap (λ (r : Span). r.first) c.block_insns.ensures in
-    let first2 : c.first-first.result ≡ (block_at f b).range.first = first ∙ ap (λ (n : ℕ). (block_at f n).range.first) same in
     let P : ℕ → Type 0 = λ n. AllocsBlocks f c.args.allocs.now a n c.loop-b.allocs t in
     let I : ℕ → Type 0 = λ n. AllocsBlockInsts f n c.loop-b.allocs t (block_at f n).range.first c.alloc_block.new.allocs u in
-    let B : ℕ → List VirtualRegister → Type 0 = λ n vs. ReloadsAtBegin (before n) vs u w in
-    let begins : B (block_at f b).range.first (block_at f b).params =
-    subst (λ (n : ℕ). B n (block_at f b).params) first2
-    (subst (λ (vs : List VirtualRegister). B c.first-first.result vs) (c.block_params.ensures ∙ ap (λ (n : ℕ). (block_at f n).params) same)
-    c.in_ok-reload_at_begin.ensures.ok) in
+    let first : (block_at f d).range.first ≡ (block_at f b).range.first = ap (λ (n : ℕ). (block_at f n).range.first) same in
+    let begins : BeginsBlock f b u w = subst (λ (n : ℕ). BeginsBlock f n u w) same c.in_ok-begin_block.ensures.ok in
     let joins : 0 < b → (block_at f (b - 1)).range.end ≡ (block_at f b).range.first = joins_at f c.requires.well_formed.1.follow b lt in
-    let N : ℕ → Type 0 = λ n. AllAtOrAfter (before n) c.reload_at_begin.new.self.edits in
+    let N : ℕ → Type 0 = λ n. AllAtOrAfter (before n) c.begin_block.new.self.edits in
     record {
       within = omega (arith, c.loop-b.invariant.within);
       walks = one_block b c.loop-b.allocs c.alloc_block.new.allocs t u w lt (subst P next c.loop-b.invariant.walks)
           (subst I same c.in_ok-alloc_block.ensures.ok) begins;
       blank = λ some k less. c.in_ok-alloc_block.ensures.no_places k
           (let e = ap (offset_of f) (joins some) in let h = ap (λ (n : ℕ). offset_of f (block_at f n).range.first) same in omega (arith, less, e, h));
-      later = λ some. subst N (first2 ∙ sym (joins some)) c.in_ok-reload_at_begin.ensures.step.later;
-      long = c.in_ok-reload_at_begin.ensures.step.long ∙ c.in_ok-alloc_block.ensures.step.long ∙ c.loop-b.invariant.long;
+      later = λ some. subst N (first ∙ sym (joins some)) c.in_ok-begin_block.ensures.step.later;
+      long = c.in_ok-begin_block.ensures.step.long ∙ c.in_ok-alloc_block.ensures.step.long ∙ c.loop-b.invariant.long;
       machine = lends_then (6 * (length f.blocks - c.loop-b.b)) 6 _ a t w (omega (arith, next, lt)) c.loop-b.invariant.machine
-          (lends_then 6 0 6 t u w (omega arith) c.alloc_block.ensures.step.machine (same_lends 0 u w c.reload_at_begin.ensures.step.machine));
+          (lends_then 6 0 6 t u w (omega arith) c.alloc_block.ensures.step.machine (same_lends 0 u w c.begin_block.ensures.step.machine));
       begins = λ e. absurd (omega (arith, e, lt));
       spill_free = λ zero names few asks h.
           let whole : c.loop-b.b ≡ length f.blocks = omega (arith, next, zero, asks.one_block) in
@@ -152,9 +143,10 @@ loop-b-preserved g c =
           u = subst (λ (n : ℕ). IsSpillFreeFrom names f n c.alloc_block.new.self.registers u) begin
           (c.in_ok-alloc_block.ensures.spill_free names few_now asks at_end) in
           let nobody = nobody_left f c.requires.well_formed.0 names c.alloc_block.new.self.registers u c.requires.well_formed.1 asks done in
-          let params : c.block_params.result.now ≡ [] = c.block_params.ensures ∙ ap (λ (n : ℕ). (block_at f n).params) same
+          let params : (block_at f d).params ≡ [] = ap (λ (n : ℕ). (block_at f n).params) same
           ∙ no_params f c.requires.well_formed.0 names b c.requires.well_formed.1 asks lt in
-          let kept : w ≡ u = c.in_ok-reload_at_begin.ensures.nobody nobody params in
+          let kept : w ≡ u = c.in_ok-begin_block.ensures.nobody nobody params (λ e k j v slots edge stored.
+          none_is_stored f c.requires.well_formed.0 names c.requires.well_formed.1 asks d e k j v slots edge stored) in
           let none = none_left_over f c.requires.well_formed.0 names c.alloc_block.new.self.registers u done in
           (ap (λ (x : StateValue). x.edits) kept ∙ none.0, ap (λ (x : StateValue). x.slots.count) kept ∙ none.1);
     }
@@ -165,40 +157,40 @@ returns-in_err-alloc_block-clause-machine g c =
     lends_then (6 * (length f.blocks - c.loop-b.b)) 6 _ (tables_of c.args.self.now) (tables_of c.loop-b.self) (tables_of c.alloc_block.new.self)
     (omega (arith, c.loop-b-test.true, c.loop-b.invariant.within)) c.loop-b.invariant.machine c.alloc_block.ensures.step.machine
 
-pub returns-in_err-reload_at_begin-clause-machine : goal.returns-in_err-reload_at_begin-clause-machine
-returns-in_err-reload_at_begin-clause-machine g c =
+pub returns-in_err-begin_block-clause-machine : goal.returns-in_err-begin_block-clause-machine
+returns-in_err-begin_block-clause-machine g c =
     let f : FunctionValue = g.F.Function.function c.args.f.now in
     let t : StateValue = tables_of c.loop-b.self in
     let u : StateValue = tables_of c.alloc_block.new.self in
-    let w : StateValue = tables_of c.reload_at_begin.new.self in
+    let w : StateValue = tables_of c.begin_block.new.self in
     lends_then (6 * (length f.blocks - c.loop-b.b)) 6 _ (tables_of c.args.self.now) t w (omega (arith, c.loop-b-test.true, c.loop-b.invariant.within))
     c.loop-b.invariant.machine
-    (lends_then 6 0 6 t u w (omega arith) c.alloc_block.ensures.step.machine (same_lends 0 u w c.reload_at_begin.ensures.step.machine))
+    (lends_then 6 0 6 t u w (omega arith) c.alloc_block.ensures.step.machine (same_lends 0 u w c.begin_block.ensures.step.machine))
 
 pub returns-in_err-alloc_block-clause-err : goal.returns-in_err-alloc_block-clause-err
 returns-in_err-alloc_block-clause-err g c =
     let f : FunctionValue = g.F.Function.function c.args.f.now in
     let a : StateValue = tables_of c.args.self.now in
     let most : ℕ = 6 * length f.blocks in
-    let p = err_from_is_err_and c.from_residual.result c.from_residual.ensures.1 in
+    let p = err_from_is_err_and c.from_residual-in_err-alloc_block.result c.from_residual-in_err-alloc_block.ensures.1 in
     rw p.1 (subst (IsResourceError (SlotsExhaustedWith a.slots (a.slots.num_temp_slots + most))) (sym p.2)
     (lacks_all (6 * (length f.blocks - c.loop-b.b)) 6 most a (tables_of c.loop-b.self) c.loop-b.invariant.machine
     (omega (arith, c.loop-b-test.true, c.loop-b.invariant.within)) _ c.in_err-alloc_block.ensures.step.err))
 
-pub returns-in_err-reload_at_begin-clause-err : goal.returns-in_err-reload_at_begin-clause-err
-returns-in_err-reload_at_begin-clause-err g c =
+pub returns-in_err-begin_block-clause-err : goal.returns-in_err-begin_block-clause-err
+returns-in_err-begin_block-clause-err g c =
     let f : FunctionValue = g.F.Function.function c.args.f.now in
     let a : StateValue = tables_of c.args.self.now in
     let t : StateValue = tables_of c.loop-b.self in
     let u : StateValue = tables_of c.alloc_block.new.self in
-    let w : StateValue = tables_of c.reload_at_begin.new.self in
+    let w : StateValue = tables_of c.begin_block.new.self in
     let most : ℕ = 6 * length f.blocks in
-    let p = err_from_is_err_and c.from_residual-in_err-reload_at_begin.result c.from_residual-in_err-reload_at_begin.ensures.1 in
+    let p = err_from_is_err_and c.from_residual-in_err-begin_block.result c.from_residual-in_err-begin_block.ensures.1 in
     rw p.1 (subst (IsResourceError (SlotsExhaustedWith a.slots (a.slots.num_temp_slots + most))) (sym p.2)
     (lack_all most most a w
     (lends_then (6 * (length f.blocks - c.loop-b.b)) 6 most a t w (omega (arith, c.loop-b-test.true, c.loop-b.invariant.within)) c.loop-b.invariant.machine
-    (lends_then 6 0 6 t u w (omega arith) c.alloc_block.ensures.step.machine (same_lends 0 u w c.reload_at_begin.ensures.step.machine)))
-    (omega arith) _ c.in_err-reload_at_begin.ensures.step.err))
+    (lends_then 6 0 6 t u w (omega arith) c.alloc_block.ensures.step.machine (same_lends 0 u w c.begin_block.ensures.step.machine)))
+    (omega arith) _ c.in_err-begin_block.ensures.step.err))
 
 pub returns-clause-ok : goal.returns-clause-ok
 returns-clause-ok g c =
@@ -221,29 +213,32 @@ returns-in_err-alloc_block-clause-stops g c =
     let t : StateValue = tables_of c.loop-b.self in
     let next : c.loop-b.b ≡ b + 1 = omega (arith, c.loop-b-test.true) in
     let P : ℕ → Type 0 = λ n. AllocsBlocks f c.args.allocs.now (tables_of c.args.self.now) n c.loop-b.allocs t in
-    let e = err_from_is_err_and c.from_residual.result c.from_residual.ensures.1 in
+    let e = err_from_is_err_and c.from_residual-in_err-alloc_block.result c.from_residual-in_err-alloc_block.ensures.1 in
     rw e.1 (λ lacks. in_block b c.loop-b.allocs t (omega (arith, next, c.loop-b.invariant.within)) (subst P next c.loop-b.invariant.walks)
     (subst (λ (n : ℕ). AllocBlockInstsFails f n c.loop-b.allocs t) c.new-block.ensures (c.in_err-alloc_block.ensures.stops (sym e.2 ∙ lacks))))
 
-pub returns-in_err-reload_at_begin-clause-stops : goal.returns-in_err-reload_at_begin-clause-stops
-returns-in_err-reload_at_begin-clause-stops g c =
+pub returns-in_err-begin_block-clause-stops : goal.returns-in_err-begin_block-clause-stops
+returns-in_err-begin_block-clause-stops g c =
     let f : FunctionValue = g.F.Function.function c.args.f.now in
     let b : ℕ = c.loop-b.b - 1 in
-    let d : ℕ = c.new-block.result in
     let t : StateValue = tables_of c.loop-b.self in
     let u : StateValue = tables_of c.alloc_block.new.self in
-    let same : d ≡ b = c.new-block.ensures in
+    let same : c.new-block.result ≡ b = c.new-block.ensures in
     let next : c.loop-b.b ≡ b + 1 = omega (arith, c.loop-b-test.true) in
-    let first : c.first-first.result ≡ (block_at f b).range.first = c.first-first.ensures ∙ ap (λ (r : Span). r.first) c.block_insns.ensures
-    ∙ ap (λ (n : ℕ). (block_at f n).range.first) same in
+    let lt : b < length f.blocks = omega (arith, next, c.loop-b.invariant.within) in
     let P : ℕ → Type 0 = λ n. AllocsBlocks f c.args.allocs.now (tables_of c.args.self.now) n c.loop-b.allocs t in
     let I : ℕ → Type 0 = λ n. AllocsBlockInsts f n c.loop-b.allocs t (block_at f n).range.first c.alloc_block.new.allocs u in
-    let e = err_from_is_err_and c.from_residual-in_err-reload_at_begin.result c.from_residual-in_err-reload_at_begin.ensures.1 in
-    rw e.1 (λ lacks. at_beginning b c.loop-b.allocs c.alloc_block.new.allocs t u (omega (arith, next, c.loop-b.invariant.within))
-    (subst P next c.loop-b.invariant.walks) (subst I same c.in_ok-alloc_block.ensures.ok)
-    (subst (λ (n : ℕ). ReloadAtBeginFails (before n) (block_at f b).params u) first
-    (subst (λ (vs : List VirtualRegister). ReloadAtBeginFails (before c.first-first.result) vs u)
-    (c.block_params.ensures ∙ ap (λ (n : ℕ). (block_at f n).params) same) (c.in_err-reload_at_begin.ensures.stops (sym e.2 ∙ lacks)))))
+    let e = err_from_is_err_and c.from_residual-in_err-begin_block.result c.from_residual-in_err-begin_block.ensures.1 in
+    rw e.1 (λ lacks. elim (subst (λ (n : ℕ). BeginBlockFails f n u) same (c.in_err-begin_block.ensures.stops (sym e.2 ∙ lacks))) [
+      | at_reloads h ↦ at_beginning b c.loop-b.allocs c.alloc_block.new.allocs t u lt (subst P next c.loop-b.invariant.walks)
+          (subst I same c.in_ok-alloc_block.ensures.ok) h
+      | at_its_stores m r h ↦ at_stores b c.loop-b.allocs c.alloc_block.new.allocs t u m lt (subst P next c.loop-b.invariant.walks)
+          (subst I same c.in_ok-alloc_block.ensures.ok) r h
+    ])
+
+-- where there is no memory for what branches define
+pub returns-in_err-defs-clause-machine : goal.returns-in_err-defs-clause-machine
+returns-in_err-defs-clause-machine g c = none_lends _ (tables_of c.args.self.now)
 
 pub returns-clause-spill_free : goal.returns-clause-spill_free
 returns-clause-spill_free g c = λ names few asks h. (let e : c.loop-b.b ≡ 0 = omega (arith, c.loop-b-test.false) in

@@ -3,8 +3,9 @@ use Rattle.regalloc2_names.specs.Place.{NoPlace, InRegister}
 use Rattle.regalloc2_fastalloc_proofs.specs.InstSteps.{IsAffordable, fixed, free, slot}
 use Rattle.regalloc2_semantics.proofs.Forms.{same_register}
 use Rattle.regalloc2_fastalloc_walk.specs.StateView.{tables_of}
+use Rattle.regalloc2_fastalloc_proofs.proofs.Operands.RecordOverState.{no_register_slot}
 use Rattle.regalloc2_fastalloc_proofs.proofs.Operands.SelectedPlace.{wanted_rest}
-use Rattle.regalloc2_fastalloc_state.specs.declared.request.Requirement.TheVariants.{AnyReg, InPReg}
+use Rattle.regalloc2_fastalloc_state.specs.declared.request.Requirement.TheVariants.{AnyPlace, AnyReg, InPReg}
 use Rattle.regalloc2_fastalloc_walk.specs.SpillFree.{least_recently_used_free}
 use Rattle.regalloc2_fastalloc_walk.proofs.state.State.alloc_new_place.Goals as goal
 
@@ -24,6 +25,7 @@ returns-in-Some g c = record {
   stops = tt;
   registers = refl;
   chooses = λ any unsuited. (let o = c.in-Some.ensures.oldest in least_recently_used_free o.0 c.in-Some.preg unsuited o.1 o.2 c.reg-in-Some.ensures);
+  awaited = λ any def r e. c.in-Some.ensures.awaited any def;
 }
 
 pub returns-clause-ok : goal.returns-clause-ok
@@ -51,6 +53,7 @@ returns-then-is_any_register g c = record {
   err = tt;
   registers = tt;
   chooses = tt;
+  awaited = tt;
   stops = λ same. (let any = c.is_any_register.ensures.0 c.if-is_any_register.true in (any, c.in_default-select_free_reg.ensures.none any));
 }
 
@@ -60,3 +63,10 @@ returns-in-InPReg-clause-chooses g c = λ any unsuited. absurd (let no : InPReg 
 
 pub returns-clause-chooses : goal.returns-clause-chooses
 returns-clause-chooses g c = λ any unsuited. absurd (let t = c.is_any_register.ensures.1 any in let f = c.if-is_any_register.false in cc)
+
+-- a register is taken only for a vreg that is somewhere
+pub returns-in-InPReg-clause-awaited : goal.returns-in-InPReg-clause-awaited
+returns-in-InPReg-clause-awaited g c = λ any def r e. absurd (let no : InPReg c.in-InPReg.preg ≡ AnyPlace = sym c.in-InPReg.is ∙ any in cc)
+
+pub returns-clause-awaited : goal.returns-clause-awaited
+returns-clause-awaited g c = λ any def r e. absurd (no_register_slot _ _ r c.in_ok-slot.ensures.ok.below e)

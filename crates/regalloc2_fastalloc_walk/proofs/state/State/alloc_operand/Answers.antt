@@ -22,6 +22,7 @@ returns-clause-ok g c = record {
   occupies = occupies_counted c.args.point c.args.request.now c.in_ok-place.place c.args.inst_regs.now c.claim_place.new.inst_regs c.note_placed.new.inst_regs
       (tables_of c.select_place.new.self) (tables_of c.claim_place.new.self) c.in_ok-claim_place.ensures.ok c.note_placed.ensures.sets;
   affordable = c.in_ok-place.ensures.affordable;
+  awaited_in = c.in_ok-place.ensures.awaited_in;
 }
 
 pub returns-in_err-claim_place-clause-stops : goal.returns-in_err-claim_place-clause-stops

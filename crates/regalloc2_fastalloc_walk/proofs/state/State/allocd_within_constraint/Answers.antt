@@ -1,3 +1,5 @@
+use Rattle.std.proofs.Common.{ap, ◌∙◌}
+use Rattle.regalloc2_names.specs.Place.{is_place}
 use Rattle.regalloc2_fastalloc_walk.specs.StateView.{tables_of}
 use Rattle.regalloc2_fastalloc_proofs.proofs.Operands.SelectedPlace.{suits_anywhere, suits_any, suits_memory, suits_at}
 use Rattle.regalloc2_fastalloc_walk.proofs.state.State.allocd_within_constraint.Goals as goal
@@ -13,4 +15,5 @@ returns-in-InMemory g c = suits_memory (tables_of c.args.self.now) c.args.requir
     c.is_stack-in-InMemory.ensures
 
 pub returns-in-InPReg : goal.returns-in-InPReg
-returns-in-InPReg g c = suits_at (tables_of c.args.self.now) c.args.requirement c.args.place c.in-InPReg.preg c.is_at.result c.in-InPReg.is c.is_at.ensures
+returns-in-InPReg g c = suits_at (tables_of c.args.self.now) c.args.requirement c.args.place c.in-InPReg.preg c.is_same.result c.in-InPReg.is
+    (c.is_same.ensures.test ∙ ap (is_place c.args.place) c.reg.ensures)

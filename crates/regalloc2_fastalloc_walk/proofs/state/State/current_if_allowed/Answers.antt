@@ -1,8 +1,8 @@
-use Rattle.std.proofs.Common.{sym, subst, ◌∙◌}
-use Rattle.regalloc2_names.specs.Place.{Place}
+use Rattle.std.proofs.Common.{◌≢◌, sym, subst, ◌∙◌}
+use Rattle.regalloc2_names.specs.Place.{Place, NoPlace}
 use Rattle.regalloc2_fastalloc_state.specs.declared.request.Requirement.{Requirement}
-use Rattle.regalloc2_fastalloc_state.specs.declared.request.Requirement.TheVariants.{AnyReg}
-use Rattle.regalloc2_fastalloc_proofs.specs.InstSteps.{MeetsRequirement}
+use Rattle.regalloc2_fastalloc_state.specs.declared.request.Requirement.TheVariants.{AnyPlace, AnyReg}
+use Rattle.regalloc2_fastalloc_proofs.specs.InstSteps.{StateValue, MeetsRequirement}
 use Rattle.regalloc2_fastalloc_walk.specs.StateView.{tables_of}
 use Rattle.regalloc2_fastalloc_walk.proofs.OperandTakesFreeReg.{no_place_is, suits_none}
 use Rattle.regalloc2_fastalloc_walk.proofs.state.State.current_if_allowed.Goals.{then-is_none-via-then-is_none}
@@ -25,4 +25,23 @@ returns-then-is_none-clause-none g c = λ any suits.
       | then-is_none-via-else-is_none+then-not-allocd_within_constraint w ↦
           (let meets = w.allocd_within_constraint.ensures.1 (subst (λ (x : Requirement). MeetsRequirement t x c.current_alloc-current.result) (sym any) there)
           in let fails = w.if-not-allocd_within_constraint.true in cc)
+    ]
+
+-- a place that is there will do where any place will
+any_place : (t : StateValue) (p : Place) → p ≢ NoPlace → MeetsRequirement t AnyPlace p
+unfolding MeetsRequirement
+any_place t p h = h
+
+-- where any place will do, one that it has is refused for being a register
+pub returns-then-is_none-clause-leaves : goal.returns-then-is_none-clause-leaves
+returns-then-is_none-clause-leaves g c = λ any there.
+    let t = tables_of c.args.self.now in
+    elim c.then-is_none.branch [
+      | then-is_none-via-then-is_none w ↦ absurd (there (sym c.current_alloc-current.ensures.place
+          ∙ no_place_is c.current_alloc-current.result (sym c.is_none.ensures ∙ w.if-is_none.true)))
+      | then-is_none-via-else-is_none+then-not-allocd_within_constraint w ↦ absurd
+          (let some : c.current_alloc-current.result ≢ NoPlace = λ e. there (sym c.current_alloc-current.ensures.place ∙ e) in
+          let meets = w.allocd_within_constraint.ensures.1 (subst (λ (x : Requirement). MeetsRequirement t x c.current_alloc-current.result) (sym any)
+          (any_place t c.current_alloc-current.result some)) in
+          let fails = w.if-not-allocd_within_constraint.true in cc)
     ]

@@ -1,16 +1,21 @@
-use Rattle.std.proofs.Common.{ℕ, ◌≡◌, ◌<◌, List, [], length, refl, sym, ap, ◌∙◌, subst, arith, rules, slice_index}
+use Rattle.std.proofs.Common.{ℕ, ◌≡◌, ◌+◌, ◌<◌, true, List, [], length, refl, sym, ap, ◌∙◌, subst, arith, rules, slice_index}
 use Rattle.std.proofs.lemmas.List.{get_or_read}
 use Rattle.regalloc2_names.specs.Point.{before}
 use Rattle.regalloc2_names.specs.Register.{VirtualRegister}
-use Rattle.regalloc2_function.specs.FunctionValue.{block_at}
+use Rattle.regalloc2_function.specs.FunctionValue.{FunctionValue, block_at, inst_at}
 use Rattle.regalloc2_function.specs.SourceRun.{arguments_at}
 use Rattle.regalloc2_semantics.specs.Blocks.{target_at}
-use Rattle.regalloc2_fastalloc_proofs.specs.BranchSteps.{GathersMoves, no_edge, one_edge}
+use Rattle.regalloc2_fastalloc_proofs.specs.BranchSteps.{GathersMoves, no_edge, one_edge, IsOwn}
 use Rattle.regalloc2_fastalloc_proofs.specs.InstSteps.{StateValue}
 use Rattle.std.proofs.lemmas.Result.{err_from_is_err_and}
 use Rattle.regalloc2_fastalloc_proofs.specs.OutOfRegs.{GatherEdgeFails}
+use Rattle.regalloc2_branch_defs.specs.Tables.{AreBranchDefsOf}
+use Rattle.regalloc2_branch_defs.specs.declared.BranchDefs.{BranchDefs}
+use Rattle.regalloc2_fastalloc_proofs.specs.BlockSteps.{MayBeAllocated}
+use Rattle.regalloc2_fastalloc_proofs.proofs.Safety.StateKept.{block_within}
+use Rattle.regalloc2_fastalloc_walk.proofs.OwnDefs.{own_by, by_own, gathers_as, fails_as}
+use Rattle.regalloc2_fastalloc_walk.specs.OwnDefs.{IsOwnBy}
 use Rattle.regalloc2_fastalloc_walk.specs.StateView.{tables_of}
-use Rattle.regalloc2_fastalloc_state.specs.StateParts.{AllAtOrAfter}
 use Rattle.regalloc2_fastalloc_proofs.proofs.Branches.ArgMovesAreParallel.{known_still, edge_at}
 use Rattle.regalloc2_fastalloc_proofs.proofs.Evictions.PushedAndRemoved.{same_then}
 use Rattle.regalloc2_fastalloc_walk.proofs.state.State.gather.Goals as goal
@@ -26,7 +31,7 @@ loop-k-init g c = record {
 
 pub block_params-params-requires : goal.block_params-params-requires
 block_params-params-requires g c =
-    let f = g.F.Function.function c.args.f.now in
+    let f = g.F.Function.function c.args.cx.now.f.now in
     let k : ℕ = c.loop-k.k in
     let succs : c.block_succs-succs.result.now ≡ (block_at f c.args.block).succs = c.block_succs-succs.ensures in
     let lt : k < length (block_at f c.args.block).succs = subst (λ (l : List ℕ). k < length l) succs c.loop-k-test.true in
@@ -36,9 +41,8 @@ block_params-params-requires g c =
 
 pub gather_edge-requires : goal.gather_edge-requires
 gather_edge-requires g c =
-    let f = g.F.Function.function c.args.f.now in
+    let f = g.F.Function.function c.args.cx.now.f.now in
     let k : ℕ = c.loop-k.k in
-    let at : c.before-point.result ≡ before c.args.inst = c.before-point.ensures.point (λ e. omega (arith, c.requires.inst)) in
     let succs : c.block_succs-succs.result.now ≡ (block_at f c.args.block).succs = c.block_succs-succs.ensures in
     let lt : k < length (block_at f c.args.block).succs = subst (λ (l : List ℕ). k < length l) succs c.loop-k-test.true in
     let read : c.index-succs-k.result ≡ target_at f c.args.block k = get_or_read c.block_succs-succs.result.now k c.index-succs-k.result c.loop-k-test.true
@@ -48,24 +52,40 @@ gather_edge-requires g c =
     let xs : c.branch_blockparams-arguments.result.now ≡ arguments_at f c.args.block k = c.branch_blockparams-arguments.ensures in (
       search rules,
       (
-        subst (λ (p : ℕ). AllAtOrAfter p c.loop-k.self.edits) (sym at) c.loop-k.invariant.later,
+        c.requires.inst,
         (
-          ap (λ (l : List VirtualRegister). length l) xs ∙ c.requires.may_pass.counted k lt ∙ ap (λ (l : List VirtualRegister). length l) (sym ps),
+          c.loop-k.invariant.later,
           (
-            known_still (block_at f (target_at f c.args.block k)).params c.block_params-params.result.now (tables_of c.args.self.now) (tables_of c.loop-k.self)
-                ps c.loop-k.invariant.long (c.requires.may_pass.parameters k lt),
-            known_still (arguments_at f c.args.block k) c.branch_blockparams-arguments.result.now (tables_of c.args.self.now) (tables_of c.loop-k.self) xs
-                c.loop-k.invariant.long (c.requires.may_pass.arguments k lt),
+            ap (λ (l : List VirtualRegister). length l) xs ∙ c.requires.may_pass.counted k lt ∙ ap (λ (l : List VirtualRegister). length l) (sym ps),
+            (
+              known_still (block_at f (target_at f c.args.block k)).params c.block_params-params.result.now (tables_of c.args.self.now) (tables_of
+                  c.loop-k.self)
+                  ps c.loop-k.invariant.long (c.requires.may_pass.parameters k lt),
+              known_still (arguments_at f c.args.block k) c.branch_blockparams-arguments.result.now (tables_of c.args.self.now) (tables_of c.loop-k.self) xs
+                  c.loop-k.invariant.long (c.requires.may_pass.arguments k lt),
+            ),
           ),
         ),
       ),
     )
 
+-- what the tables say that the branch defines is its own
+module _ (f : FunctionValue) {A : Type 0} (defs : BranchDefs A) (are : AreBranchDefsOf f defs) (well : MayBeAllocated f) (b i : ℕ) (lt : b < length f.blocks)
+    (last : i + 1 ≡ (block_at f b).range.end) (branch : (inst_at f i).is_branch ≡ true) where
+  own_there : (v : VirtualRegister) → IsOwnBy defs i v → IsOwn f b v
+  own_there v own = own_by f defs are b i (omega (arith, last)) v own
+
+  there_own : (v : VirtualRegister) → IsOwn f b v → IsOwnBy defs i v
+  there_own v own = (let within = block_within f well.1.follow b lt in by_own f defs are well.1.defined_once b i (omega (arith, last)) (omega (
+    arith,
+    last,
+    within,
+  )) branch v own)
+
 pub loop-k-preserved : goal.loop-k-preserved
 loop-k-preserved g c =
-    let f = g.F.Function.function c.args.f.now in
+    let f = g.F.Function.function c.args.cx.now.f.now in
     let k : ℕ = c.loop-k.k in
-    let at : c.before-point.result ≡ before c.args.inst = c.before-point.ensures.point (λ e. omega (arith, c.requires.inst)) in
     let succs : c.block_succs-succs.result.now ≡ (block_at f c.args.block).succs = c.block_succs-succs.ensures in
     let lt : k < length (block_at f c.args.block).succs = subst (λ (l : List ℕ). k < length l) succs c.loop-k-test.true in
     let read : c.index-succs-k.result ≡ target_at f c.args.block k = get_or_read c.block_succs-succs.result.now k c.index-succs-k.result c.loop-k-test.true
@@ -82,11 +102,18 @@ loop-k-preserved g c =
         y.0,
         y.1,
         one_edge k x.0 y.0 c.loop-k.inst_regs c.gather_edge.new.inst_regs m n lt x.2
-            (edge_at c.before-point.result (before c.args.inst) c.block_params-params.result.now (block_at f (target_at f c.args.block k)).params
+            (edge_at (before c.args.inst) (before c.args.inst) c.block_params-params.result.now (block_at f (target_at f c.args.block k)).params
             c.branch_blockparams-arguments.result.now (arguments_at f c.args.block k)
-            c.loop-k.inst_regs c.gather_edge.new.inst_regs m n x.0 y.0 at ps xs y.2),
+            c.loop-k.inst_regs c.gather_edge.new.inst_regs m n x.0 y.0 refl ps xs
+            (gathers_as (IsOwnBy c.args.cx.now.defs.now c.args.inst) (IsOwn f c.args.block)
+            (own_there f c.args.cx.now.defs.now c.requires.defs c.requires.well_formed c.args.block c.args.inst c.requires.block c.requires.last
+            c.requires.branch)
+            (there_own f c.args.cx.now.defs.now c.requires.defs c.requires.well_formed c.args.block c.args.inst c.requires.block c.requires.last
+            c.requires.branch)
+            (before c.args.inst) c.block_params-params.result.now c.branch_blockparams-arguments.result.now c.loop-k.inst_regs m x.0
+            (length c.block_params-params.result.now) c.gather_edge.new.inst_regs n y.0 y.2)),
       );
-      later = subst (λ (p : ℕ). AllAtOrAfter p c.gather_edge.new.self.edits) at c.in_ok-gather_edge.ensures.step.later;
+      later = c.in_ok-gather_edge.ensures.step.later;
       long = c.in_ok-gather_edge.ensures.step.long ∙ c.loop-k.invariant.long;
       machine = same_then (tables_of c.args.self.now) m n c.loop-k.invariant.machine c.gather_edge.ensures.step.machine;
       registers = c.in_ok-gather_edge.ensures.registers ∙ c.loop-k.invariant.registers;
@@ -94,7 +121,7 @@ loop-k-preserved g c =
 
 pub returns-clause-ok : goal.returns-clause-ok
 returns-clause-ok g c =
-    let f = g.F.Function.function c.args.f.now in
+    let f = g.F.Function.function c.args.cx.now.f.now in
     let e : c.loop-k.k ≡ length (block_at f c.args.block).succs = omega (arith, ap (λ (l : List ℕ). length l) c.block_succs-succs.ensures) in
     let x = c.loop-k.invariant.done in (
       x.0,
@@ -105,9 +132,8 @@ returns-clause-ok g c =
 
 pub returns-in_err-gather_edge-clause-stops : goal.returns-in_err-gather_edge-clause-stops
 returns-in_err-gather_edge-clause-stops g c =
-    let f = g.F.Function.function c.args.f.now in
+    let f = g.F.Function.function c.args.cx.now.f.now in
     let k : ℕ = c.loop-k.k in
-    let at : c.before-point.result ≡ before c.args.inst = c.before-point.ensures.point (λ e. omega (arith, c.requires.inst)) in
     let succs : c.block_succs-succs.result.now ≡ (block_at f c.args.block).succs = c.block_succs-succs.ensures in
     let lt : k < length (block_at f c.args.block).succs = subst (λ (l : List ℕ). k < length l) succs c.loop-k-test.true in
     let read : c.index-succs-k.result ≡ target_at f c.args.block k = get_or_read c.block_succs-succs.result.now k c.index-succs-k.result c.loop-k-test.true
@@ -118,6 +144,9 @@ returns-in_err-gather_edge-clause-stops g c =
     let m : StateValue = tables_of c.loop-k.self in
     let x = c.loop-k.invariant.done in
     let p = err_from_is_err_and c.from_residual.result c.from_residual.ensures.1 in
+    let F : List VirtualRegister → List VirtualRegister → Type 0 = λ ps xs. GatherEdgeFails (IsOwnBy c.args.cx.now.defs.now c.args.inst) (before
+    c.args.inst) ps xs
+    c.loop-k.inst_regs m x.0 in
     rw p.1 (λ same. record {
       index = k;
       inst_regs = c.loop-k.inst_regs;
@@ -125,8 +154,12 @@ returns-in_err-gather_edge-clause-stops g c =
       given = x.0;
       inside = lt;
       gathers = x.2;
-      stops = subst (λ (q : ℕ). GatherEdgeFails q (block_at f (target_at f c.args.block k)).params (arguments_at f c.args.block k) c.loop-k.inst_regs m x.0) at
-          (subst (λ (l : List VirtualRegister). GatherEdgeFails c.before-point.result l (arguments_at f c.args.block k) c.loop-k.inst_regs m x.0) ps
-          (subst (λ (l : List VirtualRegister). GatherEdgeFails c.before-point.result c.block_params-params.result.now l c.loop-k.inst_regs m x.0) xs
-          (c.in_err-gather_edge.ensures.stops (sym p.2 ∙ same) x.0 x.1)));
+      stops = fails_as (IsOwnBy c.args.cx.now.defs.now c.args.inst) (IsOwn f c.args.block)
+          (own_there f c.args.cx.now.defs.now c.requires.defs c.requires.well_formed c.args.block c.args.inst c.requires.block c.requires.last
+          c.requires.branch)
+          (there_own f c.args.cx.now.defs.now c.requires.defs c.requires.well_formed c.args.block c.args.inst c.requires.block c.requires.last
+          c.requires.branch)
+          (before c.args.inst) (block_at f (target_at f c.args.block k)).params (arguments_at f c.args.block k) c.loop-k.inst_regs m x.0
+          (subst (λ (l : List VirtualRegister). F l (arguments_at f c.args.block k)) ps
+          (subst (λ (l : List VirtualRegister). F c.block_params-params.result.now l) xs (c.in_err-gather_edge.ensures.stops (sym p.2 ∙ same) x.0 x.1)));
     })

@@ -9,7 +9,7 @@ use Rattle.regalloc2_fastalloc_walk.proofs.state.State.gather.Given as goal
 abbrev pub invariant-loop-k : goal.invariant-loop-k
 invariant-loop-k g l = record {
   done : (given : List ClassMove) × AreOf l.moves.int l.moves.float l.moves.vector given
-      × GathersMoves (g.F.Function.function l.f) l.block (before l.inst) l.fn.inst_regs (tables_of l.fn.self) l.k l.inst_regs (tables_of l.self) given;
+      × GathersMoves (g.F.Function.function l.cx.f.now) l.block (before l.inst) l.fn.inst_regs (tables_of l.fn.self) l.k l.inst_regs (tables_of l.self) given;
   later : AllAtOrAfter (before l.inst) l.self.edits;
   long : length l.self.places.vreg_allocs ≡ length l.fn.self.places.vreg_allocs;
   machine : SameMachine (tables_of l.fn.self) (tables_of l.self);

@@ -2,13 +2,13 @@ use Rattle.std.proofs.Common.{◌≡◌, ◌+◌, [], refl, sym, ap, ◌∙◌, 
 use Rattle.std.proofs.lemmas.Result.{err_from_is_err_and}
 use Rattle.regalloc2_names.specs.Place.{Place}
 use Rattle.regalloc2_parts.specs.Resolved.{listed, has_scratch, with_place}
-use Rattle.regalloc2_fastalloc_state.specs.declared.scratch_pool.ScratchPool.{ScratchPool}
+use Rattle.regalloc2_parts.specs.declared.scratch_pool.ScratchPool.{ScratchPool}
 use Rattle.regalloc2_fastalloc_state.specs.OutOfResources.{IsResourceError, SlotsExhaustedWith}
-use Rattle.regalloc2_fastalloc_state.specs.ScratchPool.{HasTooFewSlots}
+use Rattle.regalloc2_parts.specs.ScratchPool.{HasTooFewSlots}
 use Rattle.regalloc2_fastalloc_proofs.specs.InstSteps.{StateValue, MayHold}
 use Rattle.regalloc2_fastalloc_walk.specs.StateView.{tables_of}
 use Rattle.regalloc2_fastalloc_proofs.proofs.Moves.ParallelMovesOrdered.{orders, orders_none, serves_given, short_full, taken_fits}
-use Rattle.regalloc2_fastalloc_state.proofs.SpillSlotUnits.{lacks_slots, no_register}
+use Rattle.regalloc2_fastalloc_state.proofs.SpillSlotUnits.{lacks_slots, no_register, slots_of_fault}
 use Rattle.regalloc2_fastalloc_walk.proofs.state.State.order.Goals as goal
 
 pub returns-then-are_none-clause-ok : goal.returns-then-are_none-clause-ok
@@ -46,7 +46,8 @@ returns-in_err-made-clause-err g c =
     let p = err_from_is_err_and c.from_residual-in_err-made.result c.from_residual-in_err-made.ensures.1 in
     rw p.1 (subst (IsResourceError (SlotsExhaustedWith s (s.num_temp_slots + 2))) (sym p.2)
     (lacks_slots (HasTooFewSlots c.temp_slots.result) (SlotsExhaustedWith s (s.num_temp_slots + 2))
-    (short_full s c.args.class c.temp_slots.result c.temp_slots.ensures) _ c.in_err-made.ensures.err))
+    (short_full s c.args.class c.temp_slots.result c.temp_slots.ensures) _
+    (slots_of_fault (HasTooFewSlots c.temp_slots.result) _ c.in_err-made.ensures.err)))
 
 pub add_temp_slots-requires-clause-room : goal.add_temp_slots-requires-clause-room
 add_temp_slots-requires-clause-room g c = taken_fits c.args.self.now.slots c.args.class c.temp_slots.result c.temp_slots.ensures c.in_ok-made.made.slots
@@ -92,7 +93,8 @@ returns-in_default-clause-stops g c = λ lacks. (
 pub returns-in_err-made-clause-stops : goal.returns-in_err-made-clause-stops
 returns-in_err-made-clause-stops g c =
     let p = err_from_is_err_and c.from_residual-in_err-made.result c.from_residual-in_err-made.ensures.1 in
-    rw p.1 (λ same. absurd (no_register (HasTooFewSlots c.temp_slots.result) _ c.in_err-made.ensures.err (sym p.2 ∙ same)))
+    rw p.1 (λ same. absurd (no_register (HasTooFewSlots c.temp_slots.result) _
+    (slots_of_fault (HasTooFewSlots c.temp_slots.result) _ c.in_err-made.ensures.err) (sym p.2 ∙ same)))
 
 -- no moves are made for none
 pub returns-then-are_none-clause-none : goal.returns-then-are_none-clause-none

@@ -20,7 +20,7 @@ use Rattle.regalloc2_fastalloc_walk.proofs.state.State.process_branch.Goals as g
 
 pub push_gathered-requires : goal.push_gathered-requires
 push_gathered-requires g c =
-    let f = g.F.Function.function c.args.f.now in
+    let f = g.F.Function.function c.args.cx.now.f.now in
     let at : c.before-point.result ≡ before c.args.inst = c.before-point.ensures.point (λ e. omega (arith, c.requires.inst)) in
     let old : StateValue = tables_of c.args.self.now in
     let m : StateValue = tables_of c.gather.new.self in
@@ -137,7 +137,7 @@ returns-in_err-push_gathered-clause-stops g c =
 -- edges to blocks without parameters pass nothing
 pub returns-clause-none : goal.returns-clause-none
 returns-clause-none g c = λ empty.
-    let f = g.F.Function.function c.args.f.now in
+    let f = g.F.Function.function c.args.cx.now.f.now in
     let m : StateValue = tables_of c.gather.new.self in
     let x = c.in_ok-moves.ensures.ok in
     let none = gathers_none f c.args.block (before c.args.inst) c.args.inst_regs.now (tables_of c.args.self.now) (length (block_at f c.args.block).succs)

@@ -20,7 +20,8 @@ pub returns-in-Some-clause-ok : goal.returns-in-Some-clause-ok
 returns-in-Some-clause-ok g c =
     let ops : List OperandValue = c.args.cx.now.operands.now in
     let o : c.index-operands-k.result ≡ op_at ops c.args.k = read_operand ops c.args.k c.index-operands-k.result c.requires.inside c.index-operands-k.is in
-    one_register c.args.cx.now.inst c.args.cx.now.is_ret ops c.args.k c.args.here.now c.args.inst_regs.now (tables_of c.args.self.now) c.index-operands-k.result
+    one_register c.args.cx.now.inst c.args.cx.now.ends_block ops c.args.k c.args.here.now c.args.inst_regs.now (tables_of c.args.self.now)
+    c.index-operands-k.result
     c.in-Some.preg c.reg.result o (sym c.as_fixed_nonallocatable.ensures ∙ c.in-Some.is) c.reg.ensures
 
 pub alloc_use-requires : goal.alloc_use-requires
@@ -47,7 +48,7 @@ returns-then-not-is_def-clause-ok g c =
     let at : c.after-point.result ≡ after c.args.cx.now.inst = c.after-point.ensures.point (λ e. omega (arith, c.requires.inst)) in
     let h : c.index-here-k.result ≡ slice_index_or c.args.here.now c.args.k NoPlace = get_or_read c.args.here.now c.args.k c.index-here-k.result
     (omega (arith, c.requires.inside, c.requires.here_long)) c.index-here-k.is NoPlace in
-    one_use c.args.cx.now.inst c.args.cx.now.is_ret ops c.args.k c.args.here.now c.args.inst_regs.now c.alloc_use.new.inst_regs (tables_of c.args.self.now)
+    one_use c.args.cx.now.inst c.args.cx.now.ends_block ops c.args.k c.args.here.now c.args.inst_regs.now c.alloc_use.new.inst_regs (tables_of c.args.self.now)
     (tables_of c.alloc_use.new.self) c.index-operands-k.result c.index-here-k.result c.use_request-request.result
     c.after-point.result c.in_ok-here.field-0 o h c.use_request-request.ensures at not_it (sym c.is_def.ensures ∙ c.if-not-is_def.true) c.in_ok-here.ensures.ok
 
@@ -76,7 +77,7 @@ returns-in-Some-reused-clause-ok g c =
     let ops : List OperandValue = c.args.cx.now.operands.now in
     let o : c.index-operands-k.result ≡ op_at ops c.args.k = read_operand ops c.args.k c.index-operands-k.result c.requires.inside c.index-operands-k.is in
     let at : c.after-point.result ≡ after c.args.cx.now.inst = c.after-point.ensures.point (λ e. omega (arith, c.requires.inst)) in
-    one_reuse c.args.cx.now.inst c.args.cx.now.is_ret ops c.args.k c.args.here.now c.set_place.new.places c.args.inst_regs.now c.alloc_def_op.new.inst_regs
+    one_reuse c.args.cx.now.inst c.args.cx.now.ends_block ops c.args.k c.args.here.now c.set_place.new.places c.args.inst_regs.now c.alloc_def_op.new.inst_regs
     (tables_of c.args.self.now) (tables_of c.alloc_def_op.new.self) c.index-operands-k.result c.in-Some-reused.index
     c.reuse_request-request.result c.after-point.result c.in_ok-place.place o c.reuse_request-request.ensures at (sym c.is_def.ensures ∙ c.if-not-is_def.false)
     c.in-Some-reused.ensures.some c.set_place.ensures c.in_ok-place.ensures.ok
@@ -106,7 +107,8 @@ returns-clause-ok g c =
     let ops : List OperandValue = c.args.cx.now.operands.now in
     let o : c.index-operands-k.result ≡ op_at ops c.args.k = read_operand ops c.args.k c.index-operands-k.result c.requires.inside c.index-operands-k.is in
     let at : c.after-point.result ≡ after c.args.cx.now.inst = c.after-point.ensures.point (λ e. omega (arith, c.requires.inst)) in
-    one_def c.args.cx.now.inst c.args.cx.now.is_ret ops c.args.k c.args.here.now c.args.inst_regs.now c.alloc_def_op-2.new.inst_regs (tables_of c.args.self.now)
+    one_def c.args.cx.now.inst c.args.cx.now.ends_block ops c.args.k c.args.here.now c.args.inst_regs.now c.alloc_def_op-2.new.inst_regs (tables_of
+    c.args.self.now)
     (tables_of c.alloc_def_op-2.new.self) c.index-operands-k.result
     c.def_request.result c.after-point.result c.in_ok-here-2.field-0 o c.def_request.ensures at (sym c.is_def.ensures ∙ c.if-not-is_def.false)
     (c.in_default-reused.ensures.none refl) c.in_ok-here-2.ensures.ok
@@ -126,7 +128,7 @@ returns-in_err-here-clause-stops g c =
     let h : c.index-here-k.result ≡ slice_index_or c.args.here.now c.args.k NoPlace = get_or_read c.args.here.now c.args.k c.index-here-k.result
     (omega (arith, c.requires.inside, c.requires.here_long)) c.index-here-k.is NoPlace in
     let e = err_from_is_err_and c.from_residual.result c.from_residual.ensures.1 in
-    rw e.1 (λ same. stop_use c.args.cx.now.inst c.args.cx.now.is_ret ops c.args.k c.args.here.now c.args.inst_regs.now
+    rw e.1 (λ same. stop_use c.args.cx.now.inst c.args.cx.now.ends_block ops c.args.k c.args.here.now c.args.inst_regs.now
     (tables_of c.args.self.now) c.index-operands-k.result
     c.index-here-k.result c.use_request-request.result
     o h c.use_request-request.ensures not_it (sym c.is_def.ensures ∙ c.if-not-is_def.true) (c.in_err-here.ensures.stops (sym e.2 ∙ same)))
@@ -137,7 +139,7 @@ returns-in_err-place-clause-stops g c =
     let o : c.index-operands-k.result ≡ op_at ops c.args.k = read_operand ops c.args.k c.index-operands-k.result c.requires.inside c.index-operands-k.is in
     let at : c.after-point.result ≡ after c.args.cx.now.inst = c.after-point.ensures.point (λ e. omega (arith, c.requires.inst)) in
     let e = err_from_is_err_and c.from_residual-in_err-place.result c.from_residual-in_err-place.ensures.1 in
-    rw e.1 (λ same. stop_reuse c.args.cx.now.inst c.args.cx.now.is_ret ops c.args.k c.args.here.now c.args.inst_regs.now
+    rw e.1 (λ same. stop_reuse c.args.cx.now.inst c.args.cx.now.ends_block ops c.args.k c.args.here.now c.args.inst_regs.now
     (tables_of c.args.self.now) c.index-operands-k.result
     c.in-Some-reused.index c.reuse_request-request.result
     c.after-point.result o c.reuse_request-request.ensures at (sym c.is_def.ensures ∙ c.if-not-is_def.false) c.in-Some-reused.ensures.some
@@ -149,7 +151,7 @@ returns-in_err-here-2-clause-stops g c =
     let o : c.index-operands-k.result ≡ op_at ops c.args.k = read_operand ops c.args.k c.index-operands-k.result c.requires.inside c.index-operands-k.is in
     let at : c.after-point.result ≡ after c.args.cx.now.inst = c.after-point.ensures.point (λ e. omega (arith, c.requires.inst)) in
     let e = err_from_is_err_and c.from_residual-in_err-here-2.result c.from_residual-in_err-here-2.ensures.1 in
-    rw e.1 (λ same. stop_def c.args.cx.now.inst c.args.cx.now.is_ret ops c.args.k c.args.here.now c.args.inst_regs.now
+    rw e.1 (λ same. stop_def c.args.cx.now.inst c.args.cx.now.ends_block ops c.args.k c.args.here.now c.args.inst_regs.now
     (tables_of c.args.self.now) c.index-operands-k.result
     c.def_request.result
     c.after-point.result o c.def_request.ensures at (sym c.is_def.ensures ∙ c.if-not-is_def.false) (c.in_default-reused.ensures.none refl)

@@ -1,5 +1,4 @@
 use Rattle.std.proofs.Common.{◌+◌, refl, sym, ◌∙◌, arith, rules}
-use Rattle.regalloc2_names.specs.Operand.{OperandValue}
 use Rattle.std.proofs.lemmas.Result.{err_from_is_err_and}
 use Rattle.regalloc2_validate.specs.Constraints.{op_at}
 use Rattle.regalloc2_fastalloc_walk.specs.StateView.{tables_of}
@@ -14,7 +13,7 @@ loop-k-init g c = record {
     0,
     omega arith,
     sym (c.into_iter-k-iterator.ensures.into_iter_gives ∙ c.operands_at-k-items.ensures),
-    processed_none c.args.cx.now.inst c.args.cx.now.is_ret c.args.pos c.args.cx.now.operands.now c.args.here.now c.args.inst_regs.now
+    processed_none c.args.cx.now.inst c.args.cx.now.ends_block c.args.pos c.args.cx.now.operands.now c.args.here.now c.args.inst_regs.now
         (tables_of c.args.self.now) c.args.self.now.registers,
   );
   later = c.requires.later;
@@ -25,7 +24,7 @@ loop-k-init g c = record {
 pub process_operand_allocation-requires : goal.process_operand_allocation-requires
 process_operand_allocation-requires g c =
     let h = c.loop-k.invariant.done in
-    let met = processed_next c.args.cx.now.inst c.args.cx.now.is_ret c.args.pos c.args.cx.now.operands.now c.args.here.now c.args.inst_regs.now
+    let met = processed_next c.args.cx.now.inst c.args.cx.now.ends_block c.args.pos c.args.cx.now.operands.now c.args.here.now c.args.inst_regs.now
     (tables_of c.args.self.now) c.args.self.now.registers c.loop-k.here c.loop-k.inst_regs (tables_of c.loop-k.self) c.loop-k.self.registers h.0
     c.loop-k.k-iterator c.next.new.self (c.in-Some.k, c.in-Some._operand) h.1 h.2 c.in-Some.ensures.steps h.3 in (
       search rules,
@@ -47,7 +46,7 @@ process_operand_allocation-requires g c =
 pub loop-k-preserved : goal.loop-k-preserved
 loop-k-preserved g c =
     let h = c.loop-k.invariant.done in
-    let met = processed_next c.args.cx.now.inst c.args.cx.now.is_ret c.args.pos c.args.cx.now.operands.now c.args.here.now c.args.inst_regs.now
+    let met = processed_next c.args.cx.now.inst c.args.cx.now.ends_block c.args.pos c.args.cx.now.operands.now c.args.here.now c.args.inst_regs.now
     (tables_of c.args.self.now) c.args.self.now.registers c.loop-k.here c.loop-k.inst_regs (tables_of c.loop-k.self) c.loop-k.self.registers h.0
     c.loop-k.k-iterator c.next.new.self (c.in-Some.k, c.in-Some._operand) h.1 h.2 c.in-Some.ensures.steps h.3 in
     record {
@@ -55,7 +54,7 @@ loop-k-preserved g c =
         c.in-Some.k + 1,
         omega (arith, met.inside),
         sym met.after,
-        processed_more c.args.cx.now.inst c.args.cx.now.is_ret c.args.pos c.args.cx.now.operands.now c.args.here.now c.args.inst_regs.now
+        processed_more c.args.cx.now.inst c.args.cx.now.ends_block c.args.pos c.args.cx.now.operands.now c.args.here.now c.args.inst_regs.now
             (tables_of c.args.self.now) c.args.self.now.registers c.loop-k.here c.process_operand_allocation.new.here c.loop-k.inst_regs
             c.process_operand_allocation.new.inst_regs (tables_of c.loop-k.self) (tables_of c.process_operand_allocation.new.self) c.loop-k.self.registers
             c.process_operand_allocation.new.self.registers c.in-Some.k met.inside refl c.requires.here_long met.passes
@@ -70,14 +69,14 @@ loop-k-preserved g c =
 pub returns-clause-ok : goal.returns-clause-ok
 returns-clause-ok g c =
     let h = c.loop-k.invariant.done in
-    (processed_all c.args.cx.now.inst c.args.cx.now.is_ret c.args.pos c.args.cx.now.operands.now c.args.here.now c.args.inst_regs.now
+    (processed_all c.args.cx.now.inst c.args.cx.now.ends_block c.args.pos c.args.cx.now.operands.now c.args.here.now c.args.inst_regs.now
     (tables_of c.args.self.now) c.args.self.now.registers c.loop-k.here c.loop-k.inst_regs (tables_of c.loop-k.self) c.loop-k.self.registers h.0
     c.loop-k.k-iterator h.1 h.2 c.in-None.ensures.steps.0 h.3).done
 
 pub returns-clause-spill_free : goal.returns-clause-spill_free
 returns-clause-spill_free g c =
     let h = c.loop-k.invariant.done in
-    (processed_all c.args.cx.now.inst c.args.cx.now.is_ret c.args.pos c.args.cx.now.operands.now c.args.here.now c.args.inst_regs.now
+    (processed_all c.args.cx.now.inst c.args.cx.now.ends_block c.args.pos c.args.cx.now.operands.now c.args.here.now c.args.inst_regs.now
     (tables_of c.args.self.now) c.args.self.now.registers c.loop-k.here c.loop-k.inst_regs (tables_of c.loop-k.self) c.loop-k.self.registers h.0
     c.loop-k.k-iterator h.1 h.2 c.in-None.ensures.steps.0 h.3).spill_free
 
@@ -85,7 +84,7 @@ returns-clause-spill_free g c =
 pub returns-in_err-process_operand_allocation-clause-stops : goal.returns-in_err-process_operand_allocation-clause-stops
 returns-in_err-process_operand_allocation-clause-stops g c =
     let h = c.loop-k.invariant.done in
-    let met = processed_next c.args.cx.now.inst c.args.cx.now.is_ret c.args.pos c.args.cx.now.operands.now c.args.here.now c.args.inst_regs.now
+    let met = processed_next c.args.cx.now.inst c.args.cx.now.ends_block c.args.pos c.args.cx.now.operands.now c.args.here.now c.args.inst_regs.now
     (tables_of c.args.self.now) c.args.self.now.registers c.loop-k.here c.loop-k.inst_regs (tables_of c.loop-k.self) c.loop-k.self.registers h.0
     c.loop-k.k-iterator c.next.new.self (c.in-Some.k, c.in-Some._operand) h.1 h.2 c.in-Some.ensures.steps h.3 in
     let e = err_from_is_err_and c.from_residual.result c.from_residual.ensures.1 in

@@ -1,6 +1,4 @@
 use Rattle.std.proofs.Common.{ap, ◌≡◌, refl, ◌∙◌, arith, length}
-use Rattle.std.specs.Prelude.{Contains}
-use Rattle.regalloc2_names.specs.Register.{VirtualRegister}
 use Rattle.regalloc2_fastalloc_proofs.specs.BlockStart.{none_emptied, one_emptied}
 use Rattle.regalloc2_fastalloc_proofs.specs.InstSteps.{StateValue}
 use Rattle.regalloc2_fastalloc_walk.specs.StateView.{tables_of}

@@ -1,6 +1,6 @@
 use Rattle.regalloc2_fastalloc_walk.specs.StateView.{tables_of}
 use Rattle.regalloc2_fastalloc_proofs.proofs.Operands.SelectedPlace.{suits_there}
-use Rattle.std.proofs.Common.{subst}
+use Rattle.std.proofs.Common.{subst, ◌∙◌}
 use Rattle.regalloc2_fastalloc_proofs.specs.InstSteps.{MeetsRequirement}
 use Rattle.regalloc2_fastalloc_state.specs.declared.request.Requirement.{Requirement}
 use Rattle.regalloc2_fastalloc_walk.specs.SpillFree.{where_it_stands}
@@ -16,3 +16,10 @@ returns-in-Some-clause-chooses g c = λ any. where_it_stands c.in-Some.ensures.s
 
 pub returns-clause-chooses : goal.returns-clause-chooses
 returns-clause-chooses g c = λ any. c.in_ok-place.ensures.chooses any (c.in_default.ensures.none any)
+
+-- a definition that may be anywhere takes a register only where its vreg is in one
+pub returns-in-Some-clause-awaited_in : goal.returns-in-Some-clause-awaited_in
+returns-in-Some-clause-awaited_in g c = λ def any r e. (r, c.in-Some.ensures.suits.0 ∙ e)
+
+pub returns-clause-awaited_in : goal.returns-clause-awaited_in
+returns-clause-awaited_in g c = λ def any r e. c.in_default.ensures.leaves any (c.in_ok-place.ensures.awaited any def r e)

@@ -54,9 +54,9 @@ open_ring-requires g c =
       ),
     )
 
-pub returns-in_err-cut : goal.returns-in_err-cut
-returns-in_err-cut g c =
-    let p = err_from_is_err_and c.from_residual-in_err-cut.result c.from_residual-in_err-cut.ensures.1 in
+pub returns-in_err-ring : goal.returns-in_err-ring
+returns-in_err-ring g c =
+    let p = err_from_is_err_and c.from_residual-in_err-ring.result c.from_residual-in_err-ring.ensures.1 in
     rw p.1 (record { given = tt })
 
 pub give_chain-requires : goal.give_chain-requires
@@ -69,8 +69,8 @@ give_chain-requires g c = (
       nexts = c.requires.nexts;
       as_many = c.open_ring.auto.state ∙ c.follow.auto.state ∙ c.requires.as_many;
       indexed = c.requires.indexed;
-      giving = c.in_ok-cut.ensures.giving.0;
-      of_moves = c.in_ok-cut.ensures.giving.2;
+      giving = c.in_ok-ring.ensures.giving.0;
+      of_moves = c.in_ok-ring.ensures.giving.2;
     },
   ),
 )
@@ -80,6 +80,6 @@ returns g c = record {
   given = on_ok_weaker c.give_chain.result
       (λ h. given_on c.args.moves.now c.args.nexts.now c.args.state.now c.open_ring.new.state c.give_chain.new.state c.give_chain.new.chain.items
       c.give_chain.new.given.items c.args.start
-      (λ k n. c.in_ok-cut.ensures.giving.1 k (c.in_ok-stop.ensures.goes_on k n)) (c.in_ok-cut.ensures.giving.1 c.args.start c.in_ok-stop.ensures.begun) h)
+      (λ k n. c.in_ok-ring.ensures.giving.1 k (c.in_ok-stop.ensures.goes_on k n)) (c.in_ok-ring.ensures.giving.1 c.args.start c.in_ok-stop.ensures.begun) h)
       c.give_chain.ensures.given;
 }

@@ -2,18 +2,18 @@ use Rattle.std.proofs.Common.{◌≡◌, true, false, refl}
 use Rattle.regalloc2_parts.proofs.Tracking.{copies_pushed, copies_pushed_into, added_one}
 use Rattle.regalloc2_parts.proofs.moves.passing.copy.Goals as goal
 
-pub returns-then-is_one-clause-tracks : goal.returns-then-is_one-clause-tracks
-returns-then-is_one-clause-tracks g c = λ x d had.
+pub returns-then-is_same-clause-tracks : goal.returns-then-is_same-clause-tracks
+returns-then-is_same-clause-tracks g c = λ x d had.
     copies_pushed_into c.args.via.now.register c.args.via.now.save c.args.held x d c.args.m.now c.args.out.now.items c.push.new.self.items
-    c.requires.unnamed c.requires.ready (c.if-is_one.ensures.0 refl) c.in_ok-push.ensures.ok had
+    c.requires.unnamed c.requires.ready (c.if-is_same.ensures.same.0 refl) c.in_ok-push.ensures.ok had
 
-pub returns-then-is_one-clause-added : goal.returns-then-is_one-clause-added
-returns-then-is_one-clause-added g c = λ x h. added_one x c.args.out.now.items c.push.new.self.items c.args.m.now c.in_ok-push.ensures.ok h
+pub returns-then-is_same-clause-added : goal.returns-then-is_same-clause-added
+returns-then-is_same-clause-added g c = λ x h. added_one x c.args.out.now.items c.push.new.self.items c.args.m.now c.in_ok-push.ensures.ok h
 
 pub returns-clause-tracks : goal.returns-clause-tracks
 returns-clause-tracks g c = λ x d had.
     copies_pushed c.args.via.now.register c.args.via.now.save c.args.held x d c.args.m.now c.args.out.now.items c.push.new.self.items
-    c.requires.unnamed c.requires.ready (λ e. let no : false ≡ true = c.if-is_one.ensures.1 e in absurd cc) c.in_ok-push.ensures.ok had
+    c.requires.unnamed c.requires.ready (λ e. let no : false ≡ true = c.if-is_same.ensures.same.1 e in absurd cc) c.in_ok-push.ensures.ok had
 
 pub returns-clause-added : goal.returns-clause-added
 returns-clause-added g c = λ x h. added_one x c.args.out.now.items c.push.new.self.items c.args.m.now c.in_ok-push.ensures.ok h

@@ -1,0 +1,151 @@
+//! The tutorial of the allocator: a program with a loop is allocated, and written as assembly for x86-64.
+//!
+//! Copy it, and change the representation. `code` has what the allocator asks of a program, `assembly` what is emitted from
+//! its listing, and this file builds a program, describes the machine, and calls the allocator.
+#![tactic(auto)]
+
+ghost use Rattle.std.specs.Prelude.{◌≡◌, ◌<◌, ◌≤◌};
+
+mod assembly;
+mod code;
+
+use anyhow::bail;
+use assembly::write_assembly;
+use code::{Code, Kind, Line, Part};
+use regalloc2::{
+    Block, Inst, InstRange, MachineEnv, Operand, PReg, PRegSet, RegClass, VReg, allocate,
+};
+use std::alloc::{AllocError, Global};
+
+/// An integer register.
+fn register(number: usize) -> PReg
+    requires { number ≤ 63 }
+    ensures { result ≡ record { number = number; class = RegClass.Int } }
+{
+    PReg::new(number, RegClass::Int)
+}
+
+/// The register of a number in the class of a virtual register.
+fn register_for(vreg: VReg, number: usize) -> PReg
+    requires { number ≤ 63 }
+    ensures { result.class ≡ vreg.class }
+{
+    PReg::new(number, vreg.class())
+}
+
+/// An integer virtual register.
+fn value(number: usize) -> VReg
+    requires { number < 100 }
+    ensures { result ≡ record { number = number; class = RegClass.Int } }
+{
+    VReg::new(number, RegClass::Int)
+}
+
+/// A line that overwrites nothing beside its definitions.
+fn line(alloc: Global, kind: Kind, operands: &[Operand]) -> Result<Line, AllocError> {
+    Ok(Line {
+        kind,
+        operands: operands.to_vec(alloc)?,
+        clobbers: PRegSet::empty(),
+    })
+}
+
+/// A block of the lines from one up to another.
+fn part(
+    alloc: Global,
+    lines: (usize, usize),
+    preds: &[Block],
+    params: &[VReg],
+    succs: &[(Block, &[VReg])],
+) -> Result<Part, AllocError>
+    requires { lines.0 ≤ lines.1 × lines.1 < 100 }
+{
+    let mut part = Part {
+        range: InstRange::new(Inst::new(lines.0), Inst::new(lines.1)),
+        succs: Vec::new(alloc),
+        preds: preds.to_vec(alloc)?,
+        params: params.to_vec(alloc)?,
+        arguments: Vec::new(alloc),
+    };
+    for (succ, arguments) in succs {
+        part.succs.push(*succ)?;
+        part.arguments.push(arguments.to_vec(alloc)?)?;
+    }
+    Ok(part)
+}
+
+/// The lines of `sum`: its start, the head of the loop, its body and its end.
+fn lines_of_sum(alloc: Global, v: &[VReg; 7]) -> Result<Vec<Line>, AllocError> {
+    let argument = [Operand::reg_fixed_def(v[0], register_for(v[0], 7))];
+    let add = [
+        Operand::reg_reuse_def(v[4], 1),
+        Operand::reg_use(v[3]),
+        Operand::any_use(v[2]),
+    ];
+    let sub = [
+        Operand::reg_reuse_def(v[6], 1),
+        Operand::reg_use(v[2]),
+        Operand::any_use(v[5]),
+    ];
+    let answer = [Operand::reg_fixed_use(v[3], register_for(v[3], 0))];
+    let mut lines = Vec::new(alloc);
+    lines.push(line(alloc, Kind::Argument, &argument)?)?;
+    lines.push(line(alloc, Kind::Number(0), &[Operand::reg_def(v[1])])?)?;
+    lines.push(line(alloc, Kind::Jump, &[])?)?;
+    lines.push(line(alloc, Kind::Fork, &[Operand::reg_use(v[2])])?)?;
+    lines.push(line(alloc, Kind::Add, &add)?)?;
+    lines.push(line(alloc, Kind::Number(1), &[Operand::reg_def(v[5])])?)?;
+    lines.push(line(alloc, Kind::Sub, &sub)?)?;
+    lines.push(line(alloc, Kind::Jump, &[])?)?;
+    lines.push(line(alloc, Kind::Return, &answer)?)?;
+    Ok(lines)
+}
+
+/// The sum of the numbers from 1 to the argument.
+fn sum(alloc: Global) -> Result<Option<Code>, AllocError> {
+    let v = [
+        value(0),
+        value(1),
+        value(2),
+        value(3),
+        value(4),
+        value(5),
+        value(6),
+    ];
+    let lines = lines_of_sum(alloc, &v)?;
+    let (start, head, body, end) = (Block::new(0), Block::new(1), Block::new(2), Block::new(3));
+    let mut parts = Vec::new(alloc);
+    let into_loop: [(Block, &[VReg]); 1] = [(head, &[v[0], v[1]])];
+    parts.push(part(alloc, (0, 3), &[], &[], &into_loop)?)?;
+    let ways: [(Block, &[VReg]); 2] = [(body, &[]), (end, &[])];
+    parts.push(part(alloc, (3, 4), &[start, body], &[v[2], v[3]], &ways)?)?;
+    let back: [(Block, &[VReg]); 1] = [(head, &[v[6], v[4]])];
+    parts.push(part(alloc, (4, 8), &[head], &[], &back)?)?;
+    parts.push(part(alloc, (8, 9), &[head], &[], &[])?)?;
+    Ok(Code::new(parts, lines, 7))
+}
+
+/// The registers that a function of the system's calling convention may overwrite, with one that moves may use.
+fn machine(alloc: Global) -> MachineEnv {
+    let none = PRegSet::empty();
+    let mut registers = none;
+    for number in [0, 1, 2, 6, 7, 8, 9, 10] {
+        registers.add(register(number));
+    }
+    MachineEnv {
+        preferred_regs_by_class: [registers, none, none],
+        non_preferred_regs_by_class: [none; 3],
+        scratch_by_class: [Some(register(11)), None, None],
+        fixed_stack_slots: Vec::new(alloc),
+    }
+}
+
+fn main(rt: HostRuntime) -> anyhow::Result<()> {
+    let alloc = rt.alloc();
+    let Some(code) = sum(alloc)? else {
+        bail!("the program is too long");
+    };
+    let output = allocate(alloc, &code, &machine(alloc))?;
+    write_assembly(&code, &output, &mut rt.stdout())?;
+    Ok(())
+}

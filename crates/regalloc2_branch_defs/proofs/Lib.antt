@@ -1,0 +1,6 @@
+pub mod BlockEnds
+pub mod SiteNotes
+pub mod UseNotes
+pub mod EdgeNotes
+pub mod Tables
+pub mod UsedOrNot

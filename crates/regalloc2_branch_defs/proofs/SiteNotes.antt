@@ -1,0 +1,179 @@
+-- The operands of branches are noted one after another.
+use Rattle.std.proofs.Common.{ℕ, ◌≡◌, ◌+◌, ◌<◌, ◌≤◌, ◌⊎◌, inl, inr, true, false, List, length, refl, sym, ap, ◌∙◌, subst, arith, set, length-set}
+use Rattle.std.proofs.Common.{get_or-set_same}
+use Rattle.std.specs.Prelude.{Option, None, Some, slice_index_or, if◌then◌else◌}
+use Rattle.std.proofs.lemmas.Bool.{cases_eq, cases_lt, cases_Bool}
+use Rattle.std.proofs.lemmas.List.{get_or_past, get_or-set_other}
+use Rattle.regalloc2_names.specs.Operand.{OperandValue, is_def}
+use Rattle.regalloc2_function.specs.FunctionValue.{FunctionValue, block_at, inst_at}
+use Rattle.regalloc2_function.specs.WellFormed.{last_of}
+use Rattle.regalloc2_semantics.specs.Listing.{op_at}
+use Rattle.regalloc2_semantics.proofs.SingleDef.{defined_small}
+use Rattle.regalloc2_branch_defs.specs.BranchDefs.{DefinesNumber, IsSite, MayHaveTables}
+use Rattle.regalloc2_branch_defs.specs.Notes.{NotesBranch, NotesSites}
+use Rattle.regalloc2_branch_defs.specs.Tables.{AreSites}
+use Rattle.regalloc2_branch_defs.specs.declared.DefSite.{DefSite}
+use Rattle.regalloc2_branch_defs.proofs.BlockEnds.{branch_ends_block, last_within, site_defines}
+
+-- what is written at m is found there, and elsewhere what was there
+pub found : {X : Type 0} (xs : List (Option X)) (m n : ℕ) (x y : X) → slice_index_or (set xs m (Some x)) n None ≡ Some y → ((n ≡ m) × (x ≡ y))
+    ⊎ (slice_index_or xs n None ≡ Some y)
+found xs m n x y e = elim (cases_eq n m) [
+  | inr ne ↦ inr (sym (get_or-set_other xs m n (Some x) None ne) ∙ e)
+  | inl same ↦ elim (cases_lt m (length xs)) [
+    | inl lt ↦ (let now : slice_index_or (set xs m (Some x)) n None ≡ Some x = subst (λ k. slice_index_or (set xs m (Some x)) k None ≡ Some x) (sym same)
+        (get_or-set_same xs m (Some x) None lt) in let is : Some x ≡ Some y = sym now ∙ e in inl (same, let r : x ≡ y = cc in r))
+    | inr past ↦ absurd (let none : slice_index_or (set xs m (Some x)) n None ≡ None = get_or_past (set xs m (Some x)) n None
+        (let l = length-set xs m (Some x) in omega (arith, l, past, same)) in let is : None ≡ Some y = sym none ∙ e in cc)
+  ]
+]
+
+-- where nothing is found nothing was there
+pub missing : {X : Type 0} (xs : List (Option X)) (m n : ℕ) (x : X) → slice_index_or (set xs m (Some x)) n None ≡ None → ((n ≡ m) → length xs ≤ m)
+    × (slice_index_or xs n None ≡ None)
+missing xs m n x e = elim (cases_eq n m) [
+  | inr ne ↦ (λ same. absurd (ne same), sym (get_or-set_other xs m n (Some x) None ne) ∙ e)
+  | inl same ↦ elim (cases_lt m (length xs)) [
+    | inl lt ↦ absurd (let now : slice_index_or (set xs m (Some x)) n None ≡ Some x = subst (λ k. slice_index_or (set xs m (Some x)) k None ≡ Some x) (sym same)
+        (get_or-set_same xs m (Some x) None lt) in let is : None ≡ Some x = sym e ∙ now in cc)
+    | inr past ↦ (λ _. past, get_or_past xs n None (omega (arith, past, same)))
+  ]
+]
+
+-- before any operand nothing is noted
+pub notes_none : (ops : List OperandValue) (branch : ℕ) (sites : List (Option DefSite)) → NotesSites ops branch 0 sites sites
+notes_none ops branch sites = record {
+  long = refl;
+  from = λ n s e. inl e;
+  kept = λ n e. e;
+  noted = λ n k less. absurd (omega (arith, less));
+}
+
+-- one operand more, which defines
+notes_def : (ops : List OperandValue) (branch k : ℕ) (old mid : List (Option DefSite)) → k < length ops → is_def (op_at ops k).kind ≡ true →
+    NotesSites ops branch k old mid →
+    NotesSites ops branch (k + 1) old (set mid (op_at ops k).vreg.number (Some (record { branch = branch; index = k })))
+notes_def ops branch k old mid lt def h =
+    let m : ℕ = (op_at ops k).vreg.number in
+    let s : DefSite = record { branch = branch; index = k } in
+    let long = h.long in
+    record {
+      long = length-set mid m (Some s) ∙ h.long;
+      from = λ n t e. elim (found mid m n s t e) [
+        | inl now ↦ inr (
+          ap (λ (x : DefSite). x.branch) (sym now.1),
+          record {
+            operand = subst (λ (x : DefSite). x.index < length ops) now.1 lt;
+            definition = subst (λ (x : DefSite). is_def (op_at ops x.index).kind ≡ true) now.1 def;
+            number = subst (λ (x : DefSite). (op_at ops x.index).vreg.number ≡ n) now.1 (sym now.0);
+          },
+        )
+        | inr was ↦ h.from n t was
+      ];
+      kept = λ n e. h.kept n (missing mid m n s e).1;
+      noted = λ n j less small d e.
+          let gone = missing mid m n s e in
+          elim (cases_eq j k) [
+            | inl same ↦ (let number : m ≡ n = subst (λ (x : ℕ). (op_at ops x).vreg.number ≡ n) same d.number in
+                let past = gone.0 (sym number) in omega (arith, past, long, small, number))
+            | inr ne ↦ h.noted n j (omega (arith, less, ne)) small d gone.1
+          ];
+    }
+
+-- one operand more, which doesn't
+notes_use : (ops : List OperandValue) (branch k : ℕ) (old mid : List (Option DefSite)) → is_def (op_at ops k).kind ≡ false → NotesSites ops branch k old mid →
+    NotesSites ops branch (k + 1) old mid
+notes_use ops branch k old mid use_it h = record {
+  long = h.long;
+  from = h.from;
+  kept = h.kept;
+  noted = λ n j less small d e. elim (cases_eq j k) [
+    | inl same ↦ (let def : is_def (op_at ops k).kind ≡ true = subst (λ (x : ℕ). is_def (op_at ops x).kind ≡ true) same d.definition in
+        let no : false ≡ true = sym use_it ∙ def in cc)
+    | inr ne ↦ h.noted n j (omega (arith, less, ne)) small d e
+  ];
+}
+
+-- one operand more
+pub notes_one : (ops : List OperandValue) (branch k : ℕ) (o : OperandValue) (old mid new : List (Option DefSite)) → k < length ops → o ≡ op_at ops k →
+    new ≡ (if is_def o.kind then set mid o.vreg.number (Some (record { branch = branch; index = k })) else mid)
+    → NotesSites ops branch k old mid → NotesSites ops branch (k + 1) old new
+notes_one ops branch k o old mid new lt is e h =
+    let now : new ≡ (if is_def (op_at ops k).kind then set mid (op_at ops k).vreg.number (Some (record { branch = branch; index = k })) else mid)
+    = subst (λ (x : OperandValue). new ≡ (if is_def x.kind then set mid x.vreg.number (Some (record { branch = branch; index = k })) else mid)) is e in
+    elim (cases_Bool (is_def (op_at ops k).kind)) [
+      | inl def ↦ subst (NotesSites ops branch (k + 1) old) (sym (rw def at now)) (notes_def ops branch k old mid lt def h)
+      | inr use_it ↦ subst (NotesSites ops branch (k + 1) old) (sym (rw use_it at now)) (notes_use ops branch k old mid use_it h)
+    ]
+
+-- what the branches of the first blocks define is noted
+pub record SitesUpTo (f : FunctionValue) (count : ℕ) (sites : List (Option DefSite)) : Type 0 where
+  pub long : length sites ≡ f.num_vregs
+  pub site : (n : ℕ) (s : DefSite) → slice_index_or sites n None ≡ Some s → IsSite f n s.branch s.index
+  pub noted : (n : ℕ) → slice_index_or sites n None ≡ None → (b : ℕ) → b < count → b < length f.blocks →
+      (inst_at f (last_of (block_at f b))).is_branch ≡ true
+      → (k : ℕ) → DefinesNumber (inst_at f (last_of (block_at f b))).operands n k → ⊥
+
+-- at first nothing is
+pub sites_none : (f : FunctionValue) (sites : List (Option DefSite)) → length sites ≡ f.num_vregs → ((n : ℕ) → slice_index_or sites n None ≡ None) →
+    SitesUpTo f 0 sites
+sites_none f sites long none = record {
+  long = long;
+  site = λ n s e. absurd (let x : None ≡ Some s = sym (none n) ∙ e in cc);
+  noted = λ n e b less. absurd (omega (arith, less));
+}
+
+-- a block that ends in a branch
+sites_branch : (f : FunctionValue) → MayHaveTables f → (b : ℕ) → b < length f.blocks → (old new : List (Option DefSite)) → SitesUpTo f b old →
+    (inst_at f (last_of (block_at f b))).is_branch ≡ true
+    → NotesSites (inst_at f (last_of (block_at f b))).operands (last_of (block_at f b)) (length (inst_at f (last_of (block_at f b))).operands) old new →
+    SitesUpTo f (b + 1) new
+sites_branch f w b lt old new h is notes =
+    let i : ℕ = last_of (block_at f b) in
+    let long = h.long in
+    record {
+      long = notes.long ∙ h.long;
+      site = λ n s e. elim (notes.from n s e) [
+        | inl was ↦ h.site n s was
+        | inr now ↦ subst (λ (m : ℕ). IsSite f n m s.index) (sym now.0) (record { inst = last_within f w b lt; is_branch = is; defines = now.1 })
+      ];
+      noted = λ n e c less within branch k d. elim (cases_eq c b) [
+        | inl same ↦ (
+            let here : DefinesNumber (inst_at f i).operands n k = subst (λ (m : ℕ). DefinesNumber (inst_at f (last_of (block_at f m))).operands n k) same d in
+            let small = defined_small f w.1.defined_once n i k
+            (site_defines f n i k (record { inst = last_within f w b lt; is_branch = is; defines = here })) in
+            notes.noted n k here.operand (omega (arith, small, long)) here e)
+        | inr ne ↦ h.noted n (notes.kept n e) c (omega (arith, less, ne)) within branch k d
+      ];
+    }
+
+-- a block that ends otherwise
+sites_return : (f : FunctionValue) (b : ℕ) (sites : List (Option DefSite)) → SitesUpTo f b sites → (inst_at f (last_of (block_at f b))).is_branch ≡ false →
+    SitesUpTo f (b + 1) sites
+sites_return f b sites h isnt = record {
+  long = h.long;
+  site = h.site;
+  noted = λ n e c less within branch k d. elim (cases_eq c b) [
+    | inl same ↦ (let is : (inst_at f (last_of (block_at f b))).is_branch ≡ true = subst (λ (m : ℕ). (inst_at f (last_of (block_at f m))).is_branch ≡ true) same
+        branch in let no : false ≡ true = sym isnt ∙ is in cc)
+    | inr ne ↦ h.noted n e c (omega (arith, less, ne)) within branch k d
+  ];
+}
+
+-- one block more
+pub sites_more : (f : FunctionValue) → MayHaveTables f → (b : ℕ) → b < length f.blocks → (old new : List (Option DefSite)) → SitesUpTo f b old →
+    NotesBranch f b old new → SitesUpTo f (b + 1) new
+sites_more f w b lt old new h notes = elim (cases_Bool (inst_at f (last_of (block_at f b))).is_branch) [
+  | inl is ↦ sites_branch f w b lt old new h is (notes.branch is)
+  | inr isnt ↦ subst (SitesUpTo f (b + 1)) (sym (notes.no_branch isnt)) (sites_return f b old h isnt)
+]
+
+-- and so all are
+pub sites_all : (f : FunctionValue) → MayHaveTables f → (sites : List (Option DefSite)) → SitesUpTo f (length f.blocks) sites → AreSites f sites
+sites_all f w sites h = record {
+  site = h.site;
+  no_site = λ n e i k s.
+      let b = branch_ends_block f w i s.inst s.is_branch in
+      h.noted n e b.0 b.1 b.1 (subst (λ (m : ℕ). (inst_at f m).is_branch ≡ true) b.2 s.is_branch) k
+      (subst (λ (m : ℕ). DefinesNumber (inst_at f m).operands n k) b.2 s.defines);
+}

@@ -1,0 +1,6 @@
+use Rattle.regalloc2_branch_defs.specs.Notes.{Marks, ReadsAmong}
+use Rattle.regalloc2_branch_defs.proofs.uses.note_reads.Given as goal
+
+-- what the operands so far read is marked
+abbrev pub invariant-loop-k : goal.invariant-loop-k
+invariant-loop-k l = Marks (ReadsAmong l.operands l.k) l.initial.used l.used

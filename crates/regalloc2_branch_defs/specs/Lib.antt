@@ -1,0 +1,3 @@
+pub mod BranchDefs
+pub mod Notes
+pub mod Tables

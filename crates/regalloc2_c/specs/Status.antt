@@ -1,0 +1,47 @@
+-- The numbers of failures, as the header lists them, and which failure an error is.
+use Rattle.std.specs.Prelude.{ℕ, ◌+◌}
+use Rattle.std.specs.declared.alloc.Global.{Global}
+use Rattle.regalloc2.specs.declared.tested.AllocateError.{AllocateError}
+use Rattle.regalloc2.specs.declared.tested.AllocateError.TheVariants.{Misfit, Refused as RunRefused, Faults as RunFaults, Unjudged}
+use Rattle.regalloc2_function.specs.declared.serialize.StoredFault.{StoredFault}
+use Rattle.regalloc2_function.specs.declared.serialize.StoredFault.TheVariants.{Lengths, Index, Bits, Limit, Memory, Shape}
+use Rattle.regalloc2_tool.specs.Fault.{fault_number}
+use Rattle.regalloc2_tool.specs.Refusal.{refusal_number}
+use Rattle.regalloc2_c.specs.declared.failure.Failure.{Failure}
+use Rattle.regalloc2_c.specs.declared.failure.Failure.TheVariants.{Unreadable, BadMachine, NoRoom, Faults, NoMemory, NotFramed, BadOutput, BadFunction, Refused}
+
+abbrev pub failure_number : Failure → ℕ
+failure_number Unreadable = 1
+failure_number BadMachine = 2
+failure_number NoRoom = 3
+failure_number Faults = 4
+failure_number NoMemory = 5
+failure_number NotFramed = 6
+failure_number BadOutput = 7
+failure_number (BadFunction fault) = 10 + fault_number fault
+failure_number (Refused error) = 20 + refusal_number error
+
+-- where an allocation gives none; the checker gives no verdict only where memory is refused
+abbrev pub allocate_failure : AllocateError Global → Failure
+allocate_failure (Misfit m) = BadMachine
+allocate_failure (RunRefused error) = Refused error
+allocate_failure (RunFaults es) = Faults
+allocate_failure Unjudged = NoMemory
+
+-- where numbers are read
+abbrev pub read_failure : StoredFault → Failure
+read_failure Shape = Unreadable
+read_failure Lengths = NoMemory
+read_failure Index = NoMemory
+read_failure Bits = NoMemory
+read_failure Limit = NoMemory
+read_failure Memory = NoMemory
+
+-- where words are listed
+abbrev pub write_failure : StoredFault → Failure
+write_failure Limit = NoRoom
+write_failure Lengths = NoMemory
+write_failure Index = NoMemory
+write_failure Bits = NoMemory
+write_failure Memory = NoMemory
+write_failure Shape = NoMemory

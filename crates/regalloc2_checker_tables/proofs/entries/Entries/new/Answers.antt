@@ -1,0 +1,27 @@
+use Rattle.std.proofs.Common.{ℕ, ◌≡◌, ◌<◌, ◌+◌, ◌*◌, ◌/◌, arith, get_or, refl}
+use Rattle.regalloc2_checker_tables.proofs.Rows.{zeros}
+use Rattle.regalloc2_checker_tables.proofs.Chunks.{chunks-new}
+use Rattle.regalloc2_checker_tables.proofs.entries.Entries.new.Goals as goal
+
+pub overflow_mul-len : goal.overflow_mul-len
+overflow_mul-len g c = omega (arith, c.len.ensures, c.in_ok-bases.ensures.long)
+
+pub invariant_of-result : goal.invariant_of-result
+invariant_of-result g c =
+    chunks-new c.resize.new.self.items c.resize-2.new.self.items c.in_ok-bases.bases
+    (omega (arith, c.in_ok-resize.ensures.len, c.resize.new.self.ok.0))
+    (λ i. zeros c.resize.new.self.items 64 i (omega (arith, c.in_ok-resize.ensures.len, c.resize.new.self.ok.0))
+    (λ k l. c.in_ok-resize.ensures.by_index.1 k 0 refl (omega (arith, c.new-words.ensures.len)) l))
+    (λ i. zeros c.resize-2.new.self.items (64 * c.len.result) i (omega (arith, c.in_ok-resize-2.ensures.len, c.resize-2.new.self.ok.0))
+    (λ k l. c.in_ok-resize-2.ensures.by_index.1 k 0 refl (omega (arith, c.new-cells.ensures.len)) l))
+    (omega (arith, c.in_ok-resize-2.ensures.len, c.resize-2.new.self.ok.0, c.len.ensures)) c.in_ok-bases.ensures.cells c.in_ok-bases.ensures.saved
+
+pub returns-clause-cells : goal.returns-clause-cells
+returns-clause-cells g c i =
+    zeros c.resize-2.new.self.items (64 * c.len.result) i (omega (arith, c.in_ok-resize-2.ensures.len, c.resize-2.new.self.ok.0))
+    (λ k l. c.in_ok-resize-2.ensures.by_index.1 k 0 refl (omega (arith, c.new-cells.ensures.len)) l)
+
+pub returns-clause-saved : goal.returns-clause-saved
+returns-clause-saved g c k i =
+    zeros c.resize.new.self.items 64 _ (omega (arith, c.in_ok-resize.ensures.len, c.resize.new.self.ok.0))
+    (λ k l. c.in_ok-resize.ensures.by_index.1 k 0 refl (omega (arith, c.new-words.ensures.len)) l)

@@ -1,0 +1,35 @@
+use Rattle.std.proofs.Common.{ℕ, ◌≡◌, ◌<◌, List, [], ◌∷◌, ◌++◌, arith, Bool, true, false, ap, sym, ◌∙◌, refl, subst, cond, nat_eq, nat_lt}
+use Rattle.std.specs.Prelude.{◌&&◌, if◌then◌else◌, Option, None, Some}
+use Rattle.regalloc2_cfg.specs.Numbers.{NumberSet, has_number, times_in}
+use Rattle.regalloc2_checker_tables.specs.EntrySets.{has_bits, is_member, IsSetOf, AreMore, AreKnown, IsLess}
+use Rattle.regalloc2_checker_tables.proofs.Bits.{added-is, added-more, same-sets, within-and, none-is, ok-as, read-is, bits-in, bits-small, changed-is}
+use Rattle.regalloc2_checker_tables.proofs.Walked.{times-nil, walked-on, walked-is, walked-more, walked-end}
+use Rattle.regalloc2_checker_tables.proofs.Lone.{single-is, single-as, none-kept, alone-is, known-first, known-more, empty-is, set-of, set-is, with-empty}
+use Rattle.regalloc2_checker_tables.proofs.Lone.{without-lone, both-lone, both-apart, lone-within, lone-less, lone-none, empty-common}
+use Rattle.regalloc2_checker_tables.proofs.sets.Sets.both.Goals as goal
+
+pub returns-then-has-clause-found : goal.returns-then-has-clause-found
+returns-then-has-clause-found g c =
+    let is = c.in-Some.ensures c.in-Some.only refl in
+    set-is c.args.self.now c.args.other _ _
+    (λ y. sym (is.members y) ∙ both-lone (is_member c.args.self.now c.args.set) (is_member c.args.self.now c.args.other) c.in-Some.only is.members
+    (sym c.if-has.ensures) y) is
+
+pub returns-in-Some-clause-found : goal.returns-in-Some-clause-found
+returns-in-Some-clause-found g c =
+    let is = c.in-Some.ensures c.in-Some.only refl in
+    set-of c.self.inside.sets.items c.args.self.now 0 _ c.self.view_is
+    (empty-is c.self.inside.sets.items c.self.inside.lone.items _ c.self.invariant
+    (both-apart (is_member c.args.self.now c.args.set) (is_member c.args.self.now c.args.other) c.in-Some.only is.members (sym c.if-has.ensures)))
+
+pub returns-clause-found : goal.returns-clause-found
+returns-clause-found g c =
+    let first = read-is c.self.inside.sets.items c.args.self.now c.args.set c.index-first.result.now [] c.self.view_is c.requires.set c.index-first.ensures in
+    let second = read-is c.self.inside.sets.items c.args.self.now c.args.other c.index-second.result.now [] c.self.view_is c.requires.other
+    c.index-second.ensures
+    in
+    ok-as _ _ c.settle.result
+    (λ n h. set-is c.settle.new.self n _ _
+    (λ y. c.in_ok-both.ensures y ∙ ap (λ s. has_bits s y && has_bits c.index-second.result.now y) first
+    ∙ ap (λ s. is_member c.args.self.now c.args.set y && has_bits s y) second) h)
+    c.settle.ensures.found

@@ -1,0 +1,40 @@
+use Rattle.std.proofs.Common.{ℕ, ◌≡◌, ◌<◌, ◌+◌, List, [], ◌∷◌, ◌++◌, length, get_or, arith, Bool, true, false, ap, sym, ◌∙◌, refl, subst, cond, nat_eq, nat_lt}
+use Rattle.std.specs.Prelude.{◌&&◌, ◌||◌, if◌then◌else◌, slice_set}
+use Rattle.std.proofs.lemmas.Bool.{eqb-true}
+use Rattle.regalloc2_cfg.specs.Numbers.{NumberSet, has_number}
+use Rattle.regalloc2_checker_tables.specs.SavedNumbers.{Numbers, number_at, number_now}
+use Rattle.regalloc2_checker_tables.specs.EntrySets.{is_member}
+use Rattle.regalloc2_checker_tables.specs.Holding.{Holding, held, holds_now, holds_in, IsHome, AreTables, AreKeptTables, HoldsNow, count_of, is_in, AreMoreHomes}
+use Rattle.regalloc2_checker_tables.proofs.Bits.{read-is, same-sets, ok-as}
+use Rattle.regalloc2_checker_tables.proofs.Listed.{at-position, not-listed}
+use Rattle.regalloc2_checker_tables.proofs.Holders.{homes-same, homes-more, home-at, noted-here}
+use Rattle.regalloc2_checker_tables.proofs.TableLaws.{more-all, put-all, less_either, on_ok_as}
+use Rattle.regalloc2_checker_tables.proofs.TableLaws.{get-below, listed-times, put-home, homes-kept-at, kept_same, IsChanged}
+use Rattle.regalloc2_checker_tables.proofs.tables.note_set.Goals as goal
+
+true-false : (b : Bool) → b ≡ true → b ≡ false → ⊥
+true-false true h g = absurd cc
+true-false false h g = absurd cc
+
+pub returns-then-set-eq0-clause-more : goal.returns-then-set-eq0-clause-more
+returns-then-set-eq0-clause-more g c = homes-same c.args.homes.now.items
+
+pub returns-then-set-eq0-clause-noted : goal.returns-then-set-eq0-clause-noted
+returns-then-set-eq0-clause-noted g c y is =
+    absurd (true-false (is_member c.args.sets.now 0 y) (ap (λ n. is_member c.args.sets.now n y) (sym c.if-set-eq0.true) ∙ is) (c.requires.empty y))
+
+pub returns-in-Some-clause-noted : goal.returns-in-Some-clause-noted
+returns-in-Some-clause-noted g c =
+    let alone = c.in-Some.ensures c.in-Some.only refl in
+    on_ok_as _ _ c.note.result
+    (λ ok y is. subst (λ (b : ℕ). IsHome c.args.vregs.now c.note.new.homes.items c.args.place b)
+    (sym (eqb-true y c.in-Some.only (sym (alone.members y) ∙ is))) ok) c.note.ensures.noted
+
+pub returns-in_err-members-clause-more : goal.returns-in_err-members-clause-more
+returns-in_err-members-clause-more g c = homes-same c.args.homes.now.items
+
+pub returns-clause-noted : goal.returns-clause-noted
+returns-clause-noted g c =
+    on_ok_as _ _ c.note_all.result
+    (λ ok y is. ok y (listed-times (is_member c.args.sets.now c.args.set) c.in_ok-members.members.items c.deref.result.now
+    c.deref.ensures.value c.in_ok-members.ensures y is)) c.note_all.ensures.noted

@@ -1,0 +1,240 @@
+//! An array of numbers, and saved copies of it, for many copies of which each differs little from another.
+//!
+//! An array is kept in chunks of 64 numbers. Those of all saved copies stand in one list of words that only grows. Where
+//! the chunks of each stand is an array of numbers itself, of which copies are saved in turn, so that neither saving nor
+//! loading a copy goes over all chunks.
+
+ghost use Rattle.std.specs.Prelude.{◌≡◌, ◌≢◌, ℕ, ◌+◌, ◌*◌, ◌/◌, ◌%◌, ◌-◌, ◌^◌, ◌<◌, ◌≤◌, length, get_or, slice_set};
+ghost use Rattle.std.specs.Prelude.{IfOk, OnOk, OnErr, MatchOption};
+ghost use Rattle.regalloc2_checker_tables.specs.SavedCopies.{cell_at, saved_at, AreMoreWords};
+ghost use Rattle.regalloc2_checker_tables.specs.SavedNumbers.{copy_count, number_at, number_now, AreAlikeBetween, AreChunksKept, AreCopiesKept, AreLoaded, AreSaved, AreAlike};
+
+use crate::versions::{Versions, copy_chunk, difference_in, is_same_chunk};
+use std::alloc::{AllocError, Allocator};
+use std::marker::Model;
+
+/// Where a chunk stands that was written since.
+const UNSAVED: u32 = u32::MAX;
+
+/// An array of numbers, and saved copies of it, by number. `last` is the one that was last loaded or saved.
+#[derive(Drop)]
+pub struct Entries<A: Allocator> {
+    words: Vec<u32, A>,
+    cells: Vec<u32, A>,
+    bases: Versions<A>,
+    last: usize,
+}
+
+impl<A: Allocator> Model for Entries<A> {
+    ghost use Rattle.regalloc2_checker_tables.specs.SavedNumbers.{Numbers, AreChunksKept};
+
+    ghost Value = { Numbers };
+
+    ghost view = { λ v. record { words = v.words.items; base_words = v.bases.words; base_rows = v.bases.saved; cells = v.cells.items } };
+
+    ghost invariant = { λ v. AreChunksKept v.words.items v.cells.items v.bases };
+}
+
+/// Gives the array the chunks of a saved copy, of which it may have some.
+fn load_chunks<A: Allocator + Copy>(
+    words: &[u32],
+    bases: &Versions<A>,
+    copy: usize,
+    cells: &mut [u32],
+)
+    requires copy { copy < length bases.now.saved }
+    requires kept { AreChunksKept words.now cells.old bases.now }
+    ensures { AreLoaded words.now cells.new bases.now copy (length bases.now.cells) }
+{
+    let mut from = 0;
+    'chunks: while let Some(chunk) = bases.next_difference(copy, from) {
+        let base = bases.saved(copy, chunk) as usize;
+        copy_chunk(words, base, cells, 64 * chunk);
+        from = chunk + 1;
+    }
+}
+
+/// Puts a chunk of the array among the words, if it was written since it stood there.
+fn save_chunk<A: Allocator + Copy>(
+    words: &mut Vec<u32, A>,
+    bases: &mut Versions<A>,
+    copy: usize,
+    cells: &[u32],
+    chunk: usize,
+) -> Result<(), AllocError>
+    requires copy { copy < length bases.old.saved }
+    requires chunk { chunk < length bases.old.cells }
+    requires kept { AreChunksKept words.old.items cells.now bases.old }
+    ensures words { AreMoreWords words.old.items words.new.items }
+    ensures kept { AreChunksKept words.new.items cells.now bases.new }
+    ensures copies { AreCopiesKept bases.old bases.new }
+    ensures others { (j : ℕ) → j ≢ chunk → cell_at bases.new j ≡ cell_at bases.old j }
+    ensures saved { OnOk result (cell_at bases.new chunk < 4294967295) }
+{
+    if bases.get(chunk) != UNSAVED {
+        return Ok(());
+    }
+    let base = bases.saved(copy, chunk);
+    if is_same_chunk(words, base as usize, cells, 64 * chunk) {
+        bases.set(chunk, base);
+        return Ok(());
+    }
+    let end = words.len();
+    if end >= UNSAVED as usize {
+        return Err(AllocError);
+    }
+    words.extend_from_slice(&cells[64 * chunk..64 * chunk + 64])?;
+    bases.set(chunk, end as u32);
+    Ok(())
+}
+
+/// Puts the chunks of the array that a saved copy near to it hasn't among the words.
+fn save_chunks<A: Allocator + Copy>(
+    words: &mut Vec<u32, A>,
+    bases: &mut Versions<A>,
+    near: usize,
+    copy: usize,
+    cells: &[u32],
+) -> Result<(), AllocError>
+    requires near { near < length bases.old.saved }
+    requires copy { copy < length bases.old.saved }
+    requires kept { AreChunksKept words.old.items cells.now bases.old }
+    ensures words { AreMoreWords words.old.items words.new.items }
+    ensures kept { AreChunksKept words.new.items cells.now bases.new }
+    ensures copies { AreCopiesKept bases.old bases.new }
+    ensures saved { OnOk result (AreSaved bases.new (length bases.old.cells)) }
+{
+    let mut from = 0;
+    'chunks: while let Some(chunk) = bases.next_difference(near, from) {
+        save_chunk(words, bases, copy, cells, chunk)?;
+        from = chunk + 1;
+    }
+    Ok(())
+}
+
+/// The first position from one on at which the array differs from a saved copy.
+fn first_position<A: Allocator + Copy>(
+    words: &[u32],
+    bases: &Versions<A>,
+    copy: usize,
+    cells: &[u32],
+    from: usize,
+) -> Option<usize>
+    requires copy { copy < length bases.now.saved }
+    requires kept { AreChunksKept words.now cells.now bases.now }
+    ensures { MatchOption result (AreAlike words.now cells.now bases.now copy from (length cells.now))
+        (λ i. (from ≤ i) × (i < length cells.now) × (get_or cells.now i 0 ≢ get_or words.now (saved_at bases.now copy (i / 64) + i % 64) 0)
+        × AreAlike words.now cells.now bases.now copy from i) }
+{
+    let mut first = from / 64;
+    'chunks: while let Some(chunk) = bases.next_difference(copy, first) {
+        let base = bases.saved(copy, chunk) as usize;
+        let found = difference_in(words, base, cells, 64 * chunk, from);
+        if found.is_some() {
+            return found;
+        }
+        first = chunk + 1;
+    }
+    None
+}
+
+impl<A: Allocator + Copy> Entries<A> {
+    /// Zeros, for so many positions and so many saved copies.
+    pub fn new(alloc: A, count: usize, size: usize) -> Result<Entries<A>, AllocError>
+        requires { size < 2 ^ 62 }
+        ensures long { IfOk result (λ v. size < length v.cells) }
+        ensures count { IfOk result (λ v. copy_count v ≡ count) }
+        ensures cells { IfOk result (λ v. (i : ℕ) → number_now v i ≡ 0) }
+        ensures saved { IfOk result (λ v. (k i : ℕ) → number_at v k i ≡ 0) }
+    {
+        let bases = Versions::new(alloc, count, size / 64)?;
+        let mut words = Vec::new(alloc);
+        words.resize(64, 0)?;
+        let mut cells = Vec::new(alloc);
+        cells.resize(64 * bases.len(), 0)?;
+        Ok(Entries {
+            words,
+            cells,
+            bases,
+            last: 0,
+        })
+    }
+
+    /// How many positions there are.
+    pub fn len(&self) -> usize
+        ensures { result ≡ length self.now.cells }
+    {
+        self.cells.len()
+    }
+
+    /// The number at a position.
+    pub fn get(&self, position: usize) -> u32
+        requires { position < length self.now.cells }
+        ensures { result ≡ number_now self.now position }
+    {
+        self.cells[position]
+    }
+
+    /// Writes the number at a position.
+    pub fn set(&mut self, position: usize, number: u32)
+        requires { position < length self.old.cells }
+        ensures { self.new ≡ record self.old { cells = slice_set self.old.cells position number } }
+    {
+        if self.cells[position] == number {
+            return;
+        }
+        self.cells[position] = number;
+        self.bases.set(position / 64, UNSAVED);
+    }
+
+    /// The number at a position of a saved copy.
+    pub fn saved(&self, copy: usize, position: usize) -> u32
+        requires copy { copy < copy_count self.now }
+        requires position { position < length self.now.cells }
+        ensures { result ≡ number_at self.now copy position }
+    {
+        let base = self.bases.saved(copy, position / 64) as usize;
+        self.words[base + position % 64]
+    }
+
+    /// Gives the array the numbers of a saved copy.
+    pub fn load(&mut self, copy: usize)
+        requires { copy < copy_count self.old }
+        ensures count { copy_count self.new ≡ copy_count self.old }
+        ensures saved { (k i : ℕ) → number_at self.new k i ≡ number_at self.old k i }
+        ensures long { length self.new.cells ≡ length self.old.cells }
+        ensures loaded { (i : ℕ) → i < length self.new.cells → number_now self.new i ≡ number_at self.old copy i }
+    {
+        load_chunks(&self.words, &self.bases, copy, &mut self.cells);
+        self.bases.load(copy);
+        self.last = copy;
+    }
+
+    /// Gives a saved copy the numbers of the array.
+    pub fn save(&mut self, copy: usize) -> Result<(), AllocError>
+        requires { copy < copy_count self.old }
+        ensures cells { self.new.cells ≡ self.old.cells }
+        ensures count { copy_count self.new ≡ copy_count self.old }
+        ensures others { (k i : ℕ) → (k ≡ copy → ⊥) → i < length self.old.cells → number_at self.new k i ≡ number_at self.old k i }
+        ensures saved { OnOk result ((i : ℕ) → i < length self.old.cells → number_at self.new copy i ≡ number_now self.old i) }
+        ensures err { OnErr result ((i : ℕ) → i < length self.old.cells → number_at self.new copy i ≡ number_at self.old copy i) }
+    {
+        let near = if self.last < self.bases.count() {
+            self.last
+        } else {
+            copy
+        };
+        save_chunks(&mut self.words, &mut self.bases, near, copy, &self.cells)?;
+        self.last = copy;
+        self.bases.save(copy)
+    }
+
+    /// The first position from one on at which the array differs from a saved copy.
+    pub fn next_difference(&self, copy: usize, from: usize) -> Option<usize>
+        requires { copy < copy_count self.now }
+        ensures { MatchOption result (AreAlikeBetween self.now copy from (length self.now.cells))
+            (λ i. (from ≤ i) × (i < length self.now.cells) × (number_now self.now i ≢ number_at self.now copy i) × AreAlikeBetween self.now copy from i) }
+    {
+        first_position(&self.words, &self.bases, copy, &self.cells, from)
+    }
+}

@@ -1,0 +1,149 @@
+-- At the end of a block, where no vreg is in a register behind it, a definition under `Any` or `Stack` is in no register.
+use Rattle.std.proofs.Common.{ℕ, ◌≡◌, ◌≢◌, ◌<◌, ◌≤◌, ◌+◌, ◌⊎◌, List, Bool, true, false, refl, sym, ap, ◌∙◌, subst, inl, inr, arith, length, set}
+use Rattle.std.proofs.Common.{get_or-set_same}
+use Rattle.std.proofs.lemmas.Bool.{cases_eq, cases_Bool}
+use Rattle.std.proofs.lemmas.List.{get_or-set_other}
+use Rattle.regalloc2_names.specs.declared.OperandConstraint.{OperandConstraint}
+use Rattle.regalloc2_names.specs.declared.OperandConstraint.TheVariants.{Any, Stack, FixedReg, Reuse}
+use Rattle.regalloc2_names.specs.Register.{Register, VirtualRegister}
+use Rattle.regalloc2_names.specs.Operand.{OperandValue, is_def, is_late}
+use Rattle.regalloc2_names.specs.Place.{Place, NoPlace, InRegister}
+use Rattle.regalloc2_names.specs.Point.{after}
+use Rattle.regalloc2_function.specs.FunctionValue.{InstValue}
+use Rattle.regalloc2_function.specs.OutputValue.{MoveValue}
+use Rattle.regalloc2_fastalloc_state.specs.declared.inst_regs.InstRegs.{InstRegs}
+use Rattle.regalloc2_fastalloc_state.specs.declared.request.Requirement.{Requirement}
+use Rattle.regalloc2_fastalloc_state.specs.declared.request.Requirement.TheVariants.{AnyPlace, AnyReg, InMemory, InPReg}
+use Rattle.regalloc2_fastalloc_state.specs.StateParts.{IsSlotOrNone, alloc_of}
+use Rattle.regalloc2_validate.specs.Constraints.{op_at}
+use Rattle.regalloc2_fastalloc_proofs.specs.InstSteps.{StateValue, SelectsPlace, AllocsDefOp, ProcessesOperand, a_register, a_use, a_def, a_reuse}
+use Rattle.regalloc2_fastalloc_proofs.specs.InstSteps.{ProcessesOperandsAt, none_placed, of_other, one_placed, AllocsInst, ends_block, requirement_of}
+use Rattle.regalloc2_fastalloc_proofs.specs.InstSteps.{def_request}
+use Rattle.regalloc2_fastalloc_proofs.specs.InstSteps.SelectsPlace.{stays, fixed, slot, free}
+use Rattle.regalloc2_fastalloc_proofs.proofs.Operands.AllocsSoFar.{at_place, IsTame, not_both, reads_not_def}
+use Rattle.regalloc2_fastalloc_proofs.proofs.BlockEnd.NoMoveForOperand.{IsOutside}
+use Rattle.regalloc2_fastalloc_proofs.proofs.BlockEnd.NoMoveInPasses.{Calm}
+use Rattle.regalloc2_fastalloc_proofs.proofs.BlockEnd.NoMoveInLastInst.{LateDone, EarlyDone, late_calm, early_calm, other_pass, calm_start}
+
+-- a constraint under which a definition may be anywhere, or in memory
+abbrev pub IsAnyOrStack : OperandConstraint → Type 0
+IsAnyOrStack c = (c ≡ Any) ⊎ (c ≡ Stack)
+
+no_fixed : (c : OperandConstraint) (r : Register) → IsAnyOrStack c → c ≡ FixedReg r → ⊥
+no_fixed c r (inl a) e = (let x : Any ≡ FixedReg r = sym a ∙ e in cc)
+no_fixed c r (inr s) e = (let x : Stack ≡ FixedReg r = sym s ∙ e in cc)
+
+no_reuse : (c : OperandConstraint) (n : ℕ) → IsAnyOrStack c → c ≡ Reuse n → ⊥
+no_reuse c n (inl a) e = (let x : Any ≡ Reuse n = sym a ∙ e in cc)
+no_reuse c n (inr s) e = (let x : Stack ≡ Reuse n = sym s ∙ e in cc)
+
+no_slot_register : (count : ℕ) (p : Place) (r : Register) → IsSlotOrNone count p → p ≡ InRegister r → ⊥
+no_slot_register count p r below at = subst (IsSlotOrNone count) at below
+
+no_wish : (wants : Requirement) → wants ≡ InMemory → (wants ≡ AnyPlace) ⊎ (wants ≡ AnyReg) → ⊥
+no_wish wants e (inl a) = (let x : InMemory ≡ AnyPlace = sym e ∙ a in cc)
+no_wish wants e (inr a) = (let x : InMemory ≡ AnyReg = sym e ∙ a in cc)
+
+module _ (Known : VirtualRegister → Type 0) (ops : List OperandValue) (tame : IsTame Known ops) (i : ℕ) (is_ret : Bool)
+    (ret : (k : ℕ) → k < length ops → is_def (op_at ops k).kind ≡ true → is_ret ≡ true) (edits : List (ℕ × MoveValue)) where
+  -- the definitions that are done are in no register
+  abbrev InNone : (ℕ → Type 0) → List Place → Type 0
+  InNone D there = (k : ℕ) → k < length ops → D k → is_def (op_at ops k).kind ≡ true → IsAnyOrStack (op_at ops k).constraint → (r : Register) →
+      at_place there k ≡ InRegister r → ⊥
+
+  -- one of them
+  placed_none : (j : ℕ) (p : Place) (t u : InstRegs) (old new : StateValue) → j < length ops → is_def (op_at ops j).kind ≡ true →
+      ((r : Register) → alloc_of old.places (op_at ops j).vreg.number ≡ InRegister r → ⊥) →
+      AllocsDefOp (after i) (def_request (op_at ops j)) is_ret p t u old new →
+      (c : OperandConstraint) → (op_at ops j).constraint ≡ c → IsAnyOrStack c → (r : Register) → p ≡ InRegister r → ⊥
+  placed_none j p t u old new less def away d c is (inl any) r at =
+      let q = d.gets.awaited_in refl (ap requirement_of (is ∙ any)) r at in
+      away q.0 q.1
+  placed_none j p t u old new less def away d c is (inr stack) r at = by_place (ap requirement_of (is ∙ stack)) d.gets.picks
+    where
+      by_place : requirement_of (op_at ops j).constraint ≡ InMemory → SelectsPlace t (def_request (op_at ops j)) p old d.gets.middle → ⊥
+      by_place wish (stays there suits en) = away r (there ∙ at)
+      by_place wish (fixed q wants same en) = (let x : InMemory ≡ InPReg q = sym wish ∙ wants in cc)
+      by_place wish (slot wants gives places es machine) = no_slot_register d.gets.middle.slots.count p r gives.below at
+      by_place wish (free q wants may is_free same en) = no_wish (requirement_of (op_at ops j).constraint) wish wants
+
+  one_none : (D E : ℕ → Type 0) (j : ℕ) (here there : List Place) (t u : InstRegs) (old new : StateValue) →
+      ProcessesOperand i is_ret ops j here there t u old new →
+      j < length ops → ((k : ℕ) → E k → k ≢ j → D k) → length here ≡ length ops →
+      ((r : Register) → is_def (op_at ops j).kind ≡ true → alloc_of old.places (op_at ops j).vreg.number ≡ InRegister r → ⊥) → InNone D here → InNone E there
+  one_none D E j here there t u old new (a_register q silent is written eu en) less back long away h k lk done def kind r at = elim (cases_eq k j) [
+    | inl e ↦ no_fixed (op_at ops k).constraint q kind (ap (λ (x : ℕ). (op_at ops x).constraint) e ∙ is)
+    | inr ne ↦ h k lk (back k done ne) def kind r (sym (get_or-set_other here j k (InRegister q) NoPlace ne) ∙ ap (λ l. at_place l k) (sym written) ∙ at)
+  ]
+  one_none D E j here there t u old new (a_use p reads places written) less back long away h k lk done def kind r at = elim (cases_eq k j) [
+    | inl e ↦ not_both (is_def (op_at ops k).kind) def (ap (λ (x : ℕ). is_def (op_at ops x).kind) e ∙ reads_not_def (op_at ops j) reads)
+    | inr ne ↦ h k lk (back k done ne) def kind r (sym (get_or-set_other here j k p NoPlace ne) ∙ ap (λ l. at_place l k) (sym written) ∙ at)
+  ]
+  one_none D E j here there t u old new (a_def p defines plain places written) less back long away h k lk done def kind r at = elim (cases_eq k j) [
+    | inl e ↦ placed_none j p t u old new less defines (λ q. away q defines) places (op_at ops j).constraint refl
+        (subst (λ (x : ℕ). IsAnyOrStack (op_at ops x).constraint) e kind) r
+        (sym (get_or-set_same here j p NoPlace (omega (arith, long, less))) ∙ ap (at_place (set here j p)) (sym e) ∙ ap (λ l. at_place l k) (sym written) ∙ at)
+    | inr ne ↦ h k lk (back k done ne) def kind r (sym (get_or-set_other here j k p NoPlace ne) ∙ ap (λ l. at_place l k) (sym written) ∙ at)
+  ]
+  one_none D E j here there t u old new (a_reuse n p defines reuses places written) less back long away h k lk done def kind r at = elim (cases_eq k j) [
+    | inl e ↦ no_reuse (op_at ops k).constraint n kind (ap (λ (x : ℕ). (op_at ops x).constraint) e ∙ reuses)
+    | inr ne ↦ elim (cases_eq k n) [
+      | inl e ↦ not_both (is_def (op_at ops k).kind) def (ap (λ (x : ℕ). is_def (op_at ops x).kind) e
+          ∙ reads_not_def (op_at ops n) (tame.named j n less reuses).2)
+      | inr other ↦ h k lk (back k done ne) def kind r (sym (get_or-set_other here j k p NoPlace ne) ∙ sym (get_or-set_other (set here j p) n k p NoPlace other)
+          ∙ ap (λ l. at_place l k) (sym written) ∙ at)
+    ]
+  ]
+
+  late_none : (blank : List Place) (t : InstRegs) (old : StateValue) → Calm Known ops tame i is_ret ret true edits (LateDone ops 0) blank t old →
+      (k : ℕ) (there : List Place) (u : InstRegs) (m : StateValue) → ProcessesOperandsAt i is_ret true ops blank t old k there u m → k ≤ length ops →
+      InNone (LateDone ops k) there
+  late_none blank t old c k there u m none_placed le = λ x lx done. absurd (let a = done.0 in omega arith)
+  late_none blank t old c k there u m (of_other j l w s prev other) le = λ x lx done.
+      late_none blank t old c j there u m prev (omega (arith, le)) x lx (elim (cases_eq x j) [
+        | inl e ↦ absurd (other (ap (λ (y : ℕ). is_late (op_at ops y).position) (sym e) ∙ done.1))
+        | inr ne ↦ ((let a = done.0 in omega (arith, a, ne)), done.1)
+      ])
+  late_none blank t old c k there u m (one_placed j l next w x s n prev late one) le =
+      let calm = late_calm Known ops tame i is_ret ret edits blank t old c j l w s prev (omega (arith, le)) in
+      one_none (LateDone ops j) (LateDone ops (j + 1)) j l there w u s m one (omega (arith, le))
+      (λ y done ne. ((let a = done.0 in omega (arith, a, ne)), done.1))
+      calm.2 (λ q def. calm.0.away j q (omega (arith, le)) def) (late_none blank t old c j l w s prev (omega (arith, le)))
+
+  early_none : (half : List Place) (t : InstRegs) (old : StateValue) → Calm Known ops tame i is_ret ret false edits (EarlyDone ops 0) half t old →
+      InNone (EarlyDone ops 0) half →
+      (k : ℕ) (there : List Place) (u : InstRegs) (m : StateValue) → ProcessesOperandsAt i is_ret false ops half t old k there u m → k ≤ length ops →
+      InNone (EarlyDone ops k) there
+  early_none half t old c h k there u m none_placed le = h
+  early_none half t old c h k there u m (of_other j l w s prev other) le = λ x lx done.
+      early_none half t old c h j there u m prev (omega (arith, le)) x lx (elim done [
+        | inl late ↦ inl late
+        | inr below ↦ elim (cases_eq x j) [
+          | inl e ↦ inl (elim (cases_Bool (is_late (op_at ops x).position)) [
+            | inl yes_late ↦ yes_late
+            | inr early ↦ absurd (other (ap (λ (y : ℕ). is_late (op_at ops y).position) (sym e) ∙ early))
+          ])
+          | inr ne ↦ inr (omega (arith, below, ne))
+        ]
+      ])
+  early_none half t old c h k there u m (one_placed j l next w x s n prev early one) le =
+      let calm = early_calm Known ops tame i is_ret ret edits half t old c j l w s prev (omega (arith, le)) in
+      one_none (EarlyDone ops j) (EarlyDone ops (j + 1)) j l there w u s m one (omega (arith, le))
+      (λ y done ne. elim done [ inl late ↦ inl late | inr below ↦ inr (omega (arith, below, ne)) ])
+      calm.2 (λ q def. calm.0.away j q (omega (arith, le)) def) (early_none half t old c h j l w s prev (omega (arith, le)))
+
+-- such a definition is in no register
+pub defs_in_slots : (Known : VirtualRegister → Type 0) (i : ℕ) (inst : InstValue) (blank places : List Place) (old new : StateValue) →
+    IsTame Known inst.operands → ends_block inst ≡ true → AllocsInst i inst blank places old new → IsOutside old → (k : ℕ) → k < length inst.operands →
+    is_def (op_at inst.operands k).kind ≡ true → IsAnyOrStack (op_at inst.operands k).constraint → (r : Register) → at_place places k ≡ InRegister r → ⊥
+defs_in_slots Known i inst blank places old new tame ends a bare k less =
+    let ops : List OperandValue = inst.operands in
+    let ret : (j : ℕ) → j < length ops → is_def (op_at ops j).kind ≡ true → ends_block inst ≡ true = λ j lj def. ends in
+    let start = calm_start Known i inst blank places old new tame ret a bare in
+    let late = late_calm Known ops tame i (ends_block inst) ret old.edits blank a.quiet a.after_clobbers start (length ops) a.half a.late a.after_late a.lates
+    (omega arith) in
+    early_none Known ops tame i (ends_block inst) ret old.edits a.half a.late a.after_late
+    (other_pass Known ops tame i (ends_block inst) ret old.edits a.half a.late a.after_late late)
+    (λ x lx done. late_none Known ops tame i (ends_block inst) ret old.edits blank a.quiet a.after_clobbers start (length ops) a.half a.late a.after_late
+    a.lates (omega arith) x lx (elim done [ inl yes_late ↦ (lx, yes_late) | inr below ↦ absurd (omega (arith, below)) ]))
+    (length ops) places a.early a.after_early a.earlies (omega arith) k less (inr less)

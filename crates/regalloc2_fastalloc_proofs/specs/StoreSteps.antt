@@ -1,0 +1,85 @@
+-- What a block's beginning stores: the definitions of the branch that leads there, before all else.
+use Rattle.std.specs.Prelude.{ℕ, ◌≡◌, ◌≢◌, ◌<◌, ◌⊎◌, ◌++◌, ◌∷◌, [], List, false, length, Option, None, Some, slice_index_or}
+use Rattle.regalloc2_names.specs.declared.RegClass.{RegClass}
+use Rattle.regalloc2_names.specs.Register.{Register, VirtualRegister, class_code}
+use Rattle.regalloc2_names.specs.Operand.{OperandValue}
+use Rattle.regalloc2_names.specs.Place.{Place, NoPlace, InRegister, is_memory}
+use Rattle.regalloc2_names.specs.Point.{before}
+use Rattle.regalloc2_function.specs.FunctionValue.{FunctionValue, block_at, inst_at}
+use Rattle.regalloc2_function.specs.OutputValue.{MoveValue}
+use Rattle.regalloc2_function.specs.SourceRun.{arguments_at}
+use Rattle.regalloc2_function.specs.WellFormed.{last_of}
+use Rattle.regalloc2_semantics.specs.Blocks.{target_at}
+use Rattle.regalloc2_semantics.specs.Listing.{op_at}
+use Rattle.regalloc2_semantics.specs.Stores.{Store, store_moves, IsOneOf, AreInOrder}
+use Rattle.regalloc2_branch_defs.specs.BranchDefs.{DefinesNumber, IsStoredOperand, IsEdgeInto, fixed_definition}
+use Rattle.regalloc2_fastalloc_state.specs.StateParts.{SpillSlotsValue, GetsSpillSlot, slot_name}
+use Rattle.regalloc2_fastalloc_proofs.specs.InstSteps.{StateValue, SameMachine, MayHold}
+use Rattle.regalloc2_fastalloc_proofs.specs.BlockStart.{no_vreg}
+
+-- the operands of the branch at a block's end
+abbrev pub branch_operands : FunctionValue → ℕ → List OperandValue
+branch_operands f e = (inst_at f (last_of (block_at f e))).operands
+
+-- a place by the register to which a definition is fixed, or else by its vreg's slot
+abbrev pub place_by : Option Register → Place → Place
+place_by (Some r) s = InRegister r
+place_by None s = s
+
+-- where a branch leaves what an operand defines
+abbrev pub defined_place : SpillSlotsValue → OperandValue → Place
+defined_place slots o = place_by (fixed_definition o) (slot_name slots o.vreg.number)
+
+-- On the edge k out of the block e the value of the operand j of the branch is stored for v: it defines v, is fixed, and something else uses v; or v
+-- is a parameter that is given what it defines, and has a slot.
+pub data IsStoredFor (f : FunctionValue) (e k : ℕ) (slots : SpillSlotsValue) (j : ℕ) (v : VirtualRegister) : Type 0 where
+  its_own : IsStoredOperand f (branch_operands f e) j → (op_at (branch_operands f e) j).vreg ≡ v → IsStoredFor f e k slots j v
+  given : (n : ℕ) → n < length (block_at f (target_at f e k)).params → slice_index_or (block_at f (target_at f e k)).params n no_vreg ≡ v →
+      DefinesNumber (branch_operands f e) (slice_index_or (arguments_at f e k) n no_vreg).number j → slot_name slots v.number ≢ NoPlace
+      → IsStoredFor f e k slots j v
+
+-- slots are made, if need be, for vregs of a kind
+pub data GetsSlots (P : VirtualRegister → Type 0) (old : SpillSlotsValue) : SpillSlotsValue → Type 0 where
+  no_slot : GetsSlots P old old
+  one_slot : (v : VirtualRegister) (p : Place) (m n : SpillSlotsValue) → GetsSlots P old m → P v → GetsSpillSlot m n v p
+      → n.num_temp_slots ≡ m.num_temp_slots → GetsSlots P old n
+
+-- what the branch at the end of the block e defines, and the parameters on the edge k
+abbrev pub IsConcerned : FunctionValue → ℕ → ℕ → VirtualRegister → Type 0
+IsConcerned f e k v = ((j : ℕ) × DefinesNumber (branch_operands f e) v.number j × ((op_at (branch_operands f e) j).vreg ≡ v))
+    ⊎ ((n : ℕ) × (n < length (block_at f (target_at f e k)).params) × (slice_index_or (block_at f (target_at f e k)).params n no_vreg ≡ v))
+
+-- a store from memory goes by way of a register: the machine's own for moves of the class, or an allocatable one
+pub record IsByWay (t : StateValue) (class : RegClass) (s : Store) : Type 0 where
+  pub direct : s.by ≡ None → is_memory t.fixed_stack s.from ≡ false
+  pub through : (q : Place) → s.by ≡ Some q → (r : Register) × (q ≡ InRegister r)
+      × ((slice_index_or t.dedicated_scratch (class_code class) None ≡ Some r) ⊎ MayHold t class r)
+
+-- a store for v of what the operand j defines
+pub record StoresFor (f : FunctionValue) (e k : ℕ) (old new : StateValue) (s : Store) (j : ℕ) (v : VirtualRegister) : Type 0 where
+  pub stored : IsStoredFor f e k old.slots j v
+  pub from : s.from ≡ defined_place new.slots (op_at (branch_operands f e) j)
+  pub there : s.from ≢ NoPlace
+  pub to : slot_name new.slots v.number ≡ s.to
+  pub by_way : IsByWay old (op_at (branch_operands f e) j).vreg.class s
+
+-- moves at a point, as they are pushed: the last one first
+unfoldable pub pushed_moves : ℕ → List MoveValue → List (ℕ × MoveValue)
+pushed_moves point [] = []
+pushed_moves point (m ∷ ms) = pushed_moves point ms ++ (point, m) ∷ []
+
+-- the stores on the edge k out of the block e, each of them once, are pushed at a point
+pub record StoresOn (f : FunctionValue) (e k point : ℕ) (old new : StateValue) : Type 0 where
+  pub stores : List Store
+  pub in_order : AreInOrder (is_memory old.fixed_stack) stores
+  pub each : (s : Store) → IsOneOf s stores → (j : ℕ) × (v : VirtualRegister) × StoresFor f e k old new s j v
+  pub all : (j : ℕ) (v : VirtualRegister) → IsStoredFor f e k old.slots j v → (s : Store) × IsOneOf s stores × StoresFor f e k old new s j v
+  pub slots : GetsSlots (IsConcerned f e k) old.slots new.slots
+  pub places : new.places ≡ old.places
+  pub edits : new.edits ≡ old.edits ++ pushed_moves point (store_moves stores)
+  pub machine : SameMachine old new
+
+-- the beginning of the block b stores what the branch into it defines
+pub data StoresBranchDefs (f : FunctionValue) (b : ℕ) (old new : StateValue) : Type 0 where
+  none_stored : ((e k : ℕ) → IsEdgeInto f b e k → ⊥) → new ≡ old → StoresBranchDefs f b old new
+  all_stored : (e k : ℕ) → IsEdgeInto f b e k → StoresOn f e k (before (block_at f b).range.first) old new → StoresBranchDefs f b old new

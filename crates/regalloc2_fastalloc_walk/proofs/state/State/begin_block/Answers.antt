@@ -1,0 +1,113 @@
+use Rattle.std.proofs.Common.{ℕ, ◌≡◌, ◌<◌, List, length, sym, ap, ◌∙◌, subst, rules, arith}
+use Rattle.std.specs.Prelude.{All, Ok}
+use Rattle.std.proofs.lemmas.Result.{err_from_is_err_and}
+use Rattle.regalloc2_index.specs.Range.{Span}
+use Rattle.regalloc2_names.specs.Point.{before}
+use Rattle.regalloc2_names.specs.Register.{VirtualRegister}
+use Rattle.regalloc2_function.specs.FunctionValue.{FunctionValue, block_at}
+use Rattle.regalloc2_fastalloc_state.specs.StateParts.{AllAtOrAfter}
+use Rattle.regalloc2_fastalloc_proofs.specs.BlockStart.{ReloadsAtBegin}
+use Rattle.regalloc2_fastalloc_proofs.specs.InstSteps.{StateValue}
+use Rattle.regalloc2_fastalloc_proofs.specs.OutOfRegs.{ReloadAtBeginFails}
+use Rattle.regalloc2_fastalloc_proofs.proofs.Safety.StateKept.{same_lends, apart_kept, block_within, params_known}
+use Rattle.regalloc2_fastalloc_walk.specs.BranchStores.{at_reloads, at_its_stores}
+use Rattle.regalloc2_fastalloc_walk.specs.StateView.{tables_of, IsStepAt}
+use Rattle.regalloc2_fastalloc_walk.proofs.Steps.{step_then}
+use Rattle.regalloc2_fastalloc_walk.proofs.state.State.begin_block.Goals as goal
+
+pub first-first-requires : goal.first-first-requires
+first-first-requires g c =
+    let some = (c.requires.well_formed.1.follow c.args.block c.requires.block).0 in
+    subst (λ (r : Span). r.first < r.end) (sym c.block_insns.ensures) some
+
+pub reload_at_begin-requires : goal.reload_at_begin-requires
+reload_at_begin-requires g c =
+    let f : FunctionValue = g.F.Function.function c.args.cx.now.f.now in
+    let b : ℕ = c.args.block in
+    let first : c.first-first.result ≡ (block_at f b).range.first = c.first-first.ensures ∙ ap (λ (r : Span). r.first) c.block_insns.ensures in
+    let some = (c.requires.well_formed.1.follow b c.requires.block).0 in
+    let within = block_within f c.requires.well_formed.1.follow b c.requires.block in
+    let few = (g.met.F.Function.limited c.args.cx.now.f.now).insts in (
+      search rules,
+      (
+        omega (arith, first, some, within, few),
+        (
+          subst (λ (n : ℕ). AllAtOrAfter (before n) c.args.self.now.edits) (sym first) c.requires.later,
+          subst (λ (vs : List VirtualRegister). All (λ v. v.number < length c.args.self.now.places.vreg_allocs) vs) (sym c.block_params.ensures)
+              (params_known f c.requires.well_formed.1.defined_once _ b c.requires.long c.requires.block),
+        ),
+      ),
+    )
+
+pub store_branch_defs-requires : goal.store_branch_defs-requires
+store_branch_defs-requires g c =
+    let f : FunctionValue = g.F.Function.function c.args.cx.now.f.now in
+    let first : c.first-first.result ≡ (block_at f c.args.block).range.first = c.first-first.ensures ∙ ap (λ (r : Span). r.first) c.block_insns.ensures in (
+      search rules,
+      (
+        c.requires.block,
+        (
+          c.requires.well_formed,
+          (
+            c.requires.defs,
+            (
+              c.reload_at_begin.new.self.same_long ∙ c.in_ok-reload_at_begin.ensures.step.long ∙ c.requires.long,
+              (
+                apart_kept 0 (tables_of c.args.self.now) (tables_of c.reload_at_begin.new.self)
+                    (same_lends 0 (tables_of c.args.self.now) (tables_of c.reload_at_begin.new.self) c.reload_at_begin.ensures.step.machine) c.requires.apart,
+                subst (λ (n : ℕ). AllAtOrAfter (before n) c.reload_at_begin.new.self.edits) first c.in_ok-reload_at_begin.ensures.step.later,
+              ),
+            ),
+          ),
+        ),
+      ),
+    )
+
+pub returns-clause-ok : goal.returns-clause-ok
+returns-clause-ok g c =
+    let f : FunctionValue = g.F.Function.function c.args.cx.now.f.now in
+    let old : StateValue = tables_of c.args.self.now in
+    let m : StateValue = tables_of c.reload_at_begin.new.self in
+    let first : c.first-first.result ≡ (block_at f c.args.block).range.first = c.first-first.ensures ∙ ap (λ (r : Span). r.first) c.block_insns.ensures in
+    record {
+      middle = m;
+      reloads = subst (λ (n : ℕ). ReloadsAtBegin (before n) (block_at f c.args.block).params old m) first
+          (subst (λ (vs : List VirtualRegister). ReloadsAtBegin (before c.first-first.result) vs old m) c.block_params.ensures
+          c.in_ok-reload_at_begin.ensures.ok);
+      stores = c.in_ok-store_branch_defs.ensures.ok;
+    }
+
+pub returns-clause-step : goal.returns-clause-step
+returns-clause-step g c =
+    let f : FunctionValue = g.F.Function.function c.args.cx.now.f.now in
+    let first : c.first-first.result ≡ (block_at f c.args.block).range.first = c.first-first.ensures ∙ ap (λ (r : Span). r.first) c.block_insns.ensures in
+    step_then c.args.self.now c.reload_at_begin.new.self c.store_branch_defs.new.self
+    (subst (λ (n : ℕ). IsStepAt (before n) (Ok tt) c.args.self.now c.reload_at_begin.new.self) first c.in_ok-reload_at_begin.ensures.step)
+    c.in_ok-store_branch_defs.ensures.step
+
+pub returns-in_err-reload_at_begin-clause-stops : goal.returns-in_err-reload_at_begin-clause-stops
+returns-in_err-reload_at_begin-clause-stops g c =
+    let f : FunctionValue = g.F.Function.function c.args.cx.now.f.now in
+    let old : StateValue = tables_of c.args.self.now in
+    let first : c.first-first.result ≡ (block_at f c.args.block).range.first = c.first-first.ensures ∙ ap (λ (r : Span). r.first) c.block_insns.ensures in
+    let e = err_from_is_err_and c.from_residual.result c.from_residual.ensures.1 in
+    rw e.1 (λ lacks. at_reloads (subst (λ (n : ℕ). ReloadAtBeginFails (before n) (block_at f c.args.block).params old) first
+    (subst (λ (vs : List VirtualRegister). ReloadAtBeginFails (before c.first-first.result) vs old) c.block_params.ensures
+    (c.in_err-reload_at_begin.ensures.stops (sym e.2 ∙ lacks)))))
+
+pub returns-in_err-store_branch_defs-clause-stops : goal.returns-in_err-store_branch_defs-clause-stops
+returns-in_err-store_branch_defs-clause-stops g c =
+    let f : FunctionValue = g.F.Function.function c.args.cx.now.f.now in
+    let old : StateValue = tables_of c.args.self.now in
+    let m : StateValue = tables_of c.reload_at_begin.new.self in
+    let first : c.first-first.result ≡ (block_at f c.args.block).range.first = c.first-first.ensures ∙ ap (λ (r : Span). r.first) c.block_insns.ensures in
+    let e = err_from_is_err_and c.from_residual-in_err-store_branch_defs.result c.from_residual-in_err-store_branch_defs.ensures.1 in
+    rw e.1 (λ lacks. at_its_stores m (subst (λ (n : ℕ). ReloadsAtBegin (before n) (block_at f c.args.block).params old m) first
+    (subst (λ (vs : List VirtualRegister). ReloadsAtBegin (before c.first-first.result) vs old m) c.block_params.ensures c.in_ok-reload_at_begin.ensures.ok))
+    (c.in_err-store_branch_defs.ensures.stops (sym e.2 ∙ lacks)))
+
+-- where no vreg has a location, and nothing is stored, nothing changes
+pub returns-clause-nobody : goal.returns-clause-nobody
+returns-clause-nobody g c = λ nobody none nothing.
+    c.in_ok-store_branch_defs.ensures.none (λ e k j v edge stored. nothing e k j v c.reload_at_begin.new.self.slots edge stored)
+    ∙ c.in_ok-reload_at_begin.ensures.nobody nobody (c.block_params.ensures ∙ none)

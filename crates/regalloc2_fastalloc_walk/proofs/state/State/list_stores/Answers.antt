@@ -1,0 +1,76 @@
+use Rattle.std.proofs.Common.{ℕ, ◌≡◌, ◌<◌, List, length, map, sym, ap, ◌∙◌, subst, rules, slice_index, slice_index_or}
+use Rattle.std.specs.Prelude.{All, Contains}
+use Rattle.std.proofs.lemmas.List.{get_or_read}
+use Rattle.std.proofs.lemmas.List.Elements.{Contains-get_or}
+use Rattle.regalloc2_names.specs.Operand.{OperandValue}
+use Rattle.regalloc2_names.specs.Register.{VirtualRegister}
+use Rattle.regalloc2_function.specs.FunctionValue.{FunctionValue, block_at, inst_at}
+use Rattle.regalloc2_function.specs.SourceRun.{arguments_at}
+use Rattle.regalloc2_semantics.specs.Blocks.{target_at}
+use Rattle.regalloc2_semantics.proofs.Soundness.{well_formed_are_sound}
+use Rattle.regalloc2_branch_defs.specs.BranchDefs.{AreStoredOperands}
+use Rattle.regalloc2_fastalloc_proofs.specs.StoreSteps.{branch_operands}
+use Rattle.regalloc2_fastalloc_proofs.proofs.Safety.StateKept.{params_known}
+use Rattle.regalloc2_fastalloc_walk.specs.BranchStores.{ListsParams, own_store}
+use Rattle.regalloc2_fastalloc_walk.specs.declared.store.StoredDef.{StoredDef}
+use Rattle.regalloc2_fastalloc_walk.proofs.StoresListed.{lists_permuted, lists_stores}
+use Rattle.regalloc2_fastalloc_walk.proofs.state.State.list_stores.Goals as goal
+
+pub own_stores-requires : goal.own_stores-requires
+own_stores-requires g c = λ k d lt.
+    let f : FunctionValue = g.F.Function.function c.args.f.now in
+    let ie = c.requires.edge.1 in
+    let x : ℕ = slice_index_or c.stored_on.result.now k d in
+    let has : Contains c.stored_on.result.now x = Contains-get_or c.stored_on.result.now k d lt in
+    let is = (ie.stored.members x).0 (subst (λ (l : List ℕ). Contains l x) c.stored_on.ensures has) in
+    subst (λ (ops : List OperandValue). x < length ops) (sym c.inst_operands.ensures) is.operand
+
+pub list_params-requires : goal.list_params-requires
+list_params-requires g c =
+    let f : FunctionValue = g.F.Function.function c.args.f.now in
+    let ie = c.requires.edge.1 in
+    let e : ℕ = c.args.edge.now.from in
+    let k : ℕ = c.args.edge.now.position in
+    let read : c.index-block_succs-edge.result ≡ target_at f e k = get_or_read c.block_succs.result.now k c.index-block_succs-edge.result
+    (subst (λ (l : List ℕ). k < length l) (sym c.block_succs.ensures) ie.edge.edge) c.index-block_succs-edge.is 0
+    ∙ ap (λ (l : List ℕ). slice_index l k) c.block_succs.ensures in
+    let ps : c.block_params-params.result.now ≡ (block_at f (target_at f e k)).params = c.block_params-params.ensures ∙ ap (λ (n : ℕ). (block_at f
+    n).params) read in
+    let target = (well_formed_are_sound c.requires.well_formed.0 f c.requires.well_formed.1).targets e k ie.edge.edge in (
+      search rules,
+      (
+        ap (λ (l : List VirtualRegister). length l) c.branch_blockparams-arguments.ensures ∙ c.requires.well_formed.1.counted e ie.edge.block k ie.edge.edge
+            ∙ ap (λ (l : List VirtualRegister). length l) (sym ps),
+        subst (λ (l : List VirtualRegister). All (λ v. v.number < length c.args.self.now.slots.vreg_spillslots) l) (sym ps)
+            (params_known f c.requires.well_formed.1.defined_once (length c.args.self.now.slots.vreg_spillslots) (target_at f e k) c.requires.long target),
+      ),
+    )
+
+pub returns-clause-ok : goal.returns-clause-ok
+returns-clause-ok g c =
+    let f : FunctionValue = g.F.Function.function c.args.f.now in
+    let ie = c.requires.edge.1 in
+    let e : ℕ = c.args.edge.now.from in
+    let k : ℕ = c.args.edge.now.position in
+    let read : c.index-block_succs-edge.result ≡ target_at f e k = get_or_read c.block_succs.result.now k c.index-block_succs-edge.result
+    (subst (λ (l : List ℕ). k < length l) (sym c.block_succs.ensures) ie.edge.edge) c.index-block_succs-edge.is 0
+    ∙ ap (λ (l : List ℕ). slice_index l k) c.block_succs.ensures in
+    let ps : c.block_params-params.result.now ≡ (block_at f (target_at f e k)).params = c.block_params-params.ensures ∙ ap (λ (n : ℕ). (block_at f
+    n).params) read in
+    let xs : c.branch_blockparams-arguments.result.now ≡ arguments_at f e k = c.branch_blockparams-arguments.ensures in
+    let ks : List ℕ = c.stored_on.result.now in
+    let ops : c.inst_operands.result.now ≡ branch_operands f e = c.inst_operands.ensures ∙ ap (λ (n : ℕ). (inst_at f n).operands) ie.branch in
+    let stored : AreStoredOperands f (branch_operands f e) ks = subst (λ (n : ℕ). AreStoredOperands f (inst_at f n).operands ks) ie.branch
+    (subst (λ (l : List ℕ). AreStoredOperands f (inst_at f c.args.edge.now.branch).operands l) (sym c.stored_on.ensures) ie.stored) in
+    let own : c.in_ok-stores.stores.items ≡ map (own_store (branch_operands f e)) ks = c.in_ok-stores.ensures.ok
+    ∙ ap (λ (l : List OperandValue). map (own_store l) ks) ops in
+    let all : List StoredDef = c.list_params.new.stores.items in
+    let L : List VirtualRegister → List VirtualRegister → List StoredDef → Type 0 = λ p x o. ListsParams c.args.defs.now c.args.edge.now.branch
+    c.args.self.now.slots p x o (length p) all in
+    let listed : L (block_at f (target_at f e k)).params (arguments_at f e k) (map (own_store (branch_operands f e)) ks) =
+    subst (λ (l : List VirtualRegister). L l (arguments_at f e k) (map (own_store (branch_operands f e)) ks)) ps
+    (subst (λ (l : List VirtualRegister). L c.block_params-params.result.now l (map (own_store (branch_operands f e)) ks)) xs
+    (subst (λ (l : List StoredDef). L c.block_params-params.result.now c.branch_blockparams-arguments.result.now l) own c.in_ok-list_params.ensures.ok)) in
+    lists_permuted f e k c.args.self.now.slots all c.sort_by_key.new.self.items c.in_ok-sort_by_key.ensures.permutation
+    (lists_stores f c.requires.well_formed c.requires.edge.0 e k ie.edge c.args.self.now.slots ks stored c.args.defs.now c.requires.defs c.args.edge.now.branch
+    ie.branch all listed)

@@ -1,0 +1,266 @@
+use Rattle.std.proofs.Common.{ℕ, ◌≡◌, ◌<◌, List, true, false, inl, length, refl, sym, ap, ◌∙◌, subst, arith, rules}
+use Rattle.std.specs.Prelude.{All, Contains, Ok}
+use Rattle.std.proofs.lemmas.List.Elements.{All-weaker}
+use Rattle.std.proofs.lemmas.Result.{err_from_is_err_and}
+use Rattle.regalloc2_index.specs.Range.{Span}
+use Rattle.regalloc2_names.specs.Operand.{OperandValue}
+use Rattle.regalloc2_names.specs.Point.{before}
+use Rattle.regalloc2_names.specs.Register.{VirtualRegister}
+use Rattle.regalloc2_function.specs.FunctionValue.{FunctionValue, block_at, inst_at}
+use Rattle.regalloc2_function.specs.OutputValue.{MoveValue}
+use Rattle.regalloc2_semantics.specs.Listing.{op_at}
+use Rattle.regalloc2_semantics.proofs.SingleDef.{made_small}
+use Rattle.regalloc2_branch_defs.specs.BranchDefs.{IsEdgeInto}
+use Rattle.regalloc2_branch_defs.proofs.BlockEnds.{last_within}
+use Rattle.regalloc2_fastalloc_state.specs.StateParts.{AllAtOrAfter, NoneIsFrom, SpillSlotsValue}
+use Rattle.regalloc2_fastalloc_proofs.specs.BlockSteps.{MayBeAllocated}
+use Rattle.regalloc2_fastalloc_proofs.specs.InstSteps.{StateValue, SameMachine}
+use Rattle.regalloc2_fastalloc_proofs.specs.StoreSteps.{IsStoredFor, StoresOn, all_stored, branch_operands}
+use Rattle.regalloc2_fastalloc_proofs.proofs.Evictions.PushedAndRemoved.{same_then}
+use Rattle.regalloc2_fastalloc_proofs.proofs.Safety.StateKept.{block_within}
+use Rattle.regalloc2_fastalloc_proofs.proofs.Safety.StoredDefs.{concerned_made}
+use Rattle.regalloc2_fastalloc_proofs.proofs.Safety.StoresKeepSafe.{stored_concerned, stored_defines}
+use Rattle.regalloc2_fastalloc_walk.specs.BranchStores.{FindsStores, LacksStoreReg, PushesStores}
+use Rattle.regalloc2_fastalloc_walk.specs.StateView.{IsStepAt, tables_of}
+use Rattle.regalloc2_fastalloc_walk.specs.declared.operand.PlaceMove.{PlaceMove}
+use Rattle.regalloc2_fastalloc_walk.specs.declared.store.StoredDef.{StoredDef}
+use Rattle.regalloc2_fastalloc_walk.proofs.Steps.{step_then}
+use Rattle.regalloc2_fastalloc_walk.proofs.StoresOnEdge.{stores_on, stores_lack, stores_none}
+use Rattle.regalloc2_fastalloc_walk.proofs.state.State.store_branch_defs.Goals as goal
+
+-- what is stored is of vregs of the function, and of operands of the branch
+module _ (f : FunctionValue) (well : MayBeAllocated f) (b e k : ℕ) (edge : IsEdgeInto f b e k) (slots : SpillSlotsValue) where
+  number_small : (j : ℕ) (v : VirtualRegister) → IsStoredFor f e k slots j v → v.number < f.num_vregs
+  number_small j v is = made_small f well.1.defined_once v
+      (concerned_made f well.1.successors well.1.follow b e k v edge (stored_concerned f e k slots j v is))
+
+  operand_small : (j : ℕ) (v : VirtualRegister) → IsStoredFor f e k slots j v → (op_at (branch_operands f e) j).vreg.number < f.num_vregs
+  operand_small j v is =
+      let o : OperandValue = op_at (branch_operands f e) j in
+      made_small f well.1.defined_once o.vreg (concerned_made f well.1.successors well.1.follow b e k o.vreg edge (inl (
+        j,
+        stored_defines f e k slots j v
+            is,
+        refl,
+      )))
+
+  operand_within : (j : ℕ) (v : VirtualRegister) → IsStoredFor f e k slots j v → j < length (branch_operands f e)
+  operand_within j v is = (stored_defines f e k slots j v is).operand
+
+-- slots that are made leave the machine as it is
+made_machine : (t u : StateValue) (s : SpillSlotsValue) → u ≡ record t { slots = s } → SameMachine t u → SameMachine t (record t { slots = s })
+made_machine t u s is same = subst (SameMachine t) is same
+
+pub inst_operands-requires : goal.inst_operands-requires
+inst_operands-requires g c =
+    let f : FunctionValue = g.F.Function.function c.args.f.now in
+    let ie = c.requires.defs.edge c.args.block c.in-Some.edge (sym c.edge_into.ensures ∙ c.in-Some.is) in
+    subst (λ (n : ℕ). n < length f.insts) (sym ie.branch) (last_within f c.requires.well_formed c.in-Some.edge.from ie.edge.block)
+
+pub store_moves-requires : goal.store_moves-requires
+store_moves-requires g c =
+    let f : FunctionValue = g.F.Function.function c.args.f.now in
+    let ie = c.requires.defs.edge c.args.block c.in-Some.edge (sym c.edge_into.ensures ∙ c.in-Some.is) in
+    let e : ℕ = c.in-Some.edge.from in
+    let k : ℕ = c.in-Some.edge.position in
+    let slots : SpillSlotsValue = c.args.self.now.slots in
+    let ops : c.inst_operands.result.now ≡ branch_operands f e = c.inst_operands.ensures ∙ ap (λ (n : ℕ). (inst_at f n).operands) ie.branch in
+    let lists = c.in_ok-stores.ensures.ok in
+    let n : length slots.vreg_spillslots ≡ f.num_vregs = c.requires.long in
+    let S : StoredDef → Type 0 = λ s. IsStoredFor f e k slots s.index s.to in
+    let there : All S c.deref.result.now = subst (λ (l : List StoredDef). All S l) (sym c.deref.ensures.value) lists.each in (
+      search rules,
+      (
+        All-weaker S (λ s. s.index < length c.inst_operands.result.now) (λ s is.
+            subst (λ (l : List OperandValue). s.index < length l) (sym ops) (operand_within f c.requires.well_formed c.args.block e k ie.edge slots s.index
+            s.to is))
+            c.deref.result.now there,
+        (
+          All-weaker S (λ s. (op_at c.inst_operands.result.now s.index).vreg.number < length slots.vreg_spillslots) (λ s is.
+              subst (λ (m : ℕ). (op_at c.inst_operands.result.now s.index).vreg.number < m) (sym n)
+              (subst (λ (l : List OperandValue). (op_at l s.index).vreg.number < f.num_vregs) (sym ops)
+              (operand_small f c.requires.well_formed c.args.block e k ie.edge slots s.index s.to is))) c.deref.result.now there,
+          All-weaker S (λ s. s.to.number < length slots.vreg_spillslots) (λ s is. subst (λ (m : ℕ). s.to.number < m) (sym n)
+              (number_small f c.requires.well_formed c.args.block e k ie.edge slots s.index s.to is)) c.deref.result.now there,
+        ),
+      ),
+    )
+
+pub first-requires : goal.first-requires
+first-requires g c =
+    let some = (c.requires.well_formed.1.follow c.args.block c.requires.block).0 in
+    subst (λ (r : Span). r.first < r.end) (sym c.block_insns.ensures) some
+
+pub before-point-requires : goal.before-point-requires
+before-point-requires g c = λ valid.
+    let f : FunctionValue = g.F.Function.function c.args.f.now in
+    let first : c.first.result ≡ (block_at f c.args.block).range.first = c.first.ensures ∙ ap (λ (r : Span). r.first) c.block_insns.ensures in
+    let some = (c.requires.well_formed.1.follow c.args.block c.requires.block).0 in
+    let within = block_within f c.requires.well_formed.1.follow c.args.block c.requires.block in
+    let few = (g.met.F.Function.limited c.args.f.now).insts in omega (arith, first, some, within, few)
+
+pub push_stores-requires : goal.push_stores-requires
+push_stores-requires g c =
+    let f : FunctionValue = g.F.Function.function c.args.f.now in
+    let first : c.first.result ≡ (block_at f c.args.block).range.first = c.first.ensures ∙ ap (λ (r : Span). r.first) c.block_insns.ensures in
+    let some = (c.requires.well_formed.1.follow c.args.block c.requires.block).0 in
+    let within = block_within f c.requires.well_formed.1.follow c.args.block c.requires.block in
+    let few = (g.met.F.Function.limited c.args.f.now).insts in
+    let at : c.before-point.result ≡ before (block_at f c.args.block).range.first = c.before-point.ensures.point (λ e. omega (
+      arith,
+      e,
+      first,
+      some,
+      within,
+      few,
+    ))
+    ∙ ap before first in (
+      search rules,
+      subst (λ (p : ℕ). AllAtOrAfter p c.store_moves.new.self.edits) (sym at)
+          (subst (λ (es : List (ℕ × MoveValue)). AllAtOrAfter (before (block_at f c.args.block).range.first) es)
+          (sym (ap (λ (t : StateValue). t.edits) c.store_moves.ensures.step.tables)) c.requires.later),
+    )
+
+-- a lack of registers in later tables, for moves that are the same
+lack_before : (t u : StateValue) → SameMachine t u → (ms ns : List PlaceMove) → ns ≡ ms → LacksStoreReg u ns → LacksStoreReg t ms
+lack_before t u same ms ns is h = (
+  h.0,
+  subst (λ (l : List PlaceMove). Contains l h.0) is h.1,
+  subst (λ set. NoneIsFrom set h.0.class 0) same.allocatable h.2,
+)
+
+pub returns-in_err-push_stores-clause-stops : goal.returns-in_err-push_stores-clause-stops
+returns-in_err-push_stores-clause-stops g c =
+    let f : FunctionValue = g.F.Function.function c.args.f.now in
+    let ie = c.requires.defs.edge c.args.block c.in-Some.edge (sym c.edge_into.ensures ∙ c.in-Some.is) in
+    let e : ℕ = c.in-Some.edge.from in
+    let old : StateValue = tables_of c.args.self.now in
+    let t : StateValue = tables_of c.store_moves.new.self in
+    let u : StateValue = tables_of c.push_stores.new.self in
+    let ds : List StoredDef = c.in_ok-stores.stores.items in
+    let ms : List PlaceMove = c.in_ok-moves.moves.items in
+    let slots : SpillSlotsValue = c.store_moves.new.self.slots in
+    let ops : c.inst_operands.result.now ≡ branch_operands f e = c.inst_operands.ensures ∙ ap (λ (n : ℕ). (inst_at f n).operands) ie.branch in
+    let finds : FindsStores (branch_operands f e) ds old.slots (length ds) ms slots =
+    subst (λ (l : List OperandValue). FindsStores l ds old.slots (length ds) ms slots) ops
+    (subst (λ (l : List StoredDef). FindsStores c.inst_operands.result.now l old.slots (length l) ms slots) c.deref.ensures.value c.in_ok-moves.ensures.ok) in
+    let r = err_from_is_err_and c.from_residual-in_err-push_stores.result c.from_residual-in_err-push_stores.ensures.1 in
+    rw r.1 (λ lacks. stores_lack f c.requires.well_formed c.args.block e c.in-Some.edge.position ie.edge old c.requires.apart ds c.in_ok-stores.ensures.ok
+    ms slots finds c.num_units-count.ensures.owned.own
+    (lack_before old t c.store_moves.ensures.step.machine ms c.deref-2.result.now c.deref-2.ensures.value (c.in_err-push_stores.ensures.stops (sym r.2 ∙
+    lacks))))
+
+pub returns-in_err-push_stores-2-clause-stops : goal.returns-in_err-push_stores-2-clause-stops
+returns-in_err-push_stores-2-clause-stops g c =
+    let f : FunctionValue = g.F.Function.function c.args.f.now in
+    let ie = c.requires.defs.edge c.args.block c.in-Some.edge (sym c.edge_into.ensures ∙ c.in-Some.is) in
+    let e : ℕ = c.in-Some.edge.from in
+    let old : StateValue = tables_of c.args.self.now in
+    let t : StateValue = tables_of c.store_moves.new.self in
+    let u : StateValue = tables_of c.push_stores.new.self in
+    let ds : List StoredDef = c.in_ok-stores.stores.items in
+    let ms : List PlaceMove = c.in_ok-moves.moves.items in
+    let slots : SpillSlotsValue = c.store_moves.new.self.slots in
+    let ops : c.inst_operands.result.now ≡ branch_operands f e = c.inst_operands.ensures ∙ ap (λ (n : ℕ). (inst_at f n).operands) ie.branch in
+    let finds : FindsStores (branch_operands f e) ds old.slots (length ds) ms slots =
+    subst (λ (l : List OperandValue). FindsStores l ds old.slots (length ds) ms slots) ops
+    (subst (λ (l : List StoredDef). FindsStores c.inst_operands.result.now l old.slots (length l) ms slots) c.deref.ensures.value c.in_ok-moves.ensures.ok) in
+    let r = err_from_is_err_and c.from_residual-in_err-push_stores-2.result c.from_residual-in_err-push_stores-2.ensures.1 in
+    rw r.1 (λ lacks. stores_lack f c.requires.well_formed c.args.block e c.in-Some.edge.position ie.edge old c.requires.apart ds c.in_ok-stores.ensures.ok
+    ms slots finds c.num_units-count.ensures.owned.own
+    (lack_before old u (same_then old t u c.store_moves.ensures.step.machine c.in_ok-push_stores.ensures.step.machine) ms c.deref-3.result.now
+    c.deref-3.ensures.value (c.in_err-push_stores-2.ensures.stops (sym r.2 ∙ lacks))))
+
+pub returns-clause-ok : goal.returns-clause-ok
+returns-clause-ok g c =
+    let f : FunctionValue = g.F.Function.function c.args.f.now in
+    let ie = c.requires.defs.edge c.args.block c.in-Some.edge (sym c.edge_into.ensures ∙ c.in-Some.is) in
+    let e : ℕ = c.in-Some.edge.from in
+    let old : StateValue = tables_of c.args.self.now in
+    let t : StateValue = tables_of c.store_moves.new.self in
+    let u : StateValue = tables_of c.push_stores.new.self in
+    let ds : List StoredDef = c.in_ok-stores.stores.items in
+    let ms : List PlaceMove = c.in_ok-moves.moves.items in
+    let slots : SpillSlotsValue = c.store_moves.new.self.slots in
+    let ops : c.inst_operands.result.now ≡ branch_operands f e = c.inst_operands.ensures ∙ ap (λ (n : ℕ). (inst_at f n).operands) ie.branch in
+    let finds : FindsStores (branch_operands f e) ds old.slots (length ds) ms slots =
+    subst (λ (l : List OperandValue). FindsStores l ds old.slots (length ds) ms slots) ops
+    (subst (λ (l : List StoredDef). FindsStores c.inst_operands.result.now l old.slots (length l) ms slots) c.deref.ensures.value c.in_ok-moves.ensures.ok) in
+    let w : StateValue = tables_of c.push_stores-2.new.self in
+    let point : ℕ = c.before-point.result in
+    let tables : t ≡ record old { slots = slots } = c.store_moves.ensures.step.tables in
+    let p : PushesStores point true ms (record old { slots = slots }) u = subst (λ (x : StateValue). PushesStores point true ms x u) tables
+    (subst (λ (l : List PlaceMove). PushesStores point true l t u) c.deref-2.ensures.value c.in_ok-push_stores.ensures.ok) in
+    let q : PushesStores point false ms u w = subst (λ (l : List PlaceMove). PushesStores point false l u w) c.deref-3.ensures.value
+    c.in_ok-push_stores-2.ensures.ok in
+    let first : c.first.result ≡ (block_at f c.args.block).range.first = c.first.ensures ∙ ap (λ (r : Span). r.first) c.block_insns.ensures in
+    let some = (c.requires.well_formed.1.follow c.args.block c.requires.block).0 in
+    let within = block_within f c.requires.well_formed.1.follow c.args.block c.requires.block in
+    let few = (g.met.F.Function.limited c.args.f.now).insts in
+    let at : c.before-point.result ≡ before (block_at f c.args.block).range.first = c.before-point.ensures.point (λ v. omega (
+      arith,
+      v,
+      first,
+      some,
+      within,
+      few,
+    ))
+    ∙ ap before first in
+    all_stored e c.in-Some.edge.position ie.edge (subst (λ (n : ℕ). StoresOn f e c.in-Some.edge.position n old w) at
+    (stores_on f c.requires.well_formed c.args.block e c.in-Some.edge.position ie.edge old c.requires.apart ds c.in_ok-stores.ensures.ok ms slots finds
+    c.num_units-count.ensures.owned.own point
+    (made_machine old t slots tables c.store_moves.ensures.step.machine) u w p q))
+
+pub returns-clause-step : goal.returns-clause-step
+returns-clause-step g c =
+    let f : FunctionValue = g.F.Function.function c.args.f.now in
+    let old : StateValue = tables_of c.args.self.now in
+    let t : StateValue = tables_of c.store_moves.new.self in
+    let u : StateValue = tables_of c.push_stores.new.self in
+    let first : c.first.result ≡ (block_at f c.args.block).range.first = c.first.ensures ∙ ap (λ (r : Span). r.first) c.block_insns.ensures in
+    let some = (c.requires.well_formed.1.follow c.args.block c.requires.block).0 in
+    let within = block_within f c.requires.well_formed.1.follow c.args.block c.requires.block in
+    let few = (g.met.F.Function.limited c.args.f.now).insts in
+    let at : c.before-point.result ≡ before (block_at f c.args.block).range.first = c.before-point.ensures.point (λ v. omega (
+      arith,
+      v,
+      first,
+      some,
+      within,
+      few,
+    ))
+    ∙ ap before first in
+    let begun : IsStepAt {T = Unit {0}} c.before-point.result (Ok tt) c.args.self.now c.push_stores.new.self = record {
+      machine = same_then old t u c.store_moves.ensures.step.machine c.in_ok-push_stores.ensures.step.machine;
+      later = c.in_ok-push_stores.ensures.step.later;
+      long = c.in_ok-push_stores.ensures.step.long ∙ ap (λ (x : StateValue). length x.places.vreg_allocs) c.store_moves.ensures.step.tables;
+      err = search rules;
+    } in
+    subst (λ (n : ℕ). IsStepAt n (Ok tt) c.args.self.now c.push_stores-2.new.self) at
+    (step_then c.args.self.now c.push_stores.new.self c.push_stores-2.new.self begun c.in_ok-push_stores-2.ensures.step)
+
+pub returns-clause-none : goal.returns-clause-none
+returns-clause-none g c = λ nothing.
+    let f : FunctionValue = g.F.Function.function c.args.f.now in
+    let ie = c.requires.defs.edge c.args.block c.in-Some.edge (sym c.edge_into.ensures ∙ c.in-Some.is) in
+    let e : ℕ = c.in-Some.edge.from in
+    let old : StateValue = tables_of c.args.self.now in
+    let t : StateValue = tables_of c.store_moves.new.self in
+    let u : StateValue = tables_of c.push_stores.new.self in
+    let ds : List StoredDef = c.in_ok-stores.stores.items in
+    let ms : List PlaceMove = c.in_ok-moves.moves.items in
+    let slots : SpillSlotsValue = c.store_moves.new.self.slots in
+    let ops : c.inst_operands.result.now ≡ branch_operands f e = c.inst_operands.ensures ∙ ap (λ (n : ℕ). (inst_at f n).operands) ie.branch in
+    let finds : FindsStores (branch_operands f e) ds old.slots (length ds) ms slots =
+    subst (λ (l : List OperandValue). FindsStores l ds old.slots (length ds) ms slots) ops
+    (subst (λ (l : List StoredDef). FindsStores c.inst_operands.result.now l old.slots (length l) ms slots) c.deref.ensures.value c.in_ok-moves.ensures.ok) in
+    let w : StateValue = tables_of c.push_stores-2.new.self in
+    let point : ℕ = c.before-point.result in
+    let tables : t ≡ record old { slots = slots } = c.store_moves.ensures.step.tables in
+    let p : PushesStores point true ms (record old { slots = slots }) u = subst (λ (x : StateValue). PushesStores point true ms x u) tables
+    (subst (λ (l : List PlaceMove). PushesStores point true l t u) c.deref-2.ensures.value c.in_ok-push_stores.ensures.ok) in
+    let q : PushesStores point false ms u w = subst (λ (l : List PlaceMove). PushesStores point false l u w) c.deref-3.ensures.value
+    c.in_ok-push_stores-2.ensures.ok in
+    stores_none f c.requires.well_formed c.args.block e c.in-Some.edge.position ie.edge old c.requires.apart ds c.in_ok-stores.ensures.ok ms slots finds
+    c.num_units-count.ensures.owned.own point
+    (λ j v. nothing e c.in-Some.edge.position j v ie.edge) u w p q

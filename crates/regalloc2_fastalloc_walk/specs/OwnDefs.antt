@@ -1,0 +1,31 @@
+-- What a branch defines, by the tables, and what is done for one argument of a branch.
+use Rattle.std.specs.Prelude.{ℕ, ◌≡◌, Some}
+use Rattle.regalloc2_names.specs.Register.{VirtualRegister}
+use Rattle.regalloc2_names.specs.Place.{Place}
+use Rattle.regalloc2_branch_defs.specs.Tables.{site_of}
+use Rattle.regalloc2_branch_defs.specs.declared.BranchDefs.{BranchDefs}
+use Rattle.regalloc2_fastalloc_state.specs.StateParts.{GetsSpillSlot}
+use Rattle.regalloc2_fastalloc_state.specs.declared.inst_regs.InstRegs.{InstRegs}
+use Rattle.regalloc2_fastalloc_proofs.specs.InstSteps.{StateValue, SameMachine}
+use Rattle.regalloc2_fastalloc_proofs.specs.BranchSteps.{SpillsArgument}
+use Rattle.regalloc2_fastalloc_proofs.specs.OutOfRegs.{SpillArgumentFails}
+
+-- the tables say that the branch defines v's number
+abbrev pub IsOwnBy : {A : Type 0} → BranchDefs A → ℕ → VirtualRegister → Type 0
+IsOwnBy defs branch v = (k : ℕ) × (site_of defs v.number ≡ Some (record { branch = branch; index = k }))
+
+-- a parameter's slot is made if need be, and the argument is in its own from now on
+pub record GathersArgument (point : ℕ) (param argument : VirtualRegister) (to from : Place) (t u : InstRegs) (old new : StateValue) : Type 0 where
+  pub middle : StateValue
+  pub slot : GetsSpillSlot old.slots middle.slots param to
+  pub places : middle.places ≡ old.places
+  pub edits : middle.edits ≡ old.edits
+  pub machine : SameMachine old middle
+  pub spills : SpillsArgument point argument from t u middle new
+
+-- the argument can't be spilled
+pub record GatherArgumentFails (argument : VirtualRegister) (t : InstRegs) (old : StateValue) : Type 0 where
+  pub middle : StateValue
+  pub places : middle.places ≡ old.places
+  pub machine : SameMachine old middle
+  pub stops : SpillArgumentFails argument t middle

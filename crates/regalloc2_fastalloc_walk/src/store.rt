@@ -1,0 +1,282 @@
+//! What a branch defined, stored at the beginning of the block that it leads to.
+
+ghost use Rattle.std.specs.Prelude.{ℕ, ◌≡◌, ◌≢◌, ◌+◌, ◌<◌, ◌≤◌, ◌⊎◌, ◌++◌, ◌∷◌, [], All, Contains, length, map, None, Some, OnOk, IfOk, IfErr, slice_index_or};
+ghost use Rattle.regalloc2_names.specs.Register.{VirtualRegister, class_code};
+ghost use Rattle.regalloc2_names.specs.Point.{before};
+ghost use Rattle.regalloc2_function.specs.FunctionValue.{block_at};
+ghost use Rattle.regalloc2_semantics.specs.Listing.{op_at};
+ghost use Rattle.regalloc2_semantics.specs.Stores.{Store, moves_by};
+ghost use Rattle.regalloc2_branch_defs.specs.BranchDefs.{IsEdgeInto};
+ghost use Rattle.regalloc2_branch_defs.specs.Tables.{AreBranchDefsOf, IsEdgeOf};
+ghost use Rattle.regalloc2_fastalloc_state.specs.StateParts.{AllAtOrAfter, NoneIsFrom};
+ghost use Rattle.regalloc2_fastalloc_proofs.specs.InstSteps.{MayHold};
+ghost use Rattle.regalloc2_fastalloc_proofs.specs.BlockSteps.{MayBeAllocated};
+ghost use Rattle.regalloc2_fastalloc_proofs.specs.BranchSteps.{AreApart};
+ghost use Rattle.regalloc2_fastalloc_proofs.specs.OutOfRegs.{OutOfRegsOnlyIf, StoreBranchDefsFails};
+ghost use Rattle.regalloc2_fastalloc_proofs.specs.StoreSteps.{IsStoredFor, StoresBranchDefs, pushed_moves};
+ghost use Rattle.regalloc2_fastalloc_walk.specs.BranchStores.{FindsDefined, FindsStore, FindsStores, IsMadeOf, LacksStoreReg, ListsGiven, ListsParams};
+ghost use Rattle.regalloc2_fastalloc_walk.specs.BranchStores.{ListsStores, PushesStores, own_store};
+ghost use Rattle.regalloc2_fastalloc_walk.specs.StateView.{IsStepAt, MakesSlots, tables_of};
+
+use super::operand::PlaceMove;
+use super::state::State;
+use regalloc2_branch_defs::{BranchDefs, EdgeInto, fixed_definition};
+use regalloc2_function::Function;
+use regalloc2_index::Block;
+use regalloc2_names::{
+    Allocation, Operand, PReg, PRegSet, ProgPoint, RegAllocError, RegClass, VReg,
+};
+use std::alloc::Allocator;
+
+/// A value that a block's beginning stores: that of an operand of the branch, to the slot of a vreg.
+#[derive(Clone, Copy)]
+struct StoredDef {
+    /// The operand's index.
+    index: usize,
+    /// The vreg: what the operand defines, or a parameter to which the branch passes that.
+    to: VReg,
+}
+
+/// The values of operands that go to the slots of their own vregs.
+fn own_stores<A: Allocator + Copy>(
+    alloc: A,
+    operands: &[Operand],
+    stored: &[usize],
+) -> Result<Vec<StoredDef, A>, RegAllocError>
+    requires { All (λ j. j < length operands.now) stored.now }
+    ensures ok { IfOk result (λ v. v.items ≡ map (own_store operands.now) stored.now) }
+    ensures err { IfErr result (λ e. e ≡ RegAllocError.Memory) }
+{
+    let mut stores = Vec::new(alloc);
+    for index in stored {
+        let to = operands[*index].vreg();
+        stores.push(StoredDef { index: *index, to })?;
+    }
+    Ok(stores)
+}
+
+impl<'a, A: Allocator> State<'a, A> {
+    /// Lists what a parameter is given, if the branch of the edge defines that, and something uses the parameter.
+    fn list_given<B: Allocator, C: Allocator>(
+        &self,
+        stores: &mut Vec<StoredDef, B>,
+        defs: &BranchDefs<C>,
+        edge: &EdgeInto,
+        param: VReg,
+        argument: VReg,
+    ) -> Result<(), RegAllocError>
+        requires { param.number < length self.now.slots.vreg_spillslots }
+        ensures ok { OnOk result (ListsGiven defs.now edge.now.branch self.now.slots param argument stores.old.items stores.new.items) }
+        ensures err { IfErr result (λ e. e ≡ RegAllocError.Memory) }
+    {
+        let Some(site) = defs.site(argument) else {
+            return Ok(());
+        };
+        if site.branch != edge.branch || self.slots.find_spillslot(param).is_none() {
+            return Ok(());
+        }
+        let index = site.index;
+        stores.push(StoredDef { index, to: param })?;
+        Ok(())
+    }
+
+    /// Lists what the parameters are given that the branch of the edge defines.
+    fn list_params<B: Allocator, C: Allocator>(
+        &self,
+        stores: &mut Vec<StoredDef, B>,
+        defs: &BranchDefs<C>,
+        edge: &EdgeInto,
+        params: &[VReg],
+        arguments: &[VReg],
+    ) -> Result<(), RegAllocError>
+        requires counted { length arguments.now ≡ length params.now }
+        requires known { All (λ v. v.number < length self.now.slots.vreg_spillslots) params.now }
+        ensures ok { OnOk result (ListsParams defs.now edge.now.branch self.now.slots params.now arguments.now stores.old.items (length params.now)
+            stores.new.items) }
+        ensures err { IfErr result (λ e. e ≡ RegAllocError.Memory) }
+    {
+        for j in 0..params.len() {
+            self.list_given(stores, defs, edge, params[j], arguments[j])?;
+        }
+        Ok(())
+    }
+
+    /// Lists the values that the beginning of a block stores, by the operands that define them; of one operand that for its own
+    /// vreg first, and then those for the parameters in order.
+    fn list_stores<'b, F: Function, B: Allocator, C: Allocator>(
+        &self,
+        alloc: &'b B,
+        f: &F,
+        defs: &BranchDefs<C>,
+        edge: &EdgeInto,
+    ) -> Result<Vec<StoredDef, &'b B>, RegAllocError>
+        requires well_formed { MayBeAllocated (F.function f.now) }
+        requires defs { AreBranchDefsOf (F.function f.now) defs.now }
+        requires edge { (b : ℕ) × IsEdgeOf (F.function f.now) b defs.now.stored.items edge.now }
+        requires long { length self.now.slots.vreg_spillslots ≡ (F.function f.now).num_vregs }
+        ensures ok { IfOk result (λ v. ListsStores (F.function f.now) edge.now.from edge.now.position self.now.slots v.items) }
+        ensures err { IfErr result (λ e. e ≡ RegAllocError.Memory) }
+    {
+        let mut stores = own_stores(alloc, f.inst_operands(edge.branch), defs.stored_on(edge))?;
+        let params = f.block_params(f.block_succs(edge.from)[edge.position]);
+        let arguments = f.branch_blockparams(edge.from, edge.branch, edge.position);
+        self.list_params(&mut stores, defs, edge, params, arguments)?;
+        stores.sort_by_key(|store| store.index)?;
+        Ok(stores)
+    }
+
+    /// The place in which a branch leaves what an operand defines: the register that it is fixed to, else its vreg's slot.
+    fn defined_place(&mut self, operand: Operand) -> Result<Allocation, RegAllocError>
+        requires { operand.vreg.number < length self.old.slots.vreg_spillslots }
+        ensures ok { IfOk result (λ p. FindsDefined operand p self.old.slots self.new.slots) }
+        ensures step { MakesSlots result self.old self.new }
+    {
+        if let Some(preg) = fixed_definition(operand) {
+            return Ok(Allocation::reg(preg));
+        }
+        let slot = self.slots.get_spillslot(operand.vreg())?;
+        Ok(slot)
+    }
+
+    /// The move that stores a value.
+    fn store_move(&mut self, operand: Operand, to: VReg) -> Result<PlaceMove, RegAllocError>
+        requires from { operand.vreg.number < length self.old.slots.vreg_spillslots }
+        requires to { to.number < length self.old.slots.vreg_spillslots }
+        ensures ok { IfOk result (λ m. FindsStore operand to m self.old.slots self.new.slots) }
+        ensures step { MakesSlots result self.old self.new }
+    {
+        let from = self.defined_place(operand)?;
+        let to = self.slots.get_spillslot(to)?;
+        Ok(PlaceMove {
+            class: operand.class(),
+            from,
+            to,
+        })
+    }
+
+    /// The moves that store values, in their order.
+    fn store_moves<'b, B: Allocator>(
+        &mut self,
+        alloc: &'b B,
+        operands: &[Operand],
+        stores: &[StoredDef],
+    ) -> Result<Vec<PlaceMove, &'b B>, RegAllocError>
+        requires inside { All (λ s. s.index < length operands.now) stores.now }
+        requires from { All (λ s. (op_at operands.now s.index).vreg.number < length self.old.slots.vreg_spillslots) stores.now }
+        requires to { All (λ s. s.to.number < length self.old.slots.vreg_spillslots) stores.now }
+        ensures ok { IfOk result (λ v. FindsStores operands.now stores.now self.old.slots (length stores.now) v.items self.new.slots) }
+        ensures step { MakesSlots result self.old self.new }
+    {
+        let mut moves = Vec::new(alloc);
+        for store in stores {
+            let m = self.store_move(operands[store.index], store.to)?;
+            moves.push(m)?;
+        }
+        Ok(moves)
+    }
+
+    /// The register through which stores of a class from memory go: the machine's own, else the least recently used one to
+    /// which no definition is fixed, else the greatest. Everything else is in slots at a block's beginning.
+    fn store_scratch(&self, class: RegClass, held: PRegSet) -> Result<PReg, RegAllocError>
+        ensures ok { IfOk result (λ r. (slice_index_or self.now.registers.dedicated_scratch (class_code class) None ≡ Some r)
+            ⊎ MayHold (tables_of self.now) class r) }
+        ensures err { IfErr result (λ e. (e ≡ RegAllocError.TooManyLiveRegs) × NoneIsFrom self.now.registers.allocatable class 0) }
+    {
+        if let Some(preg) = self.registers.dedicated_scratch(class) {
+            return Ok(preg);
+        }
+        let free = self.registers.available_regs() & held.invert();
+        if let Some(preg) = self.registers.least_recently_used(class, free) {
+            return Ok(preg);
+        }
+        match self.registers.preferred_victim(class) {
+            Some(preg) => Ok(preg),
+            None => Err(RegAllocError::TooManyLiveRegs),
+        }
+    }
+
+    /// Pushes a store, by way of a register where it is from memory.
+    fn push_store(
+        &mut self,
+        point: ProgPoint,
+        held: PRegSet,
+        m: PlaceMove,
+    ) -> Result<(), RegAllocError>
+        requires { AllAtOrAfter point self.old.edits }
+        ensures ok { OnOk result ((s : Store) × IsMadeOf (tables_of self.old) m s
+            × (tables_of self.new ≡ record (tables_of self.old) { edits = self.old.edits ++ pushed_moves point (moves_by s.from s.by s.to) })) }
+        ensures step { IsStepAt point result self.old self.new }
+        ensures stops { IfErr result (OutOfRegsOnlyIf (NoneIsFrom self.old.registers.allocatable m.class 0)) }
+        ensures registers { OnOk result (self.new.registers ≡ self.old.registers) }
+    {
+        if !self.is_stack(m.from) {
+            self.edits.push(point, m.from, m.to)?;
+            return Ok(());
+        }
+        let by = Allocation::reg(self.store_scratch(m.class, held)?);
+        self.edits.push(point, by, m.to)?;
+        self.edits.push(point, m.from, by)?;
+        Ok(())
+    }
+
+    /// Pushes the stores from memory, or those from registers, the last one first.
+    fn push_stores(
+        &mut self,
+        point: ProgPoint,
+        held: PRegSet,
+        from_memory: bool,
+        moves: &[PlaceMove],
+    ) -> Result<(), RegAllocError>
+        requires { AllAtOrAfter point self.old.edits }
+        ensures ok { OnOk result (PushesStores point from_memory moves.now (tables_of self.old) (tables_of self.new)) }
+        ensures step { IsStepAt point result self.old self.new }
+        ensures stops { IfErr result (OutOfRegsOnlyIf (LacksStoreReg (tables_of self.old) moves.now)) }
+        ensures registers { OnOk result (self.new.registers ≡ self.old.registers) }
+    {
+        let mut k = moves.len();
+        while k > 0 {
+            k -= 1;
+            let m = moves[k];
+            if self.is_stack(m.from) == from_memory {
+                self.push_store(point, held, m)?;
+            }
+        }
+        Ok(())
+    }
+
+    /// The beginning of a block, before all else there: what the branch into it defines goes to its vreg's slot, where another
+    /// instruction uses that, and to the slot of each parameter that is given it and used. The stores from registers come first,
+    /// so that the others may go through any register.
+    pub fn store_branch_defs<F: Function, B: Allocator, C: Allocator>(
+        &mut self,
+        alloc: &B,
+        f: &F,
+        defs: &BranchDefs<C>,
+        block: Block,
+    ) -> Result<(), RegAllocError>
+        requires block { block < length (F.function f.now).blocks }
+        requires well_formed { MayBeAllocated (F.function f.now) }
+        requires defs { AreBranchDefsOf (F.function f.now) defs.now }
+        requires long { length self.old.slots.vreg_spillslots ≡ (F.function f.now).num_vregs }
+        requires apart { AreApart (tables_of self.old) }
+        requires later { AllAtOrAfter (before (block_at (F.function f.now) block).range.first) self.old.edits }
+        ensures ok { OnOk result (StoresBranchDefs (F.function f.now) block (tables_of self.old) (tables_of self.new)) }
+        ensures step { IsStepAt (before (block_at (F.function f.now) block).range.first) result self.old self.new }
+        ensures stops { IfErr result (OutOfRegsOnlyIf (StoreBranchDefsFails (F.function f.now) block (tables_of self.old))) }
+        ensures registers { OnOk result (self.new.registers ≡ self.old.registers) }
+        ensures none { OnOk result (((e k j : ℕ) (v : VirtualRegister) → IsEdgeInto (F.function f.now) block e k →
+            IsStoredFor (F.function f.now) e k self.old.slots j v → ⊥) → tables_of self.new ≡ tables_of self.old) }
+    {
+        let Some(edge) = defs.edge_into(block) else {
+            return Ok(());
+        };
+        let stores = self.list_stores(alloc, f, defs, &edge)?;
+        let moves = self.store_moves(alloc, f.inst_operands(edge.branch), &stores)?;
+        // its contract says that each slot has one owner
+        let _count = self.slots.num_units();
+        let point = ProgPoint::before(f.block_insns(block).first());
+        self.push_stores(point, edge.held, true, &moves)?;
+        self.push_stores(point, edge.held, false, &moves)?;
+        Ok(())
+    }
+}

@@ -1,0 +1,2 @@
+pub mod NoValue
+pub mod LongWords

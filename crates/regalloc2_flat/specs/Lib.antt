@@ -1,0 +1,3 @@
+pub mod Flat
+pub mod OneRest
+pub mod RecordsRest

@@ -1,0 +1,47 @@
+use Rattle.std.proofs.Common.{get_or, rules}
+use Rattle.regalloc2_parts.specs.Resolved.{listed, has_scratch}
+use Rattle.regalloc2_parts.proofs.ResolverContracts.{owes_lent, made_with, is_short, stay_apart}
+use Rattle.regalloc2_parts.proofs.scratch_pool.compute_with_resolver.Goals as goal
+
+pub compute_by_ref-requires : goal.compute_by_ref-requires
+compute_by_ref-requires g c = (
+  search rules,
+  (
+    search rules,
+    (
+      (c.requires.registers _, (λ a t k. c.requires.registers t)),
+      (
+        (c.requires.slots _, (λ a t k. c.requires.slots t)),
+        (
+          c.requires.stack,
+          (
+            c.requires.runnable,
+            owes_lent g.R.FnMut g.S.FnMut g.M.Fn c.args.resolver.find_free_reg c.args.resolver.get_stackslot c.args.resolver.is_stack_alloc c.args.pool.now
+                (listed c.args.moves)
+                c.requires.first c.requires.second c.requires.tells c.requires.serves c.args.resolver.borrowed_scratch_reg c.requires.borrowed,
+          ),
+        ),
+      ),
+    ),
+  ),
+)
+
+pub returns-in-Ok-clause-made : goal.returns-in-Ok-clause-made
+returns-in-Ok-clause-made g c =
+    let x = c.in-Ok.ensures.computed in
+    made_with g.R.FnMut g.S.FnMut g.M.Fn c.args.resolver.find_free_reg c.args.resolver.get_stackslot c.args.resolver.is_stack_alloc c.args.pool.now
+    (listed c.args.moves)
+    c.requires.first c.requires.second c.requires.tells c.requires.serves c.requires.may_tell c.get_stackslot-next.result c.num_taken.result _ _ _ x.asked
+    x.slots_asked
+    c.get_stackslot-next.ensures c.num_taken.ensures.none c.num_taken.ensures.one c.args.resolver.borrowed_scratch_reg c.requires.borrowed
+    (has_scratch c.args.moves) c.in-Ok.moves.items x.outcome
+
+pub returns-clause-err : goal.returns-clause-err
+returns-clause-err g c = λ e.
+    let x = c.in-Err.ensures.computed in
+    is_short g.S.FnMut c.args.resolver.get_stackslot c.args.pool.now.slots c.requires.second _ x.slots_asked (x.outcome e)
+
+pub returns-clause-plain : goal.returns-clause-plain
+returns-clause-plain g c = λ none apart.
+    c.in-Err.ensures.computed.plain none
+    (λ k d lt. stay_apart g.M.Fn c.args.resolver.is_stack_alloc c.args.pool.now.fixed_stack c.requires.tells (get_or (listed c.args.moves) k d) (apart k d lt))

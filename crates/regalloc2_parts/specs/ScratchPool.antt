@@ -1,0 +1,79 @@
+-- Scratch places for moves that are to be made at once, and what becomes of them.
+use Rattle.std.specs.Prelude.{ℕ, ◌≡◌, ◌≢◌, ◌≤◌, ◌⊎◌, Bool, true, false, List, Option, None, Some}
+use Rattle.std.specs.Fn.{Mut, Shared, Called}
+use Rattle.std.specs.List.{All}
+use Rattle.regalloc2_names.specs.declared.RegAllocError.{RegAllocError}
+use Rattle.regalloc2_names.specs.declared.RegAllocError.TheVariants.{TooManySpillSlots, Memory as OutOfMemory}
+use Rattle.regalloc2_names.specs.declared.sets.PRegSet.{PRegSet}
+use Rattle.regalloc2_names.specs.RegisterSet.{has_register}
+use Rattle.regalloc2_names.specs.Place.{Place, NoPlace, InRegister, InSlot, is_memory}
+use Rattle.regalloc2_parts.specs.AtOnce.{ends_of, names, in_turn}
+use Rattle.regalloc2_parts.specs.Resolved.{IsUnnamed}
+use Rattle.regalloc2_parts.specs.Computed.{IsComputedMove}
+use Rattle.regalloc2_parts.specs.declared.moves.MoveFault.{MoveFault}
+use Rattle.regalloc2_parts.specs.declared.moves.MoveFault.TheVariants.{NoSlot, Memory}
+use Rattle.regalloc2_parts.specs.declared.scratch_pool.ScratchPair.{ScratchPair}
+use Rattle.regalloc2_parts.specs.declared.scratch_pool.ScratchPool.{ScratchPool}
+
+-- moves whose values no vreg asks for
+abbrev pub Moves : Type 0
+Moves = List (Place × Place × Unit {0})
+
+-- the place is one of the two
+abbrev pub IsOfScratchPair : ScratchPair → Place → Type 0
+IsOfScratchPair pair p = (pair.first ≡ Some p) ⊎ (pair.second ≡ Some p)
+
+-- and one of the first so many
+abbrev pub IsTaken : ScratchPair → ℕ → Place → Type 0
+IsTaken pair taken p = ((pair.first ≡ Some p) × (1 ≤ taken)) ⊎ ((pair.second ≡ Some p) × (2 ≤ taken))
+
+-- the two differ
+abbrev pub DoDiffer : ScratchPair → Type 0
+DoDiffer pair = (p q : Place) → pair.first ≡ Some p → pair.second ≡ Some q → p ≢ q
+
+-- a call answers the first, the next call the second, and the one after it none
+abbrev pub YieldsInOrder : {F : Type 0} → Mut F (Unit {0}) (Option Place) → F → ScratchPair → Type 0
+YieldsInOrder {F} g f pair =
+    (a : Option Place) (f1 : F) → Called g f tt a f1 → (a ≡ pair.first)
+    × ((b : Option Place) (f2 : F) → Called g f1 tt b f2 → (b ≡ pair.second)
+    × ((d : Option Place) (f3 : F) → Called g f2 tt d f3 → d ≡ None))
+
+-- a call answers whether a place is in memory, and may answer that
+abbrev pub DecidesStack : {H : Type 0} → Shared H (Place × Unit {0}) Bool → H → PRegSet → Type 0
+DecidesStack g f fixed_stack = (p : Place) (b : Bool) → g.post f (p, tt) b → b ≡ is_memory fixed_stack p
+
+abbrev pub MayDecideStack : {H : Type 0} → Shared H (Place × Unit {0}) Bool → H → PRegSet → Type 0
+MayDecideStack g f fixed_stack = (p : Place) → g.post f (p, tt) (is_memory fixed_stack p)
+
+-- not both places are in memory
+abbrev pub AreApart : PRegSet → Place → Place → Type 0
+AreApart fixed_stack p q = true ≡ is_memory fixed_stack p → true ≡ is_memory fixed_stack q → ⊥
+
+-- registers and slots that serve the moves: no move names them, they differ, and of registers none is in memory
+pub record IsUsableFor (l : ScratchPool) (ms : Moves) : Type 0 where
+  pub free : (p : Place) → IsOfScratchPair l.registers p → (p ≢ NoPlace) × IsUnnamed p ms × (is_memory l.fixed_stack p ≡ false)
+  pub unused : (n : Place) → IsOfScratchPair l.slots n → IsUnnamed n ms × ((k : ℕ) × (n ≡ InSlot k))
+  pub registers_differ : DoDiffer l.registers
+  pub slots_differ : DoDiffer l.slots
+  pub slots_in_order : l.slots.first ≡ None → l.slots.second ≡ None
+  pub borrowed : has_register l.fixed_stack l.borrowed ≡ false
+
+-- The moves `made`, one after another, do what the given ones do, but for scratch places: all registers, and the first so many slots.
+pub record IsOrderedWith (l : ScratchPool) (taken : ℕ) (given made : Moves) : Type 0 where
+  pub same : (q : Place) → q ≢ NoPlace → (IsOfScratchPair l.registers q → ⊥) → (IsTaken l.slots taken q → ⊥) →
+      in_turn (ends_of made) names q ≡ in_turn (ends_of given) names q
+  pub each : All (IsComputedMove (AreApart l.fixed_stack) (λ p. IsOfScratchPair l.registers p ⊎ (IsTaken l.slots taken p ⊎ (p ≡ InRegister l.borrowed))) given)
+      made
+
+-- one of the two isn't there
+abbrev pub HasTooFewSlots : ScratchPair → Type 0
+HasTooFewSlots pair = (pair.first ≡ None) ⊎ (pair.second ≡ None)
+
+-- so many are there
+abbrev pub AreThere : ScratchPair → ℕ → Type 0
+AreThere pair taken = (taken ≤ 2) × (1 ≤ taken → (p : Place) × (pair.first ≡ Some p)) × (2 ≤ taken → (p : Place) × (pair.second ≡ Some p))
+
+-- a fault of moves as an error of an allocation
+abbrev pub error_of : MoveFault → RegAllocError
+error_of NoSlot = TooManySpillSlots
+error_of Memory = OutOfMemory

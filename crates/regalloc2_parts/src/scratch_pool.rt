@@ -1,0 +1,167 @@
+//! Scratch registers and temporary slots for parallel moves.
+
+ghost use Rattle.std.specs.Prelude.{◌≡◌, ◌⊎◌, false, None, Some, IfOk, IfErr, IsOk};
+ghost use Rattle.std.specs.List.{All};
+ghost use Rattle.regalloc2_names.specs.Place.{is_memory};
+ghost use Rattle.regalloc2_parts.specs.Resolved.{has_scratch, listed, IsRunnable};
+ghost use Rattle.regalloc2_parts.specs.ScratchPool.{AreApart, AreThere, DecidesStack, HasTooFewSlots, IsOrderedWith, IsUsableFor, MayDecideStack, YieldsInOrder};
+
+use crate::moves::{MoveAndScratchResolver, MoveFault, MoveVec, MoveVecWithScratch};
+use regalloc2_names::{Allocation, PReg, PRegSet};
+use std::alloc::Allocator;
+
+/// Two scratch places for moves, one after the other.
+#[derive(Clone, Copy)]
+pub struct ScratchPair {
+    /// The one that is handed out first.
+    pub first: Option<Allocation>,
+    /// The one that is handed out next.
+    pub second: Option<Allocation>,
+}
+
+/// The scratch places for moves.
+#[derive(Clone, Copy)]
+pub struct ScratchPool {
+    /// Registers that no move names.
+    pub registers: ScratchPair,
+    /// Slots that no move names.
+    pub slots: ScratchPair,
+    /// The registers that stand for places in memory.
+    pub fixed_stack: PRegSet,
+    /// A register that is borrowed where there is no scratch register, and restored.
+    pub borrowed: PReg,
+}
+
+/// Moves that can be made one after another, and how many temporary slots they use.
+#[derive(Drop)]
+pub struct OrderedMoves<A: Allocator> {
+    /// In the order in which they are made.
+    pub moves: MoveVec<(), A>,
+    /// How many of the temporary slots are used: 0 to 2.
+    pub slots: usize,
+}
+
+impl ScratchPair {
+    /// The next of them, which is handed out.
+    fn take(&mut self) -> Option<Allocation>
+        ensures answer { result ≡ self.old.first }
+        ensures first { self.new.first ≡ self.old.second }
+        ensures second { self.new.second ≡ None }
+    {
+        let place = self.first;
+        self.first = self.second;
+        self.second = None;
+        place
+    }
+
+    /// How many there are.
+    fn count(&self) -> usize
+        ensures there { AreThere self.now result }
+        ensures none { result ≡ 0 → self.now.first ≡ None }
+        ensures one { result ≡ 1 → self.now.second ≡ None }
+    {
+        match (self.first, self.second) {
+            (None, _) => 0,
+            (Some(_), None) => 1,
+            (Some(_), Some(_)) => 2,
+        }
+    }
+
+    /// How many come before a place.
+    fn num_before(&self, next: Allocation) -> usize
+        ensures there { AreThere self.now result }
+        ensures none { result ≡ 0 → (self.now.first ≡ None) ⊎ (Some next ≡ self.now.first) }
+        ensures one { result ≡ 1 → (self.now.second ≡ None) ⊎ (Some next ≡ self.now.second) }
+    {
+        match (self.first, self.second) {
+            (None, _) => 0,
+            (Some(first), None) => { if first.is_same(next) { 0 } else { 1 } }
+            (Some(first), Some(second)) => {
+                if first.is_same(next) {
+                    0
+                } else if second.is_same(next) {
+                    1
+                } else {
+                    2
+                }
+            }
+        }
+    }
+
+    /// How many were handed out where this is the next one.
+    fn num_taken(&self, next: Option<Allocation>) -> usize
+        ensures there { AreThere self.now result }
+        ensures none { result ≡ 0 → (self.now.first ≡ None) ⊎ (next ≡ self.now.first) }
+        ensures one { result ≡ 1 → (self.now.second ≡ None) ⊎ (next ≡ self.now.second) }
+    {
+        match next {
+            Some(place) => self.num_before(place),
+            None => self.count(),
+        }
+    }
+}
+
+/// The moves that a resolver makes, whose closures give these places.
+fn compute_with_resolver<R, S, M, A: Allocator + Copy>(
+    mut resolver: MoveAndScratchResolver<R, S, M>,
+    pool: &ScratchPool,
+    moves: MoveVecWithScratch<(), A>,
+) -> Result<OrderedMoves<A>, MoveFault>
+where
+    R: FnMut() -> Option<Allocation>,
+    S: FnMut() -> Option<Allocation>,
+    M: Fn(Allocation) -> bool,
+    requires registers { (f : _) → R.pre f }
+    requires slots { (f : _) → S.pre f }
+    requires stack { M.IsAlwaysCallable resolver.is_stack_alloc }
+    requires borrowed { resolver.borrowed_scratch_reg ≡ pool.now.borrowed }
+    requires first { YieldsInOrder R.FnMut resolver.find_free_reg pool.now.registers }
+    requires second { YieldsInOrder S.FnMut resolver.get_stackslot pool.now.slots }
+    requires tells { DecidesStack M.Fn resolver.is_stack_alloc pool.now.fixed_stack }
+    requires may_tell { MayDecideStack M.Fn resolver.is_stack_alloc pool.now.fixed_stack }
+    requires serves { IsUsableFor pool.now (listed moves) }
+    requires runnable { IsRunnable moves }
+    ensures made { IfOk result (λ m. IsOrderedWith pool.now m.slots (listed moves) m.moves.items) }
+    ensures there { IfOk result (λ m. AreThere pool.now.slots m.slots) }
+    ensures err { IfErr result (λ e. e ≡ MoveFault.NoSlot → HasTooFewSlots pool.now.slots) }
+    ensures plain { has_scratch moves ≡ false → All (λ m. AreApart pool.now.fixed_stack m.0 m.1) (listed moves) → IsOk result }
+{
+    match resolver.compute_by_ref(moves) {
+        Ok(moves) => {
+            let next = (resolver.get_stackslot)();
+            Ok(OrderedMoves {
+                moves,
+                slots: pool.slots.num_taken(next),
+            })
+        }
+        Err(fault) => Err(fault),
+    }
+}
+
+impl ScratchPool {
+    /// The moves that are made with these scratch places.
+    pub fn compute<A: Allocator + Copy>(
+        &self,
+        moves: MoveVecWithScratch<(), A>,
+    ) -> Result<OrderedMoves<A>, MoveFault>
+        requires serves { IsUsableFor self.now (listed moves) }
+        requires runnable { IsRunnable moves }
+        ensures made { IfOk result (λ m. IsOrderedWith self.now m.slots (listed moves) m.moves.items) }
+        ensures there { IfOk result (λ m. AreThere self.now.slots m.slots) }
+        ensures err { IfErr result (λ e. e ≡ MoveFault.NoSlot → HasTooFewSlots self.now.slots) }
+        ensures plain { has_scratch moves ≡ false → All (λ m. AreApart self.now.fixed_stack m.0 m.1) (listed moves) → IsOk result }
+    {
+        let fixed_stack = self.fixed_stack;
+        let mut registers = self.registers;
+        let mut slots = self.slots;
+        let resolver = MoveAndScratchResolver {
+            find_free_reg: move || registers.take(),
+            get_stackslot: move || slots.take(),
+            is_stack_alloc: |place: Allocation|
+                ensures told { result ≡ is_memory fixed_stack place }
+            { place.is_memory(fixed_stack) },
+            borrowed_scratch_reg: self.borrowed,
+        };
+        compute_with_resolver(resolver, self, moves)
+    }
+}
