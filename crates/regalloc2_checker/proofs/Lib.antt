@@ -1,4 +1,3 @@
-pub mod SameNames
 pub mod FactsTraced
 pub mod FactsFollowMaps
 pub mod Fixpoint
@@ -9,6 +8,7 @@ pub mod TableSteps
 pub mod VRegsInPlace
 pub mod RestOfList
 pub mod NamedBits
+pub mod NamedPlaces
 pub mod PairsDecrease
 pub mod RoundInvariant
 pub mod Updates

@@ -20,7 +20,7 @@ use Rattle.regalloc2_function.specs.OutputValue.{MoveValue, place_at}
 use Rattle.regalloc2_checker.specs.Facts.{Facts, placed, defined, facts_after_moves, facts_after_early_defs, facts_after_defs, facts_after_clobbers, renaming}
 use Rattle.regalloc2_checker.specs.Renamed.{facts_renamed, HoldersAre, AreHoldersOf}
 use Rattle.regalloc2_checker.specs.TableFacts.{IsListed, IsListedVReg}
-use Rattle.regalloc2_checker.proofs.SameNames.{is_register-true, is_register-same}
+use Rattle.regalloc2_names.specs.Same.{is_register-true, is_register-same}
 use Rattle.regalloc2_checker.proofs.TableSteps.{one-facts}
 
 drop_at : (ms : List Edit) (k : ℕ) (e : Edit) → k < length ms → e ≡ get_or ms k e → drop k ms ≡ e ∷ drop (k + 1) ms

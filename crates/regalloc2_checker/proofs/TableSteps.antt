@@ -15,7 +15,7 @@ use Rattle.regalloc2_checker.specs.TableFacts.{is_packed, is_packed_vreg, place_
 use Rattle.regalloc2_checker.specs.TableFacts.{facts_in, facts_now, facts_table, IsMissingUnlisted, IsListed}
 use Rattle.regalloc2_checker.specs.TableFacts.{IsListedVReg}
 use Rattle.regalloc2_checker.specs.Renamed.{stands_in, given_to, HoldersAre}
-use Rattle.regalloc2_checker.proofs.SameNames.{is_place-true, is_place-same, is_vreg-true, is_vreg-same}
+use Rattle.regalloc2_names.specs.Same.{is_place-true, is_place-same, is_vreg-true, is_vreg-same}
 use Rattle.regalloc2_checker.proofs.Keys.{vreg_back, both_false}
 
 and-false : (b : Bool) → (b && false) ≡ false

@@ -2,6 +2,7 @@ pub mod Facts
 pub mod Fixpoint
 pub mod TableFacts
 pub mod Renamed
+pub mod NamedPlaces
 pub mod NamedBits
 pub mod Tables
 pub mod Propagation

@@ -1,20 +1,19 @@
 -- Bits that are listed.
-use Rattle.std.specs.Prelude.{ℕ, ◌<◌, List, All, Contains, map, length}
+use Rattle.std.specs.Prelude.{ℕ, ◌≡◌, List, ◌++◌, Contains}
+use Rattle.std.specs.List.{flat_map}
 use Rattle.regalloc2_names.specs.Place.{Place}
+use Rattle.regalloc2_function.specs.declared.listing.Edit.{Edit}
 use Rattle.regalloc2_function.specs.Views.{move_of}
-use Rattle.regalloc2_checker.specs.declared.listing.Listed.{Listed}
-use Rattle.regalloc2_checker.specs.TableFacts.{IsMissingUnlisted, IsListed}
+use Rattle.regalloc2_checker.specs.NamedPlaces.{bits_unless_missing, places_of}
 
 -- what was listed stays
 abbrev pub IsMore : List ℕ → List ℕ → Type 0
 IsMore old new = (n : ℕ) → Contains old n → Contains new n
 
--- and no missing place is added
-pub record AreAdded (old new : List ℕ) : Type 0 where
-  pub more : IsMore old new
-  pub missing : IsMissingUnlisted old → IsMissingUnlisted new
+-- the bits of places are added at the end, in order, but for missing ones
+abbrev pub ArePlacesAdded : List ℕ → List ℕ → List Place → Type 0
+ArePlacesAdded old new ps = new ≡ old ++ flat_map bits_unless_missing ps
 
--- a list names the places that moves fill and operands have
-pub record IsNamedIn {A : Type 0} (places : List ℕ) (x : Listed A) : Type 0 where
-  pub moves : All (λ m. IsListed places m.to) (map move_of x.moves.items)
-  pub operands : All (IsListed places) x.places.items
+-- the two places of an edit that stands at a point
+abbrev pub places_of_edit : (ℕ × Edit) → List Place
+places_of_edit e = places_of (move_of e.1)

@@ -1,17 +1,18 @@
 -- Facts that tables keep: places and virtual registers are looked up by their bits.
-use Rattle.std.specs.Prelude.{ℕ, ◌≡◌, ◌≢◌, ◌<◌, ◌≤◌, Bool, true, false, ◌&&◌, nat_eq, nat_lt, List, All, Contains, Option, None, Some, length}
-use Rattle.std.specs.List.{position}
+use Rattle.std.specs.Prelude.{ℕ, ◌≡◌, ◌≢◌, ◌<◌, ◌↔◌, Bool, true, false, ◌&&◌, nat_eq, nat_lt, List, All, Contains, Option, None, Some, length}
+use Rattle.std.specs.List.{position, flat_map}
+use Rattle.std.specs.List.Sorted.{IsStrictlyIncreasing}
 use Rattle.regalloc2_names.specs.Register.{VirtualRegister}
 use Rattle.regalloc2_names.specs.RegisterBits.{bits_of_vreg}
 use Rattle.regalloc2_names.specs.Operand.{OperandValue}
 use Rattle.regalloc2_names.specs.Place.{Place, NoPlace, is_place}
 use Rattle.regalloc2_names.specs.PlaceBits.{bits_of_place, place_of_bits}
 use Rattle.regalloc2_function.specs.FunctionValue.{FunctionValue, block_at, inst_at}
-use Rattle.regalloc2_function.specs.OutputValue.{OutputValue, MoveValue, allocs_of}
+use Rattle.regalloc2_function.specs.OutputValue.{OutputValue}
 use Rattle.regalloc2_function.specs.SourceRun.{arguments_at}
-use Rattle.regalloc2_function.specs.AllocatedRun.{moves_at}
 use Rattle.regalloc2_checker_tables.specs.Holding.{Holding, holds_now, holds_in}
 use Rattle.regalloc2_checker.specs.Facts.{Facts}
+use Rattle.regalloc2_checker.specs.NamedPlaces.{named, bits_unless_missing}
 
 -- a place that a packed name can have
 abbrev pub is_packed : Place → Bool
@@ -57,12 +58,10 @@ IsListed places p = p ≢ NoPlace → Contains places (bits_of_place p)
 abbrev pub IsListedVReg : List ℕ → VirtualRegister → Type 0
 IsListedVReg vregs v = Contains vregs (bits_of_vreg v)
 
--- a list names the places that an output's moves fill and its operands have
+-- a list has the bits of the places that an output and the clobbers name, each once, by rising bits, and no others
 pub record AreNamedPlaces (f : FunctionValue) (o : OutputValue) (places : List ℕ) : Type 0 where
-  pub missing : IsMissingUnlisted places
-  pub moves : (b i : ℕ) → b < length f.blocks → (block_at f b).range.first ≤ i → i < (block_at f b).range.end →
-      All (λ m. IsListed places m.to) (moves_at f o (record { block = b; inst = i }))
-  pub operands : (i : ℕ) → i < length f.insts → All (IsListed places) (allocs_of o i)
+  pub rising : IsStrictlyIncreasing places
+  pub members : (n : ℕ) → Contains places n ↔ Contains (flat_map bits_unless_missing (named f o)) n
 
 -- a list names the virtual registers of a function's operands, parameters and arguments
 pub record AreNamedVRegs (f : FunctionValue) (vregs : List ℕ) : Type 0 where

@@ -102,7 +102,7 @@ pub fn find_errors<F: Function, A: Allocator + Copy, B: Allocator, C: Allocator>
     ensures { IfOk result (λ r. IsReport (F.function f.now) (machine_of env.now) o r.items) }
 {
     let listing = handle_listing(alloc, f, out)?;
-    let places = named_places(alloc, f, &listing)?;
+    let places = named_places(alloc, f, out)?;
     let vregs = named_vregs(alloc, f)?;
     let tables = Tables::new(alloc, f.num_blocks() + 1, places, vregs)?;
     let mut state = analyze(alloc, f, &listing, tables)?;

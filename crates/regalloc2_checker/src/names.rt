@@ -1,26 +1,26 @@
 //! The places and virtual registers that a walk over an output may fill or write.
 
-ghost use Rattle.std.specs.Prelude.{◌≡◌, ◌<◌, ℕ, OnOk, IfOk, All, map, length};
+ghost use Rattle.std.specs.Prelude.{◌≡◌, ◌<◌, ◌↔◌, ◌∷◌, [], true, ℕ, OnOk, IfOk, All, map, length};
+ghost use Rattle.std.specs.List.{flat_map};
+ghost use Rattle.regalloc2_names.specs.Place.{InRegister};
+ghost use Rattle.regalloc2_names.specs.Register.{Register};
+ghost use Rattle.regalloc2_names.specs.RegisterSet.{has_register, registers_of};
 ghost use Rattle.regalloc2_function.specs.FunctionValue.{block_at, inst_at};
-ghost use Rattle.regalloc2_function.specs.OutputValue.{OutputValue};
 ghost use Rattle.regalloc2_function.specs.SourceRun.{arguments_at};
-ghost use Rattle.regalloc2_function.specs.Views.{move_of};
+ghost use Rattle.regalloc2_function.specs.Views.{output_of};
 ghost use Rattle.regalloc2_function.specs.WellFormed.{IsFramed};
-ghost use Rattle.regalloc2_checker.specs.Listing.{IsListing};
-ghost use Rattle.regalloc2_checker.specs.NamedBits.{IsMore, AreAdded, IsNamedIn};
-ghost use Rattle.regalloc2_checker.specs.TableFacts.{IsListed, IsListedVReg, AreNamedPlaces, AreNamedVRegs};
+ghost use Rattle.regalloc2_checker.specs.NamedBits.{IsMore, ArePlacesAdded, places_of_edit};
+ghost use Rattle.regalloc2_checker.specs.TableFacts.{IsListedVReg, AreNamedPlaces, AreNamedVRegs};
 
-use crate::listing::Listed;
 use regalloc2_checker_tables::Positions;
-use regalloc2_function::{Edit, Function};
+use regalloc2_function::{Edit, Function, Output};
 use regalloc2_index::{Block, Inst};
-use regalloc2_names::{Allocation, Operand, PRegSet, VReg};
+use regalloc2_names::{Allocation, Operand, PRegSet, ProgPoint, VReg};
 use std::alloc::{AllocError, Allocator};
 
 /// Lists a place, unless it is missing.
 fn list_place<A: Allocator>(bits: &mut Vec<u32, A>, place: Allocation) -> Result<(), AllocError>
-    ensures added { OnOk result (AreAdded bits.old.items bits.new.items) }
-    ensures listed { OnOk result (IsListed bits.new.items place) }
+    ensures { OnOk result (ArePlacesAdded bits.old.items bits.new.items (place ∷ [])) }
 {
     if place.is_none() {
         return Ok(());
@@ -29,26 +29,27 @@ fn list_place<A: Allocator>(bits: &mut Vec<u32, A>, place: Allocation) -> Result
     Ok(())
 }
 
-/// Lists the places of moves.
-fn list_moves<A: Allocator>(bits: &mut Vec<u32, A>, moves: &[Edit]) -> Result<(), AllocError>
-    ensures added { OnOk result (AreAdded bits.old.items bits.new.items) }
-    ensures listed { OnOk result (All (λ m. IsListed bits.new.items m.to) (map move_of moves.now)) }
+/// Lists both places of each move.
+fn list_moves<A: Allocator>(
+    bits: &mut Vec<u32, A>,
+    moves: &[(ProgPoint, Edit)],
+) -> Result<(), AllocError>
+    ensures { OnOk result (ArePlacesAdded bits.old.items bits.new.items (flat_map places_of_edit moves.now)) }
 {
     for k in 0..moves.len() {
-        let (from, to) = moves[k].places();
+        let (from, to) = moves[k].1.places();
         list_place(bits, from)?;
         list_place(bits, to)?;
     }
     Ok(())
 }
 
-/// Lists an instruction's places.
+/// Lists places.
 fn list_places<A: Allocator>(
     bits: &mut Vec<u32, A>,
     places: &[Allocation],
 ) -> Result<(), AllocError>
-    ensures added { OnOk result (AreAdded bits.old.items bits.new.items) }
-    ensures listed { OnOk result (All (IsListed bits.new.items) places.now) }
+    ensures { OnOk result (ArePlacesAdded bits.old.items bits.new.items places.now) }
 {
     for k in 0..places.len() {
         list_place(bits, places[k])?;
@@ -56,44 +57,40 @@ fn list_places<A: Allocator>(
     Ok(())
 }
 
-/// Lists the places of an instruction and of the moves before it.
-fn list_listed<A: Allocator>(bits: &mut Vec<u32, A>, listed: &Listed<A>) -> Result<(), AllocError>
-    ensures added { OnOk result (AreAdded bits.old.items bits.new.items) }
-    ensures named { OnOk result (IsNamedIn bits.new.items listed.now) }
+/// Lists registers.
+fn list_regs<A: Allocator>(bits: &mut Vec<u32, A>, regs: PRegSet) -> Result<(), AllocError>
+    ensures { OnOk result (ArePlacesAdded bits.old.items bits.new.items (map InRegister (registers_of regs))) }
 {
-    list_moves(bits, &listed.moves)?;
-    list_places(bits, &listed.places)?;
-    Ok(())
-}
-
-/// Lists clobbered registers.
-fn list_clobbers<A: Allocator>(bits: &mut Vec<u32, A>, clobbers: PRegSet) -> Result<(), AllocError>
-    ensures { OnOk result (AreAdded bits.old.items bits.new.items) }
-{
-    for reg in clobbers {
+    for reg in regs {
         list_place(bits, Allocation::reg(reg))?;
     }
     Ok(())
 }
 
-/// The places that an output and the clobbers name.
-pub fn named_places<F: Function, A: Allocator + Copy>(
-    alloc: A,
-    f: &F,
-    listing: &[Listed<A>],
-) -> Result<Positions<A>, AllocError>
-    ghost o: { OutputValue }
-    requires listing { IsListing (F.function f.now) o listing.now }
-    requires framed { IsFramed (F.function f.now) }
-    ensures { IfOk result (λ r. AreNamedPlaces (F.function f.now) o r) }
+/// The registers that some instruction clobbers.
+fn all_clobbers<F: Function>(f: &F) -> PRegSet
+    ensures { (r : Register) → (has_register result r ≡ true)
+        ↔ ((i : ℕ) × (i < length (F.function f.now).insts) × (has_register (inst_at (F.function f.now) i).clobbers r ≡ true)) }
 {
-    let mut bits = Vec::new(alloc);
     let mut clobbers = PRegSet::empty();
     for i in 0..f.num_insts() {
-        list_listed(&mut bits, &listing[i])?;
         clobbers.union_from(f.inst_clobbers(Inst::new(i)));
     }
-    list_clobbers(&mut bits, clobbers)?;
+    clobbers
+}
+
+/// The places that an output and the clobbers name.
+pub fn named_places<F: Function, A: Allocator + Copy, B: Allocator>(
+    alloc: A,
+    f: &F,
+    out: &Output<B>,
+) -> Result<Positions<A>, AllocError>
+    ensures { IfOk result (λ r. AreNamedPlaces (F.function f.now) (output_of out.now) r) }
+{
+    let mut bits = Vec::new(alloc);
+    list_moves(&mut bits, &out.edits)?;
+    list_places(&mut bits, &out.allocs)?;
+    list_regs(&mut bits, all_clobbers(f))?;
     Ok(Positions::of(bits))
 }
 

@@ -1,5 +1,12 @@
 -- Chunks of an array and of saved copies of it.
 use Rattle.std.proofs.Common.{ℕ, ◌≡◌, ◌+◌, ◌*◌, ◌<◌, ◌≤◌, arith, List, length, get_or, sym, ap, ◌∙◌, subst}
+use Rattle.std.proofs.Common.{Bool, true, false, nat_eq, refl, ◌-◌}
+use Rattle.std.specs.Prelude.{not}
+use Rattle.std.specs.List.{between}
+use Rattle.std.specs.Cmp.Lexicographic.{pointwise}
+use Rattle.std.proofs.lemmas.Bool.Decides.{Decides-eqb}
+use Rattle.std.proofs.lemmas.Slice.Eq.{slice_eq-Decides}
+use Rattle.std.proofs.lemmas.List.Edits.{get_or-between}
 use Rattle.regalloc2_checker_tables.specs.SavedCopies.{Copies, saved_at, cell_at, IsChunkAt}
 use Rattle.regalloc2_checker_tables.specs.SavedNumbers.{AreChunksKept}
 
@@ -13,3 +20,24 @@ chunks-new words cells bases long wz cz same bz sz = record {
   known = λ j l small.
       subst (λ (b : ℕ). IsChunkAt words cells j b) (sym (bz j)) (record { within = omega arith; same = λ t lt. cz (64 * j + t) ∙ sym (wz (0 + t)) });
 }
+
+-- parts of two lists that are equal have the same numbers
+pub parts-same : (xs ys : List ℕ) (a b n t : ℕ) → between a (a + n) xs ≡ between b (b + n) ys → t < n → get_or xs (a + t) 0 ≡ get_or ys (b + t) 0
+parts-same xs ys a b n t e l =
+    sym (get_or-between xs a (a + n) t 0 (omega (arith, l))) ∙ ap (λ (zs : List ℕ). get_or zs t 0) e ∙ get_or-between ys b (b + n) t 0 (omega (arith, l))
+
+-- and so from some number on
+pub parts-later : (xs ys : List ℕ) (a b n m t : ℕ) → between (a + m) (a + m + n) xs ≡ between (b + m) (b + m + n) ys → m ≤ t → t < m + n →
+    get_or xs (a + t) 0 ≡ get_or ys (b + t) 0
+parts-later xs ys a b n m t e low l =
+    let i : a + m + (t - m) ≡ a + t = omega (arith, low) in
+    let j : b + m + (t - m) ≡ b + t = omega (arith, low) in
+    ap (λ k. get_or xs k 0) (sym i) ∙ parts-same xs ys (a + m) (b + m) n (t - m) e (omega (arith, low, l)) ∙ ap (λ k. get_or ys k 0) j
+
+-- lists that are not found to differ are equal
+pub same-where-not : (xs ys : List ℕ) (r : Bool) → r ≡ not (pointwise nat_eq xs ys) → r ≡ false → xs ≡ ys
+same-where-not xs ys r e d = (slice_eq-Decides Decides-eqb xs ys (pointwise nat_eq xs ys) refl).0 (yes (pointwise nat_eq xs ys) (sym e ∙ d))
+  where
+    yes : (b : Bool) → not b ≡ false → b ≡ true
+    yes true h = refl
+    yes false h = absurd cc

@@ -8,7 +8,8 @@ use Rattle.std.proofs.Math.ListN.{length-append}
 use Rattle.std.proofs.lemmas.Bool.{cases_eq, cases_lt, eqb-true}
 use Rattle.std.proofs.lemmas.List.{get_or-append_right, get_or_append_left}
 use Rattle.regalloc2_cfg.specs.Numbers.{NumberSet, has_number}
-use Rattle.regalloc2_checker_tables.specs.EntrySets.{has_bits, is_member, IsSetOf, AreMore, AreKnown, IsLess}
+use Rattle.regalloc2_checker_tables.specs.EntrySets.{has_bits, is_member, IsSetOf, AreMore, AreKnown, IsGrown, IsLess}
+use Rattle.regalloc2_checker_tables.specs.declared.sets.Grown.{Grown}
 use Rattle.regalloc2_checker_tables.proofs.Bits.{changed-is, none-is, alone, added-is, added-more, apart, bits-small}
 
 true-false : (b : Bool) → b ≡ true → b ≡ false → ⊥
@@ -206,3 +207,40 @@ pub empty-common : (sets : List NumberSet) (set other : ℕ) → ((y : ℕ) → 
 empty-common sets set other none e y =
     let f : is_member sets set y ≡ false = ap (λ n. is_member sets n y) e ∙ none y in
     f ∙ sym (ap (λ b. b && is_member sets other y) f)
+
+-- no set is kept
+pub grown-none : (sets : List NumberSet) → IsGrown sets None
+grown-none sets g e = absurd cc
+
+-- where sets are added, the one that is kept stays
+pub grown-more : (sets new : List NumberSet) (o : Option Grown) → AreMore sets new → IsGrown sets o → IsGrown new o
+grown-more sets new o m h g e =
+    let k = h g e in
+    let longer = m.longer in
+    let below = k.1.below in (
+      omega (arith, k.0, longer),
+      record {
+        below = omega (arith, below, longer);
+        members = λ y. m.kept g.number y below ∙ k.1.members y ∙ sym (ap (λ b. if nat_eq y g.bits then true else b) (m.kept g.from y k.0));
+      },
+    )
+
+-- a set is kept
+pub grown-is : (sets : List NumberSet) (from bits number : ℕ) → from < length sets →
+    IsSetOf sets number (λ y. if nat_eq y bits then true else is_member sets from y) →
+    IsGrown sets (Some (record { from = from; bits = bits; number = number }))
+grown-is sets from bits number l h g e =
+    subst (λ (x : Grown). (x.from < length sets) × IsSetOf sets x.number (λ y. if nat_eq y x.bits then true else is_member sets x.from y))
+    (one (record { from = from; bits = bits; number = number }) g e) (l, h)
+  where
+    one : (a b : Grown) → ◌≡◌ {A = Option Grown} (Some a) (Some b) → a ≡ b
+    one a b e = cc
+
+-- a set that was made of another and one member more, once it has a number
+pub grown-of : (old new : List NumberSet) (s : NumberSet) (set bits number : ℕ) → set < length old → AreMore old new → IsSetOf new number (has_bits s) →
+    ((y : ℕ) → has_bits s y ≡ (if nat_eq y bits then true else is_member old set y)) →
+    IsSetOf new number (λ y. if nat_eq y bits then true else is_member new set y)
+grown-of old new s set bits number l m h e = record {
+  below = h.below;
+  members = λ y. h.members y ∙ e y ∙ sym (ap (λ b. if nat_eq y bits then true else b) (m.kept set y l));
+}

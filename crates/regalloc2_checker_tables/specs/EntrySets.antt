@@ -2,6 +2,7 @@
 use Rattle.std.specs.Prelude.{ℕ, ◌≡◌, ◌<◌, ◌≤◌, Bool, true, false, ◌&&◌, nat_eq, nat_lt, List, [], length, get_or, if◌then◌else◌}
 use Rattle.std.specs.Prelude.{Option, None, Some}
 use Rattle.regalloc2_cfg.specs.Numbers.{NumberSet, has_number, times_in}
+use Rattle.regalloc2_checker_tables.specs.declared.sets.Grown.{Grown}
 
 -- whether bits are a member
 abbrev pub has_bits : NumberSet → ℕ → Bool
@@ -38,3 +39,7 @@ pub record IsLess (has other : ℕ → Bool) : Type 0 where
   pub small : bits < 4294967296
   pub here : has bits ≡ true
   pub not_there : other bits ≡ false
+
+-- a set is kept that was made of another and one member more
+abbrev pub IsGrown : List NumberSet → Option Grown → Type 0
+IsGrown sets o = (g : Grown) → o ≡ Some g → (g.from < length sets) × IsSetOf sets g.number (λ y. if nat_eq y g.bits then true else is_member sets g.from y)

@@ -12,25 +12,35 @@ use std::marker::Model;
 /// Sets of bits, by number. The first is the empty one.
 ///
 /// Most have one member alone, which is kept beside the set, so that it needn't be looked for. `singles` says, for bits,
-/// which set may have them alone.
+/// which set may have them alone. The set that was last made of another and one member more is kept too, since many places
+/// may get that member one after another.
 #[derive(Drop)]
 pub struct Sets<A: Allocator> {
     sets: Vec<IndexSet<A>, A>,
     lone: Vec<Option<u32>, A>,
     singles: Vec<u32, A>,
+    grown: Option<Grown>,
     alloc: A,
+}
+
+/// A set that was made of another and one member more.
+#[derive(Clone, Copy, Drop)]
+pub struct Grown {
+    pub from: u32,
+    pub bits: u32,
+    pub number: u32,
 }
 
 impl<A: Allocator> Model for Sets<A> {
     ghost use Rattle.std.specs.Prelude.{List};
     ghost use Rattle.regalloc2_cfg.specs.Numbers.{NumberSet};
-    ghost use Rattle.regalloc2_checker_tables.specs.EntrySets.{AreKnown};
+    ghost use Rattle.regalloc2_checker_tables.specs.EntrySets.{AreKnown, IsGrown};
 
     ghost Value = { List NumberSet };
 
     ghost view = { λ s. s.sets.items };
 
-    ghost invariant = { λ s. AreKnown s.sets.items s.lone.items };
+    ghost invariant = { λ s. AreKnown s.sets.items s.lone.items × IsGrown s.sets.items s.grown };
 }
 
 /// Whether bits are a member.
@@ -134,6 +144,7 @@ impl<A: Allocator + Copy> Sets<A> {
             sets,
             lone,
             singles,
+            grown: None,
             alloc,
         })
     }
@@ -259,6 +270,31 @@ impl<A: Allocator + Copy> Sets<A> {
         Ok(copy)
     }
 
+    /// The number of a set and one member more, if it is kept.
+    fn kept_grown(&self, set: u32, bits: u32) -> Option<u32>
+        ensures { (n : ℕ) → result ≡ Some n → IsSetOf self.now n (λ y. if nat_eq y bits then true else is_member self.now set y) }
+    {
+        let _ = &self.sets;
+        let grown = self.grown?;
+        if grown.from == set && grown.bits == bits {
+            return Some(grown.number);
+        }
+        None
+    }
+
+    /// Keeps the number of a set and one member more.
+    fn keep_grown(&mut self, set: u32, bits: u32, number: u32)
+        requires set { set < length self.old }
+        requires grown { IsSetOf self.old number (λ y. if nat_eq y bits then true else is_member self.old set y) }
+        ensures { self.new ≡ self.old }
+    {
+        self.grown = Some(Grown {
+            from: set,
+            bits,
+            number,
+        });
+    }
+
     /// A set and one member more.
     pub fn with(&mut self, set: u32, bits: u32) -> Result<u32, AllocError>
         requires { set < length self.old }
@@ -272,8 +308,13 @@ impl<A: Allocator + Copy> Sets<A> {
         if set == 0 {
             return self.single(bits);
         }
+        if let Some(number) = self.kept_grown(set, bits) {
+            return Ok(number);
+        }
         let more = self.changed(set, bits, true)?;
-        self.add(more, None)
+        let number = self.add(more, None)?;
+        self.keep_grown(set, bits, number);
+        Ok(number)
     }
 
     /// A set and one member less.

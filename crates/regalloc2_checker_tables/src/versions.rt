@@ -52,9 +52,7 @@ pub fn copy_chunk(words: &[u32], base: usize, cells: &mut [u32], first: usize)
     ensures before { (i : ℕ) → i < first → get_or cells.new i 0 ≡ get_or cells.old i 0 }
     ensures after { (i : ℕ) → first + 64 ≤ i → get_or cells.new i 0 ≡ get_or cells.old i 0 }
 {
-    for t in 0..64 {
-        cells[first + t] = words[base + t];
-    }
+    cells[first..first + 64].copy_from_slice(&words[base..base + 64]);
 }
 
 /// Whether a chunk of words is one of the array.
@@ -63,12 +61,24 @@ pub fn is_same_chunk(words: &[u32], base: usize, cells: &[u32], first: usize) ->
     requires cells { first + 64 ≤ length cells.now }
     ensures { result ≡ true → (t : ℕ) → t < 64 → get_or cells.now (first + t) 0 ≡ get_or words.now (base + t) 0 }
 {
-    for t in 0..64 {
-        if cells[first + t] != words[base + t] {
-            return false;
+    &cells[first..first + 64] == &words[base..base + 64]
+}
+
+/// How many words of a chunk, from some on, are passed over in groups of sixteen that are those of a chunk of words.
+fn equal_groups(words: &[u32], base: usize, cells: &[u32], first: usize, from: usize) -> usize
+    requires words { base + 64 ≤ length words.now }
+    requires cells { first + 64 ≤ length cells.now }
+    ensures low { from ≤ result }
+    ensures same { (t : ℕ) → from ≤ t → t < result → get_or cells.now (first + t) 0 ≡ get_or words.now (base + t) 0 }
+{
+    let mut t = from;
+    'groups: while t <= 48 {
+        if &cells[first + t..first + t + 16] != &words[base + t..base + t + 16] {
+            return t;
         }
+        t += 16;
     }
-    true
+    t
 }
 
 /// The first position from `from` on, in a chunk of the array, at which it differs from a chunk of words.
@@ -84,7 +94,8 @@ pub fn difference_in(
     ensures none { result ≡ None → (t : ℕ) → from - first ≤ t → t < 64 → get_or cells.now (first + t) 0 ≡ get_or words.now (base + t) 0 }
     ensures found { (i : ℕ) → result ≡ Some i → IsDifferenceIn words.now base cells.now first from i }
 {
-    for t in from.saturating_sub(first)..64 {
+    let passed = equal_groups(words, base, cells, first, from.saturating_sub(first));
+    for t in passed..64 {
         if cells[first + t] != words[base + t] {
             return Some(first + t);
         }

@@ -5,23 +5,21 @@ use Rattle.std.proofs.lemmas.List.{append-nil, append_assoc}
 use Rattle.regalloc2_names.specs.Register.{VirtualRegister}
 use Rattle.regalloc2_names.specs.Place.{Place}
 use Rattle.regalloc2_names.specs.Point.{before}
-use Rattle.regalloc2_function.specs.FunctionValue.{FunctionValue, block_at, inst_at}
+use Rattle.regalloc2_function.specs.FunctionValue.{FunctionValue, block_at}
 use Rattle.regalloc2_function.specs.OutputValue.{MoveValue}
 use Rattle.regalloc2_function.specs.WellFormed.{BlocksFollow, BlocksEnd}
 use Rattle.regalloc2_semantics.specs.BlockByPoints.{at_point, listed}
-use Rattle.regalloc2_semantics.specs.Instruction.{Knows}
 use Rattle.regalloc2_semantics.proofs.Points.{at_point-here}
 use Rattle.regalloc2_semantics.proofs.PushedMoves.{listed-push}
 use Rattle.regalloc2_fastalloc_proofs.specs.InstSteps.{StateValue}
 use Rattle.regalloc2_fastalloc_proofs.specs.BlockSteps.{AllocsBlockInsts, AllocsBlocks, BeginsBlock, all_left, one_block}
 use Rattle.regalloc2_fastalloc_proofs.specs.StoreSteps.{pushed_moves}
-use Rattle.regalloc2_fastalloc_proofs.proofs.Operands.RecordOfInst.{Orderly}
-use Rattle.regalloc2_fastalloc_proofs.proofs.Inst.BoundaryToFirstOperand.{AvoidClobbers}
 use Rattle.regalloc2_fastalloc_proofs.proofs.Slots.StepsKeepSlots.{Grown, grown_then}
 use Rattle.regalloc2_fastalloc_proofs.proofs.Walk.InstsCarry.{AreListed}
 use Rattle.regalloc2_fastalloc_proofs.proofs.Walk.InstBoundaries.{BranchKept, IsEdge, IsWithin, grown_weaken, begins_grown, walk_grown, edge_next}
 use Rattle.regalloc2_fastalloc_proofs.proofs.Walk.LastInstAndRest.{walk_listed}
 use Rattle.regalloc2_fastalloc_proofs.proofs.Walk.BlockCarries.{IsBelow}
+use Rattle.regalloc2_fastalloc_proofs.proofs.Inst.ProperInsts.{ProperInsts}
 
 -- the block b in the walk, with what comes after it until final
 pub record MetBlock (f : FunctionValue) (placesf : ℕ → List Place) (start : List Place) (begin : StateValue) (b : ℕ) (final : StateValue) : Type 0 where
@@ -37,15 +35,13 @@ pub record MetBlock (f : FunctionValue) (placesf : ℕ → List Place) (start : 
   pub rest : Grown (IsBelow (block_at f b).range.first) begun final
 
 module _ (Known : VirtualRegister → Type 0) (f : FunctionValue)
-    (orderly : (i : ℕ) → i < length f.insts → Orderly (inst_at f i).operands)
-    (avoids : (i : ℕ) → i < length f.insts → AvoidClobbers (inst_at f i).operands (inst_at f i).clobbers)
-    (knows : (i : ℕ) → i < length f.insts → Knows Known (inst_at f i).operands) (kept : BranchKept f) (follow : BlocksFollow f) (ends : BlocksEnd f)
+    (proper : ProperInsts Known f) (kept : BranchKept f) (follow : BlocksFollow f) (ends : BlocksEnd f)
     (placesf : ℕ → List Place) (start : List Place) (begin final : StateValue) (b : ℕ) (lb : b < length f.blocks) where
   -- each block is met
-  pub meet_block : (c : ℕ) (places : List Place) (t : StateValue) → AllocsBlocks f start begin c places t → (e : ℕ) → IsEdge f c e →
+  pub meet_block : {c : ℕ} {places : List Place} {t : StateValue} → AllocsBlocks f start begin c places t → (e : ℕ) → IsEdge f c e →
       AreListed f placesf e places → Grown (IsBelow e) t final → c ≤ b → MetBlock f placesf start begin b final
-  meet_block c places t all_left = λ e edge are rest le. absurd (omega (arith, lb, le))
-  meet_block c places t (one_block d p q s u w ld prev walk begins) = λ e edge are rest le.
+  meet_block all_left = λ e edge are rest le. absurd (omega (arith, lb, le))
+  meet_block {places} (one_block d p q s u w ld prev walk begins) = λ e edge are rest le.
       let first : ℕ = (block_at f d).range.first in
       let end : ℕ = (block_at f d).range.end in
       let some : first < end = (follow d ld).0 in
@@ -67,10 +63,10 @@ module _ (Known : VirtualRegister → Type 0) (f : FunctionValue)
               rest = rest_here;
             } in
             subst (λ (m : ℕ). MetBlock f placesf start begin m final) same found)
-        | inr ne ↦ meet_block (d + 1) p s prev end (edge_next f follow d ld)
-            (walk_listed Known f orderly avoids knows kept follow ends placesf final d ld p s first q u walk are_here)
+        | inr ne ↦ meet_block prev end (edge_next f follow d ld)
+            (walk_listed Known f proper kept follow ends placesf final d ld p s first q u walk are_here)
             (grown_then (IsBelow end) s u final (grown_weaken (IsWithin first end) (IsBelow end) s u (λ m h. h.1)
-            (walk_grown Known f orderly avoids knows kept follow d ld p s first q u walk))
+            (walk_grown Known f proper kept follow d ld p s first q u walk))
             (grown_then (IsBelow end) u w final (grown_weaken (λ m. m ≡ before first) (IsBelow end) u w (λ m h. omega (arith, h, some))
             (begins_grown (λ m. m ≡ before first) f d refl u w begins))
             (grown_weaken (IsBelow first) (IsBelow end) w final (λ m h. omega (arith, h, some)) rest_here)))

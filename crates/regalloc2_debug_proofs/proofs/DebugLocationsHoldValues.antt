@@ -29,18 +29,18 @@ use Rattle.regalloc2_fastalloc_proofs.proofs.Moves.ScratchRegTaken.{Fit}
 use Rattle.regalloc2_fastalloc_proofs.proofs.Safety.BranchArgsKeepState.{passes_between}
 use Rattle.regalloc2_fastalloc_proofs.proofs.Walk.BlocksCarryFromFreshState.{passed_slots}
 use Rattle.regalloc2_fastalloc_proofs.proofs.Walk.DefsBeforeUses.{used_made}
+use Rattle.regalloc2_fastalloc_proofs.proofs.Inst.ProperInsts.{all_proper}
 use Rattle.regalloc2_debug_proofs.specs.ShownPlace.{operand_place, shown_place}
-use Rattle.regalloc2_debug_proofs.proofs.SlotHoldsDefinedValue.{all_known, all_orderly}
 use Rattle.regalloc2_debug_proofs.proofs.ShownPlaceHoldsValue.{shown}
 use Rattle.regalloc2_debug_proofs.proofs.SlotAtBlockBegin.{AreAtBegin}
 
 module _ (env : MachineValue) (f : FunctionValue) (limited : IsLimited f) (ok : IsWellFormed env f) where
   -- a vreg that is shown is made
   pub shown_made : (v : VirtualRegister) {by : Option InstOperand} → IsShownBy f v by → Made f v
-  shown_made v (by_late_use o most r) = subst (Made f) r.reader.vreg ((all_known env f limited ok o.inst r.reader.inst).reading o.index r.reader.index
+  shown_made v (by_late_use o most r) = subst (Made f) r.reader.vreg (((all_proper env f limited ok).knows o.inst r.reader.inst).reading o.index r.reader.index
       r.reader.reading)
   shown_made v (by_early_use o most never r) = subst (Made f) r.reader.vreg
-      ((all_known env f limited ok o.inst r.reader.inst).reading o.index r.reader.index r.reader.reading)
+      (((all_proper env f limited ok).knows o.inst r.reader.inst).reading o.index r.reader.index r.reader.reading)
   shown_made v (by_argument i most never nor) = elim most.0 [
     | inl a ↦ absurd (nor a)
     | inr rest ↦ elim rest [ inl b ↦ absurd (never b) | inr p ↦ used_made f ok.defined_once ok.follow ok.uses_defined v p.0 p.2 (inr (p.1, p.4, p.5)) ]
@@ -74,7 +74,7 @@ module _ (env : MachineValue) (f : FunctionValue) (limited : IsLimited f) (ok : 
       ]
     ])
     by_proper written v (by_definition o never d) none = operand_proper v o d.inst d.index
-        ((all_orderly env f limited ok o.inst d.inst).allocated o.index d.index d.definition) d.vreg
+        (((all_proper env f limited ok).orderly o.inst d.inst).allocated o.index d.index d.definition) d.vreg
 
     -- where the function is written first, the place that a debugger is shown for a vreg is proper for its class
     pub place_proper : IsWrittenFirst f → (v : VirtualRegister) {by : Option InstOperand} → IsShownBy f v by →

@@ -179,32 +179,32 @@ module _ (Known : VirtualRegister → Type 0) (insts : ℕ → InstValue) (place
     ]
 
     -- operands before it is allocated
-    pub before_off : (late : Bool) (here : List Place) (t : InstRegs) (old : StateValue) (k : ℕ) (list : List Place) (u : InstRegs) (m : StateValue) →
+    pub before_off : {late : Bool} {here : List Place} {t : InstRegs} {old : StateValue} {k : ℕ} {list : List Place} {u : InstRegs} {m : StateValue} →
         ProcessesOperandsAt i ret late ops here t old k list u m → k ≤ length ops → (d < k → is_late (op_at ops d).position ≡ late → ⊥) →
         Bare late 0 here t old → Grown AnyPlace m final → Pushes (Off s slotted) old.edits m.edits
-    before_off late here t old k list u m none_placed = λ le out L g. none_pushed
-    before_off late here t old k list u m (of_other j there w y prev other) =
-        λ le out L g. before_off late here t old j there w y prev (omega (arith, le)) (λ lt e. out (omega (arith, lt)) e) L g
-    before_off late here t old k list u m (one_placed j there next w y z q prev inst_regs one) = λ le out L g.
+    before_off none_placed = λ le out L g. none_pushed
+    before_off {late} {here} {t} {old} (of_other j there w y prev other) =
+        λ le out L g. before_off prev (omega (arith, le)) (λ lt e. out (omega (arith, lt)) e) L g
+    before_off {late} {here} {t} {old} {list} {u} {m} (one_placed j there next w y z q prev inst_regs one) = λ le out L g.
         let grows : Grown AnyPlace z final = grown_then AnyPlace z m final (one_grown AnyPlace i tt ret ops j there list w u z m one) g in
         let at : Bare late j there w z = laid_all Known insts placesf i 0 Nothing ops lived clob ret orderly late here t old j there w z prev
         (omega (arith, le)) L in
         let ne : j ≢ d = λ e. out (omega (arith, e)) (ap (λ (a : ℕ). is_late (op_at ops a).position) (sym e) ∙ inst_regs) in
         pushes_then (Off s slotted) old.edits z.edits m.edits
-        (before_off late here t old j there w z prev (omega (arith, le)) (λ lt e. out (omega (arith, lt)) e) L grows)
+        (before_off prev (omega (arith, le)) (λ lt e. out (omega (arith, lt)) e) L grows)
         (one_off j there list w u z m (other_number j ne) (omega (arith, le)) one at.ready.located.whole g)
 
     -- once it is allocated
-    pub pass_into : (late : Bool) (here : List Place) (t : InstRegs) (old : StateValue) → is_late (op_at ops d).position ≡ late → NoMoveTo s (moves old) →
+    pub pass_into : {late : Bool} {here : List Place} {t : InstRegs} {old : StateValue} → is_late (op_at ops d).position ≡ late → NoMoveTo s (moves old) →
         Bare late 0 here t old →
-        (k : ℕ) (list : List Place) (u : InstRegs) (m : StateValue) → ProcessesOperandsAt i ret late ops here t old k list u m → k ≤ length ops → d < k →
+        {k : ℕ} {list : List Place} {u : InstRegs} {m : StateValue} → ProcessesOperandsAt i ret late ops here t old k list u m → k ≤ length ops → d < k →
         Grown AnyPlace m final → slot_in m v.number ≡ s → Full late k list u m
-    pass_into late here t old of_pass none L k list u m none_placed = λ le lt g at. absurd (omega (arith, lt))
-    pass_into late here t old of_pass none L k list u m (of_other j there w y prev other) = λ le lt g at.
+    pass_into of_pass none L none_placed = λ le lt g at. absurd (omega (arith, lt))
+    pass_into {late} {here} {t} {old} of_pass none L {list} {u} {m} (of_other j there w y prev other) = λ le lt g at.
         let ne : d ≢ j = λ e. other (ap (λ (a : ℕ). is_late (op_at ops a).position) (sym e) ∙ of_pass) in
         laid_pass Known insts placesf i 0 Into ops lived clob ret orderly late j list u m
-        (pass_into late here t old of_pass none L j there w y prev (omega (arith, le)) (omega (arith, lt, ne)) g at) other
-    pass_into late here t old of_pass none L k list u m (one_placed j there next w y z q prev inst_regs one) = λ le lt g at.
+        (pass_into of_pass none L prev (omega (arith, le)) (omega (arith, lt, ne)) g at) other
+    pass_into {late} {here} {t} {old} of_pass none L {list} {u} {m} (one_placed j there next w y z q prev inst_regs one) = λ le lt g at.
         let bare : Bare late j there w z = laid_all Known insts placesf i 0 Nothing ops lived clob ret orderly late here t old j there w z prev
         (omega (arith, le)) L in
         let grows : Grown AnyPlace z final = grown_then AnyPlace z m final (one_grown AnyPlace i tt ret ops j there list w u z m one) g in
@@ -217,7 +217,7 @@ module _ (Known : VirtualRegister → Type 0) (insts : ℕ → InstValue) (place
               (opt_none (place_in z v.number) (bare.ready.located.placed.gone v.number gone)) in
               let stays = one_out v.number i ret ops j there list w u z m (omega (arith, le)) (other_number j ne) one absent in
               laid_one_more Known insts placesf i 0 Into ops lived clob ret orderly late j there list w u z m (omega (arith, le)) inst_regs one
-              (pass_into late here t old of_pass none L j there w z prev (omega (arith, le)) lj grows (sym stays.1 ∙ at)))
+              (pass_into of_pass none L prev (omega (arith, le)) lj grows (sym stays.1 ∙ at)))
         ]
       where
         had_turn : (b : Bool) (a : ℕ) → is_late (op_at ops d).position ≡ b → d < a → Turned ops b a d
@@ -231,7 +231,7 @@ module _ (Known : VirtualRegister → Type 0) (insts : ℕ → InstValue) (place
         at_turn late here t old none L j there list w u z m prev less e inst_regs bare one g at =
             let grows : Grown AnyPlace z final = grown_then AnyPlace z m final (one_grown AnyPlace i tt ret ops j there list w u z m one) g in
             let quiet : NoMoveTo s (moves z) = off_none s slotted (after i) old.edits z.edits
-            (before_off late here t old j there w z prev (omega (arith, less)) (λ lt h. absurd (omega (arith, lt, e))) L grows) none in
+            (before_off prev (omega (arith, less)) (λ lt h. absurd (omega (arith, lt, e))) L grows) none in
             let next : Bare late (j + 1) list u m = laid_one_more Known insts placesf i 0 Nothing ops lived clob ret orderly late j there list w u z m less
             inst_regs one bare in
             let done : next.done d ≡ true = next.all d (within, inl def)

@@ -12,7 +12,6 @@ use Rattle.regalloc2_function.specs.OutputValue.{place_at}
 use Rattle.regalloc2_semantics.specs.Listing.{with_moves}
 use Rattle.regalloc2_semantics.specs.Carry.{Carries, is_clobbered, Untouched}
 use Rattle.regalloc2_semantics.specs.BlockByPoints.{AllFrom, at_point, walked, listed}
-use Rattle.regalloc2_semantics.specs.Instruction.{Knows}
 use Rattle.regalloc2_semantics.specs.OperandsPlaced.{Need, located, in_slot, made}
 use Rattle.regalloc2_semantics.proofs.Points.{at_point-none}
 use Rattle.regalloc2_semantics.proofs.CarryRules.{carries_weaken}
@@ -23,8 +22,7 @@ use Rattle.regalloc2_fastalloc_proofs.specs.InstSteps.{StateValue, AllocsInst, e
 use Rattle.regalloc2_fastalloc_proofs.proofs.Safety.StepsKeepState.{place_in, slot_in}
 use Rattle.regalloc2_fastalloc_proofs.proofs.Operands.RecordOverState.{stands_at, slots_at, opt_none}
 use Rattle.regalloc2_fastalloc_proofs.proofs.Inst.AcrossInst.{lives_in}
-use Rattle.regalloc2_fastalloc_proofs.proofs.Operands.RecordOfInst.{Orderly}
-use Rattle.regalloc2_fastalloc_proofs.proofs.Inst.BoundaryToFirstOperand.{AvoidClobbers, CarriedBut, opened}
+use Rattle.regalloc2_fastalloc_proofs.proofs.Inst.BoundaryToFirstOperand.{CarriedBut, opened}
 use Rattle.regalloc2_fastalloc_proofs.proofs.Inst.LastOperandToBoundary.{closed}
 use Rattle.regalloc2_fastalloc_proofs.proofs.Operands.DefinedNumbers.{defined_by, defined_by-at}
 use Rattle.regalloc2_fastalloc_proofs.proofs.Operands.AllOperands.{laid_all, laid_over}
@@ -32,14 +30,15 @@ use Rattle.regalloc2_fastalloc_proofs.proofs.Moves.StepsAppendEdits.{pushes_then
 use Rattle.regalloc2_fastalloc_proofs.proofs.Slots.StepsKeepSlots.{Grown, grown_then, placed_grown, moves_grown}
 use Rattle.regalloc2_fastalloc_proofs.proofs.Walk.LastInstAndRest.{AnyPlace}
 use Rattle.regalloc2_fastalloc_proofs.proofs.Inst.OneInstCarries.{Between, Alone, alone, carried_nil, Needed}
+use Rattle.regalloc2_fastalloc_proofs.proofs.Inst.ProperInsts.{ProperInsts}
 use Rattle.regalloc2_debug_proofs.proofs.UnnamedStaysUnlocated.{Absent, out_then, placed_out, moves_out, whole_absent}
 use Rattle.regalloc2_debug_proofs.proofs.DefStoresIntoSlot.{Off, fixed_off, all_off, off_none}
 use Rattle.regalloc2_debug_proofs.proofs.DefLeavesValueInSlot.{Into, Bare, Full, before_off, pass_into, other_number, slotted}
 
 module _ (Known : VirtualRegister → Type 0) (f : FunctionValue) (placesf : ℕ → List Place)
-    (orderly : (i : ℕ) → i < length f.insts → Orderly (inst_at f i).operands)
-    (avoids : (i : ℕ) → i < length f.insts → AvoidClobbers (inst_at f i).operands (inst_at f i).clobbers)
-    (knows : (i : ℕ) → i < length f.insts → Knows Known (inst_at f i).operands) where
+    (proper : ProperInsts Known f) where
+  open proper use {orderly, avoids, knows}
+
   module _ (i : ℕ) (blank here : List Place) (old new : StateValue) (lt : i < length f.insts)
       (at : (k : ℕ) → k < length (inst_at f i).operands → place_at (placesf i) k ≡ slice_index_or here k NoPlace)
       (b : Between (i + 1) old) (a : AllocsInst i (inst_at f i) blank here old new) (plain : ends_block (inst_at f i) ≡ false)
@@ -60,8 +59,8 @@ module _ (Known : VirtualRegister → Type 0) (f : FunctionValue) (placesf : ℕ
     abbrev FullAt : Bool → ℕ → List Place → InstRegs → StateValue → Type 0
     FullAt = Full Known (inst_at f) placesf i ops (lives_in old) clob (ends_block (inst_at f i)) (orderly i lt) plain d within def n
 
-    by_itself : Alone Known f placesf orderly avoids knows i old new
-    by_itself = alone Known f placesf orderly avoids knows i blank here old new lt at b a
+    by_itself : Alone Known f placesf proper i old new
+    by_itself = alone Known f placesf proper i blank here old new lt at b a
 
     begun : BareAt true 0 blank a.quiet a.after_clobbers
     begun = opened Known (inst_at f) placesf (λ w p. ⊥) i 0 (inst_at f i) blank here old new (orderly i lt) (avoids i lt)
@@ -69,7 +68,7 @@ module _ (Known : VirtualRegister → Type 0) (f : FunctionValue) (placesf : ℕ
         (record {
           whole = b.whole;
           later = b.later;
-          claims = λ w known. carried_nil Known f placesf orderly avoids knows (λ u p. ⊥) (i + 1) old
+          claims = λ w known. carried_nil Known f placesf proper (λ u p. ⊥) (i + 1) old
               (Needed (λ x. false) old) (λ u p h. absurd h) w;
           fit = b.fit;
           apart = b.apart;
@@ -123,10 +122,10 @@ module _ (Known : VirtualRegister → Type 0) (f : FunctionValue) (placesf : ℕ
         let absent : Absent v.number a.after_late = whole_absent v.number a.after_late late_done.ready.located.whole
         (opt_none (place_in a.after_late v.number) (late_done.ready.located.placed.gone v.number gone)) in
         let stays = out_then v.number a.after_late a.after_early new
-        (placed_out v.number i (ends_block (inst_at f i)) false ops a.half a.late a.after_late (length ops) (omega arith)
+        (placed_out v.number (length ops) (omega arith)
         (λ k few c e. other_number Known (inst_at f) placesf i ops (lives_in old) clob (ends_block (inst_at f i)) (orderly i lt) plain d within def n new
         by_itself.between.whole mine k (λ same. let y : true ≡ false = sym late ∙ ap (λ (m : ℕ). is_late (op_at ops m).position) (sym same) ∙ e in cc) c)
-        (length ops) here a.early a.after_early a.earlies (omega arith))
+        a.earlies (omega arith))
         (moves_out v.number (before i) ops here a.early a.after_early (length ops) a.ended new a.moves) absent in
         laid_all Known (inst_at f) placesf i 0 (Into Known (inst_at f) placesf i ops (lives_in old) clob (ends_block (inst_at f i))
         (orderly i lt) plain d within def
@@ -136,9 +135,8 @@ module _ (Known : VirtualRegister → Type 0) (f : FunctionValue) (placesf : ℕ
         (orderly i lt) plain d within
         def n) ops (lives_in old) clob (ends_block (inst_at f i)) (orderly i lt) a.half a.late a.after_late
         (pass_into Known (inst_at f) placesf i ops (lives_in old) clob (ends_block (inst_at f i))
-        (orderly i lt) plain d within def n new by_itself.between.whole mine
-        true blank a.quiet a.after_clobbers late none_begun begun
-        (length ops) a.half a.late a.after_late a.lates (omega arith) within grown_early (sym stays.1 ∙ mine)))
+        (orderly i lt) plain d within def n new by_itself.between.whole mine late none_begun begun a.lates (omega arith) within grown_early
+        (sym stays.1 ∙ mine)))
 
     -- or early
     all_early : is_late (op_at ops d).position ≡ false → FullAt false (length ops) here a.early a.after_early
@@ -151,12 +149,11 @@ module _ (Known : VirtualRegister → Type 0) (f : FunctionValue) (placesf : ℕ
         a.after_late.edits
         (before_off Known (inst_at f) placesf i ops (lives_in old) clob (ends_block (inst_at f i))
         (orderly i lt) plain d within def n new by_itself.between.whole
-        mine true blank a.quiet a.after_clobbers (length ops) a.half a.late a.after_late a.lates (omega arith)
+        mine a.lates (omega arith)
         (λ less e. let y : true ≡ false = sym e ∙ early in cc) begun grown_early) none_begun in
         pass_into Known (inst_at f) placesf i ops (lives_in old) clob (ends_block (inst_at f i))
-        (orderly i lt) plain d within def n new by_itself.between.whole mine
-        false a.half a.late a.after_late early quiet early_begun
-        (length ops) here a.early a.after_early a.earlies (omega arith) within grown_moved (sym stays.1 ∙ mine)
+        (orderly i lt) plain d within def n new by_itself.between.whole mine early quiet early_begun a.earlies (omega arith) within grown_moved
+        (sym stays.1 ∙ mine)
 
     all_placed : FullAt false (length ops) here a.early a.after_early
     all_placed = elim (cases_Bool (is_late (op_at ops d).position)) [ inl late ↦ all_late late | inr early ↦ all_early early ]

@@ -115,7 +115,7 @@ module _ (i : ℕ) (ret : Bool) (ops : List OperandValue) (orderly : Orderly ops
       pass_at late here t old of_pass long absent first j list u m prev (omega (arith, le)) (omega (arith, lt, ne)) real
   pass_at late here t old of_pass long absent first n list u m (one_placed j l next w y s z prev inst_regs one) = λ le lt real. elim (cases_eq j k) [
     | inl e ↦ (
-        let there = (placed_out x i ret late ops here t old k (omega (arith, within)) first j l w s prev (omega (arith, e))) absent in
+        let there = (placed_out x k (omega (arith, within)) first prev (omega (arith, e))) absent in
         let less : k < length l = (let q = places_long i ret late ops here t old j l w s prev in omega (arith, q, long, within)) in
         inl (turn_at l list w u s m less there.0 (subst (λ (z : ℕ). ProcessesOperand i ret ops z l list w u s m) e one)))
     | inr ne ↦ (
@@ -181,9 +181,7 @@ reads_at i inst blank here old new orderly x k within reads is first a absent re
         a.half a.late a.after_late a.lates (omega arith) within (λ z. real (same ∙ z)))
         (length inst.operands) here a.early a.after_early a.earlies (omega arith) real
     by_first (early_first of_early no_late sooner) b =
-        let c = placed_out x i (ends_block inst) true inst.operands blank a.quiet a.after_clobbers (length inst.operands) (omega arith) no_late
-        (length inst.operands)
-        a.half a.late a.after_late a.lates (omega arith) b in
+        let c = placed_out x (length inst.operands) (omega arith) no_late a.lates (omega arith) b in
         pass_at i (ends_block inst) inst.operands orderly x k within reads is false a.half a.late a.after_late of_early long_half c.0 sooner
         (length inst.operands)
         here a.early a.after_early a.earlies (omega arith) within real

@@ -9,7 +9,6 @@ use Rattle.regalloc2_function.specs.OutputValue.{place_at}
 use Rattle.regalloc2_names.specs.Operand.{is_def, is_reading}
 use Rattle.regalloc2_function.specs.WellFormed.{BlocksFollow, BlocksEnd, last_of}
 use Rattle.regalloc2_names.specs.Register.{VirtualRegister}
-use Rattle.regalloc2_semantics.specs.Instruction.{Knows}
 use Rattle.regalloc2_semantics.specs.OperandsPlaced.{Counts}
 use Rattle.regalloc2_semantics.proofs.Order.{ends_within}
 use Rattle.regalloc2_validate.specs.Constraints.{op_at}
@@ -17,13 +16,12 @@ use Rattle.regalloc2_fastalloc_proofs.specs.InstSteps.{StateValue}
 use Rattle.regalloc2_fastalloc_proofs.specs.BlockStart.{no_vreg}
 use Rattle.regalloc2_fastalloc_proofs.specs.BlockSteps.{AllocsInstInBlock, AllocsBlockInsts, at_end, one_in, AllocsBlocks, all_left, one_block}
 use Rattle.regalloc2_fastalloc_proofs.proofs.Safety.StepsKeepState.{place_in, slot_in}
-use Rattle.regalloc2_fastalloc_proofs.proofs.Operands.RecordOfInst.{Orderly}
-use Rattle.regalloc2_fastalloc_proofs.proofs.Inst.BoundaryToFirstOperand.{AvoidClobbers}
 use Rattle.regalloc2_fastalloc_proofs.proofs.Walk.InstsCarry.{AreListed}
 use Rattle.regalloc2_fastalloc_proofs.proofs.Slots.StepsKeepSlots.{Grown, IsAt, grown_then, cases_none}
 use Rattle.regalloc2_fastalloc_proofs.proofs.Safety.StateKept.{ends_in_branch}
 use Rattle.regalloc2_fastalloc_proofs.proofs.Walk.InstBoundaries.{BranchKept, IsEdge, grown_weaken, in_grown, edge_next}
 use Rattle.regalloc2_fastalloc_proofs.proofs.Walk.LastInstAndRest.{AnyPlace, listed_behind}
+use Rattle.regalloc2_fastalloc_proofs.proofs.Inst.ProperInsts.{ProperInsts}
 use Rattle.regalloc2_debug_proofs.proofs.UnnamedStaysUnlocated.{Absent, IsUnpassed, inst_out, begun_absent}
 use Rattle.regalloc2_debug_proofs.proofs.LocatedStaysOrHasSlot.{Holds, hold_then, allocates_hold, branch_hold}
 use Rattle.regalloc2_debug_proofs.proofs.InstWithinWalk.{Met, IsBefore}
@@ -49,11 +47,11 @@ pub record Stays (placesf : ℕ → List Place) (x id il ko j : ℕ) (t : StateV
   pub there : id < j → j ≤ il → place_in t x ≡ place_at (placesf il) ko
 
 module _ (Known : VirtualRegister → Type 0) (f : FunctionValue)
-    (orderly : (i : ℕ) → i < length f.insts → Orderly (inst_at f i).operands)
-    (avoids : (i : ℕ) → i < length f.insts → AvoidClobbers (inst_at f i).operands (inst_at f i).clobbers)
-    (knows : (i : ℕ) → i < length f.insts → Knows Known (inst_at f i).operands) (kept : BranchKept f) (follow : BlocksFollow f) (ends : BlocksEnd f)
+    (proper : ProperInsts Known f) (kept : BranchKept f) (follow : BlocksFollow f) (ends : BlocksEnd f)
     (placesf : ℕ → List Place)
     (final : StateValue) (x id il ko : ℕ) (un : IsUnslotted f placesf final x id il ko) where
+  open proper use {orderly}
+
   -- it had no slot before either
   pub none_before : (t : StateValue) → Grown AnyPlace t final → slot_in t x ≡ NoPlace
   none_before t g = elim (cases_none (slot_in t x)) [
@@ -99,11 +97,11 @@ module _ (Known : VirtualRegister → Type 0) (f : FunctionValue)
         elim (h.same (λ z. un.real (sym at ∙ z))) [ inl e ↦ (e ∙ at) | inr has ↦ absurd (has (none_before u rest)) ]
 
     -- one instruction of the walk keeps it: from where x is before the next instruction to where it is before this one
-    pub step_stays : (j : ℕ) (p q : List Place) (s u : StateValue) → (block_at f b).range.first ≤ j → j < (block_at f b).range.end →
+    pub step_stays : {j : ℕ} {p q : List Place} {s u : StateValue} → (block_at f b).range.first ≤ j → j < (block_at f b).range.end →
         (a : AllocsInstInBlock f b j p q s u) → ((k : ℕ) → k < length (inst_at f j).operands →
         place_at (placesf j) k ≡ slice_index_or a.allocates.here k NoPlace) →
         Grown AnyPlace u final → Stays placesf x id il ko (j + 1) s → Stays placesf x id il ko j u
-    step_stays j p q s u ge less a at rest h = record {
+    step_stays {j} {p} {q} {s} {u} ge less a at rest h = record {
       after_it = λ behind. past j p q s u ge less behind a (h.after_it (omega (arith, behind)));
       there = λ low high. elim (cases_eq j il) [
         | inl e ↦ subst (λ (m : ℕ). Lasts m p q s u) (sym e) (at_last p q s u) (of_function j less) a at rest (h.after_it (omega (arith, e)))
@@ -112,16 +110,16 @@ module _ (Known : VirtualRegister → Type 0) (f : FunctionValue)
     }
 
     -- down to an instruction
-    pub in_stays : (blank : List Place) (old : StateValue) → Stays placesf x id il ko (block_at f b).range.end old →
-        (j : ℕ) (places : List Place) (t : StateValue) → AllocsBlockInsts f b blank old j places t → AreListed f placesf j places → Grown AnyPlace t final →
+    pub in_stays : {blank : List Place} {old : StateValue} → Stays placesf x id il ko (block_at f b).range.end old →
+        {j : ℕ} {places : List Place} {t : StateValue} → AllocsBlockInsts f b blank old j places t → AreListed f placesf j places → Grown AnyPlace t final →
         Stays placesf x id il ko j t
-    in_stays blank old h j places t at_end = λ are rest. h
-    in_stays blank old h j places t (one_in k p q s u ge less prev a) = λ are rest.
-        step_stays k p q s u ge less a (λ m few. are k (omega arith) (of_function k less) m few ∙ a.allocates.inside m few) rest
-        (in_stays blank old h (k + 1) p s prev (listed_behind Known f orderly avoids knows kept follow ends placesf final b k p q s u (of_function k less) a
+    in_stays h at_end = λ are rest. h
+    in_stays {blank} {old} h (one_in k p q s u ge less prev a) = λ are rest.
+        step_stays ge less a (λ m few. are k (omega arith) (of_function k less) m few ∙ a.allocates.inside m few) rest
+        (in_stays h prev (listed_behind Known f proper kept follow ends placesf final b k p q s u (of_function k less) a
         are)
         (grown_then AnyPlace s u final (grown_weaken (IsAt k) AnyPlace s u (λ n y. tt)
-        (in_grown Known f orderly avoids knows kept b k p q s u (of_function k less) a)) rest))
+        (in_grown Known f proper kept b k p q s u (of_function k less) a)) rest))
 
     walk_absent : (blank : List Place) (old : StateValue) → Absent x old → (j : ℕ) (places : List Place) (t : StateValue) →
         AllocsBlockInsts f b blank old j places t → il < j → Absent x t
@@ -130,15 +128,15 @@ module _ (Known : VirtualRegister → Type 0) (f : FunctionValue)
         λ behind. past k p q s u ge less behind a (walk_absent blank old h (k + 1) p s prev (omega (arith, behind)))
 
   -- the blocks behind its last use
-  pub blocks_absent : (start : List Place) (begin : StateValue) → Absent x begin → (b : ℕ) (places : List Place) (t : StateValue) →
+  pub blocks_absent : {start : List Place} {begin : StateValue} → Absent x begin → {b : ℕ} {places : List Place} {t : StateValue} →
       AllocsBlocks f start begin b places t → (e : ℕ) → IsEdge f b e → il < e → Absent x t
-  blocks_absent start begin h b places t all_left = λ e edge behind. h
-  blocks_absent start begin h b places t (one_block d p q s u w lt prev walk begins) = λ e edge behind.
+  blocks_absent h all_left = λ e edge behind. h
+  blocks_absent {start} {begin} h (one_block d p q s u w lt prev walk begins) = λ e edge behind.
       let first : ℕ = (block_at f d).range.first in
       let end : ℕ = (block_at f d).range.end in
       let some : first < end = (follow d lt).0 in
       let here : il < first = (let z = edge.0 lt in omega (arith, z, behind)) in
-      let before_it : Absent x s = blocks_absent start begin h (d + 1) p s prev end (edge_next f follow d lt) (omega (arith, some, here)) in
+      let before_it : Absent x s = blocks_absent h prev end (edge_next f follow d lt) (omega (arith, some, here)) in
       begun_absent x f d u w (un.params d lt) begins (walk_absent d lt p s before_it first q u walk here)
 
   -- around an instruction that is met
@@ -148,18 +146,17 @@ module _ (Known : VirtualRegister → Type 0) (f : FunctionValue)
     pub old_stays : Stays placesf x id il ko (j + 1) w.old
     old_stays =
         let lt : j < length f.insts = of_function w.block w.within j w.less in
-        in_stays w.block w.within w.end_places w.end_tables
+        in_stays w.block w.within
         (record {
-          after_it = λ behind. blocks_absent start begin absent (w.block + 1) w.end_places w.end_tables w.blocks (block_at f w.block).range.end
+          after_it = λ behind. blocks_absent absent w.blocks (block_at f w.block).range.end
               (edge_next f follow w.block w.within) behind;
           there = λ low high. absurd (omega (arith, high, upto));
-        })
-        (j + 1) w.blank w.old w.inside w.listed
+        }) w.inside w.listed
         (grown_then AnyPlace w.old w.new final (grown_weaken (IsAt j) AnyPlace w.old w.new (λ n y. tt)
-        (in_grown Known f orderly avoids knows kept w.block j w.blank w.places w.old w.new lt w.allocates))
+        (in_grown Known f proper kept w.block j w.blank w.places w.old w.new lt w.allocates))
         (grown_weaken (IsBefore f j) AnyPlace w.new final (λ n y. tt) w.rest))
 
     -- in the state that the walk goes on with, x is where it is before this one
     pub new_stays : Stays placesf x id il ko j w.new
-    new_stays = step_stays w.block w.within j w.blank w.places w.old w.new w.ge w.less w.allocates w.at
+    new_stays = step_stays w.block w.within w.ge w.less w.allocates w.at
         (grown_weaken (IsBefore f j) AnyPlace w.new final (λ n y. tt) w.rest) old_stays

@@ -41,9 +41,10 @@ use Rattle.regalloc2_fastalloc_proofs.proofs.Walk.LastInstAndRest.{AnyPlace}
 use Rattle.regalloc2_fastalloc_proofs.proofs.Operands.RecordOverState.{opt, opt_some, opt_from}
 use Rattle.regalloc2_fastalloc_proofs.proofs.Safety.BranchArgsKeepState.{passes_between}
 use Rattle.regalloc2_fastalloc_proofs.proofs.Walk.InstForOneVReg.{needed_parts, parts_needed}
+use Rattle.regalloc2_fastalloc_proofs.proofs.Inst.ProperInsts.{all_proper}
 use Rattle.regalloc2_debug_proofs.specs.SlotHoldsValue.{ShowsAt}
 use Rattle.regalloc2_debug_proofs.proofs.UnnamedStaysUnlocated.{Absent}
-use Rattle.regalloc2_debug_proofs.proofs.SlotHoldsDefinedValue.{all_orderly, all_avoid, all_known, branch, rising, met_at, listed_at, allocated, by_itself}
+use Rattle.regalloc2_debug_proofs.proofs.SlotHoldsDefinedValue.{branch, rising, met_at, listed_at, allocated, by_itself}
 use Rattle.regalloc2_debug_proofs.proofs.SlotHoldsDefinedValue.{from_nowhere, front_of}
 use Rattle.regalloc2_debug_proofs.proofs.InstOnPath.{Fronts, front, onward_front, carried_on, behind, moves_on}
 use Rattle.regalloc2_debug_proofs.proofs.SlotHoldsToUses.{IsPlain, start_path, goes_live, goes_source}
@@ -131,18 +132,18 @@ module _ (env : MachineValue) (f : FunctionValue) (limited : IsLimited f) (ok : 
 
   old_at : (j : ℕ) (w : MetAt j) → id ≤ j → j < il → place_in w.old v.number ≡ p
   old_at j w low high =
-      (old_stays (Made f) f (all_orderly env f limited ok) (all_avoid env f limited ok) (all_known env f limited ok) (branch env f limited ok) ok.follow ok.end
+      (old_stays (Made f) f (all_proper env f limited ok) (branch env f limited ok) ok.follow ok.end
       (allocs_of out) last v.number id il ko un blank begin begins j w (upto j w low (omega (arith, high)))).there
       (omega (arith, low)) (omega (arith, high))
 
   new_at : (j : ℕ) (w : MetAt j) → id < j → j ≤ il → place_in w.new v.number ≡ p
   new_at j w low high =
-      (new_stays (Made f) f (all_orderly env f limited ok) (all_avoid env f limited ok) (all_known env f limited ok) (branch env f limited ok) ok.follow ok.end
+      (new_stays (Made f) f (all_proper env f limited ok) (branch env f limited ok) ok.follow ok.end
       (allocs_of out) last v.number id il ko un blank begin begins j w (upto j w (omega (arith, low)) high)).there low high
 
   none_new : (j : ℕ) (w : MetAt j) → slot_in w.new v.number ≡ NoPlace
   none_new j w =
-      none_before (Made f) f (all_orderly env f limited ok) (all_avoid env f limited ok) (all_known env f limited ok) (branch env f limited ok) ok.follow ok.end
+      none_before (Made f) f (all_proper env f limited ok) (branch env f limited ok) ok.follow ok.end
       (allocs_of out) last v.number id il ko un w.new
       (grown_weaken (IsBefore f j) AnyPlace w.new last (λ n y. tt) w.rest)
 
@@ -199,7 +200,7 @@ module _ (env : MachineValue) (f : FunctionValue) (limited : IsLimited f) (ok : 
       last.edits (λ e h is. elim h [ inl before_it ↦ omega (arith, before_it, is) | inr at ↦ not_start j w low high at.1 ])
       (grown_pushes (IsBefore f j) w.new last w.rest) in
       ap (λ es. after_moves (at_point es (before j)) c p) m.edits ∙ ap (λ ms. after_moves ms c p) same
-      ∙ observed (Made f) f (allocs_of out) (all_orderly env f limited ok) (all_avoid env f limited ok) (all_known env f limited ok) j
+      ∙ observed (Made f) f (allocs_of out) (all_proper env f limited ok) j
       w.allocates.allocates.blank w.allocates.allocates.here w.old w.new lt w.behind
       (allocated env f limited ok blank begin last out empty fit walks m j w flat) v known p un.real (new_at j w low high) (none_new j w) (source_before f ws) c
       held

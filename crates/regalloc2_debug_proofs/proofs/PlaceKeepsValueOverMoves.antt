@@ -16,7 +16,7 @@ use Rattle.regalloc2_semantics.specs.Listing.{Item, with_moves}
 use Rattle.regalloc2_semantics.specs.Listing.Item.{Exec}
 use Rattle.regalloc2_semantics.specs.Carry.{Carries, CarriesFrom, is_clobbered}
 use Rattle.regalloc2_semantics.specs.BlockByPoints.{at_point, walked, after_part, listed}
-use Rattle.regalloc2_semantics.specs.Instruction.{Claims, Knows}
+use Rattle.regalloc2_semantics.specs.Instruction.{Claims}
 use Rattle.regalloc2_semantics.specs.OperandsPlaced.{what_of, Counts, Pending, still, slotted, used}
 use Rattle.regalloc2_semantics.proofs.Points.{all_from-less}
 use Rattle.regalloc2_semantics.proofs.MoveInFront.{walked-none, before_part-clean}
@@ -28,13 +28,14 @@ use Rattle.regalloc2_fastalloc_proofs.proofs.Safety.StepsKeepState.{place_in, sl
 use Rattle.regalloc2_fastalloc_proofs.proofs.Operands.RecordOverState.{stands_at, slots_at, opt, opt_some, opt_from}
 use Rattle.regalloc2_fastalloc_proofs.proofs.Evictions.EvictVReg.{kept_all}
 use Rattle.regalloc2_fastalloc_proofs.proofs.Inst.AcrossInst.{lives_in}
-use Rattle.regalloc2_fastalloc_proofs.proofs.Operands.RecordOfInst.{Orderly, Laid}
+use Rattle.regalloc2_fastalloc_proofs.proofs.Operands.RecordOfInst.{Laid}
 use Rattle.regalloc2_fastalloc_proofs.proofs.Moves.UsesMoved.{Moves, moves_done}
-use Rattle.regalloc2_fastalloc_proofs.proofs.Inst.BoundaryToFirstOperand.{AvoidClobbers, opened}
+use Rattle.regalloc2_fastalloc_proofs.proofs.Inst.BoundaryToFirstOperand.{opened}
 use Rattle.regalloc2_fastalloc_proofs.proofs.Inst.LastOperandToBoundary.{turned_all}
 use Rattle.regalloc2_fastalloc_proofs.proofs.Slots.StepsKeepSlots.{cases_none}
 use Rattle.regalloc2_fastalloc_proofs.proofs.Operands.AllOperands.{laid_both}
 use Rattle.regalloc2_fastalloc_proofs.proofs.Inst.OneInstCarries.{Between, carried_nil, Needed}
+use Rattle.regalloc2_fastalloc_proofs.proofs.Inst.ProperInsts.{ProperInsts}
 use Rattle.regalloc2_debug_proofs.proofs.UnnamedStaysUnlocated.{moves_out, whole_absent}
 use Rattle.regalloc2_debug_proofs.proofs.LocatedStaysOrHasSlot.{moves_hold}
 
@@ -48,9 +49,9 @@ nothing_carried v ms L e = carries_moves v ms L (λ p. ⊥) (λ p. ⊥) (λ p. �
     (subst (λ l. Carries v l (λ p. ⊥) (λ p. ⊥)) (sym e) (carries_nil v (λ p. ⊥) (λ p. ⊥) (λ p h. h)))
 
 module _ (Known : VirtualRegister → Type 0) (f : FunctionValue) (placesf : ℕ → List Place)
-    (orderly : (i : ℕ) → i < length f.insts → Orderly (inst_at f i).operands)
-    (avoids : (i : ℕ) → i < length f.insts → AvoidClobbers (inst_at f i).operands (inst_at f i).clobbers)
-    (knows : (i : ℕ) → i < length f.insts → Knows Known (inst_at f i).operands) where
+    (proper : ProperInsts Known f) where
+  open proper use {orderly, avoids}
+
   module _ (i : ℕ) (blank here : List Place) (old new : StateValue) (lt : i < length f.insts) (b : Between (i + 1) old)
       (a : AllocsInst i (inst_at f i) blank here old new)
       (v : VirtualRegister) (known : Known v) (p : Place) (real : p ≢ NoPlace) (alloc_of : place_in new v.number ≡ p)
@@ -72,11 +73,11 @@ module _ (Known : VirtualRegister → Type 0) (f : FunctionValue) (placesf : ℕ
         (orderly i lt) blank
         a.half here a.quiet a.late a.early a.after_clobbers a.after_late t a.lates a.earlies
         (opened Known (inst_at f) placesf (λ w q. ⊥) i 0 (inst_at f i) blank here old new (orderly i lt) (avoids i lt)
-        (λ e w k. carried_nil Known f placesf orderly avoids knows (λ u q. ⊥) (i + 1) old (λ u q. ⊥) (λ u q h. h) w)
+        (λ e w k. carried_nil Known f placesf proper (λ u q. ⊥) (i + 1) old (λ u q. ⊥) (λ u q h. h) w)
         (record {
           whole = b.whole;
           later = b.later;
-          claims = λ w k. carried_nil Known f placesf orderly avoids knows (λ u q. ⊥) (i + 1) old
+          claims = λ w k. carried_nil Known f placesf proper (λ u q. ⊥) (i + 1) old
               (Needed (λ x. false) old) (λ u q h. absurd h) w;
           fit = b.fit;
           apart = b.apart;

@@ -39,8 +39,9 @@ use Rattle.regalloc2_fastalloc_proofs.proofs.Safety.BlocksKeepSafe.{MayInBlocks}
 use Rattle.regalloc2_fastalloc_proofs.proofs.Moves.ScratchRegTaken.{Fit}
 use Rattle.regalloc2_fastalloc_proofs.proofs.Walk.DefsBeforeUses.{used_made}
 use Rattle.regalloc2_fastalloc_proofs.proofs.Safety.BranchArgsKeepState.{passes_between}
+use Rattle.regalloc2_fastalloc_proofs.proofs.Inst.ProperInsts.{all_proper}
 use Rattle.regalloc2_debug_proofs.specs.ShownPlace.{operand_place, shown_place}
-use Rattle.regalloc2_debug_proofs.proofs.SlotHoldsDefinedValue.{all_known, defined_shows, met_at}
+use Rattle.regalloc2_debug_proofs.proofs.SlotHoldsDefinedValue.{defined_shows, met_at}
 use Rattle.regalloc2_debug_proofs.proofs.OperandPlaceHoldsValue.{register_shows}
 use Rattle.regalloc2_debug_proofs.proofs.SlotAfterWalk.{left_slot_shows}
 use Rattle.regalloc2_debug_proofs.proofs.SlotAtBlockBegin.{AreAtBegin, entered_shows}
@@ -98,7 +99,8 @@ module _ (env : MachineValue) (f : FunctionValue) (limited : IsLimited f) (ok : 
     -- by number
     read_is : (j k : ℕ) → j < length f.insts → k < length (inst_at f j).operands → is_reading (op_at (inst_at f j).operands k) ≡ true →
         (op_at (inst_at f j).operands k).vreg.number ≡ v.number → (op_at (inst_at f j).operands k).vreg ≡ v
-    read_is j k jl less rd e = one_made f ok.defined_once (op_at (inst_at f j).operands k).vreg v ((all_known env f limited ok j jl).reading k less rd) known e
+    read_is j k jl less rd e = one_made f ok.defined_once (op_at (inst_at f j).operands k).vreg v (((all_proper env f limited ok).knows j jl).reading k less
+        rd) known e
 
     module _ (id d : ℕ) (at : defined.DefinesAt f v.number id d) where
       sooner : id < il

@@ -60,12 +60,13 @@ use Rattle.regalloc2_fastalloc_proofs.proofs.Walk.DefsBeforeUses.{param_before}
 use Rattle.regalloc2_fastalloc_proofs.proofs.Walk.InstBoundaries.{grown_weaken, grown_slots, grown_pushes}
 use Rattle.regalloc2_fastalloc_proofs.proofs.Walk.InstsCarry.{AreListed, Blank}
 use Rattle.regalloc2_fastalloc_proofs.proofs.Walk.LastInstAndRest.{AnyPlace}
+use Rattle.regalloc2_fastalloc_proofs.proofs.Inst.ProperInsts.{all_proper}
 use Rattle.regalloc2_debug_proofs.specs.SlotHoldsValue.{IsReadIn, ShowsAt}
 use Rattle.regalloc2_debug_proofs.proofs.BlockWithinWalk.{MetBlock, meet_block, pushed_front}
 use Rattle.regalloc2_debug_proofs.proofs.InstOnPath.{moves_append}
 use Rattle.regalloc2_debug_proofs.proofs.PathStepLeaves.{read_shows}
 use Rattle.regalloc2_debug_proofs.proofs.SlotAfterWalk.{own_alone}
-use Rattle.regalloc2_debug_proofs.proofs.SlotHoldsDefinedValue.{all_orderly, all_avoid, all_known, branch, some_block, are_listed}
+use Rattle.regalloc2_debug_proofs.proofs.SlotHoldsDefinedValue.{branch, some_block, are_listed}
 use Rattle.regalloc2_debug_proofs.proofs.WellFormedPaths.{inst_lt, within}
 
 -- What is known where blocks begin: where the values of virtual registers are then, on every path, and that the tables are safe all along the walk.
@@ -105,8 +106,8 @@ module _ (env : MachineValue) (f : FunctionValue) (fits : MachineFits f env) (li
 
     -- the block in the walk
     w : MetBlock f (allocs_of out) blank begin b last
-    w = meet_block (Made f) f (all_orderly env f limited ok) (all_avoid env f limited ok) (all_known env f limited ok) (branch env f limited ok) ok.follow
-        ok.end (allocs_of out) blank begin last b lb 0 out.allocs last walks 0 (first_edge f ok.follow (some_block env f limited ok))
+    w = meet_block (Made f) f (all_proper env f limited ok) (branch env f limited ok) ok.follow
+        ok.end (allocs_of out) blank begin last b lb walks 0 (first_edge f ok.follow (some_block env f limited ok))
         places_listed (grown_none (IsBelow 0) last last refl) (omega arith)
 
     -- the tables once its reloads are pushed
@@ -161,8 +162,8 @@ module _ (env : MachineValue) (f : FunctionValue) (fits : MachineFits f env) (li
 
     module _ (used : IsUsedElsewhere f v) (somewhere : UsedSomewhere f v) where
       has_slot : (j : ℕ) → j < length (block_at f b).params → slice_index_or (block_at f b).params j no_vreg ≡ v → slot_in reloaded v.number ≢ NoPlace
-      has_slot j less is = used_at_begin f ok.defined_once ok.follow ok.end ok.uses_defined (all_orderly env f limited ok) (all_avoid env f limited ok)
-          (all_known env f limited ok) (branch env f limited ok) blank begin (begin_between f begin empty fit) somewhere.block somewhere.within v
+      has_slot j less is = used_at_begin f ok.defined_once ok.follow ok.end ok.uses_defined (all_proper env f limited ok) (branch env f limited ok) blank
+          begin (begin_between f begin empty fit) somewhere.block somewhere.within v
           somewhere.unwritten somewhere.used b lb w.end_places w.places w.end_tables w.tables w.begun w.blocks w.inside w.begins
           (param_before f ok.defined_once ok.follow ok.uses_defined b j v
           (record { block = lb; param = less; number = ap (λ (x : VirtualRegister). x.number) is }) lb somewhere.block somewhere.within somewhere.used)

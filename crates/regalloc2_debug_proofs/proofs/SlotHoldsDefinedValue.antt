@@ -1,19 +1,18 @@
 -- Behind a definition, the slot that its virtual register has at the walk's end shows its value.
 use Rattle.std.proofs.Common.{ℕ, ◌≡◌, ◌+◌, ◌<◌, inl, inr, true, false, List, [], ◌∷◌, ◌++◌, length, refl, sym, ap, ◌∙◌, subst, arith}
 use Rattle.std.specs.Prelude.{slice_index_or}
-use Rattle.std.proofs.lemmas.List.Elements.{All-get_or}
 use Rattle.regalloc2_names.specs.Register.{VirtualRegister}
 use Rattle.regalloc2_names.specs.Operand.{OperandValue, is_def}
 use Rattle.regalloc2_names.specs.Place.{Place, InSlot}
 use Rattle.regalloc2_names.specs.Point.{before}
-use Rattle.regalloc2_function.specs.FunctionValue.{FunctionValue, IsLimited, block_at, inst_at, no_inst}
+use Rattle.regalloc2_function.specs.FunctionValue.{FunctionValue, IsLimited, block_at, inst_at}
 use Rattle.regalloc2_function.specs.Machine.{MachineValue}
 use Rattle.regalloc2_function.specs.OutputValue.{OutputValue, MoveValue, allocs_of}
 use Rattle.regalloc2_function.specs.Path.{Way, Onward, ToSuccessor, end_of, IsPath}
 use Rattle.regalloc2_function.specs.SourceRun.{IsWrittenFirst, arguments_at, source_before}
 use Rattle.regalloc2_function.specs.AllocatedRun.{Cells, cells_before}
 use Rattle.regalloc2_function.specs.DebugPoints.{DefinesAt}
-use Rattle.regalloc2_function.specs.WellFormed.{IsWellFormed, FixedAvoidClobbers, last_of}
+use Rattle.regalloc2_function.specs.WellFormed.{IsWellFormed, last_of}
 use Rattle.regalloc2_semantics.specs.Listing.{Item, executed, op_at, no_operand}
 use Rattle.regalloc2_semantics.specs.Listing.Item.{Move}
 use Rattle.regalloc2_semantics.proofs.CarryRules.{carries_moves}
@@ -21,7 +20,6 @@ use Rattle.regalloc2_semantics.proofs.PushedMoves.{before_part-more, walked-push
 use Rattle.regalloc2_semantics.proofs.MoveInFront.{walked-more, with_moves-more, with_moves-none}
 use Rattle.regalloc2_semantics.specs.Carry.{Carries, Undefined}
 use Rattle.regalloc2_semantics.specs.BlockByPoints.{at_point, walked, before_part, Rising, listed}
-use Rattle.regalloc2_semantics.specs.Instruction.{Knows}
 use Rattle.regalloc2_semantics.specs.Blocks.{target_at, IsSound}
 use Rattle.regalloc2_semantics.specs.Laws.{ReadsAgreeOnPaths}
 use Rattle.regalloc2_semantics.proofs.SingleDef.{Made, one_operand, not_both, reads_defined}
@@ -35,15 +33,11 @@ use Rattle.regalloc2_fastalloc_proofs.specs.InstSteps.{StateValue, AllocsInst}
 use Rattle.regalloc2_fastalloc_proofs.specs.BlockSteps.{AllocsBlocks}
 use Rattle.regalloc2_fastalloc_proofs.proofs.Walk.InstBoundaries.{BranchKept, grown_pushes}
 use Rattle.regalloc2_fastalloc_proofs.proofs.Inst.OneInstCarries.{Alone, alone}
-use Rattle.regalloc2_fastalloc_proofs.proofs.Evictions.FixedAvoidClobbers.{avoids}
 use Rattle.regalloc2_fastalloc_proofs.proofs.Branches.LocationsAfterBranch.{branch_kept}
 use Rattle.regalloc2_fastalloc_proofs.proofs.Operands.AllocsSoFar.{IsTame}
 use Rattle.regalloc2_fastalloc_proofs.proofs.Safety.StoredDefs.{last_within}
 use Rattle.regalloc2_fastalloc_proofs.proofs.Safety.OutputOfWalk.{IsMade, made_in_order, place_is}
 use Rattle.regalloc2_fastalloc_proofs.proofs.Safety.StepsKeepState.{place_in, slot_in}
-use Rattle.regalloc2_fastalloc_proofs.proofs.Operands.RecordOfInst.{Orderly}
-use Rattle.regalloc2_fastalloc_proofs.proofs.Inst.BoundaryToFirstOperand.{AvoidClobbers}
-use Rattle.regalloc2_fastalloc_proofs.proofs.Operands.WellFormedInsts.{orderly, knows}
 use Rattle.regalloc2_fastalloc_proofs.proofs.Operands.DefinedNumbers.{defined_by-at}
 use Rattle.regalloc2_fastalloc_proofs.proofs.Moves.StepsAppendEdits.{Pushes, none_pushed, one_pushed, pushed_walked}
 use Rattle.regalloc2_fastalloc_proofs.proofs.Walk.InstsCarry.{AreListed, Blank}
@@ -52,6 +46,7 @@ use Rattle.regalloc2_fastalloc_proofs.proofs.Moves.ScratchRegTaken.{Fit}
 use Rattle.regalloc2_fastalloc_proofs.proofs.Operands.RecordOverState.{opt_none}
 use Rattle.regalloc2_fastalloc_proofs.proofs.Safety.BranchArgsKeepState.{passes_between}
 use Rattle.regalloc2_fastalloc_proofs.proofs.Walk.AllBlocksCarry.{begin_between, first_edge}
+use Rattle.regalloc2_fastalloc_proofs.proofs.Inst.ProperInsts.{all_proper}
 use Rattle.regalloc2_debug_proofs.specs.SlotHoldsValue.{ShowsAt}
 use Rattle.regalloc2_debug_proofs.proofs.UnnamedStaysUnlocated.{Absent, whole_absent}
 use Rattle.regalloc2_debug_proofs.proofs.InstOnPath.{Fronts, entered_front, onward_front, carried_on, behind, front, moves_on}
@@ -63,18 +58,6 @@ use Rattle.regalloc2_debug_proofs.proofs.DefWithMovesStores.{stores}
 use Rattle.regalloc2_debug_proofs.proofs.MovesLeaveSlot.{moves_fine}
 
 module _ (env : MachineValue) (f : FunctionValue) (limited : IsLimited f) (ok : IsWellFormed env f) where
-  -- each instruction of the function has its operands in order
-  pub all_orderly : (i : ℕ) → i < length f.insts → Orderly (inst_at f i).operands
-  all_orderly = orderly env f limited ok
-
-  -- no register that is reserved at the late position of an instruction is one of its clobbers
-  pub all_avoid : (i : ℕ) → i < length f.insts → AvoidClobbers (inst_at f i).operands (inst_at f i).clobbers
-  all_avoid i lt = avoids (inst_at f i) (All-get_or FixedAvoidClobbers f.insts i no_inst lt ok.fixed)
-
-  -- each vreg that an operand names is one that the function makes
-  pub all_known : (i : ℕ) → i < length f.insts → Knows (Made f) (inst_at f i).operands
-  all_known = knows env f limited ok
-
   -- the arguments of a branch keep what holds between instructions, slots and located vregs
   pub branch : BranchKept f
   branch = branch_kept f ok.counted (passes_between f)
@@ -139,8 +122,8 @@ module _ (env : MachineValue) (f : FunctionValue) (limited : IsLimited f) (ok : 
 
     -- the walk comes to each instruction
     pub met_at : (i : ℕ) → i < length f.insts → Met f (allocs_of out) blank begin i last
-    met_at i lt = meet (Made f) f all_orderly all_avoid all_known branch ok.follow ok.end (allocs_of out) blank begin i (begin_between f begin empty fit) lt 0
-        out.allocs last walks 0 (first_edge f ok.follow some_block) are_listed (omega arith)
+    met_at i lt = meet (Made f) f (all_proper env f limited ok) branch ok.follow ok.end (allocs_of out) blank begin i (begin_between f begin empty fit) lt
+        walks 0 (first_edge f ok.follow some_block) are_listed (omega arith)
 
     -- what is listed for an instruction where no block begins
     pub listed_at : (i : ℕ) (w : Met f (allocs_of out) blank begin i last) → (IsStart f i → ⊥) →
@@ -189,9 +172,9 @@ module _ (env : MachineValue) (f : FunctionValue) (limited : IsLimited f) (ok : 
 
     -- what such an instruction does by itself: the state before it, and what its listing carries
     pub by_itself : (i : ℕ) (w : Met f (allocs_of out) blank begin i last) → i < length f.insts → (inst_at f i).is_branch ≡ false →
-        Alone (Made f) f (allocs_of out) all_orderly all_avoid all_known i w.old w.new
+        Alone (Made f) f (allocs_of out) (all_proper env f limited ok) i w.old w.new
     by_itself i w lt plain =
-        alone (Made f) f (allocs_of out) all_orderly all_avoid all_known i w.allocates.allocates.blank w.allocates.allocates.here w.old w.new lt w.at w.behind
+        alone (Made f) f (allocs_of out) (all_proper env f limited ok) i w.allocates.allocates.blank w.allocates.allocates.here w.old w.new lt w.at w.behind
         (allocated i w plain)
 
     -- an instruction that defines a virtual register stores it in its slot
@@ -202,11 +185,11 @@ module _ (env : MachineValue) (f : FunctionValue) (limited : IsLimited f) (ok : 
     stored i d n lt plain onward less def mine =
         let v : VirtualRegister = (op_at (inst_at f i).operands d).vreg in
         let w : Met f (allocs_of out) blank begin i last = met_at i lt in
-        let here : Alone (Made f) f (allocs_of out) all_orderly all_avoid all_known i w.old w.new = by_itself i w lt plain in
+        let here : Alone (Made f) f (allocs_of out) (all_proper env f limited ok) i w.old w.new = by_itself i w lt plain in
         let absent : Absent v.number w.new = whole_absent v.number w.new here.between.whole
         (opt_none (place_in w.new v.number) (here.ends.gone v.number (defined_by-at (inst_at f i).operands d less def))) in
         from_nowhere v (λ p. p ≡ InSlot n) i w
-        (stores (Made f) f (allocs_of out) all_orderly all_avoid all_known i w.allocates.allocates.blank w.allocates.allocates.here w.old w.new lt w.at w.behind
+        (stores (Made f) f (allocs_of out) (all_proper env f limited ok) i w.allocates.allocates.blank w.allocates.allocates.here w.old w.new lt w.at w.behind
         (allocated i w plain) (rw (plain, onward) refl) d less def n
         (sym (w.out v.number (unnamed v.number i d plain (record { inst = lt; operand = less; definition = def; number = refl })) absent).1 ∙ mine))
 

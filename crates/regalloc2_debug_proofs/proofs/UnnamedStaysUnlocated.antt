@@ -1,5 +1,5 @@
 -- A number that has no location, and that nothing on the way names, stays without a location, and its slot stays as it is.
-use Rattle.std.proofs.Common.{ℕ, ◌≡◌, ◌≢◌, ◌<◌, ◌≤◌, inl, inr, Bool, true, false, List, length, refl, sym, ap, ◌∙◌, subst, arith}
+use Rattle.std.proofs.Common.{ℕ, ◌≡◌, ◌≢◌, ◌<◌, ◌≤◌, inl, inr, Bool, true, List, length, refl, sym, ap, ◌∙◌, subst, arith}
 use Rattle.std.specs.Prelude.{None, Some, slice_index_or}
 use Rattle.std.proofs.lemmas.Bool.{cases_Bool}
 use Rattle.regalloc2_names.specs.declared.RegClass.{RegClass}
@@ -17,7 +17,7 @@ use Rattle.regalloc2_fastalloc_state.specs.StateParts.{VRegAllocsValue, SpillSlo
 use Rattle.regalloc2_fastalloc_state.specs.declared.inst_regs.InstRegs.{InstRegs}
 use Rattle.regalloc2_fastalloc_state.specs.declared.request.OperandRequest.{OperandRequest}
 use Rattle.regalloc2_validate.specs.Constraints.{op_at}
-use Rattle.regalloc2_fastalloc_proofs.specs.InstSteps.{StateValue, EvictsVReg, nobody, moved, AllocsScratchReg, dedicated_scratch, had, found, ends_block}
+use Rattle.regalloc2_fastalloc_proofs.specs.InstSteps.{StateValue, EvictsVReg, nobody, moved, AllocsScratchReg, dedicated_scratch, had, found}
 use Rattle.regalloc2_fastalloc_proofs.specs.InstSteps.{AddsMove, direct, through, EvictsPReg, empty, cleared, EvictsOthers, own, others, SelectsPlace}
 use Rattle.regalloc2_fastalloc_proofs.specs.InstSteps.{ClaimsPlace, in_slot, in_register, AllocsOperand, AddsMoveIf, sent, unsent, FreesDef}
 use Rattle.regalloc2_fastalloc_proofs.specs.InstSteps.{LocatesUse, use_request, ProcessesOperand, a_register, a_use, a_def, a_reuse}
@@ -188,14 +188,14 @@ module _ (x : ℕ) where
       (defines_out (after i) _ ret p d.inst_regs u d.middle new d.defines other)
 
   -- the first operands of a pass
-  pub placed_out : (i : ℕ) (ret late : Bool) (ops : List OperandValue) (places : List Place) (t : InstRegs) (old : StateValue) (most : ℕ) → most ≤ length ops
+  pub placed_out : {i : ℕ} {ret late : Bool} {ops : List OperandValue} {places : List Place} {t : InstRegs} {old : StateValue} (most : ℕ) → most ≤ length ops
       → ((k : ℕ) → k < most → Counts ops k → is_late (op_at ops k).position ≡ late → (op_at ops k).vreg.number ≢ x)
-      → (k : ℕ) (next : List Place) (u : InstRegs) (m : StateValue) → ProcessesOperandsAt i ret late ops places t old k next u m → k ≤ most → StaysOut old m
-  placed_out i ret late ops places t old most few ne k next u m none_placed le = out_same old old refl
-  placed_out i ret late ops places t old most few ne k next u m (of_other j l w s prev other) le =
-      placed_out i ret late ops places t old most few ne j next u m prev (omega (arith, le))
-  placed_out i ret late ops places t old most few ne k next u m (one_placed j l n w y s z prev inst_regs placed) le =
-      out_then old s m (placed_out i ret late ops places t old most few ne j l w s prev (omega (arith, le)))
+      → {k : ℕ} {next : List Place} {u : InstRegs} {m : StateValue} → ProcessesOperandsAt i ret late ops places t old k next u m → k ≤ most → StaysOut old m
+  placed_out {old} most few ne none_placed le = out_same old old refl
+  placed_out {i} {ret} {late} {ops} {places} {t} {old} most few ne {next} {u} {m} (of_other j l w s prev other) le =
+      placed_out most few ne prev (omega (arith, le))
+  placed_out {i} {ret} {late} {ops} {places} {t} {old} most few ne {next} {u} {m} (one_placed j l n w y s z prev inst_regs placed) le =
+      out_then old s m (placed_out most few ne prev (omega (arith, le)))
       (one_out i ret ops j l next w u s m (omega (arith, le, few)) (λ c. ne j (omega (arith, le)) c inst_regs) placed)
 
   -- the moves of uses keep x out
@@ -228,11 +228,11 @@ module _ (x : ℕ) where
   allocates_out i inst blank places old new ne a =
       out_then old a.after_fixed new (fixed_out (after i) inst.operands a.held old (length inst.operands) a.cleared a.after_fixed a.fixed)
       (out_then a.after_fixed a.after_clobbers new (all_out (after i) (registers_of inst.clobbers) a.cleared a.quiet a.after_fixed a.after_clobbers a.clobbers)
-      (out_then a.after_clobbers a.after_late new (placed_out i (ends_block inst) true inst.operands blank a.quiet a.after_clobbers (length inst.operands)
-      (omega arith) (λ k lt c e. ne k c) (length inst.operands) a.half a.late a.after_late a.lates (omega arith))
-      (out_then a.after_late a.after_early new (placed_out i (ends_block inst) false inst.operands a.half a.late a.after_late (length inst.operands)
+      (out_then a.after_clobbers a.after_late new (placed_out (length inst.operands)
+      (omega arith) (λ k lt c e. ne k c) a.lates (omega arith))
+      (out_then a.after_late a.after_early new (placed_out (length inst.operands)
       (omega arith)
-      (λ k lt c e. ne k c) (length inst.operands) places a.early a.after_early a.earlies (omega arith))
+      (λ k lt c e. ne k c) a.earlies (omega arith))
       (moves_out (before i) inst.operands places a.early a.after_early (length inst.operands) a.ended new a.moves))))
 
   -- arguments of another number

@@ -1,14 +1,13 @@
 -- The places of live ranges are found, and sorted lists stay sorted where they are seen as debug locations.
-use Rattle.std.proofs.Common.{if◌then◌else◌, ℕ, ◌≡◌, ◌+◌, ◌<◌, ◌≤◌, Bool, true, false, cond, List, [], ◌∷◌, ◌++◌, take, inl, inr, length, map, refl}
+use Rattle.std.proofs.Common.{ℕ, ◌≡◌, ◌<◌, ◌≤◌, Bool, true, false, cond, List, [], ◌∷◌, length, map, refl}
 use Rattle.std.proofs.Common.{sym, ap, ◌∙◌, subst, arith, slice_index, slice_index_or}
-use Rattle.std.specs.Prelude.{MatchOption, None, Option, Some}
+use Rattle.std.specs.Prelude.{MatchOption, Option, Some}
 use Rattle.std.specs.List.{filter}
 use Rattle.std.specs.List.Sorted.{IsNonDecreasingBy, IsStableByKey, ties}
 use Rattle.std.specs.Ordering.{is_lt, nat_cmp}
-use Rattle.std.proofs.lemmas.Bool.{cases_Bool}
-use Rattle.std.proofs.lemmas.List.{get_or-map, length-map, map_more, map_push}
+use Rattle.std.proofs.lemmas.List.{get_or-map, length-map}
 use Rattle.std.proofs.lemmas.List.Sums.{sum_by_more_le}
-use Rattle.regalloc2_names.specs.Place.{Place, NoPlace, InRegister, InSlot, is_no_place}
+use Rattle.regalloc2_names.specs.Place.{Place}
 use Rattle.regalloc2_names.specs.Register.{VirtualRegister}
 use Rattle.regalloc2_function.specs.FunctionValue.{FunctionValue, Label, inst_at, no_inst, operand_count}
 use Rattle.regalloc2_function.specs.OutputValue.{DebugLocation}
@@ -17,15 +16,14 @@ use Rattle.regalloc2_function.specs.DebugPoints.{IsFirstPoint, PassesAt}
 use Rattle.regalloc2_function.specs.DebugPoints.IsFirstPoint.{of_definition, of_parameter}
 use Rattle.regalloc2_semantics.specs.Listing.{op_at}
 use Rattle.regalloc2_semantics.proofs.SingleDef.{Made, made_small}
-use Rattle.regalloc2_fastalloc_state.specs.StateParts.{SpillSlotsValue, slot_name}
+use Rattle.regalloc2_fastalloc_state.specs.StateParts.{SpillSlotsValue}
 use Rattle.regalloc2_live_ranges.specs.declared.InstOperand.{InstOperand}
 use Rattle.regalloc2_live_ranges.specs.declared.KeptLabel.{KeptLabel}
-use Rattle.regalloc2_live_ranges.specs.declared.LiveRange.{LiveRange}
 use Rattle.regalloc2_live_ranges.specs.LiveRanges.{IsKeptRange, IsSSA, IsShownBy}
 use Rattle.regalloc2_live_ranges.proofs.UsesInSSA.{made_by_definition, made_by_parameter}
 use Rattle.regalloc2_live_ranges.proofs.FirstAndLastPoints.{shown_within}
 use Rattle.regalloc2_fastalloc_proofs.specs.BlockSteps.{offset_of}
-use Rattle.regalloc2_fastalloc.specs.DebugLocations.{HasPlace, operand_place, place_by, place_shown}
+use Rattle.regalloc2_fastalloc.specs.DebugLocations.{HasPlace}
 
 -- a debug location's parts, and the test by which two of them are sorted
 abbrev pub Parts : Type 0
@@ -96,35 +94,3 @@ module _ (f : FunctionValue) (ssa : IsSSA f) (slots : SpillSlotsValue) (offsets 
         let within = sum_by_more_le (λ n. length n.operands) f.insts o.inst no_inst w.0 in
         omega (arith, less, here, within, allocs_long);
   }
-
-no_place : (p : Place) → is_no_place p ≡ true → p ≡ NoPlace
-no_place NoPlace h = refl
-no_place (InRegister r) h = absurd cc
-no_place (InSlot n) h = absurd cc
-
-module _ (slots : SpillSlotsValue) (offsets : List ℕ) (allocs : List Place) (r : LiveRange) (p : Place) (is : p ≡ slot_name slots r.vreg.number) where
-  at_test : (b : Bool) → is_no_place p ≡ b → place_shown slots offsets allocs r ≡ (if b then place_by offsets allocs r.by else slot_name slots r.vreg.number)
-  at_test b test = ap (λ (c : Bool). if c then place_by offsets allocs r.by else slot_name slots r.vreg.number) (ap is_no_place (sym is) ∙ test)
-
-  -- a slot that is there shows
-  pub slot_shows : is_no_place p ≡ false → p ≡ place_shown slots offsets allocs r
-  slot_shows some = is ∙ sym (at_test false some)
-
-  -- else the operand does
-  pub operand_shows : is_no_place p ≡ true → (o : InstOperand) → r.by ≡ Some o → operand_place offsets allocs o ≡ place_shown slots offsets allocs r
-  operand_shows none o by = sym (at_test true none ∙ ap (place_by offsets allocs) by)
-
-  -- where there is none, the slot does, or nothing
-  pub slot_alone_shows : r.by ≡ None → p ≡ place_shown slots offsets allocs r
-  slot_alone_shows by = elim (cases_Bool (is_no_place p)) [
-    | inl none ↦ no_place p none ∙ sym (at_test true none ∙ ap (place_by offsets allocs) by)
-    | inr some ↦ slot_shows some
-  ]
-
--- one label more is located
-pub one_located : (show : KeptLabel → DebugLocation) (ps : List Parts) (ks : List KeptLabel) (i : ℕ) (k : KeptLabel) (x : Parts) → i < length ks →
-    k ≡ slice_index_or ks i k → map location_of ps ≡ map show (take i ks) → location_of x ≡ show k →
-    map location_of (ps ++ x ∷ []) ≡ map show (take (i + 1) ks)
-one_located show ps ks i k x lt is so_far here =
-    map_push location_of ps x ∙ ap (λ (ds : List DebugLocation). ds ++ location_of x ∷ []) so_far
-    ∙ ap (λ (d : DebugLocation). map show (take i ks) ++ d ∷ []) (here ∙ ap show is) ∙ sym (map_more show ks i k lt)

@@ -3,19 +3,18 @@
 use Rattle.std.proofs.Common.{ℕ, ◌≡◌, ◌≢◌, ◌-◌, ◌<◌, suc, List, [], ◌∷◌, length, map, nat_eq, refl, sym, ap, ◌∙◌, ◌+◌, subst, arith}
 use Rattle.std.specs.Prelude.{All, Bool, filter, Option, Some}
 use Rattle.std.proofs.lemmas.Bool.{ne_eqb}
-use Rattle.std.proofs.lemmas.List.Elements.{All-get_or}
 use Rattle.regalloc2_names.specs.declared.RegClass.{RegClass}
 use Rattle.regalloc2_names.specs.Register.{VirtualRegister}
 use Rattle.regalloc2_names.specs.Place.{Place, NoPlace, InRegister, InSlot}
 use Rattle.regalloc2_names.specs.Point.{after}
 use Rattle.regalloc2_function.specs.DebugPaths.{HoldsValue as ShowsValue}
-use Rattle.regalloc2_function.specs.FunctionValue.{FunctionValue, IsLimited, Label, block_at, inst_at, no_inst}
+use Rattle.regalloc2_function.specs.FunctionValue.{FunctionValue, IsLimited, Label, block_at, inst_at}
 use Rattle.regalloc2_function.specs.Fitting.{MachineFits}
 use Rattle.regalloc2_function.specs.Machine.{MachineValue}
 use Rattle.regalloc2_function.specs.OutputValue.{OutputValue, MoveValue, allocs_of}
 use Rattle.regalloc2_function.specs.Path.{Way, end_of, IsPath}
 use Rattle.regalloc2_function.specs.SourceRun.{IsWrittenFirst}
-use Rattle.regalloc2_function.specs.WellFormed.{IsWellFormed, FixedAvoidClobbers}
+use Rattle.regalloc2_function.specs.WellFormed.{IsWellFormed}
 use Rattle.regalloc2_semantics.specs.BlockByPoints.{block_walked, Rising, EndsQuiet}
 use Rattle.regalloc2_semantics.specs.Blocks.{BlockCarriesOn}
 use Rattle.regalloc2_semantics.specs.Live.{IsLive, HasEntered, HoldsValue, LiveStandInPlaces}
@@ -42,8 +41,6 @@ use Rattle.regalloc2_fastalloc_proofs.proofs.Safety.InstsKeepSafe.{WritesFrom, W
 use Rattle.regalloc2_fastalloc_proofs.proofs.Safety.OutputOfWalk.{IsMade, made_in_order, place_is}
 use Rattle.regalloc2_fastalloc_proofs.proofs.Safety.BlocksKeepSafe.{MayInBlocks}
 use Rattle.regalloc2_fastalloc_proofs.proofs.Safety.FunctionKeepsSafe.{SafeWithin, made_listed_blocks, walk_blocks_good, walk_safe}
-use Rattle.regalloc2_fastalloc_proofs.proofs.Operands.WellFormedInsts.{orderly, knows}
-use Rattle.regalloc2_fastalloc_proofs.proofs.Evictions.FixedAvoidClobbers.{avoids}
 use Rattle.regalloc2_fastalloc_proofs.proofs.Walk.InstBoundaries.{blocks_outside}
 use Rattle.regalloc2_fastalloc_proofs.proofs.Branches.LocationsAfterBranch.{branch_kept}
 use Rattle.regalloc2_fastalloc_proofs.proofs.Walk.AllBlocksCarry.{begin_between}
@@ -57,6 +54,7 @@ use Rattle.regalloc2_fastalloc_proofs.proofs.Operands.RecordOverState.{slots_at,
 use Rattle.regalloc2_fastalloc_proofs.proofs.Operands.AllocsSoFar.{IsTame}
 use Rattle.regalloc2_fastalloc_proofs.proofs.Slots.SlotsOwned.{owner_known}
 use Rattle.regalloc2_fastalloc_proofs.proofs.Walk.BlocksCarryFromFreshState.{at_walks_end, blocks_carry, used_slots, walk_places_defs}
+use Rattle.regalloc2_fastalloc_proofs.proofs.Inst.ProperInsts.{all_proper}
 
 -- where no move is at a point
 none_there : (q : ℕ) (es : List (ℕ × MoveValue)) → All (λ e. e.0 ≢ q) es → filter (λ e. nat_eq e.0 q) es ≡ []
@@ -171,8 +169,7 @@ module _ (env : MachineValue) (f : FunctionValue) (fits : MachineFits f env) (li
     (slots : begin.slots ≡ no_slots m sizes by_last) (none : begin.edits ≡ []) (units : (c : RegClass) → 0 < units_of (no_slots m sizes by_last) c)
     (machine : HasMachine env begin) (empty : Blank begin) (fit : Fit begin) (walks : AllocsBlocks f blank begin 0 places last) where
   bare : (c : ℕ) (ps : List Place) (u : StateValue) → AllocsBlocks f blank begin c ps u → IsOutside u
-  bare = blocks_outside (Made f) f (orderly env f limited ok) (λ i lt. avoids (inst_at f i) (All-get_or FixedAvoidClobbers f.insts i no_inst lt ok.fixed))
-      (knows env f limited ok) (branch_kept f ok.counted (passes_between f)) ok.follow blank begin
+  bare = blocks_outside (Made f) f (all_proper env f limited ok) (branch_kept f ok.counted (passes_between f)) ok.follow blank begin
       (begin_between f begin empty fit) (record { nowhere = empty.nowhere; nobody = empty.nobody })
 
   -- at its end

@@ -5,9 +5,11 @@
 -- backwards, in three parts. `BoundaryToFirstOperand` (`opened`): fixed registers are reserved and evicted, clobbers evicted. Then
 -- `Operands/AllOperands` (`laid_both`). `LastOperandToBoundary` (`closed`): across the instruction itself, and the moves of its uses.
 -- `InstLaw` puts the three together (`each_exactly`, `each_ended`), and `OneInstCarries` is `InstLaw` with nothing behind. `AcrossInst` has
--- what the parts share: who is live when an instruction begins (`lives_in`, `begin_stands`), and the step across it.
+-- what the parts share: who is live when an instruction begins (`lives_in`, `begin_stands`), and the step across it. `ProperInsts` is what all
+-- of them ask of a function's instructions.
 pub mod AcrossInst
 pub mod BoundaryToFirstOperand
 pub mod InstLaw
 pub mod LastOperandToBoundary
 pub mod OneInstCarries
+pub mod ProperInsts

@@ -3,6 +3,7 @@
 -- `OperandTakesFreeReg` (`operand_got`), then `OperandsSpillFree` (`one_placed_more`) and `inst_done`. `LruUnusedLast` and `AvailableCount` say
 -- which registers are found free.
 -- `RegsReserved` (`reserves_all`) is the loop over fixed registers, `OperandOutOfRegs` says where an operand stops, `Steps` chains steps.
+-- `NothingPassed`: a branch to blocks without parameters does nothing to the tables.
 -- What a branch defines: `OwnDefs` (the tables say what is its own), `StoresListed` (`lists_stores`: what a block's beginning stores is listed, each
 -- once, counted in `CountedOnce`), `StoresPushed` (the moves of that, as they are pushed) and `StoresOnEdge` (`stores_on`: those are the stores).
 pub mod AvailableCount
@@ -10,6 +11,7 @@ pub mod BlockSpillFree
 pub mod CountedOnce
 pub mod RegsReserved
 pub mod LruUnusedLast
+pub mod NothingPassed
 pub mod OperandsSpillFree
 pub mod OperandsProcessed
 pub mod OperandOutOfRegs

@@ -1,12 +1,12 @@
 //! The beginning of a block: what is read from there on comes in spill slots.
 
-ghost use Rattle.std.specs.Prelude.{ℕ, ◌≡◌, ◌<◌, [], All, length, None, OnOk, IfErr};
+ghost use Rattle.std.specs.Prelude.{ℕ, ◌≡◌, ◌<◌, [], All, length, None, OnOk};
 ghost use Rattle.regalloc2_names.specs.Point.{before};
 ghost use Rattle.regalloc2_names.specs.Place.{NoPlace};
 ghost use Rattle.regalloc2_names.specs.Register.{Register};
 ghost use Rattle.regalloc2_fastalloc_proofs.specs.BlockStart.{ReloadsAtBegin, ReloadsParam, ReloadsParams, ReloadsRegs};
-ghost use Rattle.regalloc2_fastalloc_proofs.specs.OutOfRegs.{OutOfRegsOnlyIf, ReloadAtBeginFails, ReloadRegsFails, ReloadParamFails, ReloadParamsFails};
-ghost use Rattle.regalloc2_fastalloc_walk.specs.StateView.{IsStepAt, tables_of};
+ghost use Rattle.regalloc2_fastalloc_proofs.specs.OutOfRegs.{ReloadAtBeginFails, ReloadRegsFails, ReloadParamFails, ReloadParamsFails};
+ghost use Rattle.regalloc2_fastalloc_walk.specs.StateView.{IsStepAt, Makes, SameTables, StopsOnlyIf};
 ghost use Rattle.regalloc2_fastalloc_state.specs.StateParts.{AllAtOrAfter, vreg_of_preg, alloc_of};
 
 use super::inst::differ;
@@ -28,9 +28,9 @@ impl<'a, A: Allocator> State<'a, A> {
     ) -> Result<(), RegAllocError>
         requires later { AllAtOrAfter point self.old.edits }
         requires known { param.number < length self.old.places.vreg_allocs }
-        ensures ok { OnOk result (ReloadsParam point param inst_regs.old inst_regs.new (tables_of self.old) (tables_of self.new)) }
+        ensures ok { Makes (ReloadsParam point param inst_regs.old inst_regs.new) result self.old self.new }
         ensures step { IsStepAt point result self.old self.new }
-        ensures stops { IfErr result (OutOfRegsOnlyIf (ReloadParamFails param inst_regs.old (tables_of self.old))) }
+        ensures stops { StopsOnlyIf (ReloadParamFails param inst_regs.old) result self.old }
     {
         let current = self.places.current_alloc(param);
         if current.is_none() {
@@ -61,9 +61,9 @@ impl<'a, A: Allocator> State<'a, A> {
     ) -> Result<(), RegAllocError>
         requires later { AllAtOrAfter point self.old.edits }
         requires known { All (λ v. v.number < length self.old.places.vreg_allocs) params.now }
-        ensures ok { OnOk result (ReloadsParams point params.now inst_regs.old (tables_of self.old) (length params.now) inst_regs.new (tables_of self.new)) }
+        ensures ok { Makes (λ t. ReloadsParams point params.now inst_regs.old t (length params.now) inst_regs.new) result self.old self.new }
         ensures step { IsStepAt point result self.old self.new }
-        ensures stops { IfErr result (OutOfRegsOnlyIf (ReloadParamsFails point params.now inst_regs.old (tables_of self.old))) }
+        ensures stops { StopsOnlyIf (ReloadParamsFails point params.now inst_regs.old) result self.old }
     {
         for param in params {
             self.reload_param(inst_regs, point, *param)?;
@@ -78,11 +78,11 @@ impl<'a, A: Allocator> State<'a, A> {
         point: ProgPoint,
     ) -> Result<(), RegAllocError>
         requires { AllAtOrAfter point self.old.edits }
-        ensures ok { OnOk result (ReloadsRegs point inst_regs.old (tables_of self.old) inst_regs.new (tables_of self.new)) }
+        ensures ok { Makes (λ t. ReloadsRegs point inst_regs.old t inst_regs.new) result self.old self.new }
         ensures emptied { OnOk result ((r : Register) → r.number < 64 → vreg_of_preg self.new.places r ≡ None) }
         ensures step { IsStepAt point result self.old self.new }
-        ensures stops { IfErr result (OutOfRegsOnlyIf (ReloadRegsFails point inst_regs.old (tables_of self.old))) }
-        ensures nobody { OnOk result (((n : ℕ) → alloc_of self.old.places n ≡ NoPlace) → tables_of self.new ≡ tables_of self.old) }
+        ensures stops { StopsOnlyIf (ReloadRegsFails point inst_regs.old) result self.old }
+        ensures nobody { OnOk result (((n : ℕ) → alloc_of self.old.places n ≡ NoPlace) → SameTables self.old self.new) }
     {
         while let Some(preg) = self.places.newest_filled() {
             self.evict_preg(inst_regs, point, preg)?;
@@ -96,10 +96,10 @@ impl<'a, A: Allocator> State<'a, A> {
         requires inst { first < 1073741824 }
         requires later { AllAtOrAfter (before first) self.old.edits }
         requires known { All (λ v. v.number < length self.old.places.vreg_allocs) params.now }
-        ensures ok { OnOk result (ReloadsAtBegin (before first) params.now (tables_of self.old) (tables_of self.new)) }
+        ensures ok { Makes (ReloadsAtBegin (before first) params.now) result self.old self.new }
         ensures step { IsStepAt (before first) result self.old self.new }
-        ensures stops { IfErr result (OutOfRegsOnlyIf (ReloadAtBeginFails (before first) params.now (tables_of self.old))) }
-        ensures nobody { OnOk result (((n : ℕ) → alloc_of self.old.places n ≡ NoPlace) → params.now ≡ [] → tables_of self.new ≡ tables_of self.old) }
+        ensures stops { StopsOnlyIf (ReloadAtBeginFails (before first) params.now) result self.old }
+        ensures nobody { OnOk result (((n : ℕ) → alloc_of self.old.places n ≡ NoPlace) → params.now ≡ [] → SameTables self.old self.new) }
     {
         let mut inst_regs = InstRegs::new(self.registers.available_regs());
         let point = ProgPoint::before(first);

@@ -15,12 +15,12 @@ ghost use Rattle.regalloc2_fastalloc_proofs.specs.BranchSteps.{OrdersMoves, Para
 ghost use Rattle.regalloc2_fastalloc_proofs.specs.BranchSteps.{SpillsArgument};
 ghost use Rattle.regalloc2_fastalloc_state.specs.OutOfResources.{SlotsExhaustedWith, IsResourceError};
 ghost use Rattle.regalloc2_parts.specs.ScratchPool.{DoDiffer, IsOfScratchPair};
-ghost use Rattle.regalloc2_fastalloc_proofs.specs.OutOfRegs.{OutOfRegsOnlyIf, GatherEdgeFails, GatherMovesFails, OrderMovesFails, ProcessBranchFails};
+ghost use Rattle.regalloc2_fastalloc_proofs.specs.OutOfRegs.{GatherEdgeFails, GatherMovesFails, OrderMovesFails, ProcessBranchFails};
 ghost use Rattle.regalloc2_fastalloc_proofs.specs.OutOfRegs.{SpillArgumentFails};
 ghost use Rattle.regalloc2_branch_defs.specs.Tables.{AreBranchDefsOf};
 ghost use Rattle.regalloc2_fastalloc_proofs.specs.BlockSteps.{MayBeAllocated};
 ghost use Rattle.regalloc2_fastalloc_walk.specs.OwnDefs.{IsOwnBy, GathersArgument, GatherArgumentFails};
-ghost use Rattle.regalloc2_fastalloc_walk.specs.StateView.{IsBranchStepAt, IsStepAt, tables_of};
+ghost use Rattle.regalloc2_fastalloc_walk.specs.StateView.{Between, IsBranchStepAt, IsStepAt, Makes, MakesOne, SameTables, StopsOnlyIf, tables_of};
 ghost use Rattle.regalloc2_fastalloc_state.specs.StateParts.{SlotsHaveOneOwner, IsLeastRecentIn, AllAtOrAfter};
 
 use super::state::State;
@@ -58,6 +58,22 @@ fn as_place(preg: Option<PReg>) -> Option<Allocation>
         Some(preg) => Some(Allocation::reg(preg)),
         None => None,
     }
+}
+
+/// Whether no edge out of a block leads to one with parameters.
+fn passes_nothing<F: Function>(f: &F, block: Block) -> bool
+    requires block { block < length (F.function f.now).blocks }
+    requires targets { (k : ℕ) → HasEdge (F.function f.now) block k → target_at (F.function f.now) block k < length (F.function f.now).blocks }
+    ensures { IsTrue result → (k : ℕ) → HasEdge (F.function f.now) block k →
+        (block_at (F.function f.now) (target_at (F.function f.now) block k)).params ≡ [] }
+{
+    let succs = f.block_succs(block);
+    for k in 0..succs.len() {
+        if !f.block_params(succs[k]).is_empty() {
+            return false;
+        }
+    }
+    true
 }
 
 /// Whether there are no moves.
@@ -196,12 +212,12 @@ impl<'a, A: Allocator> State<'a, A> {
         requires ends { AreBetweenSlots self.old.slots.count moves }
         requires one_source { HasOneSourceEach (ends_of moves) }
         requires apart { AreApart (tables_of self.old) }
-        ensures ok { IfOk result (λ made. OrdersMoves inst_regs.now class moves.entry made.items (tables_of self.old) (tables_of self.new)) }
-        ensures unchanged { OnErr result (tables_of self.new ≡ tables_of self.old) }
+        ensures ok { MakesOne (λ made. OrdersMoves inst_regs.now class moves.entry made.items) result self.old self.new }
+        ensures unchanged { OnErr result (SameTables self.old self.new) }
         ensures err { IfErr result (IsResourceError (SlotsExhaustedWith self.old.slots (self.old.slots.num_temp_slots + 2))) }
-        ensures stops { IfErr result (OutOfRegsOnlyIf (OrderMovesFails class moves.entry (tables_of self.old))) }
+        ensures stops { StopsOnlyIf (OrderMovesFails class moves.entry) result self.old }
         ensures registers { OnOk result (self.new.registers ≡ self.old.registers) }
-        ensures none { IfOk result (λ made. moves.entry ≡ [] → (made.items ≡ []) × (tables_of self.new ≡ tables_of self.old)) }
+        ensures none { IfOk result (λ made. moves.entry ≡ [] → (made.items ≡ []) × (SameTables self.old self.new)) }
     {
         let resolved = resolve(moves)?;
         if are_none(&resolved) {
@@ -233,13 +249,13 @@ impl<'a, A: Allocator> State<'a, A> {
         requires one_source { HasOneSourceEach (ends_of moves) }
         requires apart { AreApart (tables_of self.old) }
         requires later { AllAtOrAfter point self.old.edits }
-        ensures ok { OnOk result (Pushes point inst_regs.now class moves.entry (tables_of self.old) (tables_of self.new)) }
+        ensures ok { Makes (Pushes point inst_regs.now class moves.entry) result self.old self.new }
         ensures later { OnOk result (AllAtOrAfter point self.new.edits) }
-        ensures machine { AddsTempSlotsAtMost 2 (tables_of self.old) (tables_of self.new) }
+        ensures machine { Between (AddsTempSlotsAtMost 2) self.old self.new }
         ensures err { IfErr result (IsResourceError (SlotsExhaustedWith self.old.slots (self.old.slots.num_temp_slots + 2))) }
-        ensures stops { IfErr result (OutOfRegsOnlyIf (OrderMovesFails class moves.entry (tables_of self.old))) }
+        ensures stops { StopsOnlyIf (OrderMovesFails class moves.entry) result self.old }
         ensures registers { OnOk result (self.new.registers ≡ self.old.registers) }
-        ensures none { OnOk result (moves.entry ≡ [] → tables_of self.new ≡ tables_of self.old) }
+        ensures none { OnOk result (moves.entry ≡ [] → SameTables self.old self.new) }
     {
         let made = self.order(inst_regs, class, moves)?;
         self.edits.push_all(point, made.as_slice())?;
@@ -257,9 +273,9 @@ impl<'a, A: Allocator> State<'a, A> {
     ) -> Result<Allocation, RegAllocError>
         requires later { AllAtOrAfter point self.old.edits }
         requires known { argument.number < length self.old.places.vreg_allocs }
-        ensures ok { IfOk result (λ s. SpillsArgument point argument s inst_regs.old inst_regs.new (tables_of self.old) (tables_of self.new)) }
+        ensures ok { MakesOne (λ s. SpillsArgument point argument s inst_regs.old inst_regs.new) result self.old self.new }
         ensures step { IsStepAt point result self.old self.new }
-        ensures stops { IfErr result (OutOfRegsOnlyIf (SpillArgumentFails argument inst_regs.old (tables_of self.old))) }
+        ensures stops { StopsOnlyIf (SpillArgumentFails argument inst_regs.old) result self.old }
         ensures registers { OnOk result (self.new.registers ≡ self.old.registers) }
     {
         let slot = self.slots.get_spillslot(argument)?;
@@ -288,7 +304,7 @@ impl<'a, A: Allocator> State<'a, A> {
             × ((given : List ClassMove) → AreOf moves.old.int moves.old.float moves.old.vector given →
             AreOf moves.new.int moves.new.float moves.new.vector (given ++ record { class = argument.class; from = from; to = to } ∷ []))) }
         ensures step { IsStepAt point result self.old self.new }
-        ensures stops { IfErr result (OutOfRegsOnlyIf (GatherArgumentFails argument inst_regs.old (tables_of self.old))) }
+        ensures stops { StopsOnlyIf (GatherArgumentFails argument inst_regs.old) result self.old }
         ensures registers { OnOk result (self.new.registers ≡ self.old.registers) }
     {
         let to = self.slots.get_spillslot(param)?;
@@ -316,9 +332,8 @@ impl<'a, A: Allocator> State<'a, A> {
             × GathersEdgeMoves (IsOwnBy own.now.defs.now own.now.branch) (before own.now.branch) params.now arguments.now inst_regs.old (tables_of self.old)
             given (length params.now) inst_regs.new (tables_of self.new) more) }
         ensures step { IsStepAt (before own.now.branch) result self.old self.new }
-        ensures stops { IfErr result (OutOfRegsOnlyIf ((given : List ClassMove) → AreOf moves.old.int moves.old.float moves.old.vector given →
-            GatherEdgeFails (IsOwnBy own.now.defs.now own.now.branch) (before own.now.branch) params.now arguments.now inst_regs.old (tables_of self.old)
-            given)) }
+        ensures stops { StopsOnlyIf (λ t. (given : List ClassMove) → AreOf moves.old.int moves.old.float moves.old.vector given → GatherEdgeFails
+            (IsOwnBy own.now.defs.now own.now.branch) (before own.now.branch) params.now arguments.now inst_regs.old t given) result self.old }
         ensures registers { OnOk result (self.new.registers ≡ self.old.registers) }
     {
         let point = ProgPoint::before(own.branch);
@@ -353,7 +368,7 @@ impl<'a, A: Allocator> State<'a, A> {
             × GathersMoves (F.function cx.now.f.now) block (before inst) inst_regs.old (tables_of self.old)
             (length (block_at (F.function cx.now.f.now) block).succs) inst_regs.new (tables_of self.new) given) }
         ensures step { IsStepAt (before inst) result self.old self.new }
-        ensures stops { IfErr result (OutOfRegsOnlyIf (GatherMovesFails (F.function cx.now.f.now) block (before inst) inst_regs.old (tables_of self.old))) }
+        ensures stops { StopsOnlyIf (GatherMovesFails (F.function cx.now.f.now) block (before inst) inst_regs.old) result self.old }
         ensures registers { OnOk result (self.new.registers ≡ self.old.registers) }
     {
         let own = OwnDefs {
@@ -382,16 +397,14 @@ impl<'a, A: Allocator> State<'a, A> {
         requires vectors { MayBeParallel self.old.slots.count moves.vector }
         requires apart { AreApart (tables_of self.old) }
         requires later { AllAtOrAfter point self.old.edits }
-        ensures ok { OnOk result (PushesAllClasses point inst_regs.now moves.entry.int moves.entry.float moves.entry.vector (tables_of self.old)
-            (tables_of self.new)) }
+        ensures ok { Makes (PushesAllClasses point inst_regs.now moves.entry.int moves.entry.float moves.entry.vector) result self.old self.new }
         ensures later { OnOk result (AllAtOrAfter point self.new.edits) }
-        ensures machine { AddsTempSlotsAtMost 6 (tables_of self.old) (tables_of self.new) }
+        ensures machine { Between (AddsTempSlotsAtMost 6) self.old self.new }
         ensures err { IfErr result (IsResourceError (SlotsExhaustedWith self.old.slots (self.old.slots.num_temp_slots + 6))) }
-        ensures stops { IfErr result (OutOfRegsOnlyIf (OrderMovesFails RegClass.Int moves.entry.int (tables_of self.old)
-            ⊎ (OrderMovesFails RegClass.Float moves.entry.float (tables_of self.old)
-            ⊎ OrderMovesFails RegClass.Vector moves.entry.vector (tables_of self.old)))) }
+        ensures stops { StopsOnlyIf (λ t. OrderMovesFails RegClass.Int moves.entry.int t ⊎ (OrderMovesFails RegClass.Float moves.entry.float t ⊎
+            OrderMovesFails RegClass.Vector moves.entry.vector t)) result self.old }
         ensures registers { OnOk result (self.new.registers ≡ self.old.registers) }
-        ensures none { OnOk result (moves.entry.int ≡ [] → moves.entry.float ≡ [] → moves.entry.vector ≡ [] → tables_of self.new ≡ tables_of self.old) }
+        ensures none { OnOk result (moves.entry.int ≡ [] → moves.entry.float ≡ [] → moves.entry.vector ≡ [] → SameTables self.old self.new) }
     {
         let MovesByClass { int, float, vector } = moves;
         self.push_moves(inst_regs, point, RegClass::Int, int)?;
@@ -407,7 +420,8 @@ impl<'a, A: Allocator> State<'a, A> {
         let _count = self.slots.num_units();
     }
 
-    /// A branch passes its arguments: all are spilled to their slots, and then moved to those of the parameters.
+    /// A branch passes its arguments: all are spilled to their slots, and then moved to those of the parameters. One that has none
+    /// is done at once: lists for its moves would cost more than all else of it.
     pub fn process_branch<F: Function, B: Allocator, C: Allocator>(
         &mut self,
         inst_regs: &mut InstRegs,
@@ -427,13 +441,16 @@ impl<'a, A: Allocator> State<'a, A> {
         requires may_pass { MayBranch (F.function cx.now.f.now) block (tables_of self.old) }
         requires differ { ParametersDiffer (F.function cx.now.f.now) block }
         requires apart { AreApart (tables_of self.old) }
-        ensures ok { OnOk result (ProcessesBranch (F.function cx.now.f.now) block inst inst_regs.old inst_regs.new (tables_of self.old) (tables_of self.new)) }
+        ensures ok { Makes (ProcessesBranch (F.function cx.now.f.now) block inst inst_regs.old inst_regs.new) result self.old self.new }
         ensures step { IsBranchStepAt (before inst) 6 result self.old self.new }
-        ensures stops { IfErr result (OutOfRegsOnlyIf (ProcessBranchFails (F.function cx.now.f.now) block inst inst_regs.old (tables_of self.old))) }
+        ensures stops { StopsOnlyIf (ProcessBranchFails (F.function cx.now.f.now) block inst inst_regs.old) result self.old }
         ensures registers { OnOk result (self.new.registers ≡ self.old.registers) }
-        ensures none { OnOk result (((k : ℕ) → HasEdge (F.function cx.now.f.now) block k →
-            (block_at (F.function cx.now.f.now) (target_at (F.function cx.now.f.now) block k)).params ≡ []) → tables_of self.new ≡ tables_of self.old) }
+        ensures none { OnOk result (((k : ℕ) → HasEdge (F.function cx.now.f.now) block k → (block_at (F.function cx.now.f.now)
+            (target_at (F.function cx.now.f.now) block k)).params ≡ []) → SameTables self.old self.new) }
     {
+        if passes_nothing(cx.f, block) {
+            return Ok(());
+        }
         let moves = self.gather(inst_regs, alloc, cx, block, inst)?;
         self.have_owners();
         let point = ProgPoint::before(inst);

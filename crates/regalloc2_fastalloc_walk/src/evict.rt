@@ -1,11 +1,11 @@
 //! Moves, by way of a register where both ends are stack places, and evictions.
 
-ghost use Rattle.std.specs.Prelude.{◌≡◌, OnOk, IfOk, IfErr, None};
+ghost use Rattle.std.specs.Prelude.{◌≡◌, OnOk, IfErr, None};
 ghost use Rattle.regalloc2_names.specs.Place.{NoPlace};
 ghost use Rattle.regalloc2_fastalloc_state.specs.StateParts.{AllAtOrAfter, vreg_of_preg, alloc_of};
 ghost use Rattle.regalloc2_fastalloc_proofs.specs.InstSteps.{is_stack_in, EvictsVReg, AllocsScratchReg, AddsMove, EvictsPReg, EvictsOthers};
 ghost use Rattle.regalloc2_fastalloc_proofs.specs.OutOfRegs.{OutOfRegsOnlyIf, EvictPRegFails, AddMoveFails, AllocScratchRegFails};
-ghost use Rattle.regalloc2_fastalloc_walk.specs.StateView.{IsStepAt, tables_of};
+ghost use Rattle.regalloc2_fastalloc_walk.specs.StateView.{IsStepAt, Makes, MakesOne, StopsOnlyIf, tables_of};
 
 use super::state::State;
 use regalloc2_fastalloc_state::inst_regs::{InstRegs, Positions};
@@ -24,7 +24,7 @@ impl<'a, A: Allocator> State<'a, A> {
     /// there at the point.
     fn evict_vreg_in_preg(&mut self, point: ProgPoint, preg: PReg) -> Result<(), RegAllocError>
         requires { AllAtOrAfter point self.old.edits }
-        ensures ok { OnOk result (EvictsVReg point preg (tables_of self.old) (tables_of self.new)) }
+        ensures ok { Makes (EvictsVReg point preg) result self.old self.new }
         ensures step { IsStepAt point result self.old self.new }
         ensures stops { IfErr result (OutOfRegsOnlyIf (⊥)) }
         ensures registers { OnOk result (self.new.registers ≡ self.old.registers) }
@@ -47,10 +47,10 @@ impl<'a, A: Allocator> State<'a, A> {
         class: RegClass,
     ) -> Result<PReg, RegAllocError>
         requires { AllAtOrAfter point self.old.edits }
-        ensures ok { IfOk result (λ r. AllocsScratchReg point class inst_regs.old inst_regs.new r (tables_of self.old) (tables_of self.new)) }
+        ensures ok { MakesOne (λ r. AllocsScratchReg point class inst_regs.old inst_regs.new r) result self.old self.new }
         ensures awaited { inst_regs.new.awaited ≡ inst_regs.old.awaited }
         ensures step { IsStepAt point result self.old self.new }
-        ensures stops { IfErr result (OutOfRegsOnlyIf (AllocScratchRegFails class inst_regs.old (tables_of self.old))) }
+        ensures stops { StopsOnlyIf (AllocScratchRegFails class inst_regs.old) result self.old }
         ensures registers { OnOk result (self.new.registers ≡ self.old.registers) }
     {
         if let Some(preg) = self.registers.dedicated_scratch(class) {
@@ -80,10 +80,10 @@ impl<'a, A: Allocator> State<'a, A> {
         to: Allocation,
     ) -> Result<(), RegAllocError>
         requires { AllAtOrAfter point self.old.edits }
-        ensures ok { OnOk result (AddsMove point class from to inst_regs.old inst_regs.new (tables_of self.old) (tables_of self.new)) }
+        ensures ok { Makes (AddsMove point class from to inst_regs.old inst_regs.new) result self.old self.new }
         ensures awaited { inst_regs.new.awaited ≡ inst_regs.old.awaited }
         ensures step { IsStepAt point result self.old self.new }
-        ensures stops { IfErr result (OutOfRegsOnlyIf (AddMoveFails class from to inst_regs.old (tables_of self.old))) }
+        ensures stops { StopsOnlyIf (AddMoveFails class from to inst_regs.old) result self.old }
         ensures registers { OnOk result (self.new.registers ≡ self.old.registers) }
     {
         if self.is_stack(from) && self.is_stack(to) {
@@ -106,11 +106,11 @@ impl<'a, A: Allocator> State<'a, A> {
         preg: PReg,
     ) -> Result<(), RegAllocError>
         requires { AllAtOrAfter point self.old.edits }
-        ensures ok { OnOk result (EvictsPReg point preg inst_regs.old inst_regs.new (tables_of self.old) (tables_of self.new)) }
+        ensures ok { Makes (EvictsPReg point preg inst_regs.old inst_regs.new) result self.old self.new }
         ensures awaited { inst_regs.new.awaited ≡ inst_regs.old.awaited }
         ensures empty { OnOk result (vreg_of_preg self.new.places preg ≡ None) }
         ensures step { IsStepAt point result self.old self.new }
-        ensures stops { IfErr result (OutOfRegsOnlyIf (EvictPRegFails preg inst_regs.old (tables_of self.old))) }
+        ensures stops { StopsOnlyIf (EvictPRegFails preg inst_regs.old) result self.old }
         ensures registers { OnOk result (self.new.registers ≡ self.old.registers) }
     {
         let Some(vreg) = self.places.vreg_in(preg) else {
@@ -132,11 +132,11 @@ impl<'a, A: Allocator> State<'a, A> {
         vreg: VReg,
     ) -> Result<(), RegAllocError>
         requires { AllAtOrAfter point self.old.edits }
-        ensures ok { OnOk result (EvictsOthers point preg vreg inst_regs.old inst_regs.new (tables_of self.old) (tables_of self.new)) }
+        ensures ok { Makes (EvictsOthers point preg vreg inst_regs.old inst_regs.new) result self.old self.new }
         ensures awaited { inst_regs.new.awaited ≡ inst_regs.old.awaited }
         ensures alone { OnOk result (alloc_of self.new.places vreg.number ≡ NoPlace → vreg_of_preg self.new.places preg ≡ None) }
         ensures step { IsStepAt point result self.old self.new }
-        ensures stops { IfErr result (OutOfRegsOnlyIf (EvictPRegFails preg inst_regs.old (tables_of self.old))) }
+        ensures stops { StopsOnlyIf (EvictPRegFails preg inst_regs.old) result self.old }
         ensures registers { OnOk result (self.new.registers ≡ self.old.registers) }
     {
         if let Some(held) = self.places.vreg_in(preg) {

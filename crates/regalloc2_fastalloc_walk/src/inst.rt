@@ -4,7 +4,7 @@ ghost use Rattle.std.specs.Prelude.{Bool};
 ghost use Rattle.regalloc2_names.specs.RegisterSet.{has_register};
 ghost use Rattle.regalloc2_names.specs.Register.{Register, VirtualRegister};
 ghost use Rattle.regalloc2_fastalloc_walk.specs.SpillFree.{FitInRegs, ArePlaced, ArePlain, IsSpillFree, LeavesSpillFree, AllocsAnyReg};
-ghost use Rattle.std.specs.Prelude.{◌≡◌, ◌<◌, ◌≤◌, ◌+◌, [], length, not, false, slice_set, slice_index_or, ℕ, OnOk, IfErr, IfSome};
+ghost use Rattle.std.specs.Prelude.{◌≡◌, ◌<◌, ◌≤◌, ◌+◌, [], length, not, false, slice_set, slice_index_or, ℕ, OnOk, IfSome};
 ghost use Rattle.std.specs.Prelude.{IsNone, List};
 ghost use Rattle.regalloc2_names.specs.Point.{before, after};
 ghost use Rattle.regalloc2_names.specs.Place.{Place, NoPlace, is_place};
@@ -16,9 +16,9 @@ ghost use Rattle.regalloc2_validate.specs.Constraints.{op_at};
 ghost use Rattle.regalloc2_fastalloc_proofs.specs.InstSteps.{AllocsInst, reuse_requirement_of, requirement_of, def_request, reuse_request};
 ghost use Rattle.regalloc2_fastalloc_proofs.specs.InstSteps.{use_request, InTables, MovesUses, ProcessesOperandsAt, ProcessesOperand};
 ghost use Rattle.regalloc2_fastalloc_proofs.specs.InstSteps.{AddsMoveIf};
-ghost use Rattle.regalloc2_fastalloc_proofs.specs.OutOfRegs.{OutOfRegsOnlyIf, ProcessOperandsAtFails, AllocInstFails, MoveUsesFails, ProcessOperandFails};
+ghost use Rattle.regalloc2_fastalloc_proofs.specs.OutOfRegs.{ProcessOperandsAtFails, AllocInstFails, MoveUsesFails, ProcessOperandFails};
 ghost use Rattle.regalloc2_fastalloc_proofs.specs.OutOfRegs.{AddMoveIfFails};
-ghost use Rattle.regalloc2_fastalloc_walk.specs.StateView.{IsStepAt, tables_of};
+ghost use Rattle.regalloc2_fastalloc_walk.specs.StateView.{IsStepAt, Makes, StopsOnlyIf, tables_of};
 ghost use Rattle.regalloc2_fastalloc_proofs.specs.BlockSteps.{AllocsInstInto, IsFresh};
 
 use super::operand::PlaceMove;
@@ -163,11 +163,10 @@ impl<'a, A: Allocator> State<'a, A> {
         requires later { AllAtOrAfter (after cx.now.inst) self.old.edits }
         requires in_tables { InTables cx.now.operands.now (tables_of self.old) }
         requires here_long { length here.old ≡ length cx.now.operands.now }
-        ensures ok { OnOk result (ProcessesOperand cx.now.inst cx.now.ends_block cx.now.operands.now k here.old here.new inst_regs.old inst_regs.new
-            (tables_of self.old) (tables_of self.new)) }
+        ensures ok { Makes (ProcessesOperand cx.now.inst cx.now.ends_block cx.now.operands.now k here.old here.new inst_regs.old inst_regs.new) result
+            self.old self.new }
         ensures step { IsStepAt (after cx.now.inst) result self.old self.new }
-        ensures stops { IfErr result (OutOfRegsOnlyIf
-            (ProcessOperandFails cx.now.inst cx.now.ends_block cx.now.operands.now k here.old inst_regs.old (tables_of self.old))) }
+        ensures stops { StopsOnlyIf (ProcessOperandFails cx.now.inst cx.now.ends_block cx.now.operands.now k here.old inst_regs.old) result self.old }
         ensures takes { OnOk result ((op_at cx.now.operands.now k).constraint ≡ OperandConstraint.Reg → slice_index_or here.old k NoPlace ≡ NoPlace →
             AllocsAnyReg inst_regs.old (op_at cx.now.operands.now k).vreg (slice_index_or here.new k NoPlace) (tables_of self.old) self.old.registers
             self.new.registers) }
@@ -208,11 +207,11 @@ impl<'a, A: Allocator> State<'a, A> {
         requires later { AllAtOrAfter (after cx.now.inst) self.old.edits }
         requires in_tables { InTables cx.now.operands.now (tables_of self.old) }
         requires here_long { length here.old ≡ length cx.now.operands.now }
-        ensures ok { OnOk result (ProcessesOperandsAt cx.now.inst cx.now.ends_block (is_late pos) cx.now.operands.now here.old inst_regs.old
-            (tables_of self.old) (length cx.now.operands.now) here.new inst_regs.new (tables_of self.new)) }
+        ensures ok { Makes (λ t. ProcessesOperandsAt cx.now.inst cx.now.ends_block (is_late pos) cx.now.operands.now here.old inst_regs.old t
+            (length cx.now.operands.now) here.new inst_regs.new) result self.old self.new }
         ensures step { IsStepAt (after cx.now.inst) result self.old self.new }
-        ensures stops { IfErr result (OutOfRegsOnlyIf
-            (ProcessOperandsAtFails cx.now.inst cx.now.ends_block (is_late pos) cx.now.operands.now here.old inst_regs.old (tables_of self.old))) }
+        ensures stops { StopsOnlyIf (ProcessOperandsAtFails cx.now.inst cx.now.ends_block (is_late pos) cx.now.operands.now here.old inst_regs.old) result
+            self.old }
         ensures spill_free { OnOk result ((names : List VirtualRegister) (gone : ℕ → Bool) → FitInRegs names self.old.registers.allocatable →
             ArePlain names gone cx.now.operands.now (is_late pos) → ((j : ℕ) → is_late (op_at cx.now.operands.now j).position ≡ is_late pos →
             slice_index_or here.old j NoPlace ≡ NoPlace) → IsSpillFree names gone self.old.registers (tables_of self.old) inst_regs.old
@@ -235,12 +234,11 @@ impl<'a, A: Allocator> State<'a, A> {
     ) -> Result<(), RegAllocError>
         requires later { AllAtOrAfter point self.old.edits }
         requires vreg { operand.vreg.number < length self.old.places.vreg_allocs }
-        ensures ok { OnOk result (AddsMoveIf point operand.vreg.class (not (is_place (alloc_of self.old.places operand.vreg.number) place))
-            (alloc_of self.old.places operand.vreg.number) place
-            inst_regs.old inst_regs.new (tables_of self.old) (tables_of self.new)) }
+        ensures ok { Makes (AddsMoveIf point operand.vreg.class (not (is_place (alloc_of self.old.places operand.vreg.number) place))
+            (alloc_of self.old.places operand.vreg.number) place inst_regs.old inst_regs.new) result self.old self.new }
         ensures step { IsStepAt point result self.old self.new }
-        ensures stops { IfErr result (OutOfRegsOnlyIf (AddMoveIfFails operand.vreg.class (not (is_place (alloc_of self.old.places operand.vreg.number) place))
-            (alloc_of self.old.places operand.vreg.number) place inst_regs.old (tables_of self.old))) }
+        ensures stops { StopsOnlyIf (AddMoveIfFails operand.vreg.class (not (is_place (alloc_of self.old.places operand.vreg.number) place))
+            (alloc_of self.old.places operand.vreg.number) place inst_regs.old) result self.old }
         ensures registers { OnOk result (self.new.registers ≡ self.old.registers) }
     {
         let current = self.places.current_alloc(operand.vreg());
@@ -269,10 +267,9 @@ impl<'a, A: Allocator> State<'a, A> {
         requires later { AllAtOrAfter point self.old.edits }
         requires in_tables { InTables operands.now (tables_of self.old) }
         requires here_long { length here.now ≡ length operands.now }
-        ensures ok { OnOk result (MovesUses point operands.now here.now inst_regs.old (tables_of self.old) (length operands.now) inst_regs.new
-            (tables_of self.new)) }
+        ensures ok { Makes (λ t. MovesUses point operands.now here.now inst_regs.old t (length operands.now) inst_regs.new) result self.old self.new }
         ensures step { IsStepAt point result self.old self.new }
-        ensures stops { IfErr result (OutOfRegsOnlyIf (MoveUsesFails point operands.now here.now inst_regs.old (tables_of self.old))) }
+        ensures stops { StopsOnlyIf (MoveUsesFails point operands.now here.now inst_regs.old) result self.old }
         ensures registers { OnOk result (self.new.registers ≡ self.old.registers) }
     {
         for (k, operand) in Operands::new(operands).use_ops() {
@@ -302,8 +299,7 @@ impl<'a, A: Allocator> State<'a, A> {
             { operands = cx.now.operands.now; clobbers = cx.now.clobbers; is_branch = false; is_ret = cx.now.ends_block }) here.old here.new
             (tables_of self.old) (tables_of self.new)) × (a.ended ≡ inst_regs.new)) }
         ensures step { IsStepAt (before cx.now.inst) result self.old self.new }
-        ensures stops { IfErr result (OutOfRegsOnlyIf
-            (AllocInstFails cx.now.inst cx.now.ends_block cx.now.operands.now cx.now.clobbers here.old inst_regs.old (tables_of self.old))) }
+        ensures stops { StopsOnlyIf (AllocInstFails cx.now.inst cx.now.ends_block cx.now.operands.now cx.now.clobbers here.old inst_regs.old) result self.old }
         ensures spill_free { OnOk result ((names : List VirtualRegister) (gone : ℕ → Bool) → FitInRegs names self.old.registers.allocatable →
             ((late : Bool) → ArePlain names gone cx.now.operands.now late) → ((r : Register) → has_register cx.now.clobbers r ≡ false) →
             IsSpillFree names gone self.old.registers (tables_of self.old) inst_regs.old
@@ -335,13 +331,16 @@ impl<'a, A: Allocator> State<'a, A> {
         requires room { start + length cx.now.operands.now ≤ length allocs.old }
         requires no_places { (k : ℕ) → k < start + length cx.now.operands.now → slice_index_or allocs.old k NoPlace ≡ NoPlace }
         requires fresh { IsFresh inst_regs.old (tables_of self.old) }
-        ensures ok { OnOk result (AllocsInstInto inst_regs.new cx.now.inst (record
-            { operands = cx.now.operands.now; clobbers = cx.now.clobbers; is_branch = false; is_ret = cx.now.ends_block }) start allocs.old allocs.new
-            (tables_of self.old) (tables_of self.new)) }
+        ensures ok { Makes (AllocsInstInto inst_regs.new cx.now.inst (record {
+          operands = cx.now.operands.now;
+          clobbers = cx.now.clobbers;
+          is_branch = false;
+          is_ret = cx.now.ends_block;
+        }) start allocs.old allocs.new) result self.old self.new }
         ensures step { IsStepAt (before cx.now.inst) result self.old self.new }
-        ensures stops { IfErr result (OutOfRegsOnlyIf ((blank : List Place) × (length blank ≡ length cx.now.operands.now)
-            × ((k : ℕ) → slice_index_or blank k NoPlace ≡ NoPlace) × AllocInstFails cx.now.inst cx.now.ends_block cx.now.operands.now
-            cx.now.clobbers blank inst_regs.old (tables_of self.old))) }
+        ensures stops { StopsOnlyIf (λ t. (blank : List Place) × (length blank ≡ length cx.now.operands.now)
+            × ((k : ℕ) → slice_index_or blank k NoPlace ≡ NoPlace) × AllocInstFails cx.now.inst cx.now.ends_block cx.now.operands.now cx.now.clobbers blank
+            inst_regs.old t) result self.old }
         ensures spill_free { OnOk result ((names : List VirtualRegister) (gone : ℕ → Bool) → FitInRegs names self.old.registers.allocatable →
             ((late : Bool) → ArePlain names gone cx.now.operands.now late) → ((r : Register) → has_register cx.now.clobbers r ≡ false) →
             IsSpillFree names gone self.old.registers (tables_of self.old) inst_regs.old

@@ -13,9 +13,9 @@ ghost use Rattle.regalloc2_fastalloc_state.specs.InstRegs.{IsAvailableAt, SameAv
 ghost use Rattle.regalloc2_fastalloc_proofs.specs.InstSteps.{awaited_less, is_another, scratch_reserve_left, FreesDef, AllocsOperand, IsAffordable};
 ghost use Rattle.regalloc2_fastalloc_proofs.specs.InstSteps.{MayHold, ClaimsPlace, SelectsPlace, AllocsDefOp, AllocsUse, SameMachine, AddsMoveIf};
 ghost use Rattle.regalloc2_fastalloc_proofs.specs.InstSteps.{MeetsRequirement};
-ghost use Rattle.regalloc2_fastalloc_proofs.specs.OutOfRegs.{NoneIsAvailable, OutOfRegsOnlyIf, EvictPRegFails, AllocDefOpFails, FreeDefFails};
+ghost use Rattle.regalloc2_fastalloc_proofs.specs.OutOfRegs.{NoneIsAvailable, EvictPRegFails, AllocDefOpFails, FreeDefFails};
 ghost use Rattle.regalloc2_fastalloc_proofs.specs.OutOfRegs.{AllocOperandFails, SelectPlaceFails, AddMoveIfFails};
-ghost use Rattle.regalloc2_fastalloc_walk.specs.StateView.{IsStepAt, tables_of};
+ghost use Rattle.regalloc2_fastalloc_walk.specs.StateView.{Between, IsStepAt, Makes, MakesOne, SameTables, StopsOnlyIf, tables_of};
 
 use super::state::State;
 use regalloc2_fastalloc_state::inst_regs::{InstRegs, Positions};
@@ -183,10 +183,13 @@ impl<'a, A: Allocator> State<'a, A> {
         ensures oldest { IfSome result (λ r. (free : PRegSet) × ((q : Register) → is_free_throughout inst_regs.now q ≡ true → has_register free q ≡ true)
             × (find (has_register free) (reverse (lru_of self.now.registers request.now.vreg.class)) ≡ Some r)) }
     {
+        let class = request.vreg.class();
         let free = inst_regs.available_pregs(request.positions);
-        let preg = self
-            .registers
-            .least_recently_used(request.vreg.class(), free)?;
+        if free.is_empty(class) {
+            // where an instruction has more operands than there are registers, each of the others comes here
+            return None;
+        }
+        let preg = self.registers.least_recently_used(class, free)?;
         match request.requirement {
             Requirement::AnyReg => Some(preg),
             Requirement::AnyPlace if self.prefers_register(inst_regs, request, preg) => Some(preg),
@@ -202,15 +205,15 @@ impl<'a, A: Allocator> State<'a, A> {
         request: &OperandRequest,
     ) -> Result<Allocation, RegAllocError>
         requires { request.now.vreg.number < length self.old.places.vreg_allocs }
-        ensures ok { IfOk result (λ p. SelectsPlace inst_regs.now request.now p (tables_of self.old) (tables_of self.new)) }
+        ensures ok { MakesOne (λ p. SelectsPlace inst_regs.now request.now p) result self.old self.new }
         ensures affordable { IfOk result (λ p. request.now.requirement ≡ Requirement.AnyPlace → (r : Register) → p ≡ InRegister r →
             IsAffordable inst_regs.now (tables_of self.old) r) }
         ensures there { IfOk result (λ p. p ≢ NoPlace) }
         ensures places { self.new.places ≡ self.old.places }
         ensures edits { self.new.edits ≡ self.old.edits }
-        ensures machine { SameMachine (tables_of self.old) (tables_of self.new) }
+        ensures machine { Between SameMachine self.old self.new }
         ensures err { IfErr result (IsResourceErrorIn self.new.slots) }
-        ensures stops { IfErr result (OutOfRegsOnlyIf (SelectPlaceFails request.now inst_regs.now (tables_of self.old))) }
+        ensures stops { StopsOnlyIf (SelectPlaceFails request.now inst_regs.now) result self.old }
         ensures registers { OnOk result (self.new.registers ≡ self.old.registers) }
         ensures chooses { IfOk result (λ p. request.now.requirement ≡ Requirement.AnyReg →
             (MeetsRequirement (tables_of self.old) Requirement.AnyReg (alloc_of self.old.places request.now.vreg.number) → ⊥) →
@@ -239,15 +242,15 @@ impl<'a, A: Allocator> State<'a, A> {
         request: &OperandRequest,
     ) -> Result<Allocation, RegAllocError>
         requires { request.now.vreg.number < length self.old.places.vreg_allocs }
-        ensures ok { IfOk result (λ p. SelectsPlace inst_regs.now request.now p (tables_of self.old) (tables_of self.new)) }
+        ensures ok { MakesOne (λ p. SelectsPlace inst_regs.now request.now p) result self.old self.new }
         ensures affordable { IfOk result (λ p. request.now.requirement ≡ Requirement.AnyPlace → (r : Register) → p ≡ InRegister r →
             IsAffordable inst_regs.now (tables_of self.old) r) }
         ensures there { IfOk result (λ p. p ≢ NoPlace) }
         ensures places { self.new.places ≡ self.old.places }
         ensures edits { self.new.edits ≡ self.old.edits }
-        ensures machine { SameMachine (tables_of self.old) (tables_of self.new) }
+        ensures machine { Between SameMachine self.old self.new }
         ensures err { IfErr result (IsResourceErrorIn self.new.slots) }
-        ensures stops { IfErr result (OutOfRegsOnlyIf (SelectPlaceFails request.now inst_regs.now (tables_of self.old))) }
+        ensures stops { StopsOnlyIf (SelectPlaceFails request.now inst_regs.now) result self.old }
         ensures registers { OnOk result (self.new.registers ≡ self.old.registers) }
         ensures chooses { IfOk result (λ p. request.now.requirement ≡ Requirement.AnyReg →
             SelectsAnyReg inst_regs.now request.now.vreg self.old.registers (tables_of self.old) p) }
@@ -265,7 +268,7 @@ impl<'a, A: Allocator> State<'a, A> {
     /// An allocatable register counts as used just now if it wasn't asked for by name.
     #[inline(always)]
     fn note_taken(&mut self, requirement: Requirement, preg: PReg)
-        ensures tables { tables_of self.new ≡ tables_of self.old }
+        ensures tables { SameTables self.old self.new }
         ensures order { requirement ≡ Requirement.AnyReg → Pokes preg self.old.registers self.new.registers }
     {
         if !self.registers.is_allocatable(preg) {
@@ -286,11 +289,11 @@ impl<'a, A: Allocator> State<'a, A> {
         preg: PReg,
     ) -> Result<(), RegAllocError>
         requires { AllAtOrAfter point self.old.edits }
-        ensures ok { OnOk result (ClaimsPlace point request.now (InRegister preg) inst_regs.old inst_regs.new (tables_of self.old) (tables_of self.new)) }
+        ensures ok { Makes (ClaimsPlace point request.now (InRegister preg) inst_regs.old inst_regs.new) result self.old self.new }
         ensures awaited { inst_regs.new.awaited ≡ inst_regs.old.awaited }
         ensures alone { OnOk result (alloc_of self.new.places request.now.vreg.number ≡ NoPlace → vreg_of_preg self.new.places preg ≡ None) }
         ensures step { IsStepAt point result self.old self.new }
-        ensures stops { IfErr result (OutOfRegsOnlyIf (EvictPRegFails preg inst_regs.old (tables_of self.old))) }
+        ensures stops { StopsOnlyIf (EvictPRegFails preg inst_regs.old) result self.old }
         ensures order { OnOk result (request.now.requirement ≡ Requirement.AnyReg → Pokes preg self.old.registers self.new.registers) }
     {
         self.evict_others(inst_regs, point, preg, request.vreg)?;
@@ -310,12 +313,12 @@ impl<'a, A: Allocator> State<'a, A> {
     ) -> Result<(), RegAllocError>
         requires later { AllAtOrAfter point self.old.edits }
         requires there { place ≢ NoPlace }
-        ensures ok { OnOk result (ClaimsPlace point request.now place inst_regs.old inst_regs.new (tables_of self.old) (tables_of self.new)) }
+        ensures ok { Makes (ClaimsPlace point request.now place inst_regs.old inst_regs.new) result self.old self.new }
         ensures awaited { inst_regs.new.awaited ≡ inst_regs.old.awaited }
         ensures alone { OnOk result ((r : Register) → place ≡ InRegister r → alloc_of self.new.places request.now.vreg.number ≡ NoPlace →
             vreg_of_preg self.new.places r ≡ None) }
         ensures step { IsStepAt point result self.old self.new }
-        ensures stops { IfErr result (OutOfRegsOnlyIf ((r : Register) × (place ≡ InRegister r) × EvictPRegFails r inst_regs.old (tables_of self.old))) }
+        ensures stops { StopsOnlyIf (λ t. (r : Register) × (place ≡ InRegister r) × EvictPRegFails r inst_regs.old t) result self.old }
         ensures order { OnOk result (request.now.requirement ≡ Requirement.AnyReg → (r : Register) → place ≡ InRegister r →
             Pokes r self.old.registers self.new.registers) }
     {
@@ -336,12 +339,12 @@ impl<'a, A: Allocator> State<'a, A> {
     ) -> Result<Allocation, RegAllocError>
         requires later { AllAtOrAfter point self.old.edits }
         requires vreg { request.now.vreg.number < length self.old.places.vreg_allocs }
-        ensures ok { IfOk result (λ p. AllocsOperand point request.now p inst_regs.old inst_regs.new (tables_of self.old) (tables_of self.new)) }
+        ensures ok { MakesOne (λ p. AllocsOperand point request.now p inst_regs.old inst_regs.new) result self.old self.new }
         ensures awaited { OnOk result (inst_regs.new.awaited ≡ awaited_less request.now.requirement request.now.vreg.class inst_regs.old.awaited) }
         ensures alone { IfOk result (λ p. (r : Register) → p ≡ InRegister r → alloc_of self.new.places request.now.vreg.number ≡ NoPlace →
             vreg_of_preg self.new.places r ≡ None) }
         ensures step { IsStepAt point result self.old self.new }
-        ensures stops { IfErr result (OutOfRegsOnlyIf (AllocOperandFails request.now inst_regs.old (tables_of self.old))) }
+        ensures stops { StopsOnlyIf (AllocOperandFails request.now inst_regs.old) result self.old }
         ensures takes { IfOk result (λ p. request.now.requirement ≡ Requirement.AnyReg →
             AllocsAnyReg inst_regs.old request.now.vreg p (tables_of self.old) self.old.registers self.new.registers) }
     {
@@ -361,10 +364,10 @@ impl<'a, A: Allocator> State<'a, A> {
         m: PlaceMove,
     ) -> Result<(), RegAllocError>
         requires { AllAtOrAfter point self.old.edits }
-        ensures ok { OnOk result (AddsMoveIf point m.class is_made m.from m.to inst_regs.old inst_regs.new (tables_of self.old) (tables_of self.new)) }
+        ensures ok { Makes (AddsMoveIf point m.class is_made m.from m.to inst_regs.old inst_regs.new) result self.old self.new }
         ensures awaited { inst_regs.new.awaited ≡ inst_regs.old.awaited }
         ensures step { IsStepAt point result self.old self.new }
-        ensures stops { IfErr result (OutOfRegsOnlyIf (AddMoveIfFails m.class is_made m.from m.to inst_regs.old (tables_of self.old))) }
+        ensures stops { StopsOnlyIf (AddMoveIfFails m.class is_made m.from m.to inst_regs.old) result self.old }
         ensures registers { OnOk result (self.new.registers ≡ self.old.registers) }
     {
         if !is_made {
@@ -387,10 +390,10 @@ impl<'a, A: Allocator> State<'a, A> {
     ) -> Result<(), RegAllocError>
         requires later { AllAtOrAfter point self.old.edits }
         requires vreg { vreg.number < length self.old.places.vreg_allocs }
-        ensures ok { OnOk result (FreesDef point vreg is_ret place inst_regs.old inst_regs.new (tables_of self.old) (tables_of self.new)) }
+        ensures ok { Makes (FreesDef point vreg is_ret place inst_regs.old inst_regs.new) result self.old self.new }
         ensures awaited { inst_regs.new.awaited ≡ inst_regs.old.awaited }
         ensures step { IsStepAt point result self.old self.new }
-        ensures stops { IfErr result (OutOfRegsOnlyIf (FreeDefFails point vreg is_ret place inst_regs.old (tables_of self.old))) }
+        ensures stops { StopsOnlyIf (FreeDefFails point vreg is_ret place inst_regs.old) result self.old }
         ensures registers { OnOk result (self.new.registers ≡ self.old.registers) }
     {
         let class = vreg.class();
@@ -426,9 +429,9 @@ impl<'a, A: Allocator> State<'a, A> {
     ) -> Result<Allocation, RegAllocError>
         requires later { AllAtOrAfter point self.old.edits }
         requires vreg { request.now.vreg.number < length self.old.places.vreg_allocs }
-        ensures ok { IfOk result (λ p. AllocsDefOp point request.now is_ret p inst_regs.old inst_regs.new (tables_of self.old) (tables_of self.new)) }
+        ensures ok { MakesOne (λ p. AllocsDefOp point request.now is_ret p inst_regs.old inst_regs.new) result self.old self.new }
         ensures step { IsStepAt point result self.old self.new }
-        ensures stops { IfErr result (OutOfRegsOnlyIf (AllocDefOpFails point request.now is_ret inst_regs.old (tables_of self.old))) }
+        ensures stops { StopsOnlyIf (AllocDefOpFails point request.now is_ret inst_regs.old) result self.old }
         ensures takes { IfOk result (λ p. request.now.requirement ≡ Requirement.AnyReg →
             AllocsAnyReg inst_regs.old request.now.vreg p (tables_of self.old) self.old.registers self.new.registers) }
     {
@@ -446,9 +449,9 @@ impl<'a, A: Allocator> State<'a, A> {
     ) -> Result<Allocation, RegAllocError>
         requires later { AllAtOrAfter point self.old.edits }
         requires vreg { request.now.vreg.number < length self.old.places.vreg_allocs }
-        ensures ok { IfOk result (λ p. AllocsUse point request.now p inst_regs.old inst_regs.new (tables_of self.old) (tables_of self.new)) }
+        ensures ok { MakesOne (λ p. AllocsUse point request.now p inst_regs.old inst_regs.new) result self.old self.new }
         ensures step { IsStepAt point result self.old self.new }
-        ensures stops { IfErr result (OutOfRegsOnlyIf (AllocOperandFails request.now inst_regs.old (tables_of self.old))) }
+        ensures stops { StopsOnlyIf (AllocOperandFails request.now inst_regs.old) result self.old }
         ensures takes { IfOk result (λ p. request.now.requirement ≡ Requirement.AnyReg →
             AllocsAnyReg inst_regs.old request.now.vreg p (tables_of self.old) self.old.registers self.new.registers) }
     {

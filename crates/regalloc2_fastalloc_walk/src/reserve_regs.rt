@@ -8,7 +8,7 @@ ghost use Rattle.regalloc2_fastalloc_state.specs.OutOfResources.{IsResourceError
 ghost use Rattle.regalloc2_validate.specs.Constraints.{op_at};
 ghost use Rattle.regalloc2_fastalloc_proofs.specs.InstSteps.{NeedsFixedReg, ReservesRegs, RemovesClobbers, EvictsFixed, EvictsEach};
 ghost use Rattle.regalloc2_fastalloc_proofs.specs.OutOfRegs.{OutOfRegsOnlyIf, EvictClobbersFails, EvictFixedFails, ReserveRegsFails};
-ghost use Rattle.regalloc2_fastalloc_walk.specs.StateView.{IsStepAt, tables_of};
+ghost use Rattle.regalloc2_fastalloc_walk.specs.StateView.{IsStepAt, Makes, SameTables, StopsOnlyIf, tables_of};
 ghost use Rattle.regalloc2_fastalloc_walk.specs.ReserveSteps.{AwaitsOne, ReservesOnly, IsNewlyReserved, IsReservedAt, IsReserved, Grows, Shrinks};
 ghost use Rattle.regalloc2_fastalloc_walk.specs.ReserveSteps.{ReservesRegForOperand, ReserveForOperandFails, TakesOnly};
 
@@ -96,18 +96,23 @@ fn reserved_by(operands: &[Operand], k: usize) -> Option<(PReg, Positions)>
     ensures all { (r : Register) (p : Positions) → NeedsFixedReg operands.now k r p → result ≡ Some (r, p) }
 {
     let operand = operands[k];
-    if let Some(preg) = fixed_register(operand) {
-        if operand.as_fixed_nonallocatable().is_some() {
-            return None;
+    match operand.constraint() {
+        OperandConstraint::FixedReg(preg) => {
+            if operand.as_fixed_nonallocatable().is_some() {
+                return None;
+            }
+            Some((preg, Positions::of(operand)))
         }
-        return Some((preg, Positions::of(operand)));
+        OperandConstraint::Reuse(_) => {
+            let preg = reused_register(operand, operands)?;
+            let positions = Positions {
+                early: false,
+                late: true,
+            };
+            Some((preg, positions))
+        }
+        _ => None,
     }
-    let preg = reused_register(operand, operands)?;
-    let positions = Positions {
-        early: false,
-        late: true,
-    };
-    Some((preg, positions))
 }
 
 impl<'a, A: Allocator> State<'a, A> {
@@ -147,7 +152,7 @@ impl<'a, A: Allocator> State<'a, A> {
         preg: PReg,
         positions: Positions,
     )
-        ensures same { tables_of self.new ≡ tables_of self.old }
+        ensures same { SameTables self.old self.new }
         ensures shrinks { Shrinks inst_regs.old inst_regs.new }
         ensures takes { TakesOnly preg inst_regs.old inst_regs.new }
         ensures awaited { inst_regs.new.awaited ≡ inst_regs.old.awaited }
@@ -174,9 +179,9 @@ impl<'a, A: Allocator> State<'a, A> {
         requires { k < length operands.now }
         ensures ok { OnOk result (ReservesRegForOperand operands.now k inst_regs.old inst_regs.new claims.old claims.new (tables_of self.old)) }
         ensures awaited { OnOk result (AwaitsOne operands.now k inst_regs.old inst_regs.new) }
-        ensures same { tables_of self.new ≡ tables_of self.old }
+        ensures same { SameTables self.old self.new }
         ensures err { IfErr result (IsResourceErrorIn self.new.slots) }
-        ensures stops { IfErr result (OutOfRegsOnlyIf (ReserveForOperandFails operands.now k claims.old (tables_of self.old))) }
+        ensures stops { StopsOnlyIf (ReserveForOperandFails operands.now k claims.old) result self.old }
         ensures registers { OnOk result (((r : Register) → (op_at operands.now k).constraint ≡ OperandConstraint.FixedReg r → ⊥) →
             self.new.registers ≡ self.old.registers) }
     {
@@ -201,9 +206,9 @@ impl<'a, A: Allocator> State<'a, A> {
         operands: &[Operand],
     ) -> Result<(), RegAllocError>
         ensures ok { OnOk result (ReservesRegs operands.now inst_regs.old inst_regs.new (tables_of self.old)) }
-        ensures same { tables_of self.new ≡ tables_of self.old }
+        ensures same { SameTables self.old self.new }
         ensures err { IfErr result (IsResourceErrorIn self.new.slots) }
-        ensures stops { IfErr result (OutOfRegsOnlyIf (ReserveRegsFails operands.now (tables_of self.old))) }
+        ensures stops { StopsOnlyIf (ReserveRegsFails operands.now) result self.old }
         ensures registers { OnOk result (((k : ℕ) (r : Register) → k < length operands.now →
             (op_at operands.now k).constraint ≡ OperandConstraint.FixedReg r → ⊥) → self.new.registers ≡ self.old.registers) }
     {
@@ -221,7 +226,7 @@ impl<'a, A: Allocator> State<'a, A> {
         clobbers: PRegSet,
     )
         ensures removed { RemovesClobbers clobbers inst_regs.old inst_regs.new }
-        ensures same { tables_of self.new ≡ tables_of self.old }
+        ensures same { SameTables self.old self.new }
         ensures registers { self.new.registers ≡ self.old.registers }
     {
         inst_regs.remove_late(clobbers);
@@ -235,18 +240,24 @@ impl<'a, A: Allocator> State<'a, A> {
         operands: &[Operand],
     ) -> Result<(), RegAllocError>
         requires { AllAtOrAfter point self.old.edits }
-        ensures ok { OnOk result (EvictsFixed point operands.now inst_regs.old (tables_of self.old) (length operands.now) inst_regs.new (tables_of self.new)) }
+        ensures ok { Makes (λ t. EvictsFixed point operands.now inst_regs.old t (length operands.now) inst_regs.new) result self.old self.new }
         ensures awaited { inst_regs.new.awaited ≡ inst_regs.old.awaited }
         ensures step { IsStepAt point result self.old self.new }
-        ensures stops { IfErr result (OutOfRegsOnlyIf (EvictFixedFails point operands.now inst_regs.old (tables_of self.old))) }
+        ensures stops { StopsOnlyIf (EvictFixedFails point operands.now inst_regs.old) result self.old }
         ensures registers { OnOk result (self.new.registers ≡ self.old.registers) }
     {
         for k in 0..operands.len() {
             let operand = operands[k];
-            if let Some(preg) = fixed_register(operand) {
-                self.evict_others(inst_regs, point, preg, operand.vreg())?;
-            } else if let Some(preg) = reused_register(operand, operands) {
-                self.evict_preg(inst_regs, point, preg)?;
+            match operand.constraint() {
+                OperandConstraint::FixedReg(preg) => {
+                    self.evict_others(inst_regs, point, preg, operand.vreg())?;
+                }
+                OperandConstraint::Reuse(_) => {
+                    if let Some(preg) = reused_register(operand, operands) {
+                        self.evict_preg(inst_regs, point, preg)?;
+                    }
+                }
+                _ => {}
             }
         }
         Ok(())
@@ -260,10 +271,10 @@ impl<'a, A: Allocator> State<'a, A> {
         clobbers: PRegSet,
     ) -> Result<(), RegAllocError>
         requires { AllAtOrAfter point self.old.edits }
-        ensures ok { OnOk result (EvictsEach point (registers_of clobbers) inst_regs.old (tables_of self.old) inst_regs.new (tables_of self.new)) }
+        ensures ok { Makes (λ t. EvictsEach point (registers_of clobbers) inst_regs.old t inst_regs.new) result self.old self.new }
         ensures awaited { inst_regs.new.awaited ≡ inst_regs.old.awaited }
         ensures step { IsStepAt point result self.old self.new }
-        ensures stops { IfErr result (OutOfRegsOnlyIf (EvictClobbersFails point inst_regs.old (tables_of self.old))) }
+        ensures stops { StopsOnlyIf (EvictClobbersFails point inst_regs.old) result self.old }
         ensures registers { OnOk result (self.new.registers ≡ self.old.registers) }
     {
         for preg in clobbers {

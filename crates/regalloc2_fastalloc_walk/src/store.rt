@@ -16,7 +16,7 @@ ghost use Rattle.regalloc2_fastalloc_proofs.specs.OutOfRegs.{OutOfRegsOnlyIf, St
 ghost use Rattle.regalloc2_fastalloc_proofs.specs.StoreSteps.{IsStoredFor, StoresBranchDefs, pushed_moves};
 ghost use Rattle.regalloc2_fastalloc_walk.specs.BranchStores.{FindsDefined, FindsStore, FindsStores, IsMadeOf, LacksStoreReg, ListsGiven, ListsParams};
 ghost use Rattle.regalloc2_fastalloc_walk.specs.BranchStores.{ListsStores, PushesStores, own_store};
-ghost use Rattle.regalloc2_fastalloc_walk.specs.StateView.{IsStepAt, MakesSlots, tables_of};
+ghost use Rattle.regalloc2_fastalloc_walk.specs.StateView.{IsStepAt, Makes, MakesSlots, SameTables, StopsOnlyIf, tables_of};
 
 use super::operand::PlaceMove;
 use super::state::State;
@@ -228,9 +228,9 @@ impl<'a, A: Allocator> State<'a, A> {
         moves: &[PlaceMove],
     ) -> Result<(), RegAllocError>
         requires { AllAtOrAfter point self.old.edits }
-        ensures ok { OnOk result (PushesStores point from_memory moves.now (tables_of self.old) (tables_of self.new)) }
+        ensures ok { Makes (PushesStores point from_memory moves.now) result self.old self.new }
         ensures step { IsStepAt point result self.old self.new }
-        ensures stops { IfErr result (OutOfRegsOnlyIf (LacksStoreReg (tables_of self.old) moves.now)) }
+        ensures stops { StopsOnlyIf (λ t. LacksStoreReg t moves.now) result self.old }
         ensures registers { OnOk result (self.new.registers ≡ self.old.registers) }
     {
         let mut k = moves.len();
@@ -260,12 +260,12 @@ impl<'a, A: Allocator> State<'a, A> {
         requires long { length self.old.slots.vreg_spillslots ≡ (F.function f.now).num_vregs }
         requires apart { AreApart (tables_of self.old) }
         requires later { AllAtOrAfter (before (block_at (F.function f.now) block).range.first) self.old.edits }
-        ensures ok { OnOk result (StoresBranchDefs (F.function f.now) block (tables_of self.old) (tables_of self.new)) }
+        ensures ok { Makes (StoresBranchDefs (F.function f.now) block) result self.old self.new }
         ensures step { IsStepAt (before (block_at (F.function f.now) block).range.first) result self.old self.new }
-        ensures stops { IfErr result (OutOfRegsOnlyIf (StoreBranchDefsFails (F.function f.now) block (tables_of self.old))) }
+        ensures stops { StopsOnlyIf (StoreBranchDefsFails (F.function f.now) block) result self.old }
         ensures registers { OnOk result (self.new.registers ≡ self.old.registers) }
-        ensures none { OnOk result (((e k j : ℕ) (v : VirtualRegister) → IsEdgeInto (F.function f.now) block e k →
-            IsStoredFor (F.function f.now) e k self.old.slots j v → ⊥) → tables_of self.new ≡ tables_of self.old) }
+        ensures none { OnOk result (((e k j : ℕ) (v : VirtualRegister) → IsEdgeInto (F.function f.now) block e k → IsStoredFor (F.function f.now) e k
+            self.old.slots j v → ⊥) → SameTables self.old self.new) }
     {
         let Some(edge) = defs.edge_into(block) else {
             return Ok(());

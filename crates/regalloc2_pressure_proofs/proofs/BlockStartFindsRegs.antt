@@ -51,7 +51,7 @@ module _ (Named : RegClass → Type 0) (needed : RegClass → ℕ) (point : ℕ)
       HasAll env old → AreSafeRegs env t → HasEnoughRegs Named needed t old → HasEnoughRegs Named needed u new
   ample_parameter v t u old new (nowhere none eu en) known h all ht a = ample_none Named needed t u old new eu en a
   ample_parameter v t u old new (comes s m there gives settles edits machine sends) known h all ht a =
-      ample_sends Named needed point env apart Known named v (not (is_place s (alloc_of old.places v.number))) s (alloc_of old.places v.number) t u m new sends
+      ample_sends Named needed point env apart Known named v sends
       (parameter_ends v s old m known h gives there) (all_kept env old m (keeps_of old m machine) all) ht
       (ample_kept Named needed t old m (keeps_of old m machine) a)
 
@@ -66,24 +66,24 @@ module _ (Named : RegClass → Type 0) (needed : RegClass → ℕ) (point : ℕ)
   module _ (params : List VirtualRegister) (known : (k : ℕ) → k < length params → Known (slice_index_or params k no_vreg)) (t : InstRegs) (old : StateValue)
       (h : AreSafe env Known old) (all : HasAll env old) (ht : AreSafeRegs env t) (a : HasEnoughRegs Named needed t old) where
     -- reloading a block's first k parameters keeps the state safe
-    pub parameters_part : (k : ℕ) (u : InstRegs) (m : StateValue) → ReloadsParams point params t old k u m → PartKept env Known AllWrite AllMay old u m
-    parameters_part k u m begun = parameters_kept env apart Known AllWrite AllMay point tt params known t old h ht k u m begun
+    pub parameters_part : {k : ℕ} {u : InstRegs} {m : StateValue} → ReloadsParams point params t old k u m → PartKept env Known AllWrite AllMay old u m
+    parameters_part {k} {u} {m} begun = parameters_kept env apart Known AllWrite AllMay point tt params known t old h ht k u m begun
 
     -- reloading a block's first k parameters leaves registers enough
-    pub ample_parameters : (k : ℕ) (u : InstRegs) (m : StateValue) → ReloadsParams point params t old k u m → HasEnoughRegs Named needed u m
-    ample_parameters k u new none_begun = a
-    ample_parameters k u new (one_begun j w x m n lt prev one) =
-        let p = parameters_part j w m prev in
+    pub ample_parameters : {k : ℕ} {u : InstRegs} {m : StateValue} → ReloadsParams point params t old k u m → HasEnoughRegs Named needed u m
+    ample_parameters none_begun = a
+    ample_parameters {u} {m = new} (one_begun j w x m n lt prev one) =
+        let p = parameters_part prev in
         ample_parameter (slice_index_or params j no_vreg) w u m new one (known j lt) p.safe
-        (all_kept env old m (parameters_keep point params t old j w m prev) all) p.inst_regs (ample_parameters j w m prev)
+        (all_kept env old m (parameters_keep point params t old j w m prev) all) p.inst_regs (ample_parameters prev)
 
     -- where registers are enough, no parameter's reload lacks one
     pub never_parameters : ReloadParamsFails point params t old → ⊥
     never_parameters s =
-        let p = parameters_part s.index s.inst_regs s.middle s.begun in
+        let p = parameters_part s.begun in
         never_parameter (slice_index_or params s.index no_vreg) s.inst_regs s.middle s.stops (known s.index s.inside) p.safe
         (all_kept env old s.middle (parameters_keep point params t old s.index s.inst_regs s.middle s.begun) all)
-        (ample_parameters s.index s.inst_regs s.middle s.begun)
+        (ample_parameters s.begun)
 
   -- all registers
   module _ (t : InstRegs) (old : StateValue) (h : AreSafe env Known old) (ht : AreSafeRegs env t) (a : HasEnoughRegs Named needed t old) where
@@ -115,6 +115,6 @@ never_begin f env fits apart Known named point params known old h all (at_parame
 never_begin f env fits apart Known named point params known old h all (at_register began begun m fresh parameters s) =
     let ht = fresh_turn env began fresh.scratch in
     let a = fresh_ample f env fits began old all (starts_fresh began old fresh) in
-    let p = parameters_part (NamesClass f) none_needed point env apart Known named params known began old h all ht a (length params) begun m parameters in
+    let p = parameters_part (NamesClass f) none_needed point env apart Known named params known began old h all ht a parameters in
     never_empties (NamesClass f) none_needed point env apart Known named begun m p.safe p.inst_regs
-    (ample_parameters (NamesClass f) none_needed point env apart Known named params known began old h all ht a (length params) begun m parameters) s
+    (ample_parameters (NamesClass f) none_needed point env apart Known named params known began old h all ht a parameters) s

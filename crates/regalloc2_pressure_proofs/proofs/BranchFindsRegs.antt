@@ -122,20 +122,20 @@ module _ (Named : RegClass → Type 0) (needed : RegClass → ℕ) (point : ℕ)
         gathers
 
     -- gathering the arguments of a block's first k edges leaves registers enough
-    pub ample_gathers : (k : ℕ) (u : InstRegs) (m : StateValue) (given : List ClassMove) → GathersMoves f b point t old k u m given
+    pub ample_gathers : {k : ℕ} {u : InstRegs} {m : StateValue} {given : List ClassMove} → GathersMoves f b point t old k u m given
         → HasEnoughRegs Named needed u m
-    ample_gathers k u new given no_edge = a
-    ample_gathers k u new given (one_edge j some more w x m n lt prev edge) =
+    ample_gathers no_edge = a
+    ample_gathers {u} {m = new} {given} (one_edge j some more w x m n lt prev edge) =
         let p = gathered_kept j w m some prev in
         ample_edge (IsOwn f b) (block_at f (target_at f b j)).params (arguments_at f b j) (λ i less. known j i lt less) w m some p.0.safe p.0.inst_regs p.1
-        (ample_gathers j w m some prev) (length (block_at f (target_at f b j)).params) u new given edge
+        (ample_gathers prev) (length (block_at f (target_at f b j)).params) u new given edge
 
     never_gather : GatherMovesFails f b point t old → ⊥
     never_gather s =
         let p = gathered_kept s.index s.inst_regs s.middle s.given s.gathers in
         never_edge (IsOwn f b) (block_at f (target_at f b s.index)).params (arguments_at f b s.index) (λ i less. known s.index i s.inside less) s.inst_regs
         s.middle s.given
-        p.0.safe p.0.inst_regs p.1 (ample_gathers s.index s.inst_regs s.middle s.given s.gathers) s.stops
+        p.0.safe p.0.inst_regs p.1 (ample_gathers s.gathers) s.stops
 
 -- the class of each move is that of an argument
 module _ (P : RegClass → Type 0) (point : ℕ) where
@@ -160,17 +160,17 @@ module _ (P : RegClass → Type 0) (point : ℕ) where
       (length (block_at f (target_at f b j)).params) u m given edge
 
 -- a branch never stops
-pub never_pass : (f : FunctionValue) (env : MachineValue) (fits : MachineFits f env) (apart : IsApart env) (Known : VirtualRegister → Type 0)
-    (named : (v : VirtualRegister) → Known v → NamesClass f v.class) (needed : RegClass → ℕ) (b i : ℕ)
+pub never_pass : {f : FunctionValue} {env : MachineValue} (fits : MachineFits f env) (apart : IsApart env) (Known : VirtualRegister → Type 0)
+    (named : (v : VirtualRegister) → Known v → NamesClass f v.class) (needed : RegClass → ℕ) {b i : ℕ}
     → ((k j : ℕ) → k < length (block_at f b).succs → j < length (block_at f (target_at f b k)).params →
     Known (slice_index_or (block_at f (target_at f b k)).params j no_vreg) × Unit {0})
     → ((k j : ℕ) → k < length (block_at f b).succs → j < length (block_at f (target_at f b k)).params →
     NamesClass f (slice_index_or (arguments_at f b k) j no_vreg).class)
-    → (t : InstRegs) (old : StateValue) → AreSafe env Known old → HasAll env old → AreSafeRegs env t → HasEnoughRegs (NamesClass f) needed t old
+    → {t : InstRegs} {old : StateValue} → AreSafe env Known old → HasAll env old → AreSafeRegs env t → HasEnoughRegs (NamesClass f) needed t old
     → ProcessBranchFails f b i t old → ⊥
-never_pass f env fits apart Known named needed b i known each t old h all ht a (in_gather s) =
+never_pass {f} {env} fits apart Known named needed {b} {i} known each {t} {old} h all ht a (in_gather s) =
     never_gather (NamesClass f) needed (before i) env apart Known named f b known t old h ht a s
-never_pass f env fits apart Known named needed b i known each t old h all ht a (in_order class u m n given gathers same stops) =
+never_pass {f} {env} fits apart Known named needed {b} {i} known each {t} {old} h all ht a (in_order class u m n given gathers same stops) =
     stops.0 (none_of_class (NamesClass f) class given (all_classes (NamesClass f) (before i) f b each t old (length (block_at f b).succs) u m given gathers)
     (some_from f env fits m (all_kept env old m (gathers_keep f b (before i) t old (length (block_at f b).succs) u m given gathers) all) class
     (subst (λ (x : PRegSet). NoneIsFrom x class 0) same stops.1)))

@@ -66,10 +66,10 @@ IsPaid needed o p t old = (r : Register) → p ≡ InRegister r → is_free old.
 module _ (Named : RegClass → Type 0) (env : MachineValue) (apart : IsApart env) (Known : VirtualRegister → Type 0)
     (named : (v : VirtualRegister) → Known v → Named v.class) (point : ℕ) where
   -- an operand gets a place; needed: before, and less: after it
-  pub ample_gets : (needed less : RegClass → ℕ) (o : OperandRequest) (p : Place) (t u : InstRegs) (old new : StateValue) → AllocsOperand point o p t u old new →
+  pub ample_gets : (needed less : RegClass → ℕ) {o : OperandRequest} {p : Place} {t u : InstRegs} {old new : StateValue} → AllocsOperand point o p t u old new →
       ((c : RegClass) → less c ≤ needed c) → IsPaid less o p t old
       → AreHeld Known old → Fit old → AreSafeRegs env t → HasEnoughRegs Named needed t old → HasEnoughRegs Named less u new
-  ample_gets needed less o p t u old new g fewer paid held_by fit ht h = by_case g.occupies
+  ample_gets needed less {o} {p} {t} {u} {old} {new} g fewer paid held_by fit ht h = by_case g.occupies
     where
       same : KeepsMachine old g.middle
       same = picks_keeps t o p old g.middle g.picks
@@ -90,7 +90,7 @@ module _ (Named : RegClass → Type 0) (env : MachineValue) (apart : IsApart env
           then = clears_but_keeps point r o.vreg t m g.middle new clears
 
           emptied : HasEnoughRegs Named needed m new
-          emptied = ample_clears_but Named needed point env apart Known named r o.vreg t m g.middle new clears held_there ht at_middle
+          emptied = ample_clears_but Named needed point env apart Known named clears held_there ht at_middle
 
           sets : new.allocatable ≡ old.allocatable
           sets = then.allocatable ∙ same.allocatable
@@ -239,7 +239,7 @@ module _ (Named : RegClass → Type 0) (env : MachineValue) (apart : IsApart env
           record {
             stay_too = sends_stay point v.class _ p w t inst_regs left middle sends;
             all = all_kept env left middle (sends_keeps point v.class _ p w t inst_regs left middle sends) left_all;
-            ample = ample_sends Named needed point env apart Known named v _ p w t inst_regs left middle sends first_ends left_all ht left_ample;
+            ample = ample_sends Named needed point env apart Known named v sends first_ends left_all ht left_ample;
           })
 
     -- where registers are enough, the moves of a definition lack none
@@ -252,10 +252,10 @@ module _ (Named : RegClass → Type 0) (env : MachineValue) (apart : IsApart env
         (second_ends left slots machine middle s.stay_too) s.all s.ample
 
     -- freeing a definition and adding its moves leaves registers enough
-    pub ample_defines : (u : InstRegs) (new : StateValue) → FreesDef point v is_ret p t u old new → HasEnoughRegs Named needed u new
-    ample_defines u new d =
+    pub ample_defines : {u : InstRegs} {new : StateValue} → FreesDef point v is_ret p t u old new → HasEnoughRegs Named needed u new
+    ample_defines {u} {new} d =
         let s = first_sent d.left d.slots d.machine d.inst_regs d.middle d.awaited in
-        ample_sends Named needed point env apart Known named v _ p (slot_name old.slots v.number) d.inst_regs u d.middle new d.stored
+        ample_sends Named needed point env apart Known named v d.stored
         (second_ends d.left d.slots d.machine d.middle s.stay_too) s.all
         (sends_kept env apart Known AllWrite AllMay point tt v _ p (alloc_of old.places v.number) t d.inst_regs d.left d.middle d.awaited known
         (λ made. let e = first_ends d.left d.slots d.machine made in (e.0, e.1, λ n x. tt))

@@ -38,23 +38,23 @@ module _ (Named : RegClass → Type 0) (needed : RegClass → ℕ) (point : ℕ)
     fixed_kept k u m clears = clears_fixed_kept env apart Known AllWrite AllMay point tt ops t old h ht k u m clears
 
     -- evicting the fixed registers of the first k operands leaves registers enough
-    pub ample_fixed : (k : ℕ) (u : InstRegs) (m : StateValue) → EvictsFixed point ops t old k u m → HasEnoughRegs Named needed u m
-    ample_fixed k u m none_cleared = a
-    ample_fixed k u m (not_fixed j x s prev b c) = ample_fixed j u m prev
-    ample_fixed k u m (of_fixed j r x w s n prev is clears) =
+    pub ample_fixed : {k : ℕ} {u : InstRegs} {m : StateValue} → EvictsFixed point ops t old k u m → HasEnoughRegs Named needed u m
+    ample_fixed none_cleared = a
+    ample_fixed {u} {m} (not_fixed j x s prev b c) = ample_fixed prev
+    ample_fixed (of_fixed j r x w s n prev is clears) =
         let p = fixed_kept j x s prev in
-        ample_clears_but Named needed point env apart Known named r (op_at ops j).vreg x u s m clears (safe_held env Known s p.safe) p.inst_regs
-        (ample_fixed j x s prev)
-    ample_fixed k u m (of_reuse j l r x w s n prev b c d clears) =
+        ample_clears_but Named needed point env apart Known named clears (safe_held env Known s p.safe) p.inst_regs
+        (ample_fixed prev)
+    ample_fixed {u} {m} (of_reuse j l r x w s n prev b c d clears) =
         let p = fixed_kept j x s prev in
-        ample_clears Named needed point env apart Known named r x u s m clears (safe_held env Known s p.safe) p.inst_regs (ample_fixed j x s prev)
+        ample_clears Named needed point env apart Known named r x u s m clears (safe_held env Known s p.safe) p.inst_regs (ample_fixed prev)
 
     -- where registers are enough, evicting fixed registers lacks none
     pub never_fixed : EvictFixedFails point ops t old → ⊥
     never_fixed s =
         let p = fixed_kept s.index s.inst_regs s.middle s.clears in
         never_clear Named needed point env apart Known named s.register s.inst_regs s.middle s.stops (safe_held env Known s.middle p.safe)
-        (ample_fixed s.index s.inst_regs s.middle s.clears)
+        (ample_fixed s.clears)
 
   -- clobbers
   pub ample_all : (rs : List Register) (t u : InstRegs) (old new : StateValue) → EvictsEach point rs t old u new → AreSafe env Known old → AreSafeRegs env t →
@@ -97,14 +97,14 @@ module _ (Named : RegClass → Type 0) (needed : RegClass → ℕ) (point : ℕ)
         )
 
     -- moving the uses among the first k operands leaves registers enough
-    pub ample_uses : (k : ℕ) (u : InstRegs) (m : StateValue) → MovesUses point ops here t old k u m → k ≤ length ops → HasEnoughRegs Named needed u m
-    ample_uses k u m none_moved le = a
-    ample_uses k u m (not_moved j x s prev silent) le = ample_uses j u m prev (omega arith)
-    ample_uses k u m (one_moved j x w s n prev reads sends) le =
+    pub ample_uses : {k : ℕ} {u : InstRegs} {m : StateValue} → MovesUses point ops here t old k u m → k ≤ length ops → HasEnoughRegs Named needed u m
+    ample_uses none_moved le = a
+    ample_uses {u} {m} (not_moved j x s prev silent) le = ample_uses prev (omega arith)
+    ample_uses {u} {m} (one_moved j x w s n prev reads sends) le =
         let p = uses_kept j x s prev (omega arith) in
-        ample_sends Named needed point env apart Known named (op_at ops j).vreg _ (alloc_of s.places (op_at ops j).vreg.number) (at_place here j) x u s m sends
+        ample_sends Named needed point env apart Known named (op_at ops j).vreg sends
         (ends j s x p (omega arith) reads)
-        (all_kept env old s (moves_keep point ops here t old j x s prev) all) p.inst_regs (ample_uses j x s prev (omega arith))
+        (all_kept env old s (moves_keep point ops here t old j x s prev) all) p.inst_regs (ample_uses prev (omega arith))
 
     -- where registers are enough, moving uses before the instruction lacks none
     pub never_uses : MoveUsesFails point ops here t old → ⊥
@@ -115,4 +115,4 @@ module _ (Named : RegClass → Type 0) (needed : RegClass → ℕ) (point : ℕ)
         (at_place here s.index) s.inst_regs s.middle s.stops
         (tame.known s.index s.inside (reads_allocated (op_at ops s.index) s.reading)) (ends s.index s.middle s.inst_regs p s.inside s.reading)
         (all_kept env old s.middle (moves_keep point ops here t old s.index s.inst_regs s.middle s.moves) all)
-        (ample_uses s.index s.inst_regs s.middle s.moves (omega (arith, lt)))
+        (ample_uses s.moves (omega (arith, lt)))

@@ -162,20 +162,20 @@ memory_unfree env t u p r all stack is free =
     let nay : has_register t.fixed_stack r ≡ false = all.fit.stack_apart r (and_left (has_register t.allocatable r) _ free) in cc
 
 -- so what an operand takes is paid for
-pub pays_paid : (Named : RegClass → Type 0) (env : MachineValue) (ops : List OperandValue) (here there : List Place) (o : OperandRequest) (p : Place)
-    (point : ℕ) (t u : InstRegs) (old new : StateValue) → Pays ops here there o.vreg o.requirement t old → AllocsOperand point o p t u old new
+pub pays_paid : (Named : RegClass → Type 0) {env : MachineValue} {ops : List OperandValue} {here there : List Place} {o : OperandRequest} {p : Place}
+    {point : ℕ} {t u : InstRegs} {old new : StateValue} → Pays ops here there o.vreg o.requirement t old → AllocsOperand point o p t u old new
     → HasAll env old → Named o.vreg.class → MayBeLocatedAt env new.slots o.vreg p → IsAnswer env o.requirement p →
     HasEnoughRegs Named (waiting ops here) t old → ((c : RegClass) → awaited_of t c ≡ waiting ops here c) → IsPaid (waiting ops there) o p t old
-pays_paid Named env ops here there o p point t u old new (waited wants one rest) g all named place answer ample counted r is free =
+pays_paid Named {env} {ops} {there} {o} {t} {old} {new} (waited wants one rest) g all named place answer ample counted r is free =
     let stand : MayBeLocatedAt env new.slots o.vreg (InRegister r) = subst (MayBeLocatedAt env new.slots o.vreg) is place in
     subst (λ (k : RegClass). waiting ops there k + scratch_reserve_left old.fixed_stack old.dedicated_scratch t k + 1 ≤ free_count old.allocatable t k)
     (sym stand.1)
     (let a = ample o.vreg.class named in omega (arith, a, one))
-pays_paid Named env ops here there o p point t u old new (anywhere wants same) g all named place answer ample counted r is free =
+pays_paid Named (anywhere wants same) g all named place answer ample counted r is free =
     (let a = g.affordable wants r is free in let b = counted r.class in let e = same r.class in omega (arith, a, b, e))
-pays_paid Named env ops here there o p point t u old new (memory wants same) g all named place answer ample counted r is free =
+pays_paid Named {env} {p} {t} {old} (memory wants same) g all named place answer ample counted r is free =
     absurd (memory_unfree env old t p r all (subst (λ (w : Requirement). IsAnswer env w p) wants answer) is free)
-pays_paid Named env ops here there o p point t u old new (at_one q wants unfree same) g all named place answer ample counted r is free =
+pays_paid Named {env} {p} {t} {old} (at_one q wants unfree same) g all named place answer ample counted r is free =
     let at : p ≡ InRegister q = subst (λ (w : Requirement). IsAnswer env w p) wants answer in
     let x : InRegister q ≡ InRegister r = sym at ∙ is in
     let one : q ≡ r = cc in

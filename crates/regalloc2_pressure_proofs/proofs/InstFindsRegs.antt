@@ -101,7 +101,7 @@ module _ (f : FunctionValue) (env : MachineValue) (apart : IsApart env) (Known :
       fixed_kept = clears_fixed_kept env apart Known AllWrite AllMay (after i) tt ops held old h held_turn (length ops) cleared m clears
 
       enough_cleared : HasEnoughRegs Named (waiting ops blank) cleared m
-      enough_cleared = ample_fixed Named (waiting ops blank) (after i) env apart Known named ops held old h held_turn enough_held (length ops) cleared m clears
+      enough_cleared = ample_fixed Named (waiting ops blank) (after i) env apart Known named ops held old h held_turn enough_held clears
 
       never_in_clobbers : EvictClobbersFails (after i) cleared m → ⊥
       never_in_clobbers stops = never_all Named (waiting ops blank) (after i) env apart Known named cleared m stops fixed_kept.safe fixed_kept.inst_regs
@@ -228,7 +228,7 @@ module _ (f : FunctionValue) (env : MachineValue) (apart : IsApart env) (Known :
         ended_ample ended new moves = ample_uses Named none_needed (before i) env apart Known named ops tame places early o last_filled.safe last_all
             last_filled.inst_regs
             (λ j less reads. (last_filled.good j less (inr less)).place (reads_allocated (op_at ops j) reads))
-            (λ j less reads. last_filled.found j less (inr less) reads) last_ample (length ops) ended new moves (omega arith)
+            (λ j less reads. last_filled.found j less (inr less) reads) last_ample moves (omega arith)
 
   -- an instruction that fits never stops
   pub never_inst : AllocInstFails i (ends_block inst) ops inst.clobbers blank began old → ⊥

@@ -87,9 +87,9 @@ module _ (Named : RegClass → Type 0) (env : MachineValue) (apart : IsApart env
         record {
           pays = y;
           kept = x;
-          ample = ample_gets Named env apart Known named (after i) (waiting ops here) (waiting ops (there q)) o q t u old new g
+          ample = ample_gets Named env apart Known named (after i) (waiting ops here) (waiting ops (there q)) g
               (pays_fewer ops here (there q) o.vreg o.requirement t old y)
-              (pays_paid Named env ops here (there q) o q (after i) t u old new y g all (named o.vreg r.known) x.place x.answer p.ample p.awaited)
+              (pays_paid Named y g all (named o.vreg r.known) x.place x.answer p.ample p.awaited)
               (safe_held env Known old h.safe) all.fit h.inst_regs p.ample;
           keeps = gets_keeps (after i) o q t u old new g;
           less = gets_less (after i) o q t u old new g;
@@ -183,7 +183,7 @@ module _ (Named : RegClass → Type 0) (env : MachineValue) (apart : IsApart env
 
         def_ample : HasEnoughRegs Named (waiting ops (there q)) u new
         def_ample = ample_defines Named env apart Known named tame.same (after i) (waiting ops (there q)) o.vreg is_ret q d.inst_regs d.middle r.known
-            gotten.kept.place gotten.kept.kept.safe (all_kept env old d.middle gotten.keeps all) gotten.kept.kept.inst_regs gotten.ample u new d.defines
+            gotten.kept.place gotten.kept.kept.safe (all_kept env old d.middle gotten.keeps all) gotten.kept.kept.inst_regs gotten.ample d.defines
 
         def_counted : (c : RegClass) → awaited_of u c ≡ waiting ops (there q) c
         def_counted = pays_awaited ops here (there q) o.vreg o.requirement t u old gotten.pays p.awaited d.awaited

@@ -1,5 +1,5 @@
 -- A walk that runs out of registers stops at an instruction that doesn't fit.
-use Rattle.std.proofs.Common.{ℕ, zero, suc, ◌≡◌, ◌+◌, ◌<◌, Bool, true, false, List, [], ◌∷◌, length, refl, ap, inl, inr, arith, slice_index_or}
+use Rattle.std.proofs.Common.{ℕ, zero, suc, ◌≡◌, ◌<◌, Bool, true, false, List, [], ◌∷◌, length, refl, ap, inl, inr, arith, slice_index_or}
 use Rattle.std.specs.Prelude.{Any as SomeIn}
 use Rattle.std.proofs.lemmas.List.Elements.{All-get_or}
 use Rattle.regalloc2_names.specs.declared.RegClass.{RegClass}
@@ -134,11 +134,11 @@ module _ (f : FunctionValue) (env : MachineValue) (fits : MachineFits f env) (li
     never_in before_it (in_inst t blank fresh long none stops) =
         never_inst f env apart (Made f) named i (inst_at f i) (tame i less) inst_fits old s.safe s.all t (starts_fresh t old fresh) blank long none stops
     never_in before_it (in_pass places m a branch stops) =
-        let k = inst_kept env apart (Made f) f ok.follow tame params targets (concerned_made f ok.successors ok.follow) alike i less a.blank a.here old m
+        let k = inst_kept env apart (Made f) f ok.follow tame params targets (concerned_made f ok.successors ok.follow) alike less
         a.allocates s.safe in
-        never_pass f env fits apart (Made f) named none_needed b i (λ e j edge within. (params (target_at f b e) j (targets b e lt edge) within, tt))
-        (λ e j edge within. arguments_name b e j lt edge within)
-        a.allocates.ended m k.safe (all_kept env old m (allocates_keep i (inst_at f i) a.blank a.here old m a.allocates) s.all) k.inst_regs
+        never_pass fits apart (Made f) named none_needed (λ e j edge within. (params (target_at f b e) j (targets b e lt edge) within, tt))
+        (λ e j edge within. arguments_name b e j lt edge within) k.safe (all_kept env old m (allocates_keep i (inst_at f i) a.blank a.here old m a.allocates)
+        s.all) k.inst_regs
         (left_ample a.blank a.here m a.allocates) stops
 
   -- where the walk stops
@@ -148,23 +148,18 @@ module _ (f : FunctionValue) (env : MachineValue) (fits : MachineFits f env) (li
       let end = end_within f ok.follow b lt in
       let inside = stops.inside in
       let less : stops.index < length f.insts = omega (arith, end, inside) in
-      let first = blocks_sound env apart (Made f) f ok.follow tame params targets (concerned_made f ok.successors ok.follow) alike blank old s (b + 1) places
-      m walks in
-      let here = insts_sound env apart (Made f) f ok.follow tame params targets (concerned_made f ok.successors ok.follow) alike b lt places m first
-      (stops.index + 1) stops.places stops.middle stops.walks in
+      let first = blocks_sound env apart (Made f) f ok.follow tame params targets (concerned_made f ok.successors ok.follow) alike s walks in
+      let here = insts_sound env apart (Made f) f ok.follow tame params targets (concerned_made f ok.successors ok.follow) alike lt first stops.walks in
       (stops.index, less, λ inst_fits. never_in b stops.index lt less inst_fits stops.middle here stops.places stops.stops)
   stops_there blank old s (at_beginning b places there m n lt walks walked stops) =
-      let first = blocks_sound env apart (Made f) f ok.follow tame params targets (concerned_made f ok.successors ok.follow) alike blank old s (b + 1) places
-      m walks in
-      let here = insts_sound env apart (Made f) f ok.follow tame params targets (concerned_made f ok.successors ok.follow) alike b lt places m first
-      (block_at f b).range.first there n walked in
+      let first = blocks_sound env apart (Made f) f ok.follow tame params targets (concerned_made f ok.successors ok.follow) alike s walks in
+      let here = insts_sound env apart (Made f) f ok.follow tame params targets (concerned_made f ok.successors ok.follow) alike lt first walked in
       absurd (never_begin f env fits apart (Made f) named (before (block_at f b).range.first) (block_at f b).params (λ k less. params b k lt less) n here.safe
       here.all stops)
   stops_there blank old s (at_stores b places there m n o lt walks walked reloads stops) =
-      let first = blocks_sound env apart (Made f) f ok.follow tame params targets (concerned_made f ok.successors ok.follow) alike blank old s (b + 1) places m
+      let first = blocks_sound env apart (Made f) f ok.follow tame params targets (concerned_made f ok.successors ok.follow) alike s
       walks in
-      let here = insts_sound env apart (Made f) f ok.follow tame params targets (concerned_made f ok.successors ok.follow) alike b lt places m first
-      (block_at f b).range.first there n walked in
+      let here = insts_sound env apart (Made f) f ok.follow tame params targets (concerned_made f ok.successors ok.follow) alike lt first walked in
       let all = all_kept env n o (begins_block_keep (before (block_at f b).range.first) (block_at f b).params n o reloads) here.all in
       let d = stored_defines f stops.from stops.position o.slots stops.index stops.vreg stops.stored in
       let made = concerned_made f ok.successors ok.follow b stops.from stops.position (op_at (branch_operands f stops.from) stops.index).vreg stops.edge

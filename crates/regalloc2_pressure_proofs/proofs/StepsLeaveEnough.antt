@@ -136,10 +136,11 @@ module _ (Named : RegClass → Type 0) (needed : RegClass → ℕ) (point : ℕ)
     slot_or_stack t v (InSlot k) (InSlot n) m f g differ two = absurd (differ (sym f ∙ g))
 
     -- a move of a known vreg's value
-    pub ample_moves : (v : VirtualRegister) (from to : Place) (t u : InstRegs) (old new : StateValue) → AddsMove point v.class from to t u old new →
+    pub ample_moves : (v : VirtualRegister) {from to : Place} {t u : InstRegs} {old new : StateValue} → AddsMove point v.class from to t u old new →
         HasAll env old → IsEndOfMove env old.slots v from → IsEndOfMove env old.slots v to → (from ≡ to → ⊥)
         → AreSafeRegs env t → HasEnoughRegs Named needed t old → HasEnoughRegs Named needed u new
-    ample_moves v from to t u old new c m f g differ ht h = ample_crosses v.class from to t u old new c ht.three (slot_or_stack old v from to m f g differ) h
+    ample_moves v {from} {to} {t} {u} {old} {new} c m f g differ ht h = ample_crosses v.class from to t u old new c ht.three
+        (slot_or_stack old v from to m f g differ) h
 
     -- where registers are enough, a move of a vreg's value between two legal ends lacks none
     pub never_move : (v : VirtualRegister) (from to : Place) (t : InstRegs) (old : StateValue) → AddMoveFails v.class from to t old → Known v → HasAll env old →
@@ -170,19 +171,19 @@ module _ (Named : RegClass → Type 0) (needed : RegClass → ℕ) (point : ℕ)
         (ample_kept Named needed t old s.middle (keeps_of old s.middle s.machine) h)
 
     -- an eviction that spares one vreg leaves registers enough
-    pub ample_clears_but : (r : Register) (v : VirtualRegister) (t u : InstRegs) (old new : StateValue) → EvictsOthers point r v t u old new →
+    pub ample_clears_but : {r : Register} {v : VirtualRegister} {t u : InstRegs} {old new : StateValue} → EvictsOthers point r v t u old new →
         AreHeld Known old → AreSafeRegs env t → HasEnoughRegs Named needed t old → HasEnoughRegs Named needed u new
-    ample_clears_but r v t u old new (own w held same eu en) held_by ht h = ample_none Named needed t u old new eu en h
-    ample_clears_but r v t u old new (others not_own clears) held_by ht h = ample_clears r t u old new clears held_by ht h
+    ample_clears_but {t} {u} {old} {new} (own w held same eu en) held_by ht h = ample_none Named needed t u old new eu en h
+    ample_clears_but {r} {t} {u} {old} {new} (others not_own clears) held_by ht h = ample_clears r t u old new clears held_by ht h
 
     -- a move that is made unless it goes nowhere
-    pub ample_sends : (v : VirtualRegister) (is_made : Bool) (from to : Place) (t u : InstRegs) (old new : StateValue)
+    pub ample_sends : (v : VirtualRegister) {is_made : Bool} {from to : Place} {t u : InstRegs} {old new : StateValue}
         → AddsMoveIf point v.class is_made from to t u old new
         → (is_made ≡ true → IsEndOfMove env old.slots v from × IsEndOfMove env old.slots v to × (from ≡ to → ⊥)) → HasAll env old → AreSafeRegs env t
         → HasEnoughRegs Named needed t old → HasEnoughRegs Named needed u new
-    ample_sends v is_made from to t u old new (sent made crosses) ends m ht h =
-        (let e = ends made in ample_moves v from to t u old new crosses m e.0 e.1 e.2 ht h)
-    ample_sends v is_made from to t u old new (unsent not_made eu en) ends m ht h = ample_none Named needed t u old new eu en h
+    ample_sends v (sent made crosses) ends m ht h =
+        (let e = ends made in ample_moves v crosses m e.0 e.1 e.2 ht h)
+    ample_sends v {t} {u} {old} {new} (unsent not_made eu en) ends m ht h = ample_none Named needed t u old new eu en h
 
     -- where registers are enough, a move that is added, or none, lacks none
     pub never_send : (v : VirtualRegister) (is_made : Bool) (from to : Place) (t : InstRegs) (old : StateValue) → AddMoveIfFails v.class is_made from to t old

@@ -1,5 +1,5 @@
 -- The walk keeps the machine's registers, and the tables safe.
-use Rattle.std.proofs.Common.{ℕ, ◌+◌, ◌<◌, List, length, refl, sym, subst, inl, inr, arith, slice_index_or}
+use Rattle.std.proofs.Common.{ℕ, ◌<◌, List, length, refl, sym, subst, inl, inr, arith, slice_index_or}
 use Rattle.std.proofs.lemmas.Bool.{cases_Bool}
 use Rattle.regalloc2_names.specs.Register.{VirtualRegister}
 use Rattle.regalloc2_names.specs.Place.{Place}
@@ -46,16 +46,16 @@ module _ (env : MachineValue) (apart : IsApart env) (Known : VirtualRegister →
     (concerned : (b e k : ℕ) (v : VirtualRegister) → IsEdgeInto f b e k → IsConcerned f e k v → Known v)
     (alike : (b e k j : ℕ) (v : VirtualRegister) (slots : SpillSlotsValue) → IsEdgeInto f b e k → IsStoredFor f e k slots j v → IsAlike env f e j v) where
   -- an instruction
-  pub inst_kept : (i : ℕ) → i < length f.insts → (blank places : List Place) (old new : StateValue) → (a : AllocsInst i (inst_at f i) blank places old new) →
+  pub inst_kept : {i : ℕ} → i < length f.insts → {blank places : List Place} {old new : StateValue} → (a : AllocsInst i (inst_at f i) blank places old new) →
       AreSafe env Known old → InstKept env Known AllWrite AllMay (inst_at f i).operands places old a.ended new
-  inst_kept i lt blank places old new a h =
+  inst_kept {i} lt {blank} {places} {old} {new} a h =
       allocates_kept env apart Known AllWrite AllMay i (inst_at f i) blank places old new tt tt (tame i lt) (defs_write i (inst_at f i).operands)
       (uses_write i (inst_at f i) places) a h
 
   in_sound : (b i : ℕ) → b < length f.blocks → i < length f.insts → (before_it places : List Place) (old new : StateValue) →
       AllocsInstInBlock f b i before_it places old new → IsSound env Known old → IsSound env Known new
   in_sound b i small lt before_it places old new a s =
-      let k = inst_kept i lt a.allocates.blank a.allocates.here old a.middle a.allocates.allocates s.safe in
+      let k = inst_kept lt a.allocates.allocates s.safe in
       record {
         all = all_kept env old new (in_keeps f b i before_it places old new a) s.all;
         safe = elim (cases_Bool (inst_at f i).is_branch) [
@@ -67,19 +67,19 @@ module _ (env : MachineValue) (apart : IsApart env) (Known : VirtualRegister →
       }
 
   -- the instructions of a block
-  pub insts_sound : (b : ℕ) → b < length f.blocks → (blank : List Place) (old : StateValue) → IsSound env Known old →
-      (i : ℕ) (places : List Place) (t : StateValue) → AllocsBlockInsts f b blank old i places t → IsSound env Known t
-  insts_sound b lt blank old s i places t at_end = s
-  insts_sound b lt blank old s i places t (one_in n before_it p m u ge less prev a) =
+  pub insts_sound : {b : ℕ} → b < length f.blocks → {blank : List Place} {old : StateValue} → IsSound env Known old →
+      {i : ℕ} {places : List Place} {t : StateValue} → AllocsBlockInsts f b blank old i places t → IsSound env Known t
+  insts_sound lt s at_end = s
+  insts_sound {b} lt {blank} {old} s {places} {t} (one_in n before_it p m u ge less prev a) =
       let end = end_within f follow b lt in
-      in_sound b n lt (omega (arith, end, less)) before_it places m t a (insts_sound b lt blank old s (n + 1) before_it m prev)
+      in_sound b n lt (omega (arith, end, less)) before_it places m t a (insts_sound lt s prev)
 
   -- all blocks
-  pub blocks_sound : (blank : List Place) (old : StateValue) → IsSound env Known old → (c : ℕ) (places : List Place) (t : StateValue) →
+  pub blocks_sound : {blank : List Place} {old : StateValue} → IsSound env Known old → {c : ℕ} {places : List Place} {t : StateValue} →
       AllocsBlocks f blank old c places t → IsSound env Known t
-  blocks_sound blank old s c places t all_left = s
-  blocks_sound blank old s c places t (one_block b before_it p m u w lt prev walks begins) =
-      let x = insts_sound b lt before_it m (blocks_sound blank old s (b + 1) before_it m prev) (block_at f b).range.first places u walks in
+  blocks_sound s all_left = s
+  blocks_sound {blank} {old} s {t} (one_block b before_it p m u w lt prev walks begins) =
+      let x = insts_sound lt (blocks_sound s prev) walks in
       record {
         all = all_kept env u t (begun_keep f b u t begins) x.all;
         safe = (stores_kept env Known AllWrite AllMay f b tt (concerned b) (alike b) (λ e k v n edge is. tt) begins.middle t begins.stores

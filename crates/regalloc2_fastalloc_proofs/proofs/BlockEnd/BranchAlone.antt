@@ -12,7 +12,6 @@ use Rattle.regalloc2_function.specs.OutputValue.{MoveValue, place_at}
 use Rattle.regalloc2_semantics.specs.Listing.{with_moves, op_at}
 use Rattle.regalloc2_semantics.specs.Carry.{Untouched, is_clobbered}
 use Rattle.regalloc2_semantics.specs.BlockByPoints.{AllFrom, at_point, listed}
-use Rattle.regalloc2_semantics.specs.Instruction.{Knows}
 use Rattle.regalloc2_semantics.proofs.Cells.{cases_place}
 use Rattle.regalloc2_semantics.proofs.UnwrittenPlaces.{NoMoveTo}
 use Rattle.regalloc2_semantics.proofs.Points.{at_point-here, at_point-other, at_point-none, all_from-less}
@@ -23,9 +22,8 @@ use Rattle.regalloc2_fastalloc_proofs.specs.InstSteps.{ends_block}
 use Rattle.regalloc2_fastalloc_proofs.proofs.Safety.StepsKeepState.{place_in}
 use Rattle.regalloc2_fastalloc_proofs.proofs.Operands.RecordOverState.{slots_at}
 use Rattle.regalloc2_fastalloc_proofs.proofs.Inst.AcrossInst.{lives_in}
-use Rattle.regalloc2_fastalloc_proofs.proofs.Operands.RecordOfInst.{Orderly}
 use Rattle.regalloc2_fastalloc_proofs.proofs.Operands.AllOperands.{laid_both}
-use Rattle.regalloc2_fastalloc_proofs.proofs.Inst.BoundaryToFirstOperand.{AvoidClobbers, opened}
+use Rattle.regalloc2_fastalloc_proofs.proofs.Inst.BoundaryToFirstOperand.{opened}
 use Rattle.regalloc2_fastalloc_proofs.proofs.Inst.LastOperandToBoundary.{Shown, shown}
 use Rattle.regalloc2_fastalloc_proofs.proofs.Moves.ScratchRegTaken.{Less, less_same, less_then}
 use Rattle.regalloc2_fastalloc_proofs.proofs.BlockEnd.NoMoveForOperand.{IsOutside, Still}
@@ -35,6 +33,7 @@ use Rattle.regalloc2_fastalloc_proofs.proofs.Inst.OneInstCarries.{Between, Neede
 use Rattle.regalloc2_fastalloc_proofs.proofs.Moves.StepsAppendEdits.{Pushes, none_pushed, one_pushed, pushes_then, sends_pushes}
 use Rattle.regalloc2_fastalloc_proofs.proofs.BlockBegin.ReloadAtBegin.{SpareHere}
 use Rattle.regalloc2_fastalloc_proofs.proofs.Operands.ReuseDefs.{sends_less}
+use Rattle.regalloc2_fastalloc_proofs.proofs.Inst.ProperInsts.{ProperInsts}
 
 -- a vreg in a register holds it at the early position
 abbrev pub IsHeldHere : InstRegs → StateValue → Type 0
@@ -92,9 +91,9 @@ unfolding Untouched with_moves
 none_below p q n es lt later = subst (NoMoveTo p) (sym (at_point-none q (listed es) (all_from-less (suc q) n (listed es) lt later))) tt
 
 module _ (Known : VirtualRegister → Type 0) (f : FunctionValue) (placesf : ℕ → List Place)
-    (orderly : (i : ℕ) → i < length f.insts → Orderly (inst_at f i).operands)
-    (avoids : (i : ℕ) → i < length f.insts → AvoidClobbers (inst_at f i).operands (inst_at f i).clobbers)
-    (knows : (i : ℕ) → i < length f.insts → Knows Known (inst_at f i).operands) where
+    (proper : ProperInsts Known f) where
+  open proper use {orderly, avoids, knows}
+
   -- what is there before an instruction for moves that come yet
   pub shown_at : (i : ℕ) (blank here : List Place) (old new : StateValue) → i < length f.insts →
       ((k : ℕ) → k < length (inst_at f i).operands → place_at (placesf i) k ≡ slice_index_or here k NoPlace) →
@@ -107,11 +106,11 @@ module _ (Known : VirtualRegister → Type 0) (f : FunctionValue) (placesf : ℕ
       (laid_both Known (inst_at f) placesf i 0 nothing ops (lives_in old) (is_clobbered (inst_at f i).clobbers) ret (orderly i lt) blank a.half here a.quiet
       a.late a.early a.after_clobbers a.after_late a.after_early a.lates a.earlies
       (opened Known (inst_at f) placesf nothing i 0 (inst_at f i) blank here old new (orderly i lt) (avoids i lt)
-      (λ e v known. carried_nil Known f placesf orderly avoids knows nothing (i + 1) old (λ w p. ⊥) (λ w p h. h) v)
+      (λ e v known. carried_nil Known f placesf proper nothing (i + 1) old (λ w p. ⊥) (λ w p h. h) v)
       (record {
         whole = b.whole;
         later = b.later;
-        claims = λ v known. carried_nil Known f placesf orderly avoids knows nothing (i + 1) old
+        claims = λ v known. carried_nil Known f placesf proper nothing (i + 1) old
             (Needed (λ x. false) old) (λ w p h. absurd h) v;
         fit = b.fit;
         apart = b.apart;

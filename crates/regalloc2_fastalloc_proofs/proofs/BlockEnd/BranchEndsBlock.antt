@@ -10,7 +10,6 @@ use Rattle.regalloc2_names.specs.Operand.{is_def, is_reading}
 use Rattle.regalloc2_semantics.specs.Listing.{Item, op_at}
 use Rattle.regalloc2_semantics.specs.Carry.{Carries}
 use Rattle.regalloc2_semantics.specs.BlockByPoints.{at_point, walked, listed}
-use Rattle.regalloc2_semantics.specs.Instruction.{Knows}
 use Rattle.regalloc2_semantics.proofs.UnwrittenPlaces.{NoMoveTo, IsReadAt, Keeps, carries_kept_walked}
 use Rattle.regalloc2_semantics.proofs.CarryRules.{carries_weaken}
 use Rattle.regalloc2_semantics.proofs.BlockBackward.{Relied}
@@ -19,14 +18,13 @@ use Rattle.regalloc2_fastalloc_state.specs.declared.inst_regs.InstRegs.{InstRegs
 use Rattle.regalloc2_fastalloc_state.specs.StateParts.{slot_name, units_of}
 use Rattle.regalloc2_fastalloc_proofs.proofs.Safety.StepsKeepState.{slot_in, IsWhole}
 use Rattle.regalloc2_fastalloc_proofs.proofs.Operands.RecordOverState.{opt, opt_from, opt_real, opt_none, stands_at, slots_at, no_register_slot, slot_below}
-use Rattle.regalloc2_fastalloc_proofs.proofs.Operands.RecordOfInst.{Orderly}
-use Rattle.regalloc2_fastalloc_proofs.proofs.Inst.BoundaryToFirstOperand.{AvoidClobbers}
 use Rattle.regalloc2_fastalloc_proofs.proofs.Slots.StepsKeepSlots.{Grown, IsAt, allocates_grown}
 use Rattle.regalloc2_fastalloc_proofs.proofs.Operands.DefinedNumbers.{defined_by, defined_by-at}
 use Rattle.regalloc2_fastalloc_proofs.proofs.Inst.OneInstCarries.{Between, Needed, alone}
 use Rattle.regalloc2_fastalloc_proofs.proofs.Walk.InstForOneVReg.{needed_parts, undefined_by}
 use Rattle.regalloc2_fastalloc_proofs.proofs.Moves.StepsAppendEdits.{pushed_at}
 use Rattle.regalloc2_fastalloc_proofs.proofs.BlockEnd.BranchAlone.{IsUseMove, Branched, moved_or, none_below}
+use Rattle.regalloc2_fastalloc_proofs.proofs.Inst.ProperInsts.{ProperInsts}
 
 -- what is known of the slots at the end of the whole walk: each has one owner, and those that come after t lie at or above its count
 pub record ToCome (F : ℕ → Option Place) (t : StateValue) : Type 0 where
@@ -66,16 +64,16 @@ to_come-back At F a b units g h = record {
 }
 
 module _ (Known : VirtualRegister → Type 0) (f : FunctionValue) (placesf : ℕ → List Place)
-    (orderly : (i : ℕ) → i < length f.insts → Orderly (inst_at f i).operands)
-    (avoids : (i : ℕ) → i < length f.insts → AvoidClobbers (inst_at f i).operands (inst_at f i).clobbers)
-    (knows : (i : ℕ) → i < length f.insts → Knows Known (inst_at f i).operands) (F : ℕ → Option Place) (last : ℕ) (blank here : List Place)
+    (proper : ProperInsts Known f) (F : ℕ → Option Place) (last : ℕ) (blank here : List Place)
     (old middle : StateValue) (within : last < length f.insts)
     (are_listed : (k : ℕ) → k < length (inst_at f last).operands → place_at (placesf last) k ≡ slice_index_or here k NoPlace)
     (ends : ends_block (inst_at f last) ≡ true)
     (own_defs : (k : ℕ) → k < length (inst_at f last).operands → is_def (op_at (inst_at f last).operands k).kind ≡ true → (n : ℕ) →
     place_at (placesf last) k ≡ InSlot n → F (op_at (inst_at f last).operands k).vreg.number ≡ Some (InSlot n))
     (between : Between (last + 1) old) (a : AllocsInst last (inst_at f last) blank here old middle) (u : InstRegs)
-    (br : Branched Known f placesf orderly avoids knows last here u old middle) where
+    (br : Branched Known f placesf proper last here u old middle) where
+  open proper use {knows}
+
   -- whose slot an operand is in
   pub reads_own : ToCome F middle → (v : VirtualRegister) → Known v → (n j : ℕ) → F v.number ≡ Some (InSlot n) → j < length (inst_at f last).operands →
       is_reading (op_at (inst_at f last).operands j) ≡ true → InSlot n ≡ slice_index_or here j NoPlace →
@@ -136,7 +134,7 @@ module _ (Known : VirtualRegister → Type 0) (f : FunctionValue) (placesf : ℕ
     relied p n = (refl, elim (needed_parts (defined_by (inst_at f last).operands) middle v p n) [ inl at ↦ inl at | inr o ↦ inr (inl o.1) ])
 
     base : Carries v L Has (λ p. ⊥)
-    base = (alone Known f placesf orderly avoids knows last blank here old middle within are_listed between a).returns ends v known
+    base = (alone Known f placesf proper last blank here old middle within are_listed between a).returns ends v known
 
     nothing : ((p : Place) → E p → ⊥) → Carries v L On E
     nothing none = carries_weaken v L Has On (λ p. ⊥) E relied none base

@@ -17,7 +17,6 @@ use Rattle.regalloc2_function.specs.AllocatedRun.{Cells, after_moves}
 use Rattle.regalloc2_semantics.specs.Listing.{Item, op_at, with_moves, writes}
 use Rattle.regalloc2_semantics.specs.Carry.{Carries, Spares, Undefined, Untouched}
 use Rattle.regalloc2_semantics.specs.BlockByPoints.{at_point, walked, listed}
-use Rattle.regalloc2_semantics.specs.Instruction.{Knows}
 use Rattle.regalloc2_semantics.specs.Blocks.{names, HasEdge, IsUnwritten, IsUsedIn, StandsAfter}
 use Rattle.regalloc2_semantics.proofs.CarryRules.{carries_weaken}
 use Rattle.regalloc2_semantics.proofs.UnwrittenPlaces.{unwritten_walked, untouched_walked}
@@ -31,8 +30,6 @@ use Rattle.regalloc2_fastalloc_proofs.specs.BranchSteps.{of_class, ProcessesBran
 use Rattle.regalloc2_fastalloc_proofs.proofs.Safety.StepsKeepState.{place_in, slot_in, IsWhole}
 use Rattle.regalloc2_fastalloc_proofs.proofs.Operands.RecordOverState.{opt, stands_at, slots_at}
 use Rattle.regalloc2_fastalloc_proofs.proofs.Moves.ScratchRegTaken.{of_machine, Fit}
-use Rattle.regalloc2_fastalloc_proofs.proofs.Operands.RecordOfInst.{Orderly}
-use Rattle.regalloc2_fastalloc_proofs.proofs.Inst.BoundaryToFirstOperand.{AvoidClobbers}
 use Rattle.regalloc2_fastalloc_proofs.proofs.Operands.AllocsSoFar.{IsTame}
 use Rattle.regalloc2_fastalloc_proofs.proofs.Slots.StepsKeepSlots.{IsAt, allocates_grown}
 use Rattle.regalloc2_fastalloc_proofs.proofs.Operands.DefinedNumbers.{defined_by, defined_by-at}
@@ -51,6 +48,7 @@ use Rattle.regalloc2_fastalloc_proofs.proofs.BlockEnd.BranchAlone.{IsHeldHere, I
 use Rattle.regalloc2_fastalloc_proofs.proofs.BlockEnd.BranchEndsBlock.{ToCome, grown_slots, to_come-back, reads_own, own_moves}
 use Rattle.regalloc2_fastalloc_proofs.proofs.Branches.ArgMovesEffect.{names_at, relied_kept, passed_moved}
 use Rattle.regalloc2_fastalloc_proofs.proofs.Branches.BranchInParts.{settled_carries, Parted, parted}
+use Rattle.regalloc2_fastalloc_proofs.proofs.Inst.ProperInsts.{ProperInsts}
 
 -- tables that differ in moves and in temporary slots
 pub whole_like : (old new : StateValue) → new.places ≡ old.places → new.slots.vreg_spillslots ≡ old.slots.vreg_spillslots → new.slots.sizes ≡ old.slots.sizes →
@@ -106,9 +104,7 @@ param_cases f b v (suc k) = elim (param_cases f b v k) [
 ]
 
 module _ (Known : VirtualRegister → Type 0) (f : FunctionValue) (placesf : ℕ → List Place)
-    (orderly : (i : ℕ) → i < length f.insts → Orderly (inst_at f i).operands)
-    (avoids : (i : ℕ) → i < length f.insts → AvoidClobbers (inst_at f i).operands (inst_at f i).clobbers)
-    (knows : (i : ℕ) → i < length f.insts → Knows Known (inst_at f i).operands) (F : ℕ → Option Place) (b last : ℕ) (blank here : List Place)
+    (proper : ProperInsts Known f) (F : ℕ → Option Place) (b last : ℕ) (blank here : List Place)
     (old middle new : StateValue) (within : last < length f.insts)
     (are_listed : (k : ℕ) → k < length (inst_at f last).operands → place_at (placesf last) k ≡ slice_index_or here k NoPlace)
     (tame : IsTame Known (inst_at f last).operands)
@@ -122,11 +118,11 @@ module _ (Known : VirtualRegister → Type 0) (f : FunctionValue) (placesf : ℕ
     (unread_params : (e : ℕ) (w : VirtualRegister) → HasEdge f b e → names w (params_on f b e) ≡ true → Unread (inst_at f last).operands w)
     (between : Between (last + 1) old) (bare : IsOutside old) (a : AllocsInst last (inst_at f last) blank here old middle) (inst_regs : InstRegs)
     (p : ProcessesBranch f b last a.ended inst_regs middle new) (come : ToCome F new) where
-  by_itself : Alone Known f placesf orderly avoids knows last old middle
-  by_itself = alone Known f placesf orderly avoids knows last blank here old middle within are_listed between a
+  by_itself : Alone Known f placesf proper last old middle
+  by_itself = alone Known f placesf proper last blank here old middle within are_listed between a
 
-  br : Branched Known f placesf orderly avoids knows last here a.ended old middle
-  br = branched Known f placesf orderly avoids knows last blank here old middle within are_listed tame ends between bare a
+  br : Branched Known f placesf proper last here a.ended old middle
+  br = branched Known f placesf proper last blank here old middle within are_listed tame ends between bare a
 
   abbrev edges : ℕ
   edges = length (block_at f b).succs
@@ -210,7 +206,7 @@ module _ (Known : VirtualRegister → Type 0) (f : FunctionValue) (placesf : ℕ
       (λ d is to. elim is [
         | inl x ↦ elim x.1 [
           | inl r ↦ (let y : InRegister r.0 ≡ InSlot n = sym r.1 ∙ to in cc)
-          | inr j ↦ unread_params e w edge named j.0 j.1 j.2 (reads_own Known f placesf orderly avoids knows F last blank here old middle within are_listed
+          | inr j ↦ unread_params e w edge named j.0 j.1 j.2 (reads_own Known f placesf proper F last blank here old middle within are_listed
               ends own_defs between a a.ended br come_middle w known n j.0 mine j.1 j.2 (sym to ∙ j.3))
         ]
         | inr x ↦ (let y : InRegister x.1.0 ≡ InSlot n = sym x.1.1 ∙ to in cc)
@@ -255,7 +251,7 @@ module _ (Known : VirtualRegister → Type 0) (f : FunctionValue) (placesf : ℕ
         settled_carries (inst_at f) placesf last v block (F v.number) (λ r e. let n = come.only v.number (InRegister r) e in
         let x : InRegister r ≡ InSlot n.0 = n.1 in cc) Own f b a.ended inst_regs middle p.gathered edges p.given p.gathers by_itself.between
         br.scratch_reserve
-        (own_moves Known f placesf orderly avoids knows F last blank here old middle within are_listed ends own_defs between a a.ended br come_middle v known
+        (own_moves Known f placesf proper F last blank here old middle within are_listed ends own_defs between a a.ended br come_middle v known
         free block Own (λ q o. o.2)
         (λ yes_block q o. elim (owed_there f F b v block old (stays_old v.number) settled writes_it lives q o).1 [
           | inl at ↦ by_settled settled q at

@@ -34,10 +34,7 @@ use Rattle.regalloc2_fastalloc_proofs.specs.BranchSteps.{IsOwn}
 use Rattle.regalloc2_fastalloc_proofs.specs.StoreSteps.{branch_operands}
 use Rattle.regalloc2_fastalloc_proofs.proofs.Safety.StepsKeepState.{slot_in}
 use Rattle.regalloc2_fastalloc_proofs.proofs.Operands.RecordOverState.{stands_at, slots_at, opt_real}
-use Rattle.regalloc2_fastalloc_proofs.proofs.Operands.WellFormedInsts.{orderly, knows}
 use Rattle.regalloc2_fastalloc_proofs.proofs.Operands.DefinedNumbers.{defined_by, defined_by-number, number_defined}
-use Rattle.regalloc2_fastalloc_proofs.proofs.Inst.BoundaryToFirstOperand.{AvoidClobbers}
-use Rattle.regalloc2_fastalloc_proofs.proofs.Evictions.FixedAvoidClobbers.{avoids}
 use Rattle.regalloc2_fastalloc_proofs.proofs.Moves.StepsAppendEdits.{pushed_at}
 use Rattle.regalloc2_fastalloc_proofs.proofs.Safety.WellFormedKeepsSafe.{tame_at}
 use Rattle.regalloc2_fastalloc_proofs.proofs.Branches.EdgeArgsGathered.{argument_at, params_on, passes_at}
@@ -54,6 +51,7 @@ use Rattle.regalloc2_fastalloc_proofs.proofs.Walk.InstBoundaries.{grown_pushes}
 use Rattle.regalloc2_fastalloc_proofs.proofs.Walk.InstsBeforeLastCarry.{defined_from}
 use Rattle.regalloc2_fastalloc_proofs.proofs.Walk.DefsBeforeUses.{used_made, used_somewhere}
 use Rattle.regalloc2_fastalloc_proofs.proofs.Walk.BlockCarries.{BlockEnd, EndCarries, BranchCarries, IsUnused, writes_in}
+use Rattle.regalloc2_fastalloc_proofs.proofs.Inst.ProperInsts.{all_proper}
 
 kind_is : (k : OperandKind) → is_def k ≡ true → k ≡ Def
 kind_is Def h = refl
@@ -173,9 +171,6 @@ module _ (env : MachineValue) (f : FunctionValue) (limited : IsLimited f) (ok : 
           place_at (placesf last) k ≡ InSlot n → slots_at final (op_at (inst_at f last).operands k).vreg.number ≡ Some (InSlot n)
       own_slots = own_slot_of f ok.defined_once placesf (slots_at final) e.own b within (placed b lb branch)
 
-      all_avoid : (i : ℕ) → i < length f.insts → AvoidClobbers (inst_at f i).operands (inst_at f i).clobbers
-      all_avoid i lt = avoids (inst_at f i) (All-get_or FixedAvoidClobbers f.insts i no_inst lt ok.fixed)
-
       defined_not : (w : VirtualRegister) → (IsOwn f b w → ⊥) → defined_by (inst_at f last).operands w.number ≡ false
       defined_not w none = elim (cases_Bool (defined_by (inst_at f last).operands w.number)) [
         | inl is ↦ absurd (none (number_defined (inst_at f last).operands w.number is))
@@ -185,7 +180,7 @@ module _ (env : MachineValue) (f : FunctionValue) (limited : IsLimited f) (ok : 
       -- behind the branch no move is listed
       quiet : at_point (listed new.edits) (after last) ≡ []
       quiet =
-          let br = branched (Made f) f placesf (orderly env f limited ok) all_avoid (knows env f limited ok) last e.allocates.allocates.blank
+          let br = branched (Made f) f placesf (all_proper env f limited ok) last e.allocates.allocates.blank
           e.allocates.allocates.here old e.allocates.middle within e.at (tame_at env f limited ok taken last within) ends e.between e.bare
           e.allocates.allocates.allocates in
           let p = e.allocates.branch branch in
@@ -255,7 +250,7 @@ module _ (env : MachineValue) (f : FunctionValue) (limited : IsLimited f) (ok : 
         foreign_carries foreign =
             carries_weaken v L On On (StandsAfter f (λ u. slots_at final u.number) b v) (GoesOut f stand b v) (λ p h. h)
             (foreign_out b lb placesf (slots_at final) stand arrive branch v (decide v used) foreign)
-            (branch_carries (Made f) f placesf (orderly env f limited ok) all_avoid (knows env f limited ok) (slots_at final) b last
+            (branch_carries (Made f) f placesf (all_proper env f limited ok) (slots_at final) b last
             e.allocates.allocates.blank e.allocates.allocates.here old e.allocates.middle new within e.at (tame_at env f limited ok taken last within) ends
             own_slots
             (λ k w edge named. defined_not w (let n = named_param (params_on f b k) w named in param_foreign b lb k n.0 w edge n.1 n.2 b lb))

@@ -7,26 +7,25 @@ use Rattle.regalloc2_names.specs.Place.{Place, NoPlace}
 use Rattle.regalloc2_function.specs.FunctionValue.{FunctionValue, inst_at}
 use Rattle.regalloc2_function.specs.OutputValue.{place_at}
 use Rattle.regalloc2_semantics.specs.Carry.{is_clobbered}
-use Rattle.regalloc2_semantics.specs.Instruction.{Knows}
 use Rattle.regalloc2_fastalloc_proofs.specs.InstSteps.{StateValue, AllocsInst, ends_block}
 use Rattle.regalloc2_fastalloc_proofs.proofs.Inst.AcrossInst.{lives_in}
-use Rattle.regalloc2_fastalloc_proofs.proofs.Operands.RecordOfInst.{Orderly}
 use Rattle.regalloc2_fastalloc_proofs.proofs.Operands.AllOperands.{laid_both}
-use Rattle.regalloc2_fastalloc_proofs.proofs.Inst.BoundaryToFirstOperand.{AvoidClobbers, Carried, CarriedBut, EndsHere, opened}
+use Rattle.regalloc2_fastalloc_proofs.proofs.Inst.BoundaryToFirstOperand.{Carried, CarriedBut, EndsHere, opened}
+use Rattle.regalloc2_fastalloc_proofs.proofs.Inst.ProperInsts.{ProperInsts}
 use Rattle.regalloc2_fastalloc_proofs.proofs.Inst.LastOperandToBoundary.{Ended, closed, ended}
 use Rattle.regalloc2_fastalloc_proofs.proofs.Operands.DefinedNumbers.{defined_by}
 
 module _ (Known : VirtualRegister → Type 0) (f : FunctionValue) (placesf : ℕ → List Place) (E : VirtualRegister → Place → Type 0)
-    (orderly : (i : ℕ) → i < length f.insts → Orderly (inst_at f i).operands)
-    (avoids : (i : ℕ) → i < length f.insts → AvoidClobbers (inst_at f i).operands (inst_at f i).clobbers) where
+    (proper : ProperInsts Known f) where
+  open proper use {orderly, avoids, knows}
+
   -- the slot of what it defines isn't needed before it
-  pub each_exactly : ((i : ℕ) → i < length f.insts → Knows Known (inst_at f i).operands) →
-      (i n : ℕ) (blank here : List Place) (old new : StateValue) → i < length f.insts →
+  pub each_exactly : (i n : ℕ) (blank here : List Place) (old new : StateValue) → i < length f.insts →
       ((k : ℕ) → k < length (inst_at f i).operands → place_at (placesf i) k ≡ slice_index_or here k NoPlace) →
       EndsHere Known (inst_at f) placesf E (i + 1) n (ends_block (inst_at f i)) old → AllocsInst i (inst_at f i) blank here old new →
       Carried Known (inst_at f) placesf E (i + 1) n old →
       CarriedBut Known (inst_at f) placesf E (defined_by (inst_at f i).operands) i (suc n) new
-  each_exactly knows i n blank here old new lt are_listed ends a c =
+  each_exactly i n blank here old new lt are_listed ends a c =
       let ops : List OperandValue = (inst_at f i).operands in
       let ret : Bool = ends_block (inst_at f i) in
       closed Known (inst_at f) placesf E i n (lives_in old) ret here a.early a.ended a.after_early new (orderly i lt) (knows i lt) are_listed
@@ -35,13 +34,12 @@ module _ (Known : VirtualRegister → Type 0) (f : FunctionValue) (placesf : ℕ
       (opened Known (inst_at f) placesf E i n (inst_at f i) blank here old new (orderly i lt) (avoids i lt) ends c a)) a.moves
 
   -- and where the vregs are located before it
-  pub each_ended : ((i : ℕ) → i < length f.insts → Knows Known (inst_at f i).operands) →
-      (i n : ℕ) (blank here : List Place) (old new : StateValue) → i < length f.insts →
+  pub each_ended : (i n : ℕ) (blank here : List Place) (old new : StateValue) → i < length f.insts →
       ((k : ℕ) → k < length (inst_at f i).operands → place_at (placesf i) k ≡ slice_index_or here k NoPlace) →
       EndsHere Known (inst_at f) placesf E (i + 1) n (ends_block (inst_at f i)) old → AllocsInst i (inst_at f i) blank here old new →
       Carried Known (inst_at f) placesf E (i + 1) n old →
       Ended (inst_at f i).operands (lives_in old) new
-  each_ended knows i n blank here old new lt are_listed ends a c =
+  each_ended i n blank here old new lt are_listed ends a c =
       let ops : List OperandValue = (inst_at f i).operands in
       let ret : Bool = ends_block (inst_at f i) in
       ended Known (inst_at f) placesf E i n (lives_in old) ret here a.early a.ended a.after_early new (orderly i lt) (knows i lt) are_listed

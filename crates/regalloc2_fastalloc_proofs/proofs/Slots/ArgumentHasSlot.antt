@@ -11,7 +11,6 @@ use Rattle.regalloc2_function.specs.FunctionValue.{FunctionValue, block_at, inst
 use Rattle.regalloc2_function.specs.WellFormed.{ArgumentsCounted, BlocksEnd, BlocksFollow, last_of}
 use Rattle.regalloc2_function.specs.SourceRun.{arguments_at}
 use Rattle.regalloc2_semantics.specs.Blocks.{target_at}
-use Rattle.regalloc2_semantics.specs.Instruction.{Knows}
 use Rattle.regalloc2_semantics.proofs.SingleDef.{Made}
 use Rattle.regalloc2_semantics.proofs.Order.{ends_within}
 use Rattle.regalloc2_fastalloc_state.specs.declared.inst_regs.InstRegs.{InstRegs}
@@ -21,13 +20,12 @@ use Rattle.regalloc2_fastalloc_proofs.specs.BranchSteps.{SpillsArgument, from_re
 use Rattle.regalloc2_fastalloc_proofs.specs.BranchSteps.{one_gathered, own_argument, GathersMoves, no_edge, one_edge, ProcessesBranch, IsOwn}
 use Rattle.regalloc2_fastalloc_proofs.specs.BlockSteps.{AllocsBlockInsts, at_end, one_in, AllocsBlocks, all_left, one_block}
 use Rattle.regalloc2_fastalloc_proofs.proofs.Safety.StepsKeepState.{slot_in}
-use Rattle.regalloc2_fastalloc_proofs.proofs.Operands.RecordOfInst.{Orderly}
-use Rattle.regalloc2_fastalloc_proofs.proofs.Inst.BoundaryToFirstOperand.{AvoidClobbers}
 use Rattle.regalloc2_fastalloc_proofs.proofs.Slots.StepsKeepSlots.{Grown, IsAt, grown_then, grown_slot, clears_grown}
 use Rattle.regalloc2_fastalloc_proofs.proofs.Walk.LastInstAndRest.{AnyPlace}
 use Rattle.regalloc2_fastalloc_proofs.proofs.Walk.InstBoundaries.{BranchKept, grown_weaken, begins_grown, in_grown, walk_grown}
 use Rattle.regalloc2_fastalloc_proofs.proofs.Branches.LocationsAfterBranch.{argument_grown, edge_grown, class_grown}
 use Rattle.regalloc2_fastalloc_proofs.proofs.Slots.LiveInHasSlot.{slot_stays}
+use Rattle.regalloc2_fastalloc_proofs.proofs.Inst.ProperInsts.{ProperInsts}
 
 module _ (point : ℕ) where
   argument_slot : (a : VirtualRegister) (s : Place) (t u : InstRegs) (old new : StateValue) → SpillsArgument point a s t u old new
@@ -89,9 +87,7 @@ passes_slots f b i t u old new p k lt long v has not_own =
     (omega (arith, has.1, long)) (λ own. not_own (subst (IsOwn f b) is own))))
 
 module _ (f : FunctionValue) (counted : ArgumentsCounted f) (follow : BlocksFollow f) (ends : BlocksEnd f)
-    (orderly : (i : ℕ) → i < length f.insts → Orderly (inst_at f i).operands)
-    (avoids : (i : ℕ) → i < length f.insts → AvoidClobbers (inst_at f i).operands (inst_at f i).clobbers)
-    (knows : (i : ℕ) → i < length f.insts → Knows (Made f) (inst_at f i).operands) (kept : BranchKept f)
+    (proper : ProperInsts (Made f) f) (kept : BranchKept f)
     (c : ℕ) (lc : c < length f.blocks) (k : ℕ) (edge : k < length (block_at f c).succs) (v : VirtualRegister) (has : Contains (arguments_at f c k) v)
     (not_own : IsOwn f c v → ⊥) where
   -- in the block that passes it, from its branch on
@@ -103,7 +99,7 @@ module _ (f : FunctionValue) (counted : ArgumentsCounted f) (follow : BlocksFoll
       elim (cases_eq l j) [
         | inl e ↦ passes_slots f c j a.allocates.allocates.ended a.inst_regs a.middle u (a.branch (subst (λ (m : ℕ). (inst_at f m).is_branch ≡ true) e is)) k
             edge (counted c lc k edge) v has not_own
-        | inr ne ↦ slot_stays (IsAt j) v.number s u (in_grown (Made f) f orderly avoids knows kept c j p q s u (omega (arith, less, within)) a)
+        | inr ne ↦ slot_stays (IsAt j) v.number s u (in_grown (Made f) f proper kept c j p q s u (omega (arith, less, within)) a)
             (block_slots blank old (j + 1) p s prev l (omega (arith, le, ne)) lt is)
       ]
 
@@ -128,6 +124,6 @@ module _ (f : FunctionValue) (counted : ArgumentsCounted f) (follow : BlocksFoll
             (last_of (block_at f c)) (omega (arith, some)) (omega (arith, some)) last_branch)
         | inr ne ↦ slot_stays AnyPlace v.number s w
             (grown_then AnyPlace s u w (grown_weaken _ AnyPlace s u (λ m h. tt)
-            (walk_grown (Made f) f orderly avoids knows kept follow d lt p s first q u walk)) here)
+            (walk_grown (Made f) f proper kept follow d lt p s first q u walk)) here)
             (handed_has_slot blank begin (d + 1) p s prev (omega (arith, le, ne)))
       ]

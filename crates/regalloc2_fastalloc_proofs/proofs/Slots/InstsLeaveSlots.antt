@@ -9,7 +9,6 @@ use Rattle.regalloc2_function.specs.Machine.{MachineValue}
 use Rattle.regalloc2_function.specs.OutputValue.{place_at}
 use Rattle.regalloc2_names.specs.Operand.{is_def}
 use Rattle.regalloc2_function.specs.WellFormed.{BlocksFollow, BlocksEnd, last_of}
-use Rattle.regalloc2_semantics.specs.Instruction.{Knows}
 use Rattle.regalloc2_semantics.specs.BlockByPoints.{at_point, listed}
 use Rattle.regalloc2_semantics.proofs.UnwrittenPlaces.{IsReadAt, Keeps}
 use Rattle.regalloc2_semantics.proofs.Order.{ends_before, ends_within, stands_later}
@@ -19,8 +18,6 @@ use Rattle.regalloc2_fastalloc_proofs.specs.InstSteps.{StateValue}
 use Rattle.regalloc2_fastalloc_proofs.specs.Safety.{MayBeLocatedAt, IsSafe}
 use Rattle.regalloc2_fastalloc_proofs.proofs.Safety.StepsKeepState.{slot_in, IsWhole}
 use Rattle.regalloc2_fastalloc_proofs.proofs.Operands.RecordOverState.{slots_at, opt_from, opt_real, no_register_slot}
-use Rattle.regalloc2_fastalloc_proofs.proofs.Operands.RecordOfInst.{Orderly}
-use Rattle.regalloc2_fastalloc_proofs.proofs.Inst.BoundaryToFirstOperand.{AvoidClobbers}
 use Rattle.regalloc2_fastalloc_proofs.proofs.Operands.DefinedNumbers.{defined_by, defined_by-at}
 use Rattle.regalloc2_fastalloc_proofs.proofs.Walk.InstsCarry.{AreListed}
 use Rattle.regalloc2_fastalloc_proofs.proofs.Safety.InstsKeepSafe.{HasGood, WritesAt, WritesFrom, place_of}
@@ -30,6 +27,7 @@ use Rattle.regalloc2_fastalloc_proofs.proofs.Slots.StepsKeepSlots.{Grown, cases_
 use Rattle.regalloc2_fastalloc_proofs.proofs.Safety.FunctionKeepsSafe.{no_branch_writes, none_written_behind}
 use Rattle.regalloc2_fastalloc_proofs.proofs.Walk.InstBoundaries.{BranchKept, grown_slots}
 use Rattle.regalloc2_fastalloc_proofs.proofs.Walk.LastInstAndRest.{AnyPlace, KeepsSlots}
+use Rattle.regalloc2_fastalloc_proofs.proofs.Inst.ProperInsts.{ProperInsts}
 
 -- what holds of all holds of the first ones
 pub all_front : {X : Type 0} (P : X → Type 0) (xs ys : List X) → All P (xs ++ ys) → All P xs
@@ -101,15 +99,15 @@ not_last f follow b i lb ge less c lc e =
     absurd (omega (arith, end, e, less))
 
 module _ (env : MachineValue) (Known : VirtualRegister → Type 0) (f : FunctionValue)
-    (orderly : (i : ℕ) → i < length f.insts → Orderly (inst_at f i).operands)
-    (avoids : (i : ℕ) → i < length f.insts → AvoidClobbers (inst_at f i).operands (inst_at f i).clobbers)
-    (knows : (i : ℕ) → i < length f.insts → Knows Known (inst_at f i).operands) (kept : BranchKept f) (follow : BlocksFollow f) (ends : BlocksEnd f)
+    (proper : ProperInsts Known f) (kept : BranchKept f) (follow : BlocksFollow f) (ends : BlocksEnd f)
     (placesf : ℕ → List Place) (final : StateValue)
     (Writes : ℕ → ℕ → VirtualRegister → ℕ → Type 0) (May : ℕ → Type 0) (whole : IsWhole final)
     (same : (v w : VirtualRegister) → Known v → Known w → v.number ≡ w.number → v ≡ w)
     (places : List Place) (are_listed : AreListed f placesf 0 places) (good : (j k : ℕ) → j < length f.insts → k < length (inst_at f j).operands →
     HasGood env final.slots f places j k)
     (sound : (b i : ℕ) → b < length f.blocks → (block_at f b).range.first ≤ i → i < last_of (block_at f b) → WritesSound f placesf (Writes b) i) where
+  open proper use {orderly}
+
   -- a definition in a slot is in its own
   own_definition : (i : ℕ) → i < length f.insts → (k : ℕ) → k < length (inst_at f i).operands → is_def (op_at (inst_at f i).operands k).kind ≡ true → (n : ℕ) →
       place_at (placesf i) k ≡ InSlot n →
@@ -159,7 +157,7 @@ module _ (env : MachineValue) (Known : VirtualRegister → Type 0) (f : Function
     }
 
   -- each instruction but a block's last one leaves a vreg's final slot alone, unless it defines that vreg
-  pub keeps_slots : KeepsSlots Known f orderly avoids knows kept follow ends placesf final (λ b u. IsSafe env Known (Writes b) May u)
+  pub keeps_slots : KeepsSlots Known f proper kept follow ends placesf final (λ b u. IsSafe env Known (Writes b) May u)
   keeps_slots b i lb ge less u safe rest v known free s is = by_place s refl
     where
       lt : i < length f.insts

@@ -7,7 +7,6 @@ use Rattle.regalloc2_names.specs.Place.{Place, NoPlace, InSlot}
 use Rattle.regalloc2_names.specs.Point.{before}
 use Rattle.regalloc2_function.specs.FunctionValue.{FunctionValue, block_at, inst_at}
 use Rattle.regalloc2_function.specs.WellFormed.{BlocksFollow, BlocksEnd, DefinedOnce, UsesAreDefined}
-use Rattle.regalloc2_semantics.specs.Instruction.{Knows}
 use Rattle.regalloc2_semantics.specs.Blocks.{IsUnwritten, IsUsedIn}
 use Rattle.regalloc2_semantics.proofs.SingleDef.{Made, one_made}
 use Rattle.regalloc2_semantics.proofs.Order.{ends_within}
@@ -18,8 +17,6 @@ use Rattle.regalloc2_fastalloc_proofs.specs.BlockStart.{ReloadsParam, nowhere, c
 use Rattle.regalloc2_fastalloc_proofs.specs.BlockStart.{none_emptied, one_emptied, ReloadsAtBegin}
 use Rattle.regalloc2_fastalloc_proofs.specs.BlockSteps.{AllocsBlockInsts, BeginsBlock, AllocsBlocks, all_left, one_block}
 use Rattle.regalloc2_fastalloc_proofs.proofs.Safety.StepsKeepState.{place_in, slot_in}
-use Rattle.regalloc2_fastalloc_proofs.proofs.Operands.RecordOfInst.{Orderly}
-use Rattle.regalloc2_fastalloc_proofs.proofs.Inst.BoundaryToFirstOperand.{AvoidClobbers}
 use Rattle.regalloc2_fastalloc_proofs.proofs.Operands.DefinedNumbers.{defined_by}
 use Rattle.regalloc2_fastalloc_proofs.proofs.Walk.BlockObligations.{defines_at}
 use Rattle.regalloc2_fastalloc_proofs.proofs.Slots.StepsKeepSlots.{Grown, grown_then, grown_slot, sends_grown, clears_grown}
@@ -31,6 +28,7 @@ use Rattle.regalloc2_fastalloc_proofs.proofs.Walk.LastInstAndRest.{AnyPlace}
 use Rattle.regalloc2_fastalloc_proofs.proofs.Walk.InstBoundaries.{BranchKept, grown_weaken, reloads_grown, walk_between, walk_grown, walk_found, edge_next}
 use Rattle.regalloc2_fastalloc_proofs.proofs.Walk.InstBoundaries.{blocks_between}
 use Rattle.regalloc2_fastalloc_proofs.proofs.Walk.DefsBeforeUses.{used_at, used_made}
+use Rattle.regalloc2_fastalloc_proofs.proofs.Inst.ProperInsts.{ProperInsts}
 
 -- a number has a location, or has a slot
 abbrev Dwells : ℕ → StateValue → Type 0
@@ -83,11 +81,11 @@ begun_slot x i params old new begins t located = elim (begins_dwells x (before i
 ]
 
 module _ (f : FunctionValue) (once : DefinedOnce f) (follow : BlocksFollow f) (ends : BlocksEnd f) (uses : UsesAreDefined f)
-    (orderly : (i : ℕ) → i < length f.insts → Orderly (inst_at f i).operands)
-    (avoids : (i : ℕ) → i < length f.insts → AvoidClobbers (inst_at f i).operands (inst_at f i).clobbers)
-    (knows : (i : ℕ) → i < length f.insts → Knows (Made f) (inst_at f i).operands) (kept : BranchKept f) (blank : List Place) (begin : StateValue)
+    (proper : ProperInsts (Made f) f) (kept : BranchKept f) (blank : List Place) (begin : StateValue)
     (start : Between (length f.insts) begin)
     (c : ℕ) (lc : c < length f.blocks) (v : VirtualRegister) (unwritten : IsUnwritten f c v) (used : IsUsedIn f c v) where
+  open proper use {knows}
+
   -- nothing in the block defines its number
   free : (k : ℕ) → (block_at f c).range.first ≤ k → k < (block_at f c).range.end → defined_by (inst_at f k).operands v.number ≡ false
   free k ge less = elim (cases_Bool (defined_by (inst_at f k).operands v.number)) [
@@ -106,7 +104,7 @@ module _ (f : FunctionValue) (once : DefinedOnce f) (follow : BlocksFollow f) (e
       place_in u v.number ≢ NoPlace
   found p q s u behind walk =
       let at = used_at f follow ends c v lc used in
-      walk_found (Made f) f orderly avoids knows kept follow c lc p s behind v.number (block_at f c).range.first q u walk free at.0 at.1 at.2 at.3
+      walk_found (Made f) f proper kept follow c lc p s behind v.number (block_at f c).range.first q u walk free at.0 at.1 at.2 at.3
 
   -- where the block d or an earlier one begins, once its reloads are pushed
   begun_has : (d : ℕ) → d < length f.blocks → (p q : List Place) (s u w : StateValue) → AllocsBlocks f blank begin (d + 1) p s →
@@ -115,16 +113,16 @@ module _ (f : FunctionValue) (once : DefinedOnce f) (follow : BlocksFollow f) (e
   begun_has d lt p q s u w prev walk h le later =
       let first : ℕ = (block_at f d).range.first in
       let end : ℕ = (block_at f d).range.end in
-      let behind : Between end s = blocks_between (Made f) f orderly avoids knows kept follow blank begin start (d + 1) p s prev end
+      let behind : Between end s = blocks_between (Made f) f proper kept follow blank begin start (d + 1) p s prev end
       (edge_next f follow d lt) in
-      let here : Between first u = walk_between (Made f) f orderly avoids knows kept follow d lt p s behind first q u walk in
+      let here : Between first u = walk_between (Made f) f proper kept follow d lt p s behind first q u walk in
       elim (cases_eq d c) [
         | inl same ↦ begun_slot v.number first (block_at f d).params u h.middle h.reloads here
             (found p q s u (subst (λ (m : ℕ). Between (block_at f m).range.end s) same behind)
             (subst (λ (m : ℕ). AllocsBlockInsts f m p s (block_at f m).range.first q u) same walk))
         | inr ne ↦ slot_stays AnyPlace v.number s h.middle
             (grown_then AnyPlace s u h.middle (grown_weaken _ AnyPlace s u (λ m x. tt)
-            (walk_grown (Made f) f orderly avoids knows kept follow d lt p s first q u walk))
+            (walk_grown (Made f) f proper kept follow d lt p s first q u walk))
             (reloads_grown AnyPlace (before first) tt (block_at f d).params u h.middle h.reloads))
             (later (omega (arith, le, ne)))
       ]

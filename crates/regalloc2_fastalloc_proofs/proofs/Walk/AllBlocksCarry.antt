@@ -11,7 +11,6 @@ use Rattle.regalloc2_function.specs.WellFormed.{ArgumentsCounted, BlocksFollow, 
 use Rattle.regalloc2_function.specs.OutputValue.{OutputValue, allocs_of}
 use Rattle.regalloc2_semantics.specs.Carry.{Carries}
 use Rattle.regalloc2_semantics.specs.BlockByPoints.{at_point, walked, block_walked, listed}
-use Rattle.regalloc2_semantics.specs.Instruction.{Knows}
 use Rattle.regalloc2_semantics.specs.Blocks.{IsUsed, IsExcused, ExcusedAreSilent, ComesIn, GoesOut, BlockCarriesOn}
 use Rattle.regalloc2_semantics.proofs.CarryRules.{carries_nil}
 use Rattle.regalloc2_semantics.proofs.MoveInFront.{walked-none}
@@ -21,8 +20,6 @@ use Rattle.regalloc2_fastalloc_proofs.specs.BlockSteps.{AllocsBlockInsts, Allocs
 use Rattle.regalloc2_fastalloc_proofs.proofs.Safety.StepsKeepState.{IsWhole}
 use Rattle.regalloc2_fastalloc_proofs.proofs.Operands.RecordOverState.{slots_at}
 use Rattle.regalloc2_fastalloc_proofs.proofs.Moves.ScratchRegTaken.{Fit}
-use Rattle.regalloc2_fastalloc_proofs.proofs.Operands.RecordOfInst.{Orderly}
-use Rattle.regalloc2_fastalloc_proofs.proofs.Inst.BoundaryToFirstOperand.{AvoidClobbers}
 use Rattle.regalloc2_fastalloc_proofs.proofs.Walk.InstsCarry.{AreListed, Blank, at_start}
 use Rattle.regalloc2_fastalloc_proofs.proofs.Slots.StepsKeepSlots.{Grown, grown_none, grown_then}
 use Rattle.regalloc2_fastalloc_proofs.proofs.BlockEnd.NoMoveForOperand.{IsEmpty}
@@ -34,11 +31,10 @@ use Rattle.regalloc2_fastalloc_proofs.proofs.Walk.InstBoundaries.{BranchKept, Is
 use Rattle.regalloc2_fastalloc_proofs.proofs.Walk.InstBoundaries.{blocks_between}
 use Rattle.regalloc2_fastalloc_proofs.proofs.Walk.LastInstAndRest.{KeepsSlots, walk_listed}
 use Rattle.regalloc2_fastalloc_proofs.proofs.Walk.BlockCarries.{BranchCarries, IsBelow, IsUnused, nothing_goes, block_carries}
+use Rattle.regalloc2_fastalloc_proofs.proofs.Inst.ProperInsts.{ProperInsts}
 
 module _ (f : FunctionValue) (once : DefinedOnce f) (follow : BlocksFollow f) (ends : BlocksEnd f) (uses : UsesAreDefined f) (counted : ArgumentsCounted f)
-    (orderly : (i : ℕ) → i < length f.insts → Orderly (inst_at f i).operands)
-    (avoids : (i : ℕ) → i < length f.insts → AvoidClobbers (inst_at f i).operands (inst_at f i).clobbers)
-    (knows : (i : ℕ) → i < length f.insts → Knows (Made f) (inst_at f i).operands) (kept : BranchKept f) (placesf : ℕ → List Place) (final : StateValue)
+    (proper : ProperInsts (Made f) f) (kept : BranchKept f) (placesf : ℕ → List Place) (final : StateValue)
     (stand : ℕ → VirtualRegister → Option Place) where
   -- what a block carries, with the moves that the whole walk lists
   abbrev pub CarriesAt : ℕ → Type 0
@@ -47,7 +43,7 @@ module _ (f : FunctionValue) (once : DefinedOnce f) (follow : BlocksFollow f) (e
       (ComesIn f stand b v) (GoesOut f stand b v)
 
   module _ (whole : IsWhole final) (SafeIn : ℕ → StateValue → Type 0)
-      (keeps : KeepsSlots (Made f) f orderly avoids knows kept follow ends placesf final SafeIn)
+      (keeps : KeepsSlots (Made f) f proper kept follow ends placesf final SafeIn)
       (arrive : Arrive f placesf (slots_at final) stand)
       (placed : (b e k : ℕ) → IsEdgeInto f b e k → DefsPlaced f placesf (slots_at final) e)
       (one_edge_into : (b e k d l : ℕ) → IsEdgeInto f b e k → IsEdgeInto f b d l → (d ≡ e) × (l ≡ k))
@@ -70,13 +66,13 @@ module _ (f : FunctionValue) (once : DefinedOnce f) (follow : BlocksFollow f) (e
         let rest_here : Grown (IsBelow first) w final = subst (λ m. Grown (IsBelow m) w final) here rest in
         elim (cases_eq c d) [
           | inl same ↦ subst CarriesAt (sym same)
-              (block_carries f once follow ends uses counted orderly avoids knows kept placesf final whole SafeIn keeps stand arrive placed one_edge_into
+              (block_carries f once follow ends uses counted proper kept placesf final whole SafeIn keeps stand arrive placed one_edge_into
               concerned decide branches blank begin start empty safe d lt p q s u w prev
               walk begins are_here rest_here)
           | inr ne ↦ all_carry (d + 1) p s prev end (edge_next f follow d lt)
-              (walk_listed (Made f) f orderly avoids knows kept follow ends placesf final d lt p s first q u walk are_here)
+              (walk_listed (Made f) f proper kept follow ends placesf final d lt p s first q u walk are_here)
               (grown_then (IsBelow end) s u final (grown_weaken (IsWithin first end) (IsBelow end) s u (λ m h. h.1)
-              (walk_grown (Made f) f orderly avoids knows kept follow d lt p s first q u walk))
+              (walk_grown (Made f) f proper kept follow d lt p s first q u walk))
               (grown_then (IsBelow end) u w final (grown_weaken (λ m. m ≡ before first) (IsBelow end) u w (λ m h. omega (arith, h, some))
               (begins_grown (λ m. m ≡ before first) f d refl u w begins))
               (grown_weaken (IsBelow first) (IsBelow end) w final (λ m h. omega (arith, h, some)) rest_here)))
@@ -107,15 +103,13 @@ first_edge f follow some = (λ h. sym ((follow 0 h).1 refl), λ e. absurd (omega
 -- The walk begins blank, and its moves and places become the output's. If a branch keeps tables sound and carries what it has to, and every
 -- other instruction leaves slots to their vregs, each block carries what the law on paths wants.
 module _ (f : FunctionValue) (once : DefinedOnce f) (follow : BlocksFollow f) (ends : BlocksEnd f) (uses : UsesAreDefined f) (counted : ArgumentsCounted f)
-    (orderly : (i : ℕ) → i < length f.insts → Orderly (inst_at f i).operands)
-    (avoids : (i : ℕ) → i < length f.insts → AvoidClobbers (inst_at f i).operands (inst_at f i).clobbers)
-    (knows : (i : ℕ) → i < length f.insts → Knows (Made f) (inst_at f i).operands) (kept : BranchKept f) (out : OutputValue) (last : StateValue)
+    (proper : ProperInsts (Made f) f) (kept : BranchKept f) (out : OutputValue) (last : StateValue)
     (blank : List Place) (begin : StateValue)
     (some : 0 < length f.blocks) (empty : Blank begin) (fit : Fit begin) (walks : AllocsBlocks f blank begin 0 out.allocs last)
     (edits : out.edits ≡ listed last.edits)
     (are_listed : AreListed f (allocs_of out) 0 out.allocs)
     (SafeIn : ℕ → StateValue → Type 0)
-    (keeps : KeepsSlots (Made f) f orderly avoids knows kept follow ends (allocs_of out) last SafeIn)
+    (keeps : KeepsSlots (Made f) f proper kept follow ends (allocs_of out) last SafeIn)
     (stand : ℕ → VirtualRegister → Option Place) (arrive : Arrive f (allocs_of out) (slots_at last) stand)
     (placed : (b e k : ℕ) → IsEdgeInto f b e k → DefsPlaced f (allocs_of out) (slots_at last) e)
     (one_edge_into : (b e k d l : ℕ) → IsEdgeInto f b e k → IsEdgeInto f b d l → (d ≡ e) × (l ≡ k))
@@ -128,11 +122,11 @@ module _ (f : FunctionValue) (once : DefinedOnce f) (follow : BlocksFollow f) (e
   pub each_carries : (b : ℕ) → b < length f.blocks → BlockCarriesOn f stand b (block_walked f out b)
   each_carries b lb =
       let start : Between (length f.insts) begin = begin_between f begin empty fit in
-      let whole : IsWhole last = (blocks_between (Made f) f orderly avoids knows kept follow blank begin start 0 out.allocs last walks 0
+      let whole : IsWhole last = (blocks_between (Made f) f proper kept follow blank begin start 0 out.allocs last walks 0
       (first_edge f follow some)).whole in
       subst (λ es. BlockCarriesOn f stand b (walked (inst_at f) (at_point es) (allocs_of out) (block_at f b).range.first
       ((block_at f b).range.end - (block_at f b).range.first))) (sym edits)
-      (all_carry f once follow ends uses counted orderly avoids knows kept (allocs_of out) last stand whole SafeIn keeps arrive placed one_edge_into concerned
+      (all_carry f once follow ends uses counted proper kept (allocs_of out) last stand whole SafeIn keeps arrive placed one_edge_into concerned
       decide branches blank begin start (record { nowhere = empty.nowhere; nobody = empty.nobody }) safe 0 out.allocs last walks 0 (first_edge f follow some)
       are_listed
       (grown_none (IsBelow 0) last last refl) b (omega arith) lb)

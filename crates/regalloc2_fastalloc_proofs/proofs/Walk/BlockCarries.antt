@@ -9,7 +9,6 @@ use Rattle.regalloc2_function.specs.WellFormed.{ArgumentsCounted, BlocksFollow, 
 use Rattle.regalloc2_function.specs.OutputValue.{place_at}
 use Rattle.regalloc2_semantics.specs.Carry.{Carries}
 use Rattle.regalloc2_semantics.specs.BlockByPoints.{at_point, walked, listed}
-use Rattle.regalloc2_semantics.specs.Instruction.{Knows}
 use Rattle.regalloc2_semantics.specs.Blocks.{target_at, IsUsed, IsUsedIn, IsUnwritten, IsExcused, ExcusedAreSilent, StandsBefore, ComesIn, GoesOut}
 use Rattle.regalloc2_semantics.proofs.BlockBackward.{Relied}
 use Rattle.regalloc2_semantics.proofs.SingleDef.{Made, ReadsDefined, reads_defined, one_made, not_both}
@@ -35,8 +34,6 @@ use Rattle.regalloc2_fastalloc_proofs.specs.StoreSteps.{branch_operands, IsConce
 use Rattle.regalloc2_fastalloc_proofs.specs.BlockSteps.{AllocsInstInBlock, AllocsBlockInsts, BeginsBlock, AllocsBlocks}
 use Rattle.regalloc2_fastalloc_proofs.proofs.Safety.StepsKeepState.{place_in, slot_in, IsWhole}
 use Rattle.regalloc2_fastalloc_proofs.proofs.Operands.RecordOverState.{stands_at, slots_at, opt_from, opt_real, no_register_slot}
-use Rattle.regalloc2_fastalloc_proofs.proofs.Operands.RecordOfInst.{Orderly}
-use Rattle.regalloc2_fastalloc_proofs.proofs.Inst.BoundaryToFirstOperand.{AvoidClobbers}
 use Rattle.regalloc2_fastalloc_proofs.proofs.Walk.InstsCarry.{AreListed}
 use Rattle.regalloc2_fastalloc_proofs.proofs.Slots.StepsKeepSlots.{Grown, grown_then}
 use Rattle.regalloc2_fastalloc_proofs.proofs.Moves.StepsAppendEdits.{pushed_walked}
@@ -56,6 +53,7 @@ use Rattle.regalloc2_fastalloc_proofs.proofs.Walk.InstBoundaries.{BranchKept, Is
 use Rattle.regalloc2_fastalloc_proofs.proofs.Walk.InstBoundaries.{begins_grown, in_between, edge_next, blocks_between, blocks_settled, blocks_outside}
 use Rattle.regalloc2_fastalloc_proofs.proofs.Walk.DefsBeforeUses.{used_made, used_somewhere, param_before, written_there, stands_behind}
 use Rattle.regalloc2_fastalloc_proofs.proofs.Walk.LastInstAndRest.{AnyPlace, Split, split, KeepsSlots, leaves_at}
+use Rattle.regalloc2_fastalloc_proofs.proofs.Inst.ProperInsts.{ProperInsts}
 
 -- whether a block writes a number
 abbrev pub writes_in : FunctionValue → ℕ → ℕ → ℕ → Bool
@@ -110,12 +108,10 @@ no_element [] e = refl
 no_element (x ∷ xs) e = absurd (omega (arith, e))
 
 module _ (f : FunctionValue) (once : DefinedOnce f) (follow : BlocksFollow f) (ends : BlocksEnd f) (uses : UsesAreDefined f) (counted : ArgumentsCounted f)
-    (orderly : (i : ℕ) → i < length f.insts → Orderly (inst_at f i).operands)
-    (avoids : (i : ℕ) → i < length f.insts → AvoidClobbers (inst_at f i).operands (inst_at f i).clobbers)
-    (knows : (i : ℕ) → i < length f.insts → Knows (Made f) (inst_at f i).operands) (kept : BranchKept f) (placesf : ℕ → List Place) (final : StateValue)
+    (proper : ProperInsts (Made f) f) (kept : BranchKept f) (placesf : ℕ → List Place) (final : StateValue)
     (whole : IsWhole final)
     (SafeIn : ℕ → StateValue → Type 0)
-    (keeps : KeepsSlots (Made f) f orderly avoids knows kept follow ends placesf final SafeIn)
+    (keeps : KeepsSlots (Made f) f proper kept follow ends placesf final SafeIn)
     (stand : ℕ → VirtualRegister → Option Place) (arrive : Arrive f placesf (slots_at final) stand)
     (placed : (b e k : ℕ) → IsEdgeInto f b e k → DefsPlaced f placesf (slots_at final) e)
     (one_edge_into : (b e k d l : ℕ) → IsEdgeInto f b e k → IsEdgeInto f b d l → (d ≡ e) × (l ≡ k))
@@ -159,7 +155,7 @@ module _ (f : FunctionValue) (once : DefinedOnce f) (follow : BlocksFollow f) (e
 
     -- the tables behind its last instruction
     behind : Between (last + 1) s
-    behind = blocks_between (Made f) f orderly avoids knows kept follow blank begin start (b + 1) p s prev (last + 1)
+    behind = blocks_between (Made f) f proper kept follow blank begin start (b + 1) p s prev (last + 1)
         (subst (IsEdge f (b + 1)) (sym ended) (edge_next f follow b lb))
 
     -- from the block's first instruction to the walk's end
@@ -168,16 +164,16 @@ module _ (f : FunctionValue) (once : DefinedOnce f) (follow : BlocksFollow f) (e
         (grown_weaken (IsBelow (block_at f b).range.first) AnyPlace w final (λ n x. tt) rest)
 
     parts : Split f placesf each_leaves final b last s (block_at f b).range.first u
-    parts = split (Made f) f orderly avoids knows kept follow ends placesf final b lb p s each_leaves
-        (λ i q x y ge sooner walked_to listed_to g h. leaves_at (Made f) f orderly avoids knows kept follow ends placesf final SafeIn keeps b i x y lb ge sooner
+    parts = split (Made f) f proper kept follow ends placesf final b lb p s each_leaves
+        (λ i q x y ge sooner walked_to listed_to g h. leaves_at (Made f) f proper kept follow ends placesf final SafeIn keeps b i x y lb ge sooner
         (safe b lb p s prev i q y walked_to listed_to) g h)
         (block_at f b).range.first q u walk some are_listed onward
 
     before_last : Between last parts.begin
-    before_last = in_between (Made f) f orderly avoids knows kept b last parts.blank parts.places s parts.begin within parts.ends behind
+    before_last = in_between (Made f) f proper kept b last parts.blank parts.places s parts.begin within parts.ends behind
 
     settled : (x : ℕ) → (place_in s x ≡ NoPlace) ⊎ ((k : ℕ) × (place_in s x ≡ InSlot k) × (slot_in s x ≡ InSlot k))
-    settled = blocks_settled (Made f) f orderly avoids knows kept follow blank begin start empty.nowhere (b + 1) p s prev
+    settled = blocks_settled (Made f) f proper kept follow blank begin start empty.nowhere (b + 1) p s prev
 
     at_block_end : BlockEnd f placesf (slots_at final) b last s parts.begin
     at_block_end = record {
@@ -192,9 +188,9 @@ module _ (f : FunctionValue) (once : DefinedOnce f) (follow : BlocksFollow f) (e
       fresh = λ x k none is. grown_fresh AnyPlace parts.begin final parts.rest before_last.whole x k none is;
       own = slot_own;
       only_slots = slot_only;
-      bare = blocks_outside (Made f) f orderly avoids knows kept follow blank begin start empty (b + 1) p s prev;
-      writes = λ v made is. written_there f once follow ends uses orderly avoids knows kept b lb v (suc (last - (block_at f b).range.first)) count is made;
-      lives = λ v is c lc ne used. stands_behind f once follow ends uses orderly avoids knows kept b lb v (suc (last - (block_at f b).range.first)) count is c
+      bare = blocks_outside (Made f) f proper kept follow blank begin start empty (b + 1) p s prev;
+      writes = λ v made is. written_there f once follow ends uses proper kept b lb v (suc (last - (block_at f b).range.first)) count is made;
+      lives = λ v is c lc ne used. stands_behind f once follow ends uses proper kept b lb v (suc (last - (block_at f b).range.first)) count is c
           lc ne used blank begin start p s prev;
     }
 
@@ -203,13 +199,13 @@ module _ (f : FunctionValue) (once : DefinedOnce f) (follow : BlocksFollow f) (e
     end_carries = elim (ends b lb).0 [
       | inl branch ↦ branches b last s parts.begin lb at_block_end branch.0
       | inr ret ↦ λ silent v used excused. (
-          let a : Alone (Made f) f placesf orderly avoids knows last s parts.ends.middle =
-          alone (Made f) f placesf orderly avoids knows last parts.ends.allocates.blank parts.ends.allocates.here s parts.ends.middle within parts.at behind
+          let a : Alone (Made f) f placesf proper last s parts.ends.middle =
+          alone (Made f) f placesf proper last parts.ends.allocates.blank parts.ends.allocates.here s parts.ends.middle within parts.at behind
           parts.ends.allocates.allocates in
           let there = used_somewhere f v used in
-          return_owes (Made f) f placesf orderly avoids knows (slots_at final) last s parts.begin v (used_made f once follow uses v there.0 there.1 there.2)
+          return_owes (Made f) f placesf proper (slots_at final) last s parts.begin v (used_made f once follow uses v there.0 there.1 there.2)
           (writes_in f b last v.number)
-          (GoesOut f stand b v) (subst (Alone (Made f) f placesf orderly avoids knows last s) (sym (parts.ends.no_branch ret.0)) a)
+          (GoesOut f stand b v) (subst (Alone (Made f) f placesf proper last s) (sym (parts.ends.no_branch ret.0)) a)
           (rw (ret.0, ret.1) refl)
           (λ x e. nothing_goes f stand b v x (no_element (block_at f b).succs ret.2) e))
     ]
@@ -219,7 +215,7 @@ module _ (f : FunctionValue) (once : DefinedOnce f) (follow : BlocksFollow f) (e
     from_middle = grown_then AnyPlace begins.middle w final (stores_grown AnyPlace f b begins.middle w tt begins.stores)
         (grown_weaken (IsBelow (block_at f b).range.first) AnyPlace w final (λ n x. tt) rest)
 
-    all_walked : Walked (Made f) f placesf orderly avoids knows once reads (slots_at final) slot_only b last parts.begin u begins.middle
+    all_walked : Walked (Made f) f placesf proper once reads (slots_at final) slot_only b last parts.begin u begins.middle
     all_walked = record {
       end = ended;
       some = (let h = some in omega (arith, h));
@@ -243,7 +239,7 @@ module _ (f : FunctionValue) (once : DefinedOnce f) (follow : BlocksFollow f) (e
         Carries v (Listing begins.middle) (StandsBefore f (λ x. slots_at final x.number) b v) (GoesOut f stand b v)
     reloaded silent v used excused =
         let there = used_somewhere f v used in
-        block_owes (Made f) f placesf orderly avoids knows once reads (slots_at final) slot_only b last parts.begin u begins.middle all_walked v
+        block_owes (Made f) f placesf proper once reads (slots_at final) slot_only b last parts.begin u begins.middle all_walked v
         (used_made f once follow uses v there.0 there.1 there.2) (GoesOut f stand b v) (end_carries silent v used excused)
 
     -- stores in front do nothing to what is carried from nowhere
@@ -340,7 +336,7 @@ module _ (f : FunctionValue) (once : DefinedOnce f) (follow : BlocksFollow f) (e
               (λ x q is. slot_there x q is)
               (λ e le. (let h = ends_within f follow e le in let h2 = (follow e le).0 in omega (arith, h, h2))) concerned b lb begins.middle w
               (grown_slots (IsBelow first) w final rest) (λ e k edge. placed b e k edge) v made needed
-              (λ m lt is. used_at_begin f once follow ends uses orderly avoids knows kept blank begin start there.0 there.1 v
+              (λ m lt is. used_at_begin f once follow ends uses proper kept blank begin start there.0 there.1 v
               (param_unwritten m lt is there.0) there.2 b lb p q s u w prev walk begins (before_use m lt is there.0 there.1 there.2))
               (λ e k d l x y. one_edge_into b e k d l x y) begins.stores (last - first) (GoesOut f stand b v) (reloaded silent v used excused)
           | inr un ↦ unused_carries silent v used excused un

@@ -9,7 +9,6 @@ use Rattle.regalloc2_function.specs.FunctionValue.{FunctionValue, block_at, inst
 use Rattle.regalloc2_function.specs.WellFormed.{DefinedOnce}
 use Rattle.regalloc2_semantics.specs.Carry.{Carries}
 use Rattle.regalloc2_semantics.specs.BlockByPoints.{at_point, walked, listed}
-use Rattle.regalloc2_semantics.specs.Instruction.{Knows}
 use Rattle.regalloc2_semantics.specs.Blocks.{IsUnwritten, StandsBefore}
 use Rattle.regalloc2_semantics.proofs.CarryRules.{carries_weaken}
 use Rattle.regalloc2_semantics.proofs.NotRead.{Unread}
@@ -19,13 +18,12 @@ use Rattle.regalloc2_semantics.proofs.Order.{reads_later}
 use Rattle.regalloc2_fastalloc_proofs.specs.InstSteps.{StateValue, ends_block}
 use Rattle.regalloc2_fastalloc_proofs.specs.BlockStart.{ReloadsAtBegin}
 use Rattle.regalloc2_fastalloc_proofs.proofs.Operands.RecordOverState.{stands_at, slots_at}
-use Rattle.regalloc2_fastalloc_proofs.proofs.Operands.RecordOfInst.{Orderly}
-use Rattle.regalloc2_fastalloc_proofs.proofs.Inst.BoundaryToFirstOperand.{AvoidClobbers}
 use Rattle.regalloc2_fastalloc_proofs.proofs.Operands.DefinedNumbers.{defined_by, defined_by-some}
 use Rattle.regalloc2_fastalloc_proofs.proofs.Inst.OneInstCarries.{Between}
 use Rattle.regalloc2_fastalloc_proofs.proofs.Walk.InstForOneVReg.{Leaves, undefined_by}
 use Rattle.regalloc2_fastalloc_proofs.proofs.Walk.InstsBeforeLastCarry.{defined_from, Goes, goes_between, goes_carried}
 use Rattle.regalloc2_fastalloc_proofs.proofs.BlockBegin.CarriesFromSlot.{entered_carried}
+use Rattle.regalloc2_fastalloc_proofs.proofs.Inst.ProperInsts.{ProperInsts}
 
 -- what a stretch of instructions defines, one of them does
 pub defined_from-some : (f : FunctionValue) (x i n : ℕ) → defined_from f x i n ≡ true → (j : ℕ) × (i ≤ j) × (j < i + n)
@@ -71,9 +69,7 @@ unread_before f once v i n lt within reads h j less read is =
     omega (arith, later, d.1)
 
 module _ (Known : VirtualRegister → Type 0) (f : FunctionValue) (placesf : ℕ → List Place)
-    (orderly : (i : ℕ) → i < length f.insts → Orderly (inst_at f i).operands)
-    (avoids : (i : ℕ) → i < length f.insts → AvoidClobbers (inst_at f i).operands (inst_at f i).clobbers)
-    (knows : (i : ℕ) → i < length f.insts → Knows Known (inst_at f i).operands) (once : DefinedOnce f) (reads : (i : ℕ) → i < length f.insts → ReadsDefined f i)
+    (proper : ProperInsts Known f) (once : DefinedOnce f) (reads : (i : ℕ) → i < length f.insts → ReadsDefined f i)
     (F : ℕ → Option Place) (slot : (x : ℕ) (r : Register) → F x ≡ Some (InRegister r) → ⊥) (b : ℕ) where
   -- the block's first instruction
   abbrev pub first_of : ℕ
@@ -110,11 +106,11 @@ module _ (Known : VirtualRegister → Type 0) (f : FunctionValue) (placesf : ℕ
     block_owes c =
         let some : first_of ≤ last = w.some in
         let within : last < length f.insts = w.within in
-        let between : Between first_of middle = goes_between Known f placesf orderly avoids knows EachLeaves begin first_of last (omega (arith, within)) w.start
+        let between : Between first_of middle = goes_between Known f placesf proper EachLeaves begin first_of last (omega (arith, within)) w.start
         first_of middle w.goes in
         let carried : Carries v (walked (inst_at f) (at_point (listed middle.edits)) placesf first_of (suc (last - first_of)))
         (Relied written written (stands_at middle v.number) (slots_at middle v.number) (F v.number)) E =
-        goes_carried Known f placesf orderly avoids knows EachLeaves begin first_of last (omega (arith, within)) w.start F v known written 1 E w.returns
+        goes_carried Known f placesf proper EachLeaves begin first_of last (omega (arith, within)) w.start F v known written 1 E w.returns
         (λ i ge lt none. defined_from-none f v.number first_of (suc (last - first_of)) none i ge (omega (arith, some)))
         (λ i t u ge lt l. l v known) (λ i n ge lt count d. unread_before f once v i n (omega (arith, within)) (omega (arith, within, count))
         (reads i (omega (arith, within))) d)

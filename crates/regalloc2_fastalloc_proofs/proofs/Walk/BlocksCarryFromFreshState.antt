@@ -3,19 +3,17 @@
 use Rattle.std.proofs.Common.{ℕ, ◌≡◌, ◌≢◌, ◌<◌, ◌≤◌, ◌+◌, true, List, length, subst, refl, sym, inr, arith}
 use Rattle.std.specs.Prelude.{Contains, Option}
 use Rattle.std.proofs.lemmas.List.{get_or_default}
-use Rattle.std.proofs.lemmas.List.Elements.{All-get_or}
 use Rattle.regalloc2_names.specs.Register.{VirtualRegister}
 use Rattle.regalloc2_names.specs.Operand.{OperandValue}
 use Rattle.regalloc2_names.specs.Place.{Place, NoPlace}
 use Rattle.regalloc2_function.specs.DebugPoints.{DefinesAt, PassesAt}
-use Rattle.regalloc2_function.specs.FunctionValue.{FunctionValue, IsLimited, block_at, inst_at, no_inst}
+use Rattle.regalloc2_function.specs.FunctionValue.{FunctionValue, IsLimited, block_at, inst_at}
 use Rattle.regalloc2_function.specs.Machine.{MachineValue}
 use Rattle.regalloc2_function.specs.OutputValue.{OutputValue, allocs_of}
 use Rattle.regalloc2_function.specs.SourceRun.{arguments_at}
-use Rattle.regalloc2_function.specs.WellFormed.{IsWellFormed, FixedAvoidClobbers, last_of}
+use Rattle.regalloc2_function.specs.WellFormed.{IsWellFormed, last_of}
 use Rattle.regalloc2_semantics.specs.BlockByPoints.{listed, block_walked}
 use Rattle.regalloc2_semantics.specs.Blocks.{BlockCarriesOn}
-use Rattle.regalloc2_semantics.specs.Instruction.{Knows}
 use Rattle.regalloc2_semantics.proofs.SingleDef.{Made, one_made}
 use Rattle.regalloc2_semantics.proofs.SingleDef.Made.{by_operand}
 use Rattle.regalloc2_semantics.proofs.Paths.{UsedSomewhere}
@@ -26,10 +24,6 @@ use Rattle.regalloc2_fastalloc_proofs.specs.BlockSteps.{AllocsBlockInsts, Allocs
 use Rattle.regalloc2_fastalloc_proofs.proofs.Operands.RecordOverState.{slots_at}
 use Rattle.regalloc2_fastalloc_proofs.proofs.Moves.ScratchRegTaken.{Fit}
 use Rattle.regalloc2_fastalloc_proofs.proofs.Operands.AllocsSoFar.{IsGood}
-use Rattle.regalloc2_fastalloc_proofs.proofs.Operands.RecordOfInst.{Orderly}
-use Rattle.regalloc2_fastalloc_proofs.proofs.Inst.BoundaryToFirstOperand.{AvoidClobbers}
-use Rattle.regalloc2_fastalloc_proofs.proofs.Operands.WellFormedInsts.{orderly, knows}
-use Rattle.regalloc2_fastalloc_proofs.proofs.Evictions.FixedAvoidClobbers.{avoids}
 use Rattle.regalloc2_fastalloc_proofs.proofs.Walk.InstsCarry.{AreListed, Blank}
 use Rattle.regalloc2_fastalloc_proofs.proofs.Inst.OneInstCarries.{Between}
 use Rattle.regalloc2_fastalloc_proofs.proofs.Safety.InstsKeepSafe.{HasGood}
@@ -50,18 +44,9 @@ use Rattle.regalloc2_fastalloc_proofs.proofs.Walk.AllBlocksCarry.{begin_between,
 use Rattle.regalloc2_fastalloc_proofs.proofs.Slots.LiveInHasSlot.{used_has_slot}
 use Rattle.regalloc2_fastalloc_proofs.proofs.Slots.ArgumentHasSlot.{handed_has_slot}
 use Rattle.regalloc2_fastalloc_proofs.proofs.Safety.StepsKeepState.{slot_in}
+use Rattle.regalloc2_fastalloc_proofs.proofs.Inst.ProperInsts.{all_proper}
 
 module _ (env : MachineValue) (f : FunctionValue) (limited : IsLimited f) (ok : IsWellFormed env f) where
-  -- the operands of a well-formed function
-  all_orderly : (i : ℕ) → i < length f.insts → Orderly (inst_at f i).operands
-  all_orderly = orderly env f limited ok
-
-  all_avoid : (i : ℕ) → i < length f.insts → AvoidClobbers (inst_at f i).operands (inst_at f i).clobbers
-  all_avoid i lt = avoids (inst_at f i) (All-get_or FixedAvoidClobbers f.insts i no_inst lt ok.fixed)
-
-  all_known : (i : ℕ) → i < length f.insts → Knows (Made f) (inst_at f i).operands
-  all_known = knows env f limited ok
-
   some_block : 0 < length f.blocks
   some_block = (let e : f.entry < length f.blocks = ok.successors.0 in omega (arith, e))
 
@@ -73,7 +58,7 @@ module _ (env : MachineValue) (f : FunctionValue) (limited : IsLimited f) (ok : 
 
     -- between all instructions of the walk, so at its end too
     pub at_walks_end : Between 0 last
-    at_walks_end = blocks_between (Made f) f all_orderly all_avoid all_known branch ok.follow blank begin (begin_between f begin empty fit) 0 out.allocs last
+    at_walks_end = blocks_between (Made f) f (all_proper env f limited ok) branch ok.follow blank begin (begin_between f begin empty fit) 0 out.allocs last
         walks 0 (first_edge f ok.follow some_block)
 
     -- where vregs are at a block's beginning
@@ -89,8 +74,8 @@ module _ (env : MachineValue) (f : FunctionValue) (limited : IsLimited f) (ok : 
         defs_placed env f limited ok taken (allocs_of out) last
         (λ i k lt less. subst (IsGood env last.slots (op_at (inst_at f i).operands k)) (sym (are_listed i (omega arith) lt k less)) (good i k lt less).good)
         places b lb is_branch
-        (last_allocated (Made f) f all_orderly all_avoid all_known branch ok.follow ok.end (allocs_of out) blank begin
-        (blocks_outside (Made f) f all_orderly all_avoid all_known branch ok.follow blank begin (begin_between f begin empty fit)
+        (last_allocated (Made f) f (all_proper env f limited ok) branch ok.follow ok.end (allocs_of out) blank begin
+        (blocks_outside (Made f) f (all_proper env f limited ok) branch ok.follow blank begin (begin_between f begin empty fit)
         (record { nowhere = empty.nowhere; nobody = empty.nobody })) 0 out.allocs last walks 0 (first_edge f ok.follow some_block) are_listed b (omega arith)
         lb)
 
@@ -107,9 +92,9 @@ module _ (env : MachineValue) (f : FunctionValue) (limited : IsLimited f) (ok : 
         let arrive : Arrive f (allocs_of out) (slots_at last) standing = arrives env f ok (allocs_of out) (slots_at last) in
         let placed : (b : ℕ) → b < length f.blocks → (inst_at f (last_of (block_at f b))).is_branch ≡ true → DefsPlaced f (allocs_of out) (slots_at last) b
         = walk_places_defs are_listed good taken places in
-        all_blocks_carry f ok.defined_once ok.follow ok.end ok.uses_defined ok.counted all_orderly all_avoid all_known branch out last blank begin some_block
+        all_blocks_carry f ok.defined_once ok.follow ok.end ok.uses_defined ok.counted (all_proper env f limited ok) branch out last blank begin some_block
         empty fit walks edits are_listed (λ b u. IsSafe env (Made f) (Writes b) May u)
-        (keeps_slots env (Made f) f all_orderly all_avoid all_known branch ok.follow ok.end (allocs_of out) last Writes May at_walks_end.whole
+        (keeps_slots env (Made f) f (all_proper env f limited ok) branch ok.follow ok.end (allocs_of out) last Writes May at_walks_end.whole
         (one_made f ok.defined_once) out.allocs are_listed good sound)
         standing arrive (λ b e k edge. placed e edge.block edge.definitions.0) (one_edge_into env f ok) (concerned_made f ok.successors ok.follow)
         (needed_or_unused f)
@@ -118,7 +103,7 @@ module _ (env : MachineValue) (f : FunctionValue) (limited : IsLimited f) (ok : 
     -- a vreg that is used in a block that doesn't write it has a slot at the walk's end
     pub used_slots : (v : VirtualRegister) → UsedSomewhere f v → slot_in last v.number ≢ NoPlace
     used_slots v u =
-        used_has_slot f ok.defined_once ok.follow ok.end ok.uses_defined all_orderly all_avoid all_known branch blank begin (begin_between f begin empty fit)
+        used_has_slot f ok.defined_once ok.follow ok.end ok.uses_defined (all_proper env f limited ok) branch blank begin (begin_between f begin empty fit)
         u.block u.within v u.unwritten u.used
         0 out.allocs last walks (omega arith)
 
@@ -126,7 +111,7 @@ module _ (env : MachineValue) (f : FunctionValue) (limited : IsLimited f) (ok : 
     pub handed_slots : (v : VirtualRegister) (b k : ℕ) → b < length f.blocks → k < length (block_at f b).succs → Contains (arguments_at f b k) v →
         (IsOwn f b v → ⊥) → slot_in last v.number ≢ NoPlace
     handed_slots v b k lb edge has foreign =
-        handed_has_slot f ok.counted ok.follow ok.end all_orderly all_avoid all_known branch b lb k edge v has foreign blank begin 0 out.allocs last walks
+        handed_has_slot f ok.counted ok.follow ok.end (all_proper env f limited ok) branch b lb k edge v has foreign blank begin 0 out.allocs last walks
         (omega arith)
 
     -- as one that an instruction passes, which then doesn't define it

@@ -11,7 +11,6 @@ use Rattle.regalloc2_function.specs.FunctionValue.{FunctionValue, IsLimited, blo
 use Rattle.regalloc2_function.specs.Machine.{MachineValue}
 use Rattle.regalloc2_function.specs.OutputValue.{place_at}
 use Rattle.regalloc2_function.specs.WellFormed.{BlocksFollow, BlocksEnd, IsWellFormed, last_of}
-use Rattle.regalloc2_semantics.specs.Instruction.{Knows}
 use Rattle.regalloc2_semantics.specs.Listing.{op_at}
 use Rattle.regalloc2_semantics.proofs.Order.{ends_within}
 use Rattle.regalloc2_semantics.proofs.SingleDef.{Made}
@@ -23,9 +22,7 @@ use Rattle.regalloc2_fastalloc_proofs.specs.StoreSteps.{branch_operands}
 use Rattle.regalloc2_fastalloc_proofs.specs.BlockSteps.{AllocsBlockInsts, at_end, one_in, AllocsBlocks, all_left, one_block}
 use Rattle.regalloc2_fastalloc_proofs.specs.Safety.{MayBeLocatedAt}
 use Rattle.regalloc2_fastalloc_proofs.proofs.Operands.AllocsSoFar.{IsTame, IsGood, MeetsAlone}
-use Rattle.regalloc2_fastalloc_proofs.proofs.Operands.RecordOfInst.{Orderly}
 use Rattle.regalloc2_fastalloc_proofs.proofs.Operands.RecordOverState.{opt, slots_at}
-use Rattle.regalloc2_fastalloc_proofs.proofs.Inst.BoundaryToFirstOperand.{AvoidClobbers}
 use Rattle.regalloc2_fastalloc_proofs.proofs.BlockEnd.NoMoveForOperand.{IsOutside}
 use Rattle.regalloc2_fastalloc_proofs.proofs.BlockEnd.DefsInSlots.{IsAnyOrStack, defs_in_slots}
 use Rattle.regalloc2_fastalloc_proofs.proofs.Branches.Arrivals.{DefsPlaced, left_at}
@@ -34,6 +31,7 @@ use Rattle.regalloc2_fastalloc_proofs.proofs.Safety.WellFormedKeepsSafe.{tame_at
 use Rattle.regalloc2_fastalloc_proofs.proofs.Walk.InstsCarry.{AreListed}
 use Rattle.regalloc2_fastalloc_proofs.proofs.Walk.InstBoundaries.{BranchKept, IsEdge, edge_next}
 use Rattle.regalloc2_fastalloc_proofs.proofs.Walk.LastInstAndRest.{at_its_end, listed_behind, walk_listed}
+use Rattle.regalloc2_fastalloc_proofs.proofs.Inst.ProperInsts.{ProperInsts}
 
 -- the last instruction of a block was allocated from tables in which no vreg is in a register
 pub record LastAllocated (f : FunctionValue) (placesf : ℕ → List Place) (e : ℕ) : Type 0 where
@@ -46,9 +44,7 @@ pub record LastAllocated (f : FunctionValue) (placesf : ℕ → List Place) (e :
   pub at : (k : ℕ) → k < length (branch_operands f e) → left_at f placesf e k ≡ slice_index_or here k NoPlace
 
 module _ (Known : VirtualRegister → Type 0) (f : FunctionValue)
-    (orderly : (i : ℕ) → i < length f.insts → Orderly (inst_at f i).operands)
-    (avoids : (i : ℕ) → i < length f.insts → AvoidClobbers (inst_at f i).operands (inst_at f i).clobbers)
-    (knows : (i : ℕ) → i < length f.insts → Knows Known (inst_at f i).operands) (kept : BranchKept f) (follow : BlocksFollow f) (ends : BlocksEnd f)
+    (proper : ProperInsts Known f) (kept : BranchKept f) (follow : BlocksFollow f) (ends : BlocksEnd f)
     (placesf : ℕ → List Place) where
   -- in the walk over the block
   last_in : (b : ℕ) (lb : b < length f.blocks) (blank : List Place) (old : StateValue) → IsOutside old → (i : ℕ) (places : List Place) (t : StateValue) →
@@ -68,7 +64,7 @@ module _ (Known : VirtualRegister → Type 0) (f : FunctionValue)
               at = at;
             }) (λ k few. are j (omega arith) within k few ∙ a.allocates.inside k few) a.allocates.allocates
         | inr ne ↦ last_in b lb blank old bare (j + 1) p s prev (omega (arith, less, ne))
-            (listed_behind Known f orderly avoids knows kept follow ends placesf s b j p q s u within a are)
+            (listed_behind Known f proper kept follow ends placesf s b j p q s u within a are)
       ]
 
   -- in the walk over all blocks
@@ -84,7 +80,7 @@ module _ (Known : VirtualRegister → Type 0) (f : FunctionValue)
       elim (cases_eq d e) [
         | inl same ↦ subst (LastAllocated f placesf) same (last_in d lt p s (outside (d + 1) p s prev) first q u walk some here)
         | inr ne ↦ last_allocated start begin outside (d + 1) p s prev (block_at f d).range.end (edge_next f follow d lt)
-            (walk_listed Known f orderly avoids knows kept follow ends placesf s d lt p s first q u walk here) e (omega (arith, le, ne)) less
+            (walk_listed Known f proper kept follow ends placesf s d lt p s first q u walk here) e (omega (arith, le, ne)) less
       ]
 
 -- two definitions claim their registers at one time

@@ -12,7 +12,6 @@ use Rattle.regalloc2_semantics.specs.Listing.{no_operand}
 use Rattle.regalloc2_semantics.proofs.Soundness.{cases_within}
 use Rattle.regalloc2_fastalloc_proofs.specs.BlockStart.{no_vreg}
 use Rattle.regalloc2_function.specs.WellFormed.{BlocksFollow, BlocksEnd, DefinedOnce, IsDefinedBy, UsesAreDefined, last_of}
-use Rattle.regalloc2_semantics.specs.Instruction.{Knows}
 use Rattle.regalloc2_semantics.specs.Blocks.{IsUsedIn, IsUnwritten, IsUsed}
 use Rattle.regalloc2_semantics.proofs.SingleDef.{Made, DefinesAt, TakesAt, one_made, one_operand, one_param, not_both, reads_defined, made_before, is_made}
 use Rattle.regalloc2_semantics.proofs.Order.{ends_before, ends_within, stands_later, reads_later, passes_later, passed_made}
@@ -20,13 +19,12 @@ use Rattle.regalloc2_validate.specs.Constraints.{op_at}
 use Rattle.regalloc2_fastalloc_proofs.specs.InstSteps.{StateValue}
 use Rattle.regalloc2_fastalloc_proofs.specs.BlockSteps.{AllocsBlocks}
 use Rattle.regalloc2_fastalloc_proofs.proofs.Safety.StepsKeepState.{place_in}
-use Rattle.regalloc2_fastalloc_proofs.proofs.Operands.RecordOfInst.{Orderly}
-use Rattle.regalloc2_fastalloc_proofs.proofs.Inst.BoundaryToFirstOperand.{AvoidClobbers}
 use Rattle.regalloc2_fastalloc_proofs.proofs.Operands.DefinedNumbers.{defined_by}
 use Rattle.regalloc2_fastalloc_proofs.proofs.Inst.OneInstCarries.{Between}
 use Rattle.regalloc2_fastalloc_proofs.proofs.Walk.InstsBeforeLastCarry.{defined_from}
 use Rattle.regalloc2_fastalloc_proofs.proofs.Walk.BlockObligations.{defined_from-some, defines_at}
 use Rattle.regalloc2_fastalloc_proofs.proofs.Walk.InstBoundaries.{BranchKept, IsUsedAt, blocks_live}
+use Rattle.regalloc2_fastalloc_proofs.proofs.Inst.ProperInsts.{ProperInsts}
 
 -- where a block uses a number
 pub used_at : (f : FunctionValue) → BlocksFollow f → BlocksEnd f → (c : ℕ) (v : VirtualRegister) → c < length f.blocks → IsUsedIn f c v →
@@ -63,11 +61,11 @@ module _ (f : FunctionValue) (once : DefinedOnce f) (follow : BlocksFollow f) (u
       passed_made f once c p.0 v follow uses lc p.1 p.2
 
 module _ (f : FunctionValue) (once : DefinedOnce f) (follow : BlocksFollow f) (ends : BlocksEnd f) (uses : UsesAreDefined f)
-    (orderly : (i : ℕ) → i < length f.insts → Orderly (inst_at f i).operands)
-    (avoids : (i : ℕ) → i < length f.insts → AvoidClobbers (inst_at f i).operands (inst_at f i).clobbers)
-    (knows : (i : ℕ) → i < length f.insts → Knows (Made f) (inst_at f i).operands) (kept : BranchKept f) (b : ℕ) (lb : b < length f.blocks)
+    (proper : ProperInsts (Made f) f) (kept : BranchKept f) (b : ℕ) (lb : b < length f.blocks)
     (v : VirtualRegister) (n : ℕ)
     (count : (block_at f b).range.first + n ≡ (block_at f b).range.end) (written : defined_from f v.number (block_at f b).range.first n ≡ true) where
+  open proper use {knows}
+
   -- what writes it
   writer : (i k : ℕ) × ((block_at f b).range.first ≤ i) × (i < (block_at f b).range.end) × DefinesAt f v.number i k
   writer =
@@ -97,7 +95,7 @@ module _ (f : FunctionValue) (once : DefinedOnce f) (follow : BlocksFollow f) (e
       let u = used_at f follow ends c v lc used in
       let more : b + 1 < length f.blocks = omega (arith, order, ne, lc) in
       let apart : (block_at f b).range.end ≤ (block_at f (b + 1)).range.first = ends_before f follow b (b + 1) (omega arith) more in
-      blocks_live (Made f) f orderly avoids knows kept follow blank begin start x c u.0
+      blocks_live (Made f) f proper kept follow blank begin start x c u.0
       (λ d k ld few is. not_both f once x w.0 w.1 d k at (record { block = ld; param = few; number = sym is }))
       lc u.1 u.2 u.3 (b + 1) places t walk (omega (arith, order, ne))
       (λ k ge less. elim (cases_Bool (defined_by (inst_at f k).operands x)) [

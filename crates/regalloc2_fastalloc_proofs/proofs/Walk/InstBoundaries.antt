@@ -11,7 +11,6 @@ use Rattle.regalloc2_function.specs.OutputValue.{MoveValue}
 use Rattle.regalloc2_function.specs.WellFormed.{BlocksFollow, last_of}
 use Rattle.regalloc2_function.specs.SourceRun.{arguments_at}
 use Rattle.regalloc2_names.specs.Operand.{is_reading}
-use Rattle.regalloc2_semantics.specs.Instruction.{Knows}
 use Rattle.regalloc2_semantics.proofs.Order.{ends_within}
 use Rattle.regalloc2_fastalloc_state.specs.declared.inst_regs.InstRegs.{InstRegs}
 use Rattle.regalloc2_fastalloc_state.specs.StateParts.{VRegAllocsValue, alloc_of, vreg_of_preg}
@@ -24,8 +23,6 @@ use Rattle.regalloc2_fastalloc_proofs.specs.BlockSteps.{AllocsInstInBlock, Alloc
 use Rattle.regalloc2_fastalloc_proofs.proofs.Safety.StepsKeepState.{place_in, slot_in, IsWhole}
 use Rattle.regalloc2_fastalloc_proofs.proofs.Operands.RecordOverState.{opt, opt_none, opt_from, stands_at, slots_at, opt_some}
 use Rattle.regalloc2_fastalloc_proofs.proofs.Inst.AcrossInst.{lives_in}
-use Rattle.regalloc2_fastalloc_proofs.proofs.Operands.RecordOfInst.{Orderly}
-use Rattle.regalloc2_fastalloc_proofs.proofs.Inst.BoundaryToFirstOperand.{AvoidClobbers}
 use Rattle.regalloc2_fastalloc_proofs.proofs.Operands.DefinedNumbers.{defined_by, defined_by-number}
 use Rattle.regalloc2_fastalloc_proofs.proofs.Slots.StepsKeepSlots.{Grown, IsAt, grown_none, grown_then, grown_slot, sends_grown, clears_grown, allocates_grown}
 use Rattle.regalloc2_fastalloc_proofs.proofs.Inst.OneInstCarries.{Between, Alone, alone}
@@ -34,6 +31,7 @@ use Rattle.regalloc2_fastalloc_proofs.proofs.BlockEnd.NoMoveForOperand.{IsEmpty,
 use Rattle.regalloc2_fastalloc_proofs.proofs.BlockBegin.ReloadAtBegin.{begun}
 use Rattle.regalloc2_fastalloc_proofs.proofs.BlockBegin.StoresOfDefs.{stores_grown, stores_places, stores_between}
 use Rattle.regalloc2_fastalloc_proofs.proofs.Slots.LocatedStaysLocated.{begins_lasts}
+use Rattle.regalloc2_fastalloc_proofs.proofs.Inst.ProperInsts.{ProperInsts}
 
 -- The arguments of a branch keep what holds between instructions; slots stay, located vregs stay located, and so does each argument from there on that
 -- the branch doesn't define.
@@ -151,14 +149,12 @@ IsUsedAt f b i x =
     × (v.number ≡ x) × (i ≡ last_of (block_at f b))))
 
 module _ (Known : VirtualRegister → Type 0) (f : FunctionValue)
-    (orderly : (i : ℕ) → i < length f.insts → Orderly (inst_at f i).operands)
-    (avoids : (i : ℕ) → i < length f.insts → AvoidClobbers (inst_at f i).operands (inst_at f i).clobbers)
-    (knows : (i : ℕ) → i < length f.insts → Knows Known (inst_at f i).operands) (kept : BranchKept f) where
+    (proper : ProperInsts Known f) (kept : BranchKept f) where
   -- one instruction of a block
   module _ (b i : ℕ) (before_it places : List Place) (old new : StateValue) (lt : i < length f.insts)
       (a : AllocsInstInBlock f b i before_it places old new) where
-    by_itself : Between (i + 1) old → Alone Known f (λ j. a.allocates.here) orderly avoids knows i old a.middle
-    by_itself h = alone Known f (λ j. a.allocates.here) orderly avoids knows i a.allocates.blank a.allocates.here old a.middle lt (λ k less. refl) h
+    by_itself : Between (i + 1) old → Alone Known f (λ j. a.allocates.here) proper i old a.middle
+    by_itself h = alone Known f (λ j. a.allocates.here) proper i a.allocates.blank a.allocates.here old a.middle lt (λ k less. refl) h
         a.allocates.allocates
 
     -- it is a branch, or nothing is done after it
@@ -220,9 +216,7 @@ edge_next f follow b lt = (
 )
 
 module _ (Known : VirtualRegister → Type 0) (f : FunctionValue)
-    (orderly : (i : ℕ) → i < length f.insts → Orderly (inst_at f i).operands)
-    (avoids : (i : ℕ) → i < length f.insts → AvoidClobbers (inst_at f i).operands (inst_at f i).clobbers)
-    (knows : (i : ℕ) → i < length f.insts → Knows Known (inst_at f i).operands) (kept : BranchKept f) (follow : BlocksFollow f) where
+    (proper : ProperInsts Known f) (kept : BranchKept f) (follow : BlocksFollow f) where
   module _ (b : ℕ) (lb : b < length f.blocks) (blank : List Place) (old : StateValue) where
     -- an instruction of the block is one of the function
     of_function : (i : ℕ) → i < (block_at f b).range.end → i < length f.insts
@@ -232,7 +226,7 @@ module _ (Known : VirtualRegister → Type 0) (f : FunctionValue)
     pub walk_between : Between (block_at f b).range.end old → (i : ℕ) (places : List Place) (t : StateValue) → AllocsBlockInsts f b blank old i places t
         → Between i t
     walk_between h i places t at_end = h
-    walk_between h i places t (one_in j p q s u ge less prev a) = in_between Known f orderly avoids knows kept b j p q s u (of_function j less) a
+    walk_between h i places t (one_in j p q s u ge less prev a) = in_between Known f proper kept b j p q s u (of_function j less) a
         (walk_between h (j + 1) p s prev)
 
     -- the instructions of a block from i on let slots grow, and add edits at points of these instructions alone
@@ -245,7 +239,7 @@ module _ (Known : VirtualRegister → Type 0) (f : FunctionValue)
         (grown_weaken (IsWithin (j + 1) e) (IsWithin j e) old s (λ n w. (omega (arith, w.0), w.1)) (walk_grown (j + 1) p s prev))
         (grown_weaken (IsAt j) (IsWithin j e) s u
         (λ n w. elim w [ inl x ↦ (omega (arith, x), omega (arith, x, less)) | inr x ↦ (omega (arith, x), omega (arith, x, less)) ])
-        (in_grown Known f orderly avoids knows kept b j p q s u (of_function j less) a))
+        (in_grown Known f proper kept b j p q s u (of_function j less) a))
 
     module _ (h : Between (block_at f b).range.end old) (x : ℕ) where
       -- a vreg located at the block's end is located before, unless it is defined there
@@ -254,7 +248,7 @@ module _ (Known : VirtualRegister → Type 0) (f : FunctionValue)
           place_in old x ≢ NoPlace → place_in t x ≢ NoPlace
       walk_lasts i places t at_end = λ free there. there
       walk_lasts i places t (one_in j p q s u ge less prev a) = λ free there.
-          in_lasts Known f orderly avoids knows kept b j p q s u (of_function j less) a (walk_between h (j + 1) p s prev) x (free j (omega arith) less)
+          in_lasts Known f proper kept b j p q s u (of_function j less) a (walk_between h (j + 1) p s prev) x (free j (omega arith) less)
           (walk_lasts (j + 1) p s prev (λ k le lt. free k (omega (arith, le)) lt) there)
 
       -- and so does a vreg that is used there
@@ -265,9 +259,9 @@ module _ (Known : VirtualRegister → Type 0) (f : FunctionValue)
       walk_found i places t (one_in j p q s u ge less prev a) = λ free l le lt used.
           let here : Between (j + 1) s = walk_between h (j + 1) p s prev in
           elim (cases_eq l j) [
-            | inl e ↦ in_found Known f orderly avoids knows kept b j p q s u (of_function j less) a lb here x (free j (omega arith) less)
+            | inl e ↦ in_found Known f proper kept b j p q s u (of_function j less) a lb here x (free j (omega arith) less)
                 (subst (λ (m : ℕ). IsUsedAt f b m x) e used)
-            | inr ne ↦ in_lasts Known f orderly avoids knows kept b j p q s u (of_function j less) a here x (free j (omega arith) less)
+            | inr ne ↦ in_lasts Known f proper kept b j p q s u (of_function j less) a here x (free j (omega arith) less)
                 (walk_found (j + 1) p s prev (λ k ge2 lt2. free k (omega (arith, ge2)) lt2) l (omega (arith, le, ne)) lt used)
           ]
 

@@ -8,17 +8,15 @@ use Rattle.regalloc2_function.specs.OutputValue.{place_at}
 use Rattle.regalloc2_semantics.specs.Listing.{Item}
 use Rattle.regalloc2_semantics.specs.Carry.{Carries}
 use Rattle.regalloc2_semantics.specs.BlockByPoints.{at_point, walked, listed}
-use Rattle.regalloc2_semantics.specs.Instruction.{Knows}
 use Rattle.regalloc2_semantics.proofs.ListingParts.{walked_split}
 use Rattle.regalloc2_semantics.proofs.NotRead.{Unread}
 use Rattle.regalloc2_semantics.proofs.BlockBackward.{Relied, step_carried}
 use Rattle.regalloc2_fastalloc_proofs.specs.InstSteps.{StateValue, AllocsInst, ends_block}
 use Rattle.regalloc2_fastalloc_proofs.proofs.Operands.RecordOverState.{stands_at, slots_at}
-use Rattle.regalloc2_fastalloc_proofs.proofs.Operands.RecordOfInst.{Orderly}
-use Rattle.regalloc2_fastalloc_proofs.proofs.Inst.BoundaryToFirstOperand.{AvoidClobbers}
 use Rattle.regalloc2_fastalloc_proofs.proofs.Operands.DefinedNumbers.{defined_by}
 use Rattle.regalloc2_fastalloc_proofs.proofs.Inst.OneInstCarries.{Between, Alone, alone}
 use Rattle.regalloc2_fastalloc_proofs.proofs.Walk.InstForOneVReg.{step_at, Leaves, step_of}
+use Rattle.regalloc2_fastalloc_proofs.proofs.Inst.ProperInsts.{ProperInsts}
 
 -- whether an instruction defines the number, of so many from one on
 unfoldable pub defined_from : FunctionValue → ℕ → ℕ → ℕ → Bool
@@ -39,21 +37,19 @@ pub data Goes (f : FunctionValue) (placesf : ℕ → List Place) (L : ℕ → St
       L i t u → Goes f placesf L begin first stop i u
 
 module _ (Known : VirtualRegister → Type 0) (f : FunctionValue) (placesf : ℕ → List Place)
-    (orderly : (i : ℕ) → i < length f.insts → Orderly (inst_at f i).operands)
-    (avoids : (i : ℕ) → i < length f.insts → AvoidClobbers (inst_at f i).operands (inst_at f i).clobbers)
-    (knows : (i : ℕ) → i < length f.insts → Knows Known (inst_at f i).operands) (L : ℕ → StateValue → StateValue → Type 0)
+    (proper : ProperInsts Known f) (L : ℕ → StateValue → StateValue → Type 0)
     (begin : StateValue) (first stop : ℕ) (within : stop ≤ length f.insts) (start : Between stop begin) where
   -- the state before each of these instructions is one between instructions
   pub goes_between : (i : ℕ) (t : StateValue) → Goes f placesf L begin first stop i t → Between i t
   goes_between i t stopped = start
   goes_between i t (one_more j s u blank here ge lt prev at a l) =
-      (alone Known f placesf orderly avoids knows j blank here s t (omega (arith, within)) at (goes_between (j + 1) s prev) a).between
+      (alone Known f placesf proper j blank here s t (omega (arith, within)) at (goes_between (j + 1) s prev) a).between
 
   -- the law of one of them
   pub goes_alone : (i : ℕ) (t u : StateValue) (blank here : List Place) → i < stop → Goes f placesf L begin first stop (i + 1) t
       → ((k : ℕ) → k < length (inst_at f i).operands → place_at (placesf i) k ≡ slice_index_or here k NoPlace) → AllocsInst i (inst_at f i) blank here t u →
-      Alone Known f placesf orderly avoids knows i t u
-  goes_alone i t u blank here lt prev at a = alone Known f placesf orderly avoids knows i blank here t u
+      Alone Known f placesf proper i t u
+  goes_alone i t u blank here lt prev at a = alone Known f placesf proper i blank here t u
       (omega (arith, within)) at (goes_between (i + 1) t prev) a
 
   module _ (F : ℕ → Option Place) (v : VirtualRegister) (known : Known v) (block : Bool) (m : ℕ) (E : Place → Type 0)

@@ -8,15 +8,12 @@ use Rattle.regalloc2_names.specs.Point.{before, after}
 use Rattle.regalloc2_function.specs.FunctionValue.{FunctionValue, block_at, inst_at}
 use Rattle.regalloc2_function.specs.WellFormed.{BlocksFollow, BlocksEnd, last_of}
 use Rattle.regalloc2_function.specs.OutputValue.{place_at}
-use Rattle.regalloc2_semantics.specs.Instruction.{Knows}
 use Rattle.regalloc2_semantics.specs.BlockByPoints.{at_point, listed}
 use Rattle.regalloc2_semantics.proofs.Order.{ends_within}
 use Rattle.regalloc2_semantics.proofs.UnwrittenPlaces.{Keeps}
 use Rattle.regalloc2_fastalloc_proofs.specs.InstSteps.{StateValue, AllocsInst}
 use Rattle.regalloc2_fastalloc_proofs.specs.BlockSteps.{AllocsInstInBlock, AllocsBlockInsts, at_end, one_in}
 use Rattle.regalloc2_fastalloc_proofs.proofs.Operands.RecordOverState.{slots_at}
-use Rattle.regalloc2_fastalloc_proofs.proofs.Operands.RecordOfInst.{Orderly}
-use Rattle.regalloc2_fastalloc_proofs.proofs.Inst.BoundaryToFirstOperand.{AvoidClobbers}
 use Rattle.regalloc2_fastalloc_proofs.proofs.Operands.DefinedNumbers.{defined_by}
 use Rattle.regalloc2_fastalloc_proofs.proofs.Walk.InstsCarry.{AreListed}
 use Rattle.regalloc2_fastalloc_proofs.proofs.Safety.InstsKeepSafe.{later_same}
@@ -24,6 +21,7 @@ use Rattle.regalloc2_fastalloc_proofs.proofs.Slots.StepsKeepSlots.{Grown, IsAt, 
 use Rattle.regalloc2_fastalloc_proofs.proofs.Walk.InstForOneVReg.{Leaves}
 use Rattle.regalloc2_fastalloc_proofs.proofs.Walk.InstsBeforeLastCarry.{Goes, stopped, one_more}
 use Rattle.regalloc2_fastalloc_proofs.proofs.Walk.InstBoundaries.{BranchKept, grown_weaken, grown_slots, in_grown}
+use Rattle.regalloc2_fastalloc_proofs.proofs.Inst.ProperInsts.{ProperInsts}
 
 -- any point
 abbrev pub AnyPlace : ℕ → Type 0
@@ -47,9 +45,7 @@ pub record Split (f : FunctionValue) (placesf : ℕ → List Place) (L : ℕ →
   pub rest : Grown AnyPlace begin final
 
 module _ (Known : VirtualRegister → Type 0) (f : FunctionValue)
-    (orderly : (i : ℕ) → i < length f.insts → Orderly (inst_at f i).operands)
-    (avoids : (i : ℕ) → i < length f.insts → AvoidClobbers (inst_at f i).operands (inst_at f i).clobbers)
-    (knows : (i : ℕ) → i < length f.insts → Knows Known (inst_at f i).operands) (kept : BranchKept f) (follow : BlocksFollow f) (ends : BlocksEnd f)
+    (proper : ProperInsts Known f) (kept : BranchKept f) (follow : BlocksFollow f) (ends : BlocksEnd f)
     (placesf : ℕ → List Place) (final : StateValue) where
   -- the places of later instructions are listed where they were before
   pub listed_behind : (b j : ℕ) (p q : List Place) (s u : StateValue) → j < length f.insts → AllocsInstInBlock f b j p q s u → AreListed f placesf j q →
@@ -94,7 +90,7 @@ module _ (Known : VirtualRegister → Type 0) (f : FunctionValue)
                 let sooner : j < last_of (block_at f b) = omega (arith, less, ne) in
                 let plain = ((ends b lb).1 j ge less sooner).0 in
                 let before_it : Grown AnyPlace s final = grown_then AnyPlace s u final
-                (grown_weaken (IsAt j) AnyPlace s u (λ n x. tt) (in_grown Known f orderly avoids knows kept b j p q s u (within j less) a)) rest in
+                (grown_weaken (IsAt j) AnyPlace s u (λ n x. tt) (in_grown Known f proper kept b j p q s u (within j less) a)) rest in
                 let sp = split (j + 1) p s prev (omega (arith, sooner)) (listed_behind b j p q s u (within j less) a h) before_it in
                 record {
                   begin = sp.begin;

@@ -7,8 +7,9 @@ use Rattle.regalloc2_function.specs.FunctionValue.{FunctionValue}
 use Rattle.regalloc2_function.specs.OutputValue.{MoveValue, allocs_of}
 use Rattle.regalloc2_function.specs.AllocatedRun.{moves_at}
 use Rattle.regalloc2_function.specs.Views.{move_of}
-use Rattle.regalloc2_checker.specs.TableFacts.{facts_now, IsListed, IsListedVReg}
+use Rattle.regalloc2_checker.specs.TableFacts.{facts_now, IsListed, IsListedVReg, IsMissingUnlisted}
 use Rattle.regalloc2_checker.proofs.TableSteps.{kept-twice}
+use Rattle.regalloc2_checker.proofs.NamedPlaces.{no-missing, moves-listed, operands-listed}
 use Rattle.regalloc2_checker.proofs.TransferFollowsFacts.{after_run, listed_moves, listed_places}
 use Rattle.regalloc2_checker.proofs.ErrorsOnPaths.{early_run, inst_report, added_in_turn}
 use Rattle.regalloc2_checker.proofs.check.check_inst.Goals as goal
@@ -53,7 +54,7 @@ returns-clause-judged g c = λ env h known.
     )
 
 pub go_to_early-requires-clause-missing : goal.go_to_early-requires-clause-missing
-go_to_early-requires-clause-missing g c = c.requires.1.1.1.0.places.missing
+go_to_early-requires-clause-missing g c = no-missing (g.F.Function.function c.args.by.now.f.now) g.o c.args.values.now.places c.requires.1.1.1.0.places
 
 pub go_to_early-requires-clause-listed : goal.go_to_early-requires-clause-listed
 go_to_early-requires-clause-listed g c =
@@ -62,7 +63,7 @@ go_to_early-requires-clause-listed g c =
     listed_moves f g.o c.args.by.now.listing.now c.args.block c.args.inst c.index.result c.index-listing-index.result c.as_slice-moves.result.now c.requires.1.1.0
     c.as_slice-moves.ensures.value c.index.ensures c.index-listing-index.is c.requires.1.1.1.1.0 c.requires.1.1.1.1.1.0 c.requires.1.1.1.1.1.1.0 in
     subst (λ (ms : List MoveValue). All (λ m. IsListed c.args.values.now.places m.to) ms) (sym moves)
-    (c.requires.1.1.1.0.places.moves c.args.block c.args.inst c.requires.1.1.1.1.0 c.requires.1.1.1.1.1.0 c.requires.1.1.1.1.1.1.0)
+    (moves-listed f g.o c.args.values.now.places (record { block = c.args.block; inst = c.args.inst }) c.requires.1.1.1.0.places)
 
 pub go_to_late-requires-clause-vregs : goal.go_to_late-requires-clause-vregs
 go_to_late-requires-clause-vregs g c =
@@ -74,3 +75,18 @@ go_to_late-requires-clause-vregs g c =
 pub returns-clause-kept : goal.returns-clause-kept
 returns-clause-kept g c = kept-twice c.args.values.now c.go_to_early.new.values c.go_to_late.new.values c.in_ok-go_to_early.ensures.kept
     c.in_ok-go_to_late.ensures.kept
+
+pub go_to_late-requires-clause-missing : goal.go_to_late-requires-clause-missing
+go_to_late-requires-clause-missing g c =
+    subst IsMissingUnlisted (sym c.in_ok-go_to_early.ensures.kept.places)
+    (no-missing (g.F.Function.function c.args.by.now.f.now) g.o c.args.values.now.places c.requires.1.1.1.0.places)
+
+pub go_to_late-requires-clause-listed : goal.go_to_late-requires-clause-listed
+go_to_late-requires-clause-listed g c =
+    let f : FunctionValue = g.F.Function.function c.args.by.now.f.now in
+    let places : c.as_slice-places.result.now ≡ allocs_of g.o c.args.inst =
+    listed_places f g.o c.args.by.now.listing.now c.args.inst c.index.result c.index-listing-index.result c.as_slice-places.result.now c.requires.1.1.0
+    c.as_slice-places.ensures.value c.index.ensures c.index-listing-index.is c.requires.1.1.1.1.1.1.1 in
+    subst (λ (ps : List ℕ). All (IsListed ps) c.as_slice-places.result.now) (sym c.in_ok-go_to_early.ensures.kept.places)
+    (subst (λ (qs : List Place). All (IsListed c.args.values.now.places) qs) (sym places)
+    (operands-listed f g.o c.args.values.now.places c.args.inst c.requires.1.1.1.0.places))

@@ -11,12 +11,12 @@ analyze-requires g c κs within =
     let listed = c.in_ok-listing.ensures in
     let t = c.in_ok-tables.ensures in
     let named : AreNamed f g.o c.in_ok-tables.tables =
-    record { places = rw t.places c.in_ok-places.ensures; vregs = rw t.vregs c.in_ok-vregs.ensures } in (
+    record { places = rw (t.places, ← c.requires.1.1.1.1.0) c.in_ok-places.ensures; vregs = rw t.vregs c.in_ok-vregs.ensures } in (
       search rules,
       (
         search rules,
         (
-          rw (c.deref-2.ensures.value, ← c.requires.1.1.1.1.0) listed,
+          rw (c.deref.ensures.value, ← c.requires.1.1.1.1.0) listed,
           (
             c.requires.1.1.1.1.1.0,
             (named, (t.count ∙ omega (arith, c.num_blocks.ensures.count), t.tables)),
@@ -32,19 +32,19 @@ check_all-requires g c κs within =
     let t = c.in_ok-tables.ensures in
     let s = c.in_ok-state.ensures in
     let named : AreNamed f g.o c.in_ok-tables.tables =
-    record { places = rw t.places c.in_ok-places.ensures; vregs = rw t.vregs c.in_ok-vregs.ensures } in (
+    record { places = rw (t.places, ← c.requires.1.1.1.1.0) c.in_ok-places.ensures; vregs = rw t.vregs c.in_ok-vregs.ensures } in (
       search rules,
       (
         search rules,
         (
-          rw (c.deref-3.ensures.value, ← c.requires.1.1.1.1.0) listed,
+          rw (c.deref-2.ensures.value, ← c.requires.1.1.1.1.0) listed,
           (
             c.requires.1.1.1.1.1.0,
             (
               named_same f g.o c.in_ok-tables.tables c.in_ok-state.state.values s.alike.places s.alike.vregs named,
               (
-                rw c.deref-4.ensures.value s.long,
-                (s.alike.count ∙ t.count ∙ omega (arith, c.num_blocks.ensures.count), rw c.deref-4.ensures.value s.solved),
+                rw c.deref-3.ensures.value s.long,
+                (s.alike.count ∙ t.count ∙ omega (arith, c.num_blocks.ensures.count), rw c.deref-3.ensures.value s.solved),
               ),
             ),
           ),

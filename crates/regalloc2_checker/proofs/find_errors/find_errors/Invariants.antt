@@ -1,8 +1,5 @@
 use Rattle.regalloc2_checker.proofs.find_errors.find_errors.Given as goal
 
-abbrev pub ghost-named_places : goal.ghost-named_places
-ghost-named_places g a = g.o
-
 abbrev pub ghost-analyze : goal.ghost-analyze
 ghost-analyze g a = g.o
 

@@ -7,6 +7,7 @@ use Rattle.regalloc2_function.specs.OutputValue.{MoveValue, allocs_of}
 use Rattle.regalloc2_function.specs.AllocatedRun.{moves_at}
 use Rattle.regalloc2_function.specs.Views.{move_of}
 use Rattle.regalloc2_checker.specs.TableFacts.{facts_now, IsListed, IsListedVReg, IsMissingUnlisted}
+use Rattle.regalloc2_checker.proofs.NamedPlaces.{no-missing, moves-listed, operands-listed}
 use Rattle.regalloc2_checker.proofs.TransferFollowsFacts.{after_run, listed_moves, listed_places}
 use Rattle.regalloc2_checker.proofs.transfer_block.transfer_inst.Goals as goal
 
@@ -26,7 +27,7 @@ returns-clause-now g c =
     c.in_ok-go_to_early.ensures.now c.in_ok-go_to_late.ensures.now
 
 pub go_to_early-requires-clause-missing : goal.go_to_early-requires-clause-missing
-go_to_early-requires-clause-missing g c = c.requires.1.1.1.0.places.missing
+go_to_early-requires-clause-missing g c = no-missing (g.F.Function.function c.args.f.now) g.o c.args.values.now.places c.requires.1.1.1.0.places
 
 pub go_to_early-requires-clause-listed : goal.go_to_early-requires-clause-listed
 go_to_early-requires-clause-listed g c =
@@ -36,7 +37,7 @@ go_to_early-requires-clause-listed g c =
     c.deref.result.now c.requires.1.1.0 c.deref.ensures.value c.index.ensures c.index-listing-index.is c.requires.1.1.1.1.0 c.requires.1.1.1.1.1.0
     c.requires.1.1.1.1.1.1.0 in
     subst (λ (ms : List MoveValue). All (λ m. IsListed c.args.values.now.places m.to) ms) (sym moves)
-    (c.requires.1.1.1.0.places.moves c.args.block c.args.inst c.requires.1.1.1.1.0 c.requires.1.1.1.1.1.0 c.requires.1.1.1.1.1.1.0)
+    (moves-listed f g.o c.args.values.now.places (record { block = c.args.block; inst = c.args.inst }) c.requires.1.1.1.0.places)
 
 pub bounds-listing-index : goal.bounds-listing-index
 bounds-listing-index g c = rw c.index.ensures (rw c.requires.1.1.0.size c.requires.1.1.1.1.1.1.1)
@@ -56,7 +57,7 @@ go_to_late-requires-clause-listed g c =
     (subst (λ (qs : List Place). All (IsListed c.args.values.now.places) qs)
     (sym (listed_places (g.F.Function.function c.args.f.now) g.o c.args.listing.now c.args.inst c.index.result c.index-listing-index.result
     c.deref-3.result.now c.requires.1.1.0 c.deref-3.ensures.value c.index.ensures c.index-listing-index.is c.requires.1.1.1.1.1.1.1))
-    (c.requires.1.1.1.0.places.operands c.args.inst c.requires.1.1.1.1.1.1.1))
+    (operands-listed (g.F.Function.function c.args.f.now) g.o c.args.values.now.places c.args.inst c.requires.1.1.1.0.places))
 
 pub go_to_late-requires-clause-vregs : goal.go_to_late-requires-clause-vregs
 go_to_late-requires-clause-vregs g c =
@@ -64,3 +65,8 @@ go_to_late-requires-clause-vregs g c =
     (sym c.in_ok-go_to_early.ensures.kept.vregs)
     (subst (λ (os : List OperandValue). All (λ (op : OperandValue). IsListedVReg c.args.values.now.vregs op.vreg) os) (sym c.inst_operands-operands.ensures)
     (c.requires.1.1.1.0.vregs.operands c.args.inst c.requires.1.1.1.1.1.1.1))
+
+pub go_to_late-requires-clause-missing : goal.go_to_late-requires-clause-missing
+go_to_late-requires-clause-missing g c =
+    subst IsMissingUnlisted (sym c.in_ok-go_to_early.ensures.kept.places)
+    (no-missing (g.F.Function.function c.args.f.now) g.o c.args.values.now.places c.requires.1.1.1.0.places)

@@ -1,10 +1,10 @@
 use Rattle.std.proofs.Common.{ℕ, ◌≡◌, ◌<◌, List, [], ◌∷◌, ◌++◌, arith, Bool, true, false, ap, sym, ◌∙◌, refl, subst, cond, nat_eq, nat_lt}
 use Rattle.std.specs.Prelude.{◌&&◌, if◌then◌else◌, Option, None, Some}
 use Rattle.regalloc2_cfg.specs.Numbers.{NumberSet, has_number, times_in}
-use Rattle.regalloc2_checker_tables.specs.EntrySets.{has_bits, is_member, IsSetOf, AreMore, AreKnown, IsLess}
+use Rattle.regalloc2_checker_tables.specs.EntrySets.{has_bits, is_member, IsSetOf, AreMore, AreKnown, IsGrown, IsLess}
 use Rattle.regalloc2_checker_tables.proofs.Bits.{added-is, added-more, same-sets, within-and, none-is, ok-as, read-is, bits-in, bits-small, changed-is}
 use Rattle.regalloc2_checker_tables.proofs.Walked.{times-nil, walked-on, walked-is, walked-more, walked-end}
-use Rattle.regalloc2_checker_tables.proofs.Lone.{single-is, single-as, none-kept, alone-is, known-first, known-more, empty-is, set-of, set-is, with-empty}
+use Rattle.regalloc2_checker_tables.proofs.Lone.{single-is, single-as, none-kept, alone-is, known-first, known-more, empty-is, set-of, set-is, with-empty, grown-more}
 use Rattle.regalloc2_checker_tables.proofs.Lone.{without-lone, both-lone, both-apart, lone-within, lone-less, lone-none, empty-common}
 use Rattle.regalloc2_checker_tables.proofs.sets.Sets.add.Goals as goal
 
@@ -15,10 +15,13 @@ pub returns-in_err-push-clause-more : goal.returns-in_err-push-clause-more
 returns-in_err-push-clause-more g c = same-sets c.args.self.now c.push.new.self.items (c.in_err-push.ensures.items ∙ c.self.view_is)
 
 pub invariant_of-self-2 : goal.invariant_of-self-2
-invariant_of-self-2 g c =
-    known-more c.self.inside.sets.items c.push.new.self.items c.self.inside.lone.items c.push_reserved.new.self.items c.args.set c.args.only
-    c.self.invariant c.in_ok-push.ensures.items
-    (c.push_reserved.ensures.items ∙ ap (λ (l : List (Option ℕ)). l ++ c.args.only ∷ []) c.reserve.ensures.items) c.requires
+invariant_of-self-2 g c = (
+  known-more c.self.inside.sets.items c.push.new.self.items c.self.inside.lone.items c.push_reserved.new.self.items c.args.set c.args.only
+      c.self.invariant.0 c.in_ok-push.ensures.items
+      (c.push_reserved.ensures.items ∙ ap (λ (l : List (Option ℕ)). l ++ c.args.only ∷ []) c.reserve.ensures.items) c.requires,
+  grown-more c.self.inside.sets.items c.push.new.self.items c.self.inside.grown
+      (added-more c.self.inside.sets.items c.push.new.self.items c.args.set c.in_ok-push.ensures.items) c.self.invariant.1,
+)
 
 pub returns-clause-more : goal.returns-clause-more
 returns-clause-more g c =
@@ -29,3 +32,10 @@ pub returns-clause-found : goal.returns-clause-found
 returns-clause-found g c =
     added-is c.self.inside.sets.items c.push.new.self.items c.in-Ok.number c.args.set (has_bits c.args.set)
     (omega (arith, c.in-Ok.ensures.1, c.len.ensures, c.self.inside.sets.ok.0)) c.in_ok-push.ensures.items (λ y. refl)
+
+pub invariant_of-self-in_err-push : goal.invariant_of-self-in_err-push
+invariant_of-self-in_err-push g c = (
+  subst (λ (l : List NumberSet). AreKnown l c.reserve.new.self.items) (sym c.in_err-push.ensures.items)
+      (subst (λ (o : List (Option ℕ)). AreKnown c.self.inside.sets.items o) (sym c.in_ok-reserve.ensures.items) c.self.invariant.0),
+  subst (λ (l : List NumberSet). IsGrown l c.self.inside.grown) (sym c.in_err-push.ensures.items) c.self.invariant.1,
+)

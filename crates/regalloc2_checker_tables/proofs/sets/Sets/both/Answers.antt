@@ -19,7 +19,7 @@ pub returns-in-Some-clause-found : goal.returns-in-Some-clause-found
 returns-in-Some-clause-found g c =
     let is = c.in-Some.ensures c.in-Some.only refl in
     set-of c.self.inside.sets.items c.args.self.now 0 _ c.self.view_is
-    (empty-is c.self.inside.sets.items c.self.inside.lone.items _ c.self.invariant
+    (empty-is c.self.inside.sets.items c.self.inside.lone.items _ c.self.invariant.0
     (both-apart (is_member c.args.self.now c.args.set) (is_member c.args.self.now c.args.other) c.in-Some.only is.members (sym c.if-has.ensures)))
 
 pub returns-clause-found : goal.returns-clause-found

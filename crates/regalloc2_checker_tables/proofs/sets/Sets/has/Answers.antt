@@ -11,4 +11,4 @@ use Rattle.regalloc2_checker_tables.proofs.sets.Sets.has.Goals as goal
 pub returns-then-set-eq0 : goal.returns-then-set-eq0
 returns-then-set-eq0 g c =
     sym (ap (λ n. is_member c.args.self.now n c.args.bits) c.if-set-eq0.true
-    ∙ ap (λ (s : List NumberSet). is_member s 0 c.args.bits) (sym c.self.view_is) ∙ c.self.invariant.empty c.args.bits)
+    ∙ ap (λ (s : List NumberSet). is_member s 0 c.args.bits) (sym c.self.view_is) ∙ c.self.invariant.0.empty c.args.bits)

@@ -4,15 +4,17 @@ use Rattle.regalloc2_cfg.specs.Numbers.{NumberSet, has_number, times_in}
 use Rattle.regalloc2_checker_tables.specs.EntrySets.{has_bits, is_member, IsSetOf, AreMore, AreKnown, IsLess}
 use Rattle.regalloc2_checker_tables.proofs.Bits.{added-is, added-more, same-sets, within-and, none-is, ok-as, read-is, bits-in, bits-small, changed-is}
 use Rattle.regalloc2_checker_tables.proofs.Walked.{times-nil, walked-on, walked-is, walked-more, walked-end}
-use Rattle.regalloc2_checker_tables.proofs.Lone.{single-is, single-as, none-kept, alone-is, known-first, known-more, empty-is, set-of, set-is, with-empty}
+use Rattle.regalloc2_checker_tables.proofs.Lone.{single-is, single-as, none-kept, alone-is, known-first, known-more, empty-is, set-of, set-is, with-empty, grown-none}
 use Rattle.regalloc2_checker_tables.proofs.Lone.{without-lone, both-lone, both-apart, lone-within, lone-less, lone-none, empty-common}
 use Rattle.regalloc2_checker_tables.proofs.sets.Sets.new.Goals as goal
 
 pub invariant_of-result : goal.invariant_of-result
-invariant_of-result g c =
-    known-first c.push.new.self.items c.push-2.new.self.items c.new.result
-    (c.in_ok-push.ensures.items ∙ ap (λ l. l ++ c.new.result ∷ []) c.new-sets.ensures.items)
-    (c.in_ok-push-2.ensures.items ∙ ap (λ l. l ++ None ∷ []) c.new-lone.ensures.items) c.new.ensures
+invariant_of-result g c = (
+  known-first c.push.new.self.items c.push-2.new.self.items c.new.result
+      (c.in_ok-push.ensures.items ∙ ap (λ l. l ++ c.new.result ∷ []) c.new-sets.ensures.items)
+      (c.in_ok-push-2.ensures.items ∙ ap (λ l. l ++ None ∷ []) c.new-lone.ensures.items) c.new.ensures,
+  grown-none c.push.new.self.items,
+)
 
 pub returns : goal.returns
 returns g c =

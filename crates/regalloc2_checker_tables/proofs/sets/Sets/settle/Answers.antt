@@ -11,7 +11,7 @@ use Rattle.regalloc2_checker_tables.proofs.sets.Sets.settle.Goals as goal
 pub returns-in_default-clause-found : goal.returns-in_default-clause-found
 returns-in_default-clause-found g c =
     set-of c.self.inside.sets.items c.args.self.now 0 (has_bits c.args.set) c.self.view_is
-    (empty-is c.self.inside.sets.items c.self.inside.lone.items (has_bits c.args.set) c.self.invariant (c.in_default.ensures.none refl))
+    (empty-is c.self.inside.sets.items c.self.inside.lone.items (has_bits c.args.set) c.self.invariant.0 (c.in_default.ensures.none refl))
 
 pub returns-then-has_no_other-clause-found : goal.returns-then-has_no_other-clause-found
 returns-then-has_no_other-clause-found g c =

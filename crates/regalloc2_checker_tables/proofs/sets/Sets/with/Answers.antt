@@ -18,4 +18,4 @@ pub returns-then-set-eq0-clause-found : goal.returns-then-set-eq0-clause-found
 returns-then-set-eq0-clause-found g c =
     ok-as _ _ c.single.result
     (λ n h. set-is c.single.new.self n _ _ (with-empty c.args.self.now c.args.set c.args.bits
-    (subst (λ (s : List NumberSet). (y : ℕ) → is_member s 0 y ≡ false) c.self.view_is c.self.invariant.empty) c.if-set-eq0.true) h) c.single.ensures.found
+    (subst (λ (s : List NumberSet). (y : ℕ) → is_member s 0 y ≡ false) c.self.view_is c.self.invariant.0.empty) c.if-set-eq0.true) h) c.single.ensures.found

@@ -17,5 +17,5 @@ returns-then-not-has-clause-found g c = record {
 pub returns-in-Some-clause-found : goal.returns-in-Some-clause-found
 returns-in-Some-clause-found g c =
     set-of c.self.inside.sets.items c.args.self.now 0 _ c.self.view_is
-    (empty-is c.self.inside.sets.items c.self.inside.lone.items _ c.self.invariant
+    (empty-is c.self.inside.sets.items c.self.inside.lone.items _ c.self.invariant.0
     (without-lone c.args.self.now c.args.set c.args.bits c.in-Some._only (c.in-Some.ensures c.in-Some._only refl) (sym c.if-not-has.ensures)))

@@ -7,9 +7,9 @@ use Rattle.regalloc2_fastalloc_walk.specs.StateView.{tables_of}
 use Rattle.regalloc2_fastalloc_proofs.proofs.Evictions.EvictClobbers.{machine_then}
 use Rattle.regalloc2_validate.proofs.OperandReads.{read_operand, read_vreg}
 use Rattle.regalloc2_fastalloc_walk.proofs.state.State.evict_fixed.Goals as goal
-use Rattle.regalloc2_fastalloc_walk.proofs.state.State.evict_fixed.Goals.{in-Some+in_ok-evict_others}
-use Rattle.regalloc2_fastalloc_walk.proofs.state.State.evict_fixed.Goals.{in_default+in-Some-reused_register+in_ok-evict_preg}
-use Rattle.regalloc2_fastalloc_walk.proofs.state.State.evict_fixed.Goals.{in_default+in_default-reused_register}
+use Rattle.regalloc2_fastalloc_walk.proofs.state.State.evict_fixed.Goals.{in-FixedReg+in_ok-evict_others-in-FixedReg}
+use Rattle.regalloc2_fastalloc_walk.proofs.state.State.evict_fixed.Goals.{in-Reuse+in-Some+in_ok-evict_preg-in-Reuse}
+use Rattle.regalloc2_fastalloc_walk.proofs.state.State.evict_fixed.Goals.{in-Reuse+in_default-reused_register, in_default}
 
 pub loop-k-init : goal.loop-k-init
 loop-k-init g c = record {
@@ -28,37 +28,47 @@ loop-k-preserved g c =
     let o : OperandValue = c.index-operands-k.result in
     let is : o ≡ op_at ops k = read_operand ops k o c.loop-k-test.true c.index-operands-k.is in
     let asks = ap (λ (x : OperandValue). x.constraint) (sym is) in
+    let at : (op_at ops k).constraint ≡ c.constraint.result = asks ∙ sym c.constraint.ensures.constraint in
     let begin : StateValue = tables_of c.args.self.now in
     let m : StateValue = tables_of c.loop-k.self in
     let h = c.loop-k.invariant in
-    elim c.match-fixed_register.branch [
-      | in-Some+in_ok-evict_others w ↦ rw (w.self-is, w.inst_regs-is) (
+    elim c.match-constraint.branch [
+      | in-FixedReg+in_ok-evict_others-in-FixedReg w ↦ rw (w.self-is, w.inst_regs-is) (
           let n : StateValue = tables_of w.evict_others.new.self in
-          let P : VirtualRegister → Type 0 = λ v. EvictsOthers c.args.point w.in-Some.preg v c.loop-k.inst_regs w.evict_others.new.inst_regs m n in
+          let P : VirtualRegister → Type 0 = λ v. EvictsOthers c.args.point w.in-FixedReg.preg v c.loop-k.inst_regs w.evict_others.new.inst_regs m n in
           record {
-            cleared = of_fixed k w.in-Some.preg c.loop-k.inst_regs w.evict_others.new.inst_regs m n h.cleared (asks ∙ w.in-Some.ensures.some)
-                (subst P (read_vreg ops k o w.vreg.result c.loop-k-test.true c.index-operands-k.is w.vreg.ensures) w.in_ok-evict_others.ensures.ok);
+            cleared = of_fixed k w.in-FixedReg.preg c.loop-k.inst_regs w.evict_others.new.inst_regs m n h.cleared (at ∙ w.in-FixedReg.is)
+                (subst P (read_vreg ops k o w.vreg.result c.loop-k-test.true c.index-operands-k.is w.vreg.ensures) w.in_ok-evict_others-in-FixedReg.ensures.ok);
             awaited = w.evict_others.ensures.awaited ∙ h.awaited;
-            later = w.in_ok-evict_others.ensures.step.later;
-            long = w.in_ok-evict_others.ensures.step.long ∙ h.long;
-            machine = machine_then begin m n h.machine w.in_ok-evict_others.ensures.step.machine;
-            registers = w.in_ok-evict_others.ensures.registers ∙ h.registers;
+            later = w.in_ok-evict_others-in-FixedReg.ensures.step.later;
+            long = w.in_ok-evict_others-in-FixedReg.ensures.step.long ∙ h.long;
+            machine = machine_then begin m n h.machine w.in_ok-evict_others-in-FixedReg.ensures.step.machine;
+            registers = w.in_ok-evict_others-in-FixedReg.ensures.registers ∙ h.registers;
           })
-      | in_default+in-Some-reused_register+in_ok-evict_preg w ↦ rw (w.self-is, w.inst_regs-is) (
+      | in-Reuse+in-Some+in_ok-evict_preg-in-Reuse w ↦ rw (w.self-is, w.inst_regs-is) (
           let n : StateValue = tables_of w.evict_preg.new.self in
-          let named = w.in-Some-reused_register.ensures.some in
+          let named = w.in-Some.ensures.some in
           record {
-            cleared = of_reuse k named.0 w.in-Some-reused_register.preg c.loop-k.inst_regs w.evict_preg.new.inst_regs m n h.cleared (asks ∙ named.1) named.2
-                named.3 w.in_ok-evict_preg.ensures.ok;
+            cleared = of_reuse k named.0 w.in-Some.preg c.loop-k.inst_regs w.evict_preg.new.inst_regs m n h.cleared (asks ∙ named.1) named.2
+                named.3 w.in_ok-evict_preg-in-Reuse.ensures.ok;
             awaited = w.evict_preg.ensures.awaited ∙ h.awaited;
-            later = w.in_ok-evict_preg.ensures.step.later;
-            long = w.in_ok-evict_preg.ensures.step.long ∙ h.long;
-            machine = machine_then begin m n h.machine w.in_ok-evict_preg.ensures.step.machine;
-            registers = w.in_ok-evict_preg.ensures.registers ∙ h.registers;
+            later = w.in_ok-evict_preg-in-Reuse.ensures.step.later;
+            long = w.in_ok-evict_preg-in-Reuse.ensures.step.long ∙ h.long;
+            machine = machine_then begin m n h.machine w.in_ok-evict_preg-in-Reuse.ensures.step.machine;
+            registers = w.in_ok-evict_preg-in-Reuse.ensures.registers ∙ h.registers;
           })
-      | in_default+in_default-reused_register w ↦ rw (w.self-is, w.inst_regs-is) (record {
-        cleared = not_fixed k c.loop-k.inst_regs m h.cleared (λ r e. w.in_default.ensures.none r (sym asks ∙ e))
+      | in-Reuse+in_default-reused_register w ↦ rw (w.self-is, w.inst_regs-is) (record {
+        cleared = not_fixed k c.loop-k.inst_regs m h.cleared (λ r e. let x = sym (at ∙ w.in-Reuse.is) ∙ e in cc)
             (λ n r e less named. w.in_default-reused_register.ensures.none n r (sym asks ∙ e) less named);
+        awaited = h.awaited;
+        later = h.later;
+        long = h.long;
+        machine = h.machine;
+        registers = h.registers;
+      })
+      | in_default w ↦ rw (w.self-is, w.inst_regs-is) (record {
+        cleared = not_fixed k c.loop-k.inst_regs m h.cleared (λ r e. w.in_default.not-FixedReg r (sym at ∙ e))
+            (λ n r e less named. w.in_default.not-Reuse n (sym at ∙ e));
         awaited = h.awaited;
         later = h.later;
         long = h.long;

@@ -12,11 +12,26 @@ use Rattle.regalloc2_fastalloc_proofs.specs.OutOfRegs.{OrderMovesFails, in_order
 use Rattle.regalloc2_fastalloc_walk.specs.StateView.{tables_of}
 use Rattle.regalloc2_fastalloc_state.specs.StateParts.{AllAtOrAfter}
 use Rattle.regalloc2_fastalloc_proofs.proofs.Branches.ArgMovesAreParallel.{apart_lent, full_before, gathered_below, gathered_sources, lends_none, pushes_at}
-use Rattle.regalloc2_fastalloc_proofs.proofs.Safety.StateKept.{lends_then, same_lends}
+use Rattle.regalloc2_fastalloc_proofs.proofs.Safety.StateKept.{lends_then, none_lends, same_lends}
 use Rattle.regalloc2_fastalloc_proofs.proofs.Branches.ArgMovesAreParallel.{pushes_long}
 use Rattle.regalloc2_fastalloc_state.proofs.SpillSlotUnits.{lacks_then}
 use Rattle.regalloc2_fastalloc_walk.proofs.BlockSpillFree.{gathers_none, of_none}
+use Rattle.regalloc2_fastalloc_walk.proofs.NothingPassed.{processes_nothing}
 use Rattle.regalloc2_fastalloc_walk.proofs.state.State.process_branch.Goals as goal
+
+-- a branch that passes nothing is done at once
+pub returns-then-passes_nothing-clause-ok : goal.returns-then-passes_nothing-clause-ok
+returns-then-passes_nothing-clause-ok g c =
+    processes_nothing (g.F.Function.function c.args.cx.now.f.now) c.args.block c.args.inst_regs.now (tables_of c.args.self.now)
+    (c.if-passes_nothing.ensures refl) c.args.inst
+
+pub returns-then-passes_nothing-clause-step : goal.returns-then-passes_nothing-clause-step
+returns-then-passes_nothing-clause-step g c = record {
+  machine = none_lends 6 (tables_of c.args.self.now);
+  later = c.requires.later;
+  long = refl;
+  err = search rules;
+}
 
 pub push_gathered-requires : goal.push_gathered-requires
 push_gathered-requires g c =

@@ -1,0 +1,87 @@
+#!/usr/bin/env python3
+"""Counts machine instructions for each instruction of an input, for every shape of docs/BENCH.md, and prints a table.
+
+    python3 bench/measure.py [--upstream PATH] [--task allocate|test|check] [--sizes 1000,10000] [--shapes real,switch] [--memory]
+
+It needs valgrind, and the program `regalloc2_bench` (`cd crates/regalloc2_bench && rt lib` builds it, as `rt ci` does). `--upstream` is the
+path of a program that reads a stored function and runs upstream's allocator or checker on it: it is called as `PATH bench FILE TIMES`, with
+`--validate` for the task `test`, and as `PATH bench-check FILE TIMES` for the check, and does the work that many times. One time is the difference of two times and one, so that
+start-up and reading don't count. `--memory` gives the peak of the heap in bytes in place of instructions, with reading.
+"""
+import argparse, json, os, re, subprocess, sys, tempfile
+
+HERE = os.path.dirname(os.path.abspath(__file__))
+sys.path.insert(0, HERE)
+import shapes
+
+OURS = os.path.join(HERE, "..", "crates", "regalloc2_bench", "out", "regalloc2_bench")
+
+
+def collected(command, stdin, limit):
+    """The machine instructions of one run, or None where it fails or takes too long."""
+    tool = ["valgrind", "--tool=callgrind", "--callgrind-out-file=/dev/null"]
+    try:
+        done = subprocess.run(tool + command, stdin=open(stdin), stdout=subprocess.DEVNULL, stderr=subprocess.PIPE, timeout=limit, text=True)
+    except subprocess.TimeoutExpired:
+        return None
+    found = re.search(r"Collected : (\d+)", done.stderr)
+    return int(found.group(1)) if found and done.returncode == 0 else None
+
+
+def peak(command, stdin, limit):
+    """The greatest size of the heap of one run in bytes, or None."""
+    with tempfile.NamedTemporaryFile() as out:
+        tool = ["valgrind", "--tool=massif", "--massif-out-file=" + out.name]
+        try:
+            subprocess.run(tool + command, stdin=open(stdin), stdout=subprocess.DEVNULL, stderr=subprocess.DEVNULL, timeout=limit)
+        except subprocess.TimeoutExpired:
+            return None
+        sizes = re.findall(r"mem_heap_B=(\d+)", open(out.name).read())
+    return max(map(int, sizes), default=None)
+
+
+def commands(program, upstream, task, path, times):
+    """The command of this port's program or of upstream's."""
+    if upstream:
+        flags = ["--validate"] if task == "test" else []
+        return [program, "bench-check" if task == "check" else "bench", path, str(times)] + flags
+    return [program, task, str(times)]
+
+
+def measure(args, program, upstream, path, insts):
+    """What one time costs for each instruction, or None."""
+    if args.memory:
+        return peak(commands(program, upstream, args.task, path, 1), path, args.limit)
+    counts = [collected(commands(program, upstream, args.task, path, n), path, args.limit) for n in (1, 2)]
+    return None if None in counts else round((counts[1] - counts[0]) / insts)
+
+
+def main():
+    words = argparse.ArgumentParser(description=__doc__, formatter_class=argparse.RawDescriptionHelpFormatter)
+    words.add_argument("--program", default=OURS)
+    words.add_argument("--upstream")
+    words.add_argument("--task", default="allocate", choices=["allocate", "test", "check"])
+    words.add_argument("--sizes", default="1000,10000")
+    words.add_argument("--shapes", default=",".join(shapes.SHAPES))
+    words.add_argument("--limit", type=int, default=300, help="seconds for one run")
+    words.add_argument("--memory", action="store_true")
+    args = words.parse_args()
+    sizes = [int(n) for n in args.sizes.split(",")]
+    who = (["upstream"] if args.upstream else []) + ["this port"]
+    print("| Shape | " + " | ".join(f"{w}, {n:,}" for w in who for n in sizes) + " |")
+    print("|---" * (1 + len(who) * len(sizes)) + "|")
+    with tempfile.TemporaryDirectory() as folder:
+        for shape in args.shapes.split(","):
+            cells = {}
+            for n in sizes:
+                path = os.path.join(folder, "f.json")
+                shapes.SHAPES[shape](n, 1).write(path)
+                insts = len(json.load(open(path))["insts"])
+                for w in who:
+                    cells[w, n] = measure(args, args.upstream if w == "upstream" else args.program, w == "upstream", path, insts)
+            row = [cells[w, n] for w in who for n in sizes]
+            print(f"| `{shape}` | " + " | ".join("" if c is None else f"{c:,}" for c in row) + " |", flush=True)
+
+
+if __name__ == "__main__":
+    main()

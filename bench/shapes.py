@@ -1,0 +1,642 @@
+#!/usr/bin/env python3
+"""shapes.py SHAPE N OUT [SEED]: writes a stored function of about N instructions to OUT.
+
+docs/BENCH.md says what each shape is. The same words give the same function. `real` is at random, from the seed: straight runs, forks,
+loops and small switches, as in compiled code for x86-64, in which a definition dominates its uses.
+"""
+import random, sys
+
+# Int: p0..p8 preferred (caller saved), p9..p15 not preferred (callee saved).
+# Float: p0..p7 preferred, p8..p15 not preferred, all caller saved.
+INT_PREF, INT_NON = list(range(9)), list(range(9, 16))
+FL_PREF, FL_NON = [64 + i for i in range(8)], [64 + i for i in range(8, 16)]
+CALLER = INT_PREF + FL_PREF + FL_NON
+
+ANY, REG, STACK = 0, 1, 2
+DEF, USE = 0, 1
+EARLY, LATE = 0, 1
+
+
+def fixed(n):
+    return 64 + n
+
+
+def reuse(k):
+    return 32 + k
+
+
+def oper(v, con, kind, pos):
+    """The word of an operand; v is the virtual register's word."""
+    return (v >> 2) | (v & 3) << 32 | pos << 34 | kind << 35 | con << 36
+
+
+def use(v, con=REG):
+    return oper(v, con, USE, EARLY)
+
+
+def use_late(v, con=REG):
+    return oper(v, con, USE, LATE)
+
+
+def define(v, con=REG):
+    return oper(v, con, DEF, LATE)
+
+
+def define_early(v, con=REG):
+    return oper(v, con, DEF, EARLY)
+
+
+class F:
+    """A function under construction."""
+
+    def __init__(self):
+        self.insts = []        # (op, operands, clobbers)
+        self.ranges = []
+        self.succs, self.args, self.params = [], [], []
+        self.start = 0
+        self.nv = 0
+        self.labels = []
+        self.fixed_stack = []
+        self.scratch = ["null", "null", "null"]
+
+    def new(self, cls=0):
+        v = self.nv << 2 | cls
+        self.nv += 1
+        return v
+
+    def emit(self, operands, clobbers=(), op="Op"):
+        self.insts.append((op, operands, clobbers))
+
+    def begin(self, params=()):
+        """Opens the next block, and returns its number."""
+        self.params.append(list(params))
+        self.start = len(self.insts)
+        return len(self.params) - 1
+
+    def end(self, edges, operands=(), ret=False, clobbers=()):
+        """Ends the block. Edges are lists of a target and arguments; targets may be filled in later."""
+        self.emit(list(operands), clobbers, "Ret" if ret else "Branch")
+        self.ranges.append((self.start, len(self.insts)))
+        self.succs.append(edges)
+        return edges
+
+    def write(self, path):
+        nb = len(self.ranges)
+        preds = [[] for _ in range(nb)]
+        for b, edges in enumerate(self.succs):
+            for t, args in edges:
+                preds[t].append(b)
+                assert len(args) == len(self.params[t]), (b, t, args, self.params[t])
+        # critical edges, operands on branches
+        for b, edges in enumerate(self.succs):
+            multi = [t for t, _ in edges if len(preds[t]) + (t == 0) > 1]
+            if multi:
+                assert len(edges) == 1 or all(len(preds[t]) == 1 for t, _ in edges), (b, edges)
+                assert not self.insts[self.ranges[b][1] - 1][1]
+        with open(path, "w") as o:
+            j = lambda xs: "[" + ",".join(map(str, xs)) + "]"
+            o.write('{"machine_env":{"preferred_regs_by_class":[%s,%s,[]],' % (j(INT_PREF), j(FL_PREF)))
+            o.write('"non_preferred_regs_by_class":[%s,%s,[]],' % (j(INT_NON), j(FL_NON)))
+            o.write('"scratch_by_class":%s,"fixed_stack_slots":%s},\n' % (j(self.scratch), j(self.fixed_stack)))
+            o.write('"entry_block":0,"insts":[\n')
+            last = len(self.insts) - 1
+            for k, (op, ops, cl) in enumerate(self.insts):
+                o.write('{"op":"%s","operands":%s,"clobbers":%s}%s\n'
+                        % (op, j(ops), j(cl), "," if k < last else ""))
+            o.write('],"blocks":%s,\n' % j(map(list, self.ranges)))
+            o.write('"block_preds":[%s],\n' % ",".join(j(p) for p in preds))
+            o.write('"block_succs":[%s],\n' % ",".join(j(t for t, _ in e) for e in self.succs))
+            o.write('"block_params_in":[%s],\n' % ",".join(j(p) for p in self.params))
+            o.write('"block_params_out":[%s],\n'
+                    % ",".join("[" + ",".join(j(a) for _, a in e) + "]" for e in self.succs))
+            o.write('"num_vregs":%d,"debug_value_labels":%s,' % (self.nv, j(map(list, self.labels))))
+            o.write('"spillslot_size":[1,2,2],"multi_spillslot_named_by_last_slot":false,'
+                    '"allow_multiple_vreg_defs":false}\n')
+
+
+# ------------------------------------------------------------------- real
+
+class Real:
+    def __init__(self, n, seed):
+        self.f, self.n, self.r = F(), n, random.Random(seed)
+        self.vis = ([], [])          # visible vregs of class 0 and 1
+        self.keep = ([], [])         # long-lived ones
+        self.defs_at = {}
+
+    def left(self):
+        return self.n - len(self.f.insts)
+
+    def new(self, cls=0):
+        v = self.f.new(cls)
+        if self.r.random() < 0.04:
+            self.f.labels.append((v, len(self.f.insts), len(self.f.insts) + 1 + self.r.randrange(8), len(self.f.labels)))
+        return v
+
+    def add(self, *vs):
+        for v in vs:
+            self.vis[v & 3].append(v)
+
+    def pick(self, cls=0):
+        r = self.r
+        vis = self.vis[cls]
+        if self.keep[cls] and r.random() < 0.12:
+            return r.choice(self.keep[cls])
+        # recent ones are likelier: a geometric step back
+        back = min(int(r.expovariate(1 / 5.0)), 60)
+        return vis[max(len(vis) - 1 - back, 0)]
+
+    def inst(self):
+        f, r = self.f, self.r
+        x = r.random()
+        if x < 0.26:        # two-address ALU
+            a, b, d = self.pick(), self.pick(), self.new()
+            f.emit([define(d, reuse(1)), use(a), use(b, ANY if r.random() < 0.4 else REG)])
+            self.add(d)
+        elif x < 0.44:      # load
+            ops = [use(self.pick())]
+            if r.random() < 0.3:
+                ops.append(use(self.pick()))
+            d = self.new()
+            f.emit([define(d)] + ops)
+            self.add(d)
+        elif x < 0.54:      # store
+            ops = [use(self.pick()), use(self.pick())]
+            if r.random() < 0.25:
+                ops.append(use(self.pick()))
+            f.emit(ops)
+        elif x < 0.63:      # constant, address
+            d = self.new()
+            f.emit([define(d, ANY if r.random() < 0.1 else REG)])
+            self.add(d)
+        elif x < 0.71:      # compare
+            f.emit([use(self.pick()), use(self.pick(), ANY)])
+        elif x < 0.75:      # shift by rcx
+            a, c, d = self.pick(), self.pick(), self.new()
+            f.emit([define(d, reuse(1)), use(a), use(c, fixed(1))])
+            self.add(d)
+        elif x < 0.765:     # divide
+            a, b, c = self.pick(), self.pick(), self.pick()
+            q, m = self.new(), self.new()
+            f.emit([define(q, fixed(0)), define(m, fixed(2)), use(a, fixed(0)), use(b, fixed(2)), use(c)])
+            self.add(q, m)
+        elif x < 0.86:      # float arithmetic
+            a, b, d = self.pick(1), self.pick(1), self.new(1)
+            f.emit([define(d, reuse(1)), use(a), use(b, ANY if r.random() < 0.3 else REG)])
+            self.add(d)
+        elif x < 0.90:      # float load, store, conversion
+            k = r.random()
+            if k < 0.5:
+                b, d = self.pick(), self.new(1)
+                f.emit([define(d), use(b)])
+                self.add(d)
+            elif k < 0.8:
+                f.emit([use(self.pick(1)), use(self.pick())])
+            else:
+                b, d = self.pick(1), self.new()
+                f.emit([define(d), use(b)])
+                self.add(d)
+        elif x < 0.96:      # call
+            ops, ni, nf = [], r.choice([0, 1, 1, 2, 2, 3, 4, 6]), r.choice([0, 0, 0, 1, 2])
+            regs = [7, 6, 2, 1, 4, 5][:ni]
+            cl = set(CALLER)
+            for p in regs:
+                ops.append(use(self.pick(), fixed(p)))
+            for p in range(nf):
+                ops.append(use(self.pick(1), fixed(p)))
+            if r.random() < 0.2:
+                ops.append(use(self.pick(), REG))   # callee
+            if r.random() < 0.15:
+                ops.append(use(self.pick(), ANY))   # argument on the stack
+            k = r.random()
+            new = []
+            if k < 0.6:
+                d = self.new()
+                new.append(d)
+                ops.append(define(d, fixed(0)))
+                cl.discard(0)
+            elif k < 0.75:
+                d = self.new(1)
+                new.append(d)
+                ops.append(define(d, fixed(0)))
+                cl.discard(64)
+            f.emit(ops, sorted(cl))
+            self.add(*new)
+        elif x < 0.975:     # with a temporary
+            t, a, d = self.new(), self.pick(), self.new()
+            f.emit([define_early(t), use(a), define(d)])
+            self.add(d)
+        elif x < 0.985:     # late use
+            a, b, d = self.pick(), self.pick(), self.new()
+            f.emit([define(d), use(a), use_late(b)])
+            self.add(d)
+        elif x < 0.99:      # stack
+            f.emit([use(self.pick(), STACK)])
+        else:               # copy
+            a, d = self.pick(), self.new()
+            f.emit([define(d, ANY), use(a, ANY)])
+            self.add(d)
+
+    def run_of(self, k):
+        for _ in range(k):
+            self.inst()
+
+    def mark(self):
+        return (len(self.vis[0]), len(self.vis[1]))
+
+    def back(self, m):
+        del self.vis[0][m[0]:]
+        del self.vis[1][m[1]:]
+
+    def classes(self, hi):
+        return [1 if self.r.random() < 0.25 else 0 for _ in range(self.r.randrange(hi + 1))]
+
+    def region(self, depth, budget):
+        """Emits about `budget` instructions; a block is open before and after."""
+        f, r = self.f, self.r
+        stop = len(f.insts) + budget
+        while len(f.insts) < stop:
+            self.run_of(r.randrange(2, 12))
+            room = stop - len(f.insts)
+            if room < 12 or r.random() < 0.15:
+                continue
+            sub = min(int(r.expovariate(1 / 60.0)) + 8, room) if depth < 6 else 8
+            if depth == 0 and room > 2000:
+                sub = min(room, r.randrange(20, 1200))
+            k = r.random()
+            if k < 0.6:
+                self.diamond(depth, sub)
+            elif k < 0.9:
+                self.loop(depth, sub)
+            else:
+                self.switch(depth, sub)
+
+    def diamond(self, depth, sub):
+        f, r = self.f, self.r
+        cond = [use(self.pick())] if r.random() < 0.5 else []
+        head = f.end([[0, []], [0, []]], cond)
+        cl = self.classes(3)
+        joins = []
+        for side in range(2):
+            m = self.mark()
+            head[side][0] = f.begin()
+            if side == 0 or r.random() < 0.6:
+                self.region(depth + 1, max(sub // 2, 2))
+            joins.append(f.end([[0, [self.pick(c) for c in cl]]]))
+            self.back(m)
+        ps = [self.new(c) for c in cl]
+        b = f.begin(ps)
+        for e in joins:
+            e[0][0] = b
+        self.add(*ps)
+
+    def switch(self, depth, sub):
+        f, r = self.f, self.r
+        w = r.randrange(3, 9)
+        head = f.end([[0, []] for _ in range(w)], [use(self.pick())])
+        cl = self.classes(2)
+        joins = []
+        for side in range(w):
+            m = self.mark()
+            head[side][0] = f.begin()
+            self.region(depth + 1, max(sub // w, 2))
+            joins.append(f.end([[0, [self.pick(c) for c in cl]]]))
+            self.back(m)
+        ps = [self.new(c) for c in cl]
+        b = f.begin(ps)
+        for e in joins:
+            e[0][0] = b
+        self.add(*ps)
+
+    def loop(self, depth, sub):
+        f, r = self.f, self.r
+        cl = [0] + self.classes(3)
+        pre = f.end([[0, [self.pick(c) for c in cl]]])
+        ps = [self.new(c) for c in cl]
+        h = f.begin(ps)
+        pre[0][0] = h
+        self.add(*ps)
+        self.run_of(r.randrange(1, 5))
+        cond = [use(self.pick()), use(self.pick(), ANY)] if r.random() < 0.5 else []
+        head = f.end([[0, []], [0, []]], cond)
+        m = self.mark()
+        head[0][0] = f.begin()
+        self.region(depth + 1, max(sub, 2))
+        f.end([[h, [self.pick(c) for c in cl]]])
+        self.back(m)
+        head[1][0] = f.begin()
+
+    def build(self):
+        f = self.f
+        f.begin()
+        # arguments of the function
+        args = [self.new() for _ in range(6)] + [self.new(1) for _ in range(4)]
+        f.emit([define(v, fixed(p)) for v, p in zip(args, [7, 6, 2, 1, 4, 5, 0, 1, 2, 3])])
+        self.add(*args)
+        self.keep = (args[:6], args[6:])
+        self.run_of(6)
+        self.region(0, max(self.n - len(f.insts) - 2, 1))
+        a = self.pick()
+        f.end([], [use(a, fixed(0))], ret=True)
+        return f
+
+
+# ------------------------------------------------------------ one pattern
+
+def straight_live(n, rev):
+    f = F()
+    f.begin()
+    vs = []
+    for k in range(n // 2):
+        v = f.new(k & 1)
+        vs.append(v)
+        f.emit([define(v)])
+    for v in (reversed(vs) if rev else vs):
+        f.emit([use(v)])
+    f.end([], ret=True)
+    return f
+
+
+def straight_any(n):
+    f = F()
+    f.begin()
+    vs = [f.new(0) for _ in range(n // 3)]
+    for v in vs:
+        f.emit([define(v)])
+    for k in range(2 * n // 3):
+        f.emit([use(vs[k % len(vs)], ANY), use(vs[(k * 7 + 3) % len(vs)], ANY)])
+    f.end([], ret=True)
+    return f
+
+
+def live_through(n, nv, nb):
+    f = F()
+    f.begin()
+    vs = [f.new(k & 1) for k in range(nv)]
+    for v in vs:
+        f.emit([define(v)])
+    e = f.end([[0, []]])
+    for _ in range(nb):
+        e[0][0] = f.begin()
+        d = f.new()
+        f.emit([define(d)])
+        f.emit([use(d)])
+        e = f.end([[0, []]])
+    e[0][0] = f.begin()
+    for v in vs:
+        f.emit([use(v)])
+    f.end([], ret=True)
+    return f
+
+
+def params(n, how):
+    f = F()
+    k = n // 4
+    f.begin()
+    vs = [f.new() for _ in range(k)]
+    for v in vs:
+        f.emit([define(v)])
+    pre = f.end([[0, list(vs)]])
+    ps = [f.new() for _ in range(k)]
+    h = f.begin(ps)
+    pre[0][0] = h
+    for p in ps[: k // 2]:
+        f.emit([use(p, ANY)])
+    head = f.end([[0, []], [0, []]])
+    head[0][0] = f.begin()
+    if how == "cycle":
+        f.end([[h, ps[1:] + ps[:1]]])
+    elif how == "swap":
+        f.end([[h, [ps[i ^ 1] if i ^ 1 < k else ps[i] for i in range(k)]]])
+    elif how == "one-swap":
+        ds = [f.new() for _ in range(k)]
+        for d in ds:
+            f.emit([define(d)])
+        f.end([[h, [ps[1], ps[0]] + ds[2:]]])
+    else:
+        ds = [f.new() for _ in range(k)]
+        for d in ds:
+            f.emit([define(d)])
+        f.end([[h, ds]])
+    head[1][0] = f.begin()
+    for p in ps:
+        f.emit([use(p, ANY)])
+    f.end([], ret=True)
+    return f
+
+
+def branch_ops(n):
+    f = F()
+    k = n // 4
+    f.begin()
+    vs = [f.new() for _ in range(k)]
+    for v in vs:
+        f.emit([define(v)])
+    e = f.end([[0, list(vs)]], [use(v, ANY) for v in vs])
+    ps = [f.new() for _ in range(k)]
+    e[0][0] = f.begin(ps)
+    for p in ps:
+        f.emit([use(p)])
+    f.end([], ret=True)
+    return f
+
+
+def params_small(n, w=32):
+    f = F()
+    f.begin()
+    vs = [f.new(k & 1) for k in range(w)]
+    for v in vs:
+        f.emit([define(v)])
+    while len(f.insts) < n - 8:
+        pre = f.end([[0, list(vs)]])
+        ps = [f.new(k & 1) for k in range(w)]
+        h = f.begin(ps)
+        pre[0][0] = h
+        f.emit([use(ps[0]), use(ps[2], ANY)])
+        f.emit([use(ps[1])])
+        head = f.end([[0, []], [0, []]])
+        head[0][0] = f.begin()
+        f.emit([use(ps[4])])
+        f.end([[h, ps[2:] + ps[:2]]])
+        head[1][0] = f.begin()
+        d = f.new()
+        f.emit([define(d), use(ps[6])])
+        vs = [d] + ps[1:]
+    for v in vs:
+        f.emit([use(v)])
+    f.end([], ret=True)
+    return f
+
+
+def clobbers(n):
+    f = F()
+    f.begin()
+    allr = list(range(16)) + [64 + i for i in range(16)]
+    vs = [f.new(k & 1) for k in range(24)]
+    for v in vs:
+        f.emit([define(v)])
+    k = 0
+    while len(f.insts) < n - 26:
+        d = f.new(0)
+        f.emit([define(d, fixed(0)), use(vs[k % 24 & ~1], fixed(7)), use(vs[k % 24 | 1], fixed(1))],
+               [p for p in allr if p != 0])
+        vs[k % 24 & ~1] = d
+        k += 5
+    for v in vs:
+        f.emit([use(v)])
+    f.end([], ret=True)
+    return f
+
+
+def wide(n):
+    f = F()
+    f.begin()
+    k = n // 2
+    vs = [f.new() for _ in range(k)]
+    for v in vs:
+        f.emit([define(v)])
+    f.emit([use(v, ANY) for v in vs])
+    for _ in range(n // 4):
+        d = f.new()
+        f.emit([define(d)])
+        f.emit([use(d)])
+    f.end([], ret=True)
+    return f
+
+
+def switch(n):
+    f = F()
+    f.begin()
+    a = f.new()
+    f.emit([define(a)])
+    k = n // 3
+    e = f.end([[0, [a]] for _ in range(k)], [use(a)])
+    for j in range(k):
+        p = f.new()
+        e[j][0] = f.begin([p])
+        f.emit([use(p)])
+        f.end([], ret=True)
+    return f
+
+
+def switch_merge(n):
+    f = F()
+    f.begin()
+    k = n // 4
+    vs = [f.new() for _ in range(k)]
+    for v in vs:
+        f.emit([define(v)])
+    e = f.end([[0, []] for _ in range(k)], [use(vs[0])])
+    joins = []
+    for j in range(k):
+        e[j][0] = f.begin()
+        d = f.new()
+        f.emit([define(d)])
+        joins.append(f.end([[0, []]]))
+    b = f.begin()
+    for x in joins:
+        x[0][0] = b
+    for v in vs:
+        f.emit([use(v)])
+    f.end([], ret=True)
+    return f
+
+
+def stack_moves(n):
+    f = F()
+    f.fixed_stack = list(range(32, 40))
+    f.begin()
+    while len(f.insts) < n:
+        a, b = f.new(), f.new()
+        k = len(f.insts) // 4 % 8
+        f.emit([define(a, fixed(32 + k))])
+        f.emit([define(b, STACK)])
+        f.emit([use(a, STACK), use(b, fixed(32 + (k + 1) % 8))])
+        f.emit([use(b, STACK)])
+    f.end([], ret=True)
+    return f
+
+
+def chain(n, backward=False):
+    """Blocks of a definition, its use and a branch, each going to the next by number or, backward, to the one before."""
+    f = F()
+    k = max(2, n // 3)
+    for b in range(k):
+        f.begin()
+        d = f.new()
+        f.emit([define(d)])
+        f.emit([use(d)])
+        if backward:
+            to = k - 1 if b == 0 else (b - 1 if b > 1 else None)
+        else:
+            to = b + 1 if b < k - 1 else None
+        f.end([] if to is None else [[to, []]], ret=to is None)
+    return f
+
+
+def branch_defs(n, w=8):
+    """A chain of blocks; each branch defines what it passes to the next block's parameters."""
+    f = F()
+    f.begin()
+    k = max(1, n // 2)
+    edge = None
+    for b in range(k):
+        last = b == k - 1
+        if b > 0:
+            ps = [f.new() for _ in range(w)]
+            edge[0][0] = f.begin(ps)
+            f.emit([use(ps[0])])
+        else:
+            f.emit([])
+        if last:
+            f.end([], ret=True)
+        else:
+            ds = [f.new() for _ in range(w)]
+            edge = f.end([[0, ds]], [define(d, ANY) for d in ds])
+    return f
+
+
+def branch_defs_wide(n):
+    """One branch that defines all that it passes."""
+    f = F()
+    k = n // 4
+    f.begin()
+    ds = [f.new() for _ in range(k)]
+    e = f.end([[0, list(ds)]], [define(d, ANY) for d in ds])
+    ps = [f.new() for _ in range(k)]
+    e[0][0] = f.begin(ps)
+    for p in ps:
+        f.emit([use(p)])
+    f.end([], ret=True)
+    return f
+
+
+SHAPES = {
+    "real": lambda n, seed: Real(n, seed).build(),
+    "straight-live": lambda n, _: straight_live(n, False),
+    "straight-live-rev": lambda n, _: straight_live(n, True),
+    "straight-any": lambda n, _: straight_any(n),
+    "live-through": lambda n, _: live_through(n, n // 5, n // 5),
+    "live-sqrt": lambda n, _: live_through(n, int(2 * n ** 0.5), n // 4),
+    "params": lambda n, _: params(n, "cycle"),
+    "params-swap": lambda n, _: params(n, "swap"),
+    "params-one-swap": lambda n, _: params(n, "one-swap"),
+    "params-perm": lambda n, _: params(n, "new"),
+    "branch-ops": lambda n, _: branch_ops(n),
+    "params-small": lambda n, _: params_small(n),
+    "clobbers": lambda n, _: clobbers(n),
+    "wide": lambda n, _: wide(n),
+    "branch-defs": lambda n, _: branch_defs(n),
+    "branch-defs-wide": lambda n, _: branch_defs_wide(n),
+    "switch": lambda n, _: switch(n),
+    "switch-merge": lambda n, _: switch_merge(n),
+    "stack-moves": lambda n, _: stack_moves(n),
+    "chain": lambda n, _: chain(n),
+    "chain-back": lambda n, _: chain(n, backward=True),
+}
+
+if __name__ == "__main__":
+    if len(sys.argv) < 4:
+        sys.exit(__doc__)
+    shape, n, out = sys.argv[1], int(sys.argv[2]), sys.argv[3]
+    seed = int(sys.argv[4]) if len(sys.argv) > 4 else 1
+    SHAPES[shape](n, seed).write(out)

@@ -1,0 +1,16 @@
+/* Calls the function that the program `compile` writes, with the arguments that are given, and prints what it returns. */
+#include <inttypes.h>
+#include <stdint.h>
+#include <stdio.h>
+#include <stdlib.h>
+
+uint64_t compiled(const uint64_t *arguments);
+
+int main(int count, char **words) {
+    uint64_t arguments[16] = {0};
+    for (int at = 1; at < count && at <= 16; at++) {
+        arguments[at - 1] = strtoull(words[at], NULL, 10);
+    }
+    printf("%" PRIu64 "\n", compiled(arguments));
+    return 0;
+}

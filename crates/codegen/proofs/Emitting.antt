@@ -1,0 +1,110 @@
+-- Code that grows by what is emitted.
+use Rattle.std.proofs.Common.{ℕ, suc, ◌≡◌, ◌+◌, ◌<◌, ◌≤◌, Bool, true, false, cond, List, [], ◌∷◌, ◌++◌, length, map, refl, sym, ap, subst, ◌∙◌, arith}
+use Rattle.std.proofs.Common.{append_assoc, append-nil, add-one, below_more, ltb-true, ltb-false}
+use Rattle.std.specs.Prelude.{nat_lt, slice_index, All}
+use Rattle.std.proofs.lemmas.Grind.{common_steps}
+use Rattle.regalloc2_function.specs.FunctionValue.{FunctionValue}
+use Rattle.regalloc2_function.specs.OutputValue.{OutputValue}
+use Rattle.regalloc2_function.specs.Listing.{Listed, ListedInst, ListedMove, IsListedWithin}
+use Rattle.regalloc2_names.specs.Place.{Place, NoPlace, InRegister, InSlot, is_in_slot}
+use Rattle.regalloc2_names.specs.PlaceBits.{index_of_place}
+use Rattle.codegen_ir.specs.declared.operation.Operation.{Operation}
+use Rattle.codegen_machine.specs.declared.Source.TheVariants.{Slot}
+use Rattle.codegen_machine.specs.declared.Instruction.{Instruction}
+use Rattle.codegen_machine.specs.declared.Instruction.TheVariants.{Store}
+use Rattle.codegen.specs.Emitted.{source_of, move_code, register_of, item_code, items_code, block_code, blocks_code, start_of, label_of, resolved, emitted}
+
+-- a slot is read as one
+pub slot_source : (p : Place) → is_in_slot p ≡ true → Slot (index_of_place p) ≡ source_of p
+slot_source NoPlace h = absurd cc
+slot_source (InRegister r) h = absurd cc
+slot_source (InSlot n) h = refl
+
+-- and written as one
+pub slot_written : (from to : Place) → is_in_slot to ≡ true → Store (index_of_place to) (register_of from) ≡ move_code from to
+slot_written from NoPlace h = absurd cc
+slot_written from (InRegister r) h = absurd cc
+slot_written from (InSlot n) h = refl
+
+-- what is within a block is within the function
+wider : (first end n : ℕ) (x : Listed) → end ≤ n → IsListedWithin first end x → IsListedWithin 0 n x
+wider first end n (ListedInst i) le h = (omega arith, (let less = h.1 in omega arith))
+wider first end n (ListedMove m) le h = tt
+
+pub all_wider : (first end n : ℕ) (left : List Listed) → end ≤ n → All (IsListedWithin first end) left → All (IsListedWithin 0 n) left
+all_wider first end n left le h = λ k d less. wider first end n _ le (h k d less)
+
+-- the next item, and those after it
+pub next_within : (n : ℕ) (x : Listed) (left rest : List Listed) → All (IsListedWithin 0 n) left → left ≡ x ∷ rest →
+    IsListedWithin 0 n x × All (IsListedWithin 0 n) rest
+next_within n x left rest h is =
+    let all : All (IsListedWithin 0 n) (x ∷ rest) = subst (λ (xs : List Listed). All (IsListedWithin 0 n) xs) is h in
+    (all 0 x (omega arith), λ k d less. all (suc k) d (omega arith))
+
+module _ (operations : List Operation) (out : OutputValue) where
+  -- one item of a listing is emitted, and the others are left
+  pub one_item : (succs : List ℕ) (whole code more : List Instruction) (x : Listed) (left rest : List Listed) →
+      code ++ items_code operations out succs left ≡ whole → left ≡ x ∷ rest → more ≡ code ++ item_code operations out succs x →
+      more ++ items_code operations out succs rest ≡ whole
+  unfolding items_code
+  one_item succs whole code more x left rest h is grown =
+      rw grown (append_assoc code (item_code operations out succs x) (items_code operations out succs rest)
+      ∙ ap (λ xs. code ++ items_code operations out succs xs) (sym is) ∙ h)
+
+  -- no item is left
+  pub no_item : (succs : List ℕ) (whole code : List Instruction) (left : List Listed) → code ++ items_code operations out succs left ≡ whole →
+      left ≡ [] → code ≡ whole
+  unfolding items_code
+  no_item succs whole code left h none = sym (append-nil code) ∙ ap (λ xs. code ++ items_code operations out succs xs) (sym none) ∙ h
+
+  -- no block is emitted
+  pub no_block_yet : (f : FunctionValue) → [] ≡ blocks_code operations out f 0
+  unfolding blocks_code
+  no_block_yet f = refl
+
+  -- one block more is
+  pub one_block : (f : FunctionValue) (b : ℕ) (code more : List Instruction) → code ≡ blocks_code operations out f b →
+      more ≡ code ++ block_code operations out f b →
+      more ≡ blocks_code operations out f (b + 1)
+  unfolding blocks_code
+  one_block f b code more h grown = rw add-one (grown ∙ ap (λ xs. xs ++ block_code operations out f b) h)
+
+  -- where the first so many blocks begin
+  pub record AreStarts (f : FunctionValue) (starts : List ℕ) (b : ℕ) : Type 0 where
+    pub long : length starts ≡ b
+    pub starts_at : (k : ℕ) → k < b → slice_index starts k ≡ start_of operations out f k
+
+  pub no_start : (f : FunctionValue) → AreStarts f [] 0
+  no_start f = record { long = refl; starts_at = λ k less. absurd (omega arith) }
+
+  -- and one block more
+  pub one_start : (f : FunctionValue) (b : ℕ) (starts more : List ℕ) (code : List Instruction) (start : ℕ) → AreStarts f starts b →
+      code ≡ blocks_code operations out f b → start ≡ length code → more ≡ starts ++ start ∷ [] → AreStarts f more (b + 1)
+  one_start f b starts more code start s is at grown = record {
+    long = grind (arith, common_steps, s.long, grown);
+    starts_at = λ k less. at_each k less;
+  }
+    where
+      at_last : slice_index more b ≡ start_of operations out f b
+      at_last = let here : start ≡ start_of operations out f b = at ∙ ap length is in let long = s.long in grind (arith, common_steps)
+
+      before : (k : ℕ) → k < b → slice_index more k ≡ start_of operations out f k
+      before k less = let same : slice_index more k ≡ slice_index starts k = (let long = s.long in grind (arith, common_steps)) in same ∙ s.starts_at k less
+
+      at_each : (k : ℕ) → k < b + 1 → slice_index more k ≡ start_of operations out f k
+      at_each = below_more _ b before at_last
+
+  -- the starts of all blocks are the labels
+  labels : (f : FunctionValue) (starts : List ℕ) → AreStarts f starts (length f.blocks) → (b : ℕ) → slice_index starts b ≡ label_of operations out f b
+  labels f starts s b = pick (nat_lt b (length f.blocks)) refl
+    where
+      pick : (t : Bool) → nat_lt b (length f.blocks) ≡ t → slice_index starts b ≡ cond t (start_of operations out f b) 0
+      pick true is = s.starts_at b (ltb-true _ _ is)
+      pick false is = let far : length starts ≤ b = (let long = s.long in let out_of = ltb-false _ _ is in omega arith) in grind (arith, common_steps)
+
+  -- so jumps go where blocks begin
+  pub all_resolved : (f : FunctionValue) (starts : List ℕ) (code done : List Instruction) → AreStarts f starts (length f.blocks) →
+      code ≡ blocks_code operations out f (length f.blocks) → done ≡ map (resolved (λ b. slice_index starts b)) code →
+      done ≡ (emitted operations f out).instructions
+  all_resolved f starts code done s is h =
+      h ∙ ap (λ (start : ℕ → ℕ). map (resolved start) code) (λ i b. labels f starts s b i) ∙ ap (map (resolved (label_of operations out f))) is

@@ -1,0 +1,82 @@
+-- What the proofs take of the source, of its allocation and of what is emitted.
+use Rattle.std.specs.Prelude.{ℕ, ◌≡◌, ◌+◌, ◌<◌, ◌≤◌, true, false, List, map, length, slice_index, All}
+use Rattle.regalloc2_names.specs.declared.RegClass.TheVariants.{Int}
+use Rattle.regalloc2_names.specs.Register.{Register}
+use Rattle.regalloc2_names.specs.RegisterSet.{has_register}
+use Rattle.regalloc2_names.specs.Place.{Place, NoPlace, InRegister, InSlot}
+use Rattle.regalloc2_function.specs.FunctionValue.{FunctionValue, block_at, inst_at}
+use Rattle.regalloc2_function.specs.OutputValue.{OutputValue, allocs_of, place_at}
+use Rattle.codegen_ir.specs.Operands.{operands_of}
+use Rattle.codegen_ir.specs.declared.operation.Operation.{Operation}
+use Rattle.codegen_ir.specs.declared.operation.Operation.TheVariants.{Argument as TakeArgument, Constant as TakeConstant, Copy, Compute as Computation}
+use Rattle.codegen_ir.specs.declared.operation.Operation.TheVariants.{Compare as Comparison, Jump as GoTo, BranchIf, Return as GiveBack}
+use Rattle.codegen_machine.specs.Machine.{CodeValue, is_general}
+use Rattle.codegen.specs.Emitted.{operation_at, blocks_code, start_of, resolved}
+
+-- a register for numbers
+abbrev pub IsGeneral : Place → Type 0
+IsGeneral NoPlace = ⊥
+IsGeneral (InRegister r) = (r.class ≡ Int) × (is_general r.number ≡ true)
+IsGeneral (InSlot n) = ⊥
+
+-- such a register, or a slot of the frame
+abbrev pub IsHere : ℕ → Place → Type 0
+IsHere slots NoPlace = ⊥
+IsHere slots (InRegister r) = (r.class ≡ Int) × (is_general r.number ≡ true)
+IsHere slots (InSlot n) = n < slots
+
+-- a move that one instruction makes
+abbrev pub CanMove : ℕ → Place → Place → Type 0
+CanMove slots from NoPlace = ⊥
+CanMove slots from (InRegister r) = ((r.class ≡ Int) × (is_general r.number ≡ true)) × IsHere slots from
+CanMove slots from (InSlot n) = (n < slots) × IsGeneral from
+
+-- the places of an operation's operands are such that it can be emitted
+abbrev pub IsPlaced : ℕ → Operation → List Place → Type 0
+IsPlaced slots (TakeArgument to k) ps = IsGeneral (place_at ps 0)
+IsPlaced slots (TakeConstant to n) ps = IsGeneral (place_at ps 0)
+IsPlaced slots (Copy to from) ps = IsGeneral (place_at ps 0) × IsHere slots (place_at ps 1)
+IsPlaced slots (Computation o to left right) ps = IsGeneral (place_at ps 0) × (place_at ps 0 ≡ place_at ps 1) × IsHere slots (place_at ps 2)
+IsPlaced slots (Comparison c to left right) ps = IsGeneral (place_at ps 0) × IsGeneral (place_at ps 1) × IsHere slots (place_at ps 2)
+IsPlaced slots GoTo ps = Unit {0}
+IsPlaced slots (BranchIf v) ps = IsGeneral (place_at ps 0)
+IsPlaced slots (GiveBack v) ps = IsHere slots (place_at ps 0)
+
+-- an operation that goes on to the next line
+abbrev pub IsPlain : Operation → Type 0
+IsPlain (TakeArgument to k) = Unit {0}
+IsPlain (TakeConstant to n) = Unit {0}
+IsPlain (Copy to from) = Unit {0}
+IsPlain (Computation o to left right) = Unit {0}
+IsPlain (Comparison c to left right) = Unit {0}
+IsPlain GoTo = ⊥
+IsPlain (BranchIf v) = ⊥
+IsPlain (GiveBack v) = ⊥
+
+-- one that ends a block with so many successors
+abbrev pub IsEnd : Operation → ℕ → Type 0
+IsEnd (TakeArgument to k) count = ⊥
+IsEnd (TakeConstant to n) count = ⊥
+IsEnd (Copy to from) count = ⊥
+IsEnd (Computation o to left right) count = ⊥
+IsEnd (Comparison c to left right) count = ⊥
+IsEnd GoTo count = 0 < count
+IsEnd (BranchIf v) count = 1 < count
+IsEnd (GiveBack v) count = Unit {0}
+
+-- what is known of the source, of its allocation and of the code, whose jumps to a block go where that starts
+pub record IsEmitted (f : FunctionValue) (operations : List Operation) (out : OutputValue) (start : ℕ → ℕ) (code : CodeValue) : Type 0 where
+  pub operands : (i : ℕ) → i < length f.insts → (inst_at f i).operands ≡ operands_of (operation_at operations i)
+  pub clobbers : (i : ℕ) → i < length f.insts → (r : Register) → has_register (inst_at f i).clobbers r ≡ false
+  pub counted : length f.insts ≡ length operations
+  pub entry : (f.entry ≡ 0) × (0 < length f.blocks)
+  pub filled : (b : ℕ) → b < length f.blocks → (block_at f b).range.first < (block_at f b).range.end
+  pub within : (b : ℕ) → b < length f.blocks → (block_at f b).range.end ≤ length f.insts
+  pub plain : (b i : ℕ) → b < length f.blocks → (block_at f b).range.first ≤ i → i + 1 < (block_at f b).range.end → IsPlain (operation_at operations i)
+  pub ends : (b i : ℕ) → b < length f.blocks → (block_at f b).range.first ≤ i → i + 1 ≡ (block_at f b).range.end →
+      IsEnd (operation_at operations i) (length (block_at f b).succs)
+  pub succs : (b k : ℕ) → b < length f.blocks → k < length (block_at f b).succs → slice_index (block_at f b).succs k < length f.blocks
+  pub placed : (i : ℕ) → i < length f.insts → IsPlaced code.slots (operation_at operations i) (allocs_of out i)
+  pub moves : All (λ e. CanMove code.slots e.1.from e.1.to) out.edits
+  pub starts : (b : ℕ) → b < length f.blocks → start b ≡ start_of operations out f b
+  pub instructions : code.instructions ≡ map (resolved start) (blocks_code operations out f (length f.blocks))

@@ -1,0 +1,191 @@
+-- The premises of the proofs hold of what is emitted for an allocated procedure.
+use Rattle.std.proofs.Common.{ℕ, ◌≡◌, ◌+◌, ◌-◌, ◌<◌, ◌≤◌, Bool, true, false, cond, List, [], ◌∷◌, length, Option, None, Some, refl, sym, ap, ◌∙◌, subst}
+use Rattle.std.proofs.Common.{arith, lt-ltb}
+use Rattle.std.proofs.Common.{◌⊎◌, inl, inr}
+use Rattle.std.specs.Prelude.{slice_index_or, Contains, All}
+use Rattle.std.proofs.lemmas.List.{length-map}
+use Rattle.regalloc2_names.specs.Register.{Register}
+use Rattle.regalloc2_names.specs.declared.RegClass.{RegClass}
+use Rattle.regalloc2_names.specs.declared.OperandConstraint.TheVariants.{Any, Reg}
+use Rattle.regalloc2_names.specs.Operand.{OperandValue, is_fixed_nonallocatable}
+use Rattle.regalloc2_names.specs.Place.{Place, NoPlace, InRegister, InSlot}
+use Rattle.regalloc2_function.specs.FunctionValue.{FunctionValue, block_at, inst_at}
+use Rattle.regalloc2_function.specs.Machine.{MachineValue, IsPlainRegister, scratch_of}
+use Rattle.regalloc2_function.specs.OutputValue.{OutputValue, allocs_of, place_at}
+use Rattle.regalloc2_function.specs.Faithful.{Meets, IsStackToStack}
+use Rattle.regalloc2_function.specs.Fitting.{IsProperPlace, IsMoveEnd}
+use Rattle.regalloc2_function.specs.Following.{end_within}
+use Rattle.regalloc2_function.specs.WellFormed.{IsWellFormed, EndsBlock}
+use Rattle.regalloc2.specs.Promise.{IsAllocation}
+use Rattle.codegen_ir.specs.Operands.{def_in, use_in, operands_of, is_jump, is_return}
+use Rattle.codegen_ir.specs.Successors.{wanted_by}
+use Rattle.codegen_ir.specs.Seen.{function_of, inst_of, operations}
+use Rattle.codegen_ir.specs.declared.operation.Operation.{Operation}
+use Rattle.codegen_ir.specs.declared.operation.Operation.TheVariants.{Argument as TakeArgument, Constant as TakeConstant, Copy, Compute as Computation}
+use Rattle.codegen_ir.specs.declared.operation.Operation.TheVariants.{Compare as Comparison, Jump as GoTo, BranchIf, Return as GiveBack}
+use Rattle.codegen_ir.specs.declared.procedure.Procedure.{Procedure}
+use Rattle.codegen.specs.Emitted.{operation_at, emitted, label_of, start_of}
+use Rattle.codegen.specs.Target.{IsTarget}
+use Rattle.codegen.proofs.Premise.{IsGeneral, IsHere, CanMove, IsPlaced, IsPlain, IsEnd, IsEmitted}
+use Rattle.codegen.proofs.Procedures.{insts_are, blocks_have}
+
+no_member : (rs : List Register) (r : Register) → rs ≡ [] → Contains rs r → ⊥
+no_member [] r e h = let less : h.0 < 0 = h.1 in omega arith
+no_member (q ∷ rs) r e h = absurd cc
+
+module _ (env : MachineValue) (out : OutputValue) (t : IsTarget env) where
+  -- a place for a number of some class is a register for numbers or a slot of the frame
+  here : (c : RegClass) (p : Place) → IsProperPlace env out c p → IsHere out.num_spillslots p
+  here c NoPlace h = absurd h
+  here c (InRegister r) h = elim h [ inl own ↦ t.allocatable c r own | inr fixed ↦ absurd (no_member env.fixed_stack_slots r t.no_fixed_slots fixed.0) ]
+  here c (InSlot n) h = h
+
+  -- and if it is no place in memory, a register
+  general : (c : RegClass) (p : Place) → IsProperPlace env out c p → IsPlainRegister env p → IsGeneral p
+  general c NoPlace h plain = absurd h
+  general c (InRegister r) h plain = elim h [ inl own ↦ t.allocatable c r own | inr fixed ↦ absurd (plain fixed.0) ]
+  general c (InSlot n) h plain = absurd plain
+
+  not_some : (o : Option Register) (r : Register) → o ≡ None → o ≡ Some r → ⊥
+  not_some None r e h = absurd cc
+  not_some (Some q) r e h = absurd cc
+
+  end_here : (p : Place) → IsMoveEnd env out p → IsHere out.num_spillslots p
+  end_here p h = elim h.1 [
+    | inl proper ↦ here h.0 p proper
+    | inr scratch ↦ absurd (not_some (scratch_of env h.0) scratch.0 (t.no_scratch h.0) scratch.1)
+  ]
+
+  not_stored : (from : Place) → IsHere out.num_spillslots from → ((n : ℕ) → from ≡ InSlot n → ⊥) → IsGeneral from
+  not_stored NoPlace h never = absurd h
+  not_stored (InRegister r) h never = h
+  not_stored (InSlot n) h never = absurd (never n refl)
+
+  can_move : (from to : Place) → IsHere out.num_spillslots from → IsHere out.num_spillslots to → (IsStackToStack env (record { from = from; to = to }) → ⊥) →
+      CanMove out.num_spillslots from to
+  can_move from NoPlace h g never = absurd g
+  can_move from (InRegister r) h g never = (g, h)
+  can_move NoPlace (InSlot n) h g never = absurd h
+  can_move (InRegister r) (InSlot n) h g never = (g, h)
+  can_move (InSlot m) (InSlot n) h g never = absurd (never (tt, tt))
+
+  -- places that are proper for operands and meet their constraints
+  record AreFor (os : List OperandValue) (ps : List Place) : Type 0 where
+    proper : (k : ℕ) (d : OperandValue) → k < length os → is_fixed_nonallocatable (slice_index_or os k d) ≡ false →
+        IsProperPlace env out (slice_index_or os k d).vreg.class (place_at ps k)
+    meets : (k : ℕ) (d : OperandValue) → k < length os → Meets env (length os) ps (slice_index_or os k d).constraint (place_at ps k)
+
+  -- are such that the operation can be emitted
+  is_placed : (o : Operation) (ps : List Place) → AreFor (operands_of o) ps → IsPlaced out.num_spillslots o ps
+  is_placed (TakeArgument to k) ps h =
+      let d : OperandValue = def_in Reg to in general to.class (place_at ps 0) (h.proper 0 d (omega arith) refl) (h.meets 0 d (omega arith))
+  is_placed (TakeConstant to n) ps h =
+      let d : OperandValue = def_in Reg to in general to.class (place_at ps 0) (h.proper 0 d (omega arith) refl) (h.meets 0 d (omega arith))
+  is_placed (Copy to from) ps h =
+      let d : OperandValue = def_in Reg to in (
+        general to.class (place_at ps 0) (h.proper 0 d (omega arith) refl) (h.meets 0 d (omega arith)),
+        here from.class (place_at ps 1) (h.proper 1 d (omega arith) refl),
+      )
+  is_placed (Computation o to left right) ps h =
+      let d : OperandValue = def_in Reg to in
+      let same : place_at ps 0 ≡ place_at ps 1 = (h.meets 0 d (omega arith)).2 in
+      let first : IsGeneral (place_at ps 1) = general left.class (place_at ps 1) (h.proper 1 d (omega arith) refl) (h.meets 1 d (omega arith)) in
+      (subst IsGeneral (sym same) first, same, here right.class (place_at ps 2) (h.proper 2 d (omega arith) refl))
+  is_placed (Comparison c to left right) ps h =
+      let d : OperandValue = def_in Reg to in (
+        general to.class (place_at ps 0) (h.proper 0 d (omega arith) refl) (h.meets 0 d (omega arith)),
+        general left.class (place_at ps 1) (h.proper 1 d (omega arith) refl) (h.meets 1 d (omega arith)),
+        here right.class (place_at ps 2) (h.proper 2 d (omega arith) refl),
+      )
+  is_placed GoTo ps h = tt
+  is_placed (BranchIf v) ps h =
+      let d : OperandValue = use_in Reg v in general v.class (place_at ps 0) (h.proper 0 d (omega arith) refl) (h.meets 0 d (omega arith))
+  is_placed (GiveBack v) ps h = let d : OperandValue = use_in Any v in here v.class (place_at ps 0) (h.proper 0 d (omega arith) refl)
+
+-- an operation that neither branches nor returns goes on
+is_plain : (o : Operation) → is_jump o ≡ false → is_return o ≡ false → IsPlain o
+is_plain (TakeArgument to k) j r = tt
+is_plain (TakeConstant to n) j r = tt
+is_plain (Copy to from) j r = tt
+is_plain (Computation o to left right) j r = tt
+is_plain (Comparison c to left right) j r = tt
+is_plain GoTo j r = absurd cc
+is_plain (BranchIf v) j r = absurd cc
+is_plain (GiveBack v) j r = absurd cc
+
+-- and one that does ends its block
+is_end : (o : Operation) (count : ℕ) → (is_jump o ≡ true) ⊎ (is_return o ≡ true) → wanted_by o ≤ count → IsEnd o count
+is_end (TakeArgument to k) count e w = absurd (elim e [ inl j ↦ cc | inr r ↦ cc ])
+is_end (TakeConstant to n) count e w = absurd (elim e [ inl j ↦ cc | inr r ↦ cc ])
+is_end (Copy to from) count e w = absurd (elim e [ inl j ↦ cc | inr r ↦ cc ])
+is_end (Computation o to left right) count e w = absurd (elim e [ inl j ↦ cc | inr r ↦ cc ])
+is_end (Comparison c to left right) count e w = absurd (elim e [ inl j ↦ cc | inr r ↦ cc ])
+is_end GoTo count e w = omega arith
+is_end (BranchIf v) count e w = omega arith
+is_end (GiveBack v) count e w = tt
+
+module _ (p : Procedure) (env : MachineValue) (out : OutputValue) (t : IsTarget env) (w : IsWellFormed env (function_of p))
+    (a : IsAllocation (function_of p) env out) where
+  abbrev f : FunctionValue
+  f = function_of p
+
+  abbrev op : ℕ → Operation
+  op i = operation_at (operations p) i
+
+  within : (b : ℕ) → b < length f.blocks → (block_at f b).range.end ≤ length f.insts
+  within = end_within f w.follow
+
+  filled : (b : ℕ) → b < length f.blocks → (block_at f b).range.first < (block_at f b).range.end
+  filled b less = (w.follow b less).0
+
+  counted : length f.insts ≡ length (operations p)
+  counted = length-map p.lines.items inst_of ∙ sym (length-map p.lines.items (λ l. l.operation))
+
+  placed : (i : ℕ) → i < length f.insts → IsPlaced out.num_spillslots (op i) (allocs_of out i)
+  placed i less =
+      let all : AreFor env out t (inst_at f i).operands (allocs_of out i) = record { proper = a.proper.operands i less; meets = a.constraints i less } in
+      is_placed env out t (op i) (allocs_of out i)
+      (subst (λ (os : List OperandValue). AreFor env out t os (allocs_of out i)) (insts_are p i less).operands all)
+
+  moves : All (λ e. CanMove out.num_spillslots e.1.from e.1.to) out.edits
+  moves k d less =
+      let ends = a.proper.moves k d less in
+      can_move env out t _ _ (end_here env out t _ ends.0) (end_here env out t _ ends.1) (a.no_stack_to_stack k d less)
+
+  plain : (b i : ℕ) → b < length f.blocks → (block_at f b).range.first ≤ i → i + 1 < (block_at f b).range.end → IsPlain (op i)
+  plain b i less from to =
+      let in_all : i < length f.insts = (let long = within b less in omega arith) in
+      let is = insts_are p i in_all in
+      let none = (w.end b less).1 i from (omega arith) (omega arith) in
+      is_plain (op i) (sym is.branches ∙ none.0) (sym is.returns ∙ none.1)
+
+  ends : (b i : ℕ) → b < length f.blocks → (block_at f b).range.first ≤ i → i + 1 ≡ (block_at f b).range.end → IsEnd (op i) (length (block_at f b).succs)
+  ends b i less from last =
+      let in_all : i < length f.insts = (let long = within b less in omega arith) in
+      let is = insts_are p i in_all in
+      let here_last : (block_at f b).range.end - 1 ≡ i = omega arith in
+      let enough : wanted_by (op i) ≤ length (block_at f b).succs = rw here_last at (blocks_have p b less (let n = counted in omega arith)) in
+      let ending : EndsBlock (inst_at f i) (length (block_at f b).succs) = rw here_last at (w.end b less).0 in
+      is_end (op i) (length (block_at f b).succs)
+      (elim ending [ inl branch ↦ inl (sym is.branches ∙ branch.0) | inr ret ↦ inr (sym is.returns ∙ ret.1) ]) enough
+
+  starts : (b : ℕ) → b < length f.blocks → label_of (operations p) out f b ≡ start_of (operations p) out f b
+  starts b less = ap (λ (x : Bool). cond x (start_of (operations p) out f b) 0) (lt-ltb b (length f.blocks) less)
+
+  -- all that the proofs take
+  pub emitted_is : IsEmitted f (operations p) out (label_of (operations p) out f) (emitted (operations p) f out)
+  emitted_is = record {
+    operands = λ i less. (insts_are p i less).operands;
+    clobbers = λ i less. (insts_are p i less).clobbers;
+    counted = counted;
+    entry = (w.entry.0, (let some = w.successors.0 in omega arith));
+    filled = filled;
+    within = within;
+    plain = plain;
+    ends = ends;
+    succs = λ b k less at. w.successors.1 b less k 0 at;
+    placed = placed;
+    moves = moves;
+    starts = starts;
+    instructions = refl;
+  }

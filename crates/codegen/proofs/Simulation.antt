@@ -1,0 +1,233 @@
+-- The machine follows the interpreter over places, instruction by instruction.
+use Rattle.std.proofs.Common.{ℕ, zero, suc, ◌≡◌, ◌+◌, ◌-◌, ◌<◌, ◌≤◌, Bool, false, cond, List, ◌∷◌, ◌++◌, map, length, Option, Some, None, refl, sym, ap, ◌∙◌}
+use Rattle.std.proofs.Common.{subst, arith, nat_eq, lt-ltb, le-ltb, eq-eqb}
+use Rattle.std.specs.Prelude.{slice_index, option_map, filter, All}
+use Rattle.std.specs.List.{AllByRecursion}
+use Rattle.std.proofs.lemmas.List.Elements.{All-map, All-filter, recursion_from_All}
+use Rattle.regalloc2_names.specs.declared.RegClass.TheVariants.{Int}
+use Rattle.regalloc2_names.specs.declared.sets.PRegSet.{PRegSet}
+use Rattle.regalloc2_names.specs.Register.{Register}
+use Rattle.regalloc2_names.specs.RegisterSet.{has_register}
+use Rattle.regalloc2_names.specs.Operand.{OperandValue, is_reading}
+use Rattle.regalloc2_names.specs.Place.{Place}
+use Rattle.regalloc2_function.specs.FunctionValue.{FunctionValue, block_at, inst_at}
+use Rattle.regalloc2_function.specs.OutputValue.{OutputValue, MoveValue, allocs_of, place_at, is_listed_at}
+use Rattle.regalloc2_function.specs.Path.{Way, Onward, ToSuccessor, first_of, next_of}
+use Rattle.regalloc2_function.specs.Listing.{ListedInst, listing_from}
+use Rattle.regalloc2_function.specs.AllocatedRun.{moves_at}
+use Rattle.regalloc2_values.specs.Interpreters.{History, State, read_by, edge_to, moved, disturbed, written_to, clobbered, place_found, place_reads}
+use Rattle.regalloc2_values.specs.Interpreters.{place_told, place_written, place_step}
+use Rattle.codegen_ir.specs.Numbers.{Returned}
+use Rattle.codegen_ir.specs.declared.operation.Operation.{Operation}
+use Rattle.codegen_machine.specs.declared.Instruction.{Instruction}
+use Rattle.codegen_machine.specs.Machine.{CodeValue, MachineState, machine_run}
+use Rattle.codegen.specs.Emitted.{operation_at, operation_code, items_code, block_code, start_of}
+use Rattle.codegen.proofs.Premise.{CanMove, IsPlain, IsEmitted}
+use Rattle.codegen.proofs.Runs.{Comes, comes_on, ends_then}
+use Rattle.codegen.proofs.Stands.{StandAt, block_stands}
+use Rattle.codegen.proofs.Places.{Agree, register_place, Moved, moves_run}
+use Rattle.codegen.proofs.Steps.{value_of, way_of, meaning_of, undisturbed, reads_at, writes_at, Done, plain_done, Left, last_leaves}
+
+-- the moves before an instruction are among the edits
+can_move_before : (slots first i : ℕ) (es : List (ℕ × MoveValue)) → All (λ e. CanMove slots e.1.from e.1.to) es →
+    AllByRecursion (λ m. CanMove slots m.from m.to) (map (λ e. e.1) (filter (λ e. is_listed_at first i e.0) es))
+can_move_before slots first i es h =
+    let kept : List (ℕ × MoveValue) = filter (λ e. is_listed_at first i e.0) es in
+    recursion_from_All (λ m. CanMove slots m.from m.to) (map (λ e. e.1) kept)
+    (All-map (λ m. CanMove slots m.from m.to) (λ e. e.1) kept (All-filter (λ e. is_listed_at first i e.0) (λ e. CanMove slots e.1.from e.1.to) es h))
+
+-- where nothing is clobbered all stays
+unclobbered : (set : PRegSet) (noise numbers : Place → ℕ) (registers frame : ℕ → ℕ) → ((r : Register) → has_register set r ≡ false) →
+    Agree registers frame numbers → Agree registers frame (clobbered set noise numbers)
+unfolding clobbered
+unclobbered set noise numbers registers frame none a = record {
+  in_registers = λ n.
+      a.in_registers n
+      ∙ sym (ap (λ (b : Bool). cond b (noise (register_place n)) (numbers (register_place n))) (none (record { number = n; class = Int })));
+  in_slots = a.in_slots;
+}
+
+module _ (f : FunctionValue) (ops : List Operation) (out : OutputValue) (args : ℕ → ℕ) (noise : History → Place → ℕ) (start : ℕ → ℕ) (code : CodeValue) where
+  -- The machine is at a boundary of the interpreter: before the moves of its instruction, with its numbers.
+  pub record At (d : State Place) (s : MachineState) : Type 0 where
+    pub left : ℕ
+    pub block : d.at.block < length f.blocks
+    pub begins : (block_at f d.at.block).range.first ≤ d.at.inst
+    pub ends : d.at.inst + suc left ≡ (block_at f d.at.block).range.end
+    pub stands : StandAt start code.instructions s.pc
+        (items_code ops out (block_at f d.at.block).succs (listing_from out (block_at f d.at.block).range.first d.at.inst (suc left)))
+    pub agree : Agree s.registers s.frame d.numbers
+
+  -- what the machine does from there while the interpreter makes a step
+  abbrev pub Follows : State Place → MachineState → Option (State Place) → Type 0
+  Follows d s None = (j : ℕ) × (machine_run code args j s ≡ Returned (slice_index (place_reads f out (meaning_of ops args) noise d) 0))
+  Follows d s (Some e) = (t : MachineState) × Comes code args 1 s t × At e t
+
+  -- the operation, its places, and the numbers after the moves
+  abbrev op_of : State Place → Operation
+  op_of d = operation_at ops d.at.inst
+
+  abbrev places_of : State Place → List Place
+  places_of d = allocs_of out d.at.inst
+
+  abbrev after_moves : State Place → Place → ℕ
+  after_moves d = moved (moves_at f out d.at) d.numbers
+
+  abbrev succs_of : State Place → List ℕ
+  succs_of d = (block_at f d.at.block).succs
+
+  -- what stands behind the instruction, where so many others are left
+  abbrev behind : State Place → ℕ → List Instruction
+  behind d n = items_code ops out (succs_of d) (listing_from out (block_at f d.at.block).range.first (d.at.inst + 1) n)
+
+  -- the state after a step, by the way that it takes
+  abbrev state_on : State Place → Way → State Place
+  state_on d w = record {
+    at = next_of f d.at w;
+    history = place_told f out (meaning_of ops args) noise d;
+    numbers = place_written f out (meaning_of ops args) noise d;
+  }
+
+  module _ (ok : IsEmitted f ops out start code) where
+    -- where the machine is at the start of a block with the interpreter's numbers, it is at the boundary of the block's first instruction
+    pub at_start : (b : ℕ) → b < length f.blocks → (h : History) (numbers : Place → ℕ) (s : MachineState) → s.pc ≡ start b →
+        Agree s.registers s.frame numbers → At (record { at = first_of f b; history = h; numbers = numbers }) s
+    at_start b lt h numbers s e a =
+        let first : ℕ = (block_at f b).range.first in
+        let end : ℕ = (block_at f b).range.end in
+        let some : first < end = ok.filled b lt in
+        let n : end - first ≡ suc (end - first - 1) = omega arith in
+        let at : s.pc ≡ start_of ops out f b = e ∙ ok.starts b lt in
+        let here : StandAt start code.instructions (start_of ops out f b) (block_code ops out f b) =
+        block_stands f ops out start code.instructions (length f.blocks) ok.instructions b lt in
+        let whole : StandAt start code.instructions (start_of ops out f b)
+        (items_code ops out (block_at f b).succs (listing_from out first first (suc (end - first - 1)))) =
+        subst (λ (k : ℕ). StandAt start code.instructions (start_of ops out f b) (items_code ops out (block_at f b).succs (listing_from out first first k)))
+        n here in
+        record {
+          left = end - first - 1;
+          block = lt;
+          begins = omega arith;
+          ends = omega arith;
+          stands = subst (λ (p : ℕ). StandAt start code.instructions p
+              (items_code ops out (block_at f b).succs (listing_from out first first (suc (end - first - 1))))) (sym at) whole;
+          agree = a;
+        }
+
+    inside : (d : State Place) (s : MachineState) → At d s → d.at.inst < length f.insts
+    inside d s at = omega (arith, ok.within d.at.block at.block, at.ends)
+
+    -- the interpreter finds what the moves left
+    found : (d : State Place) → d.at.inst < length f.insts → place_found f out (meaning_of ops args) noise d ≡ after_moves d
+    found d lt =
+        ap (λ (os : List OperandValue). disturbed (noise d.history) (places_of d) 0 os (after_moves d)) (ok.operands d.at.inst lt)
+        ∙ undisturbed (op_of d) (noise d.history) (places_of d) (after_moves d)
+
+    reads : (d : State Place) → d.at.inst < length f.insts → place_reads f out (meaning_of ops args) noise d ≡ reads_at (op_of d) (places_of d) (after_moves d)
+    reads d lt =
+        ap (λ (m : Place → ℕ). read_by is_reading (λ k u. m (place_at (places_of d) k)) 0 (inst_at f d.at.inst).operands) (found d lt)
+        ∙ ap (λ (os : List OperandValue). read_by is_reading (λ k u. after_moves d (place_at (places_of d) k)) 0 os) (ok.operands d.at.inst lt)
+
+    written : (d : State Place) → d.at.inst < length f.insts →
+        written_to (λ k. value_of args (op_of d) (place_reads f out (meaning_of ops args) noise d)) (places_of d) 0 (inst_at f d.at.inst).operands
+        (place_found f out (meaning_of ops args) noise d) ≡ writes_at args (op_of d) (places_of d) (after_moves d)
+    written d lt =
+        ap (λ (xs : List ℕ). written_to (λ k. value_of args (op_of d) xs) (places_of d) 0 (inst_at f d.at.inst).operands
+        (place_found f out (meaning_of ops args) noise d)) (reads d lt)
+        ∙ ap (λ (m : Place → ℕ). written_to (λ k. value_of args (op_of d) (reads_at (op_of d) (places_of d) (after_moves d))) (places_of d) 0
+        (inst_at f d.at.inst).operands m) (found d lt)
+        ∙ ap (λ (os : List OperandValue). written_to (λ k. value_of args (op_of d) (reads_at (op_of d) (places_of d) (after_moves d))) (places_of d) 0 os
+        (after_moves d)) (ok.operands d.at.inst lt)
+
+    agree_written : (d : State Place) → d.at.inst < length f.insts → (registers frame : ℕ → ℕ) →
+        Agree registers frame (writes_at args (op_of d) (places_of d) (after_moves d)) →
+        Agree registers frame (place_written f out (meaning_of ops args) noise d)
+    agree_written d lt registers frame a =
+        unclobbered (inst_at f d.at.inst).clobbers (noise (place_told f out (meaning_of ops args) noise d))
+        (written_to (λ k. value_of args (op_of d) (place_reads f out (meaning_of ops args) noise d)) (places_of d) 0 (inst_at f d.at.inst).operands
+        (place_found f out (meaning_of ops args) noise d)) registers frame (ok.clobbers d.at.inst lt)
+        (subst (λ (m : Place → ℕ). Agree registers frame m) (sym (written d lt)) a)
+
+    -- the machine after the moves
+    through : (d : State Place) (s : MachineState) (at : At d s) →
+        Moved ops out (succs_of d) args start code s (after_moves d)
+        (ListedInst d.at.inst ∷ listing_from out (block_at f d.at.block).range.first (d.at.inst + 1) at.left)
+    unfolding listing_from
+    through d s at =
+        moves_run ops out (succs_of d) args start code (moves_at f out d.at)
+        (ListedInst d.at.inst ∷ listing_from out (block_at f d.at.block).range.first (d.at.inst + 1) at.left) s d.numbers
+        (can_move_before code.slots (block_at f d.at.block).range.first d.at.inst out.edits ok.moves) at.agree at.stands
+
+    -- what stands behind the moves
+    stands_there : (d : State Place) (s : MachineState) (at : At d s) (n : ℕ) → at.left ≡ n →
+        StandAt start code.instructions (through d s at).to.pc (operation_code (op_of d) (places_of d) (succs_of d) ++ behind d n)
+    unfolding items_code
+    stands_there d s at n e =
+        subst (λ (k : ℕ). StandAt start code.instructions (through d s at).to.pc (operation_code (op_of d) (places_of d) (succs_of d) ++ behind d k))
+        e (through d s at).stands
+
+    -- an operation inside a block
+    plain_follows : (d : State Place) (s : MachineState) (at : At d s) (n : ℕ) → at.left ≡ suc n → Follows d s (place_step f out (meaning_of ops args) noise d)
+    plain_follows d s at n e =
+        let lt : d.at.inst < length f.insts = inside d s at in
+        let more : d.at.inst + 1 < (block_at f d.at.block).range.end = omega (arith, at.ends, e) in
+        let plain : IsPlain (op_of d) = ok.plain d.at.block d.at.inst at.block at.begins more in
+        let done : Done args start code (succs_of d) (behind d (suc n)) (through d s at).to (writes_at args (op_of d) (places_of d) (after_moves d)) =
+        plain_done args start code (succs_of d) (behind d (suc n)) (op_of d) (through d s at).to (places_of d) (after_moves d) plain
+        (ok.placed d.at.inst lt) (through d s at).agree (stands_there d s at (suc n) e) in
+        let comes : Comes code args 1 s done.to = comes_on code args 0 1 1 s (through d s at).to done.to (omega arith) (through d s at).comes done.comes in
+        let next : At (state_on d Onward) done.to = record {
+          left = n;
+          block = at.block;
+          begins = omega (arith, at.begins);
+          ends = omega (arith, at.ends, e);
+          stands = done.stands;
+          agree = agree_written d lt done.to.registers done.to.frame done.agree;
+        } in
+        subst (λ (b : Bool). Follows d s (option_map (state_on d) (cond b (Some Onward) (cond (nat_eq (d.at.inst + 1) (block_at f d.at.block).range.end)
+        (edge_to (length (succs_of d)) (way_of (op_of d) (place_reads f out (meaning_of ops args) noise d))) None))))
+        (sym (lt-ltb (d.at.inst + 1) (block_at f d.at.block).range.end more)) (done.to, comes, next)
+
+    -- what comes after a block's last operation
+    left_follows : (d : State Place) (s t : MachineState) → At d s → Comes code args 0 s t → (w : Option Way) →
+        Left args start code (succs_of d) (behind d 0) t (place_reads f out (meaning_of ops args) noise d)
+        (writes_at args (op_of d) (places_of d) (after_moves d)) w → Follows d s (option_map (state_on d) w)
+    left_follows d s t at comes None l =
+        ends_then code args 0 l.0 s t (Returned (slice_index (place_reads f out (meaning_of ops args) noise d) 0)) comes l.1
+    left_follows d s t at comes (Some Onward) l = absurd l
+    left_follows d s t at comes (Some (ToSuccessor k)) l = (
+      l.to,
+      comes_on code args 0 1 1 s t l.to (omega arith) comes l.comes,
+      at_start (slice_index (succs_of d) k) (ok.succs d.at.block k at.block l.there) (place_told f out (meaning_of ops args) noise d)
+          (place_written f out (meaning_of ops args) noise d) l.to l.at (agree_written d (inside d s at) l.to.registers l.to.frame l.agree),
+    )
+
+    last_follows : (d : State Place) (s : MachineState) (at : At d s) → at.left ≡ 0 → Follows d s (place_step f out (meaning_of ops args) noise d)
+    last_follows d s at e =
+        let lt : d.at.inst < length f.insts = inside d s at in
+        let last : d.at.inst + 1 ≡ (block_at f d.at.block).range.end = omega (arith, at.ends, e) in
+        let l : Left args start code (succs_of d) (behind d 0) (through d s at).to (reads_at (op_of d) (places_of d) (after_moves d))
+        (writes_at args (op_of d) (places_of d) (after_moves d))
+        (edge_to (length (succs_of d)) (way_of (op_of d) (reads_at (op_of d) (places_of d) (after_moves d)))) =
+        last_leaves args start code (succs_of d) (behind d 0) (op_of d) (through d s at).to (places_of d) (after_moves d)
+        (ok.ends d.at.block d.at.inst at.block at.begins last) (ok.placed d.at.inst lt) (through d s at).agree (stands_there d s at 0 e) in
+        let follows : Follows d s (option_map (state_on d)
+        (edge_to (length (succs_of d)) (way_of (op_of d) (place_reads f out (meaning_of ops args) noise d)))) =
+        left_follows d s (through d s at).to at (through d s at).comes
+        (edge_to (length (succs_of d)) (way_of (op_of d) (place_reads f out (meaning_of ops args) noise d)))
+        (subst (λ (xs : List ℕ). Left args start code (succs_of d) (behind d 0) (through d s at).to xs
+        (writes_at args (op_of d) (places_of d) (after_moves d)) (edge_to (length (succs_of d)) (way_of (op_of d) xs))) (sym (reads d lt)) l) in
+        subst (λ (b : Bool). Follows d s (option_map (state_on d) (cond b (Some Onward) (cond (nat_eq (d.at.inst + 1) (block_at f d.at.block).range.end)
+        (edge_to (length (succs_of d)) (way_of (op_of d) (place_reads f out (meaning_of ops args) noise d))) None))))
+        (sym (le-ltb (d.at.inst + 1) (block_at f d.at.block).range.end (omega arith)))
+        (subst (λ (b : Bool). Follows d s (option_map (state_on d) (cond b
+        (edge_to (length (succs_of d)) (way_of (op_of d) (place_reads f out (meaning_of ops args) noise d))) None)))
+        (sym (eq-eqb (d.at.inst + 1) (block_at f d.at.block).range.end last)) follows)
+
+    -- a step of the interpreter is one step of the machine or more
+    pub step_follows : (d : State Place) (s : MachineState) → At d s → Follows d s (place_step f out (meaning_of ops args) noise d)
+    step_follows d s at = pick at.left refl
+      where
+        pick : (n : ℕ) → at.left ≡ n → Follows d s (place_step f out (meaning_of ops args) noise d)
+        pick zero e = last_follows d s at e
+        pick (suc n) e = plain_follows d s at n e

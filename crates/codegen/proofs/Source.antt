@@ -1,0 +1,144 @@
+-- A procedure's own run is that of the interpreter over virtual registers, with what operations mean.
+use Rattle.std.proofs.Common.{ℕ, zero, suc, ◌≡◌, ◌+◌, ◌<◌, ◌≤◌, Bool, true, false, cond, List, [], ◌∷◌, length, Option, Some, None, refl, sym, subst, arith}
+use Rattle.std.proofs.Common.{nat_eq, lt-ltb, le-ltb, eq-eqb}
+use Rattle.std.specs.Prelude.{slice_get, slice_index, option_map}
+use Rattle.std.proofs.lemmas.Option.{slice_get-get_or}
+use Rattle.regalloc2_names.specs.Register.{VirtualRegister}
+use Rattle.regalloc2_names.specs.Operand.{OperandValue, is_reading}
+use Rattle.regalloc2_function.specs.FunctionValue.{FunctionValue, block_at}
+use Rattle.regalloc2_function.specs.OutputValue.{OutputValue}
+use Rattle.regalloc2_function.specs.Path.{Way, Onward, ToSuccessor, next_of}
+use Rattle.regalloc2_values.specs.Interpreters.{History, State, read_by, edge_to, way_on, defined, passed_over, source_reads, source_step}
+use Rattle.codegen_ir.specs.Numbers.{Outcome, Running, Returned, Stuck}
+use Rattle.codegen_ir.specs.Operands.{operands_of}
+use Rattle.codegen_ir.specs.Meaning.{ProcedureState, entered, along, done, procedure_step}
+use Rattle.codegen_ir.specs.declared.operation.Operation.{Operation}
+use Rattle.codegen_ir.specs.declared.operation.Operation.TheVariants.{Argument as TakeArgument, Constant as TakeConstant, Copy, Compute as Computation}
+use Rattle.codegen_ir.specs.declared.operation.Operation.TheVariants.{Compare as Comparison, Jump as GoTo, BranchIf, Return as GiveBack}
+use Rattle.codegen_machine.specs.Machine.{CodeValue}
+use Rattle.codegen.specs.Emitted.{operation_at}
+use Rattle.codegen.proofs.Premise.{IsPlain, IsEnd, IsEmitted}
+use Rattle.codegen.proofs.Steps.{value_of, way_of, meaning_of}
+
+-- a state of the interpreter as one of the procedure
+abbrev pub seen : State VirtualRegister → ProcedureState
+seen c = record { at = c.at; numbers = c.numbers }
+
+-- both go on alike, or the interpreter ends and the procedure returns the number that was read
+abbrev pub GoAlike : List ℕ → Option (State VirtualRegister) → Outcome ProcedureState → Type 0
+GoAlike read None (Running q) = ⊥
+GoAlike read None (Returned r) = r ≡ slice_index read 0
+GoAlike read None Stuck = ⊥
+GoAlike read (Some c) (Running q) = q ≡ seen c
+GoAlike read (Some c) (Returned r) = ⊥
+GoAlike read (Some c) Stuck = ⊥
+
+-- what operands read of virtual registers, and what definitions write to them
+abbrev reads_of : List OperandValue → (VirtualRegister → ℕ) → List ℕ
+reads_of os numbers = read_by is_reading (λ k o. numbers o.vreg) 0 os
+
+module _ (f : FunctionValue) (args : ℕ → ℕ) where
+  -- the numbers that an operation leaves
+  abbrev left_by : Operation → List OperandValue → (VirtualRegister → ℕ) → VirtualRegister → ℕ
+  left_by o os numbers = defined (λ k. value_of args o (reads_of os numbers)) 0 os numbers
+
+  -- the next state of the interpreter, by the way that it takes
+  abbrev state_on : State VirtualRegister → Operation → List OperandValue → Way → State VirtualRegister
+  state_on c o os w = record {
+    at = next_of f c.at w;
+    history = (c.at.inst, reads_of os c.numbers) ∷ c.history;
+    numbers = passed_over f c.at w (left_by o os c.numbers);
+  }
+
+  -- its step, by the operands
+  abbrev step_by : State VirtualRegister → Operation → List OperandValue → Option (State VirtualRegister)
+  step_by c o os = option_map (state_on c o os) (way_on f c.at (way_of o (reads_of os c.numbers)))
+
+  -- an operation inside a block
+  plain_goes : (o : Operation) (c : State VirtualRegister) → IsPlain o → done f args (Some o) (seen c) ≡ Running (seen (state_on c o (operands_of o) Onward))
+  unfolding defined read_by passed_over
+  plain_goes (TakeArgument to k) c plain = refl
+  plain_goes (TakeConstant to n) c plain = refl
+  plain_goes (Copy to from) c plain = refl
+  plain_goes (Computation o to left right) c plain = refl
+  plain_goes (Comparison o to left right) c plain = refl
+  plain_goes GoTo c plain = absurd plain
+  plain_goes (BranchIf v) c plain = absurd plain
+  plain_goes (GiveBack v) c plain = absurd plain
+
+  -- an edge
+  edge_goes : (read : List ℕ) (c : State VirtualRegister) (h : History) (k : ℕ) → k < length (block_at f c.at.block).succs →
+      GoAlike read (option_map (λ w. record { at = next_of f c.at w; history = h; numbers = passed_over f c.at w c.numbers })
+      (edge_to (length (block_at f c.at.block).succs) (Some k))) (along f (seen c) k)
+  unfolding passed_over
+  edge_goes read c h k lt =
+      subst (λ (b : Bool). GoAlike read (option_map (λ w. record { at = next_of f c.at w; history = h; numbers = passed_over f c.at w c.numbers })
+      (cond b (Some (ToSuccessor k)) None)) (along f (seen c) k)) (sym (lt-ltb k (length (block_at f c.at.block).succs) lt))
+      (subst (λ (x : Option ℕ). GoAlike read
+      (Some (record { at = next_of f c.at (ToSuccessor k); history = h; numbers = passed_over f c.at (ToSuccessor k) c.numbers }))
+      (entered f (seen c) k x)) (sym (slice_get-get_or (block_at f c.at.block).succs k 0 lt)) refl)
+
+  which : (b : Bool) (count : ℕ) → 1 < count → cond b 1 0 < count
+  which true count lt = lt
+  which false count lt = omega arith
+
+  -- a block's last operation
+  last_goes : (o : Operation) (c : State VirtualRegister) → IsEnd o (length (block_at f c.at.block).succs) →
+      GoAlike (reads_of (operands_of o) c.numbers) (option_map (state_on c o (operands_of o))
+      (edge_to (length (block_at f c.at.block).succs) (way_of o (reads_of (operands_of o) c.numbers)))) (done f args (Some o) (seen c))
+  unfolding defined read_by
+  last_goes (TakeArgument to k) c end = absurd end
+  last_goes (TakeConstant to n) c end = absurd end
+  last_goes (Copy to from) c end = absurd end
+  last_goes (Computation o to left right) c end = absurd end
+  last_goes (Comparison o to left right) c end = absurd end
+  last_goes GoTo c end = edge_goes [] c ((c.at.inst, []) ∷ c.history) 0 end
+  last_goes (BranchIf v) c end =
+      edge_goes (c.numbers v ∷ []) c ((c.at.inst, c.numbers v ∷ []) ∷ c.history) (cond (nat_eq (c.numbers v) 0) 1 0)
+      (which (nat_eq (c.numbers v) 0) (length (block_at f c.at.block).succs) end)
+  last_goes (GiveBack v) c end = refl
+
+  -- each operation
+  goes_on : (o : Operation) (c : State VirtualRegister) → IsPlain o → c.at.inst + 1 < (block_at f c.at.block).range.end →
+      GoAlike (reads_of (operands_of o) c.numbers) (step_by c o (operands_of o)) (done f args (Some o) (seen c))
+  goes_on o c plain lt =
+      subst (λ (b : Bool). GoAlike (reads_of (operands_of o) c.numbers) (option_map (state_on c o (operands_of o))
+      (cond b (Some Onward) (cond (nat_eq (c.at.inst + 1) (block_at f c.at.block).range.end)
+      (edge_to (length (block_at f c.at.block).succs) (way_of o (reads_of (operands_of o) c.numbers))) None))) (done f args (Some o) (seen c)))
+      (sym (lt-ltb (c.at.inst + 1) (block_at f c.at.block).range.end lt))
+      (subst (λ (x : Outcome ProcedureState). GoAlike (reads_of (operands_of o) c.numbers) (Some (state_on c o (operands_of o) Onward)) x)
+      (sym (plain_goes o c plain)) refl)
+
+  goes_off : (o : Operation) (c : State VirtualRegister) → IsEnd o (length (block_at f c.at.block).succs) → c.at.inst + 1 ≡ (block_at f c.at.block).range.end →
+      GoAlike (reads_of (operands_of o) c.numbers) (step_by c o (operands_of o)) (done f args (Some o) (seen c))
+  goes_off o c end e =
+      subst (λ (b : Bool). GoAlike (reads_of (operands_of o) c.numbers) (option_map (state_on c o (operands_of o))
+      (cond b (Some Onward) (cond (nat_eq (c.at.inst + 1) (block_at f c.at.block).range.end)
+      (edge_to (length (block_at f c.at.block).succs) (way_of o (reads_of (operands_of o) c.numbers))) None))) (done f args (Some o) (seen c)))
+      (sym (le-ltb (c.at.inst + 1) (block_at f c.at.block).range.end (omega arith)))
+      (subst (λ (b : Bool). GoAlike (reads_of (operands_of o) c.numbers) (option_map (state_on c o (operands_of o))
+      (cond b (edge_to (length (block_at f c.at.block).succs) (way_of o (reads_of (operands_of o) c.numbers))) None)) (done f args (Some o) (seen c)))
+      (sym (eq-eqb (c.at.inst + 1) (block_at f c.at.block).range.end e)) (last_goes o c end))
+
+  -- a step of both, from a location of the function
+  pub steps_alike : (ops : List Operation) (out : OutputValue) (start : ℕ → ℕ) (code : CodeValue) → IsEmitted f ops out start code →
+      (c : State VirtualRegister) (left : ℕ) →
+      c.at.block < length f.blocks → (block_at f c.at.block).range.first ≤ c.at.inst → c.at.inst + suc left ≡ (block_at f c.at.block).range.end →
+      GoAlike (source_reads f (meaning_of ops args) c) (source_step f (meaning_of ops args) c) (procedure_step f ops args (seen c))
+  steps_alike ops out start code ok c left block begins ends =
+      let lt : c.at.inst < length f.insts = omega (arith, ok.within c.at.block block) in
+      let o : Operation = operation_at ops c.at.inst in
+      let here : slice_get ops c.at.inst ≡ Some o = slice_get-get_or ops c.at.inst GoTo (omega (arith, ok.counted)) in
+      subst (λ (x : Option Operation). GoAlike (source_reads f (meaning_of ops args) c) (source_step f (meaning_of ops args) c)
+      (done f args x (seen c))) (sym here)
+      (subst (λ (os : List OperandValue). GoAlike (reads_of os c.numbers) (step_by c o os) (done f args (Some o) (seen c))) (sym (ok.operands c.at.inst lt))
+      (pick left refl))
+    where
+      pick : (n : ℕ) → left ≡ n → GoAlike (reads_of (operands_of (operation_at ops c.at.inst)) c.numbers)
+          (step_by c (operation_at ops c.at.inst) (operands_of (operation_at ops c.at.inst))) (done f args (Some (operation_at ops c.at.inst)) (seen c))
+      pick zero e =
+          let last : c.at.inst + 1 ≡ (block_at f c.at.block).range.end = omega arith in
+          goes_off (operation_at ops c.at.inst) c (ok.ends c.at.block c.at.inst block begins last) last
+      pick (suc n) e =
+          let more : c.at.inst + 1 < (block_at f c.at.block).range.end = omega arith in
+          goes_on (operation_at ops c.at.inst) c (ok.plain c.at.block c.at.inst block begins more) more

@@ -1,0 +1,259 @@
+-- One operation: what is emitted for it does to the machine what the operation does to places.
+use Rattle.std.proofs.Common.{ℕ, ◌≡◌, ◌+◌, ◌<◌, Bool, true, false, cond, not, List, [], ◌∷◌, ◌++◌, length, Option, Some, None, refl, sym, ap, ◌∙◌, subst}
+use Rattle.std.proofs.Common.{arith, nat_eq, lt-ltb, eqb-true}
+use Rattle.std.specs.Prelude.{slice_get, slice_index}
+use Rattle.regalloc2_names.specs.Operand.{is_reading}
+use Rattle.regalloc2_names.specs.Place.{Place, NoPlace, InRegister, InSlot}
+use Rattle.regalloc2_function.specs.OutputValue.{place_at}
+use Rattle.regalloc2_function.specs.Path.{Way, Onward, ToSuccessor}
+use Rattle.regalloc2_values.specs.Interpreters.{History, Meaning, read_by, place_set, written_to, disturbed, edge_to}
+use Rattle.codegen_ir.specs.Numbers.{Running, Returned, computed, holds, truth}
+use Rattle.codegen_ir.specs.Operands.{operands_of}
+use Rattle.codegen_ir.specs.declared.operation.Operator.{Operator}
+use Rattle.codegen_ir.specs.declared.operation.Condition.{Condition}
+use Rattle.codegen_ir.specs.declared.operation.Condition.TheVariants.{NotEqual}
+use Rattle.codegen_ir.specs.declared.operation.Operation.{Operation}
+use Rattle.codegen_ir.specs.declared.operation.Operation.TheVariants.{Argument as TakeArgument, Constant as TakeConstant, Copy, Compute as Computation}
+use Rattle.codegen_ir.specs.declared.operation.Operation.TheVariants.{Compare as Comparison, Jump as GoTo, BranchIf, Return as GiveBack}
+use Rattle.codegen_machine.specs.declared.Instruction.{Instruction}
+use Rattle.codegen_machine.specs.declared.Instruction.TheVariants.{Constant, Clear, Argument, Compute, Compare, Set, Test, Jump, JumpIf, Return}
+use Rattle.codegen_machine.specs.Machine.{CodeValue, MachineState, is_general, with_source, written, compared_to, jumped, executed, machine_run}
+use Rattle.codegen.specs.Emitted.{register_of, source_of, fetched, constant_code, branch_code, resolved, operation_at, operation_code}
+use Rattle.codegen.proofs.Premise.{IsGeneral, IsHere, IsPlaced, IsPlain, IsEnd}
+use Rattle.codegen.proofs.Runs.{Comes, comes_by, comes_on, ends_by, ends_then}
+use Rattle.codegen.proofs.Stands.{StandAt}
+use Rattle.codegen.proofs.Places.{Agree, wrote, reads_register, reads_source, writes_place, agree_register, fetches}
+
+-- the number that an operation writes, from those that it reads
+abbrev pub value_of : (ℕ → ℕ) → Operation → List ℕ → ℕ
+value_of args (TakeArgument to k) xs = args k
+value_of args (TakeConstant to n) xs = n
+value_of args (Copy to from) xs = slice_index xs 0
+value_of args (Computation o to left right) xs = computed o (slice_index xs 0) (slice_index xs 1)
+value_of args (Comparison c to left right) xs = truth (holds c (slice_index xs 0) (slice_index xs 1))
+value_of args GoTo xs = 0
+value_of args (BranchIf v) xs = 0
+value_of args (GiveBack v) xs = 0
+
+-- the position of the successor that it takes
+abbrev pub way_of : Operation → List ℕ → Option ℕ
+way_of (TakeArgument to k) xs = None
+way_of (TakeConstant to n) xs = None
+way_of (Copy to from) xs = None
+way_of (Computation o to left right) xs = None
+way_of (Comparison c to left right) xs = None
+way_of GoTo xs = Some 0
+way_of (BranchIf v) xs = Some (cond (nat_eq (slice_index xs 0) 0) 1 0)
+way_of (GiveBack v) xs = None
+
+-- what operations mean, by what was read: the number that the newest one writes
+abbrev pub meaning_writes : List Operation → (ℕ → ℕ) → History → ℕ → ℕ
+meaning_writes ops args [] k = 0
+meaning_writes ops args (x ∷ h) k = value_of args (operation_at ops x.0) x.1
+
+-- and where it goes
+abbrev pub meaning_takes : List Operation → History → Option ℕ
+meaning_takes ops [] = None
+meaning_takes ops (x ∷ h) = way_of (operation_at ops x.0) x.1
+
+-- both
+abbrev pub meaning_of : List Operation → (ℕ → ℕ) → Meaning
+meaning_of ops args = record { writes = meaning_writes ops args; takes = meaning_takes ops }
+
+-- no definition is early, so none disturbs what the uses read
+pub undisturbed : (o : Operation) (noise : Place → ℕ) (ps : List Place) (numbers : Place → ℕ) → disturbed noise ps 0 (operands_of o) numbers ≡ numbers
+unfolding disturbed
+undisturbed (TakeArgument to k) noise ps numbers = refl
+undisturbed (TakeConstant to n) noise ps numbers = refl
+undisturbed (Copy to from) noise ps numbers = refl
+undisturbed (Computation o to left right) noise ps numbers = refl
+undisturbed (Comparison c to left right) noise ps numbers = refl
+undisturbed GoTo noise ps numbers = refl
+undisturbed (BranchIf v) noise ps numbers = refl
+undisturbed (GiveBack v) noise ps numbers = refl
+
+-- what an operation reads in its places
+abbrev pub reads_at : Operation → List Place → (Place → ℕ) → List ℕ
+reads_at o ps numbers = read_by is_reading (λ k u. numbers (place_at ps k)) 0 (operands_of o)
+
+-- what it writes to them
+abbrev pub writes_at : (ℕ → ℕ) → Operation → List Place → (Place → ℕ) → Place → ℕ
+writes_at args o ps numbers = written_to (λ k. value_of args o (reads_at o ps numbers)) ps 0 (operands_of o) numbers
+
+-- the state after numbers have been compared
+abbrev pub compared_state : MachineState → ℕ → ℕ → MachineState
+compared_state s a b = record { pc = s.pc + 1; registers = s.registers; frame = s.frame; compared = Some (a, b) }
+
+-- and after a jump
+abbrev pub jump_state : MachineState → ℕ → MachineState
+jump_state s target = record { pc = target; registers = s.registers; frame = s.frame; compared = s.compared }
+
+module _ (args : ℕ → ℕ) (starts : ℕ → ℕ) (code : CodeValue) (succs : List ℕ) (rest : List Instruction) where
+  -- the machine has done an operation, and comes to what stands behind
+  pub record Done (s : MachineState) (numbers : Place → ℕ) : Type 0 where
+    pub to : MachineState
+    pub comes : Comes code args 1 s to
+    pub agree : Agree to.registers to.frame numbers
+    pub stands : StandAt starts code.instructions to.pc rest
+
+  -- by one instruction that writes a register
+  by_one : (i : Instruction) (s : MachineState) (compared : Option (ℕ × ℕ)) (numbers : Place → ℕ) (p : Place) (v : ℕ) → IsGeneral p →
+      Agree s.registers s.frame numbers →
+      executed args code.slots (Some (resolved starts i)) s ≡ Running (wrote s (register_of p) v compared) → StandAt starts code.instructions s.pc (i ∷ rest) →
+      Done s (place_set numbers p v)
+  by_one i s compared numbers p v r a e h = record {
+    to = wrote s (register_of p) v compared;
+    comes = comes_by code args (resolved starts i) s (wrote s (register_of p) v compared) h.0 e;
+    agree = agree_register s.registers s.frame numbers a p r v;
+    stands = h.1;
+  }
+
+  compute_done : (o : Operator) (s : MachineState) (numbers : Place → ℕ) (p q r : Place) → IsGeneral p → p ≡ q → IsHere code.slots r →
+      Agree s.registers s.frame numbers →
+      StandAt starts code.instructions s.pc (Compute o (register_of p) (source_of r) ∷ rest) → Done s (place_set numbers p (computed o (numbers q) (numbers r)))
+  compute_done o s numbers p q r hp e hr a h =
+      by_one (Compute o (register_of p) (source_of r)) s None numbers p (computed o (numbers q) (numbers r)) hp a
+      (reads_register s numbers a p hp (λ x. with_source code.slots s (source_of r) (λ y. written s (register_of p) (computed o x y) None))
+      ∙ reads_source code.slots s numbers a r hr (λ y. written s (register_of p) (computed o (numbers p) y) None)
+      ∙ writes_place s p (computed o (numbers p) (numbers r)) None hp
+      ∙ ap (λ (x : Place). Running (wrote s (register_of p) (computed o (numbers x) (numbers r)) None)) e) h
+
+  compare_done : (c : Condition) (s : MachineState) (numbers : Place → ℕ) (p q r : Place) → IsGeneral p → IsGeneral q → IsHere code.slots r →
+      Agree s.registers s.frame numbers →
+      StandAt starts code.instructions s.pc (Compare (register_of q) (source_of r) ∷ Set (register_of p) c ∷ rest) →
+      Done s (place_set numbers p (truth (holds c (numbers q) (numbers r))))
+  compare_done c s numbers p q r hp hq hr a h =
+      let t : MachineState = compared_state s (numbers q) (numbers r) in
+      let acts : executed args code.slots (Some (Compare (register_of q) (source_of r))) s ≡ Running t =
+      reads_register s numbers a q hq (λ x. with_source code.slots s (source_of r) (λ y. compared_to s x y))
+      ∙ reads_source code.slots s numbers a r hr (λ y. compared_to s (numbers q) y) in
+      let first : Comes code args 1 s t = comes_by code args (Compare (register_of q) (source_of r)) s t h.0 acts in
+      let done : Done t (place_set numbers p (truth (holds c (numbers q) (numbers r)))) =
+      by_one (Set (register_of p) c) t t.compared numbers p (truth (holds c (numbers q) (numbers r))) hp a
+      (writes_place t p (truth (holds c (numbers q) (numbers r))) t.compared hp) h.1 in
+      record { to = done.to; comes = comes_on code args 1 1 1 s t done.to (omega arith) first done.comes; agree = done.agree; stands = done.stands }
+
+  constant_done : (n : ℕ) (s : MachineState) (numbers : Place → ℕ) (p : Place) → IsGeneral p → Agree s.registers s.frame numbers →
+      StandAt starts code.instructions s.pc (constant_code (register_of p) n ∷ rest) → Done s (place_set numbers p n)
+  constant_done n s numbers p hp a h = pick (nat_eq n 0) refl h
+    where
+      pick : (b : Bool) → nat_eq n 0 ≡ b → StandAt starts code.instructions s.pc (cond b (Clear (register_of p)) (Constant (register_of p) n) ∷ rest) →
+          Done s (place_set numbers p n)
+      pick false e h = by_one (Constant (register_of p) n) s s.compared numbers p n hp a (writes_place s p n s.compared hp) h
+      pick true e h =
+          let z : 0 ≡ n = sym (eqb-true n 0 e) in
+          by_one (Clear (register_of p)) s None numbers p n hp a
+          (writes_place s p 0 None hp ∙ ap (λ (k : ℕ). Running (wrote s (register_of p) k None)) z) h
+
+  copy_done : (s : MachineState) (numbers : Place → ℕ) (p q : Place) → IsGeneral p → IsHere code.slots q → Agree s.registers s.frame numbers →
+      StandAt starts code.instructions s.pc (fetched (register_of p) q ∷ rest) → Done s (place_set numbers p (numbers q))
+  copy_done s numbers p q hp hq a h =
+      by_one (fetched (register_of p) q) s s.compared numbers p (numbers q) hp a
+      (fetches args code.slots starts s numbers (register_of p) (general p hp) a q hq) h
+    where
+      general : (p : Place) → IsGeneral p → is_general (register_of p) ≡ true
+      general NoPlace h = absurd h
+      general (InRegister r) h = h.1
+      general (InSlot n) h = absurd h
+
+  -- an operation that goes on to the next line
+  pub plain_done : (o : Operation) (s : MachineState) (ps : List Place) (numbers : Place → ℕ) → IsPlain o → IsPlaced code.slots o ps →
+      Agree s.registers s.frame numbers →
+      StandAt starts code.instructions s.pc (operation_code o ps succs ++ rest) → Done s (writes_at args o ps numbers)
+  unfolding written_to read_by
+  plain_done (TakeArgument to k) s ps numbers plain placed a h =
+      by_one (Argument (register_of (place_at ps 0)) k) s s.compared numbers (place_at ps 0) (args k) placed a
+      (writes_place s (place_at ps 0) (args k) s.compared placed) h
+  plain_done (TakeConstant to n) s ps numbers plain placed a h = constant_done n s numbers (place_at ps 0) placed a h
+  plain_done (Copy to from) s ps numbers plain placed a h = copy_done s numbers (place_at ps 0) (place_at ps 1) placed.0 placed.1 a h
+  plain_done (Computation o to left right) s ps numbers plain placed a h =
+      compute_done o s numbers (place_at ps 0) (place_at ps 1) (place_at ps 2) placed.0 placed.1 placed.2 a h
+  plain_done (Comparison c to left right) s ps numbers plain placed a h =
+      compare_done c s numbers (place_at ps 0) (place_at ps 1) (place_at ps 2) placed.0 placed.1 placed.2 a h
+  plain_done GoTo s ps numbers plain placed a h = absurd plain
+  plain_done (BranchIf v) s ps numbers plain placed a h = absurd plain
+  plain_done (GiveBack v) s ps numbers plain placed a h = absurd plain
+
+  -- the machine has come to the start of a block
+  pub record Entered (s : MachineState) (k : ℕ) (numbers : Place → ℕ) : Type 0 where
+    pub to : MachineState
+    pub comes : Comes code args 1 s to
+    pub agree : Agree to.registers to.frame numbers
+    pub at : to.pc ≡ starts (slice_index succs k)
+    pub there : k < length succs
+
+  -- what comes after a block's last line: the block that it goes to, or the end, with a number
+  abbrev pub Left : MachineState → List ℕ → (Place → ℕ) → Option Way → Type 0
+  Left s read numbers None = (j : ℕ) × (machine_run code args j s ≡ Returned (slice_index read 0))
+  Left s read numbers (Some Onward) = ⊥
+  Left s read numbers (Some (ToSuccessor k)) = Entered s k numbers
+
+  -- by the instruction that jumps
+  enters : (i : Instruction) (s : MachineState) (k : ℕ) (numbers : Place → ℕ) → k < length succs → Agree s.registers s.frame numbers →
+      slice_get code.instructions s.pc ≡ Some i → executed args code.slots (Some i) s ≡ Running (jump_state s (starts (slice_index succs k))) →
+      Entered s k numbers
+  enters i s k numbers lt a h e = record {
+    to = jump_state s (starts (slice_index succs k));
+    comes = comes_by code args i s (jump_state s (starts (slice_index succs k))) h e;
+    agree = a;
+    at = refl;
+    there = lt;
+  }
+
+  -- after one more instruction
+  later : (s t : MachineState) (k : ℕ) (numbers : Place → ℕ) → Comes code args 1 s t → Entered t k numbers → Entered s k numbers
+  later s t k numbers c e = record {
+    to = e.to;
+    comes = comes_on code args 1 1 1 s t e.to (omega arith) c e.comes;
+    agree = e.agree;
+    at = e.at;
+    there = e.there;
+  }
+
+  over_edge : (s : MachineState) (read : List ℕ) (k : ℕ) (numbers : Place → ℕ) → Entered s k numbers → Left s read numbers (edge_to (length succs) (Some k))
+  over_edge s read k numbers e = subst (λ (x : Bool). Left s read numbers (cond x (Some (ToSuccessor k)) None)) (sym (lt-ltb k (length succs) e.there)) e
+
+  -- a branch, once its number has been compared to 0
+  branches : (s : MachineState) (n : ℕ) (numbers : Place → ℕ) → 1 < length succs → Agree s.registers s.frame numbers →
+      StandAt starts code.instructions (s.pc + 1) (JumpIf NotEqual (slice_index succs 0) ∷ Jump (slice_index succs 1) ∷ rest) →
+      (b : Bool) → nat_eq n 0 ≡ b → Entered (compared_state s n 0) (cond b 1 0) numbers
+  branches s n numbers lt a h false e =
+      enters (JumpIf NotEqual (starts (slice_index succs 0))) (compared_state s n 0) 0 numbers (omega arith) a h.0
+      (ap (λ (x : Bool). jumped (compared_state s n 0) (cond (not x) (starts (slice_index succs 0)) (s.pc + 1 + 1))) e)
+  branches s n numbers lt a h true e =
+      let u : MachineState = jump_state (compared_state s n 0) (s.pc + 1 + 1) in
+      let acts : executed args code.slots (Some (JumpIf NotEqual (starts (slice_index succs 0)))) (compared_state s n 0) ≡ Running u =
+      ap (λ (x : Bool). jumped (compared_state s n 0) (cond (not x) (starts (slice_index succs 0)) (s.pc + 1 + 1))) e in
+      later (compared_state s n 0) u 1 numbers (comes_by code args (JumpIf NotEqual (starts (slice_index succs 0))) (compared_state s n 0) u h.0 acts)
+      (enters (Jump (starts (slice_index succs 1))) u 1 numbers lt a h.1.0 refl)
+
+  forks : (s : MachineState) (p : Place) (numbers : Place → ℕ) → IsGeneral p → 1 < length succs → Agree s.registers s.frame numbers →
+      StandAt starts code.instructions s.pc (branch_code (register_of p) succs ++ rest) →
+      Left s (numbers p ∷ []) numbers (edge_to (length succs) (Some (cond (nat_eq (numbers p) 0) 1 0)))
+  forks s p numbers hp lt a h =
+      let t : MachineState = compared_state s (numbers p) 0 in
+      let first : Comes code args 1 s t = comes_by code args (Test (register_of p)) s t h.0 (reads_register s numbers a p hp (λ x. compared_to s x 0)) in
+      over_edge s (numbers p ∷ []) (cond (nat_eq (numbers p) 0) 1 0) numbers
+      (later s t (cond (nat_eq (numbers p) 0) 1 0) numbers first (branches s (numbers p) numbers lt a h.1 (nat_eq (numbers p) 0) refl))
+
+  returns : (s : MachineState) (p : Place) (numbers : Place → ℕ) → IsHere code.slots p → Agree s.registers s.frame numbers →
+      StandAt starts code.instructions s.pc (fetched 0 p ∷ Return ∷ rest) → (j : ℕ) × (machine_run code args j s ≡ Returned (numbers p))
+  returns s p numbers hp a h =
+      let t : MachineState = wrote s 0 (numbers p) s.compared in
+      let first : Comes code args 1 s t = comes_by code args (resolved starts (fetched 0 p)) s t h.0 (fetches args code.slots starts s numbers 0 refl a p hp) in
+      ends_then code args 1 1 s t (Returned (numbers p)) first (ends_by code args Return t (numbers p) h.1.0 refl)
+
+  -- a block's last line
+  pub last_leaves : (o : Operation) (s : MachineState) (ps : List Place) (numbers : Place → ℕ) → IsEnd o (length succs) → IsPlaced code.slots o ps →
+      Agree s.registers s.frame numbers → StandAt starts code.instructions s.pc (operation_code o ps succs ++ rest) →
+      Left s (reads_at o ps numbers) (writes_at args o ps numbers) (edge_to (length succs) (way_of o (reads_at o ps numbers)))
+  unfolding written_to read_by
+  last_leaves (TakeArgument to k) s ps numbers ends placed a h = absurd ends
+  last_leaves (TakeConstant to n) s ps numbers ends placed a h = absurd ends
+  last_leaves (Copy to from) s ps numbers ends placed a h = absurd ends
+  last_leaves (Computation o to left right) s ps numbers ends placed a h = absurd ends
+  last_leaves (Comparison c to left right) s ps numbers ends placed a h = absurd ends
+  last_leaves GoTo s ps numbers ends placed a h =
+      over_edge s [] 0 numbers (enters (Jump (starts (slice_index succs 0))) s 0 numbers ends a h.0 refl)
+  last_leaves (BranchIf v) s ps numbers ends placed a h = forks s (place_at ps 0) numbers placed ends a h
+  last_leaves (GiveBack v) s ps numbers ends placed a h = returns s (place_at ps 0) numbers placed a h

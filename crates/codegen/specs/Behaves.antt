@@ -1,0 +1,32 @@
+-- The main theorem of the code generator: compiled code does what the function does.
+use Rattle.std.specs.Prelude.{ℕ, ◌≡◌, ◌≢◌, ◌≤◌, None}
+use Rattle.regalloc2_names.specs.Register.{VirtualRegister}
+use Rattle.regalloc2_function.specs.Path.{first_of}
+use Rattle.codegen_ir.specs.Numbers.{Outcome, Running, Returned, Stuck}
+use Rattle.codegen_ir.specs.Meaning.{ProcedureState, procedure_run}
+use Rattle.codegen_ir.specs.Seen.{function_of, operations}
+use Rattle.codegen_ir.specs.declared.procedure.Procedure.{Procedure}
+use Rattle.codegen_machine.specs.Machine.{CodeValue, MachineState, machine_run}
+
+-- the arguments, and the numbers with which virtual registers, registers and slots begin, which may be any
+pub record Beginning : Type 0 where
+  pub args : ℕ → ℕ
+  pub numbers : VirtualRegister → ℕ
+  pub registers : ℕ → ℕ
+  pub frame : ℕ → ℕ
+
+-- how the function stands after so many steps from its entry, and the machine after so many from the first instruction
+abbrev pub source : Procedure → Beginning → ℕ → Outcome ProcedureState
+source p b n = procedure_run (function_of p) (operations p) b.args n (record { at = first_of (function_of p) 0; numbers = b.numbers })
+
+abbrev pub target : CodeValue → Beginning → ℕ → Outcome MachineState
+target code b m = machine_run code b.args m (record { pc = 0; registers = b.registers; frame = b.frame; compared = None })
+
+-- The code does what the function does: the one returns a number exactly if the other does, the machine runs on for as long as the function does, and
+-- neither is ever stuck.
+pub record BehavesAs (p : Procedure) (code : CodeValue) : Type 0 where
+  pub returns : (b : Beginning) (n r : ℕ) → source p b n ≡ Returned r → (m : ℕ) × (target code b m ≡ Returned r)
+  pub returns_only : (b : Beginning) (m r : ℕ) → target code b m ≡ Returned r → (n : ℕ) × (source p b n ≡ Returned r)
+  pub goes_on : (b : Beginning) (n : ℕ) (s : ProcedureState) → source p b n ≡ Running s → (m : ℕ) × (t : MachineState) × (n ≤ m) × (target code b m ≡ Running t)
+  pub never_stuck : (b : Beginning) (m : ℕ) → target code b m ≢ Stuck
+  pub source_never_stuck : (b : Beginning) (n : ℕ) → source p b n ≢ Stuck

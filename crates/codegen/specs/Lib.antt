@@ -1,0 +1,4 @@
+pub mod Emitted
+pub mod Behaves
+pub mod Target
+pub mod Reasons

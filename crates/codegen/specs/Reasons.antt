@@ -1,0 +1,12 @@
+-- Why a function isn't compiled.
+use Rattle.regalloc2_function.specs.FunctionValue.{FunctionValue}
+use Rattle.regalloc2_function.specs.Machine.{MachineValue}
+use Rattle.regalloc2.specs.Allocated.{IsTestedRunReason}
+use Rattle.codegen.specs.Target.{IsTarget}
+use Rattle.codegen.specs.declared.compiler.CompileError.{CompileError}
+use Rattle.codegen.specs.declared.compiler.CompileError.TheVariants.{Refused, Memory}
+
+-- the allocator's reason, for the machine's registers; or memory ran out
+abbrev pub IsCompileReason : FunctionValue → CompileError → Type 0
+IsCompileReason f (Refused e) = (env : MachineValue) × IsTarget env × IsTestedRunReason f env e
+IsCompileReason f Memory = Unit {0}

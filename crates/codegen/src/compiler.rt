@@ -1,0 +1,56 @@
+//! From a function to code.
+
+ghost use Rattle.std.specs.Prelude.{IfErr, IfOk};
+ghost use Rattle.codegen_ir.specs.Seen.{function_of};
+ghost use Rattle.codegen_machine.specs.Machine.{code_of};
+ghost use Rattle.codegen.specs.Behaves.{BehavesAs};
+ghost use Rattle.codegen.specs.Reasons.{IsCompileReason};
+
+use super::emit::emit;
+use super::registers::target;
+use codegen_ir::Procedure;
+use codegen_machine::Code;
+use regalloc2::{TestedRunError, run_tested};
+use regalloc2_values::runs_alike;
+use std::alloc::Global;
+use std::error::Error;
+use std::fmt;
+
+/// Why a function isn't compiled.
+#[derive(Debug, Drop)]
+pub enum CompileError {
+    /// The allocator refused it.
+    Refused(TestedRunError),
+    /// Memory ran out while code was emitted.
+    Memory,
+}
+
+impl fmt::Display for CompileError {
+    fn fmt<W: fmt::Write>(&self, f: &mut fmt::Formatter<W>) -> fmt::Result {
+        match self {
+            CompileError::Refused(error) => write!(f, "{error}"),
+            CompileError::Memory => write!(f, "out of memory"),
+        }
+    }
+}
+
+impl Error for CompileError {}
+
+/// Compiles a function: tests it, allocates registers, and emits code that does what the function does, whatever the arguments.
+///
+/// An error is the allocator's, or that memory ran out. Not promised: that `Memory` comes only where it did.
+pub fn compile(alloc: Global, f: &Procedure) -> Result<Code, CompileError>
+    ensures behaves { IfOk result (λ code. BehavesAs f.now (code_of code)) }
+    ensures refused { IfErr result (IsCompileReason (function_of f.now)) }
+{
+    let env = target(alloc);
+    let out = match run_tested(alloc, f, &env) {
+        Ok(out) => out,
+        Err(error) => return Err(CompileError::Refused(error)),
+    };
+    runs_alike();
+    match emit(alloc, f, &out) {
+        Ok(code) => Ok(code),
+        Err(_) => Err(CompileError::Memory),
+    }
+}

@@ -1,0 +1,262 @@
+//! From an allocated function to the machine's instructions.
+
+ghost use Rattle.std.specs.Prelude.{◌≡◌, ◌<◌, [], ◌∷◌, ◌++◌, IfOk, OnOk, length, map, slice_index};
+ghost use Rattle.regalloc2_function.specs.FunctionValue.{block_at};
+ghost use Rattle.regalloc2_function.specs.Listing.{IsListedWithin};
+ghost use Rattle.regalloc2_function.specs.OutputValue.{IsInOrder, place_at};
+ghost use Rattle.regalloc2_function.specs.Views.{item_of, output_of};
+ghost use Rattle.regalloc2_function.specs.WellFormed.{BlocksFollow};
+ghost use Rattle.codegen_ir.specs.Seen.{function_of, operations};
+ghost use Rattle.codegen_machine.specs.Machine.{code_of};
+ghost use Rattle.codegen.specs.Emitted.{register_of, source_of, fetched, move_code, constant_code, branch_code, operation_code, item_code, resolved};
+ghost use Rattle.codegen.specs.Emitted.{block_code, emitted};
+
+use codegen_ir::{Condition, Operation, Procedure};
+use codegen_machine::{Code, Instruction, NO_REGISTER, Source};
+use regalloc2::{Allocation, Block, Function, InstOrEdit, Output};
+use std::alloc::{AllocError, Global};
+
+/// The register of a place.
+fn register(place: Allocation) -> usize
+    ensures { result ≡ register_of place }
+{
+    match place.as_reg() {
+        Some(reg) => reg.hw_enc(),
+        None => NO_REGISTER,
+    }
+}
+
+/// A place to read from.
+fn source(place: Allocation) -> Source
+    ensures { result ≡ source_of place }
+{
+    if place.is_stack() {
+        Source::Slot(place.index())
+    } else {
+        Source::Register(register(place))
+    }
+}
+
+/// A register takes what stands in a place.
+fn fetch(to: usize, from: Allocation) -> Instruction
+    ensures { result ≡ fetched to from }
+{
+    match source(from) {
+        Source::Slot(slot) => Instruction::Load { to, slot },
+        Source::Register(from) => Instruction::Move { to, from },
+    }
+}
+
+/// A move. None goes from a slot to a slot, so it is one instruction.
+fn move_between(from: Allocation, to: Allocation) -> Instruction
+    ensures { result ≡ move_code from to }
+{
+    if to.is_stack() {
+        return Instruction::Store {
+            slot: to.index(),
+            from: register(from),
+        };
+    }
+    match to.as_reg() {
+        Some(reg) => fetch(reg.hw_enc(), from),
+        None => Instruction::Move {
+            to: NO_REGISTER,
+            from: NO_REGISTER,
+        },
+    }
+}
+
+/// A number, of which 0 is made by less.
+fn constant(to: usize, value: u64) -> Instruction
+    ensures { result ≡ constant_code to value }
+{
+    if value == 0 {
+        Instruction::Clear { to }
+    } else {
+        Instruction::Constant { to, value }
+    }
+}
+
+/// The place of an operand.
+fn place(places: &[Allocation], operand: usize) -> Allocation
+    ensures { result ≡ place_at places.now operand }
+{
+    match places.get(operand) {
+        Some(place) => *place,
+        None => Allocation::none(),
+    }
+}
+
+/// The block at a position of a block's successors.
+fn successor(succs: &[Block], position: usize) -> usize
+    ensures { result ≡ slice_index succs.now position }
+{
+    match succs.get(position) {
+        Some(block) => block.index(),
+        None => 0,
+    }
+}
+
+/// One more instruction.
+fn put(code: &mut Vec<Instruction>, instruction: Instruction) -> Result<(), AllocError>
+    ensures { OnOk result (code.new.items ≡ code.old.items ++ instruction ∷ []) }
+{
+    code.push(instruction)?;
+    Ok(())
+}
+
+/// What an operation is, in the places of its operands. Jumps name blocks.
+fn emit_operation(
+    code: &mut Vec<Instruction>,
+    operation: Operation,
+    places: &[Allocation],
+    succs: &[Block],
+) -> Result<(), AllocError>
+    ensures { OnOk result (code.new.items ≡ code.old.items ++ operation_code operation places.now succs.now) }
+{
+    let first = place(places, 0);
+    let to = register(first);
+    match operation {
+        Operation::Argument { index, .. } => put(code, Instruction::Argument { to, index }),
+        Operation::Constant { value, .. } => put(code, constant(to, value)),
+        Operation::Copy { .. } => put(code, fetch(to, place(places, 1))),
+        Operation::Compute { operator, .. } => {
+            let from = source(place(places, 2));
+            put(code, Instruction::Compute { operator, to, from })
+        }
+        Operation::Compare { condition, .. } => {
+            let left = register(place(places, 1));
+            let right = source(place(places, 2));
+            put(code, Instruction::Compare { left, right })?;
+            put(code, Instruction::Set { to, condition })
+        }
+        Operation::Jump => {
+            let target = successor(succs, 0);
+            put(code, Instruction::Jump { target })
+        }
+        Operation::BranchIf { .. } => emit_branch(code, to, succs),
+        Operation::Return { .. } => {
+            put(code, fetch(0, first))?;
+            put(code, Instruction::Return)
+        }
+    }
+}
+
+/// A branch: to the first successor if a register's number isn't 0, and else to the second.
+fn emit_branch(
+    code: &mut Vec<Instruction>,
+    register: usize,
+    succs: &[Block],
+) -> Result<(), AllocError>
+    ensures { OnOk result (code.new.items ≡ code.old.items ++ branch_code register succs.now) }
+{
+    put(code, Instruction::Test { register })?;
+    let jump = Instruction::JumpIf {
+        condition: Condition::NotEqual,
+        target: successor(succs, 0),
+    };
+    put(code, jump)?;
+    let target = successor(succs, 1);
+    put(code, Instruction::Jump { target })
+}
+
+/// An item of a block's listing.
+fn emit_item(
+    code: &mut Vec<Instruction>,
+    f: &Procedure,
+    out: &Output,
+    block: Block,
+    item: &InstOrEdit,
+) -> Result<(), AllocError>
+    requires in_order { IsInOrder (function_of f.now) (output_of out.now) }
+    requires block { block < length (function_of f.now).blocks }
+    requires within { IsListedWithin 0 (length (function_of f.now).insts) (item_of item.now) }
+    ensures { OnOk result (code.new.items ≡ code.old.items
+        ++ item_code (operations f.now) (output_of out.now) (block_at (function_of f.now) block).succs (item_of item.now)) }
+{
+    match item {
+        InstOrEdit::Inst(inst) => {
+            let operation = f.lines[inst.index()].operation;
+            emit_operation(
+                code,
+                operation,
+                out.inst_allocs(*inst),
+                f.block_succs(block),
+            )
+        }
+        InstOrEdit::Edit(edit) => {
+            let (from, to) = edit.places();
+            put(code, move_between(from, to))
+        }
+    }
+}
+
+/// A block: its instructions, each after the moves that run before it.
+fn emit_block(
+    code: &mut Vec<Instruction>,
+    f: &Procedure,
+    out: &Output,
+    block: Block,
+) -> Result<(), AllocError>
+    requires in_order { IsInOrder (function_of f.now) (output_of out.now) }
+    requires follow { BlocksFollow (function_of f.now) }
+    requires block { block < length (function_of f.now).blocks }
+    ensures { OnOk result (code.new.items ≡ code.old.items
+        ++ block_code (operations f.now) (output_of out.now) (function_of f.now) block) }
+{
+    for item in out.block_insts_and_edits(f, block) {
+        emit_item(code, f, out, block, &item)?;
+    }
+    Ok(())
+}
+
+/// An instruction that jumps to where its block begins.
+fn resolve(instruction: Instruction, starts: &[usize]) -> Instruction
+    ensures { result ≡ resolved (λ b. slice_index starts.now b) instruction }
+{
+    let start = |block: usize| starts.get(block).copied().unwrap_or(0);
+    match instruction {
+        Instruction::Jump { target } => Instruction::Jump {
+            target: start(target),
+        },
+        Instruction::JumpIf { condition, target } => Instruction::JumpIf {
+            condition,
+            target: start(target),
+        },
+        other => other,
+    }
+}
+
+/// Instructions that jump to where their blocks begin.
+fn resolve_all(
+    alloc: Global,
+    code: &[Instruction],
+    starts: &[usize],
+) -> Result<Vec<Instruction>, AllocError>
+    ensures { IfOk result (λ v. v.items ≡ map (resolved (λ b. slice_index starts.now b)) code.now) }
+{
+    code.iter()
+        .map(|instruction| resolve(*instruction, starts))
+        .collect(alloc)
+}
+
+/// The code of an allocated function.
+///
+/// Blocks are emitted in order, with jumps that name blocks, and where each begins is noted; then jumps name instructions.
+pub fn emit(alloc: Global, f: &Procedure, out: &Output) -> Result<Code, AllocError>
+    requires in_order { IsInOrder (function_of f.now) (output_of out.now) }
+    requires follow { BlocksFollow (function_of f.now) }
+    ensures { IfOk result (λ code. code_of code ≡ emitted (operations f.now) (function_of f.now) (output_of out.now)) }
+{
+    let mut code = Vec::new(alloc);
+    let mut starts = Vec::new(alloc);
+    for b in 0..f.num_blocks() {
+        starts.push(code.len())?;
+        emit_block(&mut code, f, out, Block::new(b))?;
+    }
+    let instructions = resolve_all(alloc, &code, &starts)?;
+    Ok(Code {
+        instructions,
+        slots: out.num_spillslots,
+    })
+}

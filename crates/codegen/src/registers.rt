@@ -1,0 +1,44 @@
+//! The machine's registers, as the allocator is told of them.
+
+ghost use Rattle.std.specs.Prelude.{◌≡◌, true, IsTrue, All};
+ghost use Rattle.std.specs.List.{list_all};
+ghost use Rattle.regalloc2_names.specs.Register.{Register};
+ghost use Rattle.regalloc2_names.specs.RegisterSet.{has_register};
+ghost use Rattle.regalloc2_function.specs.Views.{machine_of};
+ghost use Rattle.codegen_machine.specs.Machine.{is_general};
+ghost use Rattle.codegen.specs.Target.{IsTarget};
+
+use regalloc2::{MachineEnv, PReg, PRegSet, RegClass};
+use std::alloc::Global;
+
+/// The registers that a function may overwrite by the system's calling convention.
+const CALLER_SAVED: [usize; 8] = [0, 1, 2, 6, 8, 9, 10, 11];
+
+/// Those that it has to restore.
+const CALLEE_SAVED: [usize; 6] = [3, 5, 12, 13, 14, 15];
+
+/// The set of the integer registers with these numbers.
+fn registers(numbers: &[usize]) -> PRegSet
+    requires { IsTrue (list_all is_general numbers.now) }
+    ensures general { (r : Register) → has_register result r ≡ true → (r.class ≡ RegClass.Int) × (is_general r.number ≡ true) }
+    ensures all { All (λ n. has_register result (record { number = n; class = RegClass.Int }) ≡ true) numbers.now }
+{
+    let mut set = PRegSet::empty();
+    for number in numbers {
+        set.add(PReg::new(*number, RegClass::Int));
+    }
+    set
+}
+
+/// The registers for numbers: those that a function need not restore are taken first. No register is set aside for moves.
+pub fn target(alloc: Global) -> MachineEnv
+    ensures { IsTarget (machine_of result) }
+{
+    let none = PRegSet::empty();
+    MachineEnv {
+        preferred_regs_by_class: [registers(&CALLER_SAVED), none, none],
+        non_preferred_regs_by_class: [registers(&CALLEE_SAVED), none, none],
+        scratch_by_class: [None; 3],
+        fixed_stack_slots: Vec::new(alloc),
+    }
+}

@@ -1,0 +1,41 @@
+-- Whole numbers of 64 bits: what operators compute of them, and which conditions hold.
+use Rattle.std.specs.Prelude.{ℕ, ◌+◌, ◌-◌, ◌*◌, ◌%◌, ◌^◌, Bool, not, nat_eq, nat_lt, nat_le, if◌then◌else◌}
+use Rattle.codegen_ir.specs.declared.operation.Operator.{Operator}
+use Rattle.codegen_ir.specs.declared.operation.Operator.TheVariants.{Add, Sub, Mul}
+use Rattle.codegen_ir.specs.declared.operation.Condition.{Condition}
+use Rattle.codegen_ir.specs.declared.operation.Condition.TheVariants.{Equal, NotEqual, Less, LessOrEqual, Greater, GreaterOrEqual}
+
+-- what an operator computes, modulo 2^64
+abbrev pub computed : Operator → ℕ → ℕ → ℕ
+computed Add a b = (a + b) % 2 ^ 64
+computed Sub a b = (a + (2 ^ 64 - b)) % 2 ^ 64
+computed Mul a b = (a * b) % 2 ^ 64
+
+-- whether a condition holds
+abbrev pub holds : Condition → ℕ → ℕ → Bool
+holds Equal a b = nat_eq a b
+holds NotEqual a b = not (nat_eq a b)
+holds Less a b = nat_lt a b
+holds LessOrEqual a b = nat_le a b
+holds Greater a b = nat_lt b a
+holds GreaterOrEqual a b = nat_le b a
+
+-- 1 for what holds, 0 for what doesn't
+abbrev pub truth : Bool → ℕ
+truth b = if b then 1 else 0
+
+-- numbers by number, with one changed
+abbrev pub put : (ℕ → ℕ) → ℕ → ℕ → ℕ → ℕ
+put m k n q = if nat_eq k q then n else m q
+
+-- how a run stands: it goes on in a state, it has ended with a number, or it can't go on
+pub data Outcome (S : Type 0) : Type 0 where
+  Running : S → Outcome S
+  Returned : ℕ → Outcome S
+  Stuck : Outcome S
+
+-- goes on where it still runs
+abbrev pub further : {S : Type 0} → Outcome S → (S → Outcome S) → Outcome S
+further (Running s) go = go s
+further (Returned n) go = Returned n
+further Stuck go = Stuck

@@ -1,0 +1,50 @@
+-- Which function a procedure is to the allocator.
+use Rattle.std.specs.Prelude.{ℕ, false, map, [], List, Option, slice_get}
+use Rattle.std.proofs.Common.{arith}
+use Rattle.std.proofs.lemmas.List.{length-map}
+use Rattle.std.proofs.lemmas.List.Elements.{All-nil}
+use Rattle.regalloc2_function.specs.FunctionValue.{FunctionValue, BlockValue, InstValue, IsLimited}
+use Rattle.regalloc2_function.specs.SingleUnits.{single_units, IsSlotSize-single_units}
+use Rattle.codegen_ir.specs.Operands.{operands_of, is_jump, is_return}
+use Rattle.codegen_ir.specs.Successors.{operations_of}
+use Rattle.codegen_ir.specs.declared.operation.Operation.{Operation}
+use Rattle.codegen_ir.specs.declared.operation.Line.{Line}
+use Rattle.codegen_ir.specs.declared.procedure.Part.{Part}
+use Rattle.codegen_ir.specs.declared.procedure.Procedure.{Procedure}
+
+abbrev pub inst_of : Line → InstValue
+inst_of l = record {
+  operands = operands_of l.operation;
+  clobbers = l.clobbers;
+  is_branch = is_jump l.operation;
+  is_ret = is_return l.operation;
+}
+
+abbrev pub block_of : Part → BlockValue
+block_of b = record { range = b.range; succs = b.succs.items; preds = b.preds.items; params = b.params.items; arguments = map (λ v. v.items) b.arguments.items }
+
+abbrev pub function_of : Procedure → FunctionValue
+function_of p = record {
+  blocks = map block_of p.parts.items;
+  insts = map inst_of p.lines.items;
+  entry = 0;
+  num_vregs = p.num_vregs;
+  slot_sizes = single_units;
+  named_by_last_slot = false;
+  labels = [];
+  allows_multiple_defs = false;
+}
+
+-- its operations, by number
+abbrev pub operations : Procedure → List Operation
+operations p = operations_of p.lines.items
+
+-- it keeps the limits of each function
+pub limited_procedure : (p : Procedure) → IsLimited (function_of p)
+limited_procedure p = record {
+  insts = rw length-map (omega (arith, p.few_lines));
+  blocks = rw length-map (omega (arith, p.few_parts));
+  vregs = p.few_vregs;
+  slot_sizes = IsSlotSize-single_units;
+  labels = All-nil _;
+}

@@ -1,0 +1,115 @@
+//! A machine with sixteen registers and a frame of slots, whose instructions have two addresses: what a code generator emits.
+//!
+//! Registers are numbered as those of x86-64. Two of them aren't for numbers: 4 (`rsp`), by which the frame is reached, and 7 (`rdi`), by
+//! which the arguments are. `specs/Machine.antt` has what each instruction does, step by step.
+#![tactic(auto)]
+
+use codegen_ir::{Condition, Operator};
+
+/// What stands in the place of a register where none can be named. The machine has no such register, and stops at it.
+pub const NO_REGISTER: usize = 16;
+
+/// A register or a slot of the frame, by its number.
+#[derive(Clone, Copy, Debug, PartialEq, Eq)]
+pub enum Source {
+    /// A register.
+    Register(usize),
+    /// A slot.
+    Slot(usize),
+}
+
+/// An instruction. Registers and slots are named by their numbers; a target is the number of an instruction.
+#[derive(Clone, Copy, Debug, PartialEq, Eq)]
+pub enum Instruction {
+    /// Puts a number into a register.
+    Constant {
+        /// The register.
+        to: usize,
+        /// The number.
+        value: u64,
+    },
+    /// Puts 0 into a register, and forgets the numbers last compared.
+    Clear {
+        /// The register.
+        to: usize,
+    },
+    /// Puts an argument into a register.
+    Argument {
+        /// The register.
+        to: usize,
+        /// Which argument.
+        index: u32,
+    },
+    /// Copies a register.
+    Move {
+        /// The register that is written.
+        to: usize,
+        /// The register that is read.
+        from: usize,
+    },
+    /// Copies a slot into a register.
+    Load {
+        /// The register.
+        to: usize,
+        /// The slot.
+        slot: usize,
+    },
+    /// Copies a register into a slot.
+    Store {
+        /// The slot.
+        slot: usize,
+        /// The register.
+        from: usize,
+    },
+    /// Computes with a register, and puts the result into it; forgets the numbers last compared.
+    Compute {
+        /// What is computed.
+        operator: Operator,
+        /// The register with the first number.
+        to: usize,
+        /// The second number.
+        from: Source,
+    },
+    /// Compares two numbers.
+    Compare {
+        /// The register with the first number.
+        left: usize,
+        /// The second number.
+        right: Source,
+    },
+    /// Puts 1 into a register if the numbers last compared meet a condition, and else 0.
+    Set {
+        /// The register.
+        to: usize,
+        /// The condition.
+        condition: Condition,
+    },
+    /// Compares a register's number to 0.
+    Test {
+        /// The register.
+        register: usize,
+    },
+    /// Goes to an instruction.
+    Jump {
+        /// Its number.
+        target: usize,
+    },
+    /// Goes to an instruction if the numbers last compared meet a condition.
+    JumpIf {
+        /// The condition.
+        condition: Condition,
+        /// The instruction's number.
+        target: usize,
+    },
+    /// Ends with the number of register 0.
+    Return,
+}
+
+/// Code: its instructions, by number, from 0 on, where it starts.
+#[derive(Debug, Drop)]
+pub struct Code {
+    /// The instructions.
+    pub instructions: Vec<Instruction>,
+    /// How many slots the frame has.
+    pub slots: usize,
+}

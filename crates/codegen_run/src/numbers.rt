@@ -1,0 +1,39 @@
+//! What is computed of numbers of 64 bits.
+
+ghost use Rattle.std.specs.Prelude.{◌≡◌, slice_index};
+ghost use Rattle.codegen_ir.specs.Numbers.{computed, holds};
+ghost use Rattle.codegen_run.specs.Runs.{arguments_of};
+
+use codegen_ir::{Condition, Operator};
+
+/// What an operator computes.
+pub fn compute(operator: Operator, left: u64, right: u64) -> u64
+    ensures { result ≡ computed operator left right }
+{
+    match operator {
+        Operator::Add => left.wrapping_add(right),
+        Operator::Sub => left.wrapping_sub(right),
+        Operator::Mul => left.wrapping_mul(right),
+    }
+}
+
+/// Whether a condition holds.
+pub fn does_hold(condition: Condition, left: u64, right: u64) -> bool
+    ensures { result ≡ holds condition left right }
+{
+    match condition {
+        Condition::Equal => left == right,
+        Condition::NotEqual => left != right,
+        Condition::Less => left < right,
+        Condition::LessOrEqual => left <= right,
+        Condition::Greater => left > right,
+        Condition::GreaterOrEqual => left >= right,
+    }
+}
+
+/// An argument; past the given ones they are 0.
+pub fn argument(arguments: &[u64], index: u32) -> u64
+    ensures { result ≡ arguments_of arguments.now index }
+{
+    arguments.get(index as usize).copied().unwrap_or(0)
+}

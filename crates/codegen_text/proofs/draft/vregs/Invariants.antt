@@ -1,0 +1,5 @@
+use Rattle.codegen_text.specs.Cursor.{tokens_left}
+use Rattle.codegen_text.proofs.draft.vregs.Given as goal
+
+abbrev pub decreases-vregs : goal.decreases-vregs
+decreases-vregs l = tokens_left l.cursor

@@ -1,0 +1,75 @@
+-- Instructions as assembly for x86-64, in the syntax of AT&T, which names the source before the destination.
+use Rattle.std.specs.Prelude.{ℕ, ◌+◌, codes, List, [], ◌∷◌, ◌++◌, slice_index_or}
+use Rattle.std.specs.Fmt.{decimal}
+use Rattle.codegen_ir.specs.declared.operation.Operator.{Operator}
+use Rattle.codegen_ir.specs.declared.operation.Operator.TheVariants.{Add, Sub, Mul}
+use Rattle.codegen_ir.specs.declared.operation.Condition.{Condition}
+use Rattle.codegen_ir.specs.declared.operation.Condition.TheVariants.{Equal, NotEqual, Less, LessOrEqual, Greater, GreaterOrEqual}
+use Rattle.codegen_machine.specs.declared.Source.{Source}
+use Rattle.codegen_machine.specs.declared.Source.TheVariants.{Register, Slot}
+use Rattle.codegen_machine.specs.declared.Instruction.{Instruction}
+use Rattle.codegen_machine.specs.declared.Instruction.TheVariants as variant
+
+-- the registers by number
+abbrev pub register_names : List (List ℕ)
+register_names = codes "%rax" ∷ codes "%rcx" ∷ codes "%rdx" ∷ codes "%rbx" ∷ codes "%rsp" ∷ codes "%rbp" ∷ codes "%rsi" ∷ codes "%rdi"
+    ∷ codes "%r8" ∷ codes "%r9" ∷ codes "%r10" ∷ codes "%r11" ∷ codes "%r12" ∷ codes "%r13" ∷ codes "%r14" ∷ codes "%r15" ∷ []
+
+-- their lowest bytes
+abbrev pub byte_names : List (List ℕ)
+byte_names = codes "%al" ∷ codes "%cl" ∷ codes "%dl" ∷ codes "%bl" ∷ codes "%spl" ∷ codes "%bpl" ∷ codes "%sil" ∷ codes "%dil"
+    ∷ codes "%r8b" ∷ codes "%r9b" ∷ codes "%r10b" ∷ codes "%r11b" ∷ codes "%r12b" ∷ codes "%r13b" ∷ codes "%r14b" ∷ codes "%r15b" ∷ []
+
+abbrev pub register_name : ℕ → List ℕ
+register_name r = slice_index_or register_names r (codes "%none")
+
+abbrev pub byte_name : ℕ → List ℕ
+byte_name r = slice_index_or byte_names r (codes "%none")
+
+abbrev pub operator_name : Operator → List ℕ
+operator_name Add = codes "addq"
+operator_name Sub = codes "subq"
+operator_name Mul = codes "imulq"
+
+-- the conditions of numbers without sign
+abbrev pub condition_letters : Condition → List ℕ
+condition_letters Equal = codes "e"
+condition_letters NotEqual = codes "ne"
+condition_letters Less = codes "b"
+condition_letters LessOrEqual = codes "be"
+condition_letters Greater = codes "a"
+condition_letters GreaterOrEqual = codes "ae"
+
+-- eight bytes of memory at a register
+abbrev pub slot_text : ℕ → List ℕ
+slot_text k = codes "8*" ++ decimal k ++ codes "(%rsp)"
+
+abbrev pub source_text : Source → List ℕ
+source_text (Register r) = register_name r
+source_text (Slot k) = slot_text k
+
+-- an instruction, as addq %rcx, %rax
+abbrev pub instruction_text : Instruction → List ℕ
+instruction_text (variant.Constant to n) = codes "movabsq $" ++ decimal n ++ codes ", " ++ register_name to
+instruction_text (variant.Clear to) = codes "xorq " ++ register_name to ++ codes ", " ++ register_name to
+instruction_text (variant.Argument to k) = codes "movq 8*" ++ decimal k ++ codes "(%rdi), " ++ register_name to
+instruction_text (variant.Move to from) = codes "movq " ++ register_name from ++ codes ", " ++ register_name to
+instruction_text (variant.Load to k) = codes "movq " ++ slot_text k ++ codes ", " ++ register_name to
+instruction_text (variant.Store k from) = codes "movq " ++ register_name from ++ codes ", " ++ slot_text k
+instruction_text (variant.Compute o to from) = operator_name o ++ codes " " ++ source_text from ++ codes ", " ++ register_name to
+instruction_text (variant.Compare left right) = codes "cmpq " ++ source_text right ++ codes ", " ++ register_name left
+instruction_text (variant.Set to c) = codes "set" ++ condition_letters c ++ codes " " ++ byte_name to ++ codes "; movzbq " ++ byte_name to ++ codes ", "
+    ++ register_name to
+instruction_text (variant.Test r) = codes "testq " ++ register_name r ++ codes ", " ++ register_name r
+instruction_text (variant.Jump target) = codes "jmp .L" ++ decimal target
+instruction_text (variant.JumpIf c target) = codes "j" ++ condition_letters c ++ codes " .L" ++ decimal target
+instruction_text variant.Return = codes "jmp .Lreturn"
+
+-- a line, with its label
+abbrev pub line_text : ℕ → Instruction → List ℕ
+line_text k i = codes ".L" ++ (decimal k ++ (codes ": " ++ (instruction_text i ++ 10 ∷ [])))
+
+-- instructions, one on each line, with labels by number from k on
+unfoldable pub lines_text : ℕ → List Instruction → List ℕ
+lines_text k [] = []
+lines_text k (i ∷ rest) = line_text k i ++ lines_text (k + 1) rest

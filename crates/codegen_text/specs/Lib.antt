@@ -1,0 +1,3 @@
+pub mod Assembly
+pub mod Cursor
+pub mod Lines

@@ -1,0 +1,123 @@
+//! The words, numbers and signs of a line.
+
+ghost use Rattle.std.specs.Prelude.{◌≡◌, ◌<◌, ◌≤◌, length, IfSome};
+
+use super::error::{Expected, Flaw, Found};
+
+/// What a token is.
+#[derive(Clone, Copy, Debug, PartialEq, Eq)]
+pub enum TokenKind {
+    /// A letter or `_`, and letters, digits and `_` after it.
+    Word,
+    /// Digits.
+    Number,
+    /// One of `: , = ( )`.
+    Sign,
+    /// A space or a tab, which is no token.
+    Blank,
+}
+
+/// A word, a number or a sign of a line.
+#[derive(Clone, Copy, Debug)]
+pub struct Token<'t> {
+    /// What it is.
+    pub kind: TokenKind,
+    /// How it is written.
+    pub text: &'t str,
+    /// Its column in bytes, counted from 1.
+    pub column: usize,
+    pub ghost from_one: { 1 ≤ column },
+}
+
+/// Whether a byte may stand in a word.
+fn is_word_byte(byte: u8) -> bool {
+    byte.is_ascii_alphanumeric() || byte == b'_'
+}
+
+/// How many bytes at the front may stand in a word.
+fn word_len(bytes: &[u8]) -> usize
+    ensures { result ≤ length bytes.now }
+{
+    bytes
+        .iter()
+        .position(|byte| !is_word_byte(*byte))
+        .unwrap_or(bytes.len())
+}
+
+/// How many digits are at the front.
+fn digits_len(bytes: &[u8]) -> usize
+    ensures { result ≤ length bytes.now }
+{
+    bytes
+        .iter()
+        .position(|byte| !byte.is_ascii_digit())
+        .unwrap_or(bytes.len())
+}
+
+/// What begins the bytes, and of how many it is made.
+fn measured(bytes: &[u8]) -> Option<(TokenKind, usize)>
+    ensures { IfSome result (λ found. 1 ≤ found.1) }
+{
+    match bytes {
+        [b' ' | b'\t', ..] => Some((TokenKind::Blank, 1)),
+        [b'a'..=b'z' | b'A'..=b'Z' | b'_', after @ ..] => Some((
+            TokenKind::Word,
+            1 + word_len(after),
+        )),
+        [b'0'..=b'9', after @ ..] => Some((TokenKind::Number, 1 + digits_len(after))),
+        [b':' | b',' | b'=' | b'(' | b')', ..] => Some((TokenKind::Sign, 1)),
+        _ => None,
+    }
+}
+
+/// The token or the blank at the front of a text, and the text after it.
+fn split_token(text: &str) -> Option<(TokenKind, &str, &str)>
+    ensures { IfSome result (λ parts. length parts.2.now < length text.now) }
+{
+    let (kind, len) = measured(text.as_bytes())?;
+    let (front, after) = text.split_at_checked(len)?;
+    Some((kind, front, after))
+}
+
+/// A line without its comment and the carriage return at its end.
+fn without_comment(line: &str) -> &str {
+    let line = line.strip_suffix('\r').unwrap_or(line);
+    line.split_once('#').map_or(line, |(front, _)| front)
+}
+
+/// What stands at the front of a text that is no token.
+fn unknown(text: &str) -> Found<'_> {
+    match text.chars().next() {
+        Some(character) => Found::Character(character),
+        None => Found::LineEnd,
+    }
+}
+
+/// Puts the tokens of a line into `tokens`, in place of what is there.
+pub fn tokenize<'t>(line: &'t str, tokens: &mut Vec<Token<'t>>) -> Result<(), Flaw<'t>> {
+    tokens.clear();
+    let mut rest = without_comment(line);
+    let mut column = 1usize;
+    while !rest.is_empty() {
+        let Some((kind, text, after)) = split_token(rest) else {
+            return Err(Flaw::new(
+                column,
+                Expected::Words("a word, a number or a sign"),
+                unknown(rest),
+            ));
+        };
+        if kind == TokenKind::Number && text.len() > 1 && text.starts_with('0') {
+            return Err(Flaw::new(
+                column,
+                Expected::Words("a number without leading zeros"),
+                Found::Token(text),
+            ));
+        }
+        if kind != TokenKind::Blank {
+            tokens.push(Token { kind, text, column })?;
+        }
+        column = column.saturating_add(text.len());
+        rest = after;
+    }
+    Ok(())
+}

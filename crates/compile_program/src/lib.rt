@@ -1,0 +1,12 @@
+//! What the program `compile` does: a function that stands in a text becomes assembly for x86-64, or is run.
+#![tactic(auto)]
+
+mod agree;
+mod program;
+mod random;
+mod task;
+
+pub use agree::agrees_at_random;
+pub use program::{UNUSABLE, answer};
+pub use random::random_program;
+pub use task::{Action, Task, refuse_words};

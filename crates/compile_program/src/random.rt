@@ -1,0 +1,216 @@
+//! Functions that look random, as texts.
+
+ghost use Rattle.std.specs.Prelude.{◌≡◌, ◌<◌};
+
+use std::alloc::{AllocError, Global};
+
+/// The operations of two numbers, additions more often than others.
+const OPERATIONS: [&str; 11] = [
+    "add",
+    "add",
+    "add",
+    "sub",
+    "mul",
+    "equal",
+    "not_equal",
+    "less",
+    "less_or_equal",
+    "greater",
+    "greater_or_equal",
+];
+
+/// Numbers that look random, the same ones for the same seed.
+#[derive(Drop)]
+struct Random {
+    state: u64,
+}
+
+impl Random {
+    /// The next number.
+    fn next(&mut self) -> u64 {
+        self.state = self
+            .state
+            .wrapping_mul(6_364_136_223_846_793_005)
+            .wrapping_add(1_442_695_040_888_963_407);
+        self.state ^ (self.state >> 29)
+    }
+
+    /// The next number, below `count`.
+    fn below(&mut self, count: usize) -> usize
+        requires { 0 < count }
+        ensures { result < count }
+    {
+        (self.next() >> 33) as usize % count
+    }
+}
+
+/// A function that is being written. It takes three arguments.
+#[derive(Drop)]
+struct Draft {
+    random: Random,
+    text: String,
+    /// The virtual registers that are written before the end of the text on each way there.
+    known: Vec<u32>,
+    /// How many virtual registers there are.
+    num_vregs: u32,
+    /// How many blocks there are.
+    num_blocks: u32,
+}
+
+impl Draft {
+    /// The number of a new virtual register.
+    fn new_vreg(&mut self) -> u32 {
+        let number = self.num_vregs;
+        self.num_vregs = number.saturating_add(1);
+        number
+    }
+
+    /// The number of a new block.
+    fn new_block(&mut self) -> u32 {
+        let number = self.num_blocks;
+        self.num_blocks = number.saturating_add(1);
+        number
+    }
+
+    /// One of the virtual registers that are written, the newest ones more often.
+    fn pick(&mut self) -> u32 {
+        let count = self.known.len().max(1);
+        let at = self.random.below(count).max(self.random.below(count));
+        self.known.get(at).copied().unwrap_or(0)
+    }
+
+    /// Writes an operation.
+    fn write_operation(&mut self) -> Result<(), AllocError> {
+        let (left, right) = (self.pick(), self.pick());
+        let to = self.new_vreg();
+        let at = self.random.below(14);
+        if let Some(name) = OPERATIONS.get(at) {
+            writeln!(self.text, "  v{to} = {name} v{left}, v{right}")?;
+        } else if at == 11 {
+            writeln!(self.text, "  v{to} = copy v{left}")?;
+        } else {
+            let number = self.random.next();
+            writeln!(self.text, "  v{to} = constant {number}")?;
+        }
+        self.known.push(to)?;
+        Ok(())
+    }
+
+    /// Writes up to so many operations, at least one.
+    fn write_operations(&mut self, most: usize) -> Result<(), AllocError>
+        requires { 0 < most }
+    {
+        let count = self.random.below(most);
+        for _ in 0..=count {
+            self.write_operation()?;
+        }
+        Ok(())
+    }
+
+    /// Writes a block of one parameter that goes on to `join` with what it computes.
+    fn write_side(&mut self, block: u32, join: u32) -> Result<(), AllocError> {
+        let before = self.known.len();
+        let param = self.new_vreg();
+        writeln!(self.text, "block{block}(v{param}):")?;
+        self.known.push(param)?;
+        self.write_operations(6)?;
+        let (left, right) = (self.pick(), self.pick());
+        writeln!(self.text, "  jump block{join}(v{left}, v{right})")?;
+        self.known.truncate(before);
+        Ok(())
+    }
+
+    /// Writes a branch to two blocks, and the block where they meet.
+    fn write_fork(&mut self) -> Result<(), AllocError> {
+        let (first, second, join) = (self.new_block(), self.new_block(), self.new_block());
+        let (test, left, right) = (self.pick(), self.pick(), self.pick());
+        writeln!(
+            self.text,
+            "  branch_if v{test} block{first}(v{left}), block{second}(v{right})"
+        )?;
+        self.write_side(first, join)?;
+        self.write_side(second, join)?;
+        let (left, right) = (self.new_vreg(), self.new_vreg());
+        writeln!(self.text, "block{join}(v{left}, v{right}):")?;
+        self.known.push(left)?;
+        self.known.push(right)?;
+        Ok(())
+    }
+
+    /// Writes the head of a loop of a few turns, with three parameters, of which the first counts the turns that are left.
+    fn write_head(&mut self, head: u32, body: u32, end: u32) -> Result<[u32; 3], AllocError> {
+        let (turns, left, right) = (self.random.below(7), self.pick(), self.pick());
+        let count = self.new_vreg();
+        writeln!(self.text, "  v{count} = constant {turns}")?;
+        writeln!(self.text, "  jump block{head}(v{count}, v{left}, v{right})")?;
+        let params = [self.new_vreg(), self.new_vreg(), self.new_vreg()];
+        let [count, left, right] = params;
+        writeln!(self.text, "block{head}(v{count}, v{left}, v{right}):")?;
+        writeln!(
+            self.text,
+            "  branch_if v{count} block{body}(), block{end}()"
+        )?;
+        self.known.extend_from_slice(&params)?;
+        Ok(params)
+    }
+
+    /// Writes a loop of a few turns, whose body passes its second parameter on as the first but one.
+    fn write_loop(&mut self) -> Result<(), AllocError> {
+        let (head, body, end) = (self.new_block(), self.new_block(), self.new_block());
+        let [count, _, right] = self.write_head(head, body, end)?;
+        let before = self.known.len();
+        writeln!(self.text, "block{body}():")?;
+        self.write_operations(8)?;
+        let (one, next, last) = (self.new_vreg(), self.new_vreg(), self.pick());
+        writeln!(self.text, "  v{one} = constant 1")?;
+        writeln!(self.text, "  v{next} = sub v{count}, v{one}")?;
+        writeln!(self.text, "  jump block{head}(v{next}, v{right}, v{last})")?;
+        self.known.truncate(before);
+        writeln!(self.text, "block{end}():")?;
+        Ok(())
+    }
+
+    /// Writes the return of a number to which each of the known ones adds.
+    fn write_return(&mut self) -> Result<(), AllocError> {
+        let (mut sum, factor) = (self.new_vreg(), self.new_vreg());
+        writeln!(
+            self.text,
+            "  v{sum} = constant 1\n  v{factor} = constant 31"
+        )?;
+        for at in 0..self.known.len() {
+            let number = self.known.get(at).copied().unwrap_or(0);
+            let (product, next) = (self.new_vreg(), self.new_vreg());
+            writeln!(self.text, "  v{product} = mul v{sum}, v{factor}")?;
+            writeln!(self.text, "  v{next} = add v{product}, v{number}")?;
+            sum = next;
+        }
+        writeln!(self.text, "  return v{sum}")?;
+        Ok(())
+    }
+}
+
+/// The text of a function of three arguments that looks random, the same for the same seed. It ends whatever they are.
+pub fn random_program(alloc: Global, seed: u64) -> Result<String, AllocError> {
+    let mut draft = Draft {
+        random: Random { state: seed },
+        text: String::from_str(alloc, "block0:\n")?,
+        known: Vec::new(alloc),
+        num_vregs: 0,
+        num_blocks: 1,
+    };
+    for index in 0..3u32 {
+        let to = draft.new_vreg();
+        writeln!(draft.text, "  v{to} = argument {index}")?;
+        draft.known.push(to)?;
+    }
+    for _ in 0..6 {
+        draft.write_operations(6)?;
+        match draft.random.below(3) {
+            0 => draft.write_fork()?,
+            1 => draft.write_loop()?,
+            _ => {}
+        }
+    }
+    draft.write_return()?;
+    Ok(draft.text)
+}

@@ -1,0 +1,156 @@
+//! `ra2_fuzz`: gives `ra2` texts that nobody would write, and says what it answers.
+//!
+//! The input has them by line, each behind the words that `ra2` gets, with `+` between them. A text `~OLD~NEW` is the last whole one
+//! with OLD replaced by NEW; a line that begins with `#` is a title. Then come deep and large texts, and copies of all whole ones that
+//! are changed at random, from a fixed seed. The file `stdout` says what must come.
+#![tactic(auto)]
+
+ghost use Rattle.std.specs.Prelude.{◌<◌};
+
+mod asked;
+mod random;
+
+use asked::{Answer, ask};
+use random::{Random, changed};
+use std::alloc::{AllocError, Global};
+use std::io::{self, BufWriter, Write};
+
+/// How many changed copies each whole text gets.
+const COPIES: u32 = 300;
+
+/// The text that a line gives: it may say which part of another one to replace.
+fn text_of(alloc: Global, whole: &str, text: &str) -> Result<String, AllocError> {
+    let replaced = text.strip_prefix('~').and_then(|rest| rest.split_once('~'));
+    let Some((old, new)) = replaced else {
+        return String::from_str(alloc, text);
+    };
+    match whole.split_once(old) {
+        Some((before, after)) => format!(in alloc; "{before}{new}{after}"),
+        None => String::from_str(alloc, "the whole text has no such part"),
+    }
+}
+
+/// Writes what is answered to a text.
+fn show<W: Write>(alloc: Global, words: &str, text: &str, out: &mut W) -> io::Result<()> {
+    match ask(alloc, words, text.as_bytes()) {
+        Some(answer) => write!(out, "{answer}"),
+        None => writeln!(out, "out of memory"),
+    }
+}
+
+/// Writes what is answered to each line's text.
+fn show_all<W: Write>(alloc: Global, lines: &str, out: &mut W) -> io::Result<()> {
+    let mut whole = "";
+    for line in lines.lines() {
+        let Some((words, text)) = line.split_once(' ') else {
+            continue;
+        };
+        if words == "#" {
+            writeln!(out, "{line}")?;
+            continue;
+        }
+        if !text.starts_with('~') {
+            whole = text;
+        }
+        show(alloc, words, &text_of(alloc, whole, text)?, out)?;
+    }
+    Ok(())
+}
+
+/// Writes what is answered to a text with a part that is repeated, between two others.
+fn show_large<W: Write>(
+    alloc: Global,
+    part: &str,
+    count: u32,
+    around: (&str, &str),
+    out: &mut W,
+) -> io::Result<()> {
+    let mut text = String::from_str(alloc, around.0)?;
+    for _ in 0..count {
+        text.push_str(part)?;
+    }
+    text.push_str(around.1)?;
+    writeln!(out, "# {count} times {part}")?;
+    show(alloc, "run", &text, out)
+}
+
+/// Writes what is answered to texts that are deep or large. The last three have a function, in two of them behind a member that isn't
+/// read.
+fn show_all_large<W: Write>(alloc: Global, function: &str, out: &mut W) -> io::Result<()> {
+    let members = function.strip_prefix('{').unwrap_or("");
+    let after_list = format!(in alloc; "0],{members}")?;
+    let after_word = format!(in alloc; "\",{members}")?;
+    show_large(alloc, "[", 100_000, ("", ""), out)?;
+    show_large(alloc, "{\"a\":", 100_000, ("", ""), out)?;
+    show_large(alloc, "          ", 3_000_000, ("", function), out)?;
+    show_large(
+        alloc,
+        "0,0,0,0,0,",
+        1_000_000,
+        ("{\"a\":[", &after_list),
+        out,
+    )?;
+    show_large(
+        alloc,
+        "aaaaaaaaaa",
+        3_000_000,
+        ("{\"a\":\"", &after_word),
+        out,
+    )
+}
+
+/// How many answers had each status, and how many broke a rule or had no memory.
+type Counts = [u32; 4];
+
+/// Where an answer is counted.
+fn place_of(answer: Option<Answer>) -> usize
+    ensures { result < 4 }
+{
+    match answer {
+        Some(answer) if answer.keeps_rules() => answer.status as usize % 3,
+        _ => 3,
+    }
+}
+
+/// Counts the answers to changed copies of a text.
+fn count(alloc: Global, random: &mut Random, words: &str, text: &str, counts: &mut Counts) {
+    for _ in 0..COPIES {
+        let text = changed(alloc, random, text.as_bytes());
+        let place = place_of(text.and_then(|text| ask(alloc, words, text.as_slice())));
+        counts[place] = counts[place].saturating_add(1);
+    }
+}
+
+/// Counts the answers to changed copies of all whole texts.
+fn fuzz(alloc: Global, lines: &str) -> Counts {
+    let mut counts = [0u32; 4];
+    let mut random = Random::new(2026);
+    for (words, text) in lines.lines().filter_map(|line| line.split_once(' ')) {
+        if text.starts_with('{') || text.starts_with("[{") {
+            count(alloc, &mut random, words, text, &mut counts);
+        }
+    }
+    counts
+}
+
+fn main(rt: HostRuntime) -> io::Result<()> {
+    let alloc = rt.alloc();
+    let lines = io::read_to_string(alloc, rt.stdin())?;
+    let out = &mut BufWriter::new(alloc, rt.stdout())?;
+    show_all(alloc, &lines, out)?;
+    let function = lines
+        .lines()
+        .find_map(|line| line.strip_prefix("run "))
+        .unwrap_or("");
+    show_all_large(alloc, function, out)?;
+    let [done, refused, unusable, broken] = fuzz(alloc, &lines);
+    let ran = done
+        .saturating_add(refused)
+        .saturating_add(unusable)
+        .saturating_add(broken);
+    writeln!(
+        out,
+        "{ran} changed texts ran: {done} of status 0, {refused} of 1, {unusable} of 2; {broken} crashed or broke a rule"
+    )?;
+    out.flush()
+}

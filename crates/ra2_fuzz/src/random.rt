@@ -1,0 +1,92 @@
+//! Texts that are changed at random.
+
+ghost use Rattle.std.specs.Prelude.{◌<◌};
+
+use std::alloc::Global;
+
+/// What changed bytes become, and what is put in.
+const BYTES: [u8; 16] = [
+    b'[', b']', b'{', b'}', b',', b':', b'"', b'0', b'1', b'9', b'-', b'.', b'e', b' ', b'n', b'\\',
+];
+
+/// Numbers that look random, the same ones for the same seed.
+#[derive(Drop)]
+pub struct Random {
+    state: u64,
+}
+
+impl Random {
+    /// The numbers of a seed.
+    pub fn new(seed: u64) -> Random {
+        Random { state: seed }
+    }
+
+    /// The next number, below `count`.
+    fn below(&mut self, count: usize) -> usize
+        requires { 0 < count }
+        ensures { result < count }
+    {
+        self.state = self
+            .state
+            .wrapping_mul(6_364_136_223_846_793_005)
+            .wrapping_add(1_442_695_040_888_963_407);
+        (self.state >> 33) as usize % count
+    }
+}
+
+/// The text with one part replaced, of which as much counts as there is.
+fn replaced(alloc: Global, text: &[u8], from: usize, to: usize, piece: &[u8]) -> Option<Vec<u8>> {
+    let mut made = Vec::new(alloc);
+    made.extend_from_slice(text.get(..from)?).ok()?;
+    made.extend_from_slice(piece).ok()?;
+    made.extend_from_slice(text.get(to..).unwrap_or(&[])).ok()?;
+    Some(made)
+}
+
+/// Whether a number ends at a position.
+fn ends_number(text: &[u8], at: usize) -> bool {
+    let is_digit = |place: usize| text.get(place).is_some_and(|byte| byte.is_ascii_digit());
+    is_digit(at) && !is_digit(at.saturating_add(1))
+}
+
+/// The text with another last digit of the first number from a position on.
+fn with_other_number(
+    alloc: Global,
+    random: &mut Random,
+    text: &[u8],
+    at: usize,
+) -> Option<Vec<u8>> {
+    for place in at..text.len() {
+        if ends_number(text, place) {
+            let digit = b'0' + random.below(10) as u8;
+            return replaced(alloc, text, place, place.saturating_add(1), &[digit]);
+        }
+    }
+    text.to_vec(alloc).ok()
+}
+
+/// The text with one change: most often of a number's last digit; or a byte is changed, put in or taken out, a part is repeated, or an
+/// end is cut off.
+fn changed_once(alloc: Global, random: &mut Random, text: &[u8]) -> Option<Vec<u8>> {
+    let at = random.below(text.len().max(1));
+    let other = random.below(text.len().max(1));
+    let byte = [BYTES[random.below(16)]];
+    let byte = byte.as_slice();
+    match random.below(40) {
+        0 => replaced(alloc, text, at, at.saturating_add(1), byte),
+        1 => replaced(alloc, text, at, at, byte),
+        2 => replaced(alloc, text, at, at.saturating_add(1), &[]),
+        3 => replaced(alloc, text, at, at, text.get(at..other).unwrap_or(byte)),
+        4 => replaced(alloc, text, at, text.len(), &[]),
+        _ => with_other_number(alloc, random, text, at),
+    }
+}
+
+/// The text with up to three changes.
+pub fn changed(alloc: Global, random: &mut Random, text: &[u8]) -> Option<Vec<u8>> {
+    let mut made = changed_once(alloc, random, text)?;
+    for _ in 0..random.below(3) {
+        made = changed_once(alloc, random, &made)?;
+    }
+    Some(made)
+}
