@@ -1,5 +1,6 @@
 -- Numbers that are no words of 32 bits, among others.
-use Rattle.std.proofs.Common.{ℕ, zero, suc, ◌≡◌, ◌<◌, ◌≤◌, ◌+◌, ◌^◌, List, [], ◌∷◌, ◌++◌, length, slice_index_or, refl, arith, sym, ◌∙◌, ap, append_assoc, subst}
+use Rattle.std.proofs.Common.{ℕ, zero, suc, ◌≡◌, ◌<◌, ◌≤◌, ◌+◌, ◌^◌, List, [], ◌∷◌, ◌++◌, length, slice_index_or, refl, arith, sym, ◌∙◌, ap, append_assoc}
+use Rattle.std.proofs.Common.{subst}
 use Rattle.std.specs.List.{flat_map}
 use Rattle.regalloc2_flat.specs.Flat.{HasLongWord, list}
 
@@ -38,3 +39,19 @@ long_list u xs h = record { before = []; number = length xs; after = flat_map u 
 
 pub long_in_list : {A : Type 0} (u : A → List ℕ) (xs : List A) → HasLongWord (flat_map u xs) → HasLongWord (list u xs)
 long_in_list u xs h = long_after (length xs ∷ []) (flat_map u xs) h
+
+-- in one of the five parts of an output's words
+pub long_in_first : (a b c d e : List ℕ) → HasLongWord a → HasLongWord (a ++ (b ++ (c ++ (d ++ e))))
+long_in_first a b c d e h = long_before a (b ++ (c ++ (d ++ e))) h
+
+pub long_in_second : (a b c d e : List ℕ) → HasLongWord b → HasLongWord (a ++ (b ++ (c ++ (d ++ e))))
+long_in_second a b c d e h = long_after a (b ++ (c ++ (d ++ e))) (long_before b (c ++ (d ++ e)) h)
+
+pub long_in_third : (a b c d e : List ℕ) → HasLongWord c → HasLongWord (a ++ (b ++ (c ++ (d ++ e))))
+long_in_third a b c d e h = long_after a (b ++ (c ++ (d ++ e))) (long_after b (c ++ (d ++ e)) (long_before c (d ++ e) h))
+
+pub long_in_fourth : (a b c d e : List ℕ) → HasLongWord d → HasLongWord (a ++ (b ++ (c ++ (d ++ e))))
+long_in_fourth a b c d e h = long_after a (b ++ (c ++ (d ++ e))) (long_after b (c ++ (d ++ e)) (long_after c (d ++ e) (long_before d e h)))
+
+pub long_in_fifth : (a b c d e : List ℕ) → HasLongWord e → HasLongWord (a ++ (b ++ (c ++ (d ++ e))))
+long_in_fifth a b c d e h = long_after a (b ++ (c ++ (d ++ e))) (long_after b (c ++ (d ++ e)) (long_after c (d ++ e) (long_after d e h)))

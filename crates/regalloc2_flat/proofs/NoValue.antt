@@ -1,6 +1,6 @@
 -- Words that begin those of no value.
-use Rattle.std.proofs.Common.{ℕ, ◌≡◌, ◌≢◌, ◌<◌, ◌≤◌, ◌+◌, ◌-◌, ◌%◌, ◌^◌, List, [], ◌∷◌, ◌++◌, ◌==◌, Bool, true, false, Option, Some, None, length, arith, sym, ◌∙◌}
-use Rattle.std.proofs.Common.{append_assoc, ap}
+use Rattle.std.proofs.Common.{ℕ, ◌≡◌, ◌≢◌, ◌<◌, ◌≤◌, ◌+◌, ◌-◌, ◌%◌, ◌^◌, List, [], ◌∷◌, ◌++◌, ◌==◌, Bool, true, false, Option, Some, None, length, arith}
+use Rattle.std.proofs.Common.{sym, ◌∙◌, append_assoc, ap}
 use Rattle.std.proofs.lemmas.List.{append-nil}
 use Rattle.std.specs.List.{flat_map}
 use Rattle.regalloc2_serialize.specs.declared.data.InstOpcode.{InstOpcode}
