@@ -1,4 +1,5 @@
 pub mod BlockEnds
+pub mod RoomForNumbers
 pub mod SiteNotes
 pub mod UseNotes
 pub mod EdgeNotes

@@ -8,12 +8,13 @@ use Rattle.regalloc2_names.specs.Operand.{OperandValue, is_def}
 use Rattle.regalloc2_function.specs.FunctionValue.{FunctionValue, block_at, inst_at}
 use Rattle.regalloc2_function.specs.WellFormed.{last_of}
 use Rattle.regalloc2_semantics.specs.Listing.{op_at}
-use Rattle.regalloc2_semantics.proofs.SingleDef.{defined_small}
+use Rattle.regalloc2_cfg.specs.TableLength.{HasRoom}
 use Rattle.regalloc2_branch_defs.specs.BranchDefs.{DefinesNumber, IsSite, MayHaveTables}
 use Rattle.regalloc2_branch_defs.specs.Notes.{NotesBranch, NotesSites}
 use Rattle.regalloc2_branch_defs.specs.Tables.{AreSites}
 use Rattle.regalloc2_branch_defs.specs.declared.DefSite.{DefSite}
 use Rattle.regalloc2_branch_defs.proofs.BlockEnds.{branch_ends_block, last_within, site_defines}
+use Rattle.regalloc2_branch_defs.proofs.RoomForNumbers.{defined_room}
 
 -- what is written at m is found there, and elsewhere what was there
 pub found : {X : Type 0} (xs : List (Option X)) (m n : ℕ) (x y : X) → slice_index_or (set xs m (Some x)) n None ≡ Some y → ((n ≡ m) × (x ≡ y))
@@ -108,17 +109,17 @@ notes_one ops branch k o old mid new lt is e h =
 
 -- what the branches of the first blocks define is noted
 pub record SitesUpTo (f : FunctionValue) (count : ℕ) (sites : List (Option DefSite)) : Type 0 where
-  pub long : length sites ≡ f.num_vregs
+  pub room : HasRoom f (length sites)
   pub site : (n : ℕ) (s : DefSite) → slice_index_or sites n None ≡ Some s → IsSite f n s.branch s.index
   pub noted : (n : ℕ) → slice_index_or sites n None ≡ None → (b : ℕ) → b < count → b < length f.blocks →
       (inst_at f (last_of (block_at f b))).is_branch ≡ true
       → (k : ℕ) → DefinesNumber (inst_at f (last_of (block_at f b))).operands n k → ⊥
 
 -- at first nothing is
-pub sites_none : (f : FunctionValue) (sites : List (Option DefSite)) → length sites ≡ f.num_vregs → ((n : ℕ) → slice_index_or sites n None ≡ None) →
+pub sites_none : (f : FunctionValue) (sites : List (Option DefSite)) → HasRoom f (length sites) → ((n : ℕ) → slice_index_or sites n None ≡ None) →
     SitesUpTo f 0 sites
-sites_none f sites long none = record {
-  long = long;
+sites_none f sites room none = record {
+  room = room;
   site = λ n s e. absurd (let x : None ≡ Some s = sym (none n) ∙ e in cc);
   noted = λ n e b less. absurd (omega (arith, less));
 }
@@ -130,9 +131,8 @@ sites_branch : (f : FunctionValue) → MayHaveTables f → (b : ℕ) → b < len
     SitesUpTo f (b + 1) new
 sites_branch f w b lt old new h is notes =
     let i : ℕ = last_of (block_at f b) in
-    let long = h.long in
     record {
-      long = notes.long ∙ h.long;
+      room = subst (HasRoom f) (sym notes.long) h.room;
       site = λ n s e. elim (notes.from n s e) [
         | inl was ↦ h.site n s was
         | inr now ↦ subst (λ (m : ℕ). IsSite f n m s.index) (sym now.0) (record { inst = last_within f w b lt; is_branch = is; defines = now.1 })
@@ -140,9 +140,9 @@ sites_branch f w b lt old new h is notes =
       noted = λ n e c less within branch k d. elim (cases_eq c b) [
         | inl same ↦ (
             let here : DefinesNumber (inst_at f i).operands n k = subst (λ (m : ℕ). DefinesNumber (inst_at f (last_of (block_at f m))).operands n k) same d in
-            let small = defined_small f w.1.defined_once n i k
+            let small = defined_room f w.1.defined_once (length old) h.room n i k
             (site_defines f n i k (record { inst = last_within f w b lt; is_branch = is; defines = here })) in
-            notes.noted n k here.operand (omega (arith, small, long)) here e)
+            notes.noted n k here.operand small here e)
         | inr ne ↦ h.noted n (notes.kept n e) c (omega (arith, less, ne)) within branch k d
       ];
     }
@@ -151,7 +151,7 @@ sites_branch f w b lt old new h is notes =
 sites_return : (f : FunctionValue) (b : ℕ) (sites : List (Option DefSite)) → SitesUpTo f b sites → (inst_at f (last_of (block_at f b))).is_branch ≡ false →
     SitesUpTo f (b + 1) sites
 sites_return f b sites h isnt = record {
-  long = h.long;
+  room = h.room;
   site = h.site;
   noted = λ n e c less within branch k d. elim (cases_eq c b) [
     | inl same ↦ (let is : (inst_at f (last_of (block_at f b))).is_branch ≡ true = subst (λ (m : ℕ). (inst_at f (last_of (block_at f m))).is_branch ≡ true) same

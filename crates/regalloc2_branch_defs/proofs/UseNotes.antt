@@ -11,15 +11,17 @@ use Rattle.regalloc2_function.specs.FunctionValue.{FunctionValue, block_at, inst
 use Rattle.regalloc2_function.specs.DebugPoints.{DefinesAt, PassesAt, ReadsAt, UsesAt}
 use Rattle.regalloc2_function.specs.WellFormed.{last_of}
 use Rattle.regalloc2_semantics.specs.Listing.{no_operand, op_at}
-use Rattle.regalloc2_semantics.proofs.SingleDef.{Made, is_made, made_before, made_small, one_made, one_operand, reads_defined}
+use Rattle.regalloc2_semantics.proofs.SingleDef.{Made, is_made, made_before, one_made, one_operand, reads_defined}
 use Rattle.regalloc2_semantics.proofs.SingleDef.{DefinesAt as DefinesOperand}
 use Rattle.regalloc2_semantics.proofs.SingleDef.Made.{by_operand}
 use Rattle.regalloc2_semantics.proofs.Order.{passed_made}
+use Rattle.regalloc2_cfg.specs.TableLength.{HasRoom}
 use Rattle.regalloc2_branch_defs.specs.BranchDefs.{DefinesNumber, IsSite, IsUsedElsewhere, MayHaveTables}
 use Rattle.regalloc2_branch_defs.specs.Notes.{AreUsed, IsSiteAt, Marks, PassesAmong, PassesIn, PassesOut, ReadsAmong, ReadsIn}
 use Rattle.regalloc2_branch_defs.specs.Tables.{AreSites}
 use Rattle.regalloc2_branch_defs.specs.declared.DefSite.{DefSite}
 use Rattle.regalloc2_branch_defs.proofs.BlockEnds.{goes_on_by_branch, site_defines}
+use Rattle.regalloc2_branch_defs.proofs.RoomForNumbers.{made_room}
 
 -- a list that stays marks nothing
 pub marks_none : (P : ℕ → Type 0) (used : List Bool) → ((n : ℕ) → P n → ⊥) → Marks P used used
@@ -179,12 +181,12 @@ not_noted f w sites are b k lt edge v has free at =
     let same : o.vreg ≡ v = one_made f w.1.defined_once o.vreg v made (passed_made f w.1.defined_once b k v w.1.follow w.1.uses_defined lt edge has) number in
     free (s.inst, (at.0, o, s.defines.operand, get_or_default (inst_at f i).operands at.0 o no_operand s.defines.operand, s.defines.definition, same))
 
--- what is read is one of the function's numbers
-read_small : (f : FunctionValue) → MayHaveTables f → (i k : ℕ) → i < length f.insts → k < length (inst_at f i).operands →
-    is_reading (op_at (inst_at f i).operands k) ≡ true → (op_at (inst_at f i).operands k).vreg.number < f.num_vregs
-read_small f w i k lt few reads =
+-- what is read has an entry
+read_room : (f : FunctionValue) → MayHaveTables f → (n : ℕ) → HasRoom f n → (i k : ℕ) → i < length f.insts → k < length (inst_at f i).operands →
+    is_reading (op_at (inst_at f i).operands k) ≡ true → (op_at (inst_at f i).operands k).vreg.number < n
+read_room f w n room i k lt few reads =
     let some : 0 < length f.blocks = let e = w.1.successors.0 in omega (arith, e) in
-    made_small f w.1.defined_once (op_at (inst_at f i).operands k).vreg (is_made f (op_at (inst_at f i).operands k).vreg i
+    made_room f w.1.defined_once n room (op_at (inst_at f i).operands k).vreg (is_made f (op_at (inst_at f i).operands k).vreg i
     (made_before f (op_at (inst_at f i).operands k).vreg i lt (reads_defined f some w.1.follow w.1.uses_defined i lt k few reads)))
 
 -- an operand of an index past the end doesn't read
@@ -192,7 +194,7 @@ pub reads_within : (ops : List OperandValue) (k : ℕ) → k < length ops → (o
 reads_within ops k lt o e = get_or_default ops k no_operand o lt ∙ e
 
 module _ (f : FunctionValue) (w : MayHaveTables f) (sites : List (Option DefSite)) (are : AreSites f sites) (none mid new : List Bool)
-    (long : length none ≡ f.num_vregs) (middle : length mid ≡ length none) (blank : (n : ℕ) → slice_index_or none n false ≡ false)
+    (room : HasRoom f (length none)) (middle : length mid ≡ length none) (blank : (n : ℕ) → slice_index_or none n false ≡ false)
     (reads : Marks (ReadsIn f (length f.insts)) none mid) (passes : Marks (PassesIn f sites (length f.blocks)) mid new) where
   -- what is marked as passed
   by_pass : (n : ℕ) → PassesIn f sites (length f.blocks) n → (v : VirtualRegister) × (v.number ≡ n) × IsUsedElsewhere f v
@@ -218,18 +220,18 @@ module _ (f : FunctionValue) (w : MayHaveTables f) (sites : List (Option DefSite
       let read : is_reading (op_at (inst_at f i).operands r.1.0) ≡ true = ap is_reading is ∙ r.1.4 in
       let number : (op_at (inst_at f i).operands r.1.0).vreg.number ≡ v.number = ap (λ (o : OperandValue). o.vreg.number) is
       ∙ ap (λ (u : VirtualRegister). u.number) r.1.6 in
-      let small = read_small f w i r.1.0 r.0 r.1.2 read in
-      passes.kept v.number (reads.marks v.number (omega (arith, small, number, long)) (i, r.0, (r.1.0, r.1.2, read, number)))
+      let small = read_room f w (length none) room i r.1.0 r.0 r.1.2 read in
+      passes.kept v.number (reads.marks v.number (omega (arith, small, number)) (i, r.0, (r.1.0, r.1.2, read, number)))
 
   -- what is passed is
   of_pass : (v : VirtualRegister) (i : ℕ) → PassesAt f v i → slice_index_or new v.number false ≡ true
   of_pass v i p =
       let b : ℕ = p.0 in let k : ℕ = p.1 in
       let made = passed_made f w.1.defined_once b k v w.1.follow w.1.uses_defined p.2 p.4 p.5 in
-      let small = made_small f w.1.defined_once v made in
+      let small = made_room f w.1.defined_once (length none) room v made in
       let free : IsSiteAt sites v.number (last_of (block_at f b)) → ⊥ = not_noted f w sites are b k p.2 p.4 v p.5
       (subst (λ (m : ℕ). DefinesAt f v m → ⊥) p.3 p.6) in
-      passes.marks v.number (omega (arith, small, long, middle)) (b, p.2, (k, p.4, (p.5.0, v, p.5.1, p.5.2, refl, free)))
+      passes.marks v.number (omega (arith, small, middle)) (b, p.2, (k, p.4, (p.5.0, v, p.5.1, p.5.2, refl, free)))
 
   of_use : (v : VirtualRegister) (i : ℕ) → UsesAt f v i → slice_index_or new v.number false ≡ true
   of_use v i (inl r) = of_read v i Early r

@@ -15,6 +15,7 @@ ghost use Rattle.regalloc2_branch_defs.specs.BranchDefs.{fixed_definition as fix
 ghost use Rattle.regalloc2_branch_defs.specs.Tables.{AreBranchDefsOf, edge_of, site_of, stored_of};
 
 use edges::{edges_into, some_branch_defines};
+use regalloc2_cfg::table_length::table_length;
 use regalloc2_function::Function;
 use regalloc2_index::{Block, Inst};
 use regalloc2_names::{Operand, OperandConstraint, PReg, PRegSet, RegAllocError, VReg};
@@ -89,8 +90,9 @@ impl<A: Allocator + Copy> BranchDefs<A> {
                 stored: Vec::new(alloc),
             });
         }
-        let sites = branch_sites(alloc, f)?;
-        let used = used_elsewhere(alloc, f, sites.as_slice())?;
+        let vregs = table_length(f);
+        let sites = branch_sites(alloc, f, vregs)?;
+        let used = used_elsewhere(alloc, f, vregs, sites.as_slice())?;
         let (edges, stored) = edges_into(alloc, f, used.as_slice())?;
         Ok(BranchDefs {
             sites,

@@ -4,6 +4,7 @@ ghost use Rattle.std.specs.Prelude.{◌≡◌, ◌<◌, ◌↔◌, ℕ, if◌the
 ghost use Rattle.regalloc2_function.specs.FunctionValue.{block_at, inst_at};
 ghost use Rattle.regalloc2_function.specs.WellFormed.{last_of};
 ghost use Rattle.regalloc2_names.specs.Operand.{is_def};
+ghost use Rattle.regalloc2_cfg.specs.TableLength.{HasRoom};
 ghost use Rattle.regalloc2_branch_defs.specs.BranchDefs.{MayHaveTables};
 ghost use Rattle.regalloc2_branch_defs.specs.Notes.{NotesBranch, NotesSites, IsSiteAt};
 ghost use Rattle.regalloc2_branch_defs.specs.Tables.{AreSites};
@@ -48,7 +49,7 @@ fn note_branch<F: Function>(sites: &mut [Option<DefSite>], f: &F, block: Block)
 // What the branches of blocks define is defined there.
 fn note_branches<F: Function>(sites: &mut [Option<DefSite>], f: &F)
     requires well_formed { MayHaveTables (F.function f.now) }
-    requires long { length sites.old ≡ (F.function f.now).num_vregs }
+    requires room { HasRoom (F.function f.now) (length sites.old) }
     requires none { (n : ℕ) → slice_index_or sites.old n None ≡ None }
     ensures { AreSites (F.function f.now) sites.new }
 {
@@ -70,15 +71,17 @@ fn no_sites<A: Allocator + Copy>(
     Ok(sites)
 }
 
-/// By vreg number, the operand of a branch that defines it.
+/// By vreg number, up to a bound, the operand of a branch that defines it.
 pub fn branch_sites<A: Allocator + Copy, F: Function>(
     alloc: A,
     f: &F,
+    vregs: usize,
 ) -> Result<Vec<Option<DefSite>, A>, AllocError>
     requires well_formed { MayHaveTables (F.function f.now) }
+    requires room { HasRoom (F.function f.now) vregs }
     ensures { IfOk result (λ v. AreSites (F.function f.now) v.items) }
 {
-    let mut sites = no_sites(alloc, f.num_vregs())?;
+    let mut sites = no_sites(alloc, vregs)?;
     note_branches(sites.as_mut_slice(), f);
     Ok(sites)
 }

@@ -5,6 +5,7 @@ ghost use Rattle.regalloc2_names.specs.Operand.{is_reading};
 ghost use Rattle.regalloc2_names.specs.Register.{VirtualRegister};
 ghost use Rattle.regalloc2_function.specs.FunctionValue.{block_at, inst_at};
 ghost use Rattle.regalloc2_function.specs.WellFormed.{last_of};
+ghost use Rattle.regalloc2_cfg.specs.TableLength.{HasRoom};
 ghost use Rattle.regalloc2_branch_defs.specs.BranchDefs.{MayHaveTables};
 ghost use Rattle.regalloc2_branch_defs.specs.Notes.{AreUsed, IsSiteAt, Marks, PassesAmong, PassesIn, PassesOut, ReadsAmong, ReadsIn};
 ghost use Rattle.regalloc2_branch_defs.specs.Tables.{AreSites};
@@ -96,7 +97,7 @@ fn note_all_passed<F: Function>(used: &mut [bool], sites: &[Option<DefSite>], f:
 fn note_uses<F: Function>(used: &mut [bool], sites: &[Option<DefSite>], f: &F)
     requires well_formed { MayHaveTables (F.function f.now) }
     requires sites { AreSites (F.function f.now) sites.now }
-    requires long { length used.old ≡ (F.function f.now).num_vregs }
+    requires room { HasRoom (F.function f.now) (length used.old) }
     requires none { (n : ℕ) → slice_index_or used.old n false ≡ false }
     ensures { AreUsed (F.function f.now) used.new }
 {
@@ -114,17 +115,19 @@ fn no_marks<A: Allocator + Copy>(alloc: A, num: usize) -> Result<Vec<bool, A>, A
     Ok(used)
 }
 
-/// By vreg number, whether an instruction reads it, or passes it and doesn't define it.
+/// By vreg number, up to a bound, whether an instruction reads it, or passes it and doesn't define it.
 pub fn used_elsewhere<A: Allocator + Copy, F: Function>(
     alloc: A,
     f: &F,
+    vregs: usize,
     sites: &[Option<DefSite>],
 ) -> Result<Vec<bool, A>, AllocError>
     requires well_formed { MayHaveTables (F.function f.now) }
+    requires room { HasRoom (F.function f.now) vregs }
     requires sites { AreSites (F.function f.now) sites.now }
     ensures { IfOk result (λ v. AreUsed (F.function f.now) v.items) }
 {
-    let mut used = no_marks(alloc, f.num_vregs())?;
+    let mut used = no_marks(alloc, vregs)?;
     note_uses(used.as_mut_slice(), sites, f);
     Ok(used)
 }

@@ -3,6 +3,7 @@
 -- Definitions and uses: `noted_once`, `usable_uses`, `taken_fault` and `unusable_fault` in `TableDecidesSSA`: the table of definitions decides
 -- both tests, and names the first failure. Read `Keeps` in `TableKeepsDefs` first; `ListingsOfFunction` and `DefsCounted` join the listings
 -- with the function, `NotedInParts`, `ListsInParts` and `ListMembers` serve loops. `ErrorOnlyOutOfMemory` has the case without failure.
+-- Tables by number: `room_above` and `short_above` in `TableLengths`.
 -- Blocks: `PredsListed` (`all_ways_end`), `TimesInList`, `BlockRanges`, `TablesByBlock`.
 -- The order: `leaves_once` and `leaves_reached` in `LeavesReached`; `walked_end` in `DepthFirstWalk`, whose invariant is `Walked`;
 -- `NamedBlocks` for what has to be a block.
@@ -14,6 +15,7 @@ pub mod DefsCounted
 pub mod ListMembers
 pub mod TableKeepsDefs
 pub mod ListingsOfFunction
+pub mod TableLengths
 pub mod TableDecidesSSA
 pub mod ErrorOnlyOutOfMemory
 pub mod TimesInList

@@ -80,7 +80,7 @@ pub numbered : (f : FunctionValue) (b : BlockValue) → Contains f.blocks b → 
 numbered f b m = (m.0, m.1, get_or_default f.blocks m.0 no_block b m.1 ∙ m.2)
 
 -- an instruction with an operand is one of the function's
-has_operands : (f : FunctionValue) (j k : ℕ) → k < length (inst_at f j).operands → j < length f.insts
+pub has_operands : (f : FunctionValue) (j k : ℕ) → k < length (inst_at f j).operands → j < length f.insts
 has_operands f j k less =
     elim (lt_or_le j (length f.insts)) [
       | inl l ↦ l

@@ -1,4 +1,5 @@
 pub mod Definitions
+pub mod TableLength
 pub mod Ways
 pub mod Leaves
 pub mod Listed

@@ -6,3 +6,4 @@ pub mod cfg;
 pub mod indexset;
 pub mod postorder;
 pub mod ssa;
+pub mod table_length;

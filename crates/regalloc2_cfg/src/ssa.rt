@@ -12,9 +12,11 @@ ghost use Rattle.regalloc2_names.specs.Operand.{is_def, is_reading};
 ghost use Rattle.regalloc2_function.specs.WellFormed.{ArgumentsFit, ArgumentsFitAt, BlocksFollow, DefinedOnce, EntryIsFirst, IsFirstToFail};
 ghost use Rattle.regalloc2_function.specs.WellFormed.{SuccessorsAreBlocks, UsesAreDefined, last_of};
 ghost use Rattle.regalloc2_cfg.specs.Definitions.{entry_of, IsDefinedIn, IsTaken, IsUsable, NamesTaken, NamesUnusable, Notes};
+ghost use Rattle.regalloc2_cfg.specs.TableLength.{HasRoom};
 ghost use Rattle.regalloc2_cfg.specs.Tables.{IsInfoOf};
 
 use super::cfg::CFGInfo;
+use super::table_length::table_length;
 use regalloc2_function::{Function, test_ends};
 use regalloc2_index::{Block, Inst, InstRange};
 use regalloc2_names::{Operand, ProgPoint, RegAllocError, RegClass, VReg};
@@ -253,11 +255,13 @@ fn test_blocks<F: Function>(defined: &[Option<Definition>], f: &F) -> Result<(),
     Ok(())
 }
 
-// Tests definitions and then uses, over a table that is blank.
+// Tests definitions and then uses, over a table that is blank and has room for what the function defines.
 fn test_over<F: Function>(defined: &mut [Option<Definition>], f: &F) -> Result<(), RegAllocError>
     requires some { 0 < length (F.function f.now).blocks }
     requires follow { BlocksFollow (F.function f.now) }
-    requires blank { defined.old ≡ replicate (F.function f.now).num_vregs None }
+    requires blank { defined.old ≡ replicate (length defined.old) None }
+    requires room { HasRoom (F.function f.now) (length defined.old) }
+    requires few { length defined.old ≤ (F.function f.now).num_vregs }
     ensures once { OnOk result (DefinedOnce (F.function f.now)) }
     ensures uses { OnOk result (UsesAreDefined (F.function f.now)) }
     ensures refused { IfErr result (IsDefinitionFault (F.function f.now)) }
@@ -274,7 +278,7 @@ fn test_over<F: Function>(defined: &mut [Option<Definition>], f: &F) -> Result<(
 ///
 /// The error is `SSA` with the first vreg that fails the first of the two tests that fails, and the instruction where it does: block by block, in
 /// each first its parameters, which are named with `Inst::invalid()`, then its instructions with their operands in order, and after those of the last
-/// the arguments by successor. It is `Memory` where the table of definitions, one entry for each vreg number, could not be made.
+/// the arguments by successor. It is `Memory` where the table of definitions, as long as `table_length` says, could not be made.
 pub fn test_definitions<A: Allocator + Copy, F: Function>(
     alloc: A,
     f: &F,
@@ -287,7 +291,7 @@ pub fn test_definitions<A: Allocator + Copy, F: Function>(
     ensures accepted { DefinedOnce (F.function f.now) → UsesAreDefined (F.function f.now) → IfErr result (λ e. e ≡ RegAllocError.Memory) }
 {
     let mut defined: Vec<Option<Definition>, A> = Vec::new(alloc);
-    defined.resize(f.num_vregs(), None)?;
+    defined.resize(table_length(f), None)?;
     test_over(defined.as_mut_slice(), f)
 }
 

@@ -15,14 +15,15 @@ use Rattle.regalloc2_function.specs.Stored.{location_of}
 use Rattle.regalloc2_function.specs.DebugPoints.{IsFirstPoint, PassesAt}
 use Rattle.regalloc2_function.specs.DebugPoints.IsFirstPoint.{of_definition, of_parameter}
 use Rattle.regalloc2_semantics.specs.Listing.{op_at}
-use Rattle.regalloc2_semantics.proofs.SingleDef.{Made, made_small}
+use Rattle.regalloc2_semantics.proofs.SingleDef.{Made}
 use Rattle.regalloc2_fastalloc_state.specs.StateParts.{SpillSlotsValue}
 use Rattle.regalloc2_live_ranges.specs.declared.InstOperand.{InstOperand}
 use Rattle.regalloc2_live_ranges.specs.declared.KeptLabel.{KeptLabel}
 use Rattle.regalloc2_live_ranges.specs.LiveRanges.{IsKeptRange, IsSSA, IsShownBy}
 use Rattle.regalloc2_live_ranges.proofs.UsesInSSA.{made_by_definition, made_by_parameter}
 use Rattle.regalloc2_live_ranges.proofs.FirstAndLastPoints.{shown_within}
-use Rattle.regalloc2_fastalloc_proofs.specs.BlockSteps.{offset_of}
+use Rattle.regalloc2_fastalloc_proofs.specs.BlockSteps.{DefinesBelow, offset_of}
+use Rattle.regalloc2_fastalloc_proofs.proofs.Safety.StateKept.{made_below}
 use Rattle.regalloc2_fastalloc.specs.DebugLocations.{HasPlace}
 
 -- a debug location's parts, and the test by which two of them are sorted
@@ -77,15 +78,15 @@ operand_within f v by shown o is =
     (shown_within f v shown)
 
 module _ (f : FunctionValue) (ssa : IsSSA f) (slots : SpillSlotsValue) (offsets : List ℕ) (allocs : List Place)
-    (vregs : length slots.vreg_spillslots ≡ f.num_vregs) (long : length offsets ≡ length f.insts)
+    (room : DefinesBelow f (length slots.vreg_spillslots)) (long : length offsets ≡ length f.insts)
     (at : (i : ℕ) → i < length f.insts → slice_index offsets i ≡ offset_of f i) (allocs_long : length allocs ≡ operand_count f) where
   -- what the place of a kept label is found by
   pub has_place : (l : Label) (k : KeptLabel) → IsKeptRange f l k.range → HasPlace slots offsets allocs k.range
   has_place l k range = record {
     vreg =
-        let small = made_small f ssa.once l.vreg (pointed_made f l.vreg range.kept.0) in
+        let small = made_below f (length slots.vreg_spillslots) room l.vreg (pointed_made f l.vreg range.kept.0) in
         let same = ap (λ (v : VirtualRegister). v.number) range.vreg in
-        omega (arith, small, same, vregs);
+        omega (arith, small, same);
     inst = λ o is. let w = operand_within f l.vreg k.range.by range.by o is in let lt = w.0 in omega (arith, lt, long);
     operand = λ o is.
         let w = operand_within f l.vreg k.range.by range.by o is in

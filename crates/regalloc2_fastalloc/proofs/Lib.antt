@@ -3,10 +3,11 @@
 -- `blocks_carry` of regalloc2_fastalloc_proofs with `blocks_agree_in_places_by_points` of regalloc2_semantics. `walk_kept_through` and
 -- `walk_safe_through` give its premises, safe states. The contract itself is answered in `allocate/fill_places` and `run`.
 -- Debug locations: `shows_labels` in `DebugLocationPlaces`, over `DebugLocationsFound`. Errors: `fault_is_reason` and `lack_is_a_reason` in
--- `ErrorsHaveReasons`. Resources: `few_slots` in `UnitsNeeded`, `are_few` in `RegistersForAll`. `UsesReadNumbers` serves callers.
+-- `ErrorsHaveReasons`. Resources: `few_slots` in `UnitsNeeded`, `are_few` in `RegistersForAll`, `has_room` in `RoomInTables`. `UsesReadNumbers` serves callers.
 pub mod ReadsAgree
 pub mod DebugLocationPlaces
 pub mod DebugLocationsFound
+pub mod RoomInTables
 pub mod UnitsNeeded
 pub mod UsesReadNumbers
 pub mod ErrorsHaveReasons

@@ -40,18 +40,19 @@ within_needed most vregs num_temp_slots blocks few =
     omega (arith, all)
 
 -- where slots are full, the function needs too many units
-pub full_needs : (f : FunctionValue) (s : SpillSlotsValue) (more : ℕ) → s.sizes ≡ sizes_of f → length s.vreg_spillslots ≡ f.num_vregs →
+pub full_needs : (f : FunctionValue) (s : SpillSlotsValue) (more : ℕ) → s.sizes ≡ sizes_of f → length s.vreg_spillslots ≤ f.num_vregs →
     more ≤ 6 * length f.blocks → SlotsExhaustedWith s more → 2 ^ 24 < units_at_most f
 full_needs f s more sizes vregs few full =
     let past : most_units < (length s.vreg_spillslots + more) * (2 * greatest_slot f) = full (greatest_slot f)
     (subst (AreUpTo (greatest_slot f)) (sym sizes) (up_to_greatest f)) in
-    let past2 : most_units < (f.num_vregs + more) * (2 * greatest_slot f) = subst (λ (n : ℕ). most_units < (n + more) * (2 * greatest_slot f)) vregs past in
+    let fewer : (length s.vreg_spillslots + more) * (2 * greatest_slot f) ≤ (f.num_vregs + more) * (2 * greatest_slot f) = mul-le-mul_right
+    (2 * greatest_slot f) (omega (arith, vregs)) in
     let w = within_needed (greatest_slot f) f.num_vregs more (length f.blocks) few in
-    omega (arith, past2, w)
+    omega (arith, past, fewer, w)
 
 -- slots take no more units than the function needs
 pub few_slots : (f : FunctionValue) (s : SpillSlotsValue) (out : OutputValue) → out.num_spillslots ≡ s.count → s.sizes ≡ sizes_of f →
-    length s.vreg_spillslots ≡ f.num_vregs → s.num_temp_slots ≤ 6 * length f.blocks → SlotsHaveOneOwner s → SlotsAreBounded f out
+    length s.vreg_spillslots ≤ f.num_vregs → s.num_temp_slots ≤ 6 * length f.blocks → SlotsHaveOneOwner s → SlotsAreBounded f out
 few_slots f s out count sizes vregs few owned =
     let room : s.count ≤ (owners s + s.num_temp_slots) * (2 * greatest_slot f) = owned.room (greatest_slot f)
     (subst (AreUpTo (greatest_slot f)) (sym sizes) (up_to_greatest f)) in

@@ -15,6 +15,7 @@ ghost use Rattle.regalloc2_validate.specs.NoLimits.{AreTaken};
 ghost use Rattle.regalloc2_fastalloc_proofs.specs.BlockSteps.{offset_of};
 
 use super::{allocs, debug};
+use regalloc2_cfg::table_length::table_length;
 use regalloc2_fastalloc_walk::state::State;
 use regalloc2_function::{
     Edit, Function, MachineEnv, Output, count_operands, reads_the_same_numbers,
@@ -56,7 +57,8 @@ fn fill_places<A: Allocator + Copy, F: Function, B: Allocator>(
         })) }
     ensures err { IfErr result (Lacks (SomeDoesNotFit (F.function f.now) (machine_of env.now)) (2 ^ 24 < units_at_most (F.function f.now))) }
 {
-    let mut state = State::new(&alloc, f, env)?;
+    let vregs = table_length(f);
+    let mut state = State::new(&alloc, f, env, vregs)?;
     state.alloc_blocks(&alloc, f, offsets, allocs)?;
     let edits = state.edits.listed(alloc)?;
     let debug_locations = debug::locations(alloc, f, &state.slots, offsets, allocs)?;

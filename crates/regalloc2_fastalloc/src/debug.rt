@@ -4,7 +4,7 @@ ghost use Rattle.std.specs.Prelude.{◌≡◌, ◌<◌, ℕ, All, IfErr, IfOk, l
 ghost use Rattle.regalloc2_function.specs.FunctionValue.{inst_at, operand_count};
 ghost use Rattle.regalloc2_function.specs.Stored.{location_of};
 ghost use Rattle.regalloc2_live_ranges.specs.LiveRanges.{IsSSA};
-ghost use Rattle.regalloc2_fastalloc_proofs.specs.BlockSteps.{offset_of};
+ghost use Rattle.regalloc2_fastalloc_proofs.specs.BlockSteps.{DefinesBelow, offset_of};
 ghost use Rattle.regalloc2_fastalloc.specs.DebugLocations.{AreLocated, HasPlace, location_shown, place_shown};
 
 use regalloc2_fastalloc_state::spillslots::SpillSlots;
@@ -74,7 +74,7 @@ pub fn locations<A: Allocator + Copy, F: Function, B: Allocator>(
     allocs: &[Allocation],
 ) -> Result<Vec<(u32, ProgPoint, ProgPoint, Allocation), A>, RegAllocError>
     requires ssa { IsSSA (F.function f.now) }
-    requires vregs { length slots.now.vreg_spillslots ≡ (F.function f.now).num_vregs }
+    requires room { DefinesBelow (F.function f.now) (length slots.now.vreg_spillslots) }
     requires offsets_long { length offsets.now ≡ length (F.function f.now).insts }
     requires offsets { (i : ℕ) → i < length (F.function f.now).insts → slice_index offsets.now i ≡ offset_of (F.function f.now) i }
     requires allocs_long { length allocs.now ≡ operand_count (F.function f.now) }

@@ -1,12 +1,12 @@
 -- The walk over all blocks, with operands of every kind but `Limit`.
 use Rattle.std.specs.Prelude.{ℕ, ◌≡◌, ◌+◌, ◌<◌, ◌≤◌, ◌⊎◌, ◌||◌, true, false, if◌then◌else◌, List, [], ◌∷◌, None, length, take, sum_by, slice_index_or}
-use Rattle.regalloc2_names.specs.Register.{Register}
+use Rattle.regalloc2_names.specs.Register.{Register, VirtualRegister}
 use Rattle.regalloc2_names.specs.RegisterSet.{has_register}
 use Rattle.regalloc2_names.specs.Place.{Place, NoPlace}
 use Rattle.regalloc2_names.specs.Point.{before}
 use Rattle.regalloc2_function.specs.FunctionValue.{FunctionValue, InstValue, block_at, inst_at}
 use Rattle.regalloc2_function.specs.Machine.{MachineValue}
-use Rattle.regalloc2_function.specs.WellFormed.{IsWellFormed}
+use Rattle.regalloc2_function.specs.WellFormed.{IsDefinedBy, IsWellFormed}
 use Rattle.regalloc2_fastalloc_state.specs.declared.inst_regs.InstRegs.{InstRegs}
 use Rattle.regalloc2_fastalloc_proofs.specs.InstSteps.{StateValue, AllocsInst}
 use Rattle.regalloc2_fastalloc_proofs.specs.BlockStart.{ReloadsAtBegin}
@@ -44,6 +44,10 @@ temp_slots_at f i = if (inst_at f i).is_branch then 6 else 0
 -- a function that is well-formed for some machine
 abbrev pub MayBeAllocated : FunctionValue → Type 0
 MayBeAllocated f = (env : MachineValue) × IsWellFormed env f
+
+-- each virtual register that the function defines has a number below n
+abbrev pub DefinesBelow : FunctionValue → ℕ → Type 0
+DefinesBelow f n = (v : VirtualRegister) (point : ℕ) → IsDefinedBy f v point → v.number < n
 
 -- An instruction of the block b is allocated, and a branch passes its arguments.
 pub record AllocsInstInBlock (f : FunctionValue) (b i : ℕ) (before_it places : List Place) (old new : StateValue) : Type 0 where

@@ -1,6 +1,6 @@
 //! The state of the walk.
 
-ghost use Rattle.std.specs.Prelude.{◌≡◌, ◌<◌, ◌↔◌, ◌⊎◌, length, true, IfOk, IfErr, [], ◌∷◌};
+ghost use Rattle.std.specs.Prelude.{◌≡◌, ◌<◌, ◌≤◌, ◌↔◌, ◌⊎◌, length, true, IfOk, IfErr, [], ◌∷◌};
 ghost use Rattle.regalloc2_names.specs.Register.{Register};
 ghost use Rattle.regalloc2_names.specs.RegisterSet.{has_register};
 ghost use Rattle.regalloc2_function.specs.FunctionValue.{slot_size};
@@ -28,16 +28,18 @@ pub struct State<'a, A: Allocator> {
 }
 
 impl<'a, A: Allocator> State<'a, A> {
-    /// The state before the walk.
+    /// The state before the walk, with tables for the numbers below `vregs`.
     pub fn new<F: Function, B: Allocator>(
         alloc: &'a A,
         f: &F,
         env: &MachineEnv<B>,
+        vregs: usize,
     ) -> Result<Self, RegAllocError>
-        requires { MachineFits (F.function f.now) (machine_of env.now) }
-        ensures places { IfOk result (λ s. s.places ≡ no_allocs (F.function f.now).num_vregs) }
+        requires machine { MachineFits (F.function f.now) (machine_of env.now) }
+        requires few { vregs ≤ (F.function f.now).num_vregs }
+        ensures places { IfOk result (λ s. s.places ≡ no_allocs vregs) }
         ensures slots { IfOk result (λ s. (let sizes = (F.function f.now).slot_sizes in
-            s.slots ≡ no_slots (F.function f.now).num_vregs (slot_size sizes RegClass.Int ∷ slot_size sizes RegClass.Float ∷ slot_size sizes RegClass.Vector ∷
+            s.slots ≡ no_slots vregs (slot_size sizes RegClass.Int ∷ slot_size sizes RegClass.Float ∷ slot_size sizes RegClass.Vector ∷
             []) (F.function f.now).named_by_last_slot)) }
         ensures edits { IfOk result (λ s. s.edits ≡ []) }
         ensures registers { IfOk result (λ s. (r : Register) → r.number < 64 → has_register s.registers.allocatable r ≡ true →
@@ -50,7 +52,6 @@ impl<'a, A: Allocator> State<'a, A> {
         ensures err { IfErr result (λ e. e ≡ RegAllocError.Memory) }
         ensures lrus { IfOk result (λ s. (class : RegClass) → IsLruOf s.registers.allocatable class (lru_of s.registers class)) }
     {
-        let vregs = f.num_vregs();
         let sizes = [
             f.spillslot_size(RegClass::Int),
             f.spillslot_size(RegClass::Float),

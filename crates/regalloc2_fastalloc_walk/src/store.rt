@@ -10,7 +10,7 @@ ghost use Rattle.regalloc2_branch_defs.specs.BranchDefs.{IsEdgeInto};
 ghost use Rattle.regalloc2_branch_defs.specs.Tables.{AreBranchDefsOf, IsEdgeOf};
 ghost use Rattle.regalloc2_fastalloc_state.specs.StateParts.{AllAtOrAfter, NoneIsFrom};
 ghost use Rattle.regalloc2_fastalloc_proofs.specs.InstSteps.{MayHold};
-ghost use Rattle.regalloc2_fastalloc_proofs.specs.BlockSteps.{MayBeAllocated};
+ghost use Rattle.regalloc2_fastalloc_proofs.specs.BlockSteps.{DefinesBelow, MayBeAllocated};
 ghost use Rattle.regalloc2_fastalloc_proofs.specs.BranchSteps.{AreApart};
 ghost use Rattle.regalloc2_fastalloc_proofs.specs.OutOfRegs.{OutOfRegsOnlyIf, StoreBranchDefsFails};
 ghost use Rattle.regalloc2_fastalloc_proofs.specs.StoreSteps.{IsStoredFor, StoresBranchDefs, pushed_moves};
@@ -113,7 +113,7 @@ impl<'a, A: Allocator> State<'a, A> {
         requires well_formed { MayBeAllocated (F.function f.now) }
         requires defs { AreBranchDefsOf (F.function f.now) defs.now }
         requires edge { (b : ℕ) × IsEdgeOf (F.function f.now) b defs.now.stored.items edge.now }
-        requires long { length self.now.slots.vreg_spillslots ≡ (F.function f.now).num_vregs }
+        requires room { DefinesBelow (F.function f.now) (length self.now.slots.vreg_spillslots) }
         ensures ok { IfOk result (λ v. ListsStores (F.function f.now) edge.now.from edge.now.position self.now.slots v.items) }
         ensures err { IfErr result (λ e. e ≡ RegAllocError.Memory) }
     {
@@ -257,7 +257,7 @@ impl<'a, A: Allocator> State<'a, A> {
         requires block { block < length (F.function f.now).blocks }
         requires well_formed { MayBeAllocated (F.function f.now) }
         requires defs { AreBranchDefsOf (F.function f.now) defs.now }
-        requires long { length self.old.slots.vreg_spillslots ≡ (F.function f.now).num_vregs }
+        requires room { DefinesBelow (F.function f.now) (length self.old.slots.vreg_spillslots) }
         requires apart { AreApart (tables_of self.old) }
         requires later { AllAtOrAfter (before (block_at (F.function f.now) block).range.first) self.old.edits }
         ensures ok { Makes (StoresBranchDefs (F.function f.now) block) result self.old self.new }

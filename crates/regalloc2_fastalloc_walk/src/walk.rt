@@ -23,7 +23,7 @@ ghost use Rattle.regalloc2_fastalloc_proofs.specs.StoreSteps.{IsStoredFor};
 ghost use Rattle.regalloc2_fastalloc_walk.specs.BranchStores.{BeginBlockFails};
 ghost use Rattle.regalloc2_fastalloc_walk.specs.StateView.{Between, IsBranchStepAt, IsStepAt, Makes, SameTables, StopsOnlyIf, tables_of};
 ghost use Rattle.regalloc2_fastalloc_proofs.specs.BlockSteps.{AllocsInstInBlock, BeginsBlock, MayBeAllocated, AllocsBlocks, AllocsBlockInsts, temp_slots_at};
-ghost use Rattle.regalloc2_fastalloc_proofs.specs.BlockSteps.{offset_of};
+ghost use Rattle.regalloc2_fastalloc_proofs.specs.BlockSteps.{DefinesBelow, offset_of};
 
 use super::inst::InstCx;
 use super::state::State;
@@ -66,7 +66,7 @@ impl<'a, A: Allocator> State<'a, A> {
         requires end { inst < (block_at (F.function cx.now.f.now) block).range.end }
         requires well_formed { MayBeAllocated (F.function cx.now.f.now) }
         requires defs { AreBranchDefsOf (F.function cx.now.f.now) cx.now.defs.now }
-        requires long { length self.old.places.vreg_allocs ≡ (F.function cx.now.f.now).num_vregs }
+        requires room { DefinesBelow (F.function cx.now.f.now) (length self.old.places.vreg_allocs) }
         requires apart { AreApart (tables_of self.old) }
         requires later { AllAtOrAfter (after inst) self.old.edits }
         requires start { start ≡ offset_of (F.function cx.now.f.now) inst }
@@ -111,7 +111,7 @@ impl<'a, A: Allocator> State<'a, A> {
         requires block { block < length (F.function cx.now.f.now).blocks }
         requires well_formed { MayBeAllocated (F.function cx.now.f.now) }
         requires defs { AreBranchDefsOf (F.function cx.now.f.now) cx.now.defs.now }
-        requires long { length self.old.places.vreg_allocs ≡ (F.function cx.now.f.now).num_vregs }
+        requires room { DefinesBelow (F.function cx.now.f.now) (length self.old.places.vreg_allocs) }
         requires apart { AreApart (tables_of self.old) }
         requires later { AllAtOrAfter (before (block_at (F.function cx.now.f.now) block).range.end) self.old.edits }
         requires offsets_long { length offsets.now ≡ length (F.function cx.now.f.now).insts }
@@ -150,7 +150,7 @@ impl<'a, A: Allocator> State<'a, A> {
         requires block { block < length (F.function cx.now.f.now).blocks }
         requires well_formed { MayBeAllocated (F.function cx.now.f.now) }
         requires defs { AreBranchDefsOf (F.function cx.now.f.now) cx.now.defs.now }
-        requires long { length self.old.places.vreg_allocs ≡ (F.function cx.now.f.now).num_vregs }
+        requires room { DefinesBelow (F.function cx.now.f.now) (length self.old.places.vreg_allocs) }
         requires apart { AreApart (tables_of self.old) }
         requires later { AllAtOrAfter (before (block_at (F.function cx.now.f.now) block).range.first) self.old.edits }
         ensures ok { Makes (BeginsBlock (F.function cx.now.f.now) block) result self.old self.new }
@@ -177,7 +177,7 @@ impl<'a, A: Allocator> State<'a, A> {
     ) -> Result<(), RegAllocError>
         requires fresh { self.old.edits ≡ [] }
         requires well_formed { MayBeAllocated (F.function f.now) }
-        requires long { length self.old.places.vreg_allocs ≡ (F.function f.now).num_vregs }
+        requires room { DefinesBelow (F.function f.now) (length self.old.places.vreg_allocs) }
         requires apart { AreApart (tables_of self.old) }
         requires offsets_long { length offsets.now ≡ length (F.function f.now).insts }
         requires offsets { (i : ℕ) → i < length (F.function f.now).insts → slice_index offsets.now i ≡ offset_of (F.function f.now) i }

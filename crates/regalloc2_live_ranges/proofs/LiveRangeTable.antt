@@ -15,6 +15,7 @@ use Rattle.regalloc2_function.specs.DebugPoints.IsFirstPoint.{of_definition, of_
 use Rattle.regalloc2_semantics.specs.Listing.{op_at}
 use Rattle.regalloc2_semantics.proofs.SingleDef.{Made, one_made}
 use Rattle.regalloc2_semantics.proofs.Order.{ends_within}
+use Rattle.regalloc2_cfg.specs.TableLength.{HasRoom}
 use Rattle.regalloc2_live_ranges.specs.declared.LiveRange.{LiveRange}
 use Rattle.regalloc2_live_ranges.specs.declared.ends.RangeEnd.{RangeEnd}
 use Rattle.regalloc2_live_ranges.specs.LiveRanges.{AreLiveRanges, IsDefiner, IsLiveRange, IsSSA, range_at}
@@ -129,23 +130,24 @@ taken_same vs m ends t v less is none h k lt within some = elim (up_to k m lt) [
 
 -- so that all used ones have
 pub taken_all : (f : FunctionValue) (ssa : IsSSA f) (b : ℕ) (vs : List VirtualRegister) (m : ℕ) (ends : List (Option RangeEnd)) (t : List (Option LiveRange)) →
-    b < length f.blocks → vs ≡ (block_at f b).params → length vs ≤ m → length ends ≡ f.num_vregs → AreEndsFrom f (block_at f b).range.first ends
+    b < length f.blocks → vs ≡ (block_at f b).params → length vs ≤ m → HasRoom f (length ends) → AreEndsFrom f (block_at f b).range.first ends
     → AreTaken vs m ends t → (v : VirtualRegister) (j : ℕ) → Contains (block_at f b).params v → UsesAt f v j → range_at t v.number ≢ None
-taken_all f ssa b vs m ends t lt same all long noted h v j has used =
+taken_all f ssa b vs m ends t lt same all room noted h v j has used =
     let here : Contains vs v = subst (λ (ws : List VirtualRegister). Contains ws v) (sym same) has in
     let at : slice_index_or vs here.0 no_vreg ≡ v = any_default vs here.0 no_vreg v here.1 ∙ here.2 in
-    let small = parameter_small f ssa v b lt has in
-    let some : end_at ends v.number ≢ None = used_ends f ssa v b j (end_at ends v.number) lt has used (noted v.number (omega (arith, small, long))) in
+    let small = parameter_small f ssa (length ends) room v b lt has in
+    let some : end_at ends v.number ≢ None = used_ends f ssa v b j (end_at ends v.number) lt has used (noted v.number small) in
     subst (λ (w : VirtualRegister). range_at t w.number ≢ None) at (h here.0 (omega (arith, here.1, all)) here.1
     (subst (λ (w : VirtualRegister). end_at ends w.number ≢ None) (sym at) some))
 
 -- before the walk
-pub walked_none : (f : FunctionValue) → IsSSA f → IsWalked f (length f.insts) (length f.blocks) (replicate f.num_vregs None) (replicate f.num_vregs None)
-walked_none f ssa = record {
-  ends_long = length-replicate f.num_vregs None;
-  ranges_long = length-replicate f.num_vregs None;
-  noted = λ n lt. subst (EndsFrom f (length f.insts) n) (sym (no_end f.num_vregs n)) (λ j le u. none_past j le n u);
-  right = λ n r h. absurd (let e : Some r ≡ None = sym h ∙ no_range f.num_vregs n in cc);
+pub walked_none : (f : FunctionValue) → IsSSA f → (m : ℕ) → HasRoom f m →
+    IsWalked f (length f.insts) (length f.blocks) (replicate m None) (replicate m None)
+walked_none f ssa m room = record {
+  ends_room = subst (HasRoom f) (sym (length-replicate m None)) room;
+  ranges_room = subst (HasRoom f) (sym (length-replicate m None)) room;
+  noted = λ n lt. subst (EndsFrom f (length f.insts) n) (sym (no_end m n)) (λ j le u. none_past j le n u);
+  right = λ n r h. absurd (let e : Some r ≡ None = sym h ∙ no_range m n in cc);
   defined = λ v j le d. absurd (omega (arith, le, d.0));
   taken = λ v c j le lt. absurd (omega (arith, le, lt));
 }
@@ -163,8 +165,8 @@ pub walked_inst : (f : FunctionValue) (i b : ℕ) (ends ends' : List (Option Ran
     Stay ranges ranges'
     → ((v : VirtualRegister) → DefinesAt f v i → range_at ranges' v.number ≢ None) → IsWalked f i b ends' ranges'
 walked_inst f i b ends ends' ranges ranges' w long longs noted right stay defined = record {
-  ends_long = long ∙ w.ends_long;
-  ranges_long = longs ∙ w.ranges_long;
+  ends_room = subst (HasRoom f) (sym long) w.ends_room;
+  ranges_room = subst (HasRoom f) (sym longs) w.ranges_room;
   noted = noted;
   right = right;
   defined = λ v j le d. elim (here_or_later i j le) [
@@ -186,8 +188,8 @@ pub walked_block : (f : FunctionValue) (i b : ℕ) (ends : List (Option RangeEnd
     length ranges' ≡ length ranges → AreRight f ranges' → Stay ranges ranges'
     → ((v : VirtualRegister) (j : ℕ) → Contains (block_at f b).params v → UsesAt f v j → range_at ranges' v.number ≢ None) → IsWalked f i b ends ranges'
 walked_block f i b ends ranges ranges' w long right stay taken = record {
-  ends_long = w.ends_long;
-  ranges_long = long ∙ w.ranges_long;
+  ends_room = w.ends_room;
+  ranges_room = subst (HasRoom f) (sym long) w.ranges_room;
   noted = w.noted;
   right = right;
   defined = λ v j le d. stay v.number (w.defined v j le d);
@@ -201,7 +203,7 @@ walked_block f i b ends ranges ranges' w long right stay taken = record {
 pub walked_all : (f : FunctionValue) → IsSSA f → (ends : List (Option RangeEnd)) (ranges : List (Option LiveRange)) → IsWalked f 0 0 ends ranges →
     AreLiveRanges f ranges
 walked_all f ssa ends ranges w = record {
-  long = w.ranges_long;
+  room = w.ranges_room;
   found = w.right;
   all = λ v start end p q. entry v (made v p) (there_is v p (is_used f ssa v q));
 }
@@ -233,38 +235,38 @@ param_within f b vs k v same lt is = subst (λ (ws : List VirtualRegister). Cont
 
 -- the range that is made at a definition, and the one at a block's parameter
 pub defined_range : (f : FunctionValue) (ssa : IsSSA f) (ends : List (Option RangeEnd)) (i k : ℕ) (v a : VirtualRegister) (n p q : ℕ) (o : Option RangeEnd)
-    (d : RangeEnd) → IsDefiner f v (record { inst = i; index = k }) → length ends ≡ f.num_vregs → AreEndsFrom f i ends → n ≡ v.number →
+    (d : RangeEnd) → IsDefiner f v (record { inst = i; index = k }) → HasRoom f (length ends) → AreEndsFrom f i ends → n ≡ v.number →
     o ≡ slice_index_or ends n o
     → a ≡ v → p ≡ after i → q ≡ before (i + 1) → d ≡ end_behind i o (record { last = q; by = Some (record { inst = i; index = k }) }) →
     IsLiveRange f (record { vreg = a; first = p; last = d.last; by = d.by })
-defined_range f ssa ends i k v a n p q o d definer long noted number is same first point end =
-    let small = definer_small f ssa v (record { inst = i; index = k }) definer in
-    let entry : o ≡ end_at ends v.number = is ∙ any_default ends n o None (omega (arith, small, number, long)) ∙ ap (end_at ends) number in
+defined_range f ssa ends i k v a n p q o d definer room noted number is same first point end =
+    let small = definer_small f ssa (length ends) room v (record { inst = i; index = k }) definer in
+    let entry : o ≡ end_at ends v.number = is ∙ any_default ends n o None (omega (arith, small, number)) ∙ ap (end_at ends) number in
     let unused : RangeEnd = record { last = q; by = Some (record { inst = i; index = k }) } in
     let right : unused ≡ record { last = before (i + 1); by = Some (record { inst = i; index = k }) } = ap (λ
     (x : ℕ). record { last = x; by = Some (record { inst = i; index = k }) }) point in
     range_same f a v p (after i) d (end_behind i (end_at ends v.number) unused) same first (end ∙ ap (λ (x : Option RangeEnd). end_behind i x unused) entry)
-    (range_of_definition f ssa v i k (end_at ends v.number) unused right definer (noted v.number (omega (arith, small, long))))
+    (range_of_definition f ssa v i k (end_at ends v.number) unused right definer (noted v.number small))
 
 -- in SSA form, a parameter with an end noted for its number is live from its block's beginning to that end
 pub taken_range : (f : FunctionValue) (ssa : IsSSA f) (ends : List (Option RangeEnd)) (b : ℕ) (v : VirtualRegister) (n p : ℕ) (o : Option RangeEnd)
-    (e : RangeEnd) → b < length f.blocks → Contains (block_at f b).params v → length ends ≡ f.num_vregs → AreEndsFrom f (block_at f b).range.first ends →
+    (e : RangeEnd) → b < length f.blocks → Contains (block_at f b).params v → HasRoom f (length ends) → AreEndsFrom f (block_at f b).range.first ends →
     n ≡ v.number → o ≡ slice_index_or ends n o
     → p ≡ before (block_at f b).range.first → o ≡ Some e → IsLiveRange f (record { vreg = v; first = p; last = e.last; by = e.by })
-taken_range f ssa ends b v n p o e lt has long noted number is first some =
-    let small = parameter_small f ssa v b lt has in
-    let entry : end_at ends v.number ≡ Some e = sym (ap (end_at ends) number) ∙ sym (any_default ends n o None (omega (arith, small, number, long))) ∙ sym is
+taken_range f ssa ends b v n p o e lt has room noted number is first some =
+    let small = parameter_small f ssa (length ends) room v b lt has in
+    let entry : end_at ends v.number ≡ Some e = sym (ap (end_at ends) number) ∙ sym (any_default ends n o None (omega (arith, small, number))) ∙ sym is
     ∙ some in
     range_same f v v p (before (block_at f b).range.first) e e refl first refl
-    (range_of_parameter f ssa v b e lt has (subst (EndsFrom f (block_at f b).range.first v.number) entry (noted v.number (omega (arith, small, long)))))
+    (range_of_parameter f ssa v b e lt has (subst (EndsFrom f (block_at f b).range.first v.number) entry (noted v.number small)))
 
 -- in SSA form, a parameter for which no end was read has none noted for its number
 pub no_entry : (f : FunctionValue) (ssa : IsSSA f) (ends : List (Option RangeEnd)) (b : ℕ) (v : VirtualRegister) (n : ℕ) (o : Option RangeEnd) →
-    b < length f.blocks → Contains (block_at f b).params v → length ends ≡ f.num_vregs → n ≡ v.number → o ≡ slice_index_or ends n o → o ≡ None →
+    b < length f.blocks → Contains (block_at f b).params v → HasRoom f (length ends) → n ≡ v.number → o ≡ slice_index_or ends n o → o ≡ None →
     end_at ends v.number ≡ None
-no_entry f ssa ends b v n o lt has long number is none =
-    let small = parameter_small f ssa v b lt has in
-    sym (ap (end_at ends) number) ∙ sym (any_default ends n o None (omega (arith, small, number, long))) ∙ sym is ∙ none
+no_entry f ssa ends b v n o lt has room number is none =
+    let small = parameter_small f ssa (length ends) room v b lt has in
+    sym (ap (end_at ends) number) ∙ sym (any_default ends n o None (omega (arith, small, number))) ∙ sym is ∙ none
 
 -- where blocks begin
 not_last : (b n : ℕ) → b < n → nat_eq b n ≡ false

@@ -9,6 +9,7 @@ use Rattle.regalloc2_function.specs.FunctionValue.{FunctionValue, block_at, inst
 use Rattle.regalloc2_function.specs.Machine.{MachineValue}
 use Rattle.regalloc2_function.specs.WellFormed.{IsDefinedBy, IsWellFormed, last_of}
 use Rattle.regalloc2_function.specs.DebugPoints.{DefinesAt, PassesAt, ReadsAt, UsesAt}
+use Rattle.regalloc2_cfg.specs.TableLength.{HasRoom}
 use Rattle.regalloc2_semantics.specs.Listing.{no_operand, op_at}
 use Rattle.regalloc2_semantics.proofs.SingleDef.{DefinesAt as DefinesNumber, Made, TakesAt, is_made, made_before, made_behind, made_small, not_both, one_made}
 use Rattle.regalloc2_semantics.proofs.SingleDef.{one_param, reads_defined}
@@ -117,13 +118,15 @@ item_defines f i k ops o lt same less is def =
     }
 
 module _ (f : FunctionValue) (ssa : IsSSA f) where
-  -- what is defined has a number of the function's
-  pub definer_small : (v : VirtualRegister) (o : InstOperand) → IsDefiner f v o → v.number < f.num_vregs
-  definer_small v o d = made_small f ssa.once v (made_by_definition f v o.inst (definer_defines f v o d))
+  -- what is defined has an entry in a table with room
+  pub definer_small : (n : ℕ) → HasRoom f n → (v : VirtualRegister) (o : InstOperand) → IsDefiner f v o → v.number < n
+  definer_small n room v o d = room v (after o.inst) (inr (o.inst, o.index, no_operand, omega arith, d.index, d.definition, d.vreg))
+      (made_small f ssa.once v (made_by_definition f v o.inst (definer_defines f v o d)))
 
-  -- in SSA form, a block's parameter has one of the function's vreg numbers
-  pub parameter_small : (v : VirtualRegister) (b : ℕ) → b < length f.blocks → Contains (block_at f b).params v → v.number < f.num_vregs
-  parameter_small v b lt h = made_small f ssa.once v (made_by_parameter f v b lt h)
+  -- and so does a block's parameter
+  pub parameter_small : (n : ℕ) → HasRoom f n → (v : VirtualRegister) (b : ℕ) → b < length f.blocks → Contains (block_at f b).params v → v.number < n
+  parameter_small n room v b lt h = room v (before (block_at f b).range.first) (inl (b, lt, omega arith, h))
+      (made_small f ssa.once v (made_by_parameter f v b lt h))
 
   -- who reads a number that is made reads its virtual register
   pub is_reader : (v : VirtualRegister) → Made f v → (at : OperandPos) (i k : ℕ) → i < length f.insts → ReadsNumber (inst_at f i).operands v.number at k →

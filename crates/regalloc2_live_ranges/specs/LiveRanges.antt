@@ -8,6 +8,7 @@ use Rattle.regalloc2_function.specs.FunctionValue.{FunctionValue, Label, inst_at
 use Rattle.regalloc2_names.specs.Operand.{is_def, is_reading}
 use Rattle.regalloc2_function.specs.WellFormed.{BlocksFollow, DefinedOnce, UsesAreDefined}
 use Rattle.regalloc2_function.specs.DebugPoints.{IsFirstPoint, IsKept, IsLastPoint, IsLastUse, ReadsAt, UsesAt}
+use Rattle.regalloc2_cfg.specs.TableLength.{HasRoom}
 use Rattle.regalloc2_semantics.specs.Listing.{op_at}
 use Rattle.regalloc2_live_ranges.specs.declared.InstOperand.{InstOperand}
 use Rattle.regalloc2_live_ranges.specs.declared.LiveRange.{LiveRange}
@@ -59,10 +60,10 @@ pub record IsLiveRange (f : FunctionValue) (r : LiveRange) : Type 0 where
 abbrev pub range_at : List (Option LiveRange) → ℕ → Option LiveRange
 range_at t n = slice_index_or t n None
 
--- A table by number of all live ranges: each entry is that of a virtual register of the number, and each virtual register with a first and
--- a last point has its entry.
+-- A table by number of all live ranges: there is room for all that the function defines, each entry is that of a virtual register of the
+-- number, and each virtual register with a first and a last point has its entry.
 pub record AreLiveRanges (f : FunctionValue) (t : List (Option LiveRange)) : Type 0 where
-  pub long : length t ≡ f.num_vregs
+  pub room : HasRoom f (length t)
   pub found : (n : ℕ) (r : LiveRange) → range_at t n ≡ Some r → (r.vreg.number ≡ n) × IsLiveRange f r
   pub all : (v : VirtualRegister) (start end : ℕ) → IsFirstPoint f v start → IsLastPoint f v end → (r : LiveRange) × (range_at t v.number ≡ Some r)
       × (r.vreg ≡ v)

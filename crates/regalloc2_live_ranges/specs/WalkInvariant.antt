@@ -3,6 +3,7 @@ use Rattle.std.specs.Prelude.{ℕ, ◌≡◌, ◌≢◌, ◌<◌, ◌≤◌, Lis
 use Rattle.regalloc2_names.specs.Register.{VirtualRegister}
 use Rattle.regalloc2_function.specs.FunctionValue.{FunctionValue, block_at}
 use Rattle.regalloc2_function.specs.DebugPoints.{DefinesAt, UsesAt}
+use Rattle.regalloc2_cfg.specs.TableLength.{HasRoom}
 use Rattle.regalloc2_live_ranges.specs.declared.ends.RangeEnd.{RangeEnd}
 use Rattle.regalloc2_live_ranges.specs.declared.LiveRange.{LiveRange}
 use Rattle.regalloc2_live_ranges.specs.LiveRanges.{IsLiveRange, range_at}
@@ -22,8 +23,8 @@ AreEndsFrom f i t = (n : ℕ) → n < length t → EndsFrom f i n (end_at t n)
 
 -- the instructions from one on are walked, and the beginnings of the blocks from one on
 pub record IsWalked (f : FunctionValue) (i b : ℕ) (ends : List (Option RangeEnd)) (ranges : List (Option LiveRange)) : Type 0 where
-  pub ends_long : length ends ≡ f.num_vregs
-  pub ranges_long : length ranges ≡ f.num_vregs
+  pub ends_room : HasRoom f (length ends)
+  pub ranges_room : HasRoom f (length ranges)
   pub noted : AreEndsFrom f i ends
   pub right : AreRight f ranges
   pub defined : (v : VirtualRegister) (j : ℕ) → i ≤ j → DefinesAt f v j → range_at ranges v.number ≢ None

@@ -5,6 +5,7 @@ ghost use Rattle.regalloc2_names.specs.Register.{VirtualRegister};
 ghost use Rattle.regalloc2_function.specs.FunctionValue.{block_at};
 ghost use Rattle.regalloc2_names.specs.Operand.{is_def};
 ghost use Rattle.regalloc2_function.specs.DebugPoints.{DefinesAt, UsesAt};
+ghost use Rattle.regalloc2_cfg.specs.TableLength.{HasRoom};
 ghost use Rattle.regalloc2_live_ranges.specs.LastUses.{end_at, end_behind};
 ghost use Rattle.regalloc2_live_ranges.specs.LiveRanges.{IsSSA, range_at};
 ghost use Rattle.regalloc2_live_ranges.specs.WalkInvariant.{AreEndsFrom, AreRight, Stay};
@@ -37,8 +38,8 @@ pub fn begin_at_defs<F: Function>(
 )
     requires ssa { IsSSA (F.function f.now) }
     requires inst { inst < length (F.function f.now).insts }
-    requires ends_long { length ends.now ≡ (F.function f.now).num_vregs }
-    requires ranges_long { length ranges.old ≡ (F.function f.now).num_vregs }
+    requires ends_room { HasRoom (F.function f.now) (length ends.now) }
+    requires ranges_room { HasRoom (F.function f.now) (length ranges.old) }
     requires ends { AreEndsFrom (F.function f.now) inst ends.now }
     requires right { AreRight (F.function f.now) ranges.old }
     ensures right { AreRight (F.function f.now) ranges.new }
@@ -72,8 +73,8 @@ pub fn begin_at_params<F: Function>(
 )
     requires ssa { IsSSA (F.function f.now) }
     requires block { block < length (F.function f.now).blocks }
-    requires ends_long { length ends.now ≡ (F.function f.now).num_vregs }
-    requires ranges_long { length ranges.old ≡ (F.function f.now).num_vregs }
+    requires ends_room { HasRoom (F.function f.now) (length ends.now) }
+    requires ranges_room { HasRoom (F.function f.now) (length ranges.old) }
     requires ends { AreEndsFrom (F.function f.now) (block_at (F.function f.now) block).range.first ends.now }
     requires right { AreRight (F.function f.now) ranges.old }
     ensures right { AreRight (F.function f.now) ranges.new }

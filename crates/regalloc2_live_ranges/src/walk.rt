@@ -1,13 +1,15 @@
 //! The walk over all blocks and instructions, from the last to the first.
 
-ghost use Rattle.std.specs.Prelude.{◌≡◌, ◌+◌, ◌<◌, length, replicate, IfErr, IfOk, None};
+ghost use Rattle.std.specs.Prelude.{◌≡◌, ◌+◌, ◌<◌, ◌≤◌, length, replicate, IfErr, IfOk, None};
 ghost use Rattle.regalloc2_function.specs.FunctionValue.{block_at};
+ghost use Rattle.regalloc2_cfg.specs.TableLength.{HasRoom};
 ghost use Rattle.regalloc2_live_ranges.specs.LiveRanges.{AreLiveRanges, IsSSA};
 ghost use Rattle.regalloc2_live_ranges.specs.WalkInvariant.{IsWalked};
 
 use super::LiveRange;
 use super::ends::{RangeEnd, note_uses};
 use super::ranges::{begin_at_defs, begin_at_params};
+use regalloc2_cfg::table_length::table_length;
 use regalloc2_function::Function;
 use regalloc2_index::{Block, Inst};
 use regalloc2_names::RegAllocError;
@@ -39,8 +41,9 @@ fn walk_insts<F: Function>(
 // Walks all blocks: the instructions of each, then its parameters.
 fn walk_blocks<F: Function>(ends: &mut [Option<RangeEnd>], ranges: &mut [Option<LiveRange>], f: &F)
     requires ssa { IsSSA (F.function f.now) }
-    requires no_ends { ends.old ≡ replicate (F.function f.now).num_vregs None }
-    requires no_ranges { ranges.old ≡ replicate (F.function f.now).num_vregs None }
+    requires room { HasRoom (F.function f.now) (length ends.old) }
+    requires no_ends { ends.old ≡ replicate (length ends.old) None }
+    requires no_ranges { ranges.old ≡ replicate (length ends.old) None }
     ensures { AreLiveRanges (F.function f.now) ranges.new }
 {
     let mut b = f.num_blocks();
@@ -56,20 +59,22 @@ fn walk_blocks<F: Function>(ends: &mut [Option<RangeEnd>], ranges: &mut [Option<
 ///
 /// Each is that of upstream's `vreg_to_live_inst_range`. Of the function is asked what each well-formed one has (`IsSSA`): its
 /// blocks follow one another, each number is defined once, and each use comes after its definition. The time is linear in the
-/// operands, the arguments, the parameters and `num_vregs`. The only error is `Memory`, where memory for two tables by number
-/// ran out.
+/// operands, the arguments, the parameters and what `table_length` returns. The only error is `Memory`, where memory for two tables
+/// of that length ran out.
 pub fn live_ranges<A: Allocator + Copy, F: Function>(
     alloc: A,
     f: &F,
 ) -> Result<Vec<Option<LiveRange>, A>, RegAllocError>
     requires { IsSSA (F.function f.now) }
     ensures ok { IfOk result (λ t. AreLiveRanges (F.function f.now) t.items) }
+    ensures few { IfOk result (λ t. length t.items ≤ (F.function f.now).num_vregs) }
     ensures err { IfErr result (λ e. e ≡ RegAllocError.Memory) }
 {
     let mut ends: Vec<Option<RangeEnd>, A> = Vec::new(alloc);
-    ends.resize(f.num_vregs(), None)?;
+    let vregs = table_length(f);
+    ends.resize(vregs, None)?;
     let mut ranges = Vec::new(alloc);
-    ranges.resize(f.num_vregs(), None)?;
+    ranges.resize(vregs, None)?;
     walk_blocks(ends.as_mut_slice(), ranges.as_mut_slice(), f);
     Ok(ranges)
 }

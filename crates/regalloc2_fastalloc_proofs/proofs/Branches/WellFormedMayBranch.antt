@@ -6,17 +6,18 @@ use Rattle.std.proofs.lemmas.Bool.{cases_eq, ne_eqb}
 use Rattle.std.proofs.lemmas.List.{get_or_default}
 use Rattle.std.proofs.lemmas.List.Sums.{sum_by-cons, count_by-le-length}
 use Rattle.regalloc2_names.specs.Register.{VirtualRegister}
+use Rattle.regalloc2_names.specs.Point.{before, after}
 use Rattle.regalloc2_function.specs.FunctionValue.{FunctionValue, block_at}
 use Rattle.regalloc2_function.specs.Machine.{MachineValue}
 use Rattle.regalloc2_function.specs.SourceRun.{arguments_at}
 use Rattle.regalloc2_function.specs.WellFormed.{IsWellFormed, times_in, ways_into, last_of}
-use Rattle.regalloc2_function.specs.Following.{end_within}
 use Rattle.regalloc2_semantics.specs.Blocks.{HasEdge, target_at, IsSound}
-use Rattle.regalloc2_semantics.proofs.SingleDef.{TakesAt, one_param, taken_small, made_behind, is_made, made_small}
+use Rattle.regalloc2_semantics.proofs.SingleDef.{TakesAt, one_param}
 use Rattle.regalloc2_semantics.proofs.Soundness.{count_at, well_formed_are_sound}
 use Rattle.regalloc2_fastalloc_proofs.specs.BlockStart.{no_vreg}
 use Rattle.regalloc2_fastalloc_proofs.specs.BranchSteps.{MayBranch, ParametersDiffer}
 use Rattle.regalloc2_fastalloc_proofs.specs.InstSteps.{StateValue}
+use Rattle.regalloc2_fastalloc_proofs.specs.BlockSteps.{DefinesBelow}
 
 -- a number that is at two positions is there twice
 counted_twice : (n : ℕ) (xs : List ℕ) (j k : ℕ) → j ≢ k → j < length xs → k < length xs → slice_index_or xs j 0 ≡ n → slice_index_or xs k 0 ≡ n →
@@ -88,26 +89,15 @@ module _ (env : MachineValue) (f : FunctionValue) (ok : IsWellFormed env f) (b :
       (one_edge_each k l x y same.0, same.1)
 
   -- in a well-formed function each branch may pass its arguments: edges lead to blocks, with as many arguments as parameters
-  pub may_pass : (t : StateValue) → length t.places.vreg_allocs ≡ f.num_vregs → MayBranch f b t
-  may_pass t long = record {
+  pub may_pass : (t : StateValue) → DefinesBelow f (length t.places.vreg_allocs) → MayBranch f b t
+  may_pass t below = record {
     targets = λ k edge. sound.targets b k edge;
     counted = λ k edge. sym (sound.arguments b k edge);
     parameters = λ k edge i d lt.
         let ps : List VirtualRegister = (block_at f (target_at f b k)).params in
-        let n : ℕ = (slice_index_or ps i d).number in
-        let at : TakesAt f n (target_at f b k) i = record {
-          block = sound.targets b k edge;
-          param = lt;
-          number = ap (λ (v : VirtualRegister). v.number) (get_or_default ps i no_vreg d lt);
-        } in
-        let small : n < f.num_vregs = taken_small f ok.defined_once n (target_at f b k) i at in
-        omega (arith, small, long);
+        let v : VirtualRegister = slice_index_or ps i d in
+        below v (before (block_at f (target_at f b k)).range.first)
+        (inl (target_at f b k, sound.targets b k edge, omega arith, (i, lt, get_or_default ps i v d lt)));
     arguments = λ k edge i d lt.
-        let v : VirtualRegister = slice_index_or (arguments_at f b k) i d in
-        let nonempty = (ok.follow b within).0 in
-        let end = end_within f ok.follow b within in
-        let last : last_of (block_at f b) < length f.insts = omega (arith, nonempty, end) in
-        let small : v.number < f.num_vregs = made_small f ok.defined_once v
-        (is_made f v (last_of (block_at f b) + 1) (made_behind f v (last_of (block_at f b)) last ((ok.uses_defined b within).1 k edge i d lt))) in
-        omega (arith, small, long);
+        below (slice_index_or (arguments_at f b k) i d) (after (last_of (block_at f b))) ((ok.uses_defined b within).1 k edge i d lt);
   }

@@ -3,22 +3,26 @@ use Rattle.std.proofs.Common.{ℕ, zero, suc, ◌≡◌, ◌+◌, ◌-◌, ◌*�
 use Rattle.std.specs.Prelude.{if◌then◌else◌, All, Option, None, slice_index_or, ◌||◌}
 use Rattle.std.proofs.Math.Nat.{mul-le-mul_right}
 use Rattle.std.proofs.lemmas.Bool.{cases_eq}
+use Rattle.std.proofs.lemmas.List.{get_or_default}
 use Rattle.std.proofs.lemmas.List.Elements.{All-from_get_or}
 use Rattle.regalloc2_names.specs.declared.RegAllocError.{RegAllocError}
 use Rattle.regalloc2_names.specs.declared.sets.PRegSet.{PRegSet}
 use Rattle.regalloc2_names.specs.Register.{Register, VirtualRegister, class_code}
 use Rattle.regalloc2_names.specs.RegisterSet.{has_register}
 use Rattle.regalloc2_names.specs.Place.{Place}
+use Rattle.regalloc2_names.specs.Point.{before, after}
 use Rattle.regalloc2_names.specs.Operand.{OperandValue}
 use Rattle.regalloc2_function.specs.FunctionValue.{FunctionValue, InstValue, block_at, inst_at}
-use Rattle.regalloc2_function.specs.WellFormed.{BlocksEnd, BlocksFollow, DefinedOnce}
-use Rattle.regalloc2_semantics.proofs.SingleDef.{no_vreg, taken_small}
+use Rattle.regalloc2_function.specs.WellFormed.{BlocksEnd, BlocksFollow}
+use Rattle.regalloc2_semantics.specs.Listing.{no_operand}
+use Rattle.regalloc2_semantics.proofs.SingleDef.{Made, no_vreg}
+use Rattle.regalloc2_semantics.proofs.SingleDef.Made.{by_operand}
 use Rattle.regalloc2_fastalloc_state.specs.declared.inst_regs.InstRegs.{InstRegs}
 use Rattle.regalloc2_fastalloc_state.specs.StateParts.{SpillSlotsValue, AreUpTo, most_units}
 use Rattle.regalloc2_fastalloc_state.specs.OutOfResources.{IsResourceError, SlotsExhaustedWith, IsResourceErrorIn}
 use Rattle.regalloc2_fastalloc_proofs.specs.BranchSteps.{AreApart, AddsTempSlotsAtMost}
 use Rattle.regalloc2_fastalloc_proofs.specs.InstSteps.{StateValue, SameMachine, ProcessesOperandsAt, ends_block}
-use Rattle.regalloc2_fastalloc_proofs.specs.BlockSteps.{AllocsInstAt, AllocsInstInto, temp_slots_at}
+use Rattle.regalloc2_fastalloc_proofs.specs.BlockSteps.{AllocsInstAt, AllocsInstInto, DefinesBelow, temp_slots_at}
 use Rattle.regalloc2_fastalloc_state.proofs.SpillSlotUnits.{lacks_then}
 
 -- no temporary slot is added over no step
@@ -133,11 +137,17 @@ block_within f follow b lt = within (length f.blocks - (b + 1)) b (omega (arith,
         let some = (follow (suc c) (omega (arith, e))).0 in
         omega (arith, rest, next, some)
 
+-- what is made has a number below that bound
+pub made_below : (f : FunctionValue) (n : ℕ) → DefinesBelow f n → (v : VirtualRegister) → Made f v → v.number < n
+made_below f n below v (by_operand i k x e) = below v (after i) (inr (i, k, no_operand, omega arith, x.operand, x.definition, e))
+made_below f n below v (Made.by_param b k x e) = below v (before (block_at f b).range.first)
+    (inl (b, x.block, omega arith, (k, x.param, get_or_default (block_at f b).params k v no_vreg x.param ∙ e)))
+
 -- a block's parameters are vregs of the tables
-pub params_known : (f : FunctionValue) → DefinedOnce f → (n b : ℕ) → n ≡ f.num_vregs → b < length f.blocks → All (λ v. v.number < n) (block_at f b).params
-params_known f once n b same lt = All-from_get_or (λ (v : VirtualRegister). v.number < n) (block_at f b).params no_vreg
-    (λ k less. let small = taken_small f once (slice_index_or (block_at f b).params k no_vreg).number b k
-    (record { block = lt; param = less; number = refl }) in omega (arith, small, same))
+pub params_known : (f : FunctionValue) (n b : ℕ) → DefinesBelow f n → b < length f.blocks → All (λ v. v.number < n) (block_at f b).params
+params_known f n b below lt = All-from_get_or (λ (v : VirtualRegister). v.number < n) (block_at f b).params no_vreg
+    (λ k less. let v : VirtualRegister = slice_index_or (block_at f b).params k no_vreg in
+    below v (before (block_at f b).range.first) (inl (b, lt, omega arith, (k, less, get_or_default (block_at f b).params k v no_vreg less))))
 
 -- an instruction is allocated by its operands, clobbers and whether it ends its block
 pub to_inst : (inst_regs : InstRegs) (i : ℕ) (v : InstValue) (start : ℕ) (before_it places : List Place) (old new : StateValue) (ops : List OperandValue)

@@ -12,16 +12,18 @@ use Rattle.regalloc2_function.specs.Machine.{MachineValue}
 use Rattle.regalloc2_function.specs.Fitting.{MachineFits}
 use Rattle.regalloc2_function.specs.WellFormed.{IsWellFormed}
 use Rattle.regalloc2_semantics.specs.Instruction.{Knows}
-use Rattle.regalloc2_semantics.proofs.SingleDef.{Made, made_small}
+use Rattle.regalloc2_semantics.proofs.SingleDef.{Made}
 use Rattle.regalloc2_fastalloc_state.specs.StateParts.{VRegAllocsValue, SpillSlotsValue, alloc_of, vreg_of_preg, slot_name, units_of, no_allocs, no_slots}
 use Rattle.regalloc2_validate.specs.Constraints.{op_at}
 use Rattle.regalloc2_fastalloc_proofs.specs.InstSteps.{StateValue, InTables}
+use Rattle.regalloc2_fastalloc_proofs.specs.BlockSteps.{DefinesBelow}
 use Rattle.regalloc2_fastalloc_proofs.specs.Safety.{HasMachine}
 use Rattle.regalloc2_semantics.proofs.Plain.{always}
 use Rattle.regalloc2_fastalloc_proofs.proofs.Moves.ScratchRegTaken.{Fit}
 use Rattle.regalloc2_fastalloc_proofs.proofs.Evictions.EvictFixed.{counts_by}
 use Rattle.regalloc2_fastalloc_proofs.proofs.Operands.WellFormedInsts.{knows}
 use Rattle.regalloc2_fastalloc_proofs.proofs.Safety.MachineRegs.{machine_fit}
+use Rattle.regalloc2_fastalloc_proofs.proofs.Safety.StateKept.{made_below}
 use Rattle.regalloc2_fastalloc_proofs.proofs.Walk.InstsCarry.{Blank}
 
 -- fresh tables
@@ -49,11 +51,11 @@ fresh_fit f env t fits m small = machine_fit f env t fits small m.allocatable m.
 
 module _ (env : MachineValue) (f : FunctionValue) (limited : IsLimited f) (ok : IsWellFormed env f) where
   -- each operand that reads or defines names a vreg of the tables
-  pub all_in_tables : (t : StateValue) → length t.places.vreg_allocs ≡ f.num_vregs → (i : ℕ) → i < length f.insts → InTables (inst_at f i).operands t
-  all_in_tables t long i lt k less able =
+  pub all_in_tables : (t : StateValue) → DefinesBelow f (length t.places.vreg_allocs) → (i : ℕ) → i < length f.insts → InTables (inst_at f i).operands t
+  all_in_tables t below i lt k less able =
       let w : Knows (Made f) (inst_at f i).operands = knows env f limited ok i lt in
       let made : Made f (op_at (inst_at f i).operands k).vreg = elim (counts_by (inst_at f i).operands k less able).1 [
         | inl d ↦ w.definition k less d
         | inr r ↦ w.reading k less r
       ] in
-      subst (λ n. (op_at (inst_at f i).operands k).vreg.number < n) (sym long) (made_small f ok.defined_once (op_at (inst_at f i).operands k).vreg made)
+      made_below f (length t.places.vreg_allocs) below (op_at (inst_at f i).operands k).vreg made

@@ -6,7 +6,7 @@ use Rattle.regalloc2_branch_defs.proofs.sites.note_branches.Goals as goal
 pub loop-b-init : goal.loop-b-init
 loop-b-init g c =
     let f : FunctionValue = g.F.Function.function c.args.f.now in
-    record { within = c.num_blocks-b-end.ensures.count; noted = sites_none f c.args.sites.now c.requires.long c.requires.none }
+    record { within = c.num_blocks-b-end.ensures.count; noted = sites_none f c.args.sites.now c.requires.room c.requires.none }
 
 pub loop-b-preserved : goal.loop-b-preserved
 loop-b-preserved g c =

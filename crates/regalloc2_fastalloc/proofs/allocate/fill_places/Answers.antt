@@ -24,6 +24,7 @@ use Rattle.regalloc2_fastalloc.specs.ErrorReason.{SomeDoesNotFit, units_at_most}
 use Rattle.regalloc2_fastalloc_proofs.specs.InstSteps.{StateValue}
 use Rattle.regalloc2_fastalloc_walk.specs.StateView.{tables_of}
 use Rattle.regalloc2_fastalloc_proofs.specs.BranchSteps.{AddsTempSlotsAtMost}
+use Rattle.regalloc2_fastalloc_proofs.specs.BlockSteps.{DefinesBelow}
 use Rattle.regalloc2_fastalloc_proofs.specs.Safety.{HasMachine}
 use Rattle.regalloc2_fastalloc_state.specs.StateParts.{VRegAllocsValue, SpillSlotsValue, no_slots, slot_name, units_of}
 use Rattle.regalloc2_fastalloc.proofs.ReadsAgree.{made_blocks_agree, made_in_slots, made_label_shown, walk_kept_through, walk_safe_through}
@@ -48,12 +49,13 @@ use Rattle.regalloc2_fastalloc_proofs.proofs.Moves.ScratchRegTaken.{Fit}
 use Rattle.regalloc2_fastalloc_proofs.proofs.Safety.BranchArgsKeepState.{passes_between}
 use Rattle.regalloc2_fastalloc_proofs.proofs.Safety.InstsKeepSafe.{WalkKept}
 use Rattle.regalloc2_fastalloc_walk.proofs.BlockSpillFree.{begins_uncrowded}
+use Rattle.regalloc2_fastalloc.proofs.RoomInTables.{has_room}
 use Rattle.regalloc2_fastalloc.proofs.RegistersForAll.{are_few, asks_for_registers, names_in}
 use Rattle.regalloc2_fastalloc.proofs.allocate.fill_places.Given.{Over}
 use Rattle.regalloc2_fastalloc.proofs.allocate.fill_places.Goals as goal
 
 pub new-requires : goal.new-requires
-new-requires g c = (search rules, c.requires.machine)
+new-requires g c = (search rules, (c.requires.machine, c.table_length-vregs.ensures.few))
 
 pub alloc_blocks-requires : goal.alloc_blocks-requires
 alloc_blocks-requires g c =
@@ -62,15 +64,15 @@ alloc_blocks-requires g c =
     let t : StateValue = tables_of c.in_ok-state.state in
     let e = c.in_ok-state.ensures in
     let machine : HasMachine env t = begun_machine env t e.registers (λ r. (e.fixed_stack r).0) (λ r. (e.fixed_stack r).1) e.dedicated_scratch in
-    let long : length t.places.vreg_allocs ≡ f.num_vregs = ap (λ (p : VRegAllocsValue). length p.vreg_allocs) e.places
-    ∙ length-replicate f.num_vregs NoPlace in (
+    let n : ℕ = c.table_length-vregs.result in
+    let long : length t.places.vreg_allocs ≡ n = ap (λ (p : VRegAllocsValue). length p.vreg_allocs) e.places ∙ length-replicate n NoPlace in (
       search rules,
       (
         e.edits,
         (
           (env, c.requires.well_formed),
           (
-            long,
+            subst (DefinesBelow f) (sym long) (has_room f c.requires.well_formed.defined_once n c.table_length-vregs.ensures.room),
             (
               fit_apart t (fresh_fit f env t c.requires.machine machine e.small),
               (
@@ -83,23 +85,28 @@ alloc_blocks-requires g c =
       ),
     )
 
--- the slots that the walk leaves have the sizes that the function asks for, and as many vregs
-sizes_kept : (f : FunctionValue) (begun left : StateValue) (by_last : Bool) (most : ℕ) → begun.slots ≡ no_slots f.num_vregs (sizes_of f) by_last →
+-- the slots that the walk leaves have the sizes that the function asks for, and as many entries as they had
+sizes_kept : (f : FunctionValue) (begun left : StateValue) (n : ℕ) (by_last : Bool) (most : ℕ) → begun.slots ≡ no_slots n (sizes_of f) by_last →
     AddsTempSlotsAtMost most begun left → left.slots.sizes ≡ sizes_of f
-sizes_kept f begun left by_last most slots machine = machine.sizes ∙ ap (λ (s : SpillSlotsValue). s.sizes) slots
+sizes_kept f begun left n by_last most slots machine = machine.sizes ∙ ap (λ (s : SpillSlotsValue). s.sizes) slots
 
-vregs_kept : (f : FunctionValue) (begun left : StateValue) (by_last : Bool) (most : ℕ) → begun.slots ≡ no_slots f.num_vregs (sizes_of f) by_last →
-    AddsTempSlotsAtMost most begun left → length left.slots.vreg_spillslots ≡ f.num_vregs
-vregs_kept f begun left by_last most slots machine = machine.vregs ∙ ap (λ (s : SpillSlotsValue). length s.vreg_spillslots) slots
-    ∙ length-replicate f.num_vregs NoPlace
+vregs_kept : (f : FunctionValue) (begun left : StateValue) (n : ℕ) (by_last : Bool) (most : ℕ) → begun.slots ≡ no_slots n (sizes_of f) by_last →
+    AddsTempSlotsAtMost most begun left → length left.slots.vreg_spillslots ≡ n
+vregs_kept f begun left n by_last most slots machine = machine.vregs ∙ ap (λ (s : SpillSlotsValue). length s.vreg_spillslots) slots
+    ∙ length-replicate n NoPlace
+
+vregs_few : (f : FunctionValue) (begun left : StateValue) (n : ℕ) (by_last : Bool) (most : ℕ) → begun.slots ≡ no_slots n (sizes_of f) by_last →
+    AddsTempSlotsAtMost most begun left → n ≤ f.num_vregs → length left.slots.vreg_spillslots ≤ f.num_vregs
+vregs_few f begun left n by_last most slots machine few = let e = vregs_kept f begun left n by_last most slots machine in omega (arith, e, few)
 
 pub locations-requires : goal.locations-requires
 locations-requires g c =
     let f : FunctionValue = g.F.Function.function c.args.f.now in
+    let n : ℕ = c.table_length-vregs.result in
     record {
       ssa = well_formed_ssa (machine_of c.args.env.now) f c.requires.well_formed;
-      vregs = vregs_kept f (tables_of c.in_ok-state.state) (tables_of c.alloc_blocks.new.self) f.named_by_last_slot _ c.in_ok-state.ensures.slots
-          c.alloc_blocks.ensures.machine;
+      room = subst (DefinesBelow f) (sym (vregs_kept f (tables_of c.in_ok-state.state) (tables_of c.alloc_blocks.new.self) n f.named_by_last_slot _
+          c.in_ok-state.ensures.slots c.alloc_blocks.ensures.machine)) (has_room f c.requires.well_formed.defined_once n c.table_length-vregs.ensures.room);
       offsets_long = c.requires.offsets_long;
       offsets = λ i lt. c.requires.offsets i lt;
       allocs_long = c.alloc_blocks.auto.allocs ∙ c.requires.allocs_long;
@@ -130,18 +137,18 @@ machine_is g c =
 
 -- a slot of each class takes some units
 units_are : (g : Over) (c : goal.After-array_drop-state-2 g) → (class : RegClass) →
-    0 < units_of (no_slots (g.F.Function.function c.args.f.now).num_vregs (sizes_of (g.F.Function.function c.args.f.now))
+    0 < units_of (no_slots c.table_length-vregs.result (sizes_of (g.F.Function.function c.args.f.now))
     (g.F.Function.function c.args.f.now).named_by_last_slot) class
 units_are g c =
     let f : FunctionValue = g.F.Function.function c.args.f.now in
     let limited : IsLimited f = g.met.F.Function.limited c.args.f.now in
-    some_units f.num_vregs (slot_size f.slot_sizes Int) (slot_size f.slot_sizes Float) (slot_size f.slot_sizes Vector) f.named_by_last_slot
+    some_units c.table_length-vregs.result (slot_size f.slot_sizes Int) (slot_size f.slot_sizes Float) (slot_size f.slot_sizes Vector) f.named_by_last_slot
     (limited.slot_sizes Int).positive (limited.slot_sizes Float).positive (limited.slot_sizes Vector).positive
 
 -- the fresh tables are blank
 blank_is : (g : Over) (c : goal.After-array_drop-state-2 g) → Blank (begun g c)
 blank_is g c = (let f : FunctionValue = g.F.Function.function c.args.f.now in let e = c.in_ok-state.ensures in
-    fresh_blank (begun g c) f.num_vregs (sizes_of f) f.named_by_last_slot e.places e.slots e.edits (units_are g c))
+    fresh_blank (begun g c) c.table_length-vregs.result (sizes_of f) f.named_by_last_slot e.places e.slots e.edits (units_are g c))
 
 fit_is : (g : Over) (c : goal.After-array_drop-state-2 g) → Fit (begun g c)
 fit_is g c = fresh_fit (g.F.Function.function c.args.f.now) (machine_of c.args.env.now) (begun g c) c.requires.machine (machine_is g c)
@@ -153,9 +160,10 @@ walked : (g : Over) (c : goal.After-array_drop-state-2 g) →
     (MayInBlocks (g.F.Function.function c.args.f.now)) c.alloc_blocks.new.allocs 0 0 c.alloc_blocks.new.allocs (left g c)
 walked g c =
     let f : FunctionValue = g.F.Function.function c.args.f.now in
+    let n : ℕ = c.table_length-vregs.result in
     let e = c.in_ok-state.ensures in
     walk_kept_through (machine_of c.args.env.now) f c.requires.machine (g.met.F.Function.limited c.args.f.now) c.requires.well_formed c.requires.taken
-    c.args.allocs.now c.alloc_blocks.new.allocs (begun g c) (left g c) f.num_vregs f.num_vregs (sizes_of f) f.named_by_last_slot e.places e.slots e.edits
+    c.args.allocs.now c.alloc_blocks.new.allocs (begun g c) (left g c) n n (sizes_of f) f.named_by_last_slot e.places e.slots e.edits
     (units_are g c) (machine_is g c) (blank_is g c) (fit_is g c) c.in_ok-alloc_blocks.ensures.ok
 
 -- and at each of its instructions
@@ -163,9 +171,10 @@ safe_is : (g : Over) (c : goal.After-array_drop-state-2 g) →
     SafeWithin (machine_of c.args.env.now) (g.F.Function.function c.args.f.now) c.args.allocs.now (begun g c) c.alloc_blocks.new.allocs
 safe_is g c =
     let f : FunctionValue = g.F.Function.function c.args.f.now in
+    let n : ℕ = c.table_length-vregs.result in
     let e = c.in_ok-state.ensures in
     walk_safe_through (machine_of c.args.env.now) f c.requires.machine (g.met.F.Function.limited c.args.f.now) c.requires.well_formed c.requires.taken
-    c.args.allocs.now c.alloc_blocks.new.allocs (begun g c) (left g c) f.num_vregs f.num_vregs (sizes_of f) f.named_by_last_slot e.places e.slots e.edits
+    c.args.allocs.now c.alloc_blocks.new.allocs (begun g c) (left g c) n n (sizes_of f) f.named_by_last_slot e.places e.slots e.edits
     (units_are g c) (machine_is g c) (blank_is g c) (fit_is g c) c.in_ok-alloc_blocks.ensures.ok
 
 -- a vreg that is passed as an argument has a slot
@@ -230,9 +239,9 @@ labels_are g c =
     c.requires.machine c.num_units.ensures.owned tame) c.in_ok-debug_locations.ensures.ok
 
 -- there are few temporary slots
-few_lent : (f : FunctionValue) (begun left : StateValue) (by_last : Bool) (most : ℕ) → begun.slots ≡ no_slots f.num_vregs (sizes_of f) by_last →
+few_lent : (f : FunctionValue) (begun left : StateValue) (n : ℕ) (by_last : Bool) (most : ℕ) → begun.slots ≡ no_slots n (sizes_of f) by_last →
     AddsTempSlotsAtMost most begun left → left.slots.num_temp_slots ≤ most
-few_lent f begun left by_last most slots machine =
+few_lent f begun left n by_last most slots machine =
     let none : begun.slots.num_temp_slots ≡ 0 = ap (λ (s : SpillSlotsValue). s.num_temp_slots) slots in
     let num_temp_slots = machine.num_temp_slots in
     omega (arith, none, num_temp_slots)
@@ -244,13 +253,14 @@ owners_are g c =
     let limited : IsLimited f = g.met.F.Function.limited c.args.f.now in
     let begin : StateValue = begun g c in
     let last : StateValue = left g c in
+    let n : ℕ = c.table_length-vregs.result in
     let e = c.in_ok-state.ensures in
     let classed = walk_classed env f (fits_keeps f env c.requires.machine) limited c.requires.well_formed c.requires.taken c.args.allocs.now
-    c.alloc_blocks.new.allocs begin last f.num_vregs f.num_vregs (sizes_of f) f.named_by_last_slot
+    c.alloc_blocks.new.allocs begin last n n (sizes_of f) f.named_by_last_slot
     e.places e.slots e.edits (units_are g c) (machine_is g c) c.in_ok-alloc_blocks.ensures.ok in
     made_slots_owned f env (Made f) (MayInBlocks f) last (out_of g c) (made g c) c.num_units.ensures.owned
     (tame_at env f limited c.requires.well_formed c.requires.taken) f.named_by_last_slot (BranchesFrom f 0) classed
-    (sizes_agree f last.slots (sizes_kept f begin last f.named_by_last_slot _ e.slots c.alloc_blocks.ensures.machine)) refl (λ i class m. (m.1, m.2))
+    (sizes_agree f last.slots (sizes_kept f begin last n f.named_by_last_slot _ e.slots c.alloc_blocks.ensures.machine)) refl (λ i class m. (m.1, m.2))
 
 slots_are : (g : Over) (c : goal.After-array_drop-state-2 g) → SlotsAreBounded (g.F.Function.function c.args.f.now) (out_of g c)
 slots_are g c =
@@ -259,9 +269,10 @@ slots_are g c =
     let last : StateValue = tables_of c.alloc_blocks.new.self in
     let machine = c.alloc_blocks.ensures.machine in
     let slots = c.in_ok-state.ensures.slots in
-    few_slots f last.slots (out_of g c) c.num_units.ensures.count (sizes_kept f begin last f.named_by_last_slot _ slots machine)
-    (vregs_kept f begin last f.named_by_last_slot _ slots machine)
-    (few_lent f begin last f.named_by_last_slot _ slots machine) c.num_units.ensures.owned
+    let n : ℕ = c.table_length-vregs.result in
+    few_slots f last.slots (out_of g c) c.num_units.ensures.count (sizes_kept f begin last n f.named_by_last_slot _ slots machine)
+    (vregs_few f begin last n f.named_by_last_slot _ slots machine c.table_length-vregs.ensures.few)
+    (few_lent f begin last n f.named_by_last_slot _ slots machine) c.num_units.ensures.owned
 
 -- where registers suffice for all virtual registers, the walk makes no move and no slot
 unspilled_is : (g : Over) (c : goal.After-array_drop-state-2 g) → HasRegistersForAll (g.F.Function.function c.args.f.now) (machine_of c.args.env.now) →
@@ -309,16 +320,18 @@ returns-in_err-alloc_blocks-clause-err g c =
     let none : begin.slots.num_temp_slots ≡ 0 = ap (λ (s : SpillSlotsValue). s.num_temp_slots) slots in
     let same : AddsTempSlotsAtMost 0 begin begin = none_lends 0 begin in
     let p = err_from_is_err_and c.from_residual-in_err-alloc_blocks.result c.from_residual-in_err-alloc_blocks.ensures.1 in
+    let n : ℕ = c.table_length-vregs.result in
     let more : SlotsExhaustedWith begin.slots most → 2 ^ 24 < units_at_most f = full_needs f begin.slots most
-    (sizes_kept f begin begin f.named_by_last_slot 0 slots same) (vregs_kept f begin begin f.named_by_last_slot 0 slots same) (omega (arith, none)) in
+    (sizes_kept f begin begin n f.named_by_last_slot 0 slots same) (vregs_few f begin begin n f.named_by_last_slot 0 slots same
+    c.table_length-vregs.ensures.few) (omega (arith, none)) in
     let env : MachineValue = machine_of c.args.env.now in
     let e = c.in_ok-state.ensures in
     let limited : IsLimited f = g.met.F.Function.limited c.args.f.now in
     let machine : HasMachine env begin = begun_machine env begin e.registers (λ r. (e.fixed_stack r).0) (λ r. (e.fixed_stack r).1) e.dedicated_scratch in
-    let units = some_units f.num_vregs (slot_size f.slot_sizes Int) (slot_size f.slot_sizes Float) (slot_size f.slot_sizes Vector) f.named_by_last_slot
+    let units = some_units n (slot_size f.slot_sizes Int) (slot_size f.slot_sizes Float) (slot_size f.slot_sizes Vector) f.named_by_last_slot
     (limited.slot_sizes Int).positive (limited.slot_sizes Float).positive (limited.slot_sizes Vector).positive in
     rw p.1 (subst (Lacks (SomeDoesNotFit f env) (2 ^ 24 < units_at_most f)) (sym p.2)
     (lacks_where (SomeDoesNotFit f env) (SlotsExhaustedWith begin.slots most) (2 ^ 24 < units_at_most f) more _ c.in_err-alloc_blocks.ensures.err
-    (λ lacks. walk_stops f env c.requires.machine limited c.requires.well_formed c.requires.taken c.args.allocs.now begin f.num_vregs f.num_vregs (sizes_of f)
+    (λ lacks. walk_stops f env c.requires.machine limited c.requires.well_formed c.requires.taken c.args.allocs.now begin n n (sizes_of f)
     f.named_by_last_slot e.places e.slots e.edits units
     machine (fresh_fit f env begin c.requires.machine machine e.small) e.all e.dedicated_scratch (c.in_err-alloc_blocks.ensures.stops lacks))))

@@ -18,7 +18,7 @@ locate-requires g c =
     let f : FunctionValue = g.F.Function.function c.args.f.now in
     subst (All (λ (k : KeptLabel). HasPlace c.args.slots.now c.args.offsets.now c.args.allocs.now k.range)) (sym c.deref.ensures.value)
     (All-weaker (IsOneOf f f.labels) (λ (k : KeptLabel). HasPlace c.args.slots.now c.args.offsets.now c.args.allocs.now k.range)
-    (λ k one. has_place f c.requires.ssa c.args.slots.now c.args.offsets.now c.args.allocs.now c.requires.vregs c.requires.offsets_long
+    (λ k one. has_place f c.requires.ssa c.args.slots.now c.args.offsets.now c.args.allocs.now c.requires.room c.requires.offsets_long
     (λ i lt. c.requires.offsets i lt) c.requires.allocs_long one.1 k one.4.1)
     c.in_ok-kept.kept.items (kept_from c.in_ok-kept.ensures.ok))
 

@@ -23,16 +23,16 @@ bounds-ends-vreg g c =
     let f : FunctionValue = g.F.Function.function c.args.f.now in
     let has = param_within f c.args.block c.block_params-param-items.result.now c.loop-param.param-index c.param-item.result c.block_params-param-items.ensures
     c.loop-param-test.true c.param-item.is in
-    let small = parameter_small f c.requires.ssa c.param-item.result c.args.block c.requires.block has in
-    omega (arith, c.vreg.ensures.number, small, c.requires.ends_long)
+    let small = parameter_small f c.requires.ssa (length c.args.ends.now) c.requires.ends_room c.param-item.result c.args.block c.requires.block has in
+    omega (arith, c.vreg.ensures.number, small)
 
 pub bounds-ranges-vreg : goal.bounds-ranges-vreg
 bounds-ranges-vreg g c =
     let f : FunctionValue = g.F.Function.function c.args.f.now in
     let has = param_within f c.args.block c.block_params-param-items.result.now c.loop-param.param-index c.param-item.result c.block_params-param-items.ensures
     c.loop-param-test.true c.param-item.is in
-    let small = parameter_small f c.requires.ssa c.param-item.result c.args.block c.requires.block has in
-    omega (arith, c.vreg-in-Some.ensures.number, small, c.requires.ranges_long, c.loop-param.auto.ranges)
+    let small = parameter_small f c.requires.ssa (length c.args.ranges.now) c.requires.ranges_room c.param-item.result c.args.block c.requires.block has in
+    omega (arith, c.vreg-in-Some.ensures.number, small, c.loop-param.auto.ranges)
 
 pub loop-param-preserved : goal.loop-param-preserved
 loop-param-preserved g c =
@@ -40,7 +40,7 @@ loop-param-preserved g c =
     let vs : List VirtualRegister = c.block_params-param-items.result.now in
     let has = param_within f c.args.block vs c.loop-param.param-index c.param-item.result c.block_params-param-items.ensures c.loop-param-test.true
     c.param-item.is in
-    let small = parameter_small f c.requires.ssa c.param-item.result c.args.block c.requires.block has in
+    let small = parameter_small f c.requires.ssa (length c.args.ranges.now) c.requires.ranges_room c.param-item.result c.args.block c.requires.block has in
     let first : c.first.result ≡ (block_at f c.args.block).range.first = c.first.ensures ∙ ap (λ (r : Span). r.first) c.block_insns.ensures in
     let some = (c.requires.ssa.follow c.args.block c.requires.block).0 in
     let within = ends_within f c.requires.ssa.follow c.args.block c.requires.block in
@@ -53,11 +53,10 @@ loop-param-preserved g c =
             arith,
             w.vreg-in-Some.ensures.number,
             small,
-            c.requires.ranges_long,
             c.loop-param.auto.ranges,
           ) in
           let range = taken_range f c.requires.ssa c.args.ends.now c.args.block c.param-item.result c.vreg.result c.before-first.result c.index-ends-vreg.result
-          w.in-Some.end c.requires.block has c.requires.ends_long c.requires.ends c.vreg.ensures.number c.index-ends-vreg.is point w.in-Some.is in
+          w.in-Some.end c.requires.block has c.requires.ends_room c.requires.ends c.vreg.ensures.number c.index-ends-vreg.is point w.in-Some.is in
           rw w.ranges-is (record {
             right = right_set f c.loop-param.ranges w.vreg-in-Some.result _ room (sym w.vreg-in-Some.ensures.number) range c.loop-param.invariant.right;
             stay = λ n some. stay_set c.loop-param.ranges w.vreg-in-Some.result _ room n (c.loop-param.invariant.stay n some);
@@ -66,7 +65,7 @@ loop-param-preserved g c =
           }))
       | in_default w ↦ (
           let none = no_entry f c.requires.ssa c.args.ends.now c.args.block c.param-item.result c.vreg.result c.index-ends-vreg.result c.requires.block has
-          c.requires.ends_long c.vreg.ensures.number c.index-ends-vreg.is w.in_default.is in
+          c.requires.ends_room c.vreg.ensures.number c.index-ends-vreg.is w.in_default.is in
           rw w.ranges-is (record {
             right = c.loop-param.invariant.right;
             stay = c.loop-param.invariant.stay;
@@ -79,4 +78,4 @@ pub returns-clause-taken : goal.returns-clause-taken
 returns-clause-taken g c =
     let f : FunctionValue = g.F.Function.function c.args.f.now in
     taken_all f c.requires.ssa c.args.block c.block_params-param-items.result.now c.loop-param.param-index c.args.ends.now c.loop-param.ranges c.requires.block
-    c.block_params-param-items.ensures c.loop-param-test.false c.requires.ends_long c.requires.ends c.loop-param.invariant.so_far
+    c.block_params-param-items.ensures c.loop-param-test.false c.requires.ends_room c.requires.ends c.loop-param.invariant.so_far

@@ -1,5 +1,8 @@
-use Rattle.std.proofs.Common.{ℕ, ◌≡◌, ◌+◌, ◌-◌, ◌<◌, ◌∙◌, length, refl, sym, ap, subst, arith}
+use Rattle.std.proofs.Common.{ℕ, ◌≡◌, ◌+◌, ◌-◌, ◌<◌, ◌∙◌, List, length, replicate, refl, sym, ap, subst, arith}
+use Rattle.std.specs.Prelude.{None, Option}
 use Rattle.regalloc2_function.specs.FunctionValue.{FunctionValue, block_at}
+use Rattle.regalloc2_live_ranges.specs.declared.LiveRange.{LiveRange}
+use Rattle.regalloc2_live_ranges.specs.declared.ends.RangeEnd.{RangeEnd}
 use Rattle.regalloc2_live_ranges.specs.WalkInvariant.{IsWalked, begin_of}
 use Rattle.regalloc2_live_ranges.proofs.LiveRangeTable.{begins_at, begins_next, begins_past, walked_all, walked_block, walked_none}
 use Rattle.regalloc2_live_ranges.proofs.walk.walk_blocks.Goals as goal
@@ -10,7 +13,10 @@ loop-b-init g c =
     let count : c.num_blocks-b.result ≡ length f.blocks = c.num_blocks-b.ensures.count in
     record {
       within = omega (arith, count);
-      walked = rw (begins_past f c.num_blocks-b.result count, count, c.requires.no_ends, c.requires.no_ranges) (walked_none f c.requires.ssa);
+      walked = rw (begins_past f c.num_blocks-b.result count, count)
+          (subst (λ (t : List (Option RangeEnd)). IsWalked f (length f.insts) (length f.blocks) t c.args.ranges.now) (sym c.requires.no_ends)
+          (subst (λ (t : List (Option LiveRange)). IsWalked f (length f.insts) (length f.blocks) (replicate (length c.args.ends.now) None) t)
+          (sym c.requires.no_ranges) (walked_none f c.requires.ssa (length c.args.ends.now) c.requires.room)));
     }
 
 pub walk_insts-requires-clause-walked : goal.walk_insts-requires-clause-walked

@@ -2,6 +2,7 @@ use Rattle.std.proofs.Common.{ℕ, ◌≡◌, ◌+◌, ◌-◌, sym, subst, arit
 use Rattle.regalloc2_function.specs.FunctionValue.{FunctionValue, block_at}
 use Rattle.regalloc2_function.specs.DebugPoints.{DefinesAt}
 use Rattle.regalloc2_semantics.proofs.Order.{ends_within}
+use Rattle.regalloc2_cfg.specs.TableLength.{HasRoom}
 use Rattle.regalloc2_live_ranges.specs.WalkInvariant.{AreEndsFrom, IsWalked}
 use Rattle.regalloc2_live_ranges.proofs.LiveRangeTable.{noted_more, walked_inst}
 use Rattle.regalloc2_live_ranges.proofs.walk.walk_insts.Goals as goal
@@ -17,6 +18,10 @@ begin_at_defs-requires-clause-inst g c =
     let f : FunctionValue = g.F.Function.function c.args.f.now in
     let within = ends_within f c.requires.ssa.follow c.args.block c.requires.block in
     omega (arith, within, c.new-inst.ensures, c.loop-i-test.true, c.loop-i.invariant.within)
+
+pub begin_at_defs-requires-clause-ends_room : goal.begin_at_defs-requires-clause-ends_room
+begin_at_defs-requires-clause-ends_room g c = subst (HasRoom (g.F.Function.function c.args.f.now)) (sym c.note_uses.auto.ends)
+    c.loop-i.invariant.walked.ends_room
 
 pub begin_at_defs-requires-clause-ends : goal.begin_at_defs-requires-clause-ends
 begin_at_defs-requires-clause-ends g c =

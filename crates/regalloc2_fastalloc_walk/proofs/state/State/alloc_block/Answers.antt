@@ -10,7 +10,7 @@ use Rattle.regalloc2_fastalloc_proofs.specs.InstSteps.{StateValue}
 use Rattle.regalloc2_fastalloc_proofs.specs.OutOfRegs.{AllocInstInBlockFails}
 use Rattle.regalloc2_fastalloc_walk.specs.StateView.{tables_of}
 use Rattle.regalloc2_fastalloc_proofs.specs.BranchSteps.{AddsTempSlotsAtMost}
-use Rattle.regalloc2_fastalloc_proofs.specs.BlockSteps.{AllocsInstInBlock, AllocsBlockInsts, at_end, one_in, temp_slots_at, offset_of}
+use Rattle.regalloc2_fastalloc_proofs.specs.BlockSteps.{AllocsInstInBlock, AllocsBlockInsts, DefinesBelow, at_end, one_in, temp_slots_at, offset_of}
 use Rattle.regalloc2_fastalloc_proofs.proofs.Safety.StateKept.{none_lends, lends_then, apart_kept, lacks_all, block_within, lent_so_far}
 use Rattle.regalloc2_fastalloc_walk.specs.SpillFree.{FitInRegs, IsSpillFreeFrom}
 use Rattle.regalloc2_fastalloc_walk.proofs.state.State.alloc_block.Goals as goal
@@ -70,7 +70,7 @@ alloc_inst_in_block-requires g c =
                 (
                   c.requires.defs,
                   (
-                    c.loop-i.invariant.long ∙ c.requires.long,
+                    subst (DefinesBelow f) (sym c.loop-i.invariant.long) c.requires.room,
                     (
                       apart_kept 6 (tables_of c.args.self.now) (tables_of c.loop-i.self) c.loop-i.invariant.machine c.requires.apart,
                       (

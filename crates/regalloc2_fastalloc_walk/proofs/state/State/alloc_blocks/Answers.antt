@@ -9,7 +9,7 @@ use Rattle.regalloc2_fastalloc_proofs.specs.InstSteps.{StateValue}
 use Rattle.regalloc2_fastalloc_proofs.specs.OutOfRegs.{AllocBlockInstsFails, in_block, at_beginning, at_stores}
 use Rattle.regalloc2_fastalloc_walk.specs.BranchStores.{BeginBlockFails, at_reloads, at_its_stores}
 use Rattle.regalloc2_fastalloc_walk.specs.StateView.{tables_of}
-use Rattle.regalloc2_fastalloc_proofs.specs.BlockSteps.{AllocsBlockInsts, AllocsBlocks, BeginsBlock, all_left, one_block, offset_of}
+use Rattle.regalloc2_fastalloc_proofs.specs.BlockSteps.{AllocsBlockInsts, AllocsBlocks, BeginsBlock, DefinesBelow, all_left, one_block, offset_of}
 use Rattle.regalloc2_fastalloc_proofs.proofs.Safety.StateKept.{none_lends, same_lends, lends_then, apart_kept, lacks_all, lack_all, joins_at}
 use Rattle.regalloc2_fastalloc_state.specs.StateParts.{AllocatableRegsValue}
 use Rattle.regalloc2_fastalloc_walk.proofs.BlockSpillFree.{no_params, nobody_left, none_is_stored, none_left_over}
@@ -48,7 +48,7 @@ alloc_block-requires g c =
           (
             c.in_ok-defs.ensures.ok,
             (
-              c.loop-b.invariant.long ∙ c.requires.long,
+              subst (DefinesBelow f) (sym c.loop-b.invariant.long) c.requires.room,
               (
                 apart_kept _ (tables_of c.args.self.now) (tables_of c.loop-b.self) c.loop-b.invariant.machine c.requires.apart,
                 (
@@ -87,7 +87,7 @@ begin_block-requires g c =
           (
             c.in_ok-defs.ensures.ok,
             (
-              c.in_ok-alloc_block.ensures.step.long ∙ c.loop-b.invariant.long ∙ c.requires.long,
+              subst (DefinesBelow f) (sym (c.in_ok-alloc_block.ensures.step.long ∙ c.loop-b.invariant.long)) c.requires.room,
               (
                 apart_kept _ (tables_of c.args.self.now) (tables_of c.alloc_block.new.self) machine c.requires.apart,
                 c.in_ok-alloc_block.ensures.step.later,

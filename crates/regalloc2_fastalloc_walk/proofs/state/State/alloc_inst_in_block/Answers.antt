@@ -12,7 +12,7 @@ use Rattle.regalloc2_fastalloc_state.specs.OutOfResources.{IsResourceError, Slot
 use Rattle.regalloc2_fastalloc_proofs.specs.InstSteps.{StateValue, InTables}
 use Rattle.regalloc2_fastalloc_proofs.specs.OutOfRegs.{AllocInstFails, ProcessBranchFails, in_inst, in_pass}
 use Rattle.regalloc2_fastalloc_walk.specs.StateView.{tables_of}
-use Rattle.regalloc2_fastalloc_proofs.specs.BlockSteps.{AllocsInstInto, offset_of, temp_slots_at}
+use Rattle.regalloc2_fastalloc_proofs.specs.BlockSteps.{AllocsInstInto, DefinesBelow, offset_of, temp_slots_at}
 use Rattle.regalloc2_fastalloc_proofs.proofs.Safety.StateKept.{same_lends, lends_then, apart_kept, ends_in_branch, lack_all, lacks_all, lent_six, to_inst}
 use Rattle.regalloc2_fastalloc_proofs.proofs.Walk.UsesReadOwnDefs.{all_in_tables}
 use Rattle.regalloc2_fastalloc_proofs.proofs.Branches.WellFormedMayBranch.{may_pass, parameters_differ}
@@ -39,7 +39,7 @@ alloc_inst_at-requires g c =
           (
             subst (λ (o : List OperandValue). InTables o (tables_of c.args.self.now)) (sym ops)
                 (all_in_tables c.requires.well_formed.0 f (g.met.F.Function.limited c.args.cx.now.f.now) c.requires.well_formed.1 (tables_of c.args.self.now)
-                c.requires.long i c.requires.inst),
+                c.requires.room i c.requires.inst),
             (
               omega (arith, within, more, c.requires.start, ap length ops, c.requires.allocs_long),
               (
@@ -126,7 +126,7 @@ process_branch-requires g c =
                       c.in_ok-alloc_inst_at.ensures.step.later,
                       (
                         may_pass env f c.requires.well_formed.1 c.args.block c.requires.block (tables_of c.alloc_inst_at.new.self)
-                            (c.in_ok-alloc_inst_at.ensures.step.long ∙ c.requires.long),
+                            (subst (DefinesBelow f) (sym c.in_ok-alloc_inst_at.ensures.step.long) c.requires.room),
                         (
                           parameters_differ env f c.requires.well_formed.1 c.args.block c.requires.block,
                           apart_kept 0 (tables_of c.args.self.now) (tables_of c.alloc_inst_at.new.self)

@@ -7,6 +7,7 @@ use Rattle.regalloc2_names.specs.Register.{VirtualRegister}
 use Rattle.regalloc2_function.specs.FunctionValue.{FunctionValue, block_at}
 use Rattle.regalloc2_fastalloc_state.specs.StateParts.{AllAtOrAfter}
 use Rattle.regalloc2_fastalloc_proofs.specs.BlockStart.{ReloadsAtBegin}
+use Rattle.regalloc2_fastalloc_proofs.specs.BlockSteps.{DefinesBelow}
 use Rattle.regalloc2_fastalloc_proofs.specs.InstSteps.{StateValue}
 use Rattle.regalloc2_fastalloc_proofs.specs.OutOfRegs.{ReloadAtBeginFails}
 use Rattle.regalloc2_fastalloc_proofs.proofs.Safety.StateKept.{same_lends, apart_kept, block_within, params_known}
@@ -34,7 +35,7 @@ reload_at_begin-requires g c =
         (
           subst (λ (n : ℕ). AllAtOrAfter (before n) c.args.self.now.edits) (sym first) c.requires.later,
           subst (λ (vs : List VirtualRegister). All (λ v. v.number < length c.args.self.now.places.vreg_allocs) vs) (sym c.block_params.ensures)
-              (params_known f c.requires.well_formed.1.defined_once _ b c.requires.long c.requires.block),
+              (params_known f _ b c.requires.room c.requires.block),
         ),
       ),
     )
@@ -51,7 +52,7 @@ store_branch_defs-requires g c =
           (
             c.requires.defs,
             (
-              c.reload_at_begin.new.self.same_long ∙ c.in_ok-reload_at_begin.ensures.step.long ∙ c.requires.long,
+              subst (DefinesBelow f) (sym (c.reload_at_begin.new.self.same_long ∙ c.in_ok-reload_at_begin.ensures.step.long)) c.requires.room,
               (
                 apart_kept 0 (tables_of c.args.self.now) (tables_of c.reload_at_begin.new.self)
                     (same_lends 0 (tables_of c.args.self.now) (tables_of c.reload_at_begin.new.self) c.reload_at_begin.ensures.step.machine) c.requires.apart,

@@ -42,7 +42,7 @@ list_params-requires g c =
         ap (λ (l : List VirtualRegister). length l) c.branch_blockparams-arguments.ensures ∙ c.requires.well_formed.1.counted e ie.edge.block k ie.edge.edge
             ∙ ap (λ (l : List VirtualRegister). length l) (sym ps),
         subst (λ (l : List VirtualRegister). All (λ v. v.number < length c.args.self.now.slots.vreg_spillslots) l) (sym ps)
-            (params_known f c.requires.well_formed.1.defined_once (length c.args.self.now.slots.vreg_spillslots) (target_at f e k) c.requires.long target),
+            (params_known f (length c.args.self.now.slots.vreg_spillslots) (target_at f e k) c.requires.room target),
       ),
     )
 

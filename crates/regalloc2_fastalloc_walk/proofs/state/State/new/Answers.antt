@@ -1,5 +1,5 @@
-use Rattle.std.proofs.Common.{◌<◌, ◌≤◌, ◌∙◌, ap, rules, arith}
-use Rattle.regalloc2_fastalloc_state.specs.StateParts.{no_allocs, most_units}
+use Rattle.std.proofs.Common.{◌<◌, ◌≤◌, rules, arith}
+use Rattle.regalloc2_fastalloc_state.specs.StateParts.{most_units}
 use Rattle.regalloc2_semantics.proofs.Plain.{each_of_three}
 use Rattle.regalloc2_fastalloc_walk.proofs.LruUnusedLast.{ring_is}
 use Rattle.regalloc2_fastalloc_walk.proofs.state.State.new.Goals as goal
@@ -13,10 +13,7 @@ new-requires-2 g c = record {
 }
 
 pub new-requires-3 : goal.new-requires-3
-new-requires-3 g c = (search rules, λ k r h. (c.requires k).of_class r h)
-
-pub returns-clause-places : goal.returns-clause-places
-returns-clause-places g c = c.in_ok-places.ensures.empty ∙ ap no_allocs c.num_vregs-vregs.ensures.count
+new-requires-3 g c = (search rules, λ k r h. (c.requires.machine k).of_class r h)
 
 pub returns-clause-lrus : goal.returns-clause-lrus
 returns-clause-lrus g c = λ class. ring_is c.in_ok-registers.registers c.in_ok-registers.ensures.lrus class

@@ -9,15 +9,14 @@ use Rattle.regalloc2_names.specs.Register.{VirtualRegister}
 use Rattle.regalloc2_function.specs.FunctionValue.{FunctionValue, block_at, inst_at}
 use Rattle.regalloc2_function.specs.OutputValue.{MoveValue}
 use Rattle.regalloc2_semantics.specs.Listing.{op_at}
-use Rattle.regalloc2_semantics.proofs.SingleDef.{made_small}
 use Rattle.regalloc2_branch_defs.specs.BranchDefs.{IsEdgeInto}
 use Rattle.regalloc2_branch_defs.proofs.BlockEnds.{last_within}
 use Rattle.regalloc2_fastalloc_state.specs.StateParts.{AllAtOrAfter, NoneIsFrom, SpillSlotsValue}
-use Rattle.regalloc2_fastalloc_proofs.specs.BlockSteps.{MayBeAllocated}
+use Rattle.regalloc2_fastalloc_proofs.specs.BlockSteps.{DefinesBelow, MayBeAllocated}
 use Rattle.regalloc2_fastalloc_proofs.specs.InstSteps.{StateValue, SameMachine}
 use Rattle.regalloc2_fastalloc_proofs.specs.StoreSteps.{IsStoredFor, StoresOn, all_stored, branch_operands}
 use Rattle.regalloc2_fastalloc_proofs.proofs.Evictions.PushedAndRemoved.{same_then}
-use Rattle.regalloc2_fastalloc_proofs.proofs.Safety.StateKept.{block_within}
+use Rattle.regalloc2_fastalloc_proofs.proofs.Safety.StateKept.{block_within, made_below}
 use Rattle.regalloc2_fastalloc_proofs.proofs.Safety.StoredDefs.{concerned_made}
 use Rattle.regalloc2_fastalloc_proofs.proofs.Safety.StoresKeepSafe.{stored_concerned, stored_defines}
 use Rattle.regalloc2_fastalloc_walk.specs.BranchStores.{FindsStores, LacksStoreReg, PushesStores}
@@ -30,14 +29,14 @@ use Rattle.regalloc2_fastalloc_walk.proofs.state.State.store_branch_defs.Goals a
 
 -- what is stored is of vregs of the function, and of operands of the branch
 module _ (f : FunctionValue) (well : MayBeAllocated f) (b e k : ℕ) (edge : IsEdgeInto f b e k) (slots : SpillSlotsValue) where
-  number_small : (j : ℕ) (v : VirtualRegister) → IsStoredFor f e k slots j v → v.number < f.num_vregs
-  number_small j v is = made_small f well.1.defined_once v
+  number_small : (n : ℕ) → DefinesBelow f n → (j : ℕ) (v : VirtualRegister) → IsStoredFor f e k slots j v → v.number < n
+  number_small n room j v is = made_below f n room v
       (concerned_made f well.1.successors well.1.follow b e k v edge (stored_concerned f e k slots j v is))
 
-  operand_small : (j : ℕ) (v : VirtualRegister) → IsStoredFor f e k slots j v → (op_at (branch_operands f e) j).vreg.number < f.num_vregs
-  operand_small j v is =
+  operand_small : (n : ℕ) → DefinesBelow f n → (j : ℕ) (v : VirtualRegister) → IsStoredFor f e k slots j v → (op_at (branch_operands f e) j).vreg.number < n
+  operand_small n room j v is =
       let o : OperandValue = op_at (branch_operands f e) j in
-      made_small f well.1.defined_once o.vreg (concerned_made f well.1.successors well.1.follow b e k o.vreg edge (inl (
+      made_below f n room o.vreg (concerned_made f well.1.successors well.1.follow b e k o.vreg edge (inl (
         j,
         stored_defines f e k slots j v
             is,
@@ -66,7 +65,7 @@ store_moves-requires g c =
     let slots : SpillSlotsValue = c.args.self.now.slots in
     let ops : c.inst_operands.result.now ≡ branch_operands f e = c.inst_operands.ensures ∙ ap (λ (n : ℕ). (inst_at f n).operands) ie.branch in
     let lists = c.in_ok-stores.ensures.ok in
-    let n : length slots.vreg_spillslots ≡ f.num_vregs = c.requires.long in
+    let n : ℕ = length slots.vreg_spillslots in
     let S : StoredDef → Type 0 = λ s. IsStoredFor f e k slots s.index s.to in
     let there : All S c.deref.result.now = subst (λ (l : List StoredDef). All S l) (sym c.deref.ensures.value) lists.each in (
       search rules,
@@ -77,11 +76,10 @@ store_moves-requires g c =
             c.deref.result.now there,
         (
           All-weaker S (λ s. (op_at c.inst_operands.result.now s.index).vreg.number < length slots.vreg_spillslots) (λ s is.
-              subst (λ (m : ℕ). (op_at c.inst_operands.result.now s.index).vreg.number < m) (sym n)
-              (subst (λ (l : List OperandValue). (op_at l s.index).vreg.number < f.num_vregs) (sym ops)
-              (operand_small f c.requires.well_formed c.args.block e k ie.edge slots s.index s.to is))) c.deref.result.now there,
-          All-weaker S (λ s. s.to.number < length slots.vreg_spillslots) (λ s is. subst (λ (m : ℕ). s.to.number < m) (sym n)
-              (number_small f c.requires.well_formed c.args.block e k ie.edge slots s.index s.to is)) c.deref.result.now there,
+              subst (λ (l : List OperandValue). (op_at l s.index).vreg.number < n) (sym ops)
+              (operand_small f c.requires.well_formed c.args.block e k ie.edge slots n c.requires.room s.index s.to is)) c.deref.result.now there,
+          All-weaker S (λ s. s.to.number < n) (λ s is.
+              number_small f c.requires.well_formed c.args.block e k ie.edge slots n c.requires.room s.index s.to is) c.deref.result.now there,
         ),
       ),
     )

@@ -1,0 +1,26 @@
+-- How long a table by virtual register's number has to be.
+use Rattle.std.specs.Prelude.{ℕ, ◌≡◌, ◌+◌, ◌*◌, ◌<◌, ◌≤◌, ◌⊎◌, true, List, Contains, length}
+use Rattle.regalloc2_names.specs.Register.{VirtualRegister}
+use Rattle.regalloc2_names.specs.Operand.{OperandValue, is_def}
+use Rattle.regalloc2_function.specs.FunctionValue.{FunctionValue}
+use Rattle.regalloc2_function.specs.WellFormed.{IsDefinedBy}
+
+-- a table of so many entries has one for each number that the function defines, of those below its count
+abbrev pub HasRoom : FunctionValue → ℕ → Type 0
+HasRoom f n = (v : VirtualRegister) (point : ℕ) → IsDefinedBy f v point → v.number < f.num_vregs → v.number < n
+
+-- and it has no more than some four for each instruction, or than some number that is defined needs
+abbrev pub IsShort : FunctionValue → ℕ → Type 0
+IsShort f n = (n ≤ 4 * length f.insts + 3) ⊎ ((v : VirtualRegister) × (point : ℕ) × IsDefinedBy f v point × (n ≤ v.number + 1))
+
+-- a number that the operand may define is below a bound
+abbrev pub IsBelow : ℕ → OperandValue → Type 0
+IsBelow n o = is_def o.kind ≡ true → o.vreg.number < n
+
+-- some parameter's number comes up to a bound, or one below it
+abbrev pub ReachedByParam : List VirtualRegister → ℕ → Type 0
+ReachedByParam ps n = (v : VirtualRegister) × Contains ps v × (n ≤ v.number + 1)
+
+-- and so does some number that operands define
+abbrev pub ReachedByDef : List OperandValue → ℕ → Type 0
+ReachedByDef os n = (o : OperandValue) × Contains os o × (is_def o.kind ≡ true) × (n ≤ o.vreg.number + 1)
