@@ -99,8 +99,8 @@ fn error_from<A: Allocator>(error: CheckedRunError<A>) -> AllocateError<A>
 /// reads the function's own value, every constraint is met, and no move goes from a place in memory to another; and it has
 /// all that [`run`] promises.
 ///
-/// An error is the first condition of a fitting machine that fails, the first test of the function that fails, or want of
-/// registers, slots or memory. If no path from the entry reads a virtual register before writing it, it is never `Faults`.
+/// An error is the first condition of a fitting machine that fails, the first test of the function that fails, or says that
+/// registers, slots or memory ran out. If no path from the entry reads a virtual register before writing it, it is never `Faults`.
 ///
 /// The checker takes several times as long as the allocation. [`allocate_without_checker`] does without it.
 pub fn allocate<A: Allocator + Copy, F: Function, B: Allocator>(

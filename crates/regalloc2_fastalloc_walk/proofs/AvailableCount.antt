@@ -1,16 +1,18 @@
--- How many registers of a class are free at both positions.
+-- How many registers of a class are free at both positions, and which is left once one is taken.
 use Rattle.std.proofs.Common.{◌≡◌, Bool, true, false, length, refl, sym, ◌∙◌}
-use Rattle.std.specs.Prelude.{◌&&◌, ◌↔◌}
-use Rattle.std.proofs.lemmas.Bool.{and_parts}
+use Rattle.std.specs.Prelude.{◌&&◌, ◌↔◌, not}
+use Rattle.std.proofs.Common.{inl, inr}
+use Rattle.std.proofs.lemmas.Bool.{and_parts, cases_Bool}
 use Rattle.regalloc2_names.specs.declared.RegClass.{RegClass}
 use Rattle.regalloc2_names.specs.declared.sets.PRegSet.{PRegSet}
-use Rattle.regalloc2_names.specs.Register.{Register}
+use Rattle.regalloc2_names.specs.Register.{Register, is_register}
 use Rattle.regalloc2_names.specs.RegisterSet.{has_register, registers_of}
 use Rattle.regalloc2_function.specs.Fitting.{register_number}
 use Rattle.regalloc2_fastalloc_state.specs.declared.inst_regs.InstRegs.{InstRegs}
 use Rattle.regalloc2_fastalloc_state.specs.InstRegs.{IsAvailableAt, both, free_count, is_free, is_free_throughout}
 use Rattle.regalloc2_fastalloc_state.proofs.CountingLaws.{count_same}
 use Rattle.regalloc2_fastalloc_state.proofs.SetMembers.{members_of_class}
+use Rattle.regalloc2_semantics.proofs.Cells.{is_register-true}
 
 same_bool : (a b : Bool) → (a ≡ true → b ≡ true) → (b ≡ true → a ≡ true) → a ≡ b
 same_bool true b f g = sym (f refl)
@@ -39,3 +41,11 @@ free_counted set free own allocatable inst_regs class into from split meet =
         (and_both (has_register inst_regs.early r) (has_register inst_regs.late r) (f.early refl) (f.late refl)))
         (λ h. let p = and_parts (has_register allocatable r) (is_free_throughout inst_regs r) h in
         meet r ∙ and_both (has_register free r) (has_register own r) (from r p.1) ((split r).1 (of_class, p.0)))
+
+-- a register of a set that isn't there once another is taken out is that one
+pub only_first : (free rest : PRegSet) (first r : Register) → has_register rest r ≡ (not (is_register first r) && has_register free r) →
+    has_register free r ≡ true → has_register rest r ≡ false → first ≡ r
+only_first free rest first r left here gone = elim (cases_Bool (is_register first r)) [
+  | inl e ↦ is_register-true first r e
+  | inr e ↦ absurd (let there : has_register rest r ≡ true = left ∙ rw (e, here) refl in cc)
+]

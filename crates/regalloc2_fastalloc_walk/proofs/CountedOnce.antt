@@ -1,9 +1,8 @@
--- Counts of what passes a test: at least two where two elements pass, and elements that pass where there are as many.
-use Rattle.std.proofs.Common.{ℕ, suc, ◌≡◌, ◌<◌, ◌≤◌, Bool, true, false, cond, inl, inr, List, [], ◌∷◌, length, min, take, ap, ◌∙◌, arith}
+-- Elements that pass a test, where a count says that there are one or two.
+use Rattle.std.proofs.Common.{ℕ, suc, ◌≡◌, ◌<◌, ◌≤◌, Bool, true, false, cond, inl, inr, List, [], ◌∷◌, length, ap, arith}
 use Rattle.std.specs.Prelude.{count_by, slice_index_or}
 use Rattle.std.proofs.lemmas.Bool.{cases_Bool}
-use Rattle.std.proofs.lemmas.List.{get_or-take, length-take}
-use Rattle.std.proofs.lemmas.List.Sums.{sum_by-cons, sum_by_more_le, get_or-le-sum_by}
+use Rattle.std.proofs.lemmas.List.Sums.{sum_by-cons}
 
 -- one, or none
 abbrev one_if : Bool → ℕ
@@ -14,18 +13,6 @@ counts p x e = ap one_if e
 
 counts_no : {X : Type 0} (p : X → Bool) (x : X) → p x ≡ false → one_if (p x) ≡ 0
 counts_no p x e = ap one_if e
-
-pub two_at_least : {X : Type 0} (p : X → Bool) (xs : List X) (i j : ℕ) (d : X) → i < j → j < length xs → p (slice_index_or xs i d) ≡ true →
-    p (slice_index_or xs j d) ≡ true → 2 ≤ count_by p xs
-two_at_least {X} p xs i j d lt less a b =
-    let f : X → ℕ = λ x. one_if (p x) in
-    let long : length (take j xs) ≡ min j (length xs) = length-take j xs in
-    let first = get_or-le-sum_by f (take j xs) i d (omega (arith, long, lt, less)) in
-    let same : slice_index_or (take j xs) i d ≡ slice_index_or xs i d = get_or-take j xs i d lt in
-    let x : f (slice_index_or (take j xs) i d) ≡ 1 = ap f same ∙ counts p (slice_index_or xs i d) a in
-    let y : f (slice_index_or xs j d) ≡ 1 = counts p (slice_index_or xs j d) b in
-    let both = sum_by_more_le f xs j d less in
-    omega (arith, first, x, y, both)
 
 -- an element passes
 pub one_counted : {X : Type 0} (p : X → Bool) (xs : List X) (d : X) → 1 ≤ count_by p xs → (i : ℕ) × (i < length xs) × (p (slice_index_or xs i d) ≡ true)

@@ -60,10 +60,6 @@ but_not r (x ∷ xs) h = by (but_not r xs) (is_register r x) refl h
     by rest true e c = rest c
     by rest false e (k, less, at) = past rest k e less at
 
--- leaving a register out of two lists put together is leaving it out of each
-pub but_split : (r : Register) (xs ys : List Register) → but r (xs ++ ys) ≡ but r xs ++ but r ys
-but_split r xs ys = filter-append (λ q. not (is_register r q)) xs ys
-
 -- a list that isn't empty has a last member
 last_split : (x : Register) (xs : List Register) → (front : List Register) × (last : Register) × ((x ∷ xs) ≡ front ++ (last ∷ []))
 last_split x [] = ([], x, refl)

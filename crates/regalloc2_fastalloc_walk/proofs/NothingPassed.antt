@@ -1,5 +1,5 @@
 -- A branch to blocks that have no parameters: it gathers no moves, and leaves the state as it is.
-use Rattle.std.proofs.Common.{ℕ, zero, suc, ◌≡◌, ◌+◌, ◌<◌, ◌≤◌, List, [], length, refl, sym, ap, subst, add-one, arith}
+use Rattle.std.proofs.Common.{ℕ, zero, suc, ◌≡◌, ◌<◌, ◌≤◌, List, [], length, refl, sym, ap, subst, add-one, arith}
 use Rattle.std.proofs.lemmas.List.{append-nil}
 use Rattle.regalloc2_names.specs.declared.RegClass.{RegClass}
 use Rattle.regalloc2_names.specs.declared.RegClass.TheVariants.{Int, Float, Vector}

@@ -60,10 +60,6 @@ takes_held t u r p h = record {
     other true b c e = rw e refl
     other false b c e = refl
 
--- where nothing changes no register is taken but, if any, this one
-pub takes_none : (t : InstRegs) (r : Register) → TakesOnly r t t
-takes_none t r = record { early = λ q e. refl; late = λ q e. refl }
-
 -- a register that operands are fixed to is taken, or none is
 pub fixed_none : (ops : List OperandValue) (t u : InstRegs) → u.early ≡ t.early → u.late ≡ t.late → TakesFixed ops t u
 fixed_none ops t u e l r was now = absurd (let same : is_free_throughout u r ≡ is_free_throughout t r = rw (e, l) refl in let x : true ≡ false = sym was

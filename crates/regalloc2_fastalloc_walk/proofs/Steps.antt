@@ -39,12 +39,7 @@ pub fails_with : {A T : Type 0} {at : ℕ} {e d : RegAllocError} (r : Result T R
     → SameMachine (tables_of a) (tables_of b) → IsResourceErrorIn b.slots e → IsStepAt at r a b
 fails_with r a b is same kept lacks = rw is (rw same (record { machine = kept; later = search rules; long = search rules; err = lacks }))
 
--- a step that fails where another does
-pub step_fails : {A T U : Type 0} {point at : ℕ} {e d : RegAllocError} (r : Result U RegAllocError) (a b : State A) → r ≡ Err d → d ≡ e
-    → IsStepAt {T = T} point (Err e) a b → IsStepAt at r a b
-step_fails r a b is same step = fails_with r a b is same step.machine step.err
-
--- the same after what keeps the machine
+-- a step that fails where another does, after what keeps the machine
 pub step_then_fails : {A T U : Type 0} {point at : ℕ} {e d : RegAllocError} (r : Result U RegAllocError) (a b c : State A) → r ≡ Err d → d ≡ e
     → SameMachine (tables_of a) (tables_of b) → IsStepAt {T = T} point (Err e) b c → IsStepAt at r a c
 step_then_fails r a b c is same kept step = fails_with r a c is same (same_then (tables_of a) (tables_of b) (tables_of c) kept step.machine) step.err

@@ -30,7 +30,7 @@ Makes Step result old new = OnOk result (Between Step old new)
 abbrev pub MakesOne : {A T : Type 0} → (T → StateValue → StateValue → Type 0) → Result T RegAllocError → State A → State A → Type 0
 MakesOne Step result old new = IfOk result (λ x. Between (Step x) old new)
 
--- a call fails for want of registers only if the tables lack them so
+-- a call runs out of registers only if the tables lack them in this way
 abbrev pub StopsOnlyIf : {A T : Type 0} → (StateValue → Type 0) → Result T RegAllocError → State A → Type 0
 StopsOnlyIf Lack result old = IfErr result (OutOfRegsOnlyIf (Lack (tables_of old)))
 

@@ -2,7 +2,7 @@
 
 ghost use Rattle.regalloc2_semantics.specs.Blocks.{HasEdge, target_at};
 ghost use Rattle.std.specs.Prelude.{ℕ, List, ◌≡◌, ◌↔◌, ◌≢◌, ◌<◌, ◌≤◌, ◌+◌, ◌++◌, ◌∷◌, ◌⊎◌, [], None, Some, length, IsTrue, IfOk, IfSome, IfErr, OnOk};
-ghost use Rattle.std.specs.Prelude.{OnErr, slice_index_or, true};
+ghost use Rattle.std.specs.Prelude.{OnErr, IfNone, find, reverse, slice_index_or, true};
 ghost use Rattle.regalloc2_names.specs.Place.{Place, NoPlace, InRegister};
 ghost use Rattle.regalloc2_names.specs.Point.{before};
 ghost use Rattle.regalloc2_names.specs.Register.{Register, class_code};
@@ -21,7 +21,9 @@ ghost use Rattle.regalloc2_branch_defs.specs.Tables.{AreBranchDefsOf};
 ghost use Rattle.regalloc2_fastalloc_proofs.specs.BlockSteps.{MayBeAllocated};
 ghost use Rattle.regalloc2_fastalloc_walk.specs.OwnDefs.{IsOwnBy, GathersArgument, GatherArgumentFails};
 ghost use Rattle.regalloc2_fastalloc_walk.specs.StateView.{Between, IsBranchStepAt, IsStepAt, Makes, MakesOne, SameTables, StopsOnlyIf, tables_of};
-ghost use Rattle.regalloc2_fastalloc_state.specs.StateParts.{SlotsHaveOneOwner, IsLeastRecentIn, AllAtOrAfter};
+ghost use Rattle.regalloc2_names.specs.RegisterSet.{has_register};
+ghost use Rattle.regalloc2_fastalloc_state.specs.InstRegs.{is_free_throughout};
+ghost use Rattle.regalloc2_fastalloc_state.specs.StateParts.{SlotsHaveOneOwner, IsLeastRecentIn, NoneIsIn, AllAtOrAfter, lru_of};
 
 use super::state::State;
 use super::walk::FunctionCx;
@@ -52,7 +54,8 @@ impl<A: Allocator> OwnDefs<'_, A> {
 
 /// A register as a place.
 fn as_place(preg: Option<PReg>) -> Option<Allocation>
-    ensures { (p : Place) → result ≡ Some p → (r : Register) × (p ≡ InRegister r) × (preg ≡ Some r) }
+    ensures some { (p : Place) → result ≡ Some p → (r : Register) × (p ≡ InRegister r) × (preg ≡ Some r) }
+    ensures none { result ≡ None → preg ≡ None }
 {
     match preg {
         Some(preg) => Some(Allocation::reg(preg)),
@@ -64,8 +67,8 @@ fn as_place(preg: Option<PReg>) -> Option<Allocation>
 fn passes_nothing<F: Function>(f: &F, block: Block) -> bool
     requires block { block < length (F.function f.now).blocks }
     requires targets { (k : ℕ) → HasEdge (F.function f.now) block k → target_at (F.function f.now) block k < length (F.function f.now).blocks }
-    ensures { IsTrue result → (k : ℕ) → HasEdge (F.function f.now) block k →
-        (block_at (F.function f.now) (target_at (F.function f.now) block k)).params ≡ [] }
+    ensures { IsTrue result ↔ ((k : ℕ) → HasEdge (F.function f.now) block k →
+        (block_at (F.function f.now) (target_at (F.function f.now) block k)).params ≡ []) }
 {
     let succs = f.block_succs(block);
     for k in 0..succs.len() {
@@ -163,8 +166,12 @@ impl<'b, B: Allocator> MovesByClass<'b, B> {
 impl<'a, A: Allocator> State<'a, A> {
     /// The first scratch register for moves of a class: that of the machine, else the least recently used one in the set.
     fn first_scratch(&self, class: RegClass, free: PRegSet) -> Option<PReg>
-        ensures { IfSome result (λ r. (slice_index_or self.now.registers.dedicated_scratch (class_code class) None ≡ Some r)
+        ensures found { IfSome result (λ r. (slice_index_or self.now.registers.dedicated_scratch (class_code class) None ≡ Some r)
             ⊎ IsLeastRecentIn self.now.registers class free r) }
+        ensures own { (r : Register) → slice_index_or self.now.registers.dedicated_scratch (class_code class) None ≡ Some r → result ≡ Some r }
+        ensures oldest { slice_index_or self.now.registers.dedicated_scratch (class_code class) None ≡ None →
+            result ≡ find (has_register free) (reverse (lru_of self.now.registers class)) }
+        ensures none { IfNone result (NoneIsIn self.now.registers class free) }
     {
         match self.registers.dedicated_scratch(class) {
             Some(preg) => Some(preg),
@@ -176,6 +183,10 @@ impl<'a, A: Allocator> State<'a, A> {
     fn scratch_regs(&self, inst_regs: &InstRegs, class: RegClass) -> ScratchPair
         ensures scratch_reserve { (p : Place) → IsOfScratchPair result p → IsScratchRegFor inst_regs.now (tables_of self.now) class p }
         ensures differ { DoDiffer result }
+        ensures own { (r : Register) → slice_index_or self.now.registers.dedicated_scratch (class_code class) None ≡ Some r →
+            result.first ≡ Some (InRegister r) }
+        ensures all { (r : Register) → r.number < 64 → r.class ≡ class → has_register self.now.registers.allocatable r ≡ true →
+            is_free_throughout inst_regs.now r ≡ true → (result.first ≢ None) × (result.second ≡ None → result.first ≡ Some (InRegister r)) }
     {
         let free = inst_regs.available_pregs(Positions::both());
         let Some(first) = self.first_scratch(class, free) else {

@@ -15,6 +15,7 @@ ghost use Rattle.regalloc2_fastalloc_proofs.specs.InstSteps.{MayHold, ClaimsPlac
 ghost use Rattle.regalloc2_fastalloc_proofs.specs.InstSteps.{MeetsRequirement};
 ghost use Rattle.regalloc2_fastalloc_proofs.specs.OutOfRegs.{NoneIsAvailable, EvictPRegFails, AllocDefOpFails, FreeDefFails};
 ghost use Rattle.regalloc2_fastalloc_proofs.specs.OutOfRegs.{AllocOperandFails, SelectPlaceFails, AddMoveIfFails};
+ghost use Rattle.regalloc2_fastalloc_walk.specs.PlaceChoice.{IsUnaffordable};
 ghost use Rattle.regalloc2_fastalloc_walk.specs.StateView.{Between, IsStepAt, Makes, MakesOne, SameTables, StopsOnlyIf, tables_of};
 
 use super::state::State;
@@ -97,6 +98,7 @@ impl<'a, A: Allocator> State<'a, A> {
     #[inline(always)]
     fn is_enough(&self, inst_regs: &InstRegs, preg: PReg) -> bool
         ensures enough { IsTrue result → IsAffordable inst_regs.now (tables_of self.now) preg }
+        ensures refused { IsFalse result → IsUnaffordable inst_regs.now (tables_of self.now) preg }
     {
         let class = preg.class();
         let taken = if inst_regs.is_free(preg) { 1 } else { 0 };
@@ -115,7 +117,8 @@ impl<'a, A: Allocator> State<'a, A> {
         ensures affordable { IsTrue result → requirement ≡ Requirement.AnyPlace → (r : Register) → place ≡ InRegister r
             → IsAffordable inst_regs.now (tables_of self.now) r }
         ensures others { requirement ≡ Requirement.AnyReg → IsTrue result }
-        ensures refused { IsFalse result → (r : Register) × (place ≡ InRegister r) }
+        ensures refused { IsFalse result → (r : Register) × (place ≡ InRegister r) × (requirement ≡ Requirement.AnyPlace)
+            × (has_register self.now.registers.allocatable r ≡ true) × IsUnaffordable inst_regs.now (tables_of self.now) r }
     {
         match (requirement, place.as_reg()) {
             (Requirement::AnyPlace, Some(preg)) => {
@@ -161,6 +164,8 @@ impl<'a, A: Allocator> State<'a, A> {
         requires { request.now.vreg.number < length self.now.places.vreg_allocs }
         ensures affordable { IsTrue result → IsAffordable inst_regs.now (tables_of self.now) preg }
         ensures awaited { IsTrue result → request.now.is_def ≡ true → alloc_of self.now.places request.now.vreg.number ≢ NoPlace }
+        ensures refused { IsFalse result → ((request.now.is_def ≡ true) × (alloc_of self.now.places request.now.vreg.number ≡ NoPlace))
+            ⊎ IsUnaffordable inst_regs.now (tables_of self.now) preg }
     {
         if request.is_def && self.places.current_alloc(request.vreg).is_none() {
             return false;

@@ -8,7 +8,7 @@ use Rattle.regalloc2_fastalloc_proofs.specs.BranchSteps.{MayBeParallel, of_class
 use Rattle.regalloc2_fastalloc_state.specs.OutOfResources.{SlotsExhausted, SlotsExhaustedWith, IsResourceError}
 use Rattle.regalloc2_fastalloc_state.specs.ScratchPool.{Moves}
 use Rattle.regalloc2_fastalloc_proofs.specs.InstSteps.{StateValue}
-use Rattle.regalloc2_fastalloc_proofs.specs.OutOfRegs.{OrderMovesFails, in_order}
+use Rattle.regalloc2_fastalloc_proofs.specs.OutOfRegs.{OrderMovesFails, in_gather, in_order}
 use Rattle.regalloc2_fastalloc_walk.specs.StateView.{tables_of}
 use Rattle.regalloc2_fastalloc_state.specs.StateParts.{AllAtOrAfter}
 use Rattle.regalloc2_fastalloc_proofs.proofs.Branches.ArgMovesAreParallel.{apart_lent, full_before, gathered_below, gathered_sources, lends_none, pushes_at}
@@ -23,7 +23,7 @@ use Rattle.regalloc2_fastalloc_walk.proofs.state.State.process_branch.Goals as g
 pub returns-then-passes_nothing-clause-ok : goal.returns-then-passes_nothing-clause-ok
 returns-then-passes_nothing-clause-ok g c =
     processes_nothing (g.F.Function.function c.args.cx.now.f.now) c.args.block c.args.inst_regs.now (tables_of c.args.self.now)
-    (c.if-passes_nothing.ensures refl) c.args.inst
+    (c.if-passes_nothing.ensures.0 refl) c.args.inst
 
 pub returns-then-passes_nothing-clause-step : goal.returns-then-passes_nothing-clause-step
 returns-then-passes_nothing-clause-step g c = record {
@@ -135,6 +135,12 @@ returns-in_err-push_gathered-clause-step g c =
           (full_before 0 (b.slots.num_temp_slots + 6) 6 old b (lends_none old b c.gather.ensures.step.machine) (omega arith)) _
           c.in_err-push_gathered.ensures.err);
     })
+
+-- an argument that can't be spilled
+pub returns-in_err-moves-clause-stops : goal.returns-in_err-moves-clause-stops
+returns-in_err-moves-clause-stops g c =
+    let p = err_from_is_err_and c.from_residual.result c.from_residual.ensures.1 in
+    rw p.1 (λ same. in_gather (c.in_err-moves.ensures.stops (sym p.2 ∙ same)))
 
 -- moves of a class that has no register
 pub returns-in_err-push_gathered-clause-stops : goal.returns-in_err-push_gathered-clause-stops

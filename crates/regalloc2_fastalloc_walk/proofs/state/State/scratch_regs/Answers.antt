@@ -1,20 +1,51 @@
-use Rattle.std.proofs.Common.{refl, subst}
+use Rattle.std.proofs.Common.{◌≡◌, Some, ap, ◌∙◌, refl, subst}
+use Rattle.std.specs.Prelude.{Option, IfNone}
+use Rattle.regalloc2_names.specs.Register.{Register}
+use Rattle.regalloc2_names.specs.Place.{Place, InRegister}
 use Rattle.regalloc2_fastalloc_state.specs.InstRegs.{IsAvailableAt}
+use Rattle.regalloc2_fastalloc_state.specs.StateParts.{NoneIsIn}
 use Rattle.regalloc2_fastalloc_walk.specs.StateView.{tables_of}
 use Rattle.regalloc2_fastalloc_state.specs.declared.inst_regs.Positions.{Positions}
 use Rattle.regalloc2_fastalloc_proofs.proofs.Moves.ParallelMovesOrdered.{spare_of, differ_of}
+use Rattle.regalloc2_fastalloc_walk.proofs.AvailableCount.{only_first}
 use Rattle.regalloc2_fastalloc_walk.proofs.state.State.scratch_regs.Goals as goal
 
 pub returns-clause-scratch_reserve : goal.returns-clause-scratch_reserve
 returns-clause-scratch_reserve g c =
     spare_of c.args.inst_regs.now (tables_of c.args.self.now) c.args.self.now.registers c.args.class c.available_pregs-free.result c.remove.new.self
     c.in-Some.first c.reg.result c.as_place.result c.least_recently_used.result refl refl
-    (λ r e. subst (λ (p : Positions). IsAvailableAt c.args.inst_regs.now p r) c.both.ensures (c.available_pregs-free.ensures.free r e)) c.in-Some.ensures
-    c.remove.ensures.members c.reg.ensures c.as_place.ensures c.least_recently_used.ensures.found
+    (λ r e. subst (λ (p : Positions). IsAvailableAt c.args.inst_regs.now p r) c.both.ensures (c.available_pregs-free.ensures.free r e)) c.in-Some.ensures.found
+    c.remove.ensures.members c.reg.ensures c.as_place.ensures.some c.least_recently_used.ensures.found
 
 pub returns-clause-differ : goal.returns-clause-differ
 returns-clause-differ g c =
     differ_of c.args.inst_regs.now (tables_of c.args.self.now) c.args.self.now.registers c.args.class c.available_pregs-free.result c.remove.new.self
     c.in-Some.first c.reg.result c.as_place.result c.least_recently_used.result refl refl
-    (λ r e. subst (λ (p : Positions). IsAvailableAt c.args.inst_regs.now p r) c.both.ensures (c.available_pregs-free.ensures.free r e)) c.in-Some.ensures
-    c.remove.ensures.members c.reg.ensures c.as_place.ensures c.least_recently_used.ensures.found
+    (λ r e. subst (λ (p : Positions). IsAvailableAt c.args.inst_regs.now p r) c.both.ensures (c.available_pregs-free.ensures.free r e)) c.in-Some.ensures.found
+    c.remove.ensures.members c.reg.ensures c.as_place.ensures.some c.least_recently_used.ensures.found
+
+-- the machine's own comes first
+pub returns-in_default-clause-own : goal.returns-in_default-clause-own
+returns-in_default-clause-own g c = λ r e. absurd (let x = c.in_default.ensures.own r e in cc)
+
+pub returns-clause-own : goal.returns-clause-own
+returns-clause-own g c = λ r e.
+    let x : Some c.in-Some.first ≡ Some r = c.in-Some.ensures.own r e in
+    let same : c.in-Some.first ≡ r = cc in
+    ap (λ (p : Place). Some p) (c.reg.ensures ∙ ap (λ (q : Register). InRegister q) same)
+
+-- a free register would be found, or is the one that was
+pub returns-in_default-clause-all : goal.returns-in_default-clause-all
+returns-in_default-clause-all g c = λ r small of_class held free. absurd
+    (let no = c.in_default.ensures.none r small of_class held in let yes = c.available_pregs-free.ensures.throughout r free in cc)
+
+pub returns-clause-all : goal.returns-clause-all
+returns-clause-all g c = λ r small of_class held free. (
+  λ none. absurd cc,
+  λ none. let gone = c.as_place.ensures.none none in
+      let rest = subst (λ (o : Option Register). IfNone o (NoneIsIn c.args.self.now.registers c.args.class c.remove.new.self)) gone
+      c.least_recently_used.ensures.none in
+      let same = only_first c.available_pregs-free.result c.remove.new.self c.in-Some.first r (c.remove.ensures.members r)
+      (c.available_pregs-free.ensures.throughout r free) (rest r small of_class held) in
+      ap (λ (p : Place). Some p) (c.reg.ensures ∙ ap (λ (q : Register). InRegister q) same),
+)
