@@ -22,7 +22,7 @@ use Rattle.regalloc2_function.specs.DebugPoints.IsLastPoint.{of_late_use, of_ear
 use Rattle.regalloc2_semantics.proofs.Order.{ends_within}
 use Rattle.regalloc2_live_ranges.specs.declared.KeptLabel.{KeptLabel}
 use Rattle.regalloc2_live_ranges.specs.declared.LiveRange.{LiveRange}
-use Rattle.regalloc2_live_ranges.specs.LiveRanges.{AreKeptLabels, AreLiveRanges, IsKeptRange, IsSSA, IsShownBy, range_at}
+use Rattle.regalloc2_live_ranges.specs.LiveRanges.{AreKeptLabels, AreLiveRanges, IsKeptRange, IsLabelled, IsSSA, IsShownBy, range_at}
 use Rattle.regalloc2_live_ranges.specs.LiveRanges.AreKeptLabels.{none, kept, left_out}
 use Rattle.regalloc2_live_ranges.proofs.FirstAndLastPoints.{one_first_point, one_last_point}
 
@@ -81,8 +81,8 @@ last_small f limited ssa v (of_early_use i a never l) = let small = use_small f 
 last_small f limited ssa v (of_argument i a never nor) = let small = use_small f ssa v i a.0 in omega (arith, small, limited.insts)
 last_small f limited ssa v (ends_at_definition i d never) = omega (arith, d.0, limited.insts)
 
-module _ (f : FunctionValue) (limited : IsLimited f) (ssa : IsSSA f) (t : List (Option LiveRange)) (are : AreLiveRanges f t) (l : Label) (r : LiveRange)
-    (is : range_at t l.vreg.number ≡ Some r) where
+module _ (f : FunctionValue) (limited : IsLimited f) (ssa : IsSSA f) (t : List (Option LiveRange)) (are : AreLiveRanges f (IsLabelled f) t) (l : Label)
+    (named : IsLabelled f l.vreg.number) (r : LiveRange) (is : range_at t l.vreg.number ≡ Some r) where
   -- a label that lies within is kept
   pub kept_right : r.vreg ≡ l.vreg → inst_of_point r.first ≤ l.start → l.end ≤ inst_of_point r.last + 1 → IsKeptRange f l r
   kept_right same from upto =
@@ -103,7 +103,7 @@ module _ (f : FunctionValue) (limited : IsLimited f) (ssa : IsSSA f) (t : List (
   -- and one that is kept lies within
   pub kept_within : (start end : ℕ) → IsKept f l start end → (r.vreg ≡ l.vreg) × (inst_of_point r.first ≤ l.start) × (l.end ≤ inst_of_point r.last + 1)
   kept_within start end k =
-      let there = are.all l.vreg start end k.0 k.1 in
+      let there = are.all l.vreg start end named k.0 k.1 in
       let one : Some there.0 ≡ Some r = sym there.1 ∙ is in
       let same : r.vreg ≡ l.vreg = let e : there.0 ≡ r = cc in ap (λ (x : LiveRange). x.vreg) (sym e) ∙ there.2 in
       let live = (are.found l.vreg.number r is).1 in

@@ -19,12 +19,12 @@ use Rattle.regalloc2_cfg.specs.TableLength.{HasRoom}
 use Rattle.regalloc2_live_ranges.specs.declared.LiveRange.{LiveRange}
 use Rattle.regalloc2_live_ranges.specs.declared.ends.RangeEnd.{RangeEnd}
 use Rattle.regalloc2_live_ranges.specs.LiveRanges.{AreLiveRanges, IsDefiner, IsLiveRange, IsSSA, range_at}
-use Rattle.regalloc2_live_ranges.specs.LastUses.{EndsFrom, NotesUses, UsesNumber, end_at, end_behind, no_vreg}
+use Rattle.regalloc2_live_ranges.specs.LastUses.{EndsFrom, EndsUse, NotesUses, UsesNumber, end_at, end_behind, no_vreg}
 use Rattle.regalloc2_live_ranges.specs.LastUses.UsesNumber.{reads, passes}
-use Rattle.regalloc2_live_ranges.specs.WalkInvariant.{AreEndsFrom, AreRight, IsWalked, Stay, begin_of}
+use Rattle.regalloc2_live_ranges.specs.WalkInvariant.{AreEndsFrom, AreRight, IsWalked, NamesNone, Stay, begin_of}
 use Rattle.regalloc2_live_ranges.proofs.ItemsPastEnd.{any_default, op_is}
-use Rattle.regalloc2_live_ranges.proofs.UsesNoted.{ends_more}
-use Rattle.regalloc2_live_ranges.proofs.UsesInSSA.{definer_small, made_by_definition, made_by_parameter, parameter_small}
+use Rattle.regalloc2_live_ranges.proofs.UsesNoted.{ends_more, notes_nothing, passed_here}
+use Rattle.regalloc2_live_ranges.proofs.UsesInSSA.{definer_small, defines_number, made_by_definition, made_by_parameter, parameter_small}
 use Rattle.regalloc2_live_ranges.proofs.FirstAndLastPoints.{is_used, range_of_definition, range_of_parameter, used_ends}
 
 lt_or_le : (m n : ℕ) → (m < n) ⊎ (n ≤ m)
@@ -81,74 +81,78 @@ range_same f a v p q d e same at end h =
 up_to : (k m : ℕ) → k < m + 1 → (k < m) ⊎ (k ≡ m)
 up_to k m lt = grind arith
 
--- the first so many operands' definitions have entries
-abbrev pub AreBegun : List OperandValue → ℕ → List (Option LiveRange) → Type 0
-AreBegun ops m t = (k : ℕ) → k < m → k < length ops → is_def (op_at ops k).kind ≡ true → range_at t (op_at ops k).vreg.number ≢ None
+-- of the first so many operands' definitions, those that are asked for have entries
+abbrev pub AreBegun : (ℕ → Type 0) → List OperandValue → ℕ → List (Option LiveRange) → Type 0
+AreBegun Asked ops m t = (k : ℕ) → k < m → k < length ops → is_def (op_at ops k).kind ≡ true → Asked (op_at ops k).vreg.number →
+    range_at t (op_at ops k).vreg.number ≢ None
 
 -- with an entry set at the number of operand m, the definitions among the first m + 1 operands have entries
-pub begun_more : (ops : List OperandValue) (m n : ℕ) (t : List (Option LiveRange)) (o : OperandValue) (r : LiveRange) → m < length ops →
-    o ≡ slice_index_or ops m o → n ≡ o.vreg.number → n < length t → AreBegun ops m t → AreBegun ops (m + 1) (set t n (Some r))
-begun_more ops m n t o r less is same room h k lt within def = elim (up_to k m lt) [
-  | inl before ↦ stay_set t n r room (op_at ops k).vreg.number (h k before within def)
+pub begun_more : (Asked : ℕ → Type 0) (ops : List OperandValue) (m n : ℕ) (t : List (Option LiveRange)) (o : OperandValue) (r : LiveRange) → m < length ops →
+    o ≡ slice_index_or ops m o → n ≡ o.vreg.number → n < length t → AreBegun Asked ops m t → AreBegun Asked ops (m + 1) (set t n (Some r))
+begun_more Asked ops m n t o r less is same room h k lt within def asked = elim (up_to k m lt) [
+  | inl before ↦ stay_set t n r room (op_at ops k).vreg.number (h k before within def asked)
   | inr here ↦ (let at : (op_at ops k).vreg.number ≡ n = ap (λ (j : ℕ). (op_at ops j).vreg.number) here
       ∙ ap (λ (p : OperandValue). p.vreg.number) (op_is ops m o less (sym is)) ∙ sym same in
       subst (λ (q : ℕ). range_at (set t n (Some r)) q ≢ None) (sym at) (there_now t n r room))
 ]
 
--- with an operand m that is no definition, those among the first m + 1 operands have entries if those before it do
-pub begun_same : (ops : List OperandValue) (m : ℕ) (t : List (Option LiveRange)) (o : OperandValue) → m < length ops → o ≡ slice_index_or ops m o →
-    is_def o.kind ≡ false → AreBegun ops m t → AreBegun ops (m + 1) t
-begun_same ops m t o less is use' h k lt within def = elim (up_to k m lt) [
-  | inl before ↦ h k before within def
-  | inr here ↦ absurd (let at : is_def (op_at ops k).kind ≡ is_def o.kind = ap (λ (j : ℕ). is_def (op_at ops j).kind) here
-      ∙ ap (λ (p : OperandValue). is_def p.kind) (op_is ops m o less (sym is)) in cc)
+-- with an operand m that defines nothing that is asked for, those among the first m + 1 operands have entries if those before it do
+pub begun_same : (Asked : ℕ → Type 0) (ops : List OperandValue) (m : ℕ) (t : List (Option LiveRange)) (o : OperandValue) → m < length ops →
+    o ≡ slice_index_or ops m o → (is_def o.kind ≡ true → Asked o.vreg.number → ⊥) → AreBegun Asked ops m t → AreBegun Asked ops (m + 1) t
+begun_same Asked ops m t o less is never h k lt within def asked = elim (up_to k m lt) [
+  | inl before ↦ h k before within def asked
+  | inr here ↦ (let at : op_at ops k ≡ o = ap (λ (j : ℕ). op_at ops j) here ∙ op_is ops m o less (sym is) in
+      absurd (never (ap (λ (p : OperandValue). is_def p.kind) (sym at) ∙ def) (subst (λ (p : OperandValue). Asked p.vreg.number) at asked)))
 ]
 
--- the first so many parameters have entries, where they have ends
-abbrev pub AreTaken : List VirtualRegister → ℕ → List (Option RangeEnd) → List (Option LiveRange) → Type 0
-AreTaken vs m ends t = (k : ℕ) → k < m → k < length vs → end_at ends (slice_index_or vs k no_vreg).number ≢ None →
-    range_at t (slice_index_or vs k no_vreg).number ≢ None
+-- of the first so many parameters, those that are asked for and have ends have entries
+abbrev pub AreTaken : (ℕ → Type 0) → List VirtualRegister → ℕ → List (Option RangeEnd) → List (Option LiveRange) → Type 0
+AreTaken Asked vs m ends t = (k : ℕ) → k < m → k < length vs → Asked (slice_index_or vs k no_vreg).number →
+    end_at ends (slice_index_or vs k no_vreg).number ≢ None → range_at t (slice_index_or vs k no_vreg).number ≢ None
 
 -- with an entry set at the number of parameter m, those of the first m + 1 parameters that have ends have entries
-pub taken_more : (vs : List VirtualRegister) (m n : ℕ) (ends : List (Option RangeEnd)) (t : List (Option LiveRange)) (v : VirtualRegister) (r : LiveRange) →
-    m < length vs → v ≡ slice_index_or vs m v → n ≡ v.number → n < length t → AreTaken vs m ends t → AreTaken vs (m + 1) ends (set t n (Some r))
-taken_more vs m n ends t v r less is same room h k lt within some = elim (up_to k m lt) [
-  | inl before ↦ stay_set t n r room (slice_index_or vs k no_vreg).number (h k before within some)
+pub taken_more : (Asked : ℕ → Type 0) (vs : List VirtualRegister) (m n : ℕ) (ends : List (Option RangeEnd)) (t : List (Option LiveRange)) (v : VirtualRegister)
+    (r : LiveRange) → m < length vs → v ≡ slice_index_or vs m v → n ≡ v.number → n < length t → AreTaken Asked vs m ends t →
+    AreTaken Asked vs (m + 1) ends (set t n (Some r))
+taken_more Asked vs m n ends t v r less is same room h k lt within asked some = elim (up_to k m lt) [
+  | inl before ↦ stay_set t n r room (slice_index_or vs k no_vreg).number (h k before within asked some)
   | inr here ↦ (let at : (slice_index_or vs k no_vreg).number ≡ n = ap (λ (j : ℕ). (slice_index_or vs j no_vreg).number) here
       ∙ ap (λ (w : VirtualRegister). w.number) (any_default vs m no_vreg v less ∙ sym is) ∙ sym same in
       subst (λ (q : ℕ). range_at (set t n (Some r)) q ≢ None) (sym at) (there_now t n r room))
 ]
 
--- with a parameter m that has no end, those of the first m + 1 with ends have entries if those before it do
-pub taken_same : (vs : List VirtualRegister) (m : ℕ) (ends : List (Option RangeEnd)) (t : List (Option LiveRange)) (v : VirtualRegister) → m < length vs →
-    v ≡ slice_index_or vs m v → end_at ends v.number ≡ None → AreTaken vs m ends t → AreTaken vs (m + 1) ends t
-taken_same vs m ends t v less is none h k lt within some = elim (up_to k m lt) [
-  | inl before ↦ h k before within some
+-- with a parameter m that has no end or isn't asked for, those of the first m + 1 have entries if those before it do
+pub taken_same : (Asked : ℕ → Type 0) (vs : List VirtualRegister) (m : ℕ) (ends : List (Option RangeEnd)) (t : List (Option LiveRange)) (v : VirtualRegister) →
+    m < length vs → v ≡ slice_index_or vs m v → (Asked v.number → end_at ends v.number ≡ None) → AreTaken Asked vs m ends t →
+    AreTaken Asked vs (m + 1) ends t
+taken_same Asked vs m ends t v less is none h k lt within asked some = elim (up_to k m lt) [
+  | inl before ↦ h k before within asked some
   | inr here ↦ absurd (let at : slice_index_or vs k no_vreg ≡ v = ap (λ (j : ℕ). slice_index_or vs j no_vreg) here ∙ any_default vs m no_vreg v less ∙ sym is in
-      some (ap (λ (w : VirtualRegister). end_at ends w.number) at ∙ none))
+      some (ap (λ (w : VirtualRegister). end_at ends w.number) at ∙ none (subst (λ (w : VirtualRegister). Asked w.number) at asked)))
 ]
 
 -- so that all used ones have
-pub taken_all : (f : FunctionValue) (ssa : IsSSA f) (b : ℕ) (vs : List VirtualRegister) (m : ℕ) (ends : List (Option RangeEnd)) (t : List (Option LiveRange)) →
-    b < length f.blocks → vs ≡ (block_at f b).params → length vs ≤ m → HasRoom f (length ends) → AreEndsFrom f (block_at f b).range.first ends
-    → AreTaken vs m ends t → (v : VirtualRegister) (j : ℕ) → Contains (block_at f b).params v → UsesAt f v j → range_at t v.number ≢ None
-taken_all f ssa b vs m ends t lt same all room noted h v j has used =
+pub taken_all : (f : FunctionValue) (ssa : IsSSA f) (Asked : ℕ → Type 0) (b : ℕ) (vs : List VirtualRegister) (m : ℕ) (ends : List (Option RangeEnd))
+    (t : List (Option LiveRange)) → b < length f.blocks → vs ≡ (block_at f b).params → length vs ≤ m → HasRoom f (length ends) →
+    AreEndsFrom f Asked (block_at f b).range.first ends → AreTaken Asked vs m ends t → (v : VirtualRegister) (j : ℕ) → Asked v.number →
+    Contains (block_at f b).params v → UsesAt f v j → range_at t v.number ≢ None
+taken_all f ssa Asked b vs m ends t lt same all room noted h v j asked has used =
     let here : Contains vs v = subst (λ (ws : List VirtualRegister). Contains ws v) (sym same) has in
     let at : slice_index_or vs here.0 no_vreg ≡ v = any_default vs here.0 no_vreg v here.1 ∙ here.2 in
     let small = parameter_small f ssa (length ends) room v b lt has in
-    let some : end_at ends v.number ≢ None = used_ends f ssa v b j (end_at ends v.number) lt has used (noted v.number small) in
+    let some : end_at ends v.number ≢ None = used_ends f ssa v b j (end_at ends v.number) lt has used (noted v.number small asked) in
     subst (λ (w : VirtualRegister). range_at t w.number ≢ None) at (h here.0 (omega (arith, here.1, all)) here.1
-    (subst (λ (w : VirtualRegister). end_at ends w.number ≢ None) (sym at) some))
+    (subst (λ (w : VirtualRegister). Asked w.number) (sym at) asked) (subst (λ (w : VirtualRegister). end_at ends w.number ≢ None) (sym at) some))
 
 -- before the walk
-pub walked_none : (f : FunctionValue) → IsSSA f → (m : ℕ) → HasRoom f m →
-    IsWalked f (length f.insts) (length f.blocks) (replicate m None) (replicate m None)
-walked_none f ssa m room = record {
+pub walked_none : (f : FunctionValue) → IsSSA f → (Asked : ℕ → Type 0) (m : ℕ) → HasRoom f m →
+    IsWalked f Asked (length f.insts) (length f.blocks) (replicate m None) (replicate m None)
+walked_none f ssa Asked m room = record {
   ends_room = subst (HasRoom f) (sym (length-replicate m None)) room;
   ranges_room = subst (HasRoom f) (sym (length-replicate m None)) room;
-  noted = λ n lt. subst (EndsFrom f (length f.insts) n) (sym (no_end m n)) (λ j le u. none_past j le n u);
+  noted = λ n lt asked. subst (EndsFrom f (length f.insts) n) (sym (no_end m n)) (λ j le u. none_past j le n u);
   right = λ n r h. absurd (let e : Some r ≡ None = sym h ∙ no_range m n in cc);
-  defined = λ v j le d. absurd (omega (arith, le, d.0));
+  defined = λ v j le asked d. absurd (omega (arith, le, d.0));
   taken = λ v c j le lt. absurd (omega (arith, le, lt));
 }
   where
@@ -160,63 +164,85 @@ here_or_later : (i j : ℕ) → i ≤ j → (i ≡ j) ⊎ (i + 1 ≤ j)
 here_or_later i j le = grind arith
 
 -- one instruction more
-pub walked_inst : (f : FunctionValue) (i b : ℕ) (ends ends' : List (Option RangeEnd)) (ranges ranges' : List (Option LiveRange)) →
-    IsWalked f (i + 1) b ends ranges → length ends' ≡ length ends → length ranges' ≡ length ranges → AreEndsFrom f i ends' → AreRight f ranges' →
+pub walked_inst : (f : FunctionValue) (Asked : ℕ → Type 0) (i b : ℕ) (ends ends' : List (Option RangeEnd)) (ranges ranges' : List (Option LiveRange)) →
+    IsWalked f Asked (i + 1) b ends ranges → length ends' ≡ length ends → length ranges' ≡ length ranges → AreEndsFrom f Asked i ends' → AreRight f ranges' →
     Stay ranges ranges'
-    → ((v : VirtualRegister) → DefinesAt f v i → range_at ranges' v.number ≢ None) → IsWalked f i b ends' ranges'
-walked_inst f i b ends ends' ranges ranges' w long longs noted right stay defined = record {
+    → ((v : VirtualRegister) → Asked v.number → DefinesAt f v i → range_at ranges' v.number ≢ None) → IsWalked f Asked i b ends' ranges'
+walked_inst f Asked i b ends ends' ranges ranges' w long longs noted right stay defined = record {
   ends_room = subst (HasRoom f) (sym long) w.ends_room;
   ranges_room = subst (HasRoom f) (sym longs) w.ranges_room;
   noted = noted;
   right = right;
-  defined = λ v j le d. elim (here_or_later i j le) [
-    | inl same ↦ defined v (subst (DefinesAt f v) (sym same) d)
+  defined = λ v j le asked d. elim (here_or_later i j le) [
+    | inl same ↦ defined v asked (subst (DefinesAt f v) (sym same) d)
     | inr later ↦
-        stay v.number (w.defined v j later d)
+        stay v.number (w.defined v j later asked d)
   ];
-  taken = λ v c j le lt has used. stay v.number (w.taken v c j le lt has used);
+  taken = λ v c j le lt asked has used. stay v.number (w.taken v c j le lt asked has used);
 }
 
+-- nothing that is asked for is used or defined by an instruction whose operands name none, unless it is the last one of its block
+unused_here : (f : FunctionValue) → BlocksFollow f → (Asked : ℕ → Type 0) (b i n : ℕ) → b < length f.blocks → (block_at f b).range.first ≤ i →
+    i < (block_at f b).range.end → i + 1 ≢ (block_at f b).range.end → NamesNone f Asked i → Asked n → UsesNumber f n i → ⊥
+unused_here f follow Asked b i n lt from upto inside none asked (reads at k less r) =
+    none k r.within (subst Asked (sym r.number) asked)
+unused_here f follow Asked b i n lt from upto inside none asked (passes p) = inside (passed_here f follow b i n lt from upto p).0
+
+undefined_here : (f : FunctionValue) (Asked : ℕ → Type 0) (i : ℕ) (v : VirtualRegister) → NamesNone f Asked i → Asked v.number → DefinesAt f v i → ⊥
+undefined_here f Asked i v none asked d =
+    let n = defines_number f v i d in none d.1.0 n.operand (subst Asked (sym n.number) asked)
+
+-- so the walk passes over it
+pub walked_over : (f : FunctionValue) → BlocksFollow f → (Asked : ℕ → Type 0) (b c i : ℕ) (ends : List (Option RangeEnd)) (ranges : List (Option LiveRange)) →
+    b < length f.blocks → (block_at f b).range.first ≤ i → i < (block_at f b).range.end → i + 1 ≢ (block_at f b).range.end → NamesNone f Asked i →
+    IsWalked f Asked (i + 1) c ends ranges → IsWalked f Asked i c ends ranges
+walked_over f follow Asked b c i ends ranges lt from upto inside none w =
+    walked_inst f Asked i c ends ends ranges ranges w refl refl
+    (λ n less asked. ends_more f i n (end_at ends n) (end_at ends n) (w.noted n less asked)
+    (notes_nothing (UsesNumber f n i) (EndsUse f n i) (end_at ends n) (unused_here f follow Asked b i n lt from upto inside none asked)))
+    w.right (λ n some. some) (λ v asked d. absurd (undefined_here f Asked i v none asked d))
+
 -- its uses are noted
-pub noted_more : (f : FunctionValue) (i : ℕ) (ends ends' : List (Option RangeEnd)) → AreEndsFrom f (i + 1) ends → length ends' ≡ length ends →
-    ((n : ℕ) → n < length ends → NotesUses f i n (end_at ends n) (end_at ends' n)) → AreEndsFrom f i ends'
-noted_more f i ends ends' h long uses n lt = let less : n < length ends = omega (arith, lt, long) in
-    ends_more f i n (end_at ends n) (end_at ends' n) (h n less) (uses n less)
+pub noted_more : (f : FunctionValue) (Asked : ℕ → Type 0) (i : ℕ) (ends ends' : List (Option RangeEnd)) → AreEndsFrom f Asked (i + 1) ends →
+    length ends' ≡ length ends → ((n : ℕ) → n < length ends → NotesUses f i n (end_at ends n) (end_at ends' n)) → AreEndsFrom f Asked i ends'
+noted_more f Asked i ends ends' h long uses n lt asked = let less : n < length ends = omega (arith, lt, long) in
+    ends_more f i n (end_at ends n) (end_at ends' n) (h n less asked) (uses n less)
 
 -- one block's beginning more
-pub walked_block : (f : FunctionValue) (i b : ℕ) (ends : List (Option RangeEnd)) (ranges ranges' : List (Option LiveRange)) → IsWalked f i (b + 1) ends ranges →
-    length ranges' ≡ length ranges → AreRight f ranges' → Stay ranges ranges'
-    → ((v : VirtualRegister) (j : ℕ) → Contains (block_at f b).params v → UsesAt f v j → range_at ranges' v.number ≢ None) → IsWalked f i b ends ranges'
-walked_block f i b ends ranges ranges' w long right stay taken = record {
+pub walked_block : (f : FunctionValue) (Asked : ℕ → Type 0) (i b : ℕ) (ends : List (Option RangeEnd)) (ranges ranges' : List (Option LiveRange)) →
+    IsWalked f Asked i (b + 1) ends ranges → length ranges' ≡ length ranges → AreRight f ranges' → Stay ranges ranges'
+    → ((v : VirtualRegister) (j : ℕ) → Asked v.number → Contains (block_at f b).params v → UsesAt f v j → range_at ranges' v.number ≢ None) →
+    IsWalked f Asked i b ends ranges'
+walked_block f Asked i b ends ranges ranges' w long right stay taken = record {
   ends_room = w.ends_room;
   ranges_room = subst (HasRoom f) (sym long) w.ranges_room;
   noted = w.noted;
   right = right;
-  defined = λ v j le d. stay v.number (w.defined v j le d);
-  taken = λ v c j le lt has used. elim (here_or_later b c le) [
-    | inl same ↦ taken v j (subst (λ (n : ℕ). Contains (block_at f n).params v) (sym same) has) used
-    | inr later ↦ stay v.number (w.taken v c j later lt has used)
+  defined = λ v j le asked d. stay v.number (w.defined v j le asked d);
+  taken = λ v c j le lt asked has used. elim (here_or_later b c le) [
+    | inl same ↦ taken v j asked (subst (λ (n : ℕ). Contains (block_at f n).params v) (sym same) has) used
+    | inr later ↦ stay v.number (w.taken v c j later lt asked has used)
   ];
 }
 
 -- after the walk
-pub walked_all : (f : FunctionValue) → IsSSA f → (ends : List (Option RangeEnd)) (ranges : List (Option LiveRange)) → IsWalked f 0 0 ends ranges →
-    AreLiveRanges f ranges
-walked_all f ssa ends ranges w = record {
+pub walked_all : (f : FunctionValue) → IsSSA f → (Asked : ℕ → Type 0) (ends : List (Option RangeEnd)) (ranges : List (Option LiveRange)) →
+    IsWalked f Asked 0 0 ends ranges → AreLiveRanges f Asked ranges
+walked_all f ssa Asked ends ranges w = record {
   room = w.ranges_room;
   found = w.right;
-  all = λ v start end p q. entry v (made v p) (there_is v p (is_used f ssa v q));
+  all = λ v start end asked p q. entry v (made v p) (there_is v asked p (is_used f ssa v q));
 }
   where
     made : (v : VirtualRegister) {start : ℕ} → IsFirstPoint f v start → Made f v
     made v (of_definition i d) = made_by_definition f v i d
     made v (of_parameter b lt h) = made_by_parameter f v b lt h
 
-    there_is : (v : VirtualRegister) {start : ℕ} → IsFirstPoint f v start → ((j : ℕ) × UsesAt f v j) ⊎ ((i : ℕ) × DefinesAt f v i) →
+    there_is : (v : VirtualRegister) {start : ℕ} → Asked v.number → IsFirstPoint f v start → ((j : ℕ) × UsesAt f v j) ⊎ ((i : ℕ) × DefinesAt f v i) →
         range_at ranges v.number ≢ None
-    there_is v (of_definition i d) h = w.defined v i (omega arith) d
-    there_is v (of_parameter b lt has) (inl u) = w.taken v b u.0 (omega arith) lt has u.1
-    there_is v (of_parameter b lt has) (inr d) = w.defined v d.0 (omega arith) d.1
+    there_is v asked (of_definition i d) h = w.defined v i (omega arith) asked d
+    there_is v asked (of_parameter b lt has) (inl u) = w.taken v b u.0 (omega arith) lt asked has u.1
+    there_is v asked (of_parameter b lt has) (inr d) = w.defined v d.0 (omega arith) asked d.1
 
     one : (v : VirtualRegister) (o : Option LiveRange) → o ≢ None → (r : LiveRange) × (o ≡ Some r)
     one v None some = absurd (some refl)
@@ -234,39 +260,30 @@ pub param_within : (f : FunctionValue) (b : ℕ) (vs : List VirtualRegister) (k 
 param_within f b vs k v same lt is = subst (λ (ws : List VirtualRegister). Contains ws v) same (k, lt, sym is)
 
 -- the range that is made at a definition, and the one at a block's parameter
-pub defined_range : (f : FunctionValue) (ssa : IsSSA f) (ends : List (Option RangeEnd)) (i k : ℕ) (v a : VirtualRegister) (n p q : ℕ) (o : Option RangeEnd)
-    (d : RangeEnd) → IsDefiner f v (record { inst = i; index = k }) → HasRoom f (length ends) → AreEndsFrom f i ends → n ≡ v.number →
+pub defined_range : (f : FunctionValue) (ssa : IsSSA f) (Asked : ℕ → Type 0) (ends : List (Option RangeEnd)) (i k : ℕ) (v a : VirtualRegister) (n p q : ℕ)
+    (o : Option RangeEnd) (d : RangeEnd) → IsDefiner f v (record { inst = i; index = k }) → HasRoom f (length ends) → AreEndsFrom f Asked i ends →
+    Asked v.number → n ≡ v.number →
     o ≡ slice_index_or ends n o
     → a ≡ v → p ≡ after i → q ≡ before (i + 1) → d ≡ end_behind i o (record { last = q; by = Some (record { inst = i; index = k }) }) →
     IsLiveRange f (record { vreg = a; first = p; last = d.last; by = d.by })
-defined_range f ssa ends i k v a n p q o d definer room noted number is same first point end =
+defined_range f ssa Asked ends i k v a n p q o d definer room noted asked number is same first point end =
     let small = definer_small f ssa (length ends) room v (record { inst = i; index = k }) definer in
     let entry : o ≡ end_at ends v.number = is ∙ any_default ends n o None (omega (arith, small, number)) ∙ ap (end_at ends) number in
     let unused : RangeEnd = record { last = q; by = Some (record { inst = i; index = k }) } in
     let right : unused ≡ record { last = before (i + 1); by = Some (record { inst = i; index = k }) } = ap (λ
     (x : ℕ). record { last = x; by = Some (record { inst = i; index = k }) }) point in
     range_same f a v p (after i) d (end_behind i (end_at ends v.number) unused) same first (end ∙ ap (λ (x : Option RangeEnd). end_behind i x unused) entry)
-    (range_of_definition f ssa v i k (end_at ends v.number) unused right definer (noted v.number small))
+    (range_of_definition f ssa v i k (end_at ends v.number) unused right definer (noted v.number small asked))
 
 -- in SSA form, a parameter with an end noted for its number is live from its block's beginning to that end
-pub taken_range : (f : FunctionValue) (ssa : IsSSA f) (ends : List (Option RangeEnd)) (b : ℕ) (v : VirtualRegister) (n p : ℕ) (o : Option RangeEnd)
-    (e : RangeEnd) → b < length f.blocks → Contains (block_at f b).params v → HasRoom f (length ends) → AreEndsFrom f (block_at f b).range.first ends →
-    n ≡ v.number → o ≡ slice_index_or ends n o
-    → p ≡ before (block_at f b).range.first → o ≡ Some e → IsLiveRange f (record { vreg = v; first = p; last = e.last; by = e.by })
-taken_range f ssa ends b v n p o e lt has room noted number is first some =
+pub taken_range : (f : FunctionValue) (ssa : IsSSA f) (Asked : ℕ → Type 0) (ends : List (Option RangeEnd)) (b : ℕ) (v : VirtualRegister) (p : ℕ)
+    (e : RangeEnd) → b < length f.blocks → Contains (block_at f b).params v → HasRoom f (length ends) →
+    AreEndsFrom f Asked (block_at f b).range.first ends → Asked v.number → p ≡ before (block_at f b).range.first → end_at ends v.number ≡ Some e →
+    IsLiveRange f (record { vreg = v; first = p; last = e.last; by = e.by })
+taken_range f ssa Asked ends b v p e lt has room noted asked first entry =
     let small = parameter_small f ssa (length ends) room v b lt has in
-    let entry : end_at ends v.number ≡ Some e = sym (ap (end_at ends) number) ∙ sym (any_default ends n o None (omega (arith, small, number))) ∙ sym is
-    ∙ some in
     range_same f v v p (before (block_at f b).range.first) e e refl first refl
-    (range_of_parameter f ssa v b e lt has (subst (EndsFrom f (block_at f b).range.first v.number) entry (noted v.number small)))
-
--- in SSA form, a parameter for which no end was read has none noted for its number
-pub no_entry : (f : FunctionValue) (ssa : IsSSA f) (ends : List (Option RangeEnd)) (b : ℕ) (v : VirtualRegister) (n : ℕ) (o : Option RangeEnd) →
-    b < length f.blocks → Contains (block_at f b).params v → HasRoom f (length ends) → n ≡ v.number → o ≡ slice_index_or ends n o → o ≡ None →
-    end_at ends v.number ≡ None
-no_entry f ssa ends b v n o lt has room number is none =
-    let small = parameter_small f ssa (length ends) room v b lt has in
-    sym (ap (end_at ends) number) ∙ sym (any_default ends n o None (omega (arith, small, number))) ∙ sym is ∙ none
+    (range_of_parameter f ssa v b e lt has (subst (EndsFrom f (block_at f b).range.first v.number) entry (noted v.number small asked)))
 
 -- where blocks begin
 not_last : (b n : ℕ) → b < n → nat_eq b n ≡ false

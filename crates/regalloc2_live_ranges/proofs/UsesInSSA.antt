@@ -123,6 +123,15 @@ module _ (f : FunctionValue) (ssa : IsSSA f) where
   definer_small n room v o d = room v (after o.inst) (inr (o.inst, o.index, no_operand, omega arith, d.index, d.definition, d.vreg))
       (made_small f ssa.once v (made_by_definition f v o.inst (definer_defines f v o d)))
 
+  -- as an operand of an instruction
+  pub defined_small : (n : ℕ) → HasRoom f n → (v : VirtualRegister) (i : ℕ) → DefinesAt f v i → v.number < n
+  defined_small n room v i d = definer_small n room v (record { inst = i; index = d.1.0 }) (record {
+    inst = d.0;
+    index = d.1.2;
+    definition = (defines_number f v i d).definition;
+    vreg = ap (λ (o : OperandValue). o.vreg) (op_is (inst_at f i).operands d.1.0 d.1.1 d.1.2 d.1.3) ∙ d.1.5;
+  })
+
   -- and so does a block's parameter
   pub parameter_small : (n : ℕ) → HasRoom f n → (v : VirtualRegister) (b : ℕ) → b < length f.blocks → Contains (block_at f b).params v → v.number < n
   parameter_small n room v b lt h = room v (before (block_at f b).range.first) (inl (b, lt, omega arith, h))

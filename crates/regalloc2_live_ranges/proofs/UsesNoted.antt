@@ -66,10 +66,17 @@ reads_same at i ops m n old mid never h =
     (λ s. elim (up_to s.0 m s.1) [ inl lt ↦ (s.0, lt, s.2) | inr same ↦ absurd (never (subst (λ (k : ℕ). ReadsNumber ops n at k) same s.2)) ])
     (λ e s. (s.0, omega (arith, s.1), s.2, s.3)) h
 
-both_hold : (a b : Bool) → (a && b) ≡ true → (a ≡ true) × (b ≡ true)
+-- both parts of a true conjunction are true
+pub both_hold : (a b : Bool) → (a && b) ≡ true → (a ≡ true) × (b ≡ true)
 both_hold true true h = (refl, refl)
 both_hold true false h = absurd cc
 both_hold false b h = absurd cc
+
+-- they aren't both true where the conjunction is false
+pub both_not : (a b : Bool) → (a && b) ≡ false → a ≡ true → b ≡ true → ⊥
+both_not true true h e g = absurd cc
+both_not true false h e g = absurd cc
+both_not false b h e g = absurd cc
 
 -- an operand that passes the test reads, and at that position
 pub is_read : (o : OperandValue) (at : OperandPos) → reads_at at o ≡ true → (is_reading o ≡ true) × (o.position ≡ at)
@@ -133,7 +140,7 @@ passed_more f b i m n old mid new h k =
     (notes_then (HasPassed f b m n) A (λ e. HasPassed f b m n × (e ≡ end_of_argument i)) (λ e. A × (e ≡ end_of_argument i)) old mid new h k)
 
 -- an instruction of a block passes what its block passes, and that only as the last
-passed_here : (f : FunctionValue) → BlocksFollow f → (b i n : ℕ) → b < length f.blocks → (block_at f b).range.first ≤ i → i < (block_at f b).range.end →
+pub passed_here : (f : FunctionValue) → BlocksFollow f → (b i n : ℕ) → b < length f.blocks → (block_at f b).range.first ≤ i → i < (block_at f b).range.end →
     PassesNumber f n i → (i + 1 ≡ (block_at f b).range.end) × HasPassed f b (length (block_at f b).succs) n
 passed_here f follow b i n lt from upto p =
     let some : (block_at f p.0).range.first < (block_at f p.0).range.end = (follow p.0 p.1).0 in
@@ -143,7 +150,8 @@ passed_here f follow b i n lt from upto p =
     let end : i + 1 ≡ (block_at f p.0).range.end = omega (arith, some, p.2) in
     (subst (λ (c : ℕ). i + 1 ≡ (block_at f c).range.end) same end, subst (λ (c : ℕ). HasPassed f c (length (block_at f c).succs) n) same p.3)
 
-notes_nothing : (F : Type 0) (S : RangeEnd → Type 0) (o : Option RangeEnd) → (F → ⊥) → Notes F S o o
+-- where nothing is found, what is noted stays
+pub notes_nothing : (F : Type 0) (S : RangeEnd → Type 0) (o : Option RangeEnd) → (F → ⊥) → Notes F S o o
 notes_nothing F S (Some e) never = refl
 notes_nothing F S None never = never
 

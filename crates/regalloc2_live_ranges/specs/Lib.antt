@@ -1,3 +1,4 @@
 pub mod LiveRanges
 pub mod LastUses
 pub mod WalkInvariant
+pub mod Marks

@@ -1,6 +1,7 @@
 -- The live ranges of virtual registers as a debugger can be shown them, and the labels that are kept.
 -- The points are those of regalloc2_function/specs/DebugPoints.antt; here is which operand's place shows the value.
-use Rattle.std.specs.Prelude.{ℕ, ◌≡◌, ◌<◌, List, [], ◌∷◌, length, slice_index_or, true, Option, None, Some}
+use Rattle.std.specs.Prelude.{ℕ, ◌≡◌, ◌<◌, List, [], ◌∷◌, length, slice_index_or, Bool, true, false, Option, None, Some}
+use Rattle.std.specs.List.{Any}
 use Rattle.regalloc2_names.specs.declared.OperandPos.{OperandPos}
 use Rattle.regalloc2_names.specs.declared.OperandPos.TheVariants.{Early, Late}
 use Rattle.regalloc2_names.specs.Register.{VirtualRegister}
@@ -60,13 +61,21 @@ pub record IsLiveRange (f : FunctionValue) (r : LiveRange) : Type 0 where
 abbrev pub range_at : List (Option LiveRange) → ℕ → Option LiveRange
 range_at t n = slice_index_or t n None
 
--- A table by number of all live ranges: there is room for all that the function defines, each entry is that of a virtual register of the
--- number, and each virtual register with a first and a last point has its entry.
-pub record AreLiveRanges (f : FunctionValue) (t : List (Option LiveRange)) : Type 0 where
+-- a number is marked as one that is wanted
+abbrev pub IsWanted : List Bool → ℕ → Type 0
+IsWanted wanted n = slice_index_or wanted n false ≡ true
+
+-- a label names a virtual register of the number
+abbrev pub IsLabelled : FunctionValue → ℕ → Type 0
+IsLabelled f n = Any (λ l. l.vreg.number ≡ n) f.labels
+
+-- A table by number of live ranges, of all numbers that are asked for: there is room for all that the function defines, each entry is that of a
+-- virtual register of the number, and each virtual register of such a number with a first and a last point has its entry.
+pub record AreLiveRanges (f : FunctionValue) (Asked : ℕ → Type 0) (t : List (Option LiveRange)) : Type 0 where
   pub room : HasRoom f (length t)
   pub found : (n : ℕ) (r : LiveRange) → range_at t n ≡ Some r → (r.vreg.number ≡ n) × IsLiveRange f r
-  pub all : (v : VirtualRegister) (start end : ℕ) → IsFirstPoint f v start → IsLastPoint f v end → (r : LiveRange) × (range_at t v.number ≡ Some r)
-      × (r.vreg ≡ v)
+  pub all : (v : VirtualRegister) (start end : ℕ) → Asked v.number → IsFirstPoint f v start → IsLastPoint f v end →
+      (r : LiveRange) × (range_at t v.number ≡ Some r) × (r.vreg ≡ v)
 
 -- the live range with which a label is kept
 pub record IsKeptRange (f : FunctionValue) (l : Label) (r : LiveRange) : Type 0 where

@@ -3,8 +3,9 @@
 ghost use Rattle.std.specs.Prelude.{◌≡◌, ℕ, [], IfErr, IfOk, IsOk, MatchOption};
 ghost use Rattle.regalloc2_function.specs.FunctionValue.{label_of};
 ghost use Rattle.regalloc2_function.specs.DebugPoints.{IsKept};
-ghost use Rattle.regalloc2_live_ranges.specs.LiveRanges.{AreKeptLabels, AreLiveRanges, IsKeptRange, IsSSA};
+ghost use Rattle.regalloc2_live_ranges.specs.LiveRanges.{AreKeptLabels, AreLiveRanges, IsKeptRange, IsLabelled, IsSSA};
 
+use super::wanted::labelled;
 use super::{KeptLabel, LiveRange, live_ranges};
 use regalloc2_function::Function;
 use regalloc2_index::Inst;
@@ -19,7 +20,8 @@ fn kept_range<F: Function>(
     label: (VReg, Inst, Inst, u32),
 ) -> Option<LiveRange>
     requires ssa { IsSSA (F.function f.now) }
-    requires ranges { AreLiveRanges (F.function f.now) ranges.now }
+    requires ranges { AreLiveRanges (F.function f.now) (IsLabelled (F.function f.now)) ranges.now }
+    requires labelled { IsLabelled (F.function f.now) (label_of label).vreg.number }
     ensures { MatchOption result ((start end : ℕ) → IsKept (F.function f.now) (label_of label) start end → ⊥)
         (IsKeptRange (F.function f.now) (label_of label)) }
 {
@@ -45,7 +47,7 @@ fn keep_labels<A: Allocator + Copy, F: Function>(
     ranges: &[Option<LiveRange>],
 ) -> Result<Vec<KeptLabel, A>, RegAllocError>
     requires ssa { IsSSA (F.function f.now) }
-    requires ranges { AreLiveRanges (F.function f.now) ranges.now }
+    requires ranges { AreLiveRanges (F.function f.now) (IsLabelled (F.function f.now)) ranges.now }
     ensures ok { IfOk result (λ ks. AreKeptLabels (F.function f.now) (F.function f.now).labels ks.items) }
     ensures err { IfErr result (λ e. e ≡ RegAllocError.Memory) }
 {
@@ -66,7 +68,8 @@ fn keep_labels<A: Allocator + Copy, F: Function>(
 /// a spill slot in the end, that shows the value; else the place of the operand that `range.by` names does. It names none only
 /// where an argument is the last use, and arguments are passed in slots. Conditions are those of [`live_ranges`].
 ///
-/// Live ranges are found only where there are labels: for a function without them no memory is asked for. The only error is `Memory`.
+/// Live ranges are found only where there are labels, and only of what these name: for a function without them no memory is asked
+/// for. The only error is `Memory`.
 pub fn kept_labels<A: Allocator + Copy, F: Function>(
     alloc: A,
     f: &F,
@@ -79,6 +82,7 @@ pub fn kept_labels<A: Allocator + Copy, F: Function>(
     if f.debug_value_labels().is_empty() {
         return Ok(Vec::new(alloc));
     }
-    let ranges = live_ranges(alloc, f)?;
+    let wanted = labelled(alloc, f)?;
+    let ranges = live_ranges(alloc, f, wanted.as_slice())?;
     keep_labels(alloc, f, ranges.as_slice())
 }

@@ -1,6 +1,6 @@
 //! From where to where the value of each virtual register can be shown to a debugger, and which operand's place shows it.
 //!
-//! [`live_ranges`] finds that for each virtual register, [`kept_labels`] for each label that a client put on one. Nothing here
+//! [`live_ranges`] finds that for each virtual register of which it is wanted, [`kept_labels`] for each label that a client put on one. Nothing here
 //! knows the allocator: its walk decides the places, and these calls say of which operands they are needed. Upstream keeps the
 //! same points in `vreg_to_live_inst_range` while it allocates.
 #![tactic(auto)]
@@ -12,6 +12,7 @@ mod ends;
 mod labels;
 mod ranges;
 mod walk;
+mod wanted;
 
 pub use labels::kept_labels;
 pub use walk::live_ranges;

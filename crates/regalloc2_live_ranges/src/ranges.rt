@@ -1,20 +1,21 @@
 //! Live ranges, completed where the walk meets their beginning: a definition, or a block's parameter.
 
-ghost use Rattle.std.specs.Prelude.{◌≡◌, ◌≢◌, ◌+◌, ◌<◌, ◌≤◌, ℕ, length, Contains};
+ghost use Rattle.std.specs.Prelude.{◌≡◌, ◌≢◌, ◌+◌, ◌<◌, ◌≤◌, ◌&&◌, ℕ, false, length, slice_index_or, Contains, IfSome, IfNone, None, Some};
 ghost use Rattle.regalloc2_names.specs.Register.{VirtualRegister};
 ghost use Rattle.regalloc2_function.specs.FunctionValue.{block_at};
 ghost use Rattle.regalloc2_names.specs.Operand.{is_def};
 ghost use Rattle.regalloc2_function.specs.DebugPoints.{DefinesAt, UsesAt};
 ghost use Rattle.regalloc2_cfg.specs.TableLength.{HasRoom};
 ghost use Rattle.regalloc2_live_ranges.specs.LastUses.{end_at, end_behind};
-ghost use Rattle.regalloc2_live_ranges.specs.LiveRanges.{IsSSA, range_at};
+ghost use Rattle.regalloc2_live_ranges.specs.LiveRanges.{IsSSA, IsWanted, range_at};
 ghost use Rattle.regalloc2_live_ranges.specs.WalkInvariant.{AreEndsFrom, AreRight, Stay};
 
 use super::ends::RangeEnd;
+use super::wanted::is_wanted;
 use super::{InstOperand, LiveRange};
 use regalloc2_function::Function;
 use regalloc2_index::{Block, Inst};
-use regalloc2_names::ProgPoint;
+use regalloc2_names::{Operand, ProgPoint, VReg};
 
 // The end of what an instruction defines, of which the uses from the instruction on are noted. One right before it is an argument that
 // it passes itself, which doesn't count.
@@ -29,25 +30,33 @@ fn end_of_defined(noted: Option<RangeEnd>, inst: Inst, unused: RangeEnd) -> Rang
     }
 }
 
-/// Completes the live ranges of what an instruction defines. Where nothing uses it, its definition is its last point's.
+// Whether an operand defines a vreg that is wanted.
+fn defines_wanted(wanted: &[bool], operand: Operand) -> bool
+    ensures { result ≡ is_def operand.kind && slice_index_or wanted.now operand.vreg.number false }
+{
+    operand.is_def() && is_wanted(wanted, operand.vreg())
+}
+
+/// Completes the live ranges of what an instruction defines that is wanted. Where nothing uses it, its definition is its last point's.
 pub fn begin_at_defs<F: Function>(
     ranges: &mut [Option<LiveRange>],
     ends: &[Option<RangeEnd>],
     f: &F,
+    wanted: &[bool],
     inst: Inst,
 )
     requires ssa { IsSSA (F.function f.now) }
     requires inst { inst < length (F.function f.now).insts }
     requires ends_room { HasRoom (F.function f.now) (length ends.now) }
     requires ranges_room { HasRoom (F.function f.now) (length ranges.old) }
-    requires ends { AreEndsFrom (F.function f.now) inst ends.now }
+    requires ends { AreEndsFrom (F.function f.now) (IsWanted wanted.now) inst ends.now }
     requires right { AreRight (F.function f.now) ranges.old }
     ensures right { AreRight (F.function f.now) ranges.new }
     ensures stay { Stay ranges.old ranges.new }
-    ensures defined { (v : VirtualRegister) → DefinesAt (F.function f.now) v inst → range_at ranges.new v.number ≢ None }
+    ensures defined { (v : VirtualRegister) → IsWanted wanted.now v.number → DefinesAt (F.function f.now) v inst → range_at ranges.new v.number ≢ None }
 {
     for (index, operand) in f.inst_operands(inst).iter().enumerate() {
-        if operand.is_def() {
+        if defines_wanted(wanted, *operand) {
             let vreg = operand.vreg();
             let unused = RangeEnd {
                 last: ProgPoint::before(inst.next()),
@@ -64,28 +73,41 @@ pub fn begin_at_defs<F: Function>(
     }
 }
 
-/// Completes the live ranges of a block's parameters. One that nothing uses has none.
+// The end that is noted of a vreg, if that is wanted.
+fn wanted_end(wanted: &[bool], ends: &[Option<RangeEnd>], vreg: VReg) -> Option<RangeEnd>
+    requires { vreg.number < length ends.now }
+    ensures some { IfSome result (λ e. IsWanted wanted.now vreg.number × (end_at ends.now vreg.number ≡ Some e)) }
+    ensures none { IfNone result (IsWanted wanted.now vreg.number → end_at ends.now vreg.number ≡ None) }
+{
+    if is_wanted(wanted, vreg) {
+        ends[vreg.vreg()]
+    } else {
+        None
+    }
+}
+
+/// Completes the live ranges of a block's parameters that are wanted. One that nothing uses has none.
 pub fn begin_at_params<F: Function>(
     ranges: &mut [Option<LiveRange>],
     ends: &[Option<RangeEnd>],
     f: &F,
+    wanted: &[bool],
     block: Block,
 )
     requires ssa { IsSSA (F.function f.now) }
     requires block { block < length (F.function f.now).blocks }
     requires ends_room { HasRoom (F.function f.now) (length ends.now) }
     requires ranges_room { HasRoom (F.function f.now) (length ranges.old) }
-    requires ends { AreEndsFrom (F.function f.now) (block_at (F.function f.now) block).range.first ends.now }
+    requires ends { AreEndsFrom (F.function f.now) (IsWanted wanted.now) (block_at (F.function f.now) block).range.first ends.now }
     requires right { AreRight (F.function f.now) ranges.old }
     ensures right { AreRight (F.function f.now) ranges.new }
     ensures stay { Stay ranges.old ranges.new }
-    ensures taken { (v : VirtualRegister) (j : ℕ) → Contains (block_at (F.function f.now) block).params v → UsesAt (F.function f.now) v j →
-        range_at ranges.new v.number ≢ None }
+    ensures taken { (v : VirtualRegister) (j : ℕ) → IsWanted wanted.now v.number → Contains (block_at (F.function f.now) block).params v →
+        UsesAt (F.function f.now) v j → range_at ranges.new v.number ≢ None }
 {
     let first = ProgPoint::before(f.block_insns(block).first());
     for param in f.block_params(block) {
-        let end = ends[param.vreg()];
-        if let Some(end) = end {
+        if let Some(end) = wanted_end(wanted, ends, *param) {
             ranges[param.vreg()] = Some(LiveRange {
                 vreg: *param,
                 first,

@@ -3,29 +3,31 @@
 ghost use Rattle.std.specs.Prelude.{◌≡◌, ◌+◌, ◌<◌, ◌≤◌, length, replicate, IfErr, IfOk, None};
 ghost use Rattle.regalloc2_function.specs.FunctionValue.{block_at};
 ghost use Rattle.regalloc2_cfg.specs.TableLength.{HasRoom};
-ghost use Rattle.regalloc2_live_ranges.specs.LiveRanges.{AreLiveRanges, IsSSA};
+ghost use Rattle.regalloc2_live_ranges.specs.LiveRanges.{AreLiveRanges, IsSSA, IsWanted};
 ghost use Rattle.regalloc2_live_ranges.specs.WalkInvariant.{IsWalked};
 
 use super::LiveRange;
 use super::ends::{RangeEnd, note_uses};
 use super::ranges::{begin_at_defs, begin_at_params};
+use super::wanted::is_passed_over;
 use regalloc2_cfg::table_length::table_length;
 use regalloc2_function::Function;
 use regalloc2_index::{Block, Inst};
 use regalloc2_names::RegAllocError;
 use std::alloc::Allocator;
 
-// Walks the instructions of a block.
+// Walks the instructions of a block, but for those that it passes over.
 fn walk_insts<F: Function>(
     ends: &mut [Option<RangeEnd>],
     ranges: &mut [Option<LiveRange>],
     f: &F,
+    wanted: &[bool],
     block: Block,
 )
     requires ssa { IsSSA (F.function f.now) }
     requires block { block < length (F.function f.now).blocks }
-    requires walked { IsWalked (F.function f.now) (block_at (F.function f.now) block).range.end (block + 1) ends.old ranges.old }
-    ensures { IsWalked (F.function f.now) (block_at (F.function f.now) block).range.first (block + 1) ends.new ranges.new }
+    requires walked { IsWalked (F.function f.now) (IsWanted wanted.now) (block_at (F.function f.now) block).range.end (block + 1) ends.old ranges.old }
+    ensures { IsWalked (F.function f.now) (IsWanted wanted.now) (block_at (F.function f.now) block).range.first (block + 1) ends.new ranges.new }
 {
     let range = f.block_insns(block);
     let first = range.first().index();
@@ -33,29 +35,37 @@ fn walk_insts<F: Function>(
     while i > first {
         i -= 1;
         let inst = Inst::new(i);
-        note_uses(ends, f, block, inst);
-        begin_at_defs(ranges, ends, f, inst);
+        if !is_passed_over(f, wanted, block, inst) {
+            note_uses(ends, f, block, inst);
+            begin_at_defs(ranges, ends, f, wanted, inst);
+        }
     }
 }
 
 // Walks all blocks: the instructions of each, then its parameters.
-fn walk_blocks<F: Function>(ends: &mut [Option<RangeEnd>], ranges: &mut [Option<LiveRange>], f: &F)
+fn walk_blocks<F: Function>(
+    ends: &mut [Option<RangeEnd>],
+    ranges: &mut [Option<LiveRange>],
+    f: &F,
+    wanted: &[bool],
+)
     requires ssa { IsSSA (F.function f.now) }
     requires room { HasRoom (F.function f.now) (length ends.old) }
     requires no_ends { ends.old ≡ replicate (length ends.old) None }
     requires no_ranges { ranges.old ≡ replicate (length ends.old) None }
-    ensures { AreLiveRanges (F.function f.now) ranges.new }
+    ensures { AreLiveRanges (F.function f.now) (IsWanted wanted.now) ranges.new }
 {
     let mut b = f.num_blocks();
     while b > 0 {
         b -= 1;
         let block = Block::new(b);
-        walk_insts(ends, ranges, f, block);
-        begin_at_params(ranges, ends, f, block);
+        walk_insts(ends, ranges, f, wanted, block);
+        begin_at_params(ranges, ends, f, wanted, block);
     }
 }
 
-/// The live ranges of all virtual registers, by number: none for a number that isn't defined, or that is a parameter's and never used.
+/// The live ranges of the virtual registers that are wanted, by number: none for a number that isn't defined, or that is a parameter's and
+/// never used. Where all are wanted, each is there.
 ///
 /// Each is that of upstream's `vreg_to_live_inst_range`. Of the function is asked what each well-formed one has (`IsSSA`): its
 /// blocks follow one another, each number is defined once, and each use comes after its definition. The time is linear in the
@@ -64,9 +74,10 @@ fn walk_blocks<F: Function>(ends: &mut [Option<RangeEnd>], ranges: &mut [Option<
 pub fn live_ranges<A: Allocator + Copy, F: Function>(
     alloc: A,
     f: &F,
+    wanted: &[bool],
 ) -> Result<Vec<Option<LiveRange>, A>, RegAllocError>
     requires { IsSSA (F.function f.now) }
-    ensures ok { IfOk result (λ t. AreLiveRanges (F.function f.now) t.items) }
+    ensures ok { IfOk result (λ t. AreLiveRanges (F.function f.now) (IsWanted wanted.now) t.items) }
     ensures few { IfOk result (λ t. length t.items ≤ (F.function f.now).num_vregs) }
     ensures err { IfErr result (λ e. e ≡ RegAllocError.Memory) }
 {
@@ -75,6 +86,6 @@ pub fn live_ranges<A: Allocator + Copy, F: Function>(
     ends.resize(vregs, None)?;
     let mut ranges = Vec::new(alloc);
     ranges.resize(vregs, None)?;
-    walk_blocks(ends.as_mut_slice(), ranges.as_mut_slice(), f);
+    walk_blocks(ends.as_mut_slice(), ranges.as_mut_slice(), f, wanted);
     Ok(ranges)
 }

@@ -2,11 +2,17 @@ use Rattle.std.proofs.Common.{refl}
 use Rattle.regalloc2_function.specs.FunctionValue.{FunctionValue, label_of}
 use Rattle.regalloc2_live_ranges.specs.LiveRanges.AreKeptLabels.{none}
 use Rattle.regalloc2_live_ranges.proofs.KeptLabels.{kept_more, kept_same, map_more}
+use Rattle.regalloc2_live_ranges.proofs.Labelled.{labelled_at}
 use Rattle.regalloc2_live_ranges.proofs.labels.keep_labels.Goals as goal
 use Rattle.regalloc2_live_ranges.proofs.labels.keep_labels.Goals.{in-Some+in_ok-push, in_default}
 
 pub loop-label-init : goal.loop-label-init
 loop-label-init g c = rw c.new-kept.ensures.items none
+
+pub kept_range-requires-clause-labelled : goal.kept_range-requires-clause-labelled
+kept_range-requires-clause-labelled g c =
+    labelled_at (g.F.Function.function c.args.f.now) c.debug_value_labels-label-items.result.now c.loop-label.label-index c.label-item.result
+    c.debug_value_labels-label-items.ensures c.loop-label-test.true c.label-item.is
 
 pub loop-label-preserved : goal.loop-label-preserved
 loop-label-preserved g c =

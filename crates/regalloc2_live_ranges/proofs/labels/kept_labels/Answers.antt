@@ -1,7 +1,11 @@
-use Rattle.std.proofs.Common.{◌≡◌, ◌∙◌, [], sym}
+use Rattle.std.proofs.Common.{ℕ, ◌≡◌, ◌<◌, Bool, List, length, ◌∙◌, [], sym, subst}
+use Rattle.std.specs.Prelude.{◌↔◌}
 use Rattle.regalloc2_function.specs.FunctionValue.{FunctionValue, label_of}
+use Rattle.regalloc2_cfg.specs.TableLength.{HasRoom}
+use Rattle.regalloc2_live_ranges.specs.LiveRanges.{AreLiveRanges, IsLabelled, IsWanted}
 use Rattle.regalloc2_live_ranges.specs.LiveRanges.AreKeptLabels.{none}
 use Rattle.regalloc2_live_ranges.proofs.KeptLabels.{nothing_mapped}
+use Rattle.regalloc2_live_ranges.proofs.Labelled.{ranges_of_labelled}
 use Rattle.regalloc2_live_ranges.proofs.labels.kept_labels.Goals as goal
 
 pub returns-then-is_empty-clause-ok : goal.returns-then-is_empty-clause-ok
@@ -10,3 +14,13 @@ returns-then-is_empty-clause-ok g c =
     let empty : f.labels ≡ [] = sym c.debug_value_labels.ensures ∙ nothing_mapped label_of c.debug_value_labels.result.now
     (sym c.is_empty.ensures ∙ c.if-is_empty.true) in
     rw (empty, c.new.ensures.items) none
+
+-- of what labels name, all live ranges are there
+pub keep_labels-requires-clause-ranges : goal.keep_labels-requires-clause-ranges
+keep_labels-requires-clause-ranges g c =
+    let f : FunctionValue = g.F.Function.function c.args.f.now in
+    subst (AreLiveRanges f (IsLabelled f)) (sym c.as_slice-2.ensures.value)
+    (ranges_of_labelled f c.requires c.as_slice.result.now c.in_ok-ranges.ranges.items
+    (subst (λ (ws : List Bool). HasRoom f (length ws)) (sym c.as_slice.ensures.value) c.in_ok-wanted.ensures.room)
+    (subst (λ (ws : List Bool). (n : ℕ) → n < length ws → IsWanted ws n ↔ IsLabelled f n) (sym c.as_slice.ensures.value) c.in_ok-wanted.ensures.marks)
+    c.in_ok-ranges.ensures.ok)

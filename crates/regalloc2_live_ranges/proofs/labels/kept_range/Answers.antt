@@ -20,7 +20,7 @@ returns-then-index-last g c =
     let same = same_word c.in_ok-range.range.vreg l.vreg number (sym c.eq.ensures ∙ c.if-eq.true) in
     let first : c.index-first.result ≡ inst_of_point c.in_ok-range.range.first = c.index-first.ensures ∙ c.inst.ensures.inst in
     let last : c.index-last.result ≡ inst_of_point c.in_ok-range.range.last = c.index-last.ensures ∙ c.inst-2.ensures.inst in
-    kept_right f limited c.requires.ssa c.args.ranges.now c.requires.ranges l c.in_ok-range.range entry same
+    kept_right f limited c.requires.ssa c.args.ranges.now c.requires.ranges l c.requires.labelled c.in_ok-range.range entry same
     (omega (arith, first, c.if-first-index.true, c.index.ensures)) (omega (arith, last, c.if-index-last.true, c.index-then-first-index.ensures))
 
 pub returns-else-eq : goal.returns-else-eq
@@ -31,7 +31,7 @@ returns-else-eq g c start end kept =
     let less : c.vreg-number.result < length c.args.ranges.now = omega (arith, c.if-number-ranges.false) in
     let entry : range_at c.args.ranges.now l.vreg.number ≡ Some c.in_ok-range.range = sym (ap (range_at c.args.ranges.now) c.vreg-number.ensures.number)
     ∙ sym (any_default c.args.ranges.now c.vreg-number.result c.index-ranges-number.result None less) ∙ sym c.index-ranges-number.is ∙ c.in_ok-range.was in
-    let within = kept_within f limited c.requires.ssa c.args.ranges.now c.requires.ranges l c.in_ok-range.range entry start end kept in
+    let within = kept_within f limited c.requires.ssa c.args.ranges.now c.requires.ranges l c.requires.labelled c.in_ok-range.range entry start end kept in
     let first : c.index-first.result ≡ inst_of_point c.in_ok-range.range.first = c.index-first.ensures ∙ c.inst.ensures.inst in
     let last : c.index-last.result ≡ inst_of_point c.in_ok-range.range.last = c.index-last.ensures ∙ c.inst-2.ensures.inst in
     elim c.else-eq.branch [

@@ -1,3 +1,4 @@
+use Rattle.regalloc2_live_ranges.specs.LiveRanges.{IsWanted}
 use Rattle.regalloc2_live_ranges.specs.WalkInvariant.{AreRight, Stay}
 use Rattle.regalloc2_live_ranges.proofs.LiveRangeTable.{AreBegun}
 use Rattle.regalloc2_live_ranges.proofs.ranges.begin_at_defs.Given as goal
@@ -7,5 +8,5 @@ abbrev pub invariant-loop-index : goal.invariant-loop-index
 invariant-loop-index g l = record {
   right : AreRight (g.F.Function.function l.f) l.ranges;
   stay : Stay l.fn.ranges l.ranges;
-  so_far : AreBegun l.operand-items l.index l.ranges;
+  so_far : AreBegun (IsWanted l.wanted) l.operand-items l.index l.ranges;
 }

@@ -1,11 +1,12 @@
-use Rattle.std.proofs.Common.{◌≡◌, ◌<◌, ◌∙◌, List, length, sym, ap, arith}
+use Rattle.std.proofs.Common.{ℕ, ◌≡◌, ◌<◌, ◌∙◌, List, length, sym, ap, arith}
 use Rattle.regalloc2_index.specs.Range.{Span}
 use Rattle.regalloc2_names.specs.Point.{before}
 use Rattle.regalloc2_names.specs.Register.{VirtualRegister}
 use Rattle.regalloc2_function.specs.FunctionValue.{FunctionValue, block_at}
 use Rattle.regalloc2_semantics.proofs.Order.{ends_within}
+use Rattle.regalloc2_live_ranges.specs.LiveRanges.{IsWanted}
 use Rattle.regalloc2_live_ranges.proofs.UsesInSSA.{parameter_small}
-use Rattle.regalloc2_live_ranges.proofs.LiveRangeTable.{no_entry, param_within, right_set, stay_set, taken_all, taken_more, taken_range, taken_same}
+use Rattle.regalloc2_live_ranges.proofs.LiveRangeTable.{param_within, right_set, stay_set, taken_all, taken_more, taken_range, taken_same}
 use Rattle.regalloc2_live_ranges.proofs.ranges.begin_at_params.Goals as goal
 use Rattle.regalloc2_live_ranges.proofs.ranges.begin_at_params.Goals.{in-Some, in_default}
 
@@ -18,13 +19,13 @@ before-first-requires g c valid =
     let limit = (g.met.F.Function.limited c.args.f.now).insts in
     omega (arith, first, some, within, limit)
 
-pub bounds-ends-vreg : goal.bounds-ends-vreg
-bounds-ends-vreg g c =
+pub wanted_end-requires : goal.wanted_end-requires
+wanted_end-requires g c =
     let f : FunctionValue = g.F.Function.function c.args.f.now in
     let has = param_within f c.args.block c.block_params-param-items.result.now c.loop-param.param-index c.param-item.result c.block_params-param-items.ensures
     c.loop-param-test.true c.param-item.is in
     let small = parameter_small f c.requires.ssa (length c.args.ends.now) c.requires.ends_room c.param-item.result c.args.block c.requires.block has in
-    omega (arith, c.vreg.ensures.number, small)
+    small
 
 pub bounds-ranges-vreg : goal.bounds-ranges-vreg
 bounds-ranges-vreg g c =
@@ -32,11 +33,12 @@ bounds-ranges-vreg g c =
     let has = param_within f c.args.block c.block_params-param-items.result.now c.loop-param.param-index c.param-item.result c.block_params-param-items.ensures
     c.loop-param-test.true c.param-item.is in
     let small = parameter_small f c.requires.ssa (length c.args.ranges.now) c.requires.ranges_room c.param-item.result c.args.block c.requires.block has in
-    omega (arith, c.vreg-in-Some.ensures.number, small, c.loop-param.auto.ranges)
+    omega (arith, c.vreg.ensures.number, small, c.loop-param.auto.ranges)
 
 pub loop-param-preserved : goal.loop-param-preserved
 loop-param-preserved g c =
     let f : FunctionValue = g.F.Function.function c.args.f.now in
+    let W : ℕ → Type 0 = IsWanted c.args.wanted.now in
     let vs : List VirtualRegister = c.block_params-param-items.result.now in
     let has = param_within f c.args.block vs c.loop-param.param-index c.param-item.result c.block_params-param-items.ensures c.loop-param-test.true
     c.param-item.is in
@@ -47,35 +49,33 @@ loop-param-preserved g c =
     let limit = (g.met.F.Function.limited c.args.f.now).insts in
     let point : c.before-first.result ≡ before (block_at f c.args.block).range.first = c.before-first.ensures.point
     (λ e. absurd (omega (arith, first, some, within, limit, e))) ∙ ap before first in
-    elim c.match-end.branch [
+    elim c.match-wanted_end.branch [
       | in-Some w ↦ (
-          let room : w.vreg-in-Some.result < length c.loop-param.ranges = omega (
+          let room : w.vreg.result < length c.loop-param.ranges = omega (
             arith,
-            w.vreg-in-Some.ensures.number,
+            w.vreg.ensures.number,
             small,
             c.loop-param.auto.ranges,
           ) in
-          let range = taken_range f c.requires.ssa c.args.ends.now c.args.block c.param-item.result c.vreg.result c.before-first.result c.index-ends-vreg.result
-          w.in-Some.end c.requires.block has c.requires.ends_room c.requires.ends c.vreg.ensures.number c.index-ends-vreg.is point w.in-Some.is in
+          let range = taken_range f c.requires.ssa W c.args.ends.now c.args.block c.param-item.result c.before-first.result w.in-Some.end c.requires.block
+          has c.requires.ends_room c.requires.ends w.in-Some.ensures.some.0 point w.in-Some.ensures.some.1 in
           rw w.ranges-is (record {
-            right = right_set f c.loop-param.ranges w.vreg-in-Some.result _ room (sym w.vreg-in-Some.ensures.number) range c.loop-param.invariant.right;
-            stay = λ n some. stay_set c.loop-param.ranges w.vreg-in-Some.result _ room n (c.loop-param.invariant.stay n some);
-            so_far = taken_more vs c.loop-param.param-index w.vreg-in-Some.result c.args.ends.now c.loop-param.ranges c.param-item.result _
-                c.loop-param-test.true c.param-item.is w.vreg-in-Some.ensures.number room c.loop-param.invariant.so_far;
+            right = right_set f c.loop-param.ranges w.vreg.result _ room (sym w.vreg.ensures.number) range c.loop-param.invariant.right;
+            stay = λ n some. stay_set c.loop-param.ranges w.vreg.result _ room n (c.loop-param.invariant.stay n some);
+            so_far = taken_more W vs c.loop-param.param-index w.vreg.result c.args.ends.now c.loop-param.ranges c.param-item.result _
+                c.loop-param-test.true c.param-item.is w.vreg.ensures.number room c.loop-param.invariant.so_far;
           }))
-      | in_default w ↦ (
-          let none = no_entry f c.requires.ssa c.args.ends.now c.args.block c.param-item.result c.vreg.result c.index-ends-vreg.result c.requires.block has
-          c.requires.ends_room c.vreg.ensures.number c.index-ends-vreg.is w.in_default.is in
-          rw w.ranges-is (record {
-            right = c.loop-param.invariant.right;
-            stay = c.loop-param.invariant.stay;
-            so_far = taken_same vs c.loop-param.param-index c.args.ends.now c.loop-param.ranges c.param-item.result c.loop-param-test.true c.param-item.is none
-                c.loop-param.invariant.so_far;
-          }))
+      | in_default w ↦ rw w.ranges-is (record {
+        right = c.loop-param.invariant.right;
+        stay = c.loop-param.invariant.stay;
+        so_far = taken_same W vs c.loop-param.param-index c.args.ends.now c.loop-param.ranges c.param-item.result c.loop-param-test.true c.param-item.is
+            w.in_default.ensures.none c.loop-param.invariant.so_far;
+      })
     ]
 
 pub returns-clause-taken : goal.returns-clause-taken
 returns-clause-taken g c =
     let f : FunctionValue = g.F.Function.function c.args.f.now in
-    taken_all f c.requires.ssa c.args.block c.block_params-param-items.result.now c.loop-param.param-index c.args.ends.now c.loop-param.ranges c.requires.block
+    taken_all f c.requires.ssa (IsWanted c.args.wanted.now) c.args.block c.block_params-param-items.result.now c.loop-param.param-index c.args.ends.now
+    c.loop-param.ranges c.requires.block
     c.block_params-param-items.ensures c.loop-param-test.false c.requires.ends_room c.requires.ends c.loop-param.invariant.so_far

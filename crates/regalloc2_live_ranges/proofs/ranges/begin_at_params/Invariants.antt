@@ -1,3 +1,4 @@
+use Rattle.regalloc2_live_ranges.specs.LiveRanges.{IsWanted}
 use Rattle.regalloc2_live_ranges.specs.WalkInvariant.{AreRight, Stay}
 use Rattle.regalloc2_live_ranges.proofs.LiveRangeTable.{AreTaken}
 use Rattle.regalloc2_live_ranges.proofs.ranges.begin_at_params.Given as goal
@@ -7,5 +8,5 @@ abbrev pub invariant-loop-param : goal.invariant-loop-param
 invariant-loop-param g l = record {
   right : AreRight (g.F.Function.function l.f) l.ranges;
   stay : Stay l.fn.ranges l.ranges;
-  so_far : AreTaken l.param-items l.param-index l.ends l.ranges;
+  so_far : AreTaken (IsWanted l.wanted) l.param-items l.param-index l.ends l.ranges;
 }

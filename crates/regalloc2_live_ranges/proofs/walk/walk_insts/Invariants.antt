@@ -1,5 +1,6 @@
 use Rattle.std.proofs.Common.{◌≡◌, ◌+◌, ◌-◌, ◌≤◌}
 use Rattle.regalloc2_function.specs.FunctionValue.{block_at}
+use Rattle.regalloc2_live_ranges.specs.LiveRanges.{IsWanted}
 use Rattle.regalloc2_live_ranges.specs.WalkInvariant.{IsWalked}
 use Rattle.regalloc2_live_ranges.proofs.walk.walk_insts.Given as goal
 
@@ -9,7 +10,7 @@ invariant-loop-i g l = record {
   first : l.first ≡ (block_at (g.F.Function.function l.f) l.block).range.first;
   from : l.first ≤ l.i;
   within : l.i ≤ (block_at (g.F.Function.function l.f) l.block).range.end;
-  walked : IsWalked (g.F.Function.function l.f) l.i (l.block + 1) l.ends l.ranges;
+  walked : IsWalked (g.F.Function.function l.f) (IsWanted l.wanted) l.i (l.block + 1) l.ends l.ranges;
 }
 
 abbrev pub decreases-loop-i : goal.decreases-loop-i

@@ -1,0 +1,95 @@
+//! Of which virtual registers live ranges are wanted: those that labels name. Most functions label few, and the walk passes over
+//! instructions that name none of them.
+
+ghost use Rattle.std.specs.Prelude.{ℕ, ◌≡◌, ◌≢◌, ◌<◌, ◌+◌, ◌↔◌, false, length, slice_index_or, IsTrue, IfOk};
+ghost use Rattle.regalloc2_function.specs.FunctionValue.{block_at};
+ghost use Rattle.regalloc2_cfg.specs.TableLength.{HasRoom};
+ghost use Rattle.regalloc2_semantics.specs.Listing.{op_at};
+ghost use Rattle.regalloc2_live_ranges.specs.LiveRanges.{IsLabelled, IsWanted};
+ghost use Rattle.regalloc2_live_ranges.specs.Marks.{Marks, NamedAmong};
+ghost use Rattle.regalloc2_live_ranges.specs.WalkInvariant.{NamesNone};
+
+use regalloc2_cfg::table_length::table_length;
+use regalloc2_function::Function;
+use regalloc2_index::{Block, Inst};
+use regalloc2_names::{Operand, VReg};
+use std::alloc::{AllocError, Allocator};
+
+/// Whether a vreg is wanted.
+pub fn is_wanted(wanted: &[bool], vreg: VReg) -> bool
+    ensures { result ≡ slice_index_or wanted.now vreg.number false }
+{
+    let number = vreg.vreg();
+    if number < wanted.len() {
+        wanted[number]
+    } else {
+        false
+    }
+}
+
+// Whether an operand names a vreg that is wanted.
+fn some_is_wanted(wanted: &[bool], operands: &[Operand]) -> bool
+    ensures { IsTrue result ↔ ((k : ℕ) × (k < length operands.now) × IsWanted wanted.now (op_at operands.now k).vreg.number) }
+{
+    for k in 0..operands.len() {
+        if is_wanted(wanted, operands[k].vreg()) {
+            return true;
+        }
+    }
+    false
+}
+
+/// Whether the walk has nothing to do at an instruction of a block: no operand names a vreg that is wanted, and it isn't the last one,
+/// which may pass some.
+pub fn is_passed_over<F: Function>(f: &F, wanted: &[bool], block: Block, inst: Inst) -> bool
+    requires block { block < length (F.function f.now).blocks }
+    requires within { inst < length (F.function f.now).insts }
+    ensures { IsTrue result ↔ ((inst + 1 ≢ (block_at (F.function f.now) block).range.end) × NamesNone (F.function f.now) (IsWanted wanted.now) inst) }
+{
+    if inst.next() == f.block_insns(block).end() {
+        return false;
+    }
+    !some_is_wanted(wanted, f.inst_operands(inst))
+}
+
+// A number is marked.
+fn mark(wanted: &mut [bool], number: usize)
+    ensures { Marks (λ n. number ≡ n) wanted.old wanted.new }
+{
+    if number < wanted.len() {
+        wanted[number] = true;
+    }
+}
+
+// The numbers of the vregs that labels name are marked.
+fn mark_labelled(wanted: &mut [bool], labels: &[(VReg, Inst, Inst, u32)])
+    ensures { Marks (NamedAmong labels.now (length labels.now)) wanted.old wanted.new }
+{
+    for j in 0..labels.len() {
+        mark(wanted, labels[j].0.vreg());
+    }
+}
+
+// No mark for each of so many numbers.
+fn no_marks<A: Allocator + Copy>(alloc: A, num: usize) -> Result<Vec<bool, A>, AllocError>
+    ensures len { IfOk result (λ v. length v.items ≡ num) }
+    ensures none { IfOk result (λ v. (n : ℕ) → slice_index_or v.items n false ≡ false) }
+{
+    let mut wanted = Vec::new(alloc);
+    wanted.resize(num, false)?;
+    Ok(wanted)
+}
+
+/// Of which vregs live ranges are wanted, by number: of those that labels name, as far as the function defines them.
+pub fn labelled<A: Allocator + Copy, F: Function>(
+    alloc: A,
+    f: &F,
+) -> Result<Vec<bool, A>, AllocError>
+    ensures room { IfOk result (λ w. HasRoom (F.function f.now) (length w.items)) }
+    ensures marks { IfOk result (λ w. (n : ℕ) → n < length w.items → IsWanted w.items n ↔ IsLabelled (F.function f.now) n) }
+{
+    let vregs = table_length(f);
+    let mut wanted = no_marks(alloc, vregs)?;
+    mark_labelled(wanted.as_mut_slice(), f.debug_value_labels());
+    Ok(wanted)
+}
