@@ -1,0 +1,277 @@
+//! The calls that take memory, with what they answer as text.
+
+use regalloc2::cfg::{CFGInfo, CFGInfoCtx};
+use regalloc2::checker::{Checker, CheckerError};
+use regalloc2::postorder::calculate;
+use regalloc2::serialize::SerializableFunction;
+use regalloc2::ssa::{reads_written, validate_ssa};
+use regalloc2::{
+    Algorithm, AllocateError, Block, Ctx, Function, Output, RegAllocError, RegallocOptions,
+    TestedRunError, allocate, is_framed, machine_fits, run, run_tested, run_with_ctx,
+};
+use regalloc2_test_alloc::{Call, Refusing};
+use std::alloc::{AllocError, Allocator, Global};
+
+/// The options, with all tests of the function.
+const OPTIONS: RegallocOptions = RegallocOptions {
+    validate_ssa: true,
+    algorithm: Algorithm::Fastalloc,
+};
+
+/// The text of an output that is empty but for its count of slots, which `run_with_ctx` is to leave if it is refused.
+const UNTOUCHED: &str = "7 [] [] [] []";
+
+/// A call.
+#[derive(Clone, Copy, Debug)]
+pub enum Name {
+    Run,
+    RunWithCtx,
+    RunTested,
+    Allocate,
+    Tables,
+    Order,
+    Definitions,
+    ReadsWritten,
+    Check,
+    CheckWithoutMoves,
+}
+
+/// All of them.
+pub const NAMES: [Name; 10] = [
+    Name::Run,
+    Name::RunWithCtx,
+    Name::RunTested,
+    Name::Allocate,
+    Name::Tables,
+    Name::Order,
+    Name::Definitions,
+    Name::ReadsWritten,
+    Name::Check,
+    Name::CheckWithoutMoves,
+];
+
+/// A call, the function and the output that it is made with, and what it is to answer.
+#[derive(Drop)]
+pub struct Given<'a> {
+    /// Makes the texts.
+    pub global: Global,
+    pub name: Name,
+    pub f: &'a SerializableFunction,
+    /// What `run` gives.
+    pub out: &'a Output,
+    /// The same without moves.
+    pub without_moves: &'a Output,
+    pub wanted: String,
+}
+
+impl Call for Given<'_> {
+    fn make(&self, alloc: &Refusing<Global>) -> Result<bool, AllocError> {
+        let answer = self.answer(alloc)?;
+        Ok(answer == self.wanted)
+    }
+}
+
+/// The text of an error. That memory ran out is passed on.
+fn told(global: Global, error: RegAllocError) -> Result<String, AllocError> {
+    if error == RegAllocError::Memory {
+        return Err(AllocError);
+    }
+    format!(in global; "{error}")
+}
+
+/// The text of an output.
+fn text_of<A: Allocator>(global: Global, out: &Output<A>) -> Result<String, AllocError> {
+    let (slots, edits, allocs) = (
+        out.num_spillslots,
+        out.edits.as_slice(),
+        out.allocs.as_slice(),
+    );
+    let (offsets, labels) = (
+        out.inst_alloc_offsets.as_slice(),
+        out.debug_locations.as_slice(),
+    );
+    format!(in global; "{slots} {edits:?} {allocs:?} {offsets:?} {labels:?}")
+}
+
+/// The text of faults. That memory ran out, which has to be the only one, is passed on.
+fn faults<A: Allocator>(global: Global, errors: &[CheckerError<A>]) -> Result<String, AllocError> {
+    if matches!(errors, [CheckerError::Memory]) {
+        return Err(AllocError);
+    }
+    let mut text = String::new(global);
+    for error in errors {
+        let line = format!(in global; "{error}\n")?;
+        text.push_str(&line)?;
+    }
+    Ok(text)
+}
+
+impl Given<'_> {
+    /// What the call answers. An error says that it was told that memory ran out, and left what it should.
+    pub fn answer<A: Allocator + Copy>(&self, alloc: A) -> Result<String, AllocError> {
+        match self.name {
+            Name::Run => self.run(alloc),
+            Name::RunWithCtx => self.run_with_ctx(alloc),
+            Name::RunTested => self.run_tested(alloc),
+            Name::Allocate => self.allocate(alloc),
+            Name::Tables => self.tables(alloc),
+            Name::Order => self.order(alloc),
+            Name::Definitions => self.definitions(alloc),
+            Name::ReadsWritten => self.reads_written(alloc),
+            Name::Check => self.check(alloc, self.out),
+            Name::CheckWithoutMoves => self.check(alloc, self.without_moves),
+        }
+    }
+
+    /// What a call answers that isn't made, or breaks a rule.
+    fn words(&self, words: &str) -> Result<String, AllocError> {
+        String::from_str(self.global, words)
+    }
+
+    fn run<A: Allocator + Copy>(&self, alloc: A) -> Result<String, AllocError> {
+        let env = self.f.machine_env();
+        if !machine_fits(self.f, env) {
+            return self.words("the machine doesn't fit");
+        }
+        match run(alloc, self.f, env, &OPTIONS) {
+            Ok(out) => text_of(self.global, &out),
+            Err(error) => told(self.global, error),
+        }
+    }
+
+    /// Runs with a context. An error leaves the output that it had.
+    fn run_once<A: Allocator + Copy>(&self, ctx: &mut Ctx<A>) -> Result<String, AllocError> {
+        let env = self.f.machine_env();
+        if !machine_fits(self.f, env) {
+            return self.words("the machine doesn't fit");
+        }
+        let error = run_with_ctx(self.f, env, &OPTIONS, ctx).err();
+        let text = text_of(self.global, &ctx.output)?;
+        match error {
+            None => Ok(text),
+            Some(_) if text.as_str() != UNTOUCHED => self.words("the output is lost"),
+            Some(error) => told(self.global, error),
+        }
+    }
+
+    /// If memory runs out, the context serves once more.
+    fn run_with_ctx<A: Allocator + Copy>(&self, alloc: A) -> Result<String, AllocError> {
+        let mut ctx = Ctx::new(alloc);
+        ctx.output.num_spillslots = 7;
+        let first = self.run_once(&mut ctx);
+        if first.is_ok() {
+            return first;
+        }
+        match self.run_once(&mut ctx) {
+            Ok(text) if text == self.wanted => Err(AllocError),
+            _ => self.words("the context serves no more"),
+        }
+    }
+
+    fn run_tested<A: Allocator + Copy>(&self, alloc: A) -> Result<String, AllocError> {
+        match run_tested(alloc, self.f, self.f.machine_env()) {
+            Ok(out) => text_of(self.global, &out),
+            Err(TestedRunError::Refused(error)) => told(self.global, error),
+            Err(error) => format!(in self.global; "{error}"),
+        }
+    }
+
+    fn allocate<A: Allocator + Copy>(&self, alloc: A) -> Result<String, AllocError> {
+        match allocate(alloc, self.f, self.f.machine_env()) {
+            Ok(out) => text_of(self.global, &out),
+            Err(AllocateError::Refused(error)) => told(self.global, error),
+            Err(AllocateError::Unjudged) => Err(AllocError),
+            Err(error) => format!(in self.global; "{error}"),
+        }
+    }
+
+    /// If memory runs out, the tables are empty.
+    fn tables<A: Allocator + Copy>(&self, alloc: A) -> Result<String, AllocError> {
+        let mut info = CFGInfo::empty(alloc);
+        let answer = info.init(self.f, &mut CFGInfoCtx::new(alloc));
+        let (blocks, insts) = (info.postorder.as_slice(), info.insn_block.as_slice());
+        let (first, last) = (info.block_entry.as_slice(), info.block_exit.as_slice());
+        match answer {
+            Ok(()) => format!(in self.global; "{blocks:?} {insts:?} {first:?} {last:?}"),
+            Err(_) if !blocks.is_empty() || !insts.is_empty() => self.words("a table is left"),
+            Err(_) if !first.is_empty() || !last.is_empty() => self.words("points are left"),
+            Err(error) => told(self.global, error),
+        }
+    }
+
+    /// If memory runs out, the list is empty.
+    fn order<A: Allocator + Copy>(&self, alloc: A) -> Result<String, AllocError> {
+        let mut out = Vec::new(alloc);
+        let answer = order(alloc, self.f, &mut out);
+        let blocks = out.as_slice();
+        match answer {
+            Ok(()) => format!(in self.global; "{blocks:?}"),
+            Err(_) if !blocks.is_empty() => self.words("blocks are left"),
+            Err(error) => told(self.global, error),
+        }
+    }
+
+    fn definitions<A: Allocator + Copy>(&self, alloc: A) -> Result<String, AllocError> {
+        match definitions(alloc, self.f) {
+            Ok(()) => self.words("valid"),
+            Err(error) => told(self.global, error),
+        }
+    }
+
+    fn reads_written<A: Allocator + Copy>(&self, alloc: A) -> Result<String, AllocError> {
+        if !is_framed(self.f) {
+            return self.words("not framed");
+        }
+        match reads_written(alloc, self.f) {
+            Ok(answer) => format!(in self.global; "{answer}"),
+            Err(error) => told(self.global, error),
+        }
+    }
+
+    /// If memory runs out while an output is prepared, none is, and the checker serves once more.
+    fn check<A: Allocator + Copy>(&self, alloc: A, out: &Output) -> Result<String, AllocError> {
+        if !is_framed(self.f) {
+            return self.words("not framed");
+        }
+        let Ok(mut checker) = Checker::new(alloc, self.f, self.f.machine_env()) else {
+            return Err(AllocError);
+        };
+        let prepared = checker.prepare(out);
+        let is_refused = matches!(prepared, Err(CheckerError::Memory));
+        if is_refused && checker.prepare(out).is_err() {
+            return self.words("the checker serves no more");
+        }
+        let text = match checker.run() {
+            Ok(()) => self.words("checked")?,
+            Err(errors) => faults(self.global, errors.errors())?,
+        };
+        if is_refused && text == self.wanted {
+            return Err(AllocError);
+        }
+        Ok(text)
+    }
+}
+
+/// Tests the definitions and uses of a function, by its tables.
+fn definitions<A: Allocator + Copy, F: Function>(alloc: A, f: &F) -> Result<(), RegAllocError> {
+    let info = CFGInfo::new(alloc, f)?;
+    validate_ssa(alloc, f, &info)
+}
+
+/// The order of a function's blocks, asked for by a closure.
+fn order<A: Allocator + Copy, F: Function>(
+    alloc: A,
+    f: &F,
+    out: &mut Vec<Block, A>,
+) -> Result<(), RegAllocError> {
+    let mut visited = Vec::new(alloc);
+    let entry = f.entry_block();
+    calculate(
+        alloc,
+        f.num_blocks(),
+        entry,
+        &mut visited,
+        out,
+        |block| f.block_succs(block),
+    )
+}

@@ -1,0 +1,77 @@
+//! `regalloc2_refusing`: each call that takes memory, with each of its requests for memory refused in turn.
+//!
+//! The input has functions as JSON texts, by line; a line that begins with `#` is a title. Each call of the table is made with each
+//! function and an allocator that refuses its first request, then its second and so on, until a call meets no refusal. A call whose
+//! request is refused has to say that memory ran out, to leave what it says it leaves, and to answer as ever if it is made again; the
+//! last one, which met no refusal, has to be done. The file `stdout` says what must come.
+#![tactic(auto)]
+
+mod calls;
+
+use calls::{Given, NAMES};
+use regalloc2::serialize::{FromValue, SerializableFunction, StoredFunction};
+use regalloc2::{Output, allocate_without_checker};
+use regalloc2_test_alloc::is_each_told;
+use serde_json::Value;
+use std::alloc::Global;
+use std::io::{self, BufWriter, Write};
+
+/// The function of a JSON text.
+fn function_of(alloc: Global, text: &str) -> Option<SerializableFunction> {
+    let value = Value::from_str(alloc, text).ok()?;
+    let stored = StoredFunction::from_value(alloc, &value).ok()?;
+    SerializableFunction::from_stored(alloc, &stored).ok()
+}
+
+/// What is allocated to a function, or nothing.
+fn output_of(alloc: Global, f: &SerializableFunction) -> Output {
+    allocate_without_checker(alloc, f, f.machine_env()).unwrap_or(Output::new(alloc))
+}
+
+/// Whether each refused request of a call is told, and whether the call takes memory at all. The call's right answer is the one that it
+/// gives with ample memory.
+fn is_told(global: Global, given: &mut Given) -> Option<bool> {
+    given.wanted = given.answer(global).ok()?;
+    Some(is_each_told(global, given))
+}
+
+/// Writes of which calls each refused request is told, and of which it isn't.
+fn show<W: Write>(global: Global, text: &str, to: &mut W) -> io::Result<()> {
+    let Some(f) = function_of(global, text) else {
+        return writeln!(to, " no function");
+    };
+    let out = output_of(global, &f);
+    let mut without_moves = output_of(global, &f);
+    without_moves.edits.clear();
+    for name in NAMES {
+        let mut given = Given {
+            global,
+            name,
+            f: &f,
+            out: &out,
+            without_moves: &without_moves,
+            wanted: String::new(global),
+        };
+        let answer = match is_told(global, &mut given) {
+            Some(true) => "told",
+            Some(false) => "NOT TOLD",
+            None => "no memory",
+        };
+        writeln!(to, "  {name:?}: {answer}")?;
+    }
+    Ok(())
+}
+
+fn main(rt: HostRuntime) -> io::Result<()> {
+    let alloc = rt.alloc();
+    let lines = io::read_to_string(alloc, rt.stdin())?;
+    let out = &mut BufWriter::new(alloc, rt.stdout())?;
+    for line in lines.lines() {
+        if line.starts_with('#') {
+            writeln!(out, "{line}")?;
+        } else {
+            show(alloc, line, out)?;
+        }
+    }
+    out.flush()
+}
