@@ -1,4 +1,5 @@
 -- Why a function isn't compiled.
+use Rattle.std.specs.Prelude.{ℕ, codes, List, Option, None, Some}
 use Rattle.regalloc2_function.specs.FunctionValue.{FunctionValue}
 use Rattle.regalloc2_function.specs.Machine.{MachineValue}
 use Rattle.regalloc2.specs.Allocated.{IsTestedRunReason}
@@ -10,3 +11,8 @@ use Rattle.codegen.specs.declared.compiler.CompileError.TheVariants.{Refused, Me
 abbrev pub IsCompileReason : FunctionValue → CompileError → Type 0
 IsCompileReason f (Refused e) = (env : MachineValue) × IsTarget env × IsTestedRunReason f env e
 IsCompileReason f Memory = Unit {0}
+
+-- what is said of it; of the allocator's words no clause speaks
+abbrev pub error_text : CompileError → Option (List ℕ)
+error_text (Refused e) = None
+error_text Memory = Some (codes "out of memory")

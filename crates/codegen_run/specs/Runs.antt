@@ -1,5 +1,6 @@
 -- Runs from numbers that are 0, but for the arguments that are given.
-use Rattle.std.specs.Prelude.{ℕ, List, slice_index, None}
+use Rattle.std.specs.Prelude.{ℕ, List, codes, slice_index, None}
+use Rattle.std.specs.Fmt.{decimal}
 use Rattle.regalloc2_function.specs.Path.{first_of}
 use Rattle.codegen_ir.specs.Numbers.{Outcome, Running as runs, Returned as returned, Stuck as sticks}
 use Rattle.codegen_ir.specs.Meaning.{ProcedureState, procedure_run}
@@ -30,3 +31,9 @@ abbrev pub stands : {S : Type 0} → Standing → S → Outcome S
 stands Running s = runs s
 stands (Returned n) s = returned n
 stands Stuck s = sticks
+
+-- in words
+abbrev pub standing_text : Standing → List ℕ
+standing_text Running = codes "still running"
+standing_text (Returned n) = decimal n
+standing_text Stuck = codes "stuck"

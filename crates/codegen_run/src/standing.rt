@@ -1,5 +1,8 @@
 //! How runs stand.
 
+ghost use Rattle.std.specs.Prelude.{Some};
+ghost use Rattle.codegen_run.specs.Runs.{standing_text};
+
 use std::fmt;
 
 /// How a run stands after some steps.
@@ -14,6 +17,8 @@ pub enum Standing {
 }
 
 impl fmt::Display for Standing {
+    ghost output = { λ s. Some (standing_text s) };
+
     fn fmt<W: fmt::Write>(&self, f: &mut fmt::Formatter<W>) -> fmt::Result {
         match self {
             Standing::Running => f.write_str("still running"),

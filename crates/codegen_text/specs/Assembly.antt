@@ -9,6 +9,7 @@ use Rattle.codegen_machine.specs.declared.Source.{Source}
 use Rattle.codegen_machine.specs.declared.Source.TheVariants.{Register, Slot}
 use Rattle.codegen_machine.specs.declared.Instruction.{Instruction}
 use Rattle.codegen_machine.specs.declared.Instruction.TheVariants as variant
+use Rattle.codegen_machine.specs.declared.Code.{Code}
 
 -- the registers by number
 abbrev pub register_names : List (List ℕ)
@@ -73,3 +74,18 @@ line_text k i = codes ".L" ++ (decimal k ++ (codes ": " ++ (instruction_text i +
 unfoldable pub lines_text : ℕ → List Instruction → List ℕ
 lines_text k [] = []
 lines_text k (i ∷ rest) = line_text k i ++ lines_text (k + 1) rest
+
+-- how a function begins: what its caller keeps in registers is put aside
+unfoldable pub entry_text : List ℕ
+entry_text = codes "  .globl compiled\ncompiled:\n"
+    ++ codes "  pushq %rbx\n  pushq %rbp\n  pushq %r12\n  pushq %r13\n  pushq %r14\n  pushq %r15\n"
+
+-- how it ends: that is taken back
+unfoldable pub exit_text : List ℕ
+exit_text = codes "  popq %r15\n  popq %r14\n  popq %r13\n  popq %r12\n  popq %rbp\n  popq %rbx\n  ret\n"
+    ++ codes "  .section .note.GNU-stack,\"\",@progbits\n"
+
+-- code as a function: its frame has room for the slots, and is given back before it ends
+abbrev pub assembly_text : Code → List ℕ
+assembly_text c = entry_text ++ (codes "  subq $8*" ++ (decimal c.slots ++ (codes ", %rsp\n" ++ (lines_text 0 c.instructions.items
+    ++ (codes ".Lreturn:\n  addq $8*" ++ (decimal c.slots ++ (codes ", %rsp\n" ++ exit_text)))))))

@@ -1,3 +1,1 @@
 pub mod Assembly
-pub mod Cursor
-pub mod Lines

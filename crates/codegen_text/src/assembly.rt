@@ -2,14 +2,18 @@
 
 ghost use Rattle.std.specs.Prelude.{◌≡◌, Some};
 ghost use Rattle.codegen_text.specs.Assembly.{byte_name, condition_letters, operator_name, register_name};
-ghost use Rattle.codegen_text.specs.Assembly.{instruction_text, lines_text, source_text};
+ghost use Rattle.codegen_text.specs.Assembly.{assembly_text, entry_text, exit_text, instruction_text, lines_text, source_text};
 
 use codegen_ir::{Condition, Operator};
 use codegen_machine::{Code, Instruction, Source};
 use std::fmt;
 
 /// How the function begins: with what its caller keeps in registers, put aside.
-const ENTRY: &str = "  .globl compiled
+#[tactic(auto, unfolding(crate::specs::Assembly::entry_text))]
+fn entry_text() -> &'static str
+    ensures { result.now ≡ entry_text }
+{
+    "  .globl compiled
 compiled:
   pushq %rbx
   pushq %rbp
@@ -17,10 +21,15 @@ compiled:
   pushq %r13
   pushq %r14
   pushq %r15
-";
+"
+}
 
 /// How it ends.
-const EXIT: &str = "  popq %r15
+#[tactic(auto, unfolding(crate::specs::Assembly::exit_text))]
+fn exit_text() -> &'static str
+    ensures { result.now ≡ exit_text }
+{
+    "  popq %r15
   popq %r14
   popq %r13
   popq %r12
@@ -28,7 +37,8 @@ const EXIT: &str = "  popq %r15
   popq %rbx
   ret
   .section .note.GNU-stack,\"\",@progbits
-";
+"
+}
 
 /// The name of a register.
 fn register_name(register: usize) -> &'static str
@@ -212,9 +222,14 @@ impl fmt::Display for LinesText<'_> {
 pub struct AssemblyText<'a>(pub &'a Code);
 
 impl fmt::Display for AssemblyText<'_> {
+    ghost output = { λ t. Some (assembly_text t.0.now) };
+
     fn fmt<W: fmt::Write>(&self, f: &mut fmt::Formatter<W>) -> fmt::Result {
         let (slots, lines) = (self.0.slots, LinesText(self.0.instructions.as_slice()));
-        write!(f, "{ENTRY}  subq $8*{slots}, %rsp\n{lines}")?;
-        write!(f, ".Lreturn:\n  addq $8*{slots}, %rsp\n{EXIT}")
+        let (entry, exit) = (entry_text(), exit_text());
+        write!(
+            f,
+            "{entry}  subq $8*{slots}, %rsp\n{lines}.Lreturn:\n  addq $8*{slots}, %rsp\n{exit}"
+        )
     }
 }

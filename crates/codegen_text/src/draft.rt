@@ -1,11 +1,9 @@
 //! What the lines of a text say, and the function that they make.
 
-use super::cursor::Cursor;
-use super::error::{Expected, Flaw, Found};
 use super::operations::{read_value, read_vreg};
-use super::token::Token;
 use codegen_ir::{Line, Malformed, Operation, Part, Procedure};
 use regalloc2::{Block, Inst, InstRange, VReg};
+use regalloc2_text_cursor::{Cursor, Expected, Flaw, Found, Token};
 use std::alloc::Global;
 
 /// What the lines so far say of a block.

@@ -4,13 +4,10 @@
 #![tactic(auto)]
 
 mod assembly;
-mod cursor;
 mod draft;
-mod error;
 mod operations;
 mod reading;
-mod token;
 
 pub use assembly::{AssemblyText, InstructionText};
-pub use error::{Expected, Fault, Found, TextError};
 pub use reading::read_procedure;
+pub use regalloc2_text_cursor::{Expected, Fault, Found, TextError};

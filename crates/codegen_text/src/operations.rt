@@ -1,11 +1,11 @@
 //! The lines of operations.
 
 ghost use Rattle.std.specs.Prelude.{◌≤◌};
-ghost use Rattle.codegen_text.specs.Cursor.{tokens_left};
+ghost use Rattle.regalloc2_text_cursor.specs.Cursor.{tokens_left};
 
-use super::cursor::Cursor;
 use codegen_ir::{Condition, Operation, Operator};
 use regalloc2::{RegClass, VReg};
+use regalloc2_text_cursor::Cursor;
 
 /// The greatest number of an argument, whose address an instruction of x86-64 can still name.
 const LAST_ARGUMENT: u64 = (1 << 28) - 1;

@@ -1,23 +1,12 @@
 //! A function from a text.
 
-ghost use Rattle.std.specs.Prelude.{◌+◌, ◌<◌, ◌≤◌, length, IfErr, IfOk, IfSome};
-ghost use Rattle.codegen_text.specs.Lines.{IsOnLineBetween};
+ghost use Rattle.std.specs.Prelude.{◌+◌, ◌≤◌, length, IfErr, IfOk};
+ghost use Rattle.regalloc2_text_cursor.specs.Lines.{IsOnLineBetween};
 
 use super::draft::Draft;
-use super::error::TextError;
-use super::token::{Token, tokenize};
 use codegen_ir::Procedure;
+use regalloc2_text_cursor::{TextError, Token, split_line, tokenize};
 use std::alloc::Global;
-
-/// The first line of a text, and what follows its line feed, where it has one.
-fn split_line(text: &str) -> (&str, Option<&str>)
-    ensures { IfSome result.1 (λ after. length after.now < length text.now) }
-{
-    match text.split_once('\n') {
-        Some((line, after)) => (line, Some(after)),
-        None => (text, None),
-    }
-}
 
 /// Reads the lines of a text, whose first line has the number `first_line`, into a draft. Answers the number of the last.
 fn read_lines<'t>(

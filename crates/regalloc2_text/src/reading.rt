@@ -1,7 +1,7 @@
 //! A function, its machine and an output from a text.
 
-ghost use Rattle.std.specs.Prelude.{ℕ, ◌+◌, ◌<◌, ◌≤◌, length, IfErr, IfOk, IfSome};
-ghost use Rattle.regalloc2_text.specs.Lines.{IsOnLineBetween};
+ghost use Rattle.std.specs.Prelude.{ℕ, ◌+◌, ◌≤◌, length, IfErr, IfOk};
+ghost use Rattle.regalloc2_text_cursor.specs.Lines.{IsOnLineBetween};
 
 mod blocks;
 mod draft;
@@ -12,12 +12,10 @@ mod output;
 mod settings;
 mod stored;
 
-use super::TextError;
-use super::error::{Expected, Flaw, Found};
-use super::token::{Token, tokenize};
 use draft::{Draft, LineEffect, is_numbered};
 use regalloc2_function::StoredOutput;
 use regalloc2_serialize::StoredFunction;
+use regalloc2_text_cursor::{Expected, Flaw, Found, TextError, Token, split_line, tokenize};
 use std::alloc::{Allocator, Global};
 
 /// A function with its machine, and an output where the text has one.
@@ -27,16 +25,6 @@ pub struct Text<A: Allocator = Global> {
     pub function: StoredFunction<A>,
     /// What an allocation put out for it.
     pub output: Option<StoredOutput<A>>,
-}
-
-/// The first line of a text, and what follows its line feed, where it has one.
-fn split_line(text: &str) -> (&str, Option<&str>)
-    ensures { IfSome result.1 (λ after. length after.now < length text.now) }
-{
-    match text.split_once('\n') {
-        Some((line, after)) => (line, Some(after)),
-        None => (text, None),
-    }
 }
 
 /// Whether a line of those tokens is that of a block.

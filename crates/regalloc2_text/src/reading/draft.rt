@@ -5,9 +5,7 @@ use super::function::DraftFunction;
 use super::insts::opcode_named;
 use super::output::DraftOutput;
 use super::stored::StoredLists;
-use crate::cursor::Cursor;
-use crate::error::{Expected, Flaw};
-use crate::token::Token;
+use regalloc2_text_cursor::{Cursor, Expected, Flaw, Token};
 use std::alloc::Allocator;
 
 /// What a line leaves to the lines after it.

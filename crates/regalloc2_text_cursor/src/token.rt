@@ -3,15 +3,16 @@
 ghost use Rattle.std.specs.Prelude.{◌≡◌, ◌<◌, ◌≤◌, length, IfSome};
 
 use super::error::{Expected, Flaw, Found};
+use std::alloc::Allocator;
 
 /// What a token is.
 #[derive(Clone, Copy, Debug, PartialEq, Eq)]
 pub enum TokenKind {
-    /// A letter or `_`, and letters, digits and `_` after it.
+    /// A letter or `_`, and letters, digits, `_` and `@` after it.
     Word,
     /// Digits.
     Number,
-    /// One of `: , = ( )`.
+    /// One of `: ; , = ( ) [ ] - -> .. ..=`.
     Sign,
     /// A space or a tab, which is no token.
     Blank,
@@ -31,7 +32,7 @@ pub struct Token<'t> {
 
 /// Whether a byte may stand in a word.
 fn is_word_byte(byte: u8) -> bool {
-    byte.is_ascii_alphanumeric() || byte == b'_'
+    byte.is_ascii_alphanumeric() || byte == b'_' || byte == b'@'
 }
 
 /// How many bytes at the front may stand in a word.
@@ -65,7 +66,12 @@ fn measured(bytes: &[u8]) -> Option<(TokenKind, usize)>
             1 + word_len(after),
         )),
         [b'0'..=b'9', after @ ..] => Some((TokenKind::Number, 1 + digits_len(after))),
-        [b':' | b',' | b'=' | b'(' | b')', ..] => Some((TokenKind::Sign, 1)),
+        [b'.', b'.', b'=', ..] => Some((TokenKind::Sign, 3)),
+        [b'.', b'.', ..] | [b'-', b'>', ..] => Some((TokenKind::Sign, 2)),
+        [
+            b':' | b';' | b',' | b'=' | b'(' | b')' | b'[' | b']' | b'-',
+            ..
+        ] => { Some((TokenKind::Sign, 1)) }
         _ => None,
     }
 }
@@ -93,8 +99,21 @@ fn unknown(text: &str) -> Found<'_> {
     }
 }
 
+/// The first line of a text, and what follows its line feed, where it has one.
+pub fn split_line(text: &str) -> (&str, Option<&str>)
+    ensures { IfSome result.1 (λ after. length after.now < length text.now) }
+{
+    match text.split_once('\n') {
+        Some((line, after)) => (line, Some(after)),
+        None => (text, None),
+    }
+}
+
 /// Puts the tokens of a line into `tokens`, in place of what is there.
-pub fn tokenize<'t>(line: &'t str, tokens: &mut Vec<Token<'t>>) -> Result<(), Flaw<'t>> {
+pub fn tokenize<'t, A: Allocator>(
+    line: &'t str,
+    tokens: &mut Vec<Token<'t>, A>,
+) -> Result<(), Flaw<'t>> {
     tokens.clear();
     let mut rest = without_comment(line);
     let mut column = 1usize;

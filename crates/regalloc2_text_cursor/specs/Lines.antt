@@ -1,7 +1,7 @@
 -- The lines of faults.
 use Rattle.std.specs.Prelude.{ℕ, ◌≤◌}
-use Rattle.regalloc2_text.specs.declared.error.TextError.{TextError}
-use Rattle.regalloc2_text.specs.declared.error.TextError.TheVariants.{Fault, Memory}
+use Rattle.regalloc2_text_cursor.specs.declared.error.TextError.{TextError}
+use Rattle.regalloc2_text_cursor.specs.declared.error.TextError.TheVariants.{Fault, Memory}
 
 -- a fault stands on a line of those numbers
 abbrev pub IsOnLineBetween : ℕ → ℕ → TextError → Type 0

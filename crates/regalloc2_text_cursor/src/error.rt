@@ -133,7 +133,7 @@ impl<T: Drop> From<AllocFailed<T>> for TextError<'_> {
 
 /// Why a line can't be read.
 #[derive(Clone, Copy, Debug)]
-pub(crate) enum Flaw<'t> {
+pub enum Flaw<'t> {
     /// A token doesn't fit.
     Misfit(Misfit<'t>),
     /// Out of memory.
@@ -142,7 +142,7 @@ pub(crate) enum Flaw<'t> {
 
 /// The first token of a line that doesn't fit.
 #[derive(Clone, Copy, Debug)]
-pub(crate) struct Misfit<'t> {
+pub struct Misfit<'t> {
     /// The column in bytes, counted from 1.
     pub column: usize,
     /// What the line needs there.
@@ -153,10 +153,10 @@ pub(crate) struct Misfit<'t> {
 }
 
 impl<'t> Flaw<'t> {
-    ghost use Rattle.regalloc2_text.specs.Lines.{IsOnLineBetween};
+    ghost use Rattle.regalloc2_text_cursor.specs.Lines.{IsOnLineBetween};
 
     /// What doesn't fit, at a column that is at least 1.
-    pub(crate) fn new(column: usize, expected: Expected, found: Found<'t>) -> Self
+    pub fn new(column: usize, expected: Expected, found: Found<'t>) -> Self
         requires { 1 ≤ column }
     {
         Flaw::Misfit(Misfit {
@@ -167,7 +167,7 @@ impl<'t> Flaw<'t> {
     }
 
     /// The error of a text in whose line of that number this is.
-    pub(crate) fn on_line(self, line: usize) -> TextError<'t>
+    pub fn on_line(self, line: usize) -> TextError<'t>
         ensures { (first : ℕ) → (last : ℕ) → first ≤ line → line ≤ last → IsOnLineBetween first last result }
     {
         match self {

@@ -2,7 +2,7 @@
 
 ghost use Rattle.std.specs.Prelude.{◌≡◌, ◌<◌, ◌≤◌, IfOk, IfSome};
 ghost use Rattle.regalloc2_names.specs.Packing.{IsConstraintOf};
-ghost use Rattle.regalloc2_text.specs.Cursor.{tokens_left};
+ghost use Rattle.regalloc2_text_cursor.specs.Cursor.{tokens_left};
 
 use super::cursor::{Cursor, is_numeral};
 use regalloc2_index::Inst;
@@ -13,9 +13,11 @@ use regalloc2_names::{
 
 /// A register or a virtual register: one word of a letter, a number and the class's letter.
 #[derive(Clone, Copy)]
-pub(crate) struct Named {
-    pub(crate) number: usize,
-    pub(crate) class: RegClass,
+pub struct Named {
+    /// Its number.
+    pub number: usize,
+    /// Its class.
+    pub class: RegClass,
 }
 
 /// What is said of a word that is no such name.
@@ -52,7 +54,7 @@ fn class_of_letter(letter: char) -> Option<RegClass> {
 }
 
 /// The class of that name.
-pub(crate) fn class_named(name: &str) -> Option<RegClass> {
+pub fn class_named(name: &str) -> Option<RegClass> {
     match name {
         "int" => Some(RegClass::Int),
         "float" => Some(RegClass::Float),
@@ -155,7 +157,7 @@ impl Cursor<'_, '_> {
     }
 
     /// A register.
-    pub(crate) fn register(&mut self) -> Named
+    pub fn register(&mut self) -> Named
         ensures left { tokens_left self.new ≤ tokens_left self.old }
         ensures up_to { result.number ≤ PReg.MAX }
     {
@@ -163,7 +165,7 @@ impl Cursor<'_, '_> {
     }
 
     /// The index of a register, or one that is of none.
-    pub(crate) fn register_bits(&mut self) -> u8
+    pub fn register_bits(&mut self) -> u8
         ensures { tokens_left self.new ≤ tokens_left self.old }
     {
         match self.bits(255) {
@@ -187,7 +189,7 @@ impl Cursor<'_, '_> {
     }
 
     /// The word of a virtual register, or one that is of none.
-    pub(crate) fn vreg_bits(&mut self) -> u32
+    pub fn vreg_bits(&mut self) -> u32
         ensures { tokens_left self.new ≤ tokens_left self.old }
     {
         match self.bits(u64::from(u32::MAX)) {
@@ -205,7 +207,7 @@ impl Cursor<'_, '_> {
     }
 
     /// The word of an operand, or one that is of none.
-    pub(crate) fn operand_bits(&mut self) -> u64
+    pub fn operand_bits(&mut self) -> u64
         ensures { tokens_left self.new ≤ tokens_left self.old }
     {
         if let Some(bits) = self.bits(u64::MAX) {
@@ -317,7 +319,7 @@ impl Cursor<'_, '_> {
     }
 
     /// The word of a place, or one that is of none.
-    pub(crate) fn place_bits(&mut self) -> u32
+    pub fn place_bits(&mut self) -> u32
         ensures { tokens_left self.new ≤ tokens_left self.old }
     {
         if let Some(bits) = self.bits(u64::from(u32::MAX)) {
@@ -351,7 +353,7 @@ impl Cursor<'_, '_> {
     }
 
     /// The number of a point, or one that is of none.
-    pub(crate) fn point_bits(&mut self) -> u32
+    pub fn point_bits(&mut self) -> u32
         ensures { tokens_left self.new ≤ tokens_left self.old }
     {
         if let Some(bits) = self.bits(u64::from(u32::MAX)) {
@@ -384,7 +386,7 @@ impl Cursor<'_, '_> {
     }
 
     /// The numbers of the first instruction of a range and of the one past its last.
-    pub(crate) fn range(&mut self) -> (u32, u32)
+    pub fn range(&mut self) -> (u32, u32)
         ensures { tokens_left self.new ≤ tokens_left self.old }
     {
         self.want("from");

@@ -1,7 +1,7 @@
 //! A place among the tokens of a line.
 
 ghost use Rattle.std.specs.Prelude.{◌≡◌, ◌<◌, ◌≤◌, length, IsTrue, IfSome};
-ghost use Rattle.regalloc2_text.specs.Cursor.{tokens_left};
+ghost use Rattle.regalloc2_text_cursor.specs.Cursor.{tokens_left};
 
 use super::error::{Expected, Flaw, Found};
 use super::token::{Token, TokenKind};
@@ -12,7 +12,7 @@ use std::alloc::Allocator;
 /// The cursor keeps the first flaw that is found, and no token is left after it: what is read from then on is zeros and
 /// empty lists, for `finish` to refuse.
 #[derive(Drop)]
-pub(crate) struct Cursor<'a, 't> {
+pub struct Cursor<'a, 't> {
     /// The tokens of the line.
     tokens: &'a [Token<'t>],
     /// How many of them are read.
@@ -25,7 +25,7 @@ pub(crate) struct Cursor<'a, 't> {
 
 impl<'a, 't> Cursor<'a, 't> {
     /// The place before a line's tokens, where the virtual registers so far are below `num_vregs`.
-    pub(crate) fn new(tokens: &'a [Token<'t>], num_vregs: u64) -> Self {
+    pub fn new(tokens: &'a [Token<'t>], num_vregs: u64) -> Self {
         Cursor {
             tokens,
             at: 0,
@@ -35,12 +35,12 @@ impl<'a, 't> Cursor<'a, 't> {
     }
 
     /// One more than the greatest number of a virtual register that was read.
-    pub(crate) fn num_vregs(&self) -> u64 {
+    pub fn num_vregs(&self) -> u64 {
         self.num_vregs
     }
 
     /// Notes that a virtual register of that number was read.
-    pub(crate) fn show_vreg(&mut self, number: u64)
+    pub fn show_vreg(&mut self, number: u64)
         ensures { tokens_left self.new ≤ tokens_left self.old }
     {
         self.num_vregs = self.num_vregs.max(number.saturating_add(1));
@@ -54,7 +54,7 @@ impl<'a, 't> Cursor<'a, 't> {
     }
 
     /// The text of the next token, where there is one.
-    pub(crate) fn peek(&self) -> Option<&'t str> {
+    pub fn peek(&self) -> Option<&'t str> {
         match self.next() {
             Some(token) => Some(token.text),
             None => None,
@@ -62,7 +62,7 @@ impl<'a, 't> Cursor<'a, 't> {
     }
 
     /// Whether the next token begins so.
-    pub(crate) fn begins(&self, start: &str) -> bool {
+    pub fn begins(&self, start: &str) -> bool {
         match self.peek() {
             Some(text) => text.starts_with(start),
             None => false,
@@ -75,7 +75,7 @@ impl<'a, 't> Cursor<'a, 't> {
     }
 
     /// Notes that flaw, unless there is one already.
-    pub(crate) fn fail(&mut self, flaw: Flaw<'t>)
+    pub fn fail(&mut self, flaw: Flaw<'t>)
         ensures { tokens_left self.new ≤ tokens_left self.old }
     {
         self.flaw = self.flaw.or(Some(flaw));
@@ -83,7 +83,7 @@ impl<'a, 't> Cursor<'a, 't> {
     }
 
     /// Notes that the next token doesn't fit.
-    pub(crate) fn fault(&mut self, expected: Expected)
+    pub fn fault(&mut self, expected: Expected)
         ensures { tokens_left self.new ≤ tokens_left self.old }
     {
         let (column, found) = match (self.next(), self.previous()) {
@@ -95,14 +95,14 @@ impl<'a, 't> Cursor<'a, 't> {
     }
 
     /// Notes that the next token doesn't fit, in whose place these words say what could stand.
-    pub(crate) fn misfit(&mut self, expected: &'static str)
+    pub fn misfit(&mut self, expected: &'static str)
         ensures { tokens_left self.new ≤ tokens_left self.old }
     {
         self.fault(Expected::Words(expected));
     }
 
     /// Notes that the token before the next one doesn't fit.
-    pub(crate) fn fault_before(&mut self, expected: Expected)
+    pub fn fault_before(&mut self, expected: Expected)
         ensures { tokens_left self.new ≤ tokens_left self.old }
     {
         match self.previous() {
@@ -114,14 +114,14 @@ impl<'a, 't> Cursor<'a, 't> {
     }
 
     /// Notes that the token before the next one doesn't fit, in whose place these words say what could stand.
-    pub(crate) fn misfit_before(&mut self, expected: &'static str)
+    pub fn misfit_before(&mut self, expected: &'static str)
         ensures { tokens_left self.new ≤ tokens_left self.old }
     {
         self.fault_before(Expected::Words(expected));
     }
 
     /// Adds an item to a list, or notes that memory is out.
-    pub(crate) fn push<T: Drop, A: Allocator>(&mut self, list: &mut Vec<T, A>, item: T)
+    pub fn push<T: Drop, A: Allocator>(&mut self, list: &mut Vec<T, A>, item: T)
         ensures { tokens_left self.new ≤ tokens_left self.old }
     {
         if let Err(refused) = list.push(item) {
@@ -130,7 +130,7 @@ impl<'a, 't> Cursor<'a, 't> {
     }
 
     /// Adds copies of items to a list, or notes that memory is out.
-    pub(crate) fn extend<A: Allocator>(&mut self, list: &mut Vec<u32, A>, items: &[u32])
+    pub fn extend<A: Allocator>(&mut self, list: &mut Vec<u32, A>, items: &[u32])
         ensures { tokens_left self.new ≤ tokens_left self.old }
     {
         if let Err(refused) = list.extend_from_slice(items) {
@@ -139,7 +139,7 @@ impl<'a, 't> Cursor<'a, 't> {
     }
 
     /// Passes the next token, where there is one.
-    pub(crate) fn advance(&mut self)
+    pub fn advance(&mut self)
         ensures { tokens_left self.new ≤ tokens_left self.old }
     {
         if self.at < self.tokens.len() {
@@ -148,7 +148,7 @@ impl<'a, 't> Cursor<'a, 't> {
     }
 
     /// Passes the next token, where it is that one, and says whether it is.
-    pub(crate) fn has(&mut self, text: &str) -> bool
+    pub fn has(&mut self, text: &str) -> bool
         ensures left { tokens_left self.new ≤ tokens_left self.old }
         ensures passed { IsTrue result → tokens_left self.new < tokens_left self.old }
     {
@@ -162,7 +162,7 @@ impl<'a, 't> Cursor<'a, 't> {
     }
 
     /// Passes the next token, which is that one.
-    pub(crate) fn want(&mut self, text: &'static str)
+    pub fn want(&mut self, text: &'static str)
         ensures { tokens_left self.new ≤ tokens_left self.old }
     {
         if !self.has(text) {
@@ -171,7 +171,7 @@ impl<'a, 't> Cursor<'a, 't> {
     }
 
     /// The line ends here, and no flaw was found in it.
-    pub(crate) fn finish(mut self) -> Result<(), Flaw<'t>> {
+    pub fn finish(mut self) -> Result<(), Flaw<'t>> {
         if self.next().is_some() {
             self.misfit("the end of the line");
         }
@@ -182,7 +182,7 @@ impl<'a, 't> Cursor<'a, 't> {
     }
 
     /// A number up to `max`, as a token of its own.
-    pub(crate) fn number(&mut self, max: u64) -> u64
+    pub fn number(&mut self, max: u64) -> u64
         ensures left { tokens_left self.new ≤ tokens_left self.old }
         ensures up_to { result ≤ max }
     {
@@ -206,14 +206,14 @@ impl<'a, 't> Cursor<'a, 't> {
     }
 
     /// A number of 32 bits, as a token of its own.
-    pub(crate) fn word(&mut self) -> u32
+    pub fn word(&mut self) -> u32
         ensures { tokens_left self.new ≤ tokens_left self.old }
     {
         self.number(u64::from(u32::MAX)) as u32
     }
 
     /// The number of 32 bits in a word that is made of `name` and a number, as `inst3`; `expected` says what it names.
-    pub(crate) fn named(&mut self, name: &str, expected: &'static str) -> u32
+    pub fn named(&mut self, name: &str, expected: &'static str) -> u32
         ensures { tokens_left self.new ≤ tokens_left self.old }
     {
         let digits = self.peek().and_then(|text| text.strip_prefix(name));

@@ -1,4 +1,4 @@
-use Rattle.regalloc2_text.proofs.cursor.Cursor.constraint.Goals as goal
+use Rattle.regalloc2_text_cursor.proofs.cursor.Cursor.constraint.Goals as goal
 
 pub returns-then-has-5-clause-of_class : goal.returns-then-has-5-clause-of_class
 returns-then-has-5-clause-of_class c = c.reuse.ensures.of_class _
