@@ -52,7 +52,7 @@ def sigs(path):
     stack=[]  # (indent of body, params)
     while i<len(txt):
         line=txt[i]
-        if line.strip() and not line.startswith(' '): stack=[]
+        if line.strip() and not line.lstrip().startswith('--'): stack=[x for x in stack if x[0]<=len(line)-len(line.lstrip())]
         ms=re.match(r'^( *)module _ (.*)$',line)
         if ms:
             ind=len(ms.group(1)); sig=ms.group(2); j=i
