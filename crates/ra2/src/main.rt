@@ -22,8 +22,10 @@ fn main(rt: HostRuntime) -> ExitCode {
     let Ok(words) = words(&rt) else {
         return ExitCode::from(ra2_program::refuse_words(&mut rt.stderr()));
     };
-    let Ok(out) = BufWriter::new(rt.alloc(), rt.stdout()) else {
-        return ExitCode::from(ra2_program::UNUSABLE);
+    let out = match BufWriter::new(rt.alloc(), rt.stdout()) {
+        Ok(out) => out,
+        // a buffer of no bytes takes no memory
+        Err(_) => BufWriter::with_capacity(rt.alloc(), 0, rt.stdout()).unwrap(),
     };
     let (status, _) = ra2_program::answer(
         rt.alloc(),

@@ -3,7 +3,3 @@
 
 #[cfg(test)]
 mod program;
-#[cfg(test)]
-mod replaying;
-#[cfg(test)]
-mod texts;

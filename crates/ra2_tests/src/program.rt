@@ -1,10 +1,20 @@
 //! What the program answers to words and texts, and where a read or a write fails.
 
-use super::texts::{TEXT, TOO_MANY};
 use ra2_program::answer;
 use std::alloc::{AllocError, Global};
 use std::io::{self, BufWriter, ErrorKind, Read, Write};
 use std::test::Fail;
+
+/// A definition of a virtual register, and a return that reads it, for a machine of ten registers.
+const TEXT: &str = "{\"machine_env\":{\"preferred_regs_by_class\":[[0,1,2,3,4,5,6,7,8,9],[],[]],\
+    \"non_preferred_regs_by_class\":[[],[],[]],\"scratch_by_class\":[null,null,null],\
+    \"fixed_stack_slots\":[]},\"entry_block\":0,\"insts\":[\
+    {\"op\":\"Op\",\"operands\":[85899345920],\"clobbers\":[]},\
+    {\"op\":\"Ret\",\"operands\":[103079215104],\"clobbers\":[]}],\
+    \"blocks\":[[0,2]],\"block_preds\":[[]],\"block_succs\":[[]],\
+    \"block_params_in\":[[]],\"block_params_out\":[[]],\"num_vregs\":1,\
+    \"debug_value_labels\":[],\"spillslot_size\":[1,1,1],\
+    \"multi_spillslot_named_by_last_slot\":false,\"allow_multiple_vreg_defs\":false}";
 
 const LISTING: &str =
     "block0:\n  inst0 op: Def: v0i reg [p9i]\n  inst1 ret: Use: v0i reg [p9i]\nslots 0\n";
@@ -77,14 +87,6 @@ impl Write for Faulty {
     }
 }
 
-/// What the program writes, and its status.
-#[derive(Clone, Copy)]
-pub struct Answer<'a> {
-    pub out: &'a str,
-    pub err: &'a str,
-    pub status: u8,
-}
-
 /// The words of a command line.
 fn words(alloc: Global, line: &[&str]) -> Result<Vec<String>, AllocError> {
     let mut words = Vec::new(alloc);
@@ -94,121 +96,49 @@ fn words(alloc: Global, line: &[&str]) -> Result<Vec<String>, AllocError> {
     Ok(words)
 }
 
-/// Whether the program answers so to one word and a text.
-pub fn answers(alloc: Global, line: &[&str], text: &[u8], want: Answer) -> Result<bool, Fail> {
+/// Whether the program answers words and an input by just a line on the standard error, with status 2.
+fn is_refused<R: Read + Drop>(
+    alloc: Global,
+    line: &[&str],
+    input: R,
+    err_line: &str,
+) -> Result<bool, Fail> {
     let words = words(alloc, line)?;
     let out = BufWriter::new(alloc, Vec::new(alloc))?;
     let mut err = Vec::new(alloc);
-    let (status, out) = answer(alloc, words.as_slice(), text, out, &mut err);
-    let is_out = out.as_slice() == want.out.as_bytes();
-    let is_err = err.as_slice() == want.err.as_bytes();
-    Ok(status == want.status && is_out && is_err)
-}
-
-/// The text with one part replaced.
-pub fn replaced(alloc: Global, old: &str, new: &str) -> Result<String, AllocError> {
-    match TEXT.split_once(old) {
-        Some((before, after)) => format!(in alloc; "{before}{new}{after}"),
-        None => Ok(String::new(alloc)),
-    }
-}
-
-/// A line on the standard error.
-pub fn unusable(err: &str) -> Answer<'_> {
-    let (out, status) = ("", 2);
-    Answer { out, err, status }
+    let (status, out) = answer(alloc, words.as_slice(), input, out, &mut err);
+    Ok(status == 2 && out.is_empty() && err.as_slice() == err_line.as_bytes())
 }
 
 #[test]
-fn functions_are_allocated(rt: HostRuntime) -> Result<(), Fail> {
-    let rows = [
-        ("run", TEXT, LISTING, 0),
-        ("check", TEXT, CHECKED, 0),
-        ("run", TOO_MANY, "refused 7\n", 1),
-        ("check", TOO_MANY, "refused 7\n", 1),
-    ];
-    for (word, text, out, status) in rows {
-        let err = "";
-        let want = Answer { out, err, status };
-        let is_so = answers(rt.alloc(), &[word], text.as_bytes(), want)?;
-        assert!(rt; is_so, "{word} {status}");
-    }
-    Ok(())
-}
-
-#[test]
-fn bad_words_are_refused(rt: HostRuntime) -> Result<(), Fail> {
-    let want = unusable("ra2: bad words\n");
-    for word in ["walk", "replays", "", "Run", "runs", "ru"] {
-        let is_so = answers(rt.alloc(), &[word], TEXT.as_bytes(), want)?;
-        assert!(rt; is_so, "{word}");
-    }
-    assert!(rt; answers(rt.alloc(), &[], TEXT.as_bytes(), want)?);
-    assert!(rt; answers(rt.alloc(), &["run", "check"], TEXT.as_bytes(), want)?);
-    assert!(rt; answers(rt.alloc(), &["run", "run"], b"{", want)?);
-    Ok(())
-}
-
-#[test]
-fn bad_functions_are_refused(rt: HostRuntime) -> Result<(), Fail> {
-    let rows = [
-        ("preds\":[[]]", "preds\":[]", "bad function 1"),
-        ("[[0,2]]", "[[0,3]]", "bad function 2"),
-        ("85899345920", "206158430208", "bad function 3"),
-        ("[1,1,1]", "[3,1,1]", "bad function 4"),
-        ("[1,1,1]", "[1,1]", "bad function 1"),
-        ("slots\":[]", "slots\":[0]", "bad machine"),
-        ("\"num_vregs\":1,", "", "input unreadable"),
-        ("\"num_vregs\":1", "\"vregs\":1", "input unreadable"),
-        ("vregs\":1", "vregs\":\"1\"", "input unreadable"),
-        ("vregs\":1", "vregs\":-1", "input unreadable"),
-        ("[[0,2]]", "[[0,2,2]]", "input unreadable"),
-        ("[[0,2]]", "[[0]]", "input unreadable"),
-        ("[[0,1,", "[[256,1,", "input unreadable"),
-        ("preds\":[[]]", "preds\":{}", "input unreadable"),
-    ];
-    for (old, new, words) in rows {
-        let text = replaced(rt.alloc(), old, new)?;
-        let err = format!(in rt.alloc(); "ra2: {words}\n")?;
-        let want = unusable(err.as_str());
-        let run = answers(rt.alloc(), &["run"], text.as_bytes(), want)?;
-        let check = answers(rt.alloc(), &["check"], text.as_bytes(), want)?;
-        assert!(rt; run && check, "{new}");
-    }
+fn no_words_are_refused(rt: HostRuntime) -> Result<(), Fail> {
+    assert!(rt; is_refused(rt.alloc(), &[], TEXT.as_bytes(), "ra2: bad words\n")?);
     Ok(())
 }
 
 #[test]
 fn texts_that_are_cut_or_no_text_are_refused(rt: HostRuntime) -> Result<(), Fail> {
-    let want = unusable(UNREADABLE);
     let whole = TEXT.as_bytes();
     for length in 0..whole.len() {
-        let is_so = answers(rt.alloc(), &["run"], &whole[..length], want)?;
+        let is_so = is_refused(rt.alloc(), &["run"], &whole[..length], UNREADABLE)?;
         assert!(rt; is_so, "{length} bytes");
     }
     let no_text: [&[u8]; 4] = [b"{", b"null", &[34, 255, 34], &[195, 40]];
     for bytes in no_text {
-        assert!(rt; answers(rt.alloc(), &["run"], bytes, want)?);
+        assert!(rt; is_refused(rt.alloc(), &["run"], bytes, UNREADABLE)?);
     }
     Ok(())
 }
 
 #[test]
 fn failed_reads_are_refused(rt: HostRuntime) -> Result<(), Fail> {
-    let words = words(rt.alloc(), &["run"])?;
     for sound_reads in [0, 1] {
         let input = Failing {
             text: TEXT.as_bytes(),
             sound_reads,
         };
-        let out = BufWriter::new(rt.alloc(), Vec::new(rt.alloc()))?;
-        let mut err = Vec::new(rt.alloc());
-        let (status, out) = answer(rt.alloc(), words.as_slice(), input, out, &mut err);
-        let is_told = err.as_slice() == UNREADABLE.as_bytes();
-        assert!(rt;
-            status == 2 && out.is_empty() && is_told,
-            "after {sound_reads}"
-        );
+        let is_so = is_refused(rt.alloc(), &["run"], input, UNREADABLE)?;
+        assert!(rt; is_so, "after {sound_reads}");
     }
     Ok(())
 }

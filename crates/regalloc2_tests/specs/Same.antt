@@ -11,7 +11,7 @@ abbrev pub same_function : Same → FunctionValue
 same_function f = record {
   blocks = record { range = record { first = 0; end = f.insts }; succs = f.succs.now; preds = []; params = []; arguments = [] } ∷ [];
   insts = replicate f.insts (record { operands = f.operands.now; clobbers = f.clobbers; is_branch = false; is_ret = false });
-  entry = 0;
+  entry = 1;
   num_vregs = 1;
   slot_sizes = single_units;
   named_by_last_slot = false;

@@ -10,7 +10,7 @@ use regalloc2_index::{Block, Inst, InstRange};
 use regalloc2_names::{Operand, PRegSet, RegAllocError, RegClass, VReg};
 use std::alloc::Global;
 
-/// So many instructions, each with the same operands, in one block.
+/// So many instructions, each with the same operands, in one block, which isn't the one that the function starts at.
 #[derive(Drop)]
 pub struct Same<'a> {
     /// What each instruction does.
@@ -42,7 +42,7 @@ impl Function for Same<'_> {
     }
 
     fn entry_block(&self) -> Block {
-        Block::new(0)
+        Block::new(1)
     }
 
     fn block_insns(&self, _block: Block) -> InstRange {

@@ -11,15 +11,11 @@ mod graph;
 mod instructions;
 mod large;
 mod maker;
-mod memory;
 mod random;
 mod rows;
 
 use maker::Maker;
-use memory::{Given, Name};
-use regalloc2::{MachineEnv, allocate, run_tested};
-use regalloc2_table::TableFunction;
-use regalloc2_test_alloc::is_each_told;
+use regalloc2::{allocate, run_tested};
 use std::alloc::Global;
 use std::fmt::Debug;
 use std::io::{self, BufWriter, Write};
@@ -43,30 +39,6 @@ fn failures(alloc: Global, count: u64) -> usize {
     (0..count).filter(is_failed).count()
 }
 
-/// Whether each growth of a call, refused, is told as such.
-fn is_told(alloc: Global, name: Name, f: &TableFunction, env: &MachineEnv) -> Option<bool> {
-    let out = calls::run_fitting(alloc, f, env)?.ok()?;
-    let given = Given {
-        name,
-        f,
-        env,
-        out: &out,
-    };
-    Some(is_each_told(alloc, &given))
-}
-
-/// Whether it is, for a loop whose moves are so many that they take memory, and the functions of a few seeds.
-fn are_told(alloc: Global, name: Name) -> Option<bool> {
-    let f = rows::turning_loop(alloc, 17).ok()?;
-    let mut are_told = is_told(alloc, name, &f, &random::integer_machine(alloc, 20))?;
-    for seed in 0..8 {
-        let mut maker = Maker::new(alloc, seed)?;
-        let f = maker.function()?;
-        are_told = are_told && is_told(alloc, name, &f, &maker.env)?;
-    }
-    Some(are_told)
-}
-
 fn main(rt: HostRuntime) -> io::Result<()> {
     let alloc = rt.alloc();
     let out = &mut BufWriter::new(alloc, rt.stdout())?;
@@ -77,9 +49,5 @@ fn main(rt: HostRuntime) -> io::Result<()> {
     show(out, "2^32 operands", adversary::lend(alloc, 131_072))?;
     show(out, "failures of 3000 functions", failures(alloc, 3000))?;
     show(out, "large functions", large::sizes(alloc))?;
-    for name in [Name::Run, Name::RunWithCtx, Name::Check, Name::Tests] {
-        let are_told = are_told(alloc, name);
-        writeln!(out, "each growth of {name:?} is told: {are_told:?}")?;
-    }
     out.flush()
 }

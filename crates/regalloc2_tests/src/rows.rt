@@ -7,11 +7,10 @@ use super::calls::{run_fitting, run_with_ctx_fitting};
 use super::random::integer_machine;
 use regalloc2::cfg::CFGInfo;
 use regalloc2::checker::{Checker, CheckerErrors};
-use regalloc2::postorder::calculate;
 use regalloc2::ssa::validate_ssa;
-use regalloc2::{Block, Ctx, Function, Operand, Output, RegAllocError, RegClass, VReg, is_framed};
+use regalloc2::{Block, Ctx, Operand, Output, RegAllocError, RegClass, VReg, is_framed};
 use regalloc2_table::{BuildError, TableBuilder, TableFunction};
-use std::alloc::{Allocator, Global};
+use std::alloc::Global;
 
 /// An integer virtual register, whose number is taken below 2^20.
 pub fn vreg(number: usize) -> VReg
@@ -30,31 +29,23 @@ pub fn read(number: usize) -> Operand {
     Operand::reg_use(vreg(number))
 }
 
-/// A loop whose parameters, as many as said, each take the next one's value on each turn; then a return that reads them all.
-pub fn turning_loop(alloc: Global, count: usize) -> Result<TableFunction, BuildError> {
-    let (mut given, mut params) = (Vec::new(alloc), Vec::new(alloc));
-    let (mut turned, mut reads) = (Vec::new(alloc), Vec::new(alloc));
+/// A loop whose two parameters change places on each turn; then a return that reads both.
+fn turning_loop(alloc: Global) -> Result<TableFunction, BuildError> {
     let mut f = TableBuilder::new(alloc);
-    let start = f.block(&[])?;
-    for number in 0..count {
-        f.op(start, &[def(number)])?;
-        given.push(vreg(number))?;
-        params.push(vreg(count.saturating_add(number)))?;
-        let next = number.saturating_add(1) % count.max(1);
-        turned.push(vreg(count.saturating_add(next)))?;
-        reads.push(read(count.saturating_add(number)))?;
-    }
-    let (head, body, end) = (f.block(&params)?, f.block(&[])?, f.block(&[])?);
+    let (start, head) = (f.block(&[])?, f.block(&[vreg(2), vreg(3)])?);
+    let (body, end) = (f.block(&[])?, f.block(&[])?);
+    f.op(start, &[def(0)])?;
+    f.op(start, &[def(1)])?;
     f.branch(start, &[])?;
-    f.succ(start, head, &given)?;
-    f.op(head, &[read(count)])?;
+    f.succ(start, head, &[vreg(0), vreg(1)])?;
+    f.op(head, &[read(2)])?;
     f.branch(head, &[])?;
     f.succ(head, body, &[])?;
     f.succ(head, end, &[])?;
     f.branch(body, &[])?;
-    f.succ(body, head, &turned)?;
-    f.ret(end, &reads)?;
-    f.finish(count.saturating_mul(2))
+    f.succ(body, head, &[vreg(3), vreg(2)])?;
+    f.ret(end, &[read(2), read(3)])?;
+    f.finish(4)
 }
 
 /// A fork that passes its value on one edge to a parameter.
@@ -76,39 +67,12 @@ pub fn allocated(alloc: Global, f: &TableFunction) -> Option<Output> {
     run_fitting(alloc, f, &integer_machine(alloc, 10))?.ok()
 }
 
-/// The tables of the loop and of the fork, and whether the order of the loop's blocks is theirs; the loop passes the tests.
-pub fn tables(alloc: Global) -> Option<(CFGInfo, CFGInfo, bool)> {
-    let (f, fork) = (turning_loop(alloc, 2).ok()?, fork(alloc).ok()?);
-    let (info, is_so) = tested(alloc, &f).ok()?;
-    Some((info, CFGInfo::new(alloc, &fork).ok()?, is_so))
-}
-
-/// The tables of a function that passes the tests, and whether the order of its blocks is theirs.
-fn tested(alloc: Global, f: &TableFunction) -> Result<(CFGInfo, bool), RegAllocError> {
-    let info = CFGInfo::new(alloc, f)?;
-    validate_ssa(alloc, f, &info)?;
-    let mut blocks = Vec::new(alloc);
-    order(alloc, f, &mut blocks)?;
-    let is_so = info.postorder.as_slice() == blocks.as_slice();
-    Ok((info, is_so))
-}
-
-/// The order of a function's blocks, asked for by a closure.
-pub fn order<A: Allocator + Copy, F: Function>(
-    alloc: A,
-    f: &F,
-    out: &mut Vec<Block, A>,
-) -> Result<(), RegAllocError> {
-    let mut visited = Vec::new(alloc);
-    let entry = f.entry_block();
-    calculate(
-        alloc,
-        f.num_blocks(),
-        entry,
-        &mut visited,
-        out,
-        |block| f.block_succs(block),
-    )
+/// The tables of the loop, which passes the tests, and of the fork.
+pub fn tables(alloc: Global) -> Option<(CFGInfo, CFGInfo)> {
+    let (f, fork) = (turning_loop(alloc).ok()?, fork(alloc).ok()?);
+    let info = CFGInfo::new(alloc, &f).ok()?;
+    validate_ssa(alloc, &f, &info).ok()?;
+    Some((info, CFGInfo::new(alloc, &fork).ok()?))
 }
 
 /// The slots that each call gives the loop. Then how it is refused where it has too few registers, where it goes on to no block, and
@@ -116,7 +80,7 @@ pub fn order<A: Allocator + Copy, F: Function>(
 pub fn slots_and_refusals(
     alloc: Global,
 ) -> Option<([usize; 2], [Option<RegAllocError>; 3], [bool; 2], usize)> {
-    let mut f = turning_loop(alloc, 2).ok()?;
+    let mut f = turning_loop(alloc).ok()?;
     let (env, few) = (integer_machine(alloc, 10), integer_machine(alloc, 1));
     let mut ctx = Ctx::new(alloc);
     let lent = run_with_ctx_fitting(&f, &env, &mut ctx)?.ok()?;
@@ -135,7 +99,7 @@ pub fn slots_and_refusals(
 /// What a checker says that has no output; that was given one which isn't in order, after a right one; and that was given the right
 /// one last.
 pub fn verdicts(alloc: Global) -> Option<[Result<(), CheckerErrors>; 3]> {
-    let f = turning_loop(alloc, 2).ok()?;
+    let f = turning_loop(alloc).ok()?;
     let (out, mut bad) = (allocated(alloc, &f)?, allocated(alloc, &f)?);
     let env = integer_machine(alloc, 10);
     bad.inst_alloc_offsets.clear();
