@@ -1,3 +1,4 @@
 pub mod ListedInsts
 pub mod WrittenInParts
 pub mod ListingLines
+pub mod OperandPieces

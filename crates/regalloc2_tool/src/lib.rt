@@ -3,6 +3,9 @@
 
 pub mod findings;
 pub mod listing;
+mod moves;
 pub mod names;
+mod operands;
+mod places;
 pub mod refusal;
 pub mod stored_fault;

@@ -1,16 +1,18 @@
 //! The listing of an allocated function.
 
-ghost use Rattle.std.specs.Prelude.{◌≡◌, ◌<◌, Some, OnOk, length};
+ghost use Rattle.std.specs.Prelude.{◌≡◌, ◌<◌, ◌++◌, Some, OnOk, codes, length};
 ghost use Rattle.std.specs.Io.KnownBytes.{Appends};
 ghost use Rattle.regalloc2_function.specs.FunctionValue.{inst_at};
 ghost use Rattle.regalloc2_function.specs.OutputValue.{IsInOrder, place_at};
-ghost use Rattle.regalloc2_function.specs.Views.{move_of, output_of};
+ghost use Rattle.regalloc2_function.specs.Views.{output_of};
 ghost use Rattle.regalloc2_tool.specs.Framed.{BlocksAreWithin};
-ghost use Rattle.regalloc2_tool.specs.Listing.{opcode_text, separator_text, placed_text, operands_text, inst_line, move_line, block_text};
+ghost use Rattle.regalloc2_tool.specs.Listing.{opcode_text, operands_text, inst_line, block_text};
 ghost use Rattle.regalloc2_tool.specs.Listing.{blocks_text, debug_line, debug_text, listing_text};
 ghost use Rattle.regalloc2_tool.specs.Text.{point_text};
 
-use regalloc2_function::{Edit, Function, InstOrEdit, Output};
+use super::moves::write_move;
+use super::operands::write_operand;
+use regalloc2_function::{Function, InstOrEdit, Output};
 use regalloc2_index::{Block, Inst};
 use regalloc2_names::{Allocation, InstPosition, Operand, ProgPoint};
 use std::alloc::Allocator;
@@ -47,11 +49,18 @@ pub fn opcode_name<F: Function>(f: &F, inst: Inst) -> &'static str
     }
 }
 
-/// What stands before an operand.
-fn separator(k: usize) -> &'static str
-    ensures { result.now ≡ separator_text k }
+/// What stands behind an instruction's number: what it is, behind a space.
+fn opcode_end<F: Function>(f: &F, inst: Inst) -> &'static str
+    requires { inst < length (F.function f.now).insts }
+    ensures { result.now ≡ codes " " ++ opcode_text (inst_at (F.function f.now) inst) }
 {
-    if k == 0 { ": " } else { ", " }
+    if f.is_branch(inst) {
+        " branch"
+    } else if f.is_ret(inst) {
+        " ret"
+    } else {
+        " op"
+    }
 }
 
 /// The place of an operand; `none` where the list ends before.
@@ -63,20 +72,6 @@ fn place_at(places: &[Allocation], k: usize) -> Allocation
     } else {
         Allocation::none()
     }
-}
-
-/// Writes an instruction's operand with its place.
-#[tactic(auto, unfolding(crate::specs::Listing::placed_text))]
-fn write_operand<W: Write>(
-    k: usize,
-    operand: Operand,
-    place: Allocation,
-    writer: &mut W,
-) -> io::Result<()>
-    ensures { OnOk result (Appends (W.contents writer.old) (W.contents writer.new) (placed_text k operand place)) }
-{
-    let before = separator(k);
-    write!(writer, "{before}{operand} [{place}]")
 }
 
 /// Writes an instruction's operands, each with its place.
@@ -105,19 +100,10 @@ fn write_inst<F: Function, A: Allocator, W: Write>(
     ensures { OnOk result (Appends (W.contents writer.old) (W.contents writer.new) (inst_line (F.function f.now) (output_of output.now) inst)) }
 {
     let number = inst.index();
-    let name = opcode_name(f, inst);
-    write!(writer, "  inst{number} {name}")?;
+    let end = opcode_end(f, inst);
+    write!(writer, "  inst{number}{end}")?;
     write_operands(f.inst_operands(inst), output.inst_allocs(inst), writer)?;
-    writeln!(writer)
-}
-
-/// Writes a move.
-#[tactic(auto, unfolding(crate::specs::Listing::move_line))]
-fn write_move<W: Write>(edit: Edit, writer: &mut W) -> io::Result<()>
-    ensures { OnOk result (Appends (W.contents writer.old) (W.contents writer.new) (move_line (move_of edit))) }
-{
-    let (from, to) = edit.places();
-    writeln!(writer, "  move {from} -> {to}")
+    writer.write_all(b"\n")
 }
 
 /// Writes a block's instructions, each after the moves that run before it.

@@ -1,0 +1,6 @@
+use Rattle.regalloc2_tool.proofs.OperandPieces.{named_written}
+use Rattle.regalloc2_tool.proofs.operands.write_named.Goals as goal
+
+pub returns : goal.returns
+returns g c = named_written c.write_place.result _ _ _ _ c.args.k c.args.operand c.args.place c.class.result c.constraint.result c.requires
+    c.class.ensures c.constraint.ensures.constraint c.in_ok-write_head.ensures c.in_ok-write_constraint.ensures c.write_place.ensures
