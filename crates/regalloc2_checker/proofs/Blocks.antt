@@ -51,15 +51,24 @@ next_reports f env o b i n es fs e low rs r =
     (located b n (first + (i - first)) (omega arith)) r in
     subst (λ (k : ℕ). InstReports f env o b k (es ++ fs)) one (InstReports.next (i - first) es fs rs here)
 
+-- the instruction i of a block is run, by its number n, from the facts G to H
+pub record IsRunIn (f : FunctionValue) (o : OutputValue) (b i n : ℕ) (G H : Facts) : Type 0 where
+  pub number : n ≡ i
+  pub low : (block_at f b).range.first ≤ i
+  pub high : i < (block_at f b).range.end
+  pub run : H ≡ facts_after f o (record { block = b; inst = n }) G
+
 -- checking one instruction more appends that instruction's errors and goes on past it
 pub judged_next : {A : Type 0} (f : FunctionValue) (env : MachineValue) (o : OutputValue) (b i n : ℕ) (F : Facts) (old mid new : List (CheckerError A))
-    (G H : Facts) →
-    n ≡ i → (block_at f b).range.first ≤ i → i < (block_at f b).range.end → IsKnownWithin f o b F →
-    H ≡ facts_after f o (record { block = b; inst = n }) G →
+    (G H : Facts) → IsRunIn f o b i n G H → IsKnownWithin f o b F →
     (IsKnown f o (record { block = b; inst = n }) G → (es : List (CheckerError A)) × (new ≡ mid ++ es)
     × InstReport f env o (record { block = b; inst = n }) es) →
     IsJudgedTo f env o b i F old mid G → IsJudgedTo f env o b (i + 1) F old new H
-judged_next f env o b i n F old mid new G H e low high known run judge j =
+judged_next f env o b i n F old mid new G H here known judge j =
+    let e = here.number in
+    let low = here.low in
+    let high = here.high in
+    let run = here.run in
     let first : ℕ = (block_at f b).range.first in
     let there : IsKnown f o (record { block = b; inst = n }) (facts_within f o b F (i - first)) =
     subst (λ (l : Location). IsKnown f o l (facts_within f o b F (i - first))) (located b (first + (i - first)) n (omega arith))
@@ -84,12 +93,20 @@ known_within : AreEarlier → (f : FunctionValue) (o : OutputValue) (t : List Bl
     IsKnownWithin f o b (facts_at t b)
 known_within law f o t ok s b r n less position p v = facts_are_held law f o (facts_at t) ok s.settled s.refuted b n r less position p v
 
+-- the block b of a table is marked, and has the facts with which the block n was judged
+pub record IsMarkedWith (t : List BlockView) (b n : ℕ) (have : Facts) : Type 0 where
+  pub number : n ≡ b
+  pub marked : (view_at t b).reached ≡ true
+  pub facts : facts_at t b ≡ have
+
 -- a block that is marked
 pub blocks_marked : AreEarlier → {A : Type 0} (f : FunctionValue) (env : MachineValue) (o : OutputValue) (t : List BlockView) (b n : ℕ) (have : Facts)
-    (old new : List (CheckerError A)) → IsFramed f → IsSolved f o t → n ≡ b →
-    (view_at t b).reached ≡ true → facts_at t b ≡ have → IsBlockJudged f env o n have old new → BlockReports f env o b old →
-    BlockReports f env o (b + 1) new
-blocks_marked law f env o t b n have old new ok s at marked e judged rs =
+    (old new : List (CheckerError A)) → IsFramed f → IsSolved f o t → IsMarkedWith t b n have → IsBlockJudged f env o n have old new →
+    BlockReports f env o b old → BlockReports f env o (b + 1) new
+blocks_marked law f env o t b n have old new ok s here judged rs =
+    let at = here.number in
+    let marked = here.marked in
+    let e = here.facts in
     let reached : IsReachedBlock f b = (s.reached b).0 marked in
     let r = subst (λ (k : ℕ). IsBlockJudged f env o k have old new) at judged
     (subst (λ (X : Facts). IsKnownWithin f o b X) e (known_within law f o t ok s b reached)) in

@@ -1,91 +1,210 @@
--- A listing that is copied item by item.
+-- A listing that is made instruction by instruction.
 use Rattle.std.proofs.Common.{ℕ, zero, suc, ◌≡◌, ◌+◌, ◌-◌, ◌<◌, ◌≤◌, inl, inr, List, [], ◌∷◌, ◌++◌, length, get_or, map, refl, sym, ap, ◌∙◌, subst, arith}
+use Rattle.std.proofs.Common.{Bool, true, false, cond, take, drop}
+use Rattle.std.specs.Prelude.{filter}
+use Rattle.std.specs.List.{slice_range}
+use Rattle.std.specs.List.Sorted.{IsNonDecreasingBy}
 use Rattle.std.proofs.lemmas.Bool.{cases_lt}
-use Rattle.std.proofs.lemmas.List.{map-append, append_assoc, length_push, get_or_push, get_or_append_left}
+use Rattle.std.proofs.lemmas.Bool.Decides.{nat_tests}
+use Rattle.std.proofs.lemmas.List.{drop-map, take-map, take_more, take_all, map-append, length-map, length_push, get_or_push, get_or_append_left}
+use Rattle.regalloc2_names.specs.Point.{before}
 use Rattle.regalloc2_function.specs.FunctionValue.{FunctionValue, block_at}
-use Rattle.regalloc2_function.specs.OutputValue.{OutputValue, MoveValue, allocs_of, moves_before}
+use Rattle.regalloc2_function.specs.OutputValue.{OutputValue, MoveValue, allocs_of, moves_before, is_listed_at}
 use Rattle.regalloc2_function.specs.AllocatedRun.{moves_at}
-use Rattle.regalloc2_function.specs.Listing.{Listed as Item, ListedInst, ListedMove, listing_from, block_listing}
-use Rattle.regalloc2_function.specs.Views.{move_of}
+use Rattle.regalloc2_function.specs.Views.{move_of, edit_of}
 use Rattle.regalloc2_function.specs.WellFormed.{IsFramed}
 use Rattle.regalloc2_function.specs.declared.listing.Edit.{Edit}
 use Rattle.regalloc2_checker.specs.declared.listing.Listed.{Listed}
-use Rattle.regalloc2_checker.specs.ListingCopied.{IsAdded, IsListedBefore}
+use Rattle.regalloc2_checker.specs.ListingCopied.{ArePassed, IsSplit, IsAdded, IsListedBefore}
 use Rattle.regalloc2_checker.specs.Listing.{IsListing}
-use Rattle.regalloc2_checker.proofs.BlocksInRange.{insts_within, nonempty}
+use Rattle.regalloc2_checker.proofs.BlocksInRange.{nonempty}
 
--- the items of moves
-abbrev moved : List MoveValue → List Item
-moved ms = map (λ m. ListedMove m) ms
+-- no moves are those of no edits
+pub no_moves : (es : List (ℕ × Edit)) (ms : List Edit) → ms ≡ [] → ms ≡ map (λ e. e.1) (take 0 es)
+no_moves es ms e = e
 
--- an item's instruction, and its move
-abbrev inst_of : Item → ℕ → ℕ
-inst_of (ListedInst i) d = i
-inst_of (ListedMove m) d = d
+-- the moves of one edit more
+pub one_more : (es : List (ℕ × Edit)) (ms ns : List Edit) (k : ℕ) (e : ℕ × Edit) → k < length es → e ≡ get_or es k e → ms ≡ map (λ e. e.1) (take k es) →
+    ns ≡ ms ++ (e.1 ∷ []) → ns ≡ map (λ e. e.1) (take (k + 1) es)
+one_more es ms ns k e less is h n =
+    let t : take (k + 1) es ≡ take k es ++ (e ∷ []) = take_more es k e less ∙ ap (λ (q : ℕ × Edit). take k es ++ (q ∷ [])) (sym is) in
+    n ∙ ap (λ (l : List Edit). l ++ (e.1 ∷ [])) h ∙ sym (map-append (λ (x : ℕ × Edit). x.1) (take k es) (e ∷ []))
+    ∙ sym (ap (λ (l : List (ℕ × Edit)). map (λ x. x.1) l) t)
 
-abbrev move_in : Item → MoveValue → MoveValue
-move_in (ListedInst i) d = d
-move_in (ListedMove m) d = m
+-- those of all edits
+pub all_moves : (es : List (ℕ × Edit)) (ms : List Edit) (k : ℕ) → length es ≤ k → ms ≡ map (λ e. e.1) (take k es) → ms ≡ map (λ e. e.1) es
+all_moves es ms k long h = h ∙ ap (λ (l : List (ℕ × Edit)). map (λ x. x.1) l) (take_all k es long)
 
-abbrev is_inst : Item → ℕ
-is_inst (ListedInst i) = 0
-is_inst (ListedMove m) = 1
+-- edits whose points never fall are so as they are stored
+at_map : (es : List (ℕ × Edit)) (j : ℕ) (d : ℕ × Edit) → (get_or (map edit_of es) j (edit_of d)).0 ≡ (get_or es j d).0
+at_map [] j d = refl
+at_map (x ∷ xs) zero d = refl
+at_map (x ∷ xs) (suc j) d = at_map xs j d
 
-head_is : (x y : Item) (xs ys : List Item) → (x ∷ xs) ≡ (y ∷ ys) → x ≡ y
-head_is x y xs ys e = cc
+pub sorted_edits : (es : List (ℕ × Edit)) → IsNonDecreasingBy (λ (e : ℕ × MoveValue). e.0) (map edit_of es) → IsNonDecreasingBy (λ (e : ℕ × Edit). e.0) es
+sorted_edits es h = λ i j d a b.
+    let l : length (map edit_of es) ≡ length es = length-map es edit_of in
+    let r = h i j (edit_of d) a (omega arith) in
+    let x = at_map es i d in
+    let y = at_map es j d in
+    omega arith
 
-tail_is : (x y : Item) (xs ys : List Item) → (x ∷ xs) ≡ (y ∷ ys) → xs ≡ ys
-tail_is x y xs ys e = cc
+-- one edit more is passed
+pub passed_more : (es : List (ℕ × Edit)) (k point : ℕ) (e : ℕ × Edit) → k < length es → e ≡ get_or es k e → e.0 < point → ArePassed es k point →
+    ArePassed es (k + 1) point
+passed_more es k point e l is low h = λ j d less. elim (cases_lt j k) [
+  | inl a ↦ h j d a
+  | inr a ↦ (let q : j ≡ k = omega arith in
+      let s : get_or es j d ≡ e = ap (λ (n : ℕ). get_or es n d) q ∙ same es k d e l ∙ sym is in
+      let t : (get_or es j d).0 ≡ e.0 = ap (λ (x : ℕ × Edit). x.0) s in
+      omega arith)
+]
+  where
+    same : (xs : List (ℕ × Edit)) (n : ℕ) (a b : ℕ × Edit) → n < length xs → get_or xs n a ≡ get_or xs n b
+    same [] n a b less = absurd (omega arith)
+    same (x ∷ xs) zero a b less = refl
+    same (x ∷ xs) (suc n) a b less = same xs n a b (omega arith)
 
--- up to its first instruction a listing has its moves
-first_inst : (ms ns : List MoveValue) (i j : ℕ) (r s : List Item) → moved ms ++ (ListedInst i ∷ r) ≡ moved ns ++ (ListedInst j ∷ s) → (ms ≡ ns) × (i ≡ j)
-    × (r ≡ s)
-first_inst [] [] i j r s e = (refl, ap (λ (x : Item). inst_of x 0) (head_is _ _ _ _ e), tail_is _ _ _ _ e)
-first_inst [] (n ∷ ns) i j r s e = absurd (let z : 0 ≡ 1 = ap is_inst (head_is (ListedInst i) (ListedMove n) _ _ e) in omega arith)
-first_inst (m ∷ ms) [] i j r s e = absurd (let z : 1 ≡ 0 = ap is_inst (head_is (ListedMove m) (ListedInst j) _ _ e) in omega arith)
-first_inst (m ∷ ms) (n ∷ ns) i j r s e =
-    let rest = first_inst ms ns i j r s (tail_is _ _ _ _ e) in
-    let here : m ≡ n = ap (λ (x : Item). move_in x m) (head_is _ _ _ _ e) in
-    (rw (here, rest.0) refl, rest.1, rest.2)
+-- where the next edit isn't before the point, none is from there on
+pub split_here : (es : List (ℕ × Edit)) (k point : ℕ) (e : ℕ × Edit) → IsNonDecreasingBy (λ (x : ℕ × Edit). x.0) es → k < length es → e ≡ get_or es k e →
+    point ≤ e.0 → ArePassed es k point → IsSplit es k point
+split_here es k point e sorted l is low h = record {
+  within = omega arith;
+  passed = h;
+  left = λ j d a b. (let s = sorted k j d a b in
+      let t : (get_or es k d).0 ≡ e.0 = ap (λ (x : ℕ × Edit). x.0) (same es k d e l ∙ sym is) in
+      omega arith);
+}
+  where
+    same : (xs : List (ℕ × Edit)) (n : ℕ) (a b : ℕ × Edit) → n < length xs → get_or xs n a ≡ get_or xs n b
+    same [] n a b less = absurd (omega arith)
+    same (x ∷ xs) zero a b less = refl
+    same (x ∷ xs) (suc n) a b less = same xs n a b (omega arith)
 
-no_inst : (ms ns : List MoveValue) (j : ℕ) (s : List Item) → moved ms ++ [] ≡ moved ns ++ (ListedInst j ∷ s) → ⊥
-no_inst [] [] j s e = (let z : 0 ≡ length (ListedInst j ∷ s) = ap length e in omega arith)
-no_inst [] (n ∷ ns) j s e = (let z : 0 ≡ length (moved (n ∷ ns) ++ (ListedInst j ∷ s)) = ap length e in omega arith)
-no_inst (m ∷ ms) [] j s e = (let z : ◌≡◌ {A = ℕ} 1 0 = ap is_inst (head_is (ListedMove m) (ListedInst j) _ _ e) in omega (arith, z))
-no_inst (m ∷ ms) (n ∷ ns) j s e = no_inst ms ns j s (tail_is _ _ _ _ e)
+-- where all edits are before the point, none is left
+pub split_end : (es : List (ℕ × Edit)) (k point : ℕ) → k ≡ length es → ArePassed es k point → IsSplit es k point
+split_end es k point e h = record { within = omega arith; passed = h; left = λ j d a b. absurd (omega arith) }
 
-long : (ms : List MoveValue) (i : ℕ) (r : List Item) → 0 < length (moved ms ++ (ListedInst i ∷ r))
-long [] i r = omega arith
-long (m ∷ ms) i r = omega arith
+-- edits that are before a point are before a later one
+pub passed_later : (es : List (ℕ × Edit)) (n p q : ℕ) → p ≤ q → ArePassed es n p → ArePassed es n q
+passed_later es n p q l h = λ k d a. (let b = h k d a in omega arith)
 
--- the next instruction of a listing
-next_inst : (o : OutputValue) (first i j n : ℕ) (ms : List MoveValue) (r : List Item) → moved ms ++ (ListedInst j ∷ r) ≡ listing_from o first i n →
-    (0 < n) × (ms ≡ moves_before o first i) × (j ≡ i) × (r ≡ listing_from o first (i + 1) (n - 1))
-unfolding listing_from
-next_inst o first i j zero ms r e = absurd (let l = long ms j r in let z : length (moved ms ++ (ListedInst j ∷ r)) ≡ 0 = ap length e in omega arith)
-next_inst o first i j (suc n) ms r e =
-    let s = first_inst ms (moves_before o first i) j i r (listing_from o first (i + 1) n) e in
-    let q : suc n - 1 ≡ n = omega arith in
-    (omega arith, s.0, s.1, rw q s.2)
+-- a point that parts the edits listed before an instruction from those listed earlier, in a block that begins at first
+abbrev pub IsSince : ℕ → ℕ → ℕ → Type 0
+IsSince first i point = (first ≡ i → point ≡ before i) × (first < i → point + 1 ≡ before i)
 
-no_more : (o : OutputValue) (first i n : ℕ) (ms : List MoveValue) → moved ms ++ [] ≡ listing_from o first i n → n ≡ 0
-unfolding listing_from
-no_more o first i zero ms e = refl
-no_more o first i (suc n) ms e = absurd (no_inst ms (moves_before o first i) i (listing_from o first (i + 1) n) e)
+-- the edits listed before an instruction are those from a position on
+abbrev pub BeginsAt : List (ℕ × Edit) → ℕ → ℕ → ℕ → Type 0
+BeginsAt es first i n = (point : ℕ) → IsSince first i point → IsSplit es n point
 
--- The copying of a block: the moves that were met since the last instruction, what is left, and what is listed
-pub record IsCopying {A : Type 0} (f : FunctionValue) (o : OutputValue) (b : ℕ) (es : List Edit) (rest : List Item) (ls : List (Listed A)) : Type 0 where
-  pub low : (block_at f b).range.first ≤ length ls
-  pub high : length ls ≤ (block_at f b).range.end
-  pub left : moved (map move_of es) ++ rest ≡ listing_from o (block_at f b).range.first (length ls) ((block_at f b).range.end - length ls)
+-- in a block, the edits before its first instruction begin at its first point
+pub begins_first : (es : List (ℕ × Edit)) (first i n point : ℕ) → i ≡ first → point ≡ before first → IsSplit es n point → BeginsAt es first i n
+begins_first es first i n point e p h = λ q s. subst (λ (t : ℕ). IsSplit es n t) (let a = s.0 (sym e) in omega arith) h
+
+-- those before each other one begin where those before the last end
+pub begins_next : (es : List (ℕ × Edit)) (first i n point : ℕ) → first ≤ i → point ≡ before i + 1 → IsSplit es n point → BeginsAt es first (i + 1) n
+begins_next es first i n point l p h = λ q s. subst (λ (t : ℕ). IsSplit es n t) (let a = s.1 (omega arith) in omega arith) h
+
+-- what is before the edits of an instruction is before the point after it
+pub begun_passed : (es : List (ℕ × Edit)) (first i n point : ℕ) → first ≤ i → before i ≤ point → BeginsAt es first i n →
+    (n ≤ length es) × ArePassed es n point
+begun_passed es first i n point l p h = elim (cases_lt first i) [
+  | inl a ↦ (let s = h (before i - 1) ((λ e. absurd (omega arith)), (λ e. omega arith)) in
+      (s.within, passed_later es n (before i - 1) point (omega arith) s.passed))
+  | inr a ↦ (let s = h (before i) ((λ e. refl), (λ e. absurd (omega arith))) in (s.within, passed_later es n (before i) point p s.passed))
+]
+
+all_fail : {X : Type 0} (p : X → Bool) (xs : List X) → ((k : ℕ) (d : X) → k < length xs → p (get_or xs k d) ≡ false) → filter p xs ≡ []
+all_fail p [] h = refl
+all_fail p (x ∷ xs) h = ap (λ (b : Bool). cond b (x ∷ filter p xs) (filter p xs)) (h 0 x (omega arith)) ∙ all_fail p xs (λ k d l. h (suc k) d (omega arith))
+
+front_passes : {X : Type 0} (p : X → Bool) (xs : List X) (n : ℕ) → n ≤ length xs → ((k : ℕ) (d : X) → k < n → p (get_or xs k d) ≡ true) →
+    ((k : ℕ) (d : X) → n ≤ k → k < length xs → p (get_or xs k d) ≡ false) → filter p xs ≡ take n xs
+front_passes p xs zero l a b = all_fail p xs (λ k d m. b k d (omega arith) m)
+front_passes p [] (suc n) l a b = absurd (omega arith)
+front_passes {X = X} p (x ∷ xs) (suc n) l a b =
+    ap (λ (t : Bool). cond t (x ∷ filter p xs) (filter p xs)) (a 0 x (omega arith))
+    ∙ ap (λ (ys : List X). x ∷ ys)
+    (front_passes p xs n (omega arith) (λ k d m. a (suc k) d (omega arith)) (λ k d m o. b (suc k) d (omega arith) (omega arith)))
+
+-- where a test is passed by the items of a part alone, they are what it leaves
+part_passes : {X : Type 0} (p : X → Bool) (xs : List X) (i n : ℕ) → i + n ≤ length xs → ((k : ℕ) (d : X) → k < i → p (get_or xs k d) ≡ false) →
+    ((k : ℕ) (d : X) → i ≤ k → k < i + n → p (get_or xs k d) ≡ true) → ((k : ℕ) (d : X) → i + n ≤ k → k < length xs → p (get_or xs k d) ≡ false) →
+    filter p xs ≡ take n (drop i xs)
+part_passes p xs zero n l a b c = front_passes p xs n (omega arith) (λ k d m. b k d (omega arith) (omega arith)) (λ k d m o. c k d (omega arith) o)
+part_passes p [] (suc i) n l a b c = absurd (omega arith)
+part_passes p (x ∷ xs) (suc i) n l a b c =
+    ap (λ (t : Bool). cond t (x ∷ filter p xs) (filter p xs)) (a 0 x (omega arith))
+    ∙ part_passes p xs i n (omega arith) (λ k d m. a (suc k) d (omega arith)) (λ k d m o. b (suc k) d (omega arith) (omega arith))
+    (λ k d m o. c (suc k) d (omega arith) (omega arith))
+
+listed_above : (first i point : ℕ) → before i < point → is_listed_at first i point ≡ false
+listed_above first i point h = grind (arith, nat_tests)
+
+listed_below : (first i point since : ℕ) → IsSince first i since → first ≤ i → point < since → is_listed_at first i point ≡ false
+listed_below first i point since s l h = elim (cases_lt first i) [
+  | inl a ↦ (let e : since + 1 ≡ before i = s.1 a in grind (arith, nat_tests))
+  | inr a ↦ (let q : first ≡ i = omega arith in let e : since ≡ before i = s.0 q in grind (arith, nat_tests))
+]
+
+listed_here : (first i point since : ℕ) → IsSince first i since → first ≤ i → since ≤ point → point ≤ before i → is_listed_at first i point ≡ true
+listed_here first i point since s l h g = elim (cases_lt first i) [
+  | inl a ↦ (let e : since + 1 ≡ before i = s.1 a in grind (arith, nat_tests))
+  | inr a ↦ (let q : first ≡ i = omega arith in let e : since ≡ before i = s.0 q in grind (arith, nat_tests))
+]
+
+part_since : (es : List (ℕ × Edit)) (first i from end since : ℕ) → first ≤ i → from ≤ end → IsSince first i since → IsSplit es from since →
+    IsSplit es end (before i + 1) → filter (λ e. is_listed_at first i e.0) es ≡ take (end - from) (drop from es)
+part_since es first i from end since l m s a b =
+    let w = b.within in
+    part_passes (λ (e : ℕ × Edit). is_listed_at first i e.0) es from (end - from) (omega arith)
+    (λ k d x. listed_below first i (get_or es k d).0 since s l (a.passed k d x))
+    (λ k d x y. listed_here first i (get_or es k d).0 since s l (a.left k d x (omega arith)) (let z = b.passed k d (omega arith) in omega arith))
+    (λ k d x y. listed_above first i (get_or es k d).0 (let z = b.left k d (omega arith) y in omega arith))
+
+part_listed : (es : List (ℕ × Edit)) (first i from end : ℕ) → first ≤ i → from ≤ end → BeginsAt es first i from → IsSplit es end (before i + 1) →
+    filter (λ e. is_listed_at first i e.0) es ≡ take (end - from) (drop from es)
+part_listed es first i from end l m a b = elim (cases_lt first i) [
+  | inl x ↦ (let s : IsSince first i (before i - 1) = ((λ e. absurd (omega arith)), (λ e. omega arith)) in
+      part_since es first i from end (before i - 1) l m s (a (before i - 1) s) b)
+  | inr x ↦ (let s : IsSince first i (before i) = ((λ e. refl), (λ e. absurd (omega arith))) in
+      part_since es first i from end (before i) l m s (a (before i) s) b)
+]
+
+stored_moves : (q : ℕ → Bool) (es : List (ℕ × Edit)) →
+    map (λ e. e.1) (filter (λ e. q e.0) (map edit_of es)) ≡ map move_of (map (λ e. e.1) (filter (λ e. q e.0) es))
+stored_moves q [] = refl
+stored_moves q (e ∷ es) = elim (q e.0)
+    as (λ t. map (λ x. x.1) (cond t (edit_of e ∷ filter (λ x. q x.0) (map edit_of es)) (filter (λ x. q x.0) (map edit_of es)))
+    ≡ map move_of (map (λ x. x.1) (cond t (e ∷ filter (λ x. q x.0) es) (filter (λ x. q x.0) es)))) [
+      | true ↦ ap (λ (ms : List MoveValue). move_of e.1 ∷ ms) (stored_moves q es)
+      | false ↦ stored_moves q es
+    ]
+
+-- the moves of an instruction are a part of all
+pub part_is : (o : OutputValue) (es : List (ℕ × Edit)) (ms : List Edit) (first i from end : ℕ) → o.edits ≡ map edit_of es → ms ≡ map (λ e. e.1) es →
+    first ≤ i → from ≤ end → BeginsAt es first i from → IsSplit es end (before i + 1) → map move_of (slice_range ms from end) ≡ moves_before o first i
+part_is o es ms first i from end eo em l m a b =
+    let part : slice_range ms from end ≡ map (λ e. e.1) (filter (λ e. is_listed_at first i e.0) es) =
+    ap (λ (xs : List Edit). slice_range xs from end) em
+    ∙ ap (λ (xs : List Edit). take (end - from) xs) (drop-map (λ (e : ℕ × Edit). e.1) from es)
+    ∙ take-map (λ (e : ℕ × Edit). e.1) (end - from) (drop from es)
+    ∙ ap (λ (xs : List (ℕ × Edit)). map (λ e. e.1) xs) (sym (part_listed es first i from end l m a b)) in
+    ap (λ (xs : List Edit). map move_of xs) part
+    ∙ sym (stored_moves (λ (n : ℕ). is_listed_at first i n) es)
+    ∙ ap (λ (xs : List (ℕ × MoveValue)). map (λ e. e.1) (filter (λ e. is_listed_at first i e.0) xs)) (sym eo)
+
+-- The listing of a block: what is listed of it and of the blocks before
+pub record IsCopying (f : FunctionValue) (o : OutputValue) (b : ℕ) (ls : List Listed) : Type 0 where
   pub within : (c : ℕ) → c < b → (block_at f c).range.end ≤ length ls
-  pub moves : (c i : ℕ) (d : Listed A) → c < b → (block_at f c).range.first ≤ i → i < (block_at f c).range.end →
-      map move_of (get_or ls i d).moves.items ≡ moves_at f o (record { block = c; inst = i })
-  pub here : (i : ℕ) (d : Listed A) → (block_at f b).range.first ≤ i → i < length ls →
-      map move_of (get_or ls i d).moves.items ≡ moves_at f o (record { block = b; inst = i })
-  pub places : (i : ℕ) (d : Listed A) → i < length ls → (get_or ls i d).places.items ≡ allocs_of o i
+  pub moves : (c i : ℕ) (d : Listed) → c < b → (block_at f c).range.first ≤ i → i < (block_at f c).range.end →
+      map move_of (get_or ls i d).moves.now ≡ moves_at f o (record { block = c; inst = i })
+  pub here : (i : ℕ) (d : Listed) → (block_at f b).range.first ≤ i → i < length ls →
+      map move_of (get_or ls i d).moves.now ≡ moves_at f o (record { block = b; inst = i })
+  pub places : (i : ℕ) (d : Listed) → i < length ls → (get_or ls i d).places.now ≡ allocs_of o i
 
-begins_at : {A : Type 0} (f : FunctionValue) (o : OutputValue) → IsFramed f → (b : ℕ) → b < length f.blocks → (ls : List (Listed A)) → IsListedBefore f o b ls →
+-- where all earlier blocks are listed, a block's first instruction comes next
+pub begins_at : (f : FunctionValue) (o : OutputValue) → IsFramed f → (b : ℕ) → b < length f.blocks → (ls : List Listed) → IsListedBefore f o b ls →
     length ls ≡ (block_at f b).range.first
 begins_at f o h zero less ls l = (let e = (h.follow 0 less).1 refl in let n = l.none refl in omega arith)
 begins_at f o h (suc b) less ls l =
@@ -94,93 +213,45 @@ begins_at f o h (suc b) less ls l =
     let s = l.size b (omega arith) in
     s ∙ sym (rw one at e)
 
--- where all earlier blocks are copied, a block's copy begins with no waiting move and with its whole listing left
-pub copying_starts : {A : Type 0} (f : FunctionValue) (o : OutputValue) → IsFramed f → (b : ℕ) → b < length f.blocks →
-    (es : List Edit) (rest : List Item) (ls : List (Listed A)) →
-    IsListedBefore f o b ls → es ≡ [] → rest ≡ block_listing f o b → IsCopying f o b es rest ls
-copying_starts f o h b less es rest ls l e r =
+-- and none of the block is listed
+pub copying_starts : (f : FunctionValue) (o : OutputValue) → IsFramed f → (b : ℕ) → b < length f.blocks → (ls : List Listed) → IsListedBefore f o b ls →
+    IsCopying f o b ls
+copying_starts f o h b less ls l =
     let at = begins_at f o h b less ls l in
-    let some = nonempty f h b less in
-    record {
-      low = omega arith;
-      high = omega arith;
-      left = rw (e, at) r;
-      within = l.within;
-      moves = l.moves;
-      here = λ i d a z. absurd (omega arith);
-      places = l.places;
-    }
+    record { within = l.within; moves = l.moves; here = λ i d a z. absurd (omega arith); places = l.places }
 
--- a move that comes next in a block's listing joins those that wait for the next instruction
-pub copying_move : {A : Type 0} (f : FunctionValue) (o : OutputValue) (b : ℕ) (es new : List Edit) (e : Edit) (rest more : List Item) (ls : List (Listed A)) →
-    IsCopying f o b es rest ls → rest ≡ ListedMove (move_of e) ∷ more → new ≡ es ++ (e ∷ []) → IsCopying f o b new more ls
-copying_move f o b es new e rest more ls h r n = record {
-  low = h.low;
-  high = h.high;
-  left = rw (
-    n,
-    map-append move_of es (e ∷ []),
-    map-append (λ (m : MoveValue). ListedMove m) (map move_of es) (move_of e ∷ []),
-    append_assoc (moved (map move_of es)) (ListedMove (move_of e) ∷ []) more,
-  ) (rw r at h.left);
-  within = h.within;
-  moves = h.moves;
-  here = h.here;
-  places = h.places;
-}
-
--- an instruction that comes next in a block's listing is one of the function's instructions
-pub next_below : {A : Type 0} (f : FunctionValue) (o : OutputValue) (b j : ℕ) (es : List Edit) (rest more : List Item) (ls : List (Listed A)) →
-    IsFramed f → b < length f.blocks → IsCopying f o b es rest ls → rest ≡ ListedInst j ∷ more → j < length f.insts
-next_below f o b j es rest more ls framed less h r =
-    let n = next_inst o (block_at f b).range.first (length ls) j ((block_at f b).range.end - length ls) (map move_of es) more (rw r at h.left) in
-    let inside = insts_within f framed b less in
-    let some = n.0 in
-    let is = n.2 in
-    omega arith
-
--- an instruction that comes next is listed with its operands' places and the moves since the one before it, and none wait on
-pub copying_inst : {A : Type 0} (f : FunctionValue) (o : OutputValue) (b j : ℕ) (es new : List Edit) (rest more : List Item) (ls to : List (Listed A)) →
-    IsCopying f o b es rest ls → rest ≡ ListedInst j ∷ more → IsAdded ls to es (allocs_of o j) → new ≡ [] → IsCopying f o b new more to
-copying_inst f o b j es new rest more ls to h r a e =
+-- one instruction more is listed, with the places of its operands and the moves before it
+pub copying_inst : (f : FunctionValue) (o : OutputValue) (b j : ℕ) (es : List Edit) (ls to : List Listed) →
+    IsCopying f o b ls → j ≡ length ls → IsAdded ls to es (allocs_of o j) → map move_of es ≡ moves_before o (block_at f b).range.first j →
+    IsCopying f o b to
+copying_inst f o b j es ls to h e a m =
     let first : ℕ = (block_at f b).range.first in
-    let end : ℕ = (block_at f b).range.end in
-    let n = next_inst o first (length ls) j (end - length ls) (map move_of es) more (rw r at h.left) in
-    let some : 0 < end - length ls = n.0 in
     let grown : length to ≡ length ls + 1 = ap length a.whole ∙ length_push ls a.last in
-    let less : end - length ls - 1 ≡ end - length to = omega arith in
-    let kept : (i : ℕ) (d : Listed _) → i < length ls → get_or to i d ≡ get_or ls i d = λ i d z. ap (λ (xs : List (Listed _)). get_or xs i d) a.whole
+    let kept : (i : ℕ) (d : Listed) → i < length ls → get_or to i d ≡ get_or ls i d = λ i d z. ap (λ (xs : List Listed). get_or xs i d) a.whole
     ∙ get_or_append_left ls (a.last ∷ []) d i z in
-    let newest : (i : ℕ) (d : Listed _) → i ≡ length ls → get_or to i d ≡ a.last = λ i d z. ap (λ (xs : List (Listed _)). get_or xs i d) a.whole
+    let newest : (i : ℕ) (d : Listed) → i ≡ length ls → get_or to i d ≡ a.last = λ i d z. ap (λ (xs : List Listed). get_or xs i d) a.whole
     ∙ get_or_push ls a.last d i (sym z) in
     record {
-      low = (let l = h.low in omega arith);
-      high = omega arith;
-      left = rw (e, grown, ← (subst (λ (k : ℕ). end - length ls - 1 ≡ end - k) grown less)) n.3;
       within = λ c z. (let w = h.within c z in omega arith);
-      moves = λ c i d z low high. ap (λ (x : Listed _). map move_of x.moves.items) (kept i d (let w = h.within c z in omega arith)) ∙ h.moves c i d z low high;
+      moves = λ c i d z low high. ap (λ (x : Listed). map move_of x.moves.now) (kept i d (let w = h.within c z in omega arith)) ∙ h.moves c i d z low high;
       here = λ i d low high. elim (cases_lt i (length ls)) [
-        | inl l ↦ ap (λ (x : Listed _). map move_of x.moves.items) (kept i d l) ∙ h.here i d low l
+        | inl l ↦ ap (λ (x : Listed). map move_of x.moves.now) (kept i d l) ∙ h.here i d low l
         | inr l ↦ (let q : i ≡ length ls = omega arith in
-            ap (λ (x : Listed _). map move_of x.moves.items) (newest i d q) ∙ ap (λ (xs : List Edit). map move_of xs) a.moves_are ∙ n.1
-            ∙ ap (λ (k : ℕ). moves_before o first k) (sym q))
+            ap (λ (x : Listed). map move_of x.moves.now) (newest i d q) ∙ ap (λ (xs : List Edit). map move_of xs) a.moves_are ∙ m
+            ∙ ap (λ (k : ℕ). moves_before o first k) (e ∙ sym q))
       ];
       places = λ i d high. elim (cases_lt i (length ls)) [
-        | inl l ↦ ap (λ (x : Listed _). x.places.items) (kept i d l) ∙ h.places i d l
+        | inl l ↦ ap (λ (x : Listed). x.places.now) (kept i d l) ∙ h.places i d l
         | inr l ↦ (let q : i ≡ length ls = omega arith in
-            ap (λ (x : Listed _). x.places.items) (newest i d q) ∙ a.places_are ∙ ap (allocs_of o) (n.2 ∙ sym q))
+            ap (λ (x : Listed). x.places.now) (newest i d q) ∙ a.places_are ∙ ap (allocs_of o) (e ∙ sym q))
       ];
     }
 
--- where nothing is left of a block's listing, all instructions up to the block's end are copied
-pub copying_ends : {A : Type 0} (f : FunctionValue) (o : OutputValue) (b : ℕ) (es : List Edit) (rest : List Item) (ls : List (Listed A)) →
-    IsCopying f o b es rest ls → rest ≡ [] → IsListedBefore f o (b + 1) ls
-copying_ends f o b es rest ls h r =
-    let first : ℕ = (block_at f b).range.first in
+-- where all of a block's instructions are listed, the blocks up to it are
+pub copying_ends : (f : FunctionValue) (o : OutputValue) (b : ℕ) (ls : List Listed) → IsCopying f o b ls → length ls ≡ (block_at f b).range.end →
+    (block_at f b).range.first < (block_at f b).range.end → IsListedBefore f o (b + 1) ls
+copying_ends f o b ls h whole some =
     let end : ℕ = (block_at f b).range.end in
-    let n = no_more o first (length ls) (end - length ls) (map move_of es) (rw r at h.left) in
-    let high : length ls ≤ end = h.high in
-    let whole : length ls ≡ end = omega arith in
     record {
       none = λ z. absurd (omega arith);
       size = λ c z. (let q : c ≡ b = omega arith in whole ∙ ap (λ (k : ℕ). (block_at f k).range.end) (sym q));
@@ -192,14 +263,14 @@ copying_ends f o b es rest ls h r =
         | inl l ↦ h.moves c i d l low up
         | inr l ↦ (let q : c ≡ b = omega arith in
             subst (λ (k : ℕ). (block_at f k).range.first ≤ i → i < (block_at f k).range.end →
-            map move_of (get_or ls i d).moves.items ≡ moves_at f o (record { block = k; inst = i })) (sym q)
+            map move_of (get_or ls i d).moves.now ≡ moves_at f o (record { block = k; inst = i })) (sym q)
             (λ lo hi. h.here i d lo (omega arith)) low up)
       ];
       places = h.places;
     }
 
 -- an empty list is the copy of no blocks
-pub listed_none : {A : Type 0} (f : FunctionValue) (o : OutputValue) (ls : List (Listed A)) → ls ≡ [] → IsListedBefore f o 0 ls
+pub listed_none : (f : FunctionValue) (o : OutputValue) (ls : List Listed) → ls ≡ [] → IsListedBefore f o 0 ls
 listed_none f o ls e = rw e (record {
   none = λ z. refl;
   size = λ c z. absurd (omega arith);
@@ -209,8 +280,7 @@ listed_none f o ls e = rw e (record {
 })
 
 -- in a framed function, a copy of all blocks has each instruction's moves and places as the output has them
-pub listed_all : {A : Type 0} (f : FunctionValue) (o : OutputValue) (ls : List (Listed A)) → IsFramed f → IsListedBefore f o (length f.blocks) ls →
-    IsListing f o ls
+pub listed_all : (f : FunctionValue) (o : OutputValue) (ls : List Listed) → IsFramed f → IsListedBefore f o (length f.blocks) ls → IsListing f o ls
 listed_all f o ls framed h =
     let some : f.entry < length f.blocks = framed.successors.0 in
     let last : ℕ = length f.blocks - 1 in

@@ -16,6 +16,7 @@ use Rattle.regalloc2_function.specs.Held.{Holds}
 use Rattle.regalloc2_checker.specs.declared.errors.CheckerError.{CheckerError}
 use Rattle.regalloc2_checker.specs.Facts.{Facts, facts_early, facts_after, facts_after_moves, facts_after_early_defs, facts_for}
 use Rattle.regalloc2_checker.specs.CheckInputs.{IsKnown}
+use Rattle.regalloc2_checker.proofs.TransferFollowsFacts.{IsReadAt}
 use Rattle.regalloc2_checker.specs.Report.{operand_at, AreVRegsInValue, IsValueFault, IsFault, IsFine, IsJudged, AreMoveFaults, InstReport}
 use Rattle.regalloc2_checker.specs.Report.IsValueFault.{unknown, incorrect}
 use Rattle.regalloc2_checker.specs.Report.IsFault.{missing, of_value, of_constraint}
@@ -72,21 +73,28 @@ unfolding facts_for
 known_late f o l E F same known p v =
     let at : E p v ≡ facts_after f o l F p v = ap (λ (X : Facts). X p v) same in (λ t. (known Late p v).0 (sym at ∙ t), λ h. at ∙ (known Late p v).1 h)
 
+-- an instruction, as it was judged: the errors of its moves, and the one of its operands at each position, with the facts E and L there
+pub record InstJudged (T : Type 0) (env : MachineValue) (i : ℕ) (ms : List MoveValue) (ps : List Place) (os : List OperandValue) (E L : Facts) : Type 0 where
+  pub of_moves : List (CheckerError T)
+  pub early : Option (CheckerError T)
+  pub late : Option (CheckerError T)
+  pub moves : AreMoveFaults env ms of_moves
+  pub at_early : IsJudged env i os ps Early (λ p v. E p v ≡ true) early
+  pub at_late : IsJudged env i os ps Late (λ p v. L p v ≡ true) late
+
 -- the errors of an instruction, as they were found
 pub inst_report : {T : Type 0} (f : FunctionValue) (env : MachineValue) (o : OutputValue) (l : Location) (E L F : Facts) (ms : List MoveValue) (ps : List Place)
-    (os : List OperandValue) (of_moves : List (CheckerError T))
-    (early late : Option (CheckerError T)) → ms ≡ moves_at f o l → ps ≡ allocs_of o l.inst → os ≡ (inst_at f l.inst).operands → AreMoveFaults env ms of_moves →
-    IsJudged env l.inst os ps Early (λ p v. E p v ≡ true) early → IsJudged env l.inst os ps Late (λ p v. L p v ≡ true) late →
-    E ≡ facts_early f o l F → L ≡ facts_after f o l F →
-    IsKnown f o l F →
-    InstReport f env o l (of_moves ++ (option_to_list early ++ option_to_list late))
-inst_report f env o l E L F ms ps os of_moves early late em ep eo moves je jl se sl known = record {
-  of_moves = of_moves;
-  of_early = early;
-  of_late = late;
-  moves = subst (λ (xs : List MoveValue). AreMoveFaults env xs of_moves) em moves;
-  early = rw (← eo, ← ep) (judged_as env l.inst os ps Early (λ p v. E p v ≡ true) (Holds f o l Early) (known_early f o l E F se known) early je);
-  late = rw (← eo, ← ep) (judged_as env l.inst os ps Late (λ p v. L p v ≡ true) (Holds f o l Late) (known_late f o l L F sl known) late jl);
+    (os : List OperandValue) → IsReadAt f o l ms ps os → (j : InstJudged T env l.inst ms ps os E L) → E ≡ facts_early f o l F → L ≡ facts_after f o l F →
+    IsKnown f o l F → InstReport f env o l (j.of_moves ++ (option_to_list j.early ++ option_to_list j.late))
+inst_report f env o l E L F ms ps os r j se sl known = record {
+  of_moves = j.of_moves;
+  of_early = j.early;
+  of_late = j.late;
+  moves = subst (λ (xs : List MoveValue). AreMoveFaults env xs j.of_moves) r.moves j.moves;
+  early = rw (← r.operands, ← r.places)
+      (judged_as env l.inst os ps Early (λ p v. E p v ≡ true) (Holds f o l Early) (known_early f o l E F se known) j.early j.at_early);
+  late = rw (← r.operands, ← r.places)
+      (judged_as env l.inst os ps Late (λ p v. L p v ≡ true) (Holds f o l Late) (known_late f o l L F sl known) j.late j.at_late);
   all = refl;
 }
 

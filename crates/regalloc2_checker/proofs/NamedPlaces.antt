@@ -79,7 +79,8 @@ edits-all xs ys es k long a = subst (λ (qs : List (ℕ × Edit)). ArePlacesAdde
 pub reg-more : (xs ys zs : List ℕ) (rs : List Register) (r : Register) → ArePlacesAdded xs ys (map InRegister rs) → ArePlacesAdded ys zs (InRegister r ∷ []) →
     ArePlacesAdded xs zs (map InRegister (rs ++ (r ∷ [])))
 reg-more xs ys zs rs r a b =
-    subst (λ (qs : List Place). ArePlacesAdded xs zs qs) (sym (map-append InRegister rs (r ∷ []))) (added-then xs ys zs (map InRegister rs) (InRegister r ∷ []) a b)
+    subst (λ (qs : List Place). ArePlacesAdded xs zs qs) (sym (map-append InRegister rs (r ∷ []))) (added-then xs ys zs (map InRegister rs) (InRegister r ∷ [])
+    a b)
 
 -- what an item of a list is mapped to is in what the list is
 contains-flat : {X A : Type 0} (f : X → List A) (xs : List X) (x : X) (y : A) → Contains xs x → Contains (f x) y → Contains (flat_map f xs) y

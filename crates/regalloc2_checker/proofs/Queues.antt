@@ -10,7 +10,7 @@ use Rattle.std.proofs.lemmas.List.Elements.{All-cons, All-head, All-tail, All-we
 use Rattle.std.proofs.lemmas.List.Sorted.{All-permutation, Contains-permutation}
 use Rattle.regalloc2_function.specs.FunctionValue.{FunctionValue, block_at}
 use Rattle.regalloc2_function.specs.OutputValue.{OutputValue}
-use Rattle.regalloc2_checker_tables.specs.Holding.{Holding, AreKeptTables, HoldsNow, holds_in}
+use Rattle.regalloc2_checker_tables.specs.Showing.{Showing, AreTablesKept, ShowsNow, shows_in}
 use Rattle.regalloc2_checker.specs.Facts.{Facts}
 use Rattle.regalloc2_checker.specs.Fixpoint.{facts_within}
 use Rattle.regalloc2_checker.specs.TableFacts.{facts_now}
@@ -122,29 +122,35 @@ reached-on t new target passed entries u h =
     (λ y. still t new target passed u (block_of y)) entries h
 
 -- tables that are kept have the views that they had
-pub views-kept : (t u : Holding) (rs : List Bool) → AreKeptTables t u → views u rs ≡ views t rs
+pub views-kept : (t u : Showing) (rs : List Bool) → AreTablesKept t u → views u rs ≡ views t rs
 views-kept t u rs h = views-same t u 0 rs h.places (λ j i y low high less. h.tables j i y less)
 
 -- tables that are kept and then list what they did list what they did
-pub alike-after : (t u w : Holding) → AreKeptTables t u → AreAlike u w → AreAlike t w
+pub alike-after : (t u w : Showing) → AreTablesKept t u → AreAlike u w → AreAlike t w
 alike-after t u w a b = record { places = b.places ∙ a.places; vregs = b.vregs ∙ a.vregs; count = b.count ∙ a.count }
 
 -- so do tables after two such steps
-pub alike-twice : (t u w : Holding) → AreAlike t u → AreAlike u w → AreAlike t w
+pub alike-twice : (t u w : Showing) → AreAlike t u → AreAlike u w → AreAlike t w
 alike-twice t u w a b = record { places = b.places ∙ a.places; vregs = b.vregs ∙ a.vregs; count = b.count ∙ a.count }
 
 -- and tables that stay
-pub alike-same : (t : Holding) → AreAlike t t
+pub alike-same : (t : Showing) → AreAlike t t
 alike-same t = record { places = refl; vregs = refl; count = refl }
+
+-- an edge is gone over: its target, the tables, which stay, and the facts M that come of F
+pub record IsOver (f : FunctionValue) (b k : ℕ) (F M : Facts) (old mid : List BlockView) (target : ℕ) : Type 0 where
+  pub aimed : target ≡ slice_index (block_at f b).succs k
+  pub tables : mid ≡ old
+  pub facts : M ≡ over f b k F
 
 -- an edge, as it was gone over
 pub over-is : (f : FunctionValue) (b k : ℕ) (F M : Facts) (old mid new : List BlockView) (marks after : List Bool) (target : ℕ) (changed : Bool) →
-    target ≡ slice_index (block_at f b).succs k → mid ≡ old → M ≡ over f b k F → IsMeet mid new target M changed →
-    after ≡ cond changed (set marks target true) marks → IsPropagatedOver f b k F old new marks after changed
-over-is f b k F M old mid new marks after target changed et em eM m e = record {
-  met = subst (λ (n : ℕ). IsMeet old new n (over f b k F) changed) et
-      (subst (λ (X : Facts). IsMeet old new target X changed) eM (subst (λ (t : List BlockView). IsMeet t new target M changed) em m));
-  marked = e ∙ ap (λ (n : ℕ). cond changed (set marks n true) marks) et;
+    IsOver f b k F M old mid target → IsMeet mid new target M changed → after ≡ cond changed (set marks target true) marks →
+    IsPropagatedOver f b k F old new marks after changed
+over-is f b k F M old mid new marks after target changed w m e = record {
+  met = subst (λ (n : ℕ). IsMeet old new n (over f b k F) changed) w.aimed
+      (subst (λ (X : Facts). IsMeet old new target X changed) w.facts (subst (λ (t : List BlockView). IsMeet t new target M changed) w.tables m));
+  marked = e ∙ ap (λ (n : ℕ). cond changed (set marks n true) marks) w.aimed;
 }
 
 -- how much is left falls where something changed
@@ -182,7 +188,7 @@ pub all-settled : (f : FunctionValue) (o : OutputValue) (t : List BlockView) (ma
 all-settled f o t marks k none = λ b less. k.settled b less (none b (omega (arith, less, k.size)))
 
 -- what is passed on leaves the sizes
-pub sized-on : (f : FunctionValue) (t u : Holding) (rs qs marks after : List Bool) → AreAlike t u → length qs ≡ length rs → length after ≡ length marks →
+pub sized-on : (f : FunctionValue) (t u : Showing) (rs qs marks after : List Bool) → AreAlike t u → length qs ≡ length rs → length after ≡ length marks →
     AreSized f t rs marks → AreSized f u qs after
 sized-on f t u rs qs marks after a r m s = record { reached = r ∙ s.reached; count = a.count ∙ s.count; marks = m ∙ s.marks }
 
@@ -215,14 +221,14 @@ way-none f o t marks entries b e r = record {
 }
 
 -- the facts at a block's end, from those of its table
-pub block-end : (f : FunctionValue) (o : OutputValue) (b : ℕ) (t m w : Holding) (rs : List Bool) → b < length rs → m.places ≡ t.places →
-    HoldsNow m (holds_in t b) →
+pub block-end : (f : FunctionValue) (o : OutputValue) (b : ℕ) (t m w : Showing) (rs : List Bool) → b < length rs → m.places ≡ t.places →
+    ShowsNow m (shows_in t b) →
     facts_now w ≡ facts_within f o b (facts_now m) ((block_at f b).range.end - (block_at f b).range.first) →
     IsBlockEnd f o b (facts_at (views t rs) b) (facts_now w)
 block-end f o b t m w rs less e h run = λ p v.
     ap (λ (F : Facts). F p v) (run
     ∙ ap (λ (F : Facts). facts_within f o b F ((block_at f b).range.end - (block_at f b).range.first))
-    (now-as t m (holds_in t b) e h ∙ sym (facts-is t rs b less)))
+    (now-as t m (shows_in t b) e h ∙ sym (facts-is t rs b less)))
 
 -- a queue of no blocks
 pub queue-none : (marks : List Bool) (entries : List (Reverse (ℕ × ℕ))) → entries ≡ [] →

@@ -11,7 +11,7 @@ use Rattle.regalloc2_function.specs.FunctionValue.{FunctionValue}
 use Rattle.regalloc2_function.specs.OutputValue.{OutputValue}
 use Rattle.regalloc2_function.specs.Path.{first_of}
 use Rattle.regalloc2_function.specs.AllocatedRun.{cells_before}
-use Rattle.regalloc2_checker_tables.specs.Holding.{Holding, holds_in}
+use Rattle.regalloc2_checker_tables.specs.Showing.{Showing, shows_in}
 use Rattle.regalloc2_checker.specs.Fixpoint.{IsReachedBlock, IsRefuted}
 use Rattle.regalloc2_checker.specs.Facts.{Facts}
 use Rattle.regalloc2_checker.specs.Propagation.{mark_at, IsQueue, AreReached, IsUnderWay, IsKept}
@@ -40,10 +40,10 @@ true_not_false : (b : Bool) (P : Type 0) → b ≡ true → b ≡ false → P
 true_not_false true P h g = absurd cc
 true_not_false false P h g = absurd cc
 
-module _ (f : FunctionValue) (o : OutputValue) (t : Holding) (rs marks : List Bool) (entries : List (Reverse (ℕ × ℕ))) (there : f.entry < length f.blocks)
+module _ (f : FunctionValue) (o : OutputValue) (t : Showing) (rs marks : List Bool) (entries : List (Reverse (ℕ × ℕ))) (there : f.entry < length f.blocks)
     (long : length rs ≡ length f.blocks) (at : (b : ℕ) (d : Bool) → b < length rs → get_or rs b d ≡ nat_eq b f.entry)
     (size : length marks ≡ length f.blocks) (marked : (b : ℕ) (d : Bool) → b < length marks → get_or marks b d ≡ nat_eq b f.entry)
-    (empty : (k i y : ℕ) → holds_in t k i y ≡ false) where
+    (empty : (k i y : ℕ) → shows_in t k i y ≡ false) where
   reached-only : (b : ℕ) → (view_at (views t rs) b).reached ≡ true → b ≡ f.entry
   reached-only b h = elim (cases_lt b (length f.blocks)) [
     | inl l ↦ (
@@ -63,7 +63,7 @@ module _ (f : FunctionValue) (o : OutputValue) (t : Holding) (rs marks : List Bo
     size = views-length t 0 rs ∙ long;
     started = entry-reached;
     nothing = λ p v. ap (λ (F : Facts). F p v) (facts-is t rs f.entry (omega (arith, there, long)))
-        ∙ facts-none t.places (holds_in t f.entry) (empty f.entry) p v;
+        ∙ facts-none t.places (shows_in t f.entry) (empty f.entry) p v;
     reached = λ b h. subst (IsReachedBlock f) (sym (reached-only b h)) ([], tt, refl);
     refuted = λ b p v h x. subst (λ (c : ℕ). IsRefuted f o (first_of f c) p v) (sym (reached-only b h)) (refuted_at_entry f o p v);
   }

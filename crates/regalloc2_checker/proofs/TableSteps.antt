@@ -8,13 +8,14 @@ use Rattle.regalloc2_names.specs.Register.{VirtualRegister, is_vreg}
 use Rattle.regalloc2_names.specs.RegisterBits.{bits_of_vreg, vreg_of_bits}
 use Rattle.regalloc2_names.specs.Place.{Place, NoPlace, InRegister, InSlot, is_place}
 use Rattle.regalloc2_names.specs.PlaceBits.{bits_of_place, place_of_bits}
-use Rattle.regalloc2_checker_tables.specs.Holding.{Holding, holds_now, holds_in, is_in, AreKeptTables, HoldsNow}
+use Rattle.regalloc2_checker_tables.specs.Holding.{is_in}
+use Rattle.regalloc2_checker_tables.specs.Showing.{Showing, shows_now, shows_in, AreTablesKept, ShowsNow}
 use Rattle.regalloc2_checker.proofs.Positions.{at-position}
-use Rattle.regalloc2_checker.specs.Facts.{Facts, placed, defined}
+use Rattle.regalloc2_checker.specs.Facts.{Facts, placed, defined, renaming}
 use Rattle.regalloc2_checker.specs.TableFacts.{is_packed, is_packed_vreg, place_in, vreg_in, held_at}
 use Rattle.regalloc2_checker.specs.TableFacts.{facts_in, facts_now, facts_table, IsMissingUnlisted, IsListed}
 use Rattle.regalloc2_checker.specs.TableFacts.{IsListedVReg}
-use Rattle.regalloc2_checker.specs.Renamed.{stands_in, given_to, HoldersAre}
+use Rattle.regalloc2_checker.specs.Renamed.{stands_in, given_to, facts_renamed, HoldersAre}
 use Rattle.regalloc2_names.specs.Same.{is_place-true, is_place-same, is_vreg-true, is_vreg-same}
 use Rattle.regalloc2_checker.proofs.Keys.{vreg_back, both_false}
 
@@ -55,18 +56,18 @@ facts_in-same places has have h = one-facts (facts_in places has) (facts_in plac
         ∙ sym (facts-at places have p v (Some i) e)
 
 -- the facts of the table that is worked on, where what it holds is known
-pub now-as : (t u : Holding) (has : ℕ → ℕ → Bool) → u.places ≡ t.places → HoldsNow u has → facts_now u ≡ facts_in t.places has
+pub now-as : (t u : Showing) (has : ℕ → ℕ → Bool) → u.places ≡ t.places → ShowsNow u has → facts_now u ≡ facts_in t.places has
 now-as t u has e h =
-    ap (λ (ps : List ℕ). facts_in ps (holds_now u)) e
-    ∙ facts_in-same t.places (holds_now u) has (λ i y less. h i y (subst (λ (ps : List ℕ). i < length ps) (sym e) less))
+    ap (λ (ps : List ℕ). facts_in ps (shows_now u)) e
+    ∙ facts_in-same t.places (shows_now u) has (λ i y less. h i y (subst (λ (ps : List ℕ). i < length ps) (sym e) less))
 
 -- a table that is kept has the facts that it had
-pub table-kept : (t u : Holding) (k : ℕ) → AreKeptTables t u → facts_table u k ≡ facts_table t k
+pub table-kept : (t u : Showing) (k : ℕ) → AreTablesKept t u → facts_table u k ≡ facts_table t k
 table-kept t u k h =
-    ap (λ (ps : List ℕ). facts_in ps (holds_in u k)) h.places ∙ facts_in-same t.places (holds_in u k) (holds_in t k) (λ i y less. h.tables k i y less)
+    ap (λ (ps : List ℕ). facts_in ps (shows_in u k)) h.places ∙ facts_in-same t.places (shows_in u k) (shows_in t k) (λ i y less. h.tables k i y less)
 
 -- tables that are kept twice are kept
-pub kept-twice : (t u w : Holding) → AreKeptTables t u → AreKeptTables u w → AreKeptTables t w
+pub kept-twice : (t u w : Showing) → AreTablesKept t u → AreTablesKept u w → AreTablesKept t w
 kept-twice t u w a b = record {
   places = b.places ∙ a.places;
   vregs = b.vregs ∙ a.vregs;
@@ -75,7 +76,7 @@ kept-twice t u w a b = record {
 }
 
 -- tables that stay are kept
-pub kept-same : (t : Holding) → AreKeptTables t t
+pub kept-same : (t : Showing) → AreTablesKept t t
 kept-same t = record { places = refl; vregs = refl; count = refl; tables = λ k i y less. refl }
 
 step-true : (b : Bool) (n m : ℕ) → b ≡ true → cond (not b) (1 + n) 0 < suc m
@@ -176,12 +177,12 @@ module _ (places : List ℕ) (has have : ℕ → ℕ → Bool) (to : Place) (i :
       by_test q v false e = there q v e ∙ sym (placed-at to X (facts_in places has) q v some ∙ ap (λ b. cond b (X v) (facts_in places has q v)) e)
 
 -- a place is emptied
-pub cleared-is : (t u : Holding) (p : Place) (i : ℕ) → IsMissingUnlisted t.places → place_in t.places p ≡ Some i → is_packed p ≡ true → u.places ≡ t.places →
-    HoldsNow u (λ j y. cond (nat_eq j i) false (holds_now t j y)) → facts_now u ≡ placed p (λ v. false) (facts_now t)
+pub cleared-is : (t u : Showing) (p : Place) (i : ℕ) → IsMissingUnlisted t.places → place_in t.places p ≡ Some i → is_packed p ≡ true → u.places ≡ t.places →
+    ShowsNow u (λ j y. cond (nat_eq j i) false (shows_now t j y)) → facts_now u ≡ placed p (λ v. false) (facts_now t)
 cleared-is t u p i none at packed e h =
-    let has : ℕ → ℕ → Bool = λ j y. cond (nat_eq j i) false (holds_now t j y) in
+    let has : ℕ → ℕ → Bool = λ j y. cond (nat_eq j i) false (shows_now t j y) in
     now-as t u has e h
-    ∙ placed-is t.places (holds_now t) has p i (λ y. false) (λ v. false) at packed (listed-there t.places p i none at) (λ j y less. refl)
+    ∙ placed-is t.places (shows_now t) has p i (λ y. false) (λ v. false) at packed (listed-there t.places p i none at) (λ j y less. refl)
     (λ v. sym (and-false (is_packed_vreg v)))
 
 -- a place that isn't listed is empty
@@ -214,21 +215,21 @@ placed-missing places (InRegister r) x F e h = absurd (not-found places (bits_of
 placed-missing places (InSlot n) x F e h = absurd (not-found places (bits_of_place (InSlot n)) e (h (λ d. absurd cc)))
 
 -- a place gets what another holds
-pub moved-is : (t u : Holding) (from to : Place) (j i : ℕ) → IsMissingUnlisted t.places → place_in t.places from ≡ Some j → is_packed from ≡ true →
+pub moved-is : (t u : Showing) (from to : Place) (j i : ℕ) → IsMissingUnlisted t.places → place_in t.places from ≡ Some j → is_packed from ≡ true →
     place_in t.places to ≡ Some i → is_packed to ≡ true → u.places ≡ t.places →
-    HoldsNow u (λ k y. cond (nat_eq k i) (holds_now t j y) (holds_now t k y)) → facts_now u ≡ placed to (facts_now t from) (facts_now t)
+    ShowsNow u (λ k y. cond (nat_eq k i) (shows_now t j y) (shows_now t k y)) → facts_now u ≡ placed to (facts_now t from) (facts_now t)
 moved-is t u from to j i none atf pf at packed e h =
-    let has : ℕ → ℕ → Bool = λ k y. cond (nat_eq k i) (holds_now t j y) (holds_now t k y) in
+    let has : ℕ → ℕ → Bool = λ k y. cond (nat_eq k i) (shows_now t j y) (shows_now t k y) in
     now-as t u has e h
-    ∙ placed-is t.places (holds_now t) has to i (holds_now t j) (facts_now t from) at packed (listed-there t.places to i none at) (λ k y less. refl)
-    (λ v. facts-at t.places (holds_now t) from v (Some j) atf ∙ ap (λ b. b && (is_packed_vreg v && holds_now t j (bits_of_vreg v))) pf)
+    ∙ placed-is t.places (shows_now t) has to i (shows_now t j) (facts_now t from) at packed (listed-there t.places to i none at) (λ k y less. refl)
+    (λ v. facts-at t.places (shows_now t) from v (Some j) atf ∙ ap (λ b. b && (is_packed_vreg v && shows_now t j (bits_of_vreg v))) pf)
 
 -- or nothing, where the other isn't listed
-pub moved-nothing : (t u : Holding) (from to : Place) (i : ℕ) → IsMissingUnlisted t.places → place_in t.places from ≡ None →
+pub moved-nothing : (t u : Showing) (from to : Place) (i : ℕ) → IsMissingUnlisted t.places → place_in t.places from ≡ None →
     place_in t.places to ≡ Some i → is_packed to ≡ true → u.places ≡ t.places →
-    HoldsNow u (λ j y. cond (nat_eq j i) false (holds_now t j y)) → facts_now u ≡ placed to (facts_now t from) (facts_now t)
+    ShowsNow u (λ j y. cond (nat_eq j i) false (shows_now t j y)) → facts_now u ≡ placed to (facts_now t from) (facts_now t)
 moved-nothing t u from to i none atf at packed e h =
-    let same : (λ (v : VirtualRegister). false) ≡ facts_now t from = λ k v. sym (unlisted-holds t.places (holds_now t) from v atf) k in
+    let same : (λ (v : VirtualRegister). false) ≡ facts_now t from = λ k v. sym (unlisted-holds t.places (shows_now t) from v atf) k in
     cleared-is t u to i none at packed e h ∙ ap (λ (x : VirtualRegister → Bool). placed to x (facts_now t)) same
 
 kept-false : (b x : Bool) → x ≡ false → cond b false x ≡ false
@@ -260,11 +261,11 @@ pub bits-at : (vregs : List ℕ) (v : VirtualRegister) (j : ℕ) → vreg_in vre
 bits-at vregs v j e = (at-position vregs (bits_of_vreg v) j e).1
 
 -- a virtual register is forgotten
-pub forgotten-is : (t u : Holding) (v : VirtualRegister) (j : ℕ) → vreg_in t.vregs v ≡ Some j → u.places ≡ t.places →
-    HoldsNow u (λ i y. cond (nat_eq y (get_or t.vregs j 0)) false (holds_now t i y)) → facts_now u ≡ (λ q w. cond (is_vreg v w) false (facts_now t q w))
+pub forgotten-is : (t u : Showing) (v : VirtualRegister) (j : ℕ) → vreg_in t.vregs v ≡ Some j → u.places ≡ t.places →
+    ShowsNow u (λ i y. cond (nat_eq y (get_or t.vregs j 0)) false (shows_now t i y)) → facts_now u ≡ (λ q w. cond (is_vreg v w) false (facts_now t q w))
 forgotten-is t u v j at e h =
-    let has : ℕ → ℕ → Bool = λ i y. cond (nat_eq y (get_or t.vregs j 0)) false (holds_now t i y) in
-    now-as t u has e h ∙ forgotten-in t.places (holds_now t) has v (λ i y. ap (λ n. cond (nat_eq y n) false (holds_now t i y)) (bits-at t.vregs v j at))
+    let has : ℕ → ℕ → Bool = λ i y. cond (nat_eq y (get_or t.vregs j 0)) false (shows_now t i y) in
+    now-as t u has e h ∙ forgotten-in t.places (shows_now t) has v (λ i y. ap (λ n. cond (nat_eq y n) false (shows_now t i y)) (bits-at t.vregs v j at))
 
 own-bits : (u v : VirtualRegister) (n : ℕ) → n ≡ bits_of_vreg u → is_packed_vreg u ≡ true → is_vreg u v ≡ (is_packed_vreg v && nat_eq (bits_of_vreg v) n)
 own-bits u v n e packed = by_test (is_vreg u v) refl
@@ -279,24 +280,24 @@ own-bits u v n e packed = by_test (is_vreg u v) refl
     by_test false h = h ∙ sym (ap (λ b. is_packed_vreg v && b) (there ∙ h) ∙ and-false (is_packed_vreg v))
 
 -- a virtual register is written to a place
-pub defined-is : (t u : Holding) (p : Place) (v : VirtualRegister) (i j : ℕ) → IsMissingUnlisted t.places → place_in t.places p ≡ Some i → is_packed p ≡ true →
+pub defined-is : (t u : Showing) (p : Place) (v : VirtualRegister) (i j : ℕ) → IsMissingUnlisted t.places → place_in t.places p ≡ Some i → is_packed p ≡ true →
     vreg_in t.vregs v ≡ Some j → is_packed_vreg v ≡ true → u.places ≡ t.places →
-    HoldsNow u (λ k y. cond (nat_eq k i) (nat_eq y (get_or t.vregs j 0)) (cond (nat_eq y (get_or t.vregs j 0)) false (holds_now t k y))) →
+    ShowsNow u (λ k y. cond (nat_eq k i) (nat_eq y (get_or t.vregs j 0)) (cond (nat_eq y (get_or t.vregs j 0)) false (shows_now t k y))) →
     facts_now u ≡ defined p v (facts_now t)
 defined-is t u p v i j none at packed atv pv e h =
     let b : ℕ = get_or t.vregs j 0 in
-    let rest : ℕ → ℕ → Bool = λ k y. cond (nat_eq y b) false (holds_now t k y) in
+    let rest : ℕ → ℕ → Bool = λ k y. cond (nat_eq y b) false (shows_now t k y) in
     let has : ℕ → ℕ → Bool = λ k y. cond (nat_eq k i) (nat_eq y b) (rest k y) in
     now-as t u has e h
     ∙ placed-is t.places rest has p i (λ y. nat_eq y b) (is_vreg v) at packed (listed-there t.places p i none at) (λ k y less. refl)
     (λ w. own-bits v w b (bits-at t.vregs v j atv) pv)
     ∙ ap (λ (F : Facts). placed p (is_vreg v) F)
-    (forgotten-in t.places (holds_now t) rest v (λ k y. ap (λ n. cond (nat_eq y n) false (holds_now t k y)) (bits-at t.vregs v j atv)))
+    (forgotten-in t.places (shows_now t) rest v (λ k y. ap (λ n. cond (nat_eq y n) false (shows_now t k y)) (bits-at t.vregs v j atv)))
 
 -- or to a missing one
-pub defined-nowhere : (t u : Holding) (p : Place) (v : VirtualRegister) (j : ℕ) → place_in t.places p ≡ None → IsListed t.places p →
+pub defined-nowhere : (t u : Showing) (p : Place) (v : VirtualRegister) (j : ℕ) → place_in t.places p ≡ None → IsListed t.places p →
     vreg_in t.vregs v ≡ Some j → u.places ≡ t.places →
-    HoldsNow u (λ i y. cond (nat_eq y (get_or t.vregs j 0)) false (holds_now t i y)) → facts_now u ≡ defined p v (facts_now t)
+    ShowsNow u (λ i y. cond (nat_eq y (get_or t.vregs j 0)) false (shows_now t i y)) → facts_now u ≡ defined p v (facts_now t)
 defined-nowhere t u p v j at listed atv e h =
     forgotten-is t u v j atv e h ∙ placed-missing t.places p (is_vreg v) (λ q w. cond (is_vreg v w) false (facts_now t q w)) at listed
 
@@ -330,20 +331,20 @@ given-in places has have v positions packed h = one-facts _ _ (λ q w. by_positi
         ∙ sym (ap (λ b. cond b (stands_in places positions q) (facts_in places has q w)) k ∙ facts-at places has q w (Some i) e)
 
 -- a virtual register gets other places
-pub given-is : (t u : Holding) (v : VirtualRegister) (j : ℕ) (positions : List ℕ) → vreg_in t.vregs v ≡ Some j → is_packed_vreg v ≡ true →
+pub given-is : (t u : Showing) (v : VirtualRegister) (j : ℕ) (positions : List ℕ) → vreg_in t.vregs v ≡ Some j → is_packed_vreg v ≡ true →
     u.places ≡ t.places →
-    HoldsNow u (λ i y. cond (nat_eq y (get_or t.vregs j 0)) (is_in positions i) (holds_now t i y)) →
+    ShowsNow u (λ i y. cond (nat_eq y (get_or t.vregs j 0)) (is_in positions i) (shows_now t i y)) →
     facts_now u ≡ given_to v t.places positions (facts_now t)
 given-is t u v j positions at pv e h =
-    let has : ℕ → ℕ → Bool = λ i y. cond (nat_eq y (get_or t.vregs j 0)) (is_in positions i) (holds_now t i y) in
+    let has : ℕ → ℕ → Bool = λ i y. cond (nat_eq y (get_or t.vregs j 0)) (is_in positions i) (shows_now t i y) in
     now-as t u has e h
-    ∙ given-in t.places (holds_now t) has v positions pv
-    (λ i y. ap (λ n. cond (nat_eq y n) (is_in positions i) (holds_now t i y)) (bits-at t.vregs v j at))
+    ∙ given-in t.places (shows_now t) has v positions pv
+    (λ i y. ap (λ n. cond (nat_eq y n) (is_in positions i) (shows_now t i y)) (bits-at t.vregs v j at))
 
 -- the positions that hold a virtual register are those of the places that do
-pub holders-are : (t : Holding) (v : VirtualRegister) (j : ℕ) (positions : List ℕ) → vreg_in t.vregs v ≡ Some j → is_packed_vreg v ≡ true →
-    ((i : ℕ) → is_in positions i ≡ (nat_lt i (length t.places) && holds_now t i (get_or t.vregs j 0))) →
-    HoldersAre t.places (holds_now t) v positions
+pub holders-are : (t : Showing) (v : VirtualRegister) (j : ℕ) (positions : List ℕ) → vreg_in t.vregs v ≡ Some j → is_packed_vreg v ≡ true →
+    ((i : ℕ) → is_in positions i ≡ (nat_lt i (length t.places) && shows_now t i (get_or t.vregs j 0))) →
+    HoldersAre t.places (shows_now t) v positions
 holders-are t v j positions at pv h = record {
   within = λ i e. below i (length t.places) (left_true _ _ (sym (h i) ∙ e));
   holders = λ p. by_position p (place_in t.places p) refl;
@@ -359,14 +360,14 @@ holders-are t v j positions at pv h = record {
     left_true true b e = refl
     left_true false b e = absurd cc
 
-    by_position : (p : Place) (o : Option ℕ) → place_in t.places p ≡ o → stands_in t.places positions p ≡ facts_in t.places (holds_now t) p v
-    by_position p None e = stands-at t.places positions p None e ∙ and-false (is_packed p) ∙ sym (unlisted-holds t.places (holds_now t) p v e)
+    by_position : (p : Place) (o : Option ℕ) → place_in t.places p ≡ o → stands_in t.places positions p ≡ facts_in t.places (shows_now t) p v
+    by_position p None e = stands-at t.places positions p None e ∙ and-false (is_packed p) ∙ sym (unlisted-holds t.places (shows_now t) p v e)
     by_position p (Some i) e =
         stands-at t.places positions p (Some i) e
-        ∙ ap (λ b. is_packed p && b) (h i ∙ ap (λ b. b && holds_now t i (get_or t.vregs j 0))
+        ∙ ap (λ b. is_packed p && b) (h i ∙ ap (λ b. b && shows_now t i (get_or t.vregs j 0))
         (is_below i (length t.places) (at-position t.places (bits_of_place p) i e).0)
-        ∙ ap (λ n. holds_now t i n) (bits-at t.vregs v j at))
-        ∙ sym (facts-at t.places (holds_now t) p v (Some i) e ∙ ap (λ b. is_packed p && (b && holds_now t i (bits_of_vreg v))) pv)
+        ∙ ap (λ n. shows_now t i n) (bits-at t.vregs v j at))
+        ∙ sym (facts-at t.places (shows_now t) p v (Some i) e ∙ ap (λ b. is_packed p && (b && shows_now t i (bits_of_vreg v))) pv)
 
 -- the same, where the positions are those of a virtual register's holders before
 pub given-renamed : (before ps : List ℕ) (has : ℕ → ℕ → Bool) (p a : VirtualRegister) (positions : List ℕ) (G H : Facts) → ps ≡ before →
@@ -376,3 +377,46 @@ given-renamed before ps has p a positions G H e h now q v =
     ap (λ (X : Facts). X q v) now
     ∙ ap (λ (xs : List ℕ). cond (is_vreg p v) (stands_in xs positions q) (G q v)) e
     ∙ ap (λ b. cond (is_vreg p v) b (G q v)) (h.holders q)
+
+renamed-one : (p a v : VirtualRegister) → renaming (p ∷ []) (a ∷ []) (λ u. u) v ≡ cond (is_vreg p v) a v
+unfolding renaming
+renamed-one p a v = refl
+
+-- a parameter that is passed has what its argument has
+pub passed-is : (t u : Showing) (p a : VirtualRegister) (j k : ℕ) → vreg_in t.vregs p ≡ Some j → vreg_in t.vregs a ≡ Some k → is_packed_vreg p ≡ true →
+    is_packed_vreg a ≡ true → u.places ≡ t.places →
+    ShowsNow u (λ i y. shows_now t i (cond (nat_eq y (get_or t.vregs j 0)) (get_or t.vregs k 0) y)) →
+    facts_now u ≡ facts_renamed (p ∷ []) (a ∷ []) (facts_now t)
+passed-is t u p a j k atp ata pp pa e h =
+    now-as t u has e h
+    ∙ one-facts (facts_in t.places has) (facts_renamed (p ∷ []) (a ∷ []) (facts_now t))
+    (λ q v. by_position q v (place_in t.places q) refl (is_vreg p v) refl ∙ ap (facts_in t.places (shows_now t) q) (sym (renamed-one p a v)))
+  where
+    has : ℕ → ℕ → Bool
+    has i y = shows_now t i (cond (nat_eq y (get_or t.vregs j 0)) (get_or t.vregs k 0) y)
+
+    is : (v : VirtualRegister) → nat_eq (bits_of_vreg v) (get_or t.vregs j 0) ≡ is_vreg p v
+    is v = ap (nat_eq (bits_of_vreg v)) (bits-at t.vregs p j atp) ∙ vreg-bits p v
+
+    by_position : (q : Place) (v : VirtualRegister) (o : Option ℕ) → place_in t.places q ≡ o → (b : Bool) → is_vreg p v ≡ b →
+        facts_in t.places has q v ≡ facts_in t.places (shows_now t) q (cond (is_vreg p v) a v)
+    by_position q v None e b d = unlisted-holds t.places has q v e ∙ sym (unlisted-holds t.places (shows_now t) q (cond (is_vreg p v) a v) e)
+    by_position q v (Some i) e true d =
+        let packed : is_packed_vreg v ≡ true = subst (λ (w : VirtualRegister). is_packed_vreg w ≡ true) (is_vreg-true p v d) pp in
+        facts-at t.places has q v (Some i) e
+        ∙ ap (λ x. is_packed q && (x && has i (bits_of_vreg v))) (packed ∙ sym pa)
+        ∙ ap (λ x. is_packed q && (is_packed_vreg a && shows_now t i (cond x (get_or t.vregs k 0) (bits_of_vreg v)))) (is v ∙ d)
+        ∙ ap (λ n. is_packed q && (is_packed_vreg a && shows_now t i n)) (bits-at t.vregs a k ata)
+        ∙ sym (facts-at t.places (shows_now t) q a (Some i) e)
+        ∙ ap (λ x. facts_in t.places (shows_now t) q (cond x a v)) (sym d)
+    by_position q v (Some i) e false d =
+        facts-at t.places has q v (Some i) e
+        ∙ ap (λ x. is_packed q && (is_packed_vreg v && shows_now t i (cond x (get_or t.vregs k 0) (bits_of_vreg v)))) (is v ∙ d)
+        ∙ sym (facts-at t.places (shows_now t) q v (Some i) e)
+        ∙ ap (λ x. facts_in t.places (shows_now t) q (cond x a v)) (sym d)
+
+-- a list of one
+pub one-of : {X : Type 0} (xs : List X) (x : X) → length xs ≡ 1 → x ≡ get_or xs 0 x → xs ≡ x ∷ []
+one-of [] x l e = absurd (omega arith)
+one-of (y ∷ []) x l e = ap (λ z. z ∷ []) (sym e)
+one-of (y ∷ z ∷ xs) x l e = absurd (omega arith)

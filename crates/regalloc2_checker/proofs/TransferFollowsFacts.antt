@@ -13,7 +13,7 @@ use Rattle.regalloc2_function.specs.SourceRun.{arguments_at}
 use Rattle.regalloc2_function.specs.AllocatedRun.{moves_at}
 use Rattle.regalloc2_function.specs.declared.listing.Edit.{Edit}
 use Rattle.regalloc2_function.specs.Views.{move_of}
-use Rattle.regalloc2_checker_tables.specs.Holding.{Holding}
+use Rattle.regalloc2_checker_tables.specs.Showing.{Showing}
 use Rattle.regalloc2_checker.specs.declared.listing.Listed.{Listed}
 use Rattle.regalloc2_checker.specs.Facts.{Facts, facts_after, facts_after_moves}
 use Rattle.regalloc2_checker.specs.Facts.{facts_after_early_defs, facts_after_defs, facts_after_clobbers, facts_over_edge}
@@ -24,33 +24,37 @@ use Rattle.regalloc2_checker.specs.Renamed.{facts_renamed}
 use Rattle.regalloc2_checker.specs.TableFacts.{AreNamed, IsListed, IsListedVReg, IsMissingUnlisted}
 use Rattle.regalloc2_checker.proofs.Fixpoint.{within-suc}
 
+-- what is read at an instruction: the moves before it, its operands and their places
+pub record IsReadAt (f : FunctionValue) (o : OutputValue) (l : Location) (ms : List MoveValue) (ps : List Place) (os : List OperandValue) : Type 0 where
+  pub moves : ms ≡ moves_at f o l
+  pub places : ps ≡ allocs_of o l.inst
+  pub operands : os ≡ (inst_at f l.inst).operands
+
 -- an instruction, as it was run
-pub after_run : (f : FunctionValue) (o : OutputValue) (b i : ℕ) (F E L : Facts) (ms : List MoveValue) (ps qs : List Place) (os : List OperandValue)
-    (clobbers : PRegSet) →
-    ms ≡ moves_at f o (record { block = b; inst = i }) → ps ≡ allocs_of o i → qs ≡ allocs_of o i → os ≡ (inst_at f i).operands →
-    clobbers ≡ (inst_at f i).clobbers → E ≡ facts_after_early_defs ps 0 os (facts_after_moves ms F) →
-    L ≡ facts_after_clobbers clobbers (facts_after_defs qs 0 os E) → L ≡ facts_after f o (record { block = b; inst = i }) F
+pub after_run : (f : FunctionValue) (o : OutputValue) (l : Location) (F E L : Facts) (ms : List MoveValue) (ps : List Place) (os : List OperandValue)
+    (clobbers : PRegSet) → IsReadAt f o l ms ps os → clobbers ≡ (inst_at f l.inst).clobbers →
+    E ≡ facts_after_early_defs ps 0 os (facts_after_moves ms F) → L ≡ facts_after_clobbers clobbers (facts_after_defs ps 0 os E) → L ≡ facts_after f o l F
 unfolding facts_after
-after_run f o b i F E L ms ps qs os clobbers em ep eq eo ec ee el = rw (el, ee, em, ep, eq, eo, ec) refl
+after_run f o l F E L ms ps os clobbers r ec ee el = rw (el, ee, r.moves, r.places, r.operands, ec) refl
 
 -- what is listed at an instruction
-pub listed_moves : {A : Type 0} (f : FunctionValue) (o : OutputValue) (ls : List (Listed A)) (b i n : ℕ) (x : Listed A) (ms : List Edit) → IsListing f o ls →
-    ms ≡ x.moves.items → n ≡ i → x ≡ get_or ls n x →
+pub listed_moves : (f : FunctionValue) (o : OutputValue) (ls : List Listed) (b i n : ℕ) (x : Listed) (ms : List Edit) → IsListing f o ls →
+    ms ≡ x.moves.now → n ≡ i → x ≡ get_or ls n x →
     b < length f.blocks → (block_at f b).range.first ≤ i → i < (block_at f b).range.end → map move_of ms ≡ moves_at f o (record { block = b; inst = i })
 listed_moves f o ls b i n x ms h e en is lb low high =
     let there : x ≡ get_or ls i x = rw en at is in
-    ap (λ (es : List Edit). map move_of es) e ∙ ap (λ (y : Listed _). map move_of y.moves.items) there ∙ h.moves b i x lb low high
+    ap (λ (es : List Edit). map move_of es) e ∙ ap (λ (y : Listed). map move_of y.moves.now) there ∙ h.moves b i x lb low high
 
 -- the places listed at an instruction are those that the output has for its operands
-pub listed_places : {A : Type 0} (f : FunctionValue) (o : OutputValue) (ls : List (Listed A)) (i n : ℕ) (x : Listed A) (ps : List Place) → IsListing f o ls →
-    ps ≡ x.places.items → n ≡ i → x ≡ get_or ls n x →
+pub listed_places : (f : FunctionValue) (o : OutputValue) (ls : List Listed) (i n : ℕ) (x : Listed) (ps : List Place) → IsListing f o ls →
+    ps ≡ x.places.now → n ≡ i → x ≡ get_or ls n x →
     i < length f.insts → ps ≡ allocs_of o i
 listed_places f o ls i n x ps h e en is li =
     let there : x ≡ get_or ls i x = rw en at is in
-    e ∙ ap (λ (y : Listed _). y.places.items) there ∙ h.places i x li
+    e ∙ ap (λ (y : Listed). y.places.now) there ∙ h.places i x li
 
 -- tables that list what another lists name the same
-pub named_same : (f : FunctionValue) (o : OutputValue) (t u : Holding) → u.places ≡ t.places → u.vregs ≡ t.vregs → AreNamed f o t → AreNamed f o u
+pub named_same : (f : FunctionValue) (o : OutputValue) (t u : Showing) → u.places ≡ t.places → u.vregs ≡ t.vregs → AreNamed f o t → AreNamed f o u
 named_same f o t u ep ev h = record { places = rw ep h.places; vregs = rw ev h.vregs }
 
 -- so many instructions of a block

@@ -164,19 +164,26 @@ pub edges-first : (f : FunctionValue) (o : OutputValue) (t : List BlockView) (ma
     EdgesPassed f o t t marks b 0
 edges-first f o t marks b s a = record { sound = s; kept = a }
 
--- one edge more, of a block that had the facts that led to F at its end
+-- an edge of a reached block, which had the facts that led to F at its end
+pub record EdgeLeaves (f : FunctionValue) (o : OutputValue) (old : List BlockView) (b k : ℕ) (F : Facts) : Type 0 where
+  pub sound : IsSound f o old
+  pub reached : (view_at old b).reached ≡ true
+  pub low : b < length f.blocks
+  pub less : k < length (block_at f b).succs
+  pub ends : IsBlockEnd f o b (facts_at old b) F
+
+-- one edge more
 pub edge-passed : AreEarlier → (f : FunctionValue) (o : OutputValue) → IsFramed f → (old t new : List BlockView) (marks after : List Bool) (b k : ℕ) (F : Facts)
-    (changed : Bool) → IsSound f o old → (view_at old b).reached ≡ true → b < length f.blocks → k < length (block_at f b).succs →
-    IsBlockEnd f o b (facts_at old b) F → EdgesPassed f o old t marks b k → IsPropagatedOver f b k F t new marks after changed →
+    (changed : Bool) → EdgeLeaves f o old b k F → EdgesPassed f o old t marks b k → IsPropagatedOver f b k F t new marks after changed →
     EdgesPassed f o old new after b (k + 1)
-edge-passed law f o ok old t new marks after b k F true s mark low less ends so_far p = record {
-  sound = sound-updated law f o ok t new b k (facts_at old b) (over f b k F) so_far.sound (s.reached b mark) (λ q v. s.refuted b q v mark) less
-      (λ q v. over-same f b k F _ ends q v) (p.met.updated refl);
-  kept = passed-changed f o old t new marks after b k F so_far.kept low (ok.successors.1 b low k 0 less) ends p;
+edge-passed law f o ok old t new marks after b k F true e so_far p = record {
+  sound = sound-updated law f o ok t new b k (facts_at old b) (over f b k F) so_far.sound (e.sound.reached b e.reached)
+      (λ q v. e.sound.refuted b q v e.reached) e.less (λ q v. over-same f b k F _ e.ends q v) (p.met.updated refl);
+  kept = passed-changed f o old t new marks after b k F so_far.kept e.low (ok.successors.1 b e.low k 0 e.less) e.ends p;
 }
-edge-passed law f o ok old t new marks after b k F false s mark low less ends so_far p = record {
+edge-passed law f o ok old t new marks after b k F false e so_far p = record {
   sound = subst (IsSound f o) (sym (p.met.same refl).0) so_far.sound;
-  kept = passed-unchanged f o old t new marks after b k F so_far.kept low (ok.successors.1 b low k 0 less) ends p;
+  kept = passed-unchanged f o old t new marks after b k F so_far.kept e.low (ok.successors.1 b e.low k 0 e.less) e.ends p;
 }
 
 -- a mark, as it was read

@@ -11,7 +11,8 @@ use Rattle.regalloc2_names.specs.Register.{VirtualRegister}
 use Rattle.regalloc2_names.specs.RegisterBits.{bits_of_vreg}
 use Rattle.regalloc2_names.specs.Place.{Place}
 use Rattle.regalloc2_names.specs.PlaceBits.{bits_of_place}
-use Rattle.regalloc2_checker_tables.specs.Holding.{Holding, holds_in, holds_now, LosesSome}
+use Rattle.regalloc2_checker_tables.specs.Holding.{LosesSome}
+use Rattle.regalloc2_checker_tables.specs.Showing.{Showing, shows_in, shows_now}
 use Rattle.regalloc2_checker.proofs.Positions.{at-position}
 use Rattle.regalloc2_checker.specs.Facts.{Facts}
 use Rattle.regalloc2_checker.specs.TableFacts.{is_packed, is_packed_vreg, place_in, facts_in, facts_now, facts_table}
@@ -62,17 +63,17 @@ view-eq : (r : Bool) (F G : Facts) (m n : ℕ) → F ≡ G → m ≡ n → ◌�
 view-eq r F G m n e d = λ i. record { reached = r; facts = e i; left = d i }
 
 -- a table that holds the same has the same view
-pub view-same : (t u : Holding) (k : ℕ) (r : Bool) → u.places ≡ t.places → ((i y : ℕ) → i < length t.places → holds_in u k i y ≡ holds_in t k i y) →
+pub view-same : (t u : Showing) (k : ℕ) (r : Bool) → u.places ≡ t.places → ((i y : ℕ) → i < length t.places → shows_in u k i y ≡ shows_in t k i y) →
     view_of u k r ≡ view_of t k r
 view-same t u k r e h =
-    view-eq r (facts_table u k) (facts_table t k) (left_in (length u.places) r (holds_in u k)) (left_in (length t.places) r (holds_in t k))
-    (ap (λ (ps : List ℕ). facts_in ps (holds_in u k)) e ∙ facts_in-same t.places (holds_in u k) (holds_in t k) h)
-    (ap (λ (ps : List ℕ). left_in (length ps) r (holds_in u k)) e
-    ∙ ap (λ n. cond r n (all_pairs (length t.places) + 1)) (as-many-held (length t.places) (holds_in u k) (holds_in t k) h))
+    view-eq r (facts_table u k) (facts_table t k) (left_in (length u.places) r (shows_in u k)) (left_in (length t.places) r (shows_in t k))
+    (ap (λ (ps : List ℕ). facts_in ps (shows_in u k)) e ∙ facts_in-same t.places (shows_in u k) (shows_in t k) h)
+    (ap (λ (ps : List ℕ). left_in (length ps) r (shows_in u k)) e
+    ∙ ap (λ n. cond r n (all_pairs (length t.places) + 1)) (as-many-held (length t.places) (shows_in u k) (shows_in t k) h))
 
 -- where tables list what they did, the views are as they were
-pub views-same : (t u : Holding) (k : ℕ) (rs : List Bool) → u.places ≡ t.places →
-    ((j i y : ℕ) → k ≤ j → j < k + length rs → i < length t.places → holds_in u j i y ≡ holds_in t j i y) → views_from u k rs ≡ views_from t k rs
+pub views-same : (t u : Showing) (k : ℕ) (rs : List Bool) → u.places ≡ t.places →
+    ((j i y : ℕ) → k ≤ j → j < k + length rs → i < length t.places → shows_in u j i y ≡ shows_in t j i y) → views_from u k rs ≡ views_from t k rs
 unfolding views_from
 views-same t u k [] e h = refl
 views-same t u k (r ∷ rs) e h =
@@ -81,8 +82,8 @@ views-same t u k (r ∷ rs) e h =
     (views-same t u (k + 1) rs e (λ j i y low high less. h j i y (omega (arith, low)) (omega (arith, high)) less))
 
 -- where one table changes, one view does
-pub views-set : (t u : Holding) (k n m : ℕ) (rs : List Bool) → m ≡ k + n → u.places ≡ t.places → n < length rs →
-    ((j i y : ℕ) → (j ≡ m → ⊥) → i < length t.places → holds_in u j i y ≡ holds_in t j i y) →
+pub views-set : (t u : Showing) (k n m : ℕ) (rs : List Bool) → m ≡ k + n → u.places ≡ t.places → n < length rs →
+    ((j i y : ℕ) → (j ≡ m → ⊥) → i < length t.places → shows_in u j i y ≡ shows_in t j i y) →
     views_from u k (set rs n true) ≡ set (views_from t k rs) n (view_of u m true)
 unfolding views_from
 views-set t u k n m [] at e less h = absurd (omega arith)
@@ -96,27 +97,27 @@ views-set t u k (suc n) m (r ∷ rs) at e less h =
     ∙ ap (λ (xs : List BlockView). view_of t k r ∷ xs) (views-set t u (k + 1) n m rs (omega arith) e (omega arith) h)
 
 -- there is a view for each block
-pub views-length : (t : Holding) (k : ℕ) (rs : List Bool) → length (views_from t k rs) ≡ length rs
+pub views-length : (t : Showing) (k : ℕ) (rs : List Bool) → length (views_from t k rs) ≡ length rs
 unfolding views_from
 views-length t k [] = refl
 views-length t k (r ∷ rs) = ap suc (views-length t (k + 1) rs)
 
-view-from : (t : Holding) (k n m : ℕ) (rs : List Bool) (d : Bool) → m ≡ k + n → n < length rs → view_at (views_from t k rs) n ≡ view_of t m (get_or rs n d)
+view-from : (t : Showing) (k n m : ℕ) (rs : List Bool) (d : Bool) → m ≡ k + n → n < length rs → view_at (views_from t k rs) n ≡ view_of t m (get_or rs n d)
 unfolding views_from
 view-from t k n m [] d e less = absurd (omega arith)
 view-from t k zero m (r ∷ rs) d e less = let same : k ≡ m = omega arith in ap (λ j. view_of t j r) same
 view-from t k (suc n) m (r ∷ rs) d e less = view-from t (k + 1) n m rs d (omega arith) (omega arith)
 
 -- the view of a block is that of its table
-pub view-is : (t : Holding) (rs : List Bool) (b : ℕ) (d : Bool) → b < length rs → view_at (views t rs) b ≡ view_of t b (get_or rs b d)
+pub view-is : (t : Showing) (rs : List Bool) (b : ℕ) (d : Bool) → b < length rs → view_at (views t rs) b ≡ view_of t b (get_or rs b d)
 view-is t rs b d less = view-from t 0 b b rs d (omega arith) less
 
 -- a block's view is reached as the list of reached blocks says
-pub reached-is : (t : Holding) (rs : List Bool) (b : ℕ) (d r : Bool) → b < length rs → get_or rs b d ≡ r → (view_at (views t rs) b).reached ≡ r
+pub reached-is : (t : Showing) (rs : List Bool) (b : ℕ) (d r : Bool) → b < length rs → get_or rs b d ≡ r → (view_at (views t rs) b).reached ≡ r
 reached-is t rs b d r less e = ap (λ (x : BlockView). x.reached) (view-is t rs b d less) ∙ e
 
 -- and its facts are those of its table
-pub facts-is : (t : Holding) (rs : List Bool) (b : ℕ) → b < length rs → facts_at (views t rs) b ≡ facts_table t b
+pub facts-is : (t : Showing) (rs : List Bool) (b : ℕ) → b < length rs → facts_at (views t rs) b ≡ facts_table t b
 facts-is t rs b less = ap (λ (x : BlockView). x.facts) (view-is t rs b true less)
 
 -- facts of what two hold are those that both have
@@ -160,21 +161,21 @@ and-left true b e = refl
 and-left false b e = absurd cc
 
 -- what is worked on is kept as the first that is passed to a block
-pub update-first : (t u : Holding) (rs : List Bool) (b : ℕ) (d : Bool) → b < length rs → get_or rs b d ≡ false → u.places ≡ t.places →
-    ((k i y : ℕ) → i < length t.places → holds_in u k i y ≡ cond (nat_eq k b) (holds_now t i y) (holds_in t k i y)) →
+pub update-first : (t u : Showing) (rs : List Bool) (b : ℕ) (d : Bool) → b < length rs → get_or rs b d ≡ false → u.places ≡ t.places →
+    ((k i y : ℕ) → i < length t.places → shows_in u k i y ≡ cond (nat_eq k b) (shows_now t i y) (shows_in t k i y)) →
     IsMeet (views t rs) (views u (set rs b true)) b (facts_now t) true
 update-first t u rs b d less un e h =
-    let here : (i y : ℕ) → i < length t.places → holds_in u b i y ≡ holds_now t i y =
-    λ i y l. h b i y l ∙ ap (λ c. cond c (holds_now t i y) (holds_in t b i y)) (eq-eqb b b refl) in
+    let here : (i y : ℕ) → i < length t.places → shows_in u b i y ≡ shows_now t i y =
+    λ i y l. h b i y l ∙ ap (λ c. cond c (shows_now t i y) (shows_in t b i y)) (eq-eqb b b refl) in
     let facts : facts_table u b ≡ facts_now t =
-    ap (λ (ps : List ℕ). facts_in ps (holds_in u b)) e ∙ facts_in-same t.places (holds_in u b) (holds_now t) here in
+    ap (λ (ps : List ℕ). facts_in ps (shows_in u b)) e ∙ facts_in-same t.places (shows_in u b) (shows_now t) here in
     let left : (view_at (views t rs) b).left ≡ all_pairs (length t.places) + 1 =
-    ap (λ (x : BlockView). x.left) (view-is t rs b d less) ∙ ap (λ r. left_in (length t.places) r (holds_in t b)) un in
-    let most : pairs_held (length u.places) (holds_in u b) ≤ all_pairs (length u.places) = at_most_all (length u.places) (holds_in u b) in
+    ap (λ (x : BlockView). x.left) (view-is t rs b d less) ∙ ap (λ r. left_in (length t.places) r (shows_in t b)) un in
+    let most : pairs_held (length u.places) (shows_in u b) ≤ all_pairs (length u.places) = at_most_all (length u.places) (shows_in u b) in
     let size = ap (λ (ps : List ℕ). all_pairs (length ps)) e in
     subst (λ (vs : List BlockView). IsMeet (views t rs) vs b (facts_now t) true)
     (sym (views-set t u 0 b b rs (omega arith) e less
-    (λ j i y n l. h j i y l ∙ ap (λ c. cond c (holds_now t i y) (holds_in t j i y)) (ne_eqb j b n))))
+    (λ j i y n l. h j i y l ∙ ap (λ c. cond c (shows_now t i y) (shows_in t j i y)) (ne_eqb j b n))))
     (meet-changed (views t rs) b (view_of u b true) (facts_now t) (omega (arith, views-length t 0 rs, less)) refl (λ _. facts)
     (λ m. true_not_false _ _ m (reached-is t rs b d false less un)) (omega (arith, left, most, size)))
   where
@@ -183,29 +184,29 @@ update-first t u rs b d less un e h =
     true_not_false false P h g = absurd cc
 
 -- or met with what it has, if it had some
-pub update-less : (t u : Holding) (rs : List Bool) (b : ℕ) (d : Bool) → b < length rs → get_or rs b d ≡ true → u.places ≡ t.places →
-    ((k i y : ℕ) → i < length t.places → holds_in u k i y ≡ cond (nat_eq k b) (holds_in t k i y && holds_now t i y) (holds_in t k i y)) →
-    (changed : Bool) → OnTrue changed (LosesSome (length t.places) (holds_in t b) (holds_now t)) →
-    OnFalse changed ((i y : ℕ) → i < length t.places → holds_in t b i y ≡ true → holds_now t i y ≡ true) →
+pub update-less : (t u : Showing) (rs : List Bool) (b : ℕ) (d : Bool) → b < length rs → get_or rs b d ≡ true → u.places ≡ t.places →
+    ((k i y : ℕ) → i < length t.places → shows_in u k i y ≡ cond (nat_eq k b) (shows_in t k i y && shows_now t i y) (shows_in t k i y)) →
+    (changed : Bool) → OnTrue changed (LosesSome (length t.places) (shows_in t b) (shows_now t)) →
+    OnFalse changed ((i y : ℕ) → i < length t.places → shows_in t b i y ≡ true → shows_now t i y ≡ true) →
     IsMeet (views t rs) (views u rs) b (facts_now t) changed
 update-less t u rs b d less marked e h true lost kept =
-    let here : (i y : ℕ) → i < length t.places → holds_in u b i y ≡ (holds_in t b i y && holds_now t i y) =
-    λ i y l. h b i y l ∙ ap (λ c. cond c (holds_in t b i y && holds_now t i y) (holds_in t b i y)) (eq-eqb b b refl) in
+    let here : (i y : ℕ) → i < length t.places → shows_in u b i y ≡ (shows_in t b i y && shows_now t i y) =
+    λ i y l. h b i y l ∙ ap (λ c. cond c (shows_in t b i y && shows_now t i y) (shows_in t b i y)) (eq-eqb b b refl) in
     let size : length u.places ≡ length t.places = ap (λ (ps : List ℕ). length ps) e in
     let facts : (p : Place) (v : VirtualRegister) → facts_table u b p v ≡ (facts_table t b p v && facts_now t p v) =
-    λ p v. ap (λ (ps : List ℕ). facts_in ps (holds_in u b) p v) e ∙ facts-both t.places (holds_in t b) (holds_now t) (holds_in u b) here p v in
-    let left : (view_at (views t rs) b).left ≡ pairs_held (length t.places) (holds_in t b) =
-    ap (λ (x : BlockView). x.left) (view-is t rs b d less) ∙ ap (λ r. left_in (length t.places) r (holds_in t b)) marked in
-    let fewer : pairs_held (length t.places) (holds_in u b) < pairs_held (length t.places) (holds_in t b) =
-    fewer-held (length t.places) (holds_in u b) (holds_in t b) (λ i y l k. and-left _ _ (sym (here i y l) ∙ k)) lost.place lost.bits lost.place_small
+    λ p v. ap (λ (ps : List ℕ). facts_in ps (shows_in u b) p v) e ∙ facts-both t.places (shows_in t b) (shows_now t) (shows_in u b) here p v in
+    let left : (view_at (views t rs) b).left ≡ pairs_held (length t.places) (shows_in t b) =
+    ap (λ (x : BlockView). x.left) (view-is t rs b d less) ∙ ap (λ r. left_in (length t.places) r (shows_in t b)) marked in
+    let fewer : pairs_held (length t.places) (shows_in u b) < pairs_held (length t.places) (shows_in t b) =
+    fewer-held (length t.places) (shows_in u b) (shows_in t b) (λ i y l k. and-left _ _ (sym (here i y l) ∙ k)) lost.place lost.bits lost.place_small
     (rw bits_end_is lost.bits_small)
-    (here lost.place lost.bits lost.place_small ∙ ap (λ c. holds_in t b lost.place lost.bits && c) lost.not_there ∙ nothing (holds_in t b lost.place lost.bits))
+    (here lost.place lost.bits lost.place_small ∙ ap (λ c. shows_in t b lost.place lost.bits && c) lost.not_there ∙ nothing (shows_in t b lost.place lost.bits))
     lost.here in
-    let long = ap (λ n. pairs_held n (holds_in u b)) size in
+    let long = ap (λ n. pairs_held n (shows_in u b)) size in
     let again : set rs b true ≡ rs = set-again rs b true d less marked in
     subst (λ (vs : List BlockView). IsMeet (views t rs) vs b (facts_now t) true)
     (sym (ap (λ (xs : List Bool). views u xs) (sym again) ∙ views-set t u 0 b b rs (omega arith) e less
-    (λ j i y n l. h j i y l ∙ ap (λ c. cond c (holds_in t j i y && holds_now t i y) (holds_in t j i y)) (ne_eqb j b n))))
+    (λ j i y n l. h j i y l ∙ ap (λ c. cond c (shows_in t j i y && shows_now t i y) (shows_in t j i y)) (ne_eqb j b n))))
     (meet-changed (views t rs) b (view_of u b true) (facts_now t) (omega (arith, views-length t 0 rs, less)) refl
     (λ m. true_not_false _ _ (reached-is t rs b d true less marked) m)
     (λ _ p v. facts p v ∙ ap (λ (F : Facts). F p v && facts_now t p v) (sym (facts-is t rs b less)))
@@ -219,17 +220,17 @@ update-less t u rs b d less marked e h true lost kept =
     nothing true = refl
     nothing false = refl
 update-less t u rs b d less marked e h false lost kept =
-    let all : (j i y : ℕ) → i < length t.places → holds_in u j i y ≡ holds_in t j i y =
+    let all : (j i y : ℕ) → i < length t.places → shows_in u j i y ≡ shows_in t j i y =
     λ j i y l. elim (cases_eq j b) [
-      | inl s ↦ h j i y l ∙ ap (λ c. cond c (holds_in t j i y && holds_now t i y) (holds_in t j i y)) (eq-eqb j b s)
-          ∙ sym (absorbed (holds_in t j i y) (holds_now t i y) (λ k. kept i y l (subst (λ (n : ℕ). holds_in t n i y ≡ true) s k)))
-      | inr n ↦ h j i y l ∙ ap (λ c. cond c (holds_in t j i y && holds_now t i y) (holds_in t j i y)) (ne_eqb j b n)
+      | inl s ↦ h j i y l ∙ ap (λ c. cond c (shows_in t j i y && shows_now t i y) (shows_in t j i y)) (eq-eqb j b s)
+          ∙ sym (absorbed (shows_in t j i y) (shows_now t i y) (λ k. kept i y l (subst (λ (n : ℕ). shows_in t n i y ≡ true) s k)))
+      | inr n ↦ h j i y l ∙ ap (λ c. cond c (shows_in t j i y && shows_now t i y) (shows_in t j i y)) (ne_eqb j b n)
     ] in
     record {
       same = λ _. (
         views-same t u 0 rs e (λ j i y low high l. all j i y l),
         reached-is t rs b d true less marked,
-        λ p v k. facts-within t.places (holds_in t b) (holds_now t) kept p v (sym (ap (λ (F : Facts). F p v) (facts-is t rs b less)) ∙ k),
+        λ p v k. facts-within t.places (shows_in t b) (shows_now t) kept p v (sym (ap (λ (F : Facts). F p v) (facts-is t rs b less)) ∙ k),
       );
       updated = λ k. absurd cc;
       falls = λ k. absurd cc;
@@ -240,27 +241,27 @@ update-less t u rs b d less marked e h false lost kept =
     absorbed false c h = refl
 
 -- where one table changes, the others have the facts that they had
-pub others-kept : (t u : Holding) (b : ℕ) (has : ℕ → ℕ → Bool) → u.places ≡ t.places →
-    ((k i y : ℕ) → i < length t.places → holds_in u k i y ≡ cond (nat_eq k b) (has i y) (holds_in t k i y)) →
+pub others-kept : (t u : Showing) (b : ℕ) (has : ℕ → ℕ → Bool) → u.places ≡ t.places →
+    ((k i y : ℕ) → i < length t.places → shows_in u k i y ≡ cond (nat_eq k b) (has i y) (shows_in t k i y)) →
     (k : ℕ) → (k ≡ b → ⊥) → facts_table u k ≡ facts_table t k
 others-kept t u b has e h k n =
-    ap (λ (ps : List ℕ). facts_in ps (holds_in u k)) e
-    ∙ facts_in-same t.places (holds_in u k) (holds_in t k)
-    (λ i y l. h k i y l ∙ ap (λ c. cond c (has i y) (holds_in t k i y)) (ne_eqb k b n))
+    ap (λ (ps : List ℕ). facts_in ps (shows_in u k)) e
+    ∙ facts_in-same t.places (shows_in u k) (shows_in t k)
+    (λ i y l. h k i y l ∙ ap (λ c. cond c (has i y) (shows_in t k i y)) (ne_eqb k b n))
 
 -- a table beside those of the blocks changes none of their views
-pub views-beside : (t u : Holding) (rs : List Bool) (b : ℕ) (has : ℕ → ℕ → Bool) → length rs ≤ b → u.places ≡ t.places →
-    ((k i y : ℕ) → i < length t.places → holds_in u k i y ≡ cond (nat_eq k b) (has i y) (holds_in t k i y)) → views u rs ≡ views t rs
+pub views-beside : (t u : Showing) (rs : List Bool) (b : ℕ) (has : ℕ → ℕ → Bool) → length rs ≤ b → u.places ≡ t.places →
+    ((k i y : ℕ) → i < length t.places → shows_in u k i y ≡ cond (nat_eq k b) (has i y) (shows_in t k i y)) → views u rs ≡ views t rs
 views-beside t u rs b has past e h =
-    views-same t u 0 rs e (λ j i y low high l. h j i y l ∙ ap (λ c. cond c (has i y) (holds_in t j i y)) (ne_eqb j b (λ d. omega (arith, d, past, high))))
+    views-same t u 0 rs e (λ j i y low high l. h j i y l ∙ ap (λ c. cond c (has i y) (shows_in t j i y)) (ne_eqb j b (λ d. omega (arith, d, past, high))))
 
 -- and it gets the facts of what is worked on
-pub table-saved : (t u : Holding) (b : ℕ) → u.places ≡ t.places →
-    ((k i y : ℕ) → i < length t.places → holds_in u k i y ≡ cond (nat_eq k b) (holds_now t i y) (holds_in t k i y)) → facts_table u b ≡ facts_now t
+pub table-saved : (t u : Showing) (b : ℕ) → u.places ≡ t.places →
+    ((k i y : ℕ) → i < length t.places → shows_in u k i y ≡ cond (nat_eq k b) (shows_now t i y) (shows_in t k i y)) → facts_table u b ≡ facts_now t
 table-saved t u b e h =
-    ap (λ (ps : List ℕ). facts_in ps (holds_in u b)) e
-    ∙ facts_in-same t.places (holds_in u b) (holds_now t)
-    (λ i y l. h b i y l ∙ ap (λ c. cond c (holds_now t i y) (holds_in t b i y)) (eq-eqb b b refl))
+    ap (λ (ps : List ℕ). facts_in ps (shows_in u b)) e
+    ∙ facts_in-same t.places (shows_in u b) (shows_now t)
+    (λ i y l. h b i y l ∙ ap (λ c. cond c (shows_now t i y) (shows_in t b i y)) (eq-eqb b b refl))
 
 -- nothing is held, no fact holds
 pub facts-none : (places : List ℕ) (has : ℕ → ℕ → Bool) → ((i y : ℕ) → has i y ≡ false) → (p : Place) (v : VirtualRegister) → facts_in places has p v ≡ false
@@ -278,10 +279,10 @@ facts-none places has h p v = by_position (place_in places p) refl
         ∙ ap (λ b. is_packed p && (is_packed_vreg v && b)) (h i (bits_of_vreg v)) ∙ last (is_packed p) (is_packed_vreg v)
 
 -- at its own number a table may be read by either name
-pub meet-as : (t : Holding) (k b i y : ℕ) → cond (nat_eq k b) (holds_in t k i y && holds_now t i y) (holds_in t k i y)
-    ≡ cond (nat_eq k b) (holds_in t b i y && holds_now t i y) (holds_in t k i y)
+pub meet-as : (t : Showing) (k b i y : ℕ) → cond (nat_eq k b) (shows_in t k i y && shows_now t i y) (shows_in t k i y)
+    ≡ cond (nat_eq k b) (shows_in t b i y && shows_now t i y) (shows_in t k i y)
 meet-as t k b i y = elim (cases_eq k b) [
-  | inl e ↦ ap (λ (n : ℕ). cond (nat_eq k b) (holds_in t n i y && holds_now t i y) (holds_in t k i y)) e
-  | inr n ↦ ap (λ c. cond c (holds_in t k i y && holds_now t i y) (holds_in t k i y)) (ne_eqb k b n)
-      ∙ sym (ap (λ c. cond c (holds_in t b i y && holds_now t i y) (holds_in t k i y)) (ne_eqb k b n))
+  | inl e ↦ ap (λ (n : ℕ). cond (nat_eq k b) (shows_in t n i y && shows_now t i y) (shows_in t k i y)) e
+  | inr n ↦ ap (λ c. cond c (shows_in t k i y && shows_now t i y) (shows_in t k i y)) (ne_eqb k b n)
+      ∙ sym (ap (λ c. cond c (shows_in t b i y && shows_now t i y) (shows_in t k i y)) (ne_eqb k b n))
 ]

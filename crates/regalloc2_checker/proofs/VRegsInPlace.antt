@@ -11,7 +11,7 @@ use Rattle.std.proofs.Math.ListN.{length-append}
 use Rattle.regalloc2_names.specs.Register.{VirtualRegister, class_code}
 use Rattle.regalloc2_names.specs.RegisterBits.{bits_of_vreg, vreg_of_bits}
 use Rattle.regalloc2_names.specs.Place.{Place}
-use Rattle.regalloc2_checker_tables.specs.Holding.{Holding, holds_now}
+use Rattle.regalloc2_checker_tables.specs.Showing.{Showing, shows_now}
 use Rattle.regalloc2_checker.proofs.Positions.{rising}
 use Rattle.regalloc2_checker.specs.Report.{AreVRegsInValue}
 use Rattle.regalloc2_checker.specs.TableFacts.{is_packed, is_packed_vreg, place_in, facts_now}
@@ -27,6 +27,7 @@ pub record AreFound (members : List ℕ) (k : ℕ) (found : List VirtualRegister
   pub members_are : (v : VirtualRegister) → Contains found v ↔ IsAmong members k (bits_of_vreg v)
   pub found_rise : IsStrictlyIncreasing (map bits_of_vreg found)
   pub below : (j m : ℕ) → j < length found → k ≤ m → m < length members → get_or (map bits_of_vreg found) j 0 < get_or members m 0
+  pub packed : (v : VirtualRegister) → Contains found v → is_packed_vreg v ≡ true
 
 -- none is found yet
 pub found_none : (members : List ℕ) (found : List VirtualRegister) → found ≡ [] → AreFound members 0 found
@@ -34,6 +35,7 @@ found_none members found e = subst (λ (vs : List VirtualRegister). AreFound mem
   members_are = λ v. (λ c. absurd (omega (arith, c.1)), λ a. absurd (omega (arith, a.1)));
   found_rise = λ i less. absurd (omega (arith, less));
   below = λ j m less low high. absurd (omega (arith, less));
+  packed = λ v c. absurd (omega (arith, c.1));
 })
 
 -- bits that are those of no virtual register
@@ -53,7 +55,15 @@ found_skip members k y found less was other h = let is : y ≡ get_or members k 
   );
   found_rise = h.found_rise;
   below = λ j m less low high. h.below j m less (omega (arith, low)) high;
+  packed = h.packed;
 }
+
+true_lt : (a b : ℕ) → a < b → nat_lt a b ≡ true
+true_lt a b l = grind (arith, nat_tests)
+
+-- a virtual register with small bits has a packed name
+packed_small : (v : VirtualRegister) → bits_of_vreg v < 4294967296 → is_packed_vreg v ≡ true
+packed_small v small = true_lt v.number 1073741824 (omega (arith, small))
 
 only_one : (x v : VirtualRegister) → Contains (x ∷ []) v → x ≡ v
 only_one x v (zero, less, at) = at
@@ -61,8 +71,8 @@ only_one x v (suc k, less, at) = absurd (omega arith)
 
 -- bits of one
 pub found_more : (members : List ℕ) (k y : ℕ) (x : VirtualRegister) (found new : List VirtualRegister) → IsStrictlyIncreasing members → k < length members →
-    y ≡ get_or members k y → bits_of_vreg x ≡ y → new ≡ found ++ (x ∷ []) → AreFound members k found → AreFound members (k + 1) new
-found_more members k y x found new rise less was bits e h = subst (λ (vs : List VirtualRegister). AreFound members (k + 1) vs) (sym e) (record {
+    y ≡ get_or members k y → bits_of_vreg x ≡ y → y < 4294967296 → new ≡ found ++ (x ∷ []) → AreFound members k found → AreFound members (k + 1) new
+found_more members k y x found new rise less was bits small e h = subst (λ (vs : List VirtualRegister). AreFound members (k + 1) vs) (sym e) (record {
   members_are = λ v. (
     λ c. there v (Contains-append_cases found (x ∷ []) v c),
     λ a. elim (cases_lt a.0 k) [
@@ -77,6 +87,7 @@ found_more members k y x found new rise less was bits e h = subst (λ (vs : List
   );
   found_rise = λ i l. rises i (omega (arith, l, long));
   below = λ j m l low high. under j m (omega (arith, l, length-append found (x ∷ []))) low high;
+  packed = λ v c. both v (Contains-append_cases found (x ∷ []) v c);
 })
   where
     is : y ≡ get_or members k 0
@@ -85,6 +96,10 @@ found_more members k y x found new rise less was bits e h = subst (λ (vs : List
     there : (v : VirtualRegister) → Contains found v ⊎ Contains (x ∷ []) v → IsAmong members (k + 1) (bits_of_vreg v)
     there v (inl c) = (let a = (h.members_are v).0 c in (a.0, omega (arith, a.1), a.2))
     there v (inr c) = (k, omega arith, sym is ∙ sym bits ∙ ap bits_of_vreg (only_one x v c))
+
+    both : (v : VirtualRegister) → Contains found v ⊎ Contains (x ∷ []) v → is_packed_vreg v ≡ true
+    both v (inl c) = h.packed v c
+    both v (inr c) = subst (λ (w : VirtualRegister). is_packed_vreg w ≡ true) (only_one x v c) (packed_small x (omega (arith, bits, small)))
 
     whole : map bits_of_vreg (found ++ (x ∷ [])) ≡ map bits_of_vreg found ++ (bits_of_vreg x ∷ [])
     whole = map-append bits_of_vreg found (x ∷ [])
@@ -129,50 +144,32 @@ found_more members k y x found new rise less was bits e h = subst (λ (vs : List
       | inr g ↦ (let p = last j (omega (arith, l, g)) in let r = rising members rise k m (omega (arith, low)) high in omega (arith, p, r))
     ]
 
-left_true : (a b : Bool) → (a && b) ≡ true → a ≡ true
-left_true true b e = refl
-left_true false b e = absurd cc
-
 right_true : (a b : Bool) → (a && b) ≡ true → b ≡ true
 right_true true b e = e
 right_true false b e = absurd cc
 
-lt_true : (a b : ℕ) → nat_lt a b ≡ true → a < b
-lt_true a b e = grind (arith, nat_tests)
-
-true_lt : (a b : ℕ) → a < b → nat_lt a b ≡ true
-true_lt a b l = grind (arith, nat_tests)
-
--- a virtual register that is held has a packed name
-held_packed : (t : Holding) (i : ℕ) (v : VirtualRegister) → holds_now t i (bits_of_vreg v) ≡ true → is_packed_vreg v ≡ true
-held_packed t i v e =
-    let small : bits_of_vreg v < 4294967296 = lt_true _ _ (left_true _ _ e) in
-    true_lt v.number 1073741824 (omega (arith, small))
-
 -- what a listed place holds
-pub holds_at : (t : Holding) (p : Place) (i : ℕ) (v : VirtualRegister) → place_in t.places p ≡ Some i → is_packed p ≡ true → is_packed_vreg v ≡ true →
-    holds_now t i (bits_of_vreg v) ≡ facts_now t p v
+pub holds_at : (t : Showing) (p : Place) (i : ℕ) (v : VirtualRegister) → place_in t.places p ≡ Some i → is_packed p ≡ true → is_packed_vreg v ≡ true →
+    shows_now t i (bits_of_vreg v) ≡ facts_now t p v
 holds_at t p i v at packed pv =
-    sym (facts-at t.places (holds_now t) p v (Some i) at ∙ ap (λ b. b && (is_packed_vreg v && holds_now t i (bits_of_vreg v))) packed
-    ∙ ap (λ b. b && holds_now t i (bits_of_vreg v)) pv)
+    sym (facts-at t.places (shows_now t) p v (Some i) at ∙ ap (λ b. b && (is_packed_vreg v && shows_now t i (bits_of_vreg v))) packed
+    ∙ ap (λ b. b && shows_now t i (bits_of_vreg v)) pv)
 
--- the same, of any virtual register
-fact_at : (t : Holding) (p : Place) (i : ℕ) (v : VirtualRegister) → place_in t.places p ≡ Some i → is_packed p ≡ true →
-    (holds_now t i (bits_of_vreg v) ≡ true) ↔ (facts_now t p v ≡ true)
-fact_at t p i v at packed = (
-  λ e. sym (holds_at t p i v at packed (held_packed t i v e)) ∙ e,
-  λ e. right_true _ _ (right_true _ _ (sym (facts-at t.places (holds_now t) p v (Some i) at) ∙ e)),
-)
+-- what is a fact is shown
+shown_of : (t : Showing) (p : Place) (i : ℕ) (v : VirtualRegister) → place_in t.places p ≡ Some i → facts_now t p v ≡ true →
+    shows_now t i (bits_of_vreg v) ≡ true
+shown_of t p i v at e = right_true _ _ (right_true _ _ (sym (facts-at t.places (shows_now t) p v (Some i) at) ∙ e))
 
 -- all are found
-pub found_all : (t : Holding) (p : Place) (i : ℕ) (members : List ℕ) (k : ℕ) (found : List VirtualRegister) → place_in t.places p ≡ Some i →
-    is_packed p ≡ true → ((y : ℕ) → Contains members y ↔ (holds_now t i y ≡ true)) → length members ≤ k → k ≤ length members → AreFound members k found →
+pub found_all : (t : Showing) (p : Place) (i : ℕ) (members : List ℕ) (k : ℕ) (found : List VirtualRegister) → place_in t.places p ≡ Some i →
+    is_packed p ≡ true → ((y : ℕ) → Contains members y ↔ (shows_now t i y ≡ true)) → length members ≤ k → k ≤ length members → AreFound members k found →
     AreVRegsInValue (λ v. facts_now t p v ≡ true) found
 found_all t p i members k found at packed listed long short h = record {
   members = λ v. (
     λ c. let a = (h.members_are v).0 c in
-        (fact_at t p i v at packed).0 ((listed (bits_of_vreg v)).0 (a.0, omega (arith, a.1, short), any a.0 (bits_of_vreg v) (omega (arith, a.1, short)) a.2)),
-    λ e. let c = (listed (bits_of_vreg v)).1 ((fact_at t p i v at packed).1 e) in
+        sym (holds_at t p i v at packed (h.packed v c))
+        ∙ (listed (bits_of_vreg v)).0 (a.0, omega (arith, a.1, short), any a.0 (bits_of_vreg v) (omega (arith, a.1, short)) a.2),
+    λ e. let c = (listed (bits_of_vreg v)).1 (shown_of t p i v at e) in
         (h.members_are v).1 (c.0, omega (arith, c.1, long), back c.0 (bits_of_vreg v) c.1 c.2),
   );
   rising = h.found_rise;
@@ -190,10 +187,10 @@ found_all t p i members k found at packed listed long short h = record {
     back n y l e = any_in members n 0 y l ∙ e
 
 -- a place that isn't listed holds nothing
-pub found_nowhere : (t : Holding) (p : Place) (found : List VirtualRegister) → place_in t.places p ≡ None → found ≡ [] →
+pub found_nowhere : (t : Showing) (p : Place) (found : List VirtualRegister) → place_in t.places p ≡ None → found ≡ [] →
     AreVRegsInValue (λ v. facts_now t p v ≡ true) found
 found_nowhere t p found at e = subst (λ (vs : List VirtualRegister). AreVRegsInValue (λ v. facts_now t p v ≡ true) vs) (sym e) (record {
-  members = λ v. (λ c. absurd (omega (arith, c.1)), λ h. absurd (both _ h (unlisted-holds t.places (holds_now t) p v at)));
+  members = λ v. (λ c. absurd (omega (arith, c.1)), λ h. absurd (both _ h (unlisted-holds t.places (shows_now t) p v at)));
   rising = λ i less. absurd (omega (arith, less));
 })
   where

@@ -7,8 +7,8 @@ use Rattle.regalloc2_function.specs.Views.{move_of}
 use Rattle.regalloc2_checker.specs.declared.listing.Listed.{Listed}
 
 -- an output's moves and places, by instructions
-pub record IsListing {A : Type 0} (f : FunctionValue) (o : OutputValue) (ls : List (Listed A)) : Type 0 where
+pub record IsListing (f : FunctionValue) (o : OutputValue) (ls : List Listed) : Type 0 where
   pub size : length ls ≡ length f.insts
-  pub moves : (b i : ℕ) (d : Listed A) → b < length f.blocks → (block_at f b).range.first ≤ i → i < (block_at f b).range.end →
-      map move_of (get_or ls i d).moves.items ≡ moves_at f o (record { block = b; inst = i })
-  pub places : (i : ℕ) (d : Listed A) → i < length f.insts → (get_or ls i d).places.items ≡ allocs_of o i
+  pub moves : (b i : ℕ) (d : Listed) → b < length f.blocks → (block_at f b).range.first ≤ i → i < (block_at f b).range.end →
+      map move_of (get_or ls i d).moves.now ≡ moves_at f o (record { block = b; inst = i })
+  pub places : (i : ℕ) (d : Listed) → i < length f.insts → (get_or ls i d).places.now ≡ allocs_of o i

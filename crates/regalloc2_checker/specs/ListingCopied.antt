@@ -8,18 +8,28 @@ use Rattle.regalloc2_function.specs.Views.{move_of}
 use Rattle.regalloc2_function.specs.declared.listing.Edit.{Edit}
 use Rattle.regalloc2_checker.specs.declared.listing.Listed.{Listed}
 
+-- so many edits are before a point
+abbrev pub ArePassed : List (ℕ × Edit) → ℕ → ℕ → Type 0
+ArePassed edits n point = (k : ℕ) (d : ℕ × Edit) → k < n → (get_or edits k d).0 < point
+
+-- so many are, and no others
+pub record IsSplit (edits : List (ℕ × Edit)) (n point : ℕ) : Type 0 where
+  pub within : n ≤ length edits
+  pub passed : ArePassed edits n point
+  pub left : (k : ℕ) (d : ℕ × Edit) → n ≤ k → k < length edits → point ≤ (get_or edits k d).0
+
 -- one instruction more is listed
-pub record IsAdded {A : Type 0} (old new : List (Listed A)) (moves : List Edit) (places : List Place) : Type 0 where
-  pub last : Listed A
+pub record IsAdded (old new : List Listed) (moves : List Edit) (places : List Place) : Type 0 where
+  pub last : Listed
   pub whole : new ≡ old ++ (last ∷ [])
-  pub moves_are : last.moves.items ≡ moves
-  pub places_are : last.places.items ≡ places
+  pub moves_are : last.moves.now ≡ moves
+  pub places_are : last.places.now ≡ places
 
 -- the instructions of the blocks before one are listed
-pub record IsListedBefore {A : Type 0} (f : FunctionValue) (o : OutputValue) (b : ℕ) (ls : List (Listed A)) : Type 0 where
+pub record IsListedBefore (f : FunctionValue) (o : OutputValue) (b : ℕ) (ls : List Listed) : Type 0 where
   pub none : b ≡ 0 → length ls ≡ 0
   pub size : (c : ℕ) → c + 1 ≡ b → length ls ≡ (block_at f c).range.end
   pub within : (c : ℕ) → c < b → (block_at f c).range.end ≤ length ls
-  pub moves : (c i : ℕ) (d : Listed A) → c < b → (block_at f c).range.first ≤ i → i < (block_at f c).range.end →
-      map move_of (get_or ls i d).moves.items ≡ moves_at f o (record { block = c; inst = i })
-  pub places : (i : ℕ) (d : Listed A) → i < length ls → (get_or ls i d).places.items ≡ allocs_of o i
+  pub moves : (c i : ℕ) (d : Listed) → c < b → (block_at f c).range.first ≤ i → i < (block_at f c).range.end →
+      map move_of (get_or ls i d).moves.now ≡ moves_at f o (record { block = c; inst = i })
+  pub places : (i : ℕ) (d : Listed) → i < length ls → (get_or ls i d).places.now ≡ allocs_of o i

@@ -6,7 +6,7 @@ use Rattle.regalloc2_names.specs.Place.{Place}
 use Rattle.regalloc2_function.specs.FunctionValue.{FunctionValue, block_at}
 use Rattle.regalloc2_function.specs.OutputValue.{OutputValue}
 use Rattle.regalloc2_function.specs.Path.{ToSuccessor, first_of}
-use Rattle.regalloc2_checker_tables.specs.Holding.{Holding, count_of}
+use Rattle.regalloc2_checker_tables.specs.Showing.{Showing, table_count}
 use Rattle.regalloc2_checker.specs.Facts.{Facts, facts_over_edge}
 use Rattle.regalloc2_checker.specs.Fixpoint.{facts_within}
 use Rattle.regalloc2_checker.specs.Tables.{BlockView, view_at, IsMeet, IsSound, EdgesSolved, BlockSolved}
@@ -72,7 +72,7 @@ pub record IsUnderWay (f : FunctionValue) (o : OutputValue) (t : List BlockView)
   pub reached : AreReached t entries
 
 -- what an analysis has is of one function: a table for each block and one beside them
-pub record AreSized (f : FunctionValue) (values : Holding) (rs ms : List Bool) : Type 0 where
+pub record AreSized (f : FunctionValue) (values : Showing) (rs ms : List Bool) : Type 0 where
   pub reached : length rs ≡ length f.blocks
-  pub count : count_of values ≡ length f.blocks + 1
+  pub count : table_count values ≡ length f.blocks + 1
   pub marks : length ms ≡ length f.blocks

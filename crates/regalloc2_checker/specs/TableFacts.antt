@@ -10,7 +10,7 @@ use Rattle.regalloc2_names.specs.PlaceBits.{bits_of_place, place_of_bits}
 use Rattle.regalloc2_function.specs.FunctionValue.{FunctionValue, block_at, inst_at}
 use Rattle.regalloc2_function.specs.OutputValue.{OutputValue}
 use Rattle.regalloc2_function.specs.SourceRun.{arguments_at}
-use Rattle.regalloc2_checker_tables.specs.Holding.{Holding, holds_now, holds_in}
+use Rattle.regalloc2_checker_tables.specs.Showing.{Showing, shows_now, shows_in}
 use Rattle.regalloc2_checker.specs.Facts.{Facts}
 use Rattle.regalloc2_checker.specs.NamedPlaces.{named, bits_unless_missing}
 
@@ -40,11 +40,11 @@ unfoldable pub facts_in : List ℕ → (ℕ → ℕ → Bool) → Facts
 facts_in places has p v = is_packed p && (is_packed_vreg v && held_at (place_in places p) has (bits_of_vreg v))
 
 -- the facts of the table that is worked on, and of one by number
-abbrev pub facts_now : Holding → Facts
-facts_now t = facts_in t.places (holds_now t)
+abbrev pub facts_now : Showing → Facts
+facts_now t = facts_in t.places (shows_now t)
 
-abbrev pub facts_table : Holding → ℕ → Facts
-facts_table t k = facts_in t.places (holds_in t k)
+abbrev pub facts_table : Showing → ℕ → Facts
+facts_table t k = facts_in t.places (shows_in t k)
 
 -- no missing place is listed
 abbrev pub IsMissingUnlisted : List ℕ → Type 0
@@ -70,6 +70,6 @@ pub record AreNamedVRegs (f : FunctionValue) (vregs : List ℕ) : Type 0 where
   pub arguments : (b k : ℕ) → b < length f.blocks → k < length (block_at f b).succs → All (IsListedVReg vregs) (arguments_at f b k)
 
 -- tables list all of these
-pub record AreNamed (f : FunctionValue) (o : OutputValue) (t : Holding) : Type 0 where
+pub record AreNamed (f : FunctionValue) (o : OutputValue) (t : Showing) : Type 0 where
   pub places : AreNamedPlaces f o t.places
   pub vregs : AreNamedVRegs f t.vregs

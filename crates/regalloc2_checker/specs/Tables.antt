@@ -5,7 +5,7 @@ use Rattle.regalloc2_names.specs.Place.{Place}
 use Rattle.regalloc2_function.specs.FunctionValue.{FunctionValue, block_at}
 use Rattle.regalloc2_function.specs.OutputValue.{OutputValue}
 use Rattle.regalloc2_function.specs.Path.{first_of}
-use Rattle.regalloc2_checker_tables.specs.Holding.{Holding, holds_in, count_of}
+use Rattle.regalloc2_checker_tables.specs.Showing.{Showing, shows_in, table_count}
 use Rattle.regalloc2_checker.specs.Facts.{Facts}
 use Rattle.regalloc2_checker.specs.Fixpoint.{IsReachedBlock, facts_passed, IsRefuted, IsFixpoint, IsRefutedElsewhere}
 use Rattle.regalloc2_checker.specs.TableFacts.{facts_table}
@@ -53,16 +53,16 @@ abbrev pub weight : BlockView → ℕ
 weight x = x.left
 
 -- the view of a table
-abbrev pub view_of : Holding → ℕ → Bool → BlockView
-view_of t k reached = record { reached = reached; facts = facts_table t k; left = left_in (length t.places) reached (holds_in t k) }
+abbrev pub view_of : Showing → ℕ → Bool → BlockView
+view_of t k reached = record { reached = reached; facts = facts_table t k; left = left_in (length t.places) reached (shows_in t k) }
 
 -- the views of tables from a number on
-unfoldable pub views_from : Holding → ℕ → List Bool → List BlockView
+unfoldable pub views_from : Showing → ℕ → List Bool → List BlockView
 views_from t k [] = []
 views_from t k (r ∷ rs) = view_of t k r ∷ views_from t (k + 1) rs
 
 -- each block's
-abbrev pub views : Holding → List Bool → List BlockView
+abbrev pub views : Showing → List Bool → List BlockView
 views t reached = views_from t 0 reached
 
 -- what is marked is reached, and what was dropped there fails on a path
@@ -111,7 +111,7 @@ pub record IsSolved (f : FunctionValue) (o : OutputValue) (t : List BlockView) :
   pub refuted : IsRefutedElsewhere f o (facts_at t)
 
 -- tables list what they listed before, and there are as many
-pub record AreAlike (old new : Holding) : Type 0 where
+pub record AreAlike (old new : Showing) : Type 0 where
   pub places : new.places ≡ old.places
   pub vregs : new.vregs ≡ old.vregs
-  pub count : count_of new ≡ count_of old
+  pub count : table_count new ≡ table_count old

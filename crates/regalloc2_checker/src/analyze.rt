@@ -5,7 +5,7 @@ ghost use Rattle.std.specs.BinaryHeap.{heap_items, heap_len};
 ghost use Rattle.regalloc2_function.specs.FunctionValue.{block_at};
 ghost use Rattle.regalloc2_function.specs.OutputValue.{OutputValue};
 ghost use Rattle.regalloc2_function.specs.WellFormed.{IsFramed};
-ghost use Rattle.regalloc2_checker_tables.specs.Holding.{count_of, holds_in};
+ghost use Rattle.regalloc2_checker_tables.specs.Showing.{table_count, shows_in};
 ghost use Rattle.regalloc2_checker.specs.Listing.{IsListing};
 ghost use Rattle.regalloc2_checker.specs.Propagation.{IsBlockEnd, IsPropagatedOver, IsQueue, AreReached, IsReady, IsUnderWay, AreSized};
 ghost use Rattle.regalloc2_checker.specs.TableFacts.{facts_now, facts_table, AreNamed, AreNamedVRegs};
@@ -15,7 +15,7 @@ use crate::listing::Listed;
 use crate::order::ranks;
 use crate::queue::Queue;
 use crate::transfer_block::{transfer_block, transfer_edge};
-use regalloc2_checker_tables::Tables;
+use regalloc2_checker_tables::PassingTables;
 use regalloc2_function::{Function, finds_earlier_writes};
 use regalloc2_index::Block;
 use std::alloc::{AllocError, Allocator};
@@ -25,19 +25,19 @@ use std::collections::BinaryHeap;
 /// changed since they were passed on.
 #[derive(Drop)]
 pub struct Analysis<A: Allocator> {
-    pub values: Tables<A>,
+    pub values: PassingTables<A>,
     pub reached: Vec<bool, A>,
     pub queue: Queue<A>,
 }
 
 /// Meets what a block has with what is worked on, and answers whether anything changed.
 fn update<A: Allocator + Copy>(
-    values: &mut Tables<A>,
+    values: &mut PassingTables<A>,
     reached: &mut Vec<bool, A>,
     target: usize,
 ) -> Result<bool, AllocError>
     requires target { target < length reached.old.items }
-    requires count { length reached.old.items ≤ count_of values.old }
+    requires count { length reached.old.items ≤ table_count values.old }
     ensures alike { OnOk result (AreAlike values.old values.new) }
     ensures long { OnOk result (length reached.new.items ≡ length reached.old.items) }
     ensures others { OnOk result ((k : ℕ) → k ≢ target → facts_table values.new k ≡ facts_table values.old k) }
@@ -127,7 +127,7 @@ fn propagate_edges<F: Function, A: Allocator + Copy>(
 fn propagate_block<F: Function, A: Allocator + Copy>(
     alloc: A,
     f: &F,
-    listing: &[Listed<A>],
+    listing: &[Listed<'_>],
     state: &mut Analysis<A>,
     block: Block,
 ) -> Result<(), AllocError>
@@ -186,11 +186,11 @@ fn one_mark<A: Allocator>(alloc: A, count: usize, at: usize) -> Result<Vec<bool,
 fn start<F: Function, A: Allocator + Copy>(
     alloc: A,
     f: &F,
-    values: Tables<A>,
+    values: PassingTables<A>,
 ) -> Result<Analysis<A>, AllocError>
     requires framed { IsFramed (F.function f.now) }
-    requires count { count_of values ≡ length (F.function f.now).blocks + 1 }
-    requires empty { (k i y : ℕ) → holds_in values k i y ≡ false }
+    requires count { table_count values ≡ length (F.function f.now).blocks + 1 }
+    requires empty { (k i y : ℕ) → shows_in values k i y ≡ false }
     ensures values { IfOk result (λ s. s.values ≡ values) }
     ensures sized { IfOk result (λ s. AreSized (F.function f.now) s.values s.reached.items s.queue.is_queued.items) }
     ensures on_way { IfOk result (λ s. (o : OutputValue) → IsUnderWay (F.function f.now) o (views s.values s.reached.items) s.queue.is_queued.items
@@ -215,15 +215,15 @@ fn start<F: Function, A: Allocator + Copy>(
 pub fn analyze<F: Function, A: Allocator + Copy>(
     alloc: A,
     f: &F,
-    listing: &[Listed<A>],
-    values: Tables<A>,
+    listing: &[Listed<'_>],
+    values: PassingTables<A>,
 ) -> Result<Analysis<A>, AllocError>
     ghost o: { OutputValue }
     requires listing { IsListing (F.function f.now) o listing.now }
     requires framed { IsFramed (F.function f.now) }
     requires named { AreNamed (F.function f.now) o values }
-    requires count { count_of values ≡ length (F.function f.now).blocks + 1 }
-    requires empty { (k i y : ℕ) → holds_in values k i y ≡ false }
+    requires count { table_count values ≡ length (F.function f.now).blocks + 1 }
+    requires empty { (k i y : ℕ) → shows_in values k i y ≡ false }
     ensures alike { IfOk result (λ s. AreAlike values s.values) }
     ensures long { IfOk result (λ s. length s.reached.items ≡ length (F.function f.now).blocks) }
     ensures solved { IfOk result (λ s. IsSolved (F.function f.now) o (views s.values s.reached.items)) }

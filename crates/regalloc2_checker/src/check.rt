@@ -12,7 +12,7 @@ ghost use Rattle.regalloc2_names.specs.Operand.{is_reading};
 ghost use Rattle.regalloc2_function.specs.Views.{move_of};
 ghost use Rattle.regalloc2_checker.specs.Facts.{facts_after};
 ghost use Rattle.regalloc2_checker.specs.CheckInputs.{AreStackSlots, IsKnown};
-ghost use Rattle.regalloc2_checker_tables.specs.Holding.{AreKeptTables};
+ghost use Rattle.regalloc2_checker_tables.specs.Showing.{AreTablesKept};
 ghost use Rattle.regalloc2_checker.specs.TableFacts.{facts_now, AreNamed};
 ghost use Rattle.regalloc2_checker.specs.Report.{IsValueFault, IsFineAt, IsFaultAt, IsJudged, AreMoveFaults, InstReport};
 ghost use Rattle.regalloc2_checker.specs.Listing.{IsListing};
@@ -23,7 +23,7 @@ use crate::errors::CheckerError;
 use crate::listing::Listed;
 use crate::transfer::{go_to_early, go_to_late, place_at};
 use crate::vregs_in::{holds, vregs_in};
-use regalloc2_checker_tables::Tables;
+use regalloc2_checker_tables::PassingTables;
 use regalloc2_function::{Edit, Function};
 use regalloc2_index::{Block, Inst};
 use regalloc2_names::{Allocation, Operand, OperandPos, PRegSet};
@@ -31,11 +31,11 @@ use std::alloc::{AllocError, Allocator};
 
 /// What an output is judged by: a function, the fixed stack slots of its machine, and what the output lists.
 #[derive(Drop)]
-pub struct Judging<'a, F: Function, A: Allocator> {
+pub struct Judging<'a, 'o, F: Function, A: Allocator> {
     pub alloc: A,
     pub f: &'a F,
     pub slots: PRegSet,
-    pub listing: &'a [Listed<A>],
+    pub listing: &'a [Listed<'o>],
 }
 
 /// An instruction's operands and their places.
@@ -49,7 +49,7 @@ struct Placed<'a> {
 /// What an operand that reads finds wrong with what its place holds.
 fn check_val<A: Allocator + Copy>(
     alloc: A,
-    values: &Tables<A>,
+    values: &PassingTables<A>,
     inst: Inst,
     op: Operand,
     place: Allocation,
@@ -82,7 +82,7 @@ fn check_val<A: Allocator + Copy>(
 /// The fault of the operand with an index, by what places hold.
 fn check_operand<A: Allocator + Copy>(
     alloc: A,
-    values: &Tables<A>,
+    values: &PassingTables<A>,
     slots: PRegSet,
     at: &Placed<'_>,
     k: usize,
@@ -111,7 +111,7 @@ fn check_operand<A: Allocator + Copy>(
 /// The first fault among the operands of a position, by what places hold there.
 fn check_position<A: Allocator + Copy>(
     alloc: A,
-    values: &Tables<A>,
+    values: &PassingTables<A>,
     slots: PRegSet,
     at: &Placed<'_>,
     position: OperandPos,
@@ -181,10 +181,10 @@ fn add<A: Allocator>(
 /// Adds the errors of an instruction: those of the moves before it, then the first of its early operands, then the first
 /// of its late ones. Goes on past it.
 pub fn check_inst<F: Function, A: Allocator + Copy>(
-    by: &Judging<'_, F, A>,
+    by: &Judging<'_, '_, F, A>,
     block: Block,
     inst: Inst,
-    values: &mut Tables<A>,
+    values: &mut PassingTables<A>,
     errors: &mut Vec<CheckerError<A>, A>,
 ) -> Result<(), AllocError>
     ghost o: { OutputValue }
@@ -194,7 +194,7 @@ pub fn check_inst<F: Function, A: Allocator + Copy>(
     requires first { (block_at (F.function by.now.f.now) block).range.first ≤ inst }
     requires end { inst < (block_at (F.function by.now.f.now) block).range.end }
     requires inst { inst < length (F.function by.now.f.now).insts }
-    ensures kept { OnOk result (AreKeptTables values.old values.new) }
+    ensures kept { OnOk result (AreTablesKept values.old values.new) }
     ensures now { OnOk result (facts_now values.new ≡ facts_after (F.function by.now.f.now) o (record { block = block; inst = inst }) (facts_now values.old)) }
     ensures judged { OnOk result ((env : MachineValue) → AreStackSlots env by.now.slots
         → IsKnown (F.function by.now.f.now) o (record { block = block; inst = inst }) (facts_now values.old)
@@ -205,8 +205,8 @@ pub fn check_inst<F: Function, A: Allocator + Copy>(
     let slots = by.slots;
     let listing = by.listing;
     let listed = &listing[inst.index()];
-    let moves = listed.moves.as_slice();
-    let places = listed.places.as_slice();
+    let moves = listed.moves;
+    let places = listed.places;
     let operands = f.inst_operands(inst);
     let at = Placed {
         inst,

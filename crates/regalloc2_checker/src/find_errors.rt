@@ -8,7 +8,7 @@ ghost use Rattle.regalloc2_function.specs.Views.{machine_of, output_of};
 ghost use Rattle.regalloc2_function.specs.WellFormed.{IsFramed};
 ghost use Rattle.regalloc2_checker.specs.Blocks.{IsBlockJudged};
 ghost use Rattle.regalloc2_checker.specs.CheckInputs.{AreStackSlots};
-ghost use Rattle.regalloc2_checker_tables.specs.Holding.{count_of, AreKeptTables};
+ghost use Rattle.regalloc2_checker_tables.specs.Showing.{table_count, AreTablesKept};
 ghost use Rattle.regalloc2_checker.specs.TableFacts.{facts_table, AreNamed};
 ghost use Rattle.regalloc2_checker.specs.Report.{IsReport};
 ghost use Rattle.regalloc2_checker.specs.Tables.{IsSolved, views};
@@ -18,10 +18,10 @@ use crate::analyze::analyze;
 use crate::check::{Judging, check_inst};
 use crate::constraints::stack_slots;
 use crate::errors::CheckerError;
-use crate::handle::handle_listing;
+use crate::handle::{handle_listing, handle_moves};
 use crate::listing::Listed;
 use crate::names::{named_places, named_vregs};
-use regalloc2_checker_tables::Tables;
+use regalloc2_checker_tables::PassingTables;
 use regalloc2_function::{Function, MachineEnv, Output, finds_earlier_writes};
 use regalloc2_index::{Block, Inst};
 use regalloc2_names::PRegSet;
@@ -29,9 +29,9 @@ use std::alloc::{AllocError, Allocator};
 
 /// Checks a block's instructions, from what holds at its beginning.
 fn check_block<F: Function, A: Allocator + Copy>(
-    by: &Judging<'_, F, A>,
+    by: &Judging<'_, '_, F, A>,
     block: Block,
-    values: &mut Tables<A>,
+    values: &mut PassingTables<A>,
     errors: &mut Vec<CheckerError<A>, A>,
 ) -> Result<(), AllocError>
     ghost o: { OutputValue }
@@ -39,8 +39,8 @@ fn check_block<F: Function, A: Allocator + Copy>(
     requires framed { IsFramed (F.function by.now.f.now) }
     requires named { AreNamed (F.function by.now.f.now) o values.old }
     requires block { block < length (F.function by.now.f.now).blocks }
-    requires table { block < count_of values.old }
-    ensures kept { OnOk result (AreKeptTables values.old values.new) }
+    requires table { block < table_count values.old }
+    ensures kept { OnOk result (AreTablesKept values.old values.new) }
     ensures judged { OnOk result ((env : MachineValue) → AreStackSlots env by.now.slots →
         IsBlockJudged (F.function by.now.f.now) env o block (facts_table values.old block) errors.old.items errors.new.items) }
 {
@@ -58,16 +58,16 @@ fn check_all<F: Function, A: Allocator + Copy>(
     alloc: A,
     f: &F,
     slots: PRegSet,
-    listing: &[Listed<A>],
+    listing: &[Listed<'_>],
     reached: &[bool],
-    values: &mut Tables<A>,
+    values: &mut PassingTables<A>,
 ) -> Result<Vec<CheckerError<A>, A>, AllocError>
     ghost o: { OutputValue }
     requires listing { IsListing (F.function f.now) o listing.now }
     requires framed { IsFramed (F.function f.now) }
     requires named { AreNamed (F.function f.now) o values.old }
     requires size { length reached.now ≡ length (F.function f.now).blocks }
-    requires count { count_of values.old ≡ length (F.function f.now).blocks + 1 }
+    requires count { table_count values.old ≡ length (F.function f.now).blocks + 1 }
     requires solved { IsSolved (F.function f.now) o (views values.old reached.now) }
     ensures { IfOk result (λ r. (env : MachineValue) → AreStackSlots env slots → IsReport (F.function f.now) env o r.items) }
 {
@@ -101,10 +101,11 @@ pub fn find_errors<F: Function, A: Allocator + Copy, B: Allocator, C: Allocator>
     requires in_order { IsInOrder (F.function f.now) (output_of out.now) }
     ensures { IfOk result (λ r. IsReport (F.function f.now) (machine_of env.now) o r.items) }
 {
-    let listing = handle_listing(alloc, f, out)?;
+    let moves = handle_moves(alloc, out)?;
+    let listing = handle_listing(alloc, f, out, &moves)?;
     let places = named_places(alloc, f, out)?;
     let vregs = named_vregs(alloc, f)?;
-    let tables = Tables::new(alloc, f.num_blocks() + 1, places, vregs)?;
+    let tables = PassingTables::new(alloc, f.num_blocks() + 1, places, vregs)?;
     let mut state = analyze(alloc, f, &listing, tables)?;
     let errors = check_all(
         alloc,

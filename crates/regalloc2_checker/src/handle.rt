@@ -1,75 +1,116 @@
-//! A copy of what an output lists.
+//! What an output lists, and a copy of an output.
 
-ghost use Rattle.std.specs.Prelude.{◌≡◌, ◌<◌, ◌+◌, OnOk, IfOk, length};
+ghost use Rattle.std.specs.Prelude.{◌≡◌, ◌<◌, ◌≤◌, ◌+◌, OnOk, IfOk, length, map};
+ghost use Rattle.std.specs.List.Sorted.{IsNonDecreasingBy};
+ghost use Rattle.regalloc2_names.specs.Point.{before};
 ghost use Rattle.regalloc2_function.specs.OutputValue.{OffsetsInOrder, IsInOrder, allocs_of};
 ghost use Rattle.regalloc2_function.specs.Views.{output_of};
 ghost use Rattle.regalloc2_function.specs.WellFormed.{IsFramed};
-ghost use Rattle.regalloc2_checker.specs.ListingCopied.{IsAdded, IsListedBefore};
+ghost use Rattle.regalloc2_checker.specs.ListingCopied.{ArePassed, IsSplit, IsAdded, IsListedBefore};
 ghost use Rattle.regalloc2_checker.specs.Listing.{IsListing};
 
 use crate::listing::Listed;
-use regalloc2_function::{Edit, Function, InstOrEdit, Output};
+use regalloc2_function::{Edit, Function, Output};
 use regalloc2_index::{Block, Inst};
+use regalloc2_names::ProgPoint;
 use std::alloc::{AllocError, Allocator};
 
-/// Lists an instruction with the moves before it, and the places of its operands.
-fn handle_inst<A: Allocator + Copy, B: Allocator>(
+/// The moves of an output, without their points.
+pub fn handle_moves<A: Allocator, B: Allocator>(
     alloc: A,
     out: &Output<B>,
+) -> Result<Vec<Edit, A>, AllocError>
+    ensures { IfOk result (λ r. r.items ≡ map (λ e. e.1) out.now.edits.items) }
+{
+    let edits = out.edits.as_slice();
+    let mut moves = Vec::with_capacity(alloc, edits.len())?;
+    for k in 0..edits.len() {
+        moves.push(edits[k].1)?;
+    }
+    Ok(moves)
+}
+
+/// The first edit from a position on that isn't before a point.
+fn first_from(edits: &[(ProgPoint, Edit)], from: usize, point: u64) -> usize
+    requires sorted { IsNonDecreasingBy (λ e. e.0) edits.now }
+    requires from { from ≤ length edits.now }
+    requires passed { ArePassed edits.now from point }
+    ensures from { from ≤ result }
+    ensures split { IsSplit edits.now result point }
+{
+    for k in from..edits.len() {
+        if u64::from(edits[k].0.to_index()) >= point {
+            return k;
+        }
+    }
+    edits.len()
+}
+
+/// Lists an instruction with the moves before it, and the places of its operands.
+fn handle_inst<'a, A: Allocator, B: Allocator>(
+    out: &'a Output<B>,
     inst: Inst,
-    moves: Vec<Edit, A>,
-    listing: &mut Vec<Listed<A>, A>,
+    moves: &'a [Edit],
+    listing: &mut Vec<Listed<'a>, A>,
 ) -> Result<(), AllocError>
     requires in_order { OffsetsInOrder (output_of out.now) }
     requires inst { inst < length (output_of out.now).offsets }
-    ensures { OnOk result (IsAdded listing.old.items listing.new.items moves.items (allocs_of (output_of out.now) inst)) }
+    ensures { OnOk result (IsAdded listing.old.items listing.new.items moves.now (allocs_of (output_of out.now) inst)) }
 {
-    let mut places = Vec::new(alloc);
-    places.extend_from_slice(out.inst_allocs(inst))?;
+    let places = out.inst_allocs(inst);
     listing.push(Listed { moves, places })?;
     Ok(())
 }
 
-/// Lists a block's instructions, after those of the blocks before.
-fn handle_block<F: Function, A: Allocator + Copy, B: Allocator>(
-    alloc: A,
+/// Lists a block's instructions, after those of the blocks before. Answers how many edits are passed then.
+fn handle_block<'a, F: Function, A: Allocator, B: Allocator>(
     f: &F,
-    out: &Output<B>,
+    out: &'a Output<B>,
+    moves: &'a [Edit],
     block: Block,
-    listing: &mut Vec<Listed<A>, A>,
-) -> Result<(), AllocError>
+    passed: usize,
+    listing: &mut Vec<Listed<'a>, A>,
+) -> Result<usize, AllocError>
     requires framed { IsFramed (F.function f.now) }
     requires in_order { IsInOrder (F.function f.now) (output_of out.now) }
+    requires moves { moves.now ≡ map (λ e. e.1) out.now.edits.items }
     requires block { block < length (F.function f.now).blocks }
+    requires within { passed ≤ length out.now.edits.items }
+    requires passed { ArePassed out.now.edits.items passed (before (length listing.old.items)) }
     requires before { IsListedBefore (F.function f.now) (output_of out.now) block listing.old.items }
-    ensures { OnOk result (IsListedBefore (F.function f.now) (output_of out.now) (block + 1) listing.new.items) }
+    ensures within { IfOk result (λ r. r ≤ length out.now.edits.items) }
+    ensures passed { IfOk result (λ r. ArePassed out.now.edits.items r (before (length listing.new.items))) }
+    ensures listed { OnOk result (IsListedBefore (F.function f.now) (output_of out.now) (block + 1) listing.new.items) }
 {
-    let mut moves = Vec::new(alloc);
-    for item in out.block_insts_and_edits(f, block) {
-        match &item {
-            InstOrEdit::Edit(edit) => moves.push(**edit)?,
-            InstOrEdit::Inst(inst) => {
-                handle_inst(alloc, out, *inst, moves, listing)?;
-                moves = Vec::new(alloc);
-            }
-        }
+    let edits = out.edits.as_slice();
+    let range = f.block_insns(block);
+    let first = range.first();
+    let mut from = first_from(edits, passed, 2 * u64::from(first.0));
+    for i in first.index()..range.end().index() {
+        let inst = Inst::new(i);
+        let end = first_from(edits, from, 2 * u64::from(inst.0) + 1);
+        handle_inst(out, inst, &moves[from..end], listing)?;
+        from = end;
     }
-    Ok(())
+    Ok(from)
 }
 
-/// Copies the listing of each block, with the places of the operands.
-pub fn handle_listing<F: Function, A: Allocator + Copy, B: Allocator>(
+/// Lists the instructions of each block. The moves are those of the output, without their points.
+pub fn handle_listing<'a, F: Function, A: Allocator + Copy, B: Allocator>(
     alloc: A,
     f: &F,
-    out: &Output<B>,
-) -> Result<Vec<Listed<A>, A>, AllocError>
+    out: &'a Output<B>,
+    moves: &'a [Edit],
+) -> Result<Vec<Listed<'a>, A>, AllocError>
     requires framed { IsFramed (F.function f.now) }
     requires in_order { IsInOrder (F.function f.now) (output_of out.now) }
+    requires moves { moves.now ≡ map (λ e. e.1) out.now.edits.items }
     ensures { IfOk result (λ r. IsListing (F.function f.now) (output_of out.now) r.items) }
 {
     let mut listing = Vec::with_capacity(alloc, f.num_insts())?;
+    let mut passed = 0;
     for b in 0..f.num_blocks() {
-        handle_block(alloc, f, out, Block::new(b), &mut listing)?;
+        passed = handle_block(f, out, moves, Block::new(b), passed, &mut listing)?;
     }
     Ok(listing)
 }

@@ -2,11 +2,10 @@
 
 use regalloc2_function::Edit;
 use regalloc2_names::Allocation;
-use std::alloc::Allocator;
 
 /// The moves that are listed before an instruction, and the places of its operands.
-#[derive(Drop)]
-pub struct Listed<A: Allocator> {
-    pub moves: Vec<Edit, A>,
-    pub places: Vec<Allocation, A>,
+#[derive(Clone, Copy)]
+pub struct Listed<'a> {
+    pub moves: &'a [Edit],
+    pub places: &'a [Allocation],
 }

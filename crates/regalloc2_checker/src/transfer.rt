@@ -1,16 +1,17 @@
 //! One instruction, as the function's run and the allocated run make it.
 
-ghost use Rattle.std.specs.Prelude.{◌≡◌, ◌<◌, ℕ, OnOk, IfOk, All, true, false, map, not, nat_lt, ◌&&◌, if◌then◌else◌, length};
+ghost use Rattle.std.specs.Prelude.{◌≡◌, ◌<◌, ◌∷◌, [], ℕ, OnOk, IfOk, All, true, false, map, not, nat_lt, ◌&&◌, if◌then◌else◌, length};
 ghost use Rattle.regalloc2_names.specs.Operand.{is_def, is_late};
 ghost use Rattle.regalloc2_names.specs.RegisterBits.{bits_of_vreg};
 ghost use Rattle.regalloc2_function.specs.OutputValue.{place_at};
 ghost use Rattle.regalloc2_function.specs.Views.{move_of};
-ghost use Rattle.regalloc2_checker_tables.specs.Holding.{holds_now, is_in, AreKeptTables};
+ghost use Rattle.regalloc2_checker_tables.specs.Holding.{is_in};
+ghost use Rattle.regalloc2_checker_tables.specs.Showing.{shows_now, AreTablesKept};
 ghost use Rattle.regalloc2_checker.specs.Facts.{placed, defined, facts_after_moves, facts_after_early_defs, facts_after_defs, facts_after_clobbers};
 ghost use Rattle.regalloc2_checker.specs.TableFacts.{is_packed, is_packed_vreg, place_in, vreg_in, facts_now, IsMissingUnlisted, IsListed, IsListedVReg};
 ghost use Rattle.regalloc2_checker.specs.Renamed.{facts_renamed, HoldersAre, AreHoldersOf, given_to};
 
-use regalloc2_checker_tables::Tables;
+use regalloc2_checker_tables::PassingTables;
 use regalloc2_function::Edit;
 use regalloc2_names::{Allocation, Operand, PRegSet, VReg};
 use std::alloc::{AllocError, Allocator};
@@ -27,7 +28,7 @@ pub fn place_at(places: &[Allocation], k: usize) -> Allocation
 }
 
 /// Where a place is listed.
-pub fn position<A: Allocator + Copy>(values: &Tables<A>, place: Allocation) -> Option<usize>
+pub fn position<A: Allocator + Copy>(values: &PassingTables<A>, place: Allocation) -> Option<usize>
     ensures position { result ≡ place_in values.now.places place }
     ensures packed { is_packed place ≡ true }
 {
@@ -35,7 +36,7 @@ pub fn position<A: Allocator + Copy>(values: &Tables<A>, place: Allocation) -> O
 }
 
 /// Where a virtual register is listed.
-fn vreg_position<A: Allocator + Copy>(values: &Tables<A>, vreg: VReg) -> Option<usize>
+fn vreg_position<A: Allocator + Copy>(values: &PassingTables<A>, vreg: VReg) -> Option<usize>
     ensures position { result ≡ vreg_in values.now.vregs vreg }
     ensures packed { is_packed_vreg vreg ≡ true }
 {
@@ -44,13 +45,13 @@ fn vreg_position<A: Allocator + Copy>(values: &Tables<A>, vreg: VReg) -> Option<
 
 /// Makes a move.
 fn make_move<A: Allocator + Copy>(
-    values: &mut Tables<A>,
+    values: &mut PassingTables<A>,
     from: Allocation,
     to: Allocation,
 ) -> Result<(), AllocError>
     requires missing { IsMissingUnlisted values.old.places }
     requires listed { IsListed values.old.places to }
-    ensures kept { OnOk result (AreKeptTables values.old values.new) }
+    ensures kept { OnOk result (AreTablesKept values.old values.new) }
     ensures now { OnOk result (facts_now values.new ≡ placed to (facts_now values.old from) (facts_now values.old)) }
 {
     let Some(target) = position(values, to) else {
@@ -65,10 +66,13 @@ fn make_move<A: Allocator + Copy>(
 }
 
 /// Makes the moves, one by one.
-fn make_moves<A: Allocator + Copy>(values: &mut Tables<A>, moves: &[Edit]) -> Result<(), AllocError>
+fn make_moves<A: Allocator + Copy>(
+    values: &mut PassingTables<A>,
+    moves: &[Edit],
+) -> Result<(), AllocError>
     requires missing { IsMissingUnlisted values.old.places }
     requires listed { All (λ m. IsListed values.old.places m.to) (map move_of moves.now) }
-    ensures kept { OnOk result (AreKeptTables values.old values.new) }
+    ensures kept { OnOk result (AreTablesKept values.old values.new) }
     ensures now { OnOk result (facts_now values.new ≡ facts_after_moves (map move_of moves.now) (facts_now values.old)) }
 {
     for k in 0..moves.len() {
@@ -79,9 +83,9 @@ fn make_moves<A: Allocator + Copy>(values: &mut Tables<A>, moves: &[Edit]) -> Re
 }
 
 /// Empties a place.
-fn clear_place<A: Allocator + Copy>(values: &mut Tables<A>, place: Allocation)
+fn clear_place<A: Allocator + Copy>(values: &mut PassingTables<A>, place: Allocation)
     requires { IsMissingUnlisted values.old.places }
-    ensures kept { AreKeptTables values.old values.new }
+    ensures kept { AreTablesKept values.old values.new }
     ensures now { facts_now values.new ≡ placed place (λ v. false) (facts_now values.old) }
 {
     if let Some(place) = position(values, place) {
@@ -90,9 +94,13 @@ fn clear_place<A: Allocator + Copy>(values: &mut Tables<A>, place: Allocation)
 }
 
 /// Empties an operand's place, if it is an early definition.
-fn clear_early_def<A: Allocator + Copy>(values: &mut Tables<A>, place: Allocation, operand: Operand)
+fn clear_early_def<A: Allocator + Copy>(
+    values: &mut PassingTables<A>,
+    place: Allocation,
+    operand: Operand,
+)
     requires { IsMissingUnlisted values.old.places }
-    ensures kept { AreKeptTables values.old values.new }
+    ensures kept { AreTablesKept values.old values.new }
     ensures now { facts_now values.new ≡ (if is_def operand.kind && not (is_late operand.position) then placed place (λ v. false) (facts_now values.old)
         else facts_now values.old) }
 {
@@ -107,12 +115,12 @@ fn clear_early_def<A: Allocator + Copy>(values: &mut Tables<A>, place: Allocatio
 
 /// Empties the places of an instruction's early definitions.
 fn clear_early_defs<A: Allocator + Copy>(
-    values: &mut Tables<A>,
+    values: &mut PassingTables<A>,
     places: &[Allocation],
     operands: &[Operand],
 )
     requires { IsMissingUnlisted values.old.places }
-    ensures kept { AreKeptTables values.old values.new }
+    ensures kept { AreTablesKept values.old values.new }
     ensures now { facts_now values.new ≡ facts_after_early_defs places.now 0 operands.now (facts_now values.old) }
 {
     for k in 0..operands.len() {
@@ -122,14 +130,14 @@ fn clear_early_defs<A: Allocator + Copy>(
 
 /// Writes a virtual register to a place.
 fn write_one<A: Allocator + Copy>(
-    values: &mut Tables<A>,
+    values: &mut PassingTables<A>,
     place: Allocation,
     vreg: VReg,
 ) -> Result<(), AllocError>
     requires missing { IsMissingUnlisted values.old.places }
     requires listed { IsListed values.old.places place }
     requires vreg { IsListedVReg values.old.vregs vreg }
-    ensures kept { OnOk result (AreKeptTables values.old values.new) }
+    ensures kept { OnOk result (AreTablesKept values.old values.new) }
     ensures now { OnOk result (facts_now values.new ≡ defined place vreg (facts_now values.old)) }
 {
     let Some(vreg) = vreg_position(values, vreg) else {
@@ -145,14 +153,14 @@ fn write_one<A: Allocator + Copy>(
 
 /// Writes what an operand defines, if it does.
 fn write_def<A: Allocator + Copy>(
-    values: &mut Tables<A>,
+    values: &mut PassingTables<A>,
     place: Allocation,
     operand: Operand,
 ) -> Result<(), AllocError>
     requires missing { IsMissingUnlisted values.old.places }
     requires listed { IsListed values.old.places place }
     requires vreg { IsListedVReg values.old.vregs operand.vreg }
-    ensures kept { OnOk result (AreKeptTables values.old values.new) }
+    ensures kept { OnOk result (AreTablesKept values.old values.new) }
     ensures now { OnOk result (facts_now values.new ≡ (if is_def operand.kind then defined place operand.vreg (facts_now values.old)
         else facts_now values.old)) }
 {
@@ -165,14 +173,14 @@ fn write_def<A: Allocator + Copy>(
 
 /// Writes an instruction's definitions, in operand order.
 fn write_defs<A: Allocator + Copy>(
-    values: &mut Tables<A>,
+    values: &mut PassingTables<A>,
     places: &[Allocation],
     operands: &[Operand],
 ) -> Result<(), AllocError>
     requires missing { IsMissingUnlisted values.old.places }
     requires listed { All (IsListed values.old.places) places.now }
     requires vregs { All (λ op. IsListedVReg values.old.vregs op.vreg) operands.now }
-    ensures kept { OnOk result (AreKeptTables values.old values.new) }
+    ensures kept { OnOk result (AreTablesKept values.old values.new) }
     ensures now { OnOk result (facts_now values.new ≡ facts_after_defs places.now 0 operands.now (facts_now values.old)) }
 {
     for k in 0..operands.len() {
@@ -182,9 +190,9 @@ fn write_defs<A: Allocator + Copy>(
 }
 
 /// Empties the clobbered registers.
-fn clear_clobbers<A: Allocator + Copy>(values: &mut Tables<A>, clobbers: PRegSet)
+fn clear_clobbers<A: Allocator + Copy>(values: &mut PassingTables<A>, clobbers: PRegSet)
     requires { IsMissingUnlisted values.old.places }
-    ensures kept { AreKeptTables values.old values.new }
+    ensures kept { AreTablesKept values.old values.new }
     ensures now { facts_now values.new ≡ facts_after_clobbers clobbers (facts_now values.old) }
 {
     for reg in clobbers {
@@ -195,14 +203,14 @@ fn clear_clobbers<A: Allocator + Copy>(values: &mut Tables<A>, clobbers: PRegSet
 /// Goes on to where an instruction's early uses are read: the moves before it are made, and the places of its early
 /// definitions are emptied.
 pub fn go_to_early<A: Allocator + Copy>(
-    values: &mut Tables<A>,
+    values: &mut PassingTables<A>,
     moves: &[Edit],
     places: &[Allocation],
     operands: &[Operand],
 ) -> Result<(), AllocError>
     requires missing { IsMissingUnlisted values.old.places }
     requires listed { All (λ m. IsListed values.old.places m.to) (map move_of moves.now) }
-    ensures kept { OnOk result (AreKeptTables values.old values.new) }
+    ensures kept { OnOk result (AreTablesKept values.old values.new) }
     ensures now { OnOk result (facts_now values.new
         ≡ facts_after_early_defs places.now 0 operands.now (facts_after_moves (map move_of moves.now) (facts_now values.old))) }
 {
@@ -213,7 +221,7 @@ pub fn go_to_early<A: Allocator + Copy>(
 
 /// Goes on to where its late uses are read: the definitions are written, and the clobbered registers are emptied.
 pub fn go_to_late<A: Allocator + Copy>(
-    values: &mut Tables<A>,
+    values: &mut PassingTables<A>,
     places: &[Allocation],
     operands: &[Operand],
     clobbers: PRegSet,
@@ -221,7 +229,7 @@ pub fn go_to_late<A: Allocator + Copy>(
     requires missing { IsMissingUnlisted values.old.places }
     requires listed { All (IsListed values.old.places) places.now }
     requires vregs { All (λ op. IsListedVReg values.old.vregs op.vreg) operands.now }
-    ensures kept { OnOk result (AreKeptTables values.old values.new) }
+    ensures kept { OnOk result (AreTablesKept values.old values.new) }
     ensures now { OnOk result (facts_now values.new ≡ facts_after_clobbers clobbers (facts_after_defs places.now 0 operands.now (facts_now values.old))) }
 {
     write_defs(values, places, operands)?;
@@ -232,11 +240,11 @@ pub fn go_to_late<A: Allocator + Copy>(
 /// The places that hold a virtual register.
 fn holders<A: Allocator + Copy>(
     alloc: A,
-    values: &Tables<A>,
+    values: &PassingTables<A>,
     vreg: VReg,
 ) -> Result<Vec<usize, A>, AllocError>
     requires { IsListedVReg values.now.vregs vreg }
-    ensures { IfOk result (λ holders. HoldersAre values.now.places (holds_now values.now) vreg holders.items) }
+    ensures { IfOk result (λ holders. HoldersAre values.now.places (shows_now values.now) vreg holders.items) }
 {
     let Some(vreg) = vreg_position(values, vreg) else {
         return Ok(Vec::new(alloc));
@@ -248,12 +256,12 @@ fn holders<A: Allocator + Copy>(
 /// The places that hold each of some virtual registers.
 fn holders_of_all<A: Allocator + Copy>(
     alloc: A,
-    values: &Tables<A>,
+    values: &PassingTables<A>,
     vregs: &[VReg],
 ) -> Result<Vec<Vec<usize, A>, A>, AllocError>
     requires { All (IsListedVReg values.now.vregs) vregs.now }
     ensures long { IfOk result (λ had. length had.items ≡ length vregs.now) }
-    ensures holders { IfOk result (λ had. AreHoldersOf values.now.places (holds_now values.now) vregs.now had.items) }
+    ensures holders { IfOk result (λ had. AreHoldersOf values.now.places (shows_now values.now) vregs.now had.items) }
 {
     let mut had = Vec::with_capacity(alloc, vregs.len())?;
     for k in 0..vregs.len() {
@@ -264,13 +272,13 @@ fn holders_of_all<A: Allocator + Copy>(
 
 /// Gives a parameter the places of its argument.
 fn give<A: Allocator + Copy>(
-    values: &mut Tables<A>,
+    values: &mut PassingTables<A>,
     param: VReg,
     places: &[usize],
 ) -> Result<(), AllocError>
     requires param { IsListedVReg values.old.vregs param }
     requires places { (i : ℕ) → is_in places.now i ≡ true → i < length values.old.places }
-    ensures kept { OnOk result (AreKeptTables values.old values.new) }
+    ensures kept { OnOk result (AreTablesKept values.old values.new) }
     ensures now { OnOk result (facts_now values.new ≡ given_to param values.old.places places.now (facts_now values.old)) }
 {
     let Some(param) = vreg_position(values, param) else {
@@ -281,15 +289,15 @@ fn give<A: Allocator + Copy>(
 }
 
 /// Gives a block's parameters what its arguments had, all at once.
-pub fn assign_params<A: Allocator + Copy>(
+fn assign_params<A: Allocator + Copy>(
     alloc: A,
-    values: &mut Tables<A>,
+    values: &mut PassingTables<A>,
     params: &[VReg],
     arguments: &[VReg],
 ) -> Result<(), AllocError>
     requires params { All (IsListedVReg values.old.vregs) params.now }
     requires arguments { All (IsListedVReg values.old.vregs) arguments.now }
-    ensures kept { OnOk result (AreKeptTables values.old values.new) }
+    ensures kept { OnOk result (AreTablesKept values.old values.new) }
     ensures now { OnOk result (facts_now values.new ≡ facts_renamed params.now arguments.now (facts_now values.old)) }
 {
     let had = holders_of_all(alloc, values, arguments)?;
@@ -297,4 +305,59 @@ pub fn assign_params<A: Allocator + Copy>(
         give(values, params[k], &had[k])?;
     }
     Ok(())
+}
+
+/// Gives a block's one parameter what its argument has, without going over the places that hold it.
+fn pass_param<A: Allocator + Copy>(
+    values: &mut PassingTables<A>,
+    param: VReg,
+    argument: VReg,
+) -> Result<(), AllocError>
+    requires param { IsListedVReg values.old.vregs param }
+    requires argument { IsListedVReg values.old.vregs argument }
+    ensures kept { OnOk result (AreTablesKept values.old values.new) }
+    ensures now { OnOk result (facts_now values.new ≡ facts_renamed (param ∷ []) (argument ∷ []) (facts_now values.old)) }
+{
+    let Some(param) = vreg_position(values, param) else {
+        return Ok(());
+    };
+    let Some(argument) = vreg_position(values, argument) else {
+        return Ok(());
+    };
+    values.pass(param, argument)?;
+    Ok(())
+}
+
+/// Whether a block is entered over one edge, which passes one argument to one parameter.
+fn passes_one(is_entered_once: bool, params: &[VReg], arguments: &[VReg]) -> bool
+    ensures params { result ≡ true → length params.now ≡ 1 }
+    ensures arguments { result ≡ true → length arguments.now ≡ 1 }
+{
+    if !is_entered_once {
+        return false;
+    }
+    if params.len() != 1 {
+        return false;
+    }
+    arguments.len() == 1
+}
+
+/// Gives a block's parameters what its arguments had, all at once. One parameter alone of a block that is entered over one
+/// edge is passed as such.
+pub fn take_arguments<A: Allocator + Copy>(
+    alloc: A,
+    values: &mut PassingTables<A>,
+    params: &[VReg],
+    arguments: &[VReg],
+    is_entered_once: bool,
+) -> Result<(), AllocError>
+    requires params { All (IsListedVReg values.old.vregs) params.now }
+    requires arguments { All (IsListedVReg values.old.vregs) arguments.now }
+    ensures kept { OnOk result (AreTablesKept values.old values.new) }
+    ensures now { OnOk result (facts_now values.new ≡ facts_renamed params.now arguments.now (facts_now values.old)) }
+{
+    if passes_one(is_entered_once, params, arguments) {
+        return pass_param(values, params[0], arguments[0]);
+    }
+    assign_params(alloc, values, params, arguments)
 }

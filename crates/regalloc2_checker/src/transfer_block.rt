@@ -4,7 +4,7 @@ ghost use Rattle.std.specs.Prelude.{◌≡◌, ◌<◌, ◌≤◌, ◌-◌, OnOk
 ghost use Rattle.regalloc2_function.specs.FunctionValue.{block_at};
 ghost use Rattle.regalloc2_function.specs.OutputValue.{OutputValue};
 ghost use Rattle.regalloc2_function.specs.WellFormed.{IsFramed};
-ghost use Rattle.regalloc2_checker_tables.specs.Holding.{AreKeptTables};
+ghost use Rattle.regalloc2_checker_tables.specs.Showing.{AreTablesKept};
 ghost use Rattle.regalloc2_checker.specs.Facts.{facts_after};
 ghost use Rattle.regalloc2_checker.specs.Fixpoint.{facts_within};
 ghost use Rattle.regalloc2_checker.specs.TableFacts.{facts_now, AreNamed, AreNamedVRegs};
@@ -12,8 +12,8 @@ ghost use Rattle.regalloc2_checker.specs.Propagation.{over};
 ghost use Rattle.regalloc2_checker.specs.Listing.{IsListing};
 
 use crate::listing::Listed;
-use crate::transfer::{assign_params, go_to_early, go_to_late};
-use regalloc2_checker_tables::Tables;
+use crate::transfer::{go_to_early, go_to_late, take_arguments};
+use regalloc2_checker_tables::PassingTables;
 use regalloc2_function::Function;
 use regalloc2_index::{Block, Inst};
 use std::alloc::{AllocError, Allocator};
@@ -21,10 +21,10 @@ use std::alloc::{AllocError, Allocator};
 /// Runs one instruction of a block.
 fn transfer_inst<F: Function, A: Allocator + Copy>(
     f: &F,
-    listing: &[Listed<A>],
+    listing: &[Listed<'_>],
     block: Block,
     inst: Inst,
-    values: &mut Tables<A>,
+    values: &mut PassingTables<A>,
 ) -> Result<(), AllocError>
     ghost o: { OutputValue }
     requires listing { IsListing (F.function f.now) o listing.now }
@@ -33,29 +33,29 @@ fn transfer_inst<F: Function, A: Allocator + Copy>(
     requires first { (block_at (F.function f.now) block).range.first ≤ inst }
     requires end { inst < (block_at (F.function f.now) block).range.end }
     requires inst { inst < length (F.function f.now).insts }
-    ensures kept { OnOk result (AreKeptTables values.old values.new) }
+    ensures kept { OnOk result (AreTablesKept values.old values.new) }
     ensures now { OnOk result (facts_now values.new ≡ facts_after (F.function f.now) o (record { block = block; inst = inst }) (facts_now values.old)) }
 {
     let listed = &listing[inst.index()];
     let operands = f.inst_operands(inst);
-    go_to_early(values, &listed.moves, &listed.places, operands)?;
-    go_to_late(values, &listed.places, operands, f.inst_clobbers(inst))?;
+    go_to_early(values, listed.moves, listed.places, operands)?;
+    go_to_late(values, listed.places, operands, f.inst_clobbers(inst))?;
     Ok(())
 }
 
 /// Runs a block's instructions.
 pub fn transfer_block<F: Function, A: Allocator + Copy>(
     f: &F,
-    listing: &[Listed<A>],
+    listing: &[Listed<'_>],
     block: Block,
-    values: &mut Tables<A>,
+    values: &mut PassingTables<A>,
 ) -> Result<(), AllocError>
     ghost o: { OutputValue }
     requires listing { IsListing (F.function f.now) o listing.now }
     requires named { AreNamed (F.function f.now) o values.old }
     requires framed { IsFramed (F.function f.now) }
     requires block { block < length (F.function f.now).blocks }
-    ensures kept { OnOk result (AreKeptTables values.old values.new) }
+    ensures kept { OnOk result (AreTablesKept values.old values.new) }
     ensures now { OnOk result (facts_now values.new ≡ facts_within (F.function f.now) o block (facts_now values.old)
         ((block_at (F.function f.now) block).range.end - (block_at (F.function f.now) block).range.first)) }
 {
@@ -72,17 +72,19 @@ pub fn transfer_edge<F: Function, A: Allocator + Copy>(
     f: &F,
     block: Block,
     position: usize,
-    values: &mut Tables<A>,
+    values: &mut PassingTables<A>,
 ) -> Result<(), AllocError>
     requires framed { IsFramed (F.function f.now) }
     requires named { AreNamedVRegs (F.function f.now) values.old.vregs }
     requires block { block < length (F.function f.now).blocks }
     requires position { position < length (block_at (F.function f.now) block).succs }
-    ensures kept { OnOk result (AreKeptTables values.old values.new) }
+    ensures kept { OnOk result (AreTablesKept values.old values.new) }
     ensures now { OnOk result (facts_now values.new ≡ over (F.function f.now) block position (facts_now values.old)) }
 {
-    let params = f.block_params(f.block_succs(block)[position]);
+    let target = f.block_succs(block)[position];
+    let params = f.block_params(target);
     let arguments = f.branch_blockparams(block, f.block_insns(block).last(), position);
-    assign_params(alloc, values, params, arguments)?;
+    let is_entered_once = f.block_preds(target).len() == 1;
+    take_arguments(alloc, values, params, arguments, is_entered_once)?;
     Ok(())
 }

@@ -1,13 +1,13 @@
 //! Which virtual registers' values a place holds.
 
-ghost use Rattle.std.specs.Prelude.{◌≡◌, ◌≢◌, true, IfOk, MatchOption};
+ghost use Rattle.std.specs.Prelude.{◌≡◌, ◌≢◌, ◌<◌, true, IfOk, MatchOption};
 ghost use Rattle.regalloc2_names.specs.Register.{VirtualRegister};
 ghost use Rattle.regalloc2_names.specs.RegisterBits.{bits_of_vreg};
 ghost use Rattle.regalloc2_checker.specs.Report.{AreVRegsInValue};
 ghost use Rattle.regalloc2_checker.specs.TableFacts.{is_packed_vreg, facts_now};
 
 use crate::transfer::position;
-use regalloc2_checker_tables::Tables;
+use regalloc2_checker_tables::PassingTables;
 use regalloc2_names::{Allocation, VReg};
 use std::alloc::{AllocError, Allocator};
 
@@ -20,7 +20,7 @@ fn bits_of(vreg: VReg) -> u32
 }
 
 /// Whether a place holds what a virtual register has.
-pub fn holds<A: Allocator + Copy>(values: &Tables<A>, place: Allocation, vreg: VReg) -> bool
+pub fn holds<A: Allocator + Copy>(values: &PassingTables<A>, place: Allocation, vreg: VReg) -> bool
     ensures { result ≡ facts_now values.now place vreg }
 {
     let Some(position) = position(values, place) else {
@@ -31,7 +31,8 @@ pub fn holds<A: Allocator + Copy>(values: &Tables<A>, place: Allocation, vreg: V
 
 /// The virtual register of bits, if they are those of one.
 fn vreg_of(bits: u32) -> Option<VReg>
-    ensures { MatchOption result ((v : VirtualRegister) → bits_of_vreg v ≢ bits) (λ v. bits_of_vreg v ≡ bits) }
+    ensures vreg { MatchOption result ((v : VirtualRegister) → bits_of_vreg v ≢ bits) (λ v. bits_of_vreg v ≡ bits) }
+    ensures small { bits < 4294967296 }
 {
     if !VReg::is_bits(bits) {
         return None;
@@ -42,7 +43,7 @@ fn vreg_of(bits: u32) -> Option<VReg>
 /// The virtual registers whose values a place holds, by rising bits.
 pub fn vregs_in<A: Allocator + Copy>(
     alloc: A,
-    values: &Tables<A>,
+    values: &PassingTables<A>,
     place: Allocation,
 ) -> Result<Vec<VReg, A>, AllocError>
     ensures { IfOk result (λ r. AreVRegsInValue (λ v. facts_now values.now place v ≡ true) r.items) }

@@ -1,3 +1,4 @@
+mod Shown
 mod Walked
 mod Bits
 mod Rows

@@ -27,60 +27,69 @@ met-none s e k bound h = record {
   same = λ q i y l b. absurd (omega arith);
 }
 
+-- so many positions are met, and from there up to p the array and the saved copy have the same numbers
+pub record IsMetUpTo (s t : List NumberSet) (e f : Numbers) (k from bound p : ℕ) (a : Bool) : Type 0 where
+  pub met : IsMetBelow s e t f k from bound a
+  pub inside : bound ≤ length e.cells
+  pub below : AreBelow s e
+  pub saved : (i : ℕ) → i < length e.cells → number_at e k i < length s
+  pub between : (i : ℕ) → from ≤ i → i < p → number_now f i ≡ number_at f k i
+
+-- one position is met, and that is noted
+pub record IsMetAt (t u : List NumberSet) (f g : Numbers) (k p : ℕ) (a b : Bool) : Type 0 where
+  pub still : AreStill t f u g
+  pub others : (i : ℕ) → (i ≡ p → ⊥) → number_now g i ≡ number_now f i
+  pub here : (y : ℕ) → held u g p y ≡ (is_member t (number_at f k p) y && held t f p y)
+  pub more : b ≡ true → (a ≡ true) ⊎ IsLess (is_member t (number_at f k p)) (held t f p)
+  pub same : b ≡ false → (a ≡ false) × ((y : ℕ) → is_member t (number_at f k p) y ≡ true → held t f p y ≡ true)
+
 -- a position before the next that differs: both have the same
-module _ (s t : List NumberSet) (e f : Numbers) (k from bound p : ℕ) (a : Bool) (m : IsMetBelow s e t f k from bound a)
-    (lb : bound ≤ length e.cells) (sb : AreBelow s e) (ss : (i : ℕ) → i < length e.cells → number_at e k i < length s)
-    (between : (i : ℕ) → from ≤ i → i < p → number_now f i ≡ number_at f k i) where
+module _ (s t : List NumberSet) (e f : Numbers) (k from bound p : ℕ) (a : Bool) (x : IsMetUpTo s t e f k from bound p a) where
   -- from there on, the array holds what it held
   pub now-there : (i y : ℕ) → from ≤ i → i < length e.cells → held t f i y ≡ held s e i y
-  now-there i y l li = ap (λ n. is_member t n y) (m.rest i l) ∙ m.still.more.kept (number_now e i) y (sb i li)
+  now-there i y l li = ap (λ n. is_member t n y) (x.met.rest i l) ∙ x.met.still.more.kept (number_now e i) y (x.below i li)
 
   -- the saved copy has the members that it had
   pub saved-there : (i y : ℕ) → i < length e.cells → is_member t (number_at f k i) y ≡ is_member s (number_at e k i) y
-  saved-there i y li = ap (λ n. is_member t n y) (m.still.saved k i) ∙ m.still.more.kept (number_at e k i) y (ss i li)
+  saved-there i y li = ap (λ n. is_member t n y) (x.met.still.saved k i) ∙ x.met.still.more.kept (number_at e k i) y (x.saved i li)
 
   -- between, the array holds what the saved copy has
   pub same-there : (i y : ℕ) → from ≤ i → i < p → i < length e.cells → is_member s (number_at e k i) y ≡ held s e i y
-  same-there i y l lp li = sym (saved-there i y li) ∙ ap (λ n. is_member t n y) (sym (between i l lp)) ∙ now-there i y l li
+  same-there i y l lp li = sym (saved-there i y li) ∙ ap (λ n. is_member t n y) (sym (x.between i l lp)) ∙ now-there i y l li
 
 -- one position more
-pub met-more : (s t u : List NumberSet) (e f g : Numbers) (k from bound p : ℕ) (a b : Bool) → IsMetBelow s e t f k from bound a → bound ≤ length e.cells →
-    AreBelow s e → ((i : ℕ) → i < length e.cells → number_at e k i < length s) → from ≤ p → p < bound →
-    ((i : ℕ) → from ≤ i → i < p → number_now f i ≡ number_at f k i) → AreStill t f u g → ((i : ℕ) → (i ≡ p → ⊥) → number_now g i ≡ number_now f i) →
-    ((y : ℕ) → held u g p y ≡ (is_member t (number_at f k p) y && held t f p y)) →
-    (b ≡ true → (a ≡ true) ⊎ IsLess (is_member t (number_at f k p)) (held t f p)) →
-    (b ≡ false → (a ≡ false) × ((y : ℕ) → is_member t (number_at f k p) y ≡ true → held t f p y ≡ true)) →
-    IsMetBelow s e u g k (p + 1) bound b
-met-more s t u e f g k from bound p a b m lb sb ss lp pb between st others here more same = record {
-  still = still-then s t u e f g m.still st;
+pub met-more : (s t u : List NumberSet) (e f g : Numbers) (k from bound p : ℕ) (a b : Bool) → IsMetUpTo s t e f k from bound p a → from ≤ p → p < bound →
+    IsMetAt t u f g k p a b → IsMetBelow s e u g k (p + 1) bound b
+met-more s t u e f g k from bound p a b x lp pb w = record {
+  still = still-then s t u e f g x.met.still w.still;
   done = done;
-  rest = λ i l. others i (above i l) ∙ m.rest i (omega arith);
+  rest = λ i l. w.others i (above i l) ∙ x.met.rest i (omega arith);
   fewer = λ i y l is. fewer i y l is;
-  less = λ q. lost (more q);
-  same = λ q i y l lb'. kept (same q) i y l lb';
+  less = λ q. lost (w.more q);
+  same = λ q i y l lb'. kept (w.same q) i y l lb';
 }
   where
     long : length f.cells ≡ length e.cells
-    long = m.still.long
+    long = x.met.still.long
 
     above : (i : ℕ) → p + 1 ≤ i → i ≡ p → ⊥
     above i l q = absurd (omega arith)
 
     unchanged : (i y : ℕ) → (i ≡ p → ⊥) → i < length e.cells → held u g i y ≡ held t f i y
-    unchanged i y n l = ap (λ x. is_member u x y) (others i n) ∙ st.more.kept (number_now f i) y (m.still.below i (let h = long in omega arith))
+    unchanged i y n l = ap (λ z. is_member u z y) (w.others i n) ∙ w.still.more.kept (number_now f i) y (x.met.still.below i (let h = long in omega arith))
 
     at-place : (y : ℕ) → held u g p y ≡ (is_member s (number_at e k p) y && held s e p y)
-    at-place y = here y ∙ ap (λ x. x && held t f p y) (saved-there s t e f k from bound p a m lb sb ss between p y (omega arith))
-        ∙ ap (λ x. is_member s (number_at e k p) y && x) (now-there s t e f k from bound p a m lb sb ss between p y lp (omega arith))
+    at-place y = w.here y ∙ ap (λ z. z && held t f p y) (saved-there s t e f k from bound p a x p y (omega arith))
+        ∙ ap (λ z. is_member s (number_at e k p) y && z) (now-there s t e f k from bound p a x p y lp (omega arith))
 
     done : (i y : ℕ) → i < p + 1 → i < bound → held u g i y ≡ (is_member s (number_at e k i) y && held s e i y)
     done i y l lb' = elim (cases_eq i p) [
       | inl q ↦ ap (λ n. held u g n y) q ∙ at-place y ∙ ap (λ n. is_member s (number_at e k n) y && held s e n y) (sym q)
       | inr n ↦ unchanged i y n (omega arith) ∙ elim (cases_lt i from) [
-        | inl lf ↦ m.done i y lf lb'
+        | inl lf ↦ x.met.done i y lf lb'
         | inr gf ↦
-            now-there s t e f k from bound p a m lb sb ss between i y gf (omega arith) ∙ both-same (held s e i y)
-            ∙ ap (λ x. x && held s e i y) (sym (same-there s t e f k from bound p a m lb sb ss between i y gf (before i l n) (omega arith)))
+            now-there s t e f k from bound p a x i y gf (omega arith) ∙ both-same (held s e i y)
+            ∙ ap (λ z. z && held s e i y) (sym (same-there s t e f k from bound p a x i y gf (before i l n) (omega arith)))
       ]
     ]
       where
@@ -92,50 +101,28 @@ met-more s t u e f g k from bound p a b m lb sb ss lp pb between st others here 
       | inl q ↦
           ap (λ n. held s e n y) q
           ∙ right-of (is_member s (number_at e k p) y) (held s e p y) (sym (at-place y) ∙ ap (λ n. held u g n y) (sym q) ∙ is)
-      | inr n ↦ m.fewer i y l (sym (unchanged i y n l) ∙ is)
+      | inr n ↦ x.met.fewer i y l (sym (unchanged i y n l) ∙ is)
     ]
 
     lost : (a ≡ true) ⊎ IsLess (is_member t (number_at f k p)) (held t f p) → LosesSome bound (λ i y. is_member s (number_at e k i) y) (held s e)
-    lost (inl q) = m.less q
+    lost (inl q) = x.met.less q
     lost (inr d) = record {
       place = p;
       bits = d.bits;
       place_small = pb;
       bits_small = d.small;
-      here = sym (saved-there s t e f k from bound p a m lb sb ss between p d.bits (omega arith)) ∙ d.here;
-      not_there = sym (now-there s t e f k from bound p a m lb sb ss between p d.bits lp (omega arith)) ∙ d.not_there;
+      here = sym (saved-there s t e f k from bound p a x p d.bits (omega arith)) ∙ d.here;
+      not_there = sym (now-there s t e f k from bound p a x p d.bits lp (omega arith)) ∙ d.not_there;
     }
 
     kept : (a ≡ false) × ((y : ℕ) → is_member t (number_at f k p) y ≡ true → held t f p y ≡ true) → (i y : ℕ) → i < p + 1 → i < bound →
         is_member s (number_at e k i) y ≡ true → held s e i y ≡ true
     kept h i y l lb' is = elim (cases_eq i p) [
       | inl q ↦
-          ap (λ n. held s e n y) q ∙ sym (now-there s t e f k from bound p a m lb sb ss between p y lp (omega arith))
-          ∙ h.1 y (saved-there s t e f k from bound p a m lb sb ss between p y (omega arith) ∙ ap (λ n. is_member s (number_at e k n) y) (sym q) ∙ is)
+          ap (λ n. held s e n y) q ∙ sym (now-there s t e f k from bound p a x p y lp (omega arith))
+          ∙ h.1 y (saved-there s t e f k from bound p a x p y (omega arith) ∙ ap (λ n. is_member s (number_at e k n) y) (sym q) ∙ is)
       | inr n ↦ elim (cases_lt i from) [
-        | inl lf ↦ m.same h.0 i y lf lb' is
-        | inr gf ↦ sym (same-there s t e f k from bound p a m lb sb ss between i y gf (omega arith) (omega arith)) ∙ is
+        | inl lf ↦ x.met.same h.0 i y lf lb' is
+        | inr gf ↦ sym (same-there s t e f k from bound p a x i y gf (omega arith) (omega arith)) ∙ is
       ]
     ]
-
--- the rest is the same
-pub met-all : (s t : List NumberSet) (e f : Numbers) (k from bound : ℕ) (a : Bool) → IsMetBelow s e t f k from bound a → bound ≤ length e.cells →
-    AreBelow s e → ((i : ℕ) → i < length e.cells → number_at e k i < length s) →
-    ((i : ℕ) → from ≤ i → i < bound → number_now f i ≡ number_at f k i) → (i y : ℕ) → i < bound →
-    held t f i y ≡ (is_member s (number_at e k i) y && held s e i y)
-met-all s t e f k from bound a m lb sb ss between i y l = elim (cases_lt i from) [
-  | inl lf ↦ m.done i y lf l
-  | inr gf ↦
-      now-there s t e f k from bound bound a m lb sb ss between i y gf (omega arith) ∙ both-same (held s e i y)
-      ∙ ap (λ x. x && held s e i y) (sym (same-there s t e f k from bound bound a m lb sb ss between i y gf l (omega arith)))
-]
-
--- a meet that changed nothing left out no member that the saved copy had
-pub met-same : (s t : List NumberSet) (e f : Numbers) (k from bound : ℕ) (a : Bool) → IsMetBelow s e t f k from bound a → bound ≤ length e.cells →
-    AreBelow s e → ((i : ℕ) → i < length e.cells → number_at e k i < length s) →
-    ((i : ℕ) → from ≤ i → i < bound → number_now f i ≡ number_at f k i) → a ≡ false → (i y : ℕ) → i < bound → is_member s (number_at e k i) y ≡ true →
-    held s e i y ≡ true
-met-same s t e f k from bound a m lb sb ss between q i y l is = elim (cases_lt i from) [
-  | inl lf ↦ m.same q i y lf l is
-  | inr gf ↦ sym (same-there s t e f k from bound bound a m lb sb ss between i y gf l (omega arith)) ∙ is
-]

@@ -106,7 +106,8 @@ put-one t h place set a less small k home =
         empty = a.empty;
         homes_long = k.long ∙ a.homes_long;
         now = subst (λ (n : ℕ). AreEntries t.sets t.vregs h n (λ i. get_or (slice_set t.entries.cells place set) i 0)) size
-            (entries-set t.sets t.vregs h (length t.entries.cells) (number_now t.entries) (λ i. get_or (slice_set t.entries.cells place set) i 0) place set small
+            (entries-set t.sets t.vregs h (length t.entries.cells) (number_now t.entries) (λ i. get_or (slice_set t.entries.cells place set) i 0) place set
+            small
             other here home (entries-more t.sets t.sets t.vregs t.homes h _ (number_now t.entries) more k a.now));
         tables = λ n. subst (λ (m : ℕ). AreEntries t.sets t.vregs h m (number_at t.entries n)) size
             (entries-more t.sets t.sets t.vregs t.homes h _ (number_at t.entries n) more k (a.tables n));
@@ -224,7 +225,8 @@ kept_then a b c h g = record {
 
 -- a table is loaded
 pub load-all : (t : Holding) (f : Numbers) (k : ℕ) → AreTables t → copy_count f ≡ copy_count t.entries →
-    ((n i : ℕ) → number_at f n i ≡ number_at t.entries n i) → length f.cells ≡ length t.entries.cells → ((i : ℕ) → i < length f.cells → number_now f i ≡ number_at t.entries k i) →
+    ((n i : ℕ) → number_at f n i ≡ number_at t.entries n i) → length f.cells ≡ length t.entries.cells → ((i : ℕ) → i < length f.cells → number_now f i ≡
+    number_at t.entries k i) →
     IsChanged t (record t { entries = f }) (holds_in t k)
 load-all t f k a ec same el h =
     let long = a.long in

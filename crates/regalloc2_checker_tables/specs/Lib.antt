@@ -2,3 +2,4 @@ pub mod SavedCopies
 pub mod SavedNumbers
 pub mod EntrySets
 pub mod Holding
+pub mod Showing

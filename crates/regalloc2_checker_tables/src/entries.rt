@@ -7,7 +7,8 @@
 ghost use Rattle.std.specs.Prelude.{◌≡◌, ◌≢◌, ℕ, ◌+◌, ◌*◌, ◌/◌, ◌%◌, ◌-◌, ◌^◌, ◌<◌, ◌≤◌, length, get_or, slice_set};
 ghost use Rattle.std.specs.Prelude.{IfOk, OnOk, OnErr, MatchOption};
 ghost use Rattle.regalloc2_checker_tables.specs.SavedCopies.{cell_at, saved_at, AreMoreWords};
-ghost use Rattle.regalloc2_checker_tables.specs.SavedNumbers.{copy_count, number_at, number_now, AreAlikeBetween, AreChunksKept, AreCopiesKept, AreLoaded, AreSaved, AreAlike};
+ghost use Rattle.regalloc2_checker_tables.specs.SavedNumbers.{copy_count, number_at, number_now, AreAlikeBetween, AreChunksKept, AreCopiesKept, AreLoaded};
+ghost use Rattle.regalloc2_checker_tables.specs.SavedNumbers.{AreSaved, AreAlike};
 
 use crate::versions::{Versions, copy_chunk, difference_in, is_same_chunk};
 use std::alloc::{AllocError, Allocator};

@@ -2,10 +2,11 @@
 #![tactic(auto)]
 
 mod entries;
+mod passing;
 mod positions;
 mod sets;
 mod tables;
 mod versions;
 
+pub use passing::PassingTables;
 pub use positions::Positions;
-pub use tables::Tables;

@@ -44,11 +44,27 @@ impl<A: Allocator> Model for Tables<A> {
     ghost invariant = { λ t. AreTables (record { places = t.places; vregs = t.vregs; entries = t.entries; sets = t.sets; homes = t.homes.items }) };
 }
 
-/// Where places may be listed: each register, and the first slot.
+/// Where places may be listed: each register, and each slot.
 #[derive(Drop)]
 struct Hints<A: Allocator> {
     registers: Vec<usize, A>,
-    slots: usize,
+    slots: Vec<usize, A>,
+}
+
+/// Where slots may be listed, as far as their indexes are below four times the number of places.
+fn listed_slots<A: Allocator + Copy>(
+    alloc: A,
+    places: &Positions<A>,
+) -> Result<Vec<usize, A>, AllocError> {
+    let mut slots = Vec::new(alloc);
+    slots.resize(places.len().saturating_mul(4), 0)?;
+    for position in 0..places.len() {
+        let index = places.number(position).wrapping_sub(1073741824);
+        if let Some(slot) = slots.get_mut(index as usize) {
+            *slot = position;
+        }
+    }
+    Ok(slots)
 }
 
 impl<A: Allocator + Copy> Hints<A> {
@@ -58,7 +74,7 @@ impl<A: Allocator + Copy> Hints<A> {
         for number in 0..192u32 {
             registers.push(places.find(number + 536870912, 0).unwrap_or(0))?;
         }
-        let slots = places.find(1073741824, 0).unwrap_or(0);
+        let slots = listed_slots(alloc, places)?;
         Ok(Hints { registers, slots })
     }
 
@@ -66,7 +82,7 @@ impl<A: Allocator + Copy> Hints<A> {
     fn position(&self, bits: u32) -> usize {
         let index = (bits % 536870912) as usize;
         if bits >= 1073741824 {
-            return self.slots.wrapping_add(index);
+            return self.slots.get(index).copied().unwrap_or(0);
         }
         self.registers.get(index).copied().unwrap_or(0)
     }
@@ -367,6 +383,14 @@ impl<A: Allocator + Copy> Tables<A> {
         ensures { result ≡ position (λ n. n == bits) self.now.vregs }
     {
         self.vregs.find(bits, bits as usize / 4)
+    }
+
+    /// The bits of the virtual register at a position.
+    pub fn bits(&self, vreg: usize) -> u32
+        requires { vreg < length self.now.vregs }
+        ensures { result ≡ get_or self.now.vregs vreg 0 }
+    {
+        self.vregs.number(vreg)
     }
 
     /// Whether a place holds a virtual register.

@@ -3,7 +3,7 @@ use Rattle.std.specs.Prelude.{sum_by}
 use Rattle.std.specs.BinaryHeap.{heap_items}
 use Rattle.regalloc2_function.specs.FunctionValue.{FunctionValue, block_at}
 use Rattle.regalloc2_function.specs.OutputValue.{OutputValue}
-use Rattle.regalloc2_checker_tables.specs.Holding.{Holding}
+use Rattle.regalloc2_checker_tables.specs.Showing.{Showing}
 use Rattle.regalloc2_checker.specs.Facts.{Facts}
 use Rattle.regalloc2_checker.specs.Propagation.{IsBlockEnd, IsPropagatedOver, AreReached, IsReady}
 use Rattle.regalloc2_checker.specs.TableFacts.{facts_now}
@@ -53,10 +53,10 @@ returns-then-count-eq1 g c =
     let o : OutputValue = g.o in
     let b : ℕ = c.args.block in
     let law : AreEarlier = record { source = c.finds_earlier_writes.ensures.source; cells = c.finds_earlier_writes.ensures.cells } in
-    let t : Holding = c.args.state.now.values in
-    let m : Holding = c.load.new.self in
-    let w : Holding = c.transfer_block.new.values in
-    let n : Holding = c.propagate_over.new.state.values in
+    let t : Showing = c.args.state.now.values in
+    let m : Showing = c.load.new.self in
+    let w : Showing = c.transfer_block.new.values in
+    let n : Showing = c.propagate_over.new.state.values in
     let rs : List Bool = c.args.state.now.reached.items in
     let marks : List Bool = c.args.state.now.queue.is_queued.items in
     let after : List Bool = c.propagate_over.new.state.queue.is_queued.items in
@@ -79,15 +79,16 @@ returns-then-count-eq1 g c =
       alike = alike-after t w n kept p.alike;
       sized = p.sized;
       on_way = way-done f o old new after (heap_items c.propagate_over.new.state.queue.heap) b (0 + 1) one
-          (edge-passed law f o c.requires.1.1.1.0 old old new marks after b 0 (facts_now w) p.over.0 ready.sound ready.here c.requires.1.1.1.1.1.0
-          (omega (arith, one)) ends (edges-first f o old marks b ready.sound ready.none) over) p.queue p.reached;
+          (edge-passed law f o c.requires.1.1.1.0 old old new marks after b 0 (facts_now w) p.over.0
+          (record { sound = ready.sound; reached = ready.here; low = c.requires.1.1.1.1.1.0; less = omega (arith, one); ends = ends })
+          (edges-first f o old marks b ready.sound ready.none) over) p.queue p.reached;
       falls = omega (arith, sums, p.falls);
     }
 
 pub propagate_over-requires-clause-reached : goal.propagate_over-requires-clause-reached
 propagate_over-requires-clause-reached g c =
-    let t : Holding = c.args.state.now.values in
-    let w : Holding = c.transfer_block.new.values in
+    let t : Showing = c.args.state.now.values in
+    let w : Showing = c.transfer_block.new.values in
     let rs : List Bool = c.args.state.now.reached.items in
     subst (λ (vs : List BlockView). AreReached vs (heap_items c.args.state.now.queue.heap))
     (sym (views-kept t w rs (kept-twice t c.load.new.self w c.load.ensures.kept c.in_ok-transfer_block.ensures.kept))) c.requires.1.1.1.1.1.1.1.reached
@@ -97,9 +98,9 @@ propagate_edges-requires g c κs within =
     let f : FunctionValue = g.F.Function.function c.args.f.now in
     let o : OutputValue = g.o in
     let b : ℕ = c.args.block in
-    let t : Holding = c.args.state.now.values in
-    let m : Holding = c.load.new.self in
-    let w : Holding = c.transfer_block.new.values in
+    let t : Showing = c.args.state.now.values in
+    let m : Showing = c.load.new.self in
+    let w : Showing = c.transfer_block.new.values in
     let rs : List Bool = c.args.state.now.reached.items in
     let marks : List Bool = c.args.state.now.queue.is_queued.items in
     let entries = heap_items c.args.state.now.queue.heap in
@@ -133,9 +134,9 @@ propagate_edges-requires g c κs within =
 
 pub returns : goal.returns
 returns g c =
-    let t : Holding = c.args.state.now.values in
-    let m : Holding = c.load.new.self in
-    let w : Holding = c.transfer_block.new.values in
+    let t : Showing = c.args.state.now.values in
+    let m : Showing = c.load.new.self in
+    let w : Showing = c.transfer_block.new.values in
     let rs : List Bool = c.args.state.now.reached.items in
     let p = c.in_ok-propagate_edges.ensures in
     let kept = kept-twice t m w c.load.ensures.kept c.in_ok-transfer_block.ensures.kept in

@@ -3,7 +3,7 @@ use Rattle.std.specs.Prelude.{sum_by}
 use Rattle.std.specs.BinaryHeap.{heap_items}
 use Rattle.regalloc2_function.specs.FunctionValue.{FunctionValue, block_at}
 use Rattle.regalloc2_function.specs.OutputValue.{OutputValue}
-use Rattle.regalloc2_checker_tables.specs.Holding.{Holding, holds_in, holds_now}
+use Rattle.regalloc2_checker_tables.specs.Showing.{Showing, shows_in, shows_now}
 use Rattle.regalloc2_checker.specs.Facts.{Facts}
 use Rattle.regalloc2_checker.specs.Propagation.{IsBlockEnd, IsPropagatedOver, AreReached}
 use Rattle.regalloc2_checker.specs.TableFacts.{facts_now, facts_table}
@@ -18,14 +18,14 @@ use Rattle.regalloc2_checker.proofs.analyze.propagate_edges.Goals as goal
 pub loop-k-init : goal.loop-k-init
 loop-k-init g c =
     let f : FunctionValue = g.F.Function.function c.args.f.now in
-    let t : Holding = c.args.state.now.values in
-    let u : Holding = c.save.new.self in
+    let t : Showing = c.args.state.now.values in
+    let u : Showing = c.save.new.self in
     let rs : List Bool = c.args.state.now.reached.items in
     let marks : List Bool = c.args.state.now.queue.is_queued.items in
     let sized = c.requires.1.1.1.1.1.0 in
     let ready = c.requires.1.1.1.1.1.1.0 in
     let end : c.num_blocks-end.result ≡ length f.blocks = c.num_blocks-end.ensures.count in
-    let same : views u rs ≡ views t rs = views-beside t u rs c.num_blocks-end.result (holds_now t) (omega (arith, end, sized.reached)) c.save.ensures.places
+    let same : views u rs ≡ views t rs = views-beside t u rs c.num_blocks-end.result (shows_now t) (omega (arith, end, sized.reached)) c.save.ensures.places
     c.in_ok-save.ensures.tables in
     let sums = ap (λ (vs : List BlockView). sum_by weight vs) same in
     record {
@@ -48,10 +48,10 @@ loop-k-preserved g c =
     let b : ℕ = c.args.block in
     let k : ℕ = c.loop-k.k in
     let law : AreEarlier = record { source = c.finds_earlier_writes.ensures.source; cells = c.finds_earlier_writes.ensures.cells } in
-    let at : Holding = c.args.state.now.values in
-    let l : Holding = c.loop-k.state.values in
-    let m : Holding = c.load.new.self in
-    let n : Holding = c.propagate_over.new.state.values in
+    let at : Showing = c.args.state.now.values in
+    let l : Showing = c.loop-k.state.values in
+    let m : Showing = c.load.new.self in
+    let n : Showing = c.propagate_over.new.state.values in
     let old : List BlockView = views at c.args.state.now.reached.items in
     let t : List BlockView = views l c.loop-k.state.reached.items in
     let mid : List BlockView = views m c.loop-k.state.reached.items in
@@ -65,7 +65,7 @@ loop-k-preserved g c =
     let same : mid ≡ t = views-kept l m c.loop-k.state.reached.items c.load.ensures.kept in
     let end : c.num_blocks-end.result ≡ length f.blocks = c.num_blocks-end.ensures.count in
     let now : facts_now m ≡ F =
-    now-as l m (holds_in l c.num_blocks-end.result) c.load.ensures.kept.places c.load.ensures.now
+    now-as l m (shows_in l c.num_blocks-end.result) c.load.ensures.kept.places c.load.ensures.now
     ∙ ap (λ (i : ℕ). facts_table l i) end ∙ inv.table in
     let less : k < length (block_at f b).succs = omega (arith, c.loop-k-test.true, inv.last) in
     let over : IsPropagatedOver f b k F t new marks after p.over.0 =
@@ -78,8 +78,8 @@ loop-k-preserved g c =
       alike = alike-twice at l n inv.alike (alike-after l m n c.load.ensures.kept p.alike);
       sized = p.sized;
       table = p.kept ∙ table-kept l m (length f.blocks) c.load.ensures.kept ∙ inv.table;
-      done = edge-passed law f o c.requires.1.1.0 old t new marks after b k F p.over.0 ready.sound ready.here c.requires.1.1.1.1.0 less
-          c.requires.1.1.1.1.1.1.1 inv.done over;
+      done = edge-passed law f o c.requires.1.1.0 old t new marks after b k F p.over.0
+          (record { sound = ready.sound; reached = ready.here; low = c.requires.1.1.1.1.0; less = less; ends = c.requires.1.1.1.1.1.1.1 }) inv.done over;
       queue = p.queue;
       reached = p.reached;
       falls = omega (arith, sums, p.falls, inv.falls);

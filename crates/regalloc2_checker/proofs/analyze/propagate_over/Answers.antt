@@ -38,8 +38,8 @@ returns-then-not-changed g c =
       over = (
         false,
         over-is f c.args.block c.args.position (facts_now c.args.state.now.values) (facts_now c.transfer_edge.new.values) old mid new
-            c.args.state.now.queue.is_queued.items c.args.state.now.queue.is_queued.items c.index-target.result false target same
-            c.in_ok-transfer_edge.ensures.now met refl,
+            c.args.state.now.queue.is_queued.items c.args.state.now.queue.is_queued.items c.index-target.result false
+            (record { aimed = target; tables = same; facts = c.in_ok-transfer_edge.ensures.now }) met refl,
       );
       queue = c.requires.queue;
       reached = subst (λ (t : List BlockView). AreReached t (heap_items c.args.state.now.queue.heap)) (sym ((met.same refl).0 ∙ same)) c.requires.reached;
@@ -75,8 +75,8 @@ returns g c =
       over = (
         true,
         over-is f c.args.block c.args.position (facts_now c.args.state.now.values) (facts_now c.transfer_edge.new.values) old mid new
-            marks c.push.new.self.is_queued.items c.index-target.result true target same
-            c.in_ok-transfer_edge.ensures.now met c.in_ok-push.ensures.marks,
+            marks c.push.new.self.is_queued.items c.index-target.result true
+            (record { aimed = target; tables = same; facts = c.in_ok-transfer_edge.ensures.now }) met c.in_ok-push.ensures.marks,
       );
       queue = c.in_ok-push.ensures.queue;
       reached = reached-either mid new c.index-target.result (facts_now c.transfer_edge.new.values) (heap_items c.args.state.now.queue.heap)

@@ -10,45 +10,58 @@ use Rattle.regalloc2_function.specs.Views.{move_of}
 use Rattle.regalloc2_checker.specs.TableFacts.{facts_now, IsListed, IsListedVReg, IsMissingUnlisted}
 use Rattle.regalloc2_checker.proofs.TableSteps.{kept-twice}
 use Rattle.regalloc2_checker.proofs.NamedPlaces.{no-missing, moves-listed, operands-listed}
-use Rattle.regalloc2_checker.proofs.TransferFollowsFacts.{after_run, listed_moves, listed_places}
+use Rattle.regalloc2_checker.proofs.TransferFollowsFacts.{IsReadAt, after_run, listed_moves, listed_places}
 use Rattle.regalloc2_checker.proofs.ErrorsOnPaths.{early_run, inst_report, added_in_turn}
 use Rattle.regalloc2_checker.proofs.check.check_inst.Goals as goal
 
 pub returns-clause-now : goal.returns-clause-now
 returns-clause-now g c =
     let f : FunctionValue = g.F.Function.function c.args.by.now.f.now in
-    let moves : map move_of c.as_slice-moves.result.now ≡ moves_at f g.o (record { block = c.args.block; inst = c.args.inst }) =
-    listed_moves f g.o c.args.by.now.listing.now c.args.block c.args.inst c.index.result c.index-listing-index.result c.as_slice-moves.result.now c.requires.1.1.0
-    c.as_slice-moves.ensures.value c.index.ensures c.index-listing-index.is c.requires.1.1.1.1.0 c.requires.1.1.1.1.1.0 c.requires.1.1.1.1.1.1.0 in
-    let places : c.as_slice-places.result.now ≡ allocs_of g.o c.args.inst =
-    listed_places f g.o c.args.by.now.listing.now c.args.inst c.index.result c.index-listing-index.result c.as_slice-places.result.now c.requires.1.1.0
-    c.as_slice-places.ensures.value c.index.ensures c.index-listing-index.is c.requires.1.1.1.1.1.1.1 in
-    after_run f g.o c.args.block c.args.inst (facts_now c.args.values.now) (facts_now c.go_to_early.new.values) (facts_now c.go_to_late.new.values)
-    (map move_of c.as_slice-moves.result.now)
-    c.as_slice-places.result.now c.as_slice-places.result.now
-    c.inst_operands-operands.result.now c.inst_clobbers.result moves places places c.inst_operands-operands.ensures
-    c.inst_clobbers.ensures c.in_ok-go_to_early.ensures.now c.in_ok-go_to_late.ensures.now
+    let moves : map move_of c.index-listing-index.result.moves.now ≡ moves_at f g.o (record { block = c.args.block; inst = c.args.inst }) =
+    listed_moves f g.o c.args.by.now.listing.now c.args.block c.args.inst c.index.result c.index-listing-index.result c.index-listing-index.result.moves.now
+    c.requires.1.1.0
+    refl c.index.ensures c.index-listing-index.is c.requires.1.1.1.1.0 c.requires.1.1.1.1.1.0 c.requires.1.1.1.1.1.1.0 in
+    let places : c.index-listing-index.result.places.now ≡ allocs_of g.o c.args.inst =
+    listed_places f g.o c.args.by.now.listing.now c.args.inst c.index.result c.index-listing-index.result c.index-listing-index.result.places.now
+    c.requires.1.1.0
+    refl c.index.ensures c.index-listing-index.is c.requires.1.1.1.1.1.1.1 in
+    let here : IsReadAt f g.o (record { block = c.args.block; inst = c.args.inst }) (map move_of c.index-listing-index.result.moves.now)
+    c.index-listing-index.result.places.now c.inst_operands-operands.result.now =
+    record { moves = moves; places = places; operands = c.inst_operands-operands.ensures } in
+    after_run f g.o (record { block = c.args.block; inst = c.args.inst }) (facts_now c.args.values.now) (facts_now c.go_to_early.new.values)
+    (facts_now c.go_to_late.new.values) (map move_of c.index-listing-index.result.moves.now) c.index-listing-index.result.places.now
+    c.inst_operands-operands.result.now c.inst_clobbers.result here c.inst_clobbers.ensures c.in_ok-go_to_early.ensures.now
+    c.in_ok-go_to_late.ensures.now
 
 pub returns-clause-judged : goal.returns-clause-judged
 returns-clause-judged g c = λ env h known.
     let f : FunctionValue = g.F.Function.function c.args.by.now.f.now in
-    let moves : map move_of c.as_slice-moves.result.now ≡ moves_at f g.o (record { block = c.args.block; inst = c.args.inst }) =
-    listed_moves f g.o c.args.by.now.listing.now c.args.block c.args.inst c.index.result c.index-listing-index.result c.as_slice-moves.result.now c.requires.1.1.0
-    c.as_slice-moves.ensures.value c.index.ensures c.index-listing-index.is c.requires.1.1.1.1.0 c.requires.1.1.1.1.1.0 c.requires.1.1.1.1.1.1.0 in
-    let places : c.as_slice-places.result.now ≡ allocs_of g.o c.args.inst =
-    listed_places f g.o c.args.by.now.listing.now c.args.inst c.index.result c.index-listing-index.result c.as_slice-places.result.now c.requires.1.1.0
-    c.as_slice-places.ensures.value c.index.ensures c.index-listing-index.is c.requires.1.1.1.1.1.1.1 in
+    let moves : map move_of c.index-listing-index.result.moves.now ≡ moves_at f g.o (record { block = c.args.block; inst = c.args.inst }) =
+    listed_moves f g.o c.args.by.now.listing.now c.args.block c.args.inst c.index.result c.index-listing-index.result c.index-listing-index.result.moves.now
+    c.requires.1.1.0
+    refl c.index.ensures c.index-listing-index.is c.requires.1.1.1.1.0 c.requires.1.1.1.1.1.0 c.requires.1.1.1.1.1.1.0 in
+    let places : c.index-listing-index.result.places.now ≡ allocs_of g.o c.args.inst =
+    listed_places f g.o c.args.by.now.listing.now c.args.inst c.index.result c.index-listing-index.result c.index-listing-index.result.places.now
+    c.requires.1.1.0
+    refl c.index.ensures c.index-listing-index.is c.requires.1.1.1.1.1.1.1 in
     let added = c.in_ok-check_moves.ensures env h in (
       _,
       added_in_turn c.args.errors.now.items c.check_moves.new.errors.items c.add.new.errors.items c.add-2.new.errors.items added.0
           (option_to_list c.in_ok-early.early) (option_to_list c.in_ok-late.late) added.1 c.in_ok-add.ensures c.in_ok-add-2.ensures,
       inst_report f env g.o (record { block = c.args.block; inst = c.args.inst }) (facts_now c.go_to_early.new.values)
           (facts_now c.go_to_late.new.values) (facts_now c.args.values.now)
-          (map move_of c.as_slice-moves.result.now) c.as_slice-places.result.now c.inst_operands-operands.result.now added.0 c.in_ok-early.early
-          c.in_ok-late.late moves places c.inst_operands-operands.ensures added.2
-          (c.in_ok-early.ensures env h) (c.in_ok-late.ensures env h)
+          (map move_of c.index-listing-index.result.moves.now) c.index-listing-index.result.places.now c.inst_operands-operands.result.now
+          (record { moves = moves; places = places; operands = c.inst_operands-operands.ensures })
+          (record {
+            of_moves = added.0;
+            early = c.in_ok-early.early;
+            late = c.in_ok-late.late;
+            moves = added.2;
+            at_early = c.in_ok-early.ensures env h;
+            at_late = c.in_ok-late.ensures env h;
+          })
           (early_run f g.o c.args.block c.args.inst (facts_now c.args.values.now) (facts_now c.go_to_early.new.values)
-          (map move_of c.as_slice-moves.result.now) c.as_slice-places.result.now c.inst_operands-operands.result.now moves places
+          (map move_of c.index-listing-index.result.moves.now) c.index-listing-index.result.places.now c.inst_operands-operands.result.now moves places
           c.inst_operands-operands.ensures c.in_ok-go_to_early.ensures.now)
           (returns-clause-now g c) known,
     )
@@ -59,9 +72,10 @@ go_to_early-requires-clause-missing g c = no-missing (g.F.Function.function c.ar
 pub go_to_early-requires-clause-listed : goal.go_to_early-requires-clause-listed
 go_to_early-requires-clause-listed g c =
     let f : FunctionValue = g.F.Function.function c.args.by.now.f.now in
-    let moves : map move_of c.as_slice-moves.result.now ≡ moves_at f g.o (record { block = c.args.block; inst = c.args.inst }) =
-    listed_moves f g.o c.args.by.now.listing.now c.args.block c.args.inst c.index.result c.index-listing-index.result c.as_slice-moves.result.now c.requires.1.1.0
-    c.as_slice-moves.ensures.value c.index.ensures c.index-listing-index.is c.requires.1.1.1.1.0 c.requires.1.1.1.1.1.0 c.requires.1.1.1.1.1.1.0 in
+    let moves : map move_of c.index-listing-index.result.moves.now ≡ moves_at f g.o (record { block = c.args.block; inst = c.args.inst }) =
+    listed_moves f g.o c.args.by.now.listing.now c.args.block c.args.inst c.index.result c.index-listing-index.result c.index-listing-index.result.moves.now
+    c.requires.1.1.0
+    refl c.index.ensures c.index-listing-index.is c.requires.1.1.1.1.0 c.requires.1.1.1.1.1.0 c.requires.1.1.1.1.1.1.0 in
     subst (λ (ms : List MoveValue). All (λ m. IsListed c.args.values.now.places m.to) ms) (sym moves)
     (moves-listed f g.o c.args.values.now.places (record { block = c.args.block; inst = c.args.inst }) c.requires.1.1.1.0.places)
 
@@ -84,9 +98,10 @@ go_to_late-requires-clause-missing g c =
 pub go_to_late-requires-clause-listed : goal.go_to_late-requires-clause-listed
 go_to_late-requires-clause-listed g c =
     let f : FunctionValue = g.F.Function.function c.args.by.now.f.now in
-    let places : c.as_slice-places.result.now ≡ allocs_of g.o c.args.inst =
-    listed_places f g.o c.args.by.now.listing.now c.args.inst c.index.result c.index-listing-index.result c.as_slice-places.result.now c.requires.1.1.0
-    c.as_slice-places.ensures.value c.index.ensures c.index-listing-index.is c.requires.1.1.1.1.1.1.1 in
-    subst (λ (ps : List ℕ). All (IsListed ps) c.as_slice-places.result.now) (sym c.in_ok-go_to_early.ensures.kept.places)
+    let places : c.index-listing-index.result.places.now ≡ allocs_of g.o c.args.inst =
+    listed_places f g.o c.args.by.now.listing.now c.args.inst c.index.result c.index-listing-index.result c.index-listing-index.result.places.now
+    c.requires.1.1.0
+    refl c.index.ensures c.index-listing-index.is c.requires.1.1.1.1.1.1.1 in
+    subst (λ (ps : List ℕ). All (IsListed ps) c.index-listing-index.result.places.now) (sym c.in_ok-go_to_early.ensures.kept.places)
     (subst (λ (qs : List Place). All (IsListed c.args.values.now.places) qs) (sym places)
     (operands-listed f g.o c.args.values.now.places c.args.inst c.requires.1.1.1.0.places))

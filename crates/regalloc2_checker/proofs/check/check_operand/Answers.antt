@@ -8,13 +8,16 @@ use Rattle.regalloc2_checker.proofs.check.check_operand.Goals as goal
 
 pub returns-then-is_none : goal.returns-then-is_none
 returns-then-is_none g c = λ env h.
-    missing_at env c.args.at.now.inst c.args.at.now.operands.now c.args.at.now.places.now (λ (p : Place) (v : VirtualRegister). facts_now c.args.values.now p v ≡ true)
+    missing_at env c.args.at.now.inst c.args.at.now.operands.now c.args.at.now.places.now (λ (p : Place) (v : VirtualRegister). facts_now c.args.values.now p v
+    ≡ true)
     c.args.k c.index-operands-k.result c.place_at-place.result
-    (operand_is c.args.at.now.operands.now c.args.k c.index-operands-k.result c.requires c.index-operands-k.is) c.place_at-place.ensures (sym c.if-is_none.ensures)
+    (operand_is c.args.at.now.operands.now c.args.k c.index-operands-k.result c.requires c.index-operands-k.is) c.place_at-place.ensures (sym
+    c.if-is_none.ensures)
 
 pub returns-then-is_some : goal.returns-then-is_some
 returns-then-is_some g c = λ env h.
-    value_at env c.args.at.now.inst c.args.at.now.operands.now c.args.at.now.places.now (λ (p : Place) (v : VirtualRegister). facts_now c.args.values.now p v ≡ true)
+    value_at env c.args.at.now.inst c.args.at.now.operands.now c.args.at.now.places.now (λ (p : Place) (v : VirtualRegister). facts_now c.args.values.now p v ≡
+    true)
     c.args.k c.index-operands-k.result c.place_at-place.result
     (operand_is c.args.at.now.operands.now c.args.k c.index-operands-k.result c.requires c.index-operands-k.is) c.place_at-place.ensures c.in_ok-fault.fault
     (sym c.if-is_some.ensures) (is_there _ (sym c.if-is_none.ensures)) c.in_ok-fault.ensures

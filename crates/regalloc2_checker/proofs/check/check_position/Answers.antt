@@ -13,7 +13,8 @@ loop-k-init g c = λ env h j less at. absurd (omega (arith, less))
 
 pub loop-k-preserved-then-not-is_at : goal.loop-k-preserved-then-not-is_at
 loop-k-preserved-then-not-is_at g c = λ env h.
-    let same : c.index-operands-k.result ≡ operand_at c.args.at.now.operands.now c.loop-k.k = operand_is c.args.at.now.operands.now c.loop-k.k c.index-operands-k.result
+    let same : c.index-operands-k.result ≡ operand_at c.args.at.now.operands.now c.loop-k.k = operand_is c.args.at.now.operands.now c.loop-k.k
+    c.index-operands-k.result
     c.loop-k-test.true c.index-operands-k.is in
     fine_more env c.args.at.now.operands.now c.args.at.now.places.now c.args.position
     (λ (p : Place) (v : VirtualRegister). facts_now c.args.values.now p v ≡ true) c.loop-k.k (c.loop-k.invariant env h)
@@ -21,7 +22,8 @@ loop-k-preserved-then-not-is_at g c = λ env h.
 
 pub returns-then-is_some : goal.returns-then-is_some
 returns-then-is_some g c = λ env h.
-    let same : c.index-operands-k.result ≡ operand_at c.args.at.now.operands.now c.loop-k.k = operand_is c.args.at.now.operands.now c.loop-k.k c.index-operands-k.result
+    let same : c.index-operands-k.result ≡ operand_at c.args.at.now.operands.now c.loop-k.k = operand_is c.args.at.now.operands.now c.loop-k.k
+    c.index-operands-k.result
     c.loop-k-test.true c.index-operands-k.is in
     judged_some env c.args.at.now.inst c.args.at.now.operands.now c.args.at.now.places.now c.args.position
     (λ (p : Place) (v : VirtualRegister). facts_now c.args.values.now p v ≡ true) c.loop-k.k c.in_ok-fault.fault (sym c.if-is_some.ensures)

@@ -67,11 +67,13 @@ loop-b-preserved g c =
       kept = kept-twice c.args.values.now c.loop-b.values c.check_block.new.values c.loop-b.invariant.kept c.in_ok-check_block.ensures.kept;
       reports = λ env s. blocks_marked law f env g.o (views c.args.values.now c.args.reached.now) c.loop-b.b c.new.result
           (facts_table c.loop-b.values c.new.result) c.loop-b.errors.items c.check_block.new.errors.items c.requires.1.1.1.0 c.requires.1.1.1.1.1.1.1
-          c.new.ensures
-          (reached-is c.args.values.now c.args.reached.now c.loop-b.b _ true less c.if-not-reached-b.false)
-          (facts-is c.args.values.now c.args.reached.now c.loop-b.b less
-          ∙ sym (table-kept c.args.values.now c.loop-b.values c.loop-b.b c.loop-b.invariant.kept)
-          ∙ ap (λ (n : ℕ). facts_table c.loop-b.values n) (sym c.new.ensures))
+          (record {
+            number = c.new.ensures;
+            marked = reached-is c.args.values.now c.args.reached.now c.loop-b.b _ true less c.if-not-reached-b.false;
+            facts = facts-is c.args.values.now c.args.reached.now c.loop-b.b less
+                ∙ sym (table-kept c.args.values.now c.loop-b.values c.loop-b.b c.loop-b.invariant.kept)
+                ∙ ap (λ (n : ℕ). facts_table c.loop-b.values n) (sym c.new.ensures);
+          })
           (c.in_ok-check_block.ensures.judged env s) (c.loop-b.invariant.reports env s);
     }
 

@@ -1,6 +1,6 @@
 use Rattle.std.proofs.Common.{◌≡◌, ◌≤◌, length}
 use Rattle.regalloc2_function.specs.Machine.{MachineValue}
-use Rattle.regalloc2_checker_tables.specs.Holding.{AreKeptTables}
+use Rattle.regalloc2_checker_tables.specs.Showing.{AreTablesKept}
 use Rattle.regalloc2_checker.specs.CheckInputs.{AreStackSlots}
 use Rattle.regalloc2_checker.specs.Report.{BlockReports}
 use Rattle.regalloc2_checker.proofs.find_errors.check_all.Given as goal
@@ -13,6 +13,6 @@ abbrev pub invariant-loop-b : goal.invariant-loop-b
 invariant-loop-b g l = record {
   within : l.b-end ≡ length (g.F.Function.function l.f).blocks;
   low : l.b ≤ length (g.F.Function.function l.f).blocks;
-  kept : AreKeptTables l.fn.values l.values;
+  kept : AreTablesKept l.fn.values l.values;
   reports : (env : MachineValue) → AreStackSlots env l.by.slots → BlockReports (g.F.Function.function l.f) env g.o l.b l.errors.items;
 }

@@ -1,7 +1,7 @@
 use Rattle.std.proofs.Common.{ℕ, ◌≡◌, ◌<◌, ◌≤◌, length, ◌∙◌, ap, arith, rules, subst, sym}
 use Rattle.regalloc2_index.specs.Range.{Span}
 use Rattle.regalloc2_function.specs.FunctionValue.{FunctionValue, block_at}
-use Rattle.regalloc2_checker_tables.specs.Holding.{AreKeptTables, holds_in}
+use Rattle.regalloc2_checker_tables.specs.Showing.{AreTablesKept, shows_in}
 use Rattle.regalloc2_checker.specs.Facts.{Facts}
 use Rattle.regalloc2_checker.specs.TableFacts.{facts_now, facts_table}
 use Rattle.regalloc2_checker.proofs.Blocks.{judged_first, judged_next, judged_end}
@@ -21,7 +21,7 @@ loop-i-init g c =
     let some : (block_at f c.args.block).range.first < (block_at f c.args.block).range.end = nonempty f c.requires.1.1.1.0 c.args.block
     c.requires.1.1.1.1.1.0 in
     let now : facts_now c.load.new.self ≡ facts_table c.args.values.now c.args.block =
-    now-as c.args.values.now c.load.new.self (holds_in c.args.values.now c.args.block) c.load.ensures.kept.places (rw c.index.ensures at c.load.ensures.now) in
+    now-as c.args.values.now c.load.new.self (shows_in c.args.values.now c.args.block) c.load.ensures.kept.places (rw c.index.ensures at c.load.ensures.now) in
     record {
       end = c.index-i-end.ensures ∙ c.end.ensures ∙ ap (λ (s : Span). s.end) c.block_insns-range.ensures;
       low = omega (arith, first);
@@ -67,8 +67,13 @@ loop-i-preserved g c =
       kept = kept-twice c.args.values.now c.loop-i.values c.check_inst.new.values c.loop-i.invariant.kept c.in_ok-check_inst.ensures.kept;
       judged = λ env s k. judged_next f env g.o c.args.block c.loop-i.i c.new.result (facts_table c.args.values.now c.args.block) c.args.errors.now.items
           c.loop-i.errors.items c.check_inst.new.errors.items (facts_now c.loop-i.values) (facts_now c.check_inst.new.values)
-          c.new.ensures c.loop-i.invariant.low (omega (arith, c.loop-i-test.true, c.loop-i.invariant.end)) k c.in_ok-check_inst.ensures.now
-          (c.in_ok-check_inst.ensures.judged env s)
+          (record {
+            number = c.new.ensures;
+            low = c.loop-i.invariant.low;
+            high = omega (arith, c.loop-i-test.true, c.loop-i.invariant.end);
+            run = c.in_ok-check_inst.ensures.now;
+          })
+          k (c.in_ok-check_inst.ensures.judged env s)
           (c.loop-i.invariant.judged env s k);
     }
 

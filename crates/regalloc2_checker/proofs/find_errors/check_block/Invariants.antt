@@ -1,7 +1,7 @@
 use Rattle.std.proofs.Common.{◌≡◌, ◌≤◌}
 use Rattle.regalloc2_function.specs.FunctionValue.{block_at}
 use Rattle.regalloc2_function.specs.Machine.{MachineValue}
-use Rattle.regalloc2_checker_tables.specs.Holding.{AreKeptTables}
+use Rattle.regalloc2_checker_tables.specs.Showing.{AreTablesKept}
 use Rattle.regalloc2_checker.specs.Blocks.{IsKnownWithin}
 use Rattle.regalloc2_checker.specs.CheckInputs.{AreStackSlots}
 use Rattle.regalloc2_checker.specs.TableFacts.{facts_now, facts_table}
@@ -17,7 +17,9 @@ invariant-loop-i g l = record {
   end : l.i-end ≡ (block_at (g.F.Function.function l.by.f.now) l.block).range.end;
   low : (block_at (g.F.Function.function l.by.f.now) l.block).range.first ≤ l.i;
   high : l.i ≤ (block_at (g.F.Function.function l.by.f.now) l.block).range.end;
-  kept : AreKeptTables l.fn.values l.values;
-  judged : (env : MachineValue) → AreStackSlots env l.by.slots → IsKnownWithin (g.F.Function.function l.by.f.now) g.o l.block (facts_table l.fn.values l.block) →
-      IsJudgedTo (g.F.Function.function l.by.f.now) env g.o l.block l.i (facts_table l.fn.values l.block) l.initial.errors.items l.errors.items (facts_now l.values);
+  kept : AreTablesKept l.fn.values l.values;
+  judged : (env : MachineValue) → AreStackSlots env l.by.slots → IsKnownWithin (g.F.Function.function l.by.f.now) g.o l.block (facts_table l.fn.values l.block)
+      →
+      IsJudgedTo (g.F.Function.function l.by.f.now) env g.o l.block l.i (facts_table l.fn.values l.block) l.initial.errors.items l.errors.items (facts_now
+      l.values);
 }

@@ -1,40 +1,103 @@
-use Rattle.std.proofs.Common.{◌∙◌, ◌<◌, ap, length, arith}
-use Rattle.regalloc2_function.specs.FunctionValue.{FunctionValue}
+use Rattle.std.proofs.Common.{◌≡◌, ◌<◌, ◌≤◌, ◌∙◌, ◌+◌, ℕ, List, ap, sym, length, map, subst, arith}
+use Rattle.std.specs.List.Sorted.{IsNonDecreasingBy}
+use Rattle.std.proofs.lemmas.List.{length-map}
+use Rattle.regalloc2_index.specs.Range.{Span}
+use Rattle.regalloc2_names.specs.Point.{before}
+use Rattle.regalloc2_function.specs.FunctionValue.{FunctionValue, block_at}
 use Rattle.regalloc2_function.specs.OutputValue.{OutputValue}
-use Rattle.regalloc2_function.specs.Views.{output_of, rest_of}
-use Rattle.regalloc2_checker.proofs.CopiedListing.{copying_starts, copying_move, copying_inst, copying_ends, next_below}
+use Rattle.regalloc2_function.specs.Views.{output_of, edit_of}
+use Rattle.regalloc2_function.specs.declared.listing.Edit.{Edit}
+use Rattle.regalloc2_checker.proofs.BlocksInRange.{insts_within, nonempty}
+use Rattle.regalloc2_checker.proofs.CopiedListing.{begins_at, BeginsAt, begins_first, begins_next, begun_passed, copying_starts, copying_inst, copying_ends}
+use Rattle.regalloc2_checker.proofs.CopiedListing.{part_is, passed_later, sorted_edits}
+use Rattle.regalloc2_checker.specs.ListingCopied.{IsSplit}
+use Rattle.std.proofs.lemmas.List.{length_push}
+use Rattle.std.proofs.Common.{refl}
 use Rattle.regalloc2_checker.proofs.handle.handle_block.Goals as goal
 
-pub loop-item-init : goal.loop-item-init
-loop-item-init g c =
-    copying_starts (g.F.Function.function c.args.f.now) (output_of c.args.out.now) c.requires.framed c.args.block c.requires.block c.new-moves.result.items
-    (rest_of c.into_iter-item-iterator.result) c.args.listing.now.items
-    c.requires.before c.new-moves.ensures.items (ap rest_of c.into_iter-item-iterator.ensures.into_iter_gives
-    ∙ c.block_insts_and_edits-item-items.ensures.items)
+pub first_from-from-requires : goal.first_from-from-requires
+first_from-from-requires g c =
+    let f : FunctionValue = g.F.Function.function c.args.f.now in
+    let at = begins_at f (output_of c.args.out.now) c.requires.framed c.args.block c.requires.block c.args.listing.now.items c.requires.before in
+    let first = c.first-first.ensures ∙ ap (λ (s : Span). s.first) c.block_insns-range.ensures in
+    rw c.as_slice-edits.ensures.value (record {
+      sorted = sorted_edits c.args.out.now.edits.items c.requires.in_order.points_never_fall;
+      from = c.requires.within;
+      passed = passed_later c.args.out.now.edits.items c.args.passed (before (length c.args.listing.now.items)) _ (omega (arith, at, first)) c.requires.passed;
+    })
 
-pub loop-item-preserved-in-Continue-1 : goal.loop-item-preserved-in-Continue-1
-loop-item-preserved-in-Continue-1 g c =
-    copying_move (g.F.Function.function c.args.f.now) (output_of c.args.out.now) c.args.block c.loop-item.moves.items c.push.new.self.items c.in-Edit.edit.now
-    (rest_of c.loop-item.item-iterator) (rest_of c.next.new.self) c.loop-item.listing.items
-    c.loop-item.invariant (rw c.in-Edit.is at c.in-Some.ensures.steps) c.in_ok-push-in-Edit.ensures.items
+pub loop-i-init : goal.loop-i-init
+loop-i-init g c =
+    let f : FunctionValue = g.F.Function.function c.args.f.now in
+    let at = begins_at f (output_of c.args.out.now) c.requires.framed c.args.block c.requires.block c.args.listing.now.items c.requires.before in
+    let first = c.first-first.ensures ∙ ap (λ (s : Span). s.first) c.block_insns-range.ensures in
+    let some = nonempty f c.requires.framed c.args.block c.requires.block in
+    record {
+      end = c.index-i-end.ensures ∙ c.end.ensures ∙ ap (λ (s : Span). s.end) c.block_insns-range.ensures;
+      low = omega (arith, first, c.index-i.ensures);
+      high = omega (arith, first, c.index-i.ensures, some);
+      long = omega (arith, first, c.index-i.ensures, at);
+      begins = begins_first c.as_slice-edits.result.now _ _ c.first_from-from.result _ (omega (arith, first, c.index-i.ensures)) (omega (arith, first))
+          c.first_from-from.ensures.split;
+      copying = copying_starts f (output_of c.args.out.now) c.requires.framed c.args.block c.requires.block c.args.listing.now.items c.requires.before;
+    }
+
+pub first_from-end-requires : goal.first_from-end-requires
+first_from-end-requires g c =
+    let f : FunctionValue = g.F.Function.function c.args.f.now in
+    let begun = begun_passed c.as_slice-edits.result.now (block_at f c.args.block).range.first c.loop-i.i c.loop-i.from (before c.loop-i.i + 1)
+    c.loop-i.invariant.low (omega arith) c.loop-i.invariant.begins in
+    record {
+      sorted = rw c.as_slice-edits.ensures.value (sorted_edits c.args.out.now.edits.items c.requires.in_order.points_never_fall);
+      from = begun.0;
+      passed = passed_later c.as_slice-edits.result.now c.loop-i.from (before c.loop-i.i + 1) _ (omega (arith, c.new-inst.ensures)) begun.1;
+    }
 
 pub handle_inst-requires-clause-inst : goal.handle_inst-requires-clause-inst
 handle_inst-requires-clause-inst g c =
     let f : FunctionValue = g.F.Function.function c.args.f.now in
-    let o : OutputValue = output_of c.args.out.now in
-    let below : c.in-Inst.inst < length f.insts = next_below f o c.args.block c.in-Inst.inst c.loop-item.moves.items (rest_of c.loop-item.item-iterator)
-    (rest_of c.next.new.self) c.loop-item.listing.items c.requires.framed c.requires.block c.loop-item.invariant
-    (rw c.in-Inst.is at c.in-Some.ensures.steps) in
-    omega (arith, below, c.requires.in_order.one_offset_each)
+    let inside = insts_within f c.requires.framed c.args.block c.requires.block in
+    omega (arith, c.new-inst.ensures, c.loop-i-test.true, c.loop-i.invariant.end, inside, c.requires.in_order.one_offset_each)
 
-pub loop-item-preserved : goal.loop-item-preserved
-loop-item-preserved g c =
-    copying_inst (g.F.Function.function c.args.f.now) (output_of c.args.out.now) c.args.block c.in-Inst.inst c.loop-item.moves.items
-    c.new-moves-in-Inst.result.items (rest_of c.loop-item.item-iterator) (rest_of c.next.new.self) c.loop-item.listing.items
-    c.handle_inst.new.listing.items c.loop-item.invariant (rw c.in-Inst.is at c.in-Some.ensures.steps) c.in_ok-handle_inst-in-Inst.ensures
-    c.new-moves-in-Inst.ensures.items
+pub loop-i-preserved : goal.loop-i-preserved
+loop-i-preserved g c =
+    let f : FunctionValue = g.F.Function.function c.args.f.now in
+    let o : OutputValue = output_of c.args.out.now in
+    let es : List (ℕ × Edit) = c.as_slice-edits.result.now in
+    let seen : o.edits ≡ map edit_of es = rw c.as_slice-edits.ensures.value refl in
+    let same : c.args.moves.now ≡ map (λ (e : ℕ × Edit). e.1) es = rw c.as_slice-edits.ensures.value c.requires.moves in
+    let begins : BeginsAt es (block_at f c.args.block).range.first c.new-inst.result c.loop-i.from =
+    subst (λ (n : ℕ). BeginsAt es (block_at f c.args.block).range.first n c.loop-i.from) (sym c.new-inst.ensures) c.loop-i.invariant.begins in
+    let split : IsSplit es c.first_from-end.result (before c.new-inst.result + 1) =
+    subst (λ (n : ℕ). IsSplit es c.first_from-end.result n) (omega (arith, c.new-inst.ensures)) c.first_from-end.ensures.split in
+    record {
+      end = c.loop-i.invariant.end;
+      low = omega (arith, c.loop-i.invariant.low);
+      high = omega (arith, c.loop-i-test.true, c.loop-i.invariant.end);
+      long = omega (
+        arith,
+        c.loop-i.invariant.long,
+        ap length c.in_ok-handle_inst.ensures.whole,
+        length_push c.loop-i.listing.items
+            c.in_ok-handle_inst.ensures.last,
+      );
+      begins = begins_next c.as_slice-edits.result.now _ c.loop-i.i c.first_from-end.result _ c.loop-i.invariant.low (omega (arith, c.new-inst.ensures))
+          c.first_from-end.ensures.split;
+      copying = copying_inst f o c.args.block c.new-inst.result _ c.loop-i.listing.items c.handle_inst.new.listing.items c.loop-i.invariant.copying
+          (c.new-inst.ensures ∙ c.loop-i.invariant.long) c.in_ok-handle_inst.ensures
+          (part_is o es c.args.moves.now (block_at f c.args.block).range.first c.new-inst.result c.loop-i.from c.first_from-end.result
+          seen same (omega (arith, c.new-inst.ensures, c.loop-i.invariant.low)) c.first_from-end.ensures.from begins split);
+    }
 
 pub returns : goal.returns
 returns g c =
-    copying_ends (g.F.Function.function c.args.f.now) (output_of c.args.out.now) c.args.block c.loop-item.moves.items (rest_of c.loop-item.item-iterator)
-    c.loop-item.listing.items c.loop-item.invariant c.in-None.ensures.steps.0
+    let f : FunctionValue = g.F.Function.function c.args.f.now in
+    let at : c.loop-i.i ≡ (block_at f c.args.block).range.end = omega (arith, c.loop-i-test.false, c.loop-i.invariant.end, c.loop-i.invariant.high) in
+    let begun = begun_passed c.as_slice-edits.result.now (block_at f c.args.block).range.first c.loop-i.i c.loop-i.from (before c.loop-i.i)
+    c.loop-i.invariant.low (omega arith) c.loop-i.invariant.begins in
+    record {
+      within = rw (← c.as_slice-edits.ensures.value) begun.0;
+      passed = rw (← c.as_slice-edits.ensures.value, ← c.loop-i.invariant.long) begun.1;
+      listed = copying_ends f (output_of c.args.out.now) c.args.block c.loop-i.listing.items c.loop-i.invariant.copying
+          (sym c.loop-i.invariant.long ∙ at) (nonempty f c.requires.framed c.args.block c.requires.block);
+    }

@@ -6,20 +6,31 @@ use Rattle.regalloc2_checker.proofs.CopiedListing.{listed_none, listed_all}
 use Rattle.regalloc2_checker.proofs.handle.handle_listing.Goals as goal
 
 pub loop-b-init : goal.loop-b-init
-loop-b-init g c = record { within = c.num_blocks-b-end.ensures.count; low = omega arith; listed = listed_none _ _ _ c.in_ok-listing.ensures.items }
+loop-b-init g c = record {
+  within = c.num_blocks-b-end.ensures.count;
+  low = omega arith;
+  edits = omega arith;
+  passed = λ k d less. absurd (omega arith);
+  listed = listed_none _ _ _ c.in_ok-listing.ensures.items;
+}
 
 pub loop-b-preserved : goal.loop-b-preserved
 loop-b-preserved g c = record {
   within = c.loop-b.invariant.within;
   low = omega (arith, c.loop-b-test.true, c.loop-b.invariant.within);
-  listed = rw c.new.ensures at c.in_ok-handle_block.ensures;
+  edits = c.in_ok-passed.ensures.within;
+  passed = c.in_ok-passed.ensures.passed;
+  listed = rw c.new.ensures at c.in_ok-passed.ensures.listed;
 }
 
 pub handle_block-requires : goal.handle_block-requires
 handle_block-requires g c = record {
   framed = c.requires.framed;
   in_order = c.requires.in_order;
+  moves = c.requires.moves;
   block = omega (arith, c.new.ensures, c.loop-b-test.true, c.loop-b.invariant.within);
+  within = c.loop-b.invariant.edits;
+  passed = c.loop-b.invariant.passed;
   before = rw c.new.ensures c.loop-b.invariant.listed;
 }
 

@@ -3,7 +3,7 @@ use Rattle.std.specs.Prelude.{min}
 use Rattle.std.specs.declared.vec.Vec.{Vec}
 use Rattle.std.proofs.lemmas.List.{get_or_default}
 use Rattle.regalloc2_names.specs.Register.{VirtualRegister}
-use Rattle.regalloc2_checker_tables.specs.Holding.{holds_now}
+use Rattle.regalloc2_checker_tables.specs.Showing.{shows_now}
 use Rattle.regalloc2_checker.specs.Renamed.{HoldersAre}
 use Rattle.regalloc2_checker.specs.TableFacts.{facts_now, IsListedVReg}
 use Rattle.regalloc2_checker.proofs.RestOfList.{renamed_none, renamed_more, renamed_all, vreg-listed}
@@ -27,9 +27,9 @@ give-requires-clause-places g c = λ i e.
     let h = c.in_ok-had.ensures.holders c.loop-k.k c.index.result.now c.index-params-k.result (omega (arith, c.loop-k-test.true, c.min-k-end.ensures)) in
     let whole : c.deref.result.now ≡ (get_or c.in_ok-had.had.items c.loop-k.k c.index.result.now).items =
     c.deref.ensures.value ∙ ap (λ (v : Vec ℕ _). v.items) c.index.ensures in
-    let there : HoldersAre c.args.values.now.places (holds_now c.args.values.now) (get_or c.args.arguments.now c.loop-k.k c.index-params-k.result)
+    let there : HoldersAre c.args.values.now.places (shows_now c.args.values.now) (get_or c.args.arguments.now c.loop-k.k c.index-params-k.result)
     c.deref.result.now =
-    subst (λ (xs : List ℕ). HoldersAre c.args.values.now.places (holds_now c.args.values.now)
+    subst (λ (xs : List ℕ). HoldersAre c.args.values.now.places (shows_now c.args.values.now)
     (get_or c.args.arguments.now c.loop-k.k c.index-params-k.result) xs) (sym whole) h in
     subst (λ (ps : List ℕ). i < length ps) (sym c.loop-k.invariant.kept.places) (there.within i e)
 
@@ -44,13 +44,13 @@ loop-k-preserved g c =
     let h = c.in_ok-had.ensures.holders k c.index.result.now p lh in
     let whole : c.deref.result.now ≡ (get_or c.in_ok-had.had.items k c.index.result.now).items =
     c.deref.ensures.value ∙ ap (λ (v : Vec ℕ _). v.items) c.index.ensures in
-    let there : HoldersAre c.args.values.now.places (holds_now c.args.values.now) a c.deref.result.now =
-    subst (λ (xs : List ℕ). HoldersAre c.args.values.now.places (holds_now c.args.values.now) a xs) (sym whole) h in
+    let there : HoldersAre c.args.values.now.places (shows_now c.args.values.now) a c.deref.result.now =
+    subst (λ (xs : List ℕ). HoldersAre c.args.values.now.places (shows_now c.args.values.now) a xs) (sym whole) h in
     record {
       kept = kept-twice c.args.values.now c.loop-k.values c.give.new.values c.loop-k.invariant.kept c.in_ok-give.ensures.kept;
       renamed = renamed_more c.args.params.now c.args.arguments.now k p a (facts_now c.args.values.now) (facts_now c.loop-k.values)
           (facts_now c.give.new.values) lp la c.index-params-k.is (get_or_default c.args.arguments.now k p a la)
-          (given-renamed c.args.values.now.places c.loop-k.values.places (holds_now c.args.values.now) p a c.deref.result.now (facts_now c.loop-k.values)
+          (given-renamed c.args.values.now.places c.loop-k.values.places (shows_now c.args.values.now) p a c.deref.result.now (facts_now c.loop-k.values)
           (facts_now c.give.new.values) c.loop-k.invariant.kept.places there c.in_ok-give.ensures.now) c.loop-k.invariant.renamed;
     }
 

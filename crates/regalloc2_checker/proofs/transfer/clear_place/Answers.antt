@@ -1,5 +1,5 @@
 use Rattle.std.proofs.Common.{sym}
-use Rattle.regalloc2_checker_tables.specs.Holding.{holds_now}
+use Rattle.regalloc2_checker_tables.specs.Showing.{shows_now}
 use Rattle.regalloc2_checker.proofs.TableSteps.{cleared-is, cleared-unlisted}
 use Rattle.regalloc2_checker.proofs.transfer.clear_place.Goals as goal
 
@@ -10,4 +10,4 @@ returns-in-Some-clause-now g c =
 
 pub returns-in_default-clause-now : goal.returns-in_default-clause-now
 returns-in_default-clause-now g c =
-    cleared-unlisted c.args.values.now.places (holds_now c.args.values.now) c.args.place (sym c.in_default.ensures.position)
+    cleared-unlisted c.args.values.now.places (shows_now c.args.values.now) c.args.place (sym c.in_default.ensures.position)

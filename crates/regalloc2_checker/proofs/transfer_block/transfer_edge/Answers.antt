@@ -7,8 +7,8 @@ use Rattle.regalloc2_checker.proofs.BlocksInRange.{index_is}
 use Rattle.regalloc2_checker.proofs.TransferFollowsFacts.{over_run}
 use Rattle.regalloc2_checker.proofs.transfer_block.transfer_edge.Goals as goal
 
-pub assign_params-requires-clause-params : goal.assign_params-requires-clause-params
-assign_params-requires-clause-params g c =
+pub take_arguments-requires-clause-params : goal.take_arguments-requires-clause-params
+take_arguments-requires-clause-params g c =
     let f : FunctionValue = g.F.Function.function c.args.f.now in
     let less : c.args.position < length c.block_succs.result.now = rw c.block_succs.ensures c.requires.position in
     let target : c.index-block_succs-position.result ≡ slice_index (block_at f c.args.block).succs c.args.position =
@@ -19,8 +19,8 @@ assign_params-requires-clause-params g c =
     (c.requires.named.params (slice_index (block_at f c.args.block).succs c.args.position)
     (c.requires.framed.successors.1 c.args.block c.requires.block c.args.position 0 c.requires.position)))
 
-pub assign_params-requires-clause-arguments : goal.assign_params-requires-clause-arguments
-assign_params-requires-clause-arguments g c =
+pub take_arguments-requires-clause-arguments : goal.take_arguments-requires-clause-arguments
+take_arguments-requires-clause-arguments g c =
     subst (λ (vs : List VirtualRegister). All (IsListedVReg c.args.values.now.vregs) vs) (sym c.branch_blockparams-arguments.ensures)
     (c.requires.named.arguments c.args.block c.args.position c.requires.block c.requires.position)
 
@@ -31,6 +31,6 @@ returns-clause-now g c =
     let target : c.index-block_succs-position.result ≡ slice_index (block_at f c.args.block).succs c.args.position =
     index_is (block_at f c.args.block).succs c.block_succs.result.now c.args.position c.index-block_succs-position.result less c.index-block_succs-position.is
     c.block_succs.ensures in
-    over_run f c.args.block c.args.position (facts_now c.args.values.now) (facts_now c.assign_params.new.values) c.block_params-params.result.now
+    over_run f c.args.block c.args.position (facts_now c.args.values.now) (facts_now c.take_arguments.new.values) c.block_params-params.result.now
     c.branch_blockparams-arguments.result.now (c.block_params-params.ensures ∙ ap (λ (t : ℕ). (block_at f t).params) target)
-    c.branch_blockparams-arguments.ensures c.in_ok-assign_params.ensures.now
+    c.branch_blockparams-arguments.ensures c.in_ok-take_arguments.ensures.now

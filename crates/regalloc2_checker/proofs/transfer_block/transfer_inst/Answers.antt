@@ -1,4 +1,4 @@
-use Rattle.std.proofs.Common.{◌≡◌, map, arith, sym, rules, ◌∙◌, ap, subst, List, ℕ}
+use Rattle.std.proofs.Common.{◌≡◌, map, arith, sym, refl, rules, ◌∙◌, ap, subst, List, ℕ}
 use Rattle.std.specs.Prelude.{All}
 use Rattle.regalloc2_names.specs.Operand.{OperandValue}
 use Rattle.regalloc2_names.specs.Place.{Place}
@@ -8,23 +8,25 @@ use Rattle.regalloc2_function.specs.AllocatedRun.{moves_at}
 use Rattle.regalloc2_function.specs.Views.{move_of}
 use Rattle.regalloc2_checker.specs.TableFacts.{facts_now, IsListed, IsListedVReg, IsMissingUnlisted}
 use Rattle.regalloc2_checker.proofs.NamedPlaces.{no-missing, moves-listed, operands-listed}
-use Rattle.regalloc2_checker.proofs.TransferFollowsFacts.{after_run, listed_moves, listed_places}
+use Rattle.regalloc2_checker.proofs.TransferFollowsFacts.{IsReadAt, after_run, listed_moves, listed_places}
 use Rattle.regalloc2_checker.proofs.transfer_block.transfer_inst.Goals as goal
 
 pub returns-clause-now : goal.returns-clause-now
 returns-clause-now g c =
-    after_run (g.F.Function.function c.args.f.now) g.o c.args.block c.args.inst (facts_now c.args.values.now) (facts_now c.go_to_early.new.values)
-    (facts_now c.go_to_late.new.values)
-    (map move_of c.deref.result.now) c.deref-2.result.now c.deref-3.result.now c.inst_operands-operands.result.now c.inst_clobbers.result
-    (listed_moves (g.F.Function.function c.args.f.now) g.o c.args.listing.now c.args.block c.args.inst c.index.result c.index-listing-index.result
-    c.deref.result.now c.requires.1.1.0 c.deref.ensures.value c.index.ensures c.index-listing-index.is c.requires.1.1.1.1.0 c.requires.1.1.1.1.1.0
-    c.requires.1.1.1.1.1.1.0)
-    (listed_places (g.F.Function.function c.args.f.now) g.o c.args.listing.now c.args.inst c.index.result c.index-listing-index.result c.deref-2.result.now
-    c.requires.1.1.0 c.deref-2.ensures.value c.index.ensures c.index-listing-index.is c.requires.1.1.1.1.1.1.1)
-    (listed_places (g.F.Function.function c.args.f.now) g.o c.args.listing.now c.args.inst c.index.result c.index-listing-index.result c.deref-3.result.now
-    c.requires.1.1.0 c.deref-3.ensures.value c.index.ensures c.index-listing-index.is c.requires.1.1.1.1.1.1.1)
-    c.inst_operands-operands.ensures c.inst_clobbers.ensures
-    c.in_ok-go_to_early.ensures.now c.in_ok-go_to_late.ensures.now
+    let f : FunctionValue = g.F.Function.function c.args.f.now in
+    let here : IsReadAt f g.o (record { block = c.args.block; inst = c.args.inst }) (map move_of c.index-listing-index.result.moves.now)
+    c.index-listing-index.result.places.now c.inst_operands-operands.result.now = record {
+      moves = listed_moves f g.o c.args.listing.now c.args.block c.args.inst c.index.result c.index-listing-index.result
+          c.index-listing-index.result.moves.now c.requires.1.1.0 refl c.index.ensures c.index-listing-index.is c.requires.1.1.1.1.0
+          c.requires.1.1.1.1.1.0 c.requires.1.1.1.1.1.1.0;
+      places = listed_places f g.o c.args.listing.now c.args.inst c.index.result c.index-listing-index.result c.index-listing-index.result.places.now
+          c.requires.1.1.0 refl c.index.ensures c.index-listing-index.is c.requires.1.1.1.1.1.1.1;
+      operands = c.inst_operands-operands.ensures;
+    } in
+    after_run f g.o (record { block = c.args.block; inst = c.args.inst }) (facts_now c.args.values.now) (facts_now c.go_to_early.new.values)
+    (facts_now c.go_to_late.new.values) (map move_of c.index-listing-index.result.moves.now) c.index-listing-index.result.places.now
+    c.inst_operands-operands.result.now c.inst_clobbers.result here c.inst_clobbers.ensures c.in_ok-go_to_early.ensures.now
+    c.in_ok-go_to_late.ensures.now
 
 pub go_to_early-requires-clause-missing : goal.go_to_early-requires-clause-missing
 go_to_early-requires-clause-missing g c = no-missing (g.F.Function.function c.args.f.now) g.o c.args.values.now.places c.requires.1.1.1.0.places
@@ -32,9 +34,9 @@ go_to_early-requires-clause-missing g c = no-missing (g.F.Function.function c.ar
 pub go_to_early-requires-clause-listed : goal.go_to_early-requires-clause-listed
 go_to_early-requires-clause-listed g c =
     let f : FunctionValue = g.F.Function.function c.args.f.now in
-    let moves : map move_of c.deref.result.now ≡ moves_at f g.o (record { block = c.args.block; inst = c.args.inst }) =
+    let moves : map move_of c.index-listing-index.result.moves.now ≡ moves_at f g.o (record { block = c.args.block; inst = c.args.inst }) =
     listed_moves f g.o c.args.listing.now c.args.block c.args.inst c.index.result c.index-listing-index.result
-    c.deref.result.now c.requires.1.1.0 c.deref.ensures.value c.index.ensures c.index-listing-index.is c.requires.1.1.1.1.0 c.requires.1.1.1.1.1.0
+    c.index-listing-index.result.moves.now c.requires.1.1.0 refl c.index.ensures c.index-listing-index.is c.requires.1.1.1.1.0 c.requires.1.1.1.1.1.0
     c.requires.1.1.1.1.1.1.0 in
     subst (λ (ms : List MoveValue). All (λ m. IsListed c.args.values.now.places m.to) ms) (sym moves)
     (moves-listed f g.o c.args.values.now.places (record { block = c.args.block; inst = c.args.inst }) c.requires.1.1.1.0.places)
@@ -53,10 +55,10 @@ inst_clobbers-requires g c = c.requires.1.1.1.1.1.1.1
 
 pub go_to_late-requires-clause-listed : goal.go_to_late-requires-clause-listed
 go_to_late-requires-clause-listed g c =
-    subst (λ (ps : List ℕ). All (IsListed ps) c.deref-3.result.now) (sym c.in_ok-go_to_early.ensures.kept.places)
+    subst (λ (ps : List ℕ). All (IsListed ps) c.index-listing-index.result.places.now) (sym c.in_ok-go_to_early.ensures.kept.places)
     (subst (λ (qs : List Place). All (IsListed c.args.values.now.places) qs)
     (sym (listed_places (g.F.Function.function c.args.f.now) g.o c.args.listing.now c.args.inst c.index.result c.index-listing-index.result
-    c.deref-3.result.now c.requires.1.1.0 c.deref-3.ensures.value c.index.ensures c.index-listing-index.is c.requires.1.1.1.1.1.1.1))
+    c.index-listing-index.result.places.now c.requires.1.1.0 refl c.index.ensures c.index-listing-index.is c.requires.1.1.1.1.1.1.1))
     (operands-listed (g.F.Function.function c.args.f.now) g.o c.args.values.now.places c.args.inst c.requires.1.1.1.0.places))
 
 pub go_to_late-requires-clause-vregs : goal.go_to_late-requires-clause-vregs

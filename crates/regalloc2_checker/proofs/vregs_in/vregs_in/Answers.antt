@@ -13,14 +13,15 @@ pub loop-k-preserved-in_default-vreg_of : goal.loop-k-preserved-in_default-vreg_
 loop-k-preserved-in_default-vreg_of g c = record {
   low = omega (arith, c.loop-k-test.true);
   found = found_skip c.in_ok-members.members.items c.loop-k.k c.index.result.now c.loop-k.found.items (omega (arith, c.loop-k-test.true)) c.index.ensures
-      c.in_default-vreg_of.ensures c.loop-k.invariant.found;
+      c.in_default-vreg_of.ensures.vreg c.loop-k.invariant.found;
 }
 
 pub loop-k-preserved : goal.loop-k-preserved
 loop-k-preserved g c = record {
   low = omega (arith, c.loop-k-test.true);
   found = found_more c.in_ok-members.members.items c.loop-k.k c.index.result.now c.in-Some-vreg_of.vreg c.loop-k.found.items c.push.new.self.items
-      c.in_ok-members.ensures.rising (omega (arith, c.loop-k-test.true)) c.index.ensures c.in-Some-vreg_of.ensures c.in_ok-push.ensures.items
+      c.in_ok-members.ensures.rising (omega (arith, c.loop-k-test.true)) c.index.ensures c.in-Some-vreg_of.ensures.vreg c.vreg_of.ensures.small
+      c.in_ok-push.ensures.items
       c.loop-k.invariant.found;
 }
 

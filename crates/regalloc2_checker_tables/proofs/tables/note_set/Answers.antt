@@ -4,7 +4,8 @@ use Rattle.std.proofs.lemmas.Bool.{eqb-true}
 use Rattle.regalloc2_cfg.specs.Numbers.{NumberSet, has_number}
 use Rattle.regalloc2_checker_tables.specs.SavedNumbers.{Numbers, number_at, number_now}
 use Rattle.regalloc2_checker_tables.specs.EntrySets.{is_member}
-use Rattle.regalloc2_checker_tables.specs.Holding.{Holding, held, holds_now, holds_in, IsHome, AreTables, AreKeptTables, HoldsNow, count_of, is_in, AreMoreHomes}
+use Rattle.regalloc2_checker_tables.specs.Holding.{Holding, held, holds_now, holds_in, IsHome, AreTables, AreKeptTables, HoldsNow, count_of, is_in}
+use Rattle.regalloc2_checker_tables.specs.Holding.{AreMoreHomes}
 use Rattle.regalloc2_checker_tables.proofs.Bits.{read-is, same-sets, ok-as}
 use Rattle.regalloc2_checker_tables.proofs.Listed.{at-position, not-listed}
 use Rattle.regalloc2_checker_tables.proofs.Holders.{homes-same, homes-more, home-at, noted-here}

@@ -16,7 +16,8 @@ returns-in_default-clause-found g c =
 pub returns-then-has_no_other-clause-found : goal.returns-then-has_no_other-clause-found
 returns-then-has_no_other-clause-found g c =
     ok-as _ _ c.single.result
-    (λ n h. set-is c.single.new.self n _ _ (alone-is c.args.set c.in-Some.member (c.in-Some.ensures.some c.in-Some.member refl) (c.if-has_no_other.ensures refl)) h) c.single.ensures.found
+    (λ n h. set-is c.single.new.self n _ _ (alone-is c.args.set c.in-Some.member (c.in-Some.ensures.some c.in-Some.member refl) (c.if-has_no_other.ensures
+    refl)) h) c.single.ensures.found
 
 pub add-requires : goal.add-requires
 add-requires g c b e y = none-kept c.args.set b e y

@@ -1,0 +1,7 @@
+use Rattle.std.proofs.Common.{◌≡◌, ◌∙◌, ap, nat_eq}
+use Rattle.std.specs.List.{position}
+use Rattle.regalloc2_checker_tables.specs.Showing.{Showing}
+use Rattle.regalloc2_checker_tables.proofs.passing.PassingTables.place.Goals as goal
+
+pub returns : goal.returns
+returns g c = c.place.ensures ∙ ap (λ (o : Showing). position (λ n. nat_eq n c.args.bits) o.places) c.self.view_is

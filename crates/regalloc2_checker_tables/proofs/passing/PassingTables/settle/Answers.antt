@@ -1,0 +1,43 @@
+use Rattle.std.proofs.Common.{ℕ, ◌≡◌, ◌<◌, ◌+◌, List, [], ◌∷◌, ◌++◌, length, get_or, take, arith, Bool, true, false, ap, sym, ◌∙◌, refl, subst, cond, nat_eq}
+use Rattle.std.proofs.Common.{nat_lt}
+use Rattle.std.specs.Prelude.{◌&&◌, if◌then◌else◌, slice_set, Option, None, Some, Contains, ◌↔◌}
+use Rattle.std.specs.List.{position}
+use Rattle.std.specs.List.Sorted.{IsStrictlyIncreasing}
+use Rattle.std.proofs.lemmas.List.{length-set}
+use Rattle.regalloc2_checker_tables.specs.Holding.{Holding, holds_now, holds_in, AreKeptTables, HoldsNow, count_of, is_in, LosesSome}
+use Rattle.regalloc2_checker_tables.specs.Showing.{Showing, showing, bare, read_as, table_count, shows_now, shows_in, ArePassed, AreShown, AreTablesKept}
+use Rattle.regalloc2_checker_tables.specs.Showing.{ShowsNow}
+use Rattle.regalloc2_checker_tables.specs.declared.passing.Passed.{Passed}
+use Rattle.regalloc2_checker_tables.proofs.Bits.{read-is, ok-as}
+use Rattle.regalloc2_checker_tables.proofs.TableLaws.{on_ok_as, kept_same}
+use Rattle.regalloc2_checker_tables.proofs.Shown.{shown-after, shown-with, none-passed, kept-shown, read-none}
+use Rattle.regalloc2_checker_tables.proofs.passing.PassingTables.settle.Goals as goal
+
+pub settle-requires : goal.settle-requires
+settle-requires g c = c.self.invariant.now
+
+pub invariant_of-self : goal.invariant_of-self
+invariant_of-self g c =
+    shown-after c.self.inside.tables c.settle.new.tables c.self.inside.passed c.self.inside.saved.items c.in_err-settle.ensures.kept.vregs
+    c.in_err-settle.ensures.kept.count c.self.invariant
+
+pub invariant_of-self-2 : goal.invariant_of-self-2
+invariant_of-self-2 g c =
+    shown-with c.settle.new.tables c.self.inside.passed None c.self.inside.saved.items (none-passed c.settle.new.tables.vregs)
+    (shown-after c.self.inside.tables c.settle.new.tables c.self.inside.passed c.self.inside.saved.items c.in_ok-settle.ensures.kept.vregs
+    c.in_ok-settle.ensures.kept.count c.self.invariant)
+
+pub returns-in_err-settle-clause-kept : goal.returns-in_err-settle-clause-kept
+returns-in_err-settle-clause-kept g c =
+    subst (λ (o : Showing). AreTablesKept o (showing c.settle.new.tables c.self.inside.passed c.self.inside.saved.items)) c.self.view_is
+    (kept-shown c.self.inside.tables c.settle.new.tables c.self.inside.passed c.self.inside.passed c.self.inside.saved.items c.in_err-settle.ensures.kept)
+
+pub returns-clause-kept : goal.returns-clause-kept
+returns-clause-kept g c =
+    subst (λ (o : Showing). AreTablesKept o (showing c.settle.new.tables None c.self.inside.saved.items)) c.self.view_is
+    (kept-shown c.self.inside.tables c.settle.new.tables c.self.inside.passed None c.self.inside.saved.items c.in_ok-settle.ensures.kept)
+
+pub returns-clause-now : goal.returns-clause-now
+returns-clause-now g c =
+    subst (λ (o : Showing). ShowsNow (showing c.settle.new.tables None c.self.inside.saved.items) (shows_now o)) c.self.view_is
+    (λ i y l. ap (holds_now c.settle.new.tables i) (read-none c.settle.new.tables.vregs y) ∙ c.in_ok-settle.ensures.now i y l)
