@@ -17,9 +17,7 @@ ghost use Rattle.regalloc2_fastalloc_proofs.specs.BlockSteps.{offset_of};
 use super::{allocs, debug};
 use regalloc2_cfg::table_length::table_length;
 use regalloc2_fastalloc_walk::state::State;
-use regalloc2_function::{
-    Edit, Function, MachineEnv, Output, count_operands, reads_the_same_numbers,
-};
+use regalloc2_function::{Edit, Function, MachineEnv, Output, reads_the_same_numbers};
 use regalloc2_names::{Allocation, ProgPoint, RegAllocError};
 use std::alloc::Allocator;
 
@@ -60,8 +58,9 @@ fn fill_places<A: Allocator + Copy, F: Function, B: Allocator>(
     let vregs = table_length(f);
     let mut state = State::new(&alloc, f, env, vregs)?;
     state.alloc_blocks(&alloc, f, offsets, allocs)?;
-    let edits = state.edits.listed(alloc)?;
+    // first what takes tables by virtual register, which are gone when the moves are listed
     let debug_locations = debug::locations(alloc, f, &state.slots, offsets, allocs)?;
+    let edits = state.edits.listed(alloc)?;
     // a law, which the contract needs: the call does nothing
     reads_the_same_numbers();
     Ok(Rest {
@@ -71,21 +70,21 @@ fn fill_places<A: Allocator + Copy, F: Function, B: Allocator>(
     })
 }
 
-/// Allocates registers to the operands of a well-formed function, of every kind but `Limit`.
+/// Allocates registers to the operands of a well-formed function, of every kind but `Limit`: so many in all.
 pub fn allocate<A: Allocator + Copy, F: Function, B: Allocator>(
     alloc: A,
     f: &F,
     env: &MachineEnv<B>,
+    total: u32,
 ) -> Result<Output<A>, RegAllocError>
     requires machine { MachineFits (F.function f.now) (machine_of env.now) }
     requires taken { AreTaken (F.function f.now) }
     requires branches { (i : ℕ) → i < length (F.function f.now).insts → BranchDefinesInPlace (inst_at (F.function f.now) i) }
     requires well_formed { IsWellFormed (machine_of env.now) (F.function f.now) }
-    requires few { operand_count (F.function f.now) < 2 ^ 32 }
+    requires total { total ≡ operand_count (F.function f.now) }
     ensures allocation { IfOk result (λ out. IsAllocation (F.function f.now) (machine_of env.now) (output_of out)) }
     ensures err { IfErr result (Lacks (SomeDoesNotFit (F.function f.now) (machine_of env.now)) (2 ^ 24 < units_at_most (F.function f.now))) }
 {
-    let total = count_operands(f).unwrap();
     let offsets = allocs::offsets(alloc, f)?;
     let mut allocs = vec![in alloc; Allocation::none(); total as usize]?;
     let rest = fill_places(alloc, f, env, &offsets, &mut allocs)?;

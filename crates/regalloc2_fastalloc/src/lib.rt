@@ -114,15 +114,15 @@ pub fn run<A: Allocator + Copy, F: Function, B: Allocator>(
     ensures refused { IfErr result (IsReason (F.function f.now) (machine_of env.now) options.now.validate_ssa) }
     ensures many_operands { (result ≡ Err RegAllocError.TooManyOperands) ↔ (2 ^ 32 ≤ operand_count (F.function f.now)) }
 {
-    if count_operands(f).is_none() {
+    let Some(total) = count_operands(f) else {
         return Err(RegAllocError::TooManyOperands);
-    }
+    };
     if options.validate_ssa {
         validate_function(alloc, f, env)?;
     }
     validate_limits(f)?;
     validate_branches(f)?;
-    allocate::allocate(alloc, f, env)
+    allocate::allocate(alloc, f, env, total)
 }
 
 /// Allocates registers to a function, and puts the output into `ctx.output`.

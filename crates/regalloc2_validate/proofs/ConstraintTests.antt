@@ -11,7 +11,7 @@ use Rattle.regalloc2_function.specs.FunctionValue.{InstValue}
 use Rattle.regalloc2_function.specs.Machine.{MachineValue}
 use Rattle.regalloc2_function.specs.WellFormed.{MayBeReused, ReusesAreSound}
 use Rattle.regalloc2_validate.specs.Constraints.{op_at, no_operand}
-use Rattle.regalloc2_validate.specs.Constraints.{IsReused, IsTarget, IsSoundReuse, AreApart, AvoidsClobbers, IsClear}
+use Rattle.regalloc2_validate.specs.Constraints.{IsNoReuse, IsReused, IsTarget, IsSoundReuse, AreApart, AvoidsClobbers, IsClear}
 use Rattle.std.proofs.lemmas.List.{get_or_default}
 
 same_index : (m n : ℕ) (c : OperandConstraint) → c ≡ Reuse m → c ≡ Reuse n → m ≡ n
@@ -130,6 +130,14 @@ reuses_valid env i each apart = record {
   apart = λ j k n d e lj lk a b. apart j k n lj lk (ap (λ (o : OperandValue). o.constraint) (get_or_default i.operands j no_operand d lj) ∙ a)
       (ap (λ (o : OperandValue). o.constraint) (get_or_default i.operands k no_operand e lk) ∙ b);
 }
+
+-- where no operand is a reuse, an instruction's reuses are valid
+pub no_reuses_valid : (env : MachineValue) (i : InstValue) (ops : List OperandValue) → ops ≡ i.operands →
+    ((k : ℕ) → k < length ops → IsNoReuse (op_at ops k)) → ReusesAreSound env i
+no_reuses_valid env i ops e none =
+    let each : (k : ℕ) → k < length i.operands → IsNoReuse (op_at i.operands k) =
+    subst (λ os. (k : ℕ) → k < length os → IsNoReuse (op_at os k)) e none in
+    reuses_valid env i (λ k lt n is. absurd (each k lt n is)) (λ j k n lj lk a b. absurd (each j lj n a))
 
 -- if an instruction's reuses are valid as a whole, each of them is
 pub valid_reuses : (env : MachineValue) (i : InstValue) → ReusesAreSound env i → (k : ℕ) → k < length i.operands →

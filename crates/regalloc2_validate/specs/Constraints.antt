@@ -23,6 +23,10 @@ no_operand = record { vreg = record { number = 0; class = Int }; constraint = An
 abbrev pub op_at : List OperandValue → ℕ → OperandValue
 op_at operands k = slice_index_or operands k no_operand
 
+-- an operand that isn't a reuse
+abbrev pub IsNoReuse : OperandValue → Type 0
+IsNoReuse o = (n : ℕ) → o.constraint ≡ Reuse n → ⊥
+
 -- a reuse names the operand k
 abbrev pub IsReused : List OperandValue → ℕ → Type 0
 IsReused operands k = (j : ℕ) × (j < length operands) × ((op_at operands j).constraint ≡ Reuse k)

@@ -5,8 +5,10 @@ ghost use Rattle.regalloc2_function.specs.FunctionValue.{inst_at};
 ghost use Rattle.regalloc2_function.specs.Views.{machine_of};
 ghost use Rattle.regalloc2_function.specs.WellFormed.{MayBeReused, ReusesAreSound, FixedAvoidClobbers};
 ghost use Rattle.regalloc2_names.specs.Packing.{IsConstraintOf};
+ghost use Rattle.regalloc2_names.specs.Register.{Register};
+ghost use Rattle.regalloc2_names.specs.RegisterSet.{has_register};
 ghost use Rattle.regalloc2_validate.specs.NoLimits.{IsTaken, AreTaken};
-ghost use Rattle.regalloc2_validate.specs.Constraints.{op_at, IsReused, IsTarget, IsSoundReuse, AreApart, AvoidsClobbers, IsClear, IsUnlimited};
+ghost use Rattle.regalloc2_validate.specs.Constraints.{op_at, IsNoReuse, IsReused, IsTarget, IsSoundReuse, AreApart, AvoidsClobbers, IsClear, IsUnlimited};
 ghost use Rattle.regalloc2_validate.specs.Constraints.{AreUnlimited, BranchDefinesInPlace, DefinesInPlace, IsFirst, IsFixedFault};
 
 use regalloc2_fastalloc_state::allocatable::allocatable_of;
@@ -95,6 +97,25 @@ fn are_valid_reuses<B: Allocator>(env: &MachineEnv<B>, operands: &[Operand]) -> 
     true
 }
 
+/// Whether an operand is no reuse.
+fn is_no_reuse(operand: Operand) -> bool
+    ensures { IsTrue result ↔ IsNoReuse operand }
+{
+    !matches!(operand.constraint(), OperandConstraint::Reuse(_))
+}
+
+/// Whether no operand is a reuse.
+fn are_no_reuses(operands: &[Operand]) -> bool
+    ensures { IsTrue result ↔ ((k : ℕ) → k < length operands.now → IsNoReuse (op_at operands.now k)) }
+{
+    for k in 0..operands.len() {
+        if !is_no_reuse(operands[k]) {
+            return false;
+        }
+    }
+    true
+}
+
 /// Which operands reuses name, by index.
 fn named_by_reuses(operands: &[Operand]) -> [bool; 32]
     ensures { (k : ℕ) → IsTrue (slice_index_or result k false) ↔ IsReused operands.now k }
@@ -140,6 +161,14 @@ fn has_valid_reuses<F: Function, B: Allocator>(f: &F, env: &MachineEnv<B>, inst:
     are_valid_reuses(env, operands) && are_apart(operands)
 }
 
+/// Whether an instruction has no reuses, or valid ones.
+fn passes_reuse_test<F: Function, B: Allocator>(f: &F, env: &MachineEnv<B>, inst: Inst) -> bool
+    requires { inst < length (F.function f.now).insts }
+    ensures { IsTrue result ↔ ReusesAreSound (machine_of env.now) (inst_at (F.function f.now) inst) }
+{
+    are_no_reuses(f.inst_operands(inst)) || has_valid_reuses(f, env, inst)
+}
+
 /// Whether an operand is fixed to no clobber, if it is a definition, a late use or reused.
 fn avoids_clobbers(clobbers: PRegSet, operand: Operand, is_reused: bool) -> bool
     ensures { IsTrue result ↔ AvoidsClobbers clobbers operand is_reused }
@@ -174,6 +203,21 @@ fn has_no_clash<F: Function>(f: &F, inst: Inst) -> bool
     ensures { IsTrue result ↔ FixedAvoidClobbers (inst_at (F.function f.now) inst) }
 {
     avoid_clobbers(f.inst_operands(inst), f.inst_clobbers(inst))
+}
+
+/// Whether a set has no register.
+fn is_empty(set: PRegSet) -> bool
+    ensures { IsTrue result ↔ ((r : Register) → has_register set r ≡ false) }
+{
+    set.max_preg().is_none()
+}
+
+/// Whether an instruction has no clobbers, or none that an operand is fixed to.
+fn passes_clobber_test<F: Function>(f: &F, inst: Inst) -> bool
+    requires { inst < length (F.function f.now).insts }
+    ensures { IsTrue result ↔ FixedAvoidClobbers (inst_at (F.function f.now) inst) }
+{
+    is_empty(f.inst_clobbers(inst)) || has_no_clash(f, inst)
 }
 
 /// Whether an operand has no `Limit`.
@@ -216,7 +260,7 @@ fn validate_reuses<F: Function, B: Allocator>(
 {
     for i in 0..f.num_insts() {
         let inst = Inst::new(i);
-        if !has_valid_reuses(f, env, inst) {
+        if !passes_reuse_test(f, env, inst) {
             return Err(RegAllocError::Unsupported(inst));
         }
     }
@@ -230,7 +274,7 @@ fn validate_clobbers<F: Function>(f: &F) -> Result<(), RegAllocError>
 {
     for i in 0..f.num_insts() {
         let inst = Inst::new(i);
-        if !has_no_clash(f, inst) {
+        if !passes_clobber_test(f, inst) {
             return Err(RegAllocError::Unsupported(inst));
         }
     }

@@ -1,9 +1,9 @@
-use Rattle.std.proofs.Common.{ℕ, ◌≡◌, ◌<◌, ◌^◌, List, map, length, sym, ap, ◌∙◌, subst, slice_index, slice_index_or}
-use Rattle.std.specs.Prelude.{Option, Some, SomeIff, replicate}
+use Rattle.std.proofs.Common.{ℕ, ◌≡◌, List, map, length, sym, ap, ◌∙◌, subst, slice_index, slice_index_or}
+use Rattle.std.specs.Prelude.{replicate}
 use Rattle.std.specs.Vec.{with_items}
 use Rattle.std.proofs.lemmas.List.{with_items_is}
 use Rattle.regalloc2_names.specs.Place.{Place, NoPlace}
-use Rattle.regalloc2_function.specs.FunctionValue.{FunctionValue, operand_count}
+use Rattle.regalloc2_function.specs.FunctionValue.{FunctionValue}
 use Rattle.regalloc2_function.specs.Machine.{MachineValue}
 use Rattle.regalloc2_function.specs.OutputValue.{DebugLocation, MoveValue, OutputValue}
 use Rattle.regalloc2_function.specs.Stored.{location_of}
@@ -11,10 +11,6 @@ use Rattle.regalloc2_function.specs.Views.{edit_of, machine_of}
 use Rattle.regalloc2_fastalloc.specs.Promise.{IsAllocation}
 use Rattle.regalloc2_semantics.proofs.Plain.{always}
 use Rattle.regalloc2_fastalloc.proofs.allocate.allocate.Goals as goal
-
--- the count that there is
-count_is : {o : Option ℕ} {n : ℕ} (P : Type 0) (v : ℕ) → o ≡ Some n → SomeIff o P v → n ≡ v
-count_is P v e h = (subst (λ (x : Option ℕ). SomeIff x P v) e h).1
 
 pub fill_places-requires : goal.fill_places-requires
 fill_places-requires g c =
@@ -26,11 +22,10 @@ fill_places-requires g c =
       well_formed = c.requires.well_formed;
       offsets_long = ap length c.deref.ensures.value ∙ c.in_ok-offsets.ensures.long;
       offsets = λ i lt. ap (λ xs. slice_index xs i) c.deref.ensures.value ∙ c.in_ok-offsets.ensures.each i lt;
-      allocs_long = c.deref_mut.ensures.len ∙ c.in_ok-allocs.ensures.len
-          ∙ count_is (operand_count f < 2 ^ 32) (operand_count f) c.unwrap-total.ensures c.count_operands.ensures;
+      allocs_long = c.deref_mut.ensures.len ∙ c.in_ok-allocs.ensures.len ∙ c.requires.total;
       no_places = λ k. ap (λ (xs : List Place). slice_index_or xs k NoPlace)
           (c.deref_mut.ensures.value ∙ c.in_ok-allocs.ensures.items_if_clones_equal (λ y h. h))
-          ∙ ap (λ (p : Place). slice_index_or (replicate c.unwrap-total.result p) k NoPlace) c.none.ensures ∙ always c.unwrap-total.result k NoPlace;
+          ∙ ap (λ (p : Place). slice_index_or (replicate c.args.total p) k NoPlace) c.none.ensures ∙ always c.args.total k NoPlace;
     }
 
 -- the output with the places in their list

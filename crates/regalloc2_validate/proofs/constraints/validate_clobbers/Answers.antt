@@ -3,21 +3,21 @@ use Rattle.regalloc2_function.specs.FunctionValue.{FunctionValue, inst_at}
 use Rattle.regalloc2_function.specs.WellFormed.{FixedAvoidClobbers}
 use Rattle.regalloc2_validate.proofs.constraints.validate_clobbers.Goals as goal
 
-pub returns-then-not-has_no_clash-clause-ok : goal.returns-then-not-has_no_clash-clause-ok
-returns-then-not-has_no_clash-clause-ok g c =
+pub returns-then-not-passes_clobber_test-clause-ok : goal.returns-then-not-passes_clobber_test-clause-ok
+returns-then-not-passes_clobber_test-clause-ok g c =
     let f : FunctionValue = g.F.Function.function c.args.f.now in
     let less : c.loop-i.i < length f.insts = omega (arith, c.loop-i.invariant.within) in
-    (λ h. absurd cc, λ all. let yes = c.has_no_clash.ensures.1 (rw c.new-inst.ensures (all c.loop-i.i less)) in absurd cc)
+    (λ h. absurd cc, λ all. let yes = c.passes_clobber_test.ensures.1 (rw c.new-inst.ensures (all c.loop-i.i less)) in absurd cc)
 
-pub returns-then-not-has_no_clash-clause-first : goal.returns-then-not-has_no_clash-clause-first
-returns-then-not-has_no_clash-clause-first g c =
+pub returns-then-not-passes_clobber_test-clause-first : goal.returns-then-not-passes_clobber_test-clause-first
+returns-then-not-passes_clobber_test-clause-first g c =
     let f : FunctionValue = g.F.Function.function c.args.f.now in
     let less : c.new-inst.result < length f.insts = omega (arith, c.loop-i.invariant.within, c.new-inst.ensures) in (
       c.new-inst.result,
       refl,
       record {
         there = less;
-        fails = λ h. let yes = c.has_no_clash.ensures.1 h in absurd cc;
+        fails = λ h. let yes = c.passes_clobber_test.ensures.1 h in absurd cc;
         passed = λ m low. c.loop-i.invariant.so_far m (omega (arith, c.new-inst.ensures));
       },
     )
@@ -28,5 +28,5 @@ loop-i-preserved g c =
     record {
       within = c.loop-i.invariant.within;
       so_far = below_more (λ n. FixedAvoidClobbers (inst_at f n)) _ c.loop-i.invariant.so_far
-          (rw c.new-inst.ensures at (c.has_no_clash.ensures.0 c.if-not-has_no_clash.false));
+          (rw c.new-inst.ensures at (c.passes_clobber_test.ensures.0 c.if-not-passes_clobber_test.false));
     }

@@ -4,21 +4,21 @@ use Rattle.regalloc2_function.specs.Views.{machine_of}
 use Rattle.regalloc2_function.specs.WellFormed.{ReusesAreSound}
 use Rattle.regalloc2_validate.proofs.constraints.validate_reuses.Goals as goal
 
-pub returns-then-not-has_valid_reuses-clause-ok : goal.returns-then-not-has_valid_reuses-clause-ok
-returns-then-not-has_valid_reuses-clause-ok g c =
+pub returns-then-not-passes_reuse_test-clause-ok : goal.returns-then-not-passes_reuse_test-clause-ok
+returns-then-not-passes_reuse_test-clause-ok g c =
     let f : FunctionValue = g.F.Function.function c.args.f.now in
     let less : c.loop-i.i < length f.insts = omega (arith, c.loop-i.invariant.within) in
-    (λ h. absurd cc, λ all. let yes = c.has_valid_reuses.ensures.1 (rw c.new-inst.ensures (all c.loop-i.i less)) in absurd cc)
+    (λ h. absurd cc, λ all. let yes = c.passes_reuse_test.ensures.1 (rw c.new-inst.ensures (all c.loop-i.i less)) in absurd cc)
 
-pub returns-then-not-has_valid_reuses-clause-first : goal.returns-then-not-has_valid_reuses-clause-first
-returns-then-not-has_valid_reuses-clause-first g c =
+pub returns-then-not-passes_reuse_test-clause-first : goal.returns-then-not-passes_reuse_test-clause-first
+returns-then-not-passes_reuse_test-clause-first g c =
     let f : FunctionValue = g.F.Function.function c.args.f.now in
     let less : c.new-inst.result < length f.insts = omega (arith, c.loop-i.invariant.within, c.new-inst.ensures) in (
       c.new-inst.result,
       refl,
       record {
         there = less;
-        fails = λ h. let yes = c.has_valid_reuses.ensures.1 h in absurd cc;
+        fails = λ h. let yes = c.passes_reuse_test.ensures.1 h in absurd cc;
         passed = λ m low. c.loop-i.invariant.so_far m (omega (arith, c.new-inst.ensures));
       },
     )
@@ -29,5 +29,5 @@ loop-i-preserved g c =
     record {
       within = c.loop-i.invariant.within;
       so_far = below_more (λ n. ReusesAreSound (machine_of c.args.env.now) (inst_at f n)) _ c.loop-i.invariant.so_far
-          (rw c.new-inst.ensures at (c.has_valid_reuses.ensures.0 c.if-not-has_valid_reuses.false));
+          (rw c.new-inst.ensures at (c.passes_reuse_test.ensures.0 c.if-not-passes_reuse_test.false));
     }
