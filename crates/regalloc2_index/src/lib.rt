@@ -15,6 +15,3 @@ pub use containers::{ContainerComparator, ContainerIndex};
 pub use insts::Inst;
 pub use ranges::InstRange;
 pub use walks::InstRangeIter;
-
-#[cfg(test)]
-mod tests;

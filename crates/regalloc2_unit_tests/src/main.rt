@@ -2,6 +2,7 @@
 //! what must come; the input has a function and an output as JSON.
 #![tactic(auto)]
 
+mod indexes;
 mod names;
 mod parts;
 mod report;
@@ -14,6 +15,7 @@ fn main(rt: HostRuntime) -> io::Result<()> {
     let alloc = rt.alloc();
     let text = io::read_to_string(alloc, rt.stdin())?;
     let mut report = Report::new(alloc);
+    indexes::write_all(alloc, &mut report)?;
     names::write_all(&mut report);
     sets::write_all(alloc, &mut report)?;
     parts::write_all(alloc, &mut report)?;
