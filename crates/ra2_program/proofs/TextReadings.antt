@@ -1,19 +1,18 @@
 -- What is read of a text.
-use Rattle.std.proofs.Common.{◌≡◌, ◌⊎◌, inl, inr, ℕ, List, Bool, true, false, Option, Some, None, Result, Ok, Err, subst, sym}
+use Rattle.std.proofs.Common.{◌≡◌, ◌⊎◌, inl, inr, ℕ, List, Bool, false, Option, Some, None, Result, Ok, Err, subst, sym}
 use Rattle.std.specs.Prelude.{IfOk, IfSome, is_some}
 use Rattle.std.specs.Option.{option_map}
 use Rattle.std.specs.Result.{result_ok}
 use Rattle.std.specs.declared.alloc.Global.{Global}
 use Rattle.serde_json.specs.Data.{Data}
-use Rattle.serde_json.specs.Find.{at}
 use Rattle.serde_json.specs.Read.{read}
 use Rattle.regalloc2_function.specs.Stored.{NamesValues}
 use Rattle.regalloc2_function.specs.declared.serialize.StoredFault.{StoredFault}
 use Rattle.regalloc2_function.specs.declared.serialize.StoredFault.TheVariants.{Bits, Memory}
 use Rattle.regalloc2_function.specs.declared.serialize.StoredOutput.{StoredOutput}
-use Rattle.regalloc2_serialize.specs.JsonShape.{IsFunctionAt, output, output_data}
+use Rattle.regalloc2_serialize.specs.JsonShape.{IsFunctionAt}
 use Rattle.regalloc2_serialize.specs.declared.data.StoredFunction.{StoredFunction}
-use Rattle.ra2_program.specs.Input.{IsOutputFault, IsTextOf, IsTextOfPair}
+use Rattle.ra2_program.specs.Input.{IsOutputFault, IsPairAt, IsTextOf, IsTextOfPair}
 
 -- what a result holds that is there
 pub taken : {A E : Type 0} (P : A → Type 0) (r : Result A E) (x : A) → Some x ≡ result_ok r → IfOk r P → P x
@@ -30,28 +29,14 @@ text_of bytes text d (Ok s) o w h e k = rw e (known bytes w)
     known (Some xs) v = (d, rw (← v) h, k)
 text_of bytes text d (Err x) o w h e k = rw e tt
 
--- two values that were read of a text, a function that was read of the first, and an output that was read of the second
-pub pair_of : {E F : Type 0} (bytes : Option (List ℕ)) (text : List ℕ) (d first second : Data) (r : Result (StoredFunction Global) E)
-    (q : Result (StoredOutput Global) F) (s : StoredFunction Global) (o : StoredOutput Global) → IfSome bytes (λ xs. text ≡ xs) → read text ≡ Some d →
-    at 0 d ≡ Some first → at 1 d ≡ Some second → at 2 d ≡ None → Some s ≡ result_ok r → IfOk r (λ x. IsFunctionAt first x) → Some o ≡ result_ok q →
-    IfOk q (λ x. output second ≡ Some (output_data x)) → IsTextOfPair bytes s o
-pair_of bytes text d first second r q s o w h zero one two e f g k = known bytes w
+-- a pair of a function and an output, at a value that was read of a text
+pub pair_of : (bytes : Option (List ℕ)) (text : List ℕ) (d : Data) (s : StoredFunction Global) (o : StoredOutput Global) →
+    IfSome bytes (λ xs. text ≡ xs) → read text ≡ Some d → IsPairAt d s o → IsTextOfPair bytes s o
+pair_of bytes text d s o w h pair = known bytes w
   where
     known : (b : Option (List ℕ)) → IfSome b (λ xs. text ≡ xs) → IsTextOfPair b s o
     known None v = tt
-    known (Some xs) v = (
-      d,
-      rw (← v) h,
-      record {
-        first = first;
-        second = second;
-        at_first = zero;
-        at_second = one;
-        two = two;
-        function = taken (λ x. IsFunctionAt first x) r s e f;
-        output = taken (λ x. output second ≡ Some (output_data x)) q o g k;
-      },
-    )
+    known (Some xs) v = (d, rw (← v) h, pair)
 
 -- nothing is found where a test of what is found says so
 pub absent : {X Y : Type 0} (f : X → Y) (r : Option X) (a : Option Y) (b : Bool) → option_map f r ≡ a → b ≡ is_some r → b ≡ false → a ≡ None

@@ -28,7 +28,8 @@ use Rattle.regalloc2_c.specs.declared.failure.Failure.{Failure}
 use Rattle.regalloc2_c.specs.declared.failure.Failure.TheVariants.{NoRoom, Faults, NoMemory}
 
 -- the words of an output that was allocated
-pub allocated_words : (s : StoredFunction Global) (f : FunctionValue) (env : MachineValue) (out : OutputValue) (numbers : StoredOutput Global) → IsNamed s f env →
+pub allocated_words : (s : StoredFunction Global) (f : FunctionValue) (env : MachineValue) (out : OutputValue) (numbers : StoredOutput Global) →
+    IsNamed s f env →
     IsWellFormed env f → IsAllocation f env out → IsFaithful f env out → output_of_stored numbers ≡ out → NamesValues numbers →
     IsAllocated s (output_words numbers)
 allocated_words s f env out numbers named formed allocation faithful same names = record {

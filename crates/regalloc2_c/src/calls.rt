@@ -9,7 +9,8 @@ ghost use Rattle.regalloc2.specs.ErrorsFound.{errors_of};
 ghost use Rattle.std.specs.declared.alloc.Global.{Global};
 ghost use Rattle.regalloc2_serialize.specs.Tables.{function_of};
 ghost use Rattle.regalloc2_serialize.specs.declared.data.StoredFunction.{StoredFunction};
-ghost use Rattle.regalloc2_c.specs.Outcome.{AreWordsOf, IsJsonOf, IsAllocated, IsAccepted, IsAllocateFailure, IsRefused, IsCheckFailure, IsNoOutput, IsOutput, IsHandedOut};
+ghost use Rattle.regalloc2_c.specs.Outcome.{AreWordsOf, IsJsonOf, IsAllocated, IsAccepted, IsAllocateFailure, IsRefused, IsCheckFailure};
+ghost use Rattle.regalloc2_c.specs.Outcome.{IsNoOutput, IsOutput, IsHandedOut};
 
 use super::failure::{Failure, failure_of, failure_to_read, failure_to_write, number_of};
 use super::reading::{stored_from_json, stored_from_words};

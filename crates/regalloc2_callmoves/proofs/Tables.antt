@@ -75,20 +75,26 @@ module _ (ms : CallMoves) (n : ℕ) (t u : Words) (h : IsTable ms n t) (from : I
     words = λ j lt. all_words j (split_more j n lt);
   }
 
--- a place whose word gives it back
-place_is : (p q : Place) (v : ℕ) → p ≡ q → v ≡ bits_of_place p → place_of_bits v ≡ p → IsPlace q
-place_is p q v e bits back = subst IsPlace e (ap place_of_bits (sym bits) ∙ back)
+-- v is the word of the place p, which is q, and gives it back
+pub record IsWordOf (v : ℕ) (p q : Place) : Type 0 where
+  pub is : p ≡ q
+  pub bits : v ≡ bits_of_place p
+  pub back : place_of_bits v ≡ p
 
-module _ (ms : CallMoves) (n : ℕ) (t : Words) (p q : Place) (v w : ℕ) (h : IsTable ms n t) (from : p ≡ source ms n) (to : q ≡ target ms n)
-    (v_bits : v ≡ bits_of_place p) (w_bits : w ≡ bits_of_place q) (v_back : place_of_bits v ≡ p) (w_back : place_of_bits w ≡ q) where
+-- a place whose word gives it back
+place_is : (v : ℕ) (p q : Place) → IsWordOf v p q → IsPlace q
+place_is v p q h = subst IsPlace h.is (ap place_of_bits (sym h.bits) ∙ h.back)
+
+module _ (ms : CallMoves) (n : ℕ) (t : Words) (p q : Place) (v w : ℕ) (h : IsTable ms n t) (from : IsWordOf v p (source ms n))
+    (to : IsWordOf w q (target ms n)) where
   v_is : v ≡ from_word ms n
-  v_is = v_bits ∙ ap bits_of_place from
+  v_is = from.bits ∙ ap bits_of_place from.is
 
   w_is : w ≡ to_word ms n
-  w_is = w_bits ∙ ap bits_of_place to
+  w_is = to.bits ∙ ap bits_of_place to.is
 
   -- the table with a move more
   pub table_with : (u : Words) → ((x : ℕ) → u x ≡ cond (nat_eq w x) (Some v) (t x)) → (t w ≡ None) ⊎ (t w ≡ Some v) → IsTable ms (n + 1) u
-  table_with u put old = table_more ms n t u h (place_is p (source ms n) v from v_bits v_back) (place_is q (target ms n) w to w_bits w_back)
+  table_with u put old = table_more ms n t u h (place_is v p (source ms n) from) (place_is w q (target ms n) to)
       (λ x. put x ∙ ap (λ k. cond (nat_eq k x) (Some v) (t x)) w_is ∙ ap (λ k. cond (nat_eq (to_word ms n) x) (Some k) (t x)) v_is)
       (⊎_elim (λ a. inl (ap t (sym w_is) ∙ a)) (λ b. inr (ap t (sym w_is) ∙ b ∙ ap Some v_is)) old)

@@ -225,34 +225,47 @@ walked_start succs num entry vs ws fs out e less w f o =
       goes = λ rest h. finish_start succs entry rest h;
     })
 
+-- a walk stands at the block f on top of its stack, over the popped ones; xs are the block's successors
+pub record StandsAt (succs : ℕ → List ℕ) (num entry : ℕ) (vs : List Bool) (out : List ℕ) (before popped : List Frame) (f : Frame) (xs : List ℕ) : Type 0 where
+  pub top : before ≡ popped ++ f ∷ []
+  pub is : xs ≡ succs f.block
+  pub w : Walked succs num entry vs before out
+
+-- x is the next of these successors, and one of so many blocks
+pub record IsNext (num : ℕ) (xs : List ℕ) (f : Frame) (x : ℕ) : Type 0 where
+  pub less : f.next < length xs
+  pub at : get_or xs f.next 0 ≡ x
+  pub within : x < num
+
 module _ (succs : ℕ → List ℕ) (num entry : ℕ) (vs : List Bool) (out : List ℕ) (before popped : List Frame) (f : Frame) (xs : List ℕ)
-    (top : before ≡ popped ++ f ∷ []) (is : xs ≡ succs f.block) (w : Walked succs num entry vs before out) where
+    (stands : StandsAt succs num entry vs out before popped f xs) where
+  open stands use {top, is, w}
+
   -- passing by a successor that is marked only moves on in the block on top of the stack
-  pub again_step : (pushed : List Frame) (x : ℕ) → pushed ≡ popped ++ record { block = f.block; next = f.next + 1 } ∷ [] → f.next < length xs →
-      get_or xs f.next 0 ≡ x → x < num → get_or vs x false ≡ true → Walked succs num entry vs pushed out
-  again_step pushed x p less at within m = rw p (record {
+  pub again_step : {pushed : List Frame} (x : ℕ) → pushed ≡ popped ++ record { block = f.block; next = f.next + 1 } ∷ [] → IsNext num xs f x →
+      get_or vs x false ≡ true → Walked succs num entry vs pushed out
+  again_step x p n m = rw p (record {
     long = w.long;
     framed = (let h = subst (Framed num) top w.framed in framed_more num popped (record { block = f.block; next = f.next + 1 }) (framed_front num popped f h)
         (framed_last num popped f h));
     seen = w.seen;
     marks = w.marks;
-    goes = λ rest h. w.goes rest (rw (top, reverse-push) (finish_again succs w.seen f.block f.next x (reverse popped) rest (rw (← is) less) (rw (← is) at)
-        (sym (w.marks x (rw w.long within)) ∙ m) (rw reverse-push at h)));
+    goes = λ rest h. w.goes rest (rw (top, reverse-push) (finish_again succs w.seen f.block f.next x (reverse popped) rest (rw (← is) n.less) (rw (← is) n.at)
+        (sym (w.marks x (rw w.long n.within)) ∙ m) (rw reverse-push at h)));
   })
 
   -- entering a successor that isn't marked marks it and puts it on top of the stack
-  pub enter_step : (pushed after : List Frame) (x : ℕ) → pushed ≡ popped ++ record { block = f.block; next = f.next + 1 } ∷ [] → after ≡ pushed
-      ++ record { block = x; next = 0 } ∷ [] → f.next < length xs → get_or xs f.next 0 ≡ x → x < num → get_or vs x false ≡ false →
-      Walked succs num entry (set vs x true) after out
-  enter_step pushed after x p q less at within m = rw (q, p) (record {
+  pub enter_step : {pushed after : List Frame} (x : ℕ) → pushed ≡ popped ++ record { block = f.block; next = f.next + 1 } ∷ [] → after ≡ pushed
+      ++ record { block = x; next = 0 } ∷ [] → IsNext num xs f x → get_or vs x false ≡ false → Walked succs num entry (set vs x true) after out
+  enter_step x p q n m = rw (q, p) (record {
     long = simp length-set w.long;
     framed = (let h = subst (Framed num) top w.framed in framed_more num (popped ++ record { block = f.block; next = f.next + 1 } ∷ [])
         (record { block = x; next = 0 }) (framed_more num popped (record { block = f.block; next = f.next + 1 }) (framed_front num popped f h)
-        (framed_last num popped f h)) within);
+        (framed_last num popped f h)) n.within);
     seen = x ∷ w.seen;
-    marks = marks_more vs w.seen x (rw w.long within) w.marks;
-    goes = λ rest h. w.goes rest (rw (top, reverse-push) (finish_enter succs w.seen f.block f.next x (reverse popped) rest (rw (← is) less) (rw (← is) at)
-        (sym (w.marks x (rw w.long within)) ∙ m)
+    marks = marks_more vs w.seen x (rw w.long n.within) w.marks;
+    goes = λ rest h. w.goes rest (rw (top, reverse-push) (finish_enter succs w.seen f.block f.next x (reverse popped) rest (rw (← is) n.less)
+        (rw (← is) n.at) (sym (w.marks x (rw w.long n.within)) ∙ m)
         (rw (
           reverse-push (popped ++ record { block = f.block; next = f.next + 1 } ∷ []) (record { block = x; next = 0 }),
           reverse-push popped (record { block = f.block; next = f.next + 1 }),
@@ -260,8 +273,8 @@ module _ (succs : ℕ → List ℕ) (num entry : ℕ) (vs : List Bool) (out : Li
   })
 
   -- a block on top of the stack without further successors is taken off and is the next that the walk leaves
-  pub leave_step : (left : List ℕ) → left ≡ out ++ f.block ∷ [] → length xs ≤ f.next → Walked succs num entry vs popped left
-  leave_step left o less = rw o (record {
+  pub leave_step : {left : List ℕ} → left ≡ out ++ f.block ∷ [] → length xs ≤ f.next → Walked succs num entry vs popped left
+  leave_step o less = rw o (record {
     long = w.long;
     framed = framed_front num popped f (subst (Framed num) top w.framed);
     seen = w.seen;

@@ -2,12 +2,10 @@
 use Rattle.std.proofs.Common.{ℕ, ◌≡◌, ◌+◌, ◌<◌, ◌≤◌, inl, inr, List, [], ◌∷◌, ◌++◌, length, refl, sym, ap, ◌∙◌, subst, arith}
 use Rattle.std.proofs.lemmas.Bool.{cases_eq}
 use Rattle.std.proofs.lemmas.List.{append-nil, append_assoc}
-use Rattle.regalloc2_names.specs.Register.{VirtualRegister}
 use Rattle.regalloc2_names.specs.Place.{Place}
 use Rattle.regalloc2_names.specs.Point.{before}
 use Rattle.regalloc2_function.specs.FunctionValue.{FunctionValue, block_at}
 use Rattle.regalloc2_function.specs.OutputValue.{MoveValue}
-use Rattle.regalloc2_function.specs.WellFormed.{BlocksFollow, BlocksEnd}
 use Rattle.regalloc2_semantics.specs.BlockByPoints.{at_point, listed}
 use Rattle.regalloc2_semantics.proofs.Points.{at_point-here}
 use Rattle.regalloc2_semantics.proofs.PushedMoves.{listed-push}
@@ -16,10 +14,11 @@ use Rattle.regalloc2_fastalloc_proofs.specs.BlockSteps.{AllocsBlockInsts, Allocs
 use Rattle.regalloc2_fastalloc_proofs.specs.StoreSteps.{pushed_moves}
 use Rattle.regalloc2_fastalloc_proofs.proofs.Slots.StepsKeepSlots.{Grown, grown_then}
 use Rattle.regalloc2_fastalloc_proofs.proofs.Walk.InstsCarry.{AreListed}
-use Rattle.regalloc2_fastalloc_proofs.proofs.Walk.InstBoundaries.{BranchKept, IsEdge, IsWithin, grown_weaken, begins_grown, walk_grown, edge_next}
+use Rattle.regalloc2_fastalloc_proofs.proofs.Walk.InstBoundaries.{IsEdge, IsWithin, grown_weaken, begins_grown, walk_grown, edge_next}
 use Rattle.regalloc2_fastalloc_proofs.proofs.Walk.LastInstAndRest.{walk_listed}
 use Rattle.regalloc2_fastalloc_proofs.proofs.Walk.BlockCarries.{IsBelow}
-use Rattle.regalloc2_fastalloc_proofs.proofs.Inst.ProperInsts.{ProperInsts}
+use Rattle.regalloc2_fastalloc_proofs.proofs.Walk.FunctionLaws.{PlacedCode}
+use Rattle.regalloc2_fastalloc_proofs.proofs.Walk.InstBoundaries.{kept_of}
 
 -- the block b in the walk, with what comes after it until final
 pub record MetBlock (f : FunctionValue) (placesf : ℕ → List Place) (start : List Place) (begin : StateValue) (b : ℕ) (final : StateValue) : Type 0 where
@@ -34,9 +33,9 @@ pub record MetBlock (f : FunctionValue) (placesf : ℕ → List Place) (start : 
   pub begins : BeginsBlock f b tables begun
   pub rest : Grown (IsBelow (block_at f b).range.first) begun final
 
-module _ (Known : VirtualRegister → Type 0) (f : FunctionValue)
-    (proper : ProperInsts Known f) (kept : BranchKept f) (follow : BlocksFollow f) (ends : BlocksEnd f)
-    (placesf : ℕ → List Place) (start : List Place) (begin final : StateValue) (b : ℕ) (lb : b < length f.blocks) where
+module _ (code : PlacedCode) (start : List Place) (begin final : StateValue) (b : ℕ) (lb : b < length code.f.blocks) where
+  open code use {Known, f, proper, kept, follow, ends, placesf}
+
   -- each block is met
   pub meet_block : {c : ℕ} {places : List Place} {t : StateValue} → AllocsBlocks f start begin c places t → (e : ℕ) → IsEdge f c e →
       AreListed f placesf e places → Grown (IsBelow e) t final → c ≤ b → MetBlock f placesf start begin b final
@@ -64,9 +63,9 @@ module _ (Known : VirtualRegister → Type 0) (f : FunctionValue)
             } in
             subst (λ (m : ℕ). MetBlock f placesf start begin m final) same found)
         | inr ne ↦ meet_block prev end (edge_next f follow d ld)
-            (walk_listed Known f proper kept follow ends placesf final d ld p s first q u walk are_here)
+            (walk_listed code final d ld p s first q u walk are_here)
             (grown_then (IsBelow end) s u final (grown_weaken (IsWithin first end) (IsBelow end) s u (λ m h. h.1)
-            (walk_grown Known f proper kept follow d ld p s first q u walk))
+            (walk_grown (kept_of Known f proper kept) follow d ld p s first q u walk))
             (grown_then (IsBelow end) u w final (grown_weaken (λ m. m ≡ before first) (IsBelow end) u w (λ m h. omega (arith, h, some))
             (begins_grown (λ m. m ≡ before first) f d refl u w begins))
             (grown_weaken (IsBelow first) (IsBelow end) w final (λ m h. omega (arith, h, some)) rest_here)))

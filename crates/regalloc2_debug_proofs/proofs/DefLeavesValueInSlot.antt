@@ -33,11 +33,32 @@ use Rattle.regalloc2_fastalloc_proofs.proofs.Slots.StepsKeepSlots.{Grown, grown_
 use Rattle.regalloc2_fastalloc_proofs.proofs.Walk.LastInstAndRest.{AnyPlace}
 use Rattle.regalloc2_debug_proofs.proofs.UnnamedStaysUnlocated.{Absent, one_out, sends_out, whole_absent, defined_absent}
 use Rattle.regalloc2_debug_proofs.proofs.DefStoresIntoSlot.{Off, gets_whole, gets_off, uses_off, defines_off, defines_into, off_none, moves_of}
+use Rattle.regalloc2_fastalloc_proofs.proofs.Operands.BlockTail.{tail_of}
+use Rattle.regalloc2_fastalloc_proofs.proofs.Operands.RecordOfInst.{Laying, laying_of}
+
+-- A definition of an instruction that is no return, and the slot that its vreg has: the vregs that are spoken of; the instructions and the places of their
+-- operands, and the instruction i; its operands, which are orderly, with the numbers that had a location and the places that are clobbered; and the
+-- operand d, and the slot's number n.
+pub record DefSlot : Type 1 where
+  pub Known : VirtualRegister → Type 0
+  pub insts : ℕ → InstValue
+  pub placesf : ℕ → List Place
+  pub i : ℕ
+  pub ops : List OperandValue
+  pub lived : ℕ → Bool
+  pub clob : Place → Bool
+  pub ret : Bool
+  pub orderly : Orderly ops
+  pub plain : ret ≡ false
+  pub d : ℕ
+  pub within : d < length ops
+  pub def : is_def (op_at ops d).kind ≡ true
+  pub n : ℕ
 
 -- a value that an operand writes
-module _ (Known : VirtualRegister → Type 0) (insts : ℕ → InstValue) (placesf : ℕ → List Place) (i : ℕ) (ops : List OperandValue) (lived : ℕ → Bool)
-    (clob : Place → Bool) (ret : Bool) (orderly : Orderly ops) (plain : ret ≡ false)
-    (d : ℕ) (within : d < length ops) (def : is_def (op_at ops d).kind ≡ true) (n : ℕ) where
+module _ (def_slot : DefSlot) where
+  open def_slot use {Known, insts, placesf, i, ops, lived, clob, ret, orderly, plain, d, within, def, n}
+
   abbrev v : VirtualRegister
   v = (op_at ops d).vreg
 
@@ -58,11 +79,17 @@ module _ (Known : VirtualRegister → Type 0) (insts : ℕ → InstValue) (place
   abbrev pub Into : VirtualRegister → Place → Type 0
   Into u p = (u ≡ v) × (p ≡ s)
 
+  abbrev pub asks_nothing : Laying
+  asks_nothing = laying_of (tail_of Known insts placesf i 0 Nothing) ops lived clob ret orderly
+
+  abbrev pub asks_value : Laying
+  asks_value = laying_of (tail_of Known insts placesf i 0 Into) ops lived clob ret orderly
+
   abbrev pub Bare : Bool → ℕ → List Place → InstRegs → StateValue → Type 0
-  Bare = LaidAt Known insts placesf i 0 Nothing ops lived clob ret orderly
+  Bare = LaidAt asks_nothing
 
   abbrev pub Full : Bool → ℕ → List Place → InstRegs → StateValue → Type 0
-  Full = LaidAt Known insts placesf i 0 Into ops lived clob ret orderly
+  Full = LaidAt asks_value
 
   abbrev pub moves : StateValue → List MoveValue
   moves t = moves_of s slotted (after i) t
@@ -187,7 +214,7 @@ module _ (Known : VirtualRegister → Type 0) (insts : ℕ → InstValue) (place
         λ le out L g. before_off prev (omega (arith, le)) (λ lt e. out (omega (arith, lt)) e) L g
     before_off {late} {here} {t} {old} {list} {u} {m} (one_placed j there next w y z q prev inst_regs one) = λ le out L g.
         let grows : Grown AnyPlace z final = grown_then AnyPlace z m final (one_grown AnyPlace i tt ret ops j there list w u z m one) g in
-        let at : Bare late j there w z = laid_all Known insts placesf i 0 Nothing ops lived clob ret orderly late here t old j there w z prev
+        let at : Bare late j there w z = laid_all asks_nothing late here t old j there w z prev
         (omega (arith, le)) L in
         let ne : j ≢ d = λ e. out (omega (arith, e)) (ap (λ (a : ℕ). is_late (op_at ops a).position) (sym e) ∙ inst_regs) in
         pushes_then (Off s slotted) old.edits z.edits m.edits
@@ -202,10 +229,10 @@ module _ (Known : VirtualRegister → Type 0) (insts : ℕ → InstValue) (place
     pass_into of_pass none L none_placed = λ le lt g at. absurd (omega (arith, lt))
     pass_into {late} {here} {t} {old} of_pass none L {list} {u} {m} (of_other j there w y prev other) = λ le lt g at.
         let ne : d ≢ j = λ e. other (ap (λ (a : ℕ). is_late (op_at ops a).position) (sym e) ∙ of_pass) in
-        laid_pass Known insts placesf i 0 Into ops lived clob ret orderly late j list u m
+        laid_pass asks_value late j list u m
         (pass_into of_pass none L prev (omega (arith, le)) (omega (arith, lt, ne)) g at) other
     pass_into {late} {here} {t} {old} of_pass none L {list} {u} {m} (one_placed j there next w y z q prev inst_regs one) = λ le lt g at.
-        let bare : Bare late j there w z = laid_all Known insts placesf i 0 Nothing ops lived clob ret orderly late here t old j there w z prev
+        let bare : Bare late j there w z = laid_all asks_nothing late here t old j there w z prev
         (omega (arith, le)) L in
         let grows : Grown AnyPlace z final = grown_then AnyPlace z m final (one_grown AnyPlace i tt ret ops j there list w u z m one) g in
         elim (cases_eq j d) [
@@ -216,7 +243,7 @@ module _ (Known : VirtualRegister → Type 0) (insts : ℕ → InstValue) (place
               let absent : Absent v.number z = whole_absent v.number z bare.ready.located.whole
               (opt_none (place_in z v.number) (bare.ready.located.placed.gone v.number gone)) in
               let stays = one_out v.number i ret ops j there list w u z m (omega (arith, le)) (other_number j ne) one absent in
-              laid_one_more Known insts placesf i 0 Into ops lived clob ret orderly late j there list w u z m (omega (arith, le)) inst_regs one
+              laid_one_more asks_value late j there list w u z m (omega (arith, le)) inst_regs one
               (pass_into of_pass none L prev (omega (arith, le)) lj grows (sym stays.1 ∙ at)))
         ]
       where
@@ -232,7 +259,7 @@ module _ (Known : VirtualRegister → Type 0) (insts : ℕ → InstValue) (place
             let grows : Grown AnyPlace z final = grown_then AnyPlace z m final (one_grown AnyPlace i tt ret ops j there list w u z m one) g in
             let quiet : NoMoveTo s (moves z) = off_none s slotted (after i) old.edits z.edits
             (before_off prev (omega (arith, less)) (λ lt h. absurd (omega (arith, lt, e))) L grows) none in
-            let next : Bare late (j + 1) list u m = laid_one_more Known insts placesf i 0 Nothing ops lived clob ret orderly late j there list w u z m less
+            let next : Bare late (j + 1) list u m = laid_one_more asks_nothing late j there list w u z m less
             inst_regs one bare in
             let done : next.done d ≡ true = next.all d (within, inl def)
             (had_turn late (j + 1) (ap (λ (a : ℕ). is_late (op_at ops a).position) (sym e) ∙ inst_regs) (omega (arith, e))) in

@@ -7,7 +7,7 @@ use Rattle.regalloc2_names.specs.RegisterSet.{registers_of}
 use Rattle.regalloc2_names.specs.Operand.{OperandValue, is_def, is_late}
 use Rattle.regalloc2_names.specs.Place.{Place, NoPlace, InRegister, InSlot}
 use Rattle.regalloc2_names.specs.Point.{before, after}
-use Rattle.regalloc2_function.specs.FunctionValue.{FunctionValue, inst_at}
+use Rattle.regalloc2_function.specs.FunctionValue.{inst_at}
 use Rattle.regalloc2_function.specs.OutputValue.{place_at}
 use Rattle.regalloc2_semantics.specs.Listing.{with_moves}
 use Rattle.regalloc2_semantics.specs.Carry.{Carries, is_clobbered, Untouched}
@@ -30,14 +30,16 @@ use Rattle.regalloc2_fastalloc_proofs.proofs.Moves.StepsAppendEdits.{pushes_then
 use Rattle.regalloc2_fastalloc_proofs.proofs.Slots.StepsKeepSlots.{Grown, grown_then, placed_grown, moves_grown}
 use Rattle.regalloc2_fastalloc_proofs.proofs.Walk.LastInstAndRest.{AnyPlace}
 use Rattle.regalloc2_fastalloc_proofs.proofs.Inst.OneInstCarries.{Between, Alone, alone, carried_nil, Needed}
-use Rattle.regalloc2_fastalloc_proofs.proofs.Inst.ProperInsts.{ProperInsts}
 use Rattle.regalloc2_debug_proofs.proofs.UnnamedStaysUnlocated.{Absent, out_then, placed_out, moves_out, whole_absent}
 use Rattle.regalloc2_debug_proofs.proofs.DefStoresIntoSlot.{Off, fixed_off, all_off, off_none}
 use Rattle.regalloc2_debug_proofs.proofs.DefLeavesValueInSlot.{Into, Bare, Full, before_off, pass_into, other_number, slotted}
+use Rattle.regalloc2_fastalloc_proofs.proofs.Operands.BlockTail.{tail_of}
+use Rattle.regalloc2_debug_proofs.proofs.DefLeavesValueInSlot.{DefSlot, asks_nothing, asks_value}
+use Rattle.regalloc2_fastalloc_proofs.proofs.Inst.ProperInsts.{ProperCode}
 
-module _ (Known : VirtualRegister → Type 0) (f : FunctionValue) (placesf : ℕ → List Place)
-    (proper : ProperInsts Known f) where
-  open proper use {orderly, avoids, knows}
+module _ (code : ProperCode) where
+  open code use {Known, f, placesf, proper}
+  open code.proper use {orderly, avoids, knows}
 
   module _ (i : ℕ) (blank here : List Place) (old new : StateValue) (lt : i < length f.insts)
       (at : (k : ℕ) → k < length (inst_at f i).operands → place_at (placesf i) k ≡ slice_index_or here k NoPlace)
@@ -53,22 +55,41 @@ module _ (Known : VirtualRegister → Type 0) (f : FunctionValue) (placesf : ℕ
     abbrev clob : Place → Bool
     clob = is_clobbered (inst_at f i).clobbers
 
+    -- the definition, and the slot of its vreg
+    abbrev def_slot : DefSlot
+    def_slot = record {
+      Known = Known;
+      insts = inst_at f;
+      placesf = placesf;
+      i = i;
+      ops = ops;
+      lived = lives_in old;
+      clob = clob;
+      ret = ends_block (inst_at f i);
+      orderly = orderly i lt;
+      plain = plain;
+      d = d;
+      within = within;
+      def = def;
+      n = n;
+    }
+
     abbrev BareAt : Bool → ℕ → List Place → InstRegs → StateValue → Type 0
-    BareAt = Bare Known (inst_at f) placesf i ops (lives_in old) clob (ends_block (inst_at f i)) (orderly i lt) plain d within def n
+    BareAt = Bare def_slot
 
     abbrev FullAt : Bool → ℕ → List Place → InstRegs → StateValue → Type 0
-    FullAt = Full Known (inst_at f) placesf i ops (lives_in old) clob (ends_block (inst_at f i)) (orderly i lt) plain d within def n
+    FullAt = Full def_slot
 
-    by_itself : Alone Known f placesf proper i old new
-    by_itself = alone Known f placesf proper i blank here old new lt at b a
+    by_itself : Alone code i old new
+    by_itself = alone code i blank here old new lt at b a
 
     begun : BareAt true 0 blank a.quiet a.after_clobbers
-    begun = opened Known (inst_at f) placesf (λ w p. ⊥) i 0 (inst_at f i) blank here old new (orderly i lt) (avoids i lt)
+    begun = opened (tail_of Known (inst_at f) placesf i 0 (λ w p. ⊥)) (inst_at f i) blank here old new (orderly i lt) (avoids i lt)
         (λ e. absurd (let y : true ≡ false = sym e ∙ plain in cc))
         (record {
           whole = b.whole;
           later = b.later;
-          claims = λ w known. carried_nil Known f placesf proper (λ u p. ⊥) (i + 1) old
+          claims = λ w known. carried_nil code (λ u p. ⊥) (i + 1) old
               (Needed (λ x. false) old) (λ u p h. absurd h) w;
           fit = b.fit;
           apart = b.apart;
@@ -85,7 +106,7 @@ module _ (Known : VirtualRegister → Type 0) (f : FunctionValue) (placesf : ℕ
         subst (NoMoveTo (InSlot n)) (sym (at_point-none (after i) (listed old.edits) (subst (λ (m : ℕ). AllFrom m (listed old.edits)) e b.later))) no_moves
 
     abbrev in_slots : (r : Register) → InSlot n ≡ InRegister r → ⊥
-    in_slots = slotted Known (inst_at f) placesf i ops (lives_in old) clob (ends_block (inst_at f i)) (orderly i lt) plain d within def n
+    in_slots = slotted def_slot
 
     none_begun : NoMoveTo (InSlot n) (at_point (listed a.after_clobbers.edits) (after i))
     none_begun = off_none (InSlot n) in_slots (after i) old.edits a.after_clobbers.edits
@@ -102,17 +123,15 @@ module _ (Known : VirtualRegister → Type 0) (f : FunctionValue) (placesf : ℕ
         (length ops) here a.early a.after_early a.earlies) grown_moved
 
     late_done : BareAt true (length ops) a.half a.late a.after_late
-    late_done = laid_all Known (inst_at f) placesf i 0 (λ w p. ⊥) ops (lives_in old) clob (ends_block (inst_at f i)) (orderly i lt) true blank a.quiet
+    late_done = laid_all (asks_nothing def_slot) true blank a.quiet
         a.after_clobbers (length ops) a.half a.late a.after_late a.lates (omega arith) begun
 
     early_begun : BareAt false 0 a.half a.late a.after_late
-    early_begun = laid_over Known (inst_at f) placesf i 0 (λ w p. ⊥) ops (lives_in old) clob (ends_block (inst_at f i))
-        (orderly i lt) a.half a.late a.after_late
+    early_begun = laid_over (asks_nothing def_slot) a.half a.late a.after_late
         late_done
 
     early_done : BareAt false (length ops) here a.early a.after_early
-    early_done = laid_all Known (inst_at f) placesf i 0 (λ w p. ⊥) ops (lives_in old) clob (ends_block (inst_at f i))
-        (orderly i lt) false a.half a.late a.after_late
+    early_done = laid_all (asks_nothing def_slot) false a.half a.late a.after_late
         (length ops) here a.early a.after_early a.earlies (omega arith) early_begun
 
     -- where the definition is placed late
@@ -123,19 +142,14 @@ module _ (Known : VirtualRegister → Type 0) (f : FunctionValue) (placesf : ℕ
         (opt_none (place_in a.after_late v.number) (late_done.ready.located.placed.gone v.number gone)) in
         let stays = out_then v.number a.after_late a.after_early new
         (placed_out v.number (length ops) (omega arith)
-        (λ k few c e. other_number Known (inst_at f) placesf i ops (lives_in old) clob (ends_block (inst_at f i)) (orderly i lt) plain d within def n new
+        (λ k few c e. other_number def_slot new
         by_itself.between.whole mine k (λ same. let y : true ≡ false = sym late ∙ ap (λ (m : ℕ). is_late (op_at ops m).position) (sym same) ∙ e in cc) c)
         a.earlies (omega arith))
         (moves_out v.number (before i) ops here a.early a.after_early (length ops) a.ended new a.moves) absent in
-        laid_all Known (inst_at f) placesf i 0 (Into Known (inst_at f) placesf i ops (lives_in old) clob (ends_block (inst_at f i))
-        (orderly i lt) plain d within def
-        n) ops (lives_in old) clob (ends_block (inst_at f i)) (orderly i lt) false a.half a.late a.after_late (length ops) here a.early a.after_early a.earlies
+        laid_all (asks_value def_slot) false a.half a.late a.after_late (length ops) here a.early a.after_early a.earlies
         (omega arith)
-        (laid_over Known (inst_at f) placesf i 0 (Into Known (inst_at f) placesf i ops (lives_in old) clob (ends_block (inst_at f i))
-        (orderly i lt) plain d within
-        def n) ops (lives_in old) clob (ends_block (inst_at f i)) (orderly i lt) a.half a.late a.after_late
-        (pass_into Known (inst_at f) placesf i ops (lives_in old) clob (ends_block (inst_at f i))
-        (orderly i lt) plain d within def n new by_itself.between.whole mine late none_begun begun a.lates (omega arith) within grown_early
+        (laid_over (asks_value def_slot) a.half a.late a.after_late
+        (pass_into def_slot new by_itself.between.whole mine late none_begun begun a.lates (omega arith) within grown_early
         (sym stays.1 ∙ mine)))
 
     -- or early
@@ -147,12 +161,10 @@ module _ (Known : VirtualRegister → Type 0) (f : FunctionValue) (placesf : ℕ
         let stays = moves_out v.number (before i) ops here a.early a.after_early (length ops) a.ended new a.moves absent in
         let quiet : NoMoveTo (InSlot n) (at_point (listed a.after_late.edits) (after i)) = off_none (InSlot n) in_slots (after i) a.after_clobbers.edits
         a.after_late.edits
-        (before_off Known (inst_at f) placesf i ops (lives_in old) clob (ends_block (inst_at f i))
-        (orderly i lt) plain d within def n new by_itself.between.whole
+        (before_off def_slot new by_itself.between.whole
         mine a.lates (omega arith)
         (λ less e. let y : true ≡ false = sym e ∙ early in cc) begun grown_early) none_begun in
-        pass_into Known (inst_at f) placesf i ops (lives_in old) clob (ends_block (inst_at f i))
-        (orderly i lt) plain d within def n new by_itself.between.whole mine early quiet early_begun a.earlies (omega arith) within grown_moved
+        pass_into def_slot new by_itself.between.whole mine early quiet early_begun a.earlies (omega arith) within grown_moved
         (sym stays.1 ∙ mine)
 
     all_placed : FullAt false (length ops) here a.early a.after_early
@@ -161,13 +173,11 @@ module _ (Known : VirtualRegister → Type 0) (f : FunctionValue) (placesf : ℕ
     -- from wherever it runs, the slot holds the value behind it
     pub stores : Carries v (walked (inst_at f) (at_point (listed new.edits)) placesf i 1) (λ p. ⊥) (λ p. p ≡ InSlot n)
     stores =
-        let E : VirtualRegister → Place → Type 0 = Into Known (inst_at f) placesf i ops (lives_in old) clob (ends_block (inst_at f i))
-        (orderly i lt) plain d within
-        def n in
+        let E : VirtualRegister → Place → Type 0 = Into def_slot in
         let is : defined_by ops v.number ≡ true = defined_by-at ops d within def in
         let nowhere : stands_at new v.number ≡ None = by_itself.ends.gone v.number is in
         let c : CarriedBut Known (inst_at f) placesf E (defined_by ops) i 1 new =
-        closed Known (inst_at f) placesf E i 0 (lives_in old) (ends_block (inst_at f i)) here a.early a.ended a.after_early new (orderly i lt)
+        closed (tail_of Known (inst_at f) placesf i 0 E) (lives_in old) (ends_block (inst_at f i)) here a.early a.ended a.after_early new (orderly i lt)
         (knows i lt) at all_placed a.moves in
         carries_weaken v (walked (inst_at f) (at_point (listed new.edits)) placesf i 1)
         (Need (lives_in new) (defined_by ops) (λ p x. false) (stands_at new) (slots_at new) v.number) (λ p. ⊥) (E v) (λ p. p ≡ InSlot n)

@@ -2,12 +2,11 @@
 use Rattle.std.proofs.Common.{ℕ, ◌≡◌, ◌≢◌, ◌+◌, ◌<◌, ◌≤◌, ◌⊎◌, inl, inr, List, length, refl, ap, ◌∙◌, subst, arith}
 use Rattle.std.specs.Prelude.{slice_index_or}
 use Rattle.std.proofs.lemmas.Bool.{cases_eq}
-use Rattle.regalloc2_names.specs.Register.{VirtualRegister}
 use Rattle.regalloc2_names.specs.Place.{Place, NoPlace}
 use Rattle.regalloc2_names.specs.Point.{before}
 use Rattle.regalloc2_function.specs.FunctionValue.{FunctionValue, block_at, inst_at}
 use Rattle.regalloc2_function.specs.OutputValue.{place_at}
-use Rattle.regalloc2_function.specs.WellFormed.{BlocksFollow, BlocksEnd, last_of}
+use Rattle.regalloc2_function.specs.WellFormed.{last_of}
 use Rattle.regalloc2_semantics.specs.OperandsPlaced.{Counts}
 use Rattle.regalloc2_semantics.proofs.Order.{ends_within}
 use Rattle.regalloc2_semantics.proofs.Soundness.{cases_within}
@@ -19,11 +18,12 @@ use Rattle.regalloc2_fastalloc_proofs.proofs.Walk.InstsCarry.{AreListed}
 use Rattle.regalloc2_fastalloc_proofs.proofs.Slots.StepsKeepSlots.{Grown, IsAt, grown_none, grown_then}
 use Rattle.regalloc2_fastalloc_proofs.proofs.Safety.StateKept.{ends_in_branch}
 use Rattle.regalloc2_fastalloc_proofs.proofs.Inst.OneInstCarries.{Between}
-use Rattle.regalloc2_fastalloc_proofs.proofs.Walk.InstBoundaries.{BranchKept, IsEdge, IsWithin, grown_weaken, begins_grown, in_grown, walk_between}
+use Rattle.regalloc2_fastalloc_proofs.proofs.Walk.InstBoundaries.{IsEdge, IsWithin, grown_weaken, begins_grown, in_grown, walk_between}
 use Rattle.regalloc2_fastalloc_proofs.proofs.Walk.InstBoundaries.{walk_grown, edge_next, blocks_between}
 use Rattle.regalloc2_fastalloc_proofs.proofs.Walk.LastInstAndRest.{listed_behind, walk_listed}
-use Rattle.regalloc2_fastalloc_proofs.proofs.Inst.ProperInsts.{ProperInsts}
 use Rattle.regalloc2_debug_proofs.proofs.UnnamedStaysUnlocated.{StaysOut, IsUnpassed, IsUnstored, out_same, out_then, inst_out, begun_out}
+use Rattle.regalloc2_fastalloc_proofs.proofs.Walk.FunctionLaws.{PlacedCode}
+use Rattle.regalloc2_fastalloc_proofs.proofs.Walk.InstBoundaries.{kept_of}
 
 -- a block begins at the instruction
 abbrev pub IsStart : FunctionValue → ℕ → Type 0
@@ -61,10 +61,9 @@ pub record Met (f : FunctionValue) (placesf : ℕ → List Place) (start : List 
   pub rest : Grown (IsBefore f i) new final
   pub out : (x : ℕ) → IsUnnamedBefore f x i → StaysOut x new final
 
-module _ (Known : VirtualRegister → Type 0) (f : FunctionValue)
-    (proper : ProperInsts Known f) (kept : BranchKept f) (follow : BlocksFollow f) (ends : BlocksEnd f)
-    (placesf : ℕ → List Place)
-    (start : List Place) (begin : StateValue) (i : ℕ) where
+module _ (code : PlacedCode) (start : List Place) (begin : StateValue) (i : ℕ) where
+  open code use {Known, f, proper, kept, follow, ends, placesf}
+
   extend : (t u : StateValue) → Grown (IsBefore f i) t u → ((x : ℕ) → IsUnnamedBefore f x i → StaysOut x t u) → Met f placesf start begin i t →
       Met f placesf start begin i u
   extend t u g o m = record {
@@ -115,9 +114,9 @@ module _ (Known : VirtualRegister → Type 0) (f : FunctionValue)
           let sooner : k < i = omega (arith, le, ne) in
           extend s u
           (grown_weaken (IsAt k) (IsBefore f i) s u (λ n w. elim w [ inl y ↦ inl (omega (arith, y, sooner)) | inr y ↦ inl (omega (arith, y, sooner)) ])
-          (in_grown Known f proper kept b k p q s u (within k less) a))
+          (in_grown (kept_of Known f proper kept) b k p q s u (within k less) a))
           (one_out_of k p q s u ge less sooner a)
-          (meet_in lt (k + 1) p s prev (listed_behind Known f proper kept follow ends placesf s b k p q s u (within k less) a are)
+          (meet_in lt (k + 1) p s prev (listed_behind code s b k p q s u (within k less) a are)
           (omega (arith, sooner))))
     ]
       where
@@ -138,8 +137,8 @@ module _ (Known : VirtualRegister → Type 0) (f : FunctionValue)
           end_tables = old;
           blocks = prev_blocks;
           inside = prev;
-          listed = listed_behind Known f proper kept follow ends placesf s b k p q s u (within k less) a are;
-          behind = walk_between Known f proper kept follow b lb blank old h (k + 1) p s prev;
+          listed = listed_behind code s b k p q s u (within k less) a are;
+          behind = walk_between (kept_of Known f proper kept) follow b lb blank old h (k + 1) p s prev;
           rest = grown_none (IsBefore f k) u u refl;
           out = λ x n. out_same x u u refl;
         }
@@ -154,7 +153,7 @@ module _ (Known : VirtualRegister → Type 0) (f : FunctionValue)
       let at_first : e ≡ first = edge.0 lc in
       let from : first ≤ i = omega (arith, at_first, le) in
       let some : first < end = (follow c lc).0 in
-      let behind : Between end s = blocks_between Known f proper kept follow start begin fresh (c + 1) p s prev end (edge_next f follow c lc) in
+      let behind : Between end s = blocks_between (kept_of Known f proper kept) follow start begin fresh (c + 1) p s prev end (edge_next f follow c lc) in
       let here_listed : AreListed f placesf first q = subst (λ (m : ℕ). AreListed f placesf m q) at_first are in
       let beginning : Grown (IsBefore f i) u w = grown_weaken (λ z. z ≡ before first) (IsBefore f i) u w
       (λ z y. elim (cases_eq first i) [ inl same ↦ inr (y ∙ ap before same, (c, lc, same)) | inr ne ↦ inl (omega (arith, y, from, ne)) ])
@@ -164,8 +163,8 @@ module _ (Known : VirtualRegister → Type 0) (f : FunctionValue)
         | inl inside ↦ extend u w beginning aside (meet_in c lc p s behind prev inside first q u walk here_listed from)
         | inr past ↦ extend u w beginning aside
             (extend s u (grown_weaken (IsWithin first end) (IsBefore f i) s u (λ z y. inl (omega (arith, y.1, past)))
-            (walk_grown Known f proper kept follow c lc p s first q u walk))
+            (walk_grown (kept_of Known f proper kept) follow c lc p s first q u walk))
             (walk_out c lc p s behind prev first q u walk past)
             (meet fresh lt prev end (edge_next f follow c lc)
-            (walk_listed Known f proper kept follow ends placesf s c lc p s first q u walk here_listed) past))
+            (walk_listed code s c lc p s first q u walk here_listed) past))
       ]

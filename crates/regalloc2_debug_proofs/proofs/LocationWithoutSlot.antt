@@ -7,8 +7,7 @@ use Rattle.regalloc2_names.specs.Place.{Place, NoPlace}
 use Rattle.regalloc2_function.specs.FunctionValue.{FunctionValue, block_at, inst_at}
 use Rattle.regalloc2_function.specs.OutputValue.{place_at}
 use Rattle.regalloc2_names.specs.Operand.{is_def, is_reading}
-use Rattle.regalloc2_function.specs.WellFormed.{BlocksFollow, BlocksEnd, last_of}
-use Rattle.regalloc2_names.specs.Register.{VirtualRegister}
+use Rattle.regalloc2_function.specs.WellFormed.{last_of}
 use Rattle.regalloc2_semantics.specs.OperandsPlaced.{Counts}
 use Rattle.regalloc2_semantics.proofs.Order.{ends_within}
 use Rattle.regalloc2_validate.specs.Constraints.{op_at}
@@ -19,13 +18,14 @@ use Rattle.regalloc2_fastalloc_proofs.proofs.Safety.StepsKeepState.{place_in, sl
 use Rattle.regalloc2_fastalloc_proofs.proofs.Walk.InstsCarry.{AreListed}
 use Rattle.regalloc2_fastalloc_proofs.proofs.Slots.StepsKeepSlots.{Grown, IsAt, grown_then, cases_none}
 use Rattle.regalloc2_fastalloc_proofs.proofs.Safety.StateKept.{ends_in_branch}
-use Rattle.regalloc2_fastalloc_proofs.proofs.Walk.InstBoundaries.{BranchKept, IsEdge, grown_weaken, in_grown, edge_next}
+use Rattle.regalloc2_fastalloc_proofs.proofs.Walk.InstBoundaries.{IsEdge, grown_weaken, in_grown, edge_next}
 use Rattle.regalloc2_fastalloc_proofs.proofs.Walk.LastInstAndRest.{AnyPlace, listed_behind}
-use Rattle.regalloc2_fastalloc_proofs.proofs.Inst.ProperInsts.{ProperInsts}
 use Rattle.regalloc2_debug_proofs.proofs.UnnamedStaysUnlocated.{Absent, IsUnpassed, inst_out, begun_absent}
 use Rattle.regalloc2_debug_proofs.proofs.LocatedStaysOrHasSlot.{Holds, hold_then, allocates_hold, branch_hold}
 use Rattle.regalloc2_debug_proofs.proofs.InstWithinWalk.{Met, IsBefore}
 use Rattle.regalloc2_debug_proofs.proofs.LocationBeforeFirstRead.{ComesFirst, reads_at}
+use Rattle.regalloc2_fastalloc_proofs.proofs.Walk.FunctionLaws.{PlacedCode}
+use Rattle.regalloc2_fastalloc_proofs.proofs.Walk.InstBoundaries.{kept_of}
 
 -- x is defined at the instruction id, used last at il, where its operand ko reads it and is placed first, and has no slot at the walk's end
 pub record IsUnslotted (f : FunctionValue) (placesf : ℕ → List Place) (final : StateValue) (x id il ko : ℕ) : Type 0 where
@@ -46,11 +46,9 @@ pub record Stays (placesf : ℕ → List Place) (x id il ko j : ℕ) (t : StateV
   pub after_it : il < j → Absent x t
   pub there : id < j → j ≤ il → place_in t x ≡ place_at (placesf il) ko
 
-module _ (Known : VirtualRegister → Type 0) (f : FunctionValue)
-    (proper : ProperInsts Known f) (kept : BranchKept f) (follow : BlocksFollow f) (ends : BlocksEnd f)
-    (placesf : ℕ → List Place)
-    (final : StateValue) (x id il ko : ℕ) (un : IsUnslotted f placesf final x id il ko) where
-  open proper use {orderly}
+module _ (code : PlacedCode) (final : StateValue) (x id il ko : ℕ) (un : IsUnslotted code.f code.placesf final x id il ko) where
+  open code use {Known, f, proper, kept, follow, ends, placesf}
+  open code.proper use {orderly}
 
   -- it had no slot before either
   pub none_before : (t : StateValue) → Grown AnyPlace t final → slot_in t x ≡ NoPlace
@@ -116,10 +114,10 @@ module _ (Known : VirtualRegister → Type 0) (f : FunctionValue)
     in_stays h at_end = λ are rest. h
     in_stays {blank} {old} h (one_in k p q s u ge less prev a) = λ are rest.
         step_stays ge less a (λ m few. are k (omega arith) (of_function k less) m few ∙ a.allocates.inside m few) rest
-        (in_stays h prev (listed_behind Known f proper kept follow ends placesf final b k p q s u (of_function k less) a
+        (in_stays h prev (listed_behind code final b k p q s u (of_function k less) a
         are)
         (grown_then AnyPlace s u final (grown_weaken (IsAt k) AnyPlace s u (λ n y. tt)
-        (in_grown Known f proper kept b k p q s u (of_function k less) a)) rest))
+        (in_grown (kept_of Known f proper kept) b k p q s u (of_function k less) a)) rest))
 
     walk_absent : (blank : List Place) (old : StateValue) → Absent x old → (j : ℕ) (places : List Place) (t : StateValue) →
         AllocsBlockInsts f b blank old j places t → il < j → Absent x t
@@ -153,7 +151,7 @@ module _ (Known : VirtualRegister → Type 0) (f : FunctionValue)
           there = λ low high. absurd (omega (arith, high, upto));
         }) w.inside w.listed
         (grown_then AnyPlace w.old w.new final (grown_weaken (IsAt j) AnyPlace w.old w.new (λ n y. tt)
-        (in_grown Known f proper kept w.block j w.blank w.places w.old w.new lt w.allocates))
+        (in_grown (kept_of Known f proper kept) w.block j w.blank w.places w.old w.new lt w.allocates))
         (grown_weaken (IsBefore f j) AnyPlace w.new final (λ n y. tt) w.rest))
 
     -- in the state that the walk goes on with, x is where it is before this one

@@ -5,15 +5,13 @@ use Rattle.regalloc2_names.specs.Register.{VirtualRegister}
 use Rattle.regalloc2_names.specs.Operand.{OperandValue, is_def}
 use Rattle.regalloc2_names.specs.Place.{Place, NoPlace}
 use Rattle.regalloc2_names.specs.Point.{before}
-use Rattle.regalloc2_function.specs.FunctionValue.{FunctionValue, IsLimited, block_at, inst_at}
-use Rattle.regalloc2_function.specs.Machine.{MachineValue}
-use Rattle.regalloc2_function.specs.OutputValue.{OutputValue, allocs_of, place_at}
+use Rattle.regalloc2_function.specs.FunctionValue.{block_at, inst_at}
+use Rattle.regalloc2_function.specs.OutputValue.{allocs_of, place_at}
 use Rattle.regalloc2_function.specs.Path.{Way, Onward, ToSuccessor, end_of, IsPath}
 use Rattle.regalloc2_function.specs.SourceRun.{IsWrittenFirst, source_before}
 use Rattle.regalloc2_function.specs.AllocatedRun.{Cells, after_moves}
 use Rattle.regalloc2_function.specs.DebugPaths.{GoesOn, there, further, HoldsValue}
 use Rattle.regalloc2_function.specs.DebugPoints.{UsesAt}
-use Rattle.regalloc2_function.specs.WellFormed.{IsWellFormed}
 use Rattle.regalloc2_semantics.specs.Listing.{op_at}
 use Rattle.regalloc2_semantics.specs.Carry.{Carries}
 use Rattle.regalloc2_semantics.specs.Live.{IsLive, later, HasEntered}
@@ -25,8 +23,6 @@ use Rattle.regalloc2_semantics.proofs.SingleDef as defined
 use Rattle.regalloc2_semantics.proofs.LiveIn.{live_is_used}
 use Rattle.regalloc2_semantics.proofs.Order.{ends_within, stands_later, reads_later}
 use Rattle.regalloc2_semantics.proofs.Soundness.{cases_within}
-use Rattle.regalloc2_fastalloc_proofs.specs.InstSteps.{StateValue}
-use Rattle.regalloc2_fastalloc_proofs.specs.BlockSteps.{AllocsBlocks}
 use Rattle.regalloc2_fastalloc_proofs.proofs.Walk.BlocksCarryFromFreshState.{used_slots}
 use Rattle.regalloc2_fastalloc_proofs.proofs.Walk.InstBoundaries.{grown_weaken, grown_pushes}
 use Rattle.regalloc2_fastalloc_proofs.proofs.Inst.OneInstCarries.{Needed}
@@ -34,9 +30,7 @@ use Rattle.regalloc2_fastalloc_proofs.proofs.Safety.OutputOfWalk.{IsMade}
 use Rattle.regalloc2_fastalloc_proofs.proofs.Safety.StepsKeepState.{place_in, slot_in}
 use Rattle.regalloc2_fastalloc_proofs.proofs.Operands.DefinedNumbers.{defined_by, defined_by-at}
 use Rattle.regalloc2_fastalloc_proofs.proofs.Moves.StepsAppendEdits.{pushed_at}
-use Rattle.regalloc2_fastalloc_proofs.proofs.Walk.InstsCarry.{Blank}
 use Rattle.regalloc2_fastalloc_proofs.proofs.Safety.BlocksKeepSafe.{MayInBlocks}
-use Rattle.regalloc2_fastalloc_proofs.proofs.Moves.ScratchRegTaken.{Fit}
 use Rattle.regalloc2_fastalloc_proofs.proofs.Walk.LastInstAndRest.{AnyPlace}
 use Rattle.regalloc2_fastalloc_proofs.proofs.Operands.RecordOverState.{opt, opt_some, opt_from}
 use Rattle.regalloc2_fastalloc_proofs.proofs.Safety.BranchArgsKeepState.{passes_between}
@@ -52,15 +46,22 @@ use Rattle.regalloc2_debug_proofs.proofs.InstWithinWalk.{Met, IsStart, IsBefore}
 use Rattle.regalloc2_debug_proofs.proofs.PlaceKeepsValueOverMoves.{observed}
 use Rattle.regalloc2_debug_proofs.proofs.WellFormedPaths.{op_is, inst_in, inst_lt, within, plain_function}
 use Rattle.regalloc2_debug_proofs.proofs.LocationWithoutSlot.{IsUnslotted, none_before, old_stays, new_stays}
+use Rattle.regalloc2_fastalloc_proofs.proofs.Walk.WholeWalk.{WholeWalk}
+use Rattle.regalloc2_fastalloc_proofs.proofs.Walk.FunctionLaws.{PlacedCode, code_of}
+use Rattle.regalloc2_fastalloc_proofs.proofs.Inst.ProperInsts.{proper_of}
 
-module _ (env : MachineValue) (f : FunctionValue) (limited : IsLimited f) (ok : IsWellFormed env f) (blank : List Place) (begin last : StateValue)
-    (out : OutputValue) (empty : Blank begin) (fit : Fit begin)
-    (walks : AllocsBlocks f blank begin 0 out.allocs last) (m : IsMade f env (Made f) (MayInBlocks f) last out) (written : IsWrittenFirst f)
-    (v : VirtualRegister) (known : Made f v) (id d il ko : ℕ) (un : IsUnslotted f (allocs_of out) last v.number id il ko)
-    (defines : defined.DefinesAt f v.number id d)
-    (reads_v : (op_at (inst_at f il).operands ko).vreg ≡ v) (il_lt : il < length f.insts) (last_use : (j : ℕ) → UsesAt f v j → j ≤ il) where
+module _ (walk : WholeWalk) (m : IsMade walk.f walk.env (Made walk.f) (MayInBlocks walk.f) walk.last walk.out) (written : IsWrittenFirst walk.f)
+    (v : VirtualRegister) (known : Made walk.f v) (id d il ko : ℕ) (un : IsUnslotted walk.f (allocs_of walk.out) walk.last v.number id il ko)
+    (defines : defined.DefinesAt walk.f v.number id d) (reads_v : (op_at (inst_at walk.f il).operands ko).vreg ≡ v) (il_lt : il < length walk.f.insts)
+    (last_use : (j : ℕ) → UsesAt walk.f v j → j ≤ il) where
+  open walk use {env, f, limited, ok, blank, begin, last, out, empty, fit, walks}
+
   abbrev p : Place
   p = place_at (allocs_of out il) ko
+
+  -- the function, with the output's places
+  abbrev code : PlacedCode
+  code = code_of (Made f) f (all_proper env f limited ok) (branch env f limited ok) ok.follow ok.end (allocs_of out)
 
   abbrev MetAt : ℕ → Type 0
   MetAt j = Met f (allocs_of out) blank begin j last
@@ -70,7 +71,7 @@ module _ (env : MachineValue) (f : FunctionValue) (limited : IsLimited f) (ok : 
 
   -- it is live where no path comes to a block
   never_entered : (ws : List Way) → IsPath f ws → HasEntered f ws → IsLive f v (end_of f ws) → ⊥
-  never_entered ws path entered live = used_slots env f limited ok (passes_between f) blank begin last out empty fit walks v
+  never_entered ws path entered live = used_slots walk (passes_between f) v
       (live_is_used env f ok written ws path entered v live) un.unslotted
 
   some_block : 0 < length f.blocks
@@ -81,7 +82,7 @@ module _ (env : MachineValue) (f : FunctionValue) (limited : IsLimited f) (ok : 
       un.number
 
   meets : (j : ℕ) → j < length f.insts → MetAt j
-  meets j lt = met_at env f limited ok blank begin last out empty fit walks m j lt
+  meets j lt = met_at walk m j lt
 
   -- the block of its last use has its definition too
   together : (w : MetAt il) → (block_at f w.block).range.first ≤ id
@@ -93,7 +94,7 @@ module _ (env : MachineValue) (f : FunctionValue) (limited : IsLimited f) (ok : 
         let same = one_operand f ok.defined_once v.number id i d j defines
         (record { inst = i_lt; operand = few; definition = def; number = ap (λ (x : VirtualRegister). x.number) is }) in
         omega (arith, same.0, ge, lt) in
-        absurd (used_slots env f limited ok (passes_between f) blank begin last out empty fit walks v
+        absurd (used_slots walk (passes_between f) v
         (record { block = w.block; within = w.within; unwritten = unwritten; used = inl (il, ko, w.ge, w.less, un.within, un.reads, reads_v) })
         un.unslotted))
   ]
@@ -132,31 +133,28 @@ module _ (env : MachineValue) (f : FunctionValue) (limited : IsLimited f) (ok : 
 
   old_at : (j : ℕ) (w : MetAt j) → id ≤ j → j < il → place_in w.old v.number ≡ p
   old_at j w low high =
-      (old_stays (Made f) f (all_proper env f limited ok) (branch env f limited ok) ok.follow ok.end
-      (allocs_of out) last v.number id il ko un blank begin begins j w (upto j w low (omega (arith, high)))).there
+      (old_stays code last v.number id il ko un blank begin begins j w (upto j w low (omega (arith, high)))).there
       (omega (arith, low)) (omega (arith, high))
 
   new_at : (j : ℕ) (w : MetAt j) → id < j → j ≤ il → place_in w.new v.number ≡ p
   new_at j w low high =
-      (new_stays (Made f) f (all_proper env f limited ok) (branch env f limited ok) ok.follow ok.end
-      (allocs_of out) last v.number id il ko un blank begin begins j w (upto j w (omega (arith, low)) high)).there low high
+      (new_stays code last v.number id il ko un blank begin begins j w (upto j w (omega (arith, low)) high)).there low high
 
   none_new : (j : ℕ) (w : MetAt j) → slot_in w.new v.number ≡ NoPlace
   none_new j w =
-      none_before (Made f) f (all_proper env f limited ok) (branch env f limited ok) ok.follow ok.end
-      (allocs_of out) last v.number id il ko un w.new
+      none_before code last v.number id il ko un w.new
       (grown_weaken (IsBefore f j) AnyPlace w.new last (λ n y. tt) w.rest)
 
   -- what an instruction carries into the place
   module _ (j : ℕ) (lt : j < length f.insts) (flat : (inst_at f j).is_branch ≡ false) (onward : (inst_at f j).is_ret ≡ false) where
     alone_law : (w : MetAt j) → Carries v (walked (inst_at f) (at_point (listed w.new.edits)) (allocs_of out) j 1)
         (Needed (defined_by (inst_at f j).operands) w.new v) (Needed (λ x. false) w.old v)
-    alone_law w = ((by_itself env f limited ok blank begin last out empty fit walks m j w lt flat).carries (rw (flat, onward) refl) v known)
+    alone_law w = ((by_itself walk m j w lt flat).carries (rw (flat, onward) refl) v known)
 
     law : (w : MetAt j) → (IsStart f j → ⊥) → Carries v (walked (inst_at f) (at_point out.edits) (allocs_of out) j 1)
         (Needed (defined_by (inst_at f j).operands) w.new v) (Needed (λ x. false) w.old v)
     law w never = subst (λ l. Carries v l (Needed (defined_by (inst_at f j).operands) w.new v) (Needed (λ x. false) w.old v))
-        (listed_at env f limited ok blank begin last out empty fit walks m j w never)
+        (listed_at walk m j w never)
         (alone_law w)
 
     to_place : (w : MetAt j) → place_in w.old v.number ≡ p → (q : Place) → q ≡ p → Needed (λ x. false) w.old v q
@@ -169,11 +167,11 @@ module _ (env : MachineValue) (f : FunctionValue) (limited : IsLimited f) (ok : 
         let here : defined.DefinesAt f v.number j d = subst (λ (i : ℕ). defined.DefinesAt f v.number i d) (sym e) defines in
         let is : defined_by (inst_at f j).operands v.number ≡ true = ap (defined_by (inst_at f j).operands) (sym here.number)
         ∙ defined_by-at (inst_at f j).operands d here.operand here.definition in
-        from_nowhere env f limited ok blank begin last out empty fit walks m v (λ q. q ≡ p) j w
+        from_nowhere walk m v (λ q. q ≡ p) j w
         (carries_weaken v (walked (inst_at f) (at_point (listed w.new.edits)) (allocs_of out) j 1) (Needed (defined_by (inst_at f j).operands) w.new v) (λ q. ⊥)
         (Needed (λ x. false) w.old v) (λ q. q ≡ p)
         (λ q y. elim (needed_parts (defined_by (inst_at f j).operands) w.new v q y) [
-          | inl at ↦ (let z : None ≡ Some q = sym ((by_itself env f limited ok blank begin last out empty fit walks m j w lt flat).ends.gone v.number is)
+          | inl at ↦ (let z : None ≡ Some q = sym ((by_itself walk m j w lt flat).ends.gone v.number is)
               ∙ at in cc)
           | inr s ↦ (let z : true ≡ false = sym is ∙ s.0 in cc)
         ])
@@ -200,13 +198,13 @@ module _ (env : MachineValue) (f : FunctionValue) (limited : IsLimited f) (ok : 
       last.edits (λ e h is. elim h [ inl before_it ↦ omega (arith, before_it, is) | inr at ↦ not_start j w low high at.1 ])
       (grown_pushes (IsBefore f j) w.new last w.rest) in
       ap (λ es. after_moves (at_point es (before j)) c p) m.edits ∙ ap (λ ms. after_moves ms c p) same
-      ∙ observed (Made f) f (allocs_of out) (all_proper env f limited ok) j
+      ∙ observed (proper_of (Made f) f (allocs_of out) (all_proper env f limited ok)) j
       w.allocates.allocates.blank w.allocates.allocates.here w.old w.new lt w.behind
-      (allocated env f limited ok blank begin last out empty fit walks m j w flat) v known p un.real (new_at j w low high) (none_new j w) (source_before f ws) c
-      held
+      (allocated walk m j w flat) v p
+      (record { known = known; real = un.real; alloc_of = new_at j w low high; unslotted = none_new j w }) (source_before f ws) c held
 
   abbrev up : Rising out.edits
-  up = rising env f limited ok blank begin last out empty fit walks m
+  up = rising walk m
 
   flat_at : (ws : List Way) → IsPath f (Onward ∷ ws) → ((inst_at f (end_of f ws).inst).is_branch ≡ false) × ((inst_at f (end_of f ws).inst).is_ret ≡ false)
   flat_at ws path =
@@ -224,7 +222,7 @@ module _ (env : MachineValue) (f : FunctionValue) (limited : IsLimited f) (ok : 
   reach : (given : List Way) → IsPath f (Onward ∷ given) → (end_of f given).inst ≡ id → (here : List Way) → GoesOn f v (Onward ∷ given) here → IsPath f here →
       IsLive f v (end_of f here) → (end_of f here).inst ≤ il → Reached here
   reach given start at here there path live high =
-      let fr = front_of env f limited ok blank begin last out empty fit walks m written given start.0 in
+      let fr = front_of walk m written given start.0 in
       let flat = flat_at given start in
       record {
         cells = behind f out up given;

@@ -8,7 +8,7 @@ use Rattle.regalloc2_names.specs.Register.{VirtualRegister}
 use Rattle.regalloc2_names.specs.Operand.{OperandValue, is_def, is_late, is_reading}
 use Rattle.regalloc2_names.specs.Place.{Place, NoPlace}
 use Rattle.regalloc2_names.specs.Point.{before, after}
-use Rattle.regalloc2_function.specs.FunctionValue.{FunctionValue, inst_at}
+use Rattle.regalloc2_function.specs.FunctionValue.{inst_at}
 use Rattle.regalloc2_function.specs.OutputValue.{MoveValue, place_at}
 use Rattle.regalloc2_function.specs.SourceRun.{Source}
 use Rattle.regalloc2_function.specs.AllocatedRun.{Cells, after_moves}
@@ -17,7 +17,7 @@ use Rattle.regalloc2_semantics.specs.Listing.Item.{Exec}
 use Rattle.regalloc2_semantics.specs.Carry.{Carries, CarriesFrom, is_clobbered}
 use Rattle.regalloc2_semantics.specs.BlockByPoints.{at_point, walked, after_part, listed}
 use Rattle.regalloc2_semantics.specs.Instruction.{Claims}
-use Rattle.regalloc2_semantics.specs.OperandsPlaced.{what_of, Counts, Pending, still, slotted, used}
+use Rattle.regalloc2_semantics.specs.OperandsPlaced.{Progress, what_of, Counts, Pending, still, slotted, used}
 use Rattle.regalloc2_semantics.proofs.Points.{all_from-less}
 use Rattle.regalloc2_semantics.proofs.MoveInFront.{walked-none, before_part-clean}
 use Rattle.regalloc2_semantics.proofs.CarryRules.{carries_nil, carries_moves, carries_exec, after_their_moves}
@@ -28,16 +28,18 @@ use Rattle.regalloc2_fastalloc_proofs.proofs.Safety.StepsKeepState.{place_in, sl
 use Rattle.regalloc2_fastalloc_proofs.proofs.Operands.RecordOverState.{stands_at, slots_at, opt, opt_some, opt_from}
 use Rattle.regalloc2_fastalloc_proofs.proofs.Evictions.EvictVReg.{kept_all}
 use Rattle.regalloc2_fastalloc_proofs.proofs.Inst.AcrossInst.{lives_in}
-use Rattle.regalloc2_fastalloc_proofs.proofs.Operands.RecordOfInst.{Laid}
+use Rattle.regalloc2_fastalloc_proofs.proofs.Operands.RecordOfInst.{progress, Laid}
 use Rattle.regalloc2_fastalloc_proofs.proofs.Moves.UsesMoved.{Moves, moves_done}
 use Rattle.regalloc2_fastalloc_proofs.proofs.Inst.BoundaryToFirstOperand.{opened}
 use Rattle.regalloc2_fastalloc_proofs.proofs.Inst.LastOperandToBoundary.{turned_all}
 use Rattle.regalloc2_fastalloc_proofs.proofs.Slots.StepsKeepSlots.{cases_none}
 use Rattle.regalloc2_fastalloc_proofs.proofs.Operands.AllOperands.{laid_both}
 use Rattle.regalloc2_fastalloc_proofs.proofs.Inst.OneInstCarries.{Between, carried_nil, Needed}
-use Rattle.regalloc2_fastalloc_proofs.proofs.Inst.ProperInsts.{ProperInsts}
 use Rattle.regalloc2_debug_proofs.proofs.UnnamedStaysUnlocated.{moves_out, whole_absent}
 use Rattle.regalloc2_debug_proofs.proofs.LocatedStaysOrHasSlot.{moves_hold}
+use Rattle.regalloc2_fastalloc_proofs.proofs.Operands.BlockTail.{tail_of}
+use Rattle.regalloc2_fastalloc_proofs.proofs.Operands.RecordOfInst.{laying_of}
+use Rattle.regalloc2_fastalloc_proofs.proofs.Inst.ProperInsts.{ProperCode}
 
 -- a use that reads v
 abbrev observer : VirtualRegister → OperandValue
@@ -48,14 +50,21 @@ nothing_carried : (v : VirtualRegister) (ms : List MoveValue) (L : List Item) �
 nothing_carried v ms L e = carries_moves v ms L (λ p. ⊥) (λ p. ⊥) (λ p. ⊥) (λ s c holds p h. absurd h)
     (subst (λ l. Carries v l (λ p. ⊥) (λ p. ⊥)) (sym e) (carries_nil v (λ p. ⊥) (λ p. ⊥) (λ p h. h)))
 
-module _ (Known : VirtualRegister → Type 0) (f : FunctionValue) (placesf : ℕ → List Place)
-    (proper : ProperInsts Known f) where
-  open proper use {orderly, avoids}
+-- a virtual register that is located in the place p, and has no slot
+pub record IsUnslottedAt (Known : VirtualRegister → Type 0) (t : StateValue) (v : VirtualRegister) (p : Place) : Type 0 where
+  pub known : Known v
+  pub real : p ≢ NoPlace
+  pub alloc_of : place_in t v.number ≡ p
+  pub unslotted : slot_in t v.number ≡ NoPlace
+
+module _ (code : ProperCode) where
+  open code use {Known, f, placesf, proper}
+  open code.proper use {orderly, avoids}
 
   module _ (i : ℕ) (blank here : List Place) (old new : StateValue) (lt : i < length f.insts) (b : Between (i + 1) old)
-      (a : AllocsInst i (inst_at f i) blank here old new)
-      (v : VirtualRegister) (known : Known v) (p : Place) (real : p ≢ NoPlace) (alloc_of : place_in new v.number ≡ p)
-      (unslotted : slot_in new v.number ≡ NoPlace) where
+      (a : AllocsInst i (inst_at f i) blank here old new) (v : VirtualRegister) (p : Place) (alone : IsUnslottedAt Known new v p) where
+    open alone use {known, real, alloc_of, unslotted}
+
     abbrev ops : List OperandValue
     ops = (inst_at f i).operands
 
@@ -65,23 +74,27 @@ module _ (Known : VirtualRegister → Type 0) (f : FunctionValue) (placesf : ℕ
     abbrev item : Item
     item = Exec (observer v ∷ []) (p ∷ []) (inst_at f i).clobbers
 
-    laid : Laid Known (inst_at f) placesf i 0 (λ w q. ⊥) ops (lives_in old) (is_clobbered (inst_at f i).clobbers) (ends_block (inst_at f i)) false
+    laid : Laid (tail_of Known (inst_at f) placesf i 0 (λ w q. ⊥)) ops (lives_in old) (is_clobbered (inst_at f i).clobbers) (ends_block (inst_at f i)) false
         (length ops) here
         a.early t
     laid =
-        laid_both Known (inst_at f) placesf i 0 (λ w q. ⊥) ops (lives_in old) (is_clobbered (inst_at f i).clobbers) (ends_block (inst_at f i))
-        (orderly i lt) blank
+        laid_both (laying_of (tail_of Known (inst_at f) placesf i 0 (λ w q. ⊥)) ops (lives_in old) (is_clobbered (inst_at f i).clobbers)
+        (ends_block (inst_at f i)) (orderly i lt)) blank
         a.half here a.quiet a.late a.early a.after_clobbers a.after_late t a.lates a.earlies
-        (opened Known (inst_at f) placesf (λ w q. ⊥) i 0 (inst_at f i) blank here old new (orderly i lt) (avoids i lt)
-        (λ e w k. carried_nil Known f placesf proper (λ u q. ⊥) (i + 1) old (λ u q. ⊥) (λ u q h. h) w)
+        (opened (tail_of Known (inst_at f) placesf i 0 (λ w q. ⊥)) (inst_at f i) blank here old new (orderly i lt) (avoids i lt)
+        (λ e w k. carried_nil code (λ u q. ⊥) (i + 1) old (λ u q. ⊥) (λ u q h. h) w)
         (record {
           whole = b.whole;
           later = b.later;
-          claims = λ w k. carried_nil Known f placesf proper (λ u q. ⊥) (i + 1) old
+          claims = λ w k. carried_nil code (λ u q. ⊥) (i + 1) old
               (Needed (λ x. false) old) (λ u q h. absurd h) w;
           fit = b.fit;
           apart = b.apart;
         }) a)
+
+    -- how far the operands are
+    abbrev far : Progress
+    far = progress (lives_in old) (is_clobbered (inst_at f i).clobbers) laid.here laid.claimed laid.done laid.out laid.X
 
     -- it was there before the moves
     stood_then : place_in t v.number ≡ p
@@ -117,8 +130,7 @@ module _ (Known : VirtualRegister → Type 0) (f : FunctionValue) (placesf : ℕ
     counted : (j : ℕ) → laid.done j ≡ true → Counts ops j
     counted j d = laid.ready.within j (laid.ready.located.placed.claims j d)
 
-    moved : Moves Known (inst_at f) placesf i 0 item (λ w q. ⊥) (what_of ops) laid.here laid.claimed laid.done (lives_in old) laid.out
-        (is_clobbered (inst_at f i).clobbers) laid.X (length ops) a.ended t new
+    moved : Moves (tail_of Known (inst_at f) placesf i 0 (λ w q. ⊥)) item (what_of ops) far (length ops) a.ended t new
     moved =
         let crossed : Claims Known (item ∷ after_part (inst_at f) (listed t.edits) placesf i 0)
         (Pending (what_of ops) laid.here laid.done laid.out (stands_at t) (slots_at t) 0) (λ w q. ⊥) =
@@ -128,8 +140,8 @@ module _ (Known : VirtualRegister → Type 0) (f : FunctionValue) (placesf : ℕ
         (nothing_carried u (at_point (listed t.edits) (after i)) (walked (inst_at f) (at_point (listed t.edits)) placesf (i + 1) 0)
         (walked-none (inst_at f) (at_point (listed t.edits)) placesf (i + 1))) in
         let all_done : (j : ℕ) → Counts ops j → laid.done j ≡ true = λ j c. laid.all j c (turned_all ops j c) in
-        moves_done Known (inst_at f) placesf i 0 item (λ w q. ⊥) ops here laid.here laid.claimed laid.done (lives_in old) laid.out
-        (is_clobbered (inst_at f i).clobbers) laid.X a.early t all_done counted (λ j c. laid.placed j (all_done j c))
+        moves_done (tail_of Known (inst_at f) placesf i 0 (λ w q. ⊥)) item ops here far a.early t
+        (record { all = all_done; counted = counted; at_places = λ j c. laid.placed j (all_done j c) })
         (record {
           located = laid.ready.located;
           pends = record {

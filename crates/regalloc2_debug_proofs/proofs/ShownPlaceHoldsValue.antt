@@ -6,15 +6,15 @@ use Rattle.regalloc2_names.specs.declared.OperandPos.TheVariants.{Early, Late}
 use Rattle.regalloc2_names.specs.Register.{VirtualRegister}
 use Rattle.regalloc2_names.specs.Operand.{OperandValue, is_def, is_late, is_reading}
 use Rattle.regalloc2_names.specs.Place.{Place, NoPlace, InRegister, InSlot}
-use Rattle.regalloc2_function.specs.FunctionValue.{FunctionValue, IsLimited, block_at, inst_at}
+use Rattle.regalloc2_function.specs.FunctionValue.{FunctionValue, block_at, inst_at}
 use Rattle.regalloc2_function.specs.Fitting.{MachineFits}
 use Rattle.regalloc2_function.specs.Machine.{MachineValue}
-use Rattle.regalloc2_function.specs.OutputValue.{OutputValue, allocs_of, place_at}
+use Rattle.regalloc2_function.specs.OutputValue.{allocs_of, place_at}
 use Rattle.regalloc2_function.specs.Path.{end_of}
 use Rattle.regalloc2_function.specs.SourceRun.{IsWrittenFirst, arguments_at}
 use Rattle.regalloc2_function.specs.DebugPaths.{HoldsValue}
 use Rattle.regalloc2_function.specs.DebugPoints.{DefinesAt, ReadsAt, UsesAt}
-use Rattle.regalloc2_function.specs.WellFormed.{IsWellFormed, last_of}
+use Rattle.regalloc2_function.specs.WellFormed.{last_of}
 use Rattle.regalloc2_semantics.specs.Listing.{op_at, no_operand}
 use Rattle.regalloc2_semantics.specs.Blocks.{IsSound, IsUnwritten, target_at}
 use Rattle.regalloc2_semantics.specs.Laws.{ReadsAgreeOnPaths}
@@ -28,15 +28,11 @@ use Rattle.regalloc2_live_ranges.proofs.UsesInSSA.{defines_number}
 use Rattle.regalloc2_live_ranges.specs.LiveRanges.IsShownBy.{by_late_use, by_early_use, by_argument, by_definition}
 use Rattle.regalloc2_fastalloc_state.specs.StateParts.{SlotsHaveOneOwner, SpillSlotsValue, IsSlotOrNone, slot_name}
 use Rattle.regalloc2_fastalloc_proofs.specs.Safety.{MayBeLocatedAt}
-use Rattle.regalloc2_fastalloc_proofs.specs.InstSteps.{StateValue}
-use Rattle.regalloc2_fastalloc_proofs.specs.BlockSteps.{AllocsBlocks}
 use Rattle.regalloc2_fastalloc_proofs.proofs.Walk.BlocksCarryFromFreshState.{at_walks_end, used_slots, passed_slots}
 use Rattle.regalloc2_fastalloc_proofs.proofs.Operands.AllocsSoFar.{IsTame, reads_allocated}
 use Rattle.regalloc2_fastalloc_proofs.proofs.Safety.OutputOfWalk.{IsMade, operand_good}
 use Rattle.regalloc2_fastalloc_proofs.proofs.Safety.StepsKeepState.{slot_in}
-use Rattle.regalloc2_fastalloc_proofs.proofs.Walk.InstsCarry.{Blank}
 use Rattle.regalloc2_fastalloc_proofs.proofs.Safety.BlocksKeepSafe.{MayInBlocks}
-use Rattle.regalloc2_fastalloc_proofs.proofs.Moves.ScratchRegTaken.{Fit}
 use Rattle.regalloc2_fastalloc_proofs.proofs.Walk.DefsBeforeUses.{used_made}
 use Rattle.regalloc2_fastalloc_proofs.proofs.Safety.BranchArgsKeepState.{passes_between}
 use Rattle.regalloc2_fastalloc_proofs.proofs.Inst.ProperInsts.{all_proper}
@@ -49,6 +45,7 @@ use Rattle.regalloc2_debug_proofs.proofs.InstWithinWalk.{Met}
 use Rattle.regalloc2_debug_proofs.proofs.WellFormedPaths.{any_default}
 use Rattle.regalloc2_debug_proofs.proofs.LocationBeforeFirstRead.{ComesFirst, late_first, early_first}
 use Rattle.regalloc2_debug_proofs.proofs.LocationWithoutSlot.{IsUnslotted}
+use Rattle.regalloc2_fastalloc_proofs.proofs.Walk.WholeWalk.{WholeWalk}
 
 late_is : (q : OperandPos) → is_late q ≡ true → q ≡ Late
 late_is Early h = absurd cc
@@ -79,10 +76,10 @@ use_by f v i k lt less reads is = by (op_at (inst_at f i).operands k).position r
     by Early e = inl (reads_by f v Early i k lt less reads e is)
     by Late e = inr (inl (reads_by f v Late i k lt less reads e is))
 
-module _ (env : MachineValue) (f : FunctionValue) (limited : IsLimited f) (ok : IsWellFormed env f) (blank : List Place) (begin last : StateValue)
-    (out : OutputValue) (empty : Blank begin) (fit : Fit begin)
-    (walks : AllocsBlocks f blank begin 0 out.allocs last) (m : IsMade f env (Made f) (MayInBlocks f) last out) (written : IsWrittenFirst f)
-    (v : VirtualRegister) (known : Made f v) where
+module _ (walk : WholeWalk) (m : IsMade walk.f walk.env (Made walk.f) (MayInBlocks walk.f) walk.last walk.out) (written : IsWrittenFirst walk.f)
+    (v : VirtualRegister) (known : Made walk.f v) where
+  open walk use {env, f, limited, ok, blank, begin, last, out, empty, fit, walks}
+
   sound : IsSound f
   sound = well_formed_are_sound env f ok
 
@@ -148,17 +145,17 @@ module _ (env : MachineValue) (f : FunctionValue) (limited : IsLimited f) (ok : 
       }
 
       shows_at : ComesFirst (inst_at f il).operands v.number ko → HoldsValue f out v (place_at (allocs_of out il) ko)
-      shows_at first = register_shows env f limited ok blank begin last out empty fit walks m written v known id d il ko (unslotted first) at is lt greatest
+      shows_at first = register_shows walk m written v known id d il ko (unslotted first) at is lt greatest
 
     -- a parameter that is used has a slot
     param_slot : (b k : ℕ) → defined.TakesAt f v.number b k → ⊥
     param_slot b k at =
-        let w : Met f (allocs_of out) blank begin il last = met_at env f limited ok blank begin last out empty fit walks m il lt in
+        let w : Met f (allocs_of out) blank begin il last = met_at walk m il lt in
         let unwritten : IsUnwritten f w.block v = λ i ge less j few def e.
         let i_lt : i < length f.insts = (let q = ends_within f ok.follow w.block w.within in omega (arith, less, q)) in
         not_both f ok.defined_once v.number i j b k (record { inst = i_lt; operand = few; definition = def; number = ap (λ (u : VirtualRegister). u.number) e })
         at in
-        used_slots env f limited ok (passes_between f) blank begin last out empty fit walks v
+        used_slots walk (passes_between f) v
         (record { block = w.block; within = w.within; unwritten = unwritten; used = inl (il, ko, w.ge, w.less, within, reads, is) }) none
 
     by_maker : Made f v → ((id d : ℕ) → defined.DefinesAt f v.number id d → ComesFirst (inst_at f il).operands v.number ko) →
@@ -209,8 +206,8 @@ module _ (env : MachineValue) (f : FunctionValue) (limited : IsLimited f) (ok : 
         | inl a ↦ nor a
         | inr rest ↦ elim rest [
           | inl b ↦ never b
-          | inr p ↦ passed_slots env f limited ok
-              (passes_between f) blank begin last out empty fit walks v i p none
+          | inr p ↦ passed_slots walk
+              (passes_between f) v i p none
         ]
       ])
   operand_shows (by_definition o never d) none = λ given w here used s path is_given source on later_on uses no_branch. absurd (never (end_of f used).inst uses)
@@ -221,11 +218,12 @@ module _ (env : MachineValue) (f : FunctionValue) (limited : IsLimited f) (ok : 
       IsShownBy f v by →
       HoldsValue f out v (shown_place out (slot_name last.slots v.number) by)
   shown fits owned tame agree stand begins {by} is = by_slot (slot_name last.slots v.number) refl
-      ((at_walks_end env f limited ok (passes_between f) blank begin last out empty fit walks).whole.below v.number)
+      ((at_walks_end walk (passes_between f)).whole.below v.number)
     where
       by_slot : (q : Place) → slot_name last.slots v.number ≡ q → IsSlotOrNone last.slots.count q → HoldsValue f out v (shown_place out q by)
       by_slot NoPlace e below = operand_shows is e
       by_slot (InRegister r) e below = absurd below
       by_slot (InSlot n) e below = left_slot_shows env f ok written last out m owned tame agree v known n e
-          (defined_shows env f limited ok blank begin last out empty fit walks m written agree owned tame v known n e)
-          (entered_shows env f fits limited ok blank begin last out empty fit walks m written stand begins v known n e agree owned tame)
+          (defined_shows walk m written agree owned tame v known n e)
+          (λ ws path entered live undefined plain. entered_shows walk fits m written stand begins v known n e agree owned tame ws
+          (record { path = path; entered = entered; live = live; undefined = undefined; plain = plain }))

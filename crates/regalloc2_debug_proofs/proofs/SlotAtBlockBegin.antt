@@ -4,14 +4,14 @@ use Rattle.std.specs.Prelude.{All, Option, Some, slice_index_or}
 use Rattle.regalloc2_names.specs.Register.{VirtualRegister}
 use Rattle.regalloc2_names.specs.Place.{Place, NoPlace, InRegister, InSlot, is_memory}
 use Rattle.regalloc2_names.specs.Point.{before}
-use Rattle.regalloc2_function.specs.FunctionValue.{FunctionValue, IsLimited, block_at, inst_at}
+use Rattle.regalloc2_function.specs.FunctionValue.{FunctionValue, block_at, inst_at}
 use Rattle.regalloc2_function.specs.Fitting.{MachineFits}
 use Rattle.regalloc2_function.specs.Machine.{MachineValue}
 use Rattle.regalloc2_function.specs.OutputValue.{OutputValue, MoveValue, allocs_of, moves_before}
 use Rattle.regalloc2_function.specs.Path.{Way, end_of, IsPath}
 use Rattle.regalloc2_function.specs.SourceRun.{Stamp, IsWrittenFirst, source_before}
 use Rattle.regalloc2_function.specs.AllocatedRun.{Cells, after_moves, cells_before}
-use Rattle.regalloc2_function.specs.WellFormed.{IsWellFormed, last_of}
+use Rattle.regalloc2_function.specs.WellFormed.{last_of}
 use Rattle.regalloc2_semantics.specs.BlockByPoints.{at_point, listed}
 use Rattle.regalloc2_semantics.specs.Carry.{Undefined}
 use Rattle.regalloc2_semantics.specs.Laws.{ReadsAgreeOnPaths}
@@ -28,7 +28,6 @@ use Rattle.regalloc2_semantics.proofs.UnwrittenPlaces.{NoMoveTo, moves_kept}
 use Rattle.regalloc2_branch_defs.specs.BranchDefs.{IsUsedElsewhere}
 use Rattle.regalloc2_fastalloc_state.specs.StateParts.{SlotsHaveOneOwner, slot_name}
 use Rattle.regalloc2_fastalloc_proofs.specs.BlockStart.{no_vreg}
-use Rattle.regalloc2_fastalloc_proofs.specs.BlockSteps.{AllocsBlocks}
 use Rattle.regalloc2_fastalloc_proofs.specs.InstSteps.{StateValue}
 use Rattle.regalloc2_fastalloc_proofs.specs.Safety.{IsSafe}
 use Rattle.regalloc2_fastalloc_proofs.specs.StoreSteps.{StoresBranchDefs, none_stored, all_stored}
@@ -37,7 +36,6 @@ use Rattle.regalloc2_fastalloc_proofs.proofs.BlockBegin.StoresOfDefs.{stores_gro
 use Rattle.regalloc2_fastalloc_proofs.proofs.Branches.Arrivals.{Arrive, DefsPlaced}
 use Rattle.regalloc2_fastalloc_proofs.proofs.Branches.EdgesInto.{one_edge_into}
 use Rattle.regalloc2_fastalloc_proofs.proofs.Branches.PlacesOnArrival.{live_used}
-use Rattle.regalloc2_fastalloc_proofs.proofs.Moves.ScratchRegTaken.{Fit}
 use Rattle.regalloc2_fastalloc_proofs.proofs.Moves.StepsAppendEdits.{pushed_at}
 use Rattle.regalloc2_fastalloc_proofs.proofs.Operands.AllocsSoFar.{IsTame}
 use Rattle.regalloc2_fastalloc_proofs.proofs.Operands.RecordOverState.{slots_at, opt, opt_from, opt_real, no_register_slot}
@@ -58,7 +56,7 @@ use Rattle.regalloc2_fastalloc_proofs.proofs.Walk.BlockCarries.{IsBelow}
 use Rattle.regalloc2_fastalloc_proofs.proofs.Walk.BlocksCarryFromFreshState.{at_walks_end}
 use Rattle.regalloc2_fastalloc_proofs.proofs.Walk.DefsBeforeUses.{param_before}
 use Rattle.regalloc2_fastalloc_proofs.proofs.Walk.InstBoundaries.{grown_weaken, grown_slots, grown_pushes}
-use Rattle.regalloc2_fastalloc_proofs.proofs.Walk.InstsCarry.{AreListed, Blank}
+use Rattle.regalloc2_fastalloc_proofs.proofs.Walk.InstsCarry.{AreListed}
 use Rattle.regalloc2_fastalloc_proofs.proofs.Walk.LastInstAndRest.{AnyPlace}
 use Rattle.regalloc2_fastalloc_proofs.proofs.Inst.ProperInsts.{all_proper}
 use Rattle.regalloc2_debug_proofs.specs.SlotHoldsValue.{IsReadIn, ShowsAt}
@@ -68,6 +66,10 @@ use Rattle.regalloc2_debug_proofs.proofs.PathStepLeaves.{read_shows}
 use Rattle.regalloc2_debug_proofs.proofs.SlotAfterWalk.{own_alone}
 use Rattle.regalloc2_debug_proofs.proofs.SlotHoldsDefinedValue.{branch, some_block, are_listed}
 use Rattle.regalloc2_debug_proofs.proofs.WellFormedPaths.{inst_lt, within}
+use Rattle.regalloc2_fastalloc_proofs.proofs.Safety.StepsKeepSafe.{rules_of}
+use Rattle.regalloc2_fastalloc_proofs.proofs.Walk.WholeWalk.{WholeWalk}
+use Rattle.regalloc2_fastalloc_proofs.proofs.Walk.FunctionLaws.{laws_of}
+use Rattle.regalloc2_fastalloc_proofs.proofs.Walk.FunctionLaws.{code_of}
 
 -- What is known where blocks begin: where the values of virtual registers are then, on every path, and that the tables are safe all along the walk.
 pub record AreAtBegin (env : MachineValue) (f : FunctionValue) (blank : List Place) (begin last : StateValue) (out : OutputValue)
@@ -77,16 +79,25 @@ pub record AreAtBegin (env : MachineValue) (f : FunctionValue) (blank : List Pla
   pub live : LiveStandInPlaces f out stand
   pub safe : SafeWithin env f blank begin out.allocs
 
-module _ (env : MachineValue) (f : FunctionValue) (fits : MachineFits f env) (limited : IsLimited f) (ok : IsWellFormed env f) (blank : List Place)
-    (begin last : StateValue) (out : OutputValue) (empty : Blank begin) (fit : Fit begin) (walks : AllocsBlocks f blank begin 0 out.allocs last)
-    (m : IsMade f env (Made f) (MayInBlocks f) last out) (written : IsWrittenFirst f) (stand : ℕ → VirtualRegister → Option Place)
-    (at : AreAtBegin env f blank begin last out stand)
-    (v : VirtualRegister) (known : Made f v) (n : ℕ) (mine : slot_name last.slots v.number ≡ InSlot n) where
+-- A path comes to a block where v is live, which its first instruction, no branch, doesn't define.
+pub record EntersWhereLive (f : FunctionValue) (v : VirtualRegister) (ws : List Way) : Type 0 where
+  pub path : IsPath f ws
+  pub entered : HasEntered f ws
+  pub live : IsLive f v (end_of f ws)
+  pub undefined : Undefined (inst_at f (end_of f ws).inst).operands v
+  pub plain : (inst_at f (end_of f ws).inst).is_branch ≡ false
+
+module _ (walk : WholeWalk) (fits : MachineFits walk.f walk.env) (m : IsMade walk.f walk.env (Made walk.f) (MayInBlocks walk.f) walk.last walk.out)
+    (written : IsWrittenFirst walk.f) (stand : ℕ → VirtualRegister → Option Place)
+    (at : AreAtBegin walk.env walk.f walk.blank walk.begin walk.last walk.out stand) (v : VirtualRegister) (known : Made walk.f v) (n : ℕ)
+    (mine : slot_name walk.last.slots v.number ≡ InSlot n) where
+  open walk use {env, f, limited, ok, blank, begin, last, out, empty, fit, walks}
+
   places_listed : AreListed f (allocs_of out) 0 out.allocs
-  places_listed = are_listed env f limited ok blank begin last out empty fit walks m
+  places_listed = are_listed walk m
 
   whole : IsWhole last
-  whole = (at_walks_end env f limited ok (passes_between f) blank begin last out empty fit walks).whole
+  whole = (at_walks_end walk (passes_between f)).whole
 
   mine_there : slots_at last v.number ≡ Some (InSlot n)
   mine_there = ap opt mine
@@ -106,8 +117,8 @@ module _ (env : MachineValue) (f : FunctionValue) (fits : MachineFits f env) (li
 
     -- the block in the walk
     w : MetBlock f (allocs_of out) blank begin b last
-    w = meet_block (Made f) f (all_proper env f limited ok) (branch env f limited ok) ok.follow
-        ok.end (allocs_of out) blank begin last b lb walks 0 (first_edge f ok.follow (some_block env f limited ok))
+    w = meet_block (code_of (Made f) f (all_proper env f limited ok) (branch env f limited ok) ok.follow ok.end (allocs_of out)) blank begin last b lb walks 0
+        (first_edge f ok.follow (some_block env f limited ok))
         places_listed (grown_none (IsBelow 0) last last refl) (omega arith)
 
     -- the tables once its reloads are pushed
@@ -118,8 +129,8 @@ module _ (env : MachineValue) (f : FunctionValue) (fits : MachineFits f env) (li
     some = (ok.follow b lb).0
 
     reloaded_safe : IsSafe env (Made f) (WritesFrom f out.allocs (b + 1)) (MayInBlocks f) reloaded
-    reloaded_safe = (begins_block_kept env (machine_apart f env fits) (Made f) (WritesFrom f out.allocs (b + 1)) (MayInBlocks f) (before first)
-        (b, first, lb, omega arith, some, inl refl) (block_at f b).params
+    reloaded_safe = (begins_block_kept (rules_of env (machine_apart f env fits) (Made f) (WritesFrom f out.allocs (b + 1)) (MayInBlocks f) (before first)
+        (b, first, lb, omega arith, some, inl refl)) (block_at f b).params
         (λ k less. Made.by_param b k (record { block = lb; param = less; number = refl }) refl) w.tables reloaded w.begins.reloads
         (at.safe b lb w.end_places w.end_tables w.blocks first w.places w.tables w.inside
         (λ j k le less within. sym (places_listed j (omega arith) less k within) ∙ w.listed j le less k within))).safe
@@ -162,9 +173,20 @@ module _ (env : MachineValue) (f : FunctionValue) (fits : MachineFits f env) (li
 
     module _ (used : IsUsedElsewhere f v) (somewhere : UsedSomewhere f v) where
       has_slot : (j : ℕ) → j < length (block_at f b).params → slice_index_or (block_at f b).params j no_vreg ≡ v → slot_in reloaded v.number ≢ NoPlace
-      has_slot j less is = used_at_begin f ok.defined_once ok.follow ok.end ok.uses_defined (all_proper env f limited ok) (branch env f limited ok) blank
-          begin (begin_between f begin empty fit) somewhere.block somewhere.within v
-          somewhere.unwritten somewhere.used b lb w.end_places w.places w.end_tables w.tables w.begun w.blocks w.inside w.begins
+      has_slot j less is = used_at_begin
+          (laws_of f ok.defined_once ok.follow ok.end ok.uses_defined ok.counted (all_proper env f limited ok) (branch env f limited ok)) blank
+          begin (begin_between f begin empty fit) somewhere.block somewhere.within v somewhere.unwritten somewhere.used (record {
+            b = b;
+            lb = lb;
+            p = w.end_places;
+            q = w.places;
+            s = w.end_tables;
+            u = w.tables;
+            w = w.begun;
+            prev = w.blocks;
+            walk = w.inside;
+            begins = w.begins;
+          })
           (param_before f ok.defined_once ok.follow ok.uses_defined b j v
           (record { block = lb; param = less; number = ap (λ (x : VirtualRegister). x.number) is }) lb somewhere.block somewhere.within somewhere.used)
 
@@ -180,10 +202,28 @@ module _ (env : MachineValue) (f : FunctionValue) (fits : MachineFits f env) (li
       comes_there c x holds none (all_stored e k edge s) =
           let M : List MoveValue = at_point (listed reloaded.edits) (before first) in
           let then : Cells = after_moves (store_moves s.stores) c in
-          let there : then (InSlot n) ≡ x = elim (brought f ok.defined_once (allocs_of out) (slots_at last) stand at.arrive slot_own slot_there
-          (last_within f ok.follow)
-          (concerned_made f ok.successors ok.follow) b lb reloaded w.begun (grown_slots (IsBelow first) w.begun last w.rest)
-          (λ d j into. at.placed d into.block into.definitions.0) v known (λ d e2 k2 into own. used) has_slot e k edge s
+          let there : then (InSlot n) ≡ x = elim (brought (record {
+            f = f;
+            once = ok.defined_once;
+            placesf = allocs_of out;
+            F = slots_at last;
+            stand = stand;
+            arrive = at.arrive;
+            own = slot_own;
+            only = slot_there;
+            lasts = last_within f ok.follow;
+            concerned = concerned_made f ok.successors ok.follow;
+            b = b;
+            lb = lb;
+            middle = reloaded;
+            new = w.begun;
+            stays = grown_slots (IsBelow first) w.begun last w.rest;
+            placed = λ d j into. at.placed d into.block into.definitions.0;
+            v = v;
+            made = known;
+            needed = λ d e2 k2 into own. used;
+            has_slot = has_slot;
+          }) e k edge s
           (λ d j into. one_edge_into env f ok b e k d j edge into) (InSlot n) mine_there) [
             | inl y ↦ subst (λ (q : Place). then q ≡ x) y.2 (stores_there s.stores (in_order
                 (is_memory reloaded.fixed_stack) refl s.stores s.in_order) c y.0 y.1
@@ -198,9 +238,13 @@ module _ (env : MachineValue) (f : FunctionValue) (fits : MachineFits f env) (li
   module _ (agree : ReadsAgreeOnPaths f out) (owned : SlotsHaveOneOwner last.slots)
       (tame : (i : ℕ) → i < length f.insts → IsTame (Made f) (inst_at f i).operands) where
     -- a path has come to a block where v is live
-    pub entered_shows : (ws : List Way) → IsPath f ws → HasEntered f ws → IsLive f v (end_of f ws) → Undefined (inst_at f (end_of f ws).inst).operands v →
-        (inst_at f (end_of f ws).inst).is_branch ≡ false → ShowsAt f out v (InSlot n) ws
-    entered_shows ws path entered live undefined plain =
+    pub entered_shows : (ws : List Way) → EntersWhereLive f v ws → ShowsAt f out v (InSlot n) ws
+    entered_shows ws enters =
+        let path : IsPath f ws = enters.path in
+        let entered : HasEntered f ws = enters.entered in
+        let live : IsLive f v (end_of f ws) = enters.live in
+        let undefined : Undefined (inst_at f (end_of f ws).inst).operands v = enters.undefined in
+        let plain : (inst_at f (end_of f ws).inst).is_branch ≡ false = enters.plain in
         let b : ℕ = (end_of f ws).block in
         let lb : b < length f.blocks = within env f ok written v ws path in
         let first : ℕ = (block_at f b).range.first in

@@ -1,20 +1,17 @@
 -- The walk over the blocks of a well-formed function that the allocator takes, from a fresh state to the output: reads agree on every path,
 -- and a vreg that is live where a path comes to a block is in its slot, or where the branch into the block left it.
 use Rattle.std.proofs.Common.{ℕ, ◌≡◌, ◌≢◌, ◌-◌, ◌<◌, suc, List, [], ◌∷◌, length, map, nat_eq, refl, sym, ap, ◌∙◌, ◌+◌, subst, arith}
-use Rattle.std.specs.Prelude.{All, Bool, filter, Option, Some}
+use Rattle.std.specs.Prelude.{All, filter, Option, Some}
 use Rattle.std.proofs.lemmas.Bool.{ne_eqb}
-use Rattle.regalloc2_names.specs.declared.RegClass.{RegClass}
 use Rattle.regalloc2_names.specs.Register.{VirtualRegister}
 use Rattle.regalloc2_names.specs.Place.{Place, NoPlace, InRegister, InSlot}
 use Rattle.regalloc2_names.specs.Point.{after}
 use Rattle.regalloc2_function.specs.DebugPaths.{HoldsValue as ShowsValue}
-use Rattle.regalloc2_function.specs.FunctionValue.{FunctionValue, IsLimited, Label, block_at, inst_at}
+use Rattle.regalloc2_function.specs.FunctionValue.{Label, block_at, inst_at}
 use Rattle.regalloc2_function.specs.Fitting.{MachineFits}
-use Rattle.regalloc2_function.specs.Machine.{MachineValue}
-use Rattle.regalloc2_function.specs.OutputValue.{OutputValue, MoveValue, allocs_of}
+use Rattle.regalloc2_function.specs.OutputValue.{MoveValue, allocs_of}
 use Rattle.regalloc2_function.specs.Path.{Way, end_of, IsPath}
 use Rattle.regalloc2_function.specs.SourceRun.{IsWrittenFirst}
-use Rattle.regalloc2_function.specs.WellFormed.{IsWellFormed}
 use Rattle.regalloc2_semantics.specs.BlockByPoints.{block_walked, Rising, EndsQuiet}
 use Rattle.regalloc2_semantics.specs.Blocks.{BlockCarriesOn}
 use Rattle.regalloc2_semantics.specs.Live.{IsLive, HasEntered, HoldsValue, LiveStandInPlaces}
@@ -26,13 +23,12 @@ use Rattle.regalloc2_semantics.proofs.Paths.{blocks_agree_in_places_by_points}
 use Rattle.regalloc2_semantics.proofs.LiveIn.{live_is_used, live_stand_in_places}
 use Rattle.regalloc2_validate.specs.NoLimits.{AreTaken}
 use Rattle.regalloc2_validate.specs.Constraints.{BranchDefinesInPlace}
-use Rattle.regalloc2_fastalloc_state.specs.StateParts.{SlotsHaveOneOwner, IsSlotOrNone, no_allocs, no_slots, slot_name, units_of}
+use Rattle.regalloc2_fastalloc_state.specs.StateParts.{SlotsHaveOneOwner, IsSlotOrNone, slot_name}
 use Rattle.regalloc2_live_ranges.specs.declared.LiveRange.{LiveRange}
 use Rattle.regalloc2_live_ranges.specs.LiveRanges.{IsKeptRange}
 use Rattle.regalloc2_debug_proofs.specs.ShownPlace.{shown_place}
 use Rattle.regalloc2_debug_proofs.proofs.DebugLocationsHoldValues.{label_shown}
 use Rattle.regalloc2_fastalloc.specs.Promise.{LiveInSlots, ArrivesAt, defined, given, in_slot}
-use Rattle.regalloc2_fastalloc_proofs.specs.Safety.{HasMachine}
 use Rattle.regalloc2_fastalloc_proofs.specs.InstSteps.{StateValue}
 use Rattle.regalloc2_fastalloc_proofs.specs.BlockSteps.{AllocsBlocks}
 use Rattle.regalloc2_fastalloc_proofs.proofs.Moves.ScratchRegTaken.{Fit}
@@ -55,6 +51,9 @@ use Rattle.regalloc2_fastalloc_proofs.proofs.Operands.AllocsSoFar.{IsTame}
 use Rattle.regalloc2_fastalloc_proofs.proofs.Slots.SlotsOwned.{owner_known}
 use Rattle.regalloc2_fastalloc_proofs.proofs.Walk.BlocksCarryFromFreshState.{at_walks_end, blocks_carry, used_slots, walk_places_defs}
 use Rattle.regalloc2_fastalloc_proofs.proofs.Inst.ProperInsts.{all_proper}
+use Rattle.regalloc2_fastalloc_proofs.proofs.Walk.WholeWalk.{WholeWalk}
+use Rattle.regalloc2_fastalloc_proofs.proofs.Safety.FunctionKeepsSafe.{FreshWalk}
+use Rattle.regalloc2_fastalloc_proofs.proofs.Walk.InstBoundaries.{kept_of}
 
 -- where no move is at a point
 none_there : (q : ℕ) (es : List (ℕ × MoveValue)) → All (λ e. e.0 ≢ q) es → filter (λ e. nat_eq e.0 q) es ≡ []
@@ -72,11 +71,11 @@ is_numbered count NoPlace h there = absurd (there refl)
 is_numbered count (InRegister r) h there = absurd h
 is_numbered count (InSlot n) h there = refl
 
-module _ (env : MachineValue) (f : FunctionValue) (limited : IsLimited f) (ok : IsWellFormed env f) (taken : AreTaken f)
-    (in_place : (i : ℕ) → i < length f.insts → BranchDefinesInPlace (inst_at f i))
-    (blank : List Place) (begin last : StateValue) (out : OutputValue) (empty : Blank begin) (fit : Fit begin)
-    (walks : AllocsBlocks f blank begin 0 out.allocs last) (safe : SafeWithin env f blank begin out.allocs)
-    (m : IsMade f env (Made f) (MayInBlocks f) last out) where
+module _ (walk : WholeWalk) (taken : AreTaken walk.f) (in_place : (i : ℕ) → i < length walk.f.insts → BranchDefinesInPlace (inst_at walk.f i))
+    (safe : SafeWithin walk.env walk.f walk.blank walk.begin walk.out.allocs)
+    (m : IsMade walk.f walk.env (Made walk.f) (MayInBlocks walk.f) walk.last walk.out) where
+  open walk use {env, f, limited, ok, blank, begin, last, out, empty, fit, walks}
+
   are_listed : AreListed f (allocs_of out) 0 out.allocs
   are_listed j le lt k less = place_is f env (Made f) (MayInBlocks f) last out m j lt k less
 
@@ -95,7 +94,7 @@ module _ (env : MachineValue) (f : FunctionValue) (limited : IsLimited f) (ok : 
   -- each block carries what the laws on paths want
   made_blocks_carry : (b : ℕ) → BlockCarriesOn f standing b (block_walked f out b)
   made_blocks_carry =
-      blocks_carry env f limited ok (passes_between f) blank begin last out empty fit walks m.edits are_listed (λ b. WritesFrom f out.allocs (b + 1))
+      blocks_carry walk (passes_between f) m.edits are_listed (λ b. WritesFrom f out.allocs (b + 1))
       (MayInBlocks f) (λ b lb p s prev i q u walk listed. safe b lb p s prev i q u walk
       (λ j k le less within. sym (are_listed j (omega arith) less k within) ∙ listed j le less k within))
       (λ j k lt less. m.kept.good j k (omega arith) lt less)
@@ -117,7 +116,7 @@ module _ (env : MachineValue) (f : FunctionValue) (limited : IsLimited f) (ok : 
   -- it has a slot
   pub made_live_slots : IsWrittenFirst f → (ws : List Way) → IsPath f ws → HasEntered f ws → (v : VirtualRegister) → IsLive f v (end_of f ws) →
       slot_in last v.number ≢ NoPlace
-  made_live_slots written ws path entered v live = used_slots env f limited ok (passes_between f) blank begin last out empty fit walks v
+  made_live_slots written ws path entered v live = used_slots walk (passes_between f) v
       (live_is_used env f ok written ws path entered v live)
 
   -- all as `run` promises it
@@ -130,7 +129,7 @@ module _ (env : MachineValue) (f : FunctionValue) (limited : IsLimited f) (ok : 
   }
     where
       whole : IsWhole last
-      whole = (at_walks_end env f limited ok (passes_between f) blank begin last out empty fit walks).whole
+      whole = (at_walks_end walk (passes_between f)).whole
 
       arrive : Arrive f (allocs_of out) (slots_at last) standing
       arrive = arrives env f ok (allocs_of out) (slots_at last)
@@ -155,27 +154,26 @@ module _ (env : MachineValue) (f : FunctionValue) (limited : IsLimited f) (ok : 
       IsWrittenFirst f → (l : Label) (r : LiveRange) → IsKeptRange f l r →
       ShowsValue f out l.vreg (shown_place out (slot_name last.slots r.vreg.number) r.by)
   made_label_shown fits owned tame written l r k =
-      (label_shown env f limited ok blank begin last out empty fit walks m fits written owned tame (made_blocks_agree written) standing (record {
+      (label_shown walk m fits written owned tame (made_blocks_agree written) standing (record {
         arrive = arrives env f ok (allocs_of out) (slots_at last);
-        placed = walk_places_defs env f limited ok (passes_between f) blank begin last out empty fit walks are_listed
+        placed = walk_places_defs walk (passes_between f) are_listed
             (λ j k lt less. m.kept.good j k (omega arith) lt less) taken in_place;
         live = made_live_stand written;
         safe = safe;
       }) l r k).1
 
 -- The walk keeps the tables safe, since no vreg is in a register between blocks.
-module _ (env : MachineValue) (f : FunctionValue) (fits : MachineFits f env) (limited : IsLimited f) (ok : IsWellFormed env f) (taken : AreTaken f)
-    (blank places : List Place) (begin last : StateValue) (n m : ℕ) (sizes : List ℕ) (by_last : Bool) (nobody : begin.places ≡ no_allocs n)
-    (slots : begin.slots ≡ no_slots m sizes by_last) (none : begin.edits ≡ []) (units : (c : RegClass) → 0 < units_of (no_slots m sizes by_last) c)
-    (machine : HasMachine env begin) (empty : Blank begin) (fit : Fit begin) (walks : AllocsBlocks f blank begin 0 places last) where
+module _ (fresh : FreshWalk) (empty : Blank fresh.begin) (fit : Fit fresh.begin) where
+  open fresh use {env, f, fits, limited, ok, taken, blank, places, begin, last, n, m, sizes, by_last, nobody, slots, none, units, machine, walks}
+
   bare : (c : ℕ) (ps : List Place) (u : StateValue) → AllocsBlocks f blank begin c ps u → IsOutside u
-  bare = blocks_outside (Made f) f (all_proper env f limited ok) (branch_kept f ok.counted (passes_between f)) ok.follow blank begin
+  bare = blocks_outside (kept_of (Made f) f (all_proper env f limited ok) (branch_kept f ok.counted (passes_between f))) ok.follow blank begin
       (begin_between f begin empty fit) (record { nowhere = empty.nowhere; nobody = empty.nobody })
 
   -- at its end
   pub walk_kept_through : WalkKept env (Made f) f (MayInBlocks f) places 0 0 places last
-  walk_kept_through = walk_blocks_good env f fits limited ok taken blank places begin last n m sizes by_last nobody slots none units machine bare walks
+  walk_kept_through = walk_blocks_good fresh bare
 
   -- and at each of its instructions
   pub walk_safe_through : SafeWithin env f blank begin places
-  walk_safe_through = walk_safe env f fits limited ok taken blank places begin last n m sizes by_last nobody slots none units machine bare walks
+  walk_safe_through = walk_safe fresh bare

@@ -6,7 +6,7 @@
 -- `NoMoveForOperand` is one operand (`gets_calm`, `defines_calm`), `NoMoveInPasses` one step of a pass (`one_calm`), `NoMoveInLastInst`
 -- both passes (`still_end`); `Safety/BlocksKeepSafe` uses it too, since no edit may be behind a block. `BranchAlone` (`branched`) is a
 -- branch so: its moves are before it, each to a register or to the place of a use. `BranchEndsBlock` imports it. `LastInst` is apart from
--- these: what is wanted behind a block (`owed_there`), and that behind a return nothing is (`nothing_after`).
+-- these: what is wanted behind a block (`owed_there`).
 pub mod BranchAlone
 pub mod BranchEndsBlock
 pub mod DefsInSlots

@@ -5,16 +5,18 @@
 -- blocks has a slot).
 -- Read first: `step_of` in `InstForOneVReg`, which is `Inst/OneInstCarries` for one vreg. `InstsBeforeLastCarry` chains it
 -- (`goes_carried`), `LastInstAndRest` cuts a block so (`split`), and `BlockObligations` adds the block's start and its last instruction
--- (`block_owes`). `BlockCarries` puts these together (`block_carries`), with `DefsBeforeUses` for what other blocks read; `AllBlocksCarry`
+-- (`block_owes`). `FunctionLaws` is what all of it asks of the function. `BlockCarries` puts these together (`block_carries`), with `DefsBeforeUses` for what
+-- other blocks read; `AllBlocksCarry`
 -- takes all blocks. `BranchesPlaceDefs` says where branches leave what they define. `InstBoundaries` says what holds between any two
 -- instructions and at block ends; `InstsCarry` has the fresh state and the list of places. `UsesReadOwnDefs` and `ListParts` serve contracts
--- of the code: no file of this folder imports them.
+-- of the code: no file of this folder imports them. `WholeWalk` is what the last lemmas are about.
 pub mod AllBlocksCarry
 pub mod BlockCarries
 pub mod BlockObligations
 pub mod BlocksCarryFromFreshState
 pub mod BranchesPlaceDefs
 pub mod DefsBeforeUses
+pub mod FunctionLaws
 pub mod InstBoundaries
 pub mod InstForOneVReg
 pub mod InstsBeforeLastCarry
@@ -22,3 +24,4 @@ pub mod InstsCarry
 pub mod LastInstAndRest
 pub mod ListParts
 pub mod UsesReadOwnDefs
+pub mod WholeWalk

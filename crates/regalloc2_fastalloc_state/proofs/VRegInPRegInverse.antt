@@ -131,35 +131,55 @@ inverse_kept t u v p known long small alone i s = record {
         q (sym e ∙ ap (λ (z : VirtualRegister). z.number) (sym y) ∙ x.1)) in
         s.holders r lt ∙ rw (a, b) h
 
--- one register is emptied, and another filled
-pub settles_by_marks : (T : List Place) (H H1 H2 : List (Option VirtualRegister)) (L L2 : List VirtualRegister) (v : VirtualRegister) (n : ℕ) (p q : Place) →
-    n ≡ v.number → n < length T
-    → q ≡ slice_index_or T n NoPlace → SetsVRegInPReg H H1 q None → SetsVRegInPReg H1 H2 p (Some v)
-    → L2 ≡ in_front_if (is_in_register p) v (without n L)
-    → SetsAlloc (record { vreg_allocs = T; vreg_in_preg = H; in_registers = L }) (record { vreg_allocs = set T n p; vreg_in_preg = H2; in_registers = L2 }) v p
-settles_by_marks T H H1 H2 L L2 v n p q e known left m1 m2 order = record {
-  long = length-set T n p;
-  here = (let P : ℕ → Type 0 = λ k. slice_index_or (set T n p) k NoPlace ≡ p in subst P e (get_or-set_same T n p NoPlace known));
-  others = λ k d. get_or-set_other T n k p NoPlace (λ x. d (x ∙ e));
-  holders = λ r lt. m2.each r lt ∙ ap (λ (x : Option VirtualRegister). cond (is_place p (InRegister r)) (Some v) x)
-      (m1.each r lt ∙ ap (λ (x : Place). cond (is_place x (InRegister r)) None (slice_index_or H (bits_of_register r) None))
-      (left ∙ ap (λ (k : ℕ). slice_index_or T k NoPlace) e));
-  order = order ∙ ap (λ (k : ℕ). in_front_if (is_in_register p) v (without k L)) e;
-}
+-- The tables as code writes them where the location of a vreg is set: the old register is emptied, the new one filled, the list told, and the location set.
+pub record Marks : Type 0 where
+  pub vreg_allocs : List Place
+  pub held : List (Option VirtualRegister)
+  pub emptied : List (Option VirtualRegister)
+  pub filled : List (Option VirtualRegister)
+  pub listed : List VirtualRegister
+  pub now_listed : List VirtualRegister
+  pub vreg : VirtualRegister
+  pub number : ℕ
+  pub place : Place
+  pub left : Place
+  pub numbered : number ≡ vreg.number
+  pub known : number < length vreg_allocs
+  pub was_left : left ≡ slice_index_or vreg_allocs number NoPlace
+  pub empties : SetsVRegInPReg held emptied left None
+  pub fills : SetsVRegInPReg emptied filled place (Some vreg)
+  pub order : now_listed ≡ in_front_if (is_in_register place) vreg (without number listed)
 
--- the same for the tables as code writes them: the old preg emptied, the new one filled, the list told, and the new location set
-pub inverse_marked : (T : List Place) (H H1 H2 : List (Option VirtualRegister)) (L L2 : List VirtualRegister) (v : VirtualRegister) (n : ℕ) (p q : Place) →
-    n ≡ v.number → n < length T
-    → q ≡ slice_index_or T n NoPlace → SetsVRegInPReg H H1 q None → SetsVRegInPReg H1 H2 p (Some v)
-    → L2 ≡ in_front_if (is_in_register p) v (without n L)
-    → ((r : Register) → p ≡ InRegister r → r.number < 64)
-    → ((r : Register) → p ≡ InRegister r → (slice_index_or H (bits_of_register r) None ≡ None) ⊎ (slice_index_or H (bits_of_register r) None ≡ Some v))
-    → IsInverse (record { vreg_allocs = T; vreg_in_preg = H; in_registers = L })
-    → IsInverse (record { vreg_allocs = set T n p; vreg_in_preg = H2; in_registers = L2 })
-inverse_marked T H H1 H2 L L2 v n p q e known left m1 m2 order small alone i =
-    inverse_kept (record { vreg_allocs = T; vreg_in_preg = H; in_registers = L }) (record { vreg_allocs = set T n p; vreg_in_preg = H2; in_registers = L2 }) v p
-    (rw (← e) known) (m2.long ∙ m1.long ∙ i.registers) small alone i
-    (settles_by_marks T H H1 H2 L L2 v n p q e known left m1 m2 order)
+-- before and after
+abbrev pub unmarked : Marks → VRegAllocsValue
+unmarked m = record { vreg_allocs = m.vreg_allocs; vreg_in_preg = m.held; in_registers = m.listed }
+
+abbrev pub marked : Marks → VRegAllocsValue
+marked m = record { vreg_allocs = set m.vreg_allocs m.number m.place; vreg_in_preg = m.filled; in_registers = m.now_listed }
+
+-- one register is emptied, and another filled
+pub settles_by_marks : (m : Marks) → SetsAlloc (unmarked m) (marked m) m.vreg m.place
+settles_by_marks m =
+    let T : List Place = m.vreg_allocs in
+    let n : ℕ = m.number in
+    let p : Place = m.place in
+    let e : n ≡ m.vreg.number = m.numbered in
+    record {
+      long = length-set T n p;
+      here = (let P : ℕ → Type 0 = λ k. slice_index_or (set T n p) k NoPlace ≡ p in subst P e (get_or-set_same T n p NoPlace m.known));
+      others = λ k d. get_or-set_other T n k p NoPlace (λ x. d (x ∙ e));
+      holders = λ r lt. m.fills.each r lt ∙ ap (λ (x : Option VirtualRegister). cond (is_place p (InRegister r)) (Some m.vreg) x)
+          (m.empties.each r lt ∙ ap (λ (x : Place). cond (is_place x (InRegister r)) None (slice_index_or m.held (bits_of_register r) None))
+          (m.was_left ∙ ap (λ (k : ℕ). slice_index_or T k NoPlace) e));
+      order = m.order ∙ ap (λ (k : ℕ). in_front_if (is_in_register p) m.vreg (without k m.listed)) e;
+    }
+
+-- so the tables stay inverse
+pub inverse_marked : (m : Marks) → ((r : Register) → m.place ≡ InRegister r → r.number < 64)
+    → ((r : Register) → m.place ≡ InRegister r → (vreg_of_preg (unmarked m) r ≡ None) ⊎ (vreg_of_preg (unmarked m) r ≡ Some m.vreg))
+    → IsInverse (unmarked m) → IsInverse (marked m)
+inverse_marked m small alone i = inverse_kept (unmarked m) (marked m) m.vreg m.place (rw (← m.numbered) m.known)
+    (m.fills.long ∙ m.empties.long ∙ i.registers) small alone i (settles_by_marks m)
 
 -- the vreg of a number is in the list exactly if it is in a register
 pub listed_if : (t : VRegAllocsValue) (n : ℕ) (p : Place) → p ≡ alloc_of t n → IsInverse t → HasIf (is_in_register p) t.in_registers n

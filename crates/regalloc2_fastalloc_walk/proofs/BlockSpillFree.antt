@@ -134,12 +134,12 @@ moved_none point operands here t old n u new at (one_moved k x y m o before read
     sends).1 ∙ rest
 
 -- before operands are allocated nothing changes but the instruction's registers
-pub ready : (names : List VirtualRegister) (gone : ℕ → Bool) (operands : List OperandValue) (clobbers : PRegSet) (p q : ℕ) (before after : AllocatableRegsValue)
-    (t0 t2 t3 t4 : StateValue) (u0 u1 u2 u3 u4 : InstRegs) → ((k : ℕ) → k < length operands → (op_at operands k).constraint ≡ Reg)
+pub ready : {names : List VirtualRegister} {gone : ℕ → Bool} {operands : List OperandValue} {clobbers : PRegSet} {p q : ℕ} {before after : AllocatableRegsValue}
+    {t0 t2 t3 t4 : StateValue} {u0 u1 u2 u3 u4 : InstRegs} → ((k : ℕ) → k < length operands → (op_at operands k).constraint ≡ Reg)
     → ((r : Register) → has_register clobbers r ≡ false) → after ≡ before → t2 ≡ t0 → ReservesRegs operands u0 u1 t0 → RemovesClobbers clobbers u1 u2 →
     EvictsFixed p operands u2 t2 (length operands) u3 t3 → EvictsEach q (registers_of clobbers) u3 t3 u4 t4 → IsSpillFree names gone before t0 u0
     → (t4 ≡ t0) × IsSpillFree names gone after t4 u4
-ready names gone operands clobbers p q before after t0 t2 t3 t4 u0 u1 u2 u3 u4 reg none regs same reserves holds fixed cleared h =
+ready {names} {gone} {operands} {clobbers} {p} {q} {before} {t0} {t2} {t3} {t4} {u0} {u1} {u2} {u3} {u4} reg none regs same reserves holds fixed cleared h =
     let f = cleared_none p operands u2 t2 (length operands) u3 t3 (omega arith) reg fixed in
     let c = cleared_all_none q (registers_of clobbers) u3 t3 u4 t4 (λ r c. (let wrong : true ≡ false = sym (listed_is clobbers r c).1 ∙ none r in cc))
     cleared in
@@ -169,12 +169,12 @@ early_plain names gone operands here half regs old t u plain h = record {
 }
 
 -- an instruction is done
-pub inst_done : (names : List VirtualRegister) (gone : ℕ → Bool) (point : ℕ) (operands : List OperandValue) (here half places : List Place)
-    (a b c : AllocatableRegsValue) (t0 t1 t2 t3 : StateValue) (u1 u2 u3 : InstRegs) → ((late : Bool) → ArePlain names gone operands late)
+pub inst_done : {names : List VirtualRegister} {gone : ℕ → Bool} {point : ℕ} {operands : List OperandValue} {here half places : List Place}
+    {a b c : AllocatableRegsValue} {t0 t1 t2 t3 : StateValue} {u1 u2 u3 : InstRegs} → ((late : Bool) → ArePlain names gone operands late)
     → (h : ArePlaced names gone operands true (length operands) here half a t0 t1 u1) →
     ArePlaced names h.gone_now operands false (length operands) half places b t1 t2 u2 → MovesUses point operands places u2 t2 (length operands) u3 t3 →
     c ≡ b → LeavesSpillFree names gone operands c t3
-inst_done names gone point operands here half places a b c t0 t1 t2 t3 u1 u2 u3 plain h e moves regs = record {
+inst_done {names} {point} {operands} {places} {b} {t2} {t3} {u2} {u3} plain h e moves regs = record {
   gone_now = e.gone_now;
   only = λ n g. elim (e.only n g) [
     | inl x ↦ elim (h.only n x) [ inl y ↦ inl y | inr y ↦ inr (y.0, y.1, y.3, y.4) ]

@@ -35,11 +35,11 @@ stop_def i is_ret operands k here t old o request point e g at def not_it s =
     (subst (λ (n : ℕ). AllocDefOpFails n request is_ret t old) at s))
 
 -- if a reuse gets no place, or its moves can't be made, processing that operand fails
-pub stop_reuse : (i : ℕ) (is_ret : Bool) (operands : List OperandValue) (k : ℕ) (here : List Place) (t : InstRegs) (old : StateValue) (o : OperandValue) (n : ℕ)
-    (request : OperandRequest) (point : ℕ)
+pub stop_reuse : {i : ℕ} {is_ret : Bool} {operands : List OperandValue} {k : ℕ} {here : List Place} {t : InstRegs} {old : StateValue} (o : OperandValue) (n : ℕ)
+    {request : OperandRequest} {point : ℕ}
     → o ≡ op_at operands k → request ≡ reuse_request o (op_at operands n) → point ≡ after i → is_def o.kind ≡ true → o.constraint ≡ Reuse n →
     AllocDefOpFails point request is_ret t old → ProcessOperandFails i is_ret operands k here t old
-stop_reuse i is_ret operands k here t old o n request point e g at def names s =
+stop_reuse {i} {is_ret} {operands} {t} {old} o n {request} e g at def names s =
     at_reuse n (ap (λ (x : OperandValue). is_def x.kind) (sym e) ∙ def) (ap (λ (x : OperandValue). x.constraint) (sym e) ∙ names)
     (subst (λ (x : OperandRequest). AllocDefOpFails (after i) x is_ret t old) (g ∙ ap (λ (x : OperandValue). reuse_request x (op_at operands n)) e)
     (subst (λ (j : ℕ). AllocDefOpFails j request is_ret t old) at s))

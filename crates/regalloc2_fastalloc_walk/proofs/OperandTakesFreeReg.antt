@@ -360,11 +360,11 @@ unfolding MeetsRequirement
 suits_none t p e (r, is, apart) = (let wrong : NoPlace ≡ InRegister r = sym e ∙ is in cc)
 
 -- An operand that asks for any register gets one so.
-pub operand_got : (names : List VirtualRegister) (gone : ℕ → Bool) (point : ℕ) (o : OperandRequest) (p : Place) (t u : InstRegs) (old new : StateValue)
-    (before after : AllocatableRegsValue) → o.requirement ≡ AnyReg → IsSpillFree names gone before old t
+pub operand_got : {names : List VirtualRegister} {gone : ℕ → Bool} {point : ℕ} {o : OperandRequest} {p : Place} {t u : InstRegs} {old new : StateValue}
+    {before after : AllocatableRegsValue} → o.requirement ≡ AnyReg → IsSpillFree names gone before old t
     → FitInRegs names old.allocatable → Contains names o.vreg → gone o.vreg.number ≡ false → AllocsAnyReg t o.vreg p old before after →
     AllocsOperand point o p t u old new → Got names gone o p u old new before after
-operand_got names gone point o p t u old new before after any h few named there takes gets = by takes.chooses
+operand_got {names} {gone} {point} {o} {p} {t} {u} {old} {new} {before} {after} any h few named there takes gets = by takes.chooses
   where
     middle : gets.middle ≡ old
     middle = picked_same t o p old gets.middle any gets.picks

@@ -41,26 +41,27 @@ module _ (i : ℕ) (is_ret : Bool) (pos : OperandPos) (ops : List OperandValue) 
   }
 
   -- one more is placed
-  pub processed_more : (there next : List Place) (u w : InstRegs) (m n : StateValue) (now after : AllocatableRegsValue) (k : ℕ) → k < length ops →
+  pub processed_more : {there next : List Place} {u w : InstRegs} {m n : StateValue} {now after : AllocatableRegsValue} {k : ℕ} → k < length ops →
       before.allocatable ≡ old.allocatable → length here ≡ length ops → is_at pos (op_at ops k) ≡ true
       → ((op_at ops k).constraint ≡ Reg → slice_index_or there k NoPlace ≡ NoPlace →
       AllocsAnyReg u (op_at ops k).vreg (slice_index_or next k NoPlace) m now after)
       → ProcessesOperand i is_ret ops k there next u w m n → AreProcessed there u m now k → AreProcessed next w n after (k + 1)
-  processed_more there next u w m n now after k less same long passes takes one h = record {
+  processed_more {there} {next} {u} {w} {m} {n} {k} less same long passes takes one h = record {
     done = one_placed k there next u w m n h.done (is_there pos (op_at ops k) passes) one;
-    spill_free = λ names gone few plain blank free. one_placed_more names gone i is_ret ops k (is_late pos) here there next old m n u w now after
+    spill_free = λ names gone few plain blank free. one_placed_more
         (rw (← same) few) plain less long blank (is_there pos (op_at ops k) passes) (h.spill_free names gone few plain blank free) takes one;
   }
 
   -- those before the next one that is picked
-  pub processed_next : (there : List Place) (u : InstRegs) (m : StateValue) (now : AllocatableRegsValue) (n : ℕ) (left rest : List (ℕ × OperandValue))
-      (x : ℕ × OperandValue) → n ≤ length ops → left_from (is_at pos) n ops ≡ left → left ≡ x ∷ rest → AreProcessed there u m now n →
+  pub processed_next : {there : List Place} {u : InstRegs} {m : StateValue} {now : AllocatableRegsValue} {n : ℕ} (left : List (ℕ × OperandValue))
+      {rest : List (ℕ × OperandValue)}
+      {x : ℕ × OperandValue} → n ≤ length ops → left_from (is_at pos) n ops ≡ left → left ≡ x ∷ rest → AreProcessed there u m now n →
       Met (is_at pos) ops (AreProcessed there u m now) x rest
-  processed_next there u m now n left rest x le e f h =
+  processed_next {there} {u} {m} {now} {n} left {rest} {x} le e f h =
       next_met (is_at pos) ops (AreProcessed there u m now) (processed_other there u m now) (length ops - n) n (omega (arith, le)) x rest (e ∙ f) h
 
   -- and all, once none is left
-  pub processed_all : (there : List Place) (u : InstRegs) (m : StateValue) (now : AllocatableRegsValue) (n : ℕ) (left : List (ℕ × OperandValue)) →
+  pub processed_all : {there : List Place} {u : InstRegs} {m : StateValue} {now : AllocatableRegsValue} {n : ℕ} (left : List (ℕ × OperandValue)) →
       n ≤ length ops → left_from (is_at pos) n ops ≡ left → left ≡ [] → AreProcessed there u m now n → AreProcessed there u m now (length ops)
-  processed_all there u m now n left le e f h =
+  processed_all {there} {u} {m} {now} {n} left le e f h =
       none_met (is_at pos) ops (AreProcessed there u m now) (processed_other there u m now) (length ops - n) n (omega (arith, le)) (e ∙ f) h

@@ -134,7 +134,7 @@ use_placed names gone point o p t u old new before after any h few named there t
     by (subst (λ (x : StateValue). LocatesUse o.vreg p x new) got.same places.uses)
   where
     got : Got names gone o p u old places.middle before after
-    got = operand_got names gone point o p t u old places.middle before after any h few named there takes places.gets
+    got = operand_got any h few named there takes places.gets
 
     is_there : p ≢ NoPlace
     is_there e = (let wrong : InRegister got.register ≡ NoPlace = sym got.is ∙ e in cc)
@@ -225,7 +225,7 @@ def_placed names gone point o is_ret p t u old new before after any h few named 
     by (subst (λ (x : StateValue). FreesDef point o.vreg is_ret p places.inst_regs u x new) got.same places.defines)
   where
     got : Got names gone o p places.inst_regs old places.middle before after
-    got = operand_got names gone point o p t places.inst_regs old places.middle before after any h few named there takes places.gets
+    got = operand_got any h few named there takes places.gets
 
     still_nowhere : (m : ℕ) → and_gone o.vreg.number gone m ≡ true → (d : FreesDef point o.vreg is_ret p places.inst_regs u old new)
         → alloc_of d.left.places m ≡ NoPlace
@@ -334,14 +334,15 @@ more_placed names gone operands k late d here there next p old m n u w before af
     ]
 
 -- whose place is that of a register that was taken
-pub one_placed_more : (names : List VirtualRegister) (gone : ℕ → Bool) (i : ℕ) (is_ret : Bool) (operands : List OperandValue) (k : ℕ) (late : Bool)
-    (here there next : List Place) (old m n : StateValue) (u w : InstRegs) (before after : AllocatableRegsValue) → FitInRegs names old.allocatable
+pub one_placed_more : {names : List VirtualRegister} {gone : ℕ → Bool} {i : ℕ} {is_ret : Bool} {operands : List OperandValue} {k : ℕ} {late : Bool}
+    {here there next : List Place} {old m n : StateValue} {u w : InstRegs} {before after : AllocatableRegsValue} → FitInRegs names old.allocatable
     → ArePlain names gone operands late → k < length operands → length here ≡ length operands →
     ((j : ℕ) → is_late (op_at operands j).position ≡ late → slice_index_or here j NoPlace ≡ NoPlace) → is_late (op_at operands k).position ≡ late
     → ArePlaced names gone operands late k here there before old m u → ((op_at operands k).constraint ≡ Reg → slice_index_or there k NoPlace ≡ NoPlace →
     AllocsAnyReg u (op_at operands k).vreg (slice_index_or next k NoPlace) m before after)
     → ProcessesOperand i is_ret operands k there next u w m n → ArePlaced names gone operands late (k + 1) here next after old n w
-one_placed_more names gone i is_ret operands k late here there next old m n u w before after few plain lt here_long blank at h takes one = by one
+one_placed_more {names} {gone} {i} {is_ret} {operands} {k} {late} {here} {there} {next} {old} {m} {n} {u} {w} {before} {after} few plain lt here_long blank at
+    h takes one = by one
   where
     reg : (op_at operands k).constraint ≡ Reg
     reg = plain.under_reg k lt

@@ -390,11 +390,11 @@ reserves_nothing ops k t c old none = record {
 }
 
 -- one that claims a register
-pub reserves_it : (ops : List OperandValue) (k : ℕ) (t u : InstRegs) (c d : ReservedRegs) (old : StateValue) (q : Register) (o : Positions) →
+pub reserves_it : {ops : List OperandValue} {k : ℕ} {t u : InstRegs} {c d : ReservedRegs} {old : StateValue} {q : Register} {o : Positions} →
     ((r : Register) (p : Positions) → NeedsFixedReg ops k r p → (r ≡ q) × (p ≡ o)) →
     k < length ops → NeedsFixedReg ops k q o → Shrinks t u → TakesOnly q t u → Grows c d → ReservesOnly c d q o → IsReserved old q o u c d →
     ReservesRegForOperand ops k t u c d old
-reserves_it ops k t u c d old q o only lt claim s taken g added h = record {
+reserves_it {ops} {k} {t} {u} {c} {d} {old} {q} {o} only lt claim s taken g added h = record {
   shrinks = s;
   grows = g;
   takes = fixed_one ops t u q (claims_fixed ops k q o lt claim) taken;

@@ -316,10 +316,47 @@ module _ (t : StateValue) (apart : AreApart t) where
         | inr none ↦ (let x : None ≡ Some q = sym (made.direct none) ∙ by in absurd cc)
       ]
 
-module _ (f : FunctionValue) (may : MayBeAllocated f) (b e k : ℕ) (edge : IsEdgeInto f b e k) (t : StateValue) (apart : AreApart t) (ds : List StoredDef)
-    (lists : ListsStores f e k t.slots ds) (ms : List PlaceMove) (s : SpillSlotsValue)
-    (finds : FindsStores (branch_operands f e) ds t.slots (length ds) ms s)
-    (own : (m n i : ℕ) → slot_name s m ≡ InSlot i → slot_name s n ≡ InSlot i → m ≡ n) where
+-- The edge k of the block e into the block b, and what is stored on it: the definitions that are listed from the tables t, the moves that are made of
+-- them, and the slots then, each of one number.
+pub record EdgeStores : Type 0 where
+  pub f : FunctionValue
+  pub may : MayBeAllocated f
+  pub b : ℕ
+  pub e : ℕ
+  pub k : ℕ
+  pub edge : IsEdgeInto f b e k
+  pub t : StateValue
+  pub apart : AreApart t
+  pub ds : List StoredDef
+  pub lists : ListsStores f e k t.slots ds
+  pub ms : List PlaceMove
+  pub s : SpillSlotsValue
+  pub finds : FindsStores (branch_operands f e) ds t.slots (length ds) ms s
+  pub own : (m n i : ℕ) → slot_name s m ≡ InSlot i → slot_name s n ≡ InSlot i → m ≡ n
+
+abbrev pub edge_stores : (f : FunctionValue) → MayBeAllocated f → (b e k : ℕ) → IsEdgeInto f b e k → (t : StateValue) → AreApart t → (ds : List StoredDef) →
+    ListsStores f e k t.slots ds → (ms : List PlaceMove) (s : SpillSlotsValue) → FindsStores (branch_operands f e) ds t.slots (length ds) ms s →
+    ((m n i : ℕ) → slot_name s m ≡ InSlot i → slot_name s n ≡ InSlot i → m ≡ n) → EdgeStores
+edge_stores f may b e k edge t apart ds lists ms s finds own = record {
+  f = f;
+  may = may;
+  b = b;
+  e = e;
+  k = k;
+  edge = edge;
+  t = t;
+  apart = apart;
+  ds = ds;
+  lists = lists;
+  ms = ms;
+  s = s;
+  finds = finds;
+  own = own;
+}
+
+module _ (at_edge : EdgeStores) where
+  open at_edge use {f, may, b, e, k, edge, t, apart, ds, lists, ms, s, finds, own}
+
   ok : IsWellFormed may.0 f
   ok = may.1
 
@@ -416,9 +453,9 @@ module _ (f : FunctionValue) (may : MayBeAllocated f) (b e k : ℕ) (edge : IsEd
       }
 
   -- Pushed, the ones from memory first, they are the stores on the edge.
-  pub stores_on : (point : ℕ) → SameMachine t (record t { slots = s }) → (u w : StateValue) → PushesStores point true ms (record t { slots = s }) u →
+  pub stores_on : {point : ℕ} → SameMachine t (record t { slots = s }) → {u w : StateValue} → PushesStores point true ms (record t { slots = s }) u →
       PushesStores point false ms u w → StoresOn f e k point t w
-  stores_on point machine u w p q = record {
+  stores_on {point} machine {u} {w} p q = record {
     stores = q.stores ++ p.stores;
     in_order = in_order t apart false ms q.stores from_registers to_memory separate p.stores order_memory
         (λ x one. (
@@ -508,9 +545,9 @@ module _ (f : FunctionValue) (may : MayBeAllocated f) (b e k : ℕ) (edge : IsEd
       move_is (x ∷ xs) (suc i) d lt is = move_is xs i d (omega (arith, lt)) is
 
   -- Where nothing is stored, nothing changes.
-  pub stores_none : (point : ℕ) → ((j : ℕ) (v : VirtualRegister) → IsStoredFor f e k t.slots j v → ⊥) → (u w : StateValue) →
+  pub stores_none : {point : ℕ} → ((j : ℕ) (v : VirtualRegister) → IsStoredFor f e k t.slots j v → ⊥) → {u w : StateValue} →
       PushesStores point true ms (record t { slots = s }) u → PushesStores point false ms u w → w ≡ t
-  stores_none point none u w p q = by_list ds refl
+  stores_none {point} none {u} {w} p q = by_list ds refl
     where
       by_list : (xs : List StoredDef) → ds ≡ xs → w ≡ t
       by_list (x ∷ xs) is = absurd (none (store_at ds 0).index (store_at ds 0).to (lists.each 0 no_store (let l = ap length is in omega (arith, l))))

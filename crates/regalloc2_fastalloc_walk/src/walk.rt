@@ -41,6 +41,13 @@ pub struct FunctionCx<'f, F: Function, A: Allocator> {
     pub defs: &'f BranchDefs<A>,
 }
 
+/// An instruction, and where the places of its operands begin in the list of those of all instructions.
+#[derive(Clone, Copy)]
+struct InstAt {
+    inst: Inst,
+    start: usize,
+}
+
 /// Whether an instruction ends its block, so that no move comes after it.
 fn ends_block<F: Function>(f: &F, inst: Inst) -> bool
     requires { inst < length (F.function f.now).insts }
@@ -50,52 +57,51 @@ fn ends_block<F: Function>(f: &F, inst: Inst) -> bool
 }
 
 impl<'a, A: Allocator> State<'a, A> {
-    /// Allocates an instruction of a block, whose operands' places begin at `start`. A branch passes its arguments.
+    /// Allocates an instruction of a block. A branch passes its arguments.
     fn alloc_inst_in_block<F: Function, B: Allocator, C: Allocator>(
         &mut self,
         alloc: &B,
         cx: &FunctionCx<'_, F, C>,
         block: Block,
-        inst: Inst,
-        start: usize,
+        at: InstAt,
         allocs: &mut [Allocation],
     ) -> Result<(), RegAllocError>
         requires block { block < length (F.function cx.now.f.now).blocks }
-        requires inst { inst < length (F.function cx.now.f.now).insts }
-        requires first { (block_at (F.function cx.now.f.now) block).range.first ≤ inst }
-        requires end { inst < (block_at (F.function cx.now.f.now) block).range.end }
+        requires inst { at.inst < length (F.function cx.now.f.now).insts }
+        requires first { (block_at (F.function cx.now.f.now) block).range.first ≤ at.inst }
+        requires end { at.inst < (block_at (F.function cx.now.f.now) block).range.end }
         requires well_formed { MayBeAllocated (F.function cx.now.f.now) }
         requires defs { AreBranchDefsOf (F.function cx.now.f.now) cx.now.defs.now }
         requires room { DefinesBelow (F.function cx.now.f.now) (length self.old.places.vreg_allocs) }
         requires apart { AreApart (tables_of self.old) }
-        requires later { AllAtOrAfter (after inst) self.old.edits }
-        requires start { start ≡ offset_of (F.function cx.now.f.now) inst }
+        requires later { AllAtOrAfter (after at.inst) self.old.edits }
+        requires start { at.start ≡ offset_of (F.function cx.now.f.now) at.inst }
         requires allocs_long { length allocs.old ≡ operand_count (F.function cx.now.f.now) }
-        requires no_places { (k : ℕ) → k < offset_of (F.function cx.now.f.now) (inst + 1) → slice_index_or allocs.old k NoPlace ≡ NoPlace }
-        ensures ok { Makes (AllocsInstInBlock (F.function cx.now.f.now) block inst allocs.old allocs.new) result self.old self.new }
-        ensures step { IsBranchStepAt (before inst) (temp_slots_at (F.function cx.now.f.now) inst) result self.old self.new }
-        ensures stops { StopsOnlyIf (AllocInstInBlockFails (F.function cx.now.f.now) block inst allocs.old) result self.old }
+        requires no_places { (k : ℕ) → k < offset_of (F.function cx.now.f.now) (at.inst + 1) → slice_index_or allocs.old k NoPlace ≡ NoPlace }
+        ensures ok { Makes (AllocsInstInBlock (F.function cx.now.f.now) block at.inst allocs.old allocs.new) result self.old self.new }
+        ensures step { IsBranchStepAt (before at.inst) (temp_slots_at (F.function cx.now.f.now) at.inst) result self.old self.new }
+        ensures stops { StopsOnlyIf (AllocInstInBlockFails (F.function cx.now.f.now) block at.inst allocs.old) result self.old }
         ensures spill_free { OnOk result ((names : List VirtualRegister) → FitInRegs names self.old.registers.allocatable →
             HasRegOperandsOnly names (F.function cx.now.f.now) →
-            IsSpillFreeFrom names (F.function cx.now.f.now) (inst + 1) self.old.registers (tables_of self.old) →
-            IsSpillFreeFrom names (F.function cx.now.f.now) inst self.new.registers (tables_of self.new)) }
+            IsSpillFreeFrom names (F.function cx.now.f.now) (at.inst + 1) self.old.registers (tables_of self.old) →
+            IsSpillFreeFrom names (F.function cx.now.f.now) at.inst self.new.registers (tables_of self.new)) }
     {
         let f = cx.f;
         let mut inst_regs = InstRegs::new(self.registers.available_regs());
-        let operands = f.inst_operands(inst);
-        let clobbers = f.inst_clobbers(inst);
-        let ends_block = ends_block(f, inst);
+        let operands = f.inst_operands(at.inst);
+        let clobbers = f.inst_clobbers(at.inst);
+        let ends_block = ends_block(f, at.inst);
         let inst_cx = InstCx {
-            inst,
+            inst: at.inst,
             ends_block,
             operands,
             clobbers,
         };
-        self.alloc_inst_at(&mut inst_regs, &inst_cx, start, allocs)?;
-        if !f.is_branch(inst) {
+        self.alloc_inst_at(&mut inst_regs, &inst_cx, at.start, allocs)?;
+        if !f.is_branch(at.inst) {
             return Ok(());
         }
-        self.process_branch(&mut inst_regs, alloc, cx, block, inst)?;
+        self.process_branch(&mut inst_regs, alloc, cx, block, at.inst)?;
         Ok(())
     }
 
@@ -135,7 +141,11 @@ impl<'a, A: Allocator> State<'a, A> {
         let mut i = range.end().index();
         while i > first {
             i -= 1;
-            self.alloc_inst_in_block(alloc, cx, block, Inst::new(i), offsets[i] as usize, allocs)?;
+            let at = InstAt {
+                inst: Inst::new(i),
+                start: offsets[i] as usize,
+            };
+            self.alloc_inst_in_block(alloc, cx, block, at, allocs)?;
         }
         Ok(())
     }

@@ -131,17 +131,27 @@ taken_same Asked vs m ends t v less is none h k lt within asked some = elim (up_
       some (ap (λ (w : VirtualRegister). end_at ends w.number) at ∙ none (subst (λ (w : VirtualRegister). Asked w.number) at asked)))
 ]
 
+-- the table of ends has an entry for each virtual register, and the uses from an instruction on are noted there
+pub record AreNoted (f : FunctionValue) (Asked : ℕ → Type 0) (i : ℕ) (ends : List (Option RangeEnd)) : Type 0 where
+  pub room : HasRoom f (length ends)
+  pub noted : AreEndsFrom f Asked i ends
+
+-- the first so many of a list are all of a block's parameters
+pub record AreParams (f : FunctionValue) (b : ℕ) (vs : List VirtualRegister) (m : ℕ) : Type 0 where
+  pub block : b < length f.blocks
+  pub same : vs ≡ (block_at f b).params
+  pub all : length vs ≤ m
+
 -- so that all used ones have
 pub taken_all : (f : FunctionValue) (ssa : IsSSA f) (Asked : ℕ → Type 0) (b : ℕ) (vs : List VirtualRegister) (m : ℕ) (ends : List (Option RangeEnd))
-    (t : List (Option LiveRange)) → b < length f.blocks → vs ≡ (block_at f b).params → length vs ≤ m → HasRoom f (length ends) →
-    AreEndsFrom f Asked (block_at f b).range.first ends → AreTaken Asked vs m ends t → (v : VirtualRegister) (j : ℕ) → Asked v.number →
-    Contains (block_at f b).params v → UsesAt f v j → range_at t v.number ≢ None
-taken_all f ssa Asked b vs m ends t lt same all room noted h v j asked has used =
-    let here : Contains vs v = subst (λ (ws : List VirtualRegister). Contains ws v) (sym same) has in
+    (t : List (Option LiveRange)) → AreParams f b vs m → AreNoted f Asked (block_at f b).range.first ends → AreTaken Asked vs m ends t →
+    (v : VirtualRegister) (j : ℕ) → Asked v.number → Contains (block_at f b).params v → UsesAt f v j → range_at t v.number ≢ None
+taken_all f ssa Asked b vs m ends t params noted h v j asked has used =
+    let here : Contains vs v = subst (λ (ws : List VirtualRegister). Contains ws v) (sym params.same) has in
     let at : slice_index_or vs here.0 no_vreg ≡ v = any_default vs here.0 no_vreg v here.1 ∙ here.2 in
-    let small = parameter_small f ssa (length ends) room v b lt has in
-    let some : end_at ends v.number ≢ None = used_ends f ssa v b j (end_at ends v.number) lt has used (noted v.number small asked) in
-    subst (λ (w : VirtualRegister). range_at t w.number ≢ None) at (h here.0 (omega (arith, here.1, all)) here.1
+    let small = parameter_small f ssa (length ends) noted.room v b params.block has in
+    let some : end_at ends v.number ≢ None = used_ends f ssa v b j (end_at ends v.number) params.block has used (noted.noted v.number small asked) in
+    subst (λ (w : VirtualRegister). range_at t w.number ≢ None) at (h here.0 (omega (arith, here.1, params.all)) here.1
     (subst (λ (w : VirtualRegister). Asked w.number) (sym at) asked) (subst (λ (w : VirtualRegister). end_at ends w.number ≢ None) (sym at) some))
 
 -- before the walk
@@ -259,31 +269,40 @@ pub param_within : (f : FunctionValue) (b : ℕ) (vs : List VirtualRegister) (k 
     v ≡ slice_index_or vs k v → Contains (block_at f b).params v
 param_within f b vs k v same lt is = subst (λ (ws : List VirtualRegister). Contains ws v) same (k, lt, sym is)
 
--- the range that is made at a definition, and the one at a block's parameter
-pub defined_range : (f : FunctionValue) (ssa : IsSSA f) (Asked : ℕ → Type 0) (ends : List (Option RangeEnd)) (i k : ℕ) (v a : VirtualRegister) (n p q : ℕ)
-    (o : Option RangeEnd) (d : RangeEnd) → IsDefiner f v (record { inst = i; index = k }) → HasRoom f (length ends) → AreEndsFrom f Asked i ends →
-    Asked v.number → n ≡ v.number →
-    o ≡ slice_index_or ends n o
-    → a ≡ v → p ≡ after i → q ≡ before (i + 1) → d ≡ end_behind i o (record { last = q; by = Some (record { inst = i; index = k }) }) →
-    IsLiveRange f (record { vreg = a; first = p; last = d.last; by = d.by })
-defined_range f ssa Asked ends i k v a n p q o d definer room noted asked number is same first point end =
-    let small = definer_small f ssa (length ends) room v (record { inst = i; index = k }) definer in
-    let entry : o ≡ end_at ends v.number = is ∙ any_default ends n o None (omega (arith, small, number)) ∙ ap (end_at ends) number in
+-- the entry of the table of ends that was read at the number of a virtual register
+pub record IsRead (ends : List (Option RangeEnd)) (v : VirtualRegister) (n : ℕ) (o : Option RangeEnd) : Type 0 where
+  pub number : n ≡ v.number
+  pub entry : o ≡ slice_index_or ends n o
+
+-- a range of a virtual register a from p to d that is made where the operand k of the instruction i defines v; q is the point behind the instruction
+pub record IsMade (i k : ℕ) (v a : VirtualRegister) (p q : ℕ) (o : Option RangeEnd) (d : RangeEnd) : Type 0 where
+  pub same : a ≡ v
+  pub first : p ≡ after i
+  pub point : q ≡ before (i + 1)
+  pub end : d ≡ end_behind i o (record { last = q; by = Some (record { inst = i; index = k }) })
+
+-- the range that is made at a definition
+pub defined_range : (f : FunctionValue) (ssa : IsSSA f) (Asked : ℕ → Type 0) (ends : List (Option RangeEnd)) (i k : ℕ) (v a : VirtualRegister)
+    {n p q : ℕ} (o : Option RangeEnd) (d : RangeEnd) → IsDefiner f v (record { inst = i; index = k }) → AreNoted f Asked i ends → Asked v.number →
+    IsRead ends v n o → IsMade i k v a p q o d → IsLiveRange f (record { vreg = a; first = p; last = d.last; by = d.by })
+defined_range f ssa Asked ends i k v a {n = n} {p = p} {q = q} o d definer noted asked read made =
+    let small = definer_small f ssa (length ends) noted.room v (record { inst = i; index = k }) definer in
+    let entry : o ≡ end_at ends v.number = read.entry ∙ any_default ends n o None (omega (arith, small, read.number)) ∙ ap (end_at ends) read.number in
     let unused : RangeEnd = record { last = q; by = Some (record { inst = i; index = k }) } in
     let right : unused ≡ record { last = before (i + 1); by = Some (record { inst = i; index = k }) } = ap (λ
-    (x : ℕ). record { last = x; by = Some (record { inst = i; index = k }) }) point in
-    range_same f a v p (after i) d (end_behind i (end_at ends v.number) unused) same first (end ∙ ap (λ (x : Option RangeEnd). end_behind i x unused) entry)
-    (range_of_definition f ssa v i k (end_at ends v.number) unused right definer (noted v.number small asked))
+    (x : ℕ). record { last = x; by = Some (record { inst = i; index = k }) }) made.point in
+    range_same f a v p (after i) d (end_behind i (end_at ends v.number) unused) made.same made.first
+    (made.end ∙ ap (λ (x : Option RangeEnd). end_behind i x unused) entry)
+    (range_of_definition f ssa v i k (end_at ends v.number) unused right definer (noted.noted v.number small asked))
 
 -- in SSA form, a parameter with an end noted for its number is live from its block's beginning to that end
 pub taken_range : (f : FunctionValue) (ssa : IsSSA f) (Asked : ℕ → Type 0) (ends : List (Option RangeEnd)) (b : ℕ) (v : VirtualRegister) (p : ℕ)
-    (e : RangeEnd) → b < length f.blocks → Contains (block_at f b).params v → HasRoom f (length ends) →
-    AreEndsFrom f Asked (block_at f b).range.first ends → Asked v.number → p ≡ before (block_at f b).range.first → end_at ends v.number ≡ Some e →
-    IsLiveRange f (record { vreg = v; first = p; last = e.last; by = e.by })
-taken_range f ssa Asked ends b v p e lt has room noted asked first entry =
-    let small = parameter_small f ssa (length ends) room v b lt has in
+    (e : RangeEnd) → b < length f.blocks → Contains (block_at f b).params v → AreNoted f Asked (block_at f b).range.first ends → Asked v.number →
+    p ≡ before (block_at f b).range.first → end_at ends v.number ≡ Some e → IsLiveRange f (record { vreg = v; first = p; last = e.last; by = e.by })
+taken_range f ssa Asked ends b v p e lt has noted asked first entry =
+    let small = parameter_small f ssa (length ends) noted.room v b lt has in
     range_same f v v p (before (block_at f b).range.first) e e refl first refl
-    (range_of_parameter f ssa v b e lt has (subst (EndsFrom f (block_at f b).range.first v.number) entry (noted v.number small asked)))
+    (range_of_parameter f ssa v b e lt has (subst (EndsFrom f (block_at f b).range.first v.number) entry (noted.noted v.number small asked)))
 
 -- where blocks begin
 not_last : (b n : ℕ) → b < n → nat_eq b n ≡ false

@@ -87,16 +87,29 @@ pub is_unread : (o : OperandValue) (at : OperandPos) → reads_at at o ≡ false
 is_unread o at h r = let here : is_position at o.position ≡ true = ap (is_position at) r.1 ∙ is_position-same at in
     let test : reads_at at o ≡ true = rw (r.0, here) refl in cc
 
+-- the operand m of a list reads v at a position
+pub record IsReader (at : OperandPos) (ops : List OperandValue) (m : ℕ) (o : OperandValue) (v : VirtualRegister) : Type 0 where
+  pub within : m < length ops
+  pub is : o ≡ slice_index_or ops m o
+  pub reads : (is_reading o ≡ true) × (o.position ≡ at)
+  pub same : v ≡ o.vreg
+
+-- where it reads is noted for it, unless an end is, and nothing else is
+pub record NotesEnd (at : OperandPos) (i m : ℕ) (v : VirtualRegister) (last : ℕ) (before after : List (Option RangeEnd)) : Type 0 where
+  pub end : last ≡ read_end at i
+  pub noted : v.number < length before → end_at after v.number ≡ option_or (end_at before v.number)
+      (Some (record { last = last; by = Some (record { inst = i; index = m }) }))
+  pub others : (q : ℕ) → q ≢ v.number → end_at after q ≡ end_at before q
+
 -- an operand that reads is noted
 pub reads_step : (at : OperandPos) (i : ℕ) (ops : List OperandValue) (m n : ℕ) (old : Option RangeEnd) (before after : List (Option RangeEnd))
-    (o : OperandValue) (v : VirtualRegister) (last : ℕ) → m < length ops → o ≡ slice_index_or ops m o → (is_reading o ≡ true) × (o.position ≡ at)
-    → v ≡ o.vreg → last ≡ read_end at i →
-    (v.number < length before → end_at after v.number ≡ option_or (end_at before v.number)
-    (Some (record { last = last; by = Some (record { inst = i; index = m }) }))) → ((q : ℕ) → q ≢ v.number → end_at after q ≡ end_at before q) →
-    n < length before
+    (o : OperandValue) (v : VirtualRegister) (last : ℕ) → IsReader at ops m o v → NotesEnd at i m v last before after → n < length before
     → NotesReads at i ops m n old (end_at before n) → NotesReads at i ops (m + 1) n old (end_at after n)
-reads_step at i ops m n old before after o v last less is reading same end noted others lt h =
-    let item : op_at ops m ≡ o = op_is ops m o less (sym is) in
+reads_step at i ops m n old before after o v last by e lt h =
+    let less : m < length ops = by.within in
+    let reading = by.reads in
+    let same : v ≡ o.vreg = by.same in
+    let item : op_at ops m ≡ o = op_is ops m o less (sym by.is) in
     elim (cases_eq n v.number) [
       | inl here ↦ (
           let r : ReadsNumber ops n at m = record {
@@ -109,12 +122,12 @@ reads_step at i ops m n old before after o v last less is reading same end noted
           let now : end_at after n ≡ option_or (end_at before n) (Some (end_of_reader at i m)) =
           subst (λ (q : ℕ). end_at after q ≡ option_or (end_at before q) (Some (end_of_reader at i m))) (sym here)
           (subst (λ (p : ℕ). end_at after v.number ≡ option_or (end_at before v.number)
-          (Some (record { last = p; by = Some (record { inst = i; index = m }) }))) end (noted (omega (arith, lt, here)))) in
+          (Some (record { last = p; by = Some (record { inst = i; index = m }) }))) e.end (e.noted (omega (arith, lt, here)))) in
           subst (NotesReads at i ops (m + 1) n old) (sym now) (reads_more at i ops m n old (end_at before n) r h))
       | inr ne ↦ (
           let never : ReadsNumber ops n at m → ⊥ = λ r. ne (sym r.number ∙ ap (λ (p : OperandValue). p.vreg.number) item
           ∙ ap (λ (w : VirtualRegister). w.number) (sym same)) in
-          subst (NotesReads at i ops (m + 1) n old) (sym (others n ne)) (reads_same at i ops m n old (end_at before n) never h))
+          subst (NotesReads at i ops (m + 1) n old) (sym (e.others n ne)) (reads_same at i ops m n old (end_at before n) never h))
     ]
 
 -- one that doesn't changes nothing
@@ -159,8 +172,14 @@ notes_nothing F S None never = never
 abbrev NotesPasses : FunctionValue → ℕ → ℕ → Option RangeEnd → Option RangeEnd → Type 0
 NotesPasses f i n = Notes (PassesNumber f n i) (λ e. PassesNumber f n i × (e ≡ end_of_argument i))
 
-module _ (f : FunctionValue) (follow : BlocksFollow f) (b i n : ℕ) (lt : b < length f.blocks) (from : (block_at f b).range.first ≤ i)
-    (upto : i < (block_at f b).range.end) (within : i < length f.insts) where
+-- an instruction stands in a block
+pub record StandsIn (f : FunctionValue) (b i : ℕ) : Type 0 where
+  pub block : b < length f.blocks
+  pub from : (block_at f b).range.first ≤ i
+  pub upto : i < (block_at f b).range.end
+  pub inst : i < length f.insts
+
+module _ (f : FunctionValue) (follow : BlocksFollow f) (b i n : ℕ) (stands : StandsIn f b i) where
   stages : (old one two new : Option RangeEnd) → NotesReads Late i (inst_at f i).operands (length (inst_at f i).operands) n old one →
       NotesReads Early i (inst_at f i).operands (length (inst_at f i).operands) n one two
       → NotesPasses f i n two new → NotesUses f i n old new
@@ -186,8 +205,8 @@ module _ (f : FunctionValue) (follow : BlocksFollow f) (b i n : ℕ) (lt : b < l
           × (((k : ℕ) × (k < length (inst_at f i).operands) × ReadsFirst (inst_at f i).operands n Early k × (e ≡ end_of_reader Early i k))
           ⊎ ((((k : ℕ) × (k < length (inst_at f i).operands) × ReadsNumber (inst_at f i).operands n Early k) → ⊥)
           × (PassesNumber f n i × (e ≡ end_of_argument i))))) → EndsUse f n i e
-      forth e (inl s) = subst (EndsUse f n i) (sym s.3) (late s.0 within s.2)
-      forth e (inr (never, inl s)) = subst (EndsUse f n i) (sym s.3) (early s.0 within (λ k r. never (k, r.within, r)) s.2)
+      forth e (inl s) = subst (EndsUse f n i) (sym s.3) (late s.0 stands.inst s.2)
+      forth e (inr (never, inl s)) = subst (EndsUse f n i) (sym s.3) (early s.0 stands.inst (λ k r. never (k, r.within, r)) s.2)
       forth e (inr (never, inr (none, s))) = subst (EndsUse f n i) (sym s.1) (passed (λ k r. never (k, r.within, r)) (λ k r. none (k, r.within, r)) s.0)
 
   -- at a block's last instruction
@@ -199,8 +218,8 @@ module _ (f : FunctionValue) (follow : BlocksFollow f) (b i n : ℕ) (lt : b < l
       let H : Type 0 = HasPassed f b (length (block_at f b).succs) n in
       stages old one two new h k
       (notes_weaker H (PassesNumber f n i) (λ e. H × (e ≡ end_of_argument i)) (λ e. PassesNumber f n i × (e ≡ end_of_argument i)) two new
-      (λ s. (passed_here f follow b i n lt from upto s).1)
-      (λ e s. ((b, lt, omega (arith, end), s.0), s.1)) p)
+      (λ s. (passed_here f follow b i n stands.block stands.from stands.upto s).1)
+      (λ e s. ((b, stands.block, omega (arith, end), s.0), s.1)) p)
 
   -- and before it
   pub uses_inside : (old one new : Option RangeEnd) → (i + 1 ≡ (block_at f b).range.end → ⊥) →
@@ -208,7 +227,8 @@ module _ (f : FunctionValue) (follow : BlocksFollow f) (b i n : ℕ) (lt : b < l
       NotesReads Early i (inst_at f i).operands (length (inst_at f i).operands) n one new → NotesUses f i n old new
   uses_inside old one new never h k =
       stages old one new new h k
-      (notes_nothing (PassesNumber f n i) (λ e. PassesNumber f n i × (e ≡ end_of_argument i)) new (λ s. never (passed_here f follow b i n lt from upto s).0))
+      (notes_nothing (PassesNumber f n i) (λ e. PassesNumber f n i × (e ≡ end_of_argument i)) new
+      (λ s. never (passed_here f follow b i n stands.block stands.from stands.upto s).0))
 
 from_or_here : (i j : ℕ) → i ≤ j → (i ≡ j) ⊎ (i + 1 ≤ j)
 from_or_here i j le = grind arith

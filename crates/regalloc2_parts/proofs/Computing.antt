@@ -296,10 +296,10 @@ module _ {F G T : Type 0} (registers : F → Option Place → F → Type 0) (slo
       (more_registers given made scratch f f' f'' g g' c None h.0, more_slots given made scratch f f' g g' g'' c None h.1, Contains-push c.ss None)
 
   -- moves can be made by way of what was handed out
-  pub can_expand : (given made : List (Place × Place × T)) (scratch : Bool) (f f' f'' : F) (g g' g'' : G) → Chosen given scratch f f' g g' made →
+  pub can_expand : {given made : List (Place × Place × T)} {scratch : Bool} {f f' : F} {g g' : G} (f'' : F) (g'' : G) → Chosen given scratch f f' g g' made →
       (stack borrowed true → ⊥) → borrowed ≢ NoPlace → (h : Handed) → IsHanding registers slots f' f'' g' g'' h → (via : ScratchReg) (first : Held) →
       IsVia h borrowed via first → CanExpand stack via.register via.save first made
-  can_expand given made scratch f f' f'' g g' g'' c away real (Register p) h via first is =
+  can_expand {made = made} f'' g'' c away real (Register p) h via first is =
       let was = c.free p f'' h.0 in
       record {
         no_memory = λ x. was.2 (subst (λ q. stack q true) is.0 x);
@@ -309,7 +309,7 @@ module _ {F G T : Type 0} (registers : F → Option Place → F → Type 0) (slo
         real = ((λ e. was.0 (sym is.0 ∙ e)), (λ e. was.0 (sym is.1 ∙ e)));
         between = c.between;
       }
-  can_expand given made scratch f f' f'' g g' g'' c away real (Slot p) h via first is =
+  can_expand {made = made} f'' g'' c away real (Slot p) h via first is =
       let was = c.unused p g'' h.1 in
       record {
         no_memory = λ x. away (subst (λ q. stack q true) is.0 x);
@@ -321,12 +321,13 @@ module _ {F G T : Type 0} (registers : F → Option Place → F → Type 0) (slo
       }
 
   -- all that was asked for, and what was made by way of what was handed out
-  pub computes_by_way : (given made : List (Place × Place × T)) (scratch : Bool) (f f' f'' : F) (g g' g'' : G) → Chosen given scratch f f' g g' made →
+  pub computes_by_way : {given made : List (Place × Place × T)} {scratch : Bool} {f f' : F} {g g' : G} (f'' : F) (g'' : G) →
+      Chosen given scratch f f' g g' made →
       (AreApartInMemory stack made → ⊥) → (h : Handed) → IsHanding registers slots f' f'' g' g'' h → (via : ScratchReg) (first : Held) →
       IsVia h borrowed via first
       → (a : Asked registers f f'') × (b : Asked slots g g'') × ((out : List (Place × Place × T)) → IsExpanded stack via.register via.save made out →
       IsComputed stack borrowed (IsAnswered a.answers b.answers) scratch given out)
-  computes_by_way given made scratch f f' f'' g g' g'' c some (Register p) h via first is =
+  computes_by_way {given = given} {made = made} {scratch = scratch} {f = f} {f' = f'} {g = g} {g' = g'} f'' g'' c some (Register p) h via first is =
       let answered : (q : Place) → q ≡ p → IsAnswered (c.rs ++ Some p ∷ []) (c.ss ++ []) q = λ q e. inl
       (subst (λ x. Contains (c.rs ++ Some p ∷ []) (Some x)) (sym e) (Contains-push c.rs (Some p))) in (
         more_registers given made scratch f f' f'' g g' c (Some p) h.0,
@@ -334,7 +335,7 @@ module _ {F G T : Type 0} (registers : F → Option Place → F → Type 0) (slo
         (λ out x. computed_by_way given made out scratch f f' g g' c (Some p ∷ []) [] via.register via.save (inl (answered via.register is.0))
             (answered via.save is.1) some x.same x.each),
       )
-  computes_by_way given made scratch f f' f'' g g' g'' c some (Slot p) h via first is = (
+  computes_by_way {given = given} {made = made} {scratch = scratch} {f = f} {f' = f'} {g = g} {g' = g'} f'' g'' c some (Slot p) h via first is = (
     more_registers given made scratch f f' f'' g g' c None h.0,
     more_slots given made scratch f f' g g' g'' c (Some p) h.1,
     (λ out x. computed_by_way given made out scratch f f' g g' c (None ∷ []) (Some p ∷ []) via.register via.save (inr is.0)

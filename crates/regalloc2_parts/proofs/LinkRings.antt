@@ -58,7 +58,8 @@ IsRing-inserted ns ps h xs v r ring lv fv er fr =
     let dx = IsDistinct-tail nat_eq h xs ring.distinct in
     let longer : length (slice_set (slice_set ns v r) h v) ≡ length ns = length-set (slice_set ns v r) h v ∙ length-set ns v r in
     record {
-      leads = inserted ns ps h xs h v r ring.leads lh lh dx lv.0 lv.0 lv.1 er ring.below.0 fv (omega arith) (omega arith);
+      leads = inserted ns ps h xs h v r ring.leads lh lh dx (record { first = lv.0; last = lv.0; within = lv.1 }) er
+          (record { from_next = ring.below.0; next = fv; prev = omega arith; to_prev = omega arith });
       distinct = IsDistinct-cons nat_eq h (v ∷ xs) (flip v h lv.0, lh) (IsDistinct-cons nat_eq v xs lv.1 dx);
       below = subst (λ (m : ℕ). AllByRecursion (λ n. n < m) (h ∷ (v ∷ xs))) (sym longer) (ring.below.0, (fv, ring.below.1));
       long = length-set (slice_set ps r v) v h ∙ length-set ps r v ∙ ring.long ∙ sym longer;

@@ -152,33 +152,46 @@ appended ns ps h xs p l leads d lp el fl fp gp gh =
     let fits_back : h < length prevs = rw (length-set ps p l) gh in
     ended (slice_set nexts p h) (slice_set prevs h p) h xs p h back (here nexts p h fits) (here prevs h p fits_back)
 
+-- a number is neither end of a list, and not in it
+pub record IsApart (a : ℕ) (xs : List ℕ) (b v : ℕ) : Type 0 where
+  pub first : nat_eq v a ≡ false
+  pub last : nat_eq v b ≡ false
+  pub within : Lacks v xs
+
+-- the numbers that are linked anew, v between a and r, have links
+pub record HaveLinks (ns ps : List ℕ) (a v r : ℕ) : Type 0 where
+  pub from_next : a < length ns
+  pub next : v < length ns
+  pub prev : v < length ps
+  pub to_prev : r < length ps
+
 -- one more, between the beginning and the first
 pub inserted : (ns ps : List ℕ) (a : ℕ) (xs : List ℕ) (b v r : ℕ) → Leads ns ps a xs b → Lacks a xs → Lacks b xs → IsDistinct nat_eq xs →
-    nat_eq v a ≡ false → nat_eq v b ≡ false → Lacks v xs → slice_index ns a ≡ r → a < length ns → v < length ns → v < length ps → r < length ps →
+    IsApart a xs b v → slice_index ns a ≡ r → HaveLinks ns ps a v r →
     Leads (slice_set (slice_set ns v r) a v) (slice_set (slice_set ps r v) v a) a (v ∷ xs) b
 unfolding Leads
-inserted ns ps a [] b v r h la lb d va vb lv er fa fv gv gr =
+inserted ns ps a [] b v r h la lb d w er f =
     let e : b ≡ r = sym h.0 ∙ er in
-    let fits : a < length (slice_set ns v r) = rw (length-set ns v r) fa in
-    let fits_back : v < length (slice_set ps r v) = rw (length-set ps r v) gv in (
+    let fits : a < length (slice_set ns v r) = rw (length-set ns v r) f.from_next in
+    let fits_back : v < length (slice_set ps r v) = rw (length-set ps r v) f.prev in (
       here (slice_set ns v r) a v fits,
       here (slice_set ps r v) v a fits_back,
-      (beside (slice_set ns v r) a v v va ∙ here ns v r fv ∙ sym e, apart (slice_set ps r v) v b a vb ∙ rw e (here ps r v gr)),
+      (beside (slice_set ns v r) a v v w.first ∙ here ns v r f.next ∙ sym e, apart (slice_set ps r v) v b a w.last ∙ rw e (here ps r v f.to_prev)),
     )
-inserted ns ps a (y ∷ ys) b v r h la lb d va vb lv er fa fv gv gr =
+inserted ns ps a (y ∷ ys) b v r h la lb d w er f =
     let e : y ≡ r = sym h.0 ∙ er in
     let gy : y < length ps = omega arith in
     let nexts = slice_set ns v y in
     let prevs = slice_set ps y v in
-    let fits : a < length nexts = rw (length-set ns v y) fa in
-    let fits_back : v < length prevs = rw (length-set ps y v) gv in
-    let on = next_kept nexts ps y ys b a v (next_kept ns ps y ys b v y h.2 lv.0 lv.1) la.0 la.1 in
+    let fits : a < length nexts = rw (length-set ns v y) f.from_next in
+    let fits_back : v < length prevs = rw (length-set ps y v) f.prev in
+    let on = next_kept nexts ps y ys b a v (next_kept ns ps y ys b v y h.2 w.within.0 w.within.1) la.0 la.1 in
     let back = prev_kept (slice_set nexts a v) prevs y ys b v a
-    (prev_kept (slice_set nexts a v) ps y ys b y v on (IsDistinct-head nat_eq y ys d) (flip b y lb.0)) lv.1 vb in
+    (prev_kept (slice_set nexts a v) ps y ys b y v on (IsDistinct-head nat_eq y ys d) (flip b y lb.0)) w.within.1 w.last in
     subst (λ q. Leads (slice_set (slice_set ns v q) a v) (slice_set (slice_set ps q v) v a) a (v ∷ (y ∷ ys)) b) e (
       here nexts a v fits,
       here prevs v a fits_back,
-      (beside nexts a v v va ∙ here ns v y fv, apart prevs v y a lv.0 ∙ here ps y v gy, back),
+      (beside nexts a v v w.first ∙ here ns v y f.next, apart prevs v y a w.within.0 ∙ here ps y v gy, back),
     )
 
 -- where the link back from the end names a number of the list, it is the last of them

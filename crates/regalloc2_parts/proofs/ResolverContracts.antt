@@ -26,6 +26,11 @@ nothing_in x (k, lt, e) = omega arith
 some_other : {X : Type 0} (o : Option X) (x : X) → o ≡ Some x → o ≡ None → ⊥
 some_other o x e n = let h : Some x ≡ None = sym e ∙ n in cc
 
+-- so many places of a pair are taken, as the one that comes next shows
+pub record CountsTaken (pair : ScratchPair) (next : Option Place) (taken : ℕ) : Type 0 where
+  pub none : taken ≡ 0 → (pair.first ≡ None) ⊎ (next ≡ pair.first)
+  pub one : taken ≡ 1 → (pair.second ≡ None) ⊎ (next ≡ pair.second)
+
 module _ {F : Type 0} (g : Mut F (Unit {0}) (Option Place)) (f : F) (pair : ScratchPair) (h : YieldsInOrder g f pair) where
   answered : (p : Place) → MayAnswer (λ s a t. Called g s tt a t) f p → IsOfScratchPair pair p
   answered p (inl (t, k)) = inl (sym (h (Some p) t k).0)
@@ -49,8 +54,9 @@ module _ {F : Type 0} (g : Mut F (Unit {0}) (Option Place)) (f : F) (pair : Scra
   is_short f' asked c = ⊎_elim (λ e. inl (sym e)) (λ e. inr (sym e)) (which asked.answers f' asked.few asked.calls None c)
 
   -- one that was handed out is among those that are counted, by the one that comes next
-  module _ (next : Option Place) (taken : ℕ) (d : DoDiffer pair) (ordered : pair.first ≡ None → pair.second ≡ None)
-      (none : taken ≡ 0 → (pair.first ≡ None) ⊎ (next ≡ pair.first)) (one : taken ≡ 1 → (pair.second ≡ None) ⊎ (next ≡ pair.second)) where
+  module _ (next : Option Place) (taken : ℕ) (d : DoDiffer pair) (ordered : pair.first ≡ None → pair.second ≡ None) (counts : CountsTaken pair next taken) where
+    open counts use {none, one}
+
     -- the first, where another comes next
     first_taken : (p : Place) → pair.first ≡ Some p → next ≢ pair.first → 1 ≤ taken
     first_taken p is other = ⊎_elim
@@ -102,41 +108,62 @@ pub stay_apart : {H : Type 0} (m : Shared H (Place × Unit {0}) Bool) (h : H) (f
     (mv : Place × Place × Unit {0}) → AreApart fixed_stack mv.0 mv.1 → m.post h (mv.0, tt) true → m.post h (mv.1, tt) true → ⊥
 stay_apart m h fixed_stack tells mv apart a b = apart (tells mv.0 true a) (tells mv.1 true b)
 
-module _ {F G H : Type 0} (r : Mut F (Unit {0}) (Option Place)) (s : Mut G (Unit {0}) (Option Place)) (m : Shared H (Place × Unit {0}) Bool) (f : F) (g : G)
-    (h : H) (l : ScratchPool) (given : Moves)
-    (i : YieldsInOrder r f l.registers) (j : YieldsInOrder s g l.slots) (tells : DecidesStack m h l.fixed_stack) (serves : IsUsableFor l given) where
+-- closures yield a pool's registers and slots in order and tell what is in memory, and the pool serves the moves
+pub record LendPool {F G H : Type 0} (r : Mut F (Unit {0}) (Option Place)) (s : Mut G (Unit {0}) (Option Place)) (m : Shared H (Place × Unit {0}) Bool) (f : F)
+    (g : G) (h : H) (l : ScratchPool) (given : Moves) : Type 0 where
+  pub registers : YieldsInOrder r f l.registers
+  pub slots : YieldsInOrder s g l.slots
+  pub tells : DecidesStack m h l.fixed_stack
+  pub serves : IsUsableFor l given
+
+-- what was asked of such closures, and how many slots were taken, as the next one shows
+pub record HaveTaken {F G : Type 0} (r : Mut F (Unit {0}) (Option Place)) (s : Mut G (Unit {0}) (Option Place)) (f : F) (g : G) (slots : ScratchPair)
+    (taken : ℕ) : Type 0 where
+  pub registers_left : F
+  pub slots_left : G
+  pub asked : Asked (λ x a y. Called r x tt a y) f registers_left
+  pub slots_asked : Asked (λ x a y. Called s x tt a y) g slots_left
+  pub next : Option Place
+  pub last : G
+  pub after : Called s slots_left tt next last
+  pub counts : CountsTaken slots next taken
+
+module _ {F G H : Type 0} {r : Mut F (Unit {0}) (Option Place)} {s : Mut G (Unit {0}) (Option Place)} {m : Shared H (Place × Unit {0}) Bool} {f : F} {g : G}
+    {h : H} {l : ScratchPool} {given : Moves} (lend : LendPool r s m f g h l given) where
+  open lend use {tells, serves}
+
   -- closures that yield the pool's registers and slots in order keep what the resolver is owed
   pub owes_lent : (borrowed : Register) → borrowed ≡ l.borrowed → Owes (λ x a y. Called r x tt a y) (λ x a y. Called s x tt a y) (λ p b. m.post h (p, tt) b)
       (InRegister borrowed) given f g
   owes_lent borrowed is = record {
-    free = λ p a. let x = serves.free p (answered r f l.registers i p a) in (x.0, x.1);
-    unused = λ p a. let x = serves.unused p (answered s g l.slots j p a) in ((λ e. let no : NoPlace ≡ InSlot x.1.0 = sym e ∙ x.1.1 in cc), x.0);
-    registers_differ = differ r f l.registers i serves.registers_differ;
-    slots_differ = differ s g l.slots j serves.slots_differ;
+    free = λ p a. let x = serves.free p (answered r f l.registers lend.registers p a) in (x.0, x.1);
+    unused = λ p a. let x = serves.unused p (answered s g l.slots lend.slots p a) in ((λ e. let no : NoPlace ≡ InSlot x.1.0 = sym e ∙ x.1.1 in cc), x.0);
+    registers_differ = differ r f l.registers lend.registers serves.registers_differ;
+    slots_differ = differ s g l.slots lend.slots serves.slots_differ;
     apart = λ p q a b e.
-        let x = serves.free p (answered r f l.registers i p a) in
-        let y = serves.unused q (answered s g l.slots j q b) in
+        let x = serves.free p (answered r f l.registers lend.registers p a) in
+        let y = serves.unused q (answered s g l.slots lend.slots q b) in
         not_both (is_memory l.fixed_stack q) (memory_slot l.fixed_stack q y.1.0 y.1.1) (ap (is_memory l.fixed_stack) (sym e) ∙ x.2);
-    no_memory = λ p a x. not_both (is_memory l.fixed_stack p) (sym (tells p true x)) (serves.free p (answered r f l.registers i p a)).2;
+    no_memory = λ p a x. not_both (is_memory l.fixed_stack p) (sym (tells p true x)) (serves.free p (answered r f l.registers lend.registers p a)).2;
     borrowed_no_memory = λ x. not_both (is_memory l.fixed_stack (InRegister borrowed)) (sym (tells (InRegister borrowed) true x))
         (ap (λ b. is_memory l.fixed_stack (InRegister b)) is ∙ serves.borrowed);
   }
 
-  module _ (may_tell : MayDecideStack m h l.fixed_stack) (next : Option Place) (taken : ℕ) (f' : F) (g' g'' : G)
-      (asked : Asked (λ x a y. Called r x tt a y) f f') (slots_asked : Asked (λ x a y. Called s x tt a y) g g')
-      (after : Called s g' tt next g'') (none : taken ≡ 0 → (l.slots.first ≡ None) ⊎ (next ≡ l.slots.first))
-      (one : taken ≡ 1 → (l.slots.second ≡ None) ⊎ (next ≡ l.slots.second)) where
+  module _ (may_tell : MayDecideStack m h l.fixed_stack) {taken : ℕ} (have : HaveTaken r s f g l.slots taken) where
+    open have use {registers_left, slots_left, asked, slots_asked, next, last, after, counts}
+
     -- what the closure says isn't in memory, or can't say otherwise of, is none
     away : (p : Place) → IsAway (λ q b. m.post h (q, tt) b) p → true ≡ is_memory l.fixed_stack p → ⊥
     away p (inl n) so = let no : false ≡ true = tells p false n ∙ sym so in cc
     away p (inr n) so = n (subst (λ t. m.post h (p, tt) t) (sym so) (may_tell p))
 
     registers_handed : (p : Place) → Contains asked.answers (Some p) → IsOfScratchPair l.registers p
-    registers_handed p c = ⊎_elim (λ e. inl (sym e)) (λ e. inr (sym e)) (which r f l.registers i asked.answers f' asked.few asked.calls (Some p) c)
+    registers_handed p c = ⊎_elim (λ e. inl (sym e)) (λ e. inr (sym e))
+        (which r f l.registers lend.registers asked.answers registers_left asked.few asked.calls (Some p) c)
 
     slots_handed : (p : Place) → Contains slots_asked.answers (Some p) → IsTaken l.slots taken p
-    slots_handed p c = was_taken s g l.slots j next taken serves.slots_differ serves.slots_in_order none one slots_asked.answers g' g'' slots_asked.few
-        slots_asked.calls after p c
+    slots_handed p c = was_taken s g l.slots lend.slots next taken serves.slots_differ serves.slots_in_order counts slots_asked.answers slots_left last
+        slots_asked.few slots_asked.calls after p c
 
     -- an end that is a scratch place
     lent_end : (borrowed : Register) → borrowed ≡ l.borrowed → (p : Place) → (IsAnswered asked.answers slots_asked.answers p) ⊎ (p ≡ InRegister borrowed) →

@@ -117,12 +117,17 @@ module _ {T : Type 0} where
         written = written_first (ends_of new) (λ m h. fair.real m (tidied.of_old m h));
       }
 
+  -- a scratch place is used where there are more moves than were tidied, and nowhere else
+  pub record TellsScratch (scratch : Bool) (new made : List (Place × Place × T)) : Type 0 where
+    pub more : scratch ≡ true → length new < length made
+    pub few : scratch ≡ false → length made ≤ length new
+
   -- what was given out, turned round
   pub resolves_order : (old new given made : List (Place × Place × T)) (nexts : List ℕ) (scratch : Bool) → HasOneSourceEach (ends_of old) → AreReal old →
       1 < length old → IsTidied (ends_of old) (ends_of new) → ((m : Place × Place × T) → Contains new m → Contains old m) → AreNexts (ends_of new) nexts →
-      IsOrder (ends_of new) nexts (ends_of given) → All (IsOfMoves new) given → made ≡ reverse given → (scratch ≡ true → length new < length made) →
-      (scratch ≡ false → length made ≤ length new) → IsResolution old scratch made
-  resolves_order old new given made nexts scratch one real long tidied of_old ns order of_moves turned more few =
+      IsOrder (ends_of new) nexts (ends_of given) → All (IsOfMoves new) given → made ≡ reverse given → TellsScratch scratch new made →
+      IsResolution old scratch made
+  resolves_order old new given made nexts scratch one real long tidied of_old ns order of_moves turned t =
       let fair : AreFair (ends_of old) = real_fair old one real in
       let apart : AreApart (ends_of new) = tidied_apart (ends_of old) (ends_of new) fair tidied in
       let many : length (ends_of new) ≡ length new = length_ends new in
@@ -135,16 +140,16 @@ module _ {T : Type 0} where
             (ordered_at_once (ends_of old) (ends_of new) (ends_of given) names fair tidied order.takes);
         cyclic = (
           λ e. more_cycle (ends_of old) (ends_of new) nexts fair tidied apart ns (ends_of given) order
-              (let l : length new < length made = more e in omega arith),
+              (let l : length new < length made = t.more e in omega arith),
           λ has. decided scratch (λ e. no_more_cycle (ends_of old) (ends_of new) nexts fair tidied apart ns (ends_of given) order
-              (let l : length made ≤ length new = few e in omega arith) has),
+              (let l : length made ≤ length new = t.few e in omega arith) has),
         );
         counted = λ l. subst (λ n. IsCounted (ends_of old) n) (size ∙ sym same)
             (order_counted (ends_of old) (ends_of new) nexts fair tidied apart ns (ends_of given) order);
         short = λ s. absurd (omega arith);
         of_moves = subst (λ xs. All (IsOfMoves old) xs) (sym turned) (All-reversed (IsOfMoves old) given
             (λ k d r. of_more old new of_old (get_or given k d) (of_moves k d r)));
-        plain = λ e. let l : length made ≤ length new = few e in
+        plain = λ e. let l : length made ≤ length new = t.few e in
             subst (λ xs. AreBetweenPlaces xs) (sym turned) (All-reversed (λ (m : Place × Place × T). (m.0 ≢ NoPlace) × (m.1 ≢ NoPlace)) given
             (of_between given (order.plain (omega arith))));
         written = subst (λ xs. WritesNoneFirst xs) (sym made_ends) order.written;

@@ -1,7 +1,7 @@
 -- Lemmas on a chain that is given out from its end on.
 use Rattle.std.proofs.Common.{◌≡◌, ℕ, ◌+◌, ◌<◌, ◌≤◌, List, [], ◌∷◌, ◌++◌, length, set, refl, sym, ap, ◌∙◌, subst, inl, inr, ⊎_elim, arith}
 use Rattle.std.proofs.lemmas.List.{reverse-append, length-append}
-use Rattle.regalloc2_names.specs.Place.{NoPlace}
+use Rattle.regalloc2_names.specs.Place.{Place, NoPlace}
 use Rattle.regalloc2_parts.specs.AtOnce.{Ends, WritesNoneFirst}
 use Rattle.regalloc2_parts.specs.declared.moves.order.State.{State}
 use Rattle.regalloc2_parts.specs.declared.moves.order.State.TheVariants.{Pending, Done}
@@ -34,6 +34,18 @@ plain_push st k given m short open_ from to had same =
 one_more : (given : List Ends) (m : Ends) → length (given ++ m ∷ []) ≡ length given + 1
 one_more given m = length-append given (m ∷ [])
 
+-- a move from one place to another
+pub record IsFromTo (m : Ends) (from to : Place) : Type 0 where
+  pub from_is : m.from ≡ from
+  pub to_is : m.to ≡ to
+
+-- the chain with k at its end closes a ring at the move `next`, which is one of the chain
+pub record ClosesRing (nexts : List ℕ) (st : List State) (chain : List ℕ) (k next many : ℕ) : Type 0 where
+  pub is : IsChain nexts st (chain ++ k ∷ [])
+  pub next_is : number_at nexts k ≡ next
+  pub next_in : next < many
+  pub next_pending : state_at st next ≡ Pending
+
 module _ (ms : List Ends) (nexts : List ℕ) (apart : AreApart ms) (ns : AreNexts ms nexts) where
   -- the chain is given out as it stands
   pub gives_start : (st : List State) (chain : List ℕ) (given : List Ends) → HasGivenWhole ms nexts st given → IsChain nexts st chain →
@@ -46,11 +58,14 @@ module _ (ms : List Ends) (nexts : List ℕ) (apart : AreApart ms) (ns : AreNext
   }
 
   -- the chain ends in a ring: its last move is given out as one from `none`
-  pub gives_ring : (st : List State) (chain : List ℕ) (given : List Ends) (k next : ℕ) (m : Ends) → HasGiven (length ms) ms st given →
-      (rings : HasRings nexts st (length given)) → AreRingsDone st rings.rings → IsChain nexts st (chain ++ k ∷ []) → length st ≡ length ms →
-      number_at nexts k ≡ next → next < length ms → state_at st next ≡ Pending → m.to ≡ to_at ms k → m.from ≡ NoPlace →
-      IsGiving ms nexts (set st k Done) chain (given ++ m ∷ []) k next
-  gives_ring st chain given k next m had rings rings_done is same next_is next_in next_pending to_is from_is =
+  pub gives_ring : (st : List State) (chain : List ℕ) (given : List Ends) (k next : ℕ) {m : Ends} → HasGiven (length ms) ms st given →
+      (rings : HasRings nexts st (length given)) → AreRingsDone st rings.rings → ClosesRing nexts st chain k next (length ms) → length st ≡ length ms →
+      IsFromTo m NoPlace (to_at ms k) → IsGiving ms nexts (set st k Done) chain (given ++ m ∷ []) k next
+  gives_ring st chain given k next {m = m} had rings rings_done ring same goes =
+      let is : IsChain nexts st (chain ++ k ∷ []) = ring.is in
+      let next_is : number_at nexts k ≡ next = ring.next_is in
+      let next_in : next < length ms = ring.next_in in
+      let next_pending : state_at st next ≡ Pending = ring.next_pending in
       let many : length nexts ≡ length ms = ns.as_many in
       let alike : length st ≡ length nexts = omega arith in
       let more : length (chain ++ k ∷ []) ≡ length chain + 1 = length_push chain k in
@@ -69,7 +84,7 @@ module _ (ms : List Ends) (nexts : List ℕ) (apart : AreApart ms) (ns : AreNext
             (opens_ring k ms st given had (pending_done (state_at st k) pends))
             apart within same (pending_done (state_at st k) pends)
             (λ j r e. absurd (apart.to_some j r (e ∙ source_cut k ms k refl)))
-            to_is (from_is ∙ sym (source_cut k ms k refl));
+            goes.to_is (goes.from_is ∙ sym (source_cut k ms k refl));
         is_chain = chain_pop nexts st chain k is alike;
         ready = ready_pop nexts st chain k is alike;
         ring = inr (record {
@@ -88,8 +103,8 @@ module _ (ms : List Ends) (nexts : List ℕ) (apart : AreApart ms) (ns : AreNext
 
   -- the last move of the chain is given out
   gives_top : (st : List State) (chain : List ℕ) (given : List Ends) (k cut first : ℕ) (m : Ends) → IsGiving ms nexts st (chain ++ k ∷ []) given cut first →
-      length st ≡ length ms → m.to ≡ to_at ms k → m.from ≡ from_at ms k → HasGiven cut ms (set st k Done) (given ++ m ∷ [])
-  gives_top st chain given k cut first m is same to_is from_is =
+      length st ≡ length ms → IsFromTo m (from_at ms k) (to_at ms k) → HasGiven cut ms (set st k Done) (given ++ m ∷ [])
+  gives_top st chain given k cut first m is same goes =
       let many : length nexts ≡ length ms = ns.as_many in
       let more : length (chain ++ k ∷ []) ≡ length chain + 1 = length_push chain k in
       let inside : number_at (chain ++ k ∷ []) (length chain) < length nexts = is.is_chain.inside (length chain) (omega arith) in
@@ -103,13 +118,13 @@ module _ (ms : List Ends) (nexts : List ℕ) (apart : AreApart ms) (ns : AreNext
       let from_same : source cut ms k ≡ from_at ms k = source_other cut ms k other in
       gives_one cut k ms st given m is.had apart within same (pending_done (state_at st k) pends)
       (λ j r e. writers_done ms nexts st k apart ns within ready j r (e ∙ from_same))
-      to_is (from_is ∙ sym from_same)
+      goes.to_is (goes.from_is ∙ sym from_same)
 
   -- it is not the first of a ring
-  pub gives_plain : (st : List State) (chain : List ℕ) (given : List Ends) (k cut first : ℕ) (m : Ends) →
-      IsGiving ms nexts st (chain ++ k ∷ []) given cut first → length st ≡ length ms → (k ≡ first → ⊥) → m.to ≡ to_at ms k → m.from ≡ from_at ms k →
+  pub gives_plain : (st : List State) (chain : List ℕ) (given : List Ends) (k cut first : ℕ) {m : Ends} →
+      IsGiving ms nexts st (chain ++ k ∷ []) given cut first → length st ≡ length ms → (k ≡ first → ⊥) → IsFromTo m (from_at ms k) (to_at ms k) →
       IsGiving ms nexts (set st k Done) chain (given ++ m ∷ []) cut first
-  gives_plain st chain given k cut first m is same other to_is from_is =
+  gives_plain st chain given k cut first {m = m} is same other goes =
       let many : length nexts ≡ length ms = ns.as_many in
       let alike : length st ≡ length nexts = omega arith in
       let more : length (chain ++ k ∷ []) ≡ length chain + 1 = length_push chain k in
@@ -120,7 +135,7 @@ module _ (ms : List Ends) (nexts : List ℕ) (apart : AreApart ms) (ns : AreNext
       let pends : state_at st k ≡ Pending = ap (λ x. state_at st x) (sym (at_end chain k)) ∙ is.is_chain.pending (length chain) (omega arith) in
       let ready : IsNextDone nexts st k = subst (λ x. IsNextDone nexts st x) (at_end chain k) (is.ready (length chain) (omega arith)) in
       record {
-        had = gives_top st chain given k cut first m is same to_is from_is;
+        had = gives_top st chain given k cut first m is same goes;
         is_chain = chain_pop nexts st chain k is.is_chain alike;
         ready = ready_pop nexts st chain k is.is_chain alike;
         ring = ⊎_elim (λ w. inl (record {
@@ -128,9 +143,9 @@ module _ (ms : List Ends) (nexts : List ℕ) (apart : AreApart ms) (ns : AreNext
           first_past = w.first_past;
           rings = subst (λ x. HasRings nexts (set st k Done) x) (sym (one_more given m))
               (rings_one nexts st (length given) k w.rings alike inside_k (pending_done (state_at st k) pends) ready);
-          written = written_push given m (λ e. apart.from_some k within (sym from_is ∙ e)) w.written;
-          plain = plain_push st k given m short (pending_done (state_at st k) pends) (λ e. apart.from_some k within (sym from_is ∙ e))
-              (λ e. apart.to_some k within (sym to_is ∙ e)) w.plain;
+          written = written_push given m (λ e. apart.from_some k within (sym goes.from_is ∙ e)) w.written;
+          plain = plain_push st k given m short (pending_done (state_at st k) pends) (λ e. apart.from_some k within (sym goes.from_is ∙ e))
+              (λ e. apart.to_some k within (sym goes.to_is ∙ e)) w.plain;
         })) (λ r. inr (record {
           cut_within = r.cut_within;
           cut_done = done_after st k cut short r.cut_done;
@@ -148,10 +163,10 @@ module _ (ms : List Ends) (nexts : List ℕ) (apart : AreApart ms) (ns : AreNext
       }
 
   -- it is the first of a ring, which is closed
-  pub gives_first : (st : List State) (chain : List ℕ) (given : List Ends) (k cut first : ℕ) (m last : Ends) →
-      IsGiving ms nexts st (chain ++ k ∷ []) given cut first → length st ≡ length ms → k ≡ first → m.to ≡ to_at ms k → m.from ≡ from_at ms k →
-      last.to ≡ NoPlace → last.from ≡ from_at ms cut → IsGiving ms nexts (set st k Done) chain ((given ++ m ∷ []) ++ last ∷ []) (length ms) (length ms)
-  gives_first st chain given k cut first m last is same it_is to_is from_is last_to last_from =
+  pub gives_first : (st : List State) (chain : List ℕ) (given : List Ends) (k cut first : ℕ) {m last : Ends} →
+      IsGiving ms nexts st (chain ++ k ∷ []) given cut first → length st ≡ length ms → k ≡ first → IsFromTo m (from_at ms k) (to_at ms k) →
+      IsFromTo last (from_at ms cut) NoPlace → IsGiving ms nexts (set st k Done) chain ((given ++ m ∷ []) ++ last ∷ []) (length ms) (length ms)
+  gives_first st chain given k cut first {m = m} {last = last} is same it_is goes back =
       let many : length nexts ≡ length ms = ns.as_many in
       let alike : length st ≡ length nexts = omega arith in
       let more : length (chain ++ k ∷ []) ≡ length chain + 1 = length_push chain k in
@@ -168,10 +183,10 @@ module _ (ms : List Ends) (nexts : List ℕ) (apart : AreApart ms) (ns : AreNext
       let f : length ((given ++ m ∷ []) ++ last ∷ []) ≡ length (given ++ m ∷ []) + 1 = one_more (given ++ m ∷ []) last in omega arith in
       record {
         had = closes_ring cut ms (set st k Done) (given ++ m ∷ []) last
-            (gives_top st chain given k cut first m is same to_is from_is) apart r.cut_within
+            (gives_top st chain given k cut first m is same goes) apart r.cut_within
             (λ j inside_j e. ap (λ x. state_at (set st k Done) x) (apart.one_writer j first inside_j r.first_within (e ∙ sym r.follows) ∙ sym it_is)
             ∙ set_here st k Done short)
-            last_to last_from;
+            back.to_is back.from_is;
         is_chain = chain_pop nexts st chain k is.is_chain alike;
         ready = ready_pop nexts st chain k is.is_chain alike;
         ring = inl (record {
@@ -179,7 +194,7 @@ module _ (ms : List Ends) (nexts : List ℕ) (apart : AreApart ms) (ns : AreNext
           first_past = refl;
           rings = subst (λ x. HasRings nexts (set st k Done) x) longer (rings_one nexts st (length given + 1) k r.rings alike inside_k
               (pending_done (state_at st k) pends) ready);
-          written = written_close (given ++ m ∷ []) last (λ e. apart.from_some cut r.cut_within (sym last_from ∙ e)) last_to;
+          written = written_close (given ++ m ∷ []) last (λ e. apart.from_some cut r.cut_within (sym back.from_is ∙ e)) back.to_is;
           plain = λ same. absurd (let f : count_by is_done (set st k Done) ≡ count_by is_done st + 1 = count_done st k short
               (pending_done (state_at st k) pends) in let was : count_by is_done st ≤ length given = r.least in omega arith);
         });

@@ -156,13 +156,17 @@ neighbours_fit nodes h p x list mem is =
     let after = next_of_member P (nexts nodes) (prevs nodes) h xs h p ring.leads ring.below.1 ring.below.0 mem in
     (rw (prev_at nodes p x fits is, long) at before, rw (next_at nodes p x fits is, long) at after)
 
+-- two nodes are linked, the one behind the other
+pub record AreLinkedTo (old new : List VRegNode) (from to : ℕ) : Type 0 where
+  pub nexts : nexts new ≡ slice_set (nexts old) from to
+  pub prevs : prevs new ≡ slice_set (prevs old) to from
+  pub vregs : vregs new ≡ vregs old
+
 -- one more, behind the head
 pub node_inserted : (old written mid new : List VRegNode) (h k : ℕ) (vreg : VirtualRegister) (d : VRegNode) → IsVRegList old h → k ≡ vreg.number → k < h →
-    All (λ n. n ≢ k) (numbers old h) → IsWritten old written k vreg →
-    nexts mid ≡ slice_set (nexts written) k (slice_index_or old h d).next → prevs mid ≡ slice_set (prevs written) (slice_index_or old h d).next k →
-    vregs mid ≡ vregs written → nexts new ≡ slice_set (nexts mid) h k → prevs new ≡ slice_set (prevs mid) k h → vregs new ≡ vregs mid →
+    All (λ n. n ≢ k) (numbers old h) → IsWritten old written k vreg → AreLinkedTo written mid k (slice_index_or old h d).next → AreLinkedTo mid new h k →
     Lists new h (vreg ∷ members_of old h)
-node_inserted old written mid new h k vreg d list is low absent w e f g e' f' g' =
+node_inserted old written mid new h k vreg d list is low absent w to_first to_it =
     let r = (slice_index_or old h d).next in
     let xs = numbers old h in
     let wide : length (nexts old) ≡ length old = length-map old (λ (n : VRegNode). n.next) in
@@ -172,12 +176,14 @@ node_inserted old written mid new h k vreg d list is low absent w e f g e' f' g'
     let fr : r < length (nexts old) = rw wide (first_fits old h d list) in
     let ring = IsRing-inserted (nexts old) (prevs old) h xs k r list.ring (differs k h (λ s. let b : h ≡ k = s in omega arith), lk) (omega arith)
     (next_of_head old h d list) fr in
-    let vregs_are : vregs new ≡ slice_set (vregs old) k vreg = g' ∙ g ∙ w.vregs_set in
+    let vregs_are : vregs new ≡ slice_set (vregs old) k vreg = to_it.vregs ∙ to_first.vregs ∙ w.vregs_set in
     let here : vreg_at new k ≡ vreg = rw vregs_are (get_or-set_same (vregs old) k vreg invalid_vreg (omega arith)) in
     let long : length new ≡ h + 1 =
     sym (length-map new (λ (n : VRegNode). n.vreg)) ∙ ap (λ l. length l) vregs_are ∙ length-set (vregs old) k vreg ∙ room ∙ last in
-    let nexts_are : nexts new ≡ slice_set (slice_set (nexts old) k r) h k = e' ∙ ap (λ l. slice_set l h k) (e ∙ ap (λ l. slice_set l k r) w.nexts_same) in
-    let prevs_are : prevs new ≡ slice_set (slice_set (prevs old) r k) k h = f' ∙ ap (λ l. slice_set l k h) (f ∙ ap (λ l. slice_set l r k) w.prevs_same) in
+    let nexts_are : nexts new ≡ slice_set (slice_set (nexts old) k r) h k =
+    to_it.nexts ∙ ap (λ l. slice_set l h k) (to_first.nexts ∙ ap (λ l. slice_set l k r) w.nexts_same) in
+    let prevs_are : prevs new ≡ slice_set (slice_set (prevs old) r k) k h =
+    to_it.prevs ∙ ap (λ l. slice_set l k h) (to_first.prevs ∙ ap (λ l. slice_set l r k) w.prevs_same) in
     lists new h (k ∷ xs) (vreg ∷ members_of old h) list.small long (rw (nexts_are, prevs_are) ring)
     (ap (λ (w : VirtualRegister). w.number) here ∙ sym is, named_kept old new k vreg xs vregs_are lk list.named)
     (rw (here, vregs_kept old new k vreg xs vregs_are lk) refl)

@@ -4,7 +4,8 @@ ghost use Rattle.std.specs.Prelude.{◌≡◌, ◌⊎◌, false, None, Some, IfO
 ghost use Rattle.std.specs.List.{All};
 ghost use Rattle.regalloc2_names.specs.Place.{is_memory};
 ghost use Rattle.regalloc2_parts.specs.Resolved.{has_scratch, listed, IsRunnable};
-ghost use Rattle.regalloc2_parts.specs.ScratchPool.{AreApart, AreThere, DecidesStack, HasTooFewSlots, IsOrderedWith, IsUsableFor, MayDecideStack, YieldsInOrder};
+ghost use Rattle.regalloc2_parts.specs.ScratchPool.{AreApart, AreThere, DecidesStack, HasTooFewSlots, IsOrderedWith, IsUsableFor, MayDecideStack};
+ghost use Rattle.regalloc2_parts.specs.ScratchPool.{YieldsInOrder};
 
 use crate::moves::{MoveAndScratchResolver, MoveFault, MoveVec, MoveVecWithScratch};
 use regalloc2_names::{Allocation, PReg, PRegSet};

@@ -33,6 +33,8 @@ use Rattle.regalloc2_pressure_proofs.proofs.StepsLeaveEnough.{AreHeld, ample_cle
 use Rattle.regalloc2_pressure_proofs.proofs.ClaimLeavesEnough.{held_same, safe_held}
 use Rattle.regalloc2_fastalloc_proofs.proofs.Safety.WalkKeepsMachine.{gathers_keep}
 use Rattle.regalloc2_pressure_proofs.proofs.WalkKeepsSafe.{every_write}
+use Rattle.regalloc2_fastalloc_proofs.proofs.Safety.StepsKeepSafe.{rules_of}
+use Rattle.regalloc2_pressure_proofs.proofs.StepsLeaveEnough.{Demand, demand_of}
 
 same_class : (a b : RegClass) → is_class a b ≡ true → b ≡ a
 unfolding is_class
@@ -65,20 +67,21 @@ some_from f env fits t all c none named =
     let there : has_register t.allocatable q ≡ true = all.allocatable q (subst (λ k. is_allocatable env k q ≡ true) (sym same) r.1) in
     let away : has_register t.allocatable q ≡ false = none q same (omega arith) (all.fit.small q (inl there)) in cc
 
-module _ (Named : RegClass → Type 0) (needed : RegClass → ℕ) (point : ℕ) (env : MachineValue) (apart : IsApart env) (Known : VirtualRegister → Type 0)
-    (named : (v : VirtualRegister) → Known v → Named v.class) where
+module _ (demand : Demand) where
+  open demand use {Named, needed, point, env, apart, Known, named}
+
   -- an argument is spilled
   ample_settles : (a : VirtualRegister) (s : Place) (t u : InstRegs) (old new : StateValue) → SpillsArgument point a s t u old new → AreHeld Known old →
       AreSafeRegs env t → HasEnoughRegs Named needed t old → HasEnoughRegs Named needed u new
   ample_settles a s t u old new (from_register r m at gives places edits machine clears) held ht h =
-      ample_clears Named needed point env apart Known named r t u m new clears (held_same Known old m places held) ht
+      ample_clears demand r t u m new clears (held_same Known old m places held) ht
       (ample_kept Named needed t old m (keeps_of old m machine) h)
   ample_settles a s t u old new (in_slot away gives settles edits machine eu) held ht h =
       subst (λ (y : InstRegs). HasEnoughRegs Named needed y new) (sym eu) (ample_kept Named needed t old new (keeps_of old new machine) h)
 
   never_settle : (a : VirtualRegister) (t : InstRegs) (old : StateValue) → SpillArgumentFails a t old → AreHeld Known old → HasEnoughRegs Named needed t old → ⊥
   never_settle a t old s held h =
-      never_clear Named needed point env apart Known named s.register t s.middle s.stops (held_same Known old s.middle s.places held)
+      never_clear demand s.register t s.middle s.stops (held_same Known old s.middle s.places held)
       (ample_kept Named needed t old s.middle (keeps_of old s.middle s.machine) h)
 
   -- whatever parameter an argument is passed to
@@ -93,8 +96,8 @@ module _ (Named : RegClass → Type 0) (needed : RegClass → ℕ) (point : ℕ)
       (a : HasEnoughRegs Named needed t old) where
     edge_kept : (k : ℕ) (u : InstRegs) (m : StateValue) (given : List ClassMove) → GathersEdgeMoves Own point params arguments t old before_it k u m given →
         StepKept env Known AllWrite AllMay old u m
-    edge_kept k u m given edge = (gathers_edge_kept env apart Known AllWrite AllMay point tt AnyPasses (every_write point) params arguments known t old
-        before_it h ht given_before k u m given edge).0
+    edge_kept k u m given edge = (gathers_edge_kept (rules_of env apart Known AllWrite AllMay point tt) AnyPasses (every_write point) known h ht given_before
+        edge).0
 
     ample_edge : (k : ℕ) (u : InstRegs) (m : StateValue) (given : List ClassMove) → GathersEdgeMoves Own point params arguments t old before_it k u m given →
         HasEnoughRegs Named needed u m
@@ -118,7 +121,8 @@ module _ (Named : RegClass → Type 0) (needed : RegClass → ℕ) (point : ℕ)
       (t : InstRegs) (old : StateValue) (h : AreSafe env Known old) (ht : AreSafeRegs env t) (a : HasEnoughRegs Named needed t old) where
     gathered_kept : (k : ℕ) (u : InstRegs) (m : StateValue) (given : List ClassMove) → GathersMoves f b point t old k u m given →
         StepKept env Known AllWrite AllMay old u m × AreGiven Known AnyPasses m.slots given
-    gathered_kept k u m given gathers = gathers_kept env apart Known AllWrite AllMay point tt AnyPasses (every_write point) f b known t old h ht k u m given
+    gathered_kept k u m given gathers = gathers_kept (rules_of env apart Known AllWrite AllMay point tt) AnyPasses (every_write point) f b known t old h ht k
+        u m given
         gathers
 
     -- gathering the arguments of a block's first k edges leaves registers enough
@@ -169,7 +173,7 @@ pub never_pass : {f : FunctionValue} {env : MachineValue} (fits : MachineFits f 
     → {t : InstRegs} {old : StateValue} → AreSafe env Known old → HasAll env old → AreSafeRegs env t → HasEnoughRegs (NamesClass f) needed t old
     → ProcessBranchFails f b i t old → ⊥
 never_pass {f} {env} fits apart Known named needed {b} {i} known each {t} {old} h all ht a (in_gather s) =
-    never_gather (NamesClass f) needed (before i) env apart Known named f b known t old h ht a s
+    never_gather (demand_of (NamesClass f) needed (before i) env apart Known named) f b known t old h ht a s
 never_pass {f} {env} fits apart Known named needed {b} {i} known each {t} {old} h all ht a (in_order class u m n given gathers same stops) =
     stops.0 (none_of_class (NamesClass f) class given (all_classes (NamesClass f) (before i) f b each t old (length (block_at f b).succs) u m given gathers)
     (some_from f env fits m (all_kept env old m (gathers_keep f b (before i) t old (length (block_at f b).succs) u m given gathers) all) class

@@ -32,6 +32,8 @@ use Rattle.regalloc2_pressure_proofs.proofs.StepsKeepMachine.{HasAll, all_kept}
 use Rattle.regalloc2_pressure_proofs.proofs.OneRegTaken.{and_left, and_right, free_but_one, free_kept, holds_loses, ample_same, ample_kept, ample_less}
 use Rattle.regalloc2_pressure_proofs.proofs.OneRegTaken.{ample_some}
 use Rattle.regalloc2_pressure_proofs.proofs.StepsLeaveEnough.{same_code, AreHeld, ample_clears_but, never_clear, ample_sends, never_send}
+use Rattle.regalloc2_fastalloc_proofs.proofs.Safety.StepsKeepSafe.{rules_of}
+use Rattle.regalloc2_pressure_proofs.proofs.StepsLeaveEnough.{demand_of}
 
 -- a register that isn't in memory is emptied without a scratch register
 plain_clears : (point : ℕ) (r : Register) (t u : InstRegs) (old new : StateValue) → EvictsPReg point r t u old new → has_register old.fixed_stack r ≡ false
@@ -63,8 +65,23 @@ abbrev pub IsPaid : (RegClass → ℕ) → OperandRequest → Place → InstRegs
 IsPaid needed o p t old = (r : Register) → p ≡ InRegister r → is_free old.allocatable t r ≡ true →
     needed r.class + scratch_reserve_left old.fixed_stack old.dedicated_scratch t r.class + 1 ≤ free_count old.allocatable t r.class
 
-module _ (Named : RegClass → Type 0) (env : MachineValue) (apart : IsApart env) (Known : VirtualRegister → Type 0)
-    (named : (v : VirtualRegister) → Known v → Named v.class) (point : ℕ) where
+-- The classes that are named; a machine, whose kinds of registers are apart; the vregs that are known, of such classes; and the point where moves go.
+pub record Naming : Type 1 where
+  pub Named : RegClass → Type 0
+  pub env : MachineValue
+  pub apart : IsApart env
+  pub Known : VirtualRegister → Type 0
+  pub named : (v : VirtualRegister) → Known v → Named v.class
+  pub point : ℕ
+
+-- those, of their parts
+abbrev pub naming_of : (Named : RegClass → Type 0) (env : MachineValue) → IsApart env → (Known : VirtualRegister → Type 0) →
+    ((v : VirtualRegister) → Known v → Named v.class) → ℕ → Naming
+naming_of Named env apart Known named point = record { Named = Named; env = env; apart = apart; Known = Known; named = named; point = point }
+
+module _ (naming : Naming) where
+  open naming use {Named, env, apart, Known, named, point}
+
   -- an operand gets a place; needed: before, and less: after it
   pub ample_gets : (needed less : RegClass → ℕ) {o : OperandRequest} {p : Place} {t u : InstRegs} {old new : StateValue} → AllocsOperand point o p t u old new →
       ((c : RegClass) → less c ≤ needed c) → IsPaid less o p t old
@@ -90,7 +107,7 @@ module _ (Named : RegClass → Type 0) (env : MachineValue) (apart : IsApart env
           then = clears_but_keeps point r o.vreg t m g.middle new clears
 
           emptied : HasEnoughRegs Named needed m new
-          emptied = ample_clears_but Named needed point env apart Known named clears held_there ht at_middle
+          emptied = ample_clears_but (demand_of Named needed point env apart Known named) clears held_there ht at_middle
 
           sets : new.allocatable ≡ old.allocatable
           sets = then.allocatable ∙ same.allocatable
@@ -146,7 +163,7 @@ module _ (Named : RegClass → Type 0) (env : MachineValue) (apart : IsApart env
       none.1 q (record { of_class = refl; small = r.1; allocatable = and_left (has_register old.allocatable q) _ r.2 })
       (and_right (has_register old.allocatable q) _ r.2)
   never_get needed o t old (in_clear p r m picks is stops) known some held_by h =
-      never_clear Named needed point env apart Known named r t m stops (held_same Known old m (picks_places t o p old m picks) held_by)
+      never_clear (demand_of Named needed point env apart Known named) r t m stops (held_same Known old m (picks_places t o p old m picks) held_by)
       (ample_kept Named needed t old m (picks_keeps t o p old m picks) h)
 
 -- places that differ
@@ -183,9 +200,9 @@ sends_stay point class is_made from to t u old new (unsent not_made eu en) = sam
 pub safe_held : (env : MachineValue) (Known : VirtualRegister → Type 0) (t : StateValue) → AreSafe env Known t → AreHeld Known t
 safe_held env Known t h r v lt held = (let x = h.holders r v lt held in (x.0, x.2))
 
-module _ (Named : RegClass → Type 0) (env : MachineValue) (apart : IsApart env) (Known : VirtualRegister → Type 0)
-    (named : (v : VirtualRegister) → Known v → Named v.class)
-    (same : (v w : VirtualRegister) → Known v → Known w → v.number ≡ w.number → v ≡ w) (point : ℕ) where
+module _ (naming : Naming) (same : (v w : VirtualRegister) → naming.Known v → naming.Known w → v.number ≡ w.number → v ≡ w) where
+  open naming use {Named, env, apart, Known, named, point}
+
   -- the moves of a definition
   module _ (needed : RegClass → ℕ) (v : VirtualRegister) (is_ret : Bool) (p : Place) (t : InstRegs) (old : StateValue) (known : Known v)
       (place : MayBeLocatedAt env old.slots v p) (h : AreSafe env Known old) (m : HasAll env old)
@@ -239,24 +256,25 @@ module _ (Named : RegClass → Type 0) (env : MachineValue) (apart : IsApart env
           record {
             stay_too = sends_stay point v.class _ p w t inst_regs left middle sends;
             all = all_kept env left middle (sends_keeps point v.class _ p w t inst_regs left middle sends) left_all;
-            ample = ample_sends Named needed point env apart Known named v sends first_ends left_all ht left_ample;
+            ample = ample_sends (demand_of Named needed point env apart Known named) v sends first_ends left_all ht left_ample;
           })
 
     -- where registers are enough, the moves of a definition lack none
     pub never_define : FreeDefFails point v is_ret p t old → ⊥
-    never_define (to_awaited left slots machine stops) = never_send Named needed point env apart Known named v _ p (alloc_of old.places v.number) t left stops
+    never_define (to_awaited left slots machine stops) = never_send (demand_of Named needed point env apart Known named) v _ p (alloc_of old.places v.number)
+        t left stops
         known (first_ends left slots machine) (left_all left slots machine) (left_ample left slots machine)
     never_define (to_slot left middle inst_regs slots machine sends stops) =
         let s = first_sent left slots machine inst_regs middle sends in
-        never_send Named needed point env apart Known named v _ p (slot_name old.slots v.number) inst_regs middle stops known
+        never_send (demand_of Named needed point env apart Known named) v _ p (slot_name old.slots v.number) inst_regs middle stops known
         (second_ends left slots machine middle s.stay_too) s.all s.ample
 
     -- freeing a definition and adding its moves leaves registers enough
     pub ample_defines : {u : InstRegs} {new : StateValue} → FreesDef point v is_ret p t u old new → HasEnoughRegs Named needed u new
     ample_defines {u} {new} d =
         let s = first_sent d.left d.slots d.machine d.inst_regs d.middle d.awaited in
-        ample_sends Named needed point env apart Known named v d.stored
+        ample_sends (demand_of Named needed point env apart Known named) v d.stored
         (second_ends d.left d.slots d.machine d.middle s.stay_too) s.all
-        (sends_kept env apart Known AllWrite AllMay point tt v _ p (alloc_of old.places v.number) t d.inst_regs d.left d.middle d.awaited known
+        (sends_kept (rules_of env apart Known AllWrite AllMay point tt) v _ p (alloc_of old.places v.number) t d.inst_regs d.left d.middle d.awaited known
         (λ made. let e = first_ends d.left d.slots d.machine made in (e.0, e.1, λ n x. tt))
-        (leaves_safe env apart Known AllWrite same AllMay point tt v old d.left d.settles d.slots d.edits d.machine h) ht).inst_regs s.ample
+        (leaves_safe (rules_of env apart Known AllWrite AllMay point tt) same v old d.left d.settles d.slots d.edits d.machine h) ht).inst_regs s.ample

@@ -36,6 +36,10 @@ use Rattle.regalloc2_pressure_proofs.proofs.PassesLeaveEnough.{Late, Early, defs
 use Rattle.regalloc2_pressure_proofs.proofs.EvictionsLeaveEnough.{ample_fixed, never_fixed, ample_all, never_all, ample_uses, never_uses}
 use Rattle.regalloc2_pressure_proofs.proofs.FittingInstReserves.{never_reserve}
 use Rattle.regalloc2_pressure_proofs.proofs.EnoughAtStart.{StartsFree, held_ample}
+use Rattle.regalloc2_fastalloc_proofs.proofs.Operands.AllocsSoFar.{filling_of}
+use Rattle.regalloc2_fastalloc_proofs.proofs.Safety.OperandPassesKeepSafe.{passes_of}
+use Rattle.regalloc2_pressure_proofs.proofs.StepsLeaveEnough.{demand_of}
+use Rattle.regalloc2_pressure_proofs.proofs.OperandsLeaveEnough.{NamedOperands, named_operands}
 
 -- what is held stays held while registers are emptied
 fixed_less : (point : ℕ) (ops : List OperandValue) (t : InstRegs) (old : StateValue) (k : ℕ) (u : InstRegs) (m : StateValue) → EvictsFixed point ops t old k u m
@@ -65,10 +69,30 @@ holds_less clobbers t u h = record {
 no_place_there : (p : Place) (r : Register) → p ≡ NoPlace → p ≡ InRegister r → ⊥
 no_place_there p r e is = (let x : NoPlace ≡ InRegister r = sym e ∙ is in cc)
 
-module _ (f : FunctionValue) (env : MachineValue) (apart : IsApart env) (Known : VirtualRegister → Type 0)
-    (named : (v : VirtualRegister) → Known v → NamesClass f v.class) (i : ℕ) (inst : InstValue) (tame : IsTame Known inst.operands) (fits : Fits f env inst)
-    (old : StateValue) (h : AreSafe env Known old) (all : HasAll env old) (began : InstRegs) (s : StartsFree began old) (blank : List Place)
-    (long : length blank ≡ length inst.operands) (none : (k : ℕ) → slice_index_or blank k NoPlace ≡ NoPlace) where
+-- The instruction i, which fits: the function and a machine, whose kinds of registers are apart; the vregs that are known, of classes that the function names;
+-- the tables behind the instruction, safe and with all registers; and the registers and the list of places with which it begins.
+pub record FittingInst : Type 1 where
+  pub f : FunctionValue
+  pub env : MachineValue
+  pub apart : IsApart env
+  pub Known : VirtualRegister → Type 0
+  pub named : (v : VirtualRegister) → Known v → NamesClass f v.class
+  pub i : ℕ
+  pub inst : InstValue
+  pub tame : IsTame Known inst.operands
+  pub fits : Fits f env inst
+  pub old : StateValue
+  pub h : AreSafe env Known old
+  pub all : HasAll env old
+  pub began : InstRegs
+  pub s : StartsFree began old
+  pub blank : List Place
+  pub long : length blank ≡ length inst.operands
+  pub none : (k : ℕ) → slice_index_or blank k NoPlace ≡ NoPlace
+
+module _ (fitting : FittingInst) where
+  open fitting use {f, env, apart, Known, named, i, inst, tame, fits, old, h, all, began, s, blank, long, none}
+
   abbrev ops : List OperandValue
   ops = inst.operands
 
@@ -78,11 +102,14 @@ module _ (f : FunctionValue) (env : MachineValue) (apart : IsApart env) (Known :
   fixed : FixedAreKnown env ops
   fixed k r lt allocated is = fits.fixed k no_operand lt allocated r is
 
+  abbrev operands : NamedOperands
+  operands = named_operands Named env apart Known named ops tame fixed old.slots i (ends_block inst)
+
   abbrev InLates : ℕ → ℕ → Type 0
-  InLates = Late Named env apart Known named ops tame fixed old.slots i (ends_block inst)
+  InLates = Late operands
 
   abbrev InEarlies : ℕ → ℕ → Type 0
-  InEarlies = Early Named env apart Known named ops tame fixed old.slots i (ends_block inst)
+  InEarlies = Early operands
 
   -- fixed registers and clobbers are held
   module _ (reserved held : InstRegs) (reserves : ReservesRegs ops began reserved old) (holds : RemovesClobbers inst.clobbers reserved held) where
@@ -93,7 +120,7 @@ module _ (f : FunctionValue) (env : MachineValue) (apart : IsApart env) (Known :
     enough_held = held_ample f env inst fits old all began reserved held s reserves holds blank none
 
     never_in_fixed : EvictFixedFails (after i) ops held old → ⊥
-    never_in_fixed stops = never_fixed Named (waiting ops blank) (after i) env apart Known named ops held old h held_turn enough_held stops
+    never_in_fixed stops = never_fixed (demand_of Named (waiting ops blank) (after i) env apart Known named) ops held old h held_turn enough_held stops
 
     -- and fixed registers are emptied
     module _ (cleared : InstRegs) (m : StateValue) (clears : EvictsFixed (after i) ops held old (length ops) cleared m) where
@@ -101,10 +128,11 @@ module _ (f : FunctionValue) (env : MachineValue) (apart : IsApart env) (Known :
       fixed_kept = clears_fixed_kept env apart Known AllWrite AllMay (after i) tt ops held old h held_turn (length ops) cleared m clears
 
       enough_cleared : HasEnoughRegs Named (waiting ops blank) cleared m
-      enough_cleared = ample_fixed Named (waiting ops blank) (after i) env apart Known named ops held old h held_turn enough_held clears
+      enough_cleared = ample_fixed (demand_of Named (waiting ops blank) (after i) env apart Known named) ops held old h held_turn enough_held clears
 
       never_in_clobbers : EvictClobbersFails (after i) cleared m → ⊥
-      never_in_clobbers stops = never_all Named (waiting ops blank) (after i) env apart Known named cleared m stops fixed_kept.safe fixed_kept.inst_regs
+      never_in_clobbers stops = never_all (demand_of Named (waiting ops blank) (after i) env apart Known named) cleared m stops fixed_kept.safe
+          fixed_kept.inst_regs
           enough_cleared
 
   -- all that is held is emptied
@@ -163,7 +191,7 @@ module _ (f : FunctionValue) (env : MachineValue) (apart : IsApart env) (Known :
 
     paying : Paying Named ops (InLates 0) blank quiet m
     paying = record {
-      ample = ample_all Named (waiting ops blank) (after i) env apart Known named (registers_of inst.clobbers) r.cleared quiet r.middle m r.emptied
+      ample = ample_all (demand_of Named (waiting ops blank) (after i) env apart Known named) (registers_of inst.clobbers) r.cleared quiet r.middle m r.emptied
           first_kept.safe first_kept.inst_regs
           (enough_cleared r.reserved r.held r.reserves r.holds r.cleared r.middle r.fixed);
       awaited = λ c. r.awaited c ∙ sym (all_wait ops blank c none);
@@ -175,7 +203,7 @@ module _ (f : FunctionValue) (env : MachineValue) (apart : IsApart env) (Known :
     }
 
     never_in_lates : ProcessOperandsAtFails i (ends_block inst) true ops blank quiet m → ⊥
-    never_in_lates stops = never_late Named env apart Known named ops tame fixed old.slots i (ends_block inst) blank quiet m quiet_all filled paying stops
+    never_in_lates stops = never_late operands blank quiet m quiet_all filled paying stops
 
     -- late operands are allocated
     module _ (half : List Place) (late : InstRegs) (n : StateValue)
@@ -184,20 +212,21 @@ module _ (f : FunctionValue) (env : MachineValue) (apart : IsApart env) (Known :
       half_all = all_kept env m n (places_keep i (ends_block inst) true ops blank quiet m (length ops) half late n lates) quiet_all
 
       half_filled : Filled env Known AllWrite AllMay old.slots ops (InEarlies 0) half late n
-      half_filled = filled_same env Known AllWrite AllMay old.slots ops tame (InLates (length ops)) (InEarlies 0) half late n
+      half_filled = filled_same (filling_of env Known AllWrite AllMay old.slots ops tame) (InLates (length ops)) (InEarlies 0) half late n
           (λ j less e. elim e [ inl is ↦ (less, is) | inr below ↦ absurd (omega (arith, below)) ]) (λ j less d. inl d.1)
-          (lates_kept env apart Known AllWrite AllMay old.slots ops tame fixed i (ends_block inst) tt (defs_write i ops) blank quiet m filled (length ops)
+          (lates_kept (passes_of (filling_of env Known AllWrite AllMay old.slots ops tame) apart fixed i (ends_block inst) tt (defs_write i ops)) blank quiet
+          m filled (length ops)
           half late n
           lates (omega arith))
 
       half_paying : Paying Named ops (InEarlies 0) half late n
       half_paying = paying_more Named ops (InLates (length ops)) (InEarlies 0) half late n (λ j less d. inl d.1)
-          (lates_pay Named env apart Known named ops tame fixed old.slots i (ends_block inst) blank quiet m quiet_all filled paying (length ops) half late n
+          (lates_pay operands blank quiet m quiet_all filled paying (length ops) half late n
           lates
           (omega arith))
 
       never_in_earlies : ProcessOperandsAtFails i (ends_block inst) false ops half late n → ⊥
-      never_in_earlies stops = never_early Named env apart Known named ops tame fixed old.slots i (ends_block inst) half late n half_all half_filled
+      never_in_earlies stops = never_early operands half late n half_all half_filled
           half_paying stops
 
       -- early operands are allocated
@@ -207,25 +236,27 @@ module _ (f : FunctionValue) (env : MachineValue) (apart : IsApart env) (Known :
         last_all = all_kept env n o (places_keep i (ends_block inst) false ops half late n (length ops) places early o earlies) half_all
 
         last_filled : Filled env Known AllWrite AllMay old.slots ops (InEarlies (length ops)) places early o
-        last_filled = earlies_kept env apart Known AllWrite AllMay old.slots ops tame fixed i (ends_block inst) tt (defs_write i ops) half late n half_filled
+        last_filled = earlies_kept (passes_of (filling_of env Known AllWrite AllMay old.slots ops tame) apart fixed i (ends_block inst) tt (defs_write i ops))
+            half late n half_filled
             (length ops) places early o earlies (omega arith)
 
         last_ample : HasEnoughRegs Named none_needed early o
         last_ample = ample_less Named (waiting ops places) none_needed early o (λ c. omega arith)
-            (earlies_pay Named env apart Known named ops tame fixed old.slots i (ends_block inst) half late n half_all half_filled half_paying (length ops)
+            (earlies_pay operands half late n half_all half_filled half_paying (length ops)
             places
             early o earlies (omega arith)).ample
 
         never_in_moves : MoveUsesFails (before i) ops places early o → ⊥
-        never_in_moves stops = never_uses Named none_needed
-            (before i) env apart Known named ops tame places early o last_filled.safe last_all last_filled.inst_regs
+        never_in_moves stops = never_uses (demand_of Named none_needed (before i) env apart Known named) ops tame places early o last_filled.safe last_all
+            last_filled.inst_regs
             (λ j less reads. (last_filled.good j less (inr less)).place (reads_allocated (op_at ops j) reads))
             (λ j less reads. last_filled.found j less (inr less) reads) last_ample stops
 
         -- uses are moved
         pub ended_ample : (ended : InstRegs) (new : StateValue) → MovesUses (before i) ops places early o (length ops) ended new
             → HasEnoughRegs Named none_needed ended new
-        ended_ample ended new moves = ample_uses Named none_needed (before i) env apart Known named ops tame places early o last_filled.safe last_all
+        ended_ample ended new moves = ample_uses (demand_of Named none_needed (before i) env apart Known named) ops tame places early o last_filled.safe
+            last_all
             last_filled.inst_regs
             (λ j less reads. (last_filled.good j less (inr less)).place (reads_allocated (op_at ops j) reads))
             (λ j less reads. last_filled.found j less (inr less) reads) last_ample moves (omega arith)

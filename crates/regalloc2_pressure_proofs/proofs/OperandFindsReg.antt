@@ -48,6 +48,21 @@ asks_reg (Limit n) r l e = absurd (l n refl)
 not_under : (c d : OperandConstraint) → c ≡ d → is_under_reg d ≡ false → is_under_reg c ≡ false
 not_under c d e h = ap is_under_reg e ∙ h
 
+-- It is the turn of the operand k: those that D holds of have places, which are paid for by registers that are left in the classes that are named.
+pub record CountedOperand (env : MachineValue) (Known : VirtualRegister → Type 0) (ops : List OperandValue) : Type 1 where
+  pub Named : RegClass → Type 0
+  pub base : SpillSlotsValue
+  pub fixed : FixedAreKnown env ops
+  pub D : ℕ → Type 0
+  pub k : ℕ
+  pub here : List Place
+  pub t : InstRegs
+  pub old : StateValue
+  pub lt : k < length ops
+  pub undone : D k → ⊥
+  pub h : Filled env Known AllWrite AllMay base ops D here t old
+  pub p : Paying Named ops D here t old
+
 module _ (env : MachineValue) (Known : VirtualRegister → Type 0) (ops : List OperandValue) (tame : IsTame Known ops) where
   -- what an operand that asks so brings, before it gets a place
   pub record Ready (v : VirtualRegister) (w : Requirement) (here : List Place) (there : Place → List Place) (t : InstRegs) (old : StateValue) : Type 0 where
@@ -61,9 +76,9 @@ module _ (env : MachineValue) (Known : VirtualRegister → Type 0) (ops : List O
       waiting ops (set here k p) c ≡ waiting ops here c
   unchanged here k p long other c = waits_as_before ops here c k p long (λ lt. waits_not ops here c k other ∙ sym (waits_not ops (set here k p) c k other))
 
-  module _ (Named : RegClass → Type 0) (base : SpillSlotsValue) (fixed : FixedAreKnown env ops) (D : ℕ → Type 0) (k : ℕ) (here : List Place) (t : InstRegs)
-      (old : StateValue) (lt : k < length ops) (undone : D k → ⊥)
-      (h : Filled env Known AllWrite AllMay base ops D here t old) (p : Paying Named ops D here t old) where
+  module _ (turn : CountedOperand env Known ops) where
+    open turn use {Named, base, fixed, D, k, here, t, old, lt, undone, h, p}
+
     -- an operand that has no place yet, and is no reuse
     module _ (allocated : is_fixed_nonallocatable (op_at ops k) ≡ false) (no_reuse : (n : ℕ) → (op_at ops k).constraint ≡ Reuse n → ⊥)
         (none : at_place here k ≡ NoPlace) where

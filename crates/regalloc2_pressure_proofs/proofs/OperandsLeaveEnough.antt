@@ -34,7 +34,9 @@ use Rattle.regalloc2_pressure_proofs.proofs.StepsKeepMachine.{HasAll, all_kept}
 use Rattle.regalloc2_pressure_proofs.proofs.OneRegTaken.{ample_kept}
 use Rattle.regalloc2_pressure_proofs.proofs.ClaimLeavesEnough.{ample_gets, never_get, never_define, ample_defines, safe_held}
 use Rattle.regalloc2_pressure_proofs.proofs.FreeRegsCoverWaiting.{Paying, Pays, pays_fewer, pays_awaited, pays_paid, unfree_kept, some_position, gets_settled}
-use Rattle.regalloc2_pressure_proofs.proofs.OperandFindsReg.{Ready, unchanged, use_ready, def_ready, reuse_ready}
+use Rattle.regalloc2_pressure_proofs.proofs.OperandFindsReg.{CountedOperand, Ready, unchanged, use_ready, def_ready, reuse_ready}
+use Rattle.regalloc2_fastalloc_proofs.proofs.Safety.StepsKeepSafe.{rules_of}
+use Rattle.regalloc2_pressure_proofs.proofs.ClaimLeavesEnough.{naming_of}
 
 -- what is held stays held while an operand gets its place
 pub gets_less : (point : ℕ) (o : OperandRequest) (p : Place) (t u : InstRegs) (old new : StateValue) → AllocsOperand point o p t u old new → Less t u
@@ -65,12 +67,62 @@ written_or here k q lt j = elim (cases_eq j k) [
   | inr ne ↦ inl (get_or-set_other here k j q NoPlace ne)
 ]
 
-module _ (Named : RegClass → Type 0) (env : MachineValue) (apart : IsApart env) (Known : VirtualRegister → Type 0)
-    (named : (v : VirtualRegister) → Known v → Named v.class) (ops : List OperandValue) (tame : IsTame Known ops)
-    (fixed : FixedAreKnown env ops) (base : SpillSlotsValue) (i : ℕ) (is_ret : Bool) where
+-- The operands of the instruction i, a return or not, tame and fixed to registers of the machine, whose kinds of registers are apart; the classes that are
+-- named; the vregs that are known, of such classes; and slots that are there at least.
+pub record NamedOperands : Type 1 where
+  pub Named : RegClass → Type 0
+  pub env : MachineValue
+  pub apart : IsApart env
+  pub Known : VirtualRegister → Type 0
+  pub named : (v : VirtualRegister) → Known v → Named v.class
+  pub ops : List OperandValue
+  pub tame : IsTame Known ops
+  pub fixed : FixedAreKnown env ops
+  pub base : SpillSlotsValue
+  pub i : ℕ
+  pub is_ret : Bool
+
+-- those, of their parts
+abbrev pub named_operands : (Named : RegClass → Type 0) (env : MachineValue) → IsApart env → (Known : VirtualRegister → Type 0) →
+    ((v : VirtualRegister) → Known v → Named v.class) → (ops : List OperandValue) → IsTame Known ops → FixedAreKnown env ops → SpillSlotsValue → ℕ → Bool →
+    NamedOperands
+named_operands Named env apart Known named ops tame fixed base i is_ret = record {
+  Named = Named;
+  env = env;
+  apart = apart;
+  Known = Known;
+  named = named;
+  ops = ops;
+  tame = tame;
+  fixed = fixed;
+  base = base;
+  i = i;
+  is_ret = is_ret;
+}
+
+module _ (operands : NamedOperands) where
+  open operands use {Named, env, apart, Known, named, ops, tame, fixed, base, i, is_ret}
+
   module _ (D : ℕ → Type 0) (k : ℕ) (here : List Place) (t : InstRegs) (old : StateValue) (lt : k < length ops) (undone : D k → ⊥)
       (not_n : (n : ℕ) → (op_at ops k).constraint ≡ Reuse n → D n → ⊥)
       (h : Filled env Known AllWrite AllMay base ops D here t old) (p : Paying Named ops D here t old) (all : HasAll env old) where
+    -- its turn
+    abbrev turn : CountedOperand env Known ops
+    turn = record {
+      Named = Named;
+      base = base;
+      fixed = fixed;
+      D = D;
+      k = k;
+      here = here;
+      t = t;
+      old = old;
+      lt = lt;
+      undone = undone;
+      h = h;
+      p = p;
+    }
+
     -- what an operand's place leaves
     record Got (v : VirtualRegister) (w : Requirement) (there : List Place) (q : Place) (u : InstRegs) (new : StateValue) : Type 0 where
       pays : Pays ops here there v w t old
@@ -82,12 +134,12 @@ module _ (Named : RegClass → Type 0) (env : MachineValue) (apart : IsApart env
     got : (o : OperandRequest) (there : Place → List Place) → Ready env Known ops tame o.vreg o.requirement here there t old →
         (q : Place) (u : InstRegs) (new : StateValue) → AllocsOperand (after i) o q t u old new → Got o.vreg o.requirement (there q) q u new
     got o there r q u new g =
-        let x = gets_kept env apart Known AllWrite tame.same AllMay (after i) tt o q t u old new g r.known r.asks_well h.safe h.inst_regs in
+        let x = gets_kept (rules_of env apart Known AllWrite AllMay (after i) tt) tame.same o q t u old new g r.known r.asks_well h.safe h.inst_regs in
         let y = r.pays q x.answer in
         record {
           pays = y;
           kept = x;
-          ample = ample_gets Named env apart Known named (after i) (waiting ops here) (waiting ops (there q)) g
+          ample = ample_gets (naming_of Named env apart Known named (after i)) (waiting ops here) (waiting ops (there q)) g
               (pays_fewer ops here (there q) o.vreg o.requirement t old y)
               (pays_paid Named y g all (named o.vreg r.known) x.place x.answer p.ample p.awaited)
               (safe_held env Known old h.safe) all.fit h.inst_regs p.ample;
@@ -97,7 +149,8 @@ module _ (Named : RegClass → Type 0) (env : MachineValue) (apart : IsApart env
 
     never_place : (o : OperandRequest) (there : Place → List Place) → Ready env Known ops tame o.vreg o.requirement here there t old → AllocOperandFails o t old
         → ⊥
-    never_place o there r s = never_get Named env apart Known named (after i) (waiting ops here) o t old s r.known r.some (safe_held env Known old h.safe)
+    never_place o there r s = never_get (naming_of Named env apart Known named (after i)) (waiting ops here) o t old s r.known r.some
+        (safe_held env Known old h.safe)
         p.ample
 
     never_def : (o : OperandRequest) (there : Place → List Place) → Ready env Known ops tame o.vreg o.requirement here there t old
@@ -105,17 +158,18 @@ module _ (Named : RegClass → Type 0) (env : MachineValue) (apart : IsApart env
     never_def o there r (in_get s) = never_place o there r s
     never_def o there r (in_define q u m g s) =
         let x = got o there r q u m g in
-        never_define Named env apart Known named tame.same (after i) (waiting ops (there q)) o.vreg is_ret q u m r.known x.kept.place x.kept.kept.safe
+        never_define (naming_of Named env apart Known named (after i)) tame.same (waiting ops (there q)) o.vreg is_ret q u m r.known x.kept.place
+        x.kept.kept.safe
         (all_kept env old m x.keeps all) x.kept.kept.inst_regs x.ample s
 
     -- an operand finds its place
     pub never_one : ProcessOperandFails i is_ret ops k here t old → ⊥
     never_one (at_use reads s) = never_place (use_request (op_at ops k) (at_place here k)) (λ q. set here k q)
-        (use_ready env Known ops tame Named base fixed D k here t old lt undone h p reads) s
+        (use_ready env Known ops tame turn reads) s
     never_one (at_def def no_reuse s) = never_def (def_request (op_at ops k)) (λ q. set here k q)
-        (def_ready env Known ops tame Named base fixed D k here t old lt undone h p def no_reuse) s
+        (def_ready env Known ops tame turn def no_reuse) s
     never_one (at_reuse n def reuses s) = never_def (reuse_request (op_at ops k) (op_at ops n)) (λ q. set (set here k q) n q)
-        (reuse_ready env Known ops tame Named base fixed D k here t old lt undone h p n def reuses (not_n n reuses)) s
+        (reuse_ready env Known ops tame turn n def reuses (not_n n reuses)) s
 
     module _ (E : ℕ → Type 0) (at_it : E k) (forth : (j : ℕ) → D j → E j) where
       -- what is paid with one place more
@@ -161,7 +215,7 @@ module _ (Named : RegClass → Type 0) (env : MachineValue) (apart : IsApart env
           AllocsUse (after i) (use_request (op_at ops k) (at_place here k)) q t u old new → Paying Named ops E (set here k q) u new
       use_pays q u new reads d =
           let o : OperandRequest = use_request (op_at ops k) (at_place here k) in
-          let r = use_ready env Known ops tame Named base fixed D k here t old lt undone h p reads in
+          let r = use_ready env Known ops tame turn reads in
           let x = got o (λ z. set here k z) r q u d.middle d.gets in
           let then = uses_keeps o.vreg q d.middle new d.uses in
           one_place q u new (ample_kept Named (waiting ops (set here k q)) u d.middle new then x.ample)
@@ -182,7 +236,8 @@ module _ (Named : RegClass → Type 0) (env : MachineValue) (apart : IsApart env
         moved_less = defines_less (after i) o.vreg is_ret q d.inst_regs u d.middle new d.defines
 
         def_ample : HasEnoughRegs Named (waiting ops (there q)) u new
-        def_ample = ample_defines Named env apart Known named tame.same (after i) (waiting ops (there q)) o.vreg is_ret q d.inst_regs d.middle r.known
+        def_ample = ample_defines (naming_of Named env apart Known named (after i)) tame.same (waiting ops (there q)) o.vreg is_ret q d.inst_regs d.middle
+            r.known
             gotten.kept.place gotten.kept.kept.safe (all_kept env old d.middle gotten.keeps all) gotten.kept.kept.inst_regs gotten.ample d.defines
 
         def_counted : (c : RegClass) → awaited_of u c ≡ waiting ops (there q) c
@@ -202,7 +257,7 @@ module _ (Named : RegClass → Type 0) (env : MachineValue) (apart : IsApart env
           AllocsDefOp (after i) (def_request (op_at ops k)) is_ret q t u old new → Paying Named ops E (set here k q) u new
       def_pays q u new def no_reuse d =
           let o : OperandRequest = def_request (op_at ops k) in
-          let r = def_ready env Known ops tame Named base fixed D k here t old lt undone h p def no_reuse in
+          let r = def_ready env Known ops tame turn def no_reuse in
           let some = some_position (op_at ops k) in
           one_place q u new (def_ample o (λ z. set here k z) r some q u new d) (def_counted o (λ z. set here k z) r some q u new d)
           (def_less o (λ z. set here k z) r some q u new d) (def_keeps o (λ z. set here k z) r some q u new d)
@@ -214,7 +269,7 @@ module _ (Named : RegClass → Type 0) (env : MachineValue) (apart : IsApart env
       reuse_pays n q u new def reuses d =
           let o : OperandRequest = reuse_request (op_at ops k) (op_at ops n) in
           let there : Place → List Place = λ z. set (set here k z) n z in
-          let r = reuse_ready env Known ops tame Named base fixed D k here t old lt undone h p n def reuses (not_n n reuses) in
+          let r = reuse_ready env Known ops tame turn n def reuses (not_n n reuses) in
           let n_long : n < length (set here k q) = (let w = (tame.named k n lt reuses).0 in let l = h.long in let e = length-set here k q in
           omega (arith, w, l, e)) in
           paid (there q) q u new (def_ample o there r (inl refl) q u new d) (def_counted o there r (inl refl) q u new d)

@@ -6,7 +6,8 @@ use Rattle.regalloc2_names.specs.declared.RegClass.{RegClass}
 use Rattle.regalloc2_names.specs.Register.{Register, VirtualRegister}
 use Rattle.regalloc2_names.specs.RegisterSet.{has_register}
 use Rattle.regalloc2_names.specs.Operand.{OperandValue, is_fixed_nonallocatable}
-use Rattle.regalloc2_names.specs.Place.{Place}
+use Rattle.regalloc2_names.specs.Place.{Place, NoPlace}
+use Rattle.regalloc2_fastalloc_state.specs.declared.inst_regs.InstRegs.{InstRegs}
 use Rattle.regalloc2_names.specs.Point.{before}
 use Rattle.regalloc2_function.specs.FunctionValue.{FunctionValue, IsLimited, block_at, inst_at}
 use Rattle.regalloc2_function.specs.Machine.{MachineValue, is_allocatable}
@@ -33,7 +34,7 @@ use Rattle.regalloc2_fastalloc_proofs.proofs.Safety.WellFormedKeepsSafe.{tame_at
 use Rattle.regalloc2_pressure_proofs.specs.EnoughRegs.{HasEnoughRegs, none_needed, AllWrite, AllMay}
 use Rattle.regalloc2_pressure_proofs.proofs.StepsKeepMachine.{all_kept}
 use Rattle.regalloc2_pressure_proofs.proofs.EnoughAtStart.{StartsFree}
-use Rattle.regalloc2_pressure_proofs.proofs.InstFindsRegs.{ended_ample, never_inst}
+use Rattle.regalloc2_pressure_proofs.proofs.InstFindsRegs.{FittingInst, ended_ample, never_inst}
 use Rattle.regalloc2_fastalloc_proofs.proofs.Safety.WalkKeepsMachine.{allocates_keep, begins_block_keep}
 use Rattle.regalloc2_semantics.specs.Listing.{op_at}
 use Rattle.regalloc2_branch_defs.specs.BranchDefs.{IsEdgeInto}
@@ -121,18 +122,41 @@ module _ (f : FunctionValue) (env : MachineValue) (fits : MachineFits f env) (li
   -- an instruction that fits, and the moves of its branch
   module _ (b i : ℕ) (lt : b < length f.blocks) (less : i < length f.insts) (inst_fits : Fits f env (inst_at f i)) (old : StateValue)
       (s : IsSound env (Made f) old) where
+    -- with the registers and the list of places with which it begins
+    abbrev fitting : (began : InstRegs) → StartsFree began old → (blank : List Place) → length blank ≡ length (inst_at f i).operands →
+        ((k : ℕ) → slice_index_or blank k NoPlace ≡ NoPlace) → FittingInst
+    fitting began starts blank long none = record {
+      f = f;
+      env = env;
+      apart = apart;
+      Known = Made f;
+      named = named;
+      i = i;
+      inst = inst_at f i;
+      tame = tame i less;
+      fits = inst_fits;
+      old = old;
+      h = s.safe;
+      all = s.all;
+      began = began;
+      s = starts;
+      blank = blank;
+      long = long;
+      none = none;
+    }
+
     -- the scratch reserve is left for the branch
     left_ample : (blank places : List Place) (new : StateValue) → (a : AllocsInst i (inst_at f i) blank places old new) →
         HasEnoughRegs (NamesClass f) none_needed a.ended new
     left_ample blank places new a =
         let starts : StartsFree a.began old = record { early = a.begins_early; late = a.begins_late; scratch = a.begins_scratch } in
-        ended_ample f env apart (Made f) named i (inst_at f i) (tame i less) inst_fits old s.safe s.all a.began starts blank a.long a.no_places a.quiet
+        ended_ample (fitting a.began starts blank a.long a.no_places) a.quiet
         a.after_clobbers (readies_of i f blank places old new a)
         a.half a.late a.after_late a.lates places a.early a.after_early a.earlies a.ended new a.moves
 
     never_in : (before_it : List Place) → AllocInstInBlockFails f b i before_it old → ⊥
     never_in before_it (in_inst t blank fresh long none stops) =
-        never_inst f env apart (Made f) named i (inst_at f i) (tame i less) inst_fits old s.safe s.all t (starts_fresh t old fresh) blank long none stops
+        never_inst (fitting t (starts_fresh t old fresh) blank long none) stops
     never_in before_it (in_pass places m a branch stops) =
         let k = inst_kept env apart (Made f) f ok.follow tame params targets (concerned_made f ok.successors ok.follow) alike less
         a.allocates s.safe in
@@ -166,20 +190,38 @@ module _ (f : FunctionValue) (env : MachineValue) (fits : MachineFits f env) (li
       (inl (stops.index, d, refl)) in
       absurd (some_from f env fits o all (op_at (branch_operands f stops.from) stops.index).vreg.class stops.none (named _ made))
 
+-- the tables with which the walk begins
+pub record AreFresh (env : MachineValue) (old : StateValue) : Type 0 where
+  pub vregs : ℕ
+  pub owners : ℕ
+  pub sizes : List ℕ
+  pub by_last : Bool
+  pub nobody : old.places ≡ no_allocs vregs
+  pub slots : old.slots ≡ no_slots owners sizes by_last
+  pub none : old.edits ≡ []
+  pub units : (c : RegClass) → 0 < units_of (no_slots owners sizes by_last) c
+  pub machine : HasMachine env old
+  pub fit : Fit old
+  pub allocatable : (r : Register) → is_allocatable env r.class r ≡ true → has_register old.allocatable r ≡ true
+  pub dedicated_scratch : old.dedicated_scratch ≡ env.scratch
+
 -- From the tables with which the walk begins: where it stops because registers run out, it stops at an instruction that doesn't fit.
-pub walk_stops : (f : FunctionValue) (env : MachineValue) → MachineFits f env → IsLimited f → IsWellFormed env f → AreTaken f
-    → (blank : List Place) (old : StateValue) (n m : ℕ) (sizes : List ℕ) (by_last : Bool) → old.places ≡ no_allocs n → old.slots ≡ no_slots m sizes by_last →
-    old.edits ≡ [] → ((c : RegClass) → 0 < units_of (no_slots m sizes by_last) c)
-    → HasMachine env old → Fit old → ((r : Register) → is_allocatable env r.class r ≡ true → has_register old.allocatable r ≡ true) →
-    old.dedicated_scratch ≡ env.scratch
-    → AllocBlocksFails f blank old → (i : ℕ) × (i < length f.insts) × (Fits f env (inst_at f i) → ⊥)
-walk_stops f env fits limited ok taken blank old n m sizes by_last nobody slots none units machine fit allocatable dedicated_scratch stops =
-    elim (all_known_or env f (Made f) old machine (tame_at env f limited ok taken)) [
+pub walk_stops : {f : FunctionValue} {env : MachineValue} → MachineFits f env → IsLimited f → IsWellFormed env f → AreTaken f
+    → {blank : List Place} {old : StateValue} → AreFresh env old → AllocBlocksFails f blank old →
+    (i : ℕ) × (i < length f.insts) × (Fits f env (inst_at f i) → ⊥)
+walk_stops {f} {env} fits limited ok taken {blank} {old} fresh stops =
+    elim (all_known_or env f (Made f) old fresh.machine (tame_at env f limited ok taken)) [
       | inr one ↦ one
       | inl known ↦ stops_there f env fits limited ok taken (alike_known known) blank old
           (record {
-            all = record { machine = machine; fit = fit; allocatable = allocatable; dedicated_scratch = dedicated_scratch };
-            safe = begun_safe env (Made f) AllWrite AllMay old n m sizes by_last nobody slots none units machine;
+            all = record {
+              machine = fresh.machine;
+              fit = fresh.fit;
+              allocatable = fresh.allocatable;
+              dedicated_scratch = fresh.dedicated_scratch;
+            };
+            safe = begun_safe env (Made f) AllWrite AllMay old fresh.vregs fresh.owners fresh.sizes fresh.by_last fresh.nobody fresh.slots fresh.none
+                fresh.units fresh.machine;
           }) stops
     ]
   where

@@ -116,78 +116,98 @@ module _ (Named : RegClass → Type 0) (needed : RegClass → ℕ) (point : ℕ)
       → ((is_stack_in old from && is_stack_in old to) ≡ true → HasStack old.fixed_stack class) → HasEnoughRegs Named needed t old → ⊥
   never_cross class from to t old s named stack h = never_scratch class t old s.1 named (stack s.0) h
 
-  module _ (env : MachineValue) (apart : IsApart env) (Known : VirtualRegister → Type 0) (named : (v : VirtualRegister) → Known v → Named v.class) where
-    -- a vreg's slot is no register: a move between it and a register in memory is one of a class with fixed stack slots
-    slot_or_stack : (t : StateValue) (v : VirtualRegister) (from to : Place) → HasAll env t → IsEndOfMove env t.slots v from → IsEndOfMove env t.slots v to →
-        (from ≡ to → ⊥)
-        → (is_stack_in t from && is_stack_in t to) ≡ true → HasStack t.fixed_stack v.class
-    slot_or_stack t v NoPlace to m f g differ two = absurd f
-    slot_or_stack t v (InRegister r) to m f g differ two = at_register r (and_left (has_register t.fixed_stack r) (is_stack_in t to) two) f
-      where
-        at_register : (q : Register) → has_register t.fixed_stack q ≡ true → IsEndOfMove env t.slots v (InRegister q) → HasStack t.fixed_stack v.class
-        at_register q stack (inl a) = subst (HasStack t.fixed_stack) a.1 (has_stack t.fixed_stack q (m.fit.small q (inr stack)) stack)
-        at_register q stack (inr b) = absurd (apart.scratch v.class q b (m.machine.fixed_stack q stack))
-    slot_or_stack t v (InSlot k) NoPlace m f g differ two = absurd g
-    slot_or_stack t v (InSlot k) (InRegister r) m f g differ held = at_register r held g
-      where
-        at_register : (q : Register) → has_register t.fixed_stack q ≡ true → IsEndOfMove env t.slots v (InRegister q) → HasStack t.fixed_stack v.class
-        at_register q stack (inl a) = subst (HasStack t.fixed_stack) a.1 (has_stack t.fixed_stack q (m.fit.small q (inr stack)) stack)
-        at_register q stack (inr b) = absurd (apart.scratch v.class q b (m.machine.fixed_stack q stack))
-    slot_or_stack t v (InSlot k) (InSlot n) m f g differ two = absurd (differ (sym f ∙ g))
+-- What the registers that are left are counted for: the classes that are named; how many registers of each are needed; the point where moves go; a machine,
+-- whose kinds of registers are apart; and the vregs that are known, of classes that are named.
+pub record Demand : Type 1 where
+  pub Named : RegClass → Type 0
+  pub needed : RegClass → ℕ
+  pub point : ℕ
+  pub env : MachineValue
+  pub apart : IsApart env
+  pub Known : VirtualRegister → Type 0
+  pub named : (v : VirtualRegister) → Known v → Named v.class
 
-    -- a move of a known vreg's value
-    pub ample_moves : (v : VirtualRegister) {from to : Place} {t u : InstRegs} {old new : StateValue} → AddsMove point v.class from to t u old new →
-        HasAll env old → IsEndOfMove env old.slots v from → IsEndOfMove env old.slots v to → (from ≡ to → ⊥)
-        → AreSafeRegs env t → HasEnoughRegs Named needed t old → HasEnoughRegs Named needed u new
-    ample_moves v {from} {to} {t} {u} {old} {new} c m f g differ ht h = ample_crosses v.class from to t u old new c ht.three
-        (slot_or_stack old v from to m f g differ) h
+-- those, of their parts
+abbrev pub demand_of : (Named : RegClass → Type 0) → (RegClass → ℕ) → ℕ → (env : MachineValue) → IsApart env → (Known : VirtualRegister → Type 0) →
+    ((v : VirtualRegister) → Known v → Named v.class) → Demand
+demand_of Named needed point env apart Known named =
+    record { Named = Named; needed = needed; point = point; env = env; apart = apart; Known = Known; named = named }
 
-    -- where registers are enough, a move of a vreg's value between two legal ends lacks none
-    pub never_move : (v : VirtualRegister) (from to : Place) (t : InstRegs) (old : StateValue) → AddMoveFails v.class from to t old → Known v → HasAll env old →
-        IsEndOfMove env old.slots v from → IsEndOfMove env old.slots v to → (from ≡ to → ⊥)
-        → HasEnoughRegs Named needed t old → ⊥
-    never_move v from to t old s known m f g differ h = never_cross v.class from to t old s (named v known) (slot_or_stack old v from to m f g differ) h
+module _ (demand : Demand) where
+  open demand use {Named, needed, point, env, apart, Known, named}
 
-    -- a register or fixed stack slot is emptied
-    pub ample_clears : (r : Register) (t u : InstRegs) (old new : StateValue) → EvictsPReg point r t u old new → AreHeld Known old → AreSafeRegs env t →
-        HasEnoughRegs Named needed t old → HasEnoughRegs Named needed u new
-    ample_clears r t u old new (empty none eu en) held_by ht h = ample_none Named needed t u old new eu en h
-    ample_clears r t u old new (cleared v s m lt held gives settles edits machine crosses) held_by ht h =
-        ample_crosses v.class s (InRegister r) t u m new crosses ht.three (at_stack r v m machine lt (held_by r v lt held).1 s)
-        (ample_kept Named needed t old m (keeps_of old m machine) h)
-      where
-        at_stack : (q : Register) (w : VirtualRegister) (n : StateValue) → SameMachine old n → q.number < 64 → q.class ≡ w.class → (p : Place) →
-            (is_stack_in n p && is_stack_in n (InRegister q)) ≡ true → HasStack n.fixed_stack w.class
-        at_stack q w n machine lt same p both = subst (HasStack n.fixed_stack) same
-            (has_stack n.fixed_stack q lt (and_right (is_stack_in n p) (has_register n.fixed_stack q) both))
+  -- a vreg's slot is no register: a move between it and a register in memory is one of a class with fixed stack slots
+  slot_or_stack : (t : StateValue) (v : VirtualRegister) (from to : Place) → HasAll env t → IsEndOfMove env t.slots v from → IsEndOfMove env t.slots v to →
+      (from ≡ to → ⊥)
+      → (is_stack_in t from && is_stack_in t to) ≡ true → HasStack t.fixed_stack v.class
+  slot_or_stack t v NoPlace to m f g differ two = absurd f
+  slot_or_stack t v (InRegister r) to m f g differ two = at_register r (and_left (has_register t.fixed_stack r) (is_stack_in t to) two) f
+    where
+      at_register : (q : Register) → has_register t.fixed_stack q ≡ true → IsEndOfMove env t.slots v (InRegister q) → HasStack t.fixed_stack v.class
+      at_register q stack (inl a) = subst (HasStack t.fixed_stack) a.1 (has_stack t.fixed_stack q (m.fit.small q (inr stack)) stack)
+      at_register q stack (inr b) = absurd (apart.scratch v.class q b (m.machine.fixed_stack q stack))
+  slot_or_stack t v (InSlot k) NoPlace m f g differ two = absurd g
+  slot_or_stack t v (InSlot k) (InRegister r) m f g differ held = at_register r held g
+    where
+      at_register : (q : Register) → has_register t.fixed_stack q ≡ true → IsEndOfMove env t.slots v (InRegister q) → HasStack t.fixed_stack v.class
+      at_register q stack (inl a) = subst (HasStack t.fixed_stack) a.1 (has_stack t.fixed_stack q (m.fit.small q (inr stack)) stack)
+      at_register q stack (inr b) = absurd (apart.scratch v.class q b (m.machine.fixed_stack q stack))
+  slot_or_stack t v (InSlot k) (InSlot n) m f g differ two = absurd (differ (sym f ∙ g))
 
-    -- where registers are enough, an eviction lacks none
-    pub never_clear : (r : Register) (t : InstRegs) (old : StateValue) → EvictPRegFails r t old → AreHeld Known old → HasEnoughRegs Named needed t old → ⊥
-    never_clear r t old s held_by h =
-        let was = held_by r s.vreg s.small s.held in
-        never_cross s.vreg.class s.slot (InRegister r) t s.middle s.crosses (named s.vreg was.0)
-        (λ two. subst (HasStack s.middle.fixed_stack) was.1 (has_stack s.middle.fixed_stack r s.small
-        (and_right (is_stack_in s.middle s.slot) (has_register s.middle.fixed_stack r) two)))
-        (ample_kept Named needed t old s.middle (keeps_of old s.middle s.machine) h)
+  -- a move of a known vreg's value
+  pub ample_moves : (v : VirtualRegister) {from to : Place} {t u : InstRegs} {old new : StateValue} → AddsMove point v.class from to t u old new →
+      HasAll env old → IsEndOfMove env old.slots v from → IsEndOfMove env old.slots v to → (from ≡ to → ⊥)
+      → AreSafeRegs env t → HasEnoughRegs Named needed t old → HasEnoughRegs Named needed u new
+  ample_moves v {from} {to} {t} {u} {old} {new} c m f g differ ht h = (ample_crosses Named needed point) v.class from to t u old new c ht.three
+      (slot_or_stack old v from to m f g differ) h
 
-    -- an eviction that spares one vreg leaves registers enough
-    pub ample_clears_but : {r : Register} {v : VirtualRegister} {t u : InstRegs} {old new : StateValue} → EvictsOthers point r v t u old new →
-        AreHeld Known old → AreSafeRegs env t → HasEnoughRegs Named needed t old → HasEnoughRegs Named needed u new
-    ample_clears_but {t} {u} {old} {new} (own w held same eu en) held_by ht h = ample_none Named needed t u old new eu en h
-    ample_clears_but {r} {t} {u} {old} {new} (others not_own clears) held_by ht h = ample_clears r t u old new clears held_by ht h
+  -- where registers are enough, a move of a vreg's value between two legal ends lacks none
+  pub never_move : (v : VirtualRegister) (from to : Place) (t : InstRegs) (old : StateValue) → AddMoveFails v.class from to t old → Known v → HasAll env old →
+      IsEndOfMove env old.slots v from → IsEndOfMove env old.slots v to → (from ≡ to → ⊥)
+      → HasEnoughRegs Named needed t old → ⊥
+  never_move v from to t old s known m f g differ h = (never_cross Named needed point) v.class from to t old s (named v known)
+      (slot_or_stack old v from to m f g differ) h
 
-    -- a move that is made unless it goes nowhere
-    pub ample_sends : (v : VirtualRegister) {is_made : Bool} {from to : Place} {t u : InstRegs} {old new : StateValue}
-        → AddsMoveIf point v.class is_made from to t u old new
-        → (is_made ≡ true → IsEndOfMove env old.slots v from × IsEndOfMove env old.slots v to × (from ≡ to → ⊥)) → HasAll env old → AreSafeRegs env t
-        → HasEnoughRegs Named needed t old → HasEnoughRegs Named needed u new
-    ample_sends v (sent made crosses) ends m ht h =
-        (let e = ends made in ample_moves v crosses m e.0 e.1 e.2 ht h)
-    ample_sends v {t} {u} {old} {new} (unsent not_made eu en) ends m ht h = ample_none Named needed t u old new eu en h
+  -- a register or fixed stack slot is emptied
+  pub ample_clears : (r : Register) (t u : InstRegs) (old new : StateValue) → EvictsPReg point r t u old new → AreHeld Known old → AreSafeRegs env t →
+      HasEnoughRegs Named needed t old → HasEnoughRegs Named needed u new
+  ample_clears r t u old new (empty none eu en) held_by ht h = ample_none Named needed t u old new eu en h
+  ample_clears r t u old new (cleared v s m lt held gives settles edits machine crosses) held_by ht h =
+      (ample_crosses Named needed point) v.class s (InRegister r) t u m new crosses ht.three (at_stack r v m machine lt (held_by r v lt held).1 s)
+      (ample_kept Named needed t old m (keeps_of old m machine) h)
+    where
+      at_stack : (q : Register) (w : VirtualRegister) (n : StateValue) → SameMachine old n → q.number < 64 → q.class ≡ w.class → (p : Place) →
+          (is_stack_in n p && is_stack_in n (InRegister q)) ≡ true → HasStack n.fixed_stack w.class
+      at_stack q w n machine lt same p both = subst (HasStack n.fixed_stack) same
+          (has_stack n.fixed_stack q lt (and_right (is_stack_in n p) (has_register n.fixed_stack q) both))
 
-    -- where registers are enough, a move that is added, or none, lacks none
-    pub never_send : (v : VirtualRegister) (is_made : Bool) (from to : Place) (t : InstRegs) (old : StateValue) → AddMoveIfFails v.class is_made from to t old
-        → Known v
-        → (is_made ≡ true → IsEndOfMove env old.slots v from × IsEndOfMove env old.slots v to × (from ≡ to → ⊥)) → HasAll env old
-        → HasEnoughRegs Named needed t old → ⊥
-    never_send v is_made from to t old s known ends m h = (let e = ends s.0 in never_move v from to t old s.1 known m e.0 e.1 e.2 h)
+  -- where registers are enough, an eviction lacks none
+  pub never_clear : (r : Register) (t : InstRegs) (old : StateValue) → EvictPRegFails r t old → AreHeld Known old → HasEnoughRegs Named needed t old → ⊥
+  never_clear r t old s held_by h =
+      let was = held_by r s.vreg s.small s.held in
+      (never_cross Named needed point) s.vreg.class s.slot (InRegister r) t s.middle s.crosses (named s.vreg was.0)
+      (λ two. subst (HasStack s.middle.fixed_stack) was.1 (has_stack s.middle.fixed_stack r s.small
+      (and_right (is_stack_in s.middle s.slot) (has_register s.middle.fixed_stack r) two)))
+      (ample_kept Named needed t old s.middle (keeps_of old s.middle s.machine) h)
+
+  -- an eviction that spares one vreg leaves registers enough
+  pub ample_clears_but : {r : Register} {v : VirtualRegister} {t u : InstRegs} {old new : StateValue} → EvictsOthers point r v t u old new →
+      AreHeld Known old → AreSafeRegs env t → HasEnoughRegs Named needed t old → HasEnoughRegs Named needed u new
+  ample_clears_but {t} {u} {old} {new} (own w held same eu en) held_by ht h = ample_none Named needed t u old new eu en h
+  ample_clears_but {r} {t} {u} {old} {new} (others not_own clears) held_by ht h = ample_clears r t u old new clears held_by ht h
+
+  -- a move that is made unless it goes nowhere
+  pub ample_sends : (v : VirtualRegister) {is_made : Bool} {from to : Place} {t u : InstRegs} {old new : StateValue}
+      → AddsMoveIf point v.class is_made from to t u old new
+      → (is_made ≡ true → IsEndOfMove env old.slots v from × IsEndOfMove env old.slots v to × (from ≡ to → ⊥)) → HasAll env old → AreSafeRegs env t
+      → HasEnoughRegs Named needed t old → HasEnoughRegs Named needed u new
+  ample_sends v (sent made crosses) ends m ht h =
+      (let e = ends made in ample_moves v crosses m e.0 e.1 e.2 ht h)
+  ample_sends v {t} {u} {old} {new} (unsent not_made eu en) ends m ht h = ample_none Named needed t u old new eu en h
+
+  -- where registers are enough, a move that is added, or none, lacks none
+  pub never_send : (v : VirtualRegister) (is_made : Bool) (from to : Place) (t : InstRegs) (old : StateValue) → AddMoveIfFails v.class is_made from to t old
+      → Known v
+      → (is_made ≡ true → IsEndOfMove env old.slots v from × IsEndOfMove env old.slots v to × (from ≡ to → ⊥)) → HasAll env old
+      → HasEnoughRegs Named needed t old → ⊥
+  never_send v is_made from to t old s known ends m h = (let e = ends s.0 in never_move v from to t old s.1 known m e.0 e.1 e.2 h)

@@ -25,6 +25,7 @@ use Rattle.regalloc2_fastalloc_proofs.specs.StoreSteps.{IsConcerned, IsStoredFor
 use Rattle.regalloc2_fastalloc_proofs.proofs.Safety.StoresKeepSafe.{IsAlike, stores_kept}
 use Rattle.regalloc2_fastalloc_proofs.proofs.Safety.WalkKeepsMachine.{in_keeps, begun_keep}
 use Rattle.regalloc2_pressure_proofs.proofs.PassesLeaveEnough.{defs_write}
+use Rattle.regalloc2_fastalloc_proofs.proofs.Safety.StepsKeepSafe.{rules_of}
 
 -- the tables have all registers, and are safe
 pub record IsSound (env : MachineValue) (Known : VirtualRegister → Type 0) (t : StateValue) : Type 0 where
@@ -49,7 +50,7 @@ module _ (env : MachineValue) (apart : IsApart env) (Known : VirtualRegister →
   pub inst_kept : {i : ℕ} → i < length f.insts → {blank places : List Place} {old new : StateValue} → (a : AllocsInst i (inst_at f i) blank places old new) →
       AreSafe env Known old → InstKept env Known AllWrite AllMay (inst_at f i).operands places old a.ended new
   inst_kept {i} lt {blank} {places} {old} {new} a h =
-      allocates_kept env apart Known AllWrite AllMay i (inst_at f i) blank places old new tt tt (tame i lt) (defs_write i (inst_at f i).operands)
+      allocates_kept apart tt tt (tame i lt) (defs_write i (inst_at f i).operands)
       (uses_write i (inst_at f i) places) a h
 
   in_sound : (b i : ℕ) → b < length f.blocks → i < length f.insts → (before_it places : List Place) (old new : StateValue) →
@@ -59,7 +60,7 @@ module _ (env : MachineValue) (apart : IsApart env) (Known : VirtualRegister →
       record {
         all = all_kept env old new (in_keeps f b i before_it places old new a) s.all;
         safe = elim (cases_Bool (inst_at f i).is_branch) [
-          | inl branch ↦ (passes_kept env apart Known AllWrite AllMay (before i) tt (λ v. Unit {0}) (every_write (before i)) f b i refl
+          | inl branch ↦ (passes_kept (rules_of env apart Known AllWrite AllMay (before i) tt) (λ v. Unit {0}) (every_write (before i)) f b i refl
               (λ e j edge within. (params (target_at f b e) j (targets b e small edge) within, tt))
               a.allocates.allocates.ended a.inst_regs a.middle new (a.branch branch) k.safe k.inst_regs).safe
           | inr none ↦ subst (AreSafe env Known) (sym (a.no_branch none)) k.safe
@@ -83,6 +84,6 @@ module _ (env : MachineValue) (apart : IsApart env) (Known : VirtualRegister →
       record {
         all = all_kept env u t (begun_keep f b u t begins) x.all;
         safe = (stores_kept env Known AllWrite AllMay f b tt (concerned b) (alike b) (λ e k v n edge is. tt) begins.middle t begins.stores
-            (begins_block_kept env apart Known AllWrite AllMay (before (block_at f b).range.first) tt (block_at f b).params
+            (begins_block_kept (rules_of env apart Known AllWrite AllMay (before (block_at f b).range.first) tt) (block_at f b).params
             (λ j within. params b j lt within) u begins.middle begins.reloads x.safe).safe).0;
       }

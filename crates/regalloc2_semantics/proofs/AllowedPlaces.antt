@@ -2,7 +2,7 @@
 use Rattle.std.proofs.Common.{◌≡◌, ℕ, Bool, true, false, Option, Some, None, ◌⊎◌, ⊎_elim, inl, inr, sym, ap, ◌∙◌}
 use Rattle.std.proofs.lemmas.Bool.{cases_Bool}
 use Rattle.regalloc2_names.specs.Place.{Place}
-use Rattle.regalloc2_semantics.specs.OperandsPlaced.{What, uses, read_first, written_after, Placed, Once, Clear, Held, Free}
+use Rattle.regalloc2_semantics.specs.OperandsPlaced.{What, uses, read_first, written_after, Progress, Placed, Once, Clear, Held, Free}
 use Rattle.regalloc2_semantics.proofs.SharedPlace.{share_late, share_early, share_uses, share_turn}
 
 -- a place that is free where the operand is
@@ -35,19 +35,18 @@ clear_free what here claimed early late k r h f i c e =
     (cases_Bool (what i).is_def))
 
 -- a use stays where its vreg is located; a late one is placed before all early uses
-pub clear_kept_use : (counts : ℕ → Type 0) (what : ℕ → What) (here : ℕ → Place) (claimed done lived out : ℕ → Bool) (clob : Place → Bool) (X : Place → ℕ → Bool)
-    (T S : ℕ → Option Place) (k : ℕ) (r : Place)
-    → Placed what here claimed done lived out clob X T S → Once counts what → ((j : ℕ) → claimed j ≡ true → counts j) → counts k
+pub clear_kept_use : (counts : ℕ → Type 0) (what : ℕ → What) (p : Progress) (T S : ℕ → Option Place) (k : ℕ) (r : Place)
+    → Placed what p T S → Once counts what → ((j : ℕ) → p.claimed j ≡ true → counts j) → counts k
     → (what k).is_def ≡ false → T (what k).number ≡ Some r
-    → ((what k).is_late ≡ true → (j : ℕ) → done j ≡ true → (what j).is_def ≡ false → (what j).is_late ≡ true)
-    → Clear what here claimed k r
-clear_kept_use counts what here claimed done lived out clob X T S k r s once within lt is_use was_located phase i c e =
+    → ((what k).is_late ≡ true → (j : ℕ) → p.done j ≡ true → (what j).is_def ≡ false → (what j).is_late ≡ true)
+    → Clear what p.here p.claimed k r
+clear_kept_use counts what p T S k r s once within lt is_use was_located phase i c e =
     inr (⊎_elim
     (λ (di : (what i).is_def ≡ true). ⊎_elim
-    (λ (l : lived (what k).number ≡ true).
+    (λ (l : p.lived (what k).number ≡ true).
     let a : (what k).number ≡ (what i).number = s.def_alone i (what k).number c di l (was_located ∙ ap Some (sym e)) in
     absurd (once.unread i k (within i c) lt di is_use (sym a)))
-    (λ (n : lived (what k).number ≡ false).
+    (λ (n : p.lived (what k).number ≡ false).
     let w = s.newly (what k).number r n was_located in
     ⊎_elim
     (λ (x : i ≡ w.0). let y : (what i).is_def ≡ false = ap (λ (z : ℕ). (what z).is_def) x ∙ w.2 in absurd cc)
@@ -59,40 +58,38 @@ clear_kept_use counts what here claimed done lived out clob X T S k r s once wit
     (cases_Bool (what i).is_late))
     (cases_Bool (what k).is_late))
     (s.apart i w.0 c (s.claims w.0 w.1) (e ∙ sym w.4)))
-    (cases_Bool (lived (what k).number)))
+    (cases_Bool (p.lived (what k).number)))
     (λ (ui : (what i).is_def ≡ false). uses ui is_use (sym (s.use_alone i (what k).number c ui (was_located ∙ ap Some (sym e)))))
     (cases_Bool (what i).is_def))
 
 -- a definition stays where its vreg is located
-pub clear_kept_def : (counts : ℕ → Type 0) (what : ℕ → What) (here : ℕ → Place) (claimed done lived out : ℕ → Bool) (clob : Place → Bool) (X : Place → ℕ → Bool)
-    (T S : ℕ → Option Place) (k : ℕ) (r : Place)
-    → Placed what here claimed done lived out clob X T S → Once counts what → ((j : ℕ) → claimed j ≡ true → counts j) → counts k
+pub clear_kept_def : (counts : ℕ → Type 0) (what : ℕ → What) (p : Progress) (T S : ℕ → Option Place) (k : ℕ) (r : Place)
+    → Placed what p T S → Once counts what → ((j : ℕ) → p.claimed j ≡ true → counts j) → counts k
     → (what k).is_def ≡ true → T (what k).number ≡ Some r
-    → Clear what here claimed k r
-clear_kept_def counts what here claimed done lived out clob X T S k r s once within lt def was_located i c e =
-    let l : lived (what k).number ≡ true = ⊎_elim
-    (λ (a : lived (what k).number ≡ true). a)
-    (λ (a : lived (what k).number ≡ false). let w = s.newly (what k).number r a was_located in
+    → Clear what p.here p.claimed k r
+clear_kept_def counts what p T S k r s once within lt def was_located i c e =
+    let l : p.lived (what k).number ≡ true = ⊎_elim
+    (λ (a : p.lived (what k).number ≡ true). a)
+    (λ (a : p.lived (what k).number ≡ false). let w = s.newly (what k).number r a was_located in
     absurd (once.unread k w.0 lt (within w.0 (s.claims w.0 w.1)) def w.2 (sym w.3)))
-    (cases_Bool (lived (what k).number)) in
+    (cases_Bool (p.lived (what k).number)) in
     inl (⊎_elim
     (λ (di : (what i).is_def ≡ true). once.one i k (within i c) lt di def (sym (s.def_alone i (what k).number c di l (was_located ∙ ap Some (sym e)))))
     (λ (ui : (what i).is_def ≡ false). absurd (once.unread k i lt (within i c) def ui (s.use_alone i (what k).number c ui (was_located ∙ ap Some (sym e)))))
     (cases_Bool (what i).is_def))
 
 -- a vreg that is evicted by the operand k from the register that it takes: it lived, and no definition is placed there
-pub evictable : (what : ℕ → What) (here : ℕ → Place) (claimed done lived out : ℕ → Bool) (clob : Place → Bool) (X : Place → ℕ → Bool) (T S : ℕ → Option Place)
-    (k : ℕ) (r : Place) (w : ℕ)
-    → Placed what here claimed done lived out clob X T S
-    → Clear what here claimed k r → done k ≡ false → T w ≡ Some r → (w ≡ (what k).number → ⊥)
-    → ((what k).is_def ≡ true → (what k).is_late ≡ true → (j : ℕ) → done j ≡ true → (what j).is_def ≡ false → (what j).is_late ≡ true)
-    → (lived w ≡ true) × ((u : ℕ) → X r u ≡ false)
-evictable what here claimed done lived out clob X T S k r w s clear new was_located other phase =
-    let l : lived w ≡ true = ⊎_elim
-    (λ (a : lived w ≡ true). a)
-    (λ (a : lived w ≡ false). let n = s.newly w r a was_located in
+pub evictable : (what : ℕ → What) (p : Progress) (T S : ℕ → Option Place) (k : ℕ) (r : Place) (w : ℕ)
+    → Placed what p T S
+    → Clear what p.here p.claimed k r → p.done k ≡ false → T w ≡ Some r → (w ≡ (what k).number → ⊥)
+    → ((what k).is_def ≡ true → (what k).is_late ≡ true → (j : ℕ) → p.done j ≡ true → (what j).is_def ≡ false → (what j).is_late ≡ true)
+    → (p.lived w ≡ true) × ((u : ℕ) → p.made_at r u ≡ false)
+evictable what p T S k r w s clear new was_located other phase =
+    let l : p.lived w ≡ true = ⊎_elim
+    (λ (a : p.lived w ≡ true). a)
+    (λ (a : p.lived w ≡ false). let n = s.newly w r a was_located in
     ⊎_elim
-    (λ (e : n.0 ≡ k). let b : done k ≡ true = ap done (sym e) ∙ n.1 in absurd cc)
+    (λ (e : n.0 ≡ k). let b : p.done k ≡ true = ap p.done (sym e) ∙ n.1 in absurd cc)
     (λ sh. ⊎_elim
     (λ (dk : (what k).is_def ≡ true). ⊎_elim
     (λ (lk : (what k).is_late ≡ true). absurd (share_late (what k) (what n.0) (share_turn (what n.0) (what k) sh) dk n.2 (phase dk lk n.0 n.1 n.2)))
@@ -101,14 +98,14 @@ evictable what here claimed done lived out clob X T S k r w s clear new was_loca
     (λ (uk : (what k).is_def ≡ false). absurd (other (sym n.3 ∙ share_uses (what n.0) (what k) sh n.2 uk)))
     (cases_Bool (what k).is_def))
     (clear n.0 (s.claims n.0 n.1) n.4))
-    (cases_Bool (lived w)) in (
+    (cases_Bool (p.lived w)) in (
       l,
       λ u. ⊎_elim
-          (λ (a : X r u ≡ true). let n = s.makes r u a in
+          (λ (a : p.made_at r u ≡ true). let n = s.makes r u a in
           let b : w ≡ (what n.0).number = s.def_alone n.0 w (s.claims n.0 n.1) n.2 l (was_located ∙ ap Some (sym n.4)) in
           let c : T w ≡ None = ap T b ∙ s.gone (what n.0).number (s.outs n.0 n.1 n.2) in absurd cc)
-          (λ (a : X r u ≡ false). a)
-          (cases_Bool (X r u)),
+          (λ (a : p.made_at r u ≡ false). a)
+          (cases_Bool (p.made_at r u)),
     )
 
 -- a reuse claims its place for the use that it names too, at once
@@ -122,19 +119,18 @@ clear_reuse what here there claimed claimed2 d k r dd dl uk ek grows clear i c e
     (grows i c)
 
 -- and no vreg is there, once the reuse is placed, before all early uses
-pub reuse_alone : (what : ℕ → What) (here : ℕ → Place) (claimed done lived out : ℕ → Bool) (clob : Place → Bool) (X : Place → ℕ → Bool) (T S : ℕ → Option Place)
-    (d w : ℕ)
-    → Placed what here claimed done lived out clob X T S → done d ≡ true → (what d).is_def ≡ true
-    → ((j : ℕ) → done j ≡ true → (what j).is_def ≡ false → (what j).is_late ≡ true)
-    → T w ≡ Some (here d) → ⊥
-reuse_alone what here claimed done lived out clob X T S d w s dd def phase was_located = ⊎_elim
-    (λ (l : lived w ≡ true).
+pub reuse_alone : (what : ℕ → What) (p : Progress) (T S : ℕ → Option Place) (d w : ℕ)
+    → Placed what p T S → p.done d ≡ true → (what d).is_def ≡ true
+    → ((j : ℕ) → p.done j ≡ true → (what j).is_def ≡ false → (what j).is_late ≡ true)
+    → T w ≡ Some (p.here d) → ⊥
+reuse_alone what p T S d w s dd def phase was_located = ⊎_elim
+    (λ (l : p.lived w ≡ true).
     let a : w ≡ (what d).number = s.def_alone d w (s.claims d dd) def l was_located in
     let b : T w ≡ None = ap T a ∙ s.gone (what d).number (s.outs d dd def) in cc)
-    (λ (l : lived w ≡ false).
-    let n = s.newly w (here d) l was_located in
+    (λ (l : p.lived w ≡ false).
+    let n = s.newly w (p.here d) l was_located in
     ⊎_elim
     (λ (e : d ≡ n.0). let x : (what d).is_def ≡ false = ap (λ (z : ℕ). (what z).is_def) e ∙ n.2 in cc)
     (λ sh. share_late (what d) (what n.0) sh def n.2 (phase n.0 n.1 n.2))
     (s.apart d n.0 (s.claims d dd) (s.claims n.0 n.1) (sym n.4)))
-    (cases_Bool (lived w))
+    (cases_Bool (p.lived w))

@@ -3,6 +3,9 @@
 use Rattle.std.specs.Prelude.{◌≡◌, ◌≢◌, ℕ, ◌<◌, ◌≤◌, Bool, true, false, Option, Some, None, List, length, ◌⊎◌}
 use Rattle.regalloc2_names.specs.Operand.{OperandValue, is_def, is_late, is_reading}
 use Rattle.regalloc2_names.specs.Place.{Place, NoPlace}
+use Rattle.regalloc2_names.specs.declared.sets.PRegSet.{PRegSet}
+use Rattle.regalloc2_function.specs.OutputValue.{place_at}
+use Rattle.regalloc2_semantics.specs.Carry.{is_clobbered}
 use Rattle.regalloc2_semantics.specs.Listing.{op_at}
 
 -- an operand without its place
@@ -37,31 +40,117 @@ pub data Pending (what : ℕ → What) (here : ℕ → Place) (done out : ℕ �
 abbrev pub Counts : List OperandValue → ℕ → Type 0
 Counts operands j = (j < length operands) × ((is_def (op_at operands j).kind ≡ true) ⊎ (is_reading (op_at operands j) ≡ true))
 
--- The operands that have their places so far. lived: what had a location when the instruction began.
--- claimed: operands that have their place (placed ones, and fixed ones from the evictions on); done: placed ones;
--- out: numbers whose definition is placed; X: the places of those; clob: clobbers.
-pub record Placed (what : ℕ → What) (here : ℕ → Place) (claimed done lived out : ℕ → Bool) (clob : Place → Bool) (X : Place → ℕ → Bool)
-    (T S : ℕ → Option Place) : Type 0 where
+-- How far the operands of an instruction have their places. here: the place of each; claimed: operands that have their place (placed ones, and
+-- fixed ones from the evictions on); done: placed ones; lived: numbers that had a location when the instruction began; out: numbers whose
+-- definition is placed; made_at: the places of those; clobbered: the places that are clobbered.
+pub record Progress : Type 0 where
+  pub here : ℕ → Place
+  pub claimed : ℕ → Bool
+  pub done : ℕ → Bool
+  pub lived : ℕ → Bool
+  pub out : ℕ → Bool
+  pub made_at : Place → ℕ → Bool
+  pub clobbered : Place → Bool
+
+-- no operand has its place when an instruction begins
+abbrev pub at_begin : (ℕ → Place) → (ℕ → Bool) → Progress
+at_begin here lived = record {
+  here = here;
+  claimed = λ j. false;
+  done = λ j. false;
+  lived = lived;
+  out = λ n. false;
+  made_at = λ q n. false;
+  clobbered = λ q. false;
+}
+
+-- what holds of operands that have their places so far
+pub record Placed (what : ℕ → What) (p : Progress) (T S : ℕ → Option Place) : Type 0 where
   -- the law of the instruction
-  pub there : (j : ℕ) → claimed j ≡ true → here j ≢ NoPlace
-  pub apart : (i j : ℕ) → claimed i ≡ true → claimed j ≡ true → here i ≡ here j → (i ≡ j) ⊎ Share (what i) (what j)
+  pub there : (j : ℕ) → p.claimed j ≡ true → p.here j ≢ NoPlace
+  pub apart : (i j : ℕ) → p.claimed i ≡ true → p.claimed j ≡ true → p.here i ≡ p.here j → (i ≡ j) ⊎ Share (what i) (what j)
   -- no other vreg is in a claimed place; a vreg that is newly placed may, in that of a definition
-  pub def_alone : (j w : ℕ) → claimed j ≡ true → (what j).is_def ≡ true → lived w ≡ true → T w ≡ Some (here j) → w ≡ (what j).number
-  pub use_alone : (j w : ℕ) → claimed j ≡ true → (what j).is_def ≡ false → T w ≡ Some (here j) → w ≡ (what j).number
-  pub slot_own : (j w : ℕ) → claimed j ≡ true → S w ≡ Some (here j) → w ≡ (what j).number
+  pub def_alone : (j w : ℕ) → p.claimed j ≡ true → (what j).is_def ≡ true → p.lived w ≡ true → T w ≡ Some (p.here j) → w ≡ (what j).number
+  pub use_alone : (j w : ℕ) → p.claimed j ≡ true → (what j).is_def ≡ false → T w ≡ Some (p.here j) → w ≡ (what j).number
+  pub slot_own : (j w : ℕ) → p.claimed j ≡ true → S w ≡ Some (p.here j) → w ≡ (what j).number
   -- clobbers
-  pub kept : (j : ℕ) → claimed j ≡ true → ((what j).is_def ≡ true) ⊎ ((what j).is_late ≡ true) → clob (here j) ≡ false
-  pub cleared : (w : ℕ) (p : Place) → lived w ≡ true → T w ≡ Some p → clob p ≡ false
+  pub kept : (j : ℕ) → p.claimed j ≡ true → ((what j).is_def ≡ true) ⊎ ((what j).is_late ≡ true) → p.clobbered (p.here j) ≡ false
+  pub cleared : (w : ℕ) (q : Place) → p.lived w ≡ true → T w ≡ Some q → p.clobbered q ≡ false
   -- what is placed
-  pub claims : (j : ℕ) → done j ≡ true → claimed j ≡ true
-  pub found : (j : ℕ) → done j ≡ true → (what j).is_def ≡ false → (p : Place) × (T (what j).number ≡ Some p)
-  pub newly : (w : ℕ) (p : Place) → lived w ≡ false → T w ≡ Some p → (j : ℕ) × (done j ≡ true) × ((what j).is_def ≡ false) × ((what j).number ≡ w)
-      × (here j ≡ p)
-  pub lives : (w : ℕ) → lived w ≡ true → T w ≡ None → out w ≡ true
-  pub gone : (w : ℕ) → out w ≡ true → T w ≡ None
-  pub defined : (w : ℕ) → out w ≡ true → (j : ℕ) × (done j ≡ true) × ((what j).is_def ≡ true) × ((what j).number ≡ w)
-  pub outs : (j : ℕ) → done j ≡ true → (what j).is_def ≡ true → out (what j).number ≡ true
-  pub makes : (p : Place) (w : ℕ) → X p w ≡ true → (j : ℕ) × (done j ≡ true) × ((what j).is_def ≡ true) × ((what j).number ≡ w) × (here j ≡ p)
+  pub claims : (j : ℕ) → p.done j ≡ true → p.claimed j ≡ true
+  pub found : (j : ℕ) → p.done j ≡ true → (what j).is_def ≡ false → (q : Place) × (T (what j).number ≡ Some q)
+  pub newly : (w : ℕ) (q : Place) → p.lived w ≡ false → T w ≡ Some q → (j : ℕ) × (p.done j ≡ true) × ((what j).is_def ≡ false) × ((what j).number ≡ w)
+      × (p.here j ≡ q)
+  pub lives : (w : ℕ) → p.lived w ≡ true → T w ≡ None → p.out w ≡ true
+  pub gone : (w : ℕ) → p.out w ≡ true → T w ≡ None
+  pub defined : (w : ℕ) → p.out w ≡ true → (j : ℕ) × (p.done j ≡ true) × ((what j).is_def ≡ true) × ((what j).number ≡ w)
+  pub outs : (j : ℕ) → p.done j ≡ true → (what j).is_def ≡ true → p.out (what j).number ≡ true
+  pub makes : (q : Place) (w : ℕ) → p.made_at q w ≡ true → (j : ℕ) × (p.done j ≡ true) × ((what j).is_def ≡ true) × ((what j).number ≡ w)
+      × (p.here j ≡ q)
+
+-- the place of one number changes, from T to U
+pub record Sets (T U : ℕ → Option Place) (n : ℕ) (q : Option Place) : Type 0 where
+  pub now : U n ≡ q
+  pub same : (x : ℕ) → (x ≡ n → ⊥) → U x ≡ T x
+
+-- a number goes from the register r, where no other is, to its slot
+pub record GoesToSlot (T U S : ℕ → Option Place) (n : ℕ) (r slot : Place) : Type 0 where
+  pub there : r ≢ NoPlace
+  pub was : T n ≡ Some r
+  pub own : S n ≡ Some slot
+  pub sets : Sets T U n (Some slot)
+  pub alone : (x : ℕ) → T x ≡ Some r → x ≡ n
+  pub no_slot : (x : ℕ) → S x ≡ Some r → ⊥
+
+-- the use k is moved to its place from the place q, where its number is
+pub record IsMoved (what : ℕ → What) (p : Progress) (T S : ℕ → Option Place) (k : ℕ) (q : Place) : Type 0 where
+  pub there : p.here k ≢ NoPlace
+  pub is_use : (what k).is_def ≡ false
+  pub was_located : T (what k).number ≡ Some q
+  pub alone : (n : ℕ) → T n ≡ Some (p.here k) → n ≡ (what k).number
+  pub own : (n : ℕ) → S n ≡ Some (p.here k) → n ≡ (what k).number
+  pub apart : (j : ℕ) → p.done j ≡ true → (what j).is_def ≡ false → p.here j ≡ p.here k → (what j).number ≡ (what k).number
+
+-- what changes where the operand k claims the place r
+pub record Puts (here there : ℕ → Place) (claimed claimed2 : ℕ → Bool) (k : ℕ) (r : Place) : Type 0 where
+  pub fresh : claimed k ≡ false
+  pub at_k : there k ≡ r
+  pub at_j : (j : ℕ) → (j ≡ k → ⊥) → there j ≡ here j
+  pub grows : (j : ℕ) → claimed2 j ≡ true → (j ≡ k) ⊎ (claimed j ≡ true)
+  pub keeps : (j : ℕ) → claimed j ≡ true → claimed2 j ≡ true
+  pub claims : claimed2 k ≡ true
+
+-- no number is where the operand w goes but its own, or one that a definition displaces
+pub record IsVacant (w : What) (lived : ℕ → Bool) (T S : ℕ → Option Place) (r : Place) : Type 0 where
+  pub for_def : w.is_def ≡ true → (n : ℕ) → lived n ≡ true → T n ≡ Some r → n ≡ w.number
+  pub for_use : w.is_def ≡ false → (n : ℕ) → T n ≡ Some r → n ≡ w.number
+  pub of_slots : (n : ℕ) → S n ≡ Some r → n ≡ w.number
+
+-- what changes where the operand k is placed
+pub record Places (done done2 : ℕ → Bool) (k : ℕ) : Type 0 where
+  pub grows : (j : ℕ) → done2 j ≡ true → (j ≡ k) ⊎ (done j ≡ true)
+  pub keeps : (j : ℕ) → done j ≡ true → done2 j ≡ true
+  pub places : done2 k ≡ true
+
+-- what changes where the definition k is placed
+pub record Makes (what : ℕ → What) (here : ℕ → Place) (out out2 : ℕ → Bool) (X Y : Place → ℕ → Bool) (k : ℕ) : Type 0 where
+  pub out_grows : (w : ℕ) → out2 w ≡ true → (w ≡ (what k).number) ⊎ (out w ≡ true)
+  pub out_keeps : (w : ℕ) → out w ≡ true → out2 w ≡ true
+  pub is_out : out2 (what k).number ≡ true
+  pub grows : (p : Place) (w : ℕ) → Y p w ≡ true → ((p ≡ here k) × (w ≡ (what k).number)) ⊎ (X p w ≡ true)
+  pub keeps : (p : Place) (w : ℕ) → X p w ≡ true → Y p w ≡ true
+  pub is_made : Y (here k) (what k).number ≡ true
+
+-- all operands that count are placed, at the places that the instruction has
+pub record AreAllPlaced (operands : List OperandValue) (places : List Place) (p : Progress) : Type 0 where
+  pub all : (j : ℕ) → Counts operands j → p.done j ≡ true
+  pub counted : (j : ℕ) → p.done j ≡ true → Counts operands j
+  pub at_places : (j : ℕ) → Counts operands j → place_at places j ≡ p.here j
+
+-- clobbers are among the places that the walk takes for clobbered, and no slot is
+pub record AreClobbersKnown (clobbers : PRegSet) (clobbered : Place → Bool) (S : ℕ → Option Place) : Type 0 where
+  pub listed : (q : Place) → clobbered q ≡ false → is_clobbered clobbers q ≡ false
+  pub slots : (w : ℕ) (q : Place) → S w ≡ Some q → clobbered q ≡ false
 
 -- a number is defined once, and not read where it is defined; among the operands that count
 pub record Once (counts : ℕ → Type 0) (what : ℕ → What) : Type 0 where

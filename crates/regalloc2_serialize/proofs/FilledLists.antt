@@ -1,28 +1,39 @@
 -- Lists that are filled by number.
 use Rattle.std.proofs.Common.{◌≡◌, ◌∙◌, ℕ, ◌+◌, ◌<◌, List, [], ◌∷◌, ◌++◌, length, map, get_or, sym, arith, refl}
 use Rattle.std.specs.List.{range_with_len}
-use Rattle.regalloc2_function.specs.FunctionValue.{FunctionValue, BlockValue, InstValue, Label}
+use Rattle.regalloc2_function.specs.FunctionValue.{FunctionValue}
 use Rattle.regalloc2_serialize.specs.CopyOfFunction.{shown_block, shown_inst, shown_function}
 use Rattle.std.proofs.lemmas.List.{ext_get_or, get_or-map, length-map, map-append}
-use Rattle.std.specs.Prelude.{Bool}
 use Rattle.std.proofs.lemmas.List.FromFn.{get_or-map-range_with_len, length-map-range_with_len, map-range_with_len_more}
 
+-- the parts of a function are each what is shown of another
+pub record HasShownParts (f g : FunctionValue) : Type 0 where
+  pub blocks : g.blocks ≡ map shown_block f.blocks
+  pub insts : g.insts ≡ map shown_inst f.insts
+  pub entry : g.entry ≡ f.entry
+  pub num_vregs : g.num_vregs ≡ f.num_vregs
+  pub int : g.slot_sizes.int ≡ f.slot_sizes.int
+  pub float : g.slot_sizes.float ≡ f.slot_sizes.float
+  pub vector : g.slot_sizes.vector ≡ f.slot_sizes.vector
+  pub named_by_last_slot : g.named_by_last_slot ≡ f.named_by_last_slot
+  pub labels : g.labels ≡ f.labels
+  pub allows_multiple_defs : g.allows_multiple_defs ≡ f.allows_multiple_defs
+
 -- a function of parts that are each what is shown
-pub same-function : (f : FunctionValue) (bs : List BlockValue) (is : List InstValue) (e n a b d : ℕ) (last : Bool) (ls : List Label) (many : Bool) →
-    bs ≡ map shown_block f.blocks → is ≡ map shown_inst f.insts → e ≡ f.entry → n ≡ f.num_vregs → a ≡ f.slot_sizes.int → b ≡ f.slot_sizes.float →
-    d ≡ f.slot_sizes.vector →
-    last ≡ f.named_by_last_slot → ls ≡ f.labels → many ≡ f.allows_multiple_defs →
-    ◌≡◌ {A = FunctionValue} (record {
-      blocks = bs;
-      insts = is;
-      entry = e;
-      num_vregs = n;
-      slot_sizes = record { int = a; float = b; vector = d };
-      named_by_last_slot = last;
-      labels = ls;
-      allows_multiple_defs = many;
-    }) (shown_function f)
-same-function f bs is e n a b d last ls many hb hi he hn h1 h2 h3 hl hs hm = rw (hb, hi, he, hn, h1, h2, h3, hl, hs, hm) refl
+pub same-function : (f g : FunctionValue) → HasShownParts f g → g ≡ shown_function f
+same-function f g h =
+    let whole : ◌≡◌ {A = FunctionValue} (record {
+      blocks = g.blocks;
+      insts = g.insts;
+      entry = g.entry;
+      num_vregs = g.num_vregs;
+      slot_sizes = record { int = g.slot_sizes.int; float = g.slot_sizes.float; vector = g.slot_sizes.vector };
+      named_by_last_slot = g.named_by_last_slot;
+      labels = g.labels;
+      allows_multiple_defs = g.allows_multiple_defs;
+    }) (shown_function f) =
+    rw (h.blocks, h.insts, h.entry, h.num_vregs, h.int, h.float, h.vector, h.named_by_last_slot, h.labels, h.allows_multiple_defs) refl in
+    whole
 
 -- one more number
 pub map-next : {X Y : Type 0} (view : X → Y) (f : ℕ → Y) (xs : List X) (k : ℕ) (x : X) → view x ≡ f k →

@@ -60,15 +60,33 @@ fixed_none : (o : OperandValue) → is_def o.kind ≡ true → IsAnyOrStack o.co
 fixed_none o def (inl any) = (let x : fixed_register o.constraint ≡ None = ap fixed_register any in rw def x)
 fixed_none o def (inr stack) = (let x : fixed_register o.constraint ≡ None = ap fixed_register stack in rw def x)
 
-module _ (f : FunctionValue) (once : DefinedOnce f) (placesf : ℕ → List Place) (F : ℕ → Option Place) (stand : ℕ → VirtualRegister → Option Place)
-    (arrive : Arrive f placesf F stand) (own : (x y n : ℕ) → F x ≡ Some (InSlot n) → F y ≡ Some (InSlot n) → x ≡ y)
-    (only : (x : ℕ) (p : Place) → F x ≡ Some p → (n : ℕ) × (p ≡ InSlot n))
-    (lasts : (e : ℕ) → e < length f.blocks → last_of (block_at f e) < length f.insts)
-    (concerned : (b e k : ℕ) (v : VirtualRegister) → IsEdgeInto f b e k → IsConcerned f e k v → Made f v)
-    (b : ℕ) (lb : b < length f.blocks) (middle new : StateValue) (stays : (x : ℕ) (p : Place) → slots_at new x ≡ Some p → F x ≡ Some p)
-    (placed : (e k : ℕ) → IsEdgeInto f b e k → DefsPlaced f placesf F e)
-    (v : VirtualRegister) (made : Made f v) (needed : IsNeeded f v)
-    (has_slot : (n : ℕ) → n < length (block_at f b).params → slice_index_or (block_at f b).params n no_vreg ≡ v → slot_in middle v.number ≢ NoPlace) where
+-- A block at whose beginning what branches define is stored, between the tables middle and new. F: the slots at the walk's end, each of one vreg; stand: where
+-- vregs are when a block is entered, as branches leave them; v: a vreg that is needed, with a slot if it is one of the block's parameters.
+pub record StoredAtBegin : Type 0 where
+  pub f : FunctionValue
+  pub once : DefinedOnce f
+  pub placesf : ℕ → List Place
+  pub F : ℕ → Option Place
+  pub stand : ℕ → VirtualRegister → Option Place
+  pub arrive : Arrive f placesf F stand
+  pub own : (x y n : ℕ) → F x ≡ Some (InSlot n) → F y ≡ Some (InSlot n) → x ≡ y
+  pub only : (x : ℕ) (p : Place) → F x ≡ Some p → (n : ℕ) × (p ≡ InSlot n)
+  pub lasts : (e : ℕ) → e < length f.blocks → last_of (block_at f e) < length f.insts
+  pub concerned : (b e k : ℕ) (v : VirtualRegister) → IsEdgeInto f b e k → IsConcerned f e k v → Made f v
+  pub b : ℕ
+  pub lb : b < length f.blocks
+  pub middle : StateValue
+  pub new : StateValue
+  pub stays : (x : ℕ) (p : Place) → slots_at new x ≡ Some p → F x ≡ Some p
+  pub placed : (e k : ℕ) → IsEdgeInto f b e k → DefsPlaced f placesf F e
+  pub v : VirtualRegister
+  pub made : Made f v
+  pub needed : IsNeeded f v
+  pub has_slot : (n : ℕ) → n < length (block_at f b).params → slice_index_or (block_at f b).params n no_vreg ≡ v → slot_in middle v.number ≢ NoPlace
+
+module _ (stored : StoredAtBegin) where
+  open stored use {f, once, placesf, F, stand, arrive, own, only, lasts, concerned, b, lb, middle, new, stays, placed, v, made, needed, has_slot}
+
   module _ (e k : ℕ) (edge : IsEdgeInto f b e k) (s : StoresOn f e k (before (block_at f b).range.first) middle new) where
     -- the place to which a store goes is its vreg's slot at the walk's end
     goes_to : (x : Store) → IsOneOf x s.stores → (j : ℕ) (w : VirtualRegister) → StoresFor f e k middle new x j w → F w.number ≡ Some x.to

@@ -32,13 +32,14 @@ use Rattle.regalloc2_fastalloc_proofs.proofs.Operands.RecordOverState.{whole_giv
 use Rattle.regalloc2_fastalloc_proofs.proofs.Evictions.EvictVReg.{Kept, kept_all, kept_edits, shift_kept}
 use Rattle.regalloc2_fastalloc_proofs.proofs.Moves.ScratchRegTaken.{IsIdle, of_machine, taken, Fit, Spare, spare_same, spare_more, scratch_back, scratch_off}
 use Rattle.regalloc2_fastalloc_proofs.proofs.Moves.ScratchRegTaken.{fit_same}
-use Rattle.regalloc2_fastalloc_proofs.proofs.Moves.ScratchRegMidMove.{put, put_same, put_other}
+use Rattle.regalloc2_fastalloc_proofs.proofs.Moves.ScratchRegMidMove.{shift_but, put, put_same, put_other}
 use Rattle.regalloc2_fastalloc_proofs.proofs.Moves.MoveAfterInst.{spare_edits}
 use Rattle.regalloc2_fastalloc_proofs.proofs.Operands.FreeDef.{leave_whole}
 use Rattle.regalloc2_fastalloc_proofs.proofs.Inst.AcrossInst.{lives_in}
 use Rattle.regalloc2_fastalloc_proofs.proofs.Inst.BoundaryToFirstOperand.{no_scratch}
 use Rattle.regalloc2_fastalloc_proofs.proofs.Moves.StepsAppendEdits.{Pushes, none_pushed, pushes_then, crosses_pushes}
 use Rattle.regalloc2_fastalloc_proofs.proofs.Inst.OneInstCarries.{Between}
+use Rattle.regalloc2_fastalloc_proofs.proofs.Operands.BlockTail.{BlockTail, tail_of}
 
 -- scratch registers where no operand is allocated
 abbrev pub SpareHere : InstRegs → StateValue → Type 0
@@ -118,8 +119,9 @@ is_false true h = absurd (h refl)
 is_false false h = refl
 
 -- out: whose slots aren't needed; X: other places that are needed, none of them registers
-module _ (Known : VirtualRegister → Type 0) (insts : ℕ → InstValue) (placesf : ℕ → List Place) (i n : ℕ) (item : Item) (E : VirtualRegister → Place → Type 0)
-    (out : ℕ → Bool) (X : Place → ℕ → Bool) (clear : (r : Register) (x : ℕ) → X (InRegister r) x ≡ false) where
+module _ (tail : BlockTail) (item : Item) (out : ℕ → Bool) (X : Place → ℕ → Bool) (clear : (r : Register) (x : ℕ) → X (InRegister r) x ≡ false) where
+  open tail use {Known, insts, placesf, i, n, E}
+
   -- what is wanted of each number: its location, its slot unless the number is out, and the other places
   abbrev pub Wants : (ℕ → Option Place) → (ℕ → Option Place) → ℕ → Place → Type 0
   Wants T S = Need (λ x. true) out X T S
@@ -140,7 +142,7 @@ module _ (Known : VirtualRegister → Type 0) (insts : ℕ → InstValue) (place
 
   push_later : (from to : Place) (es : List (ℕ × MoveValue)) → AllFrom (before i) (listed es) →
       AllFrom (before i) (listed (es ++ a_move (before i) from to ∷ []))
-  push_later from to es h = later_push Known insts placesf i n E (before i) (record { from = from; to = to }) es h
+  push_later from to es h = later_push tail (before i) (record { from = from; to = to }) es h
 
   -- a register is emptied while the number v is on its way to c
   record Taken (by : Register) (v : ℕ) (c : Option Place) (old new : StateValue) : Type 0 where
@@ -171,17 +173,7 @@ module _ (Known : VirtualRegister → Type 0) (insts : ℕ → InstValue) (place
       let T : ℕ → Option Place = put (stands_at old) v c in
       let U : ℕ → Option Place = put (stands_at new) v c in
       let moves : Claims Known (Move (record { from = s; to = InRegister by }) ∷ L) (Wants U (slots_at new)) E =
-      need_evict Known E L (λ x. true) out X T U (slots_at new) u.number (InRegister by) s (λ z. cc)
-      (put_other (stands_at old) v c u.number apart ∙ h.was) h.slot (put_other (stands_at new) v c u.number apart ∙ h.now)
-      (λ x ne. elim (cases_eq x v) [
-        | inl e ↦ (put_same (stands_at new) v c x e ∙ sym (put_same (stands_at old) v c x e))
-        | inr d ↦ (put_other (stands_at new) v c x d ∙ h.same x ne ∙ sym (put_other (stands_at old) v c x d))
-      ])
-      (λ x e. elim (cases_eq x v) [
-        | inl d ↦ absurd (other (sym (put_same (stands_at old) v c x d) ∙ e))
-        | inr d ↦ h.alone x (sym (put_other (stands_at old) v c x d) ∙ e)
-      ])
-      (λ x e. h.no_slot x by e) (clear by)
+      need_evict Known E L (λ x. true) out X T U (slots_at new) u.number (InRegister by) s (shift_but old new u by s v c h apart other) (clear by)
       (need_slot Known E L (λ x. true) out X T (slots_at old) (slots_at new) h.grows o) in
       record {
         whole = shift_whole old new u by s lt held gives settles w;
@@ -530,8 +522,9 @@ pub record Begun (i : ℕ) (params : List VirtualRegister) (old new : StateValue
 pub begun : (i : ℕ) (params : List VirtualRegister) (old new : StateValue) → ReloadsAtBegin (before i) params old new → Between i old → Begun i params old new
 begun i params old new b t =
     let nothing : ℕ → List Place = λ j. [] in
-    let e : Entered (λ v. ⊥) (λ j. no_inst) nothing i 0 (executed no_inst []) (λ v p. ⊥) (λ x. false) (λ p x. false) (λ r x. refl) params old new =
-    entered (λ v. ⊥) (λ j. no_inst) nothing i 0 (executed no_inst []) (λ v p. ⊥) (λ x. false) (λ p x. false) (λ r x. refl) params old new b t (λ x e. absurd cc)
+    let e : Entered (tail_of (λ v. ⊥) (λ j. no_inst) nothing i 0 (λ v p. ⊥)) (executed no_inst []) (λ x. false) (λ p x. false) (λ r x. refl) params old new =
+    entered (tail_of (λ v. ⊥) (λ j. no_inst) nothing i 0 (λ v p. ⊥)) (executed no_inst []) (λ x. false) (λ p x. false) (λ r x. refl) params old new b t
+    (λ x e. absurd cc)
     (λ v known. absurd known) in
     record {
       between = record {
@@ -566,7 +559,8 @@ begins_carried Known insts placesf i n E out X params old new clear gone b t c =
     let brings : Claims Known (L old.edits) (Need (λ x. true) out X (stands_at old) (slots_at old)) E =
     claims_weaken Known E (L old.edits) (Need (lives_in old) out X (stands_at old) (slots_at old)) (Need (λ x. true) out X (stands_at old) (slots_at old))
     (λ v q z. elim z [ located l e ↦ located refl e | in_slot f e ↦ in_slot f e | made x ↦ made x ]) first in
-    let e : Entered Known insts placesf i n item E out X clear params old new = entered Known insts placesf i n item E out X clear params old new b t gone
+    let tail : BlockTail = tail_of Known insts placesf i n E in
+    let e : Entered tail item out X clear params old new = entered tail item out X clear params old new b t gone
     brings in
     subst (λ l. Claims Known l (Need (lives_in new) out X (stands_at new) (slots_at new)) E) (sym (walked-more insts (listed new.edits) placesf i n))
     (claims_weaken Known E (L new.edits) (Need (λ x. true) out X (stands_at new) (slots_at new)) (Need (lives_in new) out X (stands_at new) (slots_at new))

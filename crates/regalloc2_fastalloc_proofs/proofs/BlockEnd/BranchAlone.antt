@@ -7,7 +7,7 @@ use Rattle.regalloc2_names.specs.RegisterSet.{has_register}
 use Rattle.regalloc2_names.specs.Operand.{OperandValue, is_reading}
 use Rattle.regalloc2_names.specs.Place.{Place, NoPlace, InRegister, InSlot}
 use Rattle.regalloc2_names.specs.Point.{before}
-use Rattle.regalloc2_function.specs.FunctionValue.{FunctionValue, inst_at}
+use Rattle.regalloc2_function.specs.FunctionValue.{inst_at}
 use Rattle.regalloc2_function.specs.OutputValue.{MoveValue, place_at}
 use Rattle.regalloc2_semantics.specs.Listing.{with_moves, op_at}
 use Rattle.regalloc2_semantics.specs.Carry.{Untouched, is_clobbered}
@@ -33,7 +33,9 @@ use Rattle.regalloc2_fastalloc_proofs.proofs.Inst.OneInstCarries.{Between, Neede
 use Rattle.regalloc2_fastalloc_proofs.proofs.Moves.StepsAppendEdits.{Pushes, none_pushed, one_pushed, pushes_then, sends_pushes}
 use Rattle.regalloc2_fastalloc_proofs.proofs.BlockBegin.ReloadAtBegin.{SpareHere}
 use Rattle.regalloc2_fastalloc_proofs.proofs.Operands.ReuseDefs.{sends_less}
-use Rattle.regalloc2_fastalloc_proofs.proofs.Inst.ProperInsts.{ProperInsts}
+use Rattle.regalloc2_fastalloc_proofs.proofs.Operands.BlockTail.{tail_of}
+use Rattle.regalloc2_fastalloc_proofs.proofs.Operands.RecordOfInst.{laying_of}
+use Rattle.regalloc2_fastalloc_proofs.proofs.Inst.ProperInsts.{ProperCode}
 
 -- a vreg in a register holds it at the early position
 abbrev pub IsHeldHere : InstRegs → StateValue → Type 0
@@ -90,9 +92,9 @@ pub none_below : (p : Place) (q n : ℕ) (es : List (ℕ × MoveValue)) → q < 
 unfolding Untouched with_moves
 none_below p q n es lt later = subst (NoMoveTo p) (sym (at_point-none q (listed es) (all_from-less (suc q) n (listed es) lt later))) tt
 
-module _ (Known : VirtualRegister → Type 0) (f : FunctionValue) (placesf : ℕ → List Place)
-    (proper : ProperInsts Known f) where
-  open proper use {orderly, avoids, knows}
+module _ (code : ProperCode) where
+  open code use {Known, f, placesf, proper}
+  open code.proper use {orderly, avoids, knows}
 
   -- what is there before an instruction for moves that come yet
   pub shown_at : (i : ℕ) (blank here : List Place) (old new : StateValue) → i < length f.insts →
@@ -102,15 +104,16 @@ module _ (Known : VirtualRegister → Type 0) (f : FunctionValue) (placesf : ℕ
       let nothing : VirtualRegister → Place → Type 0 = λ v p. ⊥ in
       let ops : List OperandValue = (inst_at f i).operands in
       let ret : Bool = ends_block (inst_at f i) in
-      shown Known (inst_at f) placesf nothing i 0 (lives_in old) ret here a.early a.ended a.after_early new (orderly i lt) (knows i lt) are_listed
-      (laid_both Known (inst_at f) placesf i 0 nothing ops (lives_in old) (is_clobbered (inst_at f i).clobbers) ret (orderly i lt) blank a.half here a.quiet
+      shown (tail_of Known (inst_at f) placesf i 0 nothing) (lives_in old) ret here a.early a.ended a.after_early new (orderly i lt) (knows i lt) are_listed
+      (laid_both (laying_of (tail_of Known (inst_at f) placesf i 0 nothing) ops (lives_in old) (is_clobbered (inst_at f i).clobbers) ret (orderly i lt)) blank
+      a.half here a.quiet
       a.late a.early a.after_clobbers a.after_late a.after_early a.lates a.earlies
-      (opened Known (inst_at f) placesf nothing i 0 (inst_at f i) blank here old new (orderly i lt) (avoids i lt)
-      (λ e v known. carried_nil Known f placesf proper nothing (i + 1) old (λ w p. ⊥) (λ w p h. h) v)
+      (opened (tail_of Known (inst_at f) placesf i 0 nothing) (inst_at f i) blank here old new (orderly i lt) (avoids i lt)
+      (λ e v known. carried_nil code nothing (i + 1) old (λ w p. ⊥) (λ w p h. h) v)
       (record {
         whole = b.whole;
         later = b.later;
-        claims = λ v known. carried_nil Known f placesf proper nothing (i + 1) old
+        claims = λ v known. carried_nil code nothing (i + 1) old
             (Needed (λ x. false) old) (λ w p h. absurd h) v;
         fit = b.fit;
         apart = b.apart;

@@ -4,7 +4,7 @@ use Rattle.std.specs.Prelude.{Option, None, Some, slice_index_or}
 use Rattle.regalloc2_names.specs.Register.{VirtualRegister}
 use Rattle.regalloc2_names.specs.Place.{Place, NoPlace, InRegister, InSlot}
 use Rattle.regalloc2_names.specs.Point.{before, after}
-use Rattle.regalloc2_function.specs.FunctionValue.{FunctionValue, inst_at}
+use Rattle.regalloc2_function.specs.FunctionValue.{inst_at}
 use Rattle.regalloc2_function.specs.OutputValue.{place_at}
 use Rattle.regalloc2_names.specs.Operand.{is_def, is_reading}
 use Rattle.regalloc2_semantics.specs.Listing.{Item, op_at}
@@ -24,7 +24,7 @@ use Rattle.regalloc2_fastalloc_proofs.proofs.Inst.OneInstCarries.{Between, Neede
 use Rattle.regalloc2_fastalloc_proofs.proofs.Walk.InstForOneVReg.{needed_parts, undefined_by}
 use Rattle.regalloc2_fastalloc_proofs.proofs.Moves.StepsAppendEdits.{pushed_at}
 use Rattle.regalloc2_fastalloc_proofs.proofs.BlockEnd.BranchAlone.{IsUseMove, Branched, moved_or, none_below}
-use Rattle.regalloc2_fastalloc_proofs.proofs.Inst.ProperInsts.{ProperInsts}
+use Rattle.regalloc2_fastalloc_proofs.proofs.Inst.ProperInsts.{ProperCode}
 
 -- what is known of the slots at the end of the whole walk: each has one owner, and those that come after t lie at or above its count
 pub record ToCome (F : ℕ → Option Place) (t : StateValue) : Type 0 where
@@ -63,16 +63,31 @@ to_come-back At F a b units g h = record {
   ];
 }
 
-module _ (Known : VirtualRegister → Type 0) (f : FunctionValue) (placesf : ℕ → List Place)
-    (proper : ProperInsts Known f) (F : ℕ → Option Place) (last : ℕ) (blank here : List Place)
-    (old middle : StateValue) (within : last < length f.insts)
-    (are_listed : (k : ℕ) → k < length (inst_at f last).operands → place_at (placesf last) k ≡ slice_index_or here k NoPlace)
-    (ends : ends_block (inst_at f last) ≡ true)
-    (own_defs : (k : ℕ) → k < length (inst_at f last).operands → is_def (op_at (inst_at f last).operands k).kind ≡ true → (n : ℕ) →
-    place_at (placesf last) k ≡ InSlot n → F (op_at (inst_at f last).operands k).vreg.number ≡ Some (InSlot n))
-    (between : Between (last + 1) old) (a : AllocsInst last (inst_at f last) blank here old middle) (u : InstRegs)
-    (br : Branched Known f placesf proper last here u old middle) where
-  open proper use {knows}
+-- A branch at the end of its block, which it alone defines the slots of its definitions in: the function and the places of its operands; F: the slots at the
+-- walk's end; the branch, allocated between the tables old and middle; u: the registers of the instruction behind it.
+pub record EndsBlock : Type 1 where
+  pub code : ProperCode
+  open code use {Known, f, placesf, proper}
+  pub F : ℕ → Option Place
+  pub last : ℕ
+  pub blank : List Place
+  pub here : List Place
+  pub old : StateValue
+  pub middle : StateValue
+  pub within : last < length f.insts
+  pub are_listed : (k : ℕ) → k < length (inst_at f last).operands → place_at (placesf last) k ≡ slice_index_or here k NoPlace
+  pub ends : ends_block (inst_at f last) ≡ true
+  pub own_defs : (k : ℕ) → k < length (inst_at f last).operands → is_def (op_at (inst_at f last).operands k).kind ≡ true → (n : ℕ) →
+      place_at (placesf last) k ≡ InSlot n → F (op_at (inst_at f last).operands k).vreg.number ≡ Some (InSlot n)
+  pub between : Between (last + 1) old
+  pub a : AllocsInst last (inst_at f last) blank here old middle
+  pub u : InstRegs
+  pub br : Branched code last here u old middle
+
+module _ (at_end : EndsBlock) where
+  open at_end.code use {Known, f, placesf, proper}
+  open at_end use {code, F, last, blank, here, old, middle, within, are_listed, ends, own_defs, between, a, u, br}
+  open at_end.code.proper use {knows}
 
   -- whose slot an operand is in
   pub reads_own : ToCome F middle → (v : VirtualRegister) → Known v → (n j : ℕ) → F v.number ≡ Some (InSlot n) → j < length (inst_at f last).operands →
@@ -134,7 +149,7 @@ module _ (Known : VirtualRegister → Type 0) (f : FunctionValue) (placesf : ℕ
     relied p n = (refl, elim (needed_parts (defined_by (inst_at f last).operands) middle v p n) [ inl at ↦ inl at | inr o ↦ inr (inl o.1) ])
 
     base : Carries v L Has (λ p. ⊥)
-    base = (alone Known f placesf proper last blank here old middle within are_listed between a).returns ends v known
+    base = (alone code last blank here old middle within are_listed between a).returns ends v known
 
     nothing : ((p : Place) → E p → ⊥) → Carries v L On E
     nothing none = carries_weaken v L Has On (λ p. ⊥) E relied none base

@@ -105,7 +105,7 @@ module _ (Known : VirtualRegister → Type 0) (ops : List OperandValue) (tame : 
         | inr ne ↦ ((let a = done.0 in omega (arith, a, ne)), done.1)
       ])
   late_none blank t old c k there u m (one_placed j l next w x s n prev late one) le =
-      let calm = late_calm Known ops tame i is_ret ret edits blank t old c j l w s prev (omega (arith, le)) in
+      let calm = late_calm Known ops tame i is_ret ret edits c prev (omega (arith, le)) in
       one_none (LateDone ops j) (LateDone ops (j + 1)) j l there w u s m one (omega (arith, le))
       (λ y done ne. ((let a = done.0 in omega (arith, a, ne)), done.1))
       calm.2 (λ q def. calm.0.away j q (omega (arith, le)) def) (late_none blank t old c j l w s prev (omega (arith, le)))
@@ -127,20 +127,20 @@ module _ (Known : VirtualRegister → Type 0) (ops : List OperandValue) (tame : 
         ]
       ])
   early_none half t old c h k there u m (one_placed j l next w x s n prev early one) le =
-      let calm = early_calm Known ops tame i is_ret ret edits half t old c j l w s prev (omega (arith, le)) in
+      let calm = early_calm Known ops tame i is_ret ret edits c prev (omega (arith, le)) in
       one_none (EarlyDone ops j) (EarlyDone ops (j + 1)) j l there w u s m one (omega (arith, le))
       (λ y done ne. elim done [ inl late ↦ inl late | inr below ↦ inr (omega (arith, below, ne)) ])
       calm.2 (λ q def. calm.0.away j q (omega (arith, le)) def) (early_none half t old c h j l w s prev (omega (arith, le)))
 
 -- such a definition is in no register
-pub defs_in_slots : (Known : VirtualRegister → Type 0) (i : ℕ) (inst : InstValue) (blank places : List Place) (old new : StateValue) →
+pub defs_in_slots : {Known : VirtualRegister → Type 0} {i : ℕ} {inst : InstValue} {blank places : List Place} {old new : StateValue} →
     IsTame Known inst.operands → ends_block inst ≡ true → AllocsInst i inst blank places old new → IsOutside old → (k : ℕ) → k < length inst.operands →
     is_def (op_at inst.operands k).kind ≡ true → IsAnyOrStack (op_at inst.operands k).constraint → (r : Register) → at_place places k ≡ InRegister r → ⊥
-defs_in_slots Known i inst blank places old new tame ends a bare k less =
+defs_in_slots {Known} {i} {inst} {blank} {places} {old} {new} tame ends a bare k less =
     let ops : List OperandValue = inst.operands in
     let ret : (j : ℕ) → j < length ops → is_def (op_at ops j).kind ≡ true → ends_block inst ≡ true = λ j lj def. ends in
     let start = calm_start Known i inst blank places old new tame ret a bare in
-    let late = late_calm Known ops tame i (ends_block inst) ret old.edits blank a.quiet a.after_clobbers start (length ops) a.half a.late a.after_late a.lates
+    let late = late_calm Known ops tame i (ends_block inst) ret old.edits start a.lates
     (omega arith) in
     early_none Known ops tame i (ends_block inst) ret old.edits a.half a.late a.after_late
     (other_pass Known ops tame i (ends_block inst) ret old.edits a.half a.late a.after_late late)

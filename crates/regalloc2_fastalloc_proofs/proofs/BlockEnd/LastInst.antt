@@ -1,5 +1,5 @@
 -- The last instruction of a block: what is owed behind it, and what a return carries.
-use Rattle.std.proofs.Common.{ℕ, ◌≡◌, ◌≢◌, ◌<◌, ◌⊎◌, inl, inr, Bool, true, false, List, [], length, refl, sym, ap, ◌∙◌, arith}
+use Rattle.std.proofs.Common.{ℕ, ◌≡◌, ◌≢◌, ◌<◌, ◌⊎◌, inl, inr, Bool, true, false, length, refl, sym, ap, ◌∙◌}
 use Rattle.std.specs.Prelude.{Option, None, Some, ◌||◌}
 use Rattle.std.proofs.lemmas.Bool.{cases_Bool}
 use Rattle.regalloc2_names.specs.Register.{VirtualRegister}
@@ -7,7 +7,7 @@ use Rattle.regalloc2_names.specs.Place.{Place, NoPlace, InSlot}
 use Rattle.regalloc2_function.specs.FunctionValue.{FunctionValue, block_at, inst_at}
 use Rattle.regalloc2_semantics.specs.Carry.{Carries}
 use Rattle.regalloc2_semantics.specs.BlockByPoints.{at_point, walked, listed}
-use Rattle.regalloc2_semantics.specs.Blocks.{names, HasEdge, target_at, IsUnwritten, IsUsedIn, IsWantedBehind, StandsAfter}
+use Rattle.regalloc2_semantics.specs.Blocks.{names, HasEdge, target_at, IsUnwritten, IsUsedIn, IsWantedBehind}
 use Rattle.regalloc2_semantics.proofs.CarryRules.{carries_weaken}
 use Rattle.regalloc2_semantics.proofs.BlockBackward.{Relied}
 use Rattle.regalloc2_fastalloc_proofs.specs.InstSteps.{StateValue, ends_block}
@@ -17,7 +17,7 @@ use Rattle.regalloc2_fastalloc_proofs.proofs.Operands.DefinedNumbers.{defined_by
 use Rattle.regalloc2_fastalloc_proofs.proofs.Inst.OneInstCarries.{Alone, Needed}
 use Rattle.regalloc2_fastalloc_proofs.proofs.Walk.InstForOneVReg.{needed_parts}
 use Rattle.regalloc2_fastalloc_proofs.proofs.Walk.InstsBeforeLastCarry.{defined_from}
-use Rattle.regalloc2_fastalloc_proofs.proofs.Inst.ProperInsts.{ProperInsts}
+use Rattle.regalloc2_fastalloc_proofs.proofs.Inst.ProperInsts.{ProperCode}
 
 -- one instruction alone
 defined_from-one : (f : FunctionValue) (x i : ℕ) → defined_from f x i 1 ≡ (defined_by (inst_at f i).operands x || false)
@@ -27,17 +27,12 @@ defined_from-one f x i = refl
 or_none : (a : Bool) → a ≡ false → (a || false) ≡ false
 or_none a e = rw e refl
 
--- nothing is owed behind a block without successors
-pub nothing_after : (f : FunctionValue) (slot : VirtualRegister → Option Place) (b : ℕ) (v : VirtualRegister) (p : Place) → (block_at f b).succs ≡ [] →
-    StandsAfter f slot b v p → ⊥
-nothing_after f slot b v p none (inl own) = (let edge = own.1.0.1 in let n : length (block_at f b).succs ≡ 0 = ap length none in omega (arith, edge, n))
-nothing_after f slot b v p none (inr passed) = (let edge = passed.2 in let n : length (block_at f b).succs ≡ 0 = ap length none in omega (arith, edge, n))
+module _ (code : ProperCode) (F : ℕ → Option Place) where
+  open code use {Known, f, placesf, proper}
 
-module _ (Known : VirtualRegister → Type 0) (f : FunctionValue) (placesf : ℕ → List Place)
-    (proper : ProperInsts Known f) (F : ℕ → Option Place) where
   -- a return carries what is needed before it
   pub return_owes : (last : ℕ) (old new : StateValue) (v : VirtualRegister) → Known v → (block : Bool) (E : Place → Type 0) →
-      Alone Known f placesf proper last old new → ends_block (inst_at f last) ≡ true → ((p : Place) → E p → ⊥) →
+      Alone code last old new → ends_block (inst_at f last) ≡ true → ((p : Place) → E p → ⊥) →
       Carries v (walked (inst_at f) (at_point (listed new.edits)) placesf last 1)
       (Relied (defined_from f v.number last 1) block (stands_at new v.number) (slots_at new v.number) (F v.number)) E
   return_owes last old new v known block E a ret nothing =

@@ -147,16 +147,16 @@ module _ (Known : VirtualRegister → Type 0) (ops : List OperandValue) (tame : 
     );
   }
 
-  pub late_calm : (blank : List Place) (t : InstRegs) (old : StateValue) → Calm Known ops tame i is_ret ret true edits (LateDone ops 0) blank t old
-      → (k : ℕ) (there : List Place) (u : InstRegs) (m : StateValue) → ProcessesOperandsAt i is_ret true ops blank t old k there u m → k ≤ length ops →
+  pub late_calm : {blank : List Place} {t : InstRegs} {old : StateValue} → Calm Known ops tame i is_ret ret true edits (LateDone ops 0) blank t old
+      → {k : ℕ} {there : List Place} {u : InstRegs} {m : StateValue} → ProcessesOperandsAt i is_ret true ops blank t old k there u m → k ≤ length ops →
       Calm Known ops tame i is_ret ret true edits (LateDone ops k) there u m
-  late_calm blank t old c k there u m none_placed le = c
-  late_calm blank t old c k there u m (of_other j l w s prev other) le =
+  late_calm c none_placed le = c
+  late_calm {blank} {t} {old} c {there} {u} {m} (of_other j l w s prev other) le =
       fewer true (LateDone ops j) (LateDone ops (j + 1)) there u m (λ x less d. ((let a = d.0 in omega arith), d.1))
-      (late_calm blank t old c j there u m prev (omega arith))
-  late_calm blank t old c k there u m (one_placed j l next w x s n prev late one) le =
+      (late_calm c prev (omega arith))
+  late_calm {blank} {t} {old} c (one_placed j l next w x s n prev late one) le =
       let o : OperandValue = op_at ops j in
-      one_calm Known ops tame i is_ret ret true edits (LateDone ops j) (LateDone ops (j + 1)) j l there w u s m one (omega arith) (late_next j late)
+      one_calm Known ops tame i is_ret ret true edits one (omega arith) (late_next j late)
       (inr (refl, late_position o late))
       (λ y reuses d. not_both (is_late (op_at ops y).position) d.1 (tame.named j y (omega arith) reuses).1)
       (λ reads yes_pass. late_position o late)
@@ -164,24 +164,24 @@ module _ (Known : VirtualRegister → Type 0) (ops : List OperandValue) (tame : 
         | inl e ↦ early_overlap (positions_of o) p (use_early o reads) e
         | inr e ↦ late_overlap (positions_of o) p (late_position o late) e
       ])
-      (late_calm blank t old c j l w s prev (omega arith))
+      (late_calm c prev (omega arith))
 
-  pub early_calm : (half : List Place) (t : InstRegs) (old : StateValue) → Calm Known ops tame i is_ret ret false edits (EarlyDone ops 0) half t old
-      → (k : ℕ) (there : List Place) (u : InstRegs) (m : StateValue) → ProcessesOperandsAt i is_ret false ops half t old k there u m → k ≤ length ops →
+  pub early_calm : {half : List Place} {t : InstRegs} {old : StateValue} → Calm Known ops tame i is_ret ret false edits (EarlyDone ops 0) half t old
+      → {k : ℕ} {there : List Place} {u : InstRegs} {m : StateValue} → ProcessesOperandsAt i is_ret false ops half t old k there u m → k ≤ length ops →
       Calm Known ops tame i is_ret ret false edits (EarlyDone ops k) there u m
-  early_calm half t old c k there u m none_placed le = c
-  early_calm half t old c k there u m (of_other j l w s prev other) le =
+  early_calm c none_placed le = c
+  early_calm {half} {t} {old} c {there} {u} {m} (of_other j l w s prev other) le =
       fewer false (EarlyDone ops j) (EarlyDone ops (j + 1)) there u m (λ x less d. elim d [ inl late ↦ inl late | inr below ↦ inr (omega arith) ])
-      (early_calm half t old c j there u m prev (omega arith))
-  early_calm half t old c k there u m (one_placed j l next w x s n prev early one) le =
+      (early_calm c prev (omega arith))
+  early_calm {half} {t} {old} c (one_placed j l next w x s n prev early one) le =
       let o : OperandValue = op_at ops j in
-      one_calm Known ops tame i is_ret ret false edits (EarlyDone ops j) (EarlyDone ops (j + 1)) j l there w u s m one (omega arith) (early_next j early)
+      one_calm Known ops tame i is_ret ret false edits one (omega arith) (early_next j early)
       (inl (early_position o early))
       (λ y reuses d. not_both (is_late (op_at ops j).position) (tame.late_reuse j y (omega arith) reuses).1 early)
       (λ reads no_pass. absurd (not_both false no_pass refl))
       (λ reads y r p less not_d asks. early_overlap (positions_of o) p (early_position o early)
       (asks_early Known ops tame l y r p less (is_early (is_late (op_at ops y).position) (λ late. not_d (inl late))) asks))
-      (early_calm half t old c j l w s prev (omega arith))
+      (early_calm c prev (omega arith))
 
   -- from the one pass to the other
   pub other_pass : (half : List Place) (t : InstRegs) (old : StateValue) → Calm Known ops tame i is_ret ret true edits (LateDone ops (length ops)) half t old →
@@ -251,10 +251,10 @@ still_end Known i inst blank places old new tame ret a bare =
     let ops : List OperandValue = inst.operands in
     let start : Calm Known ops tame i (ends_block inst) ret true old.edits (LateDone ops 0) blank a.quiet a.after_clobbers =
     calm_start Known i inst blank places old new tame ret a bare in
-    let l = late_calm Known ops tame i (ends_block inst) ret old.edits blank a.quiet a.after_clobbers start (length ops) a.half a.late a.after_late a.lates
+    let l = late_calm Known ops tame i (ends_block inst) ret old.edits start a.lates
     (omega arith) in
-    let e = early_calm Known ops tame i (ends_block inst) ret old.edits a.half a.late a.after_late
-    (other_pass Known ops tame i (ends_block inst) ret old.edits a.half a.late a.after_late l) (length ops) places a.early a.after_early a.earlies
+    let e = early_calm Known ops tame i (ends_block inst) ret old.edits
+    (other_pass Known ops tame i (ends_block inst) ret old.edits a.half a.late a.after_late l) a.earlies
     (omega arith) in
     e.0
 

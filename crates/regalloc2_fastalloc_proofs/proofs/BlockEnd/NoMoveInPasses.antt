@@ -458,19 +458,19 @@ module _ (Known : VirtualRegister → Type 0) (ops : List OperandValue) (tame : 
           )
 
   -- an operand is allocated
-  pub one_calm : (D E : ℕ → Type 0) (k : ℕ) (here there : List Place) (t u : InstRegs) (old new : StateValue) →
+  pub one_calm : {D E : ℕ → Type 0} {k : ℕ} {here there : List Place} {t u : InstRegs} {old new : StateValue} →
       ProcessesOperand i is_ret ops k here there t u old new → k < length ops → NextDone D E k → Reaches (positions_of (op_at ops k))
       → ((n : ℕ) → (op_at ops k).constraint ≡ Reuse n → D n → ⊥)
       → (is_reading (op_at ops k) ≡ true → pass ≡ true → (positions_of (op_at ops k)).late ≡ true)
       → (is_reading (op_at ops k) ≡ true → (j : ℕ) (r : Register) (w : Positions) → j < length ops → (D j → ⊥) → Asks ops here j r w →
       Overlap (positions_of (op_at ops k)) w)
       → Calm D here t old → Calm E there u new
-  one_calm D E k here there t u old new (a_register r silent is written_it eu en) less next reach not_n lates covers c =
+  one_calm {D} {E} {k} {here} {t} {u} {old} {new} (a_register r silent is written_it eu en) less next reach not_n lates covers c =
       subst (λ l. Calm E l u new) (sym written_it) (same_calm D E k (InRegister r) here t u old new next (later_none t u eu)
       (same_places old new (ap (λ (x : StateValue). x.places) en) (ap (λ (x : StateValue). x.edits) en)) c)
-  one_calm D E k here there t u old new (a_use p reads places written_it) less next reach not_n lates covers c =
+  one_calm {D} {E} {k} {here} {t} {u} {old} {new} (a_use p reads places written_it) less next reach not_n lates covers c =
       subst (λ l. Calm E l u new) (sym written_it) (use_calm D E k p here t u old new less next reach reads (lates reads) (covers reads) places c)
-  one_calm D E k here there t u old new (a_def p def no_reuse places written_it) less next reach not_n lates covers c =
+  one_calm {D} {E} {k} {here} {t} {u} {old} {new} (a_def p def no_reuse places written_it) less next reach not_n lates covers c =
       subst (λ l. Calm E l u new) (sym written_it) (def_calm D E k p here t u old new less next reach def places c)
-  one_calm D E k here there t u old new (a_reuse n p def reuses places written_it) less next reach not_n lates covers c =
+  one_calm {D} {E} {k} {here} {t} {u} {old} {new} (a_reuse n p def reuses places written_it) less next reach not_n lates covers c =
       subst (λ l. Calm E l u new) (sym written_it) (reuse_calm D E k n p here t u old new less next (not_n n reuses) def reuses places c)

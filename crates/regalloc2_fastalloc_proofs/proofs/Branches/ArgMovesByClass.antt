@@ -95,10 +95,40 @@ spare_back inst_regs class old new q a d s = (
   ],
 )
 
+-- The moves of a branch's arguments, class after class, at a point: the tables before them (g), and those behind the moves of each class.
+pub record ClassSteps : Type 0 where
+  pub point : ℕ
+  pub inst_regs : InstRegs
+  pub given : List ClassMove
+  pub g : StateValue
+  pub ints : StateValue
+  pub floats : StateValue
+  pub new : StateValue
+  pub int : Stepped point inst_regs Int (of_class Int given) g ints
+  pub float : Stepped point inst_regs Float (of_class Float given) ints floats
+  pub vector : Stepped point inst_regs Vector (of_class Vector given) floats new
+
+-- those, of their parts
+abbrev pub steps_of : (point : ℕ) (inst_regs : InstRegs) (given : List ClassMove) (g ints floats new : StateValue) →
+    Stepped point inst_regs Int (of_class Int given) g ints → Stepped point inst_regs Float (of_class Float given) ints floats →
+    Stepped point inst_regs Vector (of_class Vector given) floats new → ClassSteps
+steps_of point inst_regs given g ints floats new int float vector = record {
+  point = point;
+  inst_regs = inst_regs;
+  given = given;
+  g = g;
+  ints = ints;
+  floats = floats;
+  new = new;
+  int = int;
+  float = float;
+  vector = vector;
+}
+
 -- the moves of all classes
-module _ (point : ℕ) (inst_regs : InstRegs) (given : List ClassMove) (g ints floats new : StateValue)
-    (int : Stepped point inst_regs Int (of_class Int given) g ints) (float : Stepped point inst_regs Float (of_class Float given) ints floats)
-    (vector : Stepped point inst_regs Vector (of_class Vector given) floats new) where
+module _ (steps : ClassSteps) where
+  open steps use {point, inst_regs, given, g, ints, floats, new, int, float, vector}
+
   -- the moves of all three classes as they are listed: those that were pushed last come first
   pub all_moves : List MoveValue
   all_moves = moves_of vector.made ++ (moves_of float.made ++ moves_of int.made)

@@ -2,7 +2,6 @@
 use Rattle.std.proofs.Common.{ℕ, zero, suc, ◌≡◌, ◌≢◌, ◌<◌, ◌≤◌, inl, inr, Bool, true, false, List, [], ◌∷◌, length, refl, sym, ap, ◌∙◌, subst, arith}
 use Rattle.std.specs.Prelude.{Option, None, Some, ◌||◌, Contains, slice_index_or}
 use Rattle.regalloc2_names.specs.declared.RegClass.{RegClass}
-use Rattle.regalloc2_names.specs.declared.RegClass.TheVariants.{Int, Float, Vector}
 use Rattle.regalloc2_names.specs.Register.{Register, VirtualRegister, class_code, is_vreg}
 use Rattle.regalloc2_names.specs.RegisterSet.{has_register}
 use Rattle.regalloc2_names.specs.Place.{Place, NoPlace, InRegister, InSlot}
@@ -14,15 +13,14 @@ use Rattle.regalloc2_semantics.specs.Blocks.{names, HasEdge}
 use Rattle.regalloc2_semantics.proofs.Cells.{is_vreg-same}
 use Rattle.regalloc2_semantics.proofs.Slots.{PassedTo}
 use Rattle.regalloc2_semantics.proofs.BlockBackward.{Relied}
-use Rattle.regalloc2_fastalloc_state.specs.declared.inst_regs.InstRegs.{InstRegs}
-use Rattle.regalloc2_fastalloc_proofs.specs.InstSteps.{StateValue}
 use Rattle.regalloc2_fastalloc_proofs.specs.BranchSteps.{IsScratchRegFor, ClassMove, of_class, IsOwn}
 use Rattle.regalloc2_fastalloc_proofs.proofs.Safety.StepsKeepState.{place_in, IsWhole}
 use Rattle.regalloc2_fastalloc_proofs.proofs.Operands.RecordOverState.{opt, opt_from, stands_at, slots_at}
-use Rattle.regalloc2_fastalloc_proofs.proofs.Branches.ArgMovesByClass.{Stepped, IsNoTarget, all_moves, all_kept, all_above, all_moved}
+use Rattle.regalloc2_fastalloc_proofs.proofs.Branches.ArgMovesByClass.{IsNoTarget, all_moves, all_kept, all_above, all_moved}
 use Rattle.regalloc2_fastalloc_proofs.proofs.Branches.EdgeArgsGathered.{of_class-has, of_class-from, passes_at, argument_at, IsArgued, params_on}
 use Rattle.regalloc2_fastalloc_proofs.proofs.BlockEnd.BranchAlone.{IsHeldHere}
 use Rattle.regalloc2_fastalloc_proofs.proofs.BlockEnd.BranchEndsBlock.{ToCome, cases_opt, slot_there}
+use Rattle.regalloc2_fastalloc_proofs.proofs.Branches.ArgMovesByClass.{ClassSteps}
 
 -- a vreg that is listed is named
 pub names_at : (ps : List VirtualRegister) (j : ℕ) (v : VirtualRegister) → j < length ps → argument_at ps j ≡ v → names v ps ≡ true
@@ -42,18 +40,33 @@ names_at (p ∷ ps) (suc j) v lt e = or_second (is_vreg p v) (names v ps) (names
 one_slot : (m n : ℕ) → InSlot m ≡ InSlot n → m ≡ n
 one_slot m n e = cc
 
-module _ (Known : VirtualRegister → Type 0) (same : (v w : VirtualRegister) → Known v → Known w → v.number ≡ w.number → v ≡ w) (f : FunctionValue)
-    (F : ℕ → Option Place) (b point : ℕ)
-    (known_params : (e j : ℕ) → HasEdge f b e → j < length (params_on f b e) → Known (argument_at (params_on f b e) j))
-    (classes : (e j : ℕ) → HasEdge f b e → j < length (params_on f b e) → (argument_at (arguments_at f b e) j).class ≡ (argument_at (params_on f b e) j).class)
-    (u : InstRegs) (given : List ClassMove) (g ints floats new : StateValue) (int : Stepped point u Int (of_class Int given) g ints)
-    (float : Stepped point u Float (of_class Float given) ints floats) (vector : Stepped point u Vector (of_class Vector given) floats new)
-    (come : ToCome F g) (above : (x n : ℕ) → F x ≡ Some (InSlot n) → slots_at g x ≡ None → new.slots.count ≤ n)
-    (whole : IsWhole g) (apart : (c : RegClass) (r : Register) → slice_index_or g.dedicated_scratch (class_code c) None ≡ Some r → (x : ℕ) →
-    place_in g x ≡ InRegister r → ⊥) (held : IsHeldHere u g)
-    (origin : (m : ClassMove) → Contains given m → (e j : ℕ) × HasEdge f b e × IsArgued (params_on f b e) (arguments_at f b e) j g m)
-    (all : (e j : ℕ) → HasEdge f b e → j < length (params_on f b e) → (IsOwn f b (argument_at (arguments_at f b e) j) → ⊥) → (m : ClassMove) × Contains given m
-    × IsArgued (params_on f b e) (arguments_at f b e) j g m) where
+-- The moves of the arguments of the block b's branch, class after class. F: the slots at the walk's end, each of one vreg; the parameters of the block's
+-- successors are known, of the classes of their arguments; the tables before the moves are whole, with no vreg in a register that is kept for moves; and
+-- the moves that are given are those of the arguments, but for those that the branch defines itself.
+pub record ArgMoves : Type 1 where
+  pub Known : VirtualRegister → Type 0
+  pub same : (v w : VirtualRegister) → Known v → Known w → v.number ≡ w.number → v ≡ w
+  pub f : FunctionValue
+  pub F : ℕ → Option Place
+  pub b : ℕ
+  pub known_params : (e j : ℕ) → HasEdge f b e → j < length (params_on f b e) → Known (argument_at (params_on f b e) j)
+  pub classes : (e j : ℕ) → HasEdge f b e → j < length (params_on f b e) →
+      (argument_at (arguments_at f b e) j).class ≡ (argument_at (params_on f b e) j).class
+  pub steps : ClassSteps
+  open steps use {inst_regs, given, g, new}
+  pub come : ToCome F g
+  pub above : (x n : ℕ) → F x ≡ Some (InSlot n) → slots_at g x ≡ None → new.slots.count ≤ n
+  pub whole : IsWhole g
+  pub apart : (c : RegClass) (r : Register) → slice_index_or g.dedicated_scratch (class_code c) None ≡ Some r → (x : ℕ) → place_in g x ≡ InRegister r → ⊥
+  pub held : IsHeldHere inst_regs g
+  pub origin : (m : ClassMove) → Contains given m → (e j : ℕ) × HasEdge f b e × IsArgued (params_on f b e) (arguments_at f b e) j g m
+  pub all : (e j : ℕ) → HasEdge f b e → j < length (params_on f b e) → (IsOwn f b (argument_at (arguments_at f b e) j) → ⊥) → (m : ClassMove)
+      × Contains given m × IsArgued (params_on f b e) (arguments_at f b e) j g m
+
+module _ (args : ArgMoves) where
+  open args use {Known, same, f, F, b, known_params, classes, steps, come, above, whole, apart, held, origin, all}
+  open args.steps use {inst_regs as u, given, g, ints, floats, new}
+
   -- the parameter to whose slot a move goes
   record Target (c : RegClass) (n : ℕ) : Type 0 where
     edge : ℕ
@@ -122,7 +135,7 @@ module _ (Known : VirtualRegister → Type 0) (same : (v w : VirtualRegister) �
 
   -- the moves as they are listed
   abbrev pub ms : List MoveValue
-  ms = all_moves point u given g ints floats new int float vector
+  ms = all_moves steps
 
   module _ (v : VirtualRegister) (known : Known v) where
     slot_kept : ((e : ℕ) → HasEdge f b e → names v (params_on f b e) ≡ false) → (p : Place) → slots_at g v.number ≡ Some p → (c : Cells) →
@@ -130,8 +143,8 @@ module _ (Known : VirtualRegister → Type 0) (same : (v w : VirtualRegister) �
     slot_kept free p at c =
         let s = slot_there g whole v.number p at in
         let mine : F v.number ≡ Some (InSlot s.0) = come.stays v.number (InSlot s.0) (at ∙ ap Some s.1) in
-        subst (λ q. after_moves (all_moves point u given g ints floats new int float vector) c q ≡ c q) (sym s.1)
-        (all_kept point u given g ints floats new int float vector (InSlot s.0) (λ e. cc) (slot_not_spare s.0)
+        subst (λ q. after_moves (all_moves steps) c q ≡ c q) (sym s.1)
+        (all_kept steps (InSlot s.0) (λ e. cc) (slot_not_spare s.0)
         (λ k e. subst (λ x. x < g.slots.count) (one_slot s.0 k e) s.2) (no_parameter v known free s.0 mine) c)
 
     -- a place where v may be relied on keeps its value
@@ -145,18 +158,18 @@ module _ (Known : VirtualRegister → Type 0) (same : (v w : VirtualRegister) �
         | inl none ↦ (
             let n = come.only v.number p at.1 in
             let mine : F v.number ≡ Some (InSlot n.0) = at.1 ∙ ap Some n.1 in
-            subst (λ q. after_moves (all_moves point u given g ints floats new int float vector) c q ≡ c q) (sym n.1)
-            (all_above point u given g ints floats new int float vector n.0 (above v.number n.0 mine none) (no_parameter v known free n.0 mine) c))
+            subst (λ q. after_moves (all_moves steps) c q ≡ c q) (sym n.1)
+            (all_above steps n.0 (above v.number n.0 mine none) (no_parameter v known free n.0 mine) c))
       ]
     ]
       where
         by_place : (p q : Place) → place_in g v.number ≡ q → stands_at g v.number ≡ Some p →
-            after_moves (all_moves point u given g ints floats new int float vector) c p ≡ c p
+            after_moves (all_moves steps) c p ≡ c p
         by_place p NoPlace is at = (let x : None ≡ Some p = ap opt (sym is) ∙ at in absurd cc)
         by_place p (InRegister r) is at = (
             let x : InRegister r ≡ p = opt_from (InRegister r) p (ap opt (sym is) ∙ at) in
-            subst (λ q. after_moves (all_moves point u given g ints floats new int float vector) c q ≡ c q) x
-            (all_kept point u given g ints floats new int float vector (InRegister r) (λ e. cc) (not_spare v.number r is) (λ k e. absurd cc) (no_register r) c))
+            subst (λ q. after_moves (all_moves steps) c q ≡ c q) x
+            (all_kept steps (InRegister r) (λ e. cc) (not_spare v.number r is) (λ k e. absurd cc) (no_register r) c))
         by_place p (InSlot n) is at = slot_kept free p (ap opt (whole.own_slot v.number n is) ∙ ap opt (sym is) ∙ at) c
 
     -- a parameter's slot has what was in that of its argument, which the branch doesn't define itself
@@ -183,7 +196,7 @@ module _ (Known : VirtualRegister → Type 0) (same : (v w : VirtualRegister) �
         (subst (λ p. Contains (of_class v.class given) (p, m.0.to, tt)) from.1 (of_class-has v.class given m.0 m.1 class_is)) in (
           InSlot from.0,
           from_at ∙ ap Some from.1,
-          λ c. subst (λ p. after_moves (all_moves point u given g ints floats new int float vector) c p ≡ c (InSlot from.0)) q_is
-              (all_moved point u given g ints floats new int float vector v.class from.0 to.0 has from.2 to.2 (λ d ne. other_class v known from.0 mine_v d ne)
+          λ c. subst (λ p. after_moves (all_moves steps) c p ≡ c (InSlot from.0)) q_is
+              (all_moved steps v.class from.0 to.0 has from.2 to.2 (λ d ne. other_class v known from.0 mine_v d ne)
               (λ d ne. other_class w known_w to.0 mine_w d (λ e. ne (e ∙ as_param))) c),
         )

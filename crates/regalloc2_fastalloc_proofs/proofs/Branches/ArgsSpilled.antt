@@ -6,7 +6,6 @@ use Rattle.regalloc2_names.specs.Register.{Register, VirtualRegister}
 use Rattle.regalloc2_names.specs.RegisterSet.{has_register}
 use Rattle.regalloc2_names.specs.Place.{Place, NoPlace, InRegister, InSlot, is_place}
 use Rattle.regalloc2_names.specs.Point.{before}
-use Rattle.regalloc2_function.specs.FunctionValue.{InstValue}
 use Rattle.regalloc2_function.specs.OutputValue.{MoveValue}
 use Rattle.regalloc2_semantics.specs.Listing.{Item}
 use Rattle.regalloc2_semantics.specs.BlockByPoints.{AllFrom, before_part, listed}
@@ -27,6 +26,7 @@ use Rattle.regalloc2_fastalloc_proofs.proofs.Evictions.EvictKeepsRecord.{clears_
 use Rattle.regalloc2_fastalloc_proofs.proofs.Moves.StepsAppendEdits.{Pushes, none_pushed, pushes_then}
 use Rattle.regalloc2_fastalloc_proofs.proofs.Slots.LocatedStaysLocated.{clears_lasts}
 use Rattle.regalloc2_fastalloc_proofs.proofs.BlockBegin.ReloadAtBegin.{SpareHere, IsReload, Leads, Reached, clears_reached}
+use Rattle.regalloc2_fastalloc_proofs.proofs.Operands.BlockTail.{BlockTail}
 
 -- what each step keeps while arguments are spilled
 pub record Comes (i : ℕ) (t u : InstRegs) (old new : StateValue) : Type 0 where
@@ -147,11 +147,12 @@ module _ (old new : StateValue) (a : VirtualRegister) (s : Place) (gives : GetsS
       by_place (InRegister r) is h e = absurd (outside r is)
       by_place (InSlot k) is h e = slots_grow old new a s gives w x p (ap (slots_at old) e ∙ ap opt (w.own_slot a.number k is) ∙ ap opt (sym is) ∙ h)
 
-module _ (Known : VirtualRegister → Type 0) (insts : ℕ → InstValue) (placesf : ℕ → List Place) (i n : ℕ) (item : Item) (E : VirtualRegister → Place → Type 0)
-    (X : Place → ℕ → Bool) (clear : (r : Register) (x : ℕ) → X (InRegister r) x ≡ false) where
+module _ (tail : BlockTail) (item : Item) (X : Place → ℕ → Bool) (clear : (r : Register) (x : ℕ) → X (InRegister r) x ≡ false) where
+  open tail use {Known, insts, placesf, i, n, E}
+
   -- the tables while the arguments are spilled, with the listing
   abbrev pub Stage : InstRegs → StateValue → Type 0
-  Stage u t = Reached Known insts placesf i n item E (λ x. false) X clear u t
+  Stage u t = Reached tail item (λ x. false) X clear u t
 
   -- what is carried to where
   abbrev pub Has : (ℕ → Option Place) → (ℕ → Option Place) → List (ℕ × MoveValue) → Type 0
@@ -161,7 +162,7 @@ module _ (Known : VirtualRegister → Type 0) (insts : ℕ → InstValue) (place
   pub clears_stage : (r : Register) (t u : InstRegs) (old new : StateValue) → EvictsPReg (before i) r t u old new → Stage t old → Stage u new
       × Comes i t u old new
   clears_stage r t u old new c h =
-      let k = clears_reached Known insts placesf i n item E (λ x. false) X clear r t u old new c h in
+      let k = clears_reached tail item (λ x. false) X clear r t u old new c h in
       let l : Leads i old new = k.1 in (
         k.0,
         record {
@@ -206,10 +207,10 @@ module _ (Known : VirtualRegister → Type 0) (insts : ℕ → InstValue) (place
       )
 
   -- an argument that is in no register is spilled
-  pub settles_stage : (a : VirtualRegister) (s : Place) (t u : InstRegs) (old new : StateValue) → ((r : Register) → place_in old a.number ≡ InRegister r → ⊥) →
+  pub settles_stage : {a : VirtualRegister} {s : Place} {t u : InstRegs} {old new : StateValue} → ((r : Register) → place_in old a.number ≡ InRegister r → ⊥) →
       GetsSpillSlot old.slots new.slots a s → SetsAlloc old.places new.places a s → new.edits ≡ old.edits →
       SameMachine old new → u ≡ t → Stage t old → Stage u new × Comes i t u old new
-  settles_stage a s t u old new outside gives settles edits machine eu h =
+  settles_stage {a} {s} {t} {u} {old} {new} outside gives settles edits machine eu h =
       let grow : (x : ℕ) (p : Place) → slots_at old x ≡ Some p → slots_at new x ≡ Some p = slots_grow old new a s gives h.whole in
       let L : List Item = before_part insts (listed old.edits) placesf i n item in
       let more : Has (stands_at old) (slots_at new) old.edits = need_slot Known E L (λ x. true) (λ x. false) X (stands_at old) (slots_at old) (slots_at new)
@@ -263,7 +264,7 @@ module _ (Known : VirtualRegister → Type 0) (insts : ℕ → InstValue) (place
         there = λ e. let x : NoPlace ≡ InRegister r = sym (all.lasts a.number e) ∙ at in cc;
       }
   argued a s t u old new (settled_in_slot outside gives settles edits machine eu) h =
-      let g = settles_stage a s t u old new outside gives settles edits machine eu h in
+      let g = settles_stage outside gives settles edits machine eu h in
       record {
         stage = g.0;
         comes = g.1;

@@ -45,10 +45,11 @@ use Rattle.regalloc2_fastalloc_proofs.proofs.Branches.ArgMovesPushed.{walked_mad
 use Rattle.regalloc2_fastalloc_proofs.proofs.Branches.ArgMovesByClass.{Stepped, stepped, all_moves, all_at, all_other, all_places, all_slots, all_grow}
 use Rattle.regalloc2_fastalloc_proofs.proofs.Branches.EdgeArgsGathered.{passes_at, argument_at, params_on}
 use Rattle.regalloc2_fastalloc_proofs.proofs.BlockEnd.BranchAlone.{IsHeldHere, IsUseMove, Branched, branched, unmoved, none_below}
-use Rattle.regalloc2_fastalloc_proofs.proofs.BlockEnd.BranchEndsBlock.{ToCome, grown_slots, to_come-back, reads_own, own_moves}
-use Rattle.regalloc2_fastalloc_proofs.proofs.Branches.ArgMovesEffect.{names_at, relied_kept, passed_moved}
+use Rattle.regalloc2_fastalloc_proofs.proofs.BlockEnd.BranchEndsBlock.{EndsBlock, ToCome, grown_slots, to_come-back, reads_own, own_moves}
+use Rattle.regalloc2_fastalloc_proofs.proofs.Branches.ArgMovesEffect.{ArgMoves, names_at, relied_kept, passed_moved}
 use Rattle.regalloc2_fastalloc_proofs.proofs.Branches.BranchInParts.{settled_carries, Parted, parted}
-use Rattle.regalloc2_fastalloc_proofs.proofs.Inst.ProperInsts.{ProperInsts}
+use Rattle.regalloc2_fastalloc_proofs.proofs.Inst.ProperInsts.{ProperCode}
+use Rattle.regalloc2_fastalloc_proofs.proofs.Branches.ArgMovesByClass.{ClassSteps, steps_of}
 
 -- tables that differ in moves and in temporary slots
 pub whole_like : (old new : StateValue) → new.places ≡ old.places → new.slots.vreg_spillslots ≡ old.slots.vreg_spillslots → new.slots.sizes ≡ old.slots.sizes →
@@ -103,26 +104,69 @@ param_cases f b v (suc k) = elim (param_cases f b v k) [
   ]
 ]
 
-module _ (Known : VirtualRegister → Type 0) (f : FunctionValue) (placesf : ℕ → List Place)
-    (proper : ProperInsts Known f) (F : ℕ → Option Place) (b last : ℕ) (blank here : List Place)
-    (old middle new : StateValue) (within : last < length f.insts)
-    (are_listed : (k : ℕ) → k < length (inst_at f last).operands → place_at (placesf last) k ≡ slice_index_or here k NoPlace)
-    (tame : IsTame Known (inst_at f last).operands)
-    (ends : ends_block (inst_at f last) ≡ true)
-    (own_defs : (k : ℕ) → k < length (inst_at f last).operands → is_def (op_at (inst_at f last).operands k).kind ≡ true → (n : ℕ) →
-    place_at (placesf last) k ≡ InSlot n → F (op_at (inst_at f last).operands k).vreg.number ≡ Some (InSlot n))
-    (undefined_params : (e : ℕ) (w : VirtualRegister) → HasEdge f b e → names w (params_on f b e) ≡ true →
-    defined_by (inst_at f last).operands w.number ≡ false)
-    (known_params : (e j : ℕ) → HasEdge f b e → j < length (params_on f b e) → Known (argument_at (params_on f b e) j))
-    (classes : (e j : ℕ) → HasEdge f b e → j < length (params_on f b e) → (argument_at (arguments_at f b e) j).class ≡ (argument_at (params_on f b e) j).class)
-    (unread_params : (e : ℕ) (w : VirtualRegister) → HasEdge f b e → names w (params_on f b e) ≡ true → Unread (inst_at f last).operands w)
-    (between : Between (last + 1) old) (bare : IsOutside old) (a : AllocsInst last (inst_at f last) blank here old middle) (inst_regs : InstRegs)
-    (p : ProcessesBranch f b last a.ended inst_regs middle new) (come : ToCome F new) where
-  by_itself : Alone Known f placesf proper last old middle
-  by_itself = alone Known f placesf proper last blank here old middle within are_listed between a
+-- A branch at the end of the block b, in a function with the places of its operands. F: the slots at the walk's end, in which the branch's definitions are
+-- placed as they have them; old, middle and new: the tables behind it, before its arguments are passed, and once they are. It neither defines nor
+-- reads the parameters of the block's successors, which are known, of the classes of their arguments.
+pub record BlockBranch : Type 1 where
+  pub code : ProperCode
+  open code use {Known, f, placesf}
+  pub F : ℕ → Option Place
+  pub b : ℕ
+  pub last : ℕ
+  pub blank : List Place
+  pub here : List Place
+  pub old : StateValue
+  pub middle : StateValue
+  pub new : StateValue
+  pub within : last < length f.insts
+  pub are_listed : (k : ℕ) → k < length (inst_at f last).operands → place_at (placesf last) k ≡ slice_index_or here k NoPlace
+  pub tame : IsTame Known (inst_at f last).operands
+  pub ends : ends_block (inst_at f last) ≡ true
+  pub own_defs : (k : ℕ) → k < length (inst_at f last).operands → is_def (op_at (inst_at f last).operands k).kind ≡ true → (n : ℕ) →
+      place_at (placesf last) k ≡ InSlot n → F (op_at (inst_at f last).operands k).vreg.number ≡ Some (InSlot n)
+  pub undefined_params : (e : ℕ) (w : VirtualRegister) → HasEdge f b e → names w (params_on f b e) ≡ true →
+      defined_by (inst_at f last).operands w.number ≡ false
+  pub known_params : (e j : ℕ) → HasEdge f b e → j < length (params_on f b e) → Known (argument_at (params_on f b e) j)
+  pub classes : (e j : ℕ) → HasEdge f b e → j < length (params_on f b e) →
+      (argument_at (arguments_at f b e) j).class ≡ (argument_at (params_on f b e) j).class
+  pub unread_params : (e : ℕ) (w : VirtualRegister) → HasEdge f b e → names w (params_on f b e) ≡ true → Unread (inst_at f last).operands w
+  pub between : Between (last + 1) old
+  pub bare : IsOutside old
+  pub a : AllocsInst last (inst_at f last) blank here old middle
+  pub inst_regs : InstRegs
+  pub p : ProcessesBranch f b last a.ended inst_regs middle new
+  pub come : ToCome F new
 
-  br : Branched Known f placesf proper last here a.ended old middle
-  br = branched Known f placesf proper last blank here old middle within are_listed tame ends between bare a
+module _ (branch : BlockBranch) where
+  open branch.code use {Known, f, placesf, proper}
+  open branch use {code, F, b, last, blank, here, old, middle, new, within, are_listed, tame, ends, own_defs, undefined_params, known_params, classes}
+  open branch use {unread_params, between, bare, a, inst_regs, p, come}
+
+  by_itself : Alone code last old middle
+  by_itself = alone code last blank here old middle within are_listed between a
+
+  br : Branched code last here a.ended old middle
+  br = branched code last blank here old middle within are_listed tame ends between bare a
+
+  -- so it ends its block
+  abbrev at_end : EndsBlock
+  at_end = record {
+    code = code;
+    F = F;
+    last = last;
+    blank = blank;
+    here = here;
+    old = old;
+    middle = middle;
+    within = within;
+    are_listed = are_listed;
+    ends = ends;
+    own_defs = own_defs;
+    between = between;
+    a = a;
+    u = a.ended;
+    br = br;
+  }
 
   abbrev edges : ℕ
   edges = length (block_at f b).succs
@@ -139,14 +183,18 @@ module _ (Known : VirtualRegister → Type 0) (f : FunctionValue) (placesf : ℕ
   vectors : Stepped (before last) inst_regs Vector (of_class Vector p.given) p.floats new
   vectors = stepped (before last) inst_regs Vector (of_class Vector p.given) p.floats new p.vector
 
+  -- the moves of the arguments
+  abbrev steps : ClassSteps
+  steps = steps_of (before last) inst_regs p.given p.gathered p.ints p.floats new ints floats vectors
+
   same_places : new.places ≡ p.gathered.places
-  same_places = all_places (before last) inst_regs p.given p.gathered p.ints p.floats new ints floats vectors
+  same_places = all_places steps
 
   same_slots : new.slots.vreg_spillslots ≡ p.gathered.slots.vreg_spillslots
-  same_slots = all_slots (before last) inst_regs p.given p.gathered p.ints p.floats new ints floats vectors
+  same_slots = all_slots steps
 
   more_slots : p.gathered.slots.count ≤ new.slots.count
-  more_slots = all_grow (before last) inst_regs p.given p.gathered p.ints p.floats new ints floats vectors
+  more_slots = all_grow steps
 
   slots_same : (x : ℕ) → slots_at new x ≡ slots_at p.gathered x
   slots_same x = ap (λ l. opt (slice_index_or l x NoPlace)) same_slots
@@ -180,17 +228,36 @@ module _ (Known : VirtualRegister → Type 0) (f : FunctionValue) (placesf : ℕ
       → place_in p.gathered x ≡ InRegister r → ⊥
   apart c r at = (part.stage.scratch_reserve.idle c r (of_machine at)).no_allocs
 
+  abbrev arg_moves : ArgMoves
+  arg_moves = record {
+    Known = Known;
+    same = tame.same;
+    f = f;
+    F = F;
+    b = b;
+    known_params = known_params;
+    classes = classes;
+    steps = steps;
+    come = come_gathered;
+    above = above;
+    whole = part.stage.whole;
+    apart = apart;
+    held = held;
+    origin = part.origin;
+    all = part.all;
+  }
+
   -- what was walked before the moves of the arguments
   abbrev L : List Item
   L = walked (inst_at f) (at_point (listed p.gathered.edits)) placesf last 1
 
   abbrev moves : List MoveValue
-  moves = all_moves (before last) inst_regs p.given p.gathered p.ints p.floats new ints floats vectors
+  moves = all_moves steps
 
   listed_moves : walked (inst_at f) (at_point (listed new.edits)) placesf last 1 ≡ with_moves moves L
   listed_moves = walked_made (inst_at f) placesf last moves p.gathered.edits new.edits
-      (all_at (before last) inst_regs p.given p.gathered p.ints p.floats new ints floats vectors)
-      (all_other (before last) inst_regs p.given p.gathered p.ints p.floats new ints floats vectors (after last) (λ e. omega (arith, e)))
+      (all_at steps)
+      (all_other steps (after last) (λ e. omega (arith, e)))
 
   -- the branch, its own moves and the reloads leave a parameter's slot alone
   slot_untouched : (e : ℕ) (w : VirtualRegister) → HasEdge f b e → Known w → names w (params_on f b e) ≡ true → (n : ℕ) → F w.number ≡ Some (InSlot n) →
@@ -206,8 +273,7 @@ module _ (Known : VirtualRegister → Type 0) (f : FunctionValue) (placesf : ℕ
       (λ d is to. elim is [
         | inl x ↦ elim x.1 [
           | inl r ↦ (let y : InRegister r.0 ≡ InSlot n = sym r.1 ∙ to in cc)
-          | inr j ↦ unread_params e w edge named j.0 j.1 j.2 (reads_own Known f placesf proper F last blank here old middle within are_listed
-              ends own_defs between a a.ended br come_middle w known n j.0 mine j.1 j.2 (sym to ∙ j.3))
+          | inr j ↦ unread_params e w edge named j.0 j.1 j.2 (reads_own at_end come_middle w known n j.0 mine j.1 j.2 (sym to ∙ j.3))
         ]
         | inr x ↦ (let y : InRegister x.1.0 ≡ InSlot n = sym x.1.1 ∙ to in cc)
       ])
@@ -249,9 +315,9 @@ module _ (Known : VirtualRegister → Type 0) (f : FunctionValue) (placesf : ℕ
     reloaded : Carries v L (On p.gathered) Own
     reloaded =
         settled_carries (inst_at f) placesf last v block (F v.number) (λ r e. let n = come.only v.number (InRegister r) e in
-        let x : InRegister r ≡ InSlot n.0 = n.1 in cc) Own f b a.ended inst_regs middle p.gathered edges p.given p.gathers by_itself.between
+        let x : InRegister r ≡ InSlot n.0 = n.1 in cc) Own p.gathers by_itself.between
         br.scratch_reserve
-        (own_moves Known f placesf proper F last blank here old middle within are_listed ends own_defs between a a.ended br come_middle v known
+        (own_moves at_end come_middle v known
         free block Own (λ q o. o.2)
         (λ yes_block q o. elim (owed_there f F b v block old (stays_old v.number) settled writes_it lives q o).1 [
           | inl at ↦ by_settled settled q at
@@ -268,16 +334,14 @@ module _ (Known : VirtualRegister → Type 0) (f : FunctionValue) (placesf : ℕ
     Slot q = slots_at p.gathered v.number ≡ Some q
 
     moved : (q : Place) → PassedTo f (λ w. F w.number) b v q → (r : Place) × Slot r × ((c : Cells) → after_moves moves c q ≡ c r)
-    moved q passed = passed_moved Known tame.same f F b (before last) known_params classes inst_regs p.given p.gathered p.ints p.floats new ints floats vectors
-        come_gathered above part.stage.whole apart held part.origin part.all v known foreign q passed
+    moved q passed = passed_moved arg_moves v known foreign q passed
 
     -- where v is no parameter of a successor
     carries_free : ((e : ℕ) → HasEdge f b e → names v (params_on f b e) ≡ false) →
         Carries v (with_moves moves L) (λ q. On p.gathered q ⊎ Slot q) (StandsAfter f (λ u. F u.number) b v)
     carries_free none =
         pass_arguments f (λ u. F u.number) b v moves L (On p.gathered) Slot Own
-        (λ q h c. relied_kept Known tame.same f F b (before last) known_params classes inst_regs p.given p.gathered p.ints p.floats new ints floats vectors
-        come_gathered above part.stage.whole apart held part.origin part.all v known none block q h c)
+        (λ q h c. relied_kept arg_moves v known none block q h c)
         moved (passed_untouched v) (unwritten v free) (λ q h. h) reloaded
 
     -- where it is one, the branch doesn't read it

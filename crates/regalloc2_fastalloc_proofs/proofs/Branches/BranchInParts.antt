@@ -22,6 +22,7 @@ use Rattle.regalloc2_fastalloc_proofs.proofs.BlockBegin.ReloadAtBegin.{SpareHere
 use Rattle.regalloc2_fastalloc_proofs.proofs.BlockBegin.CarriesFromSlot.{is_there, is_there-true, is_there-same, is_there-none, second_false}
 use Rattle.regalloc2_fastalloc_proofs.proofs.Branches.ArgsSpilled.{Stage}
 use Rattle.regalloc2_fastalloc_proofs.proofs.Branches.EdgeArgsGathered.{MovesByClass, gathered}
+use Rattle.regalloc2_fastalloc_proofs.proofs.Operands.BlockTail.{tail_of}
 
 -- a slot that comes later is needed, where the block doesn't write its vreg
 abbrev pub is_kept : Bool → ℕ → Option Place → Place → ℕ → Bool
@@ -54,7 +55,7 @@ module _ (insts : ℕ → InstValue) (placesf : ℕ → List Place) (last : ℕ)
   On t = Relied false block (stands_at t v.number) (slots_at t v.number) F
 
   abbrev StageHere : InstRegs → StateValue → Type 0
-  StageHere u t = Stage (λ w. w ≡ v) insts placesf last 0 branch_item (λ w. E) (is_kept block v.number F) (kept-clear block v.number F only) u t
+  StageHere u t = Stage (tail_of (λ w. w ≡ v) insts placesf last 0 (λ w. E)) branch_item (is_kept block v.number F) (kept-clear block v.number F only) u t
 
   begin_stage : (u : InstRegs) (t : StateValue) → Between last t → SpareHere u t → Carries v (from_last t) (On t) E → StageHere u t
   begin_stage u t b scratch_reserve c =
@@ -92,24 +93,25 @@ module _ (insts : ℕ → InstValue) (placesf : ℕ → List Place) (last : ℕ)
       (λ p h. h) (s.brings v refl))
 
   -- all arguments are spilled
-  pub settled_carries : (f : FunctionValue) (b : ℕ) (t u : InstRegs) (old new : StateValue) (k : ℕ) (given : List ClassMove) →
+  pub settled_carries : {f : FunctionValue} {b : ℕ} {t u : InstRegs} {old new : StateValue} {k : ℕ} {given : List ClassMove} →
       GathersMoves f b (before last) t old k u new given → Between last old → SpareHere t old → Carries v (from_last old) (On old) E →
       Carries v (from_last new) (On new) E
-  settled_carries f b t u old new k given gathers between scratch_reserve c =
-      let d = gathered (λ w. w ≡ v) insts placesf last 0 branch_item (λ w. E) (is_kept block v.number F) (kept-clear block v.number F only) f b t old
+  settled_carries {f} {b} {t} {u} {old} {new} {k} {given} gathers between scratch_reserve c =
+      let d = gathered (tail_of (λ w. w ≡ v) insts placesf last 0 (λ w. E)) branch_item (is_kept block v.number F) (kept-clear block v.number F only) f b t old
       (begin_stage t old between scratch_reserve c) k u new given gathers in
       end_stage u new d.stage
 
 -- what settling does to the tables
 abbrev pub Parted : FunctionValue → ℕ → ℕ → ℕ → InstRegs → InstRegs → StateValue → StateValue → List ClassMove → Type 0
-Parted f b last k t u old new given = MovesByClass (λ v. ⊥) (inst_at f) (λ j. []) last 0 (executed (inst_at f last) []) (λ v p. ⊥) (λ p x. false) (λ r x. refl)
+Parted f b last k t u old new given = MovesByClass (tail_of (λ v. ⊥) (inst_at f) (λ j. []) last 0 (λ v p. ⊥)) (executed (inst_at f last) []) (λ p x. false)
+    (λ r x. refl)
     f b k t u old new given
 
 -- once the arguments of k edges are gathered, each is located, and the gathered moves go from their slots to the parameters' slots
 pub parted : (f : FunctionValue) (b last : ℕ) (t u : InstRegs) (old new : StateValue) (k : ℕ) (given : List ClassMove) →
     GathersMoves f b (before last) t old k u new given → Between last old → SpareHere t old → Parted f b last k t u old new given
 parted f b last t u old new k given gathers between scratch_reserve =
-    gathered (λ v. ⊥) (inst_at f) (λ j. []) last 0 (executed (inst_at f last) []) (λ v p. ⊥) (λ p x. false) (λ r x. refl) f b t old
+    gathered (tail_of (λ v. ⊥) (inst_at f) (λ j. []) last 0 (λ v p. ⊥)) (executed (inst_at f last) []) (λ p x. false) (λ r x. refl) f b t old
     (record {
       whole = between.whole;
       later = between.later;

@@ -52,6 +52,7 @@ use Rattle.regalloc2_fastalloc_proofs.proofs.Walk.InstsBeforeLastCarry.{defined_
 use Rattle.regalloc2_fastalloc_proofs.proofs.Walk.DefsBeforeUses.{used_made, used_somewhere}
 use Rattle.regalloc2_fastalloc_proofs.proofs.Walk.BlockCarries.{BlockEnd, EndCarries, BranchCarries, IsUnused, writes_in}
 use Rattle.regalloc2_fastalloc_proofs.proofs.Inst.ProperInsts.{all_proper}
+use Rattle.regalloc2_fastalloc_proofs.proofs.Inst.ProperInsts.{proper_of}
 
 kind_is : (k : OperandKind) → is_def k ≡ true → k ≡ Def
 kind_is Def h = refl
@@ -180,7 +181,7 @@ module _ (env : MachineValue) (f : FunctionValue) (limited : IsLimited f) (ok : 
       -- behind the branch no move is listed
       quiet : at_point (listed new.edits) (after last) ≡ []
       quiet =
-          let br = branched (Made f) f placesf (all_proper env f limited ok) last e.allocates.allocates.blank
+          let br = branched (proper_of (Made f) f placesf (all_proper env f limited ok)) last e.allocates.allocates.blank
           e.allocates.allocates.here old e.allocates.middle within e.at (tame_at env f limited ok taken last within) ends e.between e.bare
           e.allocates.allocates.allocates in
           let p = e.allocates.branch branch in
@@ -250,15 +251,34 @@ module _ (env : MachineValue) (f : FunctionValue) (limited : IsLimited f) (ok : 
         foreign_carries foreign =
             carries_weaken v L On On (StandsAfter f (λ u. slots_at final u.number) b v) (GoesOut f stand b v) (λ p h. h)
             (foreign_out b lb placesf (slots_at final) stand arrive branch v (decide v used) foreign)
-            (branch_carries (Made f) f placesf (all_proper env f limited ok) (slots_at final) b last
-            e.allocates.allocates.blank e.allocates.allocates.here old e.allocates.middle new within e.at (tame_at env f limited ok taken last within) ends
-            own_slots
-            (λ k w edge named. defined_not w (let n = named_param (params_on f b k) w named in param_foreign b lb k n.0 w edge n.1 n.2 b lb))
-            (known_params b lb) (argument_classes f b ok.counted ok.classes lb)
-            (unread_parameters f b last ok.predecessors ok.no_operands_into_joins silent lb (target_small b lb)
-            (let some = (ok.follow b lb).0 in omega (arith, some)) e.end) e.between e.bare
-            e.allocates.allocates.allocates e.allocates.inst_regs (e.allocates.branch branch) come
-            v made (defined_not v foreign) foreign (writes_in f b last v.number) (e.settled v.number) (e.writes v made) (e.lives v))
+            (branch_carries (record {
+              code = proper_of (Made f) f placesf (all_proper env f limited ok);
+              F = slots_at final;
+              b = b;
+              last = last;
+              blank = e.allocates.allocates.blank;
+              here = e.allocates.allocates.here;
+              old = old;
+              middle = e.allocates.middle;
+              new = new;
+              within = within;
+              are_listed = e.at;
+              tame = tame_at env f limited ok taken last within;
+              ends = ends;
+              own_defs = own_slots;
+              undefined_params = λ k w edge named.
+                  defined_not w (let n = named_param (params_on f b k) w named in param_foreign b lb k n.0 w edge n.1 n.2 b lb);
+              known_params = known_params b lb;
+              classes = argument_classes f b ok.counted ok.classes lb;
+              unread_params = unread_parameters f b last ok.predecessors ok.no_operands_into_joins silent lb (target_small b lb)
+                  (let some = (ok.follow b lb).0 in omega (arith, some)) e.end;
+              between = e.between;
+              bare = e.bare;
+              a = e.allocates.allocates.allocates;
+              inst_regs = e.allocates.inst_regs;
+              p = e.allocates.branch branch;
+              come = come;
+            }) v made (defined_not v foreign) foreign (writes_in f b last v.number) (e.settled v.number) (e.writes v made) (e.lives v))
 
       at_last : EndCarries f placesf (slots_at final) stand b (last_of (block_at f b)) new
       at_last silent v used excused = elim (cases_Bool (defined_by (inst_at f last).operands v.number)) [

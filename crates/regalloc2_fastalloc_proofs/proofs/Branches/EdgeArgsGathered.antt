@@ -8,7 +8,7 @@ use Rattle.regalloc2_names.specs.declared.RegClass.TheVariants.{Int, Float, Vect
 use Rattle.regalloc2_names.specs.Register.{Register, VirtualRegister}
 use Rattle.regalloc2_names.specs.Place.{Place, NoPlace, InRegister}
 use Rattle.regalloc2_names.specs.Point.{before}
-use Rattle.regalloc2_function.specs.FunctionValue.{FunctionValue, InstValue, block_at}
+use Rattle.regalloc2_function.specs.FunctionValue.{FunctionValue, block_at}
 use Rattle.regalloc2_function.specs.SourceRun.{arguments_at}
 use Rattle.regalloc2_semantics.specs.Listing.{Item}
 use Rattle.regalloc2_semantics.specs.Blocks.{target_at, Passes}
@@ -21,6 +21,7 @@ use Rattle.regalloc2_fastalloc_proofs.specs.BranchSteps.{no_edge, one_edge, IsOw
 use Rattle.regalloc2_fastalloc_proofs.proofs.Safety.StepsKeepState.{place_in}
 use Rattle.regalloc2_fastalloc_proofs.proofs.Operands.RecordOverState.{opt, opt_some, slots_at}
 use Rattle.regalloc2_fastalloc_proofs.proofs.Branches.ArgsSpilled.{Comes, comes_all, comes_then, Stage, gives_stage, argued}
+use Rattle.regalloc2_fastalloc_proofs.proofs.Operands.BlockTail.{BlockTail}
 
 contains_cases : {X : Type 0} → (x y : X) (xs : List X) → Contains (x ∷ xs) y → (x ≡ y) ⊎ Contains xs y
 contains_cases x y xs (zero, lt, e) = inl e
@@ -118,13 +119,14 @@ argued_on params arguments j m n g grow a = (a.0, a.1, grow (argument_at argumen
 abbrev pub params_on : FunctionValue → ℕ → ℕ → List VirtualRegister
 params_on f b k = (block_at f (target_at f b k)).params
 
-module _ (Known : VirtualRegister → Type 0) (insts : ℕ → InstValue) (placesf : ℕ → List Place) (i n : ℕ) (item : Item) (E : VirtualRegister → Place → Type 0)
-    (X : Place → ℕ → Bool) (clear : (r : Register) (x : ℕ) → X (InRegister r) x ≡ false) where
+module _ (tail : BlockTail) (item : Item) (X : Place → ℕ → Bool) (clear : (r : Register) (x : ℕ) → X (InRegister r) x ≡ false) where
+  open tail use {Known, insts, placesf, i, n, E}
+
   -- the first k arguments of an edge
   pub record EdgeDone (Own : VirtualRegister → Type 0) (params arguments : List VirtualRegister) (before_it : List ClassMove) (k : ℕ) (t u : InstRegs)
       (old new : StateValue)
       (given : List ClassMove) : Type 0 where
-    pub stage : Stage Known insts placesf i n item E X clear u new
+    pub stage : Stage tail item X clear u new
     pub comes : Comes i t u old new
     pub kept : (g : ClassMove) → Contains before_it g → Contains given g
     pub origin : (g : ClassMove) → Contains given g → Contains before_it g ⊎ ((j : ℕ) × IsArgued params arguments j new g)
@@ -133,7 +135,7 @@ module _ (Known : VirtualRegister → Type 0) (insts : ℕ → InstValue) (place
 
   -- gathering the first k arguments of an edge keeps the state at the branch, and its moves go from the arguments' slots to the parameters'
   pub edge_done : {Own : VirtualRegister → Type 0} (params arguments : List VirtualRegister) (t : InstRegs) (old : StateValue) (before_it : List ClassMove) →
-      Stage Known insts placesf i n item E X clear t old
+      Stage tail item X clear t old
       → (k : ℕ) (u : InstRegs) (new : StateValue) (given : List ClassMove) → GathersEdgeMoves Own (before i) params arguments t old before_it k u new given →
       EdgeDone Own params arguments before_it k t u old new given
   edge_done params arguments t old before_it h k u new given none_gathered = record {
@@ -146,8 +148,8 @@ module _ (Known : VirtualRegister → Type 0) (insts : ℕ → InstValue) (place
   }
   edge_done params arguments t old before_it h k w o given (one_gathered j had to from u x m p q lt prev gives places edits machine settles foreign) =
       let a = edge_done params arguments t old before_it h j u m had prev in
-      let g = gives_stage Known insts placesf i n item E X clear (argument_at params j) to u m p gives places edits machine a.stage in
-      let s = argued Known insts placesf i n item E X clear (argument_at arguments j) from u w p o settles g.0 in
+      let g = gives_stage tail item X clear (argument_at params j) to u m p gives places edits machine a.stage in
+      let s = argued tail item X clear (argument_at arguments j) from u w p o settles g.0 in
       let c : Comes i u w m o = comes_then i u u w m p o g.1 s.comes in
       let one : ClassMove = record { class = (argument_at arguments j).class; from = from; to = to } in
       let is : IsArgued params arguments j o one = (
@@ -203,7 +205,7 @@ module _ (Known : VirtualRegister → Type 0) (insts : ℕ → InstValue) (place
 
   -- those of the first k edges
   pub record MovesByClass (f : FunctionValue) (b k : ℕ) (t u : InstRegs) (old new : StateValue) (given : List ClassMove) : Type 0 where
-    pub stage : Stage Known insts placesf i n item E X clear u new
+    pub stage : Stage tail item X clear u new
     pub comes : Comes i t u old new
     pub origin : (g : ClassMove) → Contains given g → (e j : ℕ) × (e < k) × IsArgued (params_on f b e) (arguments_at f b e) j new g
     pub all : (e j : ℕ) → e < k → j < length (params_on f b e) → (IsOwn f b (argument_at (arguments_at f b e) j) → ⊥) → (g : ClassMove) × Contains given g
@@ -212,7 +214,7 @@ module _ (Known : VirtualRegister → Type 0) (insts : ℕ → InstValue) (place
         place_in new (argument_at (arguments_at f b e) j).number ≢ NoPlace
 
   -- gathering the arguments of the first k edges keeps the state at the branch, and gives the moves of all their arguments
-  pub gathered : (f : FunctionValue) (b : ℕ) (t : InstRegs) (old : StateValue) → Stage Known insts placesf i n item E X clear t old
+  pub gathered : (f : FunctionValue) (b : ℕ) (t : InstRegs) (old : StateValue) → Stage tail item X clear t old
       → (k : ℕ) (u : InstRegs) (new : StateValue) (given : List ClassMove) → GathersMoves f b (before i) t old k u new given
       → MovesByClass f b k t u old new given
   gathered f b t old h k u new given no_edge = record {

@@ -10,8 +10,8 @@ use Rattle.regalloc2_names.specs.RegisterSet.{has_register}
 use Rattle.regalloc2_names.specs.Operand.{OperandValue, is_def, is_late, is_fixed_nonallocatable}
 use Rattle.regalloc2_names.specs.Place.{Place, InRegister}
 use Rattle.regalloc2_names.specs.Point.{after}
-use Rattle.regalloc2_function.specs.FunctionValue.{InstValue}
-use Rattle.regalloc2_semantics.specs.OperandsPlaced.{What, what_of, Share, read_first, written_after, Counts, Clear}
+use Rattle.regalloc2_semantics.specs.OperandsPlaced.{What, what_of, Share, read_first, written_after, Counts, Clear, Progress, Puts}
+use Rattle.regalloc2_semantics.specs.OperandsPlaced.{at_begin}
 use Rattle.regalloc2_fastalloc_state.specs.declared.inst_regs.InstRegs.{InstRegs}
 use Rattle.regalloc2_fastalloc_state.specs.declared.inst_regs.Positions.{Positions}
 use Rattle.regalloc2_fastalloc_state.specs.InstRegs.{positions_of}
@@ -24,10 +24,11 @@ use Rattle.regalloc2_fastalloc_proofs.proofs.Operands.RecordOverState.{stands_at
 use Rattle.regalloc2_fastalloc_proofs.proofs.Evictions.EvictVReg.{Kept, kept_all}
 use Rattle.regalloc2_fastalloc_proofs.proofs.Moves.ScratchRegTaken.{IsScratch, of_machine, taken, Fit, Less, less_same, less_then, set_found}
 use Rattle.regalloc2_fastalloc_proofs.proofs.Evictions.EvictPReg.{kept_then}
-use Rattle.regalloc2_fastalloc_proofs.proofs.Operands.ClaimAndUse.{Puts, covers_at, claim_register}
+use Rattle.regalloc2_fastalloc_proofs.proofs.Operands.ClaimAndUse.{covers_at, claim_register}
 use Rattle.regalloc2_fastalloc_proofs.proofs.Operands.RecordOfInst.{Orderly, Ready}
 use Rattle.regalloc2_fastalloc_proofs.proofs.Evictions.EvictKeepsRecord.{ready_clears, ready_clears_but}
 use Rattle.regalloc2_fastalloc_proofs.proofs.Operands.ClaimKeepsRecord.{Grips, ready_claim}
+use Rattle.regalloc2_fastalloc_proofs.proofs.Operands.BlockTail.{BlockTail}
 
 -- operands that hold no position together may be in one place
 share_apart : (a b : ℕ) (d l e k : Bool) → (((not d || not l) && (not e || not k)) || ((d || l) && (e || k))) ≡ false →
@@ -200,10 +201,14 @@ takes_away ops b u old t k r o s m f free x c q (taken e) h =
     ∙ s.late k r (positions_of (op_at ops k)) x.within c2 a in let z = there.1 in cc)
     (some_position (is_def (op_at ops k).kind) (is_late (op_at ops k).position))
 
+-- operands have claimed their places, and none is placed yet
+abbrev pub begun : (ℕ → Place) → (ℕ → Bool) → (ℕ → Bool) → Progress
+begun here claimed lived = record (at_begin here lived) { claimed = claimed }
+
 -- what lives, while no operand is allocated: any vreg that has a location
-pub all_lived : (what : ℕ → What) (here : ℕ → Place) (claimed lived out : ℕ → Bool) (clob : Place → Bool) (X : Place → ℕ → Bool) (t : StateValue) →
-    Located what here claimed (λ j. false) lived out clob X t → (x : ℕ) (p : Place) → stands_at t x ≡ Some p → lived x ≡ true
-all_lived what here claimed lived out clob X t st x p e = ⊎_elim
+pub all_lived : (what : ℕ → What) (here : ℕ → Place) (claimed lived : ℕ → Bool) (t : StateValue) →
+    Located what (begun here claimed lived) t → (x : ℕ) (p : Place) → stands_at t x ≡ Some p → lived x ≡ true
+all_lived what here claimed lived t st x p e = ⊎_elim
     (λ (l : lived x ≡ true). l)
     (λ (l : lived x ≡ false). let w = st.placed.newly x p l e in let y : false ≡ true = w.1 in absurd cc)
     (cases_Bool (lived x))
@@ -228,10 +233,12 @@ counts_able ops k o c = elim c.1 [
     by_test true true h = absurd cc
     by_test false true h = absurd cc
 
-module _ (Known : VirtualRegister → Type 0) (insts : ℕ → InstValue) (placesf : ℕ → List Place) (i n : ℕ) (E : VirtualRegister → Place → Type 0) where
+module _ (tail : BlockTail) where
+  open tail use {Known, insts, placesf, i, n, E}
+
   -- no operand is allocated
   abbrev pub Start : List OperandValue → (ℕ → Place) → (ℕ → Bool) → (ℕ → Bool) → Bool → InstRegs → StateValue → Type 0
-  Start ops here claimed lived ret u t = Ready Known insts placesf i n E ops here claimed (λ j. false) lived (λ x. false) (λ p. false) (λ p x. false) ret u t
+  Start ops here claimed lived ret u t = Ready tail ops (begun here claimed lived) ret u t
 
   -- The fixed registers of the first k operands are emptied and claimed; b has the registers from which all are removed.
   pub record FixedUpTo (ops : List OperandValue) (lived : ℕ → Bool) (ret : Bool) (b : InstRegs) (old : StateValue) (k : ℕ) (u : InstRegs)
@@ -291,14 +298,13 @@ module _ (Known : VirtualRegister → Type 0) (insts : ℕ → InstValue) (place
       let y = (x.took j c).1 in
       let at : InRegister y.0 ≡ InRegister r = sym y.1 ∙ e in let same : y.0 ≡ r = cc in
       takes_share ops b old j k r o s (subst (AllocsAnyReg ops j) same y.2) takes in
-      let st : Located (what_of ops) there claimed2 (λ j. false) lived (λ x. false) (λ p. false) (λ p x. false) t =
-      claim_register (what_of ops) x.here there x.claimed claimed2 (λ j. false) lived (λ x. false) (λ p. false) (λ p x. false) t k r puts clear alone
+      let st : Located (what_of ops) (begun there claimed2 lived) t =
+      claim_register (what_of ops) (begun x.here x.claimed lived) there claimed2 t k r puts clear alone
       (λ h. refl) ready.located in
       record {
         here = there;
         claimed = claimed2;
-        ready = ready_claim Known insts placesf i n E ops x.here there x.claimed claimed2 (λ j. false) lived (λ x. false) (λ p. false) (λ p x. false) ret k
-            (InRegister r) (positions_of (op_at ops k)) w w t puts counts
+        ready = ready_claim tail ops (begun x.here x.claimed lived) there claimed2 ret puts counts
             (covers_at (op_at ops k).vreg.number (is_def (op_at ops k).kind) (is_late (op_at ops k).position))
             (takes_held ops b w old k r o s far takes)
             (λ q e. let same : r ≡ q = cc in subst (λ (y : Register). y.number < 64) same (s.small k r takes.at takes.within takes.claims))
@@ -344,9 +350,9 @@ module _ (Known : VirtualRegister → Type 0) (insts : ℕ → InstValue) (place
   fixed_done ops lived ret b old o s begin k u t (of_fixed j r w y m p prev is clears) = λ le.
       let x : FixedUpTo ops lived ret b old j w m = fixed_done ops lived ret b old o s begin j w m prev (omega arith) in
       let lt : j < length ops = omega arith in
-      let c = ready_clears_but Known insts placesf i n E ops x.here x.claimed (λ j. false) lived (λ x. false) (λ p. false) (λ p x. false) ret r
+      let c = ready_clears_but tail ops (begun x.here x.claimed lived) ret r
       (op_at ops j).vreg w u m t clears
-      (λ v at ne. (all_lived (what_of ops) x.here x.claimed lived (λ x. false) (λ p. false) (λ p x. false) m x.ready.located v (InRegister r) at, λ z. refl))
+      (λ v at ne. (all_lived (what_of ops) x.here x.claimed lived m x.ready.located v (InRegister r) at, λ z. refl))
       x.ready in
       let free : WereFree b u = clears_but_free b (after i) r (op_at ops j).vreg w u m t clears x.less x.free in
       ⊎_elim
@@ -363,8 +369,8 @@ module _ (Known : VirtualRegister → Type 0) (insts : ℕ → InstValue) (place
   fixed_done ops lived ret b old o s begin k u t (of_reuse j d r w y m p prev is within is_fixed clears) = λ le.
       let x : FixedUpTo ops lived ret b old j w m = fixed_done ops lived ret b old o s begin j w m prev (omega arith) in
       let lt : j < length ops = omega arith in
-      let c = ready_clears Known insts placesf i n E ops x.here x.claimed (λ j. false) lived (λ x. false) (λ p. false) (λ p x. false) ret r w u m t clears
-      (λ v at. (all_lived (what_of ops) x.here x.claimed lived (λ x. false) (λ p. false) (λ p x. false) m x.ready.located v (InRegister r) at, λ z. refl))
+      let c = ready_clears tail ops (begun x.here x.claimed lived) ret r w u m t clears
+      (λ v at. (all_lived (what_of ops) x.here x.claimed lived m x.ready.located v (InRegister r) at, λ z. refl))
       x.ready in
       let free : WereFree b u = clears_free b (after i) r w u m t clears x.less x.free in
       let def = o.late_reuse j d lt is in

@@ -8,11 +8,10 @@ use Rattle.regalloc2_names.specs.RegisterSet.{has_register}
 use Rattle.regalloc2_names.specs.Operand.{OperandValue}
 use Rattle.regalloc2_names.specs.Place.{Place, NoPlace, InRegister}
 use Rattle.regalloc2_names.specs.Point.{after}
-use Rattle.regalloc2_function.specs.FunctionValue.{InstValue}
 use Rattle.regalloc2_function.specs.OutputValue.{MoveValue}
 use Rattle.regalloc2_semantics.specs.Instruction.{Claims}
 use Rattle.regalloc2_semantics.specs.BlockByPoints.{after_part, listed}
-use Rattle.regalloc2_semantics.specs.OperandsPlaced.{what_of}
+use Rattle.regalloc2_semantics.specs.OperandsPlaced.{what_of, Progress}
 use Rattle.regalloc2_semantics.proofs.NeedsAcrossMoves.{claims_move}
 use Rattle.regalloc2_semantics.proofs.PushedMoves.{after_part-more}
 use Rattle.regalloc2_fastalloc_state.specs.declared.inst_regs.InstRegs.{InstRegs}
@@ -25,6 +24,7 @@ use Rattle.regalloc2_fastalloc_proofs.proofs.Evictions.EvictVReg.{Kept}
 use Rattle.regalloc2_fastalloc_proofs.proofs.Moves.ScratchRegTaken.{Less, less_same, scratches_less, fit_same}
 use Rattle.regalloc2_fastalloc_proofs.proofs.Evictions.EvictPReg.{Cleared, clears_step, Owned, clears_but_step}
 use Rattle.regalloc2_fastalloc_proofs.proofs.Operands.RecordOfInst.{Ready}
+use Rattle.regalloc2_fastalloc_proofs.proofs.Operands.BlockTail.{BlockTail}
 
 -- more is held from then on
 pub crosses_less : (point : ℕ) (class : RegClass) (from to : Place) (t u : InstRegs) (old new : StateValue) → AddsMove point class from to t u old new
@@ -61,7 +61,9 @@ pub clears_but_flat : (point : ℕ) (r : Register) (v : VirtualRegister) (t u : 
 clears_but_flat point r v t u old new flat (own w there same eu en) = eu
 clears_but_flat point r v t u old new flat (others other c) = clears_flat point r t u old new flat c
 
-module _ (Known : VirtualRegister → Type 0) (insts : ℕ → InstValue) (placesf : ℕ → List Place) (i n : ℕ) (E : VirtualRegister → Place → Type 0) where
+module _ (tail : BlockTail) where
+  open tail use {Known, insts, placesf, i, n, E}
+
   -- where nothing is needed after the instruction, nothing is with one more move
   abbrev pub Nothing : List (ℕ × MoveValue) → Type 0
   Nothing es = Claims Known (after_part insts (listed es) placesf i n) (λ x p. ⊥) E
@@ -110,21 +112,21 @@ module _ (Known : VirtualRegister → Type 0) (insts : ℕ → InstValue) (place
   none_clears_but r v t u old new (others other x) c = none_clears r t u old new x c
 
   -- a register is emptied, of all vregs or all others
-  pub record Readied (ops : List OperandValue) (here : ℕ → Place) (claimed done lived out : ℕ → Bool) (clob : Place → Bool) (X : Place → ℕ → Bool) (ret : Bool)
+  pub record Readied (ops : List OperandValue) (far : Progress) (ret : Bool)
       (t u : InstRegs) (old new : StateValue) : Type 0 where
-    pub ready : Ready Known insts placesf i n E ops here claimed done lived out clob X ret u new
+    pub ready : Ready tail ops far ret u new
     pub kept : Kept old new
     pub less : Less t u
 
   -- evicting a register while operands are allocated keeps their record, and leaves no vreg in the register
-  pub ready_clears : (ops : List OperandValue) (here : ℕ → Place) (claimed done lived out : ℕ → Bool) (clob : Place → Bool) (X : Place → ℕ → Bool) (ret : Bool)
+  pub ready_clears : (ops : List OperandValue) (far : Progress) (ret : Bool)
       (r : Register) (t u : InstRegs) (old new : StateValue) → EvictsPReg (after i) r t u old new →
-      ((x : ℕ) → stands_at old x ≡ Some (InRegister r) → (lived x ≡ true) × ((w : ℕ) → X (InRegister r) w ≡ false)) →
-      Ready Known insts placesf i n E ops here claimed done lived out clob X ret t old →
-      Readied ops here claimed done lived out clob X ret t u old new × ((x : ℕ) → place_in new x ≡ InRegister r → ⊥)
-  ready_clears ops here claimed done lived out clob X ret r t u old new clears may s =
-      let c : Cleared Known insts placesf i n E (what_of ops) here claimed done lived out clob X r u old new =
-      clears_step Known insts placesf i n E (what_of ops) here claimed done lived out clob X r t u old new clears may s.scratch_reserve s.fit s.held s.located
+      ((x : ℕ) → stands_at old x ≡ Some (InRegister r) → (far.lived x ≡ true) × ((w : ℕ) → far.made_at (InRegister r) w ≡ false)) →
+      Ready tail ops far ret t old →
+      Readied ops far ret t u old new × ((x : ℕ) → place_in new x ≡ InRegister r → ⊥)
+  ready_clears ops far ret r t u old new clears may s =
+      let c : Cleared tail (what_of ops) far r u old new =
+      clears_step tail (what_of ops) far r t u old new clears may s.scratch_reserve s.fit s.held s.located
       s.owes in
       let less : Less t u = clears_less (after i) r t u old new clears in (
         record {
@@ -146,14 +148,14 @@ module _ (Known : VirtualRegister → Type 0) (insts : ℕ → InstValue) (place
       )
 
   -- an eviction that spares one vreg keeps the record of the operands, and leaves at most that vreg in the register
-  pub ready_clears_but : (ops : List OperandValue) (here : ℕ → Place) (claimed done lived out : ℕ → Bool) (clob : Place → Bool) (X : Place → ℕ → Bool)
+  pub ready_clears_but : (ops : List OperandValue) (far : Progress)
       (ret : Bool) (r : Register) (v : VirtualRegister) (t u : InstRegs) (old new : StateValue) → EvictsOthers (after i) r v t u old new →
-      ((x : ℕ) → stands_at old x ≡ Some (InRegister r) → (x ≡ v.number → ⊥) → (lived x ≡ true) × ((w : ℕ) → X (InRegister r) w ≡ false)) →
-      Ready Known insts placesf i n E ops here claimed done lived out clob X ret t old →
-      Readied ops here claimed done lived out clob X ret t u old new × ((x : ℕ) → place_in new x ≡ InRegister r → x ≡ v.number)
-  ready_clears_but ops here claimed done lived out clob X ret r v t u old new clears may s =
-      let c : Owned Known insts placesf i n E (what_of ops) here claimed done lived out clob X r v u old new =
-      clears_but_step Known insts placesf i n E (what_of ops) here claimed done lived out clob X r v t u old new clears may s.scratch_reserve s.fit s.held
+      ((x : ℕ) → stands_at old x ≡ Some (InRegister r) → (x ≡ v.number → ⊥) → (far.lived x ≡ true) × ((w : ℕ) → far.made_at (InRegister r) w ≡ false)) →
+      Ready tail ops far ret t old →
+      Readied ops far ret t u old new × ((x : ℕ) → place_in new x ≡ InRegister r → x ≡ v.number)
+  ready_clears_but ops far ret r v t u old new clears may s =
+      let c : Owned tail (what_of ops) far r v u old new =
+      clears_but_step tail (what_of ops) far r v t u old new clears may s.scratch_reserve s.fit s.held
       s.located s.owes in
       let less : Less t u = clears_but_less (after i) r v t u old new clears in (
         record {

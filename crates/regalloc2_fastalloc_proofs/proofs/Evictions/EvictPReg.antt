@@ -1,5 +1,5 @@
 -- A register or fixed stack slot is emptied, by way of a scratch register where both ends of the reload are in memory.
-use Rattle.std.proofs.Common.{ℕ, ◌≡◌, ◌≢◌, Bool, true, false, List, [], ◌∷◌, ◌++◌, refl, sym, ap, ◌∙◌, subst, inl, inr}
+use Rattle.std.proofs.Common.{ℕ, ◌≡◌, ◌≢◌, true, false, List, [], ◌∷◌, ◌++◌, refl, sym, ap, ◌∙◌, subst, inl, inr}
 use Rattle.std.specs.Prelude.{Option, None, Some}
 use Rattle.std.proofs.lemmas.Bool.{cases_eq, and_parts}
 use Rattle.regalloc2_names.specs.declared.RegClass.{RegClass}
@@ -7,13 +7,12 @@ use Rattle.regalloc2_names.specs.Register.{Register, VirtualRegister}
 use Rattle.regalloc2_names.specs.RegisterSet.{has_register}
 use Rattle.regalloc2_names.specs.Place.{Place, NoPlace, InRegister, InSlot}
 use Rattle.regalloc2_names.specs.Point.{after}
-use Rattle.regalloc2_function.specs.FunctionValue.{InstValue}
 use Rattle.regalloc2_function.specs.OutputValue.{MoveValue}
 use Rattle.regalloc2_semantics.specs.Listing.{Item}
 use Rattle.regalloc2_semantics.specs.Listing.Item.{Move}
 use Rattle.regalloc2_semantics.specs.BlockByPoints.{after_part, listed}
 use Rattle.regalloc2_semantics.specs.Instruction.{Claims}
-use Rattle.regalloc2_semantics.specs.OperandsPlaced.{What, Need, located, in_slot, made, Held}
+use Rattle.regalloc2_semantics.specs.OperandsPlaced.{What, Progress, Need, located, in_slot, made, Held}
 use Rattle.regalloc2_semantics.proofs.NeedsAcrossMoves.{need_slot, claims_through}
 use Rattle.regalloc2_fastalloc_state.specs.declared.inst_regs.InstRegs.{InstRegs}
 use Rattle.regalloc2_fastalloc_proofs.specs.InstSteps.{StateValue, is_stack_in, moved, direct, through, EvictsPReg, empty, cleared, EvictsOthers, own, others}
@@ -26,6 +25,7 @@ use Rattle.regalloc2_fastalloc_proofs.proofs.Moves.ScratchRegTaken.{IsIdle, IsSc
 use Rattle.regalloc2_fastalloc_proofs.proofs.Moves.ScratchRegTaken.{scratch_off, fit_same}
 use Rattle.regalloc2_fastalloc_proofs.proofs.Moves.ScratchRegMidMove.{put, put_same, put_other, owes_same, ScratchedBut, scratch_but, through_items}
 use Rattle.regalloc2_fastalloc_proofs.proofs.Moves.ScratchRegMidMove.{through_later}
+use Rattle.regalloc2_fastalloc_proofs.proofs.Operands.BlockTail.{BlockTail}
 
 -- what no eviction changes stays over two steps that each leave it alone
 pub kept_then : (a b c : StateValue) → Kept a b → Kept b c → Kept a c
@@ -51,33 +51,36 @@ scratch_of_edits : (t : StateValue) (es : List (ℕ × MoveValue)) (c : RegClass
 scratch_of_edits t es c u b (of_machine e) = of_machine e
 scratch_of_edits t es c u b (taken e) = taken e
 
-module _ (Known : VirtualRegister → Type 0) (insts : ℕ → InstValue) (placesf : ℕ → List Place) (i n : ℕ) (E : VirtualRegister → Place → Type 0) where
+module _ (tail : BlockTail) where
+  open tail use {Known, insts, placesf, i, n, E}
+
   -- after an eviction: no vreg is in the register, and the records of the operands' places, scratch registers and listing are kept
-  pub record Cleared (what : ℕ → What) (here : ℕ → Place) (claimed done lived out : ℕ → Bool) (clob : Place → Bool) (X : Place → ℕ → Bool) (r : Register)
+  pub record Cleared (what : ℕ → What) (far : Progress) (r : Register)
       (u : InstRegs) (old new : StateValue) : Type 0 where
-    pub located : Located what here claimed done lived out clob X new
-    pub owes : Owes Known insts placesf i n E lived out X (stands_at new) (slots_at new) new.edits
-    pub held : Held what here claimed (held_early u) (held_late u)
+    pub located : Located what far new
+    pub owes : Owes tail far.lived far.out far.made_at (stands_at new) (slots_at new) new.edits
+    pub held : Held what far.here far.claimed (held_early u) (held_late u)
     pub emptied : (x : ℕ) → place_in new x ≡ InRegister r → ⊥
     pub kept : Kept old new
-    pub scratch_reserve : Spare here claimed X u new
+    pub scratch_reserve : Spare far.here far.claimed far.made_at u new
 
   -- the reload through the scratch register
-  through_owes : (what : ℕ → What) (here : ℕ → Place) (claimed done lived out : ℕ → Bool) (clob : Place → Bool) (X : Place → ℕ → Bool) (v : ℕ) (r by : Register)
+  through_owes : (what : ℕ → What) (far : Progress) (v : ℕ) (r by : Register)
       (s : Place) (t new : StateValue) →
-      (r ≡ by → ⊥) → s ≢ NoPlace → Located what here claimed done lived out clob X t → IsIdle here claimed X by t → stands_at t v ≡ Some s →
-      ((x : ℕ) → place_in t x ≡ InRegister r → ⊥) → ((u : ℕ) → X (InRegister r) u ≡ false) →
-      Owes Known insts placesf i n E lived out X (put (stands_at t) v (Some (InRegister r))) (slots_at t) t.edits →
-      Owes Known insts placesf i n E lived out X (stands_at t) (slots_at t)
+      (r ≡ by → ⊥) → s ≢ NoPlace → Located what far t → IsIdle far.here far.claimed far.made_at by t → stands_at t v ≡ Some s →
+      ((x : ℕ) → place_in t x ≡ InRegister r → ⊥) → ((u : ℕ) → far.made_at (InRegister r) u ≡ false) →
+      Owes tail far.lived far.out far.made_at (put (stands_at t) v (Some (InRegister r))) (slots_at t) t.edits →
+      Owes tail far.lived far.out far.made_at (stands_at t) (slots_at t)
       (t.edits ++ a_move (after i) (InRegister by) (InRegister r) ∷ a_move (after i) s (InRegister by) ∷ [])
-  through_owes what here claimed done lived out clob X v r by s t new apart real st idle alloc_of nobody_there clear o =
+  through_owes what far v r by s t new apart real st idle alloc_of nobody_there clear o =
       let L : List Item = after_part insts (listed t.edits) placesf i n in
       let T : ℕ → Option Place = put (stands_at t) v (Some (InRegister r)) in
       let no_slot : (x : ℕ) (q : Register) → slots_at t x ≡ Some (InRegister q) →
       ⊥ = λ x q e. no_register_slot t.slots.count (slot_in t x) q (st.whole.below x) (opt_from (slot_in t x) (InRegister q) e) in
       let moves : Claims Known (Move (record { from = s; to = InRegister by }) ∷ (Move (record { from = InRegister by; to = InRegister r }) ∷ L))
-      (Need lived out X (stands_at t) (slots_at t)) E =
-      claims_through Known E L (Need lived out X T (slots_at t)) (Need lived out X (stands_at t) (slots_at t)) s (InRegister by) (InRegister r) (λ z. cc)
+      (Need far.lived far.out far.made_at (stands_at t) (slots_at t)) E =
+      claims_through Known E L (Need far.lived far.out far.made_at T (slots_at t)) (Need far.lived far.out far.made_at (stands_at t) (slots_at t)) s
+      (InRegister by) (InRegister r) (λ z. cc)
       (λ z. cc)
       (λ x z. elim z [
         | located l e ↦ elim (cases_eq x v) [
@@ -107,32 +110,32 @@ module _ (Known : VirtualRegister → Type 0) (insts : ℕ → InstValue) (place
       ])
       o.claims in
       record {
-        later = through_later Known insts placesf i n E s (InRegister by) (InRegister r) t.edits o.later;
-        claims = subst (λ l. Claims Known l (Need lived out X (stands_at t) (slots_at t)) E)
-            (sym (through_items Known insts placesf i n E s (InRegister by) (InRegister r) t.edits)) moves;
+        later = through_later tail s (InRegister by) (InRegister r) t.edits o.later;
+        claims = subst (λ l. Claims Known l (Need far.lived far.out far.made_at (stands_at t) (slots_at t)) E)
+            (sym (through_items tail s (InRegister by) (InRegister r) t.edits)) moves;
       }
 
   -- scratch registers are no fixed stack slots
-  pub clears_step : (what : ℕ → What) (here : ℕ → Place) (claimed done lived out : ℕ → Bool) (clob : Place → Bool) (X : Place → ℕ → Bool) (r : Register)
+  pub clears_step : (what : ℕ → What) (far : Progress) (r : Register)
       (t u : InstRegs) (old new : StateValue) → EvictsPReg (after i) r t u old new →
-      ((x : ℕ) → stands_at old x ≡ Some (InRegister r) → (lived x ≡ true) × ((w : ℕ) → X (InRegister r) w ≡ false)) →
-      Spare here claimed X t old → Fit old →
-      Held what here claimed (held_early t) (held_late t) →
-      Located what here claimed done lived out clob X old → Owes Known insts placesf i n E lived out X (stands_at old) (slots_at old) old.edits →
-      Cleared what here claimed done lived out clob X r u old new
-  clears_step what here claimed done lived out clob X r t u old new (empty none eu en) may sp f h st o =
-      subst (Cleared what here claimed done lived out clob X r u old) (sym en) (record {
+      ((x : ℕ) → stands_at old x ≡ Some (InRegister r) → (far.lived x ≡ true) × ((w : ℕ) → far.made_at (InRegister r) w ≡ false)) →
+      Spare far.here far.claimed far.made_at t old → Fit old →
+      Held what far.here far.claimed (held_early t) (held_late t) →
+      Located what far old → Owes tail far.lived far.out far.made_at (stands_at old) (slots_at old) old.edits →
+      Cleared what far r u old new
+  clears_step what far r t u old new (empty none eu en) may sp f h st o =
+      subst (Cleared what far r u old) (sym en) (record {
         located = st;
         owes = o;
-        held = subst (λ (y : InstRegs). Held what here claimed (held_early y) (held_late y)) (sym eu) h;
+        held = subst (λ (y : InstRegs). Held what far.here far.claimed (held_early y) (held_late y)) (sym eu) h;
         emptied = λ x g. let y = st.whole.stands_in x r g in let z : None ≡ Some y.1.0 = sym none ∙ y.1.2 in cc;
         kept = kept_all old;
-        scratch_reserve = spare_same here claimed X t u old old eu refl sp;
+        scratch_reserve = spare_same far.here far.claimed far.made_at t u old old eu refl sp;
       })
-  clears_step what here claimed done lived out clob X r t u old new (cleared v s m lt held gives settles edits machine (direct flat eu en)) may sp f h st o =
+  clears_step what far r t u old new (cleared v s m lt held gives settles edits machine (direct flat eu en)) may sp f h st o =
       let p : StateValue = record m { edits = m.edits ++ a_move (after i) s (InRegister r) ∷ [] } in
-      let e : Emptied Known insts placesf i n E what here claimed done lived out clob X r old p =
-      evict_step Known insts placesf i n E what here claimed done lived out clob X r old p
+      let e : Emptied tail what far r old p =
+      evict_step tail what far r old p
       (moved v s lt held gives settles (ap (λ es. es ++ a_move (after i) s (InRegister r) ∷ []) edits)
       (record {
         allocatable = machine.allocatable;
@@ -142,50 +145,51 @@ module _ (Known : VirtualRegister → Type 0) (insts : ℕ → InstValue) (place
         vregs = machine.vregs;
         num_temp_slots = machine.num_temp_slots;
       })) may st o in
-      subst (Cleared what here claimed done lived out clob X r u old) (sym en) (record {
+      subst (Cleared what far r u old) (sym en) (record {
         located = e.located;
         owes = e.owes;
-        held = subst (λ (y : InstRegs). Held what here claimed (held_early y) (held_late y)) (sym eu) h;
+        held = subst (λ (y : InstRegs). Held what far.here far.claimed (held_early y) (held_late y)) (sym eu) h;
         emptied = e.empty;
         kept = e.kept;
-        scratch_reserve = spare_same here claimed X t u p p eu refl (spare_kept here claimed X t old p e.kept sp);
+        scratch_reserve = spare_same far.here far.claimed far.made_at t u p p eu refl (spare_kept far.here far.claimed far.made_at t old p e.kept sp);
       })
-  clears_step what here claimed done lived out clob X r t u old new (cleared v s m lt held gives settles edits machine (through by m2 stack scratches en)) may
+  clears_step what far r t u old new (cleared v s m lt held gives settles edits machine (through by m2 stack scratches en)) may
       sp f h st o =
       let w : IsWhole m = shift_whole old m v r s lt held gives settles st.whole in
       let g : Shifts old m v r s = shifts old m v r s lt held gives settles st.whole in
       let ok = may v.number g.was in
-      let stm : Located what here claimed done lived out clob X m = shift_stands old m v r s w g what here claimed done lived out clob X ok.0 st in
+      let stm : Located what far m = shift_stands old m v r s w g what far ok.0 st in
       let k : Kept old m = shift_kept old m v r s g settles.others settles.here gives.others machine in
-      let spm : Spare here claimed X t m = spare_kept here claimed X t old m k sp in
+      let spm : Spare far.here far.claimed far.made_at t m = spare_kept far.here far.claimed far.made_at t old m k sp in
       let T : ℕ → Option Place = put (stands_at m) v.number (Some (InRegister r)) in
-      let there : Owes Known insts placesf i n E lived out X T (slots_at old) old.edits =
-      owes_same Known insts placesf i n E lived out X (stands_at old) T (slots_at old) old.edits
+      let there : Owes tail far.lived far.out far.made_at T (slots_at old) old.edits =
+      owes_same tail far.lived far.out far.made_at (stands_at old) T (slots_at old) old.edits
       (λ x. elim (cases_eq x v.number) [
         | inl d ↦ (put_same (stands_at m) v.number (Some (InRegister r)) x d ∙ sym g.was ∙ ap (stands_at old) (sym d))
         | inr d ↦ (put_other (stands_at m) v.number (Some (InRegister r)) x d ∙ g.same x d)
       ]) o in
-      let om : Owes Known insts placesf i n E lived out X T (slots_at m) m.edits =
-      subst (Owes Known insts placesf i n E lived out X T (slots_at m)) (sym edits)
+      let om : Owes tail far.lived far.out far.made_at T (slots_at m) m.edits =
+      subst (Owes tail far.lived far.out far.made_at T (slots_at m)) (sym edits)
       (record {
         later = there.later;
-        claims = need_slot Known E (after_part insts (listed old.edits) placesf i n) lived out X T (slots_at old) (slots_at m)
+        claims = need_slot Known E (after_part insts (listed old.edits) placesf i n) far.lived far.out far.made_at T (slots_at old) (slots_at m)
             g.grows there.claims;
       }) in
       let apart : r ≡ by → ⊥ = λ e.
       let on : has_register m.fixed_stack r ≡ true = (and_parts (is_stack_in m s) (is_stack_in m (InRegister r)) stack).1 in
       let no : has_register m.fixed_stack r ≡ false = ap (has_register m.fixed_stack) e
-      ∙ scratch_off here claimed X (after i) v.class t u by m m2 scratches (fit_same old m machine f) spm in cc in
-      let sb : ScratchedBut Known insts placesf i n E what here claimed done lived out out clob X u by v.number (Some (InRegister r)) m m2 =
-      scratch_but Known insts placesf i n E what here claimed done lived out out clob X v.class t u by v.number (Some (InRegister r)) m m2 scratches
+      ∙ scratch_off far.here far.claimed far.made_at (after i) v.class t u by m m2 scratches (fit_same old m machine f) spm in cc in
+      let sb : ScratchedBut tail what far far.out u by v.number (Some (InRegister r)) m m2 =
+      scratch_but tail scratches
       (spm.idle v.class) h (λ e. let same : r ≡ by = cc in apart same)
       (λ e. let y : InSlot g.number ≡ InRegister by = sym g.is_slot ∙ sym settles.here ∙ e in cc) stm om in
       let still : stands_at m2 v.number ≡ Some s = ap opt (sb.kept.slotted v.number g.number (settles.here ∙ g.is_slot)) ∙ ap Some (sym g.is_slot) in
       let gone : (x : ℕ) → place_in m2 x ≡ InRegister r → ⊥ = λ x e. g.empty x (sb.kept.registers x r e) in
-      let done_it = through_owes what here claimed done lived out clob X v.number r by s m2 new apart g.real sb.located sb.idle still gone ok.1 sb.owes in
-      let spu : Spare here claimed X u m2 = spare_more here claimed X (after i) v.class t u by m m2 scratches sb.idle sb.kept spm in
+      let done_it = through_owes what far v.number r by s m2 new apart g.real sb.located sb.idle still gone ok.1 sb.owes in
+      let spu : Spare far.here far.claimed far.made_at u m2 = spare_more far.here far.claimed far.made_at (after i) v.class t u by m m2 scratches sb.idle
+      sb.kept spm in
       let all : Kept old m2 = kept_then old m m2 k sb.kept in
-      subst (Cleared what here claimed done lived out clob X r u old) (sym en) (record {
+      subst (Cleared what far r u old) (sym en) (record {
         located = record {
           whole = record {
             holds = sb.located.whole.holds;
@@ -228,35 +232,35 @@ module _ (Known : VirtualRegister → Type 0) (insts : ℕ → InstValue) (place
       })
 
   -- a register is the vreg's: no other vreg is there
-  pub record Owned (what : ℕ → What) (here : ℕ → Place) (claimed done lived out : ℕ → Bool) (clob : Place → Bool) (X : Place → ℕ → Bool) (r : Register)
+  pub record Owned (what : ℕ → What) (far : Progress) (r : Register)
       (v : VirtualRegister) (u : InstRegs) (old new : StateValue) : Type 0 where
-    pub located : Located what here claimed done lived out clob X new
-    pub owes : Owes Known insts placesf i n E lived out X (stands_at new) (slots_at new) new.edits
-    pub held : Held what here claimed (held_early u) (held_late u)
+    pub located : Located what far new
+    pub owes : Owes tail far.lived far.out far.made_at (stands_at new) (slots_at new) new.edits
+    pub held : Held what far.here far.claimed (held_early u) (held_late u)
     pub alone : (x : ℕ) → place_in new x ≡ InRegister r → x ≡ v.number
     pub kept : Kept old new
-    pub scratch_reserve : Spare here claimed X u new
+    pub scratch_reserve : Spare far.here far.claimed far.made_at u new
 
   -- after an eviction that spares one vreg the register has that vreg alone, or none, and the records are kept
-  pub clears_but_step : (what : ℕ → What) (here : ℕ → Place) (claimed done lived out : ℕ → Bool) (clob : Place → Bool) (X : Place → ℕ → Bool) (r : Register)
+  pub clears_but_step : (what : ℕ → What) (far : Progress) (r : Register)
       (v : VirtualRegister) (t u : InstRegs) (old new : StateValue) → EvictsOthers (after i) r v t u old new →
-      ((x : ℕ) → stands_at old x ≡ Some (InRegister r) → (x ≡ v.number → ⊥) → (lived x ≡ true) × ((w : ℕ) → X (InRegister r) w ≡ false)) →
-      Spare here claimed X t old → Fit old →
-      Held what here claimed (held_early t) (held_late t) →
-      Located what here claimed done lived out clob X old → Owes Known insts placesf i n E lived out X (stands_at old) (slots_at old) old.edits →
-      Owned what here claimed done lived out clob X r v u old new
-  clears_but_step what here claimed done lived out clob X r v t u old new (own w there same eu en) may sp f h st o =
-      subst (Owned what here claimed done lived out clob X r v u old) (sym en) (record {
+      ((x : ℕ) → stands_at old x ≡ Some (InRegister r) → (x ≡ v.number → ⊥) → (far.lived x ≡ true) × ((w : ℕ) → far.made_at (InRegister r) w ≡ false)) →
+      Spare far.here far.claimed far.made_at t old → Fit old →
+      Held what far.here far.claimed (held_early t) (held_late t) →
+      Located what far old → Owes tail far.lived far.out far.made_at (stands_at old) (slots_at old) old.edits →
+      Owned what far r v u old new
+  clears_but_step what far r v t u old new (own w there same eu en) may sp f h st o =
+      subst (Owned what far r v u old) (sym en) (record {
         located = st;
         owes = o;
-        held = subst (λ (y : InstRegs). Held what here claimed (held_early y) (held_late y)) (sym eu) h;
+        held = subst (λ (y : InstRegs). Held what far.here far.claimed (held_early y) (held_late y)) (sym eu) h;
         alone = λ x g. let y = st.whole.stands_in x r g in let z : Some y.1.0 ≡ Some w = sym y.1.2 ∙ there in let one : y.1.0 ≡ w = cc in sym y.1.1
             ∙ ap (λ (q : VirtualRegister). q.number) one ∙ same;
         kept = kept_all old;
-        scratch_reserve = spare_same here claimed X t u old old eu refl sp;
+        scratch_reserve = spare_same far.here far.claimed far.made_at t u old old eu refl sp;
       })
-  clears_but_step what here claimed done lived out clob X r v t u old new (others not_own clears) may sp f h st o =
-      let c : Cleared what here claimed done lived out clob X r u old new = clears_step what here claimed done lived out clob X r t u old new clears
+  clears_but_step what far r v t u old new (others not_own clears) may sp f h st o =
+      let c : Cleared what far r u old new = clears_step what far r t u old new clears
       (λ x at. may x at (λ e. let y = st.whole.stands_in x r (opt_from (place_in old x) (InRegister r) at) in not_own y.1.0 y.1.2 (y.1.1 ∙ e))) sp f h st o in
       record {
         located = c.located;

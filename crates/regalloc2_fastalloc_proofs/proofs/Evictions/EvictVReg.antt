@@ -6,14 +6,14 @@ use Rattle.regalloc2_names.specs.Register.{Register, VirtualRegister}
 use Rattle.regalloc2_names.specs.RegisterSet.{has_register}
 use Rattle.regalloc2_names.specs.Place.{Place, NoPlace, InRegister, InSlot}
 use Rattle.regalloc2_names.specs.Point.{after}
-use Rattle.regalloc2_function.specs.FunctionValue.{InstValue}
 use Rattle.regalloc2_function.specs.OutputValue.{MoveValue}
-use Rattle.regalloc2_semantics.specs.OperandsPlaced.{What}
+use Rattle.regalloc2_semantics.specs.OperandsPlaced.{What, Progress}
 use Rattle.regalloc2_fastalloc_state.specs.declared.inst_regs.InstRegs.{InstRegs}
 use Rattle.regalloc2_fastalloc_proofs.specs.InstSteps.{StateValue, SameMachine, EvictsVReg, nobody, moved}
 use Rattle.regalloc2_fastalloc_proofs.proofs.Safety.StepsKeepState.{place_in, slot_in, IsWhole}
 use Rattle.regalloc2_fastalloc_proofs.proofs.Operands.RecordOverState.{stands_at, slots_at, opt_from, Located, Owes, Shifts, shifts, shift_whole, shift_stands}
 use Rattle.regalloc2_fastalloc_proofs.proofs.Operands.RecordOverState.{shift_owes}
+use Rattle.regalloc2_fastalloc_proofs.proofs.Operands.BlockTail.{BlockTail}
 
 -- what is held at the two positions: registers that are not free; no slot is free
 abbrev pub held_early : InstRegs → Place → Bool
@@ -89,39 +89,41 @@ shift_kept old new v r s h others here slots machine =
       machine = machine;
     }
 
-module _ (Known : VirtualRegister → Type 0) (insts : ℕ → InstValue) (placesf : ℕ → List Place) (i n : ℕ) (E : VirtualRegister → Place → Type 0) where
+module _ (tail : BlockTail) where
+  open tail use {Known, insts, placesf, i, n, E}
+
   -- a register is emptied whose vreg lived, and in which no definition is placed; what the listing carries may be told of tables in which
   -- another vreg is elsewhere
-  pub record Emptied (what : ℕ → What) (here : ℕ → Place) (claimed done lived out : ℕ → Bool) (clob : Place → Bool) (X : Place → ℕ → Bool) (r : Register)
+  pub record Emptied (what : ℕ → What) (far : Progress) (r : Register)
       (old new : StateValue) : Type 0 where
-    pub located : Located what here claimed done lived out clob X new
-    pub owes : Owes Known insts placesf i n E lived out X (stands_at new) (slots_at new) new.edits
+    pub located : Located what far new
+    pub owes : Owes tail far.lived far.out far.made_at (stands_at new) (slots_at new) new.edits
     pub empty : (x : ℕ) → place_in new x ≡ InRegister r → ⊥
     pub others : (x : ℕ) → (place_in old x ≡ InRegister r → ⊥) → place_in new x ≡ place_in old x
     pub kept : Kept old new
 
   -- evicting an allocatable register empties it, moves no other vreg, and keeps the record of the operands with the reload listed
-  pub evict_step : (what : ℕ → What) (here : ℕ → Place) (claimed done lived out : ℕ → Bool) (clob : Place → Bool) (X : Place → ℕ → Bool) (r : Register)
+  pub evict_step : (what : ℕ → What) (far : Progress) (r : Register)
       (old new : StateValue) → EvictsVReg (after i) r old new →
-      ((x : ℕ) → stands_at old x ≡ Some (InRegister r) → (lived x ≡ true) × ((u : ℕ) → X (InRegister r) u ≡ false)) →
-      Located what here claimed done lived out clob X old → Owes Known insts placesf i n E lived out X (stands_at old) (slots_at old) old.edits →
-      Emptied what here claimed done lived out clob X r old new
-  evict_step what here claimed done lived out clob X r old new (nobody none same) may st o =
-      subst (Emptied what here claimed done lived out clob X r old) (sym same) (record {
+      ((x : ℕ) → stands_at old x ≡ Some (InRegister r) → (far.lived x ≡ true) × ((u : ℕ) → far.made_at (InRegister r) u ≡ false)) →
+      Located what far old → Owes tail far.lived far.out far.made_at (stands_at old) (slots_at old) old.edits →
+      Emptied what far r old new
+  evict_step what far r old new (nobody none same) may st o =
+      subst (Emptied what far r old) (sym same) (record {
         located = st;
         owes = o;
         empty = λ x h. let y = st.whole.stands_in x r h in let z : None ≡ Some y.1.0 = sym none ∙ y.1.2 in cc;
         others = λ x h. refl;
         kept = kept_all old;
       })
-  evict_step what here claimed done lived out clob X r old new (moved v s lt held gives settles edits machine) may st o =
+  evict_step what far r old new (moved v s lt held gives settles edits machine) may st o =
       let w : IsWhole new = shift_whole old new v r s lt held gives settles st.whole in
       let h : Shifts old new v r s = shifts old new v r s lt held gives settles st.whole in
       let m = may v.number h.was in
       record {
-        located = shift_stands old new v r s w h what here claimed done lived out clob X m.0 st;
-        owes = subst (Owes Known insts placesf i n E lived out X (stands_at new) (slots_at new)) (sym edits)
-            (shift_owes Known insts placesf i n E old new v r s h lived out X old.edits m.1 o);
+        located = shift_stands old new v r s w h what far m.0 st;
+        owes = subst (Owes tail far.lived far.out far.made_at (stands_at new) (slots_at new)) (sym edits)
+            (shift_owes tail old new v r s h far.lived far.out far.made_at old.edits m.1 o);
         empty = h.empty;
         others = λ x ne. settles.others x (λ e. ne (opt_from (place_in old x) (InRegister r) (ap (stands_at old) e ∙ h.was)));
         kept = shift_kept old new v r s h settles.others settles.here gives.others machine;

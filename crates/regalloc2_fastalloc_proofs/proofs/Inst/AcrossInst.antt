@@ -8,23 +8,23 @@ use Rattle.regalloc2_names.specs.Register.{Register, VirtualRegister}
 use Rattle.regalloc2_names.specs.Operand.{OperandValue}
 use Rattle.regalloc2_names.specs.Place.{Place, NoPlace, InRegister, InSlot}
 use Rattle.regalloc2_names.specs.Point.{before, after}
-use Rattle.regalloc2_function.specs.FunctionValue.{InstValue}
-use Rattle.regalloc2_function.specs.OutputValue.{place_at}
 use Rattle.regalloc2_semantics.specs.Listing.Item.{Exec}
 use Rattle.regalloc2_semantics.specs.Carry.{is_clobbered}
 use Rattle.regalloc2_semantics.specs.BlockByPoints.{AllFrom, at_point, walked, after_part, listed}
 use Rattle.regalloc2_semantics.specs.Instruction.{Claims, Knows}
-use Rattle.regalloc2_semantics.specs.OperandsPlaced.{What, what_of, Need, Pending, Placed, Once, Counts}
+use Rattle.regalloc2_semantics.specs.OperandsPlaced.{What, what_of, Need, Pending, Progress, Placed, Once, Counts}
+use Rattle.regalloc2_semantics.specs.OperandsPlaced.{AreAllPlaced, at_begin}
 use Rattle.regalloc2_semantics.proofs.Points.{all_from-less}
 use Rattle.regalloc2_semantics.proofs.MoveInFront.{after_part-clean}
 use Rattle.regalloc2_semantics.proofs.RecordSteps.{step_new}
 use Rattle.regalloc2_semantics.proofs.InstCarries.{cross_all}
 use Rattle.regalloc2_semantics.proofs.BoundaryToBoundary.{begin_all}
+use Rattle.regalloc2_fastalloc_proofs.proofs.Operands.ClaimAndUse.{PlacesUse}
 use Rattle.regalloc2_fastalloc_state.specs.StateParts.{SpillSlotsValue, slot_name, units_of, IsSlotOrNone, SetsAlloc}
 use Rattle.regalloc2_fastalloc_proofs.specs.InstSteps.{StateValue}
 use Rattle.regalloc2_fastalloc_proofs.proofs.Safety.StepsKeepState.{place_in, slot_in, IsWhole, away_holds, away_stands, arrive_holds, arrive_stands}
 use Rattle.regalloc2_fastalloc_proofs.proofs.Operands.RecordOverState.{opt, opt_some, opt_from, opt_real, stands_at, slots_at, no_register_slot, Located, Owes}
-use Rattle.regalloc2_fastalloc_proofs.proofs.Operands.ClaimAndUse.{Places}
+use Rattle.regalloc2_fastalloc_proofs.proofs.Operands.BlockTail.{BlockTail}
 
 -- the slots stay
 module _ (old new : StateValue) (v : VirtualRegister) (nowhere : place_in old v.number ≡ NoPlace) (slots : new.slots ≡ old.slots) (w : IsWhole old) where
@@ -70,18 +70,20 @@ module _ (old new : StateValue) (v : VirtualRegister) (nowhere : place_in old v.
   }
 
 -- a use is placed, whose vreg had no location
-pub use_arrives : (what : ℕ → What) (here : ℕ → Place) (claimed done done2 lived out : ℕ → Bool) (clob : Place → Bool) (X : Place → ℕ → Bool)
-    (old new : StateValue) (k : ℕ) (v : VirtualRegister)
-    → Places done done2 k → claimed k ≡ true → (what k).is_def ≡ false → (what k).number ≡ v.number → here k ≢ NoPlace → place_in old v.number ≡ NoPlace
-    → ((j : ℕ) → done j ≡ true → (what j).is_def ≡ true → (what j).number ≡ (what k).number → ⊥)
-    → SetsAlloc old.places new.places v (here k) → new.slots ≡ old.slots → IsWhole new
-    → Located what here claimed done lived out clob X old → Located what here claimed done2 lived out clob X new
-use_arrives what here claimed done done2 lived out clob X old new k v u c d same real nowhere unmade z slots w st = record {
+pub use_arrives : (what : ℕ → What) (far : Progress) (done2 : ℕ → Bool) (old new : StateValue) (k : ℕ) (v : VirtualRegister)
+    → PlacesUse what far done2 k → (what k).number ≡ v.number → far.here k ≢ NoPlace → place_in old v.number ≡ NoPlace
+    → ((j : ℕ) → far.done j ≡ true → (what j).is_def ≡ true → (what j).number ≡ (what k).number → ⊥)
+    → SetsAlloc old.places new.places v (far.here k) → new.slots ≡ old.slots → IsWhole new
+    → Located what far old → Located what (record far { done = done2 }) new
+use_arrives what far done2 old new k v u same real nowhere unmade z slots w st = record {
   whole = w;
-  placed = subst (λ (s : SpillSlotsValue). Placed what here claimed done2 lived out clob X (stands_at new) (λ x. opt (slot_name s x))) (sym slots)
-      (step_new what here claimed done done2 lived out clob X (stands_at old) (stands_at new) (slots_at old) k c d
-      (ap opt (ap (place_in old) same ∙ nowhere)) unmade u.grows u.keeps u.places
-      (ap opt (ap (place_in new) same ∙ z.here) ∙ opt_some (here k) real) (λ x n. ap opt (z.others x (λ e. n (e ∙ sym same)))) st.placed);
+  placed = subst (λ (s : SpillSlotsValue). Placed what (record far { done = done2 }) (stands_at new) (λ x. opt (slot_name s x))) (sym slots)
+      (step_new what far done2 (stands_at old) (stands_at new) (slots_at old) k u.claims u.is_use
+      (ap opt (ap (place_in old) same ∙ nowhere)) unmade u.places
+      (record {
+        now = ap opt (ap (place_in new) same ∙ z.here) ∙ opt_some (far.here k) real;
+        same = λ x n. ap opt (z.others x (λ e. n (e ∙ sym same)));
+      }) st.placed);
   below = λ j m cj e. subst (λ (s : SpillSlotsValue). m < s.count) (sym slots) (st.below j m cj e);
   calm = st.calm;
 }
@@ -92,7 +94,7 @@ lives_in t x = is_some (stands_at t x)
 
 -- before any operand of an instruction is allocated, the record of its operands holds, and what is located is live
 pub begin_stands : (what : ℕ → What) (here : ℕ → Place) (t : StateValue) → IsWhole t →
-    Located what here (λ j. false) (λ j. false) (lives_in t) (λ x. false) (λ p. false) (λ p x. false) t
+    Located what (at_begin here (lives_in t)) t
 begin_stands what here t w = record {
   whole = w;
   placed = begin_all what here (lives_in t) (stands_at t) (slots_at t) (λ x. refl);
@@ -100,11 +102,13 @@ begin_stands what here t w = record {
   calm = λ k. refl;
 }
 
-module _ (Known : VirtualRegister → Type 0) (insts : ℕ → InstValue) (placesf : ℕ → List Place) (i n : ℕ) (E : VirtualRegister → Place → Type 0) where
+module _ (tail : BlockTail) where
+  open tail use {Known, insts, placesf, i, n, E}
+
   -- the listing from the next instruction on
   pub begin_owes : (t : StateValue) → AllFrom (before (i + 1)) (listed t.edits) →
       Claims Known (walked insts (at_point (listed t.edits)) placesf (i + 1) n) (Need (lives_in t) (λ x. false) (λ p x. false) (stands_at t) (slots_at t)) E →
-      Owes Known insts placesf i n E (lives_in t) (λ x. false) (λ p x. false) (stands_at t) (slots_at t) t.edits
+      Owes tail (lives_in t) (λ x. false) (λ p x. false) (stands_at t) (slots_at t) t.edits
   begin_owes t later c = record {
     later = all_from-less (after i) (before (i + 1)) (listed t.edits) (omega arith) later;
     claims = subst (λ l. Claims Known l (Need (lives_in t) (λ x. false) (λ p x. false) (stands_at t) (slots_at t)) E)
@@ -112,19 +116,21 @@ module _ (Known : VirtualRegister → Type 0) (insts : ℕ → InstValue) (place
   }
 
   -- all operands are allocated: what the listing carries with the instruction in front
-  pub cross_stands : (ops : List OperandValue) (places : List Place) (clobbers : PRegSet) (here : ℕ → Place) (claimed done lived out : ℕ → Bool)
-      (clob : Place → Bool) (X : Place → ℕ → Bool) (t : StateValue) →
-      Knows Known ops → Once (Counts ops) (what_of ops) → ((j : ℕ) → Counts ops j → done j ≡ true) → ((j : ℕ) → done j ≡ true → Counts ops j) →
-      ((j : ℕ) → Counts ops j → place_at places j ≡ here j) → ((p : Place) → clob p ≡ false → is_clobbered clobbers p ≡ false) →
-      Located (what_of ops) here claimed done lived out clob X t → Owes Known insts placesf i n E lived out X (stands_at t) (slots_at t) t.edits →
-      Claims Known (Exec ops places clobbers ∷ after_part insts (listed t.edits) placesf i n) (Pending (what_of ops) here done out (stands_at t) (slots_at t) 0)
-      E
-  cross_stands ops places clobbers here claimed done lived out clob X t knows once all counted at_places clobbered st o =
-      cross_all Known ops places clobbers here claimed done lived out clob X (stands_at t) (slots_at t) (after_part insts (listed t.edits) placesf i n) E
-      knows st.placed once all counted at_places clobbered
-      (λ w p e. slot_calm p (slot_in t w) (st.whole.below w) (opt_from (slot_in t w) p e) (opt_real (slot_in t w) p e)) o.claims
+  pub cross_stands : (ops : List OperandValue) (places : List Place) (clobbers : PRegSet) (far : Progress) (t : StateValue) →
+      Knows Known ops → Once (Counts ops) (what_of ops) → AreAllPlaced ops places far →
+      ((p : Place) → far.clobbered p ≡ false → is_clobbered clobbers p ≡ false) →
+      Located (what_of ops) far t → Owes tail far.lived far.out far.made_at (stands_at t) (slots_at t) t.edits →
+      Claims Known (Exec ops places clobbers ∷ after_part insts (listed t.edits) placesf i n)
+      (Pending (what_of ops) far.here far.done far.out (stands_at t) (slots_at t) 0) E
+  cross_stands ops places clobbers far t knows once all clobbered st o =
+      cross_all Known ops places clobbers far (stands_at t) (slots_at t) (after_part insts (listed t.edits) placesf i n) E
+      knows st.placed once all
+      (record {
+        listed = clobbered;
+        slots = λ w p e. slot_calm p (slot_in t w) (st.whole.below w) (opt_from (slot_in t w) p e) (opt_real (slot_in t w) p e);
+      }) o.claims
     where
-      slot_calm : (p q : Place) → IsSlotOrNone t.slots.count q → q ≡ p → p ≢ NoPlace → clob p ≡ false
+      slot_calm : (p q : Place) → IsSlotOrNone t.slots.count q → q ≡ p → p ≢ NoPlace → far.clobbered p ≡ false
       slot_calm NoPlace q b e ne = absurd (ne refl)
       slot_calm (InRegister r) q b e ne = absurd (no_register_slot t.slots.count q r b e)
       slot_calm (InSlot m) q b e ne = st.calm m

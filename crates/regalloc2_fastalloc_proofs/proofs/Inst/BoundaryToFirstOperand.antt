@@ -15,7 +15,7 @@ use Rattle.regalloc2_function.specs.FunctionValue.{InstValue}
 use Rattle.regalloc2_semantics.specs.Carry.{is_clobbered}
 use Rattle.regalloc2_semantics.specs.Instruction.{Claims}
 use Rattle.regalloc2_semantics.specs.BlockByPoints.{AllFrom, at_point, walked, listed}
-use Rattle.regalloc2_semantics.specs.OperandsPlaced.{What, what_of, Need}
+use Rattle.regalloc2_semantics.specs.OperandsPlaced.{What, what_of, Progress, Need}
 use Rattle.regalloc2_semantics.proofs.MoveInFront.{after_part-clean}
 use Rattle.regalloc2_fastalloc_state.specs.declared.inst_regs.InstRegs.{InstRegs}
 use Rattle.regalloc2_fastalloc_state.specs.declared.inst_regs.Positions.{Positions}
@@ -31,7 +31,8 @@ use Rattle.regalloc2_fastalloc_proofs.proofs.Evictions.EvictPReg.{kept_then}
 use Rattle.regalloc2_fastalloc_proofs.proofs.Inst.AcrossInst.{lives_in, begin_stands, begin_owes}
 use Rattle.regalloc2_fastalloc_proofs.proofs.Operands.RecordOfInst.{Orderly, Waits, of_fixed, of_reuse, Laid}
 use Rattle.regalloc2_fastalloc_proofs.proofs.Evictions.EvictKeepsRecord.{ready_clears}
-use Rattle.regalloc2_fastalloc_proofs.proofs.Evictions.EvictFixed.{Reserved, claims_at, Start, FixedUpTo, fixed_done, all_lived}
+use Rattle.regalloc2_fastalloc_proofs.proofs.Evictions.EvictFixed.{begun, Reserved, claims_at, Start, FixedUpTo, fixed_done, all_lived}
+use Rattle.regalloc2_fastalloc_proofs.proofs.Operands.BlockTail.{BlockTail}
 
 -- as a well-formed function has them: the fixed register of a definition, a late use or a reuse is no clobber
 abbrev pub AvoidClobbers : List OperandValue → PRegSet → Type 0
@@ -64,11 +65,11 @@ no_scratch u Float q e h = let x : None ≡ Some q = ap (λ l. slice_index_or l 
 no_scratch u Vector q e h = let x : None ≡ Some q = ap (λ l. slice_index_or l 2 None) (sym e) ∙ h in cc
 
 -- clobbers, where no vreg who lived is in one, and no operand has claimed one that it writes or reads late
-pub clob_stands : (what : ℕ → What) (here : ℕ → Place) (claimed done lived out : ℕ → Bool) (clob clob2 : Place → Bool) (X : Place → ℕ → Bool) (t : StateValue) →
-    ((j : ℕ) → claimed j ≡ true → ((what j).is_def ≡ true) ⊎ ((what j).is_late ≡ true) → clob2 (here j) ≡ false) →
+pub clob_stands : (what : ℕ → What) (far : Progress) (clob2 : Place → Bool) (t : StateValue) →
+    ((j : ℕ) → far.claimed j ≡ true → ((what j).is_def ≡ true) ⊎ ((what j).is_late ≡ true) → clob2 (far.here j) ≡ false) →
     ((w : ℕ) (p : Place) → stands_at t w ≡ Some p → clob2 p ≡ false) → ((k : ℕ) → clob2 (InSlot k) ≡ false) →
-    Located what here claimed done lived out clob X t → Located what here claimed done lived out clob2 X t
-clob_stands what here claimed done lived out clob clob2 X t kept cleared calm st = record {
+    Located what far t → Located what (record far { clobbered = clob2 }) t
+clob_stands what far clob2 t kept cleared calm st = record {
   whole = st.whole;
   placed = record {
     there = st.placed.there;
@@ -115,137 +116,139 @@ module _ (Known : VirtualRegister → Type 0) (insts : ℕ → InstValue) (place
   abbrev pub EndsHere : ℕ → ℕ → Bool → StateValue → Type 0
   EndsHere i n ret t = ret ≡ true → Claims Known (walked insts (at_point (listed t.edits)) placesf i n) (λ x p. ⊥) E
 
-  module _ (i n : ℕ) where
-    -- behind an instruction, with nothing reserved or claimed, the record of its operands holds
-    pub start : (ops : List OperandValue) (ret : Bool) (b : InstRegs) (t : StateValue) → Carried (i + 1) n t → EndsHere (i + 1) n ret t →
-        b.scratch ≡ None ∷ None ∷ None ∷ [] →
-        FixedUpTo Known insts placesf i n E ops (lives_in t) ret b t 0 b t
-    start ops ret b t c ends none =
-        let owes : Owes Known insts placesf i n E (lives_in t) (λ x. false) (λ p x. false) (stands_at t) (slots_at t) t.edits = begin_owes Known insts placesf i
-        n E t c.later c.claims in
-        record {
-          here = λ j. NoPlace;
-          claimed = λ j. false;
-          ready = record {
-            located = begin_stands (what_of ops) (λ j. NoPlace) t c.whole;
-            owes = owes;
-            nothing = λ e. subst (λ l. Claims Known l (λ x p. ⊥) E) (sym (after_part-clean insts (listed t.edits) placesf i n c.later)) (ends e);
-            held = record { early_uses = λ j x u. absurd cc; early_defs = λ j x u. absurd cc; late_defs = λ j x u. absurd cc; late_uses = λ j x u. absurd cc };
-            scratch_reserve = record {
-              idle = λ d q is. elim is [
-                | of_machine e ↦ record { no_allocs = c.apart d q e; clear = λ x. refl; unclaimed = λ j x e2. cc }
-                | taken e ↦ absurd (no_scratch b d q none e)
-              ];
-              own = λ d q e. absurd (no_scratch b d q none e);
-              early = λ d q e. absurd (no_scratch b d q none e);
-              late = λ d q e. absurd (no_scratch b d q none e);
-            };
-            fit = c.fit;
-            clobbers = λ r e. absurd cc;
-            within = λ j x. absurd cc;
-            small = λ j r x e. absurd cc;
+module _ (tail : BlockTail) where
+  open tail use {Known, insts, placesf, i, n, E}
+
+  -- behind an instruction, with nothing reserved or claimed, the record of its operands holds
+  pub start : (ops : List OperandValue) (ret : Bool) (b : InstRegs) (t : StateValue) → Carried Known insts placesf E (i + 1) n t → EndsHere Known insts
+      placesf E (i + 1) n ret t →
+      b.scratch ≡ None ∷ None ∷ None ∷ [] →
+      FixedUpTo tail ops (lives_in t) ret b t 0 b t
+  start ops ret b t c ends none =
+      let owes : Owes tail (lives_in t) (λ x. false) (λ p x. false) (stands_at t) (slots_at t) t.edits = begin_owes tail t c.later c.claims in
+      record {
+        here = λ j. NoPlace;
+        claimed = λ j. false;
+        ready = record {
+          located = begin_stands (what_of ops) (λ j. NoPlace) t c.whole;
+          owes = owes;
+          nothing = λ e. subst (λ l. Claims Known l (λ x p. ⊥) E) (sym (after_part-clean insts (listed t.edits) placesf i n c.later)) (ends e);
+          held = record { early_uses = λ j x u. absurd cc; early_defs = λ j x u. absurd cc; late_defs = λ j x u. absurd cc; late_uses = λ j x u. absurd cc };
+          scratch_reserve = record {
+            idle = λ d q is. elim is [
+              | of_machine e ↦ record { no_allocs = c.apart d q e; clear = λ x. refl; unclaimed = λ j x e2. cc }
+              | taken e ↦ absurd (no_scratch b d q none e)
+            ];
+            own = λ d q e. absurd (no_scratch b d q none e);
+            early = λ d q e. absurd (no_scratch b d q none e);
+            late = λ d q e. absurd (no_scratch b d q none e);
           };
-          kept = kept_all t;
-          less = less_same b b refl;
-          free = λ d q e. absurd (no_scratch b d q none e);
-          took = λ j x. absurd cc;
-          fixed = λ j r lt k e. absurd (omega arith);
-          fixed_reuse = λ j m r lt k e f. absurd (omega arith);
-        }
+          fit = c.fit;
+          clobbers = λ r e. absurd cc;
+          within = λ j x. absurd cc;
+          small = λ j r x e. absurd cc;
+        };
+        kept = kept_all t;
+        less = less_same b b refl;
+        free = λ d q e. absurd (no_scratch b d q none e);
+        took = λ j x. absurd cc;
+        fixed = λ j r lt k e. absurd (omega arith);
+        fixed_reuse = λ j m r lt k e f. absurd (omega arith);
+      }
 
-    -- registers are emptied one after another
-    pub record Quieted (ops : List OperandValue) (here : ℕ → Place) (claimed lived : ℕ → Bool) (ret : Bool) (rs : List Register) (t u : InstRegs)
-        (old new : StateValue) : Type 0 where
-      pub ready : Start Known insts placesf i n E ops here claimed lived ret u new
-      pub kept : Kept old new
-      pub less : Less t u
-      pub emptied : (r : Register) → Contains rs r → (x : ℕ) → place_in new x ≡ InRegister r → ⊥
+  -- registers are emptied one after another
+  pub record Quieted (ops : List OperandValue) (here : ℕ → Place) (claimed lived : ℕ → Bool) (ret : Bool) (rs : List Register) (t u : InstRegs)
+      (old new : StateValue) : Type 0 where
+    pub ready : Start tail ops here claimed lived ret u new
+    pub kept : Kept old new
+    pub less : Less t u
+    pub emptied : (r : Register) → Contains rs r → (x : ℕ) → place_in new x ≡ InRegister r → ⊥
 
-    -- evicting a list of registers, the clobbers say, keeps the record, and leaves no vreg in any of them
-    pub all_cleared : (ops : List OperandValue) (here : ℕ → Place) (claimed lived : ℕ → Bool) (ret : Bool) (rs : List Register) (t u : InstRegs)
-        (old new : StateValue) → EvictsEach (after i) rs t old u new →
-        Start Known insts placesf i n E ops here claimed lived ret t old → Quieted ops here claimed lived ret rs t u old new
-    all_cleared ops here claimed lived ret rs t u old new (none_left w m) =
-        λ s. record { ready = s; kept = kept_all old; less = less_same t t refl; emptied = λ r c x e. let lt : c.0 < 0 = c.1 in absurd (omega arith) }
-    all_cleared ops here claimed lived ret rs t u old new (one_more q qs t1 w u1 old1 m new1 clears rest) = λ s.
-        let c = ready_clears Known insts placesf i n E ops here claimed (λ j. false) lived (λ x. false) (λ p. false) (λ p x. false) ret q t w old m clears
-        (λ v at. (all_lived (what_of ops) here claimed lived (λ x. false) (λ p. false) (λ p x. false) old s.located v (InRegister q) at, λ z. refl)) s in
-        let y : Quieted ops here claimed lived ret qs w u m new = all_cleared ops here claimed lived ret qs w u m new rest c.0.ready in
-        record {
-          ready = y.ready;
-          kept = kept_then old m new c.0.kept y.kept;
-          less = less_then t w u c.0.less y.less;
-          emptied = λ r has x e. by_index has.0 r has.1 has.2 x e y.emptied (λ z h. c.1 z (y.kept.registers z q h));
-        }
-      where
-        by_index : (k : ℕ) (r : Register) → k < length (q ∷ qs) → slice_index_or (q ∷ qs) k r ≡ r → (x : ℕ) → place_in new x ≡ InRegister r →
-            ((p : Register) → Contains qs p → (z : ℕ) → place_in new z ≡ InRegister p → ⊥) → ((z : ℕ) → place_in new z ≡ InRegister q → ⊥) → ⊥
-        by_index zero r lt e x at others first = first x (at ∙ ap InRegister (sym e))
-        by_index (suc k) r lt e x at others first = others r (k, omega arith, e) x at
+  -- evicting a list of registers, the clobbers say, keeps the record, and leaves no vreg in any of them
+  pub all_cleared : (ops : List OperandValue) (here : ℕ → Place) (claimed lived : ℕ → Bool) (ret : Bool) (rs : List Register) (t u : InstRegs)
+      (old new : StateValue) → EvictsEach (after i) rs t old u new →
+      Start tail ops here claimed lived ret t old → Quieted ops here claimed lived ret rs t u old new
+  all_cleared ops here claimed lived ret rs t u old new (none_left w m) =
+      λ s. record { ready = s; kept = kept_all old; less = less_same t t refl; emptied = λ r c x e. let lt : c.0 < 0 = c.1 in absurd (omega arith) }
+  all_cleared ops here claimed lived ret rs t u old new (one_more q qs t1 w u1 old1 m new1 clears rest) = λ s.
+      let c = ready_clears tail ops (begun here claimed lived) ret q t w old m clears
+      (λ v at. (all_lived (what_of ops) here claimed lived old s.located v (InRegister q) at, λ z. refl)) s in
+      let y : Quieted ops here claimed lived ret qs w u m new = all_cleared ops here claimed lived ret qs w u m new rest c.0.ready in
+      record {
+        ready = y.ready;
+        kept = kept_then old m new c.0.kept y.kept;
+        less = less_then t w u c.0.less y.less;
+        emptied = λ r has x e. by_index has.0 r has.1 has.2 x e y.emptied (λ z h. c.1 z (y.kept.registers z q h));
+      }
+    where
+      by_index : (k : ℕ) (r : Register) → k < length (q ∷ qs) → slice_index_or (q ∷ qs) k r ≡ r → (x : ℕ) → place_in new x ≡ InRegister r →
+          ((p : Register) → Contains qs p → (z : ℕ) → place_in new z ≡ InRegister p → ⊥) → ((z : ℕ) → place_in new z ≡ InRegister q → ⊥) → ⊥
+      by_index zero r lt e x at others first = first x (at ∙ ap InRegister (sym e))
+      by_index (suc k) r lt e x at others first = others r (k, omega arith, e) x at
 
-    -- the operands may be allocated
-    pub opened : (inst : InstValue) (blank places : List Place) (old new : StateValue) → Orderly inst.operands → AvoidClobbers inst.operands inst.clobbers →
-        EndsHere (i + 1) n (ends_block inst) old → Carried (i + 1) n old → (a : AllocsInst i inst blank places old new) →
-        Laid Known insts placesf i n E inst.operands (lives_in old) (is_clobbered inst.clobbers) (ends_block inst) true 0 blank a.quiet a.after_clobbers
-    opened inst blank places old new o v ends c a =
-        let ops : List OperandValue = inst.operands in
-        let none : a.held.scratch ≡ None ∷ None ∷ None ∷ [] = a.holds.scratch ∙ a.reserves.scratch ∙ a.begins_scratch in
-        let x : FixedUpTo Known insts placesf i n E ops (lives_in old) (ends_block inst) a.held old (length ops) a.cleared a.after_fixed =
-        fixed_done Known insts placesf i n E ops (lives_in old) (ends_block inst) a.held old o
-        (reserved_all ops inst.clobbers a.began a.reserved a.held old c.fit a.reserves a.holds) (start ops (ends_block inst) a.held old c ends none)
-        (length ops)
-        a.cleared a.after_fixed a.fixed (omega arith) in
-        let y : Quieted ops x.here x.claimed (lives_in old) (ends_block inst) (registers_of inst.clobbers) a.cleared a.quiet a.after_fixed a.after_clobbers =
-        all_cleared ops x.here x.claimed (lives_in old) (ends_block inst) (registers_of inst.clobbers) a.cleared a.quiet a.after_fixed a.after_clobbers
-        a.clobbers
-        x.ready in
-        let less : Less a.held a.quiet = less_then a.held a.cleared a.quiet x.less y.less in
-        record {
-          here = x.here;
-          claimed = x.claimed;
-          done = λ j. false;
-          out = λ w. false;
-          X = λ p w. false;
-          ready = record {
-            located = clob_stands (what_of ops) x.here x.claimed (λ j. false) (lives_in old) (λ w. false) (λ p. false) (is_clobbered inst.clobbers)
-                (λ p w. false) a.after_clobbers
-                (λ j k h. let t = (x.took j k).1 in
-                let p : Positions = positions_of (op_at ops j) in
-                let f : NeedsFixedReg ops j t.0 p = subst (NeedsFixedReg ops j t.0) (claims_at ops j t.0 t.2.at o t.2.within t.2.claims) t.2.claims in
-                ap (is_clobbered inst.clobbers) t.1 ∙ v j t.0 p t.2.within f (late_by (is_def (op_at ops j).kind) (is_late (op_at ops j).position) h))
-                (λ w p e. quiet_there p w (opt_from (place_in a.after_clobbers w) p e) y.ready.located.whole y.emptied)
-                (λ k. refl) y.ready.located;
-            owes = y.ready.owes;
-            nothing = y.ready.nothing;
-            held = y.ready.held;
-            scratch_reserve = y.ready.scratch_reserve;
-            fit = y.ready.fit;
-            clobbers = λ r e. less.late r (now_held (has_register inst.clobbers r) (has_register a.reserved.late r) (has_register a.held.late r)
-                (a.holds.late r) e);
-            within = y.ready.within;
-            small = y.ready.small;
-          };
-          turned = λ j d. absurd cc;
-          all = λ j k t. elim t [ inl h ↦ (let lt : j < 0 = h.1 in absurd (omega arith)) | inr h ↦ (let e : true ≡ false = h.0 in absurd cc) ];
-          fixed = λ j r k e. x.fixed j r k.0 k e;
-          fixed_reuse = λ j m r k e f. x.fixed_reuse j m r k.0 k e f;
-          waiting = λ j k d. let t = (x.took j k).1 in (t.0, t.1, waits_by ops blank j t.0 t.2.at t.2.claims);
-          long = a.long;
-          listed_here = λ j k h. absurd (h (a.no_places j));
-          placed = λ j d. absurd cc;
-          written = λ j d def. absurd cc;
-        }
-      where
-        quiet_there : (p : Place) (w : ℕ) → place_in a.after_clobbers w ≡ p → IsWhole a.after_clobbers →
-            ((r : Register) → Contains (registers_of inst.clobbers) r → (x : ℕ) → place_in a.after_clobbers x ≡ InRegister r → ⊥) →
-            is_clobbered inst.clobbers p ≡ false
-        quiet_there NoPlace w at whole emptied = refl
-        quiet_there (InRegister r) w at whole emptied = ⊎_elim
-            (λ (h : has_register inst.clobbers r ≡ true). absurd (emptied r (is_listed inst.clobbers r (whole.stands_in w r at).0 h) w at))
-            (λ (h : has_register inst.clobbers r ≡ false). h)
-            (cases_Bool (has_register inst.clobbers r))
-        quiet_there (InSlot k) w at whole emptied = refl
+  -- the operands may be allocated
+  pub opened : (inst : InstValue) (blank places : List Place) (old new : StateValue) → Orderly inst.operands → AvoidClobbers inst.operands inst.clobbers →
+      EndsHere Known insts placesf E (i + 1) n (ends_block inst) old → Carried Known insts placesf E (i + 1) n old →
+      (a : AllocsInst i inst blank places old new) →
+      Laid tail inst.operands (lives_in old) (is_clobbered inst.clobbers) (ends_block inst) true 0 blank a.quiet a.after_clobbers
+  opened inst blank places old new o v ends c a =
+      let ops : List OperandValue = inst.operands in
+      let none : a.held.scratch ≡ None ∷ None ∷ None ∷ [] = a.holds.scratch ∙ a.reserves.scratch ∙ a.begins_scratch in
+      let x : FixedUpTo tail ops (lives_in old) (ends_block inst) a.held old (length ops) a.cleared a.after_fixed =
+      fixed_done tail ops (lives_in old) (ends_block inst) a.held old o
+      (reserved_all ops inst.clobbers a.began a.reserved a.held old c.fit a.reserves a.holds) (start ops (ends_block inst) a.held old c ends none)
+      (length ops)
+      a.cleared a.after_fixed a.fixed (omega arith) in
+      let y : Quieted ops x.here x.claimed (lives_in old) (ends_block inst) (registers_of inst.clobbers) a.cleared a.quiet a.after_fixed a.after_clobbers =
+      all_cleared ops x.here x.claimed (lives_in old) (ends_block inst) (registers_of inst.clobbers) a.cleared a.quiet a.after_fixed a.after_clobbers
+      a.clobbers
+      x.ready in
+      let less : Less a.held a.quiet = less_then a.held a.cleared a.quiet x.less y.less in
+      record {
+        here = x.here;
+        claimed = x.claimed;
+        done = λ j. false;
+        out = λ w. false;
+        X = λ p w. false;
+        ready = record {
+          located = clob_stands (what_of ops) (begun x.here x.claimed (lives_in old)) (is_clobbered inst.clobbers) a.after_clobbers
+              (λ j k h. let t = (x.took j k).1 in
+              let p : Positions = positions_of (op_at ops j) in
+              let f : NeedsFixedReg ops j t.0 p = subst (NeedsFixedReg ops j t.0) (claims_at ops j t.0 t.2.at o t.2.within t.2.claims) t.2.claims in
+              ap (is_clobbered inst.clobbers) t.1 ∙ v j t.0 p t.2.within f (late_by (is_def (op_at ops j).kind) (is_late (op_at ops j).position) h))
+              (λ w p e. quiet_there p w (opt_from (place_in a.after_clobbers w) p e) y.ready.located.whole y.emptied)
+              (λ k. refl) y.ready.located;
+          owes = y.ready.owes;
+          nothing = y.ready.nothing;
+          held = y.ready.held;
+          scratch_reserve = y.ready.scratch_reserve;
+          fit = y.ready.fit;
+          clobbers = λ r e. less.late r (now_held (has_register inst.clobbers r) (has_register a.reserved.late r) (has_register a.held.late r)
+              (a.holds.late r) e);
+          within = y.ready.within;
+          small = y.ready.small;
+        };
+        turned = λ j d. absurd cc;
+        all = λ j k t. elim t [ inl h ↦ (let lt : j < 0 = h.1 in absurd (omega arith)) | inr h ↦ (let e : true ≡ false = h.0 in absurd cc) ];
+        fixed = λ j r k e. x.fixed j r k.0 k e;
+        fixed_reuse = λ j m r k e f. x.fixed_reuse j m r k.0 k e f;
+        waiting = λ j k d. let t = (x.took j k).1 in (t.0, t.1, waits_by ops blank j t.0 t.2.at t.2.claims);
+        long = a.long;
+        listed_here = λ j k h. absurd (h (a.no_places j));
+        placed = λ j d. absurd cc;
+        written = λ j d def. absurd cc;
+      }
+    where
+      quiet_there : (p : Place) (w : ℕ) → place_in a.after_clobbers w ≡ p → IsWhole a.after_clobbers →
+          ((r : Register) → Contains (registers_of inst.clobbers) r → (x : ℕ) → place_in a.after_clobbers x ≡ InRegister r → ⊥) →
+          is_clobbered inst.clobbers p ≡ false
+      quiet_there NoPlace w at whole emptied = refl
+      quiet_there (InRegister r) w at whole emptied = ⊎_elim
+          (λ (h : has_register inst.clobbers r ≡ true). absurd (emptied r (is_listed inst.clobbers r (whole.stands_in w r at).0 h) w at))
+          (λ (h : has_register inst.clobbers r ≡ false). h)
+          (cases_Bool (has_register inst.clobbers r))
+      quiet_there (InSlot k) w at whole emptied = refl
 
-        waits_by : (ops : List OperandValue) (list : List Place) (j : ℕ) (r : Register) (p : Positions) → NeedsFixedReg ops j r p → Waits ops list j r
-        waits_by ops list j r p (own able fixed e) = of_fixed fixed
-        waits_by ops list j r p (named m reuse within fixed e) = of_reuse m reuse fixed
+      waits_by : (ops : List OperandValue) (list : List Place) (j : ℕ) (r : Register) (p : Positions) → NeedsFixedReg ops j r p → Waits ops list j r
+      waits_by ops list j r p (own able fixed e) = of_fixed fixed
+      waits_by ops list j r p (named m reuse within fixed e) = of_reuse m reuse fixed

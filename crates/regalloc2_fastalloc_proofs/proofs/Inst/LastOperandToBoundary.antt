@@ -2,17 +2,15 @@
 use Rattle.std.proofs.Common.{ℕ, suc, ◌≡◌, ◌<◌, Bool, true, false, List, ◌∷◌, length, refl, arith, sym, ap, ◌∙◌, subst, inl, inr, ⊎_elim}
 use Rattle.std.specs.Prelude.{None, Some, is_some, slice_index_or}
 use Rattle.std.proofs.lemmas.Bool.{cases_Bool}
-use Rattle.regalloc2_names.specs.Register.{VirtualRegister}
 use Rattle.regalloc2_names.specs.Operand.{OperandValue, is_late, is_reading}
 use Rattle.regalloc2_names.specs.Place.{Place, NoPlace, InSlot}
 use Rattle.regalloc2_names.specs.Point.{before, after}
-use Rattle.regalloc2_function.specs.FunctionValue.{InstValue}
 use Rattle.regalloc2_function.specs.OutputValue.{place_at}
 use Rattle.regalloc2_semantics.specs.Listing.{Item, executed}
 use Rattle.regalloc2_semantics.specs.Carry.{is_clobbered}
 use Rattle.regalloc2_semantics.specs.BlockByPoints.{after_part, before_part, listed}
 use Rattle.regalloc2_semantics.specs.Instruction.{Claims, Knows}
-use Rattle.regalloc2_semantics.specs.OperandsPlaced.{what_of, Need, located, in_slot, Pending, still, slotted, used, Counts}
+use Rattle.regalloc2_semantics.specs.OperandsPlaced.{what_of, Progress, Need, located, in_slot, Pending, still, slotted, used, Counts}
 use Rattle.regalloc2_semantics.proofs.Points.{all_from-less}
 use Rattle.regalloc2_semantics.proofs.MoveInFront.{walked-more, before_part-clean}
 use Rattle.regalloc2_semantics.proofs.NeedsAcrossMoves.{claims_weaken}
@@ -23,11 +21,12 @@ use Rattle.regalloc2_fastalloc_proofs.proofs.Operands.RecordOverState.{stands_at
 use Rattle.regalloc2_fastalloc_proofs.proofs.Evictions.EvictVReg.{Kept, kept_all}
 use Rattle.regalloc2_fastalloc_proofs.proofs.Moves.ScratchRegTaken.{of_machine, Spare}
 use Rattle.regalloc2_fastalloc_proofs.proofs.Inst.AcrossInst.{lives_in, cross_stands}
-use Rattle.regalloc2_fastalloc_proofs.proofs.Operands.RecordOfInst.{Orderly, Turned, Laid}
+use Rattle.regalloc2_fastalloc_proofs.proofs.Operands.RecordOfInst.{progress, Orderly, Turned, Laid}
 use Rattle.regalloc2_fastalloc_proofs.proofs.Moves.UsesMoved.{Moves, moves_done}
 use Rattle.regalloc2_fastalloc_proofs.proofs.Inst.BoundaryToFirstOperand.{CarriedBut}
 use Rattle.regalloc2_fastalloc_proofs.proofs.Operands.DefinedNumbers.{defined_by, defined_by-some, defined_by-at}
 use Rattle.regalloc2_fastalloc_proofs.proofs.Operands.AllocsSoFar.{reads_not_def}
+use Rattle.regalloc2_fastalloc_proofs.proofs.Operands.BlockTail.{BlockTail}
 
 -- after both passes each operand was allocated
 pub turned_all : (ops : List OperandValue) (j : ℕ) → Counts ops j → Turned ops false (length ops) j
@@ -51,31 +50,35 @@ pub record Shown (ops : List OperandValue) (places : List Place) (u : InstRegs) 
   pub slot_below : (j : ℕ) → j < length ops → is_reading (op_at ops j) ≡ true → (k : ℕ) → slice_index_or places j NoPlace ≡ InSlot k → k < new.slots.count
   pub kept : Kept old new
 
-module _ (Known : VirtualRegister → Type 0) (insts : ℕ → InstValue) (placesf : ℕ → List Place) (E : VirtualRegister → Place → Type 0) (i n : ℕ) where
+module _ (tail : BlockTail) where
+  open tail use {Known, insts, placesf, i, n, E}
+
   -- what holds when all operands are allocated and the uses are moved
   module _ (lived : ℕ → Bool) (ret : Bool) (places : List Place) (u w : InstRegs) (t new : StateValue) (o : Orderly (insts i).operands)
       (knows : Knows Known (insts i).operands)
       (are_listed : (k : ℕ) → k < length (insts i).operands → place_at (placesf i) k ≡ slice_index_or places k NoPlace)
-      (l : Laid Known insts placesf i n E (insts i).operands lived (is_clobbered (insts i).clobbers) ret false (length (insts i).operands) places u t)
+      (l : Laid tail (insts i).operands lived (is_clobbered (insts i).clobbers) ret false (length (insts i).operands) places u t)
       (moves : MovesUses (before i) (insts i).operands places u t (length (insts i).operands) w new) where
+    -- how far the operands are when the last one has its place
+    abbrev far : Progress
+    far = progress lived (is_clobbered (insts i).clobbers) l.here l.claimed l.done l.out l.X
+
     counted : (j : ℕ) → l.done j ≡ true → Counts (insts i).operands j
     counted j d = l.ready.within j (l.ready.located.placed.claims j d)
 
     all_done : (j : ℕ) → Counts (insts i).operands j → l.done j ≡ true
     all_done j c = l.all j c (turned_all (insts i).operands j c)
 
-    all_moved : Moves Known insts placesf i n (executed (insts i) (placesf i)) E (what_of (insts i).operands) l.here l.claimed l.done lived l.out
-        (is_clobbered (insts i).clobbers) l.X (length (insts i).operands) w t new
+    all_moved : Moves tail (executed (insts i) (placesf i)) (what_of (insts i).operands) far (length (insts i).operands) w t new
     all_moved =
         let ops : List OperandValue = (insts i).operands in
-        let clob : Place → Bool = is_clobbered (insts i).clobbers in
         let at_places : (j : ℕ) → Counts ops j → slice_index_or places j NoPlace ≡ l.here j = λ j c. l.placed j (all_done j c) in
         let item : Item = executed (insts i) (placesf i) in
         let crossed : Claims Known (item ∷ after_part insts (listed t.edits) placesf i n)
         (Pending (what_of ops) l.here l.done l.out (stands_at t) (slots_at t) 0) E =
-        cross_stands Known insts placesf i n E ops (placesf i) (insts i).clobbers l.here l.claimed l.done lived l.out clob l.X t knows o.once all_done counted
-        (λ j c. are_listed j c.0 ∙ at_places j c) (λ p e. e) l.ready.located l.ready.owes in
-        let begin : Moves Known insts placesf i n item E (what_of ops) l.here l.claimed l.done lived l.out clob l.X 0 u t t = record {
+        cross_stands tail ops (placesf i) (insts i).clobbers far t knows o.once
+        (record { all = all_done; counted = counted; at_places = λ j c. are_listed j c.0 ∙ at_places j c }) (λ p e. e) l.ready.located l.ready.owes in
+        let begin : Moves tail item (what_of ops) far 0 u t t = record {
           located = l.ready.located;
           pends = record {
             later = all_from-less (before i) (after i) (listed t.edits) (omega arith) l.ready.owes.later;
@@ -87,8 +90,8 @@ module _ (Known : VirtualRegister → Type 0) (insts : ℕ → InstValue) (place
           fit = l.ready.fit;
           kept = kept_all t;
         } in
-        moves_done Known insts placesf i n item E ops places l.here l.claimed l.done lived l.out clob l.X u t all_done counted at_places begin (length ops) w
-        new moves (omega arith)
+        moves_done tail item ops places far u t
+        (record { all = all_done; counted = counted; at_places = at_places }) begin (length ops) w new moves (omega arith)
 
     -- each definition is placed
     is_placed : (x : ℕ) → defined_by (insts i).operands x ≡ true → l.out x ≡ true

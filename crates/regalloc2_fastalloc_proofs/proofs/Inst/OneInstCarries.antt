@@ -5,7 +5,7 @@ use Rattle.regalloc2_names.specs.declared.RegClass.{RegClass}
 use Rattle.regalloc2_names.specs.Register.{Register, VirtualRegister, class_code}
 use Rattle.regalloc2_names.specs.Place.{Place, NoPlace, InRegister}
 use Rattle.regalloc2_names.specs.Point.{before, after}
-use Rattle.regalloc2_function.specs.FunctionValue.{FunctionValue, inst_at}
+use Rattle.regalloc2_function.specs.FunctionValue.{inst_at}
 use Rattle.regalloc2_function.specs.OutputValue.{MoveValue, place_at}
 use Rattle.regalloc2_semantics.specs.Carry.{Carries}
 use Rattle.regalloc2_semantics.specs.BlockByPoints.{AllFrom, at_point, walked, listed}
@@ -22,7 +22,7 @@ use Rattle.regalloc2_fastalloc_proofs.proofs.Operands.DefinedNumbers.{defined_by
 use Rattle.regalloc2_fastalloc_proofs.proofs.Inst.InstLaw.{each_exactly, each_ended}
 use Rattle.regalloc2_fastalloc_proofs.proofs.Inst.LastOperandToBoundary.{Ended}
 use Rattle.regalloc2_fastalloc_proofs.proofs.Moves.StepsAppendEdits.{Pushes, pushed_walked, allocates_pushes}
-use Rattle.regalloc2_fastalloc_proofs.proofs.Inst.ProperInsts.{ProperInsts}
+use Rattle.regalloc2_fastalloc_proofs.proofs.Inst.ProperInsts.{ProperCode}
 
 -- what is needed of a vreg between instructions: its place and, where out doesn't say otherwise, its slot
 abbrev pub Needed : (ℕ → Bool) → StateValue → VirtualRegister → Place → Type 0
@@ -39,8 +39,9 @@ pub record Between (i : ℕ) (t : StateValue) : Type 0 where
 abbrev pub IsAround : ℕ → (ℕ × MoveValue) → Type 0
 IsAround i e = (e.0 ≡ before i) ⊎ (e.0 ≡ after i)
 
-module _ (Known : VirtualRegister → Type 0) (f : FunctionValue) (placesf : ℕ → List Place)
-    (proper : ProperInsts Known f) where
+module _ (code : ProperCode) where
+  open code use {Known, f, placesf, proper}
+
   -- the instruction with its moves
   abbrev pub StepCarries : ℕ → (VirtualRegister → Place → Type 0) → StateValue → Type 0
   StepCarries i E new = (v : VirtualRegister) → Known v → Carries v (walked (inst_at f) (at_point (listed new.edits)) placesf i 1)
@@ -70,7 +71,7 @@ module _ (Known : VirtualRegister → Type 0) (f : FunctionValue) (placesf : ℕ
       let carried : (E : VirtualRegister → Place → Type 0) → ((v : VirtualRegister) (p : Place) → E v p → Needed (λ x. false) old v p) →
       EndsHere Known (inst_at f) placesf E (i + 1) 0 (ends_block (inst_at f i)) old →
       CarriedBut Known (inst_at f) placesf E (defined_by (inst_at f i).operands) i 1 new =
-      λ E h ends. each_exactly Known f placesf E proper i 0 blank here old new lt are_listed ends a
+      λ E h ends. each_exactly code E i 0 blank here old new lt are_listed ends a
       (record { whole = b.whole; later = b.later; claims = λ v known. carried_nil E (i + 1) old (Needed (λ x. false) old) h v; fit = b.fit; apart = b.apart })
       in
       let nothing : CarriedBut Known (inst_at f) placesf (λ v p. ⊥) (defined_by (inst_at f i).operands) i 1 new =
@@ -81,7 +82,7 @@ module _ (Known : VirtualRegister → Type 0) (f : FunctionValue) (placesf : ℕ
         between = record { whole = nothing.whole; later = nothing.later; fit = nothing.fit; apart = nothing.apart };
         carries = λ e. (carried (Needed (λ x. false) old) (λ v p h. h) (λ r. absurd cc)).claims;
         returns = λ e. nothing.claims;
-        ends = each_ended Known f placesf (λ v p. ⊥) proper i 0 blank here old new lt are_listed
+        ends = each_ended code (λ v p. ⊥) i 0 blank here old new lt are_listed
             (λ e v known. carried_nil (λ w p. ⊥) (i + 1) old (λ w p. ⊥) (λ w p h. h) v) a
             (record {
               whole = b.whole;

@@ -1,7 +1,8 @@
 -- What the laws on one instruction ask of all instructions of a function, and that those of a well-formed one meet it.
-use Rattle.std.proofs.Common.{ℕ, ◌<◌, length}
+use Rattle.std.proofs.Common.{ℕ, ◌<◌, List, length}
 use Rattle.std.proofs.lemmas.List.Elements.{All-get_or}
 use Rattle.regalloc2_names.specs.Register.{VirtualRegister}
+use Rattle.regalloc2_names.specs.Place.{Place}
 use Rattle.regalloc2_function.specs.FunctionValue.{FunctionValue, IsLimited, inst_at, no_inst}
 use Rattle.regalloc2_function.specs.Machine.{MachineValue}
 use Rattle.regalloc2_function.specs.WellFormed.{IsWellFormed, FixedAvoidClobbers}
@@ -17,6 +18,17 @@ pub record ProperInsts (Known : VirtualRegister → Type 0) (f : FunctionValue) 
   pub orderly : (i : ℕ) → i < length f.insts → Orderly (inst_at f i).operands
   pub avoids : (i : ℕ) → i < length f.insts → AvoidClobbers (inst_at f i).operands (inst_at f i).clobbers
   pub knows : (i : ℕ) → i < length f.insts → Knows Known (inst_at f i).operands
+
+-- A function of such instructions, with the places of its operands. Known: the vregs that are spoken of.
+pub record ProperCode : Type 1 where
+  pub Known : VirtualRegister → Type 0
+  pub f : FunctionValue
+  pub placesf : ℕ → List Place
+  pub proper : ProperInsts Known f
+
+-- those, of their parts
+abbrev pub proper_of : (Known : VirtualRegister → Type 0) (f : FunctionValue) → (ℕ → List Place) → ProperInsts Known f → ProperCode
+proper_of Known f placesf proper = record { Known = Known; f = f; placesf = placesf; proper = proper }
 
 -- in a well-formed function all are so, and what they name is defined somewhere
 pub all_proper : (env : MachineValue) (f : FunctionValue) → IsLimited f → IsWellFormed env f → ProperInsts (Made f) f

@@ -3,18 +3,17 @@ use Rattle.std.proofs.Common.{ℕ, ◌≡◌, ◌≢◌, ◌<◌, Bool, true, fa
 use Rattle.std.specs.Prelude.{Option, None, Some}
 use Rattle.std.proofs.lemmas.Bool.{cases_eq, and_parts}
 use Rattle.regalloc2_names.specs.declared.RegClass.{RegClass}
-use Rattle.regalloc2_names.specs.Register.{Register, VirtualRegister}
+use Rattle.regalloc2_names.specs.Register.{Register}
 use Rattle.regalloc2_names.specs.RegisterSet.{has_register}
 use Rattle.regalloc2_names.specs.Operand.{OperandValue}
 use Rattle.regalloc2_names.specs.Place.{Place, NoPlace, InRegister}
 use Rattle.regalloc2_names.specs.Point.{after}
-use Rattle.regalloc2_function.specs.FunctionValue.{InstValue}
 use Rattle.regalloc2_function.specs.OutputValue.{MoveValue}
 use Rattle.regalloc2_semantics.specs.Listing.{Item}
 use Rattle.regalloc2_semantics.specs.Listing.Item.{Move}
 use Rattle.regalloc2_semantics.specs.Instruction.{Claims}
 use Rattle.regalloc2_semantics.specs.BlockByPoints.{after_part, listed}
-use Rattle.regalloc2_semantics.specs.OperandsPlaced.{what_of, Held, Counts, Need, located, in_slot, made}
+use Rattle.regalloc2_semantics.specs.OperandsPlaced.{what_of, Progress, Held, Counts, Need, located, in_slot, made}
 use Rattle.regalloc2_semantics.proofs.NeedsAcrossMoves.{claims_move, claims_through}
 use Rattle.regalloc2_semantics.proofs.PushedMoves.{after_part-more}
 use Rattle.regalloc2_fastalloc_state.specs.declared.inst_regs.InstRegs.{InstRegs}
@@ -27,6 +26,7 @@ use Rattle.regalloc2_fastalloc_proofs.proofs.Moves.ScratchRegTaken.{of_machine, 
 use Rattle.regalloc2_fastalloc_proofs.proofs.Moves.ScratchRegMidMove.{put, put_same, put_other, ScratchedBut, scratch_but, through_items, through_later}
 use Rattle.regalloc2_fastalloc_proofs.proofs.Operands.RecordOfInst.{Ready}
 use Rattle.regalloc2_fastalloc_proofs.proofs.Evictions.EvictKeepsRecord.{Nothing, none_crosses}
+use Rattle.regalloc2_fastalloc_proofs.proofs.Operands.BlockTail.{BlockTail}
 
 -- scratch registers stay idle where edits alone change
 pub spare_edits : (here : ℕ → Place) (claimed : ℕ → Bool) (X : Place → ℕ → Bool) (u : InstRegs) (t : StateValue) (es : List (ℕ × MoveValue)) →
@@ -43,25 +43,27 @@ spare_edits here claimed X u t es s = record {
 pub fit_edits : (t : StateValue) (es : List (ℕ × MoveValue)) → Fit t → Fit (record t { edits = es })
 fit_edits t es f = record { small = f.small; stack_apart = f.stack_apart; own_apart = f.own_apart }
 
-module _ (Known : VirtualRegister → Type 0) (insts : ℕ → InstValue) (placesf : ℕ → List Place) (i n : ℕ) (E : VirtualRegister → Place → Type 0) where
+module _ (tail : BlockTail) where
+  open tail use {Known, insts, placesf, i, n, E}
+
   -- the record but for what the listing carries
-  pub record Steady (ops : List OperandValue) (here : ℕ → Place) (claimed done lived out : ℕ → Bool) (clob : Place → Bool) (X : Place → ℕ → Bool) (ret : Bool)
+  pub record Steady (ops : List OperandValue) (far : Progress) (ret : Bool)
       (u : InstRegs) (t : StateValue) : Type 0 where
-    pub located : Located (what_of ops) here claimed done lived out clob X t
-    pub nothing : ret ≡ true → Nothing Known insts placesf i n E t.edits
-    pub held : Held (what_of ops) here claimed (held_early u) (held_late u)
-    pub scratch_reserve : Spare here claimed X u t
+    pub located : Located (what_of ops) far t
+    pub nothing : ret ≡ true → Nothing tail t.edits
+    pub held : Held (what_of ops) far.here far.claimed (held_early u) (held_late u)
+    pub scratch_reserve : Spare far.here far.claimed far.made_at u t
     pub fit : Fit t
-    pub clobbers : (r : Register) → clob (InRegister r) ≡ true → has_register u.late r ≡ false
-    pub within : (j : ℕ) → claimed j ≡ true → Counts ops j
-    pub small : (j : ℕ) (r : Register) → claimed j ≡ true → here j ≡ InRegister r → r.number < 64
+    pub clobbers : (r : Register) → far.clobbered (InRegister r) ≡ true → has_register u.late r ≡ false
+    pub within : (j : ℕ) → far.claimed j ≡ true → Counts ops j
+    pub small : (j : ℕ) (r : Register) → far.claimed j ≡ true → far.here j ≡ InRegister r → r.number < 64
 
   -- the record but for what the listing carries, together with that, is the record
-  pub ready_of : (ops : List OperandValue) (here : ℕ → Place) (claimed done lived out : ℕ → Bool) (clob : Place → Bool) (X : Place → ℕ → Bool) (ret : Bool)
+  pub ready_of : (ops : List OperandValue) (far : Progress) (ret : Bool)
       (u : InstRegs) (t : StateValue) →
-      Steady ops here claimed done lived out clob X ret u t → Owes Known insts placesf i n E lived out X (stands_at t) (slots_at t) t.edits →
-      Ready Known insts placesf i n E ops here claimed done lived out clob X ret u t
-  ready_of ops here claimed done lived out clob X ret u t s o =
+      Steady ops far ret u t → Owes tail far.lived far.out far.made_at (stands_at t) (slots_at t) t.edits →
+      Ready tail ops far ret u t
+  ready_of ops far ret u t s o =
       record {
         located = s.located;
         owes = o;
@@ -75,10 +77,10 @@ module _ (Known : VirtualRegister → Type 0) (insts : ℕ → InstValue) (place
       }
 
   -- after a move, or none
-  pub record Sent (ops : List OperandValue) (here : ℕ → Place) (claimed done lived out need : ℕ → Bool) (clob : Place → Bool) (X : Place → ℕ → Bool)
+  pub record Sent (ops : List OperandValue) (far : Progress) (need : ℕ → Bool)
       (ret : Bool) (u : InstRegs) (old new : StateValue) : Type 0 where
-    pub steady : Steady ops here claimed done lived out clob X ret u new
-    pub owes : Owes Known insts placesf i n E lived need X (stands_at new) (slots_at new) new.edits
+    pub steady : Steady ops far ret u new
+    pub owes : Owes tail far.lived need far.made_at (stands_at new) (slots_at new) new.edits
     pub kept : Kept old new
 
   -- What is needed of a vreg that is on its way to a place comes from the place that it is sent from. The vreg has no location in the tables.
@@ -87,18 +89,18 @@ module _ (Known : VirtualRegister → Type 0) (insts : ℕ → InstValue) (place
     pub others : (x : ℕ) (q : Place) → (q ≡ to → ⊥) → Need lived need X (put (stands_at m) v c) (slots_at m) x q →
         Need lived need2 X (stands_at m) (slots_at m) x q
 
-  steady_push : (ops : List OperandValue) (here : ℕ → Place) (claimed done lived out : ℕ → Bool) (clob : Place → Bool) (X : Place → ℕ → Bool) (ret : Bool)
+  steady_push : (ops : List OperandValue) (far : Progress) (ret : Bool)
       (u : InstRegs) (t : StateValue) (es : List (ℕ × MoveValue)) →
-      Located (what_of ops) here claimed done lived out clob X t → Held (what_of ops) here claimed (held_early u) (held_late u) → Spare here claimed X u t →
+      Located (what_of ops) far t → Held (what_of ops) far.here far.claimed (held_early u) (held_late u) → Spare far.here far.claimed far.made_at u t →
       Fit t →
-      ((r : Register) → clob (InRegister r) ≡ true → has_register u.late r ≡ false) → ((j : ℕ) → claimed j ≡ true → Counts ops j) →
-      ((j : ℕ) (r : Register) → claimed j ≡ true → here j ≡ InRegister r → r.number < 64) →
-      (ret ≡ true → Nothing Known insts placesf i n E es) → Steady ops here claimed done lived out clob X ret u (record t { edits = es })
-  steady_push ops here claimed done lived out clob X ret u t es st h sp f cl within small rest = record {
-    located = stands_edits (what_of ops) here claimed done lived out clob X t es st;
+      ((r : Register) → far.clobbered (InRegister r) ≡ true → has_register u.late r ≡ false) → ((j : ℕ) → far.claimed j ≡ true → Counts ops j) →
+      ((j : ℕ) (r : Register) → far.claimed j ≡ true → far.here j ≡ InRegister r → r.number < 64) →
+      (ret ≡ true → Nothing tail es) → Steady ops far ret u (record t { edits = es })
+  steady_push ops far ret u t es st h sp f cl within small rest = record {
+    located = stands_edits (what_of ops) far t es st;
     nothing = rest;
     held = h;
-    scratch_reserve = spare_edits here claimed X u t es sp;
+    scratch_reserve = spare_edits far.here far.claimed far.made_at u t es sp;
     fit = fit_edits t es f;
     clobbers = cl;
     within = within;
@@ -106,39 +108,40 @@ module _ (Known : VirtualRegister → Type 0) (insts : ℕ → InstValue) (place
   }
 
   -- a move added after the instruction for a vreg on its way keeps the record: its value is needed at the source from then on
-  pub cross_step : (ops : List OperandValue) (here : ℕ → Place) (claimed done lived out need need2 : ℕ → Bool) (clob : Place → Bool) (X : Place → ℕ → Bool)
-      (ret : Bool) (v : ℕ) (c : Option Place) (class : RegClass) (from to : Place) (t u : InstRegs) (old new : StateValue) →
+  pub cross_step : {ops : List OperandValue} {far : Progress} {need need2 : ℕ → Bool}
+      {ret : Bool} (v : ℕ) (c : Option Place) {class : RegClass} {from to : Place} {t u : InstRegs} {old new : StateValue} →
       AddsMove (after i) class from to t u old new → to ≢ NoPlace → place_in old v ≡ NoPlace → (c ≡ Some to) ⊎ (c ≡ None) →
-      ((m : StateValue) → Located (what_of ops) here claimed done lived out clob X m → Kept old m → Moves lived need need2 X v c from to m) →
-      Steady ops here claimed done lived out clob X ret t old → Owes Known insts placesf i n E lived need X (put (stands_at old) v c) (slots_at old) old.edits →
-      Sent ops here claimed done lived out need2 clob X ret u old new
-  cross_step ops here claimed done lived out need need2 clob X ret v c class from to t u old new (direct flat eu en) there nowhere away moves s o =
+      ((m : StateValue) → Located (what_of ops) far m → Kept old m → Moves far.lived need need2 far.made_at v c from to m) →
+      Steady ops far ret t old → Owes tail far.lived need far.made_at (put (stands_at old) v c) (slots_at old) old.edits →
+      Sent ops far need2 ret u old new
+  cross_step {ops} {far} {need} {need2} {ret} v c {class} {from} {to} {t} {old} {new} (direct flat eu en) there nowhere away moves s o =
       let es : List (ℕ × MoveValue) = old.edits ++ a_move (after i) from to ∷ [] in
-      let mv : Moves lived need need2 X v c from to old = moves old s.located (kept_all old) in
+      let mv : Moves far.lived need need2 far.made_at v c from to old = moves old s.located (kept_all old) in
       let L : List Item = after_part insts (listed old.edits) placesf i n in
-      let M : ℕ → Place → Type 0 = Need lived need2 X (stands_at old) (slots_at old) in
+      let M : ℕ → Place → Type 0 = Need far.lived need2 far.made_at (stands_at old) (slots_at old) in
       let claims : Claims Known (Move (record { from = from; to = to }) ∷ L) M E =
-      claims_move Known E L (Need lived need X (put (stands_at old) v c) (slots_at old)) M from to there mv.moved mv.others o.claims in
-      let sent : Sent ops here claimed done lived out need2 clob X ret t old (record old { edits = es }) = record {
-        steady = steady_push ops here claimed done lived out clob X ret t old es s.located s.held s.scratch_reserve s.fit s.clobbers s.within s.small
-            (λ e. none_crosses Known insts placesf i n E class from to t t old (record old { edits = es }) there (direct flat refl refl) (s.nothing e));
+      claims_move Known E L (Need far.lived need far.made_at (put (stands_at old) v c) (slots_at old)) M from to there mv.moved mv.others o.claims in
+      let sent : Sent ops far need2 ret t old (record old { edits = es }) = record {
+        steady = steady_push ops far ret t old es s.located s.held s.scratch_reserve s.fit s.clobbers s.within s.small
+            (λ e. none_crosses tail class from to t t old (record old { edits = es }) there (direct flat refl refl) (s.nothing e));
         owes = record {
-          later = later_push Known insts placesf i n E (after i) (record { from = from; to = to }) old.edits o.later;
+          later = later_push tail (after i) (record { from = from; to = to }) old.edits o.later;
           claims = subst (λ l. Claims Known l M E) (sym (after_part-more insts (record { from = from; to = to }) old.edits placesf i n)) claims;
         };
         kept = kept_edits old old es (kept_all old);
       } in
-      subst (λ (y : InstRegs). Sent ops here claimed done lived out need2 clob X ret y old new) (sym eu)
-      (subst (Sent ops here claimed done lived out need2 clob X ret t old) (sym en) sent)
-  cross_step ops here claimed done lived out need need2 clob X ret v c class from to t u old new (through by m stack scratches en) there nowhere away moves s
+      subst (λ (y : InstRegs). Sent ops far need2 ret y old new) (sym eu)
+      (subst (Sent ops far need2 ret t old) (sym en) sent)
+  cross_step {ops} {far} {need} {need2} {ret} v c {class} {from} {to} {t} {u} {old} (through by m stack scratches en) there nowhere away moves s
       o =
       let es : List (ℕ × MoveValue) = m.edits ++ a_move (after i) (InRegister by) to ∷ a_move (after i) from (InRegister by) ∷ [] in
-      let off : has_register old.fixed_stack by ≡ false = scratch_off here claimed X (after i) class t u by old m scratches s.fit s.scratch_reserve in
+      let off : has_register old.fixed_stack by ≡ false = scratch_off far.here far.claimed far.made_at (after i) class t u by old m scratches s.fit
+      s.scratch_reserve in
       let apart : to ≡ InRegister by → ⊥ = λ e.
       let on : is_stack_in old to ≡ true = (and_parts (is_stack_in old from) (is_stack_in old to) stack).1 in
       let is_on : has_register old.fixed_stack by ≡ true = ap (is_stack_in old) (sym e) ∙ on in cc in
-      let sb : ScratchedBut Known insts placesf i n E (what_of ops) here claimed done lived out need clob X u by v c old m =
-      scratch_but Known insts placesf i n E (what_of ops) here claimed done lived out need clob X class t u by v c old m scratches
+      let sb : ScratchedBut tail (what_of ops) far need u by v c old m =
+      scratch_but tail scratches
       (s.scratch_reserve.idle class) s.held
       (λ e. elim away [
         | inl a ↦ (let x : Some to ≡ Some (InRegister by) = sym a ∙ e in let y : to ≡ InRegister by = cc in apart y)
@@ -146,10 +149,10 @@ module _ (Known : VirtualRegister → Type 0) (insts : ℕ → InstValue) (place
             (let x : None ≡ Some (InRegister by) = sym a ∙ e in cc)
       ])
       (λ e. let x : NoPlace ≡ InRegister by = sym nowhere ∙ e in cc) s.located o in
-      let mv : Moves lived need need2 X v c from to m = moves m sb.located sb.kept in
+      let mv : Moves far.lived need need2 far.made_at v c from to m = moves m sb.located sb.kept in
       let L : List Item = after_part insts (listed m.edits) placesf i n in
-      let N : ℕ → Place → Type 0 = Need lived need X (put (stands_at m) v c) (slots_at m) in
-      let M : ℕ → Place → Type 0 = Need lived need2 X (stands_at m) (slots_at m) in
+      let N : ℕ → Place → Type 0 = Need far.lived need far.made_at (put (stands_at m) v c) (slots_at m) in
+      let M : ℕ → Place → Type 0 = Need far.lived need2 far.made_at (stands_at m) (slots_at m) in
       let nobody : (x : ℕ) → N x (InRegister by) → ⊥ = λ x z. elim z [
         | located l e ↦ elim (cases_eq x v) [
           | inl d ↦ elim away [
@@ -164,16 +167,16 @@ module _ (Known : VirtualRegister → Type 0) (insts : ℕ → InstValue) (place
       let claims : Claims Known (Move (record { from = from; to = InRegister by }) ∷ (Move (record { from = InRegister by; to = to }) ∷ L)) M E =
       claims_through Known E L N M from (InRegister by) to (λ z. cc) there nobody mv.moved mv.others sb.owes.claims in
       let less : Less t u = scratches_less (after i) class t u by old m scratches in
-      let sent : Sent ops here claimed done lived out need2 clob X ret u old (record m { edits = es }) = record {
-        steady = steady_push ops here claimed done lived out clob X ret u m es sb.located sb.held
-            (spare_more here claimed X (after i) class t u by old m scratches sb.idle sb.kept s.scratch_reserve)
+      let sent : Sent ops far need2 ret u old (record m { edits = es }) = record {
+        steady = steady_push ops far ret u m es sb.located sb.held
+            (spare_more far.here far.claimed far.made_at (after i) class t u by old m scratches sb.idle sb.kept s.scratch_reserve)
             (fit_same old m sb.kept.machine s.fit) (λ r e. less.late r (s.clobbers r e)) s.within s.small
-            (λ e. none_crosses Known insts placesf i n E class from to t u old (record m { edits = es }) there (through by m stack scratches refl)
+            (λ e. none_crosses tail class from to t u old (record m { edits = es }) there (through by m stack scratches refl)
             (s.nothing e));
         owes = record {
-          later = through_later Known insts placesf i n E from (InRegister by) to m.edits sb.owes.later;
-          claims = subst (λ l. Claims Known l M E) (sym (through_items Known insts placesf i n E from (InRegister by) to m.edits)) claims;
+          later = through_later tail from (InRegister by) to m.edits sb.owes.later;
+          claims = subst (λ l. Claims Known l M E) (sym (through_items tail from (InRegister by) to m.edits)) claims;
         };
         kept = kept_edits old m es sb.kept;
       } in
-      subst (Sent ops here claimed done lived out need2 clob X ret u old) (sym en) sent
+      subst (Sent ops far need2 ret u old) (sym en) sent

@@ -159,14 +159,32 @@ pub found_or : (regs : AllocatableRegsValue) (class : RegClass) (free : PRegSet)
 found_or regs class free None h = h
 found_or regs class free (Some r) h = inr h
 
-module _ (inst_regs : InstRegs) (t : StateValue) (regs : AllocatableRegsValue) (class : RegClass) (free rest : PRegSet) (first : Register) (place : Place)
-    (second : Option Place) (oldest : Option Register)
-    (allocatable : t.allocatable ≡ regs.allocatable) (dedicated_scratch : t.dedicated_scratch ≡ regs.dedicated_scratch)
-    (is_free : (r : Register) → has_register free r ≡ true → IsAvailableAt inst_regs both r)
-    (chosen : (slice_index_or regs.dedicated_scratch (class_code class) None ≡ Some first) ⊎ IsLeastRecentIn regs class free first)
-    (left : (r : Register) → has_register rest r ≡ (not (is_register first r) && has_register free r))
-    (at_first : place ≡ InRegister first) (at_second : (p : Place) → second ≡ Some p → (r : Register) × (p ≡ InRegister r) × (oldest ≡ Some r))
-    (found : IfSome oldest (IsLeastRecentIn regs class rest)) where
+-- A scratch pair that was found for a class: its first place is the register first, the dedicated one or the least recently used one of those that are free;
+-- its second place, if it has one, is the least recently used one of the rest.
+pub record PairFound : Type 0 where
+  pub inst_regs : InstRegs
+  pub t : StateValue
+  pub regs : AllocatableRegsValue
+  pub class : RegClass
+  pub free : PRegSet
+  pub rest : PRegSet
+  pub first : Register
+  pub place : Place
+  pub second : Option Place
+  pub oldest : Option Register
+  pub allocatable : t.allocatable ≡ regs.allocatable
+  pub dedicated_scratch : t.dedicated_scratch ≡ regs.dedicated_scratch
+  pub is_free : (r : Register) → has_register free r ≡ true → IsAvailableAt inst_regs both r
+  pub chosen : (slice_index_or regs.dedicated_scratch (class_code class) None ≡ Some first) ⊎ IsLeastRecentIn regs class free first
+  pub left : (r : Register) → has_register rest r ≡ (not (is_register first r) && has_register free r)
+  pub at_first : place ≡ InRegister first
+  pub at_second : (p : Place) → second ≡ Some p → (r : Register) × (p ≡ InRegister r) × (oldest ≡ Some r)
+  pub found : IfSome oldest (IsLeastRecentIn regs class rest)
+
+module _ (pair : PairFound) where
+  open pair use {inst_regs, t, regs, class, free, rest, first, place, second, oldest, allocatable, dedicated_scratch, is_free, chosen, left, at_first}
+  open pair use {at_second, found}
+
   found_lent : (r : Register) → IsLeastRecentIn regs class free r → MayBeScratch inst_regs t class r
   found_lent r f = inr (
     record { of_class = f.of_class; small = f.small; allocatable = ap (λ z. has_register z r) allocatable ∙ f.allocatable },
@@ -295,10 +313,37 @@ orders_none inst_regs class old given listed made scratch is none same = record 
   each = subst (λ (ms : Moves). All (IsOrdered inst_regs class given old old) ms) (sym (same ∙ none)) (λ k d lt. absurd (omega arith));
 }
 
-module _ (inst_regs : InstRegs) (class : RegClass) (old : StateValue) (l : ScratchPool) (given : Moves) (apart : AreApart old)
-    (between : AreBetweenSlots old.slots.count given)
-    (scratch_reserve : (p : Place) → IsOfScratchPair l.registers p → IsScratchRegFor inst_regs old class p) (differ : DoDiffer l.registers)
-    (next : AreNextTempSlots old.slots class l.slots) (fixed : l.fixed_stack ≡ old.fixed_stack) (borrowed : MayHold old class l.borrowed) where
+-- Moves of a class that are given, between slots, and what serves to make them: a scratch pair of two places, the next temporary slots, and a register that
+-- is borrowed.
+pub record GivenMoves : Type 0 where
+  pub inst_regs : InstRegs
+  pub class : RegClass
+  pub old : StateValue
+  pub l : ScratchPool
+  pub given : Moves
+  pub apart : AreApart old
+  pub between : AreBetweenSlots old.slots.count given
+  pub scratch_reserve : (p : Place) → IsOfScratchPair l.registers p → IsScratchRegFor inst_regs old class p
+  pub differ : DoDiffer l.registers
+  pub next : AreNextTempSlots old.slots class l.slots
+  pub fixed : l.fixed_stack ≡ old.fixed_stack
+  pub borrowed : MayHold old class l.borrowed
+
+-- What was made of them: the tables, with the temporary slots that were taken, two at most; the moves that the resolver lists, and the moves that were made.
+pub record MadeMoves (moves : GivenMoves) : Type 0 where
+  pub new : StateValue
+  pub taken : ℕ
+  pub lends : AddsTempSlots moves.old.slots new.slots moves.class taken
+  pub few : taken ≤ 2
+  pub scratch : Bool
+  pub listed : Moves
+  pub made : Moves
+  pub is : IsResolution moves.given scratch listed
+  pub made_so : IsOrderedWith moves.l taken listed made
+
+module _ (moves : GivenMoves) where
+  open moves use {inst_regs, class, old, l, given, apart, between, scratch_reserve, differ, next, fixed, borrowed}
+
   -- a scratch register isn't in memory
   pair_plain : (r : Register) → MayBeScratch inst_regs old class r → has_register old.fixed_stack r ≡ false
   pair_plain r (inl own) = apart.dedicated_scratch class r own
@@ -327,8 +372,9 @@ module _ (inst_regs : InstRegs) (class : RegClass) (old : StateValue) (l : Scrat
     borrowed = ap (λ z. has_register z l.borrowed) fixed ∙ apart.allocatable l.borrowed borrowed.allocatable;
   }
 
-  module _ (new : StateValue) (taken : ℕ) (lends : AddsTempSlots old.slots new.slots class taken) (few : taken ≤ 2) (scratch : Bool) (listed made : Moves)
-      (is : IsResolution given scratch listed) (made_so : IsOrderedWith l taken listed made) where
+  module _ (result : MadeMoves moves) where
+    open result use {new, taken, lends, few, scratch, listed, made, is, made_so}
+
     in_hand : (p : Place) → IsOfScratchPair l.registers p ⊎ (IsTaken l.slots taken p ⊎ (p ≡ InRegister l.borrowed)) → IsScratchUsed inst_regs old new class p
     in_hand p (inl a) = let x = scratch_reserve p a in inl (x.0, x.1, inl x.2)
     in_hand p (inr (inl a)) = inr (taken_below old.slots class l.slots next new.slots taken lends few p a)

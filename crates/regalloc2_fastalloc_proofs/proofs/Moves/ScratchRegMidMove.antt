@@ -7,13 +7,12 @@ use Rattle.regalloc2_names.specs.declared.RegClass.{RegClass}
 use Rattle.regalloc2_names.specs.Register.{Register, VirtualRegister}
 use Rattle.regalloc2_names.specs.Place.{Place, InRegister}
 use Rattle.regalloc2_names.specs.Point.{after}
-use Rattle.regalloc2_function.specs.FunctionValue.{InstValue}
 use Rattle.regalloc2_function.specs.OutputValue.{MoveValue}
 use Rattle.regalloc2_semantics.specs.Listing.{Item}
 use Rattle.regalloc2_semantics.specs.Listing.Item.{Move}
 use Rattle.regalloc2_semantics.specs.BlockByPoints.{AllFrom, after_part, listed}
 use Rattle.regalloc2_semantics.specs.Instruction.{Claims}
-use Rattle.regalloc2_semantics.specs.OperandsPlaced.{What, Need, located, in_slot, made, Held}
+use Rattle.regalloc2_semantics.specs.OperandsPlaced.{What, Progress, GoesToSlot, Need, located, in_slot, made, Held}
 use Rattle.regalloc2_semantics.proofs.BoundaryToBoundary.{FreeAt, scratch_idle}
 use Rattle.regalloc2_semantics.proofs.PushedMoves.{after_part-more}
 use Rattle.regalloc2_semantics.proofs.NeedsAcrossMoves.{need_evict, need_slot, claims_weaken}
@@ -24,6 +23,7 @@ use Rattle.regalloc2_fastalloc_proofs.proofs.Operands.RecordOverState.{stands_at
 use Rattle.regalloc2_fastalloc_proofs.proofs.Operands.RecordOverState.{later_push}
 use Rattle.regalloc2_fastalloc_proofs.proofs.Evictions.EvictVReg.{held_early, held_late, Kept, kept_all, shift_kept}
 use Rattle.regalloc2_fastalloc_proofs.proofs.Moves.ScratchRegTaken.{IsIdle, IsScratch, of_machine, taken, less_early, less_late, held_keeps, free_unclaimed}
+use Rattle.regalloc2_fastalloc_proofs.proofs.Operands.BlockTail.{BlockTail}
 
 -- one number is put elsewhere
 abbrev pub put : (ℕ → Option Place) → ℕ → Option Place → ℕ → Option Place
@@ -37,10 +37,34 @@ put_same T v c x e = ap (λ b. cond b c (T x)) (eq-eqb x v e)
 pub put_other : (T : ℕ → Option Place) (v : ℕ) (c : Option Place) (x : ℕ) → (x ≡ v → ⊥) → put T v c x ≡ T x
 put_other T v c x n = ap (λ b. cond b c (T x)) (ne_eqb x v n)
 
-module _ (Known : VirtualRegister → Type 0) (insts : ℕ → InstValue) (placesf : ℕ → List Place) (i n : ℕ) (E : VirtualRegister → Place → Type 0) where
+-- a vreg goes from its register to its slot while another one is put elsewhere
+pub shift_but : (old new : StateValue) (u : VirtualRegister) (r : Register) (s : Place) (v : ℕ) (c : Option Place) → Shifts old new u r s →
+    (u.number ≡ v → ⊥) → (c ≡ Some (InRegister r) → ⊥) →
+    GoesToSlot (put (stands_at old) v c) (put (stands_at new) v c) (slots_at new) u.number (InRegister r) s
+shift_but old new u r s v c h apart other = record {
+  there = λ z. cc;
+  was = put_other (stands_at old) v c u.number apart ∙ h.was;
+  own = h.slot;
+  sets = record {
+    now = put_other (stands_at new) v c u.number apart ∙ h.now;
+    same = λ x ne. elim (cases_eq x v) [
+      | inl e ↦ (put_same (stands_at new) v c x e ∙ sym (put_same (stands_at old) v c x e))
+      | inr d ↦ (put_other (stands_at new) v c x d ∙ h.same x ne ∙ sym (put_other (stands_at old) v c x d))
+    ];
+  };
+  alone = λ x e. elim (cases_eq x v) [
+    | inl d ↦ absurd (other (sym (put_same (stands_at old) v c x d) ∙ e))
+    | inr d ↦ h.alone x (sym (put_other (stands_at old) v c x d) ∙ e)
+  ];
+  no_slot = λ x e. h.no_slot x r e;
+}
+
+module _ (tail : BlockTail) where
+  open tail use {Known, insts, placesf, i, n, E}
+
   -- what is needed where numbers are alike
   pub owes_same : (lived out : ℕ → Bool) (X : Place → ℕ → Bool) (T U S : ℕ → Option Place) (edits : List (ℕ × MoveValue)) → ((x : ℕ) → U x ≡ T x) →
-      Owes Known insts placesf i n E lived out X T S edits → Owes Known insts placesf i n E lived out X U S edits
+      Owes tail lived out X T S edits → Owes tail lived out X U S edits
   owes_same lived out X T U S edits same o = record {
     later = o.later;
     claims = claims_weaken Known E (after_part insts (listed edits) placesf i n) (Need lived out X T S) (Need lived out X U S)
@@ -51,10 +75,10 @@ module _ (Known : VirtualRegister → Type 0) (insts : ℕ → InstValue) (place
   pub evict_but : (lived out : ℕ → Bool) (X : Place → ℕ → Bool) (r : Register) (old new : StateValue) (v : ℕ) (c : Option Place) →
       EvictsVReg (after i) r old new → IsWhole old →
       (c ≡ Some (InRegister r) → ⊥) → (place_in old v ≡ InRegister r → ⊥) → ((u : ℕ) → X (InRegister r) u ≡ false) →
-      Owes Known insts placesf i n E lived out X (put (stands_at old) v c) (slots_at old) old.edits →
-      Owes Known insts placesf i n E lived out X (put (stands_at new) v c) (slots_at new) new.edits
+      Owes tail lived out X (put (stands_at old) v c) (slots_at old) old.edits →
+      Owes tail lived out X (put (stands_at new) v c) (slots_at new) new.edits
   evict_but lived out X r old new v c (nobody none same) w other away clear o =
-      subst (λ (t : StateValue). Owes Known insts placesf i n E lived out X (put (stands_at t) v c) (slots_at t) t.edits) (sym same) o
+      subst (λ (t : StateValue). Owes tail lived out X (put (stands_at t) v c) (slots_at t) t.edits) (sym same) o
   evict_but lived out X r old new v c (moved u s lt held gives settles edits machine) w other away clear o =
       let h : Shifts old new u r s = shifts old new u r s lt held gives settles w in
       let apart : u.number ≡ v → ⊥ = λ e. away (opt_from (place_in old v) (InRegister r) (ap (stands_at old) (sym e) ∙ h.was)) in
@@ -62,104 +86,96 @@ module _ (Known : VirtualRegister → Type 0) (insts : ℕ → InstValue) (place
       let T : ℕ → Option Place = put (stands_at old) v c in
       let U : ℕ → Option Place = put (stands_at new) v c in
       let moves : Claims Known (Move (record { from = s; to = InRegister r }) ∷ L) (Need lived out X U (slots_at new)) E =
-      need_evict Known E L lived out X T U (slots_at new) u.number (InRegister r) s (λ z. cc)
-      (put_other (stands_at old) v c u.number apart ∙ h.was) h.slot (put_other (stands_at new) v c u.number apart ∙ h.now)
-      (λ x ne. elim (cases_eq x v) [
-        | inl e ↦ (put_same (stands_at new) v c x e ∙ sym (put_same (stands_at old) v c x e))
-        | inr d ↦ (put_other (stands_at new) v c x d ∙ h.same x ne ∙ sym (put_other (stands_at old) v c x d))
-      ])
-      (λ x e. elim (cases_eq x v) [
-        | inl d ↦ absurd (other (sym (put_same (stands_at old) v c x d) ∙ e))
-        | inr d ↦ h.alone x (sym (put_other (stands_at old) v c x d) ∙ e)
-      ])
-      (λ x e. h.no_slot x r e) clear
+      need_evict Known E L lived out X T U (slots_at new) u.number (InRegister r) s
+      (shift_but old new u r s v c h apart other) clear
       (need_slot Known E L lived out X T (slots_at old) (slots_at new) h.grows o.claims) in
       record {
         later = subst (λ es. AllFrom (after i) (listed es)) (sym edits)
-            (later_push Known insts placesf i n E (after i) (record { from = s; to = InRegister r }) old.edits o.later);
+            (later_push tail (after i) (record { from = s; to = InRegister r }) old.edits o.later);
         claims = subst (λ l. Claims Known l (Need lived out X U (slots_at new)) E)
             (sym (ap (λ es. after_part insts (listed es) placesf i n) edits
             ∙ after_part-more insts (record { from = s; to = InRegister r }) old.edits placesf i n)) moves;
       }
 
   -- a scratch register, while the number v is on its way from c, which isn't the scratch register; need: whose slots aren't needed
-  pub record ScratchedBut (what : ℕ → What) (here : ℕ → Place) (claimed done lived out need : ℕ → Bool) (clob : Place → Bool) (X : Place → ℕ → Bool)
+  pub record ScratchedBut (what : ℕ → What) (far : Progress) (need : ℕ → Bool)
       (u : InstRegs) (by : Register) (v : ℕ) (c : Option Place) (old new : StateValue) : Type 0 where
-    pub located : Located what here claimed done lived out clob X new
-    pub owes : Owes Known insts placesf i n E lived need X (put (stands_at new) v c) (slots_at new) new.edits
-    pub held : Held what here claimed (held_early u) (held_late u)
-    pub idle : IsIdle here claimed X by new
+    pub located : Located what far new
+    pub owes : Owes tail far.lived need far.made_at (put (stands_at new) v c) (slots_at new) new.edits
+    pub held : Held what far.here far.claimed (held_early u) (held_late u)
+    pub idle : IsIdle far.here far.claimed far.made_at by new
     pub kept : Kept old new
     pub others : (x : ℕ) → (place_in old x ≡ InRegister by → ⊥) → place_in new x ≡ place_in old x
 
   -- the tables alone, where a register is emptied
-  pub record EmptiedTables (what : ℕ → What) (here : ℕ → Place) (claimed done lived out : ℕ → Bool) (clob : Place → Bool) (X : Place → ℕ → Bool) (r : Register)
+  pub record EmptiedTables (what : ℕ → What) (far : Progress) (r : Register)
       (old new : StateValue) : Type 0 where
-    pub located : Located what here claimed done lived out clob X new
+    pub located : Located what far new
     pub empty : (x : ℕ) → place_in new x ≡ InRegister r → ⊥
     pub others : (x : ℕ) → (place_in old x ≡ InRegister r → ⊥) → place_in new x ≡ place_in old x
     pub kept : Kept old new
 
   -- evicting an allocatable register empties it and moves no other vreg, whatever the listing carries meanwhile
-  pub evict_tables : (what : ℕ → What) (here : ℕ → Place) (claimed done lived out : ℕ → Bool) (clob : Place → Bool) (X : Place → ℕ → Bool) (r : Register)
+  pub evict_tables : (what : ℕ → What) (far : Progress) (r : Register)
       (old new : StateValue) → EvictsVReg (after i) r old new →
-      ((x : ℕ) → stands_at old x ≡ Some (InRegister r) → lived x ≡ true) →
-      Located what here claimed done lived out clob X old → EmptiedTables what here claimed done lived out clob X r old new
-  evict_tables what here claimed done lived out clob X r old new (nobody none same) may st =
-      subst (EmptiedTables what here claimed done lived out clob X r old) (sym same) (record {
+      ((x : ℕ) → stands_at old x ≡ Some (InRegister r) → far.lived x ≡ true) →
+      Located what far old → EmptiedTables what far r old new
+  evict_tables what far r old new (nobody none same) may st =
+      subst (EmptiedTables what far r old) (sym same) (record {
         located = st;
         empty = λ x h. let y = st.whole.stands_in x r h in let z : None ≡ Some y.1.0 = sym none ∙ y.1.2 in cc;
         others = λ x h. refl;
         kept = kept_all old;
       })
-  evict_tables what here claimed done lived out clob X r old new (moved v s lt held gives settles edits machine) may st =
+  evict_tables what far r old new (moved v s lt held gives settles edits machine) may st =
       let w : IsWhole new = shift_whole old new v r s lt held gives settles st.whole in
       let h : Shifts old new v r s = shifts old new v r s lt held gives settles st.whole in
       record {
-        located = shift_stands old new v r s w h what here claimed done lived out clob X (may v.number h.was) st;
+        located = shift_stands old new v r s w h what far (may v.number h.was) st;
         empty = h.empty;
         others = λ x ne. settles.others x (λ e. ne (opt_from (place_in old x) (InRegister r) (ap (stands_at old) e ∙ h.was)));
         kept = shift_kept old new v r s h settles.others settles.here gives.others machine;
       }
 
-  stayed_but : (what : ℕ → What) (here : ℕ → Place) (claimed done lived out need : ℕ → Bool) (clob : Place → Bool) (X : Place → ℕ → Bool) (t u : InstRegs)
+  stayed_but : (what : ℕ → What) (far : Progress) (need : ℕ → Bool) (t u : InstRegs)
       (by : Register) (v : ℕ) (c : Option Place) (old new : StateValue) → u ≡ t → new ≡ old →
-      IsIdle here claimed X by old → Held what here claimed (held_early t) (held_late t) →
-      Located what here claimed done lived out clob X old → Owes Known insts placesf i n E lived need X (put (stands_at old) v c) (slots_at old) old.edits →
-      ScratchedBut what here claimed done lived out need clob X u by v c old new
-  stayed_but what here claimed done lived out need clob X t u by v c old new eu en idle h st o =
-      subst (ScratchedBut what here claimed done lived out need clob X u by v c old) (sym en) (record {
+      IsIdle far.here far.claimed far.made_at by old → Held what far.here far.claimed (held_early t) (held_late t) →
+      Located what far old → Owes tail far.lived need far.made_at (put (stands_at old) v c) (slots_at old) old.edits →
+      ScratchedBut what far need u by v c old new
+  stayed_but what far need t u by v c old new eu en idle h st o =
+      subst (ScratchedBut what far need u by v c old) (sym en) (record {
         located = st;
         owes = o;
-        held = subst (λ (y : InstRegs). Held what here claimed (held_early y) (held_late y)) (sym eu) h;
+        held = subst (λ (y : InstRegs). Held what far.here far.claimed (held_early y) (held_late y)) (sym eu) h;
         idle = idle;
         kept = kept_all old;
         others = λ x g. refl;
       })
 
   -- taking a scratch register while one vreg is on its way keeps what is owed of it there, and of all others
-  pub scratch_but : (what : ℕ → What) (here : ℕ → Place) (claimed done lived out need : ℕ → Bool) (clob : Place → Bool) (X : Place → ℕ → Bool)
-      (class : RegClass) (t u : InstRegs) (by : Register) (v : ℕ) (c : Option Place) (old new : StateValue) → AllocsScratchReg (after i) class t u by old new →
-      ((b : Register) → IsScratch class t old b → IsIdle here claimed X b old) → Held what here claimed (held_early t) (held_late t) →
+  pub scratch_but : {what : ℕ → What} {far : Progress} {need : ℕ → Bool}
+      {class : RegClass} {t u : InstRegs} {by : Register} {v : ℕ} {c : Option Place} {old new : StateValue} → AllocsScratchReg (after i) class t u by old new →
+      ((b : Register) → IsScratch class t old b → IsIdle far.here far.claimed far.made_at b old) → Held what far.here far.claimed (held_early t) (held_late t) →
       (c ≡ Some (InRegister by) → ⊥) → (place_in old v ≡ InRegister by → ⊥) →
-      Located what here claimed done lived out clob X old → Owes Known insts placesf i n E lived need X (put (stands_at old) v c) (slots_at old) old.edits →
-      ScratchedBut what here claimed done lived out need clob X u by v c old new
-  scratch_but what here claimed done lived out need clob X class t u by v c old new (dedicated_scratch own eu en) idle h other away st o =
-      stayed_but what here claimed done lived out need clob X t u by v c old new eu en (idle by (of_machine own)) h st o
-  scratch_but what here claimed done lived out need clob X class t u by v c old new (had none own eu en) idle h other away st o =
-      stayed_but what here claimed done lived out need clob X t u by v c old new eu en (idle by (taken own)) h st o
-  scratch_but what here claimed done lived out need clob X class t u by v c old new (found none unset may early late less_e less_l set evicts) idle h other away
+      Located what far old → Owes tail far.lived need far.made_at (put (stands_at old) v c) (slots_at old) old.edits →
+      ScratchedBut what far need u by v c old new
+  scratch_but {what} {far} {need} {t} {u} {by} {v} {c} {old} {new} (dedicated_scratch own eu en) idle h other away st o =
+      stayed_but what far need t u by v c old new eu en (idle by (of_machine own)) h st o
+  scratch_but {what} {far} {need} {t} {u} {by} {v} {c} {old} {new} (had none own eu en) idle h other away st o =
+      stayed_but what far need t u by v c old new eu en (idle by (taken own)) h st o
+  scratch_but {what} {far} {need} {t} {u} {by} {v} {c} {old} {new} (found none unset may early late less_e less_l set evicts) idle h other away
       st o =
       let free : FreeAt (held_early t) (held_late t) true true (InRegister by) = record { free_early = λ x. ap not early; free_late = λ x. ap not late } in
-      let s = scratch_idle what here claimed done lived out clob X (stands_at old) (slots_at old) (held_early t) (held_late t) (InRegister by) h free
+      let s = scratch_idle what far (stands_at old) (slots_at old) (held_early t) (held_late t) (InRegister by) h free
       st.placed in
-      let e : EmptiedTables what here claimed done lived out clob X by old new = evict_tables what here claimed done lived out clob X by old new evicts s.0
+      let e : EmptiedTables what far by old new = evict_tables what far by old new evicts s.0
       st in
       record {
         located = e.located;
-        owes = evict_but lived need X by old new v c evicts st.whole other away s.1 o;
-        held = held_keeps what here claimed (held_early t) (held_late t) (held_early u) (held_late u) (less_early t u by less_e) (less_late t u by less_l) h;
-        idle = record { no_allocs = e.empty; clear = s.1; unclaimed = free_unclaimed what here claimed t by early late h };
+        owes = evict_but far.lived need far.made_at by old new v c evicts st.whole other away s.1 o;
+        held = held_keeps what far.here far.claimed (held_early t) (held_late t) (held_early u) (held_late u) (less_early t u by less_e)
+            (less_late t u by less_l) h;
+        idle = record { no_allocs = e.empty; clear = s.1; unclaimed = free_unclaimed what far.here far.claimed t by early late h };
         kept = e.kept;
         others = e.others;
       }
@@ -178,5 +194,5 @@ module _ (Known : VirtualRegister → Type 0) (insts : ℕ → InstValue) (place
       AllFrom (after i) (listed (es ++ a_move (after i) by to ∷ a_move (after i) from by ∷ []))
   through_later from by to es h =
       subst (λ xs. AllFrom (after i) (listed xs)) (append_assoc es (a_move (after i) by to ∷ []) (a_move (after i) from by ∷ []))
-      (later_push Known insts placesf i n E (after i) (record { from = from; to = by }) (es ++ a_move (after i) by to ∷ [])
-      (later_push Known insts placesf i n E (after i) (record { from = by; to = to }) es h))
+      (later_push tail (after i) (record { from = from; to = by }) (es ++ a_move (after i) by to ∷ [])
+      (later_push tail (after i) (record { from = by; to = to }) es h))

@@ -1,24 +1,25 @@
 -- All operands are allocated: the late ones, then the early ones.
 use Rattle.std.proofs.Common.{ℕ, ◌≡◌, ◌+◌, ◌<◌, ◌≤◌, Bool, true, false, List, length, refl, arith, sym, subst, inl, inr}
 use Rattle.std.specs.Prelude.{slice_set}
-use Rattle.regalloc2_names.specs.Register.{VirtualRegister}
-use Rattle.regalloc2_names.specs.Operand.{OperandValue, is_late, is_fixed_nonallocatable}
+use Rattle.regalloc2_names.specs.Operand.{is_late, is_fixed_nonallocatable}
 use Rattle.regalloc2_names.specs.Place.{Place, InRegister}
-use Rattle.regalloc2_function.specs.FunctionValue.{InstValue}
 use Rattle.regalloc2_semantics.specs.OperandsPlaced.{Counts}
 use Rattle.regalloc2_fastalloc_state.specs.declared.inst_regs.InstRegs.{InstRegs}
 use Rattle.regalloc2_validate.specs.Constraints.{op_at}
 use Rattle.regalloc2_fastalloc_proofs.specs.InstSteps.{StateValue, ProcessesOperand, a_register, a_use, a_def, a_reuse, ProcessesOperandsAt, none_placed}
 use Rattle.regalloc2_fastalloc_proofs.specs.InstSteps.{of_other, one_placed}
-use Rattle.regalloc2_fastalloc_proofs.proofs.Operands.RecordOfInst.{Orderly, Turned, Laid}
+use Rattle.regalloc2_fastalloc_proofs.proofs.Operands.RecordOfInst.{Turned, Laid}
 use Rattle.regalloc2_fastalloc_proofs.proofs.Operands.UsesAndPlainDefs.{reads_no_fixed, laid_pass, laid_aside, laid_use, laid_def}
 use Rattle.regalloc2_fastalloc_proofs.proofs.Operands.ReuseDefs.{laid_reuse}
+use Rattle.regalloc2_fastalloc_proofs.proofs.Operands.RecordOfInst.{Laying}
 
-module _ (Known : VirtualRegister → Type 0) (insts : ℕ → InstValue) (placesf : ℕ → List Place) (i n : ℕ) (E : VirtualRegister → Place → Type 0)
-    (ops : List OperandValue) (lived : ℕ → Bool) (clob : Place → Bool) (ret : Bool) (orderly : Orderly ops) where
+module _ (laying : Laying) where
+  open laying use {tail, ops, lived, clob, ret, orderly}
+  open laying.tail use {Known, insts, placesf, i, n, E}
+
   -- the record of the operands of this instruction before operand k is allocated in a pass
   abbrev pub LaidAt : Bool → ℕ → List Place → InstRegs → StateValue → Type 0
-  LaidAt = Laid Known insts placesf i n E ops lived clob ret
+  LaidAt = Laid tail ops lived clob ret
 
   aside_not : (k : ℕ) → k < length ops → is_fixed_nonallocatable (op_at ops k) ≡ true → Counts ops k → ⊥
   aside_not k lt f c = elim c.1 [
@@ -31,17 +32,17 @@ module _ (Known : VirtualRegister → Type 0) (insts : ℕ → InstValue) (place
       → is_late (op_at ops k).position ≡ late →
       ProcessesOperand i ret ops k list next u w old new → LaidAt late k list u old → LaidAt late (k + 1) next w new
   laid_one_more late k list next u w old new lt inst_regs (a_register r f c e eu en) L =
-      let x : LaidAt late (k + 1) (slice_set list k (InRegister r)) u old = laid_aside Known insts placesf i n E ops lived clob ret orderly late k list u old L
+      let x : LaidAt late (k + 1) (slice_set list k (InRegister r)) u old = laid_aside laying late k list u old L
       (InRegister r) (aside_not k lt f) in
       subst (LaidAt late (k + 1) next w) (sym en) (subst (λ y. LaidAt late (k + 1) next y old) (sym eu) (subst (λ y. LaidAt late (k + 1) y u old) (sym e) x))
   laid_one_more late k list next u w old new lt inst_regs (a_use p reading s e) L =
-      subst (λ y. LaidAt late (k + 1) y w new) (sym e) (laid_use Known insts placesf i n E ops lived clob ret orderly late k list u old L lt inst_regs p w new
+      subst (λ y. LaidAt late (k + 1) y w new) (sym e) (laid_use laying late k list u old L lt inst_regs p w new
       reading s)
   laid_one_more late k list next u w old new lt inst_regs (a_def p def plain s e) L =
-      subst (λ y. LaidAt late (k + 1) y w new) (sym e) (laid_def Known insts placesf i n E ops lived clob ret orderly late k list u old L lt inst_regs p w new
+      subst (λ y. LaidAt late (k + 1) y w new) (sym e) (laid_def laying late k list u old L lt inst_regs p w new
       def plain s)
   laid_one_more late k list next u w old new lt inst_regs (a_reuse q p def reuse s e) L =
-      subst (λ y. LaidAt late (k + 1) y w new) (sym e) (laid_reuse Known insts placesf i n E ops lived clob ret orderly late k list u old L lt inst_regs q reuse
+      subst (λ y. LaidAt late (k + 1) y w new) (sym e) (laid_reuse laying late k list u old L lt inst_regs q reuse
       p w new s)
 
   -- a pass
@@ -50,7 +51,7 @@ module _ (Known : VirtualRegister → Type 0) (insts : ℕ → InstValue) (place
       LaidAt late 0 here t old → LaidAt late k list u m
   laid_all late here t old k list u m none_placed = λ le L. L
   laid_all late here t old k list u m (of_other j there v q before other) = λ le L.
-      laid_pass Known insts placesf i n E ops lived clob ret orderly late j list u m (laid_all late here t old j list u m before (omega (arith, le)) L) other
+      laid_pass laying late j list u m (laid_all late here t old j list u m before (omega (arith, le)) L) other
   laid_all late here t old k list u m (one_placed j there next v w q p before inst_regs one) = λ le L.
       laid_one_more late j there list v u q m (omega (arith, le)) inst_regs one (laid_all late here t old j there v q before (omega (arith, le)) L)
 

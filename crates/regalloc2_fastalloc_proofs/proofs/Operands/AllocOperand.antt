@@ -8,9 +8,8 @@ use Rattle.regalloc2_names.specs.RegisterSet.{has_register}
 use Rattle.regalloc2_names.specs.Operand.{OperandValue, is_def, is_late}
 use Rattle.regalloc2_names.specs.Place.{Place, InRegister, InSlot}
 use Rattle.regalloc2_names.specs.Point.{after}
-use Rattle.regalloc2_function.specs.FunctionValue.{InstValue}
 use Rattle.regalloc2_semantics.specs.BlockByPoints.{AllFrom, after_part, listed}
-use Rattle.regalloc2_semantics.specs.OperandsPlaced.{what_of, Counts, Once, Clear, Need, located, in_slot as needed, made}
+use Rattle.regalloc2_semantics.specs.OperandsPlaced.{what_of, Counts, Progress, Once, Clear, Puts, Need, located, in_slot as needed, made}
 use Rattle.regalloc2_semantics.specs.Instruction.{Claims}
 use Rattle.regalloc2_semantics.proofs.BoundaryToBoundary.{Covers, FreeAt, free_of}
 use Rattle.regalloc2_semantics.proofs.AllowedPlaces.{clear_free, clear_kept_use, clear_kept_def, evictable}
@@ -28,10 +27,11 @@ use Rattle.regalloc2_fastalloc_proofs.proofs.Safety.StepsKeepState.{place_in, sl
 use Rattle.regalloc2_fastalloc_proofs.proofs.Operands.RecordOverState.{opt, stands_at, slots_at, slots_grow, give_stands, Located}
 use Rattle.regalloc2_fastalloc_proofs.proofs.Evictions.EvictVReg.{held_early, held_late}
 use Rattle.regalloc2_fastalloc_proofs.proofs.Moves.ScratchRegTaken.{IsScratch, of_machine, taken, held_keeps, scratch_back, fit_same}
-use Rattle.regalloc2_fastalloc_proofs.proofs.Operands.ClaimAndUse.{Puts, claim_register, claim_slot}
+use Rattle.regalloc2_fastalloc_proofs.proofs.Operands.ClaimAndUse.{claim_register, claim_slot}
 use Rattle.regalloc2_fastalloc_proofs.proofs.Operands.RecordOfInst.{Ready}
 use Rattle.regalloc2_fastalloc_proofs.proofs.Evictions.EvictKeepsRecord.{Nothing, ready_clears_but, clears_but_flat}
 use Rattle.regalloc2_fastalloc_proofs.proofs.Operands.ClaimKeepsRecord.{Grips, grips_register, grips_slot, ready_claim}
+use Rattle.regalloc2_fastalloc_proofs.proofs.Operands.BlockTail.{BlockTail}
 
 -- the operand k is at p from now on, and is claimed
 abbrev pub set_at : (ℕ → Place) → ℕ → Place → ℕ → Place
@@ -98,12 +98,31 @@ pub clears_own : (point : ℕ) (r : Register) (v : VirtualRegister) (t u : InstR
 clears_own point r v t u old new (own w there same eu en) whole at = (eu, en)
 clears_own point r v t u old new (others other c) whole at = let x = whole.stands_in v.number r at in absurd (other x.1.0 x.1.2 x.1.1)
 
-module _ (Known : VirtualRegister → Type 0) (insts : ℕ → InstValue) (placesf : ℕ → List Place) (i n : ℕ) (E : VirtualRegister → Place → Type 0)
-    (ops : List OperandValue) (here : ℕ → Place) (claimed done lived out : ℕ → Bool) (clob : Place → Bool) (X : Place → ℕ → Bool) (ret : Bool) where
+-- It is the turn of the operand k, which isn't placed yet: the request made for it, at positions that cover its own; the registers and the tables before it
+-- (t, old); and the registers (u) and the place (p) that it ends with. Once late uses are placed, no early use is.
+pub record NextOperand (tail : BlockTail) (ops : List OperandValue) (far : Progress) (ret : Bool) : Type 0 where
+  pub k : ℕ
+  pub o : OperandRequest
+  pub nv : o.vreg.number ≡ (op_at ops k).vreg.number
+  pub covers : Covers (what_of ops k) o.positions.early o.positions.late
+  pub counts : Counts ops k
+  pub once : Once (Counts ops) (what_of ops)
+  pub new_one : far.done k ≡ false
+  pub phase : is_late (op_at ops k).position ≡ true → (j : ℕ) → far.done j ≡ true → is_def (op_at ops j).kind ≡ false →
+      is_late (op_at ops j).position ≡ true
+  pub t : InstRegs
+  pub u : InstRegs
+  pub p : Place
+  pub old : StateValue
+  pub s : Ready tail ops far ret t old
+
+module _ (tail : BlockTail) (ops : List OperandValue) (far : Progress) (ret : Bool) where
+  open tail use {Known, insts, placesf, i, n, E}
+
   -- a register is held from now on, and claimed no more than before
   pub ready_grip : (t u : InstRegs) (p : Place) (k : ℕ) (o : OperandRequest) (m : StateValue) → Grips t u p o.positions →
-      Ready Known insts placesf i n E ops here claimed done lived out clob X ret t m →
-      Ready Known insts placesf i n E ops here claimed done lived out clob X ret u m
+      Ready tail ops far ret t m →
+      Ready tail ops far ret u m
   ready_grip t u p k o m g s =
       let back : (c : RegClass) (b : Register) → slice_index_or u.scratch (class_code c) None ≡ Some b →
       slice_index_or t.scratch (class_code c) None ≡ Some b = λ c b e. ap (λ l. slice_index_or l (class_code c) None) (sym g.scratch) ∙ e in
@@ -111,7 +130,7 @@ module _ (Known : VirtualRegister → Type 0) (insts : ℕ → InstValue) (place
         located = s.located;
         owes = s.owes;
         nothing = s.nothing;
-        held = held_keeps (what_of ops) here claimed (held_early t) (held_late t) (held_early u) (held_late u) g.early.keeps g.late.keeps s.held;
+        held = held_keeps (what_of ops) far.here far.claimed (held_early t) (held_late t) (held_early u) (held_late u) g.early.keeps g.late.keeps s.held;
         scratch_reserve = record {
           idle = λ c b is. s.scratch_reserve.idle c b (elim is [ of_machine e ↦ of_machine e | taken e ↦ taken (back c b e) ]);
           own = λ c b e. s.scratch_reserve.own c b (back c b e);
@@ -128,43 +147,42 @@ module _ (Known : VirtualRegister → Type 0) (insts : ℕ → InstValue) (place
   pub record Got (k : ℕ) (p : Place) (u : InstRegs) (new : StateValue) : Type 0 where
     pub there : ℕ → Place
     pub claimed2 : ℕ → Bool
-    pub ready : Ready Known insts placesf i n E ops there claimed2 done lived out clob X ret u new
+    pub ready : Ready tail ops (record far { here = there; claimed = claimed2 }) ret u new
     pub at_k : there k ≡ p
-    pub at_j : (j : ℕ) → (j ≡ k → ⊥) → there j ≡ here j
-    pub same : (j : ℕ) → claimed j ≡ true → there j ≡ here j
-    pub grows : (j : ℕ) → claimed2 j ≡ true → (j ≡ k) ⊎ (claimed j ≡ true)
-    pub keeps : (j : ℕ) → claimed j ≡ true → claimed2 j ≡ true
+    pub at_j : (j : ℕ) → (j ≡ k → ⊥) → there j ≡ far.here j
+    pub same : (j : ℕ) → far.claimed j ≡ true → there j ≡ far.here j
+    pub grows : (j : ℕ) → claimed2 j ≡ true → (j ≡ k) ⊎ (far.claimed j ≡ true)
+    pub keeps : (j : ℕ) → far.claimed j ≡ true → claimed2 j ≡ true
     pub claims : claimed2 k ≡ true
     pub alone : (r : Register) → p ≡ InRegister r → (x : ℕ) → place_in new x ≡ InRegister r → x ≡ (op_at ops k).vreg.number
     pub own_slot : (m : ℕ) → p ≡ InSlot m → slot_in new (op_at ops k).vreg.number ≡ InSlot m
 
-  module _ (k : ℕ) (o : OperandRequest) (nv : o.vreg.number ≡ (op_at ops k).vreg.number) (covers : Covers (what_of ops k) o.positions.early o.positions.late)
-      (counts : Counts ops k)
-      (once : Once (Counts ops) (what_of ops)) (new_one : done k ≡ false)
-      (phase : is_late (op_at ops k).position ≡ true → (j : ℕ) → done j ≡ true → is_def (op_at ops j).kind ≡ false → is_late (op_at ops j).position ≡ true)
-      (t u : InstRegs) (p : Place) (old : StateValue) (s : Ready Known insts placesf i n E ops here claimed done lived out clob X ret t old) where
+  module _ (turn : NextOperand tail ops far ret) where
+    open turn use {k, o, nv, covers, counts, once, new_one, phase, t, u, p, old, s}
+
     abbrev num : ℕ
     num = (op_at ops k).vreg.number
 
-    fresh_same : claimed k ≡ false → (j : ℕ) → claimed j ≡ true → set_at here k p j ≡ here j
-    fresh_same f j c = set_at_other here k j p (λ e. let x : claimed k ≡ true = ap claimed (sym e) ∙ c in cc)
+    fresh_same : far.claimed k ≡ false → (j : ℕ) → far.claimed j ≡ true → set_at far.here k p j ≡ far.here j
+    fresh_same f j c = set_at_other far.here k j p (λ e. let x : far.claimed k ≡ true = ap far.claimed (sym e) ∙ c in cc)
 
     -- the vreg that the operand evicts from a register where it may be
-    may_evict : (r : Register) → Clear (what_of ops) here claimed k (InRegister r) → (x : ℕ) → stands_at old x ≡ Some (InRegister r) → (x ≡ o.vreg.number → ⊥) →
-        (lived x ≡ true) × ((w : ℕ) → X (InRegister r) w ≡ false)
-    may_evict r clear x at other = evictable (what_of ops) here claimed done lived out clob X (stands_at old) (slots_at old) k (InRegister r) x s.located.placed
+    may_evict : (r : Register) → Clear (what_of ops) far.here far.claimed k (InRegister r) → (x : ℕ) → stands_at old x ≡ Some (InRegister r) →
+        (x ≡ o.vreg.number → ⊥) →
+        (far.lived x ≡ true) × ((w : ℕ) → far.made_at (InRegister r) w ≡ false)
+    may_evict r clear x at other = evictable (what_of ops) far (stands_at old) (slots_at old) k (InRegister r) x s.located.placed
         clear new_one at (λ e. other (e ∙ sym nv)) (λ d. phase)
 
     -- the register was claimed before
-    get_owed : (new : StateValue) (r : Register) → claimed k ≡ true → here k ≡ InRegister r → p ≡ InRegister r → ClaimsPlace (after i) o p t u old new
+    get_owed : (new : StateValue) (r : Register) → far.claimed k ≡ true → far.here k ≡ InRegister r → p ≡ InRegister r → ClaimsPlace (after i) o p t u old new
         → Got k p u new
     get_owed new r ck at pr (in_slot q e same en) = let x : InRegister r ≡ InSlot q = sym pr ∙ e in absurd cc
     get_owed new r ck at pr (in_register g m e clears holds) =
-        let clear : Clear (what_of ops) here claimed k (InRegister g) = λ j cj ej. s.located.placed.apart j k cj ck (ej ∙ sym e ∙ pr ∙ sym at) in
-        let c = ready_clears_but Known insts placesf i n E ops here claimed done lived out clob X ret g o.vreg t m old new clears (may_evict g clear) s in
+        let clear : Clear (what_of ops) far.here far.claimed k (InRegister g) = λ j cj ej. s.located.placed.apart j k cj ck (ej ∙ sym e ∙ pr ∙ sym at) in
+        let c = ready_clears_but tail ops far ret g o.vreg t m old new clears (may_evict g clear) s in
         record {
-          there = here;
-          claimed2 = claimed;
+          there = far.here;
+          claimed2 = far.claimed;
           ready = ready_grip m u (InRegister g) k o new (grips_register m u g o.positions holds) c.0.ready;
           at_k = at ∙ sym pr;
           at_j = λ j ne. refl;
@@ -177,22 +195,22 @@ module _ (Known : VirtualRegister → Type 0) (insts : ℕ → InstValue) (place
         }
 
     -- a register is claimed now, of which others were cleared without a scratch register
-    got_register : (r : Register) (new : StateValue) → claimed k ≡ false → p ≡ InRegister r → r.number < 64 → Clear (what_of ops) here claimed k (InRegister r)
+    got_register : (r : Register) (new : StateValue) → far.claimed k ≡ false → p ≡ InRegister r → r.number < 64 → Clear (what_of ops) far.here far.claimed k
+        (InRegister r)
         →
-        (((what_of ops k).is_def ≡ true) ⊎ ((what_of ops k).is_late ≡ true) → clob (InRegister r) ≡ false) →
+        (((what_of ops k).is_def ≡ true) ⊎ ((what_of ops k).is_late ≡ true) → far.clobbered (InRegister r) ≡ false) →
         ((c : RegClass) (b : Register) → IsScratch c t new b → r ≢ b) →
         Grips t u (InRegister r) o.positions → ((x : ℕ) → place_in new x ≡ InRegister r → x ≡ num) →
-        Ready Known insts placesf i n E ops here claimed done lived out clob X ret t new → Got k p u new
+        Ready tail ops far ret t new → Got k p u new
     got_register r new f pr lt clear calm away grips alone rd =
-        let puts : Puts here (set_at here k p) claimed (and_one claimed k) k
-        (InRegister r) = subst (λ q. Puts here (set_at here k p) claimed (and_one claimed k) k q) pr (puts_one here claimed k p f) in
-        let st : Located (what_of ops) (set_at here k p) (and_one claimed k) done lived out clob X new =
-        claim_register (what_of ops) here (set_at here k p) claimed (and_one claimed k) done lived out clob X new k r puts clear alone calm rd.located in
+        let puts : Puts far.here (set_at far.here k p) far.claimed (and_one far.claimed k) k
+        (InRegister r) = subst (λ q. Puts far.here (set_at far.here k p) far.claimed (and_one far.claimed k) k q) pr (puts_one far.here far.claimed k p f) in
+        let st : Located (what_of ops) (record far { here = set_at far.here k p; claimed = and_one far.claimed k }) new =
+        claim_register (what_of ops) far (set_at far.here k p) (and_one far.claimed k) new k r puts clear alone calm rd.located in
         record {
-          there = set_at here k p;
-          claimed2 = and_one claimed k;
-          ready = ready_claim Known insts placesf i n E ops here (set_at here k p) claimed (and_one claimed k) done lived out clob X ret k (InRegister r)
-              o.positions t u new puts counts covers grips
+          there = set_at far.here k p;
+          claimed2 = and_one far.claimed k;
+          ready = ready_claim tail ops far (set_at far.here k p) (and_one far.claimed k) ret puts counts covers grips
               (λ q e. let same : r ≡ q = cc in subst (λ (y : Register). y.number < 64) same lt) (λ c b is e. let same : r ≡ b = cc in away c b is same) st rd;
           at_k = puts.at_k ∙ sym pr;
           at_j = puts.at_j;
@@ -205,19 +223,18 @@ module _ (Known : VirtualRegister → Type 0) (insts : ℕ → InstValue) (place
         }
 
     -- a slot is claimed now
-    got_slot : (q : ℕ) (new : StateValue) → claimed k ≡ false → p ≡ InSlot q → slot_in new num ≡ InSlot q → Grips t u (InSlot q) o.positions →
-        Ready Known insts placesf i n E ops here claimed done lived out clob X ret t new → Got k p u new
+    got_slot : (q : ℕ) (new : StateValue) → far.claimed k ≡ false → p ≡ InSlot q → slot_in new num ≡ InSlot q → Grips t u (InSlot q) o.positions →
+        Ready tail ops far ret t new → Got k p u new
     got_slot q new f pr at grips rd =
-        let puts : Puts here (set_at here k p) claimed (and_one claimed k) k
-        (InSlot q) = subst (λ g. Puts here (set_at here k p) claimed (and_one claimed k) k g) pr (puts_one here claimed k p f) in
-        let st : Located (what_of ops) (set_at here k p) (and_one claimed k) done lived out clob X new =
-        claim_slot (Counts ops) (what_of ops) here (set_at here k p) claimed (and_one claimed k) done lived out clob X new k q puts once rd.within
+        let puts : Puts far.here (set_at far.here k p) far.claimed (and_one far.claimed k) k
+        (InSlot q) = subst (λ g. Puts far.here (set_at far.here k p) far.claimed (and_one far.claimed k) k g) pr (puts_one far.here far.claimed k p f) in
+        let st : Located (what_of ops) (record far { here = set_at far.here k p; claimed = and_one far.claimed k }) new =
+        claim_slot (Counts ops) (what_of ops) far (set_at far.here k p) (and_one far.claimed k) new k q puts once rd.within
         counts at rd.located in
         record {
-          there = set_at here k p;
-          claimed2 = and_one claimed k;
-          ready = ready_claim Known insts placesf i n E ops here (set_at here k p) claimed (and_one claimed k) done lived out clob X ret k (InSlot q)
-              o.positions t u new puts counts covers grips
+          there = set_at far.here k p;
+          claimed2 = and_one far.claimed k;
+          ready = ready_claim tail ops far (set_at far.here k p) (and_one far.claimed k) ret puts counts covers grips
               (λ g e. absurd cc) (λ c b is e. cc) st rd;
           at_k = puts.at_k ∙ sym pr;
           at_j = puts.at_j;
@@ -230,27 +247,27 @@ module _ (Known : VirtualRegister → Type 0) (insts : ℕ → InstValue) (place
         }
 
     -- the vreg's own place is no clobber, for whom that matters
-    calm_kept : (q : Place) → stands_at old num ≡ Some q → ((what_of ops k).is_def ≡ true) ⊎ ((what_of ops k).is_late ≡ true) → clob q ≡ false
+    calm_kept : (q : Place) → stands_at old num ≡ Some q → ((what_of ops k).is_def ≡ true) ⊎ ((what_of ops k).is_late ≡ true) → far.clobbered q ≡ false
     calm_kept q at h = ⊎_elim
-        (λ (l : lived num ≡ true). s.located.placed.cleared num q l at)
-        (λ (l : lived num ≡ false).
+        (λ (l : far.lived num ≡ true). s.located.placed.cleared num q l at)
+        (λ (l : far.lived num ≡ false).
         let w = s.located.placed.newly num q l at in
         let cj = s.located.placed.claims w.0 w.1 in
         elim h [
           | inl d ↦ absurd (once.unread k w.0 counts (s.within w.0 cj) d w.2 (sym w.3))
-          | inr e ↦ (ap clob (sym w.4) ∙ s.located.placed.kept w.0 cj (inr (phase e w.0 w.1 w.2)))
+          | inr e ↦ (ap far.clobbered (sym w.4) ∙ s.located.placed.kept w.0 cj (inr (phase e w.0 w.1 w.2)))
         ])
-        (cases_Bool (lived num))
+        (cases_Bool (far.lived num))
 
-    clear_kept : (q : Place) → stands_at old num ≡ Some q → Clear (what_of ops) here claimed k q
+    clear_kept : (q : Place) → stands_at old num ≡ Some q → Clear (what_of ops) far.here far.claimed k q
     clear_kept q at = ⊎_elim
-        (λ (d : is_def (op_at ops k).kind ≡ true). clear_kept_def (Counts ops) (what_of ops) here claimed done lived out clob X (stands_at old) (slots_at old) k
+        (λ (d : is_def (op_at ops k).kind ≡ true). clear_kept_def (Counts ops) (what_of ops) far (stands_at old) (slots_at old) k
         q s.located.placed once s.within counts d at)
-        (λ (d : is_def (op_at ops k).kind ≡ false). clear_kept_use (Counts ops) (what_of ops) here claimed done lived out clob X (stands_at old) (slots_at old)
+        (λ (d : is_def (op_at ops k).kind ≡ false). clear_kept_use (Counts ops) (what_of ops) far (stands_at old) (slots_at old)
         k q s.located.placed once s.within counts d at phase)
         (cases_Bool (is_def (op_at ops k).kind))
 
-    get_kept : (new : StateValue) → claimed k ≡ false → alloc_of old.places o.vreg.number ≡ p → ClaimsPlace (after i) o p t u old new → Got k p u new
+    get_kept : (new : StateValue) → far.claimed k ≡ false → alloc_of old.places o.vreg.number ≡ p → ClaimsPlace (after i) o p t u old new → Got k p u new
     get_kept new f at (in_slot q e same en) =
         let here_is : place_in old num ≡ InSlot q = ap (place_in old) (sym nv) ∙ at ∙ e in
         subst (Got k p u) (sym en) (got_slot q old f e (s.located.whole.own_slot num q here_is) (grips_slot t u q o.positions same) s)
@@ -265,7 +282,7 @@ module _ (Known : VirtualRegister → Type 0) (insts : ℕ → InstValue) (place
         (λ y ey. (whole_tidy old s.located.whole).apart y num r ey num_is) s)
 
     -- a register that is free where the operand is
-    get_free : (new : StateValue) (r : Register) → claimed k ≡ false → MayHold old o.vreg.class r → IsAvailableAt t o.positions r → p ≡ InRegister r →
+    get_free : (new : StateValue) (r : Register) → far.claimed k ≡ false → MayHold old o.vreg.class r → IsAvailableAt t o.positions r → p ≡ InRegister r →
         ClaimsPlace (after i) o p t u old new → Got k p u new
     get_free new r f may fr pr (in_slot q e same en) = let x : InRegister r ≡ InSlot q = sym pr ∙ e in absurd cc
     get_free new r f may fr pr (in_register g m e clears holds) =
@@ -275,23 +292,24 @@ module _ (Known : VirtualRegister → Type 0) (insts : ℕ → InstValue) (place
         let eu : m ≡ t = clears_but_flat (after i) g o.vreg t m old new flat clears in
         let free_at : FreeAt (held_early t) (held_late t) o.positions.early o.positions.late
         (InRegister r) = record { free_early = λ a. ap not (fr.early a); free_late = λ a. ap not (fr.late a) } in
-        let clear : Clear (what_of ops) here claimed k (InRegister r) =
-        clear_free (what_of ops) here claimed (held_early t) (held_late t) k (InRegister r) s.held
+        let clear : Clear (what_of ops) far.here far.claimed k (InRegister r) =
+        clear_free (what_of ops) far.here far.claimed (held_early t) (held_late t) k (InRegister r) s.held
         (free_of (what_of ops k) (held_early t) (held_late t) o.positions.early o.positions.late (InRegister r) covers free_at) in
-        let clear_g : Clear (what_of ops) here claimed k (InRegister g) = subst (λ y. Clear (what_of ops) here claimed k (InRegister y)) (sym same) clear in
-        let c = ready_clears_but Known insts placesf i n E ops here claimed done lived out clob X ret g o.vreg t m old new clears (may_evict g clear_g) s in
-        let rd : Ready Known insts placesf i n E ops here claimed done lived out clob X ret t
-        new = subst (λ y. Ready Known insts placesf i n E ops here claimed done lived out clob X ret y new) eu c.0.ready in
+        let clear_g : Clear (what_of ops) far.here far.claimed k (InRegister g) = subst (λ y. Clear (what_of ops) far.here far.claimed k (InRegister y))
+        (sym same) clear in
+        let c = ready_clears_but tail ops far ret g o.vreg t m old new clears (may_evict g clear_g) s in
+        let rd : Ready tail ops far ret t
+        new = subst (λ y. Ready tail ops far ret y new) eu c.0.ready in
         let grips : Grips t u (InRegister r) o.positions = subst (λ y. Grips t u (InRegister y) o.positions) same
         (subst (λ y. Grips y u (InRegister g) o.positions) eu (grips_register m u g o.positions holds)) in
         let k2 : SameMachine old new = c.0.kept.machine in
         got_register r new f pr may.small clear
         (λ h. ⊎_elim
-        (λ (a : clob (InRegister r) ≡ true).
+        (λ (a : far.clobbered (InRegister r) ≡ true).
         let x : has_register t.late r ≡ false = s.clobbers r a in
         let y : has_register t.late r ≡ true = fr.late (elim h [ inl d ↦ covers.late_def d | inr l ↦ covers.late_use l ]) in absurd cc)
-        (λ (a : clob (InRegister r) ≡ false). a)
-        (cases_Bool (clob (InRegister r))))
+        (λ (a : far.clobbered (InRegister r) ≡ false). a)
+        (cases_Bool (far.clobbered (InRegister r))))
         (λ c1 b is eb. elim is [
           | of_machine d ↦ (let x = (rd.fit.own_apart c1 b d).0 in let y : has_register new.allocatable b ≡ true = ap (λ l. has_register l b) k2.allocatable
               ∙ ap (has_register old.allocatable) (sym eb) ∙ may.allocatable in cc)
@@ -307,21 +325,22 @@ module _ (Known : VirtualRegister → Type 0) (insts : ℕ → InstValue) (place
     -- its slot, which it had or which is made
     ready_given : (middle : StateValue) → GetsSpillSlot old.slots middle.slots o.vreg p → middle.places ≡ old.places → middle.edits ≡ old.edits →
         SameMachine old middle →
-        Ready Known insts placesf i n E ops here claimed done lived out clob X ret t middle
+        Ready tail ops far ret t middle
     ready_given middle g e ed machine = record {
-      located = give_stands old middle o.vreg p g s.located.whole e (what_of ops) here claimed done lived out clob X s.located;
+      located = give_stands old middle o.vreg p g s.located.whole e (what_of ops) far s.located;
       owes = record {
         later = subst (λ es. AllFrom (after i) (listed es)) (sym ed) s.owes.later;
-        claims = subst (λ es. Claims Known (after_part insts (listed es) placesf i n) (Need lived out X (stands_at middle) (slots_at middle)) E) (sym ed)
-            (claims_weaken Known E (after_part insts (listed old.edits) placesf i n) (Need lived out X (stands_at old) (slots_at old))
-            (Need lived out X (stands_at middle) (slots_at middle))
+        claims = subst (λ es. Claims Known (after_part insts (listed es) placesf i n) (Need far.lived far.out far.made_at (stands_at middle)
+            (slots_at middle)) E) (sym ed)
+            (claims_weaken Known E (after_part insts (listed old.edits) placesf i n) (Need far.lived far.out far.made_at (stands_at old) (slots_at old))
+            (Need far.lived far.out far.made_at (stands_at middle) (slots_at middle))
             (λ x q y. elim y [
               | located l ex ↦ located l (ap (λ (z : VRegAllocsValue). opt (alloc_of z x)) e ∙ ex)
               | needed f ex ↦ needed f (slots_grow old middle o.vreg p g s.located.whole x q ex)
               | made m ↦ made m
             ]) s.owes.claims);
       };
-      nothing = λ a. subst (Nothing Known insts placesf i n E) (sym ed) (s.nothing a);
+      nothing = λ a. subst (Nothing tail) (sym ed) (s.nothing a);
       held = s.held;
       scratch_reserve = record {
         idle = λ c b is. (let y = s.scratch_reserve.idle c b (scratch_back c t old middle b machine is) in
@@ -336,7 +355,7 @@ module _ (Known : VirtualRegister → Type 0) (insts : ℕ → InstValue) (place
       small = s.small;
     }
 
-    get_slot : (middle new : StateValue) → claimed k ≡ false → GetsSpillSlot old.slots middle.slots o.vreg p → middle.places ≡ old.places →
+    get_slot : (middle new : StateValue) → far.claimed k ≡ false → GetsSpillSlot old.slots middle.slots o.vreg p → middle.places ≡ old.places →
         middle.edits ≡ old.edits → SameMachine old middle →
         ClaimsPlace (after i) o p t u middle new → Got k p u new
     get_slot middle new f g e ed machine (in_slot q at same en) =
@@ -347,7 +366,7 @@ module _ (Known : VirtualRegister → Type 0) (insts : ℕ → InstValue) (place
         let y : InSlot x.0 ≡ InRegister r = sym x.1 ∙ at in absurd cc
 
     -- the four ways
-    gets_by : (middle new : StateValue) → Due here claimed k o.requirement → SelectsPlace t o p old middle → ClaimsPlace (after i) o p t u middle new
+    gets_by : (middle new : StateValue) → Due far.here far.claimed k o.requirement → SelectsPlace t o p old middle → ClaimsPlace (after i) o p t u middle new
         → Got k p u new
     gets_by middle new (owed r ck at w) (stays x su en) occ = get_owed new r ck at (suits_at old o.requirement p r w su)
         (subst (λ m. ClaimsPlace (after i) o p t u m new) en occ)
@@ -362,5 +381,5 @@ module _ (Known : VirtualRegister → Type 0) (insts : ℕ → InstValue) (place
     gets_by middle new (fresh f other) (free g h may fr pg en) occ = get_free new g f may fr pg (subst (λ m. ClaimsPlace (after i) o p t u m new) en occ)
 
     -- an operand that gets a place claims it, and the record of the operands is kept
-    pub gets_step : (new : StateValue) → Due here claimed k o.requirement → AllocsOperand (after i) o p t u old new → Got k p u new
-    gets_step new due g = gets_by g.middle new due g.picks g.occupies
+    pub gets_step : {new : StateValue} → Due far.here far.claimed k o.requirement → AllocsOperand (after i) o p t u old new → Got k p u new
+    gets_step {new} due g = gets_by g.middle new due g.picks g.occupies

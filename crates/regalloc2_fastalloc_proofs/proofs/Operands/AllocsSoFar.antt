@@ -186,8 +186,26 @@ reuse_register env c n p e h = subst (λ x. MeetsAlone env x p) e h
 pub no_place_register : (p : Place) → p ≡ NoPlace → IsInRegister p → ⊥
 no_place_register p e h = subst IsInRegister e h
 
-module _ (env : MachineValue) (Known : VirtualRegister → Type 0) (Writes : ℕ → VirtualRegister → ℕ → Type 0) (May : ℕ → Type 0) (base : SpillSlotsValue)
-    (ops : List OperandValue) (tame : IsTame Known ops) where
+-- An instruction's operands, which get their places one after another: the machine; the vregs that are known; the slots into which the walk may write a
+-- vreg's value, and the points where moves may be; slots that are there at least; and the operands, which are tame.
+pub record Filling : Type 1 where
+  pub env : MachineValue
+  pub Known : VirtualRegister → Type 0
+  pub Writes : ℕ → VirtualRegister → ℕ → Type 0
+  pub May : ℕ → Type 0
+  pub base : SpillSlotsValue
+  pub ops : List OperandValue
+  pub tame : IsTame Known ops
+
+-- those, of their parts
+abbrev pub filling_of : MachineValue → (Known : VirtualRegister → Type 0) → (ℕ → VirtualRegister → ℕ → Type 0) → (ℕ → Type 0) → SpillSlotsValue →
+    (ops : List OperandValue) → IsTame Known ops → Filling
+filling_of env Known Writes May base ops tame =
+    record { env = env; Known = Known; Writes = Writes; May = May; base = base; ops = ops; tame = tame }
+
+module _ (filling : Filling) where
+  open filling use {env, Known, Writes, May, base, ops, tame}
+
   -- the same operands are done
   pub filled_same : (D E : ℕ → Type 0) (there : List Place) (u : InstRegs) (t : StateValue) → ((j : ℕ) → j < length ops → E j → D j) →
       ((j : ℕ) → j < length ops → D j → E j)
@@ -274,11 +292,11 @@ module _ (env : MachineValue) (Known : VirtualRegister → Type 0) (Writes : ℕ
       not_k j d same = more.before_it (subst D same d)
 
   -- the place of a reuse, which is that of the use that it names too
-  pub written_twice : (D E : ℕ → Type 0) (k n : ℕ) (p : Place) (here : List Place) (u : InstRegs) (t : StateValue) → k < length ops → OneMore D E k →
+  pub written_twice : {D E : ℕ → Type 0} {k : ℕ} (n : ℕ) {p : Place} {here : List Place} {u : InstRegs} {t : StateValue} → k < length ops → OneMore D E k →
       (op_at ops k).constraint ≡ Reuse n → (D n → ⊥)
       → IsGood env t.slots (op_at ops k) p → IsGood env t.slots (op_at ops n) p → IsInRegister p
       → Filled env Known Writes May base ops D here u t → Filled env Known Writes May base ops E (set (set here k p) n p) u t
-  written_twice D E k n p here u t lt more reuses not_n good good_n register h = record {
+  written_twice {D} {E} {k} n {p} {here} {t} lt more reuses not_n good good_n register h = record {
     safe = h.safe;
     inst_regs = h.inst_regs;
     stay = h.stay;

@@ -3,12 +3,11 @@ use Rattle.std.proofs.Common.{ℕ, ◌≡◌, ◌≢◌, ◌<◌, Bool, true, fa
 use Rattle.std.specs.Prelude.{None, Some, not, ◌&&◌, slice_index_or}
 use Rattle.std.proofs.lemmas.Bool.{cases_eq}
 use Rattle.regalloc2_names.specs.declared.RegClass.{RegClass}
-use Rattle.regalloc2_names.specs.Register.{Register, VirtualRegister, class_code, is_register}
+use Rattle.regalloc2_names.specs.Register.{Register, class_code, is_register}
 use Rattle.regalloc2_names.specs.RegisterSet.{has_register}
 use Rattle.regalloc2_names.specs.Operand.{OperandValue}
 use Rattle.regalloc2_names.specs.Place.{Place, NoPlace, InRegister, InSlot}
-use Rattle.regalloc2_function.specs.FunctionValue.{InstValue}
-use Rattle.regalloc2_semantics.specs.OperandsPlaced.{what_of, Counts}
+use Rattle.regalloc2_semantics.specs.OperandsPlaced.{what_of, Counts, Progress, Puts}
 use Rattle.regalloc2_semantics.proofs.BoundaryToBoundary.{Covers, Holds as Keeps, held_more}
 use Rattle.regalloc2_semantics.proofs.Cells.{is_register-same}
 use Rattle.regalloc2_fastalloc_state.specs.declared.inst_regs.InstRegs.{InstRegs}
@@ -18,8 +17,8 @@ use Rattle.regalloc2_fastalloc_proofs.specs.InstSteps.{StateValue}
 use Rattle.regalloc2_fastalloc_proofs.proofs.Operands.RecordOverState.{Located}
 use Rattle.regalloc2_fastalloc_proofs.proofs.Evictions.EvictVReg.{held_early, held_late}
 use Rattle.regalloc2_fastalloc_proofs.proofs.Moves.ScratchRegTaken.{IsIdle, IsScratch, of_machine, taken, Less}
-use Rattle.regalloc2_fastalloc_proofs.proofs.Operands.ClaimAndUse.{Puts}
 use Rattle.regalloc2_fastalloc_proofs.proofs.Operands.RecordOfInst.{Ready}
+use Rattle.regalloc2_fastalloc_proofs.proofs.Operands.BlockTail.{BlockTail}
 
 -- what is held from now on
 pub record Grips (t u : InstRegs) (p : Place) (pos : Positions) : Type 0 where
@@ -92,11 +91,12 @@ grips_slot t u m pos s = record {
     late_keeps (InRegister q) e = ap (λ l. not (has_register l q)) s.late ∙ e
     late_keeps (InSlot m) e = refl
 
-module _ (Known : VirtualRegister → Type 0) (insts : ℕ → InstValue) (placesf : ℕ → List Place) (i n : ℕ) (E : VirtualRegister → Place → Type 0)
-    (ops : List OperandValue) (here there : ℕ → Place) (claimed claimed2 done lived out : ℕ → Bool) (clob : Place → Bool) (X : Place → ℕ → Bool)
-    (ret : Bool) where
-  idle_claim : (k : ℕ) (p : Place) (b : Register) (t : StateValue) → Puts here there claimed claimed2 k p → p ≢ InRegister b → IsIdle here claimed X b t →
-      IsIdle there claimed2 X b t
+module _ (tail : BlockTail) (ops : List OperandValue) (far : Progress) (there : ℕ → Place) (claimed2 : ℕ → Bool) (ret : Bool) where
+  open tail use {Known, insts, placesf, i, n, E}
+
+  idle_claim : (k : ℕ) (p : Place) (b : Register) (t : StateValue) → Puts far.here there far.claimed claimed2 k p → p ≢ InRegister b → IsIdle far.here
+      far.claimed far.made_at b t →
+      IsIdle there claimed2 far.made_at b t
   idle_claim k p b t u away s = record {
     no_allocs = s.no_allocs;
     clear = s.clear;
@@ -107,13 +107,13 @@ module _ (Known : VirtualRegister → Type 0) (insts : ℕ → InstValue) (place
   }
 
   -- where an operand claims a place that it may have, and which is held from then on, the record of the operands is kept
-  pub ready_claim : (k : ℕ) (p : Place) (pos : Positions) (t u : InstRegs) (m : StateValue) → Puts here there claimed claimed2 k p → Counts ops k →
+  pub ready_claim : {k : ℕ} {p : Place} {pos : Positions} {t u : InstRegs} {m : StateValue} → Puts far.here there far.claimed claimed2 k p → Counts ops k →
       Covers (what_of ops k) pos.early pos.late → Grips t u p pos →
       ((r : Register) → p ≡ InRegister r → r.number < 64) → ((c : RegClass) (b : Register) → IsScratch c t m b → p ≢ InRegister b) →
-      Located (what_of ops) there claimed2 done lived out clob X m →
-      Ready Known insts placesf i n E ops here claimed done lived out clob X ret t m →
-      Ready Known insts placesf i n E ops there claimed2 done lived out clob X ret u m
-  ready_claim k p pos t u m puts counts covers g small away st s =
+      Located (what_of ops) (record far { here = there; claimed = claimed2 }) m →
+      Ready tail ops far ret t m →
+      Ready tail ops (record far { here = there; claimed = claimed2 }) ret u m
+  ready_claim {k} {p} {pos} {t} {u} {m} puts counts covers g small away st s =
       let back : (c : RegClass) (b : Register) → slice_index_or u.scratch (class_code c) None ≡ Some b →
       slice_index_or t.scratch (class_code c) None ≡ Some b = λ c b e. ap (λ l. slice_index_or l (class_code c) None) (sym g.scratch) ∙ e in
       let was : (c : RegClass) (b : Register) → IsScratch c u m b → IsScratch c t m b = λ c b is. elim is
@@ -122,8 +122,8 @@ module _ (Known : VirtualRegister → Type 0) (insts : ℕ → InstValue) (place
         located = st;
         owes = s.owes;
         nothing = s.nothing;
-        held = held_more (what_of ops) here there claimed claimed2 (held_early t) (held_late t) (held_early u) (held_late u) pos.early pos.late k p puts.fresh
-            puts.at_k puts.at_j puts.grows covers g.early g.late s.held;
+        held = held_more (what_of ops) far.here there far.claimed claimed2 (held_early t) (held_late t) (held_early u) (held_late u) k p puts
+            (record { at_early = pos.early; at_late = pos.late; covers = covers; in_early = g.early; in_late = g.late }) s.held;
         scratch_reserve = record {
           idle = λ c b is. idle_claim k p b m puts (away c b (was c b is)) (s.scratch_reserve.idle c b (was c b is));
           own = λ c b e. s.scratch_reserve.own c b (back c b e);

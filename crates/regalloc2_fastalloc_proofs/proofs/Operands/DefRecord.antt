@@ -4,12 +4,11 @@ use Rattle.std.specs.Prelude.{None, Some, not, ◌&&◌}
 use Rattle.std.proofs.lemmas.Bool.{cases_Bool, cases_eq}
 use Rattle.regalloc2_names.specs.Register.{Register, VirtualRegister}
 use Rattle.regalloc2_names.specs.RegisterSet.{has_register}
-use Rattle.regalloc2_names.specs.Operand.{OperandValue, is_def}
+use Rattle.regalloc2_names.specs.Operand.{OperandValue}
 use Rattle.regalloc2_names.specs.Place.{Place, NoPlace, InRegister, InSlot, is_place}
 use Rattle.regalloc2_names.specs.Point.{after}
-use Rattle.regalloc2_function.specs.FunctionValue.{InstValue}
 use Rattle.regalloc2_semantics.specs.BlockByPoints.{AllFrom, after_part, listed}
-use Rattle.regalloc2_semantics.specs.OperandsPlaced.{what_of, Counts, Once, Need, located, in_slot, made}
+use Rattle.regalloc2_semantics.specs.OperandsPlaced.{what_of, Counts, Progress, Need, located, in_slot, made}
 use Rattle.regalloc2_semantics.proofs.Cells.{cases_place, is_place-same, is_place-other}
 use Rattle.regalloc2_semantics.proofs.NeedsAcrossMoves.{claims_weaken}
 use Rattle.regalloc2_fastalloc_state.specs.declared.inst_regs.InstRegs.{InstRegs}
@@ -22,11 +21,11 @@ use Rattle.regalloc2_fastalloc_proofs.proofs.Evictions.EvictVReg.{Kept, kept_all
 use Rattle.regalloc2_fastalloc_proofs.proofs.Moves.ScratchRegTaken.{IsIdle, fit_same, scratch_back}
 use Rattle.regalloc2_fastalloc_proofs.proofs.Moves.ScratchRegMidMove.{put, put_same, put_other, owes_same}
 use Rattle.regalloc2_fastalloc_proofs.proofs.Evictions.EvictPReg.{kept_then}
-use Rattle.regalloc2_fastalloc_proofs.proofs.Operands.ClaimAndUse.{Places}
-use Rattle.regalloc2_fastalloc_proofs.proofs.Operands.FreeDef.{Makes, leave_stands, defs_elsewhere}
+use Rattle.regalloc2_fastalloc_proofs.proofs.Operands.FreeDef.{PlacesDef, leave_stands, defs_elsewhere}
 use Rattle.regalloc2_fastalloc_proofs.proofs.Operands.RecordOfInst.{Ready}
 use Rattle.regalloc2_fastalloc_proofs.proofs.Evictions.EvictKeepsRecord.{Nothing}
 use Rattle.regalloc2_fastalloc_proofs.proofs.Moves.MoveAfterInst.{Steady, Sent, Moves, ready_of, cross_step}
+use Rattle.regalloc2_fastalloc_proofs.proofs.Operands.BlockTail.{BlockTail}
 
 another_parts : (a b : Bool) → (not a && not b) ≡ true → (a ≡ false) × (b ≡ false)
 another_parts true b e = absurd cc
@@ -76,47 +75,50 @@ real_slot count NoPlace b ne = absurd (ne refl)
 real_slot count (InRegister r) b ne = absurd b
 real_slot count (InSlot q) b ne = (q, refl)
 
-module _ (Known : VirtualRegister → Type 0) (insts : ℕ → InstValue) (placesf : ℕ → List Place) (i n : ℕ) (E : VirtualRegister → Place → Type 0)
-    (ops : List OperandValue) (here : ℕ → Place) (claimed done done2 lived out out2 : ℕ → Bool) (clob : Place → Bool) (X Y : Place → ℕ → Bool) (ret : Bool)
-    (k : ℕ)
-    (mk : Makes (what_of ops) here out out2 X Y k) (pl : Places done done2 k) (once : Once (Counts ops) (what_of ops)) (ck : claimed k ≡ true)
-    (dk : is_def (op_at ops k).kind ≡ true) where
+module _ (tail : BlockTail) (ops : List OperandValue) (far : Progress) (done2 out2 : ℕ → Bool) (Y : Place → ℕ → Bool) (ret : Bool) (k : ℕ)
+    (pd : PlacesDef (Counts ops) (what_of ops) far done2 out2 Y k) where
+  open tail use {Known, insts, placesf, i, n, E}
+
+  -- the progress once the definition is placed
+  abbrev next : Progress
+  next = record far { done = done2; out = out2; made_at = Y }
+
   abbrev v : VirtualRegister
   v = (op_at ops k).vreg
 
-  others_in : (x : ℕ) → (x ≡ v.number → ⊥) → out x ≡ false → out2 x ≡ false
-  others_in x ne f = ⊎_elim (λ (a : out2 x ≡ true). elim (mk.out_grows x a) [ inl h ↦ absurd (ne h) | inr h ↦ absurd cc ]) (λ (a : out2 x ≡ false). a)
+  others_in : (x : ℕ) → (x ≡ v.number → ⊥) → far.out x ≡ false → out2 x ≡ false
+  others_in x ne f = ⊎_elim (λ (a : out2 x ≡ true). elim (pd.makes.out_grows x a) [ inl h ↦ absurd (ne h) | inr h ↦ absurd cc ]) (λ (a : out2 x ≡ false). a)
       (cases_Bool (out2 x))
 
   -- the vreg has left
   module _ (t : InstRegs) (old left : StateValue) (z : SetsAlloc old.places left.places v NoPlace) (slots : left.slots ≡ old.slots)
       (edits : left.edits ≡ old.edits) (machine : SameMachine old left)
-      (r : Ready Known insts placesf i n E ops here claimed done lived out clob X ret t old) where
+      (r : Ready tail ops far ret t old) where
     abbrev c : Place
     c = place_in old v.number
 
     abbrev s : Place
     s = slot_in old v.number
 
-    left_idle : (b : Register) → IsIdle here claimed X b old → IsIdle here claimed Y b left
+    left_idle : (b : Register) → IsIdle far.here far.claimed far.made_at b old → IsIdle far.here far.claimed Y b left
     left_idle b f = record {
       no_allocs = λ x e. elim (cases_eq x v.number) [
         | inl a ↦ (let y : NoPlace ≡ InRegister b = sym z.here ∙ ap (place_in left) (sym a) ∙ e in cc)
         | inr a ↦ f.no_allocs x (sym (z.others x a) ∙ e)
       ];
       clear = λ x. ⊎_elim
-          (λ (a : Y (InRegister b) x ≡ true). elim (mk.grows (InRegister b) x a)
-          [ inl h ↦ absurd (f.unclaimed k ck (sym h.0)) | inr h ↦ (let y = f.clear x in absurd cc) ])
+          (λ (a : Y (InRegister b) x ≡ true). elim (pd.makes.grows (InRegister b) x a)
+          [ inl h ↦ absurd (f.unclaimed k pd.claims (sym h.0)) | inr h ↦ (let y = f.clear x in absurd cc) ])
           (λ (a : Y (InRegister b) x ≡ false). a)
           (cases_Bool (Y (InRegister b) x));
       unclaimed = f.unclaimed;
     }
 
-    left_steady : Steady Known insts placesf i n E ops here claimed done2 lived out2 clob Y ret t left
+    left_steady : Steady tail ops next ret t left
     left_steady = record {
-      located = leave_stands (Counts ops) (what_of ops) here claimed done done2 lived out out2 clob X Y old left k v mk pl once r.within ck dk refl z slots
+      located = leave_stands (Counts ops) (what_of ops) far done2 out2 Y old left k v pd r.within refl z slots
           r.located;
-      nothing = λ e. subst (Nothing Known insts placesf i n E) (sym edits) (r.nothing e);
+      nothing = λ e. subst (Nothing tail) (sym edits) (r.nothing e);
       held = r.held;
       scratch_reserve = record {
         idle = λ d b is. left_idle b (r.scratch_reserve.idle d b (scratch_back d t old left b machine is));
@@ -152,13 +154,13 @@ module _ (Known : VirtualRegister → Type 0) (insts : ℕ → InstValue) (place
 
     -- which vregs are out once the first move is there: one whose slot is where it was awaited is out at once
     abbrev Which : (ℕ → Bool) → Type 0
-    Which need = (need ≡ out) ⊎ ((need ≡ out2) × (s ≡ c))
+    Which need = (need ≡ far.out) ⊎ ((need ≡ out2) × (s ≡ c))
 
-    first_moves : (need : ℕ → Bool) → Which need → c ≢ NoPlace → c ≢ here k → (m : StateValue) → Located (what_of ops) here claimed done2 lived out2 clob Y m →
+    first_moves : (need : ℕ → Bool) → Which need → c ≢ NoPlace → c ≢ far.here k → (m : StateValue) → Located (what_of ops) next m →
         Kept left m →
-        Moves Known insts placesf i n E lived out need Y v.number (Some c) (here k) c m
+        Moves tail far.lived far.out need Y v.number (Some c) (far.here k) c m
     first_moves need which real other m st k2 =
-        let is_made : (x : ℕ) → x ≡ v.number → Y (here k) x ≡ true = λ x e. ap (Y (here k)) e ∙ mk.is_made in
+        let is_made : (x : ℕ) → x ≡ v.number → Y (far.here k) x ≡ true = λ x e. ap (Y (far.here k)) e ∙ pd.makes.is_made in
         record {
           moved = λ x y. elim y [
             | located l e ↦ made (elim (cases_eq x v.number) [
@@ -166,10 +168,10 @@ module _ (Known : VirtualRegister → Type 0) (insts : ℕ → InstValue) (place
               | inr a ↦ absurd (a (alone_at c refl real m st.whole k2 x (opt_from (place_in m x) c (sym (put_other (stands_at m) v.number (Some c) x a) ∙ e))))
             ])
             | in_slot f e ↦ made (is_made x (own_at c refl real m st.whole k2 x (opt_from (slot_in m x) c e)))
-            | made g ↦ elim (mk.grows c x g) [
+            | made g ↦ elim (pd.makes.grows c x g) [
               | inl h ↦ absurd (other h.0)
-              | inr h ↦ (let b : X c x ≡ false = defs_elsewhere (Counts ops) (what_of ops) here claimed done lived out clob X (stands_at old) (slots_at old) k c
-                  x once r.within ck dk r.located.placed (opt_some c real) in absurd cc)
+              | inr h ↦ (let b : far.made_at c x ≡ false = defs_elsewhere (Counts ops) (what_of ops) far (stands_at old) (slots_at old) k c
+                  x pd.once r.within pd.claims pd.is_def r.located.placed (opt_some c real) in absurd cc)
             ]
           ];
           others = λ x q ne y. elim y [
@@ -189,35 +191,35 @@ module _ (Known : VirtualRegister → Type 0) (insts : ℕ → InstValue) (place
         }
 
     -- what was needed before the vreg left, while it is on its way
-    on_its_way : c ≢ NoPlace → Owes Known insts placesf i n E lived out Y (put (stands_at left) v.number (Some c)) (slots_at left) left.edits
-    on_its_way real = subst (Owes Known insts placesf i n E lived out Y (put (stands_at left) v.number (Some c)) (slots_at left)) (sym edits) (record {
+    on_its_way : c ≢ NoPlace → Owes tail far.lived far.out Y (put (stands_at left) v.number (Some c)) (slots_at left) left.edits
+    on_its_way real = subst (Owes tail far.lived far.out Y (put (stands_at left) v.number (Some c)) (slots_at left)) (sym edits) (record {
       later = r.owes.later;
-      claims = claims_weaken Known E (after_part insts (listed old.edits) placesf i n) (Need lived out X (stands_at old) (slots_at old))
-          (Need lived out Y (put (stands_at left) v.number (Some c)) (slots_at left))
+      claims = claims_weaken Known E (after_part insts (listed old.edits) placesf i n) (Need far.lived far.out far.made_at (stands_at old) (slots_at old))
+          (Need far.lived far.out Y (put (stands_at left) v.number (Some c)) (slots_at left))
           (λ x q y. elim y [
             | located l e ↦ located l (elim (cases_eq x v.number) [
               | inl a ↦ (put_same (stands_at left) v.number (Some c) x a ∙ sym (opt_some c real) ∙ ap (stands_at old) (sym a) ∙ e)
               | inr a ↦ (put_other (stands_at left) v.number (Some c) x a ∙ ap opt (z.others x a) ∙ e)
             ])
             | in_slot f e ↦ in_slot f (ap (λ (g : SpillSlotsValue). opt (slot_name g x)) slots ∙ e)
-            | made g ↦ made (mk.keeps q x g)
+            | made g ↦ made (pd.makes.keeps q x g)
           ]) r.owes.claims;
     })
 
-    nothing_owed : (need : ℕ → Bool) → ret ≡ true → Owes Known insts placesf i n E lived need Y (stands_at left) (slots_at left) left.edits
+    nothing_owed : (need : ℕ → Bool) → ret ≡ true → Owes tail far.lived need Y (stands_at left) (slots_at left) left.edits
     nothing_owed need e = record {
       later = subst (λ es. AllFrom (after i) (listed es)) (sym edits) r.owes.later;
-      claims = claims_weaken Known E (after_part insts (listed left.edits) placesf i n) (λ x p. ⊥) (Need lived need Y (stands_at left) (slots_at left))
+      claims = claims_weaken Known E (after_part insts (listed left.edits) placesf i n) (λ x p. ⊥) (Need far.lived need Y (stands_at left) (slots_at left))
           (λ x p y. absurd y) (left_steady.nothing e);
     }
 
     -- it isn't sent where it was awaited nowhere, or in its place
-    stays_owed : (need : ℕ → Bool) → Which need → (c ≡ NoPlace) ⊎ (c ≡ here k) →
-        Owes Known insts placesf i n E lived need Y (stands_at left) (slots_at left) left.edits
-    stays_owed need which at = subst (Owes Known insts placesf i n E lived need Y (stands_at left) (slots_at left)) (sym edits) (record {
+    stays_owed : (need : ℕ → Bool) → Which need → (c ≡ NoPlace) ⊎ (c ≡ far.here k) →
+        Owes tail far.lived need Y (stands_at left) (slots_at left) left.edits
+    stays_owed need which at = subst (Owes tail far.lived need Y (stands_at left) (slots_at left)) (sym edits) (record {
       later = r.owes.later;
-      claims = claims_weaken Known E (after_part insts (listed old.edits) placesf i n) (Need lived out X (stands_at old) (slots_at old))
-          (Need lived need Y (stands_at left) (slots_at left))
+      claims = claims_weaken Known E (after_part insts (listed old.edits) placesf i n) (Need far.lived far.out far.made_at (stands_at old) (slots_at old))
+          (Need far.lived need Y (stands_at left) (slots_at left))
           (λ x q y. elim y [
             | located l e ↦ elim (cases_eq x v.number) [
               | inl a ↦ made (by_place x q a (ap (place_in old) (sym a) ∙ opt_from (place_in old x) q e) (opt_real (place_in old x) q e))
@@ -230,44 +232,44 @@ module _ (Known : VirtualRegister → Type 0) (insts : ℕ → InstValue) (place
                 | inr b ↦ in_slot (ap (λ (g : ℕ → Bool). g x) a.0 ∙ others_in x b f) (ap (λ (g : SpillSlotsValue). opt (slot_name g x)) slots ∙ e)
               ]
             ]
-            | made g ↦ made (mk.keeps q x g)
+            | made g ↦ made (pd.makes.keeps q x g)
           ]) r.owes.claims;
     })
       where
         by_place : (x : ℕ) (q : Place) → x ≡ v.number → c ≡ q → q ≢ NoPlace → Y q x ≡ true
         by_place x q a e real = elim at [
           | inl h ↦ absurd (real (sym e ∙ h))
-          | inr h ↦ (ap (λ p. Y p x) (sym e ∙ h) ∙ ap (Y (here k)) a ∙ mk.is_made)
+          | inr h ↦ (ap (λ p. Y p x) (sym e ∙ h) ∙ ap (Y (far.here k)) a ∙ pd.makes.is_made)
         ]
 
     -- nothing is moved
     stayed : (need : ℕ → Bool) (inst_regs : InstRegs) (middle : StateValue) → inst_regs ≡ t → middle ≡ left →
-        Owes Known insts placesf i n E lived need Y (stands_at left) (slots_at left) left.edits →
-        Sent Known insts placesf i n E ops here claimed done2 lived out2 need clob Y ret inst_regs left middle
+        Owes tail far.lived need Y (stands_at left) (slots_at left) left.edits →
+        Sent tail ops next need ret inst_regs left middle
     stayed need inst_regs middle eu en o =
-        let rest : Sent Known insts placesf i n E ops here claimed done2 lived out2 need clob Y ret t left
+        let rest : Sent tail ops next need ret t left
         left = record { steady = left_steady; owes = o; kept = kept_all left } in
-        subst (λ (y : InstRegs). Sent Known insts placesf i n E ops here claimed done2 lived out2 need clob Y ret y left middle) (sym eu)
-        (subst (Sent Known insts placesf i n E ops here claimed done2 lived out2 need clob Y ret t left) (sym en) rest)
+        subst (λ (y : InstRegs). Sent tail ops next need ret y left middle) (sym eu)
+        (subst (Sent tail ops next need ret t left) (sym en) rest)
 
     awaited_step : (need : ℕ → Bool) → Which need → (inst_regs : InstRegs) (middle : StateValue) →
-        AddsMoveIf (after i) v.class (not ret && is_another c (here k)) (here k) c t inst_regs left middle →
-        Sent Known insts placesf i n E ops here claimed done2 lived out2 need clob Y ret inst_regs left middle
+        AddsMoveIf (after i) v.class (not ret && is_another c (far.here k)) (far.here k) c t inst_regs left middle →
+        Sent tail ops next need ret inst_regs left middle
     awaited_step need which inst_regs middle (sent yes_made crosses) =
-        let x = another_is c (here k) (made_parts ret (is_another c (here k)) yes_made).1 in
-        cross_step Known insts placesf i n E ops here claimed done2 lived out2 out need clob Y ret v.number (Some c) v.class (here k) c t inst_regs left middle
+        let x = another_is c (far.here k) (made_parts ret (is_another c (far.here k)) yes_made).1 in
+        cross_step tail v.number (Some c)
         crosses x.0 z.here (inl refl)
         (λ m st k2. first_moves need which x.0 x.1 m st k2) left_steady (on_its_way x.0)
     awaited_step need which inst_regs middle (unsent not_made eu en) =
-        stayed need inst_regs middle eu en (elim (unmade_parts ret (is_another c (here k)) not_made) [
+        stayed need inst_regs middle eu en (elim (unmade_parts ret (is_another c (far.here k)) not_made) [
           | inl a ↦ nothing_owed need a
-          | inr a ↦ stays_owed need which (another_not c (here k) a)
+          | inr a ↦ stays_owed need which (another_not c (far.here k) a)
         ])
 
     -- the store
-    second_moves : s ≢ NoPlace → s ≢ here k → (middle : StateValue) → Kept left middle → (m : StateValue) →
-        Located (what_of ops) here claimed done2 lived out2 clob Y m → Kept middle m →
-        Moves Known insts placesf i n E lived out out2 Y v.number None (here k) s m
+    second_moves : s ≢ NoPlace → s ≢ far.here k → (middle : StateValue) → Kept left middle → (m : StateValue) →
+        Located (what_of ops) next m → Kept middle m →
+        Moves tail far.lived far.out out2 Y v.number None (far.here k) s m
     second_moves real other middle k2 m st k3 =
         let k4 : Kept left m = kept_then left middle m k2 k3 in
         let q = real_slot old.slots.count s (r.located.whole.below v.number) real in
@@ -276,7 +278,7 @@ module _ (Known : VirtualRegister → Type 0) (insts : ℕ → InstValue) (place
         let not_there : (x : ℕ) → place_in m x ≡ s → ⊥ = λ x e.
         let a : x ≡ v.number = owner x (st.whole.own_slot x q.0 (e ∙ q.1) ∙ sym q.1) in
         real (sym e ∙ ap (place_in m) a ∙ gone) in
-        let is_made : (x : ℕ) → x ≡ v.number → Y (here k) x ≡ true = λ x e. ap (Y (here k)) e ∙ mk.is_made in
+        let is_made : (x : ℕ) → x ≡ v.number → Y (far.here k) x ≡ true = λ x e. ap (Y (far.here k)) e ∙ pd.makes.is_made in
         record {
           moved = λ x y. elim y [
             | located l e ↦ elim (cases_eq x v.number) [
@@ -284,7 +286,7 @@ module _ (Known : VirtualRegister → Type 0) (insts : ℕ → InstValue) (place
               | inr a ↦ absurd (not_there x (opt_from (place_in m x) s (sym (put_other (stands_at m) v.number None x a) ∙ e)))
             ]
             | in_slot f e ↦ made (is_made x (owner x (opt_from (slot_in m x) s e)))
-            | made g ↦ made (is_made x (elim (mk.grows s x g) [
+            | made g ↦ made (is_made x (elim (pd.makes.grows s x g) [
               | inl h ↦ absurd (other h.0)
               | inr h ↦ (let w = r.located.placed.makes s x h in
                   sym (r.located.placed.slot_own w.0 v.number (r.located.placed.claims w.0 w.1) (opt_some s real ∙ ap Some (sym w.4)) ∙ w.3))
@@ -304,62 +306,63 @@ module _ (Known : VirtualRegister → Type 0) (insts : ℕ → InstValue) (place
         }
 
     module _ (inst_regs u : InstRegs) (middle new : StateValue) where
-      moved_none : (need : ℕ → Bool) → Sent Known insts placesf i n E ops here claimed done2 lived out2 need clob Y ret inst_regs left middle →
-          Owes Known insts placesf i n E lived need Y (put (stands_at middle) v.number None) (slots_at middle) middle.edits
-      moved_none need f = owes_same Known insts placesf i n E lived need Y (stands_at middle) (put (stands_at middle) v.number None) (slots_at middle)
+      moved_none : (need : ℕ → Bool) → Sent tail ops next need ret inst_regs left middle →
+          Owes tail far.lived need Y (put (stands_at middle) v.number None) (slots_at middle) middle.edits
+      moved_none need f = owes_same tail far.lived need Y (stands_at middle) (put (stands_at middle) v.number None) (slots_at middle)
           middle.edits
           (λ x. elim (cases_eq x v.number) [
             | inl a ↦ (put_same (stands_at middle) v.number None x a ∙ sym (ap opt (ap (place_in middle) a ∙ f.kept.nowhere v.number z.here)))
             | inr a ↦ put_other (stands_at middle) v.number None x a
           ]) f.owes
 
-      ready_then : Sent Known insts placesf i n E ops here claimed done2 lived out2 out2 clob Y ret inst_regs left middle → u ≡ inst_regs → new ≡ middle →
-          Ready Known insts placesf i n E ops here claimed done2 lived out2 clob Y ret u new
+      ready_then : Sent tail ops next out2 ret inst_regs left middle → u ≡ inst_regs → new ≡ middle →
+          Ready tail ops next ret u new
       ready_then f eu en =
-          subst (λ (y : InstRegs). Ready Known insts placesf i n E ops here claimed done2 lived out2 clob Y ret y new) (sym eu)
-          (subst (Ready Known insts placesf i n E ops here claimed done2 lived out2 clob Y ret inst_regs) (sym en)
-          (ready_of Known insts placesf i n E ops here claimed done2 lived out2 clob Y ret inst_regs middle f.steady f.owes))
+          subst (λ (y : InstRegs). Ready tail ops next ret y new) (sym eu)
+          (subst (Ready tail ops next ret inst_regs) (sym en)
+          (ready_of tail ops next ret inst_regs middle f.steady f.owes))
 
       -- its slot is where it was awaited
-      stored_there : s ≡ c → AddsMoveIf (after i) v.class (not ret && (is_another s (here k) && not (is_place s c))) (here k) s inst_regs u middle new →
-          Sent Known insts placesf i n E ops here claimed done2 lived out2 out2 clob Y ret inst_regs left middle →
-          Ready Known insts placesf i n E ops here claimed done2 lived out2 clob Y ret u new
+      stored_there : s ≡ c → AddsMoveIf (after i) v.class (not ret && (is_another s (far.here k) && not (is_place s c))) (far.here k) s inst_regs u middle new →
+          Sent tail ops next out2 ret inst_regs left middle →
+          Ready tail ops next ret u new
       stored_there same (sent yes_made crosses) f =
-          let a = both_parts (is_another s (here k)) (is_place s c) (made_parts ret (is_another s (here k) && not (is_place s c)) yes_made).1 in
+          let a = both_parts (is_another s (far.here k)) (is_place s c) (made_parts ret (is_another s (far.here k) && not (is_place s c)) yes_made).1 in
           let b : is_place s c ≡ true = ap (λ q. is_place q c) same ∙ is_place-same c in absurd cc
       stored_there same (unsent not_made eu en) f = ready_then f eu en
 
-      stored_step : s ≢ c → AddsMoveIf (after i) v.class (not ret && (is_another s (here k) && not (is_place s c))) (here k) s inst_regs u middle new →
-          Sent Known insts placesf i n E ops here claimed done2 lived out2 out clob Y ret inst_regs left middle →
-          Ready Known insts placesf i n E ops here claimed done2 lived out2 clob Y ret u new
+      stored_step : s ≢ c → AddsMoveIf (after i) v.class (not ret && (is_another s (far.here k) && not (is_place s c))) (far.here k) s inst_regs u middle new →
+          Sent tail ops next far.out ret inst_regs left middle →
+          Ready tail ops next ret u new
       stored_step ne (sent yes_made crosses) f =
-          let a = both_parts (is_another s (here k)) (is_place s c) (made_parts ret (is_another s (here k) && not (is_place s c)) yes_made).1 in
-          let x = another_is s (here k) a.0 in
-          let g : Sent Known insts placesf i n E ops here claimed done2 lived out2 out2 clob Y ret u middle new =
-          cross_step Known insts placesf i n E ops here claimed done2 lived out2 out out2 clob Y ret v.number None v.class (here k) s inst_regs u middle new
+          let a = both_parts (is_another s (far.here k)) (is_place s c) (made_parts ret (is_another s (far.here k) && not (is_place s c)) yes_made).1 in
+          let x = another_is s (far.here k) a.0 in
+          let g : Sent tail ops next out2 ret u middle new =
+          cross_step tail v.number None
           crosses x.0 (f.kept.nowhere v.number z.here) (inr refl)
-          (λ m st k3. second_moves x.0 x.1 middle f.kept m st k3) f.steady (moved_none out f) in
-          ready_of Known insts placesf i n E ops here claimed done2 lived out2 clob Y ret u new g.steady g.owes
+          (λ m st k3. second_moves x.0 x.1 middle f.kept m st k3) f.steady (moved_none far.out f) in
+          ready_of tail ops next ret u new g.steady g.owes
       stored_step ne (unsent not_made eu en) f =
-          let rest : Owes Known insts placesf i n E lived out2 Y (stands_at middle) (slots_at middle)
-          middle.edits = elim (unmade_parts ret (is_another s (here k) && not (is_place s c)) not_made) [
+          let rest : Owes tail far.lived out2 Y (stands_at middle) (slots_at middle)
+          middle.edits = elim (unmade_parts ret (is_another s (far.here k) && not (is_place s c)) not_made) [
             | inl a ↦ record {
               later = f.owes.later;
               claims = claims_weaken Known E (after_part insts (listed middle.edits) placesf i n) (λ x p. ⊥)
-                  (Need lived out2 Y (stands_at middle) (slots_at middle)) (λ x p y. absurd y) (f.steady.nothing a);
+                  (Need far.lived out2 Y (stands_at middle) (slots_at middle)) (λ x p y. absurd y) (f.steady.nothing a);
             }
             | inr a ↦ record {
               later = f.owes.later;
-              claims = claims_weaken Known E (after_part insts (listed middle.edits) placesf i n) (Need lived out Y (stands_at middle) (slots_at middle))
-                  (Need lived out2 Y (stands_at middle) (slots_at middle))
+              claims = claims_weaken Known E (after_part insts (listed middle.edits) placesf i n)
+                  (Need far.lived far.out Y (stands_at middle) (slots_at middle))
+                  (Need far.lived out2 Y (stands_at middle) (slots_at middle))
                   (λ x p y. elim y [
                     | located l e ↦ located l e
                     | in_slot g e ↦ elim (cases_eq x v.number) [
                       | inl b ↦ (
                           let at : s ≡ p = sym (slot_then middle f.kept) ∙ ap (slot_in middle) (sym b) ∙ opt_from (slot_in middle x) p e in
-                          elim (another_not s (here k) (either_part (is_another s (here k)) (is_place s c) a (is_place-other s c ne))) [
+                          elim (another_not s (far.here k) (either_part (is_another s (far.here k)) (is_place s c) a (is_place-other s c ne))) [
                             | inl h ↦ absurd (opt_real (slot_in middle x) p e (sym at ∙ h))
-                            | inr h ↦ made (ap (λ q. Y q x) (sym at ∙ h) ∙ ap (Y (here k)) b ∙ mk.is_made)
+                            | inr h ↦ made (ap (λ q. Y q x) (sym at ∙ h) ∙ ap (Y (far.here k)) b ∙ pd.makes.is_made)
                           ])
                       | inr b ↦ in_slot (others_in x b g) e
                     ]
@@ -370,12 +373,12 @@ module _ (Known : VirtualRegister → Type 0) (insts : ℕ → InstValue) (place
           ready_then (record { steady = f.steady; owes = rest; kept = f.kept }) eu en
 
   -- the definition k is placed, where it claimed its place
-  pub defines_step : (t u : InstRegs) (old new : StateValue) → FreesDef (after i) v ret (here k) t u old new →
-      Ready Known insts placesf i n E ops here claimed done lived out clob X ret t old →
-      Ready Known insts placesf i n E ops here claimed done2 lived out2 clob Y ret u new
+  pub defines_step : (t u : InstRegs) (old new : StateValue) → FreesDef (after i) v ret (far.here k) t u old new →
+      Ready tail ops far ret t old →
+      Ready tail ops next ret u new
   defines_step t u old new d r = elim (cases_place (slot_in old v.number) (place_in old v.number)) [
     | inl a ↦ stored_there t old d.left d.settles d.slots d.edits d.machine r d.inst_regs u d.middle new a d.stored
         (awaited_step t old d.left d.settles d.slots d.edits d.machine r out2 (inr (refl, a)) d.inst_regs d.middle d.awaited)
     | inr a ↦ stored_step t old d.left d.settles d.slots d.edits d.machine r d.inst_regs u d.middle new a d.stored
-        (awaited_step t old d.left d.settles d.slots d.edits d.machine r out (inl refl) d.inst_regs d.middle d.awaited)
+        (awaited_step t old d.left d.settles d.slots d.edits d.machine r far.out (inl refl) d.inst_regs d.middle d.awaited)
   ]

@@ -78,34 +78,34 @@ reading false true e f = absurd cc
 reading false false e f = refl
 
 -- a use that got its place and isn't fixed to a nonallocatable register is an operand that was processed: its place alone is set
-pub one_use : (i : ℕ) (is_ret : Bool) (operands : List OperandValue) (k : ℕ) (here : List Place) (t u : InstRegs) (old new : StateValue) (o : OperandValue)
-    (h : Place) (request : OperandRequest) (point : ℕ) (p : Place)
+pub one_use : {i : ℕ} {is_ret : Bool} {operands : List OperandValue} {k : ℕ} {here : List Place} {t u : InstRegs} {old new : StateValue} (o : OperandValue)
+    (h : Place) {request : OperandRequest} {point : ℕ} {p : Place}
     → o ≡ op_at operands k → h ≡ slice_index_or here k NoPlace → request ≡ use_request o h → point ≡ after i → is_fixed_nonallocatable o ≡ false →
     is_def o.kind ≡ false
     → AllocsUse point request p t u old new → ProcessesOperand i is_ret operands k here (slice_set here k p) t u old new
-one_use i is_ret operands k here t u old new o h request point p e f g at not_it kind placed =
+one_use {i} {k} {here} {t} {u} {old} {new} o h {request} {p} e f g at not_it kind placed =
     let P : ℕ → OperandRequest → Type 0 = λ n x. AllocsUse n x p t u old new in
     a_use p (ap (λ (x : OperandValue). is_reading x) (sym e) ∙ reading (is_def o.kind) (is_fixed_nonallocatable o) kind not_it)
     (subst (P (after i)) (g ∙ ap (use_request o) f ∙ ap (λ (x : OperandValue). use_request x (slice_index_or here k NoPlace)) e)
     (subst (λ (n : ℕ). P n request) at placed)) refl
 
 -- a definition that is no reuse and got its place is an operand that was processed: its place alone is set
-pub one_def : (i : ℕ) (is_ret : Bool) (operands : List OperandValue) (k : ℕ) (here : List Place) (t u : InstRegs) (old new : StateValue) (o : OperandValue)
-    (request : OperandRequest) (point : ℕ) (p : Place)
+pub one_def : {i : ℕ} {is_ret : Bool} {operands : List OperandValue} {k : ℕ} {here : List Place} {t u : InstRegs} {old new : StateValue} (o : OperandValue)
+    {request : OperandRequest} {point : ℕ} {p : Place}
     → o ≡ op_at operands k → request ≡ def_request o → point ≡ after i → is_def o.kind ≡ true → ((n : ℕ) → o.constraint ≡ Reuse n → ⊥)
     → AllocsDefOp point request is_ret p t u old new → ProcessesOperand i is_ret operands k here (slice_set here k p) t u old new
-one_def i is_ret operands k here t u old new o request point p e g at def not_it placed =
+one_def {i} {is_ret} {t} {u} {old} {new} o {request} {p} e g at def not_it placed =
     let P : ℕ → OperandRequest → Type 0 = λ n x. AllocsDefOp n x is_ret p t u old new in
     a_def p (ap (λ (x : OperandValue). is_def x.kind) (sym e) ∙ def) (λ n h. not_it n (ap (λ (x : OperandValue). x.constraint) e ∙ h))
     (subst (P (after i)) (g ∙ ap (λ (x : OperandValue). def_request x) e) (subst (λ (n : ℕ). P n request) at placed)) refl
 
 -- a reuse that got its place is an operand that was processed: its place is set, and that of the use that it names
-pub one_reuse : (i : ℕ) (is_ret : Bool) (operands : List OperandValue) (k : ℕ) (here there : List Place) (t u : InstRegs) (old new : StateValue)
-    (o : OperandValue) (n : ℕ) (request : OperandRequest) (point : ℕ) (p : Place)
+pub one_reuse : {i : ℕ} {is_ret : Bool} {operands : List OperandValue} {k : ℕ} {here there : List Place} {t u : InstRegs} {old new : StateValue}
+    (o : OperandValue) (n : ℕ) {request : OperandRequest} {point : ℕ} {p : Place}
     → o ≡ op_at operands k → request ≡ reuse_request o (op_at operands n) → point ≡ after i → is_def o.kind ≡ true → o.constraint ≡ Reuse n →
     there ≡ slice_set (slice_set here k p) n p
     → AllocsDefOp point request is_ret p t u old new → ProcessesOperand i is_ret operands k here there t u old new
-one_reuse i is_ret operands k here there t u old new o n request point p e g at def names set placed =
+one_reuse {i} {is_ret} {operands} {t} {u} {old} {new} o n {request} {p} e g at def names set placed =
     let P : ℕ → OperandRequest → Type 0 = λ j x. AllocsDefOp j x is_ret p t u old new in
     a_reuse n p (ap (λ (x : OperandValue). is_def x.kind) (sym e) ∙ def) (ap (λ (x : OperandValue). x.constraint) (sym e) ∙ names)
     (subst (P (after i)) (g ∙ ap (λ (x : OperandValue). reuse_request x (op_at operands n)) e) (subst (λ (j : ℕ). P j request) at placed)) set

@@ -7,10 +7,9 @@ use Rattle.regalloc2_names.specs.RegisterSet.{has_register}
 use Rattle.regalloc2_names.specs.Operand.{OperandValue, is_def}
 use Rattle.regalloc2_names.specs.Place.{Place, NoPlace, InRegister, InSlot, is_place}
 use Rattle.regalloc2_names.specs.Point.{after}
-use Rattle.regalloc2_function.specs.FunctionValue.{InstValue}
 use Rattle.regalloc2_semantics.specs.Instruction.{Claims}
 use Rattle.regalloc2_semantics.specs.BlockByPoints.{AllFrom, after_part, listed}
-use Rattle.regalloc2_semantics.specs.OperandsPlaced.{what_of, Counts, Once, Need}
+use Rattle.regalloc2_semantics.specs.OperandsPlaced.{what_of, Counts, Progress, Once, Need, Places, Makes}
 use Rattle.regalloc2_semantics.proofs.Cells.{is_place-same, is_place-true}
 use Rattle.regalloc2_semantics.proofs.NeedsAcrossMoves.{need_new}
 use Rattle.regalloc2_fastalloc_state.specs.declared.inst_regs.InstRegs.{InstRegs}
@@ -20,13 +19,13 @@ use Rattle.regalloc2_fastalloc_proofs.specs.InstSteps.{StateValue, SameMachine, 
 use Rattle.regalloc2_fastalloc_proofs.proofs.Safety.StepsKeepState.{place_in, slot_in, IsWhole}
 use Rattle.regalloc2_fastalloc_proofs.proofs.Operands.RecordOverState.{opt, stands_at, slots_at}
 use Rattle.regalloc2_fastalloc_proofs.proofs.Moves.ScratchRegTaken.{scratch_back, fit_same}
-use Rattle.regalloc2_fastalloc_proofs.proofs.Operands.ClaimAndUse.{Places, use_stays}
+use Rattle.regalloc2_fastalloc_proofs.proofs.Operands.ClaimAndUse.{PlacesUse, use_stays}
 use Rattle.regalloc2_fastalloc_proofs.proofs.Inst.AcrossInst.{arrive_register, arrive_slot, use_arrives}
-use Rattle.regalloc2_fastalloc_proofs.proofs.Operands.FreeDef.{Makes}
 use Rattle.regalloc2_fastalloc_proofs.proofs.Operands.RecordOfInst.{Ready}
 use Rattle.regalloc2_fastalloc_proofs.proofs.Evictions.EvictKeepsRecord.{Nothing}
 use Rattle.regalloc2_fastalloc_proofs.proofs.Operands.DefRecord.{defines_step}
 use Rattle.regalloc2_fastalloc_proofs.proofs.Operands.AllocOperand.{Got, and_one, and_one_same, and_one_grows, and_one_keeps}
+use Rattle.regalloc2_fastalloc_proofs.proofs.Operands.BlockTail.{BlockTail}
 
 -- operand k is marked as done, and no other one changes
 pub places_one : (done : ℕ → Bool) (k : ℕ) → Places done (and_one done k) k
@@ -65,10 +64,10 @@ makes_one ops here out X k = record {
       ∙ ap (λ b. cond b true (X (here k) (op_at ops k).vreg.number)) (eq-eqb (op_at ops k).vreg.number (op_at ops k).vreg.number refl);
 }
 
-module _ (Known : VirtualRegister → Type 0) (insts : ℕ → InstValue) (placesf : ℕ → List Place) (i n : ℕ) (E : VirtualRegister → Place → Type 0)
-    (ops : List OperandValue) (here : ℕ → Place) (claimed done lived out : ℕ → Bool) (clob : Place → Bool) (X : Place → ℕ → Bool) (ret : Bool) (k : ℕ)
-    (once : Once (Counts ops) (what_of ops)) where
-  module _ (p : Place) (u : InstRegs) (old : StateValue) (g : Got Known insts placesf i n E ops here claimed done lived out clob X ret k p u old) where
+module _ (tail : BlockTail) (ops : List OperandValue) (far : Progress) (ret : Bool) (k : ℕ) (once : Once (Counts ops) (what_of ops)) where
+  open tail use {Known, insts, placesf, i, n, E}
+
+  module _ (p : Place) (u : InstRegs) (old : StateValue) (g : Got tail ops far ret k p u old) where
     abbrev num : ℕ
     num = (op_at ops k).vreg.number
 
@@ -77,8 +76,11 @@ module _ (Known : VirtualRegister → Type 0) (insts : ℕ → InstValue) (place
       counts_k : Counts ops k
       counts_k = g.ready.within k g.claims
 
-      unmade : (j : ℕ) → done j ≡ true → is_def (op_at ops j).kind ≡ true → (op_at ops j).vreg.number ≡ num → ⊥
+      unmade : (j : ℕ) → far.done j ≡ true → is_def (op_at ops j).kind ≡ true → (op_at ops j).vreg.number ≡ num → ⊥
       unmade j d def e = once.unread j k (g.ready.within j (g.ready.located.placed.claims j d)) counts_k def is_use e
+
+      placed_use : PlacesUse (what_of ops) (record far { here = g.there; claimed = g.claimed2 }) (and_one far.done k) k
+      placed_use = record { places = places_one far.done k; claims = g.claims; is_use = is_use }
 
       real : g.there k ≢ NoPlace
       real = g.ready.located.placed.there k g.claims
@@ -93,30 +95,32 @@ module _ (Known : VirtualRegister → Type 0) (insts : ℕ → InstValue) (place
 
       use_new : (new : StateValue) → place_in old v.number ≡ NoPlace → SetsAlloc old.places new.places v p → new.slots ≡ old.slots → new.edits ≡ old.edits →
           SameMachine old new →
-          Ready Known insts placesf i n E ops g.there g.claimed2 (and_one done k) lived out clob X ret u new
+          Ready tail ops (record far { here = g.there; claimed = g.claimed2; done = and_one far.done k }) ret u new
       use_new new nowhere z slots edits machine =
           let z2 : SetsAlloc old.places new.places v (g.there k) = subst (SetsAlloc old.places new.places v) (sym g.at_k) z in
           let w : IsWhole new = arrive_whole new p refl (λ e. real (g.at_k ∙ e)) nowhere z slots in
           let none : stands_at old num ≡ None = ap opt (ap (place_in old) (sym nv) ∙ nowhere) in
-          let dead : lived num ≡ false = ⊎_elim
-          (λ (a : lived num ≡ true). let o = g.ready.located.placed.lives num a none in let d = g.ready.located.placed.defined num o in
+          let dead : far.lived num ≡ false = ⊎_elim
+          (λ (a : far.lived num ≡ true). let o = g.ready.located.placed.lives num a none in let d = g.ready.located.placed.defined num o in
           absurd (unmade d.0 d.1 d.2 d.3))
-          (λ (a : lived num ≡ false). a) (cases_Bool (lived num)) in
-          let c1 : Claims Known (after_part insts (listed old.edits) placesf i n) (Need lived out X (stands_at new) (slots_at old)) E =
-          need_new Known E (after_part insts (listed old.edits) placesf i n) lived out X (stands_at old) (stands_at new) (slots_at old) num dead
+          (λ (a : far.lived num ≡ false). a) (cases_Bool (far.lived num)) in
+          let c1 : Claims Known (after_part insts (listed old.edits) placesf i n) (Need far.lived far.out far.made_at (stands_at new) (slots_at old)) E =
+          need_new Known E (after_part insts (listed old.edits) placesf i n) far.lived far.out far.made_at (stands_at old) (stands_at new) (slots_at old) num
+          dead
           (λ x ne. ap opt (z.others x (λ e. ne (e ∙ nv)))) g.ready.owes.claims in
-          let c2 : Claims Known (after_part insts (listed old.edits) placesf i n) (Need lived out X (stands_at new) (slots_at new)) E =
+          let c2 : Claims Known (after_part insts (listed old.edits) placesf i n) (Need far.lived far.out far.made_at (stands_at new) (slots_at new)) E =
           subst (λ (s : SpillSlotsValue). Claims Known (after_part insts (listed old.edits) placesf i n)
-          (Need lived out X (stands_at new) (λ x. opt (slot_name s x))) E) (sym slots) c1 in
+          (Need far.lived far.out far.made_at (stands_at new) (λ x. opt (slot_name s x))) E) (sym slots) c1 in
           record {
-            located = use_arrives (what_of ops) g.there g.claimed2 done (and_one done k) lived out clob X old new k v (places_one done k) g.claims is_use
-                (sym nv) real nowhere
+            located = use_arrives (what_of ops) (record far { here = g.there; claimed = g.claimed2 }) (and_one far.done k) old new k v placed_use (sym nv)
+                real nowhere
                 unmade z2 slots w g.ready.located;
             owes = record {
               later = subst (λ es. AllFrom (after i) (listed es)) (sym edits) g.ready.owes.later;
-              claims = subst (λ es. Claims Known (after_part insts (listed es) placesf i n) (Need lived out X (stands_at new) (slots_at new)) E) (sym edits) c2;
+              claims = subst (λ es. Claims Known (after_part insts (listed es) placesf i n)
+                  (Need far.lived far.out far.made_at (stands_at new) (slots_at new)) E) (sym edits) c2;
             };
-            nothing = λ a. subst (Nothing Known insts placesf i n E) (sym edits) (g.ready.nothing a);
+            nothing = λ a. subst (Nothing tail) (sym edits) (g.ready.nothing a);
             held = g.ready.held;
             scratch_reserve = record {
               idle = λ c b is. (let y = g.ready.scratch_reserve.idle c b (scratch_back c u old new b machine is) in record {
@@ -139,27 +143,39 @@ module _ (Known : VirtualRegister → Type 0) (insts : ℕ → InstValue) (place
 
       -- once a use is located, all holds with its operand among those that are placed
       pub use_step : (new : StateValue) → LocatesUse v p old new
-          → Ready Known insts placesf i n E ops g.there g.claimed2 (and_one done k) lived out clob X ret u new
-      use_step new (stays there en) = subst (Ready Known insts placesf i n E ops g.there g.claimed2 (and_one done k) lived out clob X ret u) (sym en) (record {
-        located = use_stays (what_of ops) g.there g.claimed2 done (and_one done k) lived out clob X old k (places_one done k) g.claims is_use
-            (λ e. there (ap (place_in old) nv ∙ e)) g.ready.located;
-        owes = g.ready.owes;
-        nothing = g.ready.nothing;
-        held = g.ready.held;
-        scratch_reserve = g.ready.scratch_reserve;
-        fit = g.ready.fit;
-        clobbers = g.ready.clobbers;
-        within = g.ready.within;
-        small = g.ready.small;
-      })
+          → Ready tail ops (record far { here = g.there; claimed = g.claimed2; done = and_one far.done k }) ret u new
+      use_step new (stays there en) = subst (Ready tail ops (record far { here = g.there; claimed = g.claimed2; done = and_one far.done k }) ret u) (sym en)
+          (record {
+            located = use_stays (what_of ops) (record far { here = g.there; claimed = g.claimed2 }) (and_one far.done k) old k placed_use
+                (λ e. there (ap (place_in old) nv ∙ e)) g.ready.located;
+            owes = g.ready.owes;
+            nothing = g.ready.nothing;
+            held = g.ready.held;
+            scratch_reserve = g.ready.scratch_reserve;
+            fit = g.ready.fit;
+            clobbers = g.ready.clobbers;
+            within = g.ready.within;
+            small = g.ready.small;
+          })
       use_step new (located nowhere z slots edits machine) = use_new new nowhere z slots edits machine
 
     -- a definition
     pub def_step : (w : InstRegs) (new : StateValue) → is_def (op_at ops k).kind ≡ true → FreesDef (after i) (op_at ops k).vreg ret p u w old new →
-        Ready Known insts placesf i n E ops g.there g.claimed2 (and_one done k) lived (and_one out (op_at ops k).vreg.number) clob
-        (made_one X (g.there k) (op_at ops k).vreg.number) ret w new
+        Ready tail ops (record far {
+          here = g.there;
+          claimed = g.claimed2;
+          done = and_one far.done k;
+          out = and_one far.out (op_at ops k).vreg.number;
+          made_at = made_one far.made_at (g.there k) (op_at ops k).vreg.number;
+        }) ret w new
     def_step w new def d =
-        defines_step Known insts placesf i n E ops g.there g.claimed2 done (and_one done k) lived out (and_one out (op_at ops k).vreg.number) clob X
-        (made_one X (g.there k) (op_at ops k).vreg.number) ret k
-        (makes_one ops g.there out X k) (places_one done k) once g.claims def u w old new
+        defines_step tail ops (record far { here = g.there; claimed = g.claimed2 }) (and_one far.done k)
+        (and_one far.out (op_at ops k).vreg.number) (made_one far.made_at (g.there k) (op_at ops k).vreg.number) ret k
+        (record {
+          makes = makes_one ops g.there far.out far.made_at k;
+          places = places_one far.done k;
+          once = once;
+          claims = g.claims;
+          is_def = def;
+        }) u w old new
         (subst (λ q. FreesDef (after i) (op_at ops k).vreg ret q u w old new) (sym g.at_k) d) g.ready

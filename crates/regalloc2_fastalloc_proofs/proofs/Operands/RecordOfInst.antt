@@ -2,20 +2,20 @@
 use Rattle.std.proofs.Common.{ℕ, ◌≡◌, ◌≢◌, ◌<◌, Bool, true, false, List, length, ◌⊎◌}
 use Rattle.std.specs.Prelude.{slice_index_or}
 use Rattle.regalloc2_names.specs.declared.OperandConstraint.TheVariants.{Reg, FixedReg, Reuse}
-use Rattle.regalloc2_names.specs.Register.{Register, VirtualRegister}
+use Rattle.regalloc2_names.specs.Register.{Register}
 use Rattle.regalloc2_names.specs.RegisterSet.{has_register}
 use Rattle.regalloc2_names.specs.Operand.{OperandValue, is_def, is_late, is_reading, is_fixed_nonallocatable}
 use Rattle.regalloc2_names.specs.Place.{Place, NoPlace, InRegister}
-use Rattle.regalloc2_function.specs.FunctionValue.{InstValue}
 use Rattle.regalloc2_semantics.specs.Instruction.{Claims}
 use Rattle.regalloc2_semantics.specs.BlockByPoints.{after_part, listed}
-use Rattle.regalloc2_semantics.specs.OperandsPlaced.{what_of, Held, Once, Counts}
+use Rattle.regalloc2_semantics.specs.OperandsPlaced.{what_of, Progress, Held, Once, Counts}
 use Rattle.regalloc2_fastalloc_state.specs.declared.inst_regs.InstRegs.{InstRegs}
 use Rattle.regalloc2_validate.specs.Constraints.{op_at}
 use Rattle.regalloc2_fastalloc_proofs.specs.InstSteps.{StateValue}
 use Rattle.regalloc2_fastalloc_proofs.proofs.Operands.RecordOverState.{stands_at, slots_at, Located, Owes}
 use Rattle.regalloc2_fastalloc_proofs.proofs.Evictions.EvictVReg.{held_early, held_late}
 use Rattle.regalloc2_fastalloc_proofs.proofs.Moves.ScratchRegTaken.{Fit, Spare}
+use Rattle.regalloc2_fastalloc_proofs.proofs.Operands.BlockTail.{BlockTail}
 
 -- The operands of an instruction, as a well-formed function has them. A number is defined once, and isn't read where it is defined;
 -- a reuse is a late definition that names an early use, which no other one names, under Reg or FixedReg.
@@ -41,20 +41,26 @@ pub data Waits (ops : List OperandValue) (list : List Place) (j : ℕ) (r : Regi
   of_named : (d : ℕ) → is_def (op_at ops j).kind ≡ false → d < length ops → (op_at ops d).constraint ≡ Reuse j → slice_index_or list d NoPlace ≢ NoPlace →
       slice_index_or list j NoPlace ≡ InRegister r → Waits ops list j r
 
-module _ (Known : VirtualRegister → Type 0) (insts : ℕ → InstValue) (placesf : ℕ → List Place) (i n : ℕ) (E : VirtualRegister → Place → Type 0) where
-  -- What each step on the tables and on the instruction's registers keeps. claimed, done, out and X are as in Placed of the flow crate;
+-- how far the operands are, from what stays as it was when the instruction began, and what changes
+abbrev pub progress : (ℕ → Bool) → (Place → Bool) → (ℕ → Place) → (ℕ → Bool) → (ℕ → Bool) → (ℕ → Bool) → (Place → ℕ → Bool) → Progress
+progress lived clob here claimed done out X =
+    record { here = here; claimed = claimed; done = done; lived = lived; out = out; made_at = X; clobbered = clob }
+
+module _ (tail : BlockTail) where
+  open tail use {Known, insts, placesf, i, n, E}
+
+  -- What each step on the tables and on the instruction's registers keeps. far: how far its operands are;
   -- ret: the instruction is a return, after which nothing is needed.
-  pub record Ready (ops : List OperandValue) (here : ℕ → Place) (claimed done lived out : ℕ → Bool) (clob : Place → Bool) (X : Place → ℕ → Bool) (ret : Bool)
-      (u : InstRegs) (t : StateValue) : Type 0 where
-    pub located : Located (what_of ops) here claimed done lived out clob X t
-    pub owes : Owes Known insts placesf i n E lived out X (stands_at t) (slots_at t) t.edits
+  pub record Ready (ops : List OperandValue) (far : Progress) (ret : Bool) (u : InstRegs) (t : StateValue) : Type 0 where
+    pub located : Located (what_of ops) far t
+    pub owes : Owes tail far.lived far.out far.made_at (stands_at t) (slots_at t) t.edits
     pub nothing : ret ≡ true → Claims Known (after_part insts (listed t.edits) placesf i n) (λ x p. ⊥) E
-    pub held : Held (what_of ops) here claimed (held_early u) (held_late u)
-    pub scratch_reserve : Spare here claimed X u t
+    pub held : Held (what_of ops) far.here far.claimed (held_early u) (held_late u)
+    pub scratch_reserve : Spare far.here far.claimed far.made_at u t
     pub fit : Fit t
-    pub clobbers : (r : Register) → clob (InRegister r) ≡ true → has_register u.late r ≡ false
-    pub within : (j : ℕ) → claimed j ≡ true → Counts ops j
-    pub small : (j : ℕ) (r : Register) → claimed j ≡ true → here j ≡ InRegister r → r.number < 64
+    pub clobbers : (r : Register) → far.clobbered (InRegister r) ≡ true → has_register u.late r ≡ false
+    pub within : (j : ℕ) → far.claimed j ≡ true → Counts ops j
+    pub small : (j : ℕ) (r : Register) → far.claimed j ≡ true → far.here j ≡ InRegister r → r.number < 64
 
   -- Before the operand k is allocated in the pass over late operands, or in that over early ones; list has the places of the instruction so far.
   pub record Laid (ops : List OperandValue) (lived : ℕ → Bool) (clob : Place → Bool) (ret late : Bool) (k : ℕ) (list : List Place) (u : InstRegs)
@@ -64,7 +70,7 @@ module _ (Known : VirtualRegister → Type 0) (insts : ℕ → InstValue) (place
     pub done : ℕ → Bool
     pub out : ℕ → Bool
     pub X : Place → ℕ → Bool
-    pub ready : Ready ops here claimed done lived out clob X ret u t
+    pub ready : Ready ops (progress lived clob here claimed done out X) ret u t
     pub turned : (j : ℕ) → done j ≡ true → Turned ops late k j
     pub all : (j : ℕ) → Counts ops j → Turned ops late k j → done j ≡ true
     -- fixed operands, and reuses of fixed ones, claimed before
@@ -78,3 +84,17 @@ module _ (Known : VirtualRegister → Type 0) (insts : ℕ → InstValue) (place
     pub placed : (j : ℕ) → done j ≡ true → slice_index_or list j NoPlace ≡ here j
     -- a definition that is placed is made at its place
     pub written : (j : ℕ) → done j ≡ true → is_def (op_at ops j).kind ≡ true → X (here j) (op_at ops j).vreg.number ≡ true
+
+-- What the passes over an instruction's operands are under: the tail of the block; the operands, which are orderly; the numbers that had a location when
+-- the instruction began; the places that are clobbered; and whether it is a return.
+pub record Laying : Type 1 where
+  pub tail : BlockTail
+  pub ops : List OperandValue
+  pub lived : ℕ → Bool
+  pub clob : Place → Bool
+  pub ret : Bool
+  pub orderly : Orderly ops
+
+-- those, of their parts
+abbrev pub laying_of : BlockTail → (ops : List OperandValue) → (ℕ → Bool) → (Place → Bool) → Bool → Orderly ops → Laying
+laying_of tail ops lived clob ret orderly = record { tail = tail; ops = ops; lived = lived; clob = clob; ret = ret; orderly = orderly }

@@ -5,13 +5,12 @@ use Rattle.std.proofs.lemmas.Bool.{cases_eq}
 use Rattle.regalloc2_names.specs.Register.{Register, VirtualRegister}
 use Rattle.regalloc2_names.specs.Place.{Place, NoPlace, InRegister, InSlot, is_place}
 use Rattle.regalloc2_names.specs.Point.{after}
-use Rattle.regalloc2_function.specs.FunctionValue.{InstValue}
 use Rattle.regalloc2_function.specs.OutputValue.{MoveValue}
 use Rattle.regalloc2_semantics.specs.Listing.{Item}
 use Rattle.regalloc2_semantics.specs.Listing.Item.{Move}
 use Rattle.regalloc2_semantics.specs.BlockByPoints.{AllFrom, after_part, listed}
 use Rattle.regalloc2_semantics.specs.Instruction.{Claims}
-use Rattle.regalloc2_semantics.specs.OperandsPlaced.{What, Need, Placed}
+use Rattle.regalloc2_semantics.specs.OperandsPlaced.{What, Need, Progress, Placed, GoesToSlot}
 use Rattle.regalloc2_semantics.proofs.PushedMoves.{listed-push, after_part-more}
 use Rattle.regalloc2_semantics.proofs.RecordSteps.{step_slot, step_evict}
 use Rattle.regalloc2_semantics.proofs.NeedsAcrossMoves.{need_evict, need_slot}
@@ -20,6 +19,7 @@ use Rattle.regalloc2_fastalloc_state.specs.StateParts.{GetsSpillSlot}
 use Rattle.regalloc2_fastalloc_proofs.specs.InstSteps.{StateValue, a_move}
 use Rattle.regalloc2_fastalloc_proofs.proofs.Safety.StepsKeepState.{place_in, slot_in, IsWhole, whole_tidy, away_holds, away_stands, given, given_own}
 use Rattle.regalloc2_fastalloc_proofs.proofs.Safety.StepsKeepState.{given_below, given_units}
+use Rattle.regalloc2_fastalloc_proofs.proofs.Operands.BlockTail.{BlockTail}
 
 -- a place, unless it is none
 abbrev pub opt : Place → Option Place
@@ -72,12 +72,12 @@ slot_below count (InRegister q) k h e = absurd cc
 slot_below count (InSlot j) k h e = let x : InSlot j ≡ InSlot k = e in let same : j ≡ k = cc in subst (λ m. m < count) same h
 
 -- the tables with the operands that are allocated so far
-pub record Located (what : ℕ → What) (here : ℕ → Place) (claimed done lived out : ℕ → Bool) (clob : Place → Bool) (X : Place → ℕ → Bool) (t : StateValue) : Type
+pub record Located (what : ℕ → What) (far : Progress) (t : StateValue) : Type
     0 where
   pub whole : IsWhole t
-  pub placed : Placed what here claimed done lived out clob X (stands_at t) (slots_at t)
-  pub below : (j k : ℕ) → claimed j ≡ true → here j ≡ InSlot k → k < t.slots.count
-  pub calm : (k : ℕ) → clob (InSlot k) ≡ false
+  pub placed : Placed what far (stands_at t) (slots_at t)
+  pub below : (j k : ℕ) → far.claimed j ≡ true → far.here j ≡ InSlot k → k < t.slots.count
+  pub calm : (k : ℕ) → far.clobbered (InSlot k) ≡ false
 
 -- a vreg goes from its register to its slot, which it had or which is made
 pub record Shifts (old new : StateValue) (v : VirtualRegister) (r : Register) (s : Place) : Type 0 where
@@ -146,16 +146,15 @@ module _ (old new : StateValue) (v : VirtualRegister) (s : Place) (g : GetsSpill
       ]
 
   -- where v gets a slot and no location changes, the record of the operands' places is kept
-  pub give_stands : new.places ≡ old.places → (what : ℕ → What) (here : ℕ → Place) (claimed done lived out : ℕ → Bool) (clob : Place → Bool)
-      (X : Place → ℕ → Bool) →
-      Located what here claimed done lived out clob X old → Located what here claimed done lived out clob X new
-  give_stands e what here claimed done lived out clob X st =
-      let p : Placed what here claimed done lived out clob X (stands_at old) (slots_at new) =
-      step_slot what here claimed done lived out clob X (stands_at old) (slots_at old) (slots_at new)
+  pub give_stands : new.places ≡ old.places → (what : ℕ → What) (far : Progress) →
+      Located what far old → Located what far new
+  give_stands e what far st =
+      let p : Placed what far (stands_at old) (slots_at new) =
+      step_slot what far (stands_at old) (slots_at old) (slots_at new)
       (λ x q f. elim (slots_fresh x q f) [ inl h ↦ inl h | inr h ↦ inr (λ j c i. let lt = st.below j h.0 c (i ∙ h.1) in omega (arith, lt, h.2)) ]) st.placed in
       record {
         whole = whole_given e;
-        placed = subst (λ (y : VRegAllocsValue). Placed what here claimed done lived out clob X (λ n. opt (alloc_of y n)) (slots_at new)) (sym e) p;
+        placed = subst (λ (y : VRegAllocsValue). Placed what far (λ n. opt (alloc_of y n)) (slots_at new)) (sym e) p;
         below = λ j k c h. (let lt = st.below j k c h in omega (arith, lt, g.grows));
         calm = st.calm;
       }
@@ -220,24 +219,38 @@ module _ (old new : StateValue) (v : VirtualRegister) (r : Register) (s : Place)
     count = g.grows;
   }
 
+-- the vreg goes from its register to its slot
+pub shift_goes : (old new : StateValue) (v : VirtualRegister) (r : Register) (s : Place) → Shifts old new v r s →
+    GoesToSlot (stands_at old) (stands_at new) (slots_at new) v.number (InRegister r) s
+shift_goes old new v r s h = record {
+  there = λ z. cc;
+  was = h.was;
+  own = h.slot;
+  sets = record { now = h.now; same = h.same };
+  alone = h.alone;
+  no_slot = λ x e. h.no_slot x r e;
+}
+
 -- the record is kept where the vreg lived
 pub shift_stands : (old new : StateValue) (v : VirtualRegister) (r : Register) (s : Place) → IsWhole new → Shifts old new v r s →
-    (what : ℕ → What) (here : ℕ → Place) (claimed done lived out : ℕ → Bool) (clob : Place → Bool) (X : Place → ℕ → Bool) → lived v.number ≡ true →
-    Located what here claimed done lived out clob X old → Located what here claimed done lived out clob X new
-shift_stands old new v r s w h what here claimed done lived out clob X l st =
-    let p : Placed what here claimed done lived out clob X (stands_at old) (slots_at new) =
-    step_slot what here claimed done lived out clob X (stands_at old) (slots_at old) (slots_at new)
+    (what : ℕ → What) (far : Progress) → far.lived v.number ≡ true →
+    Located what far old → Located what far new
+shift_stands old new v r s w h what far l st =
+    let p : Placed what far (stands_at old) (slots_at new) =
+    step_slot what far (stands_at old) (slots_at old) (slots_at new)
     (λ x q f. elim (h.fresh x q f) [ inl y ↦ inl y | inr y ↦ inr (λ j c i. let less = st.below j y.0 c (i ∙ y.1) in omega (arith, less, y.2)) ]) st.placed in
     record {
       whole = w;
-      placed = step_evict what here claimed done lived out clob X (stands_at old) (stands_at new) (slots_at new) v.number (InRegister r) s h.was l h.slot
-          (ap clob h.is_slot ∙ st.calm h.number) h.now h.same p;
+      placed = step_evict what far (stands_at old) (stands_at new) (slots_at new) v.number (InRegister r) s (shift_goes old new v r s h) l
+          (ap far.clobbered h.is_slot ∙ st.calm h.number) p;
       below = λ j k c e. (let less = st.below j k c e in omega (arith, less, h.count));
       calm = st.calm;
     }
 
 -- what the moves after the instruction, and what follows them, carry
-module _ (Known : VirtualRegister → Type 0) (insts : ℕ → InstValue) (placesf : ℕ → List Place) (i n : ℕ) (E : VirtualRegister → Place → Type 0) where
+module _ (tail : BlockTail) where
+  open tail use {Known, insts, placesf, i, n, E}
+
   -- no edit is before the point after the instruction, and what is listed from there on carries each known vreg from where it is needed
   pub record Owes (lived out : ℕ → Bool) (X : Place → ℕ → Bool) (T S : ℕ → Option Place) (edits : List (ℕ × MoveValue)) : Type 0 where
     pub later : AllFrom (after i) (listed edits)
@@ -255,8 +268,7 @@ module _ (Known : VirtualRegister → Type 0) (insts : ℕ → InstValue) (place
   shift_owes old new v r s h lived out X edits clear o =
       let L : List Item = after_part insts (listed edits) placesf i n in
       let c : Claims Known (Move (record { from = s; to = InRegister r }) ∷ L) (Need lived out X (stands_at new) (slots_at new)) E =
-      need_evict Known E L lived out X (stands_at old) (stands_at new) (slots_at new) v.number (InRegister r) s (λ z. cc)
-      h.was h.slot h.now h.same h.alone (λ x e. h.no_slot x r e) clear
+      need_evict Known E L lived out X (stands_at old) (stands_at new) (slots_at new) v.number (InRegister r) s (shift_goes old new v r s h) clear
       (need_slot Known E L lived out X (stands_at old) (slots_at old) (slots_at new) h.grows o.claims) in
       record {
         later = later_push (after i) (record { from = s; to = InRegister r }) edits o.later;
@@ -265,10 +277,10 @@ module _ (Known : VirtualRegister → Type 0) (insts : ℕ → InstValue) (place
       }
 
 -- of the tables, all but the moves matter
-pub stands_edits : (what : ℕ → What) (here : ℕ → Place) (claimed done lived out : ℕ → Bool) (clob : Place → Bool) (X : Place → ℕ → Bool) (t : StateValue)
+pub stands_edits : (what : ℕ → What) (far : Progress) (t : StateValue)
     (es : List (ℕ × MoveValue)) →
-    Located what here claimed done lived out clob X t → Located what here claimed done lived out clob X (record t { edits = es })
-stands_edits what here claimed done lived out clob X t es st = record {
+    Located what far t → Located what far (record t { edits = es })
+stands_edits what far t es st = record {
   whole = record {
     holds = st.whole.holds;
     stands_in = st.whole.stands_in;

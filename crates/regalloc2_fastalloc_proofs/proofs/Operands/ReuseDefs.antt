@@ -8,11 +8,10 @@ use Rattle.regalloc2_names.specs.declared.OperandConstraint.TheVariants.{Any, Re
 use Rattle.regalloc2_names.specs.declared.RegClass.{RegClass}
 use Rattle.regalloc2_names.specs.Register.{Register, VirtualRegister, is_register}
 use Rattle.regalloc2_names.specs.RegisterSet.{has_register}
-use Rattle.regalloc2_names.specs.Operand.{OperandValue, is_def, is_late}
+use Rattle.regalloc2_names.specs.Operand.{is_def, is_late}
 use Rattle.regalloc2_names.specs.Place.{Place, NoPlace, InRegister, InSlot}
 use Rattle.regalloc2_names.specs.Point.{after}
-use Rattle.regalloc2_function.specs.FunctionValue.{InstValue}
-use Rattle.regalloc2_semantics.specs.OperandsPlaced.{what_of, Counts, Clear}
+use Rattle.regalloc2_semantics.specs.OperandsPlaced.{what_of, Progress, Puts, Counts, Clear}
 use Rattle.regalloc2_semantics.proofs.BoundaryToBoundary.{Covers, FreeAt, free_of}
 use Rattle.regalloc2_semantics.proofs.Cells.{is_register-same}
 use Rattle.regalloc2_semantics.proofs.AllowedPlaces.{clear_free, clear_reuse, reuse_alone}
@@ -29,14 +28,15 @@ use Rattle.regalloc2_fastalloc_proofs.proofs.Safety.StepsKeepState.{place_in}
 use Rattle.regalloc2_fastalloc_proofs.proofs.Operands.RecordOverState.{opt, stands_at, slots_at}
 use Rattle.regalloc2_fastalloc_proofs.proofs.Evictions.EvictVReg.{held_early, held_late}
 use Rattle.regalloc2_fastalloc_proofs.proofs.Moves.ScratchRegTaken.{Less, less_same, less_then}
-use Rattle.regalloc2_fastalloc_proofs.proofs.Operands.ClaimAndUse.{Puts, claim_register, covers_both}
-use Rattle.regalloc2_fastalloc_proofs.proofs.Operands.RecordOfInst.{Orderly, Waits, of_fixed, of_reuse, of_named, Ready, Laid}
+use Rattle.regalloc2_fastalloc_proofs.proofs.Operands.ClaimAndUse.{claim_register, covers_both}
+use Rattle.regalloc2_fastalloc_proofs.proofs.Operands.RecordOfInst.{progress, Waits, of_fixed, of_reuse, of_named, Ready, Laid}
 use Rattle.regalloc2_fastalloc_proofs.proofs.Evictions.EvictKeepsRecord.{crosses_less}
 use Rattle.regalloc2_fastalloc_proofs.proofs.Operands.ClaimKeepsRecord.{Grips, ready_claim}
 use Rattle.regalloc2_fastalloc_proofs.proofs.Operands.AllocOperand.{Due, owed, fresh, suits_at, Got, gets_step, set_at, set_at_same, set_at_other}
 use Rattle.regalloc2_fastalloc_proofs.proofs.Operands.AllocOperand.{puts_one, and_one, and_one_same, and_one_other, and_one_grows, and_one_keeps}
 use Rattle.regalloc2_fastalloc_proofs.proofs.Operands.RecordAfterOperand.{def_step, made_one, makes_one}
 use Rattle.regalloc2_fastalloc_proofs.proofs.Operands.UsesAndPlainDefs.{waits_set, fresh_turn, phase_turn, laid_next}
+use Rattle.regalloc2_fastalloc_proofs.proofs.Operands.RecordOfInst.{Laying}
 
 -- what is held stays held while a definition is sent
 pub sends_less : (point : ℕ) (class : RegClass) (is_made : Bool) (from to : Place) (t u : InstRegs) (old new : StateValue) →
@@ -91,10 +91,16 @@ asked_as_at (FixedReg q) r e = let same : q ≡ r = cc in ap FixedReg same
 asked_as_at (Reuse m) r e = absurd cc
 asked_as_at (Limit m) r e = absurd cc
 
-module _ (Known : VirtualRegister → Type 0) (insts : ℕ → InstValue) (placesf : ℕ → List Place) (i n : ℕ) (E : VirtualRegister → Place → Type 0)
-    (ops : List OperandValue) (lived : ℕ → Bool) (clob : Place → Bool) (ret : Bool) (orderly : Orderly ops)
-    (late : Bool) (k : ℕ) (list : List Place) (u : InstRegs) (t : StateValue) (L : Laid Known insts placesf i n E ops lived clob ret late k list u t)
-    (lt : k < length ops) (inst_regs : is_late (op_at ops k).position ≡ late) (q : ℕ) (reuse : (op_at ops k).constraint ≡ Reuse q) where
+module _ (laying : Laying) (late : Bool) (k : ℕ) (list : List Place) (u : InstRegs) (t : StateValue)
+    (L : Laid laying.tail laying.ops laying.lived laying.clob laying.ret late k list u t) (lt : k < length laying.ops)
+    (inst_regs : is_late (op_at laying.ops k).position ≡ late) (q : ℕ) (reuse : (op_at laying.ops k).constraint ≡ Reuse q) where
+  open laying use {tail, ops, lived, clob, ret, orderly}
+  open laying.tail use {Known, insts, placesf, i, n, E}
+
+  -- how far the operands are
+  abbrev now : Progress
+  now = progress lived clob L.here L.claimed L.done L.out L.X
+
   def : is_def (op_at ops k).kind ≡ true
   def = (orderly.late_reuse k q lt reuse).0
 
@@ -117,10 +123,10 @@ module _ (Known : VirtualRegister → Type 0) (insts : ℕ → InstValue) (place
   apart e = let x : is_def (op_at ops q).kind ≡ true = ap (λ z. is_def (op_at ops z).kind) e ∙ def in let y = use_q in cc
 
   not_done : L.done k ≡ false
-  not_done = fresh_turn Known insts placesf i n E ops lived clob ret orderly late k list u t L lt inst_regs
+  not_done = fresh_turn laying late k list u t L lt inst_regs
 
   phase : (j : ℕ) → L.done j ≡ true → is_def (op_at ops j).kind ≡ false → is_late (op_at ops j).position ≡ true
-  phase = phase_turn Known insts placesf i n E ops lived clob ret orderly late k list u t L lt inst_regs comes_late
+  phase = phase_turn laying late k list u t L lt inst_regs comes_late
 
   named_waits : L.done q ≡ false
   named_waits = ⊎_elim (λ (a : L.done q ≡ true). let x = phase q a use_q in let y = early_q in absurd cc) (λ (a : L.done q ≡ false). a) (cases_Bool (L.done q))
@@ -211,10 +217,22 @@ module _ (Known : VirtualRegister → Type 0) (insts : ℕ → InstValue) (place
     real : p ≢ NoPlace
     real e = let x : InRegister in_reg.0 ≡ NoPlace = sym in_reg.1 ∙ e in cc
 
-    got : Got Known insts placesf i n E ops L.here L.claimed L.done lived L.out clob L.X ret k p s.inst_regs s.middle
-    got = gets_step Known insts placesf i n E ops L.here L.claimed L.done lived L.out clob L.X ret k o refl (covers_both (what_of ops k)) counts_k orderly.once
-        not_done
-        (phase_turn Known insts placesf i n E ops lived clob ret orderly late k list u t L lt inst_regs) u s.inst_regs p t L.ready s.middle due s.gets
+    got : Got tail ops now ret k p s.inst_regs s.middle
+    got = gets_step tail ops now ret (record {
+      k = k;
+      o = o;
+      nv = refl;
+      covers = covers_both (what_of ops k);
+      counts = counts_k;
+      once = orderly.once;
+      new_one = not_done;
+      phase = phase_turn laying late k list u t L lt inst_regs;
+      t = u;
+      u = s.inst_regs;
+      p = p;
+      old = t;
+      s = L.ready;
+    }) due s.gets
 
     abbrev out2 : ℕ → Bool
     out2 = and_one L.out (op_at ops k).vreg.number
@@ -222,8 +240,8 @@ module _ (Known : VirtualRegister → Type 0) (insts : ℕ → InstValue) (place
     abbrev X2 : Place → ℕ → Bool
     X2 = made_one L.X (got.there k) (op_at ops k).vreg.number
 
-    ready : Ready Known insts placesf i n E ops got.there got.claimed2 (and_one L.done k) lived out2 clob X2 ret w m
-    ready = def_step Known insts placesf i n E ops L.here L.claimed L.done lived L.out clob L.X ret k orderly.once p s.inst_regs s.middle got w m def s.defines
+    ready : Ready tail ops (progress lived clob got.there got.claimed2 (and_one L.done k) out2 X2) ret w m
+    ready = def_step tail ops now ret k orderly.once p s.inst_regs s.middle got w m def s.defines
 
     abbrev list1 : List Place
     list1 = slice_set list k p
@@ -251,12 +269,12 @@ module _ (Known : VirtualRegister → Type 0) (insts : ℕ → InstValue) (place
         (waits_set ops list k j p r (omega (arith, lt, L.long)) real nk x)
 
     -- the named use is fixed, and has claimed the register before
-    laid_fixed : (r : Register) → (op_at ops q).constraint ≡ FixedReg r → Laid Known insts placesf i n E ops lived clob ret late (k + 1) list2 w m
+    laid_fixed : (r : Register) → (op_at ops q).constraint ≡ FixedReg r → Laid tail ops lived clob ret late (k + 1) list2 w m
     laid_fixed r fx =
         let fq = L.fixed q r counts_q fx in
         let fk = L.fixed_reuse k q r counts_k reuse fx in
         let same_q : p ≡ got.there q = sym got.at_k ∙ got.same k fk.0 ∙ fk.1 ∙ sym fq.1 ∙ sym (got.same q fq.0) in
-        laid_next Known insts placesf i n E ops lived clob ret orderly late k list u t L lt inst_regs got.there got.claimed2 out2 X2 list2 w m ready got.same
+        laid_next laying late k list u t L lt inst_regs got.there got.claimed2 out2 X2 list2 w m ready got.same
         got.keeps long2 (at_k ∙ sym got.at_k)
         (λ j c nk there. elim (cases_eq j q) [
           | inl e ↦ (got.keeps j (ap L.claimed e ∙ fq.0), ap (λ z. slice_index_or list2 z NoPlace) e ∙ at_q ∙ same_q ∙ ap got.there (sym e))
@@ -303,7 +321,8 @@ module _ (Known : VirtualRegister → Type 0) (insts : ℕ → InstValue) (place
       ]
 
       nobody : (x : ℕ) → place_in m x ≡ InRegister in_reg.0 → ⊥
-      nobody x e = reuse_alone (what_of ops) got.there got.claimed2 (and_one L.done k) lived out2 clob X2 (stands_at m) (slots_at m) k x ready.located.placed
+      nobody x e = reuse_alone (what_of ops) (progress lived clob got.there got.claimed2 (and_one L.done k) out2 X2) (stands_at m) (slots_at m) k x
+          ready.located.placed
           (and_one_same L.done k k refl) def phase2
           (ap opt e ∙ ap Some (sym in_reg.1 ∙ sym got.at_k))
 
@@ -331,12 +350,11 @@ module _ (Known : VirtualRegister → Type 0) (insts : ℕ → InstValue) (place
             absurd cc;
       }
 
-      ready3 : Ready Known insts placesf i n E ops there3 claimed3 (and_one L.done k) lived out2 clob X2 ret w m
-      ready3 = ready_claim Known insts placesf i n E ops got.there there3 got.claimed2 claimed3 (and_one L.done k) lived out2 clob X2 ret q
-          (InRegister in_reg.0) pos w w m puts counts_q covers_q grips
+      ready3 : Ready tail ops (progress lived clob there3 claimed3 (and_one L.done k) out2 X2) ret w m
+      ready3 = ready_claim tail ops (progress lived clob got.there got.claimed2 (and_one L.done k) out2 X2) there3 claimed3 ret puts counts_q covers_q grips
           (λ z e. ready.small k z got.claims (got.at_k ∙ in_reg.1 ∙ e))
           (λ c b is e. (ready.scratch_reserve.idle c b is).unclaimed k got.claims (got.at_k ∙ in_reg.1 ∙ e))
-          (claim_register (what_of ops) got.there there3 got.claimed2 claimed3 (and_one L.done k) lived out2 clob X2 m q in_reg.0 puts clear2
+          (claim_register (what_of ops) (progress lived clob got.there got.claimed2 (and_one L.done k) out2 X2) there3 claimed3 m q in_reg.0 puts clear2
           (λ x e. absurd (nobody x e))
           (λ h. elim h [ inl a ↦ (let x = use_q in absurd cc) | inr a ↦ (let x = early_q in absurd cc) ]) ready.located) ready
 
@@ -346,9 +364,9 @@ module _ (Known : VirtualRegister → Type 0) (insts : ℕ → InstValue) (place
       same3 : (j : ℕ) → L.claimed j ≡ true → there3 j ≡ L.here j
       same3 j c = set_at_other got.there q j p (not_q j (got.keeps j c)) ∙ got.same j c
 
-      laid_any : Laid Known insts placesf i n E ops lived clob ret late (k + 1) list2 w m
+      laid_any : Laid tail ops lived clob ret late (k + 1) list2 w m
       laid_any =
-          laid_next Known insts placesf i n E ops lived clob ret orderly late k list u t L lt inst_regs there3 claimed3 out2 X2 list2 w m ready3 same3
+          laid_next laying late k list u t L lt inst_regs there3 claimed3 out2 X2 list2 w m ready3 same3
           (λ j c. and_one_keeps got.claimed2 q j (got.keeps j c)) long2 (at_k ∙ sym got.at_k ∙ sym (set_at_other got.there q k p (λ e. apart (sym e))))
           (λ j c nk there. elim (cases_eq j q) [
             | inl e ↦ (and_one_same got.claimed2 q j e, ap (λ z. slice_index_or list2 z NoPlace) e ∙ at_q ∙ sym (set_at_same got.there q j p e))
@@ -372,5 +390,5 @@ module _ (Known : VirtualRegister → Type 0) (insts : ℕ → InstValue) (place
           (λ e. ap (λ z. X2 z (op_at ops k).vreg.number) (set_at_other got.there q k p (λ h. apart (sym h))) ∙ (makes_one ops got.there L.out L.X k).is_made)
 
     -- allocating operand k as a reuse keeps the record of the pass: k is done, and the use that it names has claimed the same place
-    pub laid_reuse : Laid Known insts placesf i n E ops lived clob ret late (k + 1) (slice_set (slice_set list k p) q p) w m
+    pub laid_reuse : Laid tail ops lived clob ret late (k + 1) (slice_set (slice_set list k p) q p) w m
     laid_reuse = elim (orderly.named_as k q lt reuse) [ inl a ↦ laid_any a | inr a ↦ laid_fixed a.0 a.1 ]

@@ -5,22 +5,22 @@ use Rattle.std.proofs.lemmas.Bool.{cases_Bool, cases_eq}
 use Rattle.std.proofs.lemmas.List.{get_or-set_same, get_or-set_other, length-set}
 use Rattle.regalloc2_names.specs.declared.OperandConstraint.{OperandConstraint}
 use Rattle.regalloc2_names.specs.declared.OperandConstraint.TheVariants.{Any, Reg, Stack, FixedReg, Reuse, Limit}
-use Rattle.regalloc2_names.specs.Register.{Register, VirtualRegister}
+use Rattle.regalloc2_names.specs.Register.{Register}
 use Rattle.regalloc2_names.specs.Operand.{OperandValue, is_def, is_late, is_reading, is_fixed_nonallocatable}
 use Rattle.regalloc2_names.specs.Place.{Place, NoPlace, InRegister, InSlot}
 use Rattle.regalloc2_names.specs.Point.{after}
-use Rattle.regalloc2_function.specs.FunctionValue.{InstValue}
-use Rattle.regalloc2_semantics.specs.OperandsPlaced.{what_of, Counts}
+use Rattle.regalloc2_semantics.specs.OperandsPlaced.{what_of, Progress, Counts}
 use Rattle.regalloc2_semantics.proofs.BoundaryToBoundary.{Covers}
 use Rattle.regalloc2_fastalloc_state.specs.declared.inst_regs.InstRegs.{InstRegs}
 use Rattle.regalloc2_fastalloc_state.specs.declared.request.Requirement.TheVariants.{InPReg}
 use Rattle.regalloc2_validate.specs.Constraints.{op_at}
 use Rattle.regalloc2_fastalloc_proofs.specs.InstSteps.{StateValue, requirement_of, use_request, def_request, AllocsUse, AllocsDefOp}
 use Rattle.regalloc2_fastalloc_proofs.proofs.Operands.ClaimAndUse.{covers_at}
-use Rattle.regalloc2_fastalloc_proofs.proofs.Operands.RecordOfInst.{Orderly, Turned, Waits, of_fixed, of_reuse, of_named, Ready, Laid}
+use Rattle.regalloc2_fastalloc_proofs.proofs.Operands.RecordOfInst.{progress, Turned, Waits, of_fixed, of_reuse, of_named, Ready, Laid}
 use Rattle.regalloc2_fastalloc_proofs.proofs.Operands.AllocOperand.{Due, owed, fresh, Got, gets_step, and_one, and_one_same, and_one_other, and_one_grows}
 use Rattle.regalloc2_fastalloc_proofs.proofs.Operands.AllocOperand.{and_one_keeps}
 use Rattle.regalloc2_fastalloc_proofs.proofs.Operands.RecordAfterOperand.{use_step, def_step, made_one, makes_one}
+use Rattle.regalloc2_fastalloc_proofs.proofs.Operands.RecordOfInst.{Laying}
 
 -- an operand that was allocated
 pub turned_next : (ops : List OperandValue) (late : Bool) (k j : ℕ) → Turned ops late k j → Turned ops late (k + 1) j
@@ -118,12 +118,18 @@ reads_no_fixed o e f = not_both_of (is_def o.kind) (is_fixed_nonallocatable o) e
     not_both_of false true e f = cc
     not_both_of false false e f = cc
 
-module _ (Known : VirtualRegister → Type 0) (insts : ℕ → InstValue) (placesf : ℕ → List Place) (i n : ℕ) (E : VirtualRegister → Place → Type 0)
-    (ops : List OperandValue) (lived : ℕ → Bool) (clob : Place → Bool) (ret : Bool) (orderly : Orderly ops) where
+module _ (laying : Laying) where
+  open laying use {tail, ops, lived, clob, ret, orderly}
+  open laying.tail use {Known, insts, placesf, i, n, E}
+
   module _ (late : Bool) (k : ℕ) (list : List Place) (u : InstRegs) (t : StateValue)
-      (L : Laid Known insts placesf i n E ops lived clob ret late k list u t) where
+      (L : Laid tail ops lived clob ret late k list u t) where
+    -- how far the operands are
+    abbrev now : Progress
+    now = progress lived clob L.here L.claimed L.done L.out L.X
+
     -- the operand isn't placed in this pass
-    pub laid_pass : (is_late (op_at ops k).position ≡ late → ⊥) → Laid Known insts placesf i n E ops lived clob ret late (k + 1) list u t
+    pub laid_pass : (is_late (op_at ops k).position ≡ late → ⊥) → Laid tail ops lived clob ret late (k + 1) list u t
     laid_pass other = record {
       here = L.here;
       claimed = L.claimed;
@@ -143,7 +149,7 @@ module _ (Known : VirtualRegister → Type 0) (insts : ℕ → InstValue) (place
     }
 
     -- an operand has no place that counts
-    pub laid_aside : (q : Place) → (Counts ops k → ⊥) → Laid Known insts placesf i n E ops lived clob ret late (k + 1) (slice_set list k q) u t
+    pub laid_aside : (q : Place) → (Counts ops k → ⊥) → Laid tail ops lived clob ret late (k + 1) (slice_set list k q) u t
     laid_aside q out_of =
         let other : (j : ℕ) → Counts ops j → j ≡ k → ⊥ = λ j c e. out_of (subst (Counts ops) e c) in
         let same : (j : ℕ) → Counts ops j → slice_index_or (slice_set list k q) j NoPlace ≡ slice_index_or list j NoPlace = λ j c. get_or-set_other list k j q
@@ -192,7 +198,7 @@ module _ (Known : VirtualRegister → Type 0) (insts : ℕ → InstValue) (place
 
       -- the record after it
       pub laid_next : (there : ℕ → Place) (claimed2 out2 : ℕ → Bool) (X2 : Place → ℕ → Bool) (list2 : List Place) (w : InstRegs) (m : StateValue) →
-          Ready Known insts placesf i n E ops there claimed2 (and_one L.done k) lived out2 clob X2 ret w m →
+          Ready tail ops (progress lived clob there claimed2 (and_one L.done k) out2 X2) ret w m →
           ((j : ℕ) → L.claimed j ≡ true → there j ≡ L.here j) → ((j : ℕ) → L.claimed j ≡ true → claimed2 j ≡ true) →
           length list2 ≡ length ops → slice_index_or list2 k NoPlace ≡ there k →
           ((j : ℕ) → Counts ops j → (j ≡ k → ⊥) → slice_index_or list2 j NoPlace ≢ NoPlace → (claimed2 j ≡ true) × (slice_index_or list2 j NoPlace ≡ there j)) →
@@ -200,7 +206,7 @@ module _ (Known : VirtualRegister → Type 0) (insts : ℕ → InstValue) (place
           ((j : ℕ) → claimed2 j ≡ true → L.done j ≡ false → (j ≡ k → ⊥) → (r : Register) × (there j ≡ InRegister r) × Waits ops list2 j r) →
           claimed2 k ≡ true →
           ((p : Place) (x : ℕ) → L.X p x ≡ true → X2 p x ≡ true) → (is_def (op_at ops k).kind ≡ true → X2 (there k) (op_at ops k).vreg.number ≡ true) →
-          Laid Known insts placesf i n E ops lived clob ret late (k + 1) list2 w m
+          Laid tail ops lived clob ret late (k + 1) list2 w m
       laid_next there claimed2 out2 X2 list2 w m ready same keeps long at_k listed2 placed2 waiting2 ck grows2 made2 = record {
         here = there;
         claimed = claimed2;
@@ -239,10 +245,10 @@ module _ (Known : VirtualRegister → Type 0) (insts : ℕ → InstValue) (place
 
       -- one place is set in the list
       pub laid_one : (p : Place) (v w : InstRegs) (mid m : StateValue) (out2 : ℕ → Bool) (X2 : Place → ℕ → Bool)
-          (g : Got Known insts placesf i n E ops L.here L.claimed L.done lived L.out clob L.X ret k p v mid) →
-          Ready Known insts placesf i n E ops g.there g.claimed2 (and_one L.done k) lived out2 clob X2 ret w m →
+          (g : Got tail ops now ret k p v mid) →
+          Ready tail ops (progress lived clob g.there g.claimed2 (and_one L.done k) out2 X2) ret w m →
           ((q : Place) (x : ℕ) → L.X q x ≡ true → X2 q x ≡ true) → (is_def (op_at ops k).kind ≡ true → X2 (g.there k) (op_at ops k).vreg.number ≡ true) →
-          Laid Known insts placesf i n E ops lived clob ret late (k + 1) (slice_set list k p) w m
+          Laid tail ops lived clob ret late (k + 1) (slice_set list k p) w m
       laid_one p v w mid m out2 X2 g ready grows2 made2 =
           let less : k < length list = omega (arith, lt, L.long) in
           let other : (j : ℕ) → (j ≡ k → ⊥) → slice_index_or (slice_set list k p) j NoPlace ≡ slice_index_or list j NoPlace = λ j ne. get_or-set_other list k j
@@ -291,17 +297,29 @@ module _ (Known : VirtualRegister → Type 0) (insts : ℕ → InstValue) (place
       -- allocating operand k as a use keeps the record of the pass, with k done
       pub laid_use : (p : Place) (w : InstRegs) (m : StateValue) → is_reading (op_at ops k) ≡ true →
           AllocsUse (after i) (use_request (op_at ops k) (slice_index_or list k NoPlace)) p u w t m →
-          Laid Known insts placesf i n E ops lived clob ret late (k + 1) (slice_set list k p) w m
+          Laid tail ops lived clob ret late (k + 1) (slice_set list k p) w m
       laid_use p w m reading s =
           let q : Place = slice_index_or list k NoPlace in
           let is_use : is_def (op_at ops k).kind ≡ false = reads_no_def (op_at ops k) reading in
           let counts : Counts ops k = (lt, inr reading) in
-          let g : Got Known insts placesf i n E ops L.here L.claimed L.done lived L.out clob L.X ret k p w s.middle =
-          gets_step Known insts placesf i n E ops L.here L.claimed L.done lived L.out clob L.X ret k (use_request (op_at ops k) q) (use_number (op_at ops k) q)
-          (use_covers ops k q) counts
-          orderly.once fresh_turn phase_turn u w p t L.ready s.middle (use_due q refl counts is_use) s.gets in
+          let g : Got tail ops now ret k p w s.middle =
+          gets_step tail ops now ret (record {
+            k = k;
+            o = use_request (op_at ops k) q;
+            nv = use_number (op_at ops k) q;
+            covers = use_covers ops k q;
+            counts = counts;
+            once = orderly.once;
+            new_one = fresh_turn;
+            phase = phase_turn;
+            t = u;
+            u = w;
+            p = p;
+            old = t;
+            s = L.ready;
+          }) (use_due q refl counts is_use) s.gets in
           laid_one p w w s.middle m L.out L.X g
-          (use_step Known insts placesf i n E ops L.here L.claimed L.done lived L.out clob L.X ret k orderly.once p w s.middle g
+          (use_step tail ops now ret k orderly.once p w s.middle g
           (use_request (op_at ops k) q).vreg (use_number (op_at ops k) q) is_use m s.uses)
           (λ z x e. e) (λ e. absurd (let y : true ≡ false = sym e ∙ is_use in cc))
 
@@ -322,13 +340,25 @@ module _ (Known : VirtualRegister → Type 0) (insts : ℕ → InstValue) (place
       -- allocating operand k as a definition that is no reuse keeps the record of the pass, with k done
       pub laid_def : (p : Place) (w : InstRegs) (m : StateValue) → is_def (op_at ops k).kind ≡ true → ((a : ℕ) → (op_at ops k).constraint ≡ Reuse a → ⊥) →
           AllocsDefOp (after i) (def_request (op_at ops k)) ret p u w t m →
-          Laid Known insts placesf i n E ops lived clob ret late (k + 1) (slice_set list k p) w m
+          Laid tail ops lived clob ret late (k + 1) (slice_set list k p) w m
       laid_def p w m def plain s =
           let counts : Counts ops k = (lt, inl def) in
-          let g : Got Known insts placesf i n E ops L.here L.claimed L.done lived L.out clob L.X ret k p s.inst_regs s.middle =
-          gets_step Known insts placesf i n E ops L.here L.claimed L.done lived L.out clob L.X ret k (def_request (op_at ops k)) refl
-          (covers_at (op_at ops k).vreg.number (is_def (op_at ops k).kind) (is_late (op_at ops k).position)) counts
-          orderly.once fresh_turn phase_turn u s.inst_regs p t L.ready s.middle (def_due counts def plain) s.gets in
+          let g : Got tail ops now ret k p s.inst_regs s.middle =
+          gets_step tail ops now ret (record {
+            k = k;
+            o = def_request (op_at ops k);
+            nv = refl;
+            covers = covers_at (op_at ops k).vreg.number (is_def (op_at ops k).kind) (is_late (op_at ops k).position);
+            counts = counts;
+            once = orderly.once;
+            new_one = fresh_turn;
+            phase = phase_turn;
+            t = u;
+            u = s.inst_regs;
+            p = p;
+            old = t;
+            s = L.ready;
+          }) (def_due counts def plain) s.gets in
           laid_one p s.inst_regs w s.middle m (and_one L.out (op_at ops k).vreg.number) (made_one L.X (g.there k) (op_at ops k).vreg.number) g
-          (def_step Known insts placesf i n E ops L.here L.claimed L.done lived L.out clob L.X ret k orderly.once p s.inst_regs s.middle g w m def s.defines)
+          (def_step tail ops now ret k orderly.once p s.inst_regs s.middle g w m def s.defines)
           (makes_one ops g.there L.out L.X k).keeps (λ e. (makes_one ops g.there L.out L.X k).is_made)

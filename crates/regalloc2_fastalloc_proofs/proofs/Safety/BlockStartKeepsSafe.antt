@@ -11,11 +11,12 @@ use Rattle.regalloc2_fastalloc_proofs.specs.InstSteps.{StateValue, SameMachine}
 use Rattle.regalloc2_fastalloc_proofs.specs.BlockStart.{no_vreg, ReloadsParam, nowhere, comes, ReloadsParams, none_begun, one_begun, ReloadsRegs}
 use Rattle.regalloc2_fastalloc_proofs.specs.BlockStart.{none_emptied, one_emptied, ReloadsAtBegin}
 use Rattle.regalloc2_fastalloc_proofs.specs.Safety.{MayBeLocatedAtOrNone, IsSafe, IsSafeEdit, AreSafeRegs}
-use Rattle.regalloc2_fastalloc_proofs.proofs.Safety.StepsKeepSafe.{IsApart, MayBeHeld, machine_kept, same_units, slots_kept, settled_places}
+use Rattle.regalloc2_fastalloc_proofs.proofs.Safety.StepsKeepSafe.{MayBeHeld, machine_kept, same_units, slots_kept, settled_places}
 use Rattle.regalloc2_fastalloc_proofs.proofs.Safety.StepsKeepSafe.{settled_holders, slot_end, stand_end, there_stands, kept_none, clears_kept}
 use Rattle.regalloc2_fastalloc_proofs.proofs.Safety.StepsKeepSafe.{sends_kept}
 use Rattle.regalloc2_fastalloc_proofs.proofs.Slots.SlotsGrow.{SlotsStay, gives_stay, gives_grow, edits_grow, none_grows, end_grows}
 use Rattle.regalloc2_fastalloc_proofs.proofs.Safety.InstKeepsSafe.{fresh_turn}
+use Rattle.regalloc2_fastalloc_proofs.proofs.Safety.StepsKeepSafe.{StepRules}
 
 -- what a part of a block's beginning keeps
 pub record PartKept (env : MachineValue) (Known : VirtualRegister → Type 0) (Writes : ℕ → VirtualRegister → ℕ → Type 0) (May : ℕ → Type 0) (old : StateValue)
@@ -73,8 +74,9 @@ no_send : (p q : Place) → p ≡ q → not (is_place p q) ≡ true → ⊥
 no_send p q e made = (let same : is_place p q ≡ true = subst (λ (x : Place). is_place p x ≡ true) e (is_place-same p) in
     let no : not (is_place p q) ≡ false = rw same refl in cc)
 
-module _ (env : MachineValue) (apart : IsApart env) (Known : VirtualRegister → Type 0) (Writes : ℕ → VirtualRegister → ℕ → Type 0) (May : ℕ → Type 0)
-    (point : ℕ) (can : May point) where
+module _ (rules : StepRules) where
+  open rules use {env, apart, Known, Writes, May, point, can}
+
   -- a parameter comes in its slot
   pub begins_kept : (v : VirtualRegister) (t u : InstRegs) (old new : StateValue) → ReloadsParam point v t u old new → Known v →
       IsSafe env Known Writes May old → AreSafeRegs env t → PartKept env Known Writes May old u new
@@ -83,7 +85,7 @@ module _ (env : MachineValue) (apart : IsApart env) (Known : VirtualRegister →
       let q : Place = alloc_of old.places v.number in
       let stay : SlotsStay old.slots m.slots = gives_stay old.slots m.slots v s gives in
       let left : IsSafe env Known Writes May m = left_safe env Known Writes May old m v s gives settles edits machine h in
-      let k = sends_kept env apart Known Writes May point can v (not (is_place s q)) s q t u m new sends known
+      let k = sends_kept rules v (not (is_place s q)) s q t u m new sends known
       (λ made. (
         slot_end env m.slots v s gives.gives gives.there gives.below,
         end_grows env old.slots m.slots v q stay (stand_end env old.slots v q (there_stands env old.slots v q there (h.places v known))),
@@ -112,7 +114,7 @@ module _ (env : MachineValue) (apart : IsApart env) (Known : VirtualRegister →
   empties_kept t old h ht u new none_emptied = part_same env Known Writes May old old t t refl refl h ht
   empties_kept t old h ht u new (one_emptied r w x m n prev held clears) =
       let p = empties_kept t old h ht w m prev in
-      let k = clears_kept env apart Known Writes May point can r w u m new clears p.safe p.inst_regs in
+      let k = clears_kept rules r w u m new clears p.safe p.inst_regs in
       part_then env Known Writes May old m new w u p (record { safe = k.safe; inst_regs = k.inst_regs; stay = k.stay })
 
   -- the whole beginning

@@ -32,6 +32,7 @@ use Rattle.regalloc2_fastalloc_proofs.proofs.Safety.InstsKeepSafe.{uses_written}
 use Rattle.regalloc2_fastalloc_proofs.proofs.Safety.BlockStartKeepsSafe.{begins_block_kept}
 use Rattle.regalloc2_fastalloc_proofs.proofs.Safety.StoresKeepSafe.{IsAlike, more_safe, stores_kept}
 use Rattle.regalloc2_fastalloc_proofs.proofs.Safety.BranchKeepsSafe.{passes_kept}
+use Rattle.regalloc2_fastalloc_proofs.proofs.Safety.StepsKeepSafe.{rules_of}
 
 -- where moves may be: before an instruction of a block, or behind one that isn't its last
 abbrev pub MayInBlocks : FunctionValue → ℕ → Type 0
@@ -72,17 +73,29 @@ later_blocks_same f b within blank old i places t (one_in n before_it p s u ge l
     later_same f n before_it places s a.middle (omega (arith, lt, within)) a.allocates j (omega (arith, lt, le)) less k
     ∙ later_blocks_same f b within blank old (n + 1) before_it s prev j k le less
 
-module _ (env : MachineValue) (apart : IsApart env) (Known : VirtualRegister → Type 0) (f : FunctionValue)
-    (tame : (i : ℕ) → i < length f.insts → IsTame Known (inst_at f i).operands) (last : List Place)
-    (follow : BlocksFollow f)
-    (returns : (b i : ℕ) → b < length f.blocks → i + 1 ≡ (block_at f b).range.end → (k : ℕ) → k < length (inst_at f i).operands →
-    is_def (op_at (inst_at f i).operands k).kind ≡ true → ends_block (inst_at f i) ≡ true)
-    (branches : (b i : ℕ) → b < length f.blocks → (block_at f b).range.first ≤ i → i < (block_at f b).range.end → (inst_at f i).is_branch ≡ true →
-    i + 1 ≡ (block_at f b).range.end)
-    (params : (b k : ℕ) → b < length f.blocks → k < length (block_at f b).params → Known (slice_index_or (block_at f b).params k no_vreg))
-    (targets : (b k : ℕ) → b < length f.blocks → k < length (block_at f b).succs → target_at f b k < length f.blocks)
-    (concerned : (b e k : ℕ) (v : VirtualRegister) → IsEdgeInto f b e k → IsConcerned f e k v → Known v)
-    (alike : (b e k j : ℕ) (v : VirtualRegister) (slots : SpillSlotsValue) → IsEdgeInto f b e k → IsStoredFor f e k slots j v → IsAlike env f e j v) where
+-- What a function's walk is judged by: a machine, whose kinds of registers are apart; the vregs that are known, among them parameters and what stores are
+-- of; the function, with tame operands; and the places at the walk's end. Blocks follow one another, definitions that need a return have one, branches end
+-- their blocks, and go to blocks of the function.
+pub record WalkRules : Type 1 where
+  pub env : MachineValue
+  pub apart : IsApart env
+  pub Known : VirtualRegister → Type 0
+  pub f : FunctionValue
+  pub tame : (i : ℕ) → i < length f.insts → IsTame Known (inst_at f i).operands
+  pub last : List Place
+  pub follow : BlocksFollow f
+  pub returns : (b i : ℕ) → b < length f.blocks → i + 1 ≡ (block_at f b).range.end → (k : ℕ) → k < length (inst_at f i).operands →
+      is_def (op_at (inst_at f i).operands k).kind ≡ true → ends_block (inst_at f i) ≡ true
+  pub branches : (b i : ℕ) → b < length f.blocks → (block_at f b).range.first ≤ i → i < (block_at f b).range.end → (inst_at f i).is_branch ≡ true →
+      i + 1 ≡ (block_at f b).range.end
+  pub params : (b k : ℕ) → b < length f.blocks → k < length (block_at f b).params → Known (slice_index_or (block_at f b).params k no_vreg)
+  pub targets : (b k : ℕ) → b < length f.blocks → k < length (block_at f b).succs → target_at f b k < length f.blocks
+  pub concerned : (b e k : ℕ) (v : VirtualRegister) → IsEdgeInto f b e k → IsConcerned f e k v → Known v
+  pub alike : (b e k j : ℕ) (v : VirtualRegister) (slots : SpillSlotsValue) → IsEdgeInto f b e k → IsStoredFor f e k slots j v → IsAlike env f e j v
+
+module _ (rules : WalkRules) where
+  open rules use {env, apart, Known, f, tame, last, follow, returns, branches, params, targets, concerned, alike}
+
   -- what is known of safe tables with the same slots, and more
   kept_grows : (c d i : ℕ) (places : List Place) (t u : StateValue) → IsSafe env Known (WritesFrom f last d) (MayInBlocks f) u → SlotsStay t.slots u.slots →
       WalkKept env Known f (MayInBlocks f) last c i places t → WalkKept env Known f (MayInBlocks f) last d i places u
@@ -98,7 +111,7 @@ module _ (env : MachineValue) (apart : IsApart env) (Known : VirtualRegister →
       → IsSafe env Known (WritesFrom f last c) (MayInBlocks f) old → AreSafeRegs env t → StepKept env Known (WritesFrom f last c) (MayInBlocks f) old u new
   branch_kept c b i lt ge less branch t u old new p h ht =
       let e : i + 1 ≡ (block_at f b).range.end = branches b i lt ge less branch in
-      passes_kept env apart Known (WritesFrom f last c) (MayInBlocks f) (before i) (b, i, lt, ge, less, inl refl) (WritesByBranch f (before i))
+      passes_kept (rules_of env apart Known (WritesFrom f last c) (MayInBlocks f) (before i) (b, i, lt, ge, less, inl refl)) (WritesByBranch f (before i))
       (λ v is n. inl (inr is)) f
       b i refl
       (λ k j edge within. (params (target_at f b k) j (targets b k lt edge) within, (b, i, k, j, lt, e, branch, refl, edge, within, refl))) t u old new p h ht
@@ -120,9 +133,9 @@ module _ (env : MachineValue) (apart : IsApart env) (Known : VirtualRegister →
         | inl e ↦ (
             let start : s ≡ old = block_start f b blank old (i + 1) before_it s prev e in
             let still = calm_end Known i inst x.blank x.here s a.middle (tame i within) (returns b i lt e) x.allocates (subst IsOutside (sym start) bare) in
-            allocates_last_kept env apart Known (WritesFrom f last c) (MayInBlocks f) i inst x.blank x.here s a.middle (b, i, lt, ge, less, inl refl)
+            allocates_last_kept apart (b, i, lt, ge, less, inl refl)
             (tame i within) defs uses x.allocates still w.safe)
-        | inr d ↦ allocates_kept env apart Known (WritesFrom f last c) (MayInBlocks f) i inst x.blank x.here s a.middle (b, i, lt, ge, less, inl refl)
+        | inr d ↦ allocates_kept apart (b, i, lt, ge, less, inl refl)
             (b, i, lt, ge, less, inr (refl, omega (arith, d, less))) (tame i within) defs uses x.allocates w.safe
       ]
 
@@ -140,7 +153,7 @@ module _ (env : MachineValue) (apart : IsApart env) (Known : VirtualRegister →
       let x = inst_kept (b + 1) b n lt blank before_it places old s t ge less bare prev a are_last w in
       let m : WalkKept env Known f (MayInBlocks f) last (b + 1) n places a.middle = record {
         safe = x.safe;
-        good = more_places env Known f tame (MayInBlocks f) last (b + 1) n before_it places s a.middle within a.allocates x w.good;
+        good = more_places env Known f tame (MayInBlocks f) last (b + 1) within a.allocates x w.good;
       } in
       elim (cases_Bool (inst_at f n).is_branch) [
         | inl branch ↦ (let k = branch_kept (b + 1) b n lt ge less branch a.allocates.allocates.ended a.inst_regs a.middle t (a.branch branch) x.safe
@@ -168,7 +181,7 @@ module _ (env : MachineValue) (apart : IsApart env) (Known : VirtualRegister →
       let second : WalkKept env Known f (MayInBlocks f) last (b + 1) B.range.first places u = in_block b lt before_it s (outside (b + 1) before_it s prev)
       first B.range.first places u walks (λ j k le less within. are_last j k (omega (arith, e, le)) less within) in
       let can : MayInBlocks f (before B.range.first) = (b, B.range.first, lt, omega arith, some, inl refl) in
-      let k = begins_block_kept env apart Known (WritesFrom f last (b + 1)) (MayInBlocks f) (before B.range.first) can
+      let k = begins_block_kept (rules_of env apart Known (WritesFrom f last (b + 1)) (MayInBlocks f) (before B.range.first) can)
       B.params (λ j within. params b j lt within) u begins.middle begins.reloads second.safe in
       let wider : IsSafe env Known (WritesFrom f last b) (MayInBlocks f) begins.middle =
       more_safe env Known (WritesFrom f last (b + 1)) (WritesFrom f last b) (MayInBlocks f) begins.middle (more_written f last (b + 1) b (omega arith))

@@ -12,7 +12,6 @@ use Rattle.regalloc2_names.specs.Place.{Place, NoPlace, InRegister, InSlot, is_m
 use Rattle.regalloc2_names.specs.Point.{before}
 use Rattle.regalloc2_function.specs.Machine.{MachineValue, IsStackPlace}
 use Rattle.regalloc2_function.specs.FunctionValue.{FunctionValue, block_at}
-use Rattle.regalloc2_function.specs.SourceRun.{arguments_at}
 use Rattle.regalloc2_semantics.specs.Blocks.{target_at}
 use Rattle.regalloc2_function.specs.OutputValue.{MoveValue}
 use Rattle.regalloc2_fastalloc_state.specs.declared.inst_regs.InstRegs.{InstRegs}
@@ -24,13 +23,14 @@ use Rattle.regalloc2_fastalloc_proofs.specs.BranchSteps.{SpillsArgument, from_re
 use Rattle.regalloc2_fastalloc_proofs.specs.BranchSteps.{GathersMoves, no_edge, one_edge, ClassMove, is_class, of_class, MayBeScratch, IsScratchUsed}
 use Rattle.regalloc2_fastalloc_proofs.specs.BranchSteps.{IsOrdered, OrdersMoves, Pushes, ProcessesBranch}
 use Rattle.regalloc2_fastalloc_proofs.specs.Safety.{MayBeLocatedAtOrNone, HasMachine, IsThrough, IsEndOfArgMove, IsSafe, IsSafeEdit, AreSafeRegs}
-use Rattle.regalloc2_fastalloc_proofs.proofs.Safety.StepsKeepSafe.{IsApart, StepKept, MayBeHeld, kept_both, kept_none, same_units, settled_standing, shifted}
+use Rattle.regalloc2_fastalloc_proofs.proofs.Safety.StepsKeepSafe.{StepKept, MayBeHeld, kept_both, kept_none, same_units, settled_standing, shifted}
 use Rattle.regalloc2_fastalloc_proofs.proofs.Safety.StepsKeepSafe.{clears_kept}
 use Rattle.regalloc2_fastalloc_proofs.proofs.Slots.SlotsGrow.{SlotsStay, SlotsGrow, gives_stay, edits_grow, none_grows}
 use Rattle.std.proofs.lemmas.List.Elements.{All-push}
 use Rattle.regalloc2_fastalloc_proofs.proofs.BlockEnd.NoMoveForOperand.{slot_number}
 use Rattle.regalloc2_fastalloc_state.proofs.SlotsAsPlaces.{slot_grows}
 use Rattle.regalloc2_fastalloc_proofs.proofs.Safety.BlockStartKeepsSafe.{given_edits, given_safe}
+use Rattle.regalloc2_fastalloc_proofs.proofs.Safety.StepsKeepSafe.{StepRules}
 
 -- the value of a move that is given: it goes from some vreg's slot to that of a known vreg whose value may be written
 pub record IsGiven (Known : VirtualRegister → Type 0) (Passed : VirtualRegister → Type 0) (slots : SpillSlotsValue) (from to : Place) : Type 0 where
@@ -104,8 +104,9 @@ lent_through : (env : MachineValue) (inst_regs : InstRegs) (t : StateValue) (cla
 lent_through env inst_regs t class r m (inl own) = inr (m.dedicated_scratch class r own)
 lent_through env inst_regs t class r m (inr free) = inl (m.allocatable r free.0.small free.0.allocatable, free.0.of_class)
 
-module _ (env : MachineValue) (apart : IsApart env) (Known : VirtualRegister → Type 0) (Writes : ℕ → VirtualRegister → ℕ → Type 0) (May : ℕ → Type 0)
-    (point : ℕ) (can : May point) where
+module _ (rules : StepRules) where
+  open rules use {env, apart, Known, Writes, May, point, can}
+
   -- a slot is given, and nothing else changes
   slot_kept : (u : InstRegs) (t m : StateValue) (v : VirtualRegister) (s : Place) → GetsSpillSlot t.slots m.slots v s → m.places ≡ t.places →
       m.edits ≡ t.edits → SameMachine t m → IsSafe env Known Writes May t → AreSafeRegs env u → StepKept env Known Writes May t u m
@@ -128,14 +129,14 @@ module _ (env : MachineValue) (apart : IsApart env) (Known : VirtualRegister →
       IsSafe env Known Writes May old → AreSafeRegs env t → Argued a s old u new
   settles_kept a s t u old new (from_register r m at gives places edits machine clears) h ht =
       let first : StepKept env Known Writes May old t m = slot_kept t old m a s gives places edits machine h ht in
-      let k = clears_kept env apart Known Writes May point can r t u m new clears first.safe ht in
+      let k = clears_kept rules r t u m new clears first.safe ht in
       let n = slot_number m.slots.count s gives.there gives.below in
       record { kept = kept_both env Known Writes May old m new t u first k; number = n.0; is = n.1; own = k.stay a.number n.0 (gives.gives ∙ n.1) }
   settles_kept a s t u old new (in_slot away gives settles edits machine eu) h ht =
       let n = slot_number new.slots.count s gives.there gives.below in
       record {
         kept = record {
-          safe = shifted env apart Known Writes May point can old new a s gives settles machine (given_edits env Known Writes May old new a s gives edits h) h;
+          safe = shifted rules old new a s gives settles machine (given_edits env Known Writes May old new a s gives edits h) h;
           inst_regs = subst (AreSafeRegs env) (sym eu) ht;
           stay = gives_stay old.slots new.slots a s gives;
           standing = settled_standing old.places new.places a s gives.there settles;
@@ -151,17 +152,17 @@ module _ (env : MachineValue) (apart : IsApart env) (Known : VirtualRegister →
     Good v = Known v × Passed v
 
     -- gathering the arguments of one edge keeps the state safe, and its moves go between slots of vregs
-    pub gathers_edge_kept : {Own : VirtualRegister → Type 0} (params arguments : List VirtualRegister) →
+    pub gathers_edge_kept : {Own : VirtualRegister → Type 0} {params arguments : List VirtualRegister} →
         ((j : ℕ) → j < length params → Good (slice_index_or params j no_vreg)) →
-        (t : InstRegs) (old : StateValue) (before_it : List ClassMove)
+        {t : InstRegs} {old : StateValue} {before_it : List ClassMove}
         → IsSafe env Known Writes May old → AreSafeRegs env t → AreGiven Known Passed old.slots before_it
-        → (k : ℕ) (u : InstRegs) (new : StateValue) (given : List ClassMove) → GathersEdgeMoves Own point params arguments t old before_it k u new given →
+        → {k : ℕ} {u : InstRegs} {new : StateValue} {given : List ClassMove} → GathersEdgeMoves Own point params arguments t old before_it k u new given →
         StepKept env Known Writes May old u new × AreGiven Known Passed new.slots given
-    gathers_edge_kept params arguments good t old before_it h ht begin k u new given none_gathered =
+    gathers_edge_kept good {t} {old} h ht begin none_gathered =
         (kept_none env Known Writes May old old t t refl refl h ht, begin)
-    gathers_edge_kept params arguments good t old before_it h ht begin k u new given
+    gathers_edge_kept {params} {arguments} good {t} {old} {before_it} h ht begin {u} {new}
         (one_gathered j some to from w x m n o lt prev gives places edits machine settles foreign) =
-        let p = gathers_edge_kept params arguments good t old before_it h ht begin j w m some prev in
+        let p = gathers_edge_kept good h ht begin prev in
         let v : VirtualRegister = slice_index_or params j no_vreg in
         let a : VirtualRegister = slice_index_or arguments j no_vreg in
         let first : StepKept env Known Writes May m w n = slot_kept w m n v to gives places edits machine p.0.safe p.0.inst_regs in
@@ -184,8 +185,8 @@ module _ (env : MachineValue) (apart : IsApart env) (Known : VirtualRegister →
                 to_there = number.1;
               }),
         )
-    gathers_edge_kept params arguments good t old before_it h ht begin k u new given (own_argument j some w m lt prev own) =
-        gathers_edge_kept params arguments good t old before_it h ht begin j u new given prev
+    gathers_edge_kept {params} {arguments} good {t} {old} {before_it} h ht begin {u} {new} {given} (own_argument j some w m lt prev own) =
+        gathers_edge_kept good h ht begin prev
 
     -- gathering the arguments of a block's edges keeps the state safe, and its moves go between slots of vregs
     pub gathers_kept : (f : FunctionValue) (b : ℕ) → ((k j : ℕ) → k < length (block_at f b).succs → j < length (block_at f (target_at f b k)).params →
@@ -196,8 +197,7 @@ module _ (env : MachineValue) (apart : IsApart env) (Known : VirtualRegister →
     gathers_kept f b good t old h ht k u new given no_edge = (kept_none env Known Writes May old old t t refl refl h ht, λ j d lt. absurd (omega arith))
     gathers_kept f b good t old h ht k u new given (one_edge j some more w x m n lt prev edge) =
         let p = gathers_kept f b good t old h ht j w m some prev in
-        let q = gathers_edge_kept (block_at f (target_at f b j)).params (arguments_at f b j) (λ i less. good j i lt less) w m some p.0.safe p.0.inst_regs p.1
-        (length (block_at f (target_at f b j)).params) u new given edge in
+        let q = gathers_edge_kept (λ i less. good j i lt less) p.0.safe p.0.inst_regs p.1 edge in
         (kept_both env Known Writes May old m new w u p.0 q.0, q.1)
 
     -- the moves of one class are ordered and pushed

@@ -29,7 +29,7 @@ use Rattle.regalloc2_fastalloc_proofs.proofs.BlockEnd.NoMoveForOperand.{IsOutsid
 use Rattle.regalloc2_fastalloc_proofs.proofs.Safety.OutputOfWalk.{IsMade, each_edit, machine_apart}
 use Rattle.regalloc2_fastalloc_proofs.proofs.Safety.WellFormedKeepsSafe.{tame_at}
 use Rattle.regalloc2_fastalloc_proofs.proofs.Safety.InstsKeepSafe.{AreLast, WalkKept, WritesByBranch, WritesFrom}
-use Rattle.regalloc2_fastalloc_proofs.proofs.Safety.BlocksKeepSafe.{MayInBlocks, blocks_kept, within_kept}
+use Rattle.regalloc2_fastalloc_proofs.proofs.Safety.BlocksKeepSafe.{MayInBlocks, WalkRules, blocks_kept, within_kept}
 use Rattle.regalloc2_fastalloc_proofs.proofs.Safety.StoredDefs.{concerned_made, stored_alike}
 
 -- a block's last instruction
@@ -59,15 +59,36 @@ SafeWithin env f blank old places = (b : ℕ) → b < length f.blocks → (p : L
     (q : List Place) (u : StateValue) → AllocsBlockInsts f b p s i q u → AreLast f places i q →
     IsSafe env (Made f) (WritesFrom f places (b + 1)) (MayInBlocks f) u
 
+-- A walk over all blocks of a well-formed function whose machine fits, from the tables at the start: no vreg has a place or a slot and no move is listed, slots
+-- take some units, and registers are the machine's.
+pub record FreshWalk : Type 0 where
+  pub env : MachineValue
+  pub f : FunctionValue
+  pub fits : MachineFits f env
+  pub limited : IsLimited f
+  pub ok : IsWellFormed env f
+  pub taken : AreTaken f
+  pub blank : List Place
+  pub places : List Place
+  pub begin : StateValue
+  pub last : StateValue
+  pub n : ℕ
+  pub m : ℕ
+  pub sizes : List ℕ
+  pub by_last : Bool
+  pub nobody : begin.places ≡ no_allocs n
+  pub slots : begin.slots ≡ no_slots m sizes by_last
+  pub none : begin.edits ≡ []
+  pub units : (c : RegClass) → 0 < units_of (no_slots m sizes by_last) c
+  pub machine : HasMachine env begin
+  pub walks : AllocsBlocks f blank begin 0 places last
+
 -- All blocks of a well-formed function are allocated from a fresh state.
-module _ (env : MachineValue) (f : FunctionValue) (fits : MachineFits f env) (limited : IsLimited f) (ok : IsWellFormed env f) (taken : AreTaken f)
-    (blank places : List Place) (old t : StateValue) (n m : ℕ) (sizes : List ℕ) (by_last : Bool) (nobody : old.places ≡ no_allocs n)
-    (slots : old.slots ≡ no_slots m sizes by_last) (none : old.edits ≡ []) (units : (c : RegClass) → 0 < units_of (no_slots m sizes by_last) c)
-    (machine : HasMachine env old)
-    (outside : (c : ℕ) (ps : List Place) (u : StateValue) → AllocsBlocks f blank old c ps u → IsOutside u)
-    (walks : AllocsBlocks f blank old 0 places t) where
-  begun : IsSafe env (Made f) (WritesFrom f places (length f.blocks)) (MayInBlocks f) old
-  begun = begun_safe env (Made f) (WritesFrom f places (length f.blocks)) (MayInBlocks f) old n m sizes by_last nobody slots none units machine
+module _ (fresh : FreshWalk) (outside : (c : ℕ) (ps : List Place) (u : StateValue) → AllocsBlocks fresh.f fresh.blank fresh.begin c ps u → IsOutside u) where
+  open fresh use {env, f, fits, limited, ok, taken, blank, places, begin, last, n, m, sizes, by_last, nobody, slots, none, units, machine, walks}
+
+  begun : IsSafe env (Made f) (WritesFrom f places (length f.blocks)) (MayInBlocks f) begin
+  begun = begun_safe env (Made f) (WritesFrom f places (length f.blocks)) (MayInBlocks f) begin n m sizes by_last nobody slots none units machine
 
   params_made : (b k : ℕ) → b < length f.blocks → k < length (block_at f b).params → Made f (slice_index_or (block_at f b).params k no_vreg)
   params_made b k lt less = Made.by_param b k (record { block = lt; param = less; number = refl }) refl
@@ -75,24 +96,36 @@ module _ (env : MachineValue) (f : FunctionValue) (fits : MachineFits f env) (li
   targets : (b k : ℕ) → b < length f.blocks → k < length (block_at f b).succs → target_at f b k < length f.blocks
   targets b k lt less = All-get_or (λ s. s < length f.blocks) (block_at f b).succs k 0 less (ok.successors.1 b lt)
 
+  -- what the walk is judged by
+  abbrev walk_rules : WalkRules
+  walk_rules = record {
+    env = env;
+    apart = machine_apart f env fits;
+    Known = Made f;
+    f = f;
+    tame = tame_at env f limited ok taken;
+    last = places;
+    follow = ok.follow;
+    returns = λ b i lt e k less def. last_ends env f ok b i lt e;
+    branches = branch_last env f ok;
+    params = params_made;
+    targets = targets;
+    concerned = concerned_made f ok.successors ok.follow;
+    alike = stored_alike limited ok taken machine walks;
+  }
+
   -- the walk ends in a safe state, with a good place for each operand
-  pub walk_blocks_good : WalkKept env (Made f) f (MayInBlocks f) places 0 0 places t
+  pub walk_blocks_good : WalkKept env (Made f) f (MayInBlocks f) places 0 0 places last
   walk_blocks_good =
       let some : 0 < length f.blocks = (let entry = ok.successors.0 in omega (arith, entry)) in
-      blocks_kept env (machine_apart f env fits) (Made f) f (tame_at env f limited ok taken) places ok.follow
-      (λ b i lt e k less def. last_ends env f ok b i lt e) (branch_last env f ok) params_made targets
-      (concerned_made f ok.successors ok.follow) (stored_alike env f limited ok taken blank places old t machine walks) blank old begun outside 0 places t
+      blocks_kept walk_rules blank begin begun outside 0 places last
       walks 0
       (record { block = λ lt. sym ((ok.follow 0 some).1 refl); end = λ e. absurd (omega (arith, e, some)) })
       (λ j k le less within. refl)
 
   -- and its states are safe
-  pub walk_safe : SafeWithin env f blank old places
-  walk_safe b lt p s prev i q u walk are_last = (within_kept env (machine_apart f env fits) (Made f) f (tame_at env f limited ok taken) places ok.follow
-      (λ c j lc e k less def. last_ends env f ok c j lc e) (branch_last env f ok) params_made targets
-      (concerned_made f ok.successors ok.follow) (stored_alike env f limited ok taken blank places old t machine walks) blank old begun outside b lt p s prev
-      i q u
-      walk are_last).safe
+  pub walk_safe : SafeWithin env f blank begin places
+  walk_safe b lt p s prev i q u walk are_last = (within_kept walk_rules blank begin begun outside b lt p s prev i q u walk are_last).safe
 
 -- two numbers are equal, or one is less than the other
 pub cases_order : (b c : ℕ) → (b < c) ⊎ (b ≡ c) ⊎ (c < b)

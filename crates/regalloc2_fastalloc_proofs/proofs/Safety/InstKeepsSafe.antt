@@ -27,6 +27,9 @@ use Rattle.regalloc2_fastalloc_proofs.proofs.Slots.SlotsGrow.{SlotsStay, end_gro
 use Rattle.regalloc2_fastalloc_proofs.proofs.Operands.AllocsSoFar.{at_place, IsTame, IsGood, good_grows, reads_allocated, FixedAreKnown, Filled}
 use Rattle.regalloc2_fastalloc_proofs.proofs.Operands.AllocsSoFar.{DefsAreWritten, UsesAreWritten, filled_same}
 use Rattle.regalloc2_fastalloc_proofs.proofs.Safety.OperandPassesKeepSafe.{InLate, InEarly, lates_kept, earlies_kept}
+use Rattle.regalloc2_fastalloc_proofs.proofs.Safety.StepsKeepSafe.{rules_of}
+use Rattle.regalloc2_fastalloc_proofs.proofs.Operands.AllocsSoFar.{Filling, filling_of}
+use Rattle.regalloc2_fastalloc_proofs.proofs.Safety.OperandPassesKeepSafe.{Passes, passes_of}
 
 -- a register that is emptied before operands are allocated
 pub clears_fixed_kept : (env : MachineValue) (apart : IsApart env) (Known : VirtualRegister → Type 0) (Writes : ℕ → VirtualRegister → ℕ → Type 0)
@@ -38,10 +41,11 @@ clears_fixed_kept env apart Known Writes May point can ops t old h ht k u m (not
     clears_fixed_kept env apart Known Writes May point can ops t old h ht j u m prev
 clears_fixed_kept env apart Known Writes May point can ops t old h ht k u m (of_fixed j r x w s n prev is clears) =
     let p = clears_fixed_kept env apart Known Writes May point can ops t old h ht j x s prev in
-    kept_both env Known Writes May old s m x u p (clears_but_kept env apart Known Writes May point can r (op_at ops j).vreg x u s m clears p.safe p.inst_regs)
+    kept_both env Known Writes May old s m x u p (clears_but_kept (rules_of env apart Known Writes May point can) r (op_at ops j).vreg x u s m clears p.safe
+    p.inst_regs)
 clears_fixed_kept env apart Known Writes May point can ops t old h ht k u m (of_reuse j l r x w s n prev a b c clears) =
     let p = clears_fixed_kept env apart Known Writes May point can ops t old h ht j x s prev in
-    kept_both env Known Writes May old s m x u p (clears_kept env apart Known Writes May point can r x u s m clears p.safe p.inst_regs)
+    kept_both env Known Writes May old s m x u p (clears_kept (rules_of env apart Known Writes May point can) r x u s m clears p.safe p.inst_regs)
 
 -- evicting each register of a list keeps a safe state safe, and slots and located vregs stay
 pub clears_all_kept : (env : MachineValue) (apart : IsApart env) (Known : VirtualRegister → Type 0) (Writes : ℕ → VirtualRegister → ℕ → Type 0)
@@ -49,29 +53,30 @@ pub clears_all_kept : (env : MachineValue) (apart : IsApart env) (Known : Virtua
     → IsSafe env Known Writes May old → AreSafeRegs env t → StepKept env Known Writes May old u new
 clears_all_kept env apart Known Writes May point can rs t u old new (none_left x m) h ht = kept_none env Known Writes May old old t t refl refl h ht
 clears_all_kept env apart Known Writes May point can rs t u old new (one_more r rest x y w a m b clears more) h ht =
-    let p = clears_kept env apart Known Writes May point can r t y old m clears h ht in
+    let p = clears_kept (rules_of env apart Known Writes May point can) r t y old m clears h ht in
     kept_both env Known Writes May old m new y u p (clears_all_kept env apart Known Writes May point can rest y u m new more p.safe p.inst_regs)
 
 -- the moves of the uses
-pub moves_kept : (env : MachineValue) (apart : IsApart env) (Known : VirtualRegister → Type 0) (Writes : ℕ → VirtualRegister → ℕ → Type 0) (May : ℕ → Type 0)
-    (point : ℕ) → May point → (ops : List OperandValue) → IsTame Known ops → (here : List Place) (t : InstRegs) (old : StateValue)
+pub moves_kept : {env : MachineValue} (apart : IsApart env) {Known : VirtualRegister → Type 0} {Writes : ℕ → VirtualRegister → ℕ → Type 0} {May : ℕ → Type 0}
+    {point : ℕ} → May point → {ops : List OperandValue} → IsTame Known ops → {here : List Place} {t : InstRegs} {old : StateValue}
     → IsSafe env Known Writes May old → AreSafeRegs env t
     → ((j n : ℕ) → j < length ops → is_reading (op_at ops j) ≡ true → at_place here j ≡ InSlot n → Writes point (op_at ops j).vreg n)
     → ((j : ℕ) → j < length ops → is_reading (op_at ops j) ≡ true → MayBeLocatedAt env old.slots (op_at ops j).vreg (at_place here j))
     → ((j : ℕ) → j < length ops → is_reading (op_at ops j) ≡ true → alloc_of old.places (op_at ops j).vreg.number ≢ NoPlace)
-    → (k : ℕ) (u : InstRegs) (m : StateValue) → MovesUses point ops here t old k u m → k ≤ length ops → StepKept env Known Writes May old u m
-moves_kept env apart Known Writes May point can ops tame here t old h ht writes good found k u m none_moved le =
+    → {k : ℕ} {u : InstRegs} {m : StateValue} → MovesUses point ops here t old k u m → k ≤ length ops → StepKept env Known Writes May old u m
+moves_kept {env} apart {Known} {Writes} {May} can tame {t} {old} h ht writes good found none_moved le =
     kept_none env Known Writes May old old t t refl refl h ht
-moves_kept env apart Known Writes May point can ops tame here t old h ht writes good found k u m (not_moved j x s prev silent) le =
-    moves_kept env apart Known Writes May point can ops tame here t old h ht writes good found j u m prev (omega arith)
-moves_kept env apart Known Writes May point can ops tame here t old h ht writes good found k u m (one_moved j x w s n prev reads sends) le =
-    let p = moves_kept env apart Known Writes May point can ops tame here t old h ht writes good found j x s prev (omega arith) in
+moves_kept {env} apart {Known} {Writes} {May} {point} can {ops} tame {here} {t} {old} h ht writes good found {u} {m} (not_moved j x s prev silent) le =
+    moves_kept apart can tame h ht writes good found prev (omega arith)
+moves_kept {env} apart {Known} {Writes} {May} {point} can {ops} tame {here} {t} {old} h ht writes good found {u} {m} (one_moved j x w s n prev reads sends) le =
+    let p = moves_kept apart can tame h ht writes good found prev (omega arith) in
     let o : OperandValue = op_at ops j in
     let to : Place = at_place here j in
     let from : Place = alloc_of s.places o.vreg.number in
     let known : Known o.vreg = tame.known j (omega arith) (reads_allocated o reads) in
     let there : from ≢ NoPlace = p.standing o.vreg.number (found j (omega arith) reads) in
-    kept_both env Known Writes May old s m x u p (sends_kept env apart Known Writes May point can o.vreg (not (is_place from to)) from to x u s m sends known
+    kept_both env Known Writes May old s m x u p (sends_kept (rules_of env apart Known Writes May point can) o.vreg (not (is_place from to)) from to x u s m
+    sends known
     (λ made. (
       stand_end env s.slots o.vreg from (there_stands env s.slots o.vreg from there (p.safe.places o.vreg known)),
       end_grows env old.slots s.slots o.vreg to p.stay (stand_end env old.slots o.vreg to (good j (omega arith) reads)),
@@ -127,12 +132,14 @@ all_placed env apart Known Writes May i inst blank places old new can tame defs 
     let ops : List OperandValue = inst.operands in
     let base : SpillSlotsValue = old.slots in
     let fixed : FixedAreKnown env ops = fixed_known env Known ops tame a.began a.reserved old a.reserves h.machine in
+    let filling : Filling = filling_of env Known Writes May base ops tame in
+    let passes : Passes = passes_of filling apart fixed i (ends_block inst) can defs in
     let ht : AreSafeRegs env a.held = safe_turn env a.reserved a.held a.holds.scratch
     (safe_turn env a.began a.reserved a.reserves.scratch (fresh_turn env a.began a.begins_scratch)) in
     let cf = clears_fixed_kept env apart Known Writes May (after i) can ops a.held old h ht (length ops) a.cleared a.after_fixed a.fixed in
     let ca = clears_all_kept env apart Known Writes May (after i) can (registers_of inst.clobbers) a.cleared a.quiet a.after_fixed a.after_clobbers a.clobbers
     cf.safe cf.inst_regs in
-    let begin : Filled env Known Writes May base ops (InLate env apart Known Writes May base ops tame fixed i (ends_block inst) can defs 0) blank a.quiet
+    let begin : Filled env Known Writes May base ops (InLate passes 0) blank a.quiet
     a.after_clobbers = record {
       safe = ca.safe;
       inst_regs = ca.inst_regs;
@@ -143,14 +150,14 @@ all_placed env apart Known Writes May i inst blank places old new can tame defs 
       waits = λ j less not_d. inl (a.no_places j);
       found = λ j less d. (let z = d.0 in absurd (omega arith));
     } in
-    let l = lates_kept env apart Known Writes May base ops tame fixed i (ends_block inst) can defs blank a.quiet a.after_clobbers begin (length ops) a.half
+    let l = lates_kept passes blank a.quiet a.after_clobbers begin (length ops) a.half
     a.late
     a.after_late a.lates (omega arith) in
-    let middle = filled_same env Known Writes May base ops tame (InLate env apart Known Writes May base ops tame fixed i (ends_block inst) can defs
+    let middle = filled_same filling (InLate passes
     (length ops))
-    (InEarly env apart Known Writes May base ops tame fixed i (ends_block inst) can defs 0) a.half a.late a.after_late
+    (InEarly passes 0) a.half a.late a.after_late
     (λ j less e. elim e [ inl late ↦ (less, late) | inr below ↦ absurd (omega arith) ]) (λ j less d. inl d.1) l in
-    let e = earlies_kept env apart Known Writes May base ops tame fixed i (ends_block inst) can defs a.half a.late a.after_late middle (length ops) places
+    let e = earlies_kept passes a.half a.late a.after_late middle (length ops) places
     a.early
     a.after_early a.earlies (omega arith) in
     record {
@@ -169,8 +176,8 @@ pub moved_kept : (env : MachineValue) (apart : IsApart env) (Known : VirtualRegi
     AllPlaced env Known Writes May inst.operands places old a.early a.after_early → InstKept env Known Writes May inst.operands places old a.ended new
 moved_kept env apart Known Writes May i inst blank places old new can tame uses a p =
     let ops : List OperandValue = inst.operands in
-    let m = moves_kept env apart Known Writes May (before i) can ops tame places a.early a.after_early p.safe p.inst_regs uses
-    (λ j less reads. (p.good j less).place (reads_allocated (op_at ops j) reads)) p.found (length ops) a.ended new a.moves (omega arith) in
+    let m = moves_kept apart can tame p.safe p.inst_regs uses
+    (λ j less reads. (p.good j less).place (reads_allocated (op_at ops j) reads)) p.found a.moves (omega arith) in
     record {
       safe = m.safe;
       inst_regs = m.inst_regs;
@@ -180,12 +187,12 @@ moved_kept env apart Known Writes May i inst blank places old new can tame uses 
     }
 
 -- an instruction behind which moves may be
-pub allocates_kept : (env : MachineValue) (apart : IsApart env) (Known : VirtualRegister → Type 0) (Writes : ℕ → VirtualRegister → ℕ → Type 0)
-    (May : ℕ → Type 0) (i : ℕ) (inst : InstValue) (blank places : List Place) (old new : StateValue) → May (before i) → May (after i) →
+pub allocates_kept : {env : MachineValue} (apart : IsApart env) {Known : VirtualRegister → Type 0} {Writes : ℕ → VirtualRegister → ℕ → Type 0}
+    {May : ℕ → Type 0} {i : ℕ} {inst : InstValue} {blank places : List Place} {old new : StateValue} → May (before i) → May (after i) →
     IsTame Known inst.operands
     → DefsAreWritten Writes i inst.operands → UsesAreWritten Writes i inst.operands places → (a : AllocsInst i inst blank places old new) →
     IsSafe env Known Writes May old → InstKept env Known Writes May inst.operands places old a.ended new
-allocates_kept env apart Known Writes May i inst blank places old new first can tame defs uses a h =
+allocates_kept {env} apart {Known} {Writes} {May} {i} {inst} {blank} {places} {old} {new} first can tame defs uses a h =
     moved_kept env apart Known Writes May i inst blank places old new first tame uses a
     (all_placed env apart Known Writes May i inst blank places old new can tame defs a h)
 
@@ -216,11 +223,11 @@ back_safe env Known Writes May Wide old new still h w =
     }
 
 -- an instruction where placing operands pushes no move
-pub allocates_last_kept : (env : MachineValue) (apart : IsApart env) (Known : VirtualRegister → Type 0) (Writes : ℕ → VirtualRegister → ℕ → Type 0)
-    (May : ℕ → Type 0) (i : ℕ) (inst : InstValue) (blank places : List Place) (old new : StateValue) → May (before i) → IsTame Known inst.operands
+pub allocates_last_kept : {env : MachineValue} (apart : IsApart env) {Known : VirtualRegister → Type 0} {Writes : ℕ → VirtualRegister → ℕ → Type 0}
+    {May : ℕ → Type 0} {i : ℕ} {inst : InstValue} {blank places : List Place} {old new : StateValue} → May (before i) → IsTame Known inst.operands
     → DefsAreWritten Writes i inst.operands → UsesAreWritten Writes i inst.operands places → (a : AllocsInst i inst blank places old new) →
     a.after_early.edits ≡ old.edits → IsSafe env Known Writes May old → InstKept env Known Writes May inst.operands places old a.ended new
-allocates_last_kept env apart Known Writes May i inst blank places old new can tame defs uses a still h =
+allocates_last_kept {env} apart {Known} {Writes} {May} {i} {inst} {blank} {places} {old} {new} can tame defs uses a still h =
     let Wide : ℕ → Type 0 = λ q. Unit {0} in
     let p = all_placed env apart Known Writes Wide i inst blank places old new tt tame defs a (wider_safe env Known Writes May Wide old (λ q m. tt) h) in
     moved_kept env apart Known Writes May i inst blank places old new can tame uses a

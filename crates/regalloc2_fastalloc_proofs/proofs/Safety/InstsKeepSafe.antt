@@ -105,11 +105,11 @@ AreLast f last i places = (j k : ℕ) → i ≤ j → j < length f.insts → k <
 module _ (env : MachineValue) (Known : VirtualRegister → Type 0) (f : FunctionValue) (tame : (i : ℕ) → i < length f.insts → IsTame Known (inst_at f i).operands)
     (May : ℕ → Type 0) (last : List Place) (c : ℕ) where
   -- the places of one more instruction
-  pub more_places : (i : ℕ) (b p : List Place) (t u : StateValue) → (lt : i < length f.insts) → (a : AllocsInstAt i (inst_at f i) (offset_of f i) b p t u)
+  pub more_places : {i : ℕ} {b p : List Place} {t u : StateValue} → (lt : i < length f.insts) → (a : AllocsInstAt i (inst_at f i) (offset_of f i) b p t u)
       → InstKept env Known (WritesFrom f last c) May (inst_at f i).operands a.here t a.allocates.ended u
       → ((j k : ℕ) → i + 1 ≤ j → j < length f.insts → k < length (inst_at f j).operands → HasGood env t.slots f b j k)
       → (j k : ℕ) → i ≤ j → j < length f.insts → k < length (inst_at f j).operands → HasGood env u.slots f p j k
-  more_places i b p t u lt a here rest j k le less within = elim (cases_eq j i) [
+  more_places {i} {b} {p} {t} {u} lt a here rest j k le less within = elim (cases_eq j i) [
     | inl e ↦ (let P : ℕ → Type 0 = λ n. k < length (inst_at f n).operands → HasGood env u.slots f p n k in
         subst P (sym e) (λ w. record {
           good = subst (IsGood env u.slots (op_at (inst_at f i).operands k)) (sym (a.inside k w)) (here.good k w);

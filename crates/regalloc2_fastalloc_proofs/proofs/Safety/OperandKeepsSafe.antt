@@ -14,12 +14,13 @@ use Rattle.regalloc2_fastalloc_proofs.specs.InstSteps.{in_register, AllocsOperan
 use Rattle.regalloc2_fastalloc_proofs.specs.InstSteps.SelectsPlace.{stays, fixed, slot, free}
 use Rattle.regalloc2_fastalloc_proofs.specs.InstSteps.LocatesUse.{stays as use_stays, located}
 use Rattle.regalloc2_fastalloc_proofs.specs.Safety.{IsOfMachine, MayBeLocatedAt, MayBeLocatedAtOrNone, IsEndOfMove, IsSafeEdit, HasMachine, IsSafe, AreSafeRegs}
-use Rattle.regalloc2_fastalloc_proofs.proofs.Safety.StepsKeepSafe.{IsApart, MayBeHeld, StepKept, kept_both, kept_none, clears_but_kept, sends_kept}
+use Rattle.regalloc2_fastalloc_proofs.proofs.Safety.StepsKeepSafe.{MayBeHeld, StepKept, kept_both, kept_none, clears_but_kept, sends_kept}
 use Rattle.regalloc2_fastalloc_proofs.proofs.Safety.StepsKeepSafe.{slot_end, slot_stands, slot_memory, stand_none, stand_end, stand_there}
 use Rattle.regalloc2_fastalloc_proofs.proofs.Safety.StepsKeepSafe.{stand_of_machine, there_stands, machine_kept, settled_places, settled_holders}
 use Rattle.regalloc2_fastalloc_proofs.proofs.Safety.StepsKeepSafe.{settled_standing, slots_kept, same_units, safe_turn}
 use Rattle.regalloc2_fastalloc_proofs.proofs.Slots.SlotsGrow.{SlotsStay, gives_stay, same_stay, end_grows, none_grows, stand_grows, gives_grow, same_grow}
 use Rattle.regalloc2_fastalloc_proofs.proofs.Slots.SlotsGrow.{edits_grow}
+use Rattle.regalloc2_fastalloc_proofs.proofs.Safety.StepsKeepSafe.{StepRules}
 
 -- a place meets what is asked, in the machine's terms
 abbrev pub IsAnswer : MachineValue → Requirement → Place → Type 0
@@ -89,8 +90,9 @@ another_there NoPlace q h e = cc
 another_there (InRegister r) q h e = cc
 another_there (InSlot k) q h e = cc
 
-module _ (env : MachineValue) (apart : IsApart env) (Known : VirtualRegister → Type 0) (Writes : ℕ → VirtualRegister → ℕ → Type 0)
-    (same : (v w : VirtualRegister) → Known v → Known w → v.number ≡ w.number → v ≡ w) (May : ℕ → Type 0) (point : ℕ) (can : May point) where
+module _ (rules : StepRules) (same : (v w : VirtualRegister) → rules.Known v → rules.Known w → v.number ≡ w.number → v ≡ w) where
+  open rules use {env, apart, Known, Writes, May, point, can}
+
   picks_kept : (t : InstRegs) (o : OperandRequest) (p : Place) (old new : StateValue) → SelectsPlace t o p old new → Known o.vreg → AsksWell env o →
       IsSafe env Known Writes May old → AreSafeRegs env t → PlaceKept env Known Writes May o.vreg o.requirement p old t new
   picks_kept t o p old new (stays there suits en) known asks h ht = subst (PlaceKept env Known Writes May o.vreg o.requirement p old t) (sym en) (record {
@@ -138,7 +140,7 @@ module _ (env : MachineValue) (apart : IsApart env) (Known : VirtualRegister →
       IsSafe env Known Writes May old → AreSafeRegs env t → StepKept env Known Writes May old u new
   occupies_kept o p t u old new (in_slot k is sets en) h ht = kept_none env Known Writes May old new u u en refl h (safe_turn env t u sets.scratch ht)
   occupies_kept o p t u old new (in_register r m is clears holds) h ht =
-      let k = clears_but_kept env apart Known Writes May point can r o.vreg t m old new clears h ht in
+      let k = clears_but_kept rules r o.vreg t m old new clears h ht in
       record { safe = k.safe; inst_regs = safe_turn env m u holds.scratch k.inst_regs; stay = k.stay; standing = k.standing }
 
   -- an operand that gets a place keeps the state safe; the place is proper for its vreg and meets the requirement
@@ -185,7 +187,7 @@ module _ (env : MachineValue) (apart : IsApart env) (Known : VirtualRegister →
       let s : Place = slot_name old.slots v.number in
       let left : IsSafe env Known Writes May d.left = leaves_safe v old d.left d.settles d.slots d.edits d.machine h in
       let from : IsEndOfMove env d.left.slots v p = end_grows env old.slots d.left.slots v p stay (stand_end env old.slots v p place) in
-      let a = sends_kept env apart Known Writes May point can v (not is_ret && is_another w p) p w t d.inst_regs d.left d.middle d.awaited known
+      let a = sends_kept rules v (not is_ret && is_another w p) p w t d.inst_regs d.left d.middle d.awaited known
       (λ made. let there : w ≢ NoPlace = another_there w p (right_true (not is_ret) (is_another w p) made) in (
         from,
         end_grows env old.slots d.left.slots v w stay (stand_end env old.slots v w (there_stands env old.slots v w there (h.places v known))),
@@ -193,7 +195,7 @@ module _ (env : MachineValue) (apart : IsApart env) (Known : VirtualRegister →
       ))
       left ht in
       let later : SlotsStay old.slots d.middle.slots = λ n k is. a.stay n k (stay n k is) in
-      let b = sends_kept env apart Known Writes May point can v
+      let b = sends_kept rules v
       (not is_ret && (is_another s p && not (is_place s w))) p s d.inst_regs u d.middle new d.stored known
       (λ made. let there : s ≢ NoPlace = another_there s p (left_true (is_another s p) (not (is_place s w))
       (right_true (not is_ret) (is_another s p && not (is_place s w)) made)) in (

@@ -16,10 +16,12 @@ use Rattle.regalloc2_fastalloc_proofs.specs.InstSteps.{a_register, a_use, a_def,
 use Rattle.regalloc2_fastalloc_proofs.specs.Safety.{IsOfMachine, MayBeLocatedAt}
 use Rattle.regalloc2_fastalloc_proofs.proofs.Safety.StepsKeepSafe.{IsApart}
 use Rattle.regalloc2_fastalloc_proofs.proofs.Safety.OperandKeepsSafe.{places_def_kept, places_use_kept}
-use Rattle.regalloc2_fastalloc_proofs.proofs.Operands.AllocsSoFar.{at_place, IsTame, IsInRegister, MeetsAlone, IsGood, not_both, reads_not_def}
+use Rattle.regalloc2_fastalloc_proofs.proofs.Operands.AllocsSoFar.{at_place, IsInRegister, MeetsAlone, IsGood, not_both, reads_not_def}
 use Rattle.regalloc2_fastalloc_proofs.proofs.Operands.AllocsSoFar.{reads_allocated, answer_meets, answer_named, reuse_meets, fixed_meets, asked_fixed}
 use Rattle.regalloc2_fastalloc_proofs.proofs.Operands.AllocsSoFar.{asked_as_fixed, fixed_class, FixedAreKnown, Filled, DefsAreWritten, reuse_register}
 use Rattle.regalloc2_fastalloc_proofs.proofs.Operands.AllocsSoFar.{no_place_register, OneMore, filled_same, filled_on, written, written_twice}
+use Rattle.regalloc2_fastalloc_proofs.proofs.Safety.StepsKeepSafe.{rules_of}
+use Rattle.regalloc2_fastalloc_proofs.proofs.Operands.AllocsSoFar.{Filling}
 
 a_place_of : (p : Place) → IsInRegister p → (r : Register) × (p ≡ InRegister r)
 a_place_of NoPlace h = absurd h
@@ -36,15 +38,33 @@ shared_register env slots v w NoPlace h e place = place
 shared_register env slots v w (InRegister r) h e place = (place.0, place.1 ∙ e)
 shared_register env slots v w (InSlot n) h e place = absurd h
 
-module _ (env : MachineValue) (apart : IsApart env) (Known : VirtualRegister → Type 0) (Writes : ℕ → VirtualRegister → ℕ → Type 0) (May : ℕ → Type 0)
-    (base : SpillSlotsValue) (ops : List OperandValue) (tame : IsTame Known ops) (fixed : FixedAreKnown env ops) (i : ℕ) (is_ret : Bool) (can : May (after i))
-    (writes : DefsAreWritten Writes i ops) where
+-- The two passes over an instruction's operands, on a machine whose kinds of registers are apart: the operands are fixed to registers of the machine alone;
+-- the instruction, a return or not, after which moves may be and its definitions may be written.
+pub record Passes : Type 1 where
+  pub filling : Filling
+  pub apart : IsApart filling.env
+  pub fixed : FixedAreKnown filling.env filling.ops
+  pub i : ℕ
+  pub is_ret : Bool
+  pub can : filling.May (after i)
+  pub writes : DefsAreWritten filling.Writes i filling.ops
+
+-- those, of their parts
+abbrev pub passes_of : (filling : Filling) → IsApart filling.env → FixedAreKnown filling.env filling.ops → (i : ℕ) → Bool → filling.May (after i) →
+    DefsAreWritten filling.Writes i filling.ops → Passes
+passes_of filling apart fixed i is_ret can writes =
+    record { filling = filling; apart = apart; fixed = fixed; i = i; is_ret = is_ret; can = can; writes = writes }
+
+module _ (passes : Passes) where
+  open passes use {filling, apart, fixed, i, is_ret, can, writes}
+  open passes.filling use {env, Known, Writes, May, base, ops, tame}
+
   -- a register that no vreg stands for
   register_kept : (D E : ℕ → Type 0) (k : ℕ) (r : Register) (here : List Place) (t : InstRegs) (old : StateValue) → k < length ops →
-      OneMore env Known Writes May base ops tame D E k
+      OneMore filling D E k
       → is_fixed_nonallocatable (op_at ops k) ≡ true → (op_at ops k).constraint ≡ FixedReg r → Filled env Known Writes May base ops D here t old →
       Filled env Known Writes May base ops E (set here k (InRegister r)) t old
-  register_kept D E k r here t old less more silent is h = written env Known Writes May base ops tame D E k (InRegister r) here t old less more
+  register_kept D E k r here t old less more silent is h = written filling D E k (InRegister r) here t old less more
       (λ n e. (let x : FixedReg r ≡ Reuse n = sym is ∙ e in cc))
       (record { place = λ a. absurd (not_both (is_fixed_nonallocatable (op_at ops k)) silent a); meets = fixed_meets env (op_at ops k).constraint r is })
       (λ reads. absurd (not_both (is_fixed_nonallocatable (op_at ops k)) silent (reads_allocated (op_at ops k) reads)))
@@ -53,18 +73,19 @@ module _ (env : MachineValue) (apart : IsApart env) (Known : VirtualRegister →
 
   -- a use that no reuse has chosen a register for
   use_kept : (D E : ℕ → Type 0) (k : ℕ) (p : Place) (here : List Place) (t u : InstRegs) (old new : StateValue) → k < length ops →
-      OneMore env Known Writes May base ops tame D E k
+      OneMore filling D E k
       → is_reading (op_at ops k) ≡ true → at_place here k ≡ NoPlace → AllocsUse (after i) (use_request (op_at ops k) NoPlace) p t u old new
       → Filled env Known Writes May base ops D here t old → Filled env Known Writes May base ops E (set here k p) u new
   use_kept D E k p here t u old new less more reads none places h =
       let o : OperandValue = op_at ops k in
       let allocated : is_fixed_nonallocatable o ≡ false = reads_allocated o reads in
-      let w = places_use_kept env apart Known Writes tame.same May (after i) can (use_request o NoPlace) p t u old new places (tame.known k less allocated)
+      let w = places_use_kept (rules_of env apart Known Writes May (after i) can) tame.same (use_request o NoPlace) p t u old new places
+      (tame.known k less allocated)
       (λ r asks. (let e : o.constraint ≡ FixedReg r = asked_fixed o.constraint r asks in
       (fixed k r less allocated e, fixed_class o.vreg.class o.constraint r (tame.constraint k less) e))) h.safe h.inst_regs in
-      let f = filled_on env Known Writes May base ops tame D here t u old new w.given.kept.safe w.given.kept.inst_regs w.given.kept.stay
+      let f = filled_on filling D here t u old new w.given.kept.safe w.given.kept.inst_regs w.given.kept.stay
       (λ j within r there. w.given.kept.standing (op_at ops j).vreg.number there) h in
-      written env Known Writes May base ops tame D E k p here u new less more
+      written filling D E k p here u new less more
       (λ n e. not_both (is_def o.kind) (tame.late_reuse k n less e).0 (reads_not_def o reads))
       (record {
         place = λ a. w.given.place;
@@ -78,7 +99,7 @@ module _ (env : MachineValue) (apart : IsApart env) (Known : VirtualRegister →
 
   -- and one that has it
   chosen_kept : (D E : ℕ → Type 0) (k : ℕ) (p : Place) (r : Register) (here : List Place) (t u : InstRegs) (old new : StateValue) → k < length ops →
-      OneMore env Known Writes May base ops tame D E k
+      OneMore filling D E k
       → is_reading (op_at ops k) ≡ true → at_place here k ≡ InRegister r → IsGood env old.slots (op_at ops k) (at_place here k) →
       AllocsUse (after i) (use_request (op_at ops k) (InRegister r)) p t u old new
       → Filled env Known Writes May base ops D here t old → Filled env Known Writes May base ops E (set here k p) u new
@@ -86,13 +107,13 @@ module _ (env : MachineValue) (apart : IsApart env) (Known : VirtualRegister →
       let o : OperandValue = op_at ops k in
       let allocated : is_fixed_nonallocatable o ≡ false = reads_allocated o reads in
       let stand : MayBeLocatedAt env old.slots o.vreg (InRegister r) = subst (MayBeLocatedAt env old.slots o.vreg) at_it (good.place allocated) in
-      let w = places_use_kept env apart Known Writes tame.same May (after i) can (use_request o (InRegister r)) p t u old new places
+      let w = places_use_kept (rules_of env apart Known Writes May (after i) can) tame.same (use_request o (InRegister r)) p t u old new places
       (tame.known k less allocated)
       (λ q asks. subst (λ (x : Register). IsOfMachine env x × (x.class ≡ o.vreg.class)) (same_at r q asks) stand) h.safe h.inst_regs in
-      let f = filled_on env Known Writes May base ops tame D here t u old new w.given.kept.safe w.given.kept.inst_regs w.given.kept.stay
+      let f = filled_on filling D here t u old new w.given.kept.safe w.given.kept.inst_regs w.given.kept.stay
       (λ j within x there. w.given.kept.standing (op_at ops j).vreg.number there) h in
       let as_chosen : p ≡ at_place here k = w.given.answer ∙ sym at_it in
-      written env Known Writes May base ops tame D E k p here u new less more
+      written filling D E k p here u new less more
       (λ n e. not_both (is_def o.kind) (tame.late_reuse k n less e).0 (reads_not_def o reads))
       (record { place = λ a. w.given.place; meets = subst (MeetsAlone env o.constraint) (sym as_chosen) good.meets })
       (λ x. w.found)
@@ -101,20 +122,21 @@ module _ (env : MachineValue) (apart : IsApart env) (Known : VirtualRegister →
 
   -- a definition that is no reuse
   def_kept : (D E : ℕ → Type 0) (k : ℕ) (p : Place) (here : List Place) (t u : InstRegs) (old new : StateValue) → k < length ops →
-      OneMore env Known Writes May base ops tame D E k
+      OneMore filling D E k
       → is_def (op_at ops k).kind ≡ true → ((n : ℕ) → (op_at ops k).constraint ≡ Reuse n → ⊥) →
       AllocsDefOp (after i) (def_request (op_at ops k)) is_ret p t u old new
       → Filled env Known Writes May base ops D here t old → Filled env Known Writes May base ops E (set here k p) u new
   def_kept D E k p here t u old new less more def no_reuse places h =
       let o : OperandValue = op_at ops k in
       let allocated : is_fixed_nonallocatable o ≡ false = tame.allocated k less def in
-      let w = places_def_kept env apart Known Writes tame.same May (after i) can (def_request o) is_ret p t u old new places (tame.known k less allocated)
+      let w = places_def_kept (rules_of env apart Known Writes May (after i) can) tame.same (def_request o) is_ret p t u old new places
+      (tame.known k less allocated)
       (λ n. writes k n less def)
       (λ r asks. (let e : o.constraint ≡ FixedReg r = asked_fixed o.constraint r asks in
       (fixed k r less allocated e, fixed_class o.vreg.class o.constraint r (tame.constraint k less) e))) h.safe h.inst_regs in
-      let f = filled_on env Known Writes May base ops tame D here t u old new w.kept.safe w.kept.inst_regs w.kept.stay
+      let f = filled_on filling D here t u old new w.kept.safe w.kept.inst_regs w.kept.stay
       (λ j within r there. w.kept.standing (op_at ops j).vreg.number (tame.unread k j less within def r) there) h in
-      written env Known Writes May base ops tame D E k p here u new less more no_reuse
+      written filling D E k p here u new less more no_reuse
       (record { place = λ a. w.place; meets = answer_meets env o.constraint p no_reuse (λ n e. tame.unlimited k n less e) w.answer })
       (λ reads. absurd (not_both (is_def o.kind) def (reads_not_def o reads)))
       (λ j within d names. absurd (not_both (is_def o.kind) def (reads_not_def o (tame.named j k within names).2)))
@@ -122,7 +144,7 @@ module _ (env : MachineValue) (apart : IsApart env) (Known : VirtualRegister →
 
   -- a reuse
   reuse_kept : (D E : ℕ → Type 0) (k n : ℕ) (p : Place) (here : List Place) (t u : InstRegs) (old new : StateValue) → k < length ops →
-      OneMore env Known Writes May base ops tame D E k → (D n → ⊥)
+      OneMore filling D E k → (D n → ⊥)
       → is_def (op_at ops k).kind ≡ true → (op_at ops k).constraint ≡ Reuse n →
       AllocsDefOp (after i) (reuse_request (op_at ops k) (op_at ops n)) is_ret p t u old new
       → Filled env Known Writes May base ops D here t old → Filled env Known Writes May base ops E (set (set here k p) n p) u new
@@ -130,22 +152,22 @@ module _ (env : MachineValue) (apart : IsApart env) (Known : VirtualRegister →
       let o : OperandValue = op_at ops k in
       let m : OperandValue = op_at ops n in
       let named = tame.named k n less reuses in
-      let w = places_def_kept env apart Known Writes tame.same May (after i) can (reuse_request o m) is_ret p t u old new places
+      let w = places_def_kept (rules_of env apart Known Writes May (after i) can) tame.same (reuse_request o m) is_ret p t u old new places
       (tame.known k less (tame.allocated k less def)) (λ x. writes k x less def)
       (λ r asks. (let e : m.constraint ≡ FixedReg r = asked_as_fixed m.constraint r asks in
       (fixed n r named.0 (reads_allocated m named.2) e, fixed_class m.vreg.class m.constraint r (tame.constraint n named.0) e ∙ named.3))) h.safe
       h.inst_regs in
-      let f = filled_on env Known Writes May base ops tame D here t u old new w.kept.safe w.kept.inst_regs w.kept.stay
+      let f = filled_on filling D here t u old new w.kept.safe w.kept.inst_regs w.kept.stay
       (λ j within r there. w.kept.standing (op_at ops j).vreg.number (tame.unread k j less within def r) there) h in
       let a = answer_named env m.constraint p (tame.named_as k n less reuses) w.answer in
-      written_twice env Known Writes May base ops tame D E k n p here u new less more reuses not_n
+      written_twice filling n less more reuses not_n
       (record { place = λ x. w.place; meets = reuse_meets env o.constraint n p reuses a.1 })
       (record { place = λ x. shared_register env new.slots o.vreg m.vreg p a.1 (sym named.3) w.place; meets = a.0 })
       a.1 f
 
   -- an operand is allocated
   pub one_kept : (D E : ℕ → Type 0) (k : ℕ) (here there : List Place) (t u : InstRegs) (old new : StateValue) →
-      ProcessesOperand i is_ret ops k here there t u old new → k < length ops → OneMore env Known Writes May base ops tame D E k
+      ProcessesOperand i is_ret ops k here there t u old new → k < length ops → OneMore filling D E k
       → ((n : ℕ) → (op_at ops k).constraint ≡ Reuse n → D n → ⊥) → Filled env Known Writes May base ops D here t old →
       Filled env Known Writes May base ops E there u new
   one_kept D E k here there t u old new (a_register r silent is written_it eu en) less more not_n h =
@@ -184,7 +206,7 @@ module _ (env : MachineValue) (apart : IsApart env) (Known : VirtualRegister →
   not_false false h = absurd (h refl)
 
   -- in the pass over late operands k is one more that is done, if it is late
-  pub late_more : (k : ℕ) → is_late (op_at ops k).position ≡ true → OneMore env Known Writes May base ops tame (InLate k) (InLate (k + 1)) k
+  pub late_more : (k : ℕ) → is_late (op_at ops k).position ≡ true → OneMore filling (InLate k) (InLate (k + 1)) k
   late_more k late = record {
     before_it = λ d. (let a = d.0 in omega arith);
     at_it = (omega arith, late);
@@ -196,7 +218,7 @@ module _ (env : MachineValue) (apart : IsApart env) (Known : VirtualRegister →
   }
 
   -- in the pass over early operands k is one more that is done, if it is early
-  pub early_more : (k : ℕ) → is_late (op_at ops k).position ≡ false → OneMore env Known Writes May base ops tame (InEarly k) (InEarly (k + 1)) k
+  pub early_more : (k : ℕ) → is_late (op_at ops k).position ≡ false → OneMore filling (InEarly k) (InEarly (k + 1)) k
   early_more k early = record {
     before_it = λ d. elim d [
       | inl late ↦ not_both (is_late (op_at ops k).position) late early
@@ -223,7 +245,7 @@ module _ (env : MachineValue) (apart : IsApart env) (Known : VirtualRegister →
   lates_kept blank t old h k there u m none_placed le = h
   lates_kept blank t old h k there u m (of_other j l w s prev other) le =
       let early : is_late (op_at ops j).position ≡ false = not_true (is_late (op_at ops j).position) other in
-      filled_same env Known Writes May base ops tame (InLate j) (InLate (j + 1)) there u m
+      filled_same filling (InLate j) (InLate (j + 1)) there u m
       (λ x less e. (
         (let ne : x ≢ j = λ same. not_both (is_late (op_at ops j).position) (ap (λ (y : ℕ). is_late (op_at ops y).position) (sym same) ∙ e.1)
             early in let a = e.0 in omega (arith, ne, a)),
@@ -243,7 +265,7 @@ module _ (env : MachineValue) (apart : IsApart env) (Known : VirtualRegister →
   earlies_kept half t old h k there u m none_placed le = h
   earlies_kept half t old h k there u m (of_other j l w s prev other) le =
       let late : is_late (op_at ops j).position ≡ true = not_false (is_late (op_at ops j).position) other in
-      filled_same env Known Writes May base ops tame (InEarly j) (InEarly (j + 1)) there u m
+      filled_same filling (InEarly j) (InEarly (j + 1)) there u m
       (λ x less e. elim e [
         | inl is ↦ inl is
         | inr below ↦ elim (cases_eq x j) [

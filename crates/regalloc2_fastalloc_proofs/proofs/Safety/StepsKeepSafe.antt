@@ -281,8 +281,26 @@ kept_none env Known Writes May old new t u en eu h ht = record {
   standing = λ n there e. there (ap (λ (x : StateValue). alloc_of x.places n) (sym en) ∙ e);
 }
 
-module _ (env : MachineValue) (apart : IsApart env) (Known : VirtualRegister → Type 0) (Writes : ℕ → VirtualRegister → ℕ → Type 0) (May : ℕ → Type 0)
-    (point : ℕ) (can : May point) where
+-- What a step is judged by: a machine, whose kinds of registers are apart; the vregs that are known; the slots into which the walk may write a vreg's
+-- value, by points; the points where moves may be, and one of them, where the step pushes its moves.
+pub record StepRules : Type 1 where
+  pub env : MachineValue
+  pub apart : IsApart env
+  pub Known : VirtualRegister → Type 0
+  pub Writes : ℕ → VirtualRegister → ℕ → Type 0
+  pub May : ℕ → Type 0
+  pub point : ℕ
+  pub can : May point
+
+-- the rules, of their parts
+abbrev pub rules_of : (env : MachineValue) → IsApart env → (VirtualRegister → Type 0) → (ℕ → VirtualRegister → ℕ → Type 0) → (May : ℕ → Type 0) →
+    (point : ℕ) → May point → StepRules
+rules_of env apart Known Writes May point can =
+    record { env = env; apart = apart; Known = Known; Writes = Writes; May = May; point = point; can = can }
+
+module _ (rules : StepRules) where
+  open rules use {env, apart, Known, Writes, May, point, can}
+
   -- a vreg goes to its slot, and perhaps a move is pushed
   pub shifted : (t u : StateValue) (v : VirtualRegister) (s : Place) → GetsSpillSlot t.slots u.slots v s → SetsAlloc t.places u.places v s → SameMachine t u →
       All (IsSafeEdit env Known Writes u.slots May) u.edits

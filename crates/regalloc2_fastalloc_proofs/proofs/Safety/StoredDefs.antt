@@ -125,10 +125,10 @@ stored_of_class env f limited ok taken b e k j v slots edge is = record {
         ap (λ (w : VirtualRegister). w.class) same ∙ sym alike.2 ∙ ap (λ (w : VirtualRegister). w.class) at
 
 -- and, where all blocks are walked, it is of the machine
-pub stored_alike : (env : MachineValue) (f : FunctionValue) → IsLimited f → IsWellFormed env f → AreTaken f → (blank places : List Place)
-    (old t : StateValue) → HasMachine env old → AllocsBlocks f blank old 0 places t → (b e k j : ℕ)
+pub stored_alike : {env : MachineValue} {f : FunctionValue} → IsLimited f → IsWellFormed env f → AreTaken f → {blank places : List Place}
+    {old t : StateValue} → HasMachine env old → AllocsBlocks f blank old 0 places t → (b e k j : ℕ)
     (v : VirtualRegister) (slots : SpillSlotsValue) → IsEdgeInto f b e k → IsStoredFor f e k slots j v → IsAlike env f e j v
-stored_alike env f limited ok taken blank places old t machine walks b e k j v slots edge is = record {
+stored_alike {env} {f} limited ok taken {blank} {places} {old} {t} machine walks b e k j v slots edge is = record {
   class = c.class;
   fixed = λ r fixed. (
     fixed_of_machine env f (Made f) last tame old machine allocated j r d.operand d.definition

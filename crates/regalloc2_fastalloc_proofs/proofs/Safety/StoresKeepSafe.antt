@@ -125,13 +125,34 @@ stack_memory env t h NoPlace s = absurd s
 stack_memory env t h (InRegister r) s = h.memory r s
 stack_memory env t h (InSlot n) s = refl
 
+-- A store x at a point, into the slot of the known vreg v, of what the operand j of the branch of the block e defines; old and new: the tables before it and
+-- behind it. The operand's vreg is known, and alike; it goes to memory, and by way of a register.
+pub record OneStore (env : MachineValue) (Known : VirtualRegister → Type 0) (Writes : ℕ → VirtualRegister → ℕ → Type 0) (May : ℕ → Type 0) : Type 0 where
+  pub f : FunctionValue
+  pub e : ℕ
+  pub k : ℕ
+  pub point : ℕ
+  pub can : May point
+  pub old : StateValue
+  pub new : StateValue
+  pub machine : HasMachine env old
+  pub below : (n : ℕ) → IsSlotOrNone new.slots.count (slot_name new.slots n)
+  pub x : Store
+  pub j : ℕ
+  pub v : VirtualRegister
+  pub r : StoresFor f e k old new x j v
+  pub known : Known v
+  pub known_op : Known (op_at (branch_operands f e) j).vreg
+  pub alike : IsAlike env f e j v
+  pub written : (n : ℕ) → Writes point v n
+  pub to_memory : is_memory old.fixed_stack x.to ≡ true
+  pub by_register : (q : Place) → x.by ≡ Some q → is_memory old.fixed_stack q ≡ false
+
 module _ (env : MachineValue) (Known : VirtualRegister → Type 0) (Writes : ℕ → VirtualRegister → ℕ → Type 0) (May : ℕ → Type 0) where
   -- one store
-  module _ (f : FunctionValue) (e k point : ℕ) (can : May point) (old new : StateValue) (machine : HasMachine env old)
-      (below : (n : ℕ) → IsSlotOrNone new.slots.count (slot_name new.slots n)) (x : Store) (j : ℕ) (v : VirtualRegister) (r : StoresFor f e k old new x j v)
-      (known : Known v) (known_op : Known (op_at (branch_operands f e) j).vreg) (alike : IsAlike env f e j v)
-      (written : (n : ℕ) → Writes point v n) (to_memory : is_memory old.fixed_stack x.to ≡ true)
-      (by_register : (q : Place) → x.by ≡ Some q → is_memory old.fixed_stack q ≡ false) where
+  module _ (one : OneStore env Known Writes May) where
+    open one use {f, e, k, point, can, old, new, machine, below, x, j, v, r, known, known_op, alike, written, to_memory, by_register}
+
     abbrev o : OperandValue
     o = op_at (branch_operands f e) j
 
@@ -228,11 +249,27 @@ module _ (env : MachineValue) (Known : VirtualRegister → Type 0) (Writes : ℕ
       let one = s.each x is in
       let ends = order_each (is_memory old.fixed_stack) s.stores s.in_order x is in
       let stored : IsStoredFor f e k old.slots one.0 one.1 = one.2.stored in
-      store_safe f e k point can old new h.machine mid.slots x one.0 one.1 one.2
-      (concerned e k one.1 edge (stored_concerned f e k old.slots one.0 one.1 stored))
-      (concerned e k (op_at (branch_operands f e) one.0).vreg edge (inl (one.0, stored_defines f e k old.slots one.0 one.1 stored, refl)))
-      (alike e k one.0 one.1 old.slots edge stored)
-      (λ n. written e k one.1 n edge (stored_concerned f e k old.slots one.0 one.1 stored)) ends.0 ends.1 x.by refl) in (
+      store_safe (record {
+        f = f;
+        e = e;
+        k = k;
+        point = point;
+        can = can;
+        old = old;
+        new = new;
+        machine = h.machine;
+        below = mid.slots;
+        x = x;
+        j = one.0;
+        v = one.1;
+        r = one.2;
+        known = concerned e k one.1 edge (stored_concerned f e k old.slots one.0 one.1 stored);
+        known_op = concerned e k (op_at (branch_operands f e) one.0).vreg edge (inl (one.0, stored_defines f e k old.slots one.0 one.1 stored, refl));
+        alike = alike e k one.0 one.1 old.slots edge stored;
+        written = λ n. written e k one.1 n edge (stored_concerned f e k old.slots one.0 one.1 stored);
+        to_memory = ends.0;
+        by_register = ends.1;
+      }) x.by refl) in (
         record {
           machine = machine_kept env old new s.machine h.machine;
           places = λ w known. subst (MayBeLocatedAtOrNone env new.slots w) (ap (λ (y : VRegAllocsValue). alloc_of y w.number) (sym s.places))

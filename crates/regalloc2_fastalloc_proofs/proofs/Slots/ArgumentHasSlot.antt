@@ -8,7 +8,7 @@ use Rattle.regalloc2_names.specs.Register.{VirtualRegister}
 use Rattle.regalloc2_names.specs.Place.{Place, NoPlace}
 use Rattle.regalloc2_names.specs.Point.{before}
 use Rattle.regalloc2_function.specs.FunctionValue.{FunctionValue, block_at, inst_at}
-use Rattle.regalloc2_function.specs.WellFormed.{ArgumentsCounted, BlocksEnd, BlocksFollow, last_of}
+use Rattle.regalloc2_function.specs.WellFormed.{last_of}
 use Rattle.regalloc2_function.specs.SourceRun.{arguments_at}
 use Rattle.regalloc2_semantics.specs.Blocks.{target_at}
 use Rattle.regalloc2_semantics.proofs.SingleDef.{Made}
@@ -22,10 +22,11 @@ use Rattle.regalloc2_fastalloc_proofs.specs.BlockSteps.{AllocsBlockInsts, at_end
 use Rattle.regalloc2_fastalloc_proofs.proofs.Safety.StepsKeepState.{slot_in}
 use Rattle.regalloc2_fastalloc_proofs.proofs.Slots.StepsKeepSlots.{Grown, IsAt, grown_then, grown_slot, clears_grown}
 use Rattle.regalloc2_fastalloc_proofs.proofs.Walk.LastInstAndRest.{AnyPlace}
-use Rattle.regalloc2_fastalloc_proofs.proofs.Walk.InstBoundaries.{BranchKept, grown_weaken, begins_grown, in_grown, walk_grown}
+use Rattle.regalloc2_fastalloc_proofs.proofs.Walk.InstBoundaries.{grown_weaken, begins_grown, in_grown, walk_grown}
 use Rattle.regalloc2_fastalloc_proofs.proofs.Branches.LocationsAfterBranch.{argument_grown, edge_grown, class_grown}
 use Rattle.regalloc2_fastalloc_proofs.proofs.Slots.LiveInHasSlot.{slot_stays}
-use Rattle.regalloc2_fastalloc_proofs.proofs.Inst.ProperInsts.{ProperInsts}
+use Rattle.regalloc2_fastalloc_proofs.proofs.Walk.FunctionLaws.{FunctionLaws}
+use Rattle.regalloc2_fastalloc_proofs.proofs.Walk.InstBoundaries.{kept_of}
 
 module _ (point : ℕ) where
   argument_slot : (a : VirtualRegister) (s : Place) (t u : InstRegs) (old new : StateValue) → SpillsArgument point a s t u old new
@@ -86,10 +87,10 @@ passes_slots f b i t u old new p k lt long v has not_own =
     (slot_stays AnyPlace x p.gathered new moved (edges_slots (before i) f b t old (length (block_at f b).succs) u p.gathered p.given p.gathers k has.0 lt
     (omega (arith, has.1, long)) (λ own. not_own (subst (IsOwn f b) is own))))
 
-module _ (f : FunctionValue) (counted : ArgumentsCounted f) (follow : BlocksFollow f) (ends : BlocksEnd f)
-    (proper : ProperInsts (Made f) f) (kept : BranchKept f)
-    (c : ℕ) (lc : c < length f.blocks) (k : ℕ) (edge : k < length (block_at f c).succs) (v : VirtualRegister) (has : Contains (arguments_at f c k) v)
-    (not_own : IsOwn f c v → ⊥) where
+module _ (laws : FunctionLaws) (c : ℕ) (lc : c < length laws.f.blocks) (k : ℕ) (edge : k < length (block_at laws.f c).succs) (v : VirtualRegister)
+    (has : Contains (arguments_at laws.f c k) v) (not_own : IsOwn laws.f c v → ⊥) where
+  open laws use {f, follow, ends, counted, proper, kept}
+
   -- in the block that passes it, from its branch on
   block_slots : (blank : List Place) (old : StateValue) (i : ℕ) (places : List Place) (t : StateValue) → AllocsBlockInsts f c blank old i places t → (l : ℕ) →
       i ≤ l → l < (block_at f c).range.end → (inst_at f l).is_branch ≡ true → slot_in t v.number ≢ NoPlace
@@ -99,7 +100,7 @@ module _ (f : FunctionValue) (counted : ArgumentsCounted f) (follow : BlocksFoll
       elim (cases_eq l j) [
         | inl e ↦ passes_slots f c j a.allocates.allocates.ended a.inst_regs a.middle u (a.branch (subst (λ (m : ℕ). (inst_at f m).is_branch ≡ true) e is)) k
             edge (counted c lc k edge) v has not_own
-        | inr ne ↦ slot_stays (IsAt j) v.number s u (in_grown (Made f) f proper kept c j p q s u (omega (arith, less, within)) a)
+        | inr ne ↦ slot_stays (IsAt j) v.number s u (in_grown (kept_of (Made f) f proper kept) c j p q s u (omega (arith, less, within)) a)
             (block_slots blank old (j + 1) p s prev l (omega (arith, le, ne)) lt is)
       ]
 
@@ -124,6 +125,6 @@ module _ (f : FunctionValue) (counted : ArgumentsCounted f) (follow : BlocksFoll
             (last_of (block_at f c)) (omega (arith, some)) (omega (arith, some)) last_branch)
         | inr ne ↦ slot_stays AnyPlace v.number s w
             (grown_then AnyPlace s u w (grown_weaken _ AnyPlace s u (λ m h. tt)
-            (walk_grown (Made f) f proper kept follow d lt p s first q u walk)) here)
+            (walk_grown (kept_of (Made f) f proper kept) follow d lt p s first q u walk)) here)
             (handed_has_slot blank begin (d + 1) p s prev (omega (arith, le, ne)))
       ]

@@ -1,12 +1,12 @@
 -- A branch that passes its arguments, and the beginning of a block, keep slots apart and move within a class.
 use Rattle.std.proofs.Common.{ℕ, zero, suc, ◌≡◌, ◌+◌, ◌*◌, ◌<◌, ◌≤◌, List, ◌++◌, Bool, refl, sym, ap, ◌∙◌, ◌⊎◌, inl, inr, subst, arith, length, slice_index_or}
-use Rattle.std.specs.Prelude.{All, Contains, Some, not}
+use Rattle.std.specs.Prelude.{All, Contains, Some}
 use Rattle.std.proofs.Math.Nat.{mul-le-mul_right}
 use Rattle.std.proofs.lemmas.List.Elements.{All-append, All-push, All-contains}
 use Rattle.regalloc2_names.specs.declared.RegClass.{RegClass}
 use Rattle.regalloc2_names.specs.declared.RegClass.TheVariants.{Int, Float, Vector}
 use Rattle.regalloc2_names.specs.Register.{Register, VirtualRegister}
-use Rattle.regalloc2_names.specs.Place.{Place, NoPlace, is_place}
+use Rattle.regalloc2_names.specs.Place.{Place, NoPlace}
 use Rattle.regalloc2_names.specs.Point.{before}
 use Rattle.regalloc2_function.specs.FunctionValue.{FunctionValue, block_at}
 use Rattle.regalloc2_function.specs.SourceRun.{arguments_at}
@@ -202,7 +202,7 @@ module _ (Known : VirtualRegister → Type 0) (same : (v w : VirtualRegister) �
           stay = stay;
         } in
         classed_then Known same named Met old m new t u first
-        (sends_classed Known same named Met point v (not (is_place s q)) s q t u m new sends known (slot_own m.slots v s m.slots.count gives.gives gives.below)
+        (sends_classed Known same named Met point v sends known (slot_own m.slots v s m.slots.count gives.gives gives.below)
         (own_grows old.slots m.slots v q stay (h.places v known)) first.classed ht)
 
     parameters_classed : (params : List VirtualRegister) → ((k : ℕ) → k < length params → Known (slice_index_or params k no_vreg)) →
@@ -299,13 +299,13 @@ module _ (Known : VirtualRegister → Type 0) (same : (v w : VirtualRegister) �
       (ordered_classed Met branch point class first_time inst_regs given old p.middle p.made p.orders h passed ht)
 
   -- a branch passes its arguments
-  pub passes_classed : (Met More : ℕ → RegClass → Type 0) (f : FunctionValue) (b i : ℕ) → ((c : RegClass) → Met i c → ⊥) →
+  pub passes_classed : {Met More : ℕ → RegClass → Type 0} {f : FunctionValue} {b i : ℕ} → ((c : RegClass) → Met i c → ⊥) →
       ((j : ℕ) (c : RegClass) → Met j c → More j c) → ((c : RegClass) → More i c)
       → ((k j : ℕ) → k < length (block_at f b).succs → j < length (block_at f (target_at f b k)).params →
       AreAlike Known (slice_index_or (block_at f (target_at f b k)).params j no_vreg) (slice_index_or (arguments_at f b k) j no_vreg))
-      → (t u : InstRegs) (old new : StateValue) → ProcessesBranch f b i t u old new → IsClassed Known named Met old → IsClassedTurn t
+      → {t u : InstRegs} {old new : StateValue} → ProcessesBranch f b i t u old new → IsClassed Known named Met old → IsClassedTurn t
       → IsClassed Known named More new
-  passes_classed Met More f b i first_time more mine alike t u old new p h ht =
+  passes_classed {Met} {More} {f} {b} {i} first_time more mine alike {t} {u} {old} {new} p h ht =
       let x = gathers_classed Met (before i) f b alike t old h ht (length (block_at f b).succs) u p.gathered p.given p.gathers in
       let One : ℕ → RegClass → Type 0 = AndMet Met i Int in
       let Two : ℕ → RegClass → Type 0 = AndMet One i Float in

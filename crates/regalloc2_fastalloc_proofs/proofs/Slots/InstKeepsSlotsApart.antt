@@ -1,6 +1,6 @@
 -- An instruction that is allocated keeps slots apart and moves within a class.
 use Rattle.std.proofs.Common.{ℕ, ◌≡◌, ◌<◌, ◌≤◌, List, [], ◌∷◌, Bool, true, false, refl, sym, ap, ◌∙◌, inl, inr, subst, arith, length, set, get_or-set_same}
-use Rattle.std.specs.Prelude.{not, ◌&&◌, None}
+use Rattle.std.specs.Prelude.{None}
 use Rattle.std.proofs.lemmas.Bool.{cases_eq}
 use Rattle.std.proofs.lemmas.List.{get_or-set_other}
 use Rattle.std.proofs.Math.ListN.{length-set}
@@ -11,7 +11,7 @@ use Rattle.regalloc2_names.specs.Register.{Register, VirtualRegister}
 use Rattle.regalloc2_names.specs.RegisterSet.{registers_of}
 use Rattle.regalloc2_names.specs.Operand.{OperandValue, is_fixed_nonallocatable}
 use Rattle.regalloc2_names.specs.Packing.{IsConstraintOf}
-use Rattle.regalloc2_names.specs.Place.{Place, NoPlace, InRegister, InSlot, is_place}
+use Rattle.regalloc2_names.specs.Place.{Place, NoPlace, InRegister, InSlot}
 use Rattle.regalloc2_names.specs.Point.{before, after}
 use Rattle.regalloc2_function.specs.FunctionValue.{InstValue}
 use Rattle.regalloc2_fastalloc_state.specs.declared.inst_regs.InstRegs.{InstRegs}
@@ -21,12 +21,11 @@ use Rattle.regalloc2_fastalloc_state.specs.declared.request.OperandRequest.{Oper
 use Rattle.regalloc2_fastalloc_state.specs.StateParts.{SpillSlotsValue, alloc_of, slot_name}
 use Rattle.regalloc2_validate.specs.Constraints.{op_at}
 use Rattle.regalloc2_fastalloc_proofs.specs.InstSteps.{StateValue, MeetsRequirement, SelectsPlace, ClaimsPlace, in_slot, in_register, AllocsOperand}
-use Rattle.regalloc2_fastalloc_proofs.specs.InstSteps.{FreesDef, is_another, LocatesUse, AllocsDefOp, AllocsUse, reuse_requirement_of, use_request}
+use Rattle.regalloc2_fastalloc_proofs.specs.InstSteps.{FreesDef, LocatesUse, AllocsDefOp, AllocsUse, reuse_requirement_of, use_request}
 use Rattle.regalloc2_fastalloc_proofs.specs.InstSteps.{def_request, reuse_request, ProcessesOperand, a_register, a_use, a_def, a_reuse}
 use Rattle.regalloc2_fastalloc_proofs.specs.InstSteps.{ProcessesOperandsAt, none_placed, of_other, one_placed, MovesUses, none_moved, not_moved}
 use Rattle.regalloc2_fastalloc_proofs.specs.InstSteps.{one_moved, EvictsFixed, none_cleared, not_fixed, of_fixed, of_reuse, EvictsEach, none_left}
 use Rattle.regalloc2_fastalloc_proofs.specs.InstSteps.{one_more, AllocsInst}
-use Rattle.regalloc2_fastalloc_proofs.specs.InstSteps.{ends_block}
 use Rattle.regalloc2_fastalloc_proofs.specs.InstSteps.SelectsPlace.{stays, fixed, slot, free}
 use Rattle.regalloc2_fastalloc_proofs.specs.InstSteps.LocatesUse.{stays as use_stays, located}
 use Rattle.regalloc2_fastalloc_proofs.proofs.Slots.SlotsGrow.{SlotsStay, gives_stay, same_stay}
@@ -123,10 +122,10 @@ module _ (Known : VirtualRegister → Type 0) (same : (v w : VirtualRegister) �
         let stay : SlotsStay old.slots d.left.slots = same_stay old.slots d.left.slots d.slots in
         let left : IsClassed Known named Met d.left = settled Known same named Met old d.left v NoPlace d.slots d.edits d.machine d.settles (λ x k e. tt)
         (λ r e. absurd cc) h in
-        let a = sends_classed Known same named Met point v (not is_ret && is_another w p) p w t d.inst_regs d.left d.middle d.awaited known
+        let a = sends_classed Known same named Met point v d.awaited known
         (own_grows old.slots d.left.slots v p stay place) (own_grows old.slots d.left.slots v w stay (h.places v known)) left ht in
         let later : SlotsStay old.slots d.middle.slots = λ n k is. a.stay n k (stay n k is) in
-        let b = sends_classed Known same named Met point v (not is_ret && (is_another s p && not (is_place s w))) p s d.inst_regs u d.middle new d.stored known
+        let b = sends_classed Known same named Met point v d.stored known
         (own_grows old.slots d.middle.slots v p later place)
         (own_grows old.slots d.middle.slots v s later (slot_own old.slots v s old.slots.count refl (h.slots v.number))) a.classed a.inst_regs in
         record { classed = b.classed; inst_regs = b.inst_regs; stay = λ n k is. b.stay n k (later n k is) }
@@ -258,16 +257,16 @@ module _ (Known : VirtualRegister → Type 0) (named : Bool) (Met : ℕ → RegC
       })
 
   -- a pass over operands keeps slots apart and moves within a class, and leaves operands in places of their class or own slots
-  pub placed_classed : (is_ret late : Bool) (here : List Place) (t : InstRegs) (old : StateValue) → AreOwn ops old.slots here → IsClassed Known named Met old →
+  pub placed_classed : {is_ret late : Bool} {here : List Place} {t : InstRegs} {old : StateValue} → AreOwn ops old.slots here → IsClassed Known named Met old →
       IsClassedTurn t
-      → (k : ℕ) (there : List Place) (u : InstRegs) (m : StateValue) → ProcessesOperandsAt i is_ret late ops here t old k there u m → k ≤ length ops
+      → {k : ℕ} {there : List Place} {u : InstRegs} {m : StateValue} → ProcessesOperandsAt i is_ret late ops here t old k there u m → k ≤ length ops
       → OpsClassed there old u m
-  placed_classed is_ret late here t old own h ht k there u m none_placed le =
+  placed_classed {t} {old} own h ht none_placed le =
       record { step = classed_same Known tame.same named Met old old t t refl refl h ht; own = own }
-  placed_classed is_ret late here t old own h ht k there u m (of_other j l w s prev other) le =
-      placed_classed is_ret late here t old own h ht j there u m prev (omega (arith, le))
-  placed_classed is_ret late here t old own h ht k there u m (one_placed j l next w x s n prev late_it one) le =
-      let a = placed_classed is_ret late here t old own h ht j l w s prev (omega (arith, le)) in
+  placed_classed {is_ret} {late} {here} {t} {old} own h ht {there} {u} {m} (of_other j l w s prev other) le =
+      placed_classed own h ht prev (omega (arith, le))
+  placed_classed {is_ret} {late} {here} {t} {old} own h ht {there} {u} {m} (one_placed j l next w x s n prev late_it one) le =
+      let a = placed_classed own h ht prev (omega (arith, le)) in
       let b = one_classed is_ret j l there w u s m one (omega (arith, le)) a.own a.step.classed a.step.inst_regs in
       record { step = classed_then Known tame.same named Met old s m w u a.step b.step; own = b.own }
 
@@ -286,7 +285,7 @@ module _ (Known : VirtualRegister → Type 0) (named : Bool) (Met : ℕ → RegC
       let from : Place = alloc_of s.places v.number in
       let to : Place = at_place here j in
       classed_then Known tame.same named Met old s m x u p
-      (sends_classed Known tame.same named Met (before i) v (not (is_place from to)) from to x u s m sends known (p.classed.places v known)
+      (sends_classed Known tame.same named Met (before i) v sends known (p.classed.places v known)
       (own_grows old.slots s.slots v to p.stay (own.own j less allocated)) p.classed p.inst_regs)
 
   -- registers are emptied before operands are allocated
@@ -330,12 +329,8 @@ allocates_classed Known named Met i inst blank places old new tame a h =
       long = a.long;
       own = λ j lt allocated. subst (IsOwnPlace a.after_clobbers.slots (op_at ops j).vreg) (sym (a.no_places j)) tt;
     } in
-    let l = placed_classed Known named Met i ops tame (ends_block inst) true blank a.quiet a.after_clobbers blank_own c.classed c.inst_regs (length ops)
-    a.half a.late
-    a.after_late a.lates (omega arith) in
-    let e = placed_classed Known named Met i ops tame (ends_block inst) false a.half a.late a.after_late l.own l.step.classed l.step.inst_regs (length ops)
-    places
-    a.early a.after_early a.earlies (omega arith) in
+    let l = placed_classed Known named Met i ops tame blank_own c.classed c.inst_regs a.lates (omega arith) in
+    let e = placed_classed Known named Met i ops tame l.own l.step.classed l.step.inst_regs a.earlies (omega arith) in
     let m = moves_classed Known named Met i ops tame places a.early a.after_early e.own e.step.classed e.step.inst_regs (length ops) a.ended new a.moves
     (omega arith) in
     joined old a.after_fixed new a.cleared a.ended f (joined a.after_fixed a.after_clobbers new a.quiet a.ended c

@@ -8,10 +8,10 @@ use Rattle.regalloc2_function.specs.FunctionValue.{FunctionValue, block_at, inst
 use Rattle.regalloc2_function.specs.Machine.{MachineValue}
 use Rattle.regalloc2_function.specs.OutputValue.{place_at}
 use Rattle.regalloc2_names.specs.Operand.{is_def}
-use Rattle.regalloc2_function.specs.WellFormed.{BlocksFollow, BlocksEnd, last_of}
+use Rattle.regalloc2_function.specs.WellFormed.{BlocksFollow, last_of}
 use Rattle.regalloc2_semantics.specs.BlockByPoints.{at_point, listed}
 use Rattle.regalloc2_semantics.proofs.UnwrittenPlaces.{IsReadAt, Keeps}
-use Rattle.regalloc2_semantics.proofs.Order.{ends_before, ends_within, stands_later}
+use Rattle.regalloc2_semantics.proofs.Order.{ends_before, ends_within}
 use Rattle.regalloc2_fastalloc_state.specs.StateParts.{slot_name}
 use Rattle.regalloc2_validate.specs.Constraints.{op_at}
 use Rattle.regalloc2_fastalloc_proofs.specs.InstSteps.{StateValue}
@@ -25,9 +25,9 @@ use Rattle.regalloc2_fastalloc_proofs.proofs.Safety.OutputOfWalk.{all_reverse}
 use Rattle.regalloc2_fastalloc_proofs.proofs.Slots.InstLeavesOwnedSlot.{no_move_or, writes_allowed}
 use Rattle.regalloc2_fastalloc_proofs.proofs.Slots.StepsKeepSlots.{Grown, cases_none}
 use Rattle.regalloc2_fastalloc_proofs.proofs.Safety.FunctionKeepsSafe.{no_branch_writes, none_written_behind}
-use Rattle.regalloc2_fastalloc_proofs.proofs.Walk.InstBoundaries.{BranchKept, grown_slots}
+use Rattle.regalloc2_fastalloc_proofs.proofs.Walk.InstBoundaries.{grown_slots}
 use Rattle.regalloc2_fastalloc_proofs.proofs.Walk.LastInstAndRest.{AnyPlace, KeepsSlots}
-use Rattle.regalloc2_fastalloc_proofs.proofs.Inst.ProperInsts.{ProperInsts}
+use Rattle.regalloc2_fastalloc_proofs.proofs.Walk.FunctionLaws.{PlacedCode}
 
 -- what holds of all holds of the first ones
 pub all_front : {X : Type 0} (P : X → Type 0) (xs ys : List X) → All P (xs ++ ys) → All P xs
@@ -87,87 +87,78 @@ writes_sound_in f follow placesf places are_listed b i lb ge less plain =
       ];
     }
 
--- an instruction before the last one of its block is the last one of none
-pub not_last : (f : FunctionValue) → BlocksFollow f → (b i : ℕ) → b < length f.blocks → (block_at f b).range.first ≤ i → i < last_of (block_at f b) → (c : ℕ) →
-    c < length f.blocks → i + 1 ≡ (block_at f c).range.end → ⊥
-not_last f follow b i lb ge less c lc e =
-    let some : (block_at f c).range.first < (block_at f c).range.end = (follow c lc).0 in
-    let there : b ≤ c = stands_later f follow b c i i lb lc ge (omega (arith, less)) (omega (arith, some, e)) (omega (arith, e)) (omega arith) in
-    let back : c ≤ b = stands_later f follow c b i i lc lb (omega (arith, some, e)) (omega (arith, e)) ge (omega (arith, less)) (omega arith) in
-    let same : c ≡ b = omega (arith, there, back) in
-    let end : (block_at f c).range.end ≡ (block_at f b).range.end = ap (λ (n : ℕ). (block_at f n).range.end) same in
-    absurd (omega (arith, end, e, less))
+module _ (env : MachineValue) (code : PlacedCode) (final : StateValue) (Writes : ℕ → ℕ → VirtualRegister → ℕ → Type 0) (May : ℕ → Type 0)
+    (whole : IsWhole final) (same : (v w : VirtualRegister) → code.Known v → code.Known w → v.number ≡ w.number → v ≡ w) (places : List Place)
+    (are_listed : AreListed code.f code.placesf 0 places)
+    (good : (j k : ℕ) → j < length code.f.insts → k < length (inst_at code.f j).operands → HasGood env final.slots code.f places j k)
+    (sound : (b i : ℕ) → b < length code.f.blocks → (block_at code.f b).range.first ≤ i → i < last_of (block_at code.f b) → WritesSound code.f code.placesf
+    (Writes b) i)
+  where
+    open code use {Known, f, proper, kept, follow, ends, placesf}
+    open code.proper use {orderly}
 
-module _ (env : MachineValue) (Known : VirtualRegister → Type 0) (f : FunctionValue)
-    (proper : ProperInsts Known f) (kept : BranchKept f) (follow : BlocksFollow f) (ends : BlocksEnd f)
-    (placesf : ℕ → List Place) (final : StateValue)
-    (Writes : ℕ → ℕ → VirtualRegister → ℕ → Type 0) (May : ℕ → Type 0) (whole : IsWhole final)
-    (same : (v w : VirtualRegister) → Known v → Known w → v.number ≡ w.number → v ≡ w)
-    (places : List Place) (are_listed : AreListed f placesf 0 places) (good : (j k : ℕ) → j < length f.insts → k < length (inst_at f j).operands →
-    HasGood env final.slots f places j k)
-    (sound : (b i : ℕ) → b < length f.blocks → (block_at f b).range.first ≤ i → i < last_of (block_at f b) → WritesSound f placesf (Writes b) i) where
-  open proper use {orderly}
+    -- a definition in a slot is in its own
+    own_definition : (i : ℕ) → i < length f.insts → (k : ℕ) → k < length (inst_at f i).operands → is_def (op_at (inst_at f i).operands k).kind ≡ true →
+        (n : ℕ) →
+        place_at (placesf i) k ≡ InSlot n →
+        slot_name final.slots (op_at (inst_at f i).operands k).vreg.number ≡ InSlot n
+    own_definition i lt k less def n at =
+        let g : MayBeLocatedAt env final.slots (op_at (inst_at f i).operands k).vreg (place_of f places i k) = (good i k lt less).good.place
+        ((orderly i lt).allocated k less def) in
+        subst (MayBeLocatedAt env final.slots (op_at (inst_at f i).operands k).vreg) (sym (are_listed i (omega arith) lt k less) ∙ at) g
 
-  -- a definition in a slot is in its own
-  own_definition : (i : ℕ) → i < length f.insts → (k : ℕ) → k < length (inst_at f i).operands → is_def (op_at (inst_at f i).operands k).kind ≡ true → (n : ℕ) →
-      place_at (placesf i) k ≡ InSlot n →
-      slot_name final.slots (op_at (inst_at f i).operands k).vreg.number ≡ InSlot n
-  own_definition i lt k less def n at =
-      let g : MayBeLocatedAt env final.slots (op_at (inst_at f i).operands k).vreg (place_of f places i k) = (good i k lt less).good.place
-      ((orderly i lt).allocated k less def) in
-      subst (MayBeLocatedAt env final.slots (op_at (inst_at f i).operands k).vreg) (sym (are_listed i (omega arith) lt k less) ∙ at) g
+    module _ (b i : ℕ) (lb : b < length f.blocks) (ge : (block_at f b).range.first ≤ i) (less : i < last_of (block_at f b)) (lt : i < length f.insts)
+        (v : VirtualRegister) (known : Known v)
+        (free : defined_by (inst_at f i).operands v.number ≡ false) (u : StateValue) (safe : IsSafe env Known (Writes b) May u) (rest : Grown AnyPlace u final)
+        (n : ℕ)
+        (mine : slots_at final v.number ≡ Some (InSlot n)) where
+      not_defined : (k : ℕ) → k < length (inst_at f i).operands → is_def (op_at (inst_at f i).operands k).kind ≡ true →
+          (op_at (inst_at f i).operands k).vreg.number ≡ v.number → ⊥
+      not_defined k few d e = (let y : defined_by (inst_at f i).operands v.number ≡ true = subst (λ (x : ℕ). defined_by (inst_at f i).operands x ≡ true) e
+          (defined_by-at (inst_at f i).operands k few d) in cc)
 
-  module _ (b i : ℕ) (lb : b < length f.blocks) (ge : (block_at f b).range.first ≤ i) (less : i < last_of (block_at f b)) (lt : i < length f.insts)
-      (v : VirtualRegister) (known : Known v)
-      (free : defined_by (inst_at f i).operands v.number ≡ false) (u : StateValue) (safe : IsSafe env Known (Writes b) May u) (rest : Grown AnyPlace u final)
-      (n : ℕ)
-      (mine : slots_at final v.number ≡ Some (InSlot n)) where
-    not_defined : (k : ℕ) → k < length (inst_at f i).operands → is_def (op_at (inst_at f i).operands k).kind ≡ true →
-        (op_at (inst_at f i).operands k).vreg.number ≡ v.number → ⊥
-    not_defined k few d e = (let y : defined_by (inst_at f i).operands v.number ≡ true = subst (λ (x : ℕ). defined_by (inst_at f i).operands x ≡ true) e
-        (defined_by-at (inst_at f i).operands k few d) in cc)
+      -- the moves so far that go there
+      so_far : All (λ e. e.1.to ≡ InSlot n → Writes b e.0 v n) (listed u.edits)
+      so_far = all_reverse (λ e. e.1.to ≡ InSlot n → Writes b e.0 v n) u.edits
+          (writes_allowed env Known same (Writes b) May (slots_at final)
+          (λ x y k c d. whole.own x y k (opt_from (slot_in final x) (InSlot k) c) (opt_from (slot_in final y) (InSlot k) d)) u safe.edits
+          (grown_slots AnyPlace u final rest)
+          (λ x k is. elim (cases_none (slot_name u.slots x)) [
+            | inl none ↦ inr (rest.fresh safe.units x k none (opt_from (slot_in final x) (InSlot k) is))
+            | inr there ↦ inl (sym (rest.stay x there) ∙ opt_from (slot_in final x) (InSlot k) is)
+          ]) n v known mine)
 
-    -- the moves so far that go there
-    so_far : All (λ e. e.1.to ≡ InSlot n → Writes b e.0 v n) (listed u.edits)
-    so_far = all_reverse (λ e. e.1.to ≡ InSlot n → Writes b e.0 v n) u.edits
-        (writes_allowed env Known same (Writes b) May (slots_at final)
-        (λ x y k c d. whole.own x y k (opt_from (slot_in final x) (InSlot k) c) (opt_from (slot_in final y) (InSlot k) d)) u safe.edits
-        (grown_slots AnyPlace u final rest)
-        (λ x k is. elim (cases_none (slot_name u.slots x)) [
-          | inl none ↦ inr (rest.fresh safe.units x k none (opt_from (slot_in final x) (InSlot k) is))
-          | inr there ↦ inl (sym (rest.stay x there) ∙ opt_from (slot_in final x) (InSlot k) is)
-        ]) n v known mine)
+      keeps_slot : Keeps (inst_at f i).operands (placesf i) (inst_at f i).clobbers (at_point (listed u.edits) (before i)) (at_point (listed u.edits) (after i))
+          v (InSlot n)
+      keeps_slot = record {
+        spared = record {
+          no_definition = λ k few d at. not_defined k few d (whole.own (op_at (inst_at f i).operands k).vreg.number v.number n
+              (own_definition i lt k few d n at)
+              (opt_from (slot_in final v.number) (InSlot n) mine));
+          no_clobber = refl;
+        };
+        no_move_later = elim (no_move_or (InSlot n) (after i) (listed u.edits) ⊥ (λ k d few at to.
+            let w = (sound b i lb ge less).later v n (subst (λ q. Writes b q v n) at (so_far k d few to)) in
+            not_defined w.0 w.1 w.2 (ap (λ (x : VirtualRegister). x.number) w.3))) [
+              | inl none ↦ none
+              | inr r ↦ absurd r
+            ];
+        before_it = no_move_or (InSlot n) (before i) (listed u.edits) (IsReadAt (inst_at f i).operands (placesf i) v (InSlot n))
+            (λ k d few at to. (sound b i lb ge less).sooner v n (subst (λ q. Writes b q v n) at (so_far k d few to)));
+      }
 
-    keeps_slot : Keeps (inst_at f i).operands (placesf i) (inst_at f i).clobbers (at_point (listed u.edits) (before i)) (at_point (listed u.edits) (after i))
-        v (InSlot n)
-    keeps_slot = record {
-      spared = record {
-        no_definition = λ k few d at. not_defined k few d (whole.own (op_at (inst_at f i).operands k).vreg.number v.number n (own_definition i lt k few d n at)
-            (opt_from (slot_in final v.number) (InSlot n) mine));
-        no_clobber = refl;
-      };
-      no_move_later = elim (no_move_or (InSlot n) (after i) (listed u.edits) ⊥ (λ k d few at to.
-          let w = (sound b i lb ge less).later v n (subst (λ q. Writes b q v n) at (so_far k d few to)) in
-          not_defined w.0 w.1 w.2 (ap (λ (x : VirtualRegister). x.number) w.3))) [
-            | inl none ↦ none
-            | inr r ↦ absurd r
-          ];
-      before_it = no_move_or (InSlot n) (before i) (listed u.edits) (IsReadAt (inst_at f i).operands (placesf i) v (InSlot n))
-          (λ k d few at to. (sound b i lb ge less).sooner v n (subst (λ q. Writes b q v n) at (so_far k d few to)));
-    }
+    -- each instruction but a block's last one leaves a vreg's final slot alone, unless it defines that vreg
+    pub keeps_slots : KeepsSlots code final (λ b u. IsSafe env Known (Writes b) May u)
+    keeps_slots b i lb ge less u safe rest v known free s is = by_place s refl
+      where
+        lt : i < length f.insts
+        lt = (let within = ends_within f follow b lb in omega (arith, less, within))
 
-  -- each instruction but a block's last one leaves a vreg's final slot alone, unless it defines that vreg
-  pub keeps_slots : KeepsSlots Known f proper kept follow ends placesf final (λ b u. IsSafe env Known (Writes b) May u)
-  keeps_slots b i lb ge less u safe rest v known free s is = by_place s refl
-    where
-      lt : i < length f.insts
-      lt = (let within = ends_within f follow b lb in omega (arith, less, within))
-
-      by_place : (p : Place) → s ≡ p → Keeps (inst_at f i).operands (placesf i) (inst_at f i).clobbers (at_point (listed u.edits) (before i))
-          (at_point (listed u.edits) (after i)) v s
-      by_place NoPlace e = absurd (opt_real (slot_in final v.number) s is e)
-      by_place (InRegister r) e = absurd (no_register_slot final.slots.count (slot_in final v.number) r (whole.below v.number)
-          (opt_from (slot_in final v.number) (InRegister r) (is ∙ ap Some e)))
-      by_place (InSlot n) e = subst (Keeps (inst_at f i).operands (placesf i) (inst_at f i).clobbers (at_point (listed u.edits) (before i))
-          (at_point (listed u.edits) (after i)) v) (sym e)
-          (keeps_slot b i lb ge less lt v known free u safe rest n (is ∙ ap Some e))
+        by_place : (p : Place) → s ≡ p → Keeps (inst_at f i).operands (placesf i) (inst_at f i).clobbers (at_point (listed u.edits) (before i))
+            (at_point (listed u.edits) (after i)) v s
+        by_place NoPlace e = absurd (opt_real (slot_in final v.number) s is e)
+        by_place (InRegister r) e = absurd (no_register_slot final.slots.count (slot_in final v.number) r (whole.below v.number)
+            (opt_from (slot_in final v.number) (InRegister r) (is ∙ ap Some e)))
+        by_place (InSlot n) e = subst (Keeps (inst_at f i).operands (placesf i) (inst_at f i).clobbers (at_point (listed u.edits) (before i))
+            (at_point (listed u.edits) (after i)) v) (sym e)
+            (keeps_slot b i lb ge less lt v known free u safe rest n (is ∙ ap Some e))

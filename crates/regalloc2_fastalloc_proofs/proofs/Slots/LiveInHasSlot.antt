@@ -5,8 +5,7 @@ use Rattle.std.proofs.lemmas.Bool.{cases_Bool, cases_eq}
 use Rattle.regalloc2_names.specs.Register.{VirtualRegister}
 use Rattle.regalloc2_names.specs.Place.{Place, NoPlace, InSlot}
 use Rattle.regalloc2_names.specs.Point.{before}
-use Rattle.regalloc2_function.specs.FunctionValue.{FunctionValue, block_at, inst_at}
-use Rattle.regalloc2_function.specs.WellFormed.{BlocksFollow, BlocksEnd, DefinedOnce, UsesAreDefined}
+use Rattle.regalloc2_function.specs.FunctionValue.{block_at, inst_at}
 use Rattle.regalloc2_semantics.specs.Blocks.{IsUnwritten, IsUsedIn}
 use Rattle.regalloc2_semantics.proofs.SingleDef.{Made, one_made}
 use Rattle.regalloc2_semantics.proofs.Order.{ends_within}
@@ -25,10 +24,11 @@ use Rattle.regalloc2_fastalloc_proofs.proofs.BlockBegin.ReloadAtBegin.{begun}
 use Rattle.regalloc2_fastalloc_proofs.proofs.BlockBegin.StoresOfDefs.{stores_grown}
 use Rattle.regalloc2_fastalloc_proofs.proofs.Slots.LocatedStaysLocated.{sends_lasts, clears_lasts}
 use Rattle.regalloc2_fastalloc_proofs.proofs.Walk.LastInstAndRest.{AnyPlace}
-use Rattle.regalloc2_fastalloc_proofs.proofs.Walk.InstBoundaries.{BranchKept, grown_weaken, reloads_grown, walk_between, walk_grown, walk_found, edge_next}
+use Rattle.regalloc2_fastalloc_proofs.proofs.Walk.InstBoundaries.{grown_weaken, reloads_grown, walk_between, walk_grown, walk_found, edge_next}
 use Rattle.regalloc2_fastalloc_proofs.proofs.Walk.InstBoundaries.{blocks_between}
 use Rattle.regalloc2_fastalloc_proofs.proofs.Walk.DefsBeforeUses.{used_at, used_made}
-use Rattle.regalloc2_fastalloc_proofs.proofs.Inst.ProperInsts.{ProperInsts}
+use Rattle.regalloc2_fastalloc_proofs.proofs.Walk.FunctionLaws.{FunctionLaws, BlockInWalk}
+use Rattle.regalloc2_fastalloc_proofs.proofs.Walk.InstBoundaries.{kept_of}
 
 -- a number has a location, or has a slot
 abbrev Dwells : ℕ → StateValue → Type 0
@@ -80,11 +80,10 @@ begun_slot x i params old new begins t located = elim (begins_dwells x (before i
   ]
 ]
 
-module _ (f : FunctionValue) (once : DefinedOnce f) (follow : BlocksFollow f) (ends : BlocksEnd f) (uses : UsesAreDefined f)
-    (proper : ProperInsts (Made f) f) (kept : BranchKept f) (blank : List Place) (begin : StateValue)
-    (start : Between (length f.insts) begin)
-    (c : ℕ) (lc : c < length f.blocks) (v : VirtualRegister) (unwritten : IsUnwritten f c v) (used : IsUsedIn f c v) where
-  open proper use {knows}
+module _ (laws : FunctionLaws) (blank : List Place) (begin : StateValue) (start : Between (length laws.f.insts) begin)
+    (c : ℕ) (lc : c < length laws.f.blocks) (v : VirtualRegister) (unwritten : IsUnwritten laws.f c v) (used : IsUsedIn laws.f c v) where
+  open laws use {f, once, follow, ends, uses, proper, kept}
+  open laws.proper use {knows}
 
   -- nothing in the block defines its number
   free : (k : ℕ) → (block_at f c).range.first ≤ k → k < (block_at f c).range.end → defined_by (inst_at f k).operands v.number ≡ false
@@ -104,7 +103,7 @@ module _ (f : FunctionValue) (once : DefinedOnce f) (follow : BlocksFollow f) (e
       place_in u v.number ≢ NoPlace
   found p q s u behind walk =
       let at = used_at f follow ends c v lc used in
-      walk_found (Made f) f proper kept follow c lc p s behind v.number (block_at f c).range.first q u walk free at.0 at.1 at.2 at.3
+      walk_found (kept_of (Made f) f proper kept) follow c lc p s behind v.number (block_at f c).range.first q u walk free at.0 at.1 at.2 at.3
 
   -- where the block d or an earlier one begins, once its reloads are pushed
   begun_has : (d : ℕ) → d < length f.blocks → (p q : List Place) (s u w : StateValue) → AllocsBlocks f blank begin (d + 1) p s →
@@ -113,26 +112,27 @@ module _ (f : FunctionValue) (once : DefinedOnce f) (follow : BlocksFollow f) (e
   begun_has d lt p q s u w prev walk h le later =
       let first : ℕ = (block_at f d).range.first in
       let end : ℕ = (block_at f d).range.end in
-      let behind : Between end s = blocks_between (Made f) f proper kept follow blank begin start (d + 1) p s prev end
+      let behind : Between end s = blocks_between (kept_of (Made f) f proper kept) follow blank begin start (d + 1) p s prev end
       (edge_next f follow d lt) in
-      let here : Between first u = walk_between (Made f) f proper kept follow d lt p s behind first q u walk in
+      let here : Between first u = walk_between (kept_of (Made f) f proper kept) follow d lt p s behind first q u walk in
       elim (cases_eq d c) [
         | inl same ↦ begun_slot v.number first (block_at f d).params u h.middle h.reloads here
             (found p q s u (subst (λ (m : ℕ). Between (block_at f m).range.end s) same behind)
             (subst (λ (m : ℕ). AllocsBlockInsts f m p s (block_at f m).range.first q u) same walk))
         | inr ne ↦ slot_stays AnyPlace v.number s h.middle
             (grown_then AnyPlace s u h.middle (grown_weaken _ AnyPlace s u (λ m x. tt)
-            (walk_grown (Made f) f proper kept follow d lt p s first q u walk))
+            (walk_grown (kept_of (Made f) f proper kept) follow d lt p s first q u walk))
             (reloads_grown AnyPlace (before first) tt (block_at f d).params u h.middle h.reloads))
             (later (omega (arith, le, ne)))
       ]
 
+  -- the slot is there once the block or an earlier one is walked
   pub used_has_slot : (b : ℕ) (places : List Place) (t : StateValue) → AllocsBlocks f blank begin b places t → b ≤ c → slot_in t v.number ≢ NoPlace
   used_has_slot b places t all_left = λ le. absurd (omega (arith, le, lc))
   used_has_slot b places t (one_block d p q s u w lt prev walk begins) = λ le.
       slot_stays AnyPlace v.number begins.middle w (stores_grown AnyPlace f d begins.middle w tt begins.stores)
       (begun_has d lt p q s u w prev walk begins le (λ more. used_has_slot (d + 1) p s prev more))
 
-  pub used_at_begin : (d : ℕ) → d < length f.blocks → (p q : List Place) (s u w : StateValue) → AllocsBlocks f blank begin (d + 1) p s →
-      AllocsBlockInsts f d p s (block_at f d).range.first q u → (h : BeginsBlock f d u w) → d ≤ c → slot_in h.middle v.number ≢ NoPlace
-  used_at_begin d lt p q s u w prev walk h le = begun_has d lt p q s u w prev walk h le (λ more. used_has_slot (d + 1) p s prev more)
+  -- and once the reloads at its beginning are pushed
+  pub used_at_begin : (at : BlockInWalk f blank begin) → at.b ≤ c → slot_in at.begins.middle v.number ≢ NoPlace
+  used_at_begin at le = begun_has at.b at.lb at.p at.q at.s at.u at.w at.prev at.walk at.begins le (λ more. used_has_slot (at.b + 1) at.p at.s at.prev more)

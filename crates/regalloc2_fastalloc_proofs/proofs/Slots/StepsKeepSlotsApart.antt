@@ -280,16 +280,16 @@ module _ (Known : VirtualRegister → Type 0) (same : (v w : VirtualRegister) �
         (evicts_classed by u old new evicts h next, may.of_class)
 
     -- a move of a vreg's value
-    pub crosses_classed : (v : VirtualRegister) (from to : Place) (t u : InstRegs) (old new : StateValue) → AddsMove point v.class from to t u old new →
+    pub crosses_classed : (v : VirtualRegister) {from to : Place} {t u : InstRegs} {old new : StateValue} → AddsMove point v.class from to t u old new →
         Known v → IsOwnPlace old.slots v from → IsOwnPlace old.slots v to
         → IsClassed Known named Met old → IsClassedTurn t → StepClassed Known named Met old u new
-    crosses_classed v from to t u old new (direct one eu en) known f g h ht = subst (StepClassed Known named Met old u) (sym en) (record {
+    crosses_classed v {from} {to} {u} {old} (direct one eu en) known f g h ht = subst (StepClassed Known named Met old u) (sym en) (record {
       classed = pushed_classed old (a_move point from to ∷ []) (λ made laid. one_keeps made point v.class from to (own_end old.slots made laid v from known f)
           (own_end old.slots made laid v to known g)) h;
       inst_regs = subst IsClassedTurn (sym eu) ht;
       stay = λ n k is. is;
     })
-    crosses_classed v from to t u old new (through by m both scratches en) known f g h ht =
+    crosses_classed v {from} {to} {t} {u} {old} (through by m both scratches en) known f g h ht =
         let s = scratches_classed v.class t u by old m scratches h ht in
         subst (StepClassed Known named Met old u) (sym en) (record {
           classed = pushed_classed m (a_move point (InRegister by) to ∷ a_move point from (InRegister by) ∷ [])
@@ -302,11 +302,11 @@ module _ (Known : VirtualRegister → Type 0) (same : (v w : VirtualRegister) �
         })
 
     -- adding a move of a vreg's value between its own places, or none, keeps slots apart and moves within a class
-    pub sends_classed : (v : VirtualRegister) (is_made : Bool) (from to : Place) (t u : InstRegs) (old new : StateValue) →
+    pub sends_classed : (v : VirtualRegister) {is_made : Bool} {from to : Place} {t u : InstRegs} {old new : StateValue} →
         AddsMoveIf point v.class is_made from to t u old new → Known v → IsOwnPlace old.slots v from → IsOwnPlace old.slots v to
         → IsClassed Known named Met old → IsClassedTurn t → StepClassed Known named Met old u new
-    sends_classed v is_made from to t u old new (sent is crosses) known f g h ht = crosses_classed v from to t u old new crosses known f g h ht
-    sends_classed v is_made from to t u old new (unsent is eu en) known f g h ht = classed_same old new t u en eu h ht
+    sends_classed v {from} {to} {t} {u} {old} {new} (sent is crosses) known f g h ht = crosses_classed v crosses known f g h ht
+    sends_classed v {t} {u} {old} {new} (unsent is eu en) known f g h ht = classed_same old new t u en eu h ht
 
     -- evicting a register or a fixed stack slot keeps slots apart and moves within a class
     pub clears_classed : (r : Register) (t u : InstRegs) (old new : StateValue) → EvictsPReg point r t u old new → IsClassed Known named Met old →
@@ -319,7 +319,7 @@ module _ (Known : VirtualRegister → Type 0) (same : (v w : VirtualRegister) �
           inst_regs = ht;
           stay = gives_stay old.slots m.slots v s gives;
         } in
-        classed_then old m new t u first (crosses_classed v s (InRegister r) t u m new crosses was.0
+        classed_then old m new t u first (crosses_classed v crosses was.0
         (slot_own m.slots v s m.slots.count gives.gives gives.below) was.1 first.classed ht)
 
     -- an eviction that spares one vreg keeps slots apart and moves within a class

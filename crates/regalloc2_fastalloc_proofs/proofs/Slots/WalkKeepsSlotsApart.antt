@@ -56,9 +56,9 @@ module _ (f : FunctionValue) (Known : VirtualRegister → Type 0) (same : (v w :
       let k = allocates_classed Known named (BranchesFrom f (i + 1)) i (inst_at f i) a.allocates.blank a.allocates.here old a.middle (tame i within) x h in
       let more : (j : ℕ) (c : RegClass) → BranchesFrom f (i + 1) j c → BranchesFrom f i j c = λ j c m. (let from = m.0 in (omega (arith, from), m.1, m.2)) in
       elim (cases_Bool (inst_at f i).is_branch) [
-        | inl branch ↦ passes_classed Known same named (BranchesFrom f (i + 1)) (BranchesFrom f i) f b i (λ c m. (let from = m.0 in omega (arith, from))) more
+        | inl branch ↦ passes_classed Known same named (λ c m. (let from = m.0 in omega (arith, from))) more
             (λ c. (omega arith, within, branch))
-            (λ e j edge less. alike b e j lt edge less) x.ended a.inst_regs a.middle new (a.branch branch) k.classed k.inst_regs
+            (λ e j edge less. alike b e j lt edge less) (a.branch branch) k.classed k.inst_regs
         | inr none ↦ subst (ClassedAt i) (sym (a.no_branch none)) (met_more Known named (BranchesFrom f (i + 1)) (BranchesFrom f i) a.middle more k.classed)
       ]
 
@@ -71,12 +71,12 @@ module _ (f : FunctionValue) (Known : VirtualRegister → Type 0) (same : (v w :
       (in_block_classed b lt blank old h (n + 1) before_it s prev)
 
   -- all blocks
-  pub blocks_classed : (blank : List Place) (old : StateValue) → ClassedAt (length f.insts) old → (c : ℕ) (places : List Place) (t : StateValue) →
-      AllocsBlocks f blank old c places t → (i : ℕ) → StartsAt f c i → ClassedAt i t
-  blocks_classed blank old h c places t all_left i starts = subst (λ (n : ℕ). ClassedAt n old) (sym (starts.end refl)) h
-  blocks_classed blank old h c places t (one_block b before_it p s u w lt prev walks begins) i starts =
+  pub blocks_classed : {blank : List Place} {old : StateValue} → ClassedAt (length f.insts) old → {c : ℕ} {places : List Place} {t : StateValue} →
+      AllocsBlocks f blank old c places t → {i : ℕ} → StartsAt f c i → ClassedAt i t
+  blocks_classed {old} h all_left starts = subst (λ (n : ℕ). ClassedAt n old) (sym (starts.end refl)) h
+  blocks_classed {blank} {old} h {places} {t} (one_block b before_it p s u w lt prev walks begins) starts =
       let first : ℕ = (block_at f b).range.first in
-      let later = blocks_classed blank old h (b + 1) before_it s prev (block_at f b).range.end (start_next f follow b lt) in
+      let later = blocks_classed h prev (start_next f follow b lt) in
       let here : ClassedAt first u = in_block_classed b lt before_it s later first places u walks in
       subst (λ (n : ℕ). ClassedAt n t) (sym (starts.block lt)) (stores_classed Known same named (BranchesFrom f first) f b (concerned b) (of_class b)
       begins.middle t begins.stores (begins_block_classed Known same named (BranchesFrom f first) (before first)
@@ -103,16 +103,15 @@ begun_classed f env Known named kept t n m sizes places slots edits units machin
     }
 
 -- what the walk leaves of a well-formed function
-pub walk_classed : (env : MachineValue) (f : FunctionValue) → KeepsOfClass env → IsLimited f → IsWellFormed env f → AreTaken f →
-    (blank places : List Place) (begin last : StateValue) (n m : ℕ) (sizes : List ℕ) (named : Bool)
+pub walk_classed : {env : MachineValue} {f : FunctionValue} → KeepsOfClass env → IsLimited f → IsWellFormed env f → AreTaken f →
+    {blank places : List Place} {begin last : StateValue} (n m : ℕ) (sizes : List ℕ) {named : Bool}
     → begin.places ≡ no_allocs n → begin.slots ≡ no_slots m sizes named → begin.edits ≡ [] → ((c : RegClass) → 0 < units_of (no_slots m sizes named) c) →
     HasMachine env begin → AllocsBlocks f blank begin 0 places last
     → IsClassed (Made f) named (BranchesFrom f 0) last
-walk_classed env f kept limited ok taken blank places begin last n m sizes named nobody slots none units machine walks =
+walk_classed {env} {f} kept limited ok taken {blank} {places} {begin} {last} n m sizes {named} nobody slots none units machine walks =
     let some : 0 < length f.blocks = (let entry = ok.successors.0 in omega (arith, entry)) in
     blocks_classed f (Made f) (one_made f ok.defined_once) named (tame_at env f limited ok taken) ok.follow
     (λ b k lt less. Made.by_param b k (record { block = lt; param = less; number = refl }) refl) (made_alike env f ok)
-    (concerned_made f ok.successors ok.follow) (stored_of_class env f limited ok taken)
-    blank begin (begun_classed f env (Made f) named kept begin n m sizes nobody slots none units machine (BranchesFrom f (length f.insts))) 0 places last walks
-    0
+    (concerned_made f ok.successors ok.follow) (stored_of_class env f limited ok taken) (begun_classed f env (Made f) named kept begin n m sizes nobody slots
+    none units machine (BranchesFrom f (length f.insts))) walks
     (record { block = λ lt. sym ((ok.follow 0 some).1 refl); end = λ e. absurd (omega (arith, e, some)) })

@@ -5,7 +5,7 @@ use Rattle.regalloc2_names.specs.Register.{Register, VirtualRegister}
 use Rattle.regalloc2_names.specs.Place.{Place, NoPlace, InRegister, InSlot}
 use Rattle.regalloc2_names.specs.Point.{before}
 use Rattle.regalloc2_function.specs.FunctionValue.{FunctionValue, InstValue, block_at, inst_at, no_inst}
-use Rattle.regalloc2_function.specs.WellFormed.{ArgumentsCounted, BlocksFollow, BlocksEnd, DefinedOnce, UsesAreDefined, last_of}
+use Rattle.regalloc2_function.specs.WellFormed.{last_of}
 use Rattle.regalloc2_function.specs.OutputValue.{place_at}
 use Rattle.regalloc2_semantics.specs.Carry.{Carries}
 use Rattle.regalloc2_semantics.specs.BlockByPoints.{at_point, walked, listed}
@@ -31,7 +31,7 @@ use Rattle.regalloc2_fastalloc_proofs.specs.InstSteps.{StateValue}
 use Rattle.regalloc2_fastalloc_proofs.specs.BlockStart.{no_vreg}
 use Rattle.regalloc2_fastalloc_proofs.specs.BranchSteps.{IsOwn}
 use Rattle.regalloc2_fastalloc_proofs.specs.StoreSteps.{branch_operands, IsConcerned, StoresBranchDefs, none_stored, all_stored}
-use Rattle.regalloc2_fastalloc_proofs.specs.BlockSteps.{AllocsInstInBlock, AllocsBlockInsts, BeginsBlock, AllocsBlocks}
+use Rattle.regalloc2_fastalloc_proofs.specs.BlockSteps.{AllocsInstInBlock, AllocsBlockInsts, AllocsBlocks}
 use Rattle.regalloc2_fastalloc_proofs.proofs.Safety.StepsKeepState.{place_in, slot_in, IsWhole}
 use Rattle.regalloc2_fastalloc_proofs.proofs.Operands.RecordOverState.{stands_at, slots_at, opt_from, opt_real, no_register_slot}
 use Rattle.regalloc2_fastalloc_proofs.proofs.Walk.InstsCarry.{AreListed}
@@ -49,11 +49,14 @@ use Rattle.regalloc2_fastalloc_proofs.proofs.BlockBegin.BranchDefsCarried.{store
 use Rattle.regalloc2_fastalloc_proofs.proofs.Branches.Arrivals.{IsNeeded, Arrive, DefsPlaced}
 use Rattle.regalloc2_fastalloc_proofs.proofs.Branches.EdgeArgsGathered.{params_on, passes_at}
 use Rattle.regalloc2_fastalloc_proofs.proofs.Slots.LiveInHasSlot.{used_at_begin}
-use Rattle.regalloc2_fastalloc_proofs.proofs.Walk.InstBoundaries.{BranchKept, IsEdge, grown_weaken, grown_slots, grown_fresh, grown_pushes}
+use Rattle.regalloc2_fastalloc_proofs.proofs.Walk.InstBoundaries.{IsEdge, grown_weaken, grown_slots, grown_fresh, grown_pushes}
 use Rattle.regalloc2_fastalloc_proofs.proofs.Walk.InstBoundaries.{begins_grown, in_between, edge_next, blocks_between, blocks_settled, blocks_outside}
 use Rattle.regalloc2_fastalloc_proofs.proofs.Walk.DefsBeforeUses.{used_made, used_somewhere, param_before, written_there, stands_behind}
 use Rattle.regalloc2_fastalloc_proofs.proofs.Walk.LastInstAndRest.{AnyPlace, Split, split, KeepsSlots, leaves_at}
-use Rattle.regalloc2_fastalloc_proofs.proofs.Inst.ProperInsts.{ProperInsts}
+use Rattle.regalloc2_fastalloc_proofs.proofs.Walk.FunctionLaws.{FunctionLaws, BlockInWalk}
+use Rattle.regalloc2_fastalloc_proofs.proofs.Walk.FunctionLaws.{PlacedCode, code_of}
+use Rattle.regalloc2_fastalloc_proofs.proofs.Inst.ProperInsts.{proper_of}
+use Rattle.regalloc2_fastalloc_proofs.proofs.Walk.InstBoundaries.{kept_of}
 
 -- whether a block writes a number
 abbrev pub writes_in : FunctionValue → ℕ → ℕ → ℕ → Bool
@@ -107,20 +110,39 @@ no_element : {X : Type 0} (xs : List X) → length xs ≡ 0 → xs ≡ []
 no_element [] e = refl
 no_element (x ∷ xs) e = absurd (omega (arith, e))
 
-module _ (f : FunctionValue) (once : DefinedOnce f) (follow : BlocksFollow f) (ends : BlocksEnd f) (uses : UsesAreDefined f) (counted : ArgumentsCounted f)
-    (proper : ProperInsts (Made f) f) (kept : BranchKept f) (placesf : ℕ → List Place) (final : StateValue)
-    (whole : IsWhole final)
-    (SafeIn : ℕ → StateValue → Type 0)
-    (keeps : KeepsSlots (Made f) f proper kept follow ends placesf final SafeIn)
-    (stand : ℕ → VirtualRegister → Option Place) (arrive : Arrive f placesf (slots_at final) stand)
-    (placed : (b e k : ℕ) → IsEdgeInto f b e k → DefsPlaced f placesf (slots_at final) e)
-    (one_edge_into : (b e k d l : ℕ) → IsEdgeInto f b e k → IsEdgeInto f b d l → (d ≡ e) × (l ≡ k))
-    (concerned : (b e k : ℕ) (v : VirtualRegister) → IsEdgeInto f b e k → IsConcerned f e k v → Made f v)
-    (decide : (v : VirtualRegister) → IsUsed f v → IsNeeded f v ⊎ IsUnused f v)
-    (branches : BranchCarries f placesf (slots_at final) stand)
-    (blank : List Place) (begin : StateValue) (start : Between (length f.insts) begin) (empty : IsEmpty begin)
-    (safe : (b : ℕ) → b < length f.blocks → (p : List Place) (s : StateValue) → AllocsBlocks f blank begin (b + 1) p s → (i : ℕ) (q : List Place)
-    (u : StateValue) → AllocsBlockInsts f b p s i q u → AreListed f placesf i q → SafeIn b u) where
+-- What blocks need to carry each vreg: the function's laws; the places of operands and the last tables, whose slots all instructions keep where the tables
+-- are safe (SafeIn); where vregs are at blocks' beginnings, and what edges bring there; branches that carry; and the fresh tables from which
+-- the walk, always safe, begins.
+pub record Carrying : Type 1 where
+  pub laws : FunctionLaws
+  open laws use {f, follow, ends, proper, kept}
+  pub placesf : ℕ → List Place
+  pub final : StateValue
+  pub whole : IsWhole final
+  pub SafeIn : ℕ → StateValue → Type 0
+  pub keeps : KeepsSlots (code_of (Made f) f proper kept follow ends placesf) final SafeIn
+  pub stand : ℕ → VirtualRegister → Option Place
+  pub arrive : Arrive f placesf (slots_at final) stand
+  pub placed : (b e k : ℕ) → IsEdgeInto f b e k → DefsPlaced f placesf (slots_at final) e
+  pub one_edge_into : (b e k d l : ℕ) → IsEdgeInto f b e k → IsEdgeInto f b d l → (d ≡ e) × (l ≡ k)
+  pub concerned : (b e k : ℕ) (v : VirtualRegister) → IsEdgeInto f b e k → IsConcerned f e k v → Made f v
+  pub decide : (v : VirtualRegister) → IsUsed f v → IsNeeded f v ⊎ IsUnused f v
+  pub branches : BranchCarries f placesf (slots_at final) stand
+  pub blank : List Place
+  pub begin : StateValue
+  pub start : Between (length f.insts) begin
+  pub empty : IsEmpty begin
+  pub safe : (b : ℕ) → b < length f.blocks → (p : List Place) (s : StateValue) → AllocsBlocks f blank begin (b + 1) p s → (i : ℕ) (q : List Place)
+      (u : StateValue) → AllocsBlockInsts f b p s i q u → AreListed f placesf i q → SafeIn b u
+
+module _ (carrying : Carrying) where
+  open carrying.laws use {f, once, follow, ends, uses, counted, proper, kept}
+  open carrying use {placesf, final, whole, SafeIn, keeps, stand, arrive, placed, one_edge_into, concerned, decide, branches, blank, begin, start, empty, safe}
+
+  -- the function, with the places of its operands
+  abbrev code : PlacedCode
+  code = code_of (Made f) f proper kept follow ends placesf
+
   -- a slot of the walk's end
   slot_only : (x : ℕ) (r : Register) → slots_at final x ≡ Some (InRegister r) → ⊥
   slot_only x r e = no_register_slot final.slots.count (slot_in final x) r (whole.below x) (opt_from (slot_in final x) (InRegister r) e)
@@ -131,10 +153,10 @@ module _ (f : FunctionValue) (once : DefinedOnce f) (follow : BlocksFollow f) (e
   abbrev each_leaves : ℕ → StateValue → StateValue → Type 0
   each_leaves i s u = (v : VirtualRegister) → Made f v → Leaves f placesf (slots_at final) v i s u
 
-  module _ (b : ℕ) (lb : b < length f.blocks) (p q : List Place) (s u w : StateValue) (prev : AllocsBlocks f blank begin (b + 1) p s)
-      (walk : AllocsBlockInsts f b p s (block_at f b).range.first q u)
-      (begins : BeginsBlock f b u w) (are_listed : AreListed f placesf (block_at f b).range.first q)
-      (rest : Grown (IsBelow (block_at f b).range.first) w final) where
+  module _ (at : BlockInWalk f blank begin) (are_listed : AreListed f placesf (block_at f at.b).range.first at.q)
+      (rest : Grown (IsBelow (block_at f at.b).range.first) at.w final) where
+    open at use {b, lb, p, q, s, u, w, prev, walk, begins}
+
     abbrev last : ℕ
     last = last_of (block_at f b)
 
@@ -155,7 +177,7 @@ module _ (f : FunctionValue) (once : DefinedOnce f) (follow : BlocksFollow f) (e
 
     -- the tables behind its last instruction
     behind : Between (last + 1) s
-    behind = blocks_between (Made f) f proper kept follow blank begin start (b + 1) p s prev (last + 1)
+    behind = blocks_between (kept_of (Made f) f proper kept) follow blank begin start (b + 1) p s prev (last + 1)
         (subst (IsEdge f (b + 1)) (sym ended) (edge_next f follow b lb))
 
     -- from the block's first instruction to the walk's end
@@ -164,16 +186,16 @@ module _ (f : FunctionValue) (once : DefinedOnce f) (follow : BlocksFollow f) (e
         (grown_weaken (IsBelow (block_at f b).range.first) AnyPlace w final (λ n x. tt) rest)
 
     parts : Split f placesf each_leaves final b last s (block_at f b).range.first u
-    parts = split (Made f) f proper kept follow ends placesf final b lb p s each_leaves
-        (λ i q x y ge sooner walked_to listed_to g h. leaves_at (Made f) f proper kept follow ends placesf final SafeIn keeps b i x y lb ge sooner
+    parts = split code final b lb p s each_leaves
+        (λ i q x y ge sooner walked_to listed_to g h. leaves_at code final SafeIn keeps b i x y lb ge sooner
         (safe b lb p s prev i q y walked_to listed_to) g h)
         (block_at f b).range.first q u walk some are_listed onward
 
     before_last : Between last parts.begin
-    before_last = in_between (Made f) f proper kept b last parts.blank parts.places s parts.begin within parts.ends behind
+    before_last = in_between (kept_of (Made f) f proper kept) b last parts.blank parts.places s parts.begin within parts.ends behind
 
     settled : (x : ℕ) → (place_in s x ≡ NoPlace) ⊎ ((k : ℕ) × (place_in s x ≡ InSlot k) × (slot_in s x ≡ InSlot k))
-    settled = blocks_settled (Made f) f proper kept follow blank begin start empty.nowhere (b + 1) p s prev
+    settled = blocks_settled (kept_of (Made f) f proper kept) follow blank begin start empty.nowhere (b + 1) p s prev
 
     at_block_end : BlockEnd f placesf (slots_at final) b last s parts.begin
     at_block_end = record {
@@ -188,10 +210,10 @@ module _ (f : FunctionValue) (once : DefinedOnce f) (follow : BlocksFollow f) (e
       fresh = λ x k none is. grown_fresh AnyPlace parts.begin final parts.rest before_last.whole x k none is;
       own = slot_own;
       only_slots = slot_only;
-      bare = blocks_outside (Made f) f proper kept follow blank begin start empty (b + 1) p s prev;
-      writes = λ v made is. written_there f once follow ends uses proper kept b lb v (suc (last - (block_at f b).range.first)) count is made;
-      lives = λ v is c lc ne used. stands_behind f once follow ends uses proper kept b lb v (suc (last - (block_at f b).range.first)) count is c
-          lc ne used blank begin start p s prev;
+      bare = blocks_outside (kept_of (Made f) f proper kept) follow blank begin start empty (b + 1) p s prev;
+      writes = λ v made is. written_there carrying.laws b lb v (suc (last - (block_at f b).range.first)) count is made;
+      lives = λ v is c lc ne used. stands_behind carrying.laws b lb v (suc (last - (block_at f b).range.first)) count is c
+          lc ne used start prev;
     }
 
     -- its last instruction
@@ -199,13 +221,13 @@ module _ (f : FunctionValue) (once : DefinedOnce f) (follow : BlocksFollow f) (e
     end_carries = elim (ends b lb).0 [
       | inl branch ↦ branches b last s parts.begin lb at_block_end branch.0
       | inr ret ↦ λ silent v used excused. (
-          let a : Alone (Made f) f placesf proper last s parts.ends.middle =
-          alone (Made f) f placesf proper last parts.ends.allocates.blank parts.ends.allocates.here s parts.ends.middle within parts.at behind
+          let a : Alone (proper_of (Made f) f placesf proper) last s parts.ends.middle =
+          alone (proper_of (Made f) f placesf proper) last parts.ends.allocates.blank parts.ends.allocates.here s parts.ends.middle within parts.at behind
           parts.ends.allocates.allocates in
           let there = used_somewhere f v used in
-          return_owes (Made f) f placesf proper (slots_at final) last s parts.begin v (used_made f once follow uses v there.0 there.1 there.2)
+          return_owes (proper_of (Made f) f placesf proper) (slots_at final) last s parts.begin v (used_made f once follow uses v there.0 there.1 there.2)
           (writes_in f b last v.number)
-          (GoesOut f stand b v) (subst (Alone (Made f) f placesf proper last s) (sym (parts.ends.no_branch ret.0)) a)
+          (GoesOut f stand b v) (subst (Alone (proper_of (Made f) f placesf proper) last s) (sym (parts.ends.no_branch ret.0)) a)
           (rw (ret.0, ret.1) refl)
           (λ x e. nothing_goes f stand b v x (no_element (block_at f b).succs ret.2) e))
     ]
@@ -215,7 +237,7 @@ module _ (f : FunctionValue) (once : DefinedOnce f) (follow : BlocksFollow f) (e
     from_middle = grown_then AnyPlace begins.middle w final (stores_grown AnyPlace f b begins.middle w tt begins.stores)
         (grown_weaken (IsBelow (block_at f b).range.first) AnyPlace w final (λ n x. tt) rest)
 
-    all_walked : Walked (Made f) f placesf proper once reads (slots_at final) slot_only b last parts.begin u begins.middle
+    all_walked : Walked (proper_of (Made f) f placesf proper) once reads (slots_at final) slot_only b last parts.begin u begins.middle
     all_walked = record {
       end = ended;
       some = (let h = some in omega (arith, h));
@@ -239,7 +261,7 @@ module _ (f : FunctionValue) (once : DefinedOnce f) (follow : BlocksFollow f) (e
         Carries v (Listing begins.middle) (StandsBefore f (λ x. slots_at final x.number) b v) (GoesOut f stand b v)
     reloaded silent v used excused =
         let there = used_somewhere f v used in
-        block_owes (Made f) f placesf proper once reads (slots_at final) slot_only b last parts.begin u begins.middle all_walked v
+        block_owes (proper_of (Made f) f placesf proper) once reads (slots_at final) slot_only b last parts.begin u begins.middle all_walked v
         (used_made f once follow uses v there.0 there.1 there.2) (GoesOut f stand b v) (end_carries silent v used excused)
 
     -- stores in front do nothing to what is carried from nowhere
@@ -332,12 +354,29 @@ module _ (f : FunctionValue) (once : DefinedOnce f) (follow : BlocksFollow f) (e
         let there = used_somewhere f v used in
         let made : Made f v = used_made f once follow uses v there.0 there.1 there.2 in
         let c : Carries v (Listing w) (ComesIn f stand b v) (GoesOut f stand b v) = elim (decide v used) [
-          | inl needed ↦ stores_carried f once placesf (slots_at final) stand arrive slot_own
-              (λ x q is. slot_there x q is)
-              (λ e le. (let h = ends_within f follow e le in let h2 = (follow e le).0 in omega (arith, h, h2))) concerned b lb begins.middle w
-              (grown_slots (IsBelow first) w final rest) (λ e k edge. placed b e k edge) v made needed
-              (λ m lt is. used_at_begin f once follow ends uses proper kept blank begin start there.0 there.1 v
-              (param_unwritten m lt is there.0) there.2 b lb p q s u w prev walk begins (before_use m lt is there.0 there.1 there.2))
+          | inl needed ↦ stores_carried (record {
+            f = f;
+            once = once;
+            placesf = placesf;
+            F = slots_at final;
+            stand = stand;
+            arrive = arrive;
+            own = slot_own;
+            only = λ x q is. slot_there x q is;
+            lasts = λ e le. (let h = ends_within f follow e le in let h2 = (follow e le).0 in omega (arith, h, h2));
+            concerned = concerned;
+            b = b;
+            lb = lb;
+            middle = begins.middle;
+            new = w;
+            stays = grown_slots (IsBelow first) w final rest;
+            placed = λ e k edge. placed b e k edge;
+            v = v;
+            made = made;
+            needed = needed;
+            has_slot = λ m lt is. used_at_begin carrying.laws blank begin start there.0 there.1 v
+                (param_unwritten m lt is there.0) there.2 at (before_use m lt is there.0 there.1 there.2);
+          })
               (λ e k d l x y. one_edge_into b e k d l x y) begins.stores (last - first) (GoesOut f stand b v) (reloaded silent v used excused)
           | inr un ↦ unused_carries silent v used excused un
         ] in

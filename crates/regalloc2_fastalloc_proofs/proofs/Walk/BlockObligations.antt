@@ -1,5 +1,5 @@
 -- What a block owes to the law on paths: from its last instruction, those before it and its beginning.
-use Rattle.std.proofs.Common.{ℕ, zero, suc, ◌≡◌, ◌+◌, ◌-◌, ◌<◌, ◌≤◌, ◌⊎◌, inl, inr, Bool, true, false, List, length, refl, ap, subst, arith}
+use Rattle.std.proofs.Common.{ℕ, zero, suc, ◌≡◌, ◌+◌, ◌-◌, ◌<◌, ◌≤◌, ◌⊎◌, inl, inr, Bool, true, false, length, refl, ap, subst, arith}
 use Rattle.std.specs.Prelude.{Option, Some, ◌||◌}
 use Rattle.std.proofs.lemmas.Bool.{cases_eq}
 use Rattle.regalloc2_names.specs.Register.{Register, VirtualRegister}
@@ -23,7 +23,7 @@ use Rattle.regalloc2_fastalloc_proofs.proofs.Inst.OneInstCarries.{Between}
 use Rattle.regalloc2_fastalloc_proofs.proofs.Walk.InstForOneVReg.{Leaves, undefined_by}
 use Rattle.regalloc2_fastalloc_proofs.proofs.Walk.InstsBeforeLastCarry.{defined_from, Goes, goes_between, goes_carried}
 use Rattle.regalloc2_fastalloc_proofs.proofs.BlockBegin.CarriesFromSlot.{entered_carried}
-use Rattle.regalloc2_fastalloc_proofs.proofs.Inst.ProperInsts.{ProperInsts}
+use Rattle.regalloc2_fastalloc_proofs.proofs.Inst.ProperInsts.{ProperCode}
 
 -- what a stretch of instructions defines, one of them does
 pub defined_from-some : (f : FunctionValue) (x i n : ℕ) → defined_from f x i n ≡ true → (j : ℕ) × (i ≤ j) × (j < i + n)
@@ -68,9 +68,10 @@ unread_before f once v i n lt within reads h j less read is =
     let later : d.0 < i = reads_later f once v.number d.0 a.0 i j a.1 lt reads less read (ap (λ (w : VirtualRegister). w.number) is) in
     omega (arith, later, d.1)
 
-module _ (Known : VirtualRegister → Type 0) (f : FunctionValue) (placesf : ℕ → List Place)
-    (proper : ProperInsts Known f) (once : DefinedOnce f) (reads : (i : ℕ) → i < length f.insts → ReadsDefined f i)
-    (F : ℕ → Option Place) (slot : (x : ℕ) (r : Register) → F x ≡ Some (InRegister r) → ⊥) (b : ℕ) where
+module _ (code : ProperCode) (once : DefinedOnce code.f) (reads : (i : ℕ) → i < length code.f.insts → ReadsDefined code.f i) (F : ℕ → Option Place)
+    (slot : (x : ℕ) (r : Register) → F x ≡ Some (InRegister r) → ⊥) (b : ℕ) where
+  open code use {Known, f, placesf, proper}
+
   -- the block's first instruction
   abbrev pub first_of : ℕ
   first_of = (block_at f b).range.first
@@ -106,15 +107,22 @@ module _ (Known : VirtualRegister → Type 0) (f : FunctionValue) (placesf : ℕ
     block_owes c =
         let some : first_of ≤ last = w.some in
         let within : last < length f.insts = w.within in
-        let between : Between first_of middle = goes_between Known f placesf proper EachLeaves begin first_of last (omega (arith, within)) w.start
+        let between : Between first_of middle = goes_between code EachLeaves begin first_of last (omega (arith, within)) w.start
         first_of middle w.goes in
         let carried : Carries v (walked (inst_at f) (at_point (listed middle.edits)) placesf first_of (suc (last - first_of)))
         (Relied written written (stands_at middle v.number) (slots_at middle v.number) (F v.number)) E =
-        goes_carried Known f placesf proper EachLeaves begin first_of last (omega (arith, within)) w.start F v known written 1 E w.returns
-        (λ i ge lt none. defined_from-none f v.number first_of (suc (last - first_of)) none i ge (omega (arith, some)))
-        (λ i t u ge lt l. l v known) (λ i n ge lt count d. unread_before f once v i n (omega (arith, within)) (omega (arith, within, count))
-        (reads i (omega (arith, within))) d)
-        c first_of middle w.goes (suc (last - first_of)) (omega (arith, some)) in
+        goes_carried code EachLeaves begin first_of last (omega (arith, within)) w.start (record {
+          F = F;
+          v = v;
+          known = known;
+          block = written;
+          m = 1;
+          E = E;
+          returns = w.returns;
+          writes = λ i ge lt none. defined_from-none f v.number first_of (suc (last - first_of)) none i ge (omega (arith, some));
+          leaves = λ i t u ge lt l. l v known;
+          unread = λ i n ge lt count d. unread_before f once v i n (omega (arith, within)) (omega (arith, within, count)) (reads i (omega (arith, within))) d;
+        }) c first_of middle w.goes (suc (last - first_of)) (omega (arith, some)) in
         carries_weaken v (walked (inst_at f) (at_point (listed new.edits)) placesf first_of (suc (last - first_of)))
         (λ p. (written ≡ false) × (F v.number ≡ Some p)) (StandsBefore f (λ u. F u.number) b v) E E
         (λ p h. (unwritten h.0, h.1)) (λ p h. h)

@@ -9,7 +9,7 @@ use Rattle.regalloc2_names.specs.Place.{Place, NoPlace}
 use Rattle.regalloc2_function.specs.DebugPoints.{DefinesAt, PassesAt}
 use Rattle.regalloc2_function.specs.FunctionValue.{FunctionValue, IsLimited, block_at, inst_at}
 use Rattle.regalloc2_function.specs.Machine.{MachineValue}
-use Rattle.regalloc2_function.specs.OutputValue.{OutputValue, allocs_of}
+use Rattle.regalloc2_function.specs.OutputValue.{allocs_of}
 use Rattle.regalloc2_function.specs.SourceRun.{arguments_at}
 use Rattle.regalloc2_function.specs.WellFormed.{IsWellFormed, last_of}
 use Rattle.regalloc2_semantics.specs.BlockByPoints.{listed, block_walked}
@@ -22,9 +22,8 @@ use Rattle.regalloc2_fastalloc_proofs.specs.InstSteps.{StateValue}
 use Rattle.regalloc2_fastalloc_proofs.specs.BranchSteps.{ProcessesBranch, IsOwn}
 use Rattle.regalloc2_fastalloc_proofs.specs.BlockSteps.{AllocsBlockInsts, AllocsBlocks}
 use Rattle.regalloc2_fastalloc_proofs.proofs.Operands.RecordOverState.{slots_at}
-use Rattle.regalloc2_fastalloc_proofs.proofs.Moves.ScratchRegTaken.{Fit}
 use Rattle.regalloc2_fastalloc_proofs.proofs.Operands.AllocsSoFar.{IsGood}
-use Rattle.regalloc2_fastalloc_proofs.proofs.Walk.InstsCarry.{AreListed, Blank}
+use Rattle.regalloc2_fastalloc_proofs.proofs.Walk.InstsCarry.{AreListed}
 use Rattle.regalloc2_fastalloc_proofs.proofs.Inst.OneInstCarries.{Between}
 use Rattle.regalloc2_fastalloc_proofs.proofs.Safety.InstsKeepSafe.{HasGood}
 use Rattle.regalloc2_fastalloc_proofs.proofs.Walk.InstBoundaries.{BranchKept, blocks_between, blocks_outside}
@@ -45,95 +44,126 @@ use Rattle.regalloc2_fastalloc_proofs.proofs.Slots.LiveInHasSlot.{used_has_slot}
 use Rattle.regalloc2_fastalloc_proofs.proofs.Slots.ArgumentHasSlot.{handed_has_slot}
 use Rattle.regalloc2_fastalloc_proofs.proofs.Safety.StepsKeepState.{slot_in}
 use Rattle.regalloc2_fastalloc_proofs.proofs.Inst.ProperInsts.{all_proper}
+use Rattle.regalloc2_fastalloc_proofs.proofs.Walk.WholeWalk.{WholeWalk}
+use Rattle.regalloc2_fastalloc_proofs.proofs.Walk.FunctionLaws.{FunctionLaws, laws_of}
+use Rattle.regalloc2_fastalloc_proofs.proofs.Walk.BlockCarries.{Carrying}
+use Rattle.regalloc2_fastalloc_proofs.proofs.Walk.FunctionLaws.{PlacedCode, code_of}
+use Rattle.regalloc2_fastalloc_proofs.proofs.Walk.InstBoundaries.{kept_of}
 
 module _ (env : MachineValue) (f : FunctionValue) (limited : IsLimited f) (ok : IsWellFormed env f) where
   some_block : 0 < length f.blocks
   some_block = (let e : f.entry < length f.blocks = ok.successors.0 in omega (arith, e))
 
-  module _ (between : (b i : ℕ) (t u : InstRegs) (old new : StateValue) → ProcessesBranch f b i t u old new → Between i old → Between i new)
-      (blank : List Place) (begin last : StateValue) (out : OutputValue) (empty : Blank begin) (fit : Fit begin)
-      (walks : AllocsBlocks f blank begin 0 out.allocs last) where
-    branch : BranchKept f
-    branch = branch_kept f ok.counted between
+module _ (walk : WholeWalk)
+    (between : (b i : ℕ) (t u : InstRegs) (old new : StateValue) → ProcessesBranch walk.f b i t u old new → Between i old → Between i new) where
+  open walk use {env, f, limited, ok, blank, begin, last, out, empty, fit, walks}
 
-    -- between all instructions of the walk, so at its end too
-    pub at_walks_end : Between 0 last
-    at_walks_end = blocks_between (Made f) f (all_proper env f limited ok) branch ok.follow blank begin (begin_between f begin empty fit) 0 out.allocs last
-        walks 0 (first_edge f ok.follow some_block)
+  branch : BranchKept f
+  branch = branch_kept f ok.counted between
 
-    -- where vregs are at a block's beginning
-    abbrev pub standing : ℕ → VirtualRegister → Option Place
-    standing = stand_on env f ok (allocs_of out) (slots_at last)
+  -- the function, with the output's places
+  abbrev code : PlacedCode
+  code = code_of (Made f) f (all_proper env f limited ok) branch ok.follow ok.end (allocs_of out)
 
-    -- where branches leave what they define, if they define in places that are known
-    pub walk_places_defs : AreListed f (allocs_of out) 0 out.allocs
-        → ((j k : ℕ) → j < length f.insts → k < length (inst_at f j).operands → HasGood env last.slots f out.allocs j k) → AreTaken f
-        → ((i : ℕ) → i < length f.insts → BranchDefinesInPlace (inst_at f i)) → (b : ℕ) → b < length f.blocks
-        → (inst_at f (last_of (block_at f b))).is_branch ≡ true → DefsPlaced f (allocs_of out) (slots_at last) b
-    walk_places_defs are_listed good taken places b lb is_branch =
-        defs_placed env f limited ok taken (allocs_of out) last
-        (λ i k lt less. subst (IsGood env last.slots (op_at (inst_at f i).operands k)) (sym (are_listed i (omega arith) lt k less)) (good i k lt less).good)
-        places b lb is_branch
-        (last_allocated (Made f) f (all_proper env f limited ok) branch ok.follow ok.end (allocs_of out) blank begin
-        (blocks_outside (Made f) f (all_proper env f limited ok) branch ok.follow blank begin (begin_between f begin empty fit)
-        (record { nowhere = empty.nowhere; nobody = empty.nobody })) 0 out.allocs last walks 0 (first_edge f ok.follow some_block) are_listed b (omega arith)
-        lb)
+  -- what the function is walked under
+  abbrev laws : FunctionLaws
+  laws = laws_of f ok.defined_once ok.follow ok.end ok.uses_defined ok.counted (all_proper env f limited ok) branch
 
-    -- If the tables are safe all along the walk, and branches define in places that are known, each block carries what the laws on paths want.
-    pub blocks_carry : out.edits ≡ listed last.edits → AreListed f (allocs_of out) 0 out.allocs → (Writes : ℕ → ℕ → VirtualRegister → ℕ → Type 0)
-        → (May : ℕ → Type 0)
-        → ((b : ℕ) → b < length f.blocks → (p : List Place) (s : StateValue) → AllocsBlocks f blank begin (b + 1) p s → (i : ℕ) (q : List Place)
-        (u : StateValue) → AllocsBlockInsts f b p s i q u → AreListed f (allocs_of out) i q → IsSafe env (Made f) (Writes b) May u)
-        → ((j k : ℕ) → j < length f.insts → k < length (inst_at f j).operands → HasGood env last.slots f out.allocs j k)
-        → ((b i : ℕ) → b < length f.blocks → (block_at f b).range.first ≤ i → i < last_of (block_at f b) → WritesSound f (allocs_of out) (Writes b) i)
-        → AreTaken f → ((i : ℕ) → i < length f.insts → BranchDefinesInPlace (inst_at f i))
-        → (b : ℕ) → BlockCarriesOn f standing b (block_walked f out b)
-    blocks_carry edits are_listed Writes May safe good sound taken places =
-        let arrive : Arrive f (allocs_of out) (slots_at last) standing = arrives env f ok (allocs_of out) (slots_at last) in
-        let placed : (b : ℕ) → b < length f.blocks → (inst_at f (last_of (block_at f b))).is_branch ≡ true → DefsPlaced f (allocs_of out) (slots_at last) b
-        = walk_places_defs are_listed good taken places in
-        all_blocks_carry f ok.defined_once ok.follow ok.end ok.uses_defined ok.counted (all_proper env f limited ok) branch out last blank begin some_block
-        empty fit walks edits are_listed (λ b u. IsSafe env (Made f) (Writes b) May u)
-        (keeps_slots env (Made f) f (all_proper env f limited ok) branch ok.follow ok.end (allocs_of out) last Writes May at_walks_end.whole
-        (one_made f ok.defined_once) out.allocs are_listed good sound)
-        standing arrive (λ b e k edge. placed e edge.block edge.definitions.0) (one_edge_into env f ok) (concerned_made f ok.successors ok.follow)
-        (needed_or_unused f)
-        (branches_carry env f limited ok taken (allocs_of out) last standing arrive placed (needed_or_unused f)) safe
+  -- between all instructions of the walk, so at its end too
+  pub at_walks_end : Between 0 last
+  at_walks_end = blocks_between (kept_of (Made f) f (all_proper env f limited ok) branch) ok.follow blank begin (begin_between f begin empty fit) 0 out.allocs
+      last
+      walks 0 (first_edge f ok.follow (some_block env f limited ok))
 
-    -- a vreg that is used in a block that doesn't write it has a slot at the walk's end
-    pub used_slots : (v : VirtualRegister) → UsedSomewhere f v → slot_in last v.number ≢ NoPlace
-    used_slots v u =
-        used_has_slot f ok.defined_once ok.follow ok.end ok.uses_defined (all_proper env f limited ok) branch blank begin (begin_between f begin empty fit)
-        u.block u.within v u.unwritten u.used
-        0 out.allocs last walks (omega arith)
+  -- where vregs are at a block's beginning
+  abbrev pub standing : ℕ → VirtualRegister → Option Place
+  standing = stand_on env f ok (allocs_of out) (slots_at last)
 
-    -- and so has a vreg that is passed as an argument, and not defined by the branch
-    pub handed_slots : (v : VirtualRegister) (b k : ℕ) → b < length f.blocks → k < length (block_at f b).succs → Contains (arguments_at f b k) v →
-        (IsOwn f b v → ⊥) → slot_in last v.number ≢ NoPlace
-    handed_slots v b k lb edge has foreign =
-        handed_has_slot f ok.counted ok.follow ok.end (all_proper env f limited ok) branch b lb k edge v has foreign blank begin 0 out.allocs last walks
-        (omega arith)
+  -- where branches leave what they define, if they define in places that are known
+  pub walk_places_defs : AreListed f (allocs_of out) 0 out.allocs
+      → ((j k : ℕ) → j < length f.insts → k < length (inst_at f j).operands → HasGood env last.slots f out.allocs j k) → AreTaken f
+      → ((i : ℕ) → i < length f.insts → BranchDefinesInPlace (inst_at f i)) → (b : ℕ) → b < length f.blocks
+      → (inst_at f (last_of (block_at f b))).is_branch ≡ true → DefsPlaced f (allocs_of out) (slots_at last) b
+  walk_places_defs are_listed good taken places b lb is_branch =
+      defs_placed env f limited ok taken (allocs_of out) last
+      (λ i k lt less. subst (IsGood env last.slots (op_at (inst_at f i).operands k)) (sym (are_listed i (omega arith) lt k less)) (good i k lt less).good)
+      places b lb is_branch
+      (last_allocated code blank begin
+      (blocks_outside (kept_of (Made f) f (all_proper env f limited ok) branch) ok.follow blank begin (begin_between f begin empty fit)
+      (record { nowhere = empty.nowhere; nobody = empty.nobody })) 0 out.allocs last walks 0 (first_edge f ok.follow (some_block env f limited ok)) are_listed
+      b (omega arith)
+      lb)
 
-    -- as one that an instruction passes, which then doesn't define it
-    pub passed_slots : (v : VirtualRegister) (i : ℕ) → PassesAt f v i → slot_in last v.number ≢ NoPlace
-    passed_slots v i p = handed_slots v p.0 p.1 p.2 p.4 p.5 (λ own.
-        let within : last_of (block_at f p.0) < length f.insts = last_within f ok.follow p.0 p.2 in
-        let made : Made f v = used_made f ok.defined_once ok.follow ok.uses_defined v p.0 p.2 (inr (p.1, p.4, p.5)) in
-        let o : OperandValue = op_at (inst_at f (last_of (block_at f p.0))).operands own.0 in
-        let is : o.vreg ≡ v = one_made f ok.defined_once o.vreg v (by_operand (last_of (block_at f p.0)) own.0 (record {
-          inst = within;
-          operand = own.1.operand;
-          definition = own.1.definition;
-          number = refl;
-        }) refl) made own.1.number in
-        p.6 (subst (DefinesAt f v) (sym p.3) (
-          within,
-          (
-            own.0,
-            o,
-            own.1.operand,
-            get_or_default (inst_at f (last_of (block_at f p.0))).operands own.0 o no_operand own.1.operand,
-            own.1.definition,
-            is,
-          ),
-        )))
+  -- If the tables are safe all along the walk, and branches define in places that are known, each block carries what the laws on paths want.
+  pub blocks_carry : out.edits ≡ listed last.edits → AreListed f (allocs_of out) 0 out.allocs → (Writes : ℕ → ℕ → VirtualRegister → ℕ → Type 0)
+      → (May : ℕ → Type 0)
+      → ((b : ℕ) → b < length f.blocks → (p : List Place) (s : StateValue) → AllocsBlocks f blank begin (b + 1) p s → (i : ℕ) (q : List Place)
+      (u : StateValue) → AllocsBlockInsts f b p s i q u → AreListed f (allocs_of out) i q → IsSafe env (Made f) (Writes b) May u)
+      → ((j k : ℕ) → j < length f.insts → k < length (inst_at f j).operands → HasGood env last.slots f out.allocs j k)
+      → ((b i : ℕ) → b < length f.blocks → (block_at f b).range.first ≤ i → i < last_of (block_at f b) → WritesSound f (allocs_of out) (Writes b) i)
+      → AreTaken f → ((i : ℕ) → i < length f.insts → BranchDefinesInPlace (inst_at f i))
+      → (b : ℕ) → BlockCarriesOn f standing b (block_walked f out b)
+  blocks_carry edits are_listed Writes May safe good sound taken places =
+      let arrive : Arrive f (allocs_of out) (slots_at last) standing = arrives env f ok (allocs_of out) (slots_at last) in
+      let placed : (b : ℕ) → b < length f.blocks → (inst_at f (last_of (block_at f b))).is_branch ≡ true → DefsPlaced f (allocs_of out) (slots_at last) b
+      = walk_places_defs are_listed good taken places in
+      let carrying : Carrying = record {
+        laws = laws;
+        placesf = allocs_of out;
+        final = last;
+        whole = at_walks_end.whole;
+        SafeIn = λ b u. IsSafe env (Made f) (Writes b) May u;
+        keeps = keeps_slots env code last Writes May at_walks_end.whole
+            (one_made f ok.defined_once) out.allocs are_listed good sound;
+        stand = standing;
+        arrive = arrive;
+        placed = λ b e k edge. placed e edge.block edge.definitions.0;
+        one_edge_into = one_edge_into env f ok;
+        concerned = concerned_made f ok.successors ok.follow;
+        decide = needed_or_unused f;
+        branches = branches_carry env f limited ok taken (allocs_of out) last standing arrive placed (needed_or_unused f);
+        blank = blank;
+        begin = begin;
+        start = begin_between f begin empty fit;
+        empty = record { nowhere = empty.nowhere; nobody = empty.nobody };
+        safe = safe;
+      } in
+      all_blocks_carry carrying out (some_block env f limited ok) walks edits are_listed
+
+  -- a vreg that is used in a block that doesn't write it has a slot at the walk's end
+  pub used_slots : (v : VirtualRegister) → UsedSomewhere f v → slot_in last v.number ≢ NoPlace
+  used_slots v u =
+      used_has_slot laws blank begin (begin_between f begin empty fit)
+      u.block u.within v u.unwritten u.used
+      0 out.allocs last walks (omega arith)
+
+  -- and so has a vreg that is passed as an argument, and not defined by the branch
+  pub handed_slots : (v : VirtualRegister) (b k : ℕ) → b < length f.blocks → k < length (block_at f b).succs → Contains (arguments_at f b k) v →
+      (IsOwn f b v → ⊥) → slot_in last v.number ≢ NoPlace
+  handed_slots v b k lb edge has foreign =
+      handed_has_slot laws b lb k edge v has foreign blank begin 0 out.allocs last walks
+      (omega arith)
+
+  -- as one that an instruction passes, which then doesn't define it
+  pub passed_slots : (v : VirtualRegister) (i : ℕ) → PassesAt f v i → slot_in last v.number ≢ NoPlace
+  passed_slots v i p = handed_slots v p.0 p.1 p.2 p.4 p.5 (λ own.
+      let within : last_of (block_at f p.0) < length f.insts = last_within f ok.follow p.0 p.2 in
+      let made : Made f v = used_made f ok.defined_once ok.follow ok.uses_defined v p.0 p.2 (inr (p.1, p.4, p.5)) in
+      let o : OperandValue = op_at (inst_at f (last_of (block_at f p.0))).operands own.0 in
+      let is : o.vreg ≡ v = one_made f ok.defined_once o.vreg v (by_operand (last_of (block_at f p.0)) own.0 (record {
+        inst = within;
+        operand = own.1.operand;
+        definition = own.1.definition;
+        number = refl;
+      }) refl) made own.1.number in
+      p.6 (subst (DefinesAt f v) (sym p.3) (
+        within,
+        (
+          own.0,
+          o,
+          own.1.operand,
+          get_or_default (inst_at f (last_of (block_at f p.0))).operands own.0 o no_operand own.1.operand,
+          own.1.definition,
+          is,
+        ),
+      )))

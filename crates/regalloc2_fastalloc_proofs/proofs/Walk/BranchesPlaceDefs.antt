@@ -4,13 +4,13 @@ use Rattle.std.proofs.Common.{ℕ, ◌≡◌, ◌+◌, ◌<◌, ◌≤◌, ◌�
 use Rattle.std.proofs.lemmas.Bool.{cases_eq}
 use Rattle.regalloc2_names.specs.declared.OperandConstraint.{OperandConstraint}
 use Rattle.regalloc2_names.specs.declared.OperandConstraint.TheVariants.{Any, Reg, Stack, FixedReg, Reuse, Limit}
-use Rattle.regalloc2_names.specs.Register.{Register, VirtualRegister}
+use Rattle.regalloc2_names.specs.Register.{Register}
 use Rattle.regalloc2_names.specs.Operand.{OperandValue, is_def, is_late}
 use Rattle.regalloc2_names.specs.Place.{Place, NoPlace, InRegister, InSlot}
 use Rattle.regalloc2_function.specs.FunctionValue.{FunctionValue, IsLimited, block_at, inst_at}
 use Rattle.regalloc2_function.specs.Machine.{MachineValue}
 use Rattle.regalloc2_function.specs.OutputValue.{place_at}
-use Rattle.regalloc2_function.specs.WellFormed.{BlocksFollow, BlocksEnd, IsWellFormed, last_of}
+use Rattle.regalloc2_function.specs.WellFormed.{IsWellFormed, last_of}
 use Rattle.regalloc2_semantics.specs.Listing.{op_at}
 use Rattle.regalloc2_semantics.proofs.Order.{ends_within}
 use Rattle.regalloc2_semantics.proofs.SingleDef.{Made}
@@ -29,9 +29,9 @@ use Rattle.regalloc2_fastalloc_proofs.proofs.Branches.Arrivals.{DefsPlaced, left
 use Rattle.regalloc2_fastalloc_proofs.proofs.Safety.StoredDefs.{last_within}
 use Rattle.regalloc2_fastalloc_proofs.proofs.Safety.WellFormedKeepsSafe.{tame_at}
 use Rattle.regalloc2_fastalloc_proofs.proofs.Walk.InstsCarry.{AreListed}
-use Rattle.regalloc2_fastalloc_proofs.proofs.Walk.InstBoundaries.{BranchKept, IsEdge, edge_next}
+use Rattle.regalloc2_fastalloc_proofs.proofs.Walk.InstBoundaries.{IsEdge, edge_next}
 use Rattle.regalloc2_fastalloc_proofs.proofs.Walk.LastInstAndRest.{at_its_end, listed_behind, walk_listed}
-use Rattle.regalloc2_fastalloc_proofs.proofs.Inst.ProperInsts.{ProperInsts}
+use Rattle.regalloc2_fastalloc_proofs.proofs.Walk.FunctionLaws.{PlacedCode}
 
 -- the last instruction of a block was allocated from tables in which no vreg is in a register
 pub record LastAllocated (f : FunctionValue) (placesf : ℕ → List Place) (e : ℕ) : Type 0 where
@@ -43,9 +43,9 @@ pub record LastAllocated (f : FunctionValue) (placesf : ℕ → List Place) (e :
   pub bare : IsOutside old
   pub at : (k : ℕ) → k < length (branch_operands f e) → left_at f placesf e k ≡ slice_index_or here k NoPlace
 
-module _ (Known : VirtualRegister → Type 0) (f : FunctionValue)
-    (proper : ProperInsts Known f) (kept : BranchKept f) (follow : BlocksFollow f) (ends : BlocksEnd f)
-    (placesf : ℕ → List Place) where
+module _ (code : PlacedCode) where
+  open code use {Known, f, proper, kept, follow, ends, placesf}
+
   -- in the walk over the block
   last_in : (b : ℕ) (lb : b < length f.blocks) (blank : List Place) (old : StateValue) → IsOutside old → (i : ℕ) (places : List Place) (t : StateValue) →
       AllocsBlockInsts f b blank old i places t → i < (block_at f b).range.end → AreListed f placesf i places → LastAllocated f placesf b
@@ -64,7 +64,7 @@ module _ (Known : VirtualRegister → Type 0) (f : FunctionValue)
               at = at;
             }) (λ k few. are j (omega arith) within k few ∙ a.allocates.inside k few) a.allocates.allocates
         | inr ne ↦ last_in b lb blank old bare (j + 1) p s prev (omega (arith, less, ne))
-            (listed_behind Known f proper kept follow ends placesf s b j p q s u within a are)
+            (listed_behind code s b j p q s u within a are)
       ]
 
   -- in the walk over all blocks
@@ -80,7 +80,7 @@ module _ (Known : VirtualRegister → Type 0) (f : FunctionValue)
       elim (cases_eq d e) [
         | inl same ↦ subst (LastAllocated f placesf) same (last_in d lt p s (outside (d + 1) p s prev) first q u walk some here)
         | inr ne ↦ last_allocated start begin outside (d + 1) p s prev (block_at f d).range.end (edge_next f follow d lt)
-            (walk_listed Known f proper kept follow ends placesf s d lt p s first q u walk here) e (omega (arith, le, ne)) less
+            (walk_listed code s d lt p s first q u walk here) e (omega (arith, le, ne)) less
       ]
 
 -- two definitions claim their registers at one time
@@ -138,6 +138,6 @@ defs_placed env f limited ok taken placesf final good places e le branch m = rec
         MayBeLocatedAt env final.slots (op_at (branch_operands f e) j).vreg (left_at f placesf e j) →
         (n : ℕ) × (left_at f placesf e j ≡ InSlot n) × (slots_at final (op_at (branch_operands f e) j).vreg.number ≡ Some (InSlot n))
     in_slot j lt def kind NoPlace is may = absurd (subst (MayBeLocatedAt env final.slots (op_at (branch_operands f e) j).vreg) is may)
-    in_slot j lt def kind (InRegister r) is may = absurd (defs_in_slots (Made f) last (inst_at f last) m.blank m.here m.old m.new tame ends m.allocates m.bare j
+    in_slot j lt def kind (InRegister r) is may = absurd (defs_in_slots tame ends m.allocates m.bare j
         lt def kind r (sym (m.at j lt) ∙ is))
     in_slot j lt def kind (InSlot n) is may = (n, is, ap opt (subst (MayBeLocatedAt env final.slots (op_at (branch_operands f e) j).vreg) is may))

@@ -23,8 +23,9 @@ use Rattle.regalloc2_fastalloc_proofs.proofs.Operands.DefinedNumbers.{defined_by
 use Rattle.regalloc2_fastalloc_proofs.proofs.Inst.OneInstCarries.{Between}
 use Rattle.regalloc2_fastalloc_proofs.proofs.Walk.InstsBeforeLastCarry.{defined_from}
 use Rattle.regalloc2_fastalloc_proofs.proofs.Walk.BlockObligations.{defined_from-some, defines_at}
-use Rattle.regalloc2_fastalloc_proofs.proofs.Walk.InstBoundaries.{BranchKept, IsUsedAt, blocks_live}
-use Rattle.regalloc2_fastalloc_proofs.proofs.Inst.ProperInsts.{ProperInsts}
+use Rattle.regalloc2_fastalloc_proofs.proofs.Walk.InstBoundaries.{IsUsedAt, blocks_live}
+use Rattle.regalloc2_fastalloc_proofs.proofs.Walk.InstBoundaries.{kept_of}
+use Rattle.regalloc2_fastalloc_proofs.proofs.Walk.FunctionLaws.{FunctionLaws}
 
 -- where a block uses a number
 pub used_at : (f : FunctionValue) → BlocksFollow f → BlocksEnd f → (c : ℕ) (v : VirtualRegister) → c < length f.blocks → IsUsedIn f c v →
@@ -60,11 +61,11 @@ module _ (f : FunctionValue) (once : DefinedOnce f) (follow : BlocksFollow f) (u
   used_made v c lc (inr p) =
       passed_made f once c p.0 v follow uses lc p.1 p.2
 
-module _ (f : FunctionValue) (once : DefinedOnce f) (follow : BlocksFollow f) (ends : BlocksEnd f) (uses : UsesAreDefined f)
-    (proper : ProperInsts (Made f) f) (kept : BranchKept f) (b : ℕ) (lb : b < length f.blocks)
-    (v : VirtualRegister) (n : ℕ)
-    (count : (block_at f b).range.first + n ≡ (block_at f b).range.end) (written : defined_from f v.number (block_at f b).range.first n ≡ true) where
-  open proper use {knows}
+module _ (laws : FunctionLaws) (b : ℕ) (lb : b < length laws.f.blocks) (v : VirtualRegister) (n : ℕ)
+    (count : (block_at laws.f b).range.first + n ≡ (block_at laws.f b).range.end)
+    (written : defined_from laws.f v.number (block_at laws.f b).range.first n ≡ true) where
+  open laws use {f, once, follow, ends, uses, proper, kept}
+  open laws.proper use {knows}
 
   -- what writes it
   writer : (i k : ℕ) × ((block_at f b).range.first ≤ i) × (i < (block_at f b).range.end) × DefinesAt f v.number i k
@@ -84,9 +85,9 @@ module _ (f : FunctionValue) (once : DefinedOnce f) (follow : BlocksFollow f) (e
       ((knows w.0 at.inst).definition w.1 at.operand at.definition) made at.number)
 
   -- where another block uses it, it is at this block's end
-  pub stands_behind : (c : ℕ) → c < length f.blocks → c ≢ b → IsUsedIn f c v → (blank : List Place) (begin : StateValue) → Between (length f.insts) begin →
-      (places : List Place) (t : StateValue) → AllocsBlocks f blank begin (b + 1) places t → place_in t v.number ≢ NoPlace
-  stands_behind c lc ne used blank begin start places t walk =
+  pub stands_behind : (c : ℕ) → c < length f.blocks → c ≢ b → IsUsedIn f c v → {blank : List Place} {begin : StateValue} → Between (length f.insts) begin →
+      {places : List Place} {t : StateValue} → AllocsBlocks f blank begin (b + 1) places t → place_in t v.number ≢ NoPlace
+  stands_behind c lc ne used {blank} {begin} start {places} {t} walk =
       let w = writer in
       let at = w.4 in
       let x : ℕ = v.number in
@@ -95,9 +96,9 @@ module _ (f : FunctionValue) (once : DefinedOnce f) (follow : BlocksFollow f) (e
       let u = used_at f follow ends c v lc used in
       let more : b + 1 < length f.blocks = omega (arith, order, ne, lc) in
       let apart : (block_at f b).range.end ≤ (block_at f (b + 1)).range.first = ends_before f follow b (b + 1) (omega arith) more in
-      blocks_live (Made f) f proper kept follow blank begin start x c u.0
+      blocks_live (kept_of (Made f) f proper kept) follow blank begin start x c u.0
       (λ d k ld few is. not_both f once x w.0 w.1 d k at (record { block = ld; param = few; number = sym is }))
-      lc u.1 u.2 u.3 (b + 1) places t walk (omega (arith, order, ne))
+      lc u.1 u.2 u.3 walk (omega (arith, order, ne))
       (λ k ge less. elim (cases_Bool (defined_by (inst_at f k).operands x)) [
         | inr free ↦ free
         | inl is ↦ (

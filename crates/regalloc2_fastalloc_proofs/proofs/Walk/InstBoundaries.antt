@@ -32,6 +32,7 @@ use Rattle.regalloc2_fastalloc_proofs.proofs.BlockBegin.ReloadAtBegin.{begun}
 use Rattle.regalloc2_fastalloc_proofs.proofs.BlockBegin.StoresOfDefs.{stores_grown, stores_places, stores_between}
 use Rattle.regalloc2_fastalloc_proofs.proofs.Slots.LocatedStaysLocated.{begins_lasts}
 use Rattle.regalloc2_fastalloc_proofs.proofs.Inst.ProperInsts.{ProperInsts}
+use Rattle.regalloc2_fastalloc_proofs.proofs.Inst.ProperInsts.{proper_of}
 
 -- The arguments of a branch keep what holds between instructions; slots stay, located vregs stay located, and so does each argument from there on that
 -- the branch doesn't define.
@@ -148,13 +149,25 @@ IsUsedAt f b i x =
     ⊎ ((inst_at f i).is_branch ≡ true × ((k : ℕ) × (v : VirtualRegister) × (k < length (block_at f b).succs) × Contains (arguments_at f b k) v
     × (v.number ≡ x) × (i ≡ last_of (block_at f b))))
 
-module _ (Known : VirtualRegister → Type 0) (f : FunctionValue)
-    (proper : ProperInsts Known f) (kept : BranchKept f) where
+-- A function of proper instructions, whose branches keep what holds between instructions. Known: the vregs that are spoken of.
+pub record KeptCode : Type 1 where
+  pub Known : VirtualRegister → Type 0
+  pub f : FunctionValue
+  pub proper : ProperInsts Known f
+  pub kept : BranchKept f
+
+-- those, of their parts
+abbrev pub kept_of : (Known : VirtualRegister → Type 0) (f : FunctionValue) → ProperInsts Known f → BranchKept f → KeptCode
+kept_of Known f proper kept = record { Known = Known; f = f; proper = proper; kept = kept }
+
+module _ (code : KeptCode) where
+  open code use {Known, f, proper, kept}
+
   -- one instruction of a block
   module _ (b i : ℕ) (before_it places : List Place) (old new : StateValue) (lt : i < length f.insts)
       (a : AllocsInstInBlock f b i before_it places old new) where
-    by_itself : Between (i + 1) old → Alone Known f (λ j. a.allocates.here) proper i old a.middle
-    by_itself h = alone Known f (λ j. a.allocates.here) proper i a.allocates.blank a.allocates.here old a.middle lt (λ k less. refl) h
+    by_itself : Between (i + 1) old → Alone (proper_of Known f (λ j. a.allocates.here) proper) i old a.middle
+    by_itself h = alone (proper_of Known f (λ j. a.allocates.here) proper) i a.allocates.blank a.allocates.here old a.middle lt (λ k less. refl) h
         a.allocates.allocates
 
     -- it is a branch, or nothing is done after it
@@ -215,8 +228,9 @@ edge_next f follow b lt = (
   λ last. (follow b lt).3 last,
 )
 
-module _ (Known : VirtualRegister → Type 0) (f : FunctionValue)
-    (proper : ProperInsts Known f) (kept : BranchKept f) (follow : BlocksFollow f) where
+module _ (code : KeptCode) (follow : BlocksFollow code.f) where
+  open code use {Known, f, proper, kept}
+
   module _ (b : ℕ) (lb : b < length f.blocks) (blank : List Place) (old : StateValue) where
     -- an instruction of the block is one of the function
     of_function : (i : ℕ) → i < (block_at f b).range.end → i < length f.insts
@@ -226,7 +240,7 @@ module _ (Known : VirtualRegister → Type 0) (f : FunctionValue)
     pub walk_between : Between (block_at f b).range.end old → (i : ℕ) (places : List Place) (t : StateValue) → AllocsBlockInsts f b blank old i places t
         → Between i t
     walk_between h i places t at_end = h
-    walk_between h i places t (one_in j p q s u ge less prev a) = in_between Known f proper kept b j p q s u (of_function j less) a
+    walk_between h i places t (one_in j p q s u ge less prev a) = in_between code b j p q s u (of_function j less) a
         (walk_between h (j + 1) p s prev)
 
     -- the instructions of a block from i on let slots grow, and add edits at points of these instructions alone
@@ -239,7 +253,7 @@ module _ (Known : VirtualRegister → Type 0) (f : FunctionValue)
         (grown_weaken (IsWithin (j + 1) e) (IsWithin j e) old s (λ n w. (omega (arith, w.0), w.1)) (walk_grown (j + 1) p s prev))
         (grown_weaken (IsAt j) (IsWithin j e) s u
         (λ n w. elim w [ inl x ↦ (omega (arith, x), omega (arith, x, less)) | inr x ↦ (omega (arith, x), omega (arith, x, less)) ])
-        (in_grown Known f proper kept b j p q s u (of_function j less) a))
+        (in_grown code b j p q s u (of_function j less) a))
 
     module _ (h : Between (block_at f b).range.end old) (x : ℕ) where
       -- a vreg located at the block's end is located before, unless it is defined there
@@ -248,7 +262,7 @@ module _ (Known : VirtualRegister → Type 0) (f : FunctionValue)
           place_in old x ≢ NoPlace → place_in t x ≢ NoPlace
       walk_lasts i places t at_end = λ free there. there
       walk_lasts i places t (one_in j p q s u ge less prev a) = λ free there.
-          in_lasts Known f proper kept b j p q s u (of_function j less) a (walk_between h (j + 1) p s prev) x (free j (omega arith) less)
+          in_lasts code b j p q s u (of_function j less) a (walk_between h (j + 1) p s prev) x (free j (omega arith) less)
           (walk_lasts (j + 1) p s prev (λ k le lt. free k (omega (arith, le)) lt) there)
 
       -- and so does a vreg that is used there
@@ -259,9 +273,9 @@ module _ (Known : VirtualRegister → Type 0) (f : FunctionValue)
       walk_found i places t (one_in j p q s u ge less prev a) = λ free l le lt used.
           let here : Between (j + 1) s = walk_between h (j + 1) p s prev in
           elim (cases_eq l j) [
-            | inl e ↦ in_found Known f proper kept b j p q s u (of_function j less) a lb here x (free j (omega arith) less)
+            | inl e ↦ in_found code b j p q s u (of_function j less) a lb here x (free j (omega arith) less)
                 (subst (λ (m : ℕ). IsUsedAt f b m x) e used)
-            | inr ne ↦ in_lasts Known f proper kept b j p q s u (of_function j less) a here x (free j (omega arith) less)
+            | inr ne ↦ in_lasts code b j p q s u (of_function j less) a here x (free j (omega arith) less)
                 (walk_found (j + 1) p s prev (λ k ge2 lt2. free k (omega (arith, ge2)) lt2) l (omega (arith, le, ne)) lt used)
           ]
 
@@ -302,10 +316,10 @@ module _ (Known : VirtualRegister → Type 0) (f : FunctionValue)
     pub blocks_live : (x c l : ℕ) → ((d k : ℕ) → d < length f.blocks → k < length (block_at f d).params →
         x ≢ (slice_index_or (block_at f d).params k no_vreg).number) →
         c < length f.blocks → (block_at f c).range.first ≤ l → l < (block_at f c).range.end → IsUsedAt f c l x →
-        (b : ℕ) (places : List Place) (t : StateValue) → AllocsBlocks f blank old b places t → b ≤ c →
+        {b : ℕ} {places : List Place} {t : StateValue} → AllocsBlocks f blank old b places t → b ≤ c →
         ((k : ℕ) → (block_at f b).range.first ≤ k → k < length f.insts → defined_by (inst_at f k).operands x ≡ false) → place_in t x ≢ NoPlace
-    blocks_live x c l none lc low high used b places t all_left = λ le free. absurd (omega (arith, le, lc))
-    blocks_live x c l none lc low high used b places t (one_block d p q s u w lt prev walk begins) = λ le free.
+    blocks_live x c l none lc low high used all_left = λ le free. absurd (omega (arith, le, lc))
+    blocks_live x c l none lc low high used (one_block d p q s u w lt prev walk begins) = λ le free.
         let first : ℕ = (block_at f d).range.first in
         let end : ℕ = (block_at f d).range.end in
         let within = ends_within f follow d lt in
@@ -320,5 +334,5 @@ module _ (Known : VirtualRegister → Type 0) (f : FunctionValue)
           | inr ne ↦ (
               let next : end ≡ (block_at f (d + 1)).range.first = (edge_next f follow d lt).0 (omega (arith, le, ne, lc)) in
               walk_lasts d lt p s behind x first q u walk here
-              (blocks_live x c l none lc low high used (d + 1) p s prev (omega (arith, le, ne)) (λ k ge less. free k (omega (arith, ge, next, some)) less)))
+              (blocks_live x c l none lc low high used prev (omega (arith, le, ne)) (λ k ge less. free k (omega (arith, ge, next, some)) less)))
         ]))

@@ -16,7 +16,7 @@ use Rattle.regalloc2_fastalloc_proofs.proofs.Operands.RecordOverState.{stands_at
 use Rattle.regalloc2_fastalloc_proofs.proofs.Operands.DefinedNumbers.{defined_by}
 use Rattle.regalloc2_fastalloc_proofs.proofs.Inst.OneInstCarries.{Between, Alone, alone}
 use Rattle.regalloc2_fastalloc_proofs.proofs.Walk.InstForOneVReg.{step_at, Leaves, step_of}
-use Rattle.regalloc2_fastalloc_proofs.proofs.Inst.ProperInsts.{ProperInsts}
+use Rattle.regalloc2_fastalloc_proofs.proofs.Inst.ProperInsts.{ProperCode}
 
 -- whether an instruction defines the number, of so many from one on
 unfoldable pub defined_from : FunctionValue → ℕ → ℕ → ℕ → Bool
@@ -36,27 +36,40 @@ pub data Goes (f : FunctionValue) (placesf : ℕ → List Place) (L : ℕ → St
       → ((k : ℕ) → k < length (inst_at f i).operands → place_at (placesf i) k ≡ slice_index_or here k NoPlace) → AllocsInst i (inst_at f i) blank here t u →
       L i t u → Goes f placesf L begin first stop i u
 
-module _ (Known : VirtualRegister → Type 0) (f : FunctionValue) (placesf : ℕ → List Place)
-    (proper : ProperInsts Known f) (L : ℕ → StateValue → StateValue → Type 0)
-    (begin : StateValue) (first stop : ℕ) (within : stop ≤ length f.insts) (start : Between stop begin) where
+-- What is asked of such instructions for one vreg v, with m more behind stop, where v is needed in E. F: the slots at the walk's end; block: whether the block
+-- writes v. None of them is a return; they don't define v where the block doesn't write it, leave its slot, and don't read it before its definition.
+pub record VRegGoes (code : ProperCode) (L : ℕ → StateValue → StateValue → Type 0) (first stop : ℕ) : Type 1 where
+  pub F : ℕ → Option Place
+  pub v : VirtualRegister
+  pub known : code.Known v
+  pub block : Bool
+  pub m : ℕ
+  pub E : Place → Type 0
+  pub returns : (i : ℕ) → first ≤ i → i < stop → ends_block (inst_at code.f i) ≡ false
+  pub writes : (i : ℕ) → first ≤ i → i < stop → block ≡ false → defined_by (inst_at code.f i).operands v.number ≡ false
+  pub leaves : (i : ℕ) (t u : StateValue) → first ≤ i → i < stop → L i t u → Leaves code.f code.placesf F v i t u
+  pub unread : (i n : ℕ) → first ≤ i → i < stop → i + 1 + n ≡ stop + m → defined_from code.f v.number (i + 1) n ≡ true → Unread (inst_at code.f i).operands v
+
+module _ (code : ProperCode) (L : ℕ → StateValue → StateValue → Type 0) (begin : StateValue) (first stop : ℕ) (within : stop ≤ length code.f.insts)
+    (start : Between stop begin) where
+  open code use {Known, f, placesf, proper}
+
   -- the state before each of these instructions is one between instructions
   pub goes_between : (i : ℕ) (t : StateValue) → Goes f placesf L begin first stop i t → Between i t
   goes_between i t stopped = start
   goes_between i t (one_more j s u blank here ge lt prev at a l) =
-      (alone Known f placesf proper j blank here s t (omega (arith, within)) at (goes_between (j + 1) s prev) a).between
+      (alone code j blank here s t (omega (arith, within)) at (goes_between (j + 1) s prev) a).between
 
   -- the law of one of them
   pub goes_alone : (i : ℕ) (t u : StateValue) (blank here : List Place) → i < stop → Goes f placesf L begin first stop (i + 1) t
       → ((k : ℕ) → k < length (inst_at f i).operands → place_at (placesf i) k ≡ slice_index_or here k NoPlace) → AllocsInst i (inst_at f i) blank here t u →
-      Alone Known f placesf proper i t u
-  goes_alone i t u blank here lt prev at a = alone Known f placesf proper i blank here t u
+      Alone code i t u
+  goes_alone i t u blank here lt prev at a = alone code i blank here t u
       (omega (arith, within)) at (goes_between (i + 1) t prev) a
 
-  module _ (F : ℕ → Option Place) (v : VirtualRegister) (known : Known v) (block : Bool) (m : ℕ) (E : Place → Type 0)
-      (returns : (i : ℕ) → first ≤ i → i < stop → ends_block (inst_at f i) ≡ false)
-      (writes : (i : ℕ) → first ≤ i → i < stop → block ≡ false → defined_by (inst_at f i).operands v.number ≡ false)
-      (leaves : (i : ℕ) (t u : StateValue) → first ≤ i → i < stop → L i t u → Leaves f placesf F v i t u)
-      (unread : (i n : ℕ) → first ≤ i → i < stop → i + 1 + n ≡ stop + m → defined_from f v.number (i + 1) n ≡ true → Unread (inst_at f i).operands v) where
+  module _ (goes : VRegGoes code L first stop) where
+    open goes use {F, v, known, block, m, E, returns, writes, leaves, unread}
+
     -- what is carried from a boundary on
     abbrev pub CarriedFrom : ℕ → ℕ → StateValue → Type 0
     CarriedFrom i n t = Carries v (walked (inst_at f) (at_point (listed t.edits)) placesf i n)

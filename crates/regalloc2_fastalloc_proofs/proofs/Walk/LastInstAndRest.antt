@@ -6,7 +6,7 @@ use Rattle.regalloc2_names.specs.Register.{VirtualRegister}
 use Rattle.regalloc2_names.specs.Place.{Place, NoPlace}
 use Rattle.regalloc2_names.specs.Point.{before, after}
 use Rattle.regalloc2_function.specs.FunctionValue.{FunctionValue, block_at, inst_at}
-use Rattle.regalloc2_function.specs.WellFormed.{BlocksFollow, BlocksEnd, last_of}
+use Rattle.regalloc2_function.specs.WellFormed.{last_of}
 use Rattle.regalloc2_function.specs.OutputValue.{place_at}
 use Rattle.regalloc2_semantics.specs.BlockByPoints.{at_point, listed}
 use Rattle.regalloc2_semantics.proofs.Order.{ends_within}
@@ -20,8 +20,9 @@ use Rattle.regalloc2_fastalloc_proofs.proofs.Safety.InstsKeepSafe.{later_same}
 use Rattle.regalloc2_fastalloc_proofs.proofs.Slots.StepsKeepSlots.{Grown, IsAt, grown_then}
 use Rattle.regalloc2_fastalloc_proofs.proofs.Walk.InstForOneVReg.{Leaves}
 use Rattle.regalloc2_fastalloc_proofs.proofs.Walk.InstsBeforeLastCarry.{Goes, stopped, one_more}
-use Rattle.regalloc2_fastalloc_proofs.proofs.Walk.InstBoundaries.{BranchKept, grown_weaken, grown_slots, in_grown}
-use Rattle.regalloc2_fastalloc_proofs.proofs.Inst.ProperInsts.{ProperInsts}
+use Rattle.regalloc2_fastalloc_proofs.proofs.Walk.InstBoundaries.{grown_weaken, grown_slots, in_grown}
+use Rattle.regalloc2_fastalloc_proofs.proofs.Walk.FunctionLaws.{PlacedCode}
+use Rattle.regalloc2_fastalloc_proofs.proofs.Walk.InstBoundaries.{kept_of}
 
 -- any point
 abbrev pub AnyPlace : ℕ → Type 0
@@ -44,9 +45,9 @@ pub record Split (f : FunctionValue) (placesf : ℕ → List Place) (L : ℕ →
   pub goes : Goes f placesf L begin (block_at f b).range.first last i t
   pub rest : Grown AnyPlace begin final
 
-module _ (Known : VirtualRegister → Type 0) (f : FunctionValue)
-    (proper : ProperInsts Known f) (kept : BranchKept f) (follow : BlocksFollow f) (ends : BlocksEnd f)
-    (placesf : ℕ → List Place) (final : StateValue) where
+module _ (code : PlacedCode) (final : StateValue) where
+  open code use {Known, f, proper, kept, follow, ends, placesf}
+
   -- the places of later instructions are listed where they were before
   pub listed_behind : (b j : ℕ) (p q : List Place) (s u : StateValue) → j < length f.insts → AllocsInstInBlock f b j p q s u → AreListed f placesf j q →
       AreListed f placesf (j + 1) p
@@ -90,7 +91,7 @@ module _ (Known : VirtualRegister → Type 0) (f : FunctionValue)
                 let sooner : j < last_of (block_at f b) = omega (arith, less, ne) in
                 let plain = ((ends b lb).1 j ge less sooner).0 in
                 let before_it : Grown AnyPlace s final = grown_then AnyPlace s u final
-                (grown_weaken (IsAt j) AnyPlace s u (λ n x. tt) (in_grown Known f proper kept b j p q s u (within j less) a)) rest in
+                (grown_weaken (IsAt j) AnyPlace s u (λ n x. tt) (in_grown (kept_of Known f proper kept) b j p q s u (within j less) a)) rest in
                 let sp = split (j + 1) p s prev (omega (arith, sooner)) (listed_behind b j p q s u (within j less) a h) before_it in
                 record {
                   begin = sp.begin;

@@ -68,10 +68,13 @@ loop-frame-preserved-else-not-met g c = λ succs same blocks.
     let h = succ_in_range succs (length c.args.visited.now) c.args.entry c.in-Some.frame.block c.in-Some.frame.next c.index-succs-frame.result
     c.succs_of-succs.result.now blocks in_range is c.if-frame-succs.true c.index-succs-frame.is in
     again_step succs (length c.args.visited.now) c.args.entry c.loop-frame.visited c.loop-frame.out.items c.loop-frame.stack.items c.pop.new.self.items
-    c.in-Some.frame c.succs_of-succs.result.now c.in-Some.ensures.items is w
-    c.push-then-frame-succs.new.self.items c.index-succs-frame.result c.in_ok-push-2.ensures.items c.if-frame-succs.true
-    (read_zero c.succs_of-succs.result.now c.in-Some.frame.next c.index-succs-frame.result c.if-frame-succs.true c.index-succs-frame.is)
-    h (rw c.index-then-frame-succs.ensures at c.if-not-met.false))
+    c.in-Some.frame c.succs_of-succs.result.now (record { top = c.in-Some.ensures.items; is = is; w = w })
+    c.index-succs-frame.result c.in_ok-push-2.ensures.items
+    (record {
+      less = c.if-frame-succs.true;
+      at = read_zero c.succs_of-succs.result.now c.in-Some.frame.next c.index-succs-frame.result c.if-frame-succs.true c.index-succs-frame.is;
+      within = h;
+    }) (rw c.index-then-frame-succs.ensures at c.if-not-met.false))
 
 pub loop-frame-preserved-in-Continue-branch-3 : goal.loop-frame-preserved-in-Continue-branch-3
 loop-frame-preserved-in-Continue-branch-3 g c = λ succs same blocks.
@@ -81,11 +84,13 @@ loop-frame-preserved-in-Continue-branch-3 g c = λ succs same blocks.
     let h = succ_in_range succs (length c.args.visited.now) c.args.entry c.in-Some.frame.block c.in-Some.frame.next c.index-succs-frame.result
     c.succs_of-succs.result.now blocks in_range is c.if-frame-succs.true c.index-succs-frame.is in
     rw c.index-then-not-met.ensures (enter_step succs (length c.args.visited.now) c.args.entry c.loop-frame.visited c.loop-frame.out.items
-    c.loop-frame.stack.items c.pop.new.self.items c.in-Some.frame c.succs_of-succs.result.now c.in-Some.ensures.items is w
-    c.push-then-frame-succs.new.self.items c.push-then-not-met.new.self.items c.index-succs-frame.result c.in_ok-push-2.ensures.items
-    c.in_ok-push-3.ensures.items c.if-frame-succs.true (read_zero c.succs_of-succs.result.now c.in-Some.frame.next c.index-succs-frame.result
-    c.if-frame-succs.true c.index-succs-frame.is)
-    h (rw c.index-then-frame-succs.ensures at c.if-not-met.true)))
+    c.loop-frame.stack.items c.pop.new.self.items c.in-Some.frame c.succs_of-succs.result.now
+    (record { top = c.in-Some.ensures.items; is = is; w = w }) c.index-succs-frame.result c.in_ok-push-2.ensures.items c.in_ok-push-3.ensures.items
+    (record {
+      less = c.if-frame-succs.true;
+      at = read_zero c.succs_of-succs.result.now c.in-Some.frame.next c.index-succs-frame.result c.if-frame-succs.true c.index-succs-frame.is;
+      within = h;
+    }) (rw c.index-then-frame-succs.ensures at c.if-not-met.true)))
 
 pub loop-frame-preserved : goal.loop-frame-preserved
 loop-frame-preserved g c = λ succs same blocks.
@@ -93,8 +98,8 @@ loop-frame-preserved g c = λ succs same blocks.
     let in_range = walked_frame c.pop.new.self.items c.in-Some.frame w c.in-Some.ensures.items in
     let is : c.succs_of-succs.result.now ≡ succs c.in-Some.frame.block = same _ _ in_range c.succs_of-succs.ensures in
     leave_step succs (length c.args.visited.now) c.args.entry c.loop-frame.visited c.loop-frame.out.items c.loop-frame.stack.items c.pop.new.self.items
-    c.in-Some.frame c.succs_of-succs.result.now c.in-Some.ensures.items is w
-    c.push-else-frame-succs.new.self.items c.in_ok-push-4.ensures.items c.if-frame-succs.false)
+    c.in-Some.frame c.succs_of-succs.result.now (record { top = c.in-Some.ensures.items; is = is; w = w }) c.in_ok-push-4.ensures.items
+    c.if-frame-succs.false)
 
 pub returns : goal.returns
 returns g c = λ succs same blocks. walked_end succs (length c.args.visited.now) c.args.entry c.loop-frame.visited c.loop-frame.stack.items

@@ -1,4 +1,4 @@
-use Rattle.std.proofs.Common.{◌<◌, arith}
+use Rattle.std.proofs.Common.{arith}
 use Rattle.regalloc2_function.specs.FunctionValue.{FunctionValue}
 use Rattle.regalloc2_cfg.proofs.TableLengths.{room_above, short_above}
 use Rattle.regalloc2_cfg.proofs.table_length.table_length.Goals as goal

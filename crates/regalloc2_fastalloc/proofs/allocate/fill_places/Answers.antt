@@ -38,7 +38,7 @@ use Rattle.regalloc2_fastalloc_proofs.proofs.Walk.UsesReadOwnDefs.{fresh_blank, 
 use Rattle.regalloc2_fastalloc_proofs.proofs.Safety.MachineRegs.{fit_apart}
 use Rattle.regalloc2_fastalloc_proofs.proofs.Slots.WalkKeepsSlotsApart.{BranchesFrom, walk_classed}
 use Rattle.regalloc2_fastalloc_proofs.proofs.Slots.OutputOwnsSlots.{fits_keeps, made_slots_owned}
-use Rattle.regalloc2_pressure_proofs.proofs.OutOfRegs.{walk_stops}
+use Rattle.regalloc2_pressure_proofs.proofs.OutOfRegs.{AreFresh, walk_stops}
 use Rattle.regalloc2_fastalloc.proofs.ErrorsHaveReasons.{lacks_where}
 use Rattle.regalloc2_fastalloc.proofs.UsesReadNumbers.{reads_numbers}
 use Rattle.regalloc2_fastalloc.proofs.UnitsNeeded.{sizes_of, sizes_agree, few_slots, full_needs}
@@ -53,6 +53,8 @@ use Rattle.regalloc2_fastalloc.proofs.RoomInTables.{has_room}
 use Rattle.regalloc2_fastalloc.proofs.RegistersForAll.{are_few, asks_for_registers, names_in}
 use Rattle.regalloc2_fastalloc.proofs.allocate.fill_places.Given.{Over}
 use Rattle.regalloc2_fastalloc.proofs.allocate.fill_places.Goals as goal
+use Rattle.regalloc2_fastalloc_proofs.proofs.Walk.WholeWalk.{WholeWalk, whole_walk}
+use Rattle.regalloc2_fastalloc_proofs.proofs.Safety.FunctionKeepsSafe.{FreshWalk}
 
 pub new-requires : goal.new-requires
 new-requires g c = (search rules, (c.requires.machine, c.table_length-vregs.ensures.few))
@@ -154,37 +156,53 @@ fit_is : (g : Over) (c : goal.After-array_drop-state-2 g) → Fit (begun g c)
 fit_is g c = fresh_fit (g.F.Function.function c.args.f.now) (machine_of c.args.env.now) (begun g c) c.requires.machine (machine_is g c)
     c.in_ok-state.ensures.small
 
+-- the whole walk
+abbrev whole_is : (g : Over) (c : goal.After-array_drop-state-2 g) → WholeWalk
+whole_is g c = whole_walk (machine_of c.args.env.now) (g.F.Function.function c.args.f.now) (g.met.F.Function.limited c.args.f.now) c.requires.well_formed
+    c.args.allocs.now (begun g c) (left g c) (out_of g c) (blank_is g c) (fit_is g c) c.in_ok-alloc_blocks.ensures.ok
+
+-- and from which tables it began
+abbrev fresh_is : (g : Over) (c : goal.After-array_drop-state-2 g) → FreshWalk
+fresh_is g c = record {
+  env = machine_of c.args.env.now;
+  f = g.F.Function.function c.args.f.now;
+  fits = c.requires.machine;
+  limited = g.met.F.Function.limited c.args.f.now;
+  ok = c.requires.well_formed;
+  taken = c.requires.taken;
+  blank = c.args.allocs.now;
+  places = c.alloc_blocks.new.allocs;
+  begin = begun g c;
+  last = left g c;
+  n = c.table_length-vregs.result;
+  m = c.table_length-vregs.result;
+  sizes = sizes_of (g.F.Function.function c.args.f.now);
+  by_last = (g.F.Function.function c.args.f.now).named_by_last_slot;
+  nobody = c.in_ok-state.ensures.places;
+  slots = c.in_ok-state.ensures.slots;
+  none = c.in_ok-state.ensures.edits;
+  units = units_are g c;
+  machine = machine_is g c;
+  walks = c.in_ok-alloc_blocks.ensures.ok;
+}
+
 -- what the walk left
 walked : (g : Over) (c : goal.After-array_drop-state-2 g) →
     WalkKept (machine_of c.args.env.now) (Made (g.F.Function.function c.args.f.now)) (g.F.Function.function c.args.f.now)
     (MayInBlocks (g.F.Function.function c.args.f.now)) c.alloc_blocks.new.allocs 0 0 c.alloc_blocks.new.allocs (left g c)
-walked g c =
-    let f : FunctionValue = g.F.Function.function c.args.f.now in
-    let n : ℕ = c.table_length-vregs.result in
-    let e = c.in_ok-state.ensures in
-    walk_kept_through (machine_of c.args.env.now) f c.requires.machine (g.met.F.Function.limited c.args.f.now) c.requires.well_formed c.requires.taken
-    c.args.allocs.now c.alloc_blocks.new.allocs (begun g c) (left g c) n n (sizes_of f) f.named_by_last_slot e.places e.slots e.edits
-    (units_are g c) (machine_is g c) (blank_is g c) (fit_is g c) c.in_ok-alloc_blocks.ensures.ok
+walked g c = walk_kept_through (fresh_is g c) (blank_is g c) (fit_is g c)
 
 -- and at each of its instructions
 safe_is : (g : Over) (c : goal.After-array_drop-state-2 g) →
     SafeWithin (machine_of c.args.env.now) (g.F.Function.function c.args.f.now) c.args.allocs.now (begun g c) c.alloc_blocks.new.allocs
-safe_is g c =
-    let f : FunctionValue = g.F.Function.function c.args.f.now in
-    let n : ℕ = c.table_length-vregs.result in
-    let e = c.in_ok-state.ensures in
-    walk_safe_through (machine_of c.args.env.now) f c.requires.machine (g.met.F.Function.limited c.args.f.now) c.requires.well_formed c.requires.taken
-    c.args.allocs.now c.alloc_blocks.new.allocs (begun g c) (left g c) n n (sizes_of f) f.named_by_last_slot e.places e.slots e.edits
-    (units_are g c) (machine_is g c) (blank_is g c) (fit_is g c) c.in_ok-alloc_blocks.ensures.ok
+safe_is g c = walk_safe_through (fresh_is g c) (blank_is g c) (fit_is g c)
 
 -- a vreg that is passed as an argument has a slot
 handed_is : (g : Over) (c : goal.After-array_drop-state-2 g) → (v : VirtualRegister) (i : ℕ) → PassesAt (g.F.Function.function c.args.f.now) v i →
     slot_name (left g c).slots v.number ≢ NoPlace
 handed_is g c v i p =
     let f : FunctionValue = g.F.Function.function c.args.f.now in
-    passed_slots (machine_of c.args.env.now) f (g.met.F.Function.limited c.args.f.now) c.requires.well_formed (passes_between f) c.args.allocs.now (begun g c)
-    (left g c) (out_of g c) (blank_is g c) (fit_is g c)
-    c.in_ok-alloc_blocks.ensures.ok v i p
+    passed_slots (whole_is g c) (passes_between f) v i p
 
 made : (g : Over) (c : goal.After-array_drop-state-2 g) →
     IsMade (g.F.Function.function c.args.f.now) (machine_of c.args.env.now) (Made (g.F.Function.function c.args.f.now))
@@ -214,16 +232,14 @@ faithful_is g c = λ written.
     let m : IsMade f env (Made f) (MayInBlocks f) (left g c) (out_of g c) = made g c in
     faithful f env (out_of g c) (made_constraints f env (Made f) (MayInBlocks f) (left g c) (out_of g c) m)
     (made_in_registers f env (Made f) (MayInBlocks f) (left g c) (out_of g c) m)
-    (made_blocks_agree env f (g.met.F.Function.limited c.args.f.now) c.requires.well_formed c.requires.taken c.requires.branches c.args.allocs.now (begun g c)
-    (left g c) (out_of g c) (blank_is g c) (fit_is g c) c.in_ok-alloc_blocks.ensures.ok (safe_is g c) m written)
+    (made_blocks_agree (whole_is g c) c.requires.taken c.requires.branches (safe_is g c) m written)
 
 live_is : (g : Over) (c : goal.After-array_drop-state-2 g) → IsWrittenFirst (g.F.Function.function c.args.f.now) →
     LiveInSlots (g.F.Function.function c.args.f.now) (out_of g c)
 live_is g c =
     let f : FunctionValue = g.F.Function.function c.args.f.now in
     let env : MachineValue = machine_of c.args.env.now in
-    made_in_slots env f (g.met.F.Function.limited c.args.f.now) c.requires.well_formed c.requires.taken c.requires.branches c.args.allocs.now (begun g c)
-    (left g c) (out_of g c) (blank_is g c) (fit_is g c) c.in_ok-alloc_blocks.ensures.ok (safe_is g c) (made g c)
+    made_in_slots (whole_is g c) c.requires.taken c.requires.branches (safe_is g c) (made g c)
     c.num_units.ensures.owned (tame_at env f (g.met.F.Function.limited c.args.f.now) c.requires.well_formed c.requires.taken)
 
 -- and debug locations name places of their virtual registers, which hold their values
@@ -234,8 +250,7 @@ labels_are g c =
     let limited : IsLimited f = g.met.F.Function.limited c.args.f.now in
     let tame = tame_at env f limited c.requires.well_formed c.requires.taken in
     shows_labels env f limited c.requires.well_formed (MayInBlocks f) (left g c) (out_of g c) (made g c) (handed_is g c) c.num_units.ensures.owned tame
-    (made_label_shown env f limited c.requires.well_formed c.requires.taken c.requires.branches c.args.allocs.now (begun g c) (left g c) (out_of g c)
-    (blank_is g c) (fit_is g c) c.in_ok-alloc_blocks.ensures.ok (safe_is g c) (made g c)
+    (made_label_shown (whole_is g c) c.requires.taken c.requires.branches (safe_is g c) (made g c)
     c.requires.machine c.num_units.ensures.owned tame) c.in_ok-debug_locations.ensures.ok
 
 -- there are few temporary slots
@@ -255,9 +270,8 @@ owners_are g c =
     let last : StateValue = left g c in
     let n : ℕ = c.table_length-vregs.result in
     let e = c.in_ok-state.ensures in
-    let classed = walk_classed env f (fits_keeps f env c.requires.machine) limited c.requires.well_formed c.requires.taken c.args.allocs.now
-    c.alloc_blocks.new.allocs begin last n n (sizes_of f) f.named_by_last_slot
-    e.places e.slots e.edits (units_are g c) (machine_is g c) c.in_ok-alloc_blocks.ensures.ok in
+    let classed = walk_classed (fits_keeps f env c.requires.machine) limited c.requires.well_formed c.requires.taken {begin = begin} {last = last} n n
+    (sizes_of f) e.places e.slots e.edits (units_are g c) (machine_is g c) c.in_ok-alloc_blocks.ensures.ok in
     made_slots_owned f env (Made f) (MayInBlocks f) last (out_of g c) (made g c) c.num_units.ensures.owned
     (tame_at env f limited c.requires.well_formed c.requires.taken) f.named_by_last_slot (BranchesFrom f 0) classed
     (sizes_agree f last.slots (sizes_kept f begin last n f.named_by_last_slot _ e.slots c.alloc_blocks.ensures.machine)) refl (λ i class m. (m.1, m.2))
@@ -328,10 +342,21 @@ returns-in_err-alloc_blocks-clause-err g c =
     let e = c.in_ok-state.ensures in
     let limited : IsLimited f = g.met.F.Function.limited c.args.f.now in
     let machine : HasMachine env begin = begun_machine env begin e.registers (λ r. (e.fixed_stack r).0) (λ r. (e.fixed_stack r).1) e.dedicated_scratch in
-    let units = some_units n (slot_size f.slot_sizes Int) (slot_size f.slot_sizes Float) (slot_size f.slot_sizes Vector) f.named_by_last_slot
-    (limited.slot_sizes Int).positive (limited.slot_sizes Float).positive (limited.slot_sizes Vector).positive in
+    let fresh : AreFresh env begin = record {
+      vregs = n;
+      owners = n;
+      sizes = sizes_of f;
+      by_last = f.named_by_last_slot;
+      nobody = e.places;
+      slots = e.slots;
+      none = e.edits;
+      units = some_units n (slot_size f.slot_sizes Int) (slot_size f.slot_sizes Float) (slot_size f.slot_sizes Vector) f.named_by_last_slot
+          (limited.slot_sizes Int).positive (limited.slot_sizes Float).positive (limited.slot_sizes Vector).positive;
+      machine = machine;
+      fit = fresh_fit f env begin c.requires.machine machine e.small;
+      allocatable = e.all;
+      dedicated_scratch = e.dedicated_scratch;
+    } in
     rw p.1 (subst (Lacks (SomeDoesNotFit f env) (2 ^ 24 < units_at_most f)) (sym p.2)
     (lacks_where (SomeDoesNotFit f env) (SlotsExhaustedWith begin.slots most) (2 ^ 24 < units_at_most f) more _ c.in_err-alloc_blocks.ensures.err
-    (λ lacks. walk_stops f env c.requires.machine limited c.requires.well_formed c.requires.taken c.args.allocs.now begin n n (sizes_of f)
-    f.named_by_last_slot e.places e.slots e.edits units
-    machine (fresh_fit f env begin c.requires.machine machine e.small) e.all e.dedicated_scratch (c.in_err-alloc_blocks.ensures.stops lacks))))
+    (λ lacks. walk_stops c.requires.machine limited c.requires.well_formed c.requires.taken fresh (c.in_err-alloc_blocks.ensures.stops lacks))))

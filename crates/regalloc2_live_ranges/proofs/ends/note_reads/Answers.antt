@@ -9,9 +9,15 @@ loop-index-preserved c n less =
     let lt : n < length c.loop-index.ends = omega (arith, less, c.if-reads_at.auto.ends) in
     elim c.if-reads_at.branch [
       | then-reads_at w ↦ rw w.ends-is (reads_step c.args.pos c.args.inst c.args.operands.now c.loop-index.index n (end_at c.args.ends.now n) c.loop-index.ends
-          w.note_end.new.ends c.index-operands-index.result w.vreg.result c.end_of_read-last.result c.loop-index-test.true c.index-operands-index.is
-          (is_read c.index-operands-index.result c.args.pos (sym c.reads_at.ensures ∙ w.if-reads_at.true)) w.vreg.ensures c.end_of_read-last.ensures
-          w.note_end.ensures.noted w.note_end.ensures.others lt (c.loop-index.invariant n lt))
+          w.note_end.new.ends c.index-operands-index.result w.vreg.result c.end_of_read-last.result
+          (record {
+            within = c.loop-index-test.true;
+            is = c.index-operands-index.is;
+            reads = is_read c.index-operands-index.result c.args.pos (sym c.reads_at.ensures ∙ w.if-reads_at.true);
+            same = w.vreg.ensures;
+          })
+          (record { end = c.end_of_read-last.ensures; noted = w.note_end.ensures.noted; others = w.note_end.ensures.others }) lt
+          (c.loop-index.invariant n lt))
       | else-reads_at w ↦ rw w.ends-is (reads_skip c.args.pos c.args.inst c.args.operands.now c.loop-index.index n (end_at c.args.ends.now n)
           (end_at c.loop-index.ends n) c.index-operands-index.result c.loop-index-test.true c.index-operands-index.is
           (is_unread c.index-operands-index.result c.args.pos (sym c.reads_at.ensures ∙ w.if-reads_at.false)) (c.loop-index.invariant n lt))

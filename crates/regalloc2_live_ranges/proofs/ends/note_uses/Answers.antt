@@ -15,7 +15,8 @@ returns-then-eq g c n less =
     ∙ ap (λ (r : Span). r.end) c.block_insns.ensures in
     let one : n < length c.note_reads.new.ends = omega (arith, less, c.note_reads.auto.ends) in
     let two : n < length c.note_reads-2.new.ends = omega (arith, one, c.note_reads-2.auto.ends) in
-    uses_last f c.requires.follow c.args.block c.args.inst n c.requires.block c.requires.first c.requires.end c.requires.within (end_at c.args.ends.now n)
+    uses_last f c.requires.follow c.args.block c.args.inst n
+    (record { block = c.requires.block; from = c.requires.first; upto = c.requires.end; inst = c.requires.within }) (end_at c.args.ends.now n)
     (end_at c.note_reads.new.ends n) (end_at c.note_reads-2.new.ends n) (end_at c.note_passed.new.ends n) end
     (rw c.inst_operands-operands.ensures at (c.note_reads.ensures n less)) (rw c.inst_operands-operands.ensures at (c.note_reads-2.ensures n one))
     (c.note_passed.ensures n two)
@@ -24,7 +25,8 @@ pub returns-else-eq : goal.returns-else-eq
 returns-else-eq g c n less =
     let f : FunctionValue = g.F.Function.function c.args.f.now in
     let one : n < length c.note_reads.new.ends = omega (arith, less, c.note_reads.auto.ends) in
-    uses_inside f c.requires.follow c.args.block c.args.inst n c.requires.block c.requires.first c.requires.end c.requires.within (end_at c.args.ends.now n)
+    uses_inside f c.requires.follow c.args.block c.args.inst n
+    (record { block = c.requires.block; from = c.requires.first; upto = c.requires.end; inst = c.requires.within }) (end_at c.args.ends.now n)
     (end_at c.note_reads.new.ends n) (end_at c.note_reads-2.new.ends n)
     (λ end. let same : c.next.result ≡ c.end.result = c.next.ensures ∙ end ∙ sym (c.end.ensures ∙ ap (λ (r : Span). r.end) c.block_insns.ensures) in
     let test : nat_eq c.next.result c.end.result ≡ true = (Decides-eqb c.next.result c.end.result).1 same in

@@ -57,9 +57,10 @@ loop-index-preserved g c =
           let first : w.after.result ≡ after i = w.after.ensures.point (λ e. absurd (omega (arith, lt, limit, e))) in
           let last : w.before-then-defines_wanted.result ≡ before (i + 1) = w.before-then-defines_wanted.ensures.point
           (λ e. absurd (omega (arith, lt, limit, e, w.next.ensures))) ∙ ap before w.next.ensures in
-          let range = defined_range f c.requires.ssa W c.args.ends.now i k v w.vreg-vreg.result w.vreg.result w.after.result w.before-then-defines_wanted.result
-          w.index-ends-vreg.result w.end_of_defined-end.result d c.requires.ends_room c.requires.ends two.1 one w.index-ends-vreg.is w.vreg-vreg.ensures
-          first last w.end_of_defined-end.ensures in
+          let range = defined_range f c.requires.ssa W c.args.ends.now i k v w.vreg-vreg.result {n = w.vreg.result} {p = w.after.result}
+          {q = w.before-then-defines_wanted.result} w.index-ends-vreg.result w.end_of_defined-end.result d
+          (record { room = c.requires.ends_room; noted = c.requires.ends }) two.1 (record { number = one; entry = w.index-ends-vreg.is })
+          (record { same = w.vreg-vreg.ensures; first = first; point = last; end = w.end_of_defined-end.ensures }) in
           rw w.ranges-is (record {
             right = right_set f c.loop-index.ranges w.vreg-then-defines_wanted.result _ room (sym w.vreg-then-defines_wanted.ensures.number) range
                 c.loop-index.invariant.right;

@@ -58,7 +58,7 @@ loop-param-preserved g c =
             c.loop-param.auto.ranges,
           ) in
           let range = taken_range f c.requires.ssa W c.args.ends.now c.args.block c.param-item.result c.before-first.result w.in-Some.end c.requires.block
-          has c.requires.ends_room c.requires.ends w.in-Some.ensures.some.0 point w.in-Some.ensures.some.1 in
+          has (record { room = c.requires.ends_room; noted = c.requires.ends }) w.in-Some.ensures.some.0 point w.in-Some.ensures.some.1 in
           rw w.ranges-is (record {
             right = right_set f c.loop-param.ranges w.vreg.result _ room (sym w.vreg.ensures.number) range c.loop-param.invariant.right;
             stay = λ n some. stay_set c.loop-param.ranges w.vreg.result _ room n (c.loop-param.invariant.stay n some);
@@ -77,5 +77,5 @@ pub returns-clause-taken : goal.returns-clause-taken
 returns-clause-taken g c =
     let f : FunctionValue = g.F.Function.function c.args.f.now in
     taken_all f c.requires.ssa (IsWanted c.args.wanted.now) c.args.block c.block_params-param-items.result.now c.loop-param.param-index c.args.ends.now
-    c.loop-param.ranges c.requires.block
-    c.block_params-param-items.ensures c.loop-param-test.false c.requires.ends_room c.requires.ends c.loop-param.invariant.so_far
+    c.loop-param.ranges (record { block = c.requires.block; same = c.block_params-param-items.ensures; all = c.loop-param-test.false })
+    (record { room = c.requires.ends_room; noted = c.requires.ends }) c.loop-param.invariant.so_far

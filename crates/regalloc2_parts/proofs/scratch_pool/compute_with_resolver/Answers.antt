@@ -1,40 +1,57 @@
 use Rattle.std.proofs.Common.{get_or, rules}
 use Rattle.regalloc2_parts.specs.Resolved.{listed, has_scratch}
-use Rattle.regalloc2_parts.proofs.ResolverContracts.{owes_lent, made_with, is_short, stay_apart}
+use Rattle.regalloc2_parts.proofs.ResolverContracts.{LendPool, HaveTaken, owes_lent, made_with, is_short, stay_apart}
 use Rattle.regalloc2_parts.proofs.scratch_pool.compute_with_resolver.Goals as goal
 
 pub compute_by_ref-requires : goal.compute_by_ref-requires
-compute_by_ref-requires g c = (
-  search rules,
-  (
-    search rules,
-    (
-      (c.requires.registers _, (λ a t k. c.requires.registers t)),
+compute_by_ref-requires g c =
+    let lend : LendPool g.R.FnMut g.S.FnMut g.M.Fn c.args.resolver.find_free_reg c.args.resolver.get_stackslot c.args.resolver.is_stack_alloc c.args.pool.now
+    (listed c.args.moves) = record {
+      registers = c.requires.first;
+      slots = c.requires.second;
+      tells = c.requires.tells;
+      serves = c.requires.serves;
+    } in (
+      search rules,
       (
-        (c.requires.slots _, (λ a t k. c.requires.slots t)),
+        search rules,
         (
-          c.requires.stack,
+          (c.requires.registers _, (λ a t k. c.requires.registers t)),
           (
-            c.requires.runnable,
-            owes_lent g.R.FnMut g.S.FnMut g.M.Fn c.args.resolver.find_free_reg c.args.resolver.get_stackslot c.args.resolver.is_stack_alloc c.args.pool.now
-                (listed c.args.moves)
-                c.requires.first c.requires.second c.requires.tells c.requires.serves c.args.resolver.borrowed_scratch_reg c.requires.borrowed,
+            (c.requires.slots _, (λ a t k. c.requires.slots t)),
+            (
+              c.requires.stack,
+              (
+                c.requires.runnable,
+                owes_lent lend c.args.resolver.borrowed_scratch_reg c.requires.borrowed,
+              ),
+            ),
           ),
         ),
       ),
-    ),
-  ),
-)
+    )
 
 pub returns-in-Ok-clause-made : goal.returns-in-Ok-clause-made
 returns-in-Ok-clause-made g c =
     let x = c.in-Ok.ensures.computed in
-    made_with g.R.FnMut g.S.FnMut g.M.Fn c.args.resolver.find_free_reg c.args.resolver.get_stackslot c.args.resolver.is_stack_alloc c.args.pool.now
-    (listed c.args.moves)
-    c.requires.first c.requires.second c.requires.tells c.requires.serves c.requires.may_tell c.get_stackslot-next.result c.num_taken.result _ _ _ x.asked
-    x.slots_asked
-    c.get_stackslot-next.ensures c.num_taken.ensures.none c.num_taken.ensures.one c.args.resolver.borrowed_scratch_reg c.requires.borrowed
-    (has_scratch c.args.moves) c.in-Ok.moves.items x.outcome
+    let lend : LendPool g.R.FnMut g.S.FnMut g.M.Fn c.args.resolver.find_free_reg c.args.resolver.get_stackslot c.args.resolver.is_stack_alloc c.args.pool.now
+    (listed c.args.moves) = record {
+      registers = c.requires.first;
+      slots = c.requires.second;
+      tells = c.requires.tells;
+      serves = c.requires.serves;
+    } in
+    let have : HaveTaken g.R.FnMut g.S.FnMut c.args.resolver.find_free_reg c.args.resolver.get_stackslot c.args.pool.now.slots c.num_taken.result = record {
+      registers_left = _;
+      slots_left = _;
+      asked = x.asked;
+      slots_asked = x.slots_asked;
+      next = c.get_stackslot-next.result;
+      last = _;
+      after = c.get_stackslot-next.ensures;
+      counts = record { none = c.num_taken.ensures.none; one = c.num_taken.ensures.one };
+    } in
+    made_with lend c.requires.may_tell have c.args.resolver.borrowed_scratch_reg c.requires.borrowed (has_scratch c.args.moves) c.in-Ok.moves.items x.outcome
 
 pub returns-clause-err : goal.returns-clause-err
 returns-clause-err g c = λ e.

@@ -14,8 +14,9 @@ returns-clause-list c =
     let w = written c.args.nodes.now k c.args.vreg c.index-nodes-number.result in
     node_inserted c.args.nodes.now _ c.link.new.nodes c.link-2.new.nodes c.args.head k c.args.vreg c.index-nodes-head.result c.requires.list
     c.vreg-number.ensures.number (subst (λ (n : ℕ). n < c.args.head) (sym c.vreg-number.ensures.number) c.requires.below)
-    (subst (λ (n : ℕ). All (λ m. m ≢ n) (numbers c.args.nodes.now c.args.head)) (sym c.vreg-number.ensures.number) c.requires.absent) w c.link.ensures.nexts
-    c.link.ensures.prevs c.link.ensures.vregs c.link-2.ensures.nexts c.link-2.ensures.prevs c.link-2.ensures.vregs
+    (subst (λ (n : ℕ). All (λ m. m ≢ n) (numbers c.args.nodes.now c.args.head)) (sym c.vreg-number.ensures.number) c.requires.absent) w
+    (record { nexts = c.link.ensures.nexts; prevs = c.link.ensures.prevs; vregs = c.link.ensures.vregs })
+    (record { nexts = c.link-2.ensures.nexts; prevs = c.link-2.ensures.prevs; vregs = c.link-2.ensures.vregs })
 
 pub returns-clause-vregs : goal.returns-clause-vregs
 returns-clause-vregs c =

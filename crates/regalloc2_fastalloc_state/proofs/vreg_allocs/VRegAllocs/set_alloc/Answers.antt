@@ -1,4 +1,4 @@
-use Rattle.std.proofs.Common.{ℕ, ◌≡◌, ◌≢◌, ◌<◌, ◌⊎◌, ◌∙◌, List, length, sym, subst, ap, arith, set}
+use Rattle.std.proofs.Common.{ℕ, ◌≡◌, ◌≢◌, ◌<◌, ◌⊎◌, ◌∙◌, List, length, sym, subst, ap, arith}
 use Rattle.std.proofs.Math.ListN.{length-set}
 use Rattle.std.proofs.lemmas.List.{get_or_read}
 use Rattle.std.specs.Prelude.{All}
@@ -9,7 +9,8 @@ use Rattle.regalloc2_fastalloc_state.proofs.TakenOut.{all_other}
 use Rattle.std.specs.Prelude.{None, Some}
 use Rattle.regalloc2_names.specs.Place.{NoPlace}
 use Rattle.regalloc2_fastalloc_state.specs.StateParts.{VRegAllocsValue, SetsAlloc, vreg_of_preg, in_front_if, without}
-use Rattle.regalloc2_fastalloc_state.proofs.VRegInPRegInverse.{inverse_marked, listed_if, settles_by_marks}
+use Rattle.regalloc2_fastalloc_state.proofs.VRegInPRegInverse.{Marks, inverse_marked, listed_if, marked, settles_by_marks}
+use Rattle.regalloc2_fastalloc_state.proofs.vreg_allocs.VRegAllocs.set_alloc.Given.{Over}
 use Rattle.regalloc2_fastalloc_state.proofs.vreg_allocs.VRegAllocs.set_alloc.Goals as goal
 
 pub take_out-requires : goal.take_out-requires
@@ -30,40 +31,41 @@ put_in_front-requires-clause-absent g c =
     subst (λ (n : ℕ). All (λ v. v.number ≢ n) c.take_out.new.in_registers.members) c.vreg-number.ensures.number
     (subst (λ (vs : List VirtualRegister). All (λ v. v.number ≢ c.vreg-number.result) vs) (sym out) (all_other c.vreg-number.result L))
 
-pub returns-clause-inverse : goal.returns-clause-inverse
-returns-clause-inverse g c =
+-- what is written
+abbrev marks : (g : Over) (c : goal.After-self-1 g) → Marks
+marks g c =
     let known : c.vreg-number.result < length c.self.inside.vreg_allocs.items = (let e = ap (λ (t : VRegAllocsValue). length t.vreg_allocs) c.self.view_is in
     omega (arith, c.requires.vreg, c.vreg-number.ensures.number, e)) in
     let L : List VirtualRegister = c.self.inside.in_registers.members in
     let out : c.take_out.new.in_registers.members ≡ without c.vreg-number.result L = ap (λ (l : LiveList). l.members) c.take_out.ensures in
-    let order : c.put_in_front.new.in_registers.members ≡ in_front_if (is_in_register c.args.place) c.args.vreg (without c.vreg-number.result L) =
-    ap (λ (l : LiveList). l.members) c.put_in_front.ensures ∙ ap (in_front_if (is_in_register c.args.place) c.args.vreg) out in
-    inverse_marked c.self.inside.vreg_allocs.items c.self.inside.vreg_in_preg.items c.set_vreg_in_preg.new.vreg_in_preg.items
-    c.set_vreg_in_preg-2.new.vreg_in_preg.items L c.put_in_front.new.in_registers.members c.args.vreg c.vreg-number.result c.args.place
-    c.index-left.result.now c.vreg-number.ensures.number known (get_or_read _ _ _ known c.index-left.ensures NoPlace) c.set_vreg_in_preg.ensures.marks
-    c.set_vreg_in_preg-2.ensures.marks order c.set_vreg_in_preg-2.ensures.in_range
+    record {
+      vreg_allocs = c.self.inside.vreg_allocs.items;
+      held = c.self.inside.vreg_in_preg.items;
+      emptied = c.set_vreg_in_preg.new.vreg_in_preg.items;
+      filled = c.set_vreg_in_preg-2.new.vreg_in_preg.items;
+      listed = L;
+      now_listed = c.put_in_front.new.in_registers.members;
+      vreg = c.args.vreg;
+      number = c.vreg-number.result;
+      place = c.args.place;
+      left = c.index-left.result.now;
+      numbered = c.vreg-number.ensures.number;
+      known = known;
+      was_left = get_or_read _ _ _ known c.index-left.ensures NoPlace;
+      empties = c.set_vreg_in_preg.ensures.marks;
+      fills = c.set_vreg_in_preg-2.ensures.marks;
+      order = ap (λ (l : LiveList). l.members) c.put_in_front.ensures ∙ ap (in_front_if (is_in_register c.args.place) c.args.vreg) out;
+    }
+
+pub returns-clause-inverse : goal.returns-clause-inverse
+returns-clause-inverse g c = inverse_marked (marks g c) c.set_vreg_in_preg-2.ensures.in_range
     (λ r e. let P : VRegAllocsValue → Type 0 = λ t. (vreg_of_preg t r ≡ None)
     ⊎ (vreg_of_preg t r ≡ Some c.args.vreg) in subst P (sym c.self.view_is) (c.requires.alone r e))
     c.self.invariant.0
 
 pub returns-clause-settled : goal.returns-clause-settled
-returns-clause-settled g c =
-    let known : c.vreg-number.result < length c.self.inside.vreg_allocs.items = (let e = ap (λ (t : VRegAllocsValue). length t.vreg_allocs) c.self.view_is in
-    omega (arith, c.requires.vreg, c.vreg-number.ensures.number, e)) in
-    let L : List VirtualRegister = c.self.inside.in_registers.members in
-    let out : c.take_out.new.in_registers.members ≡ without c.vreg-number.result L = ap (λ (l : LiveList). l.members) c.take_out.ensures in
-    let order : c.put_in_front.new.in_registers.members ≡ in_front_if (is_in_register c.args.place) c.args.vreg (without c.vreg-number.result L) =
-    ap (λ (l : LiveList). l.members) c.put_in_front.ensures ∙ ap (in_front_if (is_in_register c.args.place) c.args.vreg) out in
-    let new : VRegAllocsValue = record {
-      vreg_allocs = set c.self.inside.vreg_allocs.items c.vreg-number.result c.args.place;
-      vreg_in_preg = c.set_vreg_in_preg-2.new.vreg_in_preg.items;
-      in_registers = c.put_in_front.new.in_registers.members;
-    } in
-    subst (λ (t : VRegAllocsValue). SetsAlloc t new c.args.vreg c.args.place) c.self.view_is
-    (settles_by_marks c.self.inside.vreg_allocs.items c.self.inside.vreg_in_preg.items c.set_vreg_in_preg.new.vreg_in_preg.items
-    c.set_vreg_in_preg-2.new.vreg_in_preg.items L c.put_in_front.new.in_registers.members c.args.vreg c.vreg-number.result c.args.place
-    c.index-left.result.now c.vreg-number.ensures.number known (get_or_read _ _ _ known c.index-left.ensures NoPlace) c.set_vreg_in_preg.ensures.marks
-    c.set_vreg_in_preg-2.ensures.marks order)
+returns-clause-settled g c = subst (λ (t : VRegAllocsValue). SetsAlloc t (marked (marks g c)) c.args.vreg c.args.place) c.self.view_is
+    (settles_by_marks (marks g c))
 
 pub invariant_of-self : goal.invariant_of-self
 invariant_of-self g c = (

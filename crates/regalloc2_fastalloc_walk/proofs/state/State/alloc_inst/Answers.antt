@@ -336,10 +336,7 @@ returns-clause-spill_free g c = λ names gone few plain none h.
     let same : tables_of c.remove_clobbers_from_available_pregs.new.self ≡ t0 = c.remove_clobbers_from_available_pregs.ensures.same ∙ c.reserve.ensures.same in
     let regs = c.in_ok-evict_clobbers.ensures.registers ∙ c.in_ok-evict_fixed.ensures.registers ∙ c.remove_clobbers_from_available_pregs.ensures.registers
     ∙ c.in_ok-reserve.ensures.registers (λ k r lt e. reg_not_fixed (op_at ops k) r (reg k lt) e) in
-    let begun = ready names gone ops c.args.cx.now.clobbers c.after-point.result c.after-point.result c.args.self.now.registers
-    c.evict_clobbers.new.self.registers t0
-    (tables_of c.remove_clobbers_from_available_pregs.new.self) (tables_of c.evict_fixed.new.self) t4
-    c.args.inst_regs.now c.reserve.new.inst_regs c.remove_clobbers_from_available_pregs.new.inst_regs c.evict_fixed.new.inst_regs c.evict_clobbers.new.inst_regs
+    let begun = ready
     reg none regs same c.in_ok-reserve.ensures.ok c.remove_clobbers_from_available_pregs.ensures.removed c.in_ok-evict_fixed.ensures.ok
     c.in_ok-evict_clobbers.ensures.ok h in
     let few4 : FitInRegs names t4.allocatable = subst (λ (t : StateValue). FitInRegs names t.allocatable) (sym begun.0) few in
@@ -349,7 +346,4 @@ returns-clause-spill_free g c = λ names gone few plain none h.
     (early_plain names gone ops here c.process_operands_at.new.here c.process_operands_at.new.self.registers t4 t5 c.process_operands_at.new.inst_regs plain
     late)
     (λ j at. late.others j (λ e. absurd (let no : true ≡ false = sym e ∙ at in cc)) ∙ c.requires.no_places j) late.spill_free in
-    inst_done names gone c.before-2.result ops here c.process_operands_at.new.here c.process_operands_at-2.new.here c.process_operands_at.new.self.registers
-    c.process_operands_at-2.new.self.registers c.move_uses.new.self.registers t4 t5
-    (tables_of c.process_operands_at-2.new.self) (tables_of c.move_uses.new.self) c.process_operands_at.new.inst_regs c.process_operands_at-2.new.inst_regs
-    c.move_uses.new.inst_regs plain late early c.in_ok-move_uses.ensures.ok c.in_ok-move_uses.ensures.registers
+    inst_done plain late early c.in_ok-move_uses.ensures.ok c.in_ok-move_uses.ensures.registers

@@ -26,7 +26,7 @@ use Rattle.regalloc2_fastalloc_walk.proofs.state.State.alloc_inst_in_block.Goals
 pub alloc_inst_at-requires : goal.alloc_inst_at-requires
 alloc_inst_at-requires g c =
     let f : FunctionValue = g.F.Function.function c.args.cx.now.f.now in
-    let i : ℕ = c.args.inst in
+    let i : ℕ = c.args.at.inst in
     let ops : c.inst_operands-operands.result.now ≡ (inst_at f i).operands = c.inst_operands-operands.ensures in
     let few = (g.met.F.Function.limited c.args.cx.now.f.now).insts in
     let within = sum_by_more_le (λ n. length n.operands) f.insts i no_inst c.requires.inst in
@@ -59,12 +59,12 @@ alloc_inst_at-requires g c =
 
 pub returns-then-not-is_branch-clause-ok : goal.returns-then-not-is_branch-clause-ok
 returns-then-not-is_branch-clause-ok g c =
-    let i : ℕ = c.args.inst in
+    let i : ℕ = c.args.at.inst in
     let v : InstValue = inst_at (g.F.Function.function c.args.cx.now.f.now) i in
     let P : ℕ → Type 0 = λ s. AllocsInstInto c.alloc_inst_at.new.inst_regs i v s c.args.allocs.now c.alloc_inst_at.new.allocs (tables_of c.args.self.now)
     (tables_of c.alloc_inst_at.new.self) in
     let h : P (offset_of (g.F.Function.function c.args.cx.now.f.now) i) = subst P c.requires.start
-    (to_inst c.alloc_inst_at.new.inst_regs i v c.args.start c.args.allocs.now c.alloc_inst_at.new.allocs (tables_of c.args.self.now)
+    (to_inst c.alloc_inst_at.new.inst_regs i v c.args.at.start c.args.allocs.now c.alloc_inst_at.new.allocs (tables_of c.args.self.now)
     (tables_of c.alloc_inst_at.new.self) c.inst_operands-operands.result.now c.inst_clobbers-clobbers.result _ c.ends_block-ends_block.result
     c.inst_operands-operands.ensures c.inst_clobbers-clobbers.ensures c.ends_block-ends_block.ensures c.in_ok-alloc_inst_at.ensures.ok) in
     let no : c.is_branch.result ≡ false = c.if-not-is_branch.true in
@@ -80,16 +80,16 @@ returns-then-not-is_branch-clause-ok g c =
 pub returns-clause-ok : goal.returns-clause-ok
 returns-clause-ok g c =
     let f : FunctionValue = g.F.Function.function c.args.cx.now.f.now in
-    let i : ℕ = c.args.inst in
+    let i : ℕ = c.args.at.inst in
     let v : InstValue = inst_at (g.F.Function.function c.args.cx.now.f.now) i in
     let P : ℕ → Type 0 = λ s. AllocsInstInto c.alloc_inst_at.new.inst_regs i v s c.args.allocs.now c.alloc_inst_at.new.allocs (tables_of c.args.self.now)
     (tables_of c.alloc_inst_at.new.self) in
     let h : P (offset_of (g.F.Function.function c.args.cx.now.f.now) i) = subst P c.requires.start
-    (to_inst c.alloc_inst_at.new.inst_regs i v c.args.start c.args.allocs.now c.alloc_inst_at.new.allocs (tables_of c.args.self.now)
+    (to_inst c.alloc_inst_at.new.inst_regs i v c.args.at.start c.args.allocs.now c.alloc_inst_at.new.allocs (tables_of c.args.self.now)
     (tables_of c.alloc_inst_at.new.self) c.inst_operands-operands.result.now c.inst_clobbers-clobbers.result _ c.ends_block-ends_block.result
     c.inst_operands-operands.ensures c.inst_clobbers-clobbers.ensures c.ends_block-ends_block.ensures c.in_ok-alloc_inst_at.ensures.ok) in
     let on : c.is_branch.result ≡ true = c.if-not-is_branch.false in
-    let Q : InstRegs → Type 0 = λ t. ProcessesBranch f c.args.block c.args.inst t c.process_branch.new.inst_regs (tables_of c.alloc_inst_at.new.self)
+    let Q : InstRegs → Type 0 = λ t. ProcessesBranch f c.args.block c.args.at.inst t c.process_branch.new.inst_regs (tables_of c.alloc_inst_at.new.self)
     (tables_of c.process_branch.new.self) in
     record {
       middle = tables_of c.alloc_inst_at.new.self;
@@ -103,8 +103,8 @@ pub process_branch-requires : goal.process_branch-requires
 process_branch-requires g c =
     let f : FunctionValue = g.F.Function.function c.args.cx.now.f.now in
     let on : c.is_branch.result ≡ true = c.if-not-is_branch.false in
-    let last : c.args.inst + 1 ≡ (block_at f c.args.block).range.end =
-    ends_in_branch f c.requires.well_formed.1.end c.args.block c.args.inst c.requires.block c.requires.first c.requires.end (sym c.is_branch.ensures ∙ on) in
+    let last : c.args.at.inst + 1 ≡ (block_at f c.args.block).range.end =
+    ends_in_branch f c.requires.well_formed.1.end c.args.block c.args.at.inst c.requires.block c.requires.first c.requires.end (sym c.is_branch.ensures ∙ on) in
     let few = (g.met.F.Function.limited c.args.cx.now.f.now).insts in
     let env : MachineValue = c.requires.well_formed.0 in (
       search rules,
@@ -147,7 +147,7 @@ process_branch-requires g c =
 -- the machine stays but for the temporary slots of a branch
 pub returns-in_err-alloc_inst_at-clause-step : goal.returns-in_err-alloc_inst_at-clause-step
 returns-in_err-alloc_inst_at-clause-step g c =
-    let n : ℕ = temp_slots_at (g.F.Function.function c.args.cx.now.f.now) c.args.inst in
+    let n : ℕ = temp_slots_at (g.F.Function.function c.args.cx.now.f.now) c.args.at.inst in
     let a : StateValue = tables_of c.args.self.now in
     let m : StateValue = tables_of c.alloc_inst_at.new.self in
     let p = err_from_is_err_and c.from_residual.result c.from_residual.ensures.1 in
@@ -161,8 +161,8 @@ returns-in_err-alloc_inst_at-clause-step g c =
 
 pub returns-in_err-process_branch-clause-step : goal.returns-in_err-process_branch-clause-step
 returns-in_err-process_branch-clause-step g c =
-    let n : ℕ = temp_slots_at (g.F.Function.function c.args.cx.now.f.now) c.args.inst in
-    let few : n ≡ 6 = lent_six (g.F.Function.function c.args.cx.now.f.now) c.args.inst c.is_branch.result c.is_branch.ensures c.if-not-is_branch.false in
+    let n : ℕ = temp_slots_at (g.F.Function.function c.args.cx.now.f.now) c.args.at.inst in
+    let few : n ≡ 6 = lent_six (g.F.Function.function c.args.cx.now.f.now) c.args.at.inst c.is_branch.result c.is_branch.ensures c.if-not-is_branch.false in
     let a : StateValue = tables_of c.args.self.now in
     let m : StateValue = tables_of c.alloc_inst_at.new.self in
     let p = err_from_is_err_and c.from_residual-in_err-process_branch.result c.from_residual-in_err-process_branch.ensures.1 in
@@ -185,11 +185,11 @@ returns-then-not-is_branch-clause-step g c = record {
 
 pub returns-clause-step : goal.returns-clause-step
 returns-clause-step g c =
-    let few = lent_six (g.F.Function.function c.args.cx.now.f.now) c.args.inst c.is_branch.result c.is_branch.ensures c.if-not-is_branch.false in
+    let few = lent_six (g.F.Function.function c.args.cx.now.f.now) c.args.at.inst c.is_branch.result c.is_branch.ensures c.if-not-is_branch.false in
     let a : StateValue = tables_of c.args.self.now in
     let m : StateValue = tables_of c.alloc_inst_at.new.self in
     record {
-      machine = lends_then 0 6 (temp_slots_at (g.F.Function.function c.args.cx.now.f.now) c.args.inst) a m (tables_of c.process_branch.new.self) (omega
+      machine = lends_then 0 6 (temp_slots_at (g.F.Function.function c.args.cx.now.f.now) c.args.at.inst) a m (tables_of c.process_branch.new.self) (omega
           (arith, few))
           (same_lends 0 a m c.alloc_inst_at.ensures.step.machine) c.process_branch.ensures.step.machine;
       later = c.in_ok-process_branch.ensures.step.later;
@@ -200,12 +200,12 @@ returns-clause-step g c =
 -- where it stops
 pub returns-in_err-alloc_inst_at-clause-stops : goal.returns-in_err-alloc_inst_at-clause-stops
 returns-in_err-alloc_inst_at-clause-stops g c =
-    let v : InstValue = inst_at (g.F.Function.function c.args.cx.now.f.now) c.args.inst in
+    let v : InstValue = inst_at (g.F.Function.function c.args.cx.now.f.now) c.args.at.inst in
     let t : StateValue = tables_of c.args.self.now in
     let e = err_from_is_err_and c.from_residual.result c.from_residual.ensures.1 in
     rw e.1 (λ lacks.
     let s = c.in_err-alloc_inst_at.ensures.stops (sym e.2 ∙ lacks) in
-    let X : Bool → List OperandValue → PRegSet → Type 0 = λ r o k. AllocInstFails c.args.inst r o k s.0 c.new-inst_regs.result t in
+    let X : Bool → List OperandValue → PRegSet → Type 0 = λ r o k. AllocInstFails c.args.at.inst r o k s.0 c.new-inst_regs.result t in
     in_inst c.new-inst_regs.result s.0 (record {
       early = λ r. ap (λ (x : PRegSet). has_register x r) c.new-inst_regs.ensures.early ∙ c.available_regs.ensures r;
       late = λ r. ap (λ (x : PRegSet). has_register x r) c.new-inst_regs.ensures.late ∙ c.available_regs.ensures r;
@@ -219,12 +219,12 @@ returns-in_err-alloc_inst_at-clause-stops g c =
 pub returns-in_err-process_branch-clause-stops : goal.returns-in_err-process_branch-clause-stops
 returns-in_err-process_branch-clause-stops g c =
     let f : FunctionValue = g.F.Function.function c.args.cx.now.f.now in
-    let i : ℕ = c.args.inst in
+    let i : ℕ = c.args.at.inst in
     let v : InstValue = inst_at f i in
     let m : StateValue = tables_of c.alloc_inst_at.new.self in
     let P : ℕ → Type 0 = λ s. AllocsInstInto c.alloc_inst_at.new.inst_regs i v s c.args.allocs.now c.alloc_inst_at.new.allocs (tables_of c.args.self.now) m in
     let h : P (offset_of f i) = subst P c.requires.start
-    (to_inst c.alloc_inst_at.new.inst_regs i v c.args.start c.args.allocs.now c.alloc_inst_at.new.allocs (tables_of c.args.self.now) m
+    (to_inst c.alloc_inst_at.new.inst_regs i v c.args.at.start c.args.allocs.now c.alloc_inst_at.new.allocs (tables_of c.args.self.now) m
     c.inst_operands-operands.result.now c.inst_clobbers-clobbers.result _ c.ends_block-ends_block.result
     c.inst_operands-operands.ensures c.inst_clobbers-clobbers.ensures c.ends_block-ends_block.ensures c.in_ok-alloc_inst_at.ensures.ok) in
     let on : c.is_branch.result ≡ true = c.if-not-is_branch.false in
@@ -236,7 +236,7 @@ returns-in_err-process_branch-clause-stops g c =
 pub returns-then-not-is_branch-clause-spill_free : goal.returns-then-not-is_branch-clause-spill_free
 returns-then-not-is_branch-clause-spill_free g c = λ names few asks h.
     let f : FunctionValue = g.F.Function.function c.args.cx.now.f.now in
-    let i : ℕ = c.args.inst in
+    let i : ℕ = c.args.at.inst in
     let t : StateValue = tables_of c.args.self.now in
     let env : MachineValue = c.requires.well_formed.0 in
     let fresh : IsFresh c.new-inst_regs.result t = record {
@@ -256,7 +256,7 @@ returns-then-not-is_branch-clause-spill_free g c = λ names few asks h.
 pub returns-clause-spill_free : goal.returns-clause-spill_free
 returns-clause-spill_free g c = λ names few asks h.
     let f : FunctionValue = g.F.Function.function c.args.cx.now.f.now in
-    let i : ℕ = c.args.inst in
+    let i : ℕ = c.args.at.inst in
     let t : StateValue = tables_of c.args.self.now in
     let env : MachineValue = c.requires.well_formed.0 in
     let m : StateValue = tables_of c.alloc_inst_at.new.self in

@@ -7,7 +7,7 @@ use Rattle.regalloc2_fastalloc_state.specs.OutOfResources.{IsResourceError, Slot
 use Rattle.regalloc2_parts.specs.ScratchPool.{HasTooFewSlots}
 use Rattle.regalloc2_fastalloc_proofs.specs.InstSteps.{StateValue, MayHold}
 use Rattle.regalloc2_fastalloc_walk.specs.StateView.{tables_of}
-use Rattle.regalloc2_fastalloc_proofs.proofs.Moves.ParallelMovesOrdered.{orders, orders_none, serves_given, short_full, taken_fits}
+use Rattle.regalloc2_fastalloc_proofs.proofs.Moves.ParallelMovesOrdered.{GivenMoves, orders, orders_none, serves_given, short_full, taken_fits}
 use Rattle.regalloc2_fastalloc_state.proofs.SpillSlotUnits.{lacks_slots, no_register, slots_of_fault}
 use Rattle.regalloc2_fastalloc_walk.proofs.state.State.order.Goals as goal
 
@@ -30,12 +30,24 @@ compute-requires g c =
       of_class = c.in-Some.ensures.found.0;
       small = c.in-Some.ensures.found.1;
       allocatable = c.in-Some.ensures.found.2;
+    } in
+    let moves : GivenMoves = record {
+      inst_regs = c.args.inst_regs.now;
+      class = c.args.class;
+      old = old;
+      l = l;
+      given = c.args.moves;
+      apart = c.requires.apart;
+      between = c.requires.ends;
+      scratch_reserve = c.scratch_regs.ensures.scratch_reserve;
+      differ = c.scratch_regs.ensures.differ;
+      next = c.temp_slots.ensures;
+      fixed = c.fixed_stack.ensures;
+      borrowed = held;
     } in (
       omega arith,
       (
-        serves_given c.args.inst_regs.now c.args.class old l c.args.moves c.requires.apart c.requires.ends c.scratch_regs.ensures.scratch_reserve
-            c.scratch_regs.ensures.differ c.temp_slots.ensures c.fixed_stack.ensures held
-            (has_scratch c.in_ok-resolved.resolved) (listed c.in_ok-resolved.resolved) c.in_ok-resolved.ensures.resolved,
+        serves_given moves (has_scratch c.in_ok-resolved.resolved) (listed c.in_ok-resolved.resolved) c.in_ok-resolved.ensures.resolved,
         c.in_ok-resolved.ensures.runnable,
       ),
     )
@@ -76,10 +88,31 @@ returns-clause-ok g c =
       small = c.in-Some.ensures.found.1;
       allocatable = c.in-Some.ensures.found.2;
     } in
-    orders c.args.inst_regs.now c.args.class old l c.args.moves c.requires.apart c.requires.ends c.scratch_regs.ensures.scratch_reserve
-    c.scratch_regs.ensures.differ c.temp_slots.ensures c.fixed_stack.ensures held
-    new c.in_ok-made.made.slots c.add_temp_slots.ensures.added c.in_ok-made.ensures.there.0 (has_scratch c.in_ok-resolved.resolved)
-    (listed c.in_ok-resolved.resolved) c.in_ok-made.made.moves.items c.in_ok-resolved.ensures.resolved c.in_ok-made.ensures.made
+    let moves : GivenMoves = record {
+      inst_regs = c.args.inst_regs.now;
+      class = c.args.class;
+      old = old;
+      l = l;
+      given = c.args.moves;
+      apart = c.requires.apart;
+      between = c.requires.ends;
+      scratch_reserve = c.scratch_regs.ensures.scratch_reserve;
+      differ = c.scratch_regs.ensures.differ;
+      next = c.temp_slots.ensures;
+      fixed = c.fixed_stack.ensures;
+      borrowed = held;
+    } in
+    orders moves (record {
+      new = new;
+      taken = c.in_ok-made.made.slots;
+      lends = c.add_temp_slots.ensures.added;
+      few = c.in_ok-made.ensures.there.0;
+      scratch = has_scratch c.in_ok-resolved.resolved;
+      listed = listed c.in_ok-resolved.resolved;
+      made = c.in_ok-made.made.moves.items;
+      is = c.in_ok-resolved.ensures.resolved;
+      made_so = c.in_ok-made.ensures.made;
+    })
     refl refl refl refl refl
 
 -- moves of a class that has no allocatable register

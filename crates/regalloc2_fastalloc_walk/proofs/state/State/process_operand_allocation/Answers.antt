@@ -48,9 +48,8 @@ returns-then-not-is_def-clause-ok g c =
     let at : c.after-point.result ≡ after c.args.cx.now.inst = c.after-point.ensures.point (λ e. omega (arith, c.requires.inst)) in
     let h : c.index-here-k.result ≡ slice_index_or c.args.here.now c.args.k NoPlace = get_or_read c.args.here.now c.args.k c.index-here-k.result
     (omega (arith, c.requires.inside, c.requires.here_long)) c.index-here-k.is NoPlace in
-    one_use c.args.cx.now.inst c.args.cx.now.ends_block ops c.args.k c.args.here.now c.args.inst_regs.now c.alloc_use.new.inst_regs (tables_of c.args.self.now)
-    (tables_of c.alloc_use.new.self) c.index-operands-k.result c.index-here-k.result c.use_request-request.result
-    c.after-point.result c.in_ok-here.field-0 o h c.use_request-request.ensures at not_it (sym c.is_def.ensures ∙ c.if-not-is_def.true) c.in_ok-here.ensures.ok
+    one_use c.index-operands-k.result c.index-here-k.result o h c.use_request-request.ensures at not_it (sym c.is_def.ensures ∙ c.if-not-is_def.true)
+    c.in_ok-here.ensures.ok
 
 pub returns-then-not-is_def-clause-step : goal.returns-then-not-is_def-clause-step
 returns-then-not-is_def-clause-step g c =
@@ -77,9 +76,7 @@ returns-in-Some-reused-clause-ok g c =
     let ops : List OperandValue = c.args.cx.now.operands.now in
     let o : c.index-operands-k.result ≡ op_at ops c.args.k = read_operand ops c.args.k c.index-operands-k.result c.requires.inside c.index-operands-k.is in
     let at : c.after-point.result ≡ after c.args.cx.now.inst = c.after-point.ensures.point (λ e. omega (arith, c.requires.inst)) in
-    one_reuse c.args.cx.now.inst c.args.cx.now.ends_block ops c.args.k c.args.here.now c.set_place.new.places c.args.inst_regs.now c.alloc_def_op.new.inst_regs
-    (tables_of c.args.self.now) (tables_of c.alloc_def_op.new.self) c.index-operands-k.result c.in-Some-reused.index
-    c.reuse_request-request.result c.after-point.result c.in_ok-place.place o c.reuse_request-request.ensures at (sym c.is_def.ensures ∙ c.if-not-is_def.false)
+    one_reuse c.index-operands-k.result c.in-Some-reused.index o c.reuse_request-request.ensures at (sym c.is_def.ensures ∙ c.if-not-is_def.false)
     c.in-Some-reused.ensures.some c.set_place.ensures c.in_ok-place.ensures.ok
 
 pub returns-in-Some-reused-clause-step : goal.returns-in-Some-reused-clause-step
@@ -107,10 +104,7 @@ returns-clause-ok g c =
     let ops : List OperandValue = c.args.cx.now.operands.now in
     let o : c.index-operands-k.result ≡ op_at ops c.args.k = read_operand ops c.args.k c.index-operands-k.result c.requires.inside c.index-operands-k.is in
     let at : c.after-point.result ≡ after c.args.cx.now.inst = c.after-point.ensures.point (λ e. omega (arith, c.requires.inst)) in
-    one_def c.args.cx.now.inst c.args.cx.now.ends_block ops c.args.k c.args.here.now c.args.inst_regs.now c.alloc_def_op-2.new.inst_regs (tables_of
-    c.args.self.now)
-    (tables_of c.alloc_def_op-2.new.self) c.index-operands-k.result
-    c.def_request.result c.after-point.result c.in_ok-here-2.field-0 o c.def_request.ensures at (sym c.is_def.ensures ∙ c.if-not-is_def.false)
+    one_def c.index-operands-k.result o c.def_request.ensures at (sym c.is_def.ensures ∙ c.if-not-is_def.false)
     (c.in_default-reused.ensures.none refl) c.in_ok-here-2.ensures.ok
 
 pub returns-clause-step : goal.returns-clause-step
@@ -139,10 +133,8 @@ returns-in_err-place-clause-stops g c =
     let o : c.index-operands-k.result ≡ op_at ops c.args.k = read_operand ops c.args.k c.index-operands-k.result c.requires.inside c.index-operands-k.is in
     let at : c.after-point.result ≡ after c.args.cx.now.inst = c.after-point.ensures.point (λ e. omega (arith, c.requires.inst)) in
     let e = err_from_is_err_and c.from_residual-in_err-place.result c.from_residual-in_err-place.ensures.1 in
-    rw e.1 (λ same. stop_reuse c.args.cx.now.inst c.args.cx.now.ends_block ops c.args.k c.args.here.now c.args.inst_regs.now
-    (tables_of c.args.self.now) c.index-operands-k.result
-    c.in-Some-reused.index c.reuse_request-request.result
-    c.after-point.result o c.reuse_request-request.ensures at (sym c.is_def.ensures ∙ c.if-not-is_def.false) c.in-Some-reused.ensures.some
+    rw e.1 (λ same. stop_reuse c.index-operands-k.result
+    c.in-Some-reused.index o c.reuse_request-request.ensures at (sym c.is_def.ensures ∙ c.if-not-is_def.false) c.in-Some-reused.ensures.some
     (c.in_err-place.ensures.stops (sym e.2 ∙ same)))
 
 pub returns-in_err-here-2-clause-stops : goal.returns-in_err-here-2-clause-stops

@@ -25,8 +25,8 @@ pub process_operand_allocation-requires : goal.process_operand_allocation-requir
 process_operand_allocation-requires g c =
     let h = c.loop-k.invariant.done in
     let met = processed_next c.args.cx.now.inst c.args.cx.now.ends_block c.args.pos c.args.cx.now.operands.now c.args.here.now c.args.inst_regs.now
-    (tables_of c.args.self.now) c.args.self.now.registers c.loop-k.here c.loop-k.inst_regs (tables_of c.loop-k.self) c.loop-k.self.registers h.0
-    c.loop-k.k-iterator c.next.new.self (c.in-Some.k, c.in-Some._operand) h.1 h.2 c.in-Some.ensures.steps h.3 in (
+    (tables_of c.args.self.now) c.args.self.now.registers
+    c.loop-k.k-iterator h.1 h.2 c.in-Some.ensures.steps h.3 in (
       search rules,
       (
         met.inside,
@@ -47,17 +47,15 @@ pub loop-k-preserved : goal.loop-k-preserved
 loop-k-preserved g c =
     let h = c.loop-k.invariant.done in
     let met = processed_next c.args.cx.now.inst c.args.cx.now.ends_block c.args.pos c.args.cx.now.operands.now c.args.here.now c.args.inst_regs.now
-    (tables_of c.args.self.now) c.args.self.now.registers c.loop-k.here c.loop-k.inst_regs (tables_of c.loop-k.self) c.loop-k.self.registers h.0
-    c.loop-k.k-iterator c.next.new.self (c.in-Some.k, c.in-Some._operand) h.1 h.2 c.in-Some.ensures.steps h.3 in
+    (tables_of c.args.self.now) c.args.self.now.registers
+    c.loop-k.k-iterator h.1 h.2 c.in-Some.ensures.steps h.3 in
     record {
       done = (
         c.in-Some.k + 1,
         omega (arith, met.inside),
         sym met.after,
         processed_more c.args.cx.now.inst c.args.cx.now.ends_block c.args.pos c.args.cx.now.operands.now c.args.here.now c.args.inst_regs.now
-            (tables_of c.args.self.now) c.args.self.now.registers c.loop-k.here c.process_operand_allocation.new.here c.loop-k.inst_regs
-            c.process_operand_allocation.new.inst_regs (tables_of c.loop-k.self) (tables_of c.process_operand_allocation.new.self) c.loop-k.self.registers
-            c.process_operand_allocation.new.self.registers c.in-Some.k met.inside refl c.requires.here_long met.passes
+            (tables_of c.args.self.now) c.args.self.now.registers met.inside refl c.requires.here_long met.passes
             c.in_ok-process_operand_allocation.ensures.takes c.in_ok-process_operand_allocation.ensures.ok met.so_far,
       );
       later = c.in_ok-process_operand_allocation.ensures.step.later;
@@ -70,14 +68,14 @@ pub returns-clause-ok : goal.returns-clause-ok
 returns-clause-ok g c =
     let h = c.loop-k.invariant.done in
     (processed_all c.args.cx.now.inst c.args.cx.now.ends_block c.args.pos c.args.cx.now.operands.now c.args.here.now c.args.inst_regs.now
-    (tables_of c.args.self.now) c.args.self.now.registers c.loop-k.here c.loop-k.inst_regs (tables_of c.loop-k.self) c.loop-k.self.registers h.0
+    (tables_of c.args.self.now) c.args.self.now.registers
     c.loop-k.k-iterator h.1 h.2 c.in-None.ensures.steps.0 h.3).done
 
 pub returns-clause-spill_free : goal.returns-clause-spill_free
 returns-clause-spill_free g c =
     let h = c.loop-k.invariant.done in
     (processed_all c.args.cx.now.inst c.args.cx.now.ends_block c.args.pos c.args.cx.now.operands.now c.args.here.now c.args.inst_regs.now
-    (tables_of c.args.self.now) c.args.self.now.registers c.loop-k.here c.loop-k.inst_regs (tables_of c.loop-k.self) c.loop-k.self.registers h.0
+    (tables_of c.args.self.now) c.args.self.now.registers
     c.loop-k.k-iterator h.1 h.2 c.in-None.ensures.steps.0 h.3).spill_free
 
 -- an operand can't be placed
@@ -85,8 +83,8 @@ pub returns-in_err-process_operand_allocation-clause-stops : goal.returns-in_err
 returns-in_err-process_operand_allocation-clause-stops g c =
     let h = c.loop-k.invariant.done in
     let met = processed_next c.args.cx.now.inst c.args.cx.now.ends_block c.args.pos c.args.cx.now.operands.now c.args.here.now c.args.inst_regs.now
-    (tables_of c.args.self.now) c.args.self.now.registers c.loop-k.here c.loop-k.inst_regs (tables_of c.loop-k.self) c.loop-k.self.registers h.0
-    c.loop-k.k-iterator c.next.new.self (c.in-Some.k, c.in-Some._operand) h.1 h.2 c.in-Some.ensures.steps h.3 in
+    (tables_of c.args.self.now) c.args.self.now.registers
+    c.loop-k.k-iterator h.1 h.2 c.in-Some.ensures.steps h.3 in
     let e = err_from_is_err_and c.from_residual.result c.from_residual.ensures.1 in
     rw e.1 (λ same. record {
       index = c.in-Some.k;

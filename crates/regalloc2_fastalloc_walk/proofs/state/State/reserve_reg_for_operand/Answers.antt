@@ -25,8 +25,7 @@ claimed g c =
     let old : StateValue = tables_of c.args.self.now in
     elim c.match-reserved_by.branch [
       | in-Some+in_ok-reserve_preg w ↦ rw (w.inst_regs-is, w.claims-is) (
-          reserves_it ops c.args.k c.args.inst_regs.now w.reserve_preg.new.inst_regs c.args.claims.now w.reserve_preg.new.claims old w.in-Some.claim.0
-          w.in-Some.claim.1
+          reserves_it
           (λ r p h. same_claim r p w.in-Some.claim c.reserved_by.result (c.reserved_by.ensures.all r p h) w.in-Some.is)
           c.requires (claim_is ops c.args.k c.reserved_by.result c.reserved_by.ensures.some w.in-Some.claim w.in-Some.is)
           w.reserve_preg.ensures.shrinks w.reserve_preg.ensures.takes w.reserve_preg.ensures.grows w.reserve_preg.ensures.only w.in_ok-reserve_preg.ensures.ok)

@@ -12,17 +12,49 @@ use Rattle.regalloc2_fastalloc_walk.proofs.state.State.scratch_regs.Goals as goa
 
 pub returns-clause-scratch_reserve : goal.returns-clause-scratch_reserve
 returns-clause-scratch_reserve g c =
-    spare_of c.args.inst_regs.now (tables_of c.args.self.now) c.args.self.now.registers c.args.class c.available_pregs-free.result c.remove.new.self
-    c.in-Some.first c.reg.result c.as_place.result c.least_recently_used.result refl refl
-    (λ r e. subst (λ (p : Positions). IsAvailableAt c.args.inst_regs.now p r) c.both.ensures (c.available_pregs-free.ensures.free r e)) c.in-Some.ensures.found
-    c.remove.ensures.members c.reg.ensures c.as_place.ensures.some c.least_recently_used.ensures.found
+    spare_of (record {
+      inst_regs = c.args.inst_regs.now;
+      t = tables_of c.args.self.now;
+      regs = c.args.self.now.registers;
+      class = c.args.class;
+      free = c.available_pregs-free.result;
+      rest = c.remove.new.self;
+      first = c.in-Some.first;
+      place = c.reg.result;
+      second = c.as_place.result;
+      oldest = c.least_recently_used.result;
+      allocatable = refl;
+      dedicated_scratch = refl;
+      is_free = λ r e. subst (λ (p : Positions). IsAvailableAt c.args.inst_regs.now p r) c.both.ensures (c.available_pregs-free.ensures.free r e);
+      chosen = c.in-Some.ensures.found;
+      left = c.remove.ensures.members;
+      at_first = c.reg.ensures;
+      at_second = c.as_place.ensures.some;
+      found = c.least_recently_used.ensures.found;
+    })
 
 pub returns-clause-differ : goal.returns-clause-differ
 returns-clause-differ g c =
-    differ_of c.args.inst_regs.now (tables_of c.args.self.now) c.args.self.now.registers c.args.class c.available_pregs-free.result c.remove.new.self
-    c.in-Some.first c.reg.result c.as_place.result c.least_recently_used.result refl refl
-    (λ r e. subst (λ (p : Positions). IsAvailableAt c.args.inst_regs.now p r) c.both.ensures (c.available_pregs-free.ensures.free r e)) c.in-Some.ensures.found
-    c.remove.ensures.members c.reg.ensures c.as_place.ensures.some c.least_recently_used.ensures.found
+    differ_of (record {
+      inst_regs = c.args.inst_regs.now;
+      t = tables_of c.args.self.now;
+      regs = c.args.self.now.registers;
+      class = c.args.class;
+      free = c.available_pregs-free.result;
+      rest = c.remove.new.self;
+      first = c.in-Some.first;
+      place = c.reg.result;
+      second = c.as_place.result;
+      oldest = c.least_recently_used.result;
+      allocatable = refl;
+      dedicated_scratch = refl;
+      is_free = λ r e. subst (λ (p : Positions). IsAvailableAt c.args.inst_regs.now p r) c.both.ensures (c.available_pregs-free.ensures.free r e);
+      chosen = c.in-Some.ensures.found;
+      left = c.remove.ensures.members;
+      at_first = c.reg.ensures;
+      at_second = c.as_place.ensures.some;
+      found = c.least_recently_used.ensures.found;
+    })
 
 -- the machine's own comes first
 pub returns-in_default-clause-own : goal.returns-in_default-clause-own

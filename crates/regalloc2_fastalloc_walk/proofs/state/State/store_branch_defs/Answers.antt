@@ -24,7 +24,7 @@ use Rattle.regalloc2_fastalloc_walk.specs.StateView.{IsStepAt, tables_of}
 use Rattle.regalloc2_fastalloc_walk.specs.declared.operand.PlaceMove.{PlaceMove}
 use Rattle.regalloc2_fastalloc_walk.specs.declared.store.StoredDef.{StoredDef}
 use Rattle.regalloc2_fastalloc_walk.proofs.Steps.{step_then}
-use Rattle.regalloc2_fastalloc_walk.proofs.StoresOnEdge.{stores_on, stores_lack, stores_none}
+use Rattle.regalloc2_fastalloc_walk.proofs.StoresOnEdge.{edge_stores, stores_on, stores_lack, stores_none}
 use Rattle.regalloc2_fastalloc_walk.proofs.state.State.store_branch_defs.Goals as goal
 
 -- what is stored is of vregs of the function, and of operands of the branch
@@ -143,8 +143,8 @@ returns-in_err-push_stores-clause-stops g c =
     subst (λ (l : List OperandValue). FindsStores l ds old.slots (length ds) ms slots) ops
     (subst (λ (l : List StoredDef). FindsStores c.inst_operands.result.now l old.slots (length l) ms slots) c.deref.ensures.value c.in_ok-moves.ensures.ok) in
     let r = err_from_is_err_and c.from_residual-in_err-push_stores.result c.from_residual-in_err-push_stores.ensures.1 in
-    rw r.1 (λ lacks. stores_lack f c.requires.well_formed c.args.block e c.in-Some.edge.position ie.edge old c.requires.apart ds c.in_ok-stores.ensures.ok
-    ms slots finds c.num_units-count.ensures.owned.own
+    rw r.1 (λ lacks. stores_lack (edge_stores f c.requires.well_formed c.args.block e c.in-Some.edge.position ie.edge old c.requires.apart ds
+    c.in_ok-stores.ensures.ok ms slots finds c.num_units-count.ensures.owned.own)
     (lack_before old t c.store_moves.ensures.step.machine ms c.deref-2.result.now c.deref-2.ensures.value (c.in_err-push_stores.ensures.stops (sym r.2 ∙
     lacks))))
 
@@ -164,8 +164,8 @@ returns-in_err-push_stores-2-clause-stops g c =
     subst (λ (l : List OperandValue). FindsStores l ds old.slots (length ds) ms slots) ops
     (subst (λ (l : List StoredDef). FindsStores c.inst_operands.result.now l old.slots (length l) ms slots) c.deref.ensures.value c.in_ok-moves.ensures.ok) in
     let r = err_from_is_err_and c.from_residual-in_err-push_stores-2.result c.from_residual-in_err-push_stores-2.ensures.1 in
-    rw r.1 (λ lacks. stores_lack f c.requires.well_formed c.args.block e c.in-Some.edge.position ie.edge old c.requires.apart ds c.in_ok-stores.ensures.ok
-    ms slots finds c.num_units-count.ensures.owned.own
+    rw r.1 (λ lacks. stores_lack (edge_stores f c.requires.well_formed c.args.block e c.in-Some.edge.position ie.edge old c.requires.apart ds
+    c.in_ok-stores.ensures.ok ms slots finds c.num_units-count.ensures.owned.own)
     (lack_before old u (same_then old t u c.store_moves.ensures.step.machine c.in_ok-push_stores.ensures.step.machine) ms c.deref-3.result.now
     c.deref-3.ensures.value (c.in_err-push_stores-2.ensures.stops (sym r.2 ∙ lacks))))
 
@@ -205,9 +205,9 @@ returns-clause-ok g c =
     ))
     ∙ ap before first in
     all_stored e c.in-Some.edge.position ie.edge (subst (λ (n : ℕ). StoresOn f e c.in-Some.edge.position n old w) at
-    (stores_on f c.requires.well_formed c.args.block e c.in-Some.edge.position ie.edge old c.requires.apart ds c.in_ok-stores.ensures.ok ms slots finds
-    c.num_units-count.ensures.owned.own point
-    (made_machine old t slots tables c.store_moves.ensures.step.machine) u w p q))
+    (stores_on (edge_stores f c.requires.well_formed c.args.block e c.in-Some.edge.position ie.edge old c.requires.apart ds c.in_ok-stores.ensures.ok
+    ms slots finds c.num_units-count.ensures.owned.own)
+    (made_machine old t slots tables c.store_moves.ensures.step.machine) p q))
 
 pub returns-clause-step : goal.returns-clause-step
 returns-clause-step g c =
@@ -259,6 +259,6 @@ returns-clause-none g c = λ nothing.
     (subst (λ (l : List PlaceMove). PushesStores point true l t u) c.deref-2.ensures.value c.in_ok-push_stores.ensures.ok) in
     let q : PushesStores point false ms u w = subst (λ (l : List PlaceMove). PushesStores point false l u w) c.deref-3.ensures.value
     c.in_ok-push_stores-2.ensures.ok in
-    stores_none f c.requires.well_formed c.args.block e c.in-Some.edge.position ie.edge old c.requires.apart ds c.in_ok-stores.ensures.ok ms slots finds
-    c.num_units-count.ensures.owned.own point
-    (λ j v. nothing e c.in-Some.edge.position j v ie.edge) u w p q
+    stores_none (edge_stores f c.requires.well_formed c.args.block e c.in-Some.edge.position ie.edge old c.requires.apart ds c.in_ok-stores.ensures.ok
+    ms slots finds c.num_units-count.ensures.owned.own)
+    (λ j v. nothing e c.in-Some.edge.position j v ie.edge) p q

@@ -77,10 +77,13 @@ loop-top-preserved-then-top-first g c =
     let f : ends_of c.push-then-top-first.new.self.items ≡ (old ++ ends m ∷ []) ++ ends last ∷ [] =
     ap ends_of c.in_ok-push-2.ensures.ok ∙ ends_push c.push.new.self.items last ∙ ap (λ x. x ++ ends last ∷ []) e in
     let now : IsGiving ms c.args.nexts.now (slice_set st top Done) chain ((old ++ ends m ∷ []) ++ ends last ∷ []) (length ms) (length ms) =
-    gives_first ms c.args.nexts.now c.requires.apart c.requires.nexts st chain old top c.loop-top.cut c.loop-top.first (ends m) (ends last) was
+    gives_first ms c.args.nexts.now c.requires.apart c.requires.nexts st chain old top c.loop-top.cut c.loop-top.first {m = ends m} {last = ends last} was
     (c.loop-top.invariant.as_many ∙ sym many) c.if-top-first.true
-    (read_to c.args.moves.now top m (omega arith) c.index-moves-top.is) (read_from c.args.moves.now top m (omega arith) c.index-moves-top.is)
-    c.none.ensures (read_from c.args.moves.now c.loop-top.cut end (omega arith) c.index-moves-cut.is) in
+    (record {
+      from_is = read_from c.args.moves.now top m (omega arith) c.index-moves-top.is;
+      to_is = read_to c.args.moves.now top m (omega arith) c.index-moves-top.is;
+    })
+    (record { from_is = read_from c.args.moves.now c.loop-top.cut end (omega arith) c.index-moves-cut.is; to_is = c.none.ensures }) in
     record {
       as_many = length-set st top Done ∙ c.loop-top.invariant.as_many;
       giving = subst (λ x. IsGiving ms c.args.nexts.now (slice_set st top Done) chain (ends_of c.push-then-top-first.new.self.items) x x) many
@@ -109,9 +112,12 @@ loop-top-preserved g c =
     let m = c.index-moves-top.result in
     let e : ends_of c.push.new.self.items ≡ old ++ ends m ∷ [] = ap ends_of c.in_ok-push.ensures.ok ∙ ends_push c.loop-top.given.items m in
     let now : IsGiving ms c.args.nexts.now (slice_set st top Done) chain (old ++ ends m ∷ []) c.loop-top.cut c.loop-top.first =
-    gives_plain ms c.args.nexts.now c.requires.apart c.requires.nexts st chain old top c.loop-top.cut c.loop-top.first (ends m) was
+    gives_plain ms c.args.nexts.now c.requires.apart c.requires.nexts st chain old top c.loop-top.cut c.loop-top.first {m = ends m} was
     (c.loop-top.invariant.as_many ∙ sym many) c.if-top-first.false
-    (read_to c.args.moves.now top m (omega arith) c.index-moves-top.is) (read_from c.args.moves.now top m (omega arith) c.index-moves-top.is) in
+    (record {
+      from_is = read_from c.args.moves.now top m (omega arith) c.index-moves-top.is;
+      to_is = read_to c.args.moves.now top m (omega arith) c.index-moves-top.is;
+    }) in
     record {
       as_many = length-set st top Done ∙ c.loop-top.invariant.as_many;
       giving = subst (λ x. IsGiving ms c.args.nexts.now (slice_set st top Done) chain x c.loop-top.cut c.loop-top.first) (sym e) now;

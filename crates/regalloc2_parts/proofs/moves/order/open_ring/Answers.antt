@@ -73,10 +73,17 @@ returns g c =
       giving = (
         subst (λ x. IsGiving ms c.args.nexts.now (slice_set c.args.state.now last Done) c.pop.new.self.items x last c.args.stop) (sym e)
             (gives_ring ms c.args.nexts.now c.requires.apart c.requires.nexts c.args.state.now c.pop.new.self.items (ends_of c.args.given.now.items) last
-            c.args.stop (ends m)
-            c.requires.had.had rings.0 rings.1 chain (c.requires.as_many ∙ sym many) (last_leads c.args.nexts.now c.pop.new.self.items last c.args.stop link)
-            (subst (λ x. c.args.stop < x) (c.requires.as_many ∙ sym many) here.0) here.1
-            (read_to c.args.moves.now last c.index-moves-last.result (omega arith) c.index-moves-last.is) c.none.ensures),
+            c.args.stop {m = ends m} c.requires.had.had rings.0 rings.1
+            (record {
+              is = chain;
+              next_is = last_leads c.args.nexts.now c.pop.new.self.items last c.args.stop link;
+              next_in = subst (λ x. c.args.stop < x) (c.requires.as_many ∙ sym many) here.0;
+              next_pending = here.1;
+            }) (c.requires.as_many ∙ sym many)
+            (record {
+              from_is = c.none.ensures;
+              to_is = read_to c.args.moves.now last c.index-moves-last.result (omega arith) c.index-moves-last.is;
+            })),
         goes_on c.args.state.now c.args.state.now last Done (λ d. todo_done Done d refl) (omega arith) (λ k n. n),
         subst (λ x. All (IsOfMoves c.args.moves.now) x) (sym c.in_ok-push.ensures.ok)
             (All-push (IsOfMoves c.args.moves.now) c.args.given.now.items m c.requires.of_moves

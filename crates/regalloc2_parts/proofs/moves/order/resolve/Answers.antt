@@ -91,7 +91,7 @@ returns-then-len-clause-resolved g c =
     let of_moves : All (IsOfMoves new) c.in_ok-given.given.items = subst (λ (xs : List (Place × Place × g.row.T.Denot)). All (IsOfMoves xs)
     c.in_ok-given.given.items) c.as_slice-3.ensures c.in_ok-given.ensures.order.1 in
     resolves_order old new c.in_ok-given.given.items c.turn_round.new.moves.items nexts true c.requires.one_source c.requires.real (omega arith)
-    c.tidy.ensures.tidied c.tidy.ensures.given ns order of_moves c.turn_round.ensures (λ e. omega arith) (λ e. absurd cc)
+    c.tidy.ensures.tidied c.tidy.ensures.given ns order of_moves c.turn_round.ensures (record { more = λ e. omega arith; few = λ e. absurd cc })
 
 pub returns-then-len-clause-runnable : goal.returns-then-len-clause-runnable
 returns-then-len-clause-runnable g c =
@@ -107,7 +107,7 @@ returns-then-len-clause-runnable g c =
     let of_moves : All (IsOfMoves new) c.in_ok-given.given.items = subst (λ (xs : List (Place × Place × g.row.T.Denot)). All (IsOfMoves xs)
     c.in_ok-given.given.items) c.as_slice-3.ensures c.in_ok-given.ensures.order.1 in
     (resolves_order old new c.in_ok-given.given.items c.turn_round.new.moves.items nexts true c.requires.one_source c.requires.real (omega arith)
-    c.tidy.ensures.tidied c.tidy.ensures.given ns order of_moves c.turn_round.ensures (λ e. omega arith) (λ e. absurd cc)).written
+    c.tidy.ensures.tidied c.tidy.ensures.given ns order of_moves c.turn_round.ensures (record { more = λ e. omega arith; few = λ e. absurd cc })).written
 
 pub returns-clause-resolved : goal.returns-clause-resolved
 returns-clause-resolved g c =
@@ -123,7 +123,7 @@ returns-clause-resolved g c =
     let of_moves : All (IsOfMoves new) c.in_ok-given.given.items = subst (λ (xs : List (Place × Place × g.row.T.Denot)). All (IsOfMoves xs)
     c.in_ok-given.given.items) c.as_slice-3.ensures c.in_ok-given.ensures.order.1 in
     resolves_order old new c.in_ok-given.given.items c.turn_round.new.moves.items nexts false c.requires.one_source c.requires.real (omega arith)
-    c.tidy.ensures.tidied c.tidy.ensures.given ns order of_moves c.turn_round.ensures (λ e. absurd cc) (λ e. omega arith)
+    c.tidy.ensures.tidied c.tidy.ensures.given ns order of_moves c.turn_round.ensures (record { more = λ e. absurd cc; few = λ e. omega arith })
 
 pub returns-clause-runnable : goal.returns-clause-runnable
 returns-clause-runnable g c =
@@ -139,7 +139,7 @@ returns-clause-runnable g c =
     let of_moves : All (IsOfMoves new) c.in_ok-given.given.items = subst (λ (xs : List (Place × Place × g.row.T.Denot)). All (IsOfMoves xs)
     c.in_ok-given.given.items) c.as_slice-3.ensures c.in_ok-given.ensures.order.1 in
     (resolves_order old new c.in_ok-given.given.items c.turn_round.new.moves.items nexts false c.requires.one_source c.requires.real (omega arith)
-    c.tidy.ensures.tidied c.tidy.ensures.given ns order of_moves c.turn_round.ensures (λ e. absurd cc) (λ e. omega arith)).plain refl
+    c.tidy.ensures.tidied c.tidy.ensures.given ns order of_moves c.turn_round.ensures (record { more = λ e. absurd cc; few = λ e. omega arith })).plain refl
 
 pub returns-in_err-nexts-clause-short : goal.returns-in_err-nexts-clause-short
 returns-in_err-nexts-clause-short g c = λ h. absurd (omega arith)

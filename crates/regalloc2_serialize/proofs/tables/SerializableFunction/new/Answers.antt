@@ -2,7 +2,6 @@ use Rattle.std.proofs.Common.{rules, arith, ◌≡◌, ◌∙◌, ◌<◌, subst
 use Rattle.std.specs.Prelude.{All}
 use Rattle.std.proofs.lemmas.List.{map-id}
 use Rattle.regalloc2_function.specs.FunctionValue.{FunctionValue, IsLimited, label_of}
-use Rattle.regalloc2_serialize.specs.Tables.{block_of, inst_of}
 use Rattle.regalloc2_serialize.proofs.FilledLists.{same-function}
 use Rattle.regalloc2_serialize.proofs.Lists.{all-under}
 use Rattle.regalloc2_serialize.proofs.Whole.{kept-whole}
@@ -25,11 +24,18 @@ pub returns-clause-function : goal.returns-clause-function
 returns-clause-function g c =
     let f : FunctionValue = g.F.Function.function c.args.f.now in
     let same : map label_of c.in_ok-labels.labels.items ≡ f.labels = search rules in
-    same-function f (map block_of c.in_ok-blocks.blocks.items) (map inst_of c.in_ok-insts.insts.items) c.entry_block.result c.num_vregs.result
-    c.copied_units.result.units c.copied_units-2.result.units c.copied_units-3.result.units c.multi_spillslot_named_by_last_slot.result
-    (map label_of c.in_ok-labels.labels.items) c.allow_multiple_vreg_defs.result
-    c.in_ok-blocks.ensures.blocks c.in_ok-insts.ensures.insts c.entry_block.ensures c.num_vregs.ensures.count c.copied_units.ensures c.copied_units-2.ensures
-    c.copied_units-3.ensures c.multi_spillslot_named_by_last_slot.ensures same c.allow_multiple_vreg_defs.ensures
+    same-function f _ (record {
+      blocks = c.in_ok-blocks.ensures.blocks;
+      insts = c.in_ok-insts.ensures.insts;
+      entry = c.entry_block.ensures;
+      num_vregs = c.num_vregs.ensures.count;
+      int = c.copied_units.ensures;
+      float = c.copied_units-2.ensures;
+      vector = c.copied_units-3.ensures;
+      named_by_last_slot = c.multi_spillslot_named_by_last_slot.ensures;
+      labels = same;
+      allows_multiple_defs = c.allow_multiple_vreg_defs.ensures;
+    })
 
 pub returns-clause-whole : goal.returns-clause-whole
 returns-clause-whole g c = λ h. returns-clause-function g c ∙ kept-whole (g.F.Function.function c.args.f.now) h

@@ -120,8 +120,7 @@ expand-requires g c =
     let handed = c.in_ok-hand_out.field-0 in
     let is : IsVia handed (InRegister self.borrowed_scratch_reg) via first = subst (λ r. IsVia handed (InRegister r) via first) borrowed c.via-via.ensures in
     let can : CanExpand stack via.register via.save first made =
-    can_expand reg slots stack (InRegister self.borrowed_scratch_reg) (listed c.args.moves) made (has_scratch c.args.moves) self.find_free_reg mid.find_free_reg
-    last.find_free_reg self.get_stackslot mid.get_stackslot last.get_stackslot ch
+    can_expand reg slots stack (InRegister self.borrowed_scratch_reg) last.find_free_reg last.get_stackslot ch
     c.requires.owes.borrowed_no_memory (λ e. let no : InRegister self.borrowed_scratch_reg ≡ NoPlace = e in absurd cc) handed c.in_ok-hand_out.ensures.handed
     via first is in (
       search rules,
@@ -154,8 +153,7 @@ returns g c =
     let some : AreApartInMemory stack made → ⊥ =
     not_apart (λ (f : g.row.IsStackAlloc.Denot) (p : Place) (b : Bool). goal.IsStackAlloc-post g f p b) mid.is_stack_alloc self.is_stack_alloc
     c.as_slice-list.result.now made c.in_ok-chosen.ensures.stack c.as_slice-list.ensures c.if-not-has_stack_to_stack.ensures.some in
-    let by = computes_by_way reg slots stack (InRegister self.borrowed_scratch_reg) (listed c.args.moves) made (has_scratch c.args.moves) self.find_free_reg
-    mid.find_free_reg last.find_free_reg self.get_stackslot mid.get_stackslot last.get_stackslot ch some
+    let by = computes_by_way reg slots stack (InRegister self.borrowed_scratch_reg) last.find_free_reg last.get_stackslot ch some
     handed c.in_ok-hand_out.ensures.handed via first is in
     record {
       computed = record {
