@@ -138,8 +138,7 @@ impl Allocation {
         match self.bits >> 29 {
             0 => AllocationKind::None,
             1 => AllocationKind::Reg,
-            2 => AllocationKind::Stack,
-            _ => unreachable!(),
+            _ => AllocationKind::Stack,
         }
     }
 

@@ -80,8 +80,7 @@ impl PReg {
         match (self.bits >> 6) & 0b11 {
             0 => RegClass::Int,
             1 => RegClass::Float,
-            2 => RegClass::Vector,
-            _ => unreachable!(),
+            _ => RegClass::Vector,
         }
     }
 

@@ -61,11 +61,13 @@ impl VReg {
     pub const fn class(self) -> RegClass
         ensures { result ≡ self.class }
     {
-        match self.bits & 0b11 {
-            0 => RegClass::Int,
-            1 => RegClass::Float,
-            2 => RegClass::Vector,
-            _ => unreachable!(),
+        let code = self.bits % 4;
+        if code == 0 {
+            RegClass::Int
+        } else if code == 1 {
+            RegClass::Float
+        } else {
+            RegClass::Vector
         }
     }
 
