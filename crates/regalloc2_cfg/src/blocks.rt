@@ -263,7 +263,8 @@ pub fn test_branches<F: Function>(f: &F) -> Result<(), RegAllocError>
     Ok(())
 }
 
-/// Tests a function's blocks and edges.
+/// Tests a function's blocks and edges: the tests of [`CFGInfo::init`](crate::cfg::CFGInfo::init), which says what they are and what errors
+/// name, without its tables. `Memory` comes where memory ran out.
 pub fn test_shape<A: Allocator + Copy, F: Function>(alloc: A, f: &F) -> Result<(), RegAllocError>
     ensures ok { OnOk result (HasShape (F.function f.now)) }
     ensures err { IfErr result (λ e. (e ≡ RegAllocError.Memory) ⊎ IsShapeFault (F.function f.now) e) }

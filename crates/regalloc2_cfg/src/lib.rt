@@ -7,3 +7,5 @@ pub mod indexset;
 pub mod postorder;
 pub mod ssa;
 pub mod table_length;
+
+pub use blocks::test_shape;

@@ -7,7 +7,7 @@ ghost use Rattle.regalloc2_index.specs.Range.{numbers_from, numbers_of};
 ghost use Rattle.regalloc2_function.specs.FunctionValue.{block_at};
 ghost use Rattle.regalloc2_function.specs.Reasons.{param_definition, operand_definition, inst_definitions, block_definitions, definitions_in};
 ghost use Rattle.regalloc2_function.specs.Reasons.{operand_read, inst_reads, argument_use, passed_at, block_uses, uses_in, IsDefinitionFault};
-ghost use Rattle.regalloc2_function.specs.Reasons.{IsSound, IsSoundnessFault};
+ghost use Rattle.regalloc2_function.specs.Reasons.{HasShape, IsSound, IsSoundnessFault};
 ghost use Rattle.regalloc2_names.specs.Operand.{is_def, is_reading};
 ghost use Rattle.regalloc2_function.specs.WellFormed.{ArgumentsFit, ArgumentsFitAt, BlocksFollow, DefinedOnce, EntryIsFirst, IsFirstToFail};
 ghost use Rattle.regalloc2_function.specs.WellFormed.{SuccessorsAreBlocks, UsesAreDefined, last_of};
@@ -363,8 +363,8 @@ fn test_fit<F: Function>(f: &F) -> Result<(), RegAllocError>
     Ok(())
 }
 
-/// Tests a function's entry, terminators, arguments, definitions and uses. `cfginfo` is what [`CFGInfo::new`] or
-/// [`CFGInfo::init`] made of the same function, so blocks and edges are sound.
+/// Tests a function's entry, terminators, arguments, definitions and uses. Its blocks and edges are sound:
+/// [`test_shape`](crate::test_shape) tests that.
 ///
 /// The tests, in turn: the entry is block 0 and has no parameters; each block ends, and only ends, in a branch or in a return
 /// without successors, and no instruction is both; each successor is given as many arguments as it has parameters, of the
@@ -376,6 +376,23 @@ fn test_fit<F: Function>(f: &F) -> Result<(), RegAllocError>
 ///
 /// Linear in the function's instructions, operands and arguments. Upstream tests uses by dominance where this tests the order of
 /// instruction numbers, counts arguments without looking at their classes, and judges the entry's parameters last.
+pub fn test_soundness<A: Allocator + Copy, F: Function>(
+    alloc: A,
+    f: &F,
+) -> Result<(), RegAllocError>
+    requires { HasShape (F.function f.now) }
+    ensures sound { OnOk result (IsSound (F.function f.now)) }
+    ensures refused { IfErr result (λ e. (e ≡ RegAllocError.Memory) ⊎ IsSoundnessFault (F.function f.now) e) }
+    ensures accepted { IsSound (F.function f.now) → IfErr result (λ e. e ≡ RegAllocError.Memory) }
+{
+    test_entry(f)?;
+    test_ends(f)?;
+    test_fit(f)?;
+    test_definitions(alloc, f)
+}
+
+/// Makes the tests of [`test_soundness`]. `cfginfo` is what [`CFGInfo::new`] or [`CFGInfo::init`] made of the same function, so blocks and
+/// edges are sound; the tests don't read it.
 pub fn validate_ssa<A: Allocator + Copy, F: Function, B: Allocator>(
     alloc: A,
     f: &F,
@@ -386,8 +403,5 @@ pub fn validate_ssa<A: Allocator + Copy, F: Function, B: Allocator>(
     ensures refused { IfErr result (λ e. (e ≡ RegAllocError.Memory) ⊎ IsSoundnessFault (F.function f.now) e) }
     ensures accepted { IsSound (F.function f.now) → IfErr result (λ e. e ≡ RegAllocError.Memory) }
 {
-    test_entry(f)?;
-    test_ends(f)?;
-    test_fit(f)?;
-    test_definitions(alloc, f)
+    test_soundness(alloc, f)
 }

@@ -6,8 +6,8 @@ ghost use Rattle.regalloc2_function.specs.Views.{machine_of};
 ghost use Rattle.regalloc2_function.specs.WellFormed.{IsWellFormed};
 ghost use Rattle.regalloc2_validate.specs.Validated.{IsFault};
 
-use regalloc2_cfg::cfg::CFGInfo;
-use regalloc2_cfg::ssa::validate_ssa;
+use regalloc2_cfg::ssa::test_soundness;
+use regalloc2_cfg::test_shape;
 use regalloc2_function::{Function, MachineEnv};
 use regalloc2_names::RegAllocError;
 use std::alloc::Allocator;
@@ -16,9 +16,10 @@ pub mod constraints;
 
 use constraints::validate_fixed;
 
-/// Tests that a function is well-formed: as [`CFGInfo::new`] says, then as [`validate_ssa`], then as [`validate_fixed`].
+/// Tests that a function is well-formed: as [`test_shape`] says, then as [`test_soundness`], then as [`validate_fixed`].
 ///
-/// The first test that fails decides. `Memory` comes where memory ran out.
+/// These are the tests of `CFGInfo::new` and `validate_ssa`, without the tables that the former makes, which no test reads. The first
+/// test that fails decides. `Memory` comes where memory ran out.
 pub fn validate_function<A: Allocator + Copy, F: Function, B: Allocator>(
     alloc: A,
     f: &F,
@@ -27,7 +28,7 @@ pub fn validate_function<A: Allocator + Copy, F: Function, B: Allocator>(
     ensures ok { OnOk result (IsWellFormed (machine_of env.now) (F.function f.now)) }
     ensures refused { IfErr result (IsFault (F.function f.now) (machine_of env.now)) }
 {
-    let cfginfo = CFGInfo::new(alloc, f)?;
-    validate_ssa(alloc, f, &cfginfo)?;
+    test_shape(alloc, f)?;
+    test_soundness(alloc, f)?;
     validate_fixed(f, env)
 }

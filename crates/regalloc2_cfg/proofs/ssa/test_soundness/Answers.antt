@@ -7,7 +7,7 @@ use Rattle.regalloc2_function.specs.Reasons.{IsDefinitionFault, IsSoundnessFault
 use Rattle.regalloc2_function.specs.Reasons.IsSoundnessFault.{arguments, elsewhere, livein, open_end}
 use Rattle.regalloc2_function.specs.WellFormed.{BlocksEnd}
 use Rattle.regalloc2_cfg.proofs.ErrorOnlyOutOfMemory.{definition_fault, fit_counted, on_ok_both}
-use Rattle.regalloc2_cfg.proofs.ssa.validate_ssa.Goals as goal
+use Rattle.regalloc2_cfg.proofs.ssa.test_soundness.Goals as goal
 
 abbrev Fault : FunctionValue → RegAllocError → Type 0
 Fault f e = (e ≡ Memory) ⊎ IsSoundnessFault f e
