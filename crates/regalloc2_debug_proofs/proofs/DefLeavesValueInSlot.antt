@@ -34,7 +34,7 @@ use Rattle.regalloc2_fastalloc_proofs.proofs.Walk.LastInstAndRest.{AnyPlace}
 use Rattle.regalloc2_debug_proofs.proofs.UnnamedStaysUnlocated.{Absent, one_out, sends_out, whole_absent, defined_absent}
 use Rattle.regalloc2_debug_proofs.proofs.DefStoresIntoSlot.{Off, gets_whole, gets_off, uses_off, defines_off, defines_into, off_none, moves_of}
 use Rattle.regalloc2_fastalloc_proofs.proofs.Operands.BlockTail.{tail_of}
-use Rattle.regalloc2_fastalloc_proofs.proofs.Operands.RecordOfInst.{Laying, laying_of}
+use Rattle.regalloc2_fastalloc_proofs.proofs.Operands.RecordOfInst.{LayingContext, laying_of}
 
 -- A definition of an instruction that is no return, and the slot that its vreg has: the vregs that are spoken of; the instructions and the places of their
 -- operands, and the instruction i; its operands, which are orderly, with the numbers that had a location and the places that are clobbered; and the
@@ -79,10 +79,10 @@ module _ (def_slot : DefSlot) where
   abbrev pub Into : VirtualRegister → Place → Type 0
   Into u p = (u ≡ v) × (p ≡ s)
 
-  abbrev pub asks_nothing : Laying
+  abbrev pub asks_nothing : LayingContext
   asks_nothing = laying_of (tail_of Known insts placesf i 0 Nothing) ops lived clob ret orderly
 
-  abbrev pub asks_value : Laying
+  abbrev pub asks_value : LayingContext
   asks_value = laying_of (tail_of Known insts placesf i 0 Into) ops lived clob ret orderly
 
   abbrev pub Bare : Bool → ℕ → List Place → InstRegs → StateValue → Type 0

@@ -1,5 +1,5 @@
 -- Lemmas for the contracts of the state's parts, each of which keeps its invariant; crates above cite some (see docs/ARCHITECTURE.md).
--- Locations: `inverse_marked` in `VRegInPRegInverse`, the two tables stay inverse. Slots: `SpillSlotUnits` (how many units they take),
+-- Locations: `inverse_marked` in `VRegInPRegInverse`, the two tables stay inverse; `RegistersOfVRegs`. Slots: `SpillSlotUnits` (how many units they take),
 -- `SlotsAsPlaces`. Registers: `LrusOfMachine` and `LrusByClass`, over `ArraysByClass`, `ClassIsEmpty`, `SetMembers`, `SetOfList`, `SetDifference` and
 -- `CountingLaws`. Edits: `PointsDescend` (points never rise), `EditsPushed`.
 pub mod CountingLaws
@@ -16,3 +16,4 @@ pub mod SpillSlotUnits
 pub mod ArraysByClass
 pub mod SlotsAsPlaces
 pub mod ClassIsEmpty
+pub mod RegistersOfVRegs

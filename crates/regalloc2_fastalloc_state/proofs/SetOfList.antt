@@ -16,15 +16,18 @@ HasUpTo set regs k = (r : Register) → (has_register set r ≡ true) ↔ ((j : 
 pub has_none : (set : PRegSet) (regs : List Register) → ((r : Register) → has_register set r ≡ false) → HasUpTo set regs 0
 has_none set regs h = λ r. (λ e. absurd (let z = h r in cc), λ x. absurd (omega (arith, x.1)))
 
-or_false : (b c : Bool) → b ≡ false → (b || c) ≡ true → c ≡ true
+-- of a true disjunction whose first part is false, the second is true
+pub or_false : (b c : Bool) → b ≡ false → (b || c) ≡ true → c ≡ true
 or_false true c e h = absurd cc
 or_false false c e h = h
 
-or_true : (b c : Bool) → b ≡ true → (b || c) ≡ true
+-- a disjunction whose first part is true is true
+pub or_true : (b c : Bool) → b ≡ true → (b || c) ≡ true
 or_true true c e = refl
 or_true false c e = absurd cc
 
-or_second : (b c : Bool) → c ≡ true → (b || c) ≡ true
+-- and so is one whose second part is true
+pub or_second : (b c : Bool) → c ≡ true → (b || c) ≡ true
 or_second true c e = refl
 or_second false c e = e
 

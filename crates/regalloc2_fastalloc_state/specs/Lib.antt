@@ -2,3 +2,4 @@ pub mod OutOfResources
 pub mod ScratchPool
 pub mod StateParts
 pub mod InstRegs
+pub mod FilledRegs

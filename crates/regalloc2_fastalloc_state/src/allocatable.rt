@@ -147,7 +147,11 @@ impl<A: Allocator> AllocatableRegs<A> {
     pub fn is_stack(&self, place: Allocation) -> bool
         ensures { result ≡ is_memory self.now.fixed_stack place }
     {
-        place.is_memory(self.fixed_stack)
+        // `Allocation::is_memory` takes the set by value, which is a copy of three words
+        match place.as_reg() {
+            Some(preg) => self.fixed_stack.contains(preg),
+            None => place.is_some(),
+        }
     }
 
     /// The register of the class that is kept for moves from stack to stack.
@@ -186,6 +190,7 @@ impl<A: Allocator> AllocatableRegs<A> {
     }
 
     /// The register was used just now: it is the newest of its class from now on, and the others keep their order.
+    #[inline(always)]
     pub fn poke(&mut self, preg: PReg)
         requires member { has_register self.old.allocatable preg ≡ true }
         ensures machine { SameRegisters self.old self.new }

@@ -1,12 +1,14 @@
 //! The locations of vregs.
 
-ghost use Rattle.std.specs.Prelude.{◌≡◌, ◌≢◌, ℕ, ◌<◌, ◌≤◌, ◌⊎◌, [], All, length, IfOk, IfErr, IfSome, IfNone, Option};
+ghost use Rattle.std.specs.Prelude.{◌≡◌, ◌≢◌, ◌↔◌, ℕ, ◌<◌, ◌≤◌, ◌⊎◌, [], true, All, length, IfOk, IfErr, IfSome, IfNone, Option, Some};
 ghost use Rattle.regalloc2_names.specs.Place.{Place, NoPlace, InRegister, is_in_register, is_place};
-ghost use Rattle.regalloc2_names.specs.Register.{Register};
+ghost use Rattle.regalloc2_names.specs.Register.{Register, VirtualRegister};
+ghost use Rattle.regalloc2_names.specs.RegisterSet.{has_register};
 ghost use Rattle.regalloc2_fastalloc_state.specs.StateParts.{IsInverse, IsNewest, alloc_of, vreg_of_preg, SetsAlloc, SetsVRegInPReg, no_allocs};
 ghost use Rattle.regalloc2_fastalloc_state.specs.StateParts.{HasIf, in_front_if, without};
+ghost use Rattle.regalloc2_fastalloc_state.specs.FilledRegs.{AreRegistersOf};
 
-use regalloc2_names::{Allocation, PReg, RegAllocError, VReg};
+use regalloc2_names::{Allocation, PReg, PRegSet, RegAllocError, VReg};
 use regalloc2_parts::vregset::VRegSet;
 use std::alloc::Allocator;
 use std::marker::Model;
@@ -93,6 +95,20 @@ fn put_in_front<A: Allocator>(in_registers: &mut VRegSet<A>, place: Allocation, 
     }
 }
 
+/// The registers in which the vregs of a list are located.
+fn registers_of_vregs<A: Allocator>(vregs: &VRegSet<A>, vreg_allocs: &Vec<Allocation, A>) -> PRegSet
+    requires { All (λ v. v.number < length vreg_allocs.now.items) vregs.now.members }
+    ensures { AreRegistersOf vreg_allocs.now.items vregs.now.members result }
+{
+    let mut found = PRegSet::empty();
+    for vreg in vregs.iter() {
+        if let Some(preg) = vreg_allocs[vreg.vreg()].as_reg() {
+            found.add(preg);
+        }
+    }
+    found
+}
+
 impl<A: Allocator> VRegAllocs<A> {
     /// The place where the vreg is located, or none.
     pub fn current_alloc(&self, vreg: VReg) -> Allocation
@@ -110,6 +126,13 @@ impl<A: Allocator> VRegAllocs<A> {
         ensures in_range { preg.number ≤ PReg.MAX }
     {
         self.vreg_in_preg[preg.index()]
+    }
+
+    /// The registers in which vregs are. That takes a step for each of these, and not for each register.
+    pub fn filled(&self) -> PRegSet
+        ensures { (r : Register) → r.number < 64 → (has_register result r ≡ true) ↔ ((v : VirtualRegister) × (vreg_of_preg self.now r ≡ Some v)) }
+    {
+        registers_of_vregs(&self.in_registers, &self.vreg_allocs)
     }
 
     /// The register to which a vreg came last, of those in which vregs are.

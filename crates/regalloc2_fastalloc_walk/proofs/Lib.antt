@@ -3,12 +3,13 @@
 -- `OperandTakesFreeReg` (`operand_got`), then `OperandsSpillFree` (`one_placed_more`) and `inst_done`. `LruUnusedLast` and `AvailableCount` say
 -- which registers are found free.
 -- `RegsReserved` (`reserves_all`) is the loop over fixed registers, `OperandOutOfRegs` says where an operand stops, `Steps` chains steps.
--- `NothingPassed`: a branch to blocks without parameters does nothing to the tables.
+-- `NothingPassed`: a branch to blocks without parameters does nothing to the tables. `FilledClobbers`: only clobbers in which vregs are have to be emptied.
 -- What a branch defines: `OwnDefs` (the tables say what is its own), `StoresListed` (`lists_stores`: what a block's beginning stores is listed, each
 -- once, counted in `CountedOnce`), `StoresPushed` (the moves of that, as they are pushed) and `StoresOnEdge` (`stores_on`: those are the stores).
 pub mod AvailableCount
 pub mod BlockSpillFree
 pub mod CountedOnce
+pub mod FilledClobbers
 pub mod RegsReserved
 pub mod LruUnusedLast
 pub mod NothingPassed

@@ -5,11 +5,12 @@ use Rattle.std.specs.Prelude.{None, Some, if◌then◌else◌, Contains, nat_eq,
 use Rattle.std.proofs.lemmas.Bool.{cases_Bool}
 use Rattle.std.proofs.lemmas.List.{get_or-set_other, length-set}
 use Rattle.regalloc2_names.specs.declared.RegClass.{RegClass}
+use Rattle.regalloc2_names.specs.declared.OperandConstraint.{OperandConstraint}
 use Rattle.regalloc2_names.specs.declared.OperandConstraint.TheVariants.{Reg, FixedReg, Reuse}
 use Rattle.regalloc2_names.specs.declared.sets.PRegSet.{PRegSet}
 use Rattle.regalloc2_names.specs.Register.{Register, VirtualRegister, class_code}
 use Rattle.regalloc2_names.specs.RegisterSet.{has_register}
-use Rattle.regalloc2_names.specs.Operand.{OperandValue, nonallocatable_register, is_def, is_fixed_nonallocatable, is_late, is_reading}
+use Rattle.regalloc2_names.specs.Operand.{OperandValue, nonallocatable_register, is_def, is_fixed, is_fixed_nonallocatable, is_late, is_reading}
 use Rattle.regalloc2_names.specs.Place.{Place, NoPlace, InRegister, is_place}
 use Rattle.regalloc2_names.specs.Point.{after as after_point}
 use Rattle.regalloc2_names.specs.Same.{is_place-same}
@@ -434,6 +435,10 @@ reg_is_free o r reg e = by (nat_eq o.vreg.number 1073741823) (rw reg at e)
     by : (b : Bool) → (if b then None else None) ≡ Some r → ⊥
     by true h = cc
     by false h = cc
+
+-- nor one that names a register and no vreg
+pub reg_not_nonallocatable : (o : OperandValue) → o.constraint ≡ Reg → is_fixed_nonallocatable o ≡ false
+reg_not_nonallocatable o reg = ap (λ (c : OperandConstraint). is_fixed c && nat_eq o.vreg.number 1073741823) reg
 
 -- an operand under `Reg` isn't fixed to a register
 pub reg_not_fixed : (o : OperandValue) (r : Register) → o.constraint ≡ Reg → o.constraint ≡ FixedReg r → ⊥

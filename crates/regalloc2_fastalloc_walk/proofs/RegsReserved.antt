@@ -1,5 +1,6 @@
 -- What operands reserve, one after another.
-use Rattle.std.proofs.Common.{ℕ, ◌≡◌, ◌≢◌, ◌+◌, ◌<◌, ◌≤◌, ◌⊎◌, inl, inr, Bool, true, false, List, [], ◌∷◌, length, refl, arith, sym, ap, ◌∙◌, subst}
+use Rattle.std.proofs.Common.{ℕ, zero, suc, add-one, ◌≡◌, ◌≢◌, ◌+◌, ◌<◌, ◌≤◌, ◌⊎◌, inl, inr, Bool, true, false, List, [], ◌∷◌, length, refl}
+use Rattle.std.proofs.Common.{arith, sym, ap, ◌∙◌, subst}
 use Rattle.std.proofs.Common.{get_or-set_same}
 use Rattle.std.specs.Prelude.{Option, None, Some, IfSome, not, ◌&&◌, ◌||◌, if◌then◌else◌, nat_eq, min, take, slice_index, slice_set}
 use Rattle.std.proofs.lemmas.Bool.{cases_Bool, cases_eq, and_parts, eqb-true}
@@ -20,6 +21,7 @@ use Rattle.regalloc2_fastalloc_walk.specs.declared.reserve_regs.ReservedRegs.{Re
 use Rattle.regalloc2_fastalloc_state.specs.InstRegs.{RemovesAvailable, SameAvailable, awaited_of, is_free_throughout}
 use Rattle.regalloc2_validate.specs.Constraints.{op_at, no_operand}
 use Rattle.regalloc2_fastalloc_proofs.specs.InstSteps.{StateValue, NeedsFixedReg, own, named, IsFixedIn, ReservesRegs, asks, asking}
+use Rattle.regalloc2_fastalloc_proofs.specs.InstSteps.{EvictsFixed, none_cleared, not_fixed}
 use Rattle.regalloc2_fastalloc_walk.specs.ReserveSteps.{IsKnown, Shrinks, Grows, IsNewlyReserved, IsReserved, ReservesRegForOperand, TakesOnly}
 use Rattle.regalloc2_fastalloc_walk.specs.ReserveSteps.{TakesFixed, AwaitsOne, ReservesOnly, OperandReserves, ReserveForOperandFails}
 use Rattle.regalloc2_fastalloc_proofs.specs.OutOfRegs.{ReserveRegsFails, unknown, shared}
@@ -433,3 +435,30 @@ pub awaits_from : (ops : List OperandValue) (k : ℕ) (t m u : InstRegs) → m.a
 awaits_from ops k t m u same h class small =
     let e : awaited_of m class ≡ awaited_of t class = ap (λ (xs : List ℕ). slice_index xs (class_code class)) same in
     h class (omega (arith, e, small)) ∙ ap (λ (n : ℕ). n + (if asks class (op_at ops k) then 1 else 0)) e
+
+-- where no operand is fixed to a register, none has to be emptied
+pub evicts_none : (point : ℕ) (ops : List OperandValue) (t : InstRegs) (m : StateValue) →
+    ((k : ℕ) → k < length ops → (r : Register) → (op_at ops k).constraint ≡ FixedReg r → ⊥) → (n : ℕ) → n ≤ length ops → EvictsFixed point ops t m n t m
+evicts_none point ops t m never zero le = none_cleared
+evicts_none point ops t m never (suc n) le =
+    subst (λ (k : ℕ). EvictsFixed point ops t m k t m) (add-one n)
+    (not_fixed n t m (evicts_none point ops t m never n (omega arith)) (λ r e. never n (omega arith) r e) (λ j r e less named. never j less r named))
+
+-- the operands up to the next one, where none of them is fixed, or some one is
+abbrev pub NoneIsFixed : List OperandValue → ℕ → Type 0
+NoneIsFixed ops k = (j : ℕ) → j < k → (r : Register) → (op_at ops j).constraint ≡ FixedReg r → ⊥
+
+abbrev pub SomeIsFixed : List OperandValue → ℕ → Type 0
+SomeIsFixed ops k = (j : ℕ) × (r : Register) × (j < k) × ((op_at ops j).constraint ≡ FixedReg r)
+
+pub none_fixed_more : (ops : List OperandValue) (k : ℕ) (o : OperandValue) → o ≡ op_at ops k → NoneIsFixed ops k →
+    ((r : Register) → o.constraint ≡ FixedReg r → ⊥) → NoneIsFixed ops (k + 1)
+none_fixed_more ops k o is none here j lt r e = elim (cases_eq j k) [
+  | inl same ↦ here r (ap (λ (p : OperandValue). p.constraint) is ∙ ap (λ (n : ℕ). (op_at ops n).constraint) (sym same) ∙ e)
+  | inr other ↦ none j (omega (arith, lt, other)) r e
+]
+
+pub some_fixed_more : (ops : List OperandValue) (k : ℕ) (o : OperandValue) (b : Bool) → o ≡ op_at ops k → (b ≡ true → SomeIsFixed ops k) →
+    ((b ≡ true) ⊎ ((r : Register) × (o.constraint ≡ FixedReg r))) → SomeIsFixed ops (k + 1)
+some_fixed_more ops k o b is some (inl e) = let x = some e in (x.0, x.1, omega (arith, x.2), x.3)
+some_fixed_more ops k o b is some (inr h) = (k, h.0, omega arith, ap (λ (p : OperandValue). p.constraint) (sym is) ∙ h.1)

@@ -268,6 +268,10 @@ impl<'a, A: Allocator> State<'a, A> {
         ensures registers { OnOk result (self.new.registers ≡ self.old.registers) }
         ensures none { OnOk result (moves.entry ≡ [] → SameTables self.old self.new) }
     {
+        if moves.is_empty() {
+            // most branches have moves of one class, and the list of another isn't handed on to be put in order
+            return Ok(());
+        }
         let made = self.order(inst_regs, class, moves)?;
         self.edits.push_all(point, made.as_slice())?;
         Ok(())

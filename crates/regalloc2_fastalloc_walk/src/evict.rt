@@ -1,8 +1,8 @@
 //! Moves, by way of a register where both ends are stack places, and evictions.
 
-ghost use Rattle.std.specs.Prelude.{◌≡◌, OnOk, IfErr, None};
+ghost use Rattle.std.specs.Prelude.{◌≡◌, ◌<◌, OnOk, IfErr, None, Some};
 ghost use Rattle.regalloc2_names.specs.Place.{NoPlace};
-ghost use Rattle.regalloc2_fastalloc_state.specs.StateParts.{AllAtOrAfter, vreg_of_preg, alloc_of};
+ghost use Rattle.regalloc2_fastalloc_state.specs.StateParts.{AllAtOrAfter, IsInverse, vreg_of_preg, alloc_of};
 ghost use Rattle.regalloc2_fastalloc_proofs.specs.InstSteps.{is_stack_in, EvictsVReg, AllocsScratchReg, AddsMove, EvictsPReg, EvictsOthers};
 ghost use Rattle.regalloc2_fastalloc_proofs.specs.OutOfRegs.{OutOfRegsOnlyIf, EvictPRegFails, AddMoveFails, AllocScratchRegFails};
 ghost use Rattle.regalloc2_fastalloc_walk.specs.StateView.{IsStepAt, Makes, MakesOne, StopsOnlyIf, tables_of};
@@ -86,13 +86,41 @@ impl<'a, A: Allocator> State<'a, A> {
         ensures stops { StopsOnlyIf (AddMoveFails class from to inst_regs.old) result self.old }
         ensures registers { OnOk result (self.new.registers ≡ self.old.registers) }
     {
-        if self.is_stack(from) && self.is_stack(to) {
+        // most moves are reloads, which go to a register
+        if self.is_stack(to) && self.is_stack(from) {
             let by = Allocation::reg(self.alloc_scratch_reg(inst_regs, point, class)?);
             self.edits.push(point, by, to)?;
             self.edits.push(point, from, by)?;
             return Ok(());
         }
         self.edits.push(point, from, to)?;
+        Ok(())
+    }
+
+    /// Empties a register or fixed stack slot in which a vreg is: that is in its slot from now on, and is reloaded from there at the
+    /// point. Its callers, which mostly find no vreg there, have only the test inlined.
+    #[inline(never)]
+    fn evict_held(
+        &mut self,
+        inst_regs: &mut InstRegs,
+        point: ProgPoint,
+        preg: PReg,
+        vreg: VReg,
+    ) -> Result<(), RegAllocError>
+        requires held { vreg_of_preg self.old.places preg ≡ Some vreg }
+        requires small { preg.number < 64 }
+        requires inverse { IsInverse self.old.places }
+        requires later { AllAtOrAfter point self.old.edits }
+        ensures ok { Makes (EvictsPReg point preg inst_regs.old inst_regs.new) result self.old self.new }
+        ensures awaited { inst_regs.new.awaited ≡ inst_regs.old.awaited }
+        ensures empty { OnOk result (vreg_of_preg self.new.places preg ≡ None) }
+        ensures step { IsStepAt point result self.old self.new }
+        ensures stops { StopsOnlyIf (EvictPRegFails preg inst_regs.old) result self.old }
+        ensures registers { OnOk result (self.new.registers ≡ self.old.registers) }
+    {
+        let slot = self.slots.get_spillslot(vreg)?;
+        self.places.set_alloc(vreg, slot);
+        self.add_move(inst_regs, point, vreg.class(), slot, Allocation::reg(preg))?;
         Ok(())
     }
 
@@ -116,9 +144,7 @@ impl<'a, A: Allocator> State<'a, A> {
         let Some(vreg) = self.places.vreg_in(preg) else {
             return Ok(());
         };
-        let slot = self.slots.get_spillslot(vreg)?;
-        self.places.set_alloc(vreg, slot);
-        self.add_move(inst_regs, point, vreg.class(), slot, Allocation::reg(preg))?;
+        self.evict_held(inst_regs, point, preg, vreg)?;
         Ok(())
     }
 

@@ -4,8 +4,8 @@ ghost use Rattle.std.specs.Prelude.{Bool};
 ghost use Rattle.regalloc2_names.specs.RegisterSet.{has_register};
 ghost use Rattle.regalloc2_names.specs.Register.{Register, VirtualRegister};
 ghost use Rattle.regalloc2_fastalloc_walk.specs.SpillFree.{FitInRegs, ArePlaced, ArePlain, IsSpillFree, LeavesSpillFree, AllocsAnyReg};
-ghost use Rattle.std.specs.Prelude.{◌≡◌, ◌<◌, ◌≤◌, ◌+◌, [], length, not, false, slice_set, slice_index_or, ℕ, OnOk, IfSome};
-ghost use Rattle.std.specs.Prelude.{IsNone, List};
+ghost use Rattle.std.specs.Prelude.{◌≡◌, ◌<◌, ◌≤◌, ◌+◌, ◌↔◌, [], length, not, false, true, slice_set, slice_index_or, ℕ, OnOk, IfSome};
+ghost use Rattle.std.specs.Prelude.{IsNone, IsTrue, List};
 ghost use Rattle.regalloc2_names.specs.Point.{before, after};
 ghost use Rattle.regalloc2_names.specs.Place.{Place, NoPlace, is_place};
 ghost use Rattle.regalloc2_names.specs.Operand.{is_def, is_late};
@@ -112,6 +112,27 @@ fn def_request(operand: Operand) -> OperandRequest
     }
 }
 
+/// Whether an operand asks for any register, and no reuse has chosen one for it.
+fn asks_any_reg(operand: Operand, place: Allocation) -> bool
+    ensures { IsTrue result ↔ (operand.constraint ≡ OperandConstraint.Reg) × (place ≡ NoPlace) }
+{
+    matches!(operand.constraint(), OperandConstraint::Reg) && place.is_none()
+}
+
+/// An operand that asks for any register, as it is allocated where no reuse has chosen one for it.
+fn reg_request(operand: Operand) -> OperandRequest
+    requires { operand.constraint ≡ OperandConstraint.Reg }
+    ensures used { is_def operand.kind ≡ false → result ≡ use_request operand NoPlace }
+    ensures defined { is_def operand.kind ≡ true → result ≡ def_request operand }
+{
+    OperandRequest {
+        vreg: operand.vreg(),
+        requirement: Requirement::AnyReg,
+        positions: Positions::of(operand),
+        is_def: operand.is_def(),
+    }
+}
+
 /// A reuse, as it is allocated: it holds its register throughout, for the operand that it names too.
 fn reuse_request(operand: Operand, operands: &[Operand], index: usize) -> OperandRequest
     ensures { result ≡ reuse_request operand (op_at operands.now index) }
@@ -150,8 +171,9 @@ pub struct InstCx<'a> {
 }
 
 impl<'a, A: Allocator> State<'a, A> {
-    /// Allocates the operand k. The place of a reuse is that of the operand that it names too.
-    fn process_operand_allocation(
+    /// Allocates the operand k, whatever it asks. The place of a reuse is that of the operand that it names too.
+    #[inline(never)]
+    fn process_operand(
         &mut self,
         inst_regs: &mut InstRegs,
         cx: &InstCx<'_>,
@@ -192,6 +214,70 @@ impl<'a, A: Allocator> State<'a, A> {
         }
         here[k] = self.alloc_def_op(inst_regs, point, &def_request(operand), cx.ends_block)?;
         Ok(())
+    }
+
+    /// Allocates the operand k, which asks for any register, as most do. It is [`Self::process_operand`] without all that others ask.
+    #[inline(never)]
+    fn process_reg_operand(
+        &mut self,
+        inst_regs: &mut InstRegs,
+        cx: &InstCx<'_>,
+        here: &mut [Allocation],
+        k: usize,
+    ) -> Result<(), RegAllocError>
+        requires inside { k < length cx.now.operands.now }
+        requires inst { cx.now.inst < 1073741824 }
+        requires later { AllAtOrAfter (after cx.now.inst) self.old.edits }
+        requires in_tables { InTables cx.now.operands.now (tables_of self.old) }
+        requires here_long { length here.old ≡ length cx.now.operands.now }
+        requires reg { (op_at cx.now.operands.now k).constraint ≡ OperandConstraint.Reg }
+        requires unplaced { slice_index_or here.old k NoPlace ≡ NoPlace }
+        ensures ok { Makes (ProcessesOperand cx.now.inst cx.now.ends_block cx.now.operands.now k here.old here.new inst_regs.old inst_regs.new) result
+            self.old self.new }
+        ensures step { IsStepAt (after cx.now.inst) result self.old self.new }
+        ensures stops { StopsOnlyIf (ProcessOperandFails cx.now.inst cx.now.ends_block cx.now.operands.now k here.old inst_regs.old) result self.old }
+        ensures takes { OnOk result (AllocsAnyReg inst_regs.old (op_at cx.now.operands.now k).vreg (slice_index_or here.new k NoPlace)
+            (tables_of self.old) self.old.registers self.new.registers) }
+    {
+        let operands = cx.operands;
+        let operand = operands[k];
+        let point = ProgPoint::after(cx.inst);
+        let request = reg_request(operand);
+        if !operand.is_def() {
+            here[k] = self.alloc_use(inst_regs, point, &request)?;
+            return Ok(());
+        }
+        here[k] = self.alloc_def_op(inst_regs, point, &request, cx.ends_block)?;
+        Ok(())
+    }
+
+    /// Allocates the operand k.
+    #[inline(always)]
+    fn process_operand_allocation(
+        &mut self,
+        inst_regs: &mut InstRegs,
+        cx: &InstCx<'_>,
+        here: &mut [Allocation],
+        k: usize,
+    ) -> Result<(), RegAllocError>
+        requires inside { k < length cx.now.operands.now }
+        requires inst { cx.now.inst < 1073741824 }
+        requires later { AllAtOrAfter (after cx.now.inst) self.old.edits }
+        requires in_tables { InTables cx.now.operands.now (tables_of self.old) }
+        requires here_long { length here.old ≡ length cx.now.operands.now }
+        ensures ok { Makes (ProcessesOperand cx.now.inst cx.now.ends_block cx.now.operands.now k here.old here.new inst_regs.old inst_regs.new) result
+            self.old self.new }
+        ensures step { IsStepAt (after cx.now.inst) result self.old self.new }
+        ensures stops { StopsOnlyIf (ProcessOperandFails cx.now.inst cx.now.ends_block cx.now.operands.now k here.old inst_regs.old) result self.old }
+        ensures takes { OnOk result ((op_at cx.now.operands.now k).constraint ≡ OperandConstraint.Reg → slice_index_or here.old k NoPlace ≡ NoPlace →
+            AllocsAnyReg inst_regs.old (op_at cx.now.operands.now k).vreg (slice_index_or here.new k NoPlace) (tables_of self.old) self.old.registers
+            self.new.registers) }
+    {
+        let operands = cx.operands;
+        if asks_any_reg(operands[k], here[k]) {
+            return self.process_reg_operand(inst_regs, cx, here, k);
+        }
+        self.process_operand(inst_regs, cx, here, k)
     }
 
     /// Allocates the operands of one position, in operand order.
@@ -307,9 +393,9 @@ impl<'a, A: Allocator> State<'a, A> {
     {
         let operands = cx.operands;
         let point = ProgPoint::after(cx.inst);
-        self.reserve(inst_regs, operands)?;
+        let any_fixed = self.reserve(inst_regs, operands)?;
         self.remove_clobbers_from_available_pregs(inst_regs, cx.clobbers);
-        self.evict_fixed(inst_regs, point, operands)?;
+        self.evict_fixed(inst_regs, point, operands, any_fixed)?;
         self.evict_clobbers(inst_regs, point, cx.clobbers)?;
         self.process_operands_at(inst_regs, OperandPos::Late, cx, here)?;
         self.process_operands_at(inst_regs, OperandPos::Early, cx, here)?;

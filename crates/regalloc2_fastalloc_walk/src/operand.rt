@@ -446,6 +446,7 @@ impl<'a, A: Allocator> State<'a, A> {
     }
 
     /// Allocates a use: a vreg that had no location is located there from now on.
+    #[inline(always)]
     pub fn alloc_use(
         &mut self,
         inst_regs: &mut InstRegs,

@@ -1,6 +1,6 @@
 //! What an instruction takes before its operands are allocated: fixed registers and clobbers.
 
-ghost use Rattle.std.specs.Prelude.{ℕ, ◌≡◌, ◌<◌, ◌⊎◌, ◌||◌, length, true, false, OnOk, IfSome, IfNone, IfErr, Some};
+ghost use Rattle.std.specs.Prelude.{ℕ, ◌≡◌, ◌<◌, ◌⊎◌, ◌||◌, ◌↔◌, length, true, false, IsTrue, OnOk, IfOk, IfSome, IfNone, IfErr, Some};
 ghost use Rattle.regalloc2_names.specs.Register.{Register};
 ghost use Rattle.regalloc2_names.specs.RegisterSet.{has_register, registers_of};
 ghost use Rattle.regalloc2_fastalloc_state.specs.StateParts.{AllAtOrAfter};
@@ -62,6 +62,17 @@ impl ReservedRegs {
     }
 }
 
+/// Whether an operand is fixed to a register, or one of those before it was.
+fn is_fixed_so_far(any_fixed: bool, operand: Operand) -> bool
+    ensures some { result ≡ true → (any_fixed ≡ true) ⊎ ((r : Register) × (operand.constraint ≡ OperandConstraint.FixedReg r)) }
+    ensures none { result ≡ false → (any_fixed ≡ false) × ((r : Register) → operand.constraint ≡ OperandConstraint.FixedReg r → ⊥) }
+{
+    match operand.constraint() {
+        OperandConstraint::FixedReg(_) => true,
+        _ => any_fixed,
+    }
+}
+
 /// The register that an operand is fixed to.
 fn fixed_register(operand: Operand) -> Option<PReg>
     ensures some { IfSome result (λ r. operand.constraint ≡ OperandConstraint.FixedReg r) }
@@ -113,6 +124,13 @@ fn reserved_by(operands: &[Operand], k: usize) -> Option<(PReg, Positions)>
         }
         _ => None,
     }
+}
+
+/// Whether a set has no register.
+fn has_none(set: PRegSet) -> bool
+    ensures { IsTrue result ↔ ((r : Register) → has_register set r ≡ false) }
+{
+    set.max_preg().is_none()
 }
 
 impl<'a, A: Allocator> State<'a, A> {
@@ -199,24 +217,30 @@ impl<'a, A: Allocator> State<'a, A> {
         Ok(())
     }
 
-    /// Reserves what the operands take before they are placed, in operand order.
+    /// Reserves what the operands take before they are placed, in operand order. Whether any is fixed to a register is answered.
     pub fn reserve(
         &mut self,
         inst_regs: &mut InstRegs,
         operands: &[Operand],
-    ) -> Result<(), RegAllocError>
+    ) -> Result<bool, RegAllocError>
         ensures ok { OnOk result (ReservesRegs operands.now inst_regs.old inst_regs.new (tables_of self.old)) }
         ensures same { SameTables self.old self.new }
         ensures err { IfErr result (IsResourceErrorIn self.new.slots) }
         ensures stops { StopsOnlyIf (ReserveRegsFails operands.now) result self.old }
         ensures registers { OnOk result (((k : ℕ) (r : Register) → k < length operands.now →
             (op_at operands.now k).constraint ≡ OperandConstraint.FixedReg r → ⊥) → self.new.registers ≡ self.old.registers) }
+        ensures fixed { IfOk result (λ any_fixed. any_fixed ≡ false → (k : ℕ) → k < length operands.now → (r : Register) →
+            (op_at operands.now k).constraint ≡ OperandConstraint.FixedReg r → ⊥) }
+        ensures some { IfOk result (λ any_fixed. any_fixed ≡ true → (k : ℕ) × (r : Register) × (k < length operands.now)
+            × ((op_at operands.now k).constraint ≡ OperandConstraint.FixedReg r)) }
     {
         let mut claims = ReservedRegs::none();
+        let mut any_fixed = false;
         for k in 0..operands.len() {
             self.reserve_reg_for_operand(inst_regs, &mut claims, operands, k)?;
+            any_fixed = is_fixed_so_far(any_fixed, operands[k]);
         }
-        Ok(())
+        Ok(any_fixed)
     }
 
     /// Removes the clobbers from the available registers while late operands are there.
@@ -232,20 +256,27 @@ impl<'a, A: Allocator> State<'a, A> {
         inst_regs.remove_late(clobbers);
     }
 
-    /// Empties the fixed registers of the operands, in operand order, of all vregs but each operand's own.
+    /// Empties the fixed registers of the operands, in operand order, of all vregs but each operand's own. Most instructions have none,
+    /// which is told by `any_fixed`.
     pub fn evict_fixed(
         &mut self,
         inst_regs: &mut InstRegs,
         point: ProgPoint,
         operands: &[Operand],
+        any_fixed: bool,
     ) -> Result<(), RegAllocError>
-        requires { AllAtOrAfter point self.old.edits }
+        requires later { AllAtOrAfter point self.old.edits }
+        requires unfixed { any_fixed ≡ false → (k : ℕ) → k < length operands.now → (r : Register) →
+            (op_at operands.now k).constraint ≡ OperandConstraint.FixedReg r → ⊥ }
         ensures ok { Makes (λ t. EvictsFixed point operands.now inst_regs.old t (length operands.now) inst_regs.new) result self.old self.new }
         ensures awaited { inst_regs.new.awaited ≡ inst_regs.old.awaited }
         ensures step { IsStepAt point result self.old self.new }
         ensures stops { StopsOnlyIf (EvictFixedFails point operands.now inst_regs.old) result self.old }
         ensures registers { OnOk result (self.new.registers ≡ self.old.registers) }
     {
+        if !any_fixed {
+            return Ok(());
+        }
         for k in 0..operands.len() {
             let operand = operands[k];
             match operand.constraint() {
@@ -263,7 +294,8 @@ impl<'a, A: Allocator> State<'a, A> {
         Ok(())
     }
 
-    /// Empties the clobbers, by rising index.
+    /// Empties the clobbers, by rising index: those in which vregs are, since there is nothing in the others. Most instructions
+    /// clobber nothing.
     pub fn evict_clobbers(
         &mut self,
         inst_regs: &mut InstRegs,
@@ -277,7 +309,12 @@ impl<'a, A: Allocator> State<'a, A> {
         ensures stops { StopsOnlyIf (EvictClobbersFails point inst_regs.old) result self.old }
         ensures registers { OnOk result (self.new.registers ≡ self.old.registers) }
     {
-        for preg in clobbers {
+        if has_none(clobbers) {
+            return Ok(());
+        }
+        let filled = self.places.filled();
+        let held = clobbers & filled;
+        for preg in held {
             self.evict_preg(inst_regs, point, preg)?;
         }
         Ok(())

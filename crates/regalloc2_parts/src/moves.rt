@@ -4,7 +4,7 @@
 //! any of them. The order is found by a walk from each move to the one that writes what it reads; a cycle is broken through a
 //! scratch place.
 
-ghost use Rattle.std.specs.Prelude.{◌≡◌, ◌≢◌, ◌<◌, ◌≤◌, length, [], ◌∷◌, ◌++◌, IsOk, IfOk, OnOk, OnErr, IfErr};
+ghost use Rattle.std.specs.Prelude.{◌≡◌, ◌≢◌, ◌↔◌, ◌<◌, ◌≤◌, length, [], ◌∷◌, ◌++◌, IsTrue, IsOk, IfOk, OnOk, OnErr, IfErr};
 ghost use Rattle.regalloc2_names.specs.Place.{NoPlace};
 ghost use Rattle.regalloc2_parts.specs.AtOnce.{ends_of, HasOneSourceEach, IsPlace};
 
@@ -120,6 +120,13 @@ impl<T: Copy + Default, A: Allocator + Copy> ParallelMoves<T, A> {
         has_word(to);
         self.parallel_moves.push((from, to, t))?;
         Ok(())
+    }
+
+    /// Whether there are none.
+    pub fn is_empty(&self) -> bool
+        ensures { IsTrue result ↔ (self.now ≡ []) }
+    {
+        self.parallel_moves.is_empty()
     }
 
     /// The moves in an order in which they can be made one after another as if they were made at once. Two moves into one place

@@ -16,7 +16,7 @@ use Rattle.regalloc2_pressure_proofs.proofs.StepsKeepMachine.{HasAll, all_kept}
 use Rattle.regalloc2_pressure_proofs.proofs.FreeRegsCoverWaiting.{Paying}
 use Rattle.regalloc2_pressure_proofs.proofs.OperandsLeaveEnough.{one_pays, never_one}
 use Rattle.regalloc2_fastalloc_proofs.proofs.Operands.AllocsSoFar.{filling_of}
-use Rattle.regalloc2_fastalloc_proofs.proofs.Safety.OperandPassesKeepSafe.{Passes, passes_of}
+use Rattle.regalloc2_fastalloc_proofs.proofs.Safety.OperandPassesKeepSafe.{PassesContext, passes_of}
 use Rattle.regalloc2_pressure_proofs.proofs.OperandsLeaveEnough.{NamedOperands}
 
 -- more are done
@@ -37,7 +37,7 @@ module _ (operands : NamedOperands) where
   open operands use {Named, env, apart, Known, named, ops, tame, fixed, base, i, is_ret}
 
   -- the passes, wherever the walk may write and move
-  abbrev passes : Passes
+  abbrev passes : PassesContext
   passes = passes_of (filling_of env Known AllWrite AllMay base ops tame) apart fixed i is_ret tt (defs_write i ops)
 
   -- which are done in each pass

@@ -11,7 +11,7 @@ use Rattle.regalloc2_semantics.proofs.Cells.{is_place-same, is_place-other}
 use Rattle.regalloc2_fastalloc_state.specs.StateParts.{VRegAllocsValue, alloc_of, vreg_of_preg, SetsAlloc, IsSlotOrNone}
 use Rattle.regalloc2_fastalloc_state.specs.declared.inst_regs.InstRegs.{InstRegs}
 use Rattle.regalloc2_fastalloc_proofs.specs.InstSteps.{StateValue, SameMachine, a_move, EvictsVReg, nobody, moved, AllocsScratchReg}
-use Rattle.regalloc2_fastalloc_proofs.specs.InstSteps.{dedicated_scratch, had, found, AddsMove, direct, through}
+use Rattle.regalloc2_fastalloc_proofs.specs.InstSteps.{dedicated_scratch, had, found, AddsMove, direct, through, EvictsPReg, empty, cleared}
 
 -- a conjunction of two true parts is true
 pub and_true : (a b : Bool) → a ≡ true → b ≡ true → (a && b) ≡ true
@@ -74,6 +74,14 @@ pub crosses_empty : (point : ℕ) (class : RegClass) (from to : Place) (t u : In
 crosses_empty point class from to t u old new (direct b e f) r lt none = ap (λ (m : StateValue). vreg_of_preg m.places r) f ∙ none
 crosses_empty point class from to t u old new (through by m b s e) r lt none = ap (λ (m : StateValue). vreg_of_preg m.places r) e
     ∙ scratches_empty point class t u by old m s r lt none
+
+-- emptying a register leaves empty registers empty
+pub clears_empty : (point : ℕ) (by : Register) (t u : InstRegs) (old new : StateValue) → EvictsPReg point by t u old new → (r : Register) → r.number < 64 →
+    vreg_of_preg old.places r ≡ None → vreg_of_preg new.places r ≡ None
+clears_empty point by t u old new (empty h f e) r lt none = ap (λ (m : StateValue). vreg_of_preg m.places r) e ∙ none
+clears_empty point by t u old new (cleared v s m small h gives settles edits machine crosses) r lt none =
+    crosses_empty point v.class s (InRegister by) t u m new crosses r lt
+    (settles_empty old.places m.places v s r lt (λ e. subst (IsSlotOrNone m.slots.count) e gives.below) settles none)
 
 -- an option that has no item is none
 pub no_some : {X : Type 0} (o : Option X) → ((x : X) → o ≡ Some x → ⊥) → o ≡ None

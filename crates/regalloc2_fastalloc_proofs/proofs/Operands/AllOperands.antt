@@ -11,9 +11,9 @@ use Rattle.regalloc2_fastalloc_proofs.specs.InstSteps.{of_other, one_placed}
 use Rattle.regalloc2_fastalloc_proofs.proofs.Operands.RecordOfInst.{Turned, Laid}
 use Rattle.regalloc2_fastalloc_proofs.proofs.Operands.UsesAndPlainDefs.{reads_no_fixed, laid_pass, laid_aside, laid_use, laid_def}
 use Rattle.regalloc2_fastalloc_proofs.proofs.Operands.ReuseDefs.{laid_reuse}
-use Rattle.regalloc2_fastalloc_proofs.proofs.Operands.RecordOfInst.{Laying}
+use Rattle.regalloc2_fastalloc_proofs.proofs.Operands.RecordOfInst.{LayingContext}
 
-module _ (laying : Laying) where
+module _ (laying : LayingContext) where
   open laying use {tail, ops, lived, clob, ret, orderly}
   open laying.tail use {Known, insts, placesf, i, n, E}
 

@@ -188,7 +188,7 @@ no_place_register p e h = subst IsInRegister e h
 
 -- An instruction's operands, which get their places one after another: the machine; the vregs that are known; the slots into which the walk may write a
 -- vreg's value, and the points where moves may be; slots that are there at least; and the operands, which are tame.
-pub record Filling : Type 1 where
+pub record FillingContext : Type 1 where
   pub env : MachineValue
   pub Known : VirtualRegister → Type 0
   pub Writes : ℕ → VirtualRegister → ℕ → Type 0
@@ -199,11 +199,11 @@ pub record Filling : Type 1 where
 
 -- those, of their parts
 abbrev pub filling_of : MachineValue → (Known : VirtualRegister → Type 0) → (ℕ → VirtualRegister → ℕ → Type 0) → (ℕ → Type 0) → SpillSlotsValue →
-    (ops : List OperandValue) → IsTame Known ops → Filling
+    (ops : List OperandValue) → IsTame Known ops → FillingContext
 filling_of env Known Writes May base ops tame =
     record { env = env; Known = Known; Writes = Writes; May = May; base = base; ops = ops; tame = tame }
 
-module _ (filling : Filling) where
+module _ (filling : FillingContext) where
   open filling use {env, Known, Writes, May, base, ops, tame}
 
   -- the same operands are done

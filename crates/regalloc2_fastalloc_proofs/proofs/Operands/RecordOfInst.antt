@@ -87,7 +87,7 @@ module _ (tail : BlockTail) where
 
 -- What the passes over an instruction's operands are under: the tail of the block; the operands, which are orderly; the numbers that had a location when
 -- the instruction began; the places that are clobbered; and whether it is a return.
-pub record Laying : Type 1 where
+pub record LayingContext : Type 1 where
   pub tail : BlockTail
   pub ops : List OperandValue
   pub lived : ℕ → Bool
@@ -96,5 +96,5 @@ pub record Laying : Type 1 where
   pub orderly : Orderly ops
 
 -- those, of their parts
-abbrev pub laying_of : BlockTail → (ops : List OperandValue) → (ℕ → Bool) → (Place → Bool) → Bool → Orderly ops → Laying
+abbrev pub laying_of : BlockTail → (ops : List OperandValue) → (ℕ → Bool) → (Place → Bool) → Bool → Orderly ops → LayingContext
 laying_of tail ops lived clob ret orderly = record { tail = tail; ops = ops; lived = lived; clob = clob; ret = ret; orderly = orderly }

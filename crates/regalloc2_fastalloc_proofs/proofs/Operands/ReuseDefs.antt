@@ -36,7 +36,7 @@ use Rattle.regalloc2_fastalloc_proofs.proofs.Operands.AllocOperand.{Due, owed, f
 use Rattle.regalloc2_fastalloc_proofs.proofs.Operands.AllocOperand.{puts_one, and_one, and_one_same, and_one_other, and_one_grows, and_one_keeps}
 use Rattle.regalloc2_fastalloc_proofs.proofs.Operands.RecordAfterOperand.{def_step, made_one, makes_one}
 use Rattle.regalloc2_fastalloc_proofs.proofs.Operands.UsesAndPlainDefs.{waits_set, fresh_turn, phase_turn, laid_next}
-use Rattle.regalloc2_fastalloc_proofs.proofs.Operands.RecordOfInst.{Laying}
+use Rattle.regalloc2_fastalloc_proofs.proofs.Operands.RecordOfInst.{LayingContext}
 
 -- what is held stays held while a definition is sent
 pub sends_less : (point : ℕ) (class : RegClass) (is_made : Bool) (from to : Place) (t u : InstRegs) (old new : StateValue) →
@@ -91,7 +91,7 @@ asked_as_at (FixedReg q) r e = let same : q ≡ r = cc in ap FixedReg same
 asked_as_at (Reuse m) r e = absurd cc
 asked_as_at (Limit m) r e = absurd cc
 
-module _ (laying : Laying) (late : Bool) (k : ℕ) (list : List Place) (u : InstRegs) (t : StateValue)
+module _ (laying : LayingContext) (late : Bool) (k : ℕ) (list : List Place) (u : InstRegs) (t : StateValue)
     (L : Laid laying.tail laying.ops laying.lived laying.clob laying.ret late k list u t) (lt : k < length laying.ops)
     (inst_regs : is_late (op_at laying.ops k).position ≡ late) (q : ℕ) (reuse : (op_at laying.ops k).constraint ≡ Reuse q) where
   open laying use {tail, ops, lived, clob, ret, orderly}

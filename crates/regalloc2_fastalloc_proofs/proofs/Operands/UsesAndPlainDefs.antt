@@ -20,7 +20,7 @@ use Rattle.regalloc2_fastalloc_proofs.proofs.Operands.RecordOfInst.{progress, Tu
 use Rattle.regalloc2_fastalloc_proofs.proofs.Operands.AllocOperand.{Due, owed, fresh, Got, gets_step, and_one, and_one_same, and_one_other, and_one_grows}
 use Rattle.regalloc2_fastalloc_proofs.proofs.Operands.AllocOperand.{and_one_keeps}
 use Rattle.regalloc2_fastalloc_proofs.proofs.Operands.RecordAfterOperand.{use_step, def_step, made_one, makes_one}
-use Rattle.regalloc2_fastalloc_proofs.proofs.Operands.RecordOfInst.{Laying}
+use Rattle.regalloc2_fastalloc_proofs.proofs.Operands.RecordOfInst.{LayingContext}
 
 -- an operand that was allocated
 pub turned_next : (ops : List OperandValue) (late : Bool) (k j : ℕ) → Turned ops late k j → Turned ops late (k + 1) j
@@ -118,7 +118,7 @@ reads_no_fixed o e f = not_both_of (is_def o.kind) (is_fixed_nonallocatable o) e
     not_both_of false true e f = cc
     not_both_of false false e f = cc
 
-module _ (laying : Laying) where
+module _ (laying : LayingContext) where
   open laying use {tail, ops, lived, clob, ret, orderly}
   open laying.tail use {Known, insts, placesf, i, n, E}
 

@@ -28,8 +28,8 @@ use Rattle.regalloc2_fastalloc_proofs.proofs.Operands.AllocsSoFar.{at_place, IsT
 use Rattle.regalloc2_fastalloc_proofs.proofs.Operands.AllocsSoFar.{DefsAreWritten, UsesAreWritten, filled_same}
 use Rattle.regalloc2_fastalloc_proofs.proofs.Safety.OperandPassesKeepSafe.{InLate, InEarly, lates_kept, earlies_kept}
 use Rattle.regalloc2_fastalloc_proofs.proofs.Safety.StepsKeepSafe.{rules_of}
-use Rattle.regalloc2_fastalloc_proofs.proofs.Operands.AllocsSoFar.{Filling, filling_of}
-use Rattle.regalloc2_fastalloc_proofs.proofs.Safety.OperandPassesKeepSafe.{Passes, passes_of}
+use Rattle.regalloc2_fastalloc_proofs.proofs.Operands.AllocsSoFar.{FillingContext, filling_of}
+use Rattle.regalloc2_fastalloc_proofs.proofs.Safety.OperandPassesKeepSafe.{PassesContext, passes_of}
 
 -- a register that is emptied before operands are allocated
 pub clears_fixed_kept : (env : MachineValue) (apart : IsApart env) (Known : VirtualRegister → Type 0) (Writes : ℕ → VirtualRegister → ℕ → Type 0)
@@ -132,8 +132,8 @@ all_placed env apart Known Writes May i inst blank places old new can tame defs 
     let ops : List OperandValue = inst.operands in
     let base : SpillSlotsValue = old.slots in
     let fixed : FixedAreKnown env ops = fixed_known env Known ops tame a.began a.reserved old a.reserves h.machine in
-    let filling : Filling = filling_of env Known Writes May base ops tame in
-    let passes : Passes = passes_of filling apart fixed i (ends_block inst) can defs in
+    let filling : FillingContext = filling_of env Known Writes May base ops tame in
+    let passes : PassesContext = passes_of filling apart fixed i (ends_block inst) can defs in
     let ht : AreSafeRegs env a.held = safe_turn env a.reserved a.held a.holds.scratch
     (safe_turn env a.began a.reserved a.reserves.scratch (fresh_turn env a.began a.begins_scratch)) in
     let cf = clears_fixed_kept env apart Known Writes May (after i) can ops a.held old h ht (length ops) a.cleared a.after_fixed a.fixed in

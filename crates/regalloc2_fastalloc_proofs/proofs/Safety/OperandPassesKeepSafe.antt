@@ -21,7 +21,7 @@ use Rattle.regalloc2_fastalloc_proofs.proofs.Operands.AllocsSoFar.{reads_allocat
 use Rattle.regalloc2_fastalloc_proofs.proofs.Operands.AllocsSoFar.{asked_as_fixed, fixed_class, FixedAreKnown, Filled, DefsAreWritten, reuse_register}
 use Rattle.regalloc2_fastalloc_proofs.proofs.Operands.AllocsSoFar.{no_place_register, OneMore, filled_same, filled_on, written, written_twice}
 use Rattle.regalloc2_fastalloc_proofs.proofs.Safety.StepsKeepSafe.{rules_of}
-use Rattle.regalloc2_fastalloc_proofs.proofs.Operands.AllocsSoFar.{Filling}
+use Rattle.regalloc2_fastalloc_proofs.proofs.Operands.AllocsSoFar.{FillingContext}
 
 a_place_of : (p : Place) → IsInRegister p → (r : Register) × (p ≡ InRegister r)
 a_place_of NoPlace h = absurd h
@@ -40,8 +40,8 @@ shared_register env slots v w (InSlot n) h e place = absurd h
 
 -- The two passes over an instruction's operands, on a machine whose kinds of registers are apart: the operands are fixed to registers of the machine alone;
 -- the instruction, a return or not, after which moves may be and its definitions may be written.
-pub record Passes : Type 1 where
-  pub filling : Filling
+pub record PassesContext : Type 1 where
+  pub filling : FillingContext
   pub apart : IsApart filling.env
   pub fixed : FixedAreKnown filling.env filling.ops
   pub i : ℕ
@@ -50,12 +50,12 @@ pub record Passes : Type 1 where
   pub writes : DefsAreWritten filling.Writes i filling.ops
 
 -- those, of their parts
-abbrev pub passes_of : (filling : Filling) → IsApart filling.env → FixedAreKnown filling.env filling.ops → (i : ℕ) → Bool → filling.May (after i) →
-    DefsAreWritten filling.Writes i filling.ops → Passes
+abbrev pub passes_of : (filling : FillingContext) → IsApart filling.env → FixedAreKnown filling.env filling.ops → (i : ℕ) → Bool → filling.May (after i) →
+    DefsAreWritten filling.Writes i filling.ops → PassesContext
 passes_of filling apart fixed i is_ret can writes =
     record { filling = filling; apart = apart; fixed = fixed; i = i; is_ret = is_ret; can = can; writes = writes }
 
-module _ (passes : Passes) where
+module _ (passes : PassesContext) where
   open passes use {filling, apart, fixed, i, is_ret, can, writes}
   open passes.filling use {env, Known, Writes, May, base, ops, tame}
 

@@ -24,11 +24,11 @@ use Rattle.regalloc2_fastalloc_proofs.proofs.Slots.StepsKeepSlots.{Grown, grown_
 use Rattle.regalloc2_fastalloc_proofs.proofs.Inst.OneInstCarries.{Between}
 use Rattle.regalloc2_fastalloc_proofs.proofs.Walk.InstBoundaries.{IsEdge, IsWithin, grown_weaken, begins_grown, walk_grown, edge_next}
 use Rattle.regalloc2_fastalloc_proofs.proofs.Walk.LastInstAndRest.{walk_listed}
-use Rattle.regalloc2_fastalloc_proofs.proofs.Walk.BlockCarries.{Carrying, IsBelow, nothing_goes, block_carries}
+use Rattle.regalloc2_fastalloc_proofs.proofs.Walk.BlockCarries.{CarryingContext, IsBelow, nothing_goes, block_carries}
 use Rattle.regalloc2_fastalloc_proofs.proofs.Walk.FunctionLaws.{code_of}
 use Rattle.regalloc2_fastalloc_proofs.proofs.Walk.InstBoundaries.{kept_of}
 
-module _ (carrying : Carrying) where
+module _ (carrying : CarryingContext) where
   open carrying.laws use {f, once, follow, ends, uses, counted, proper, kept}
   open carrying use {placesf, final, stand, blank, begin}
 
@@ -88,7 +88,7 @@ first_edge f follow some = (λ h. sym ((follow 0 h).1 refl), λ e. absurd (omega
 
 -- The walk's moves and places are those of an output. If a branch carries what it has to, and every other instruction leaves slots to their vregs,
 -- each block of the output carries what the law on paths wants.
-module _ (carrying : Carrying) (out : OutputValue) (some : 0 < length carrying.laws.f.blocks)
+module _ (carrying : CarryingContext) (out : OutputValue) (some : 0 < length carrying.laws.f.blocks)
     (walks : AllocsBlocks carrying.laws.f carrying.blank carrying.begin 0 out.allocs carrying.final) (edits : out.edits ≡ listed carrying.final.edits)
     (are_listed : AreListed carrying.laws.f carrying.placesf 0 out.allocs) where
   open carrying.laws use {f, follow}

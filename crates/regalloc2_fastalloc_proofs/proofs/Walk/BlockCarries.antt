@@ -113,7 +113,7 @@ no_element (x ∷ xs) e = absurd (omega (arith, e))
 -- What blocks need to carry each vreg: the function's laws; the places of operands and the last tables, whose slots all instructions keep where the tables
 -- are safe (SafeIn); where vregs are at blocks' beginnings, and what edges bring there; branches that carry; and the fresh tables from which
 -- the walk, always safe, begins.
-pub record Carrying : Type 1 where
+pub record CarryingContext : Type 1 where
   pub laws : FunctionLaws
   open laws use {f, follow, ends, proper, kept}
   pub placesf : ℕ → List Place
@@ -135,7 +135,7 @@ pub record Carrying : Type 1 where
   pub safe : (b : ℕ) → b < length f.blocks → (p : List Place) (s : StateValue) → AllocsBlocks f blank begin (b + 1) p s → (i : ℕ) (q : List Place)
       (u : StateValue) → AllocsBlockInsts f b p s i q u → AreListed f placesf i q → SafeIn b u
 
-module _ (carrying : Carrying) where
+module _ (carrying : CarryingContext) where
   open carrying.laws use {f, once, follow, ends, uses, counted, proper, kept}
   open carrying use {placesf, final, whole, SafeIn, keeps, stand, arrive, placed, one_edge_into, concerned, decide, branches, blank, begin, start, empty, safe}
 

@@ -46,7 +46,7 @@ use Rattle.regalloc2_fastalloc_proofs.proofs.Safety.StepsKeepState.{slot_in}
 use Rattle.regalloc2_fastalloc_proofs.proofs.Inst.ProperInsts.{all_proper}
 use Rattle.regalloc2_fastalloc_proofs.proofs.Walk.WholeWalk.{WholeWalk}
 use Rattle.regalloc2_fastalloc_proofs.proofs.Walk.FunctionLaws.{FunctionLaws, laws_of}
-use Rattle.regalloc2_fastalloc_proofs.proofs.Walk.BlockCarries.{Carrying}
+use Rattle.regalloc2_fastalloc_proofs.proofs.Walk.BlockCarries.{CarryingContext}
 use Rattle.regalloc2_fastalloc_proofs.proofs.Walk.FunctionLaws.{PlacedCode, code_of}
 use Rattle.regalloc2_fastalloc_proofs.proofs.Walk.InstBoundaries.{kept_of}
 
@@ -107,7 +107,7 @@ module _ (walk : WholeWalk)
       let arrive : Arrive f (allocs_of out) (slots_at last) standing = arrives env f ok (allocs_of out) (slots_at last) in
       let placed : (b : ℕ) → b < length f.blocks → (inst_at f (last_of (block_at f b))).is_branch ≡ true → DefsPlaced f (allocs_of out) (slots_at last) b
       = walk_places_defs are_listed good taken places in
-      let carrying : Carrying = record {
+      let carrying : CarryingContext = record {
         laws = laws;
         placesf = allocs_of out;
         final = last;

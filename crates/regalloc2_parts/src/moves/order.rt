@@ -10,7 +10,7 @@
 //! place: its last move is given out as one from there, and after its first a move to there, from what the last one reads.
 
 ghost use Rattle.std.specs.Prelude.{◌≡◌, ◌≢◌, ◌↔◌, true, false, ◌+◌, ◌<◌, ◌≤◌, length, reverse, slice_index, [], Contains, EachIndex, IsTrue, IsOk};
-ghost use Rattle.std.specs.Prelude.{IfOk, IfErr, OnOk};
+ghost use Rattle.std.specs.Prelude.{ℕ, ◌-◌, IfOk, IfErr, IsFalse, OnOk, slice_index_or};
 ghost use Rattle.std.specs.List.{All};
 ghost use Rattle.std.specs.List.Sorted.{IsPermutation, IsNonDecreasingBy};
 ghost use Rattle.regalloc2_names.specs.Place.{Place};
@@ -171,13 +171,34 @@ fn give_all<T: Copy + Default, A: Allocator + Copy>(
     Ok(given)
 }
 
-/// The index of the move that writes a place, or past the end where no move does.
+/// Whether the word of a place is below those of all destinations, or above them. The moves are sorted by these words.
+fn is_outside<T: Copy + Default>(moves: &[(Allocation, Allocation, T)], place: Allocation) -> bool
+    requires { IsNonDecreasingBy (λ (m : Place × Place × _). bits_of_place m.1) moves.now }
+    ensures outside { IsTrue result → (j : ℕ) (d : Place × Place × _) → j < length moves.now →
+        bits_of_place (slice_index_or moves.now j d).1 ≢ bits_of_place place }
+    ensures within { IsFalse result → (0 < length moves.now) × ((d : Place × Place × _) →
+        (bits_of_place (slice_index_or moves.now 0 d).1 ≤ bits_of_place place)
+        × (bits_of_place place ≤ bits_of_place (slice_index_or moves.now (length moves.now - 1) d).1)) }
+{
+    let end = moves.len();
+    if end == 0 {
+        return true;
+    }
+    let word = place.bits();
+    word < moves[0].1.bits() || moves[end - 1].1.bits() < word
+}
+
+/// The index of the move that writes a place, or past the end where no move does. Slots are numbered as they are made: the slot of
+/// an argument is often above those of all parameters, and then nothing is searched.
 fn find_writer<T: Copy + Default>(moves: &[(Allocation, Allocation, T)], place: Allocation) -> usize
     requires sorted { IsNonDecreasingBy (λ (m : Place × Place × _). bits_of_place m.1) moves.now }
     requires proper { AreProper (ends_of moves.now) }
     requires real { IsPlace place }
     ensures { IsWriterOf (ends_of moves.now) place result }
 {
+    if is_outside(moves, place) {
+        return moves.len();
+    }
     match moves.binary_search_by_key(&place.bits(), |other| other.1.bits()) {
         Ok(found) => found,
         Err(_) => moves.len(),

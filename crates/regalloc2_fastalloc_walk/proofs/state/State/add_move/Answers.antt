@@ -14,7 +14,7 @@ returns-then-is_stack-2-clause-ok g c =
     let by = c.in_ok-alloc_scratch_reg.field-0 in
     through by m
     (and_true (is_stack_in (tables_of c.args.self.now) c.args.from) (is_stack_in (tables_of c.args.self.now) c.args.to)
-    (sym c.is_stack.ensures ∙ c.if-is_stack.true) (sym c.is_stack-then-is_stack.ensures ∙ c.if-is_stack-2.true))
+    (sym c.is_stack-then-is_stack.ensures ∙ c.if-is_stack-2.true) (sym c.is_stack.ensures ∙ c.if-is_stack.true))
     c.in_ok-alloc_scratch_reg.ensures.ok
     (ap (λ (es : List (ℕ × MoveValue)). record m { edits = es })
     (two_pushed c.args.point c.reg-by.result (InRegister by) c.args.from c.args.to m.edits c.push.new.self c.push-then-is_stack-2.new.self c.reg-by.ensures
@@ -26,7 +26,7 @@ returns-clause-ok g c =
     let a : Bool = is_stack_in t c.args.from in
     let b : Bool = is_stack_in t c.args.to in
     let no : (a && b) ≡ false = elim c.else-is_stack.branch [
-      | else-is_stack-via-then-is_stack+else-is_stack-2 w ↦ and_no_second a b (sym w.is_stack-then-is_stack.ensures ∙ w.if-is_stack-2.false)
-      | else-is_stack-via-else-is_stack w ↦ and_no_first a b (sym c.is_stack.ensures ∙ w.if-is_stack.false)
+      | else-is_stack-via-then-is_stack+else-is_stack-2 w ↦ and_no_first a b (sym w.is_stack-then-is_stack.ensures ∙ w.if-is_stack-2.false)
+      | else-is_stack-via-else-is_stack w ↦ and_no_second a b (sym c.is_stack.ensures ∙ w.if-is_stack.false)
     ] in
     direct no refl (ap (λ (es : List (ℕ × MoveValue)). record t { edits = es }) c.in_ok-push-3.ensures.ok)

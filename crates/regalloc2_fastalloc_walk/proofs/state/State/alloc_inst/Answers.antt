@@ -23,8 +23,11 @@ evict_fixed-requires g c =
     let same : tables_of c.remove_clobbers_from_available_pregs.new.self ≡ tables_of c.args.self.now = c.remove_clobbers_from_available_pregs.ensures.same
     ∙ c.reserve.ensures.same in (
       search rules,
-      subst (λ (t : StateValue). AllAtOrAfter c.after-point.result t.edits) (sym same)
-          (subst (λ (p : ℕ). AllAtOrAfter p c.args.self.now.edits) (sym at) c.requires.later),
+      (
+        subst (λ (t : StateValue). AllAtOrAfter c.after-point.result t.edits) (sym same)
+            (subst (λ (p : ℕ). AllAtOrAfter p c.args.self.now.edits) (sym at) c.requires.later),
+        c.in_ok-any_fixed.ensures.fixed,
+      ),
     )
 
 pub process_operands_at-requires : goal.process_operands_at-requires
@@ -117,8 +120,8 @@ returns-clause-ok g c =
         begins_scratch = c.requires.fresh.scratch;
         awaited = λ class. ap (λ (xs : List ℕ). slice_index xs (class_code class))
             (c.evict_clobbers.ensures.awaited ∙ c.evict_fixed.ensures.awaited ∙ c.remove_clobbers_from_available_pregs.ensures.removed.awaited)
-            ∙ c.in_ok-reserve.ensures.ok.awaited c.requires.fresh.awaited class;
-        reserves = c.in_ok-reserve.ensures.ok;
+            ∙ c.in_ok-any_fixed.ensures.ok.awaited c.requires.fresh.awaited class;
+        reserves = c.in_ok-any_fixed.ensures.ok;
         holds = c.remove_clobbers_from_available_pregs.ensures.removed;
         fixed = subst (F (after c.args.cx.now.inst)) same
             (subst (λ (p : ℕ). F p (tables_of c.remove_clobbers_from_available_pregs.new.self)) at c.in_ok-evict_fixed.ensures.ok);
@@ -131,10 +134,10 @@ returns-clause-ok g c =
     )
 
 -- the machine stays, wherever the walk stops
-pub returns-in_err-reserve-clause-step : goal.returns-in_err-reserve-clause-step
-returns-in_err-reserve-clause-step g c =
+pub returns-in_err-any_fixed-clause-step : goal.returns-in_err-any_fixed-clause-step
+returns-in_err-any_fixed-clause-step g c =
     let e = err_from_is_err_and c.from_residual.result c.from_residual.ensures.1 in
-    fails_with c.from_residual.result c.args.self.now c.reserve.new.self e.1 e.2 (same_of _ _ c.reserve.ensures.same) c.in_err-reserve.ensures.err
+    fails_with c.from_residual.result c.args.self.now c.reserve.new.self e.1 e.2 (same_of _ _ c.reserve.ensures.same) c.in_err-any_fixed.ensures.err
 
 pub returns-in_err-evict_fixed-clause-step : goal.returns-in_err-evict_fixed-clause-step
 returns-in_err-evict_fixed-clause-step g c =
@@ -190,10 +193,10 @@ returns-clause-step g c =
     }
 
 -- where an instruction stops
-pub returns-in_err-reserve-clause-stops : goal.returns-in_err-reserve-clause-stops
-returns-in_err-reserve-clause-stops g c =
+pub returns-in_err-any_fixed-clause-stops : goal.returns-in_err-any_fixed-clause-stops
+returns-in_err-any_fixed-clause-stops g c =
     let e = err_from_is_err_and c.from_residual.result c.from_residual.ensures.1 in
-    rw e.1 (λ lacks. in_reserve (c.in_err-reserve.ensures.stops (sym e.2 ∙ lacks)))
+    rw e.1 (λ lacks. in_reserve (c.in_err-any_fixed.ensures.stops (sym e.2 ∙ lacks)))
 
 pub returns-in_err-evict_fixed-clause-stops : goal.returns-in_err-evict_fixed-clause-stops
 returns-in_err-evict_fixed-clause-stops g c =
@@ -204,7 +207,7 @@ returns-in_err-evict_fixed-clause-stops g c =
     let same : tables_of c.remove_clobbers_from_available_pregs.new.self ≡ old = c.remove_clobbers_from_available_pregs.ensures.same ∙ c.reserve.ensures.same in
     let X : ℕ → StateValue → Type 0 = λ p t. EvictFixedFails p ops c.remove_clobbers_from_available_pregs.new.inst_regs t in
     let e = err_from_is_err_and c.from_residual-in_err-evict_fixed.result c.from_residual-in_err-evict_fixed.ensures.1 in
-    rw e.1 (λ lacks. in_fixed c.reserve.new.inst_regs c.remove_clobbers_from_available_pregs.new.inst_regs c.in_ok-reserve.ensures.ok
+    rw e.1 (λ lacks. in_fixed c.reserve.new.inst_regs c.remove_clobbers_from_available_pregs.new.inst_regs c.in_ok-any_fixed.ensures.ok
     c.remove_clobbers_from_available_pregs.ensures.removed
     (subst (X (after i)) same (subst (λ (p : ℕ). X p (tables_of c.remove_clobbers_from_available_pregs.new.self)) at
     (c.in_err-evict_fixed.ensures.stops (sym e.2 ∙ lacks)))))
@@ -222,7 +225,7 @@ returns-in_err-evict_clobbers-clause-stops g c =
     (subst (λ (p : ℕ). F p (tables_of c.remove_clobbers_from_available_pregs.new.self)) at c.in_ok-evict_fixed.ensures.ok) in
     let e = err_from_is_err_and c.from_residual-in_err-evict_clobbers.result c.from_residual-in_err-evict_clobbers.ensures.1 in
     rw e.1 (λ lacks. in_clobbers c.reserve.new.inst_regs c.remove_clobbers_from_available_pregs.new.inst_regs c.evict_fixed.new.inst_regs
-    (tables_of c.evict_fixed.new.self) c.in_ok-reserve.ensures.ok c.remove_clobbers_from_available_pregs.ensures.removed fixed
+    (tables_of c.evict_fixed.new.self) c.in_ok-any_fixed.ensures.ok c.remove_clobbers_from_available_pregs.ensures.removed fixed
     (subst (λ (p : ℕ). EvictClobbersFails p c.evict_fixed.new.inst_regs (tables_of c.evict_fixed.new.self)) at
     (c.in_err-evict_clobbers.ensures.stops (sym e.2 ∙ lacks))))
 
@@ -245,13 +248,13 @@ returns-in_err-process_operands_at-clause-stops g c =
       held = c.remove_clobbers_from_available_pregs.new.inst_regs;
       cleared = c.evict_fixed.new.inst_regs;
       middle = tables_of c.evict_fixed.new.self;
-      reserves = c.in_ok-reserve.ensures.ok;
+      reserves = c.in_ok-any_fixed.ensures.ok;
       holds = c.remove_clobbers_from_available_pregs.ensures.removed;
       fixed = fixed;
       emptied = subst C at c.in_ok-evict_clobbers.ensures.ok;
       awaited = λ class. ap (λ (xs : List ℕ). slice_index xs (class_code class))
           (c.evict_clobbers.ensures.awaited ∙ c.evict_fixed.ensures.awaited ∙ c.remove_clobbers_from_available_pregs.ensures.removed.awaited)
-          ∙ c.in_ok-reserve.ensures.ok.awaited c.requires.fresh.awaited class;
+          ∙ c.in_ok-any_fixed.ensures.ok.awaited c.requires.fresh.awaited class;
     } in
     let e = err_from_is_err_and c.from_residual-in_err-process_operands_at.result c.from_residual-in_err-process_operands_at.ensures.1 in
     rw e.1 (λ lacks. in_lates c.evict_clobbers.new.inst_regs (tables_of c.evict_clobbers.new.self) ready
@@ -276,13 +279,13 @@ returns-in_err-process_operands_at-2-clause-stops g c =
       held = c.remove_clobbers_from_available_pregs.new.inst_regs;
       cleared = c.evict_fixed.new.inst_regs;
       middle = tables_of c.evict_fixed.new.self;
-      reserves = c.in_ok-reserve.ensures.ok;
+      reserves = c.in_ok-any_fixed.ensures.ok;
       holds = c.remove_clobbers_from_available_pregs.ensures.removed;
       fixed = fixed;
       emptied = subst C at c.in_ok-evict_clobbers.ensures.ok;
       awaited = λ class. ap (λ (xs : List ℕ). slice_index xs (class_code class))
           (c.evict_clobbers.ensures.awaited ∙ c.evict_fixed.ensures.awaited ∙ c.remove_clobbers_from_available_pregs.ensures.removed.awaited)
-          ∙ c.in_ok-reserve.ensures.ok.awaited c.requires.fresh.awaited class;
+          ∙ c.in_ok-any_fixed.ensures.ok.awaited c.requires.fresh.awaited class;
     } in
     let e = err_from_is_err_and c.from_residual-in_err-process_operands_at-2.result c.from_residual-in_err-process_operands_at-2.ensures.1 in
     rw e.1 (λ lacks. in_earlies c.evict_clobbers.new.inst_regs c.process_operands_at.new.inst_regs (tables_of c.evict_clobbers.new.self)
@@ -308,13 +311,13 @@ returns-in_err-move_uses-clause-stops g c =
       held = c.remove_clobbers_from_available_pregs.new.inst_regs;
       cleared = c.evict_fixed.new.inst_regs;
       middle = tables_of c.evict_fixed.new.self;
-      reserves = c.in_ok-reserve.ensures.ok;
+      reserves = c.in_ok-any_fixed.ensures.ok;
       holds = c.remove_clobbers_from_available_pregs.ensures.removed;
       fixed = fixed;
       emptied = subst C at c.in_ok-evict_clobbers.ensures.ok;
       awaited = λ class. ap (λ (xs : List ℕ). slice_index xs (class_code class))
           (c.evict_clobbers.ensures.awaited ∙ c.evict_fixed.ensures.awaited ∙ c.remove_clobbers_from_available_pregs.ensures.removed.awaited)
-          ∙ c.in_ok-reserve.ensures.ok.awaited c.requires.fresh.awaited class;
+          ∙ c.in_ok-any_fixed.ensures.ok.awaited c.requires.fresh.awaited class;
     } in
     let early : c.before-2.result ≡ before i = c.before-2.ensures.point (λ e. omega (arith, c.requires.inst)) in
     let e = err_from_is_err_and c.from_residual-in_err-move_uses.result c.from_residual-in_err-move_uses.ensures.1 in
@@ -335,9 +338,9 @@ returns-clause-spill_free g c = λ names gone few plain none h.
     let reg = (plain true).under_reg in
     let same : tables_of c.remove_clobbers_from_available_pregs.new.self ≡ t0 = c.remove_clobbers_from_available_pregs.ensures.same ∙ c.reserve.ensures.same in
     let regs = c.in_ok-evict_clobbers.ensures.registers ∙ c.in_ok-evict_fixed.ensures.registers ∙ c.remove_clobbers_from_available_pregs.ensures.registers
-    ∙ c.in_ok-reserve.ensures.registers (λ k r lt e. reg_not_fixed (op_at ops k) r (reg k lt) e) in
+    ∙ c.in_ok-any_fixed.ensures.registers (λ k r lt e. reg_not_fixed (op_at ops k) r (reg k lt) e) in
     let begun = ready
-    reg none regs same c.in_ok-reserve.ensures.ok c.remove_clobbers_from_available_pregs.ensures.removed c.in_ok-evict_fixed.ensures.ok
+    reg none regs same c.in_ok-any_fixed.ensures.ok c.remove_clobbers_from_available_pregs.ensures.removed c.in_ok-evict_fixed.ensures.ok
     c.in_ok-evict_clobbers.ensures.ok h in
     let few4 : FitInRegs names t4.allocatable = subst (λ (t : StateValue). FitInRegs names t.allocatable) (sym begun.0) few in
     let late = c.in_ok-process_operands_at.ensures.spill_free names gone few4 (plain true) (λ j at. c.requires.no_places j) begun.1 in

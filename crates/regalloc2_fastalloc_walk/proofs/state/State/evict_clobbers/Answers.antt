@@ -1,13 +1,18 @@
-use Rattle.std.proofs.Common.{append_assoc, refl, ◌∙◌, rules}
-use Rattle.regalloc2_names.specs.RegisterSet.{registers_of}
-use Rattle.regalloc2_fastalloc_proofs.specs.InstSteps.{none_left}
+use Rattle.std.proofs.Common.{◌≡◌, List, [], append_assoc, refl, sym, ◌∙◌, subst, rules, true, false}
+use Rattle.regalloc2_names.specs.declared.sets.PRegSet.{PRegSet}
+use Rattle.regalloc2_names.specs.Register.{Register}
+use Rattle.regalloc2_names.specs.RegisterSet.{has_register, registers_of}
+use Rattle.regalloc2_fastalloc_state.specs.StateParts.{vreg_of_preg}
+use Rattle.regalloc2_fastalloc_proofs.specs.InstSteps.{StateValue, EvictsEach, none_left}
+use Rattle.regalloc2_fastalloc_proofs.proofs.Evictions.PushedAndRemoved.{no_some}
+use Rattle.regalloc2_fastalloc_walk.proofs.FilledClobbers.{AreLeftOut, are_small, evicts_all, none_listed, shared_are}
 use Rattle.regalloc2_fastalloc_walk.specs.StateView.{tables_of}
 use Rattle.regalloc2_fastalloc_proofs.proofs.Evictions.EvictClobbers.{clears_all, clears_more}
 use Rattle.regalloc2_fastalloc_walk.proofs.state.State.evict_clobbers.Goals as goal
 
 pub loop-preg-init : goal.loop-preg-init
 loop-preg-init g c = record {
-  left = c.into_iter-preg-iterator.ensures.into_iter_gives.list;
+  left = refl;
   cleared = none_left c.args.inst_regs.now (tables_of c.args.self.now);
   awaited = refl;
   later = c.requires;
@@ -41,7 +46,23 @@ loop-preg-preserved g c = record {
   registers = c.in_ok-evict_preg.ensures.registers ∙ c.loop-preg.invariant.registers;
 }
 
+pub returns-then-has_none-clause-ok : goal.returns-then-has_none-clause-ok
+returns-then-has_none-clause-ok g c =
+    let none : registers_of c.args.clobbers ≡ [] = none_listed c.args.clobbers (c.if-has_none.ensures.0 refl) in
+    subst (λ (rs : List Register). EvictsEach c.args.point rs c.args.inst_regs.now (tables_of c.args.self.now) c.args.inst_regs.now
+    (tables_of c.args.self.now)) (sym none) (none_left c.args.inst_regs.now (tables_of c.args.self.now))
+
 pub returns-clause-ok : goal.returns-clause-ok
-returns-clause-ok g c = clears_all c.args.point c.loop-preg.yielded c.loop-preg.preg-iterator (registers_of c.args.clobbers) c.args.inst_regs.now
-    c.loop-preg.inst_regs (tables_of c.args.self.now) (tables_of c.loop-preg.self) c.in-None.ensures.steps.0 c.loop-preg.invariant.left
-    c.loop-preg.invariant.cleared
+returns-clause-ok g c =
+    let old : StateValue = tables_of c.args.self.now in
+    let new : StateValue = tables_of c.loop-preg.self in
+    let filled : PRegSet = c.filled-filled.result in
+    let left : AreLeftOut c.args.point (has_register filled) old =
+    λ r lt out. no_some (vreg_of_preg old.places r) (λ v e. let x : true ≡ false = sym ((c.filled-filled.ensures r lt).1 (v, e)) ∙ out in cc) in
+    let all : EvictsEach c.args.point (registers_of c.bitand-held.result) c.args.inst_regs.now old c.loop-preg.inst_regs new =
+    clears_all c.args.point c.loop-preg.yielded c.loop-preg.preg-iterator (registers_of c.bitand-held.result) c.args.inst_regs.now
+    c.loop-preg.inst_regs old new c.in-None.ensures.steps.0 (c.loop-preg.invariant.left ∙ c.into_iter-preg-iterator.ensures.into_iter_gives.list)
+    c.loop-preg.invariant.cleared in
+    evicts_all c.args.point (has_register filled) (registers_of c.args.clobbers) c.args.inst_regs.now c.loop-preg.inst_regs old new
+    (are_small c.args.clobbers) left (subst (λ (rs : List Register). EvictsEach c.args.point rs c.args.inst_regs.now old c.loop-preg.inst_regs new)
+    (shared_are c.bitand-held.result c.args.clobbers filled c.bitand-held.ensures) all)

@@ -1,5 +1,4 @@
 use Rattle.std.proofs.Common.{◌≡◌, ◌++◌, length}
-use Rattle.regalloc2_names.specs.RegisterSet.{registers_of}
 use Rattle.regalloc2_fastalloc_proofs.specs.InstSteps.{SameMachine, EvictsEach}
 use Rattle.regalloc2_fastalloc_walk.specs.StateView.{tables_of}
 use Rattle.regalloc2_fastalloc_state.specs.StateParts.{AllAtOrAfter}
@@ -7,7 +6,7 @@ use Rattle.regalloc2_fastalloc_walk.proofs.state.State.evict_clobbers.Given as g
 
 abbrev pub invariant-loop-preg : goal.invariant-loop-preg
 invariant-loop-preg g l = record {
-  left : l.yielded ++ l.preg-iterator ≡ registers_of l.fn.clobbers;
+  left : l.yielded ++ l.preg-iterator ≡ l.initial.preg-iterator;
   cleared : EvictsEach l.point l.yielded l.fn.inst_regs (tables_of l.fn.self) l.inst_regs (tables_of l.self);
   awaited : l.inst_regs.awaited ≡ l.fn.inst_regs.awaited;
   later : AllAtOrAfter l.point l.self.edits;

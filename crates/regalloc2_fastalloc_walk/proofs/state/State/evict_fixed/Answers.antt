@@ -6,16 +6,23 @@ use Rattle.regalloc2_fastalloc_proofs.specs.InstSteps.{StateValue, EvictsOthers,
 use Rattle.regalloc2_fastalloc_walk.specs.StateView.{tables_of}
 use Rattle.regalloc2_fastalloc_proofs.proofs.Evictions.EvictClobbers.{machine_then}
 use Rattle.regalloc2_validate.proofs.OperandReads.{read_operand, read_vreg}
+use Rattle.regalloc2_fastalloc_walk.proofs.RegsReserved.{evicts_none}
 use Rattle.regalloc2_fastalloc_walk.proofs.state.State.evict_fixed.Goals as goal
 use Rattle.regalloc2_fastalloc_walk.proofs.state.State.evict_fixed.Goals.{in-FixedReg+in_ok-evict_others-in-FixedReg}
 use Rattle.regalloc2_fastalloc_walk.proofs.state.State.evict_fixed.Goals.{in-Reuse+in-Some+in_ok-evict_preg-in-Reuse}
 use Rattle.regalloc2_fastalloc_walk.proofs.state.State.evict_fixed.Goals.{in-Reuse+in_default-reused_register, in_default}
 
+-- no operand is fixed to a register
+pub returns-then-not-any_fixed-clause-ok : goal.returns-then-not-any_fixed-clause-ok
+returns-then-not-any_fixed-clause-ok g c =
+    evicts_none c.args.point c.args.operands.now c.args.inst_regs.now (tables_of c.args.self.now) (c.requires.unfixed c.if-not-any_fixed.true)
+    (length c.args.operands.now) (omega arith)
+
 pub loop-k-init : goal.loop-k-init
 loop-k-init g c = record {
   cleared = none_cleared;
   awaited = refl;
-  later = c.requires;
+  later = c.requires.later;
   long = refl;
   machine = record { allocatable = refl; fixed_stack = refl; dedicated_scratch = refl; sizes = refl; vregs = refl; num_temp_slots = refl };
   registers = refl;

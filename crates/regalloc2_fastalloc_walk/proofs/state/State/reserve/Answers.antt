@@ -3,7 +3,9 @@ use Rattle.std.proofs.lemmas.Result.{err_from_is_err_and}
 use Rattle.regalloc2_fastalloc_proofs.specs.InstSteps.{StateValue}
 use Rattle.regalloc2_fastalloc_walk.specs.StateView.{tables_of}
 use Rattle.regalloc2_fastalloc_walk.specs.ReserveSteps.{ReservesRegForOperand, ReserveForOperandFails}
-use Rattle.regalloc2_fastalloc_walk.proofs.RegsReserved.{awaiting_none, awaiting_more, reserving_none, reserving_more, reserves_all, stops_reserve}
+use Rattle.regalloc2_fastalloc_walk.proofs.RegsReserved.{awaiting_none, awaiting_more, none_fixed_more, reserving_none, reserving_more, reserves_all}
+use Rattle.regalloc2_fastalloc_walk.proofs.RegsReserved.{some_fixed_more, stops_reserve}
+use Rattle.regalloc2_validate.proofs.OperandReads.{read_operand}
 use Rattle.regalloc2_fastalloc_walk.proofs.state.State.reserve.Goals as goal
 
 pub loop-k-init : goal.loop-k-init
@@ -14,6 +16,8 @@ loop-k-init g c = record {
   same = refl;
   registers =
       λ none. refl;
+  unfixed = λ free j lt. absurd (omega (arith, lt));
+  fixed = λ yes. absurd cc;
 }
 
 pub loop-k-preserved : goal.loop-k-preserved
@@ -27,6 +31,11 @@ loop-k-preserved g c = record {
   same = c.reserve_reg_for_operand.ensures.same ∙ c.loop-k.invariant.same;
   registers = λ none. c.in_ok-reserve_reg_for_operand.ensures.registers (λ r e. none c.loop-k.k r (omega arith) e)
       ∙ c.loop-k.invariant.registers (λ k r less e. none k r (omega (arith, less)) e);
+  unfixed = λ free. (let w = c.is_fixed_so_far-any_fixed.ensures.none free in
+      none_fixed_more c.args.operands.now c.loop-k.k c.index-operands-k.result (read_operand c.args.operands.now c.loop-k.k c.index-operands-k.result
+      c.loop-k-test.true c.index-operands-k.is) (c.loop-k.invariant.unfixed w.0) w.1);
+  fixed = λ yes. some_fixed_more c.args.operands.now c.loop-k.k c.index-operands-k.result c.loop-k.any_fixed (read_operand c.args.operands.now c.loop-k.k
+      c.index-operands-k.result c.loop-k-test.true c.index-operands-k.is) c.loop-k.invariant.fixed (c.is_fixed_so_far-any_fixed.ensures.some yes);
 }
 
 pub returns-clause-ok : goal.returns-clause-ok
@@ -51,3 +60,9 @@ returns-in_err-reserve_reg_for_operand-clause-stops g c =
 
 pub returns-clause-registers : goal.returns-clause-registers
 returns-clause-registers g c = λ none. c.loop-k.invariant.registers (λ k r less e. none k r (omega (arith, less)) e)
+
+pub returns-clause-fixed : goal.returns-clause-fixed
+returns-clause-fixed g c = λ free k lt r e. c.loop-k.invariant.unfixed free k (omega (arith, lt)) r e
+
+pub returns-clause-some : goal.returns-clause-some
+returns-clause-some g c = λ yes. let x = c.loop-k.invariant.fixed yes in (x.0, x.1, omega (arith, x.2), x.3)

@@ -1,6 +1,6 @@
-use Rattle.std.proofs.Common.{◌≡◌}
+use Rattle.std.proofs.Common.{◌≡◌, true, false}
 use Rattle.regalloc2_fastalloc_walk.specs.StateView.{tables_of}
-use Rattle.regalloc2_fastalloc_walk.proofs.RegsReserved.{Awaiting, Reserving}
+use Rattle.regalloc2_fastalloc_walk.proofs.RegsReserved.{Awaiting, NoneIsFixed, Reserving, SomeIsFixed}
 use Rattle.std.specs.Prelude.{ℕ, ◌<◌}
 use Rattle.regalloc2_names.specs.declared.OperandConstraint.TheVariants.{FixedReg}
 use Rattle.regalloc2_names.specs.Register.{Register}
@@ -13,4 +13,6 @@ invariant-loop-k g l = record {
   awaiting : Awaiting l.operands l.k l.fn.inst_regs l.inst_regs;
   same : tables_of l.self ≡ tables_of l.fn.self;
   registers : ((k : ℕ) (r : Register) → k < l.k → (op_at l.operands k).constraint ≡ FixedReg r → ⊥) → l.self.registers ≡ l.fn.self.registers;
+  unfixed : l.any_fixed ≡ false → NoneIsFixed l.operands l.k;
+  fixed : l.any_fixed ≡ true → SomeIsFixed l.operands l.k;
 }

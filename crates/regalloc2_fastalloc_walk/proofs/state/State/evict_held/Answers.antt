@@ -1,0 +1,53 @@
+use Rattle.std.proofs.Common.{◌≡◌, ◌<◌, refl, arith, subst}
+use Rattle.std.specs.Prelude.{Some}
+use Rattle.regalloc2_names.specs.declared.RegClass.{RegClass}
+use Rattle.regalloc2_names.specs.Place.{Place, InRegister}
+use Rattle.regalloc2_fastalloc_state.specs.StateParts.{vreg_of_preg, alloc_of}
+use Rattle.regalloc2_fastalloc_proofs.specs.InstSteps.{StateValue, AddsMove, cleared}
+use Rattle.regalloc2_fastalloc_walk.specs.StateView.{tables_of}
+use Rattle.regalloc2_fastalloc_proofs.proofs.Evictions.PushedAndRemoved.{crosses_empty, settled_empty}
+use Rattle.regalloc2_fastalloc_state.proofs.SlotsAsPlaces.{slot_is_no_register}
+use Rattle.regalloc2_fastalloc_walk.proofs.state.State.evict_held.Goals as goal
+
+pub get_spillslot-requires : goal.get_spillslot-requires
+get_spillslot-requires g c =
+    let h : vreg_of_preg c.args.self.now.places c.args.preg ≡ Some c.args.vreg = c.requires.held in
+    let small : c.args.preg.number < 64 = c.requires.small in
+    omega (arith, c.requires.inverse.known c.args.preg c.args.vreg small h, c.args.self.now.same_long)
+
+pub set_alloc-requires-clause-vreg : goal.set_alloc-requires-clause-vreg
+set_alloc-requires-clause-vreg g c =
+    let h : vreg_of_preg c.args.self.now.places c.args.preg ≡ Some c.args.vreg = c.requires.held in
+    c.requires.inverse.known c.args.preg c.args.vreg c.requires.small h
+
+pub returns-clause-ok : goal.returns-clause-ok
+returns-clause-ok g c =
+    let h : vreg_of_preg c.args.self.now.places c.args.preg ≡ Some c.args.vreg = c.requires.held in
+    let t : StateValue = tables_of c.args.self.now in
+    let m : StateValue = record t { places = c.set_alloc.new.self; slots = c.get_spillslot.new.self } in
+    let X : RegClass → Place → Type 0 = λ k p. AddsMove c.args.point k c.in_ok-slot.slot p c.args.inst_regs.now c.add_move.new.inst_regs m
+    (tables_of c.add_move.new.self) in
+    let x : X c.args.vreg.class (InRegister c.args.preg) = subst (X c.args.vreg.class) c.reg.ensures
+    (subst (λ (k : RegClass). X k c.reg.result) c.class.ensures c.in_ok-add_move.ensures.ok) in
+    cleared c.args.vreg c.in_ok-slot.slot m c.requires.small h c.in_ok-slot.ensures.ok c.set_alloc.ensures.settled refl
+    (record {
+      allocatable = refl;
+      fixed_stack = refl;
+      dedicated_scratch = refl;
+      sizes = c.get_spillslot.ensures.sizes;
+      vregs = c.get_spillslot.ensures.vregs;
+      num_temp_slots = c.get_spillslot.ensures.num_temp_slots;
+    }) x
+
+pub returns-clause-empty : goal.returns-clause-empty
+returns-clause-empty g c =
+    let h : vreg_of_preg c.args.self.now.places c.args.preg ≡ Some c.args.vreg = c.requires.held in
+    let small : c.args.preg.number < 64 = c.requires.small in
+    let there : alloc_of c.args.self.now.places c.args.vreg.number ≡ InRegister c.args.preg = c.requires.inverse.holds c.args.preg c.args.vreg
+    small h in
+    let m : StateValue = record (tables_of c.args.self.now) { places = c.set_alloc.new.self; slots = c.get_spillslot.new.self } in
+    crosses_empty c.args.point c.class.result c.in_ok-slot.slot c.reg.result c.args.inst_regs.now c.add_move.new.inst_regs m (tables_of c.add_move.new.self)
+    c.in_ok-add_move.ensures.ok c.args.preg small
+    (settled_empty c.args.self.now.places c.set_alloc.new.self c.args.vreg c.in_ok-slot.slot c.args.preg small
+    (λ e. slot_is_no_register c.args.self.now.slots c.get_spillslot.new.self c.args.vreg c.in_ok-slot.slot c.args.preg c.in_ok-slot.ensures.ok
+    c.get_spillslot.ensures.owned e) there c.set_alloc.ensures.settled)

@@ -1,0 +1,189 @@
+use Rattle.std.proofs.Common.{ℕ, ◌≡◌, ◌<◌, List, length, refl, sym, ap, ◌∙◌, subst, arith, rules, false, slice_index_or}
+use Rattle.std.proofs.lemmas.List.{get_or_read}
+use Rattle.regalloc2_names.specs.Place.{NoPlace}
+use Rattle.regalloc2_names.specs.Point.{after}
+use Rattle.regalloc2_names.specs.Operand.{OperandValue, is_fixed_nonallocatable}
+use Rattle.regalloc2_fastalloc_state.specs.StateParts.{AllAtOrAfter}
+use Rattle.regalloc2_fastalloc_state.specs.declared.request.OperandRequest.{OperandRequest}
+use Rattle.regalloc2_validate.specs.Constraints.{op_at}
+use Rattle.std.proofs.lemmas.Result.{err_from_is_err_and}
+use Rattle.regalloc2_fastalloc_walk.proofs.OperandOutOfRegs.{stop_use, stop_def, stop_reuse}
+use Rattle.regalloc2_fastalloc_walk.proofs.Steps.{step_ok}
+use Rattle.regalloc2_fastalloc_walk.specs.StateView.{tables_of}
+use Rattle.regalloc2_validate.proofs.OperandReads.{read_operand}
+use Rattle.regalloc2_fastalloc_proofs.proofs.Operands.OperandRules.{is_unmarked, op_in_tables, use_in_tables, one_register, one_use, one_def, one_reuse}
+use Rattle.regalloc2_fastalloc_walk.proofs.OperandsSpillFree.{reg_is_free, reg_no_reuse, reg_wanted, takes_at}
+use Rattle.regalloc2_fastalloc_proofs.specs.InstSteps.{requirement_of}
+use Rattle.regalloc2_fastalloc_walk.proofs.state.State.process_operand.Goals as goal
+
+pub returns-in-Some-clause-ok : goal.returns-in-Some-clause-ok
+returns-in-Some-clause-ok g c =
+    let ops : List OperandValue = c.args.cx.now.operands.now in
+    let o : c.index-operands-k.result ≡ op_at ops c.args.k = read_operand ops c.args.k c.index-operands-k.result c.requires.inside c.index-operands-k.is in
+    one_register c.args.cx.now.inst c.args.cx.now.ends_block ops c.args.k c.args.here.now c.args.inst_regs.now (tables_of c.args.self.now)
+    c.index-operands-k.result
+    c.in-Some.preg c.reg.result o (sym c.as_fixed_nonallocatable.ensures ∙ c.in-Some.is) c.reg.ensures
+
+pub alloc_use-requires : goal.alloc_use-requires
+alloc_use-requires g c =
+    let ops : List OperandValue = c.args.cx.now.operands.now in
+    let o : c.index-operands-k.result ≡ op_at ops c.args.k = read_operand ops c.args.k c.index-operands-k.result c.requires.inside c.index-operands-k.is in
+    let not_it : is_fixed_nonallocatable c.index-operands-k.result ≡ false = is_unmarked c.index-operands-k.result
+    (sym c.as_fixed_nonallocatable.ensures ∙ c.in_default.is) in
+    let at : c.after-point.result ≡ after c.args.cx.now.inst = c.after-point.ensures.point (λ e. omega (arith, c.requires.inst)) in (
+      search rules,
+      (
+        subst (λ (p : ℕ). AllAtOrAfter p c.args.self.now.edits) (sym at) c.requires.later,
+        use_in_tables ops c.args.k c.index-operands-k.result c.index-here-k.result c.use_request-request.result (tables_of c.args.self.now) c.requires.inside o
+            c.use_request-request.ensures not_it c.requires.in_tables,
+      ),
+    )
+
+pub returns-then-not-is_def-clause-ok : goal.returns-then-not-is_def-clause-ok
+returns-then-not-is_def-clause-ok g c =
+    let ops : List OperandValue = c.args.cx.now.operands.now in
+    let o : c.index-operands-k.result ≡ op_at ops c.args.k = read_operand ops c.args.k c.index-operands-k.result c.requires.inside c.index-operands-k.is in
+    let not_it : is_fixed_nonallocatable c.index-operands-k.result ≡ false = is_unmarked c.index-operands-k.result
+    (sym c.as_fixed_nonallocatable.ensures ∙ c.in_default.is) in
+    let at : c.after-point.result ≡ after c.args.cx.now.inst = c.after-point.ensures.point (λ e. omega (arith, c.requires.inst)) in
+    let h : c.index-here-k.result ≡ slice_index_or c.args.here.now c.args.k NoPlace = get_or_read c.args.here.now c.args.k c.index-here-k.result
+    (omega (arith, c.requires.inside, c.requires.here_long)) c.index-here-k.is NoPlace in
+    one_use c.index-operands-k.result c.index-here-k.result o h c.use_request-request.ensures at not_it (sym c.is_def.ensures ∙ c.if-not-is_def.true)
+    c.in_ok-here.ensures.ok
+
+pub returns-then-not-is_def-clause-step : goal.returns-then-not-is_def-clause-step
+returns-then-not-is_def-clause-step g c =
+    let at : c.after-point.result ≡ after c.args.cx.now.inst = c.after-point.ensures.point (λ e. omega (arith, c.requires.inst)) in
+    step_ok c.args.self.now c.alloc_use.new.self at c.in_ok-here.ensures.step
+
+pub alloc_def_op-requires : goal.alloc_def_op-requires
+alloc_def_op-requires g c =
+    let ops : List OperandValue = c.args.cx.now.operands.now in
+    let o : c.index-operands-k.result ≡ op_at ops c.args.k = read_operand ops c.args.k c.index-operands-k.result c.requires.inside c.index-operands-k.is in
+    let not_it : is_fixed_nonallocatable c.index-operands-k.result ≡ false = is_unmarked c.index-operands-k.result
+    (sym c.as_fixed_nonallocatable.ensures ∙ c.in_default.is) in
+    let at : c.after-point.result ≡ after c.args.cx.now.inst = c.after-point.ensures.point (λ e. omega (arith, c.requires.inst)) in (
+      search rules,
+      (
+        subst (λ (p : ℕ). AllAtOrAfter p c.args.self.now.edits) (sym at) c.requires.later,
+        subst (λ (x : OperandRequest). x.vreg.number < length c.args.self.now.places.vreg_allocs) (sym c.reuse_request-request.ensures)
+            (op_in_tables ops c.args.k c.index-operands-k.result (tables_of c.args.self.now) c.requires.inside o not_it c.requires.in_tables),
+      ),
+    )
+
+pub returns-in-Some-reused-clause-ok : goal.returns-in-Some-reused-clause-ok
+returns-in-Some-reused-clause-ok g c =
+    let ops : List OperandValue = c.args.cx.now.operands.now in
+    let o : c.index-operands-k.result ≡ op_at ops c.args.k = read_operand ops c.args.k c.index-operands-k.result c.requires.inside c.index-operands-k.is in
+    let at : c.after-point.result ≡ after c.args.cx.now.inst = c.after-point.ensures.point (λ e. omega (arith, c.requires.inst)) in
+    one_reuse c.index-operands-k.result c.in-Some-reused.index o c.reuse_request-request.ensures at (sym c.is_def.ensures ∙ c.if-not-is_def.false)
+    c.in-Some-reused.ensures.some c.set_place.ensures c.in_ok-place.ensures.ok
+
+pub returns-in-Some-reused-clause-step : goal.returns-in-Some-reused-clause-step
+returns-in-Some-reused-clause-step g c =
+    let at : c.after-point.result ≡ after c.args.cx.now.inst = c.after-point.ensures.point (λ e. omega (arith, c.requires.inst)) in
+    step_ok c.args.self.now c.alloc_def_op.new.self at c.in_ok-place.ensures.step
+
+pub alloc_def_op-requires-2 : goal.alloc_def_op-requires-2
+alloc_def_op-requires-2 g c =
+    let ops : List OperandValue = c.args.cx.now.operands.now in
+    let o : c.index-operands-k.result ≡ op_at ops c.args.k = read_operand ops c.args.k c.index-operands-k.result c.requires.inside c.index-operands-k.is in
+    let not_it : is_fixed_nonallocatable c.index-operands-k.result ≡ false = is_unmarked c.index-operands-k.result
+    (sym c.as_fixed_nonallocatable.ensures ∙ c.in_default.is) in
+    let at : c.after-point.result ≡ after c.args.cx.now.inst = c.after-point.ensures.point (λ e. omega (arith, c.requires.inst)) in (
+      search rules,
+      (
+        subst (λ (p : ℕ). AllAtOrAfter p c.args.self.now.edits) (sym at) c.requires.later,
+        subst (λ (x : OperandRequest). x.vreg.number < length c.args.self.now.places.vreg_allocs) (sym c.def_request.ensures)
+            (op_in_tables ops c.args.k c.index-operands-k.result (tables_of c.args.self.now) c.requires.inside o not_it c.requires.in_tables),
+      ),
+    )
+
+pub returns-clause-ok : goal.returns-clause-ok
+returns-clause-ok g c =
+    let ops : List OperandValue = c.args.cx.now.operands.now in
+    let o : c.index-operands-k.result ≡ op_at ops c.args.k = read_operand ops c.args.k c.index-operands-k.result c.requires.inside c.index-operands-k.is in
+    let at : c.after-point.result ≡ after c.args.cx.now.inst = c.after-point.ensures.point (λ e. omega (arith, c.requires.inst)) in
+    one_def c.index-operands-k.result o c.def_request.ensures at (sym c.is_def.ensures ∙ c.if-not-is_def.false)
+    (c.in_default-reused.ensures.none refl) c.in_ok-here-2.ensures.ok
+
+pub returns-clause-step : goal.returns-clause-step
+returns-clause-step g c =
+    let at : c.after-point.result ≡ after c.args.cx.now.inst = c.after-point.ensures.point (λ e. omega (arith, c.requires.inst)) in
+    step_ok c.args.self.now c.alloc_def_op-2.new.self at c.in_ok-here-2.ensures.step
+
+-- an operand gets no place
+pub returns-in_err-here-clause-stops : goal.returns-in_err-here-clause-stops
+returns-in_err-here-clause-stops g c =
+    let ops : List OperandValue = c.args.cx.now.operands.now in
+    let o : c.index-operands-k.result ≡ op_at ops c.args.k = read_operand ops c.args.k c.index-operands-k.result c.requires.inside c.index-operands-k.is in
+    let not_it : is_fixed_nonallocatable c.index-operands-k.result ≡ false = is_unmarked c.index-operands-k.result
+    (sym c.as_fixed_nonallocatable.ensures ∙ c.in_default.is) in
+    let h : c.index-here-k.result ≡ slice_index_or c.args.here.now c.args.k NoPlace = get_or_read c.args.here.now c.args.k c.index-here-k.result
+    (omega (arith, c.requires.inside, c.requires.here_long)) c.index-here-k.is NoPlace in
+    let e = err_from_is_err_and c.from_residual.result c.from_residual.ensures.1 in
+    rw e.1 (λ same. stop_use c.args.cx.now.inst c.args.cx.now.ends_block ops c.args.k c.args.here.now c.args.inst_regs.now
+    (tables_of c.args.self.now) c.index-operands-k.result
+    c.index-here-k.result c.use_request-request.result
+    o h c.use_request-request.ensures not_it (sym c.is_def.ensures ∙ c.if-not-is_def.true) (c.in_err-here.ensures.stops (sym e.2 ∙ same)))
+
+pub returns-in_err-place-clause-stops : goal.returns-in_err-place-clause-stops
+returns-in_err-place-clause-stops g c =
+    let ops : List OperandValue = c.args.cx.now.operands.now in
+    let o : c.index-operands-k.result ≡ op_at ops c.args.k = read_operand ops c.args.k c.index-operands-k.result c.requires.inside c.index-operands-k.is in
+    let at : c.after-point.result ≡ after c.args.cx.now.inst = c.after-point.ensures.point (λ e. omega (arith, c.requires.inst)) in
+    let e = err_from_is_err_and c.from_residual-in_err-place.result c.from_residual-in_err-place.ensures.1 in
+    rw e.1 (λ same. stop_reuse c.index-operands-k.result
+    c.in-Some-reused.index o c.reuse_request-request.ensures at (sym c.is_def.ensures ∙ c.if-not-is_def.false) c.in-Some-reused.ensures.some
+    (c.in_err-place.ensures.stops (sym e.2 ∙ same)))
+
+pub returns-in_err-here-2-clause-stops : goal.returns-in_err-here-2-clause-stops
+returns-in_err-here-2-clause-stops g c =
+    let ops : List OperandValue = c.args.cx.now.operands.now in
+    let o : c.index-operands-k.result ≡ op_at ops c.args.k = read_operand ops c.args.k c.index-operands-k.result c.requires.inside c.index-operands-k.is in
+    let at : c.after-point.result ≡ after c.args.cx.now.inst = c.after-point.ensures.point (λ e. omega (arith, c.requires.inst)) in
+    let e = err_from_is_err_and c.from_residual-in_err-here-2.result c.from_residual-in_err-here-2.ensures.1 in
+    rw e.1 (λ same. stop_def c.args.cx.now.inst c.args.cx.now.ends_block ops c.args.k c.args.here.now c.args.inst_regs.now
+    (tables_of c.args.self.now) c.index-operands-k.result
+    c.def_request.result
+    c.after-point.result o c.def_request.ensures at (sym c.is_def.ensures ∙ c.if-not-is_def.false) (c.in_default-reused.ensures.none refl)
+    (c.in_err-here-2.ensures.stops (sym e.2 ∙ same)))
+
+-- an operand under `Reg` takes its register
+pub returns-in-Some-clause-takes : goal.returns-in-Some-clause-takes
+returns-in-Some-clause-takes g c = λ reg none.
+    let ops : List OperandValue = c.args.cx.now.operands.now in
+    let o : c.index-operands-k.result ≡ op_at ops c.args.k = read_operand ops c.args.k c.index-operands-k.result c.requires.inside c.index-operands-k.is in
+    absurd (reg_is_free c.index-operands-k.result c.in-Some.preg (ap (λ (x : OperandValue). x.constraint) o ∙ reg)
+    (sym c.as_fixed_nonallocatable.ensures ∙ c.in-Some.is))
+
+pub returns-then-not-is_def-clause-takes : goal.returns-then-not-is_def-clause-takes
+returns-then-not-is_def-clause-takes g c = λ reg none.
+    let ops : List OperandValue = c.args.cx.now.operands.now in
+    let here = c.args.here.now in
+    let o : c.index-operands-k.result ≡ op_at ops c.args.k = read_operand ops c.args.k c.index-operands-k.result c.requires.inside c.index-operands-k.is in
+    let lt : c.args.k < length here = omega (arith, c.requires.inside, c.requires.here_long) in
+    let h : c.index-here-k.result ≡ NoPlace = get_or_read here c.args.k c.index-here-k.result lt c.index-here-k.is NoPlace ∙ none in
+    let w = reg_wanted c.index-operands-k.result c.index-here-k.result c.use_request-request.result (ap (λ (x : OperandValue). x.constraint) o ∙ reg) h
+    c.use_request-request.ensures in
+    takes_at c.args.inst_regs.now c.use_request-request.result.vreg (op_at ops c.args.k).vreg here c.args.k c.in_ok-here.field-0 (tables_of c.args.self.now)
+    c.args.self.now.registers c.alloc_use.new.self.registers (w.1 ∙ ap (λ (x : OperandValue). x.vreg) o) lt (c.in_ok-here.ensures.takes w.0)
+
+pub returns-in-Some-reused-clause-takes : goal.returns-in-Some-reused-clause-takes
+returns-in-Some-reused-clause-takes g c = λ reg none.
+    let ops : List OperandValue = c.args.cx.now.operands.now in
+    let o : c.index-operands-k.result ≡ op_at ops c.args.k = read_operand ops c.args.k c.index-operands-k.result c.requires.inside c.index-operands-k.is in
+    absurd (reg_no_reuse (op_at ops c.args.k) c.in-Some-reused.index reg (sym (ap (λ (x : OperandValue). x.constraint) o) ∙ c.in-Some-reused.ensures.some))
+
+pub returns-clause-takes : goal.returns-clause-takes
+returns-clause-takes g c = λ reg none.
+    let ops : List OperandValue = c.args.cx.now.operands.now in
+    let here = c.args.here.now in
+    let o : c.index-operands-k.result ≡ op_at ops c.args.k = read_operand ops c.args.k c.index-operands-k.result c.requires.inside c.index-operands-k.is in
+    let lt : c.args.k < length here = omega (arith, c.requires.inside, c.requires.here_long) in
+    let p = c.def_request.result in
+    takes_at c.args.inst_regs.now p.vreg (op_at ops c.args.k).vreg here c.args.k c.in_ok-here-2.field-0 (tables_of c.args.self.now) c.args.self.now.registers
+    c.alloc_def_op-2.new.self.registers
+    (ap (λ (x : OperandRequest). x.vreg) c.def_request.ensures ∙ ap (λ (x : OperandValue). x.vreg) o) lt
+    (c.in_ok-here-2.ensures.takes (ap (λ (x : OperandRequest). x.requirement) c.def_request.ensures ∙ ap (λ (x : OperandValue). requirement_of x.constraint) o
+    ∙ ap requirement_of reg))

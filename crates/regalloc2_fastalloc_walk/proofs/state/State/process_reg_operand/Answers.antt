@@ -1,0 +1,137 @@
+use Rattle.std.proofs.Common.{ℕ, ◌≡◌, ◌<◌, List, length, refl, sym, ap, ◌∙◌, subst, arith, rules, false}
+use Rattle.regalloc2_names.specs.Place.{NoPlace}
+use Rattle.regalloc2_names.specs.Point.{after}
+use Rattle.regalloc2_names.specs.Operand.{OperandValue, is_def}
+use Rattle.regalloc2_names.specs.declared.OperandConstraint.TheVariants.{Reg}
+use Rattle.regalloc2_fastalloc_state.specs.StateParts.{AllAtOrAfter}
+use Rattle.regalloc2_fastalloc_state.specs.declared.request.OperandRequest.{OperandRequest}
+use Rattle.regalloc2_validate.specs.Constraints.{op_at}
+use Rattle.std.proofs.lemmas.Result.{err_from_is_err_and}
+use Rattle.regalloc2_fastalloc_walk.proofs.OperandOutOfRegs.{stop_use, stop_def}
+use Rattle.regalloc2_fastalloc_walk.proofs.Steps.{step_ok}
+use Rattle.regalloc2_fastalloc_walk.specs.StateView.{tables_of}
+use Rattle.regalloc2_validate.proofs.OperandReads.{read_operand}
+use Rattle.regalloc2_fastalloc_proofs.proofs.Operands.OperandRules.{op_in_tables, use_in_tables, one_use, one_def}
+use Rattle.regalloc2_fastalloc_walk.proofs.OperandsSpillFree.{reg_not_nonallocatable, reg_no_reuse, reg_wanted, takes_at}
+use Rattle.regalloc2_fastalloc_proofs.specs.InstSteps.{requirement_of}
+use Rattle.regalloc2_fastalloc_walk.proofs.state.State.process_reg_operand.Goals as goal
+
+pub reg_request-request-requires : goal.reg_request-request-requires
+reg_request-request-requires g c =
+    let ops : List OperandValue = c.args.cx.now.operands.now in
+    let o : c.index-operands-k.result ≡ op_at ops c.args.k = read_operand ops c.args.k c.index-operands-k.result c.requires.inside c.index-operands-k.is in
+    ap (λ (x : OperandValue). x.constraint) o ∙ c.requires.reg
+
+pub alloc_use-requires : goal.alloc_use-requires
+alloc_use-requires g c =
+    let ops : List OperandValue = c.args.cx.now.operands.now in
+    let o : c.index-operands-k.result ≡ op_at ops c.args.k = read_operand ops c.args.k c.index-operands-k.result c.requires.inside c.index-operands-k.is in
+    let reg : c.index-operands-k.result.constraint ≡ Reg = ap (λ (x : OperandValue). x.constraint) o ∙ c.requires.reg in
+    let at : c.after-point.result ≡ after c.args.cx.now.inst = c.after-point.ensures.point (λ e. omega (arith, c.requires.inst)) in (
+      search rules,
+      (
+        subst (λ (p : ℕ). AllAtOrAfter p c.args.self.now.edits) (sym at) c.requires.later,
+        use_in_tables ops c.args.k c.index-operands-k.result NoPlace c.reg_request-request.result (tables_of c.args.self.now) c.requires.inside o
+            (c.reg_request-request.ensures.used (sym c.is_def.ensures ∙ c.if-not-is_def.true)) (reg_not_nonallocatable c.index-operands-k.result reg)
+            c.requires.in_tables,
+      ),
+    )
+
+pub returns-then-not-is_def-clause-ok : goal.returns-then-not-is_def-clause-ok
+returns-then-not-is_def-clause-ok g c =
+    let ops : List OperandValue = c.args.cx.now.operands.now in
+    let o : c.index-operands-k.result ≡ op_at ops c.args.k = read_operand ops c.args.k c.index-operands-k.result c.requires.inside c.index-operands-k.is in
+    let reg : c.index-operands-k.result.constraint ≡ Reg = ap (λ (x : OperandValue). x.constraint) o ∙ c.requires.reg in
+    let at : c.after-point.result ≡ after c.args.cx.now.inst = c.after-point.ensures.point (λ e. omega (arith, c.requires.inst)) in
+    let reads : is_def c.index-operands-k.result.kind ≡ false = sym c.is_def.ensures ∙ c.if-not-is_def.true in
+    one_use c.index-operands-k.result NoPlace o (sym c.requires.unplaced) (c.reg_request-request.ensures.used reads) at
+    (reg_not_nonallocatable c.index-operands-k.result reg) reads c.in_ok-here.ensures.ok
+
+pub returns-then-not-is_def-clause-step : goal.returns-then-not-is_def-clause-step
+returns-then-not-is_def-clause-step g c =
+    let at : c.after-point.result ≡ after c.args.cx.now.inst = c.after-point.ensures.point (λ e. omega (arith, c.requires.inst)) in
+    step_ok c.args.self.now c.alloc_use.new.self at c.in_ok-here.ensures.step
+
+pub alloc_def_op-requires : goal.alloc_def_op-requires
+alloc_def_op-requires g c =
+    let ops : List OperandValue = c.args.cx.now.operands.now in
+    let o : c.index-operands-k.result ≡ op_at ops c.args.k = read_operand ops c.args.k c.index-operands-k.result c.requires.inside c.index-operands-k.is in
+    let reg : c.index-operands-k.result.constraint ≡ Reg = ap (λ (x : OperandValue). x.constraint) o ∙ c.requires.reg in
+    let at : c.after-point.result ≡ after c.args.cx.now.inst = c.after-point.ensures.point (λ e. omega (arith, c.requires.inst)) in (
+      search rules,
+      (
+        subst (λ (p : ℕ). AllAtOrAfter p c.args.self.now.edits) (sym at) c.requires.later,
+        subst (λ (x : OperandRequest). x.vreg.number < length c.args.self.now.places.vreg_allocs)
+            (sym (c.reg_request-request.ensures.defined (sym c.is_def.ensures ∙ c.if-not-is_def.false)))
+            (op_in_tables ops c.args.k c.index-operands-k.result (tables_of c.args.self.now) c.requires.inside o
+            (reg_not_nonallocatable c.index-operands-k.result reg) c.requires.in_tables),
+      ),
+    )
+
+pub returns-clause-ok : goal.returns-clause-ok
+returns-clause-ok g c =
+    let ops : List OperandValue = c.args.cx.now.operands.now in
+    let o : c.index-operands-k.result ≡ op_at ops c.args.k = read_operand ops c.args.k c.index-operands-k.result c.requires.inside c.index-operands-k.is in
+    let reg : c.index-operands-k.result.constraint ≡ Reg = ap (λ (x : OperandValue). x.constraint) o ∙ c.requires.reg in
+    let at : c.after-point.result ≡ after c.args.cx.now.inst = c.after-point.ensures.point (λ e. omega (arith, c.requires.inst)) in
+    let def = sym c.is_def.ensures ∙ c.if-not-is_def.false in
+    one_def c.index-operands-k.result o (c.reg_request-request.ensures.defined def) at def
+    (λ n e. reg_no_reuse c.index-operands-k.result n reg e) c.in_ok-here-2.ensures.ok
+
+pub returns-clause-step : goal.returns-clause-step
+returns-clause-step g c =
+    let at : c.after-point.result ≡ after c.args.cx.now.inst = c.after-point.ensures.point (λ e. omega (arith, c.requires.inst)) in
+    step_ok c.args.self.now c.alloc_def_op.new.self at c.in_ok-here-2.ensures.step
+
+-- an operand gets no place
+pub returns-in_err-here-clause-stops : goal.returns-in_err-here-clause-stops
+returns-in_err-here-clause-stops g c =
+    let ops : List OperandValue = c.args.cx.now.operands.now in
+    let o : c.index-operands-k.result ≡ op_at ops c.args.k = read_operand ops c.args.k c.index-operands-k.result c.requires.inside c.index-operands-k.is in
+    let reg : c.index-operands-k.result.constraint ≡ Reg = ap (λ (x : OperandValue). x.constraint) o ∙ c.requires.reg in
+    let reads : is_def c.index-operands-k.result.kind ≡ false = sym c.is_def.ensures ∙ c.if-not-is_def.true in
+    let e = err_from_is_err_and c.from_residual.result c.from_residual.ensures.1 in
+    rw e.1 (λ same. stop_use c.args.cx.now.inst c.args.cx.now.ends_block ops c.args.k c.args.here.now c.args.inst_regs.now
+    (tables_of c.args.self.now) c.index-operands-k.result NoPlace c.reg_request-request.result
+    o (sym c.requires.unplaced) (c.reg_request-request.ensures.used reads) (reg_not_nonallocatable c.index-operands-k.result reg) reads
+    (c.in_err-here.ensures.stops (sym e.2 ∙ same)))
+
+pub returns-in_err-here-2-clause-stops : goal.returns-in_err-here-2-clause-stops
+returns-in_err-here-2-clause-stops g c =
+    let ops : List OperandValue = c.args.cx.now.operands.now in
+    let o : c.index-operands-k.result ≡ op_at ops c.args.k = read_operand ops c.args.k c.index-operands-k.result c.requires.inside c.index-operands-k.is in
+    let reg : c.index-operands-k.result.constraint ≡ Reg = ap (λ (x : OperandValue). x.constraint) o ∙ c.requires.reg in
+    let at : c.after-point.result ≡ after c.args.cx.now.inst = c.after-point.ensures.point (λ e. omega (arith, c.requires.inst)) in
+    let def = sym c.is_def.ensures ∙ c.if-not-is_def.false in
+    let e = err_from_is_err_and c.from_residual-in_err-here-2.result c.from_residual-in_err-here-2.ensures.1 in
+    rw e.1 (λ same. stop_def c.args.cx.now.inst c.args.cx.now.ends_block ops c.args.k c.args.here.now c.args.inst_regs.now
+    (tables_of c.args.self.now) c.index-operands-k.result c.reg_request-request.result
+    c.after-point.result o (c.reg_request-request.ensures.defined def) at def (λ n e. reg_no_reuse c.index-operands-k.result n reg e)
+    (c.in_err-here-2.ensures.stops (sym e.2 ∙ same)))
+
+-- it takes its register
+pub returns-then-not-is_def-clause-takes : goal.returns-then-not-is_def-clause-takes
+returns-then-not-is_def-clause-takes g c =
+    let ops : List OperandValue = c.args.cx.now.operands.now in
+    let here = c.args.here.now in
+    let o : c.index-operands-k.result ≡ op_at ops c.args.k = read_operand ops c.args.k c.index-operands-k.result c.requires.inside c.index-operands-k.is in
+    let reg : c.index-operands-k.result.constraint ≡ Reg = ap (λ (x : OperandValue). x.constraint) o ∙ c.requires.reg in
+    let lt : c.args.k < length here = omega (arith, c.requires.inside, c.requires.here_long) in
+    let w = reg_wanted c.index-operands-k.result NoPlace c.reg_request-request.result reg refl
+    (c.reg_request-request.ensures.used (sym c.is_def.ensures ∙ c.if-not-is_def.true)) in
+    takes_at c.args.inst_regs.now c.reg_request-request.result.vreg (op_at ops c.args.k).vreg here c.args.k c.in_ok-here.field-0 (tables_of c.args.self.now)
+    c.args.self.now.registers c.alloc_use.new.self.registers (w.1 ∙ ap (λ (x : OperandValue). x.vreg) o) lt (c.in_ok-here.ensures.takes w.0)
+
+pub returns-clause-takes : goal.returns-clause-takes
+returns-clause-takes g c =
+    let ops : List OperandValue = c.args.cx.now.operands.now in
+    let here = c.args.here.now in
+    let o : c.index-operands-k.result ≡ op_at ops c.args.k = read_operand ops c.args.k c.index-operands-k.result c.requires.inside c.index-operands-k.is in
+    let lt : c.args.k < length here = omega (arith, c.requires.inside, c.requires.here_long) in
+    let p = c.reg_request-request.result in
+    let is = c.reg_request-request.ensures.defined (sym c.is_def.ensures ∙ c.if-not-is_def.false) in
+    takes_at c.args.inst_regs.now p.vreg (op_at ops c.args.k).vreg here c.args.k c.in_ok-here-2.field-0 (tables_of c.args.self.now) c.args.self.now.registers
+    c.alloc_def_op.new.self.registers
+    (ap (λ (x : OperandRequest). x.vreg) is ∙ ap (λ (x : OperandValue). x.vreg) o) lt
+    (c.in_ok-here-2.ensures.takes (ap (λ (x : OperandRequest). x.requirement) is ∙ ap (λ (x : OperandValue). requirement_of x.constraint) o
+    ∙ ap requirement_of c.requires.reg))
