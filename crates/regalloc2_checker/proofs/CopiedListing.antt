@@ -17,7 +17,6 @@ use Rattle.regalloc2_function.specs.declared.listing.Edit.{Edit}
 use Rattle.regalloc2_checker.specs.declared.listing.Listed.{Listed}
 use Rattle.regalloc2_checker.specs.ListingCopied.{ArePassed, IsSplit, IsAdded, IsListedBefore}
 use Rattle.regalloc2_checker.specs.Listing.{IsListing}
-use Rattle.regalloc2_checker.proofs.BlocksInRange.{nonempty}
 
 -- no moves are those of no edits
 pub no_moves : (es : List (ℕ × Edit)) (ms : List Edit) → ms ≡ [] → ms ≡ map (λ e. e.1) (take 0 es)

@@ -1,5 +1,5 @@
 -- The errors of an instruction, by what holds on every path.
-use Rattle.std.proofs.Common.{ℕ, ◌≡◌, ◌+◌, true, refl, sym, ap, ◌∙◌, subst, List, ◌++◌, append_assoc, length}
+use Rattle.std.proofs.Common.{ℕ, ◌≡◌, true, refl, sym, ap, ◌∙◌, subst, List, ◌++◌, append_assoc, length}
 use Rattle.std.specs.Prelude.{◌↔◌, Option, None, Some}
 use Rattle.std.specs.Option.{option_to_list}
 use Rattle.regalloc2_names.specs.declared.OperandPos.{OperandPos}

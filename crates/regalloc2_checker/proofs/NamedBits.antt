@@ -1,9 +1,9 @@
 -- Lists of bits that grow.
-use Rattle.std.proofs.Common.{ℕ, ◌≡◌, ◌+◌, ◌<◌, ◌≤◌, inl, inr, arith, List, [], ◌∷◌, ◌++◌, length, get_or, refl, sym, ◌∙◌, subst}
-use Rattle.std.specs.Prelude.{All, Contains}
+use Rattle.std.proofs.Common.{ℕ, ◌≡◌, ◌+◌, ◌<◌, ◌≤◌, inl, inr, arith, List, [], ◌∷◌, ◌++◌, length, get_or, sym, ◌∙◌, subst}
+use Rattle.std.specs.Prelude.{◌↔◌, ◌⊎◌, All, Contains}
 use Rattle.std.proofs.lemmas.Bool.{cases_lt}
 use Rattle.std.proofs.lemmas.List.{get_or_default}
-use Rattle.std.proofs.lemmas.List.Elements.{Contains-append_left, Contains-append_right}
+use Rattle.std.proofs.lemmas.List.Elements.{Contains-append_left, Contains-push, Contains-push_cases}
 use Rattle.regalloc2_names.specs.Register.{VirtualRegister}
 use Rattle.regalloc2_checker.specs.NamedBits.{IsMore}
 use Rattle.regalloc2_checker.specs.TableFacts.{IsListedVReg}
@@ -16,13 +16,18 @@ more-same xs = λ n h. h
 pub more-twice : (xs ys zs : List ℕ) → IsMore xs ys → IsMore ys zs → IsMore xs zs
 more-twice xs ys zs a b = λ n h. b n (a n h)
 
--- a list to which one is added has all that it listed
-pub more-pushed : (xs ys : List ℕ) (x : ℕ) → ys ≡ xs ++ (x ∷ []) → IsMore xs ys
-more-pushed xs ys x e = λ n h. subst (λ (zs : List ℕ). Contains zs n) (sym e) (Contains-append_left xs (x ∷ []) n h)
+-- a list to which one is added has that one beside what it had
+pub members-pushed : (xs ys : List ℕ) (x : ℕ) → ys ≡ xs ++ (x ∷ []) → (n : ℕ) → Contains ys n ↔ (Contains xs n ⊎ (n ≡ x))
+members-pushed xs ys x e n =
+    (λ h. there (Contains-push_cases xs x n (subst (λ (zs : List ℕ). Contains zs n) e h)), λ h. subst (λ (zs : List ℕ). Contains zs n) (sym e) (back h))
+  where
+    there : Contains xs n ⊎ (x ≡ n) → Contains xs n ⊎ (n ≡ x)
+    there (inl h) = inl h
+    there (inr h) = inr (sym h)
 
--- and it has the one that was added
-pub here-pushed : (xs ys : List ℕ) (x : ℕ) → ys ≡ xs ++ (x ∷ []) → Contains ys x
-here-pushed xs ys x e = subst (λ (zs : List ℕ). Contains zs x) (sym e) (Contains-append_right xs (x ∷ []) x (0, omega arith, refl))
+    back : Contains xs n ⊎ (n ≡ x) → Contains (xs ++ (x ∷ [])) n
+    back (inl h) = Contains-append_left xs (x ∷ []) n h
+    back (inr h) = subst (λ (m : ℕ). Contains (xs ++ (x ∷ [])) m) (sym h) (Contains-push xs x)
 
 -- virtual registers that are listed stay listed as the list grows
 pub all-vregs-more : (xs ys : List ℕ) (vs : List VirtualRegister) → IsMore xs ys → All (IsListedVReg xs) vs → All (IsListedVReg ys) vs

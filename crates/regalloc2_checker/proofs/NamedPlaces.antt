@@ -1,13 +1,13 @@
 -- The places that an output and the clobbers name, and their bits.
 use Rattle.std.proofs.Common.{ℕ, zero, suc, ◌≡◌, ◌≢◌, ◌+◌, ◌-◌, ◌<◌, ◌≤◌, inl, inr, arith, Bool, true, false, ◌||◌}
-use Rattle.std.proofs.Common.{List, [], ◌∷◌, ◌++◌, length, get_or, take, drop, map, refl, sym, ap, ◌∙◌, subst, append_assoc}
+use Rattle.std.proofs.Common.{List, [], ◌∷◌, ◌++◌, length, get_or, take, drop, map, refl, sym, ap, ◌∙◌, subst}
 use Rattle.std.specs.Prelude.{◌⊎◌, ◌↔◌, All, Contains}
 use Rattle.std.specs.List.{flat_map}
 use Rattle.std.specs.List.Sorted.{IsStrictlyIncreasing}
 use Rattle.std.proofs.lemmas.List.Elements.{Contains-append_left, Contains-append_right, Contains-append_cases, Contains-get_or}
 use Rattle.std.proofs.lemmas.List.Elements.{All-map, All-filter, All-take, All-drop, All-contains_itself, All-weaker}
 use Rattle.std.proofs.lemmas.Bool.{cases_lt, cases_Bool}
-use Rattle.std.proofs.lemmas.List.{get_or_default, append-nil, take_more, take_all, map-append}
+use Rattle.std.proofs.lemmas.List.{get_or_default, take_more, take_all, map-append}
 use Rattle.std.proofs.lemmas.Grind.{flat_map-append}
 use Rattle.std.proofs.lemmas.List.Folds.{flat_map-map}
 use Rattle.regalloc2_names.specs.declared.sets.PRegSet.{PRegSet}
@@ -22,31 +22,69 @@ use Rattle.regalloc2_function.specs.Path.{Location}
 use Rattle.regalloc2_function.specs.AllocatedRun.{moves_at}
 use Rattle.regalloc2_function.specs.declared.listing.Edit.{Edit}
 use Rattle.regalloc2_function.specs.Views.{edit_of, move_of}
+use Rattle.regalloc2_checker.proofs.Members.{only_item}
 use Rattle.regalloc2_checker.specs.NamedBits.{ArePlacesAdded, places_of_edit}
 use Rattle.regalloc2_checker.specs.NamedPlaces.{places_of, clobbered, named, bits_unless_missing}
 use Rattle.regalloc2_checker.specs.TableFacts.{IsMissingUnlisted, IsListed, AreNamedPlaces}
 
 -- where nothing is added, no place's bits are
 pub added-none : (xs : List ℕ) → ArePlacesAdded xs xs []
-added-none xs = sym (append-nil xs)
+added-none xs n = (inl, back)
+  where
+    back : Contains xs n ⊎ Contains [] n → Contains xs n
+    back (inl h) = h
+    back (inr (k, less, at)) = absurd (omega arith)
 
--- places that are added after others are added behind them
+-- places that are added after others are added beside them
 pub added-then : (xs ys zs : List ℕ) (ps qs : List Place) → ArePlacesAdded xs ys ps → ArePlacesAdded ys zs qs → ArePlacesAdded xs zs (ps ++ qs)
-added-then xs ys zs ps qs a b =
-    b ∙ ap (λ (l : List ℕ). l ++ flat_map bits_unless_missing qs) a ∙ append_assoc xs (flat_map bits_unless_missing ps) (flat_map bits_unless_missing qs)
-    ∙ ap (λ (l : List ℕ). xs ++ l) (sym (flat_map-append bits_unless_missing ps qs))
+added-then xs ys zs ps qs a b n = (λ h. forth ((b n).0 h), back)
+  where
+    both : flat_map bits_unless_missing (ps ++ qs) ≡ flat_map bits_unless_missing ps ++ flat_map bits_unless_missing qs
+    both = flat_map-append bits_unless_missing ps qs
+
+    first : Contains xs n ⊎ Contains (flat_map bits_unless_missing ps) n → Contains xs n ⊎ Contains (flat_map bits_unless_missing (ps ++ qs)) n
+    first (inl h) = inl h
+    first (inr h) = inr (subst (λ (l : List ℕ). Contains l n) (sym both)
+        (Contains-append_left (flat_map bits_unless_missing ps) (flat_map bits_unless_missing qs) n h))
+
+    forth : Contains ys n ⊎ Contains (flat_map bits_unless_missing qs) n → Contains xs n ⊎ Contains (flat_map bits_unless_missing (ps ++ qs)) n
+    forth (inl h) = first ((a n).0 h)
+    forth (inr h) = inr (subst (λ (l : List ℕ). Contains l n) (sym both)
+        (Contains-append_right (flat_map bits_unless_missing ps) (flat_map bits_unless_missing qs) n h))
+
+    among : Contains (flat_map bits_unless_missing ps) n ⊎ Contains (flat_map bits_unless_missing qs) n → Contains zs n
+    among (inl h) = (b n).1 (inl ((a n).1 (inr h)))
+    among (inr h) = (b n).1 (inr h)
+
+    back : Contains xs n ⊎ Contains (flat_map bits_unless_missing (ps ++ qs)) n → Contains zs n
+    back (inl h) = (b n).1 (inl ((a n).1 (inl h)))
+    back (inr h) = among (Contains-append_cases (flat_map bits_unless_missing ps) (flat_map bits_unless_missing qs) n
+        (subst (λ (l : List ℕ). Contains l n) both h))
 
 -- a missing place adds nothing
 pub added-missing : (xs : List ℕ) (p : Place) → is_no_place p ≡ true → ArePlacesAdded xs xs (p ∷ [])
-added-missing xs NoPlace e = sym (append-nil xs)
+added-missing xs NoPlace e = added-none xs
 added-missing xs (InRegister r) e = absurd cc
 added-missing xs (InSlot n) e = absurd cc
 
+one-added : (xs ys : List ℕ) (x y : ℕ) → x ≡ y → ((n : ℕ) → Contains ys n ↔ (Contains xs n ⊎ (n ≡ x))) → (n : ℕ) →
+    Contains ys n ↔ (Contains xs n ⊎ Contains (y ∷ []) n)
+one-added xs ys x y is more n = (λ h. there ((more n).0 h), λ h. (more n).1 (back h))
+  where
+    there : Contains xs n ⊎ (n ≡ x) → Contains xs n ⊎ Contains (y ∷ []) n
+    there (inl h) = inl h
+    there (inr h) = inr (0, omega arith, sym (h ∙ is))
+
+    back : Contains xs n ⊎ Contains (y ∷ []) n → Contains xs n ⊎ (n ≡ x)
+    back (inl h) = inl h
+    back (inr h) = inr (sym (is ∙ only_item y n h))
+
 -- any other adds its bits
-pub added-bits : (xs ys : List ℕ) (p : Place) (x : ℕ) → is_no_place p ≡ false → x ≡ bits_of_place p → ys ≡ xs ++ (x ∷ []) → ArePlacesAdded xs ys (p ∷ [])
-added-bits xs ys NoPlace x some is e = absurd cc
-added-bits xs ys (InRegister r) x some is e = e ∙ ap (λ (n : ℕ). xs ++ (n ∷ [])) is
-added-bits xs ys (InSlot n) x some is e = e ∙ ap (λ (k : ℕ). xs ++ (k ∷ [])) is
+pub added-bits : (xs ys : List ℕ) (p : Place) (x : ℕ) → is_no_place p ≡ false → x ≡ bits_of_place p →
+    ((n : ℕ) → Contains ys n ↔ (Contains xs n ⊎ (n ≡ x))) → ArePlacesAdded xs ys (p ∷ [])
+added-bits xs ys NoPlace x some is more = absurd cc
+added-bits xs ys (InRegister r) x some is more = one-added xs ys x (bits_of_place (InRegister r)) is more
+added-bits xs ys (InSlot k) x some is more = one-added xs ys x (bits_of_place (InSlot k)) is more
 
 -- one place more of a list is added
 pub added-more : (xs ys zs : List ℕ) (ps : List Place) (k : ℕ) (p : Place) → k < length ps → p ≡ get_or ps k p → ArePlacesAdded xs ys (take k ps) →
@@ -190,9 +228,14 @@ changed-last xs ys zs ws on p h = by_first (Contains-append_cases xs (ys ++ zs) 
     by_first (inl g) = Contains-append_left xs (ys ++ ws) p g
     by_first (inr g) = Contains-append_right xs (ys ++ ws) p (by_second (Contains-append_cases ys zs p g))
 
+-- what is in an empty list or in another is in the other
+not-before : (xs : List ℕ) (n : ℕ) → Contains [] n ⊎ Contains xs n → Contains xs n
+not-before xs n (inl (k, less, at)) = absurd (omega arith)
+not-before xs n (inr h) = h
+
 -- a list of all bits of moves, operands and clobbers, each once, has those of the places that are named
 pub all-named : (f : FunctionValue) (o : OutputValue) (edits : List (ℕ × Edit)) (s : PRegSet) (bits places : List ℕ) → o.edits ≡ map edit_of edits →
-    AreAllClobbers f s → bits ≡ flat_map bits_unless_missing (flat_map places_of_edit edits ++ (o.allocs ++ map InRegister (registers_of s))) →
+    AreAllClobbers f s → ArePlacesAdded [] bits (flat_map places_of_edit edits ++ (o.allocs ++ map InRegister (registers_of s))) →
     ((n : ℕ) → Contains places n ↔ Contains bits n) → IsStrictlyIncreasing places → AreNamedPlaces f o places
 all-named f o edits s bits places same all whole members rising =
     let moves : flat_map (λ e. places_of e.1) o.edits ≡ flat_map places_of_edit edits =
@@ -204,11 +247,11 @@ all-named f o edits s bits places same all whole members rising =
         λ h. subst (λ (ms : List Place). Contains (flat_map bits_unless_missing (ms ++ (o.allocs ++ flat_map clobbered f.insts))) n) (sym moves)
             (bits-among (flat_map places_of_edit edits ++ (o.allocs ++ regs)) (flat_map places_of_edit edits ++ (o.allocs ++ flat_map clobbered f.insts))
             (changed-last (flat_map places_of_edit edits) o.allocs regs (flat_map clobbered f.insts) (clobbers-named f s all)) n
-            (subst (λ (bs : List ℕ). Contains bs n) whole ((members n).0 h))),
-        λ h. (members n).1 (subst (λ (bs : List ℕ). Contains bs n) (sym whole)
+            (not-before _ n ((whole n).0 ((members n).0 h)))),
+        λ h. (members n).1 ((whole n).1 (inr
             (bits-among (flat_map places_of_edit edits ++ (o.allocs ++ flat_map clobbered f.insts)) (flat_map places_of_edit edits ++ (o.allocs ++ regs))
             (changed-last (flat_map places_of_edit edits) o.allocs (flat_map clobbered f.insts) regs (named-clobbers f s all)) n
-            (subst (λ (ms : List Place). Contains (flat_map bits_unless_missing (ms ++ (o.allocs ++ flat_map clobbered f.insts))) n) moves h))),
+            (subst (λ (ms : List Place). Contains (flat_map bits_unless_missing (ms ++ (o.allocs ++ flat_map clobbered f.insts))) n) moves h)))),
       );
     }
 

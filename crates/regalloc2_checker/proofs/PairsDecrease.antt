@@ -1,5 +1,5 @@
 -- Fewer pairs are held where one pair less is.
-use Rattle.std.proofs.Common.{ℕ, zero, suc, ◌≡◌, ◌<◌, ◌≤◌, arith, Bool, true, false, cond, refl, subst, inl, inr, ap, ◌∙◌}
+use Rattle.std.proofs.Common.{ℕ, zero, suc, ◌≡◌, ◌<◌, ◌≤◌, arith, Bool, true, false, cond, refl, subst, inl, inr, ap}
 use Rattle.std.proofs.lemmas.Bool.{cases_eq}
 use Rattle.regalloc2_checker.specs.Tables.{count_below, sum_below, bits_end, pairs_held, all_pairs}
 

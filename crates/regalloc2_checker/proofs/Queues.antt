@@ -1,7 +1,7 @@
 -- Queues of blocks, and what is passed on from them.
-use Rattle.std.proofs.Common.{ℕ, zero, suc, ◌≡◌, ◌≢◌, ◌+◌, ◌-◌, ◌<◌, ◌≤◌, inl, inr, arith, Bool, true}
+use Rattle.std.proofs.Common.{ℕ, zero, suc, ◌≡◌, ◌+◌, ◌-◌, ◌<◌, ◌≤◌, inl, inr, arith, Bool, true}
 use Rattle.std.proofs.Common.{false, cond, List, [], ◌∷◌, length, get_or, set, refl, sym, ap, ◌∙◌, subst}
-use Rattle.std.specs.Prelude.{◌⊎◌, ◌&&◌, All, Contains, sum_by, slice_index}
+use Rattle.std.specs.Prelude.{◌⊎◌, Contains, sum_by, slice_index}
 use Rattle.std.specs.List.Sorted.{IsPermutation}
 use Rattle.std.specs.declared.cmp.Reverse.{Reverse}
 use Rattle.std.proofs.lemmas.Bool.{cases_eq, cases_Bool}
@@ -15,7 +15,7 @@ use Rattle.regalloc2_checker.specs.Facts.{Facts}
 use Rattle.regalloc2_checker.specs.Fixpoint.{facts_within}
 use Rattle.regalloc2_checker.specs.TableFacts.{facts_now}
 use Rattle.regalloc2_checker.specs.Propagation.{IsBlockEnd}
-use Rattle.regalloc2_checker.specs.Propagation.{mark_at, over, block_of, IsQueued, IsQueue, AreReached}
+use Rattle.regalloc2_checker.specs.Propagation.{mark_at, over, block_of, IsQueue, AreReached}
 use Rattle.regalloc2_checker.specs.Propagation.{AreSized, IsPropagatedOver, ArePropagated, IsUnderWay, IsReady, IsKept}
 use Rattle.regalloc2_checker.specs.Tables.{BlockView, view_at, facts_at, views, weight, AreAlike, IsMeet, IsUpdated, AllSolved}
 use Rattle.regalloc2_checker.proofs.TableSteps.{now-as}

@@ -1,7 +1,6 @@
 -- What is known at first: the entry alone is reached, and nothing holds there.
-use Rattle.std.proofs.Common.{ℕ, zero, suc, ◌≡◌, ◌+◌, ◌<◌, ◌≤◌, inl, inr, arith, Bool, true, false, nat_eq}
+use Rattle.std.proofs.Common.{ℕ, zero, suc, ◌≡◌, ◌<◌, ◌≤◌, inl, inr, arith, Bool, true, false, nat_eq}
 use Rattle.std.proofs.Common.{eq-eqb, eqb-true, ne_eqb, List, [], ◌∷◌, length, get_or, set, refl, sym, ap, ◌∙◌, subst}
-use Rattle.std.specs.Prelude.{All, Contains}
 use Rattle.std.specs.declared.cmp.Reverse.{Reverse}
 use Rattle.std.proofs.lemmas.Bool.{cases_lt, cases_eq}
 use Rattle.std.proofs.lemmas.List.{get_or-set_same, get_or-set_other}
@@ -15,7 +14,7 @@ use Rattle.regalloc2_checker_tables.specs.Showing.{Showing, shows_in}
 use Rattle.regalloc2_checker.specs.Fixpoint.{IsReachedBlock, IsRefuted}
 use Rattle.regalloc2_checker.specs.Facts.{Facts}
 use Rattle.regalloc2_checker.specs.Propagation.{mark_at, IsQueue, AreReached, IsUnderWay, IsKept}
-use Rattle.regalloc2_checker.specs.Tables.{BlockView, view_at, facts_at, views, IsSound}
+use Rattle.regalloc2_checker.specs.Tables.{BlockView, view_at, views, IsSound}
 use Rattle.regalloc2_checker.proofs.Updates.{reached-is, facts-is, facts-none, views-length}
 
 -- a list of which one item alone is set

@@ -1,7 +1,7 @@
 -- Steps of tables are steps of facts.
-use Rattle.std.proofs.Common.{ℕ, zero, suc, ◌≡◌, ◌≢◌, ◌+◌, ◌<◌, ◌≤◌, arith, Bool, true, false, cond, nat_eq}
+use Rattle.std.proofs.Common.{ℕ, zero, suc, ◌≡◌, ◌≢◌, ◌+◌, ◌<◌, arith, Bool, true, false, cond, nat_eq}
 use Rattle.std.proofs.Common.{nat_lt, eq-eqb, eqb-true, ne_eqb, List, [], ◌∷◌, length, get_or, refl, sym, ap, ◌∙◌, subst}
-use Rattle.std.specs.Prelude.{◌&&◌, not, All, Contains, Option, None, Some}
+use Rattle.std.specs.Prelude.{◌&&◌, not, Contains, Option, None, Some}
 use Rattle.std.specs.List.{position, position_or_len, prefix_len}
 use Rattle.std.proofs.lemmas.Bool.Decides.{nat_tests}
 use Rattle.regalloc2_names.specs.Register.{VirtualRegister, is_vreg}
@@ -14,7 +14,6 @@ use Rattle.regalloc2_checker.proofs.Positions.{at-position}
 use Rattle.regalloc2_checker.specs.Facts.{Facts, placed, defined, renaming}
 use Rattle.regalloc2_checker.specs.TableFacts.{is_packed, is_packed_vreg, place_in, vreg_in, held_at}
 use Rattle.regalloc2_checker.specs.TableFacts.{facts_in, facts_now, facts_table, IsMissingUnlisted, IsListed}
-use Rattle.regalloc2_checker.specs.TableFacts.{IsListedVReg}
 use Rattle.regalloc2_checker.specs.Renamed.{stands_in, given_to, facts_renamed, HoldersAre}
 use Rattle.regalloc2_names.specs.Same.{is_place-true, is_place-same, is_vreg-true, is_vreg-same}
 use Rattle.regalloc2_checker.proofs.Keys.{vreg_back, both_false}

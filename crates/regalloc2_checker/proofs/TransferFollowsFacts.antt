@@ -1,14 +1,14 @@
 -- A walk over instructions makes the facts of them.
-use Rattle.std.proofs.Common.{ℕ, suc, ◌≡◌, ◌+◌, ◌-◌, ◌<◌, ◌≤◌, List, length, get_or, map, refl, arith, sym, ap}
-use Rattle.std.proofs.Common.{◌∙◌, subst}
-use Rattle.std.specs.Prelude.{slice_index, All}
+use Rattle.std.proofs.Common.{ℕ, ◌≡◌, ◌+◌, ◌-◌, ◌<◌, ◌≤◌, List, length, get_or, map, refl, arith, sym, ap}
+use Rattle.std.proofs.Common.{◌∙◌}
+use Rattle.std.specs.Prelude.{slice_index}
 use Rattle.regalloc2_names.specs.declared.sets.PRegSet.{PRegSet}
 use Rattle.regalloc2_names.specs.Register.{VirtualRegister}
 use Rattle.regalloc2_names.specs.Operand.{OperandValue}
 use Rattle.regalloc2_names.specs.Place.{Place}
 use Rattle.regalloc2_function.specs.FunctionValue.{FunctionValue, block_at, inst_at}
 use Rattle.regalloc2_function.specs.OutputValue.{OutputValue, MoveValue, allocs_of}
-use Rattle.regalloc2_function.specs.Path.{Location, ToSuccessor, first_of}
+use Rattle.regalloc2_function.specs.Path.{Location}
 use Rattle.regalloc2_function.specs.SourceRun.{arguments_at}
 use Rattle.regalloc2_function.specs.AllocatedRun.{moves_at}
 use Rattle.regalloc2_function.specs.declared.listing.Edit.{Edit}
@@ -21,7 +21,7 @@ use Rattle.regalloc2_checker.specs.Fixpoint.{facts_within}
 use Rattle.regalloc2_checker.specs.Listing.{IsListing}
 use Rattle.regalloc2_checker.specs.Propagation.{over}
 use Rattle.regalloc2_checker.specs.Renamed.{facts_renamed}
-use Rattle.regalloc2_checker.specs.TableFacts.{AreNamed, IsListed, IsListedVReg, IsMissingUnlisted}
+use Rattle.regalloc2_checker.specs.TableFacts.{AreNamed}
 use Rattle.regalloc2_checker.proofs.Fixpoint.{within-suc}
 
 -- what is read at an instruction: the moves before it, its operands and their places

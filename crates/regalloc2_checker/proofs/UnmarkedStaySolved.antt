@@ -11,7 +11,7 @@ use Rattle.regalloc2_function.specs.OutputValue.{OutputValue}
 use Rattle.regalloc2_function.specs.WellFormed.{IsFramed}
 use Rattle.regalloc2_checker.specs.Facts.{Facts}
 use Rattle.regalloc2_checker.specs.Fixpoint.{facts_passed}
-use Rattle.regalloc2_checker.specs.Tables.{BlockView, view_at, facts_at, IsSound, BlockSolved, EdgeSolved, EdgesSolved, IsUpdated, IsMeet}
+use Rattle.regalloc2_checker.specs.Tables.{BlockView, view_at, facts_at, IsSound, BlockSolved, EdgeSolved, EdgesSolved, IsUpdated}
 use Rattle.regalloc2_checker.specs.Propagation.{mark_at, over, IsBlockEnd, IsPropagatedOver, IsKept, ArePropagated}
 use Rattle.regalloc2_checker.proofs.RoundInvariant.{over-same, sound-updated}
 use Rattle.regalloc2_checker.proofs.FactsFollowMaps.{AreEarlier}

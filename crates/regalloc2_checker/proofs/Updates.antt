@@ -2,7 +2,7 @@
 use Rattle.std.proofs.Common.{ℕ, zero, suc, ◌≡◌, ◌+◌, ◌<◌, ◌≤◌, arith, Bool, true, false, cond, nat_eq}
 use Rattle.std.proofs.Common.{eq-eqb, ne_eqb, List, [], ◌∷◌, length, get_or, set, refl, sym, ap, ◌∙◌, subst}
 use Rattle.std.proofs.Common.{inl, inr}
-use Rattle.std.specs.Prelude.{sum_by, ◌&&◌, Option, None, Some}
+use Rattle.std.specs.Prelude.{◌&&◌, Option, None, Some}
 use Rattle.std.specs.Bool.{OnTrue, OnFalse}
 use Rattle.std.proofs.lemmas.Bool.{cases_eq}
 use Rattle.std.proofs.lemmas.List.{length-set}
@@ -16,8 +16,8 @@ use Rattle.regalloc2_checker_tables.specs.Showing.{Showing, shows_in, shows_now}
 use Rattle.regalloc2_checker.proofs.Positions.{at-position}
 use Rattle.regalloc2_checker.specs.Facts.{Facts}
 use Rattle.regalloc2_checker.specs.TableFacts.{is_packed, is_packed_vreg, place_in, facts_in, facts_now, facts_table}
-use Rattle.regalloc2_checker.specs.Tables.{BlockView, view_of, views, views_from, no_view, view_at, facts_at, weight, left_in, pairs_held, all_pairs, bits_end}
-use Rattle.regalloc2_checker.specs.Tables.{IsMeet, AreAlike}
+use Rattle.regalloc2_checker.specs.Tables.{BlockView, view_of, views, views_from, no_view, view_at, facts_at, weight, left_in, pairs_held, all_pairs}
+use Rattle.regalloc2_checker.specs.Tables.{IsMeet}
 use Rattle.regalloc2_checker.proofs.PairsDecrease.{fewer-held, at_most_all, as-many-held, bits_end_is}
 use Rattle.regalloc2_checker.proofs.TableSteps.{facts-at, unlisted-holds, facts_in-same}
 

@@ -1,5 +1,5 @@
 -- Bits that are listed.
-use Rattle.std.specs.Prelude.{ℕ, ◌≡◌, List, ◌++◌, Contains}
+use Rattle.std.specs.Prelude.{ℕ, ◌↔◌, ◌⊎◌, List, Contains}
 use Rattle.std.specs.List.{flat_map}
 use Rattle.regalloc2_names.specs.Place.{Place}
 use Rattle.regalloc2_function.specs.declared.listing.Edit.{Edit}
@@ -10,9 +10,9 @@ use Rattle.regalloc2_checker.specs.NamedPlaces.{bits_unless_missing, places_of}
 abbrev pub IsMore : List ℕ → List ℕ → Type 0
 IsMore old new = (n : ℕ) → Contains old n → Contains new n
 
--- the bits of places are added at the end, in order, but for missing ones
+-- the bits of places are listed beside what was listed, but for missing ones
 abbrev pub ArePlacesAdded : List ℕ → List ℕ → List Place → Type 0
-ArePlacesAdded old new ps = new ≡ old ++ flat_map bits_unless_missing ps
+ArePlacesAdded old new ps = (n : ℕ) → Contains new n ↔ (Contains old n ⊎ Contains (flat_map bits_unless_missing ps) n)
 
 -- the two places of an edit that stands at a point
 abbrev pub places_of_edit : (ℕ × Edit) → List Place

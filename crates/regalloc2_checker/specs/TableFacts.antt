@@ -1,10 +1,9 @@
 -- Facts that tables keep: places and virtual registers are looked up by their bits.
-use Rattle.std.specs.Prelude.{ℕ, ◌≡◌, ◌≢◌, ◌<◌, ◌↔◌, Bool, true, false, ◌&&◌, nat_eq, nat_lt, List, All, Contains, Option, None, Some, length}
+use Rattle.std.specs.Prelude.{ℕ, ◌≢◌, ◌<◌, ◌↔◌, Bool, false, ◌&&◌, nat_eq, nat_lt, List, All, Contains, Option, None, Some, length}
 use Rattle.std.specs.List.{position, flat_map}
 use Rattle.std.specs.List.Sorted.{IsStrictlyIncreasing}
 use Rattle.regalloc2_names.specs.Register.{VirtualRegister}
 use Rattle.regalloc2_names.specs.RegisterBits.{bits_of_vreg}
-use Rattle.regalloc2_names.specs.Operand.{OperandValue}
 use Rattle.regalloc2_names.specs.Place.{Place, NoPlace, is_place}
 use Rattle.regalloc2_names.specs.PlaceBits.{bits_of_place, place_of_bits}
 use Rattle.regalloc2_function.specs.FunctionValue.{FunctionValue, block_at, inst_at}

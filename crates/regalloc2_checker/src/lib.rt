@@ -11,6 +11,7 @@ mod handle;
 mod laws;
 mod listing;
 mod names;
+mod number_list;
 mod order;
 mod queue;
 mod transfer;

@@ -12,6 +12,7 @@ ghost use Rattle.regalloc2_function.specs.WellFormed.{IsFramed};
 ghost use Rattle.regalloc2_checker.specs.NamedBits.{IsMore, ArePlacesAdded, places_of_edit};
 ghost use Rattle.regalloc2_checker.specs.TableFacts.{IsListedVReg, AreNamedPlaces, AreNamedVRegs};
 
+use crate::number_list::NumberList;
 use regalloc2_checker_tables::Positions;
 use regalloc2_function::{Edit, Function, Output};
 use regalloc2_index::{Block, Inst};
@@ -19,22 +20,22 @@ use regalloc2_names::{Allocation, Operand, PRegSet, ProgPoint, VReg};
 use std::alloc::{AllocError, Allocator};
 
 /// Lists a place, unless it is missing.
-fn list_place<A: Allocator>(bits: &mut Vec<u32, A>, place: Allocation) -> Result<(), AllocError>
-    ensures { OnOk result (ArePlacesAdded bits.old.items bits.new.items (place ∷ [])) }
+fn list_place<A: Allocator>(bits: &mut NumberList<A>, place: Allocation) -> Result<(), AllocError>
+    ensures { OnOk result (ArePlacesAdded bits.old bits.new (place ∷ [])) }
 {
     if place.is_none() {
         return Ok(());
     }
-    bits.push(place.bits())?;
+    bits.list(place.bits())?;
     Ok(())
 }
 
 /// Lists both places of each move.
 fn list_moves<A: Allocator>(
-    bits: &mut Vec<u32, A>,
+    bits: &mut NumberList<A>,
     moves: &[(ProgPoint, Edit)],
 ) -> Result<(), AllocError>
-    ensures { OnOk result (ArePlacesAdded bits.old.items bits.new.items (flat_map places_of_edit moves.now)) }
+    ensures { OnOk result (ArePlacesAdded bits.old bits.new (flat_map places_of_edit moves.now)) }
 {
     for k in 0..moves.len() {
         let (from, to) = moves[k].1.places();
@@ -46,10 +47,10 @@ fn list_moves<A: Allocator>(
 
 /// Lists places.
 fn list_places<A: Allocator>(
-    bits: &mut Vec<u32, A>,
+    bits: &mut NumberList<A>,
     places: &[Allocation],
 ) -> Result<(), AllocError>
-    ensures { OnOk result (ArePlacesAdded bits.old.items bits.new.items places.now) }
+    ensures { OnOk result (ArePlacesAdded bits.old bits.new places.now) }
 {
     for k in 0..places.len() {
         list_place(bits, places[k])?;
@@ -58,8 +59,8 @@ fn list_places<A: Allocator>(
 }
 
 /// Lists registers.
-fn list_regs<A: Allocator>(bits: &mut Vec<u32, A>, regs: PRegSet) -> Result<(), AllocError>
-    ensures { OnOk result (ArePlacesAdded bits.old.items bits.new.items (map InRegister (registers_of regs))) }
+fn list_regs<A: Allocator>(bits: &mut NumberList<A>, regs: PRegSet) -> Result<(), AllocError>
+    ensures { OnOk result (ArePlacesAdded bits.old bits.new (map InRegister (registers_of regs))) }
 {
     for reg in regs {
         list_place(bits, Allocation::reg(reg))?;
@@ -87,29 +88,29 @@ pub fn named_places<F: Function, A: Allocator + Copy, B: Allocator>(
 ) -> Result<Positions<A>, AllocError>
     ensures { IfOk result (λ r. AreNamedPlaces (F.function f.now) (output_of out.now) r) }
 {
-    let mut bits = Vec::new(alloc);
+    let mut bits = NumberList::new(alloc, out.edits.len().saturating_add(out.allocs.len()))?;
     list_moves(&mut bits, &out.edits)?;
     list_places(&mut bits, &out.allocs)?;
     list_regs(&mut bits, all_clobbers(f))?;
-    Ok(Positions::of(bits))
+    Ok(Positions::of(bits.into_numbers()))
 }
 
 /// Lists a virtual register.
-fn list_vreg<A: Allocator>(bits: &mut Vec<u32, A>, vreg: VReg) -> Result<(), AllocError>
-    ensures more { OnOk result (IsMore bits.old.items bits.new.items) }
-    ensures listed { OnOk result (IsListedVReg bits.new.items vreg) }
+fn list_vreg<A: Allocator>(bits: &mut NumberList<A>, vreg: VReg) -> Result<(), AllocError>
+    ensures more { OnOk result (IsMore bits.old bits.new) }
+    ensures listed { OnOk result (IsListedVReg bits.new vreg) }
 {
-    bits.push(vreg.bits() as u32)?;
+    bits.list(vreg.bits() as u32)?;
     Ok(())
 }
 
 /// Lists the virtual registers of operands.
 fn list_operands<A: Allocator>(
-    bits: &mut Vec<u32, A>,
+    bits: &mut NumberList<A>,
     operands: &[Operand],
 ) -> Result<(), AllocError>
-    ensures more { OnOk result (IsMore bits.old.items bits.new.items) }
-    ensures listed { OnOk result (All (λ op. IsListedVReg bits.new.items op.vreg) operands.now) }
+    ensures more { OnOk result (IsMore bits.old bits.new) }
+    ensures listed { OnOk result (All (λ op. IsListedVReg bits.new op.vreg) operands.now) }
 {
     for k in 0..operands.len() {
         list_vreg(bits, operands[k].vreg())?;
@@ -118,9 +119,9 @@ fn list_operands<A: Allocator>(
 }
 
 /// Lists virtual registers.
-fn list_vregs<A: Allocator>(bits: &mut Vec<u32, A>, vregs: &[VReg]) -> Result<(), AllocError>
-    ensures more { OnOk result (IsMore bits.old.items bits.new.items) }
-    ensures listed { OnOk result (All (IsListedVReg bits.new.items) vregs.now) }
+fn list_vregs<A: Allocator>(bits: &mut NumberList<A>, vregs: &[VReg]) -> Result<(), AllocError>
+    ensures more { OnOk result (IsMore bits.old bits.new) }
+    ensures listed { OnOk result (All (IsListedVReg bits.new) vregs.now) }
 {
     for k in 0..vregs.len() {
         list_vreg(bits, vregs[k])?;
@@ -130,12 +131,12 @@ fn list_vregs<A: Allocator>(bits: &mut Vec<u32, A>, vregs: &[VReg]) -> Result<()
 
 /// Lists the virtual registers of all operands.
 fn list_inst_vregs<F: Function, A: Allocator>(
-    bits: &mut Vec<u32, A>,
+    bits: &mut NumberList<A>,
     f: &F,
 ) -> Result<(), AllocError>
-    ensures more { OnOk result (IsMore bits.old.items bits.new.items) }
+    ensures more { OnOk result (IsMore bits.old bits.new) }
     ensures listed { OnOk result ((i : ℕ) → i < length (F.function f.now).insts
-        → All (λ op. IsListedVReg bits.new.items op.vreg) (inst_at (F.function f.now) i).operands) }
+        → All (λ op. IsListedVReg bits.new op.vreg) (inst_at (F.function f.now) i).operands) }
 {
     for i in 0..f.num_insts() {
         list_operands(bits, f.inst_operands(Inst::new(i)))?;
@@ -145,15 +146,15 @@ fn list_inst_vregs<F: Function, A: Allocator>(
 
 /// Lists what a block passes over its edges.
 fn list_arguments<F: Function, A: Allocator>(
-    bits: &mut Vec<u32, A>,
+    bits: &mut NumberList<A>,
     f: &F,
     block: Block,
 ) -> Result<(), AllocError>
     requires framed { IsFramed (F.function f.now) }
     requires block { block < length (F.function f.now).blocks }
-    ensures more { OnOk result (IsMore bits.old.items bits.new.items) }
+    ensures more { OnOk result (IsMore bits.old bits.new) }
     ensures listed { OnOk result ((k : ℕ) → k < length (block_at (F.function f.now) block).succs
-        → All (IsListedVReg bits.new.items) (arguments_at (F.function f.now) block k)) }
+        → All (IsListedVReg bits.new) (arguments_at (F.function f.now) block k)) }
 {
     let last = f.block_insns(block).last();
     for k in 0..f.block_succs(block).len() {
@@ -164,16 +165,16 @@ fn list_arguments<F: Function, A: Allocator>(
 
 /// Lists a block's parameters, and what it passes over its edges.
 fn list_block_vregs<F: Function, A: Allocator>(
-    bits: &mut Vec<u32, A>,
+    bits: &mut NumberList<A>,
     f: &F,
     block: Block,
 ) -> Result<(), AllocError>
     requires framed { IsFramed (F.function f.now) }
     requires block { block < length (F.function f.now).blocks }
-    ensures more { OnOk result (IsMore bits.old.items bits.new.items) }
-    ensures params { OnOk result (All (IsListedVReg bits.new.items) (block_at (F.function f.now) block).params) }
+    ensures more { OnOk result (IsMore bits.old bits.new) }
+    ensures params { OnOk result (All (IsListedVReg bits.new) (block_at (F.function f.now) block).params) }
     ensures arguments { OnOk result ((k : ℕ) → k < length (block_at (F.function f.now) block).succs
-        → All (IsListedVReg bits.new.items) (arguments_at (F.function f.now) block k)) }
+        → All (IsListedVReg bits.new) (arguments_at (F.function f.now) block k)) }
 {
     list_vregs(bits, f.block_params(block))?;
     list_arguments(bits, f, block)?;
@@ -182,15 +183,15 @@ fn list_block_vregs<F: Function, A: Allocator>(
 
 /// Lists the parameters of all blocks, and what they pass over their edges.
 fn list_all_blocks<F: Function, A: Allocator>(
-    bits: &mut Vec<u32, A>,
+    bits: &mut NumberList<A>,
     f: &F,
 ) -> Result<(), AllocError>
     requires { IsFramed (F.function f.now) }
-    ensures more { OnOk result (IsMore bits.old.items bits.new.items) }
+    ensures more { OnOk result (IsMore bits.old bits.new) }
     ensures params { OnOk result ((b : ℕ) → b < length (F.function f.now).blocks
-        → All (IsListedVReg bits.new.items) (block_at (F.function f.now) b).params) }
+        → All (IsListedVReg bits.new) (block_at (F.function f.now) b).params) }
     ensures arguments { OnOk result ((b k : ℕ) → b < length (F.function f.now).blocks → k < length (block_at (F.function f.now) b).succs
-        → All (IsListedVReg bits.new.items) (arguments_at (F.function f.now) b k)) }
+        → All (IsListedVReg bits.new) (arguments_at (F.function f.now) b k)) }
 {
     for b in 0..f.num_blocks() {
         list_block_vregs(bits, f, Block::new(b))?;
@@ -206,8 +207,10 @@ pub fn named_vregs<F: Function, A: Allocator + Copy>(
     requires { IsFramed (F.function f.now) }
     ensures { IfOk result (λ r. AreNamedVRegs (F.function f.now) r) }
 {
-    let mut bits = Vec::new(alloc);
+    // Instructions may name few of a function's virtual registers.
+    let expected = f.num_vregs().min(f.num_insts().saturating_mul(4));
+    let mut bits = NumberList::new(alloc, expected)?;
     list_inst_vregs(&mut bits, f)?;
     list_all_blocks(&mut bits, f)?;
-    Ok(Positions::of(bits))
+    Ok(Positions::of(bits.into_numbers()))
 }

@@ -1,6 +1,6 @@
 //! One instruction, as the function's run and the allocated run make it.
 
-ghost use Rattle.std.specs.Prelude.{◌≡◌, ◌<◌, ◌∷◌, [], ℕ, OnOk, IfOk, All, true, false, map, not, nat_lt, ◌&&◌, if◌then◌else◌, length};
+ghost use Rattle.std.specs.Prelude.{◌≡◌, ◌<◌, ◌↔◌, ◌∷◌, [], ℕ, OnOk, IfOk, All, true, false, map, not, nat_lt, ◌&&◌, if◌then◌else◌, length};
 ghost use Rattle.regalloc2_names.specs.Operand.{is_def, is_late};
 ghost use Rattle.regalloc2_names.specs.RegisterBits.{bits_of_vreg};
 ghost use Rattle.regalloc2_function.specs.OutputValue.{place_at};
@@ -330,8 +330,7 @@ fn pass_param<A: Allocator + Copy>(
 
 /// Whether a block is entered over one edge, which passes one argument to one parameter.
 fn passes_one(is_entered_once: bool, params: &[VReg], arguments: &[VReg]) -> bool
-    ensures params { result ≡ true → length params.now ≡ 1 }
-    ensures arguments { result ≡ true → length arguments.now ≡ 1 }
+    ensures { (result ≡ true) ↔ ((is_entered_once ≡ true) × (length params.now ≡ 1) × (length arguments.now ≡ 1)) }
 {
     if !is_entered_once {
         return false;

@@ -6,7 +6,8 @@ use Rattle.std.specs.List.{between}
 use Rattle.std.specs.Cmp.Lexicographic.{pointwise}
 use Rattle.std.proofs.lemmas.Bool.Decides.{Decides-eqb}
 use Rattle.std.proofs.lemmas.Slice.Eq.{slice_eq-Decides}
-use Rattle.std.proofs.lemmas.List.Edits.{get_or-between}
+use Rattle.std.proofs.lemmas.List.{ext_get_or}
+use Rattle.std.proofs.lemmas.List.Edits.{get_or-between, length-between}
 use Rattle.regalloc2_checker_tables.specs.SavedCopies.{Copies, saved_at, cell_at, IsChunkAt}
 use Rattle.regalloc2_checker_tables.specs.SavedNumbers.{AreChunksKept}
 
@@ -25,6 +26,16 @@ chunks-new words cells bases long wz cz same bz sz = record {
 pub parts-same : (xs ys : List ℕ) (a b n t : ℕ) → between a (a + n) xs ≡ between b (b + n) ys → t < n → get_or xs (a + t) 0 ≡ get_or ys (b + t) 0
 parts-same xs ys a b n t e l =
     sym (get_or-between xs a (a + n) t 0 (omega (arith, l))) ∙ ap (λ (zs : List ℕ). get_or zs t 0) e ∙ get_or-between ys b (b + n) t 0 (omega (arith, l))
+
+-- and parts with the same numbers are equal
+pub parts-alike : (xs ys : List ℕ) (a b n : ℕ) → a + n ≤ length xs → b + n ≤ length ys → ((t : ℕ) → t < n → get_or xs (a + t) 0 ≡ get_or ys (b + t) 0) →
+    between a (a + n) xs ≡ between b (b + n) ys
+parts-alike xs ys a b n la lb same =
+    let long : length (between a (a + n) xs) ≡ a + n - a = length-between xs a (a + n) la in
+    let other : length (between b (b + n) ys) ≡ b + n - b = length-between ys b (b + n) lb in
+    ext_get_or 0 (between a (a + n) xs) (between b (b + n) ys) (omega (arith, long, other))
+    (λ t l. get_or-between xs a (a + n) t 0 (omega (arith, l, long)) ∙ same t (omega (arith, l, long))
+    ∙ sym (get_or-between ys b (b + n) t 0 (omega (arith, l, long))))
 
 -- and so from some number on
 pub parts-later : (xs ys : List ℕ) (a b n m t : ℕ) → between (a + m) (a + m + n) xs ≡ between (b + m) (b + m + n) ys → m ≤ t → t < m + n →

@@ -59,7 +59,7 @@ pub fn copy_chunk(words: &[u32], base: usize, cells: &mut [u32], first: usize)
 pub fn is_same_chunk(words: &[u32], base: usize, cells: &[u32], first: usize) -> bool
     requires words { base + 64 ≤ length words.now }
     requires cells { first + 64 ≤ length cells.now }
-    ensures { result ≡ true → (t : ℕ) → t < 64 → get_or cells.now (first + t) 0 ≡ get_or words.now (base + t) 0 }
+    ensures { (result ≡ true) ↔ ((t : ℕ) → t < 64 → get_or cells.now (first + t) 0 ≡ get_or words.now (base + t) 0) }
 {
     &cells[first..first + 64] == &words[base..base + 64]
 }

@@ -1,10 +1,10 @@
-use Rattle.std.proofs.Common.{◌≡◌, ◌<◌, ◌+◌, ℕ, List, Bool, length, ◌∙◌, ap, sym, subst, refl, arith, rules, false}
+use Rattle.std.proofs.Common.{◌<◌, List, Bool, length, ◌∙◌, ap, sym, subst, refl, arith, rules, false}
 use Rattle.std.proofs.lemmas.List.{length-set}
 use Rattle.std.specs.BinaryHeap.{heap_items}
 use Rattle.regalloc2_function.specs.FunctionValue.{FunctionValue}
 use Rattle.regalloc2_checker.specs.Propagation.{IsReady}
 use Rattle.regalloc2_checker.specs.Tables.{BlockView, views}
-use Rattle.regalloc2_checker.proofs.Queues.{alike-same, alike-twice, all-settled, ready-popped}
+use Rattle.regalloc2_checker.proofs.Queues.{alike-same, all-settled, ready-popped}
 use Rattle.regalloc2_checker.proofs.RoundInvariant.{solved}
 use Rattle.regalloc2_checker.proofs.TransferFollowsFacts.{named_same}
 use Rattle.regalloc2_checker.proofs.analyze.analyze.Goals as goal

@@ -1,11 +1,11 @@
-use Rattle.std.proofs.Common.{◌≡◌, ◌<◌, ◌+◌, ℕ, List, Bool, length, ◌∙◌, ap, sym, subst, refl, arith}
+use Rattle.std.proofs.Common.{◌≡◌, ◌<◌, ℕ, List, Bool, length, ◌∙◌, ap, sym, subst, arith}
 use Rattle.std.specs.Prelude.{sum_by}
 use Rattle.std.specs.BinaryHeap.{heap_items}
 use Rattle.regalloc2_function.specs.FunctionValue.{FunctionValue, block_at}
 use Rattle.regalloc2_function.specs.OutputValue.{OutputValue}
 use Rattle.regalloc2_checker_tables.specs.Showing.{Showing, shows_in, shows_now}
 use Rattle.regalloc2_checker.specs.Facts.{Facts}
-use Rattle.regalloc2_checker.specs.Propagation.{IsBlockEnd, IsPropagatedOver, AreReached}
+use Rattle.regalloc2_checker.specs.Propagation.{IsPropagatedOver, AreReached}
 use Rattle.regalloc2_checker.specs.TableFacts.{facts_now, facts_table}
 use Rattle.regalloc2_checker.specs.Tables.{BlockView, views, weight}
 use Rattle.regalloc2_checker.proofs.FactsFollowMaps.{AreEarlier}

@@ -1,4 +1,4 @@
-use Rattle.std.proofs.Common.{◌≡◌, ◌≢◌, ◌<◌, ◌+◌, ℕ, List, Bool, length, slice_index, ◌∙◌, ap, sym, subst, refl, arith, true, false, cond, set}
+use Rattle.std.proofs.Common.{◌≡◌, ◌<◌, List, Bool, length, slice_index, ◌∙◌, ap, sym, subst, refl, arith, true, false}
 use Rattle.std.proofs.lemmas.List.{length-set}
 use Rattle.std.specs.BinaryHeap.{heap_items, heap_len}
 use Rattle.regalloc2_function.specs.FunctionValue.{FunctionValue, block_at}

@@ -1,4 +1,4 @@
-use Rattle.std.proofs.Common.{◌≡◌, ◌<◌, ℕ, List, Bool, true, length, get_or, set, nat_eq, ◌∙◌, ap, sym, subst, refl, arith}
+use Rattle.std.proofs.Common.{◌≡◌, ◌<◌, ℕ, List, Bool, true, length, get_or, nat_eq, ◌∙◌, ap, sym, subst, refl, arith}
 use Rattle.std.proofs.lemmas.List.{length-set}
 use Rattle.std.specs.BinaryHeap.{heap_items}
 use Rattle.regalloc2_function.specs.FunctionValue.{FunctionValue}

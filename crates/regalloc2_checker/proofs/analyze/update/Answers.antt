@@ -1,4 +1,4 @@
-use Rattle.std.proofs.Common.{◌≡◌, ℕ, ◌∙◌, sym, true, false, refl}
+use Rattle.std.proofs.Common.{◌∙◌, sym, refl}
 use Rattle.std.specs.Prelude.{◌&&◌}
 use Rattle.regalloc2_checker_tables.specs.Showing.{shows_in, shows_now}
 use Rattle.regalloc2_checker.proofs.Updates.{update-first, update-less, others-kept, meet-as}

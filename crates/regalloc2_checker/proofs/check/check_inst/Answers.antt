@@ -1,4 +1,4 @@
-use Rattle.std.proofs.Common.{◌≡◌, map, sym, subst, List, ℕ, refl, ◌∙◌}
+use Rattle.std.proofs.Common.{◌≡◌, map, sym, subst, List, ℕ, refl}
 use Rattle.std.specs.Prelude.{All}
 use Rattle.std.specs.Option.{option_to_list}
 use Rattle.regalloc2_names.specs.Operand.{OperandValue}

@@ -1,8 +1,5 @@
-use Rattle.std.proofs.Common.{ℕ, ◌≡◌, ◌<◌, ◌+◌, true, false, length, get_or, subst, sym, ap, ◌∙◌, List, arith, rules}
-use Rattle.std.specs.declared.vec.Vec.{Vec}
+use Rattle.std.proofs.Common.{ℕ, ◌≡◌, ◌<◌, true, false, length, subst, sym, ap, ◌∙◌, arith, rules}
 use Rattle.regalloc2_function.specs.FunctionValue.{FunctionValue}
-use Rattle.regalloc2_function.specs.OutputValue.{OutputValue}
-use Rattle.regalloc2_checker.specs.declared.errors.CheckerError.{CheckerError}
 use Rattle.regalloc2_checker.specs.Report.{BlockReports}
 use Rattle.regalloc2_checker.specs.TableFacts.{facts_table}
 use Rattle.regalloc2_checker.specs.Tables.{views}

@@ -1,8 +1,7 @@
-use Rattle.std.proofs.Common.{ℕ, ◌≡◌, ◌<◌, ◌≤◌, length, ◌∙◌, ap, arith, rules, subst, sym}
+use Rattle.std.proofs.Common.{◌≡◌, ◌<◌, ◌≤◌, length, ◌∙◌, ap, arith, rules}
 use Rattle.regalloc2_index.specs.Range.{Span}
 use Rattle.regalloc2_function.specs.FunctionValue.{FunctionValue, block_at}
-use Rattle.regalloc2_checker_tables.specs.Showing.{AreTablesKept, shows_in}
-use Rattle.regalloc2_checker.specs.Facts.{Facts}
+use Rattle.regalloc2_checker_tables.specs.Showing.{shows_in}
 use Rattle.regalloc2_checker.specs.TableFacts.{facts_now, facts_table}
 use Rattle.regalloc2_checker.proofs.Blocks.{judged_first, judged_next, judged_end}
 use Rattle.regalloc2_checker.proofs.BlocksInRange.{insts_within, nonempty}

@@ -1,7 +1,7 @@
-use Rattle.std.proofs.Common.{◌≡◌, ◌∙◌, ◌+◌, ℕ, List, length, rules, sym, subst, arith}
+use Rattle.std.proofs.Common.{◌∙◌, rules, arith}
 use Rattle.regalloc2_function.specs.FunctionValue.{FunctionValue}
 use Rattle.regalloc2_function.specs.Views.{machine_of}
-use Rattle.regalloc2_checker.specs.TableFacts.{AreNamed, AreNamedPlaces, AreNamedVRegs}
+use Rattle.regalloc2_checker.specs.TableFacts.{AreNamed}
 use Rattle.regalloc2_checker.proofs.TransferFollowsFacts.{named_same}
 use Rattle.regalloc2_checker.proofs.find_errors.find_errors.Goals as goal
 

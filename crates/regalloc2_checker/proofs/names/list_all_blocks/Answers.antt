@@ -1,4 +1,4 @@
-use Rattle.std.proofs.Common.{ℕ, ◌≡◌, ◌<◌, List, length, arith, subst}
+use Rattle.std.proofs.Common.{ℕ, ◌<◌, List, length, arith, subst}
 use Rattle.std.specs.Prelude.{All}
 use Rattle.regalloc2_function.specs.FunctionValue.{FunctionValue, block_at}
 use Rattle.regalloc2_function.specs.SourceRun.{arguments_at}
@@ -9,7 +9,7 @@ use Rattle.regalloc2_checker.proofs.names.list_all_blocks.Goals as goal
 pub loop-b-init : goal.loop-b-init
 loop-b-init g c = record {
   end = c.num_blocks-b-end.ensures.count;
-  more = more-same c.args.bits.now.items;
+  more = more-same c.args.bits.now;
   params = λ b less. absurd (omega (arith, less));
   arguments = λ b less. absurd (omega (arith, less));
 }
@@ -20,11 +20,11 @@ list_block_vregs-requires-clause-block g c = omega (arith, c.new.ensures, c.loop
 pub loop-b-preserved : goal.loop-b-preserved
 loop-b-preserved g c =
     let f : FunctionValue = g.F.Function.function c.args.f.now in
-    let old : List ℕ = c.loop-b.bits.items in
-    let new : List ℕ = c.list_block_vregs.new.bits.items in
+    let old : List ℕ = c.loop-b.bits in
+    let new : List ℕ = c.list_block_vregs.new.bits in
     record {
       end = c.loop-b.invariant.end;
-      more = more-twice c.args.bits.now.items old new c.loop-b.invariant.more c.in_ok-list_block_vregs.ensures.more;
+      more = more-twice c.args.bits.now old new c.loop-b.invariant.more c.in_ok-list_block_vregs.ensures.more;
       params = up_to (λ b. All (IsListedVReg old) (block_at f b).params) (λ b. All (IsListedVReg new) (block_at f b).params) c.loop-b.b
           (λ b h. all-vregs-more old new _ c.in_ok-list_block_vregs.ensures.more h) c.loop-b.invariant.params
           (subst (λ n. All (IsListedVReg new) (block_at f n).params) c.new.ensures c.in_ok-list_block_vregs.ensures.params);

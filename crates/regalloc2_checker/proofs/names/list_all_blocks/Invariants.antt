@@ -10,8 +10,8 @@ use Rattle.regalloc2_checker.proofs.names.list_all_blocks.Given as goal
 abbrev pub invariant-loop-b : goal.invariant-loop-b
 invariant-loop-b g l = record {
   end : l.b-end ≡ length (g.F.Function.function l.f).blocks;
-  more : IsMore l.initial.bits.items l.bits.items;
-  params : (b : ℕ) → b < l.b → All (IsListedVReg l.bits.items) (block_at (g.F.Function.function l.f) b).params;
+  more : IsMore l.initial.bits l.bits;
+  params : (b : ℕ) → b < l.b → All (IsListedVReg l.bits) (block_at (g.F.Function.function l.f) b).params;
   arguments : (b : ℕ) → b < l.b → (k : ℕ) → k < length (block_at (g.F.Function.function l.f) b).succs →
-      All (IsListedVReg l.bits.items) (arguments_at (g.F.Function.function l.f) b k);
+      All (IsListedVReg l.bits) (arguments_at (g.F.Function.function l.f) b k);
 }

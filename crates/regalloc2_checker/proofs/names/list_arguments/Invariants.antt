@@ -10,6 +10,6 @@ use Rattle.regalloc2_checker.proofs.names.list_arguments.Given as goal
 abbrev pub invariant-loop-k : goal.invariant-loop-k
 invariant-loop-k g l = record {
   end : l.k-end ≡ length (block_at (g.F.Function.function l.f) l.block).succs;
-  more : IsMore l.initial.bits.items l.bits.items;
-  listed : (j : ℕ) → j < l.k → All (IsListedVReg l.bits.items) (arguments_at (g.F.Function.function l.f) l.block j);
+  more : IsMore l.initial.bits l.bits;
+  listed : (j : ℕ) → j < l.k → All (IsListedVReg l.bits) (arguments_at (g.F.Function.function l.f) l.block j);
 }

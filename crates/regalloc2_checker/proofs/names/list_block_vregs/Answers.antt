@@ -1,4 +1,4 @@
-use Rattle.std.proofs.Common.{List, ℕ, subst}
+use Rattle.std.proofs.Common.{List, subst}
 use Rattle.std.specs.Prelude.{All}
 use Rattle.regalloc2_names.specs.Register.{VirtualRegister}
 use Rattle.regalloc2_checker.specs.TableFacts.{IsListedVReg}
@@ -7,9 +7,9 @@ use Rattle.regalloc2_checker.proofs.names.list_block_vregs.Goals as goal
 
 pub returns : goal.returns
 returns g c = record {
-  more = more-twice c.args.bits.now.items c.list_vregs.new.bits.items c.list_arguments.new.bits.items c.in_ok-list_vregs.ensures.more
+  more = more-twice c.args.bits.now c.list_vregs.new.bits c.list_arguments.new.bits c.in_ok-list_vregs.ensures.more
       c.in_ok-list_arguments.ensures.more;
-  params = all-vregs-more c.list_vregs.new.bits.items c.list_arguments.new.bits.items _ c.in_ok-list_arguments.ensures.more
-      (subst (λ (vs : List VirtualRegister). All (IsListedVReg c.list_vregs.new.bits.items) vs) c.block_params.ensures c.in_ok-list_vregs.ensures.listed);
+  params = all-vregs-more c.list_vregs.new.bits c.list_arguments.new.bits _ c.in_ok-list_arguments.ensures.more
+      (subst (λ (vs : List VirtualRegister). All (IsListedVReg c.list_vregs.new.bits) vs) c.block_params.ensures c.in_ok-list_vregs.ensures.listed);
   arguments = c.in_ok-list_arguments.ensures.listed;
 }

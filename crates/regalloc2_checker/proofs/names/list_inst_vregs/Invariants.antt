@@ -9,6 +9,6 @@ use Rattle.regalloc2_checker.proofs.names.list_inst_vregs.Given as goal
 abbrev pub invariant-loop-i : goal.invariant-loop-i
 invariant-loop-i g l = record {
   end : l.i-end ≡ length (g.F.Function.function l.f).insts;
-  more : IsMore l.initial.bits.items l.bits.items;
-  listed : (i : ℕ) → i < l.i → All (λ op. IsListedVReg l.bits.items op.vreg) (inst_at (g.F.Function.function l.f) i).operands;
+  more : IsMore l.initial.bits l.bits;
+  listed : (i : ℕ) → i < l.i → All (λ op. IsListedVReg l.bits op.vreg) (inst_at (g.F.Function.function l.f) i).operands;
 }

@@ -7,19 +7,19 @@ use Rattle.regalloc2_checker.proofs.NamedPlaces.{added-none, edit-more, edits-al
 use Rattle.regalloc2_checker.proofs.names.list_moves.Goals as goal
 
 pub loop-k-init : goal.loop-k-init
-loop-k-init g c = added-none c.args.bits.now.items
+loop-k-init g c = added-none c.args.bits.now
 
 pub loop-k-preserved : goal.loop-k-preserved
 loop-k-preserved g c =
-    let old : List ℕ = c.loop-k.bits.items in
-    let mid : List ℕ = c.list_place.new.bits.items in
-    let new : List ℕ = c.list_place-in-loop-k.new.bits.items in
+    let old : List ℕ = c.loop-k.bits in
+    let mid : List ℕ = c.list_place.new.bits in
+    let new : List ℕ = c.list_place-in-loop-k.new.bits in
     let from = subst (λ (p : Place). ArePlacesAdded old mid (p ∷ [])) c.places-from.ensures.from c.in_ok-list_place.ensures in
     let to = subst (λ (p : Place). ArePlacesAdded mid new (p ∷ [])) c.places-from.ensures.to c.in_ok-list_place-2.ensures in
-    edit-more c.args.bits.now.items old mid new c.args.moves.now c.loop-k.k c.index-moves-k.result (omega (arith, c.loop-k-test.true))
+    edit-more c.args.bits.now old mid new c.args.moves.now c.loop-k.k c.index-moves-k.result (omega (arith, c.loop-k-test.true))
     c.index-moves-k.is c.loop-k.invariant
     (subst (λ (e : ℕ × Edit). ArePlacesAdded old mid ((move_of e.1).from ∷ [])) (sym c.index-moves-k.is) from)
     (subst (λ (e : ℕ × Edit). ArePlacesAdded mid new ((move_of e.1).to ∷ [])) (sym c.index-moves-k.is) to)
 
 pub returns : goal.returns
-returns g c = edits-all c.args.bits.now.items c.loop-k.bits.items c.args.moves.now c.loop-k.k (omega (arith, c.loop-k-test.false)) c.loop-k.invariant
+returns g c = edits-all c.args.bits.now c.loop-k.bits c.args.moves.now c.loop-k.k (omega (arith, c.loop-k-test.false)) c.loop-k.invariant

@@ -5,4 +5,4 @@ use Rattle.regalloc2_checker.proofs.names.list_moves.Given as goal
 
 -- the places of so many are listed
 abbrev pub invariant-loop-k : goal.invariant-loop-k
-invariant-loop-k g l = ArePlacesAdded l.initial.bits.items l.bits.items (flat_map places_of_edit (take l.k l.moves))
+invariant-loop-k g l = ArePlacesAdded l.initial.bits l.bits (flat_map places_of_edit (take l.k l.moves))

@@ -7,6 +7,6 @@ use Rattle.regalloc2_checker.proofs.names.list_operands.Given as goal
 -- so many are listed
 abbrev pub invariant-loop-k : goal.invariant-loop-k
 invariant-loop-k g l = record {
-  more : IsMore l.initial.bits.items l.bits.items;
-  listed : (j : ℕ) (d : OperandValue) → j < l.k → IsListedVReg l.bits.items (get_or l.operands j d).vreg;
+  more : IsMore l.initial.bits l.bits;
+  listed : (j : ℕ) (d : OperandValue) → j < l.k → IsListedVReg l.bits (get_or l.operands j d).vreg;
 }

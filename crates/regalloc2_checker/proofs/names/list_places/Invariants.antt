@@ -4,4 +4,4 @@ use Rattle.regalloc2_checker.proofs.names.list_places.Given as goal
 
 -- so many are listed
 abbrev pub invariant-loop-k : goal.invariant-loop-k
-invariant-loop-k g l = ArePlacesAdded l.initial.bits.items l.bits.items (take l.k l.places)
+invariant-loop-k g l = ArePlacesAdded l.initial.bits l.bits (take l.k l.places)

@@ -8,5 +8,5 @@ use Rattle.regalloc2_checker.proofs.names.list_regs.Given as goal
 abbrev pub invariant-loop-reg : goal.invariant-loop-reg
 invariant-loop-reg g l = record {
   left : IsWalkOf l.fn.regs (l.yielded ++ l.reg-iterator);
-  listed : ArePlacesAdded l.initial.bits.items l.bits.items (map InRegister l.yielded);
+  listed : ArePlacesAdded l.initial.bits l.bits (map InRegister l.yielded);
 }

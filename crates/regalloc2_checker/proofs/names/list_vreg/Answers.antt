@@ -1,8 +1,8 @@
-use Rattle.regalloc2_checker.proofs.NamedBits.{more-pushed, here-pushed}
+use Rattle.std.proofs.Common.{inl, inr, sym}
 use Rattle.regalloc2_checker.proofs.names.list_vreg.Goals as goal
 
 pub returns : goal.returns
 returns g c = record {
-  more = more-pushed c.args.bits.now.items c.push.new.self.items _ c.in_ok-push.ensures.items;
-  listed = rw (← c.bits.ensures.bits) (here-pushed c.args.bits.now.items c.push.new.self.items _ c.in_ok-push.ensures.items);
+  more = λ n h. (c.in_ok-list.ensures n).1 (inl h);
+  listed = (c.in_ok-list.ensures _).1 (inr (sym c.bits.ensures.bits));
 }

@@ -1,4 +1,4 @@
-use Rattle.std.proofs.Common.{false, sym, ap, ◌∙◌, append_assoc, subst, List, ℕ}
+use Rattle.std.proofs.Common.{false, sym, ap, ◌∙◌, append_assoc, subst}
 use Rattle.regalloc2_names.specs.Place.{InRegister}
 use Rattle.regalloc2_checker.specs.Facts.{Facts, placed}
 use Rattle.regalloc2_checker.specs.TableFacts.{IsMissingUnlisted}

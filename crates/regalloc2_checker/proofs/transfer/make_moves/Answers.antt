@@ -1,5 +1,4 @@
-use Rattle.std.proofs.Common.{◌≡◌, ℕ, List, sym, ◌∙◌, refl, subst, arith, rules, map}
-use Rattle.std.specs.Prelude.{All}
+use Rattle.std.proofs.Common.{ℕ, List, sym, ◌∙◌, refl, subst, arith}
 use Rattle.regalloc2_names.specs.Place.{Place}
 use Rattle.regalloc2_function.specs.Views.{move_of}
 use Rattle.regalloc2_checker.specs.TableFacts.{facts_now, IsListed, IsMissingUnlisted}

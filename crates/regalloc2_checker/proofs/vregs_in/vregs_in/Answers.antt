@@ -1,4 +1,4 @@
-use Rattle.std.proofs.Common.{ℕ, sym, ap, ◌∙◌, refl, arith}
+use Rattle.std.proofs.Common.{sym, arith}
 use Rattle.regalloc2_checker.proofs.VRegsInPlace.{found_none, found_skip, found_more, found_all, found_nowhere}
 use Rattle.regalloc2_checker.proofs.vregs_in.vregs_in.Goals as goal
 

@@ -1,4 +1,4 @@
-use Rattle.std.proofs.Common.{◌≡◌, ◌≤◌, length}
+use Rattle.std.proofs.Common.{◌≤◌, length}
 use Rattle.regalloc2_checker.proofs.VRegsInPlace.{AreFound}
 use Rattle.regalloc2_checker.proofs.vregs_in.vregs_in.Given as goal
 

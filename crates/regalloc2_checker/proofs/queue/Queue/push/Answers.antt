@@ -1,6 +1,6 @@
-use Rattle.std.proofs.Common.{◌≡◌, ℕ, true, sym, ◌∙◌, subst, List, Bool, inl, inr, refl, arith, set}
+use Rattle.std.proofs.Common.{◌≡◌, true, inl, inr, refl, arith}
 use Rattle.std.specs.BinaryHeap.{heap_items}
-use Rattle.regalloc2_checker.specs.Propagation.{mark_at, IsQueue}
+use Rattle.regalloc2_checker.specs.Propagation.{mark_at}
 use Rattle.regalloc2_checker.proofs.Queues.{queue-again, queue-pushed}
 use Rattle.regalloc2_checker.proofs.UnmarkedStaySolved.{mark-is}
 use Rattle.regalloc2_checker.proofs.queue.Queue.push.Goals as goal
