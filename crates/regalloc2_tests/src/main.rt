@@ -1,5 +1,6 @@
-//! `regalloc2_tests`: calls the allocator and the checker as no case file can, and prints what they answer. The file `stdout` says
-//! what must come.
+//! `regalloc2_tests`: calls the allocator, the checker, `ra2` and the code generator as no case file can, and prints what they answer. The
+//! file `stdout` says what must come. The input has a title and a function, a JSON text, for each part of the table of refused requests;
+//! then, behind an empty line, texts for `ra2`.
 //!
 //! Functions at random, from fixed seeds, have up to twelve blocks, operands of every kind but `Limit`, and registers enough for
 //! each of their instructions, most of which ask for all that there are; on no path is a value read before it is written.
@@ -7,13 +8,18 @@
 
 mod adversary;
 mod calls;
+mod compiled;
+mod fuzz;
 mod graph;
 mod instructions;
 mod large;
 mod maker;
+mod program;
 mod random;
+mod refusing;
 mod rows;
 
+use compile_program::agrees_at_random;
 use maker::Maker;
 use regalloc2::{allocate, run_tested};
 use std::alloc::Global;
@@ -39,15 +45,68 @@ fn failures(alloc: Global, count: u64) -> usize {
     (0..count).filter(is_failed).count()
 }
 
-fn main(rt: HostRuntime) -> io::Result<()> {
-    let alloc = rt.alloc();
-    let out = &mut BufWriter::new(alloc, rt.stdout())?;
+/// How many of so many functions over whole numbers at random return what their codes return.
+fn agreeing(alloc: Global, count: u64) -> usize {
+    let does_agree = |seed: &u64| agrees_at_random(alloc, *seed) == Some(true);
+    (0..count).filter(does_agree).count()
+}
+
+/// Writes what the allocator and the checker answer.
+fn show_calls<W: Write>(alloc: Global, out: &mut W) -> io::Result<()> {
     show(out, "tables", rows::tables(alloc))?;
     show(out, "slots and refusals", rows::slots_and_refusals(alloc))?;
     show(out, "verdicts", rows::verdicts(alloc))?;
     show(out, "2^32 - 2^15 operands", adversary::lend(alloc, 131_071))?;
     show(out, "2^32 operands", adversary::lend(alloc, 131_072))?;
     show(out, "failures of 3000 functions", failures(alloc, 3000))?;
-    show(out, "large functions", large::sizes(alloc))?;
+    show(out, "large functions", large::sizes(alloc))
+}
+
+/// Writes what `ra2` answers.
+fn show_program<W: Write>(alloc: Global, out: &mut W) -> io::Result<()> {
+    show(out, "no words are refused", program::no_words(alloc))?;
+    show(
+        out,
+        "cut texts that aren't refused",
+        program::unrefused_lengths(alloc),
+    )?;
+    show(
+        out,
+        "bytes that aren't refused",
+        program::unrefused_bytes(alloc),
+    )?;
+    show(
+        out,
+        "failed reads that aren't refused",
+        program::unrefused_reads(alloc),
+    )?;
+    show(
+        out,
+        "writes that each end it, up to five",
+        program::writes_up_to_five(alloc),
+    )?;
+    show(out, "a failed flush", program::failed_flush(alloc))?;
+    show(
+        out,
+        "a shut error stream",
+        program::shut_error_stream(alloc),
+    )
+}
+
+fn main(rt: HostRuntime) -> io::Result<()> {
+    let alloc = rt.alloc();
+    let lines = io::read_to_string(alloc, rt.stdin())?;
+    let out = &mut BufWriter::new(alloc, rt.stdout())?;
+    show_calls(alloc, out)?;
+    show_program(alloc, out)?;
+    let (functions, texts) = lines.split_once("\n\n").unwrap_or((&lines, ""));
+    refusing::show_all(alloc, functions, out)?;
+    let count = agreeing(alloc, 200);
+    writeln!(
+        out,
+        "{count} of 200 functions and their codes return the same"
+    )?;
+    compiled::show_all(alloc, out)?;
+    fuzz::show_fuzz(alloc, texts, out)?;
     out.flush()
 }

@@ -1,22 +1,17 @@
 //! The calls that take memory, with what they answer as text.
 
+use crate::calls::{run_fitting, run_with_ctx_fitting};
 use regalloc2::cfg::{CFGInfo, CFGInfoCtx};
 use regalloc2::checker::{Checker, CheckerError};
 use regalloc2::postorder::calculate;
 use regalloc2::serialize::SerializableFunction;
 use regalloc2::ssa::{reads_written, validate_ssa};
 use regalloc2::{
-    Algorithm, AllocateError, Block, Ctx, Function, Output, RegAllocError, RegallocOptions,
-    TestedRunError, allocate, is_framed, machine_fits, run, run_tested, run_with_ctx,
+    AllocateError, Block, Ctx, Function, Output, RegAllocError, TestedRunError, allocate,
+    is_framed, run_tested,
 };
 use regalloc2_test_alloc::{Call, Refusing};
 use std::alloc::{AllocError, Allocator, Global};
-
-/// The options, with all tests of the function.
-const OPTIONS: RegallocOptions = RegallocOptions {
-    validate_ssa: true,
-    algorithm: Algorithm::Fastalloc,
-};
 
 /// The text of an output that is empty but for its count of slots, which `run_with_ctx` is to leave if it is refused.
 const UNTOUCHED: &str = "7 [] [] [] []";
@@ -129,28 +124,23 @@ impl Given<'_> {
     }
 
     fn run<A: Allocator + Copy>(&self, alloc: A) -> Result<String, AllocError> {
-        let env = self.f.machine_env();
-        if !machine_fits(self.f, env) {
-            return self.words("the machine doesn't fit");
-        }
-        match run(alloc, self.f, env, &OPTIONS) {
-            Ok(out) => text_of(self.global, &out),
-            Err(error) => told(self.global, error),
+        match run_fitting(alloc, self.f, self.f.machine_env()) {
+            Some(Ok(out)) => text_of(self.global, &out),
+            Some(Err(error)) => told(self.global, error),
+            None => self.words("the machine doesn't fit"),
         }
     }
 
     /// Runs with a context. An error leaves the output that it had.
     fn run_once<A: Allocator + Copy>(&self, ctx: &mut Ctx<A>) -> Result<String, AllocError> {
-        let env = self.f.machine_env();
-        if !machine_fits(self.f, env) {
+        let Some(answer) = run_with_ctx_fitting(self.f, self.f.machine_env(), ctx) else {
             return self.words("the machine doesn't fit");
-        }
-        let error = run_with_ctx(self.f, env, &OPTIONS, ctx).err();
+        };
         let text = text_of(self.global, &ctx.output)?;
-        match error {
-            None => Ok(text),
-            Some(_) if text.as_str() != UNTOUCHED => self.words("the output is lost"),
-            Some(error) => told(self.global, error),
+        match answer {
+            Ok(_) => Ok(text),
+            Err(_) if text.as_str() != UNTOUCHED => self.words("the output is lost"),
+            Err(error) => told(self.global, error),
         }
     }
 

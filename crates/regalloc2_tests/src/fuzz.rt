@@ -1,19 +1,19 @@
-//! `ra2_fuzz`: gives `ra2` texts that nobody would write, and says what it answers.
+//! Gives `ra2` texts that nobody would write, and says what it answers.
 //!
-//! The input has them by line, each behind the words that `ra2` gets, with `+` between them. A text `~OLD~NEW` is the last whole one
-//! with OLD replaced by NEW; a line that begins with `#` is a title. Then come deep and large texts, and copies of all whole ones that
-//! are changed at random, from a fixed seed. The file `stdout` says what must come.
-#![tactic(auto)]
+//! The texts come by line, each behind the words that `ra2` gets, with `+` between them. A text `~OLD~NEW` is the last whole one with OLD
+//! replaced by NEW; a line that begins with `#` is a title. Then come deep and large texts, and copies of all whole ones that are
+//! changed at random, from a fixed seed.
 
 ghost use Rattle.std.specs.Prelude.{◌<◌};
 
 mod asked;
-mod random;
+mod changed;
 
+use super::random::Random;
 use asked::{Answer, ask};
-use random::{Random, changed};
+use changed::changed;
 use std::alloc::{AllocError, Global};
-use std::io::{self, BufWriter, Write};
+use std::io::{self, Write};
 
 /// How many changed copies each whole text gets.
 const COPIES: u32 = 300;
@@ -133,17 +133,15 @@ fn fuzz(alloc: Global, lines: &str) -> Counts {
     counts
 }
 
-fn main(rt: HostRuntime) -> io::Result<()> {
-    let alloc = rt.alloc();
-    let lines = io::read_to_string(alloc, rt.stdin())?;
-    let out = &mut BufWriter::new(alloc, rt.stdout())?;
-    show_all(alloc, &lines, out)?;
+/// Writes what is answered to each line's text, to deep and large ones, and how often what to changed ones.
+pub fn show_fuzz<W: Write>(alloc: Global, lines: &str, out: &mut W) -> io::Result<()> {
+    show_all(alloc, lines, out)?;
     let function = lines
         .lines()
         .find_map(|line| line.strip_prefix("run "))
         .unwrap_or("");
     show_all_large(alloc, function, out)?;
-    let [done, refused, unusable, broken] = fuzz(alloc, &lines);
+    let [done, refused, unusable, broken] = fuzz(alloc, lines);
     let ran = done
         .saturating_add(refused)
         .saturating_add(unusable)
@@ -151,6 +149,5 @@ fn main(rt: HostRuntime) -> io::Result<()> {
     writeln!(
         out,
         "{ran} changed texts ran: {done} of status 0, {refused} of 1, {unusable} of 2; {broken} crashed or broke a rule"
-    )?;
-    out.flush()
+    )
 }

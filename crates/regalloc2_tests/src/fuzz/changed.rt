@@ -1,38 +1,12 @@
 //! Texts that are changed at random.
 
-ghost use Rattle.std.specs.Prelude.{◌<◌};
-
+use super::super::random::Random;
 use std::alloc::Global;
 
 /// What changed bytes become, and what is put in.
 const BYTES: [u8; 16] = [
     b'[', b']', b'{', b'}', b',', b':', b'"', b'0', b'1', b'9', b'-', b'.', b'e', b' ', b'n', b'\\',
 ];
-
-/// Numbers that look random, the same ones for the same seed.
-#[derive(Drop)]
-pub struct Random {
-    state: u64,
-}
-
-impl Random {
-    /// The numbers of a seed.
-    pub fn new(seed: u64) -> Random {
-        Random { state: seed }
-    }
-
-    /// The next number, below `count`.
-    fn below(&mut self, count: usize) -> usize
-        requires { 0 < count }
-        ensures { result < count }
-    {
-        self.state = self
-            .state
-            .wrapping_mul(6_364_136_223_846_793_005)
-            .wrapping_add(1_442_695_040_888_963_407);
-        (self.state >> 33) as usize % count
-    }
-}
 
 /// The text with one part replaced, of which as much counts as there is.
 fn replaced(alloc: Global, text: &[u8], from: usize, to: usize, piece: &[u8]) -> Option<Vec<u8>> {

@@ -1,10 +1,8 @@
-//! `regalloc2_refusing`: each call that takes memory, with each of its requests for memory refused in turn.
+//! Each call that takes memory, with each of its requests for memory refused in turn.
 //!
-//! The input has functions as JSON texts, by line; a line that begins with `#` is a title. Each call of the table is made with each
-//! function and an allocator that refuses its first request, then its second and so on, until a call meets no refusal. A call whose
-//! request is refused has to say that memory ran out, to leave what it says it leaves, and to answer as ever if it is made again; the
-//! last one, which met no refusal, has to be done. The file `stdout` says what must come.
-#![tactic(auto)]
+//! Each call of the table is made with each function and an allocator that refuses its first request, then its second and so on, until a
+//! call meets no refusal. A call whose request is refused has to say that memory ran out, to leave what it says it leaves, and to answer
+//! as ever if it is made again; the last one, which met no refusal, has to be done.
 
 mod calls;
 
@@ -14,7 +12,7 @@ use regalloc2::{Output, allocate_without_checker};
 use regalloc2_test_alloc::is_each_told;
 use serde_json::Value;
 use std::alloc::Global;
-use std::io::{self, BufWriter, Write};
+use std::io::{self, Write};
 
 /// The function of a JSON text.
 fn function_of(alloc: Global, text: &str) -> Option<SerializableFunction> {
@@ -62,16 +60,14 @@ fn show<W: Write>(global: Global, text: &str, to: &mut W) -> io::Result<()> {
     Ok(())
 }
 
-fn main(rt: HostRuntime) -> io::Result<()> {
-    let alloc = rt.alloc();
-    let lines = io::read_to_string(alloc, rt.stdin())?;
-    let out = &mut BufWriter::new(alloc, rt.stdout())?;
+/// Writes the titles, which begin with `#`, and after each function, a JSON text, of which calls each refused request is told.
+pub fn show_all<W: Write>(global: Global, lines: &str, to: &mut W) -> io::Result<()> {
     for line in lines.lines() {
         if line.starts_with('#') {
-            writeln!(out, "{line}")?;
+            writeln!(to, "{line}")?;
         } else {
-            show(alloc, line, out)?;
+            show(global, line, to)?;
         }
     }
-    out.flush()
+    Ok(())
 }

@@ -1,6 +1,6 @@
 use denote.Text.{Utf8}
 use denote.Shadow.{shadow}
-use Rattle.ra2_fuzz.proofs.show_all.Given as goal
+use Rattle.regalloc2_tests.proofs.fuzz.show_all.Given as goal
 
 -- the text that others are made from is text
 abbrev pub invariant-loop-line : goal.invariant-loop-line

@@ -1,9 +1,8 @@
-//! What the program answers to words and texts, and where a read or a write fails.
+//! What `ra2` answers to words and texts, and where a read or a write fails.
 
 use ra2_program::answer;
 use std::alloc::{AllocError, Global};
 use std::io::{self, BufWriter, ErrorKind, Read, Write};
-use std::test::Fail;
 
 /// A definition of a virtual register, and a return that reads it, for a machine of ten registers.
 const TEXT: &str = "{\"machine_env\":{\"preferred_regs_by_class\":[[0,1,2,3,4,5,6,7,8,9],[],[]],\
@@ -102,7 +101,7 @@ fn is_refused<R: Read + Drop>(
     line: &[&str],
     input: R,
     err_line: &str,
-) -> Result<bool, Fail> {
+) -> io::Result<bool> {
     let words = words(alloc, line)?;
     let out = BufWriter::new(alloc, Vec::new(alloc))?;
     let mut err = Vec::new(alloc);
@@ -110,41 +109,52 @@ fn is_refused<R: Read + Drop>(
     Ok(status == 2 && out.is_empty() && err.as_slice() == err_line.as_bytes())
 }
 
-#[test]
-fn no_words_are_refused(rt: HostRuntime) -> Result<(), Fail> {
-    assert!(rt; is_refused(rt.alloc(), &[], TEXT.as_bytes(), "ra2: bad words\n")?);
-    Ok(())
+/// Whether no words are refused.
+pub fn no_words(alloc: Global) -> io::Result<bool> {
+    is_refused(alloc, &[], TEXT.as_bytes(), "ra2: bad words\n")
 }
 
-#[test]
-fn texts_that_are_cut_or_no_text_are_refused(rt: HostRuntime) -> Result<(), Fail> {
+/// The lengths at which a text that is cut there isn't refused.
+pub fn unrefused_lengths(alloc: Global) -> io::Result<Vec<usize>> {
     let whole = TEXT.as_bytes();
+    let mut unrefused = Vec::new(alloc);
     for length in 0..whole.len() {
-        let is_so = is_refused(rt.alloc(), &["run"], &whole[..length], UNREADABLE)?;
-        assert!(rt; is_so, "{length} bytes");
+        if !is_refused(alloc, &["run"], &whole[..length], UNREADABLE)? {
+            unrefused.push(length)?;
+        }
     }
-    let no_text: [&[u8]; 4] = [b"{", b"null", &[34, 255, 34], &[195, 40]];
-    for bytes in no_text {
-        assert!(rt; is_refused(rt.alloc(), &["run"], bytes, UNREADABLE)?);
-    }
-    Ok(())
+    Ok(unrefused)
 }
 
-#[test]
-fn failed_reads_are_refused(rt: HostRuntime) -> Result<(), Fail> {
+/// Bytes that are no function, and aren't refused.
+pub fn unrefused_bytes(alloc: Global) -> io::Result<Vec<&'static [u8]>> {
+    let no_function: [&'static [u8]; 4] = [b"{", b"null", &[34, 255, 34], &[195, 40]];
+    let mut unrefused = Vec::new(alloc);
+    for bytes in no_function {
+        if !is_refused(alloc, &["run"], bytes, UNREADABLE)? {
+            unrefused.push(bytes)?;
+        }
+    }
+    Ok(unrefused)
+}
+
+/// After how many reads, none or one, a read that fails isn't refused.
+pub fn unrefused_reads(alloc: Global) -> io::Result<Vec<u32>> {
+    let mut unrefused = Vec::new(alloc);
     for sound_reads in [0, 1] {
         let input = Failing {
             text: TEXT.as_bytes(),
             sound_reads,
         };
-        let is_so = is_refused(rt.alloc(), &["run"], input, UNREADABLE)?;
-        assert!(rt; is_so, "after {sound_reads}");
+        if !is_refused(alloc, &["run"], input, UNREADABLE)? {
+            unrefused.push(sound_reads)?;
+        }
     }
-    Ok(())
+    Ok(unrefused)
 }
 
 /// What the program writes and answers where the write that comes after so many others fails, over a buffer of so many bytes.
-fn answer_faulty(alloc: Global, capacity: usize, sound_writes: u32) -> Result<(u8, Faulty), Fail> {
+fn answer_faulty(alloc: Global, capacity: usize, sound_writes: u32) -> io::Result<(u8, Faulty)> {
     let words = words(alloc, &["check"])?;
     let out = Faulty::new(alloc, sound_writes, true);
     let out = BufWriter::with_capacity(alloc, capacity, out)?;
@@ -157,7 +167,7 @@ fn answer_faulty(alloc: Global, capacity: usize, sound_writes: u32) -> Result<(u
 }
 
 /// How many writes there are over a buffer of so many bytes, where each of them ends the program if it fails.
-fn fatal_writes(alloc: Global, capacity: usize) -> Result<Option<u32>, Fail> {
+fn fatal_writes(alloc: Global, capacity: usize) -> io::Result<Option<u32>> {
     for sound_writes in 0..1000u32 {
         let (status, out) = answer_faulty(alloc, capacity, sound_writes)?;
         if !out.has_failed {
@@ -172,29 +182,30 @@ fn fatal_writes(alloc: Global, capacity: usize) -> Result<Option<u32>, Fail> {
     Ok(None)
 }
 
-#[test]
-fn a_failed_write_ends_it(rt: HostRuntime) -> Result<(), Fail> {
-    assert!(rt; matches!(fatal_writes(rt.alloc(), 0)?, Some(5..)));
-    assert!(rt; matches!(fatal_writes(rt.alloc(), 16)?, Some(5..)));
-    assert_eq!(rt; fatal_writes(rt.alloc(), 8192)?, Some(1));
-    Ok(())
+/// How many writes there are without a buffer, over 16 bytes, and over 8192, where each of them ends the program if it fails. Five
+/// stand for five and more.
+pub fn writes_up_to_five(alloc: Global) -> io::Result<[Option<u32>; 3]> {
+    let unbuffered = fatal_writes(alloc, 0)?;
+    let short = fatal_writes(alloc, 16)?;
+    let whole = fatal_writes(alloc, 8192)?;
+    Ok([unbuffered, short, whole].map(|count| count.map(|count| count.min(5))))
 }
 
-#[test]
-fn a_failed_flush_and_a_shut_error_stream_end_it(rt: HostRuntime) -> Result<(), Fail> {
-    let run = words(rt.alloc(), &["run"])?;
-    let walk = words(rt.alloc(), &["walk"])?;
-    let out = Faulty::new(rt.alloc(), u32::MAX, false);
-    let out = BufWriter::new(rt.alloc(), out)?;
-    let mut err = Vec::new(rt.alloc());
-    let (status, out) = answer(rt.alloc(), run.as_slice(), TEXT.as_bytes(), out, &mut err);
-    assert_eq!(rt; status, 2);
-    assert_eq!(rt; out.text.as_slice(), LISTING.as_bytes());
-    assert!(rt; err.is_empty());
-    let mut shut = Faulty::new(rt.alloc(), 0, false);
-    let out = BufWriter::new(rt.alloc(), Vec::new(rt.alloc()))?;
-    let (status, out) = answer(rt.alloc(), walk.as_slice(), TEXT.as_bytes(), out, &mut shut);
-    assert_eq!(rt; status, 2, "and the line can't be written");
-    assert!(rt; out.is_empty());
-    Ok(())
+/// The status where the flush fails; whether the listing was written, and no line on the standard error.
+pub fn failed_flush(alloc: Global) -> io::Result<(u8, bool, bool)> {
+    let run = words(alloc, &["run"])?;
+    let out = BufWriter::new(alloc, Faulty::new(alloc, u32::MAX, false))?;
+    let mut err = Vec::new(alloc);
+    let (status, out) = answer(alloc, run.as_slice(), TEXT.as_bytes(), out, &mut err);
+    let is_listed = out.text.as_slice() == LISTING.as_bytes();
+    Ok((status, is_listed, err.is_empty()))
+}
+
+/// The status where words are bad, and the line that says so can't be written; whether nothing else is.
+pub fn shut_error_stream(alloc: Global) -> io::Result<(u8, bool)> {
+    let walk = words(alloc, &["walk"])?;
+    let out = BufWriter::new(alloc, Vec::new(alloc))?;
+    let mut shut = Faulty::new(alloc, 0, false);
+    let (status, out) = answer(alloc, walk.as_slice(), TEXT.as_bytes(), out, &mut shut);
+    Ok((status, out.is_empty()))
 }
