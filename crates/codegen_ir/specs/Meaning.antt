@@ -1,7 +1,7 @@
 -- What a procedure does: an interpreter that makes a step for each line.
-use Rattle.std.specs.Prelude.{ℕ, zero, suc, ◌+◌, nat_eq, if◌then◌else◌, List, length, slice_get, Option, None, Some}
-use Rattle.regalloc2_names.specs.Register.{VirtualRegister, is_vreg}
-use Rattle.regalloc2_function.specs.FunctionValue.{FunctionValue, BlockValue, block_at}
+use Rattle.std.specs.Prelude.{ℕ, zero, suc, ◌+◌, nat_eq, if◌then◌else◌, List, slice_get, Option, None, Some}
+use Rattle.regalloc2_names.specs.Register.{VirtualRegister}
+use Rattle.regalloc2_function.specs.FunctionValue.{FunctionValue, block_at}
 use Rattle.regalloc2_function.specs.Path.{Location, first_of}
 use Rattle.regalloc2_function.specs.SourceRun.{arguments_at}
 use Rattle.regalloc2_values.specs.Interpreters.{number_set, passed_on}

@@ -1,7 +1,7 @@
 -- Operands are the same in one way at most, so a type may hold that they are.
 use Rattle.std.specs.Prelude.{ℕ, ◌≡◌, zero, suc, List, refl}
 use Rattle.std.specs.Coded.{Coded, Coded-set, coded_ℕ, coded_list, coded×, code_by}
-use Rattle.regalloc2_names.specs.Register.{Register, VirtualRegister, class_code, class_of_code}
+use Rattle.regalloc2_names.specs.Register.{VirtualRegister, class_code, class_of_code}
 use Rattle.regalloc2_names.specs.Operand.{OperandValue}
 use Rattle.regalloc2_names.specs.declared.RegClass.{RegClass}
 use Rattle.regalloc2_names.specs.declared.RegClass.TheVariants.{Int, Float, Vector}

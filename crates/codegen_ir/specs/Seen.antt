@@ -1,5 +1,5 @@
 -- Which function a procedure is to the allocator.
-use Rattle.std.specs.Prelude.{ℕ, false, map, [], List, Option, slice_get}
+use Rattle.std.specs.Prelude.{false, map, [], List}
 use Rattle.std.proofs.Common.{arith}
 use Rattle.std.proofs.lemmas.List.{length-map}
 use Rattle.std.proofs.lemmas.List.Elements.{All-nil}

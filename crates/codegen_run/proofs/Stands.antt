@@ -2,7 +2,7 @@
 use Rattle.std.proofs.Common.{ℕ, zero, suc, ◌≡◌, ◌+◌, ◌-◌, ◌<◌, refl, ap, sym, ◌∙◌, arith}
 use Rattle.std.specs.Prelude.{List}
 use Rattle.regalloc2_function.specs.FunctionValue.{FunctionValue}
-use Rattle.codegen_ir.specs.Numbers.{Outcome, Running as runs, Returned as returned, Stuck as sticks, further}
+use Rattle.codegen_ir.specs.Numbers.{Outcome, Running as runs, further}
 use Rattle.codegen_ir.specs.Meaning.{ProcedureState, procedure_run, procedure_step}
 use Rattle.codegen_ir.specs.declared.operation.Operation.{Operation}
 use Rattle.codegen_machine.specs.Machine.{CodeValue, MachineState, machine_run, machine_step}

@@ -1,8 +1,7 @@
 -- Numbers of virtual registers that are passed over an edge, one after another.
-use Rattle.std.proofs.Common.{ℕ, zero, suc, ◌≡◌, ◌+◌, ◌<◌, ◌≤◌, List, [], ◌∷◌, length, map, refl, arith, get_or, drop, length-drop}
+use Rattle.std.proofs.Common.{ℕ, zero, suc, ◌≡◌, ◌+◌, ◌<◌, List, [], ◌∷◌, length, map, refl, arith, get_or, drop, length-drop}
 use Rattle.std.proofs.Math.Path.{fun_ext}
-use Rattle.std.specs.Prelude.{unwrap_or, nat_eq}
-use Rattle.std.specs.HashMap.{HashMap, get, IsEmpty}
+use Rattle.std.specs.HashMap.{HashMap, IsEmpty}
 use Rattle.regalloc2_names.specs.Register.{VirtualRegister}
 use Rattle.regalloc2_values.specs.Interpreters.{number_set, passed_on}
 use Rattle.codegen_run.specs.States.{numbers_of}

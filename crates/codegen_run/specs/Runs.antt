@@ -3,10 +3,10 @@ use Rattle.std.specs.Prelude.{ℕ, List, codes, slice_index, None}
 use Rattle.std.specs.Fmt.{decimal}
 use Rattle.regalloc2_function.specs.Path.{first_of}
 use Rattle.codegen_ir.specs.Numbers.{Outcome, Running as runs, Returned as returned, Stuck as sticks}
-use Rattle.codegen_ir.specs.Meaning.{ProcedureState, procedure_run}
-use Rattle.codegen_ir.specs.Seen.{function_of, operations}
+use Rattle.codegen_ir.specs.Meaning.{ProcedureState}
+use Rattle.codegen_ir.specs.Seen.{function_of}
 use Rattle.codegen_ir.specs.declared.procedure.Procedure.{Procedure}
-use Rattle.codegen_machine.specs.Machine.{MachineState, CodeValue, machine_run}
+use Rattle.codegen_machine.specs.Machine.{MachineState}
 use Rattle.codegen_run.specs.declared.standing.Standing.{Standing}
 use Rattle.codegen_run.specs.declared.standing.Standing.TheVariants.{Running, Returned, Stuck}
 

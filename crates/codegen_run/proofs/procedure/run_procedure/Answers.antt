@@ -4,7 +4,7 @@ use Rattle.codegen_ir.specs.Meaning.{ProcedureState}
 use Rattle.codegen_ir.specs.Numbers.{Outcome, Running}
 use Rattle.codegen_ir.specs.Seen.{function_of, operations}
 use Rattle.codegen_run.specs.Runs.{arguments_of, first_state, stands}
-use Rattle.codegen_run.specs.States.{numbers_of, state_of}
+use Rattle.codegen_run.specs.States.{state_of}
 use Rattle.codegen_run.specs.declared.standing.Standing.TheVariants as stand
 use Rattle.codegen_run.proofs.Stands.{run_none, run_more, run_ends}
 use Rattle.codegen_run.proofs.Written.{none_kept}
