@@ -1,19 +1,17 @@
 -- Steps of walks over the places where a virtual register may be.
-use Rattle.std.proofs.Common.{inl, inr, ◌⊎◌, ℕ, zero, suc, ◌≡◌, ◌+◌, ◌<◌, ◌≤◌, arith, Bool, true, false, cond}
+use Rattle.std.proofs.Common.{inl, inr, ℕ, ◌≡◌, ◌+◌, ◌<◌, arith, Bool, true, false, cond}
 use Rattle.std.proofs.Common.{nat_eq, nat_lt, eq-eqb, List, [], ◌∷◌, ◌++◌, length, get_or, take, refl, sym, ap, ◌∙◌, subst}
-use Rattle.std.specs.Prelude.{◌&&◌, ◌||◌, if◌then◌else◌, Option, None, Some, slice_set}
-use Rattle.std.specs.List.{list_any}
+use Rattle.std.specs.Prelude.{◌&&◌, ◌||◌, if◌then◌else◌, slice_set}
 use Rattle.std.specs.List.Sorted.{IsStrictlyIncreasing}
 use Rattle.std.proofs.lemmas.List.{take_more}
 use Rattle.std.proofs.lemmas.Bool.{cases_eq, cases_lt}
 use Rattle.std.proofs.lemmas.List.{get_or-set_other, get_or-set_same, length-set}
 use Rattle.regalloc2_cfg.specs.Numbers.{NumberSet, has_number, times_in, ListsMembers}
-use Rattle.regalloc2_cfg.proofs.NumberBits.{times_in-append}
-use Rattle.regalloc2_checker_tables.specs.SavedNumbers.{Numbers, number_at, number_now}
-use Rattle.regalloc2_checker_tables.specs.EntrySets.{is_member, AreMore, IsSetOf}
-use Rattle.regalloc2_checker_tables.specs.Holding.{held, IsHome, AreEntries, AreBelow, AreStill, AreMoreHomes, is_in}
+use Rattle.regalloc2_checker_tables.specs.SavedNumbers.{Numbers}
+use Rattle.regalloc2_checker_tables.specs.EntrySets.{AreMore}
+use Rattle.regalloc2_checker_tables.specs.Holding.{IsHome, AreBelow, AreStill, AreMoreHomes, is_in}
 use Rattle.regalloc2_checker_tables.proofs.Bits.{below, above, apart, other-times, same-times}
-use Rattle.regalloc2_checker_tables.proofs.Walked.{times-one, walked-all, walked-more}
+use Rattle.regalloc2_checker_tables.proofs.Walked.{walked-all, walked-more}
 use Rattle.regalloc2_checker_tables.proofs.Listed.{listed-once}
 
 -- sets that stay over two steps stay over both

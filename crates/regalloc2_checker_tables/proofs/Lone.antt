@@ -1,6 +1,6 @@
 -- Sets of one member, and the empty one.
-use Rattle.std.proofs.Common.{inl, inr, ◌⊎◌, ℕ, ◌≡◌, ◌≢◌, ◌+◌, ◌<◌, ◌≤◌, arith, Bool, true}
-use Rattle.std.proofs.Common.{false, cond, nat_eq, nat_lt, eq-eqb, List, [], ◌∷◌, ◌++◌, refl, sym, ap, ◌∙◌, subst}
+use Rattle.std.proofs.Common.{inl, inr, ℕ, ◌≡◌, ◌<◌, arith, Bool, true}
+use Rattle.std.proofs.Common.{false, cond, nat_eq, eq-eqb, List, [], ◌∷◌, ◌++◌, refl, sym, ap, ◌∙◌, subst}
 use Rattle.std.proofs.Common.{length, get_or, zero, suc, ◌-◌}
 use Rattle.std.specs.Prelude.{◌&&◌, if◌then◌else◌, Option, None, Some}
 use Rattle.std.specs.Bool.{OnTrue, OnFalse}

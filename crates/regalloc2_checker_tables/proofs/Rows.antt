@@ -1,12 +1,12 @@
 -- Saved copies as rows of a list.
-use Rattle.std.proofs.Common.{ℕ, zero, suc, ◌≡◌, ◌≢◌, ◌+◌, ◌*◌, ◌-◌, ◌/◌, ◌%◌, ◌<◌, ◌≤◌}
-use Rattle.std.proofs.Common.{arith, List, [], ◌∷◌, ◌++◌, length, get_or, map, refl, sym, ap, ◌∙◌, subst}
-use Rattle.std.proofs.Common.{inl, inr, ◌⊎◌}
+use Rattle.std.proofs.Common.{ℕ, zero, suc, ◌≡◌, ◌+◌, ◌*◌, ◌/◌, ◌%◌, ◌<◌, ◌≤◌}
+use Rattle.std.proofs.Common.{arith, List, [], ◌∷◌, length, get_or, map, refl, sym, ap, ◌∙◌, subst}
+use Rattle.std.proofs.Common.{inl, inr}
 use Rattle.std.specs.Prelude.{Option, None, Some, slice_set}
 use Rattle.std.specs.declared.vec.Vec.{Vec}
 use Rattle.std.proofs.lemmas.Bool.{cases_eq, cases_lt}
 use Rattle.std.proofs.lemmas.List.{get_or-set_other, get_or-set_same, get_or-map, map-set, length-map, length-set}
-use Rattle.regalloc2_checker_tables.specs.SavedCopies.{Copies, number_in, saved_at, cell_at, IsChunkAt, AreClean, AreWithin, AreMoreWords, AreBases, AreSame}
+use Rattle.regalloc2_checker_tables.specs.SavedCopies.{number_in, IsChunkAt, AreClean, AreWithin, AreMoreWords, AreBases}
 
 -- the items of a row
 pub row-is : {A : Type 0} (vs : List (Vec ℕ A)) (k : ℕ) (x : Vec ℕ A) → k < length vs → x ≡ get_or vs k x → get_or (map (λ b. b.items) vs) k [] ≡ x.items

@@ -1,12 +1,12 @@
 -- What tables show, by what they hold.
-use Rattle.std.proofs.Common.{inl, inr, ◌⊎◌, ℕ, zero, suc, ◌≡◌, ◌≢◌, ◌+◌, ◌<◌, ◌≤◌, arith, Bool, true, false, cond, nat_eq, nat_lt, eq-eqb}
+use Rattle.std.proofs.Common.{inl, inr, ◌⊎◌, ℕ, zero, suc, ◌≡◌, ◌+◌, ◌<◌, ◌≤◌, arith, Bool, true, false, nat_eq, nat_lt, eq-eqb}
 use Rattle.std.proofs.Common.{List, [], ◌∷◌, ◌++◌, length, get_or, take, refl, sym, ap, ◌∙◌, subst}
 use Rattle.std.specs.Prelude.{◌&&◌, if◌then◌else◌, Option, None, Some, slice_set, Contains, ◌↔◌, Result, Ok, Err, OnOk}
 use Rattle.std.proofs.lemmas.Bool.{cases_eq, cases_lt}
 use Rattle.std.specs.Bool.{OnTrue, OnFalse}
 use Rattle.std.proofs.lemmas.List.{get_or-set_other, get_or-set_same, length-set, take_more, take_all}
 use Rattle.regalloc2_checker_tables.specs.Holding.{Holding, count_of, holds_now, holds_in, is_in, AreKeptTables, HoldsNow, LosesSome}
-use Rattle.regalloc2_checker_tables.specs.Showing.{Showing, showing, bare, read_as, table_count, shows_now, shows_in, ArePassed, IsReadApart, AreShown}
+use Rattle.regalloc2_checker_tables.specs.Showing.{Showing, showing, read_as, table_count, shows_now, shows_in, ArePassed, IsReadApart, AreShown}
 use Rattle.regalloc2_checker_tables.specs.Showing.{AreTablesKept, ShowsNow}
 use Rattle.regalloc2_checker_tables.specs.declared.passing.Passed.{Passed}
 use Rattle.regalloc2_cfg.specs.Numbers.{times_in}

@@ -1,7 +1,7 @@
 -- What a change of the parts of tables does to what they hold.
-use Rattle.std.proofs.Common.{inl, inr, ◌⊎◌, ℕ, zero, suc, ◌≡◌, ◌+◌, ◌<◌, ◌≤◌, arith, Bool, true, false, cond}
+use Rattle.std.proofs.Common.{inl, inr, ℕ, zero, suc, ◌≡◌, ◌+◌, ◌<◌, arith, Bool, true, false}
 use Rattle.std.proofs.Common.{nat_eq, nat_lt, eq-eqb, List, [], ◌∷◌, ◌++◌, length, get_or, take, refl, sym, ap, ◌∙◌, subst}
-use Rattle.std.specs.Prelude.{◌&&◌, ◌||◌, if◌then◌else◌, slice_set, Result, Ok, Err, OnOk, OnErr, IfOk}
+use Rattle.std.specs.Prelude.{◌&&◌, ◌||◌, if◌then◌else◌, slice_set, Result, Ok, Err, OnOk, OnErr}
 use Rattle.std.specs.declared.alloc.AllocError.{AllocError}
 use Rattle.std.specs.List.Sorted.{IsStrictlyIncreasing}
 use Rattle.std.proofs.lemmas.Bool.{cases_eq, cases_lt, eqb-true}
@@ -10,7 +10,7 @@ use Rattle.regalloc2_cfg.specs.Numbers.{NumberSet, has_number, times_in}
 use Rattle.regalloc2_checker_tables.specs.SavedNumbers.{Numbers, copy_count, number_at, number_now}
 use Rattle.regalloc2_checker_tables.specs.EntrySets.{is_member, AreMore, IsSetOf, ListsBits}
 use Rattle.regalloc2_checker_tables.specs.Holding.{Holding, held, holds_now, holds_in, IsHome, AreEntries}
-use Rattle.regalloc2_checker_tables.specs.Holding.{AreTables, AreBelow, AreStill, AreMoreHomes, AreKeptTables, HoldsNow, is_in}
+use Rattle.regalloc2_checker_tables.specs.Holding.{AreTables, AreStill, AreMoreHomes, AreKeptTables, HoldsNow, is_in}
 use Rattle.regalloc2_checker_tables.proofs.Bits.{apart, above}
 use Rattle.regalloc2_checker_tables.proofs.Holders.{homes-same, home-kept, is_in-more}
 

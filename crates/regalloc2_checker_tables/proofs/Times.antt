@@ -1,6 +1,6 @@
 -- How often a number is listed, and whether it is.
-use Rattle.std.proofs.Common.{inl, inr, Bool, true, false, ℕ, zero, suc, ◌≡◌, ◌+◌, ◌<◌, arith}
-use Rattle.std.proofs.Common.{cond, nat_eq, eq-eqb, List, [], ◌∷◌, length, get_or, refl, sym, ap, ◌∙◌}
+use Rattle.std.proofs.Common.{inl, inr, Bool, true, false, ℕ, zero, suc, ◌≡◌, ◌<◌, arith}
+use Rattle.std.proofs.Common.{cond, nat_eq, eq-eqb, List, [], ◌∷◌, length, get_or, refl, ap}
 use Rattle.std.specs.Prelude.{Contains, ◌↔◌, if◌then◌else◌}
 use Rattle.regalloc2_checker_tables.specs.EntrySets.{ListsBits}
 use Rattle.std.proofs.lemmas.Bool.{cases_eq}

@@ -1,5 +1,5 @@
 -- How far the members of a set are walked over.
-use Rattle.std.proofs.Common.{inl, inr, subst, ◌⊎◌, ℕ, ◌≡◌, ◌≢◌, ◌+◌, ◌<◌, ◌≤◌, arith, Bool, true}
+use Rattle.std.proofs.Common.{inl, inr, subst, ℕ, ◌≡◌, ◌<◌, ◌≤◌, arith, Bool, true}
 use Rattle.std.proofs.Common.{false, cond, nat_eq, eq-eqb, List, [], ◌∷◌, ◌++◌, refl, sym, ap, ◌∙◌, append_assoc}
 use Rattle.std.specs.Prelude.{if◌then◌else◌}
 use Rattle.std.proofs.lemmas.Bool.{cases_eq}

@@ -1,5 +1,5 @@
 -- An array of numbers, and saved copies of it in chunks of 64 that stand among words. Where they stand is an array of its own, with saved copies.
-use Rattle.std.specs.Prelude.{ℕ, ◌≡◌, ◌+◌, ◌*◌, ◌-◌, ◌/◌, ◌%◌, ◌<◌, ◌≤◌, List, [], length, get_or}
+use Rattle.std.specs.Prelude.{ℕ, ◌≡◌, ◌+◌, ◌*◌, ◌/◌, ◌%◌, ◌<◌, ◌≤◌, List, [], length, get_or}
 use Rattle.regalloc2_checker_tables.specs.SavedCopies.{Copies, number_in, saved_at, cell_at, IsChunkAt}
 
 -- saved copies: where their chunks begin among the words is what chunks of other words make

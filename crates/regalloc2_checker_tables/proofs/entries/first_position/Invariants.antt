@@ -1,4 +1,4 @@
-use Rattle.std.proofs.Common.{ℕ, ◌*◌, ◌-◌, length}
+use Rattle.std.proofs.Common.{◌*◌, ◌-◌, length}
 use Rattle.regalloc2_checker_tables.specs.SavedNumbers.{AreAlike}
 use Rattle.regalloc2_checker_tables.proofs.entries.first_position.Given as goal
 

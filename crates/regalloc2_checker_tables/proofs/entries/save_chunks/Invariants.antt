@@ -1,4 +1,4 @@
-use Rattle.std.proofs.Common.{ℕ, ◌-◌, length}
+use Rattle.std.proofs.Common.{◌-◌, length}
 use Rattle.regalloc2_checker_tables.specs.SavedCopies.{AreMoreWords}
 use Rattle.regalloc2_checker_tables.specs.SavedNumbers.{AreChunksKept, AreCopiesKept, AreSaved}
 use Rattle.regalloc2_checker_tables.proofs.entries.save_chunks.Given as goal

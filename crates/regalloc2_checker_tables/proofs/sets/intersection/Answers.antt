@@ -1,9 +1,8 @@
-use Rattle.std.proofs.Common.{ℕ, ◌≡◌, ◌<◌, List, arith, true, ap, sym, ◌∙◌, cond, nat_eq, nat_lt}
-use Rattle.std.specs.Prelude.{◌&&◌}
+use Rattle.std.proofs.Common.{ℕ, List, arith, true, ap, sym, ◌∙◌, cond, nat_eq}
 use Rattle.regalloc2_cfg.specs.Numbers.{times_in, has_number}
 use Rattle.regalloc2_checker_tables.specs.EntrySets.{has_bits}
-use Rattle.regalloc2_checker_tables.proofs.Bits.{bits-in, bits-small, both-more, both-none, both-skip, both-all, bits-out}
-use Rattle.regalloc2_checker_tables.proofs.Walked.{times-nil, walked-on, walked-is, walked-more, walked-end}
+use Rattle.regalloc2_checker_tables.proofs.Bits.{both-more, both-none, both-skip, both-all, bits-out}
+use Rattle.regalloc2_checker_tables.proofs.Walked.{walked-on}
 use Rattle.regalloc2_checker_tables.proofs.sets.intersection.Goals as goal
 
 pub loop-member-init : goal.loop-member-init

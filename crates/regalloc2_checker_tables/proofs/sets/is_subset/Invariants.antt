@@ -1,5 +1,4 @@
-use Rattle.std.proofs.Common.{ℕ, ◌≡◌, ◌<◌, ◌++◌, true, false, cond, nat_lt}
-use Rattle.std.specs.Prelude.{◌&&◌, if◌then◌else◌}
+use Rattle.std.proofs.Common.{ℕ, ◌≡◌, ◌<◌, ◌++◌, true}
 use Rattle.regalloc2_cfg.specs.Numbers.{ListsMembers, times_in}
 use Rattle.regalloc2_checker_tables.specs.EntrySets.{has_bits}
 use Rattle.regalloc2_checker_tables.proofs.sets.is_subset.Given as goal

@@ -1,8 +1,7 @@
-use Rattle.std.proofs.Common.{ℕ, ◌≡◌, ◌<◌, List, [], ◌∷◌, ◌++◌, arith, true, ap, sym, ◌∙◌, cond, nat_eq, nat_lt}
-use Rattle.regalloc2_cfg.specs.Numbers.{times_in, has_number}
-use Rattle.regalloc2_checker_tables.specs.EntrySets.{has_bits}
+use Rattle.std.proofs.Common.{ℕ, List, [], ◌∷◌, ◌++◌, arith, ap, ◌∙◌}
+use Rattle.regalloc2_cfg.specs.Numbers.{times_in}
 use Rattle.regalloc2_checker_tables.proofs.Bits.{listed-none, listed-more, listed-skip, listed-all}
-use Rattle.regalloc2_checker_tables.proofs.Walked.{times-nil, walked-on}
+use Rattle.regalloc2_checker_tables.proofs.Walked.{walked-on}
 use Rattle.regalloc2_checker_tables.proofs.sets.listed.Goals as goal
 
 pub loop-member-init : goal.loop-member-init

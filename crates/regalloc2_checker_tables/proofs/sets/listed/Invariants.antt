@@ -1,7 +1,6 @@
-use Rattle.std.proofs.Common.{ℕ, ◌≡◌, ◌<◌, ◌++◌, true, false, cond, nat_lt}
-use Rattle.std.specs.Prelude.{◌&&◌, if◌then◌else◌}
+use Rattle.std.proofs.Common.{ℕ, ◌≡◌, ◌++◌, nat_lt}
+use Rattle.std.specs.Prelude.{if◌then◌else◌}
 use Rattle.regalloc2_cfg.specs.Numbers.{ListsMembers, times_in}
-use Rattle.regalloc2_checker_tables.specs.EntrySets.{has_bits}
 use Rattle.regalloc2_checker_tables.proofs.sets.listed.Given as goal
 
 abbrev pub invariant-loop-member : goal.invariant-loop-member

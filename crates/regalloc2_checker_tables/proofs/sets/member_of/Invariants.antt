@@ -1,6 +1,5 @@
-use Rattle.std.proofs.Common.{ℕ, ◌≡◌, ◌<◌, ◌++◌, true, false}
+use Rattle.std.proofs.Common.{ℕ, ◌<◌, ◌++◌}
 use Rattle.regalloc2_cfg.specs.Numbers.{ListsMembers, times_in}
-use Rattle.regalloc2_checker_tables.specs.EntrySets.{has_bits}
 use Rattle.regalloc2_checker_tables.proofs.sets.member_of.Given as goal
 
 abbrev pub invariant-loop-member : goal.invariant-loop-member

@@ -1,4 +1,4 @@
-use Rattle.std.proofs.Common.{ℕ, ◌≡◌, length}
+use Rattle.std.proofs.Common.{◌≡◌, length}
 use Rattle.regalloc2_checker_tables.proofs.tables.empty_homes.Given as goal
 
 abbrev pub invariant-loop-k : goal.invariant-loop-k

@@ -1,13 +1,10 @@
-use Rattle.std.proofs.Common.{ℕ, ◌≡◌, ◌<◌, ◌+◌, List, [], ◌∷◌, ◌++◌, length, get_or, take, arith, true, false, ap, sym, ◌∙◌, refl, cond, nat_eq, nat_lt}
-use Rattle.std.specs.Prelude.{◌&&◌, if◌then◌else◌}
-use Rattle.regalloc2_cfg.specs.Numbers.{times_in, has_number}
+use Rattle.std.proofs.Common.{ℕ, List, arith, ap, sym, ◌∙◌}
+use Rattle.regalloc2_cfg.specs.Numbers.{times_in}
 use Rattle.regalloc2_checker_tables.specs.EntrySets.{is_member}
-use Rattle.regalloc2_checker_tables.specs.Holding.{held, IsHome, is_in}
-use Rattle.regalloc2_checker_tables.proofs.Bits.{read-is}
-use Rattle.regalloc2_checker_tables.proofs.Walked.{times-nil, walked-on}
-use Rattle.regalloc2_checker_tables.proofs.Listed.{at-position, not-listed}
-use Rattle.regalloc2_checker_tables.proofs.Holders.{still-same, still-then, dropped-none, dropped-more, dropped-all, dropped-less, holders-none, holders-more}
-use Rattle.regalloc2_checker_tables.proofs.Holders.{holders-skip, holders-all, homes-same, homes-then, noted-more}
+use Rattle.regalloc2_checker_tables.specs.Holding.{held, is_in}
+use Rattle.regalloc2_checker_tables.proofs.Walked.{walked-on}
+use Rattle.regalloc2_checker_tables.proofs.Holders.{holders-none, holders-more}
+use Rattle.regalloc2_checker_tables.proofs.Holders.{holders-skip}
 use Rattle.regalloc2_checker_tables.proofs.tables.holders_among.Goals as goal
 
 pub loop-place-init : goal.loop-place-init

@@ -1,4 +1,4 @@
-use Rattle.std.proofs.Common.{ℕ, ◌≡◌, ◌<◌, ◌++◌, nat_eq, nat_lt, length}
+use Rattle.std.proofs.Common.{ℕ, ◌≡◌, ◌++◌, nat_lt}
 use Rattle.std.specs.Prelude.{◌&&◌}
 use Rattle.regalloc2_cfg.specs.Numbers.{ListsMembers, times_in}
 use Rattle.regalloc2_checker_tables.specs.Holding.{held, is_in}

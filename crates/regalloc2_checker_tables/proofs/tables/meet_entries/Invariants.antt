@@ -1,4 +1,4 @@
-use Rattle.std.proofs.Common.{ℕ, ◌-◌, ◌≤◌, ◌≡◌}
+use Rattle.std.proofs.Common.{◌-◌}
 use Rattle.regalloc2_checker_tables.specs.Holding.{IsMetBelow}
 use Rattle.regalloc2_checker_tables.proofs.tables.meet_entries.Given as goal
 

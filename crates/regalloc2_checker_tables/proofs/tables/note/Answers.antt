@@ -1,16 +1,7 @@
-use Rattle.std.proofs.Common.{ℕ, ◌≡◌, ◌<◌, ◌+◌, List, [], ◌∷◌, ◌++◌, length, get_or, arith, Bool, true, false, ap, sym, ◌∙◌, refl, subst, cond, nat_eq, nat_lt}
-use Rattle.std.specs.Prelude.{◌&&◌, ◌||◌, if◌then◌else◌, slice_set}
-use Rattle.std.proofs.lemmas.Bool.{eqb-true}
-use Rattle.regalloc2_cfg.specs.Numbers.{NumberSet, has_number}
-use Rattle.regalloc2_checker_tables.specs.SavedNumbers.{Numbers, number_at, number_now}
-use Rattle.regalloc2_checker_tables.specs.EntrySets.{is_member}
-use Rattle.regalloc2_checker_tables.specs.Holding.{Holding, held, holds_now, holds_in, IsHome, AreTables, AreKeptTables, HoldsNow, count_of, is_in}
-use Rattle.regalloc2_checker_tables.specs.Holding.{AreMoreHomes}
-use Rattle.regalloc2_checker_tables.proofs.Bits.{read-is, same-sets, ok-as}
+use Rattle.std.proofs.Common.{arith, sym}
 use Rattle.regalloc2_checker_tables.proofs.Listed.{at-position, not-listed}
-use Rattle.regalloc2_checker_tables.proofs.Holders.{homes-same, homes-more, home-at, noted-here}
-use Rattle.regalloc2_checker_tables.proofs.TableLaws.{more-all, put-all, less_either, on_ok_as}
-use Rattle.regalloc2_checker_tables.proofs.TableLaws.{get-below, listed-times, put-home, homes-kept-at, kept_same, IsChanged}
+use Rattle.regalloc2_checker_tables.proofs.Holders.{home-at}
+use Rattle.regalloc2_checker_tables.proofs.TableLaws.{on_ok_as}
 use Rattle.regalloc2_checker_tables.proofs.tables.note.Goals as goal
 
 pub returns-in_default-clause-noted : goal.returns-in_default-clause-noted

@@ -1,4 +1,4 @@
-use Rattle.std.proofs.Common.{ℕ, ◌≡◌, ◌<◌, length, take}
+use Rattle.std.proofs.Common.{ℕ, ◌<◌, take}
 use Rattle.regalloc2_cfg.specs.Numbers.{times_in}
 use Rattle.regalloc2_checker_tables.specs.Holding.{AreMoreHomes, IsHome}
 use Rattle.regalloc2_checker_tables.proofs.tables.note_all.Given as goal

@@ -1,4 +1,4 @@
-use Rattle.std.proofs.Common.{inl, inr, ℕ, arith}
+use Rattle.std.proofs.Common.{inl, inr, arith}
 use Rattle.std.proofs.lemmas.Bool.{cases_lt}
 use Rattle.regalloc2_checker_tables.proofs.Chunks.{parts-later, same-where-not}
 use Rattle.regalloc2_checker_tables.proofs.versions.equal_groups.Goals as goal

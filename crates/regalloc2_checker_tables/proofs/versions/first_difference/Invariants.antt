@@ -1,4 +1,4 @@
-use Rattle.std.proofs.Common.{ℕ, ◌*◌}
+use Rattle.std.proofs.Common.{◌*◌}
 use Rattle.regalloc2_checker_tables.specs.SavedCopies.{AreSame}
 use Rattle.regalloc2_checker_tables.proofs.versions.first_difference.Given as goal
 

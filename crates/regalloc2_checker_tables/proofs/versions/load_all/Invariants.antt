@@ -1,4 +1,4 @@
-use Rattle.std.proofs.Common.{ℕ, ◌≡◌, ◌*◌, ◌<◌, get_or}
+use Rattle.std.proofs.Common.{◌*◌}
 use Rattle.regalloc2_checker_tables.specs.SavedCopies.{AreClean, AreSame}
 use Rattle.regalloc2_checker_tables.proofs.versions.load_all.Given as goal
 

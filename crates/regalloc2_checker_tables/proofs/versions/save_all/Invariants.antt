@@ -1,4 +1,3 @@
-use Rattle.std.proofs.Common.{ℕ}
 use Rattle.regalloc2_checker_tables.specs.SavedCopies.{AreClean, AreMoreWords, AreBases}
 use Rattle.regalloc2_checker_tables.proofs.versions.save_all.Given as goal
 

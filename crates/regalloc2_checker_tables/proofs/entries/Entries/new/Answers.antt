@@ -1,4 +1,4 @@
-use Rattle.std.proofs.Common.{ℕ, ◌≡◌, ◌<◌, ◌+◌, ◌*◌, ◌/◌, arith, get_or, refl}
+use Rattle.std.proofs.Common.{◌*◌, arith, refl}
 use Rattle.regalloc2_checker_tables.proofs.Rows.{zeros}
 use Rattle.regalloc2_checker_tables.proofs.Chunks.{chunks-new}
 use Rattle.regalloc2_checker_tables.proofs.entries.Entries.new.Goals as goal

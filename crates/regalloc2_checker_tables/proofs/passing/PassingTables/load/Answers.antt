@@ -1,15 +1,9 @@
-use Rattle.std.proofs.Common.{ℕ, ◌≡◌, ◌<◌, ◌+◌, List, [], ◌∷◌, ◌++◌, length, get_or, take, arith, Bool, true, false, ap, sym, ◌∙◌, refl, subst, cond, nat_eq}
-use Rattle.std.proofs.Common.{nat_lt}
-use Rattle.std.specs.Prelude.{◌&&◌, if◌then◌else◌, slice_set, Option, None, Some, Contains, ◌↔◌}
-use Rattle.std.specs.List.{position}
-use Rattle.std.specs.List.Sorted.{IsStrictlyIncreasing}
-use Rattle.std.proofs.lemmas.List.{length-set}
-use Rattle.regalloc2_checker_tables.specs.Holding.{Holding, holds_now, holds_in, AreKeptTables, HoldsNow, count_of, is_in, LosesSome}
-use Rattle.regalloc2_checker_tables.specs.Showing.{Showing, showing, bare, read_as, table_count, shows_now, shows_in, ArePassed, AreShown, AreTablesKept}
+use Rattle.std.proofs.Common.{ℕ, ◌≡◌, List, get_or, arith, sym, refl, subst}
+use Rattle.std.specs.Prelude.{Option, None}
+use Rattle.regalloc2_checker_tables.specs.Showing.{Showing, showing, shows_in, ArePassed, AreTablesKept}
 use Rattle.regalloc2_checker_tables.specs.Showing.{ShowsNow}
 use Rattle.regalloc2_checker_tables.specs.declared.passing.Passed.{Passed}
-use Rattle.regalloc2_checker_tables.proofs.Bits.{read-is, ok-as}
-use Rattle.regalloc2_checker_tables.proofs.TableLaws.{on_ok_as, kept_same}
+use Rattle.regalloc2_checker_tables.proofs.Bits.{read-is}
 use Rattle.regalloc2_checker_tables.proofs.Shown.{shown-after, shown-with, kept-shown, inside-table, loaded-shown}
 use Rattle.regalloc2_checker_tables.proofs.passing.PassingTables.load.Goals as goal
 

@@ -1,4 +1,4 @@
-use Rattle.std.proofs.Common.{eqb, ℕ, ◌≡◌, List, ap, sym, ◌∙◌, subst, nat_eq}
+use Rattle.std.proofs.Common.{ℕ, List, sym, subst}
 use Rattle.std.specs.Prelude.{Contains}
 use Rattle.std.specs.List.Sorted.{IsStrictlyIncreasing}
 use Rattle.std.proofs.lemmas.Map.Keys.{IsStrictlyIncreasing-dedup}

@@ -1,11 +1,9 @@
-use Rattle.std.proofs.Common.{ℕ, ◌≡◌, ◌<◌, List, [], ◌∷◌, ◌++◌, arith, Bool, true, false, ap, sym, ◌∙◌, refl, subst, cond, nat_eq, nat_lt}
-use Rattle.std.specs.Prelude.{◌&&◌, if◌then◌else◌, Option, None, Some}
-use Rattle.regalloc2_cfg.specs.Numbers.{NumberSet, has_number, times_in}
-use Rattle.regalloc2_checker_tables.specs.EntrySets.{has_bits, is_member, IsSetOf, AreMore, AreKnown, IsLess}
-use Rattle.regalloc2_checker_tables.proofs.Bits.{added-is, added-more, same-sets, within-and, none-is, ok-as, read-is, bits-in, bits-small, changed-is}
-use Rattle.regalloc2_checker_tables.proofs.Walked.{times-nil, walked-on, walked-is, walked-more, walked-end}
-use Rattle.regalloc2_checker_tables.proofs.Lone.{single-is, single-as, none-kept, alone-is, known-first, known-more, empty-is, set-of, set-is, with-empty}
-use Rattle.regalloc2_checker_tables.proofs.Lone.{without-lone, both-lone, both-apart, lone-within, lone-less, lone-none, empty-common}
+use Rattle.std.proofs.Common.{[], ap, sym, ◌∙◌, refl}
+use Rattle.std.specs.Prelude.{◌&&◌}
+use Rattle.regalloc2_checker_tables.specs.EntrySets.{has_bits, is_member}
+use Rattle.regalloc2_checker_tables.proofs.Bits.{ok-as, read-is}
+use Rattle.regalloc2_checker_tables.proofs.Lone.{empty-is, set-of, set-is}
+use Rattle.regalloc2_checker_tables.proofs.Lone.{both-lone, both-apart}
 use Rattle.regalloc2_checker_tables.proofs.sets.Sets.both.Goals as goal
 
 pub returns-then-has-clause-found : goal.returns-then-has-clause-found

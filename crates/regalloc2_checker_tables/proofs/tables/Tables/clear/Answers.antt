@@ -1,11 +1,7 @@
-use Rattle.std.proofs.Common.{ℕ, ◌≡◌, ◌<◌, ◌+◌, List, [], ◌∷◌, ◌++◌, length, get_or, arith, true, false, ap, sym, ◌∙◌, refl, subst, cond, nat_eq, nat_lt}
-use Rattle.std.specs.Prelude.{◌&&◌, ◌||◌, if◌then◌else◌, slice_set}
-use Rattle.regalloc2_cfg.specs.Numbers.{NumberSet, has_number}
-use Rattle.regalloc2_checker_tables.specs.SavedNumbers.{Numbers, number_at, number_now}
-use Rattle.regalloc2_checker_tables.specs.EntrySets.{is_member}
-use Rattle.regalloc2_checker_tables.specs.Holding.{Holding, held, holds_now, holds_in, IsHome, AreTables, AreKeptTables, HoldsNow}
-use Rattle.regalloc2_checker_tables.proofs.Bits.{read-is}
-use Rattle.regalloc2_checker_tables.proofs.TableLaws.{more-all, put-all, clear-all, drop-all, drop-kept, drop-now, less_either, on_ok_as, kept_then}
+use Rattle.std.proofs.Common.{◌<◌, length, false, sym, subst, nat_eq}
+use Rattle.std.specs.Prelude.{if◌then◌else◌}
+use Rattle.regalloc2_checker_tables.specs.Holding.{Holding, holds_now, AreKeptTables, HoldsNow}
+use Rattle.regalloc2_checker_tables.proofs.TableLaws.{clear-all}
 use Rattle.regalloc2_checker_tables.proofs.tables.Tables.clear.Goals as goal
 
 pub invariant_of-self : goal.invariant_of-self

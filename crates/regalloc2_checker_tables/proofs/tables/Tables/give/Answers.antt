@@ -1,14 +1,7 @@
-use Rattle.std.proofs.Common.{ℕ, ◌≡◌, ◌<◌, ◌+◌, List, [], ◌∷◌, ◌++◌, length, get_or, take, arith, true, false, ap, sym, ◌∙◌, refl, subst, cond, nat_eq, nat_lt}
-use Rattle.std.specs.Prelude.{◌&&◌, ◌||◌, if◌then◌else◌, slice_set}
-use Rattle.regalloc2_cfg.specs.Numbers.{NumberSet, has_number}
-use Rattle.regalloc2_checker_tables.specs.SavedNumbers.{Numbers, number_at, number_now}
-use Rattle.regalloc2_checker_tables.specs.EntrySets.{is_member}
-use Rattle.regalloc2_checker_tables.specs.Holding.{Holding, held, holds_now, holds_in, IsHome, AreTables, AreKeptTables, HoldsNow, count_of, is_in}
-use Rattle.regalloc2_checker_tables.proofs.Bits.{read-is, same-sets, ok-as}
-use Rattle.regalloc2_checker_tables.proofs.Holders.{homes-same, homes-more, dropped-less}
-use Rattle.regalloc2_checker_tables.proofs.TableLaws.{more-all, put-all, clear-all, drop-all, drop-kept, drop-now, less_either, on_ok_as, kept_then, load-all}
-use Rattle.regalloc2_checker_tables.proofs.TableLaws.{define-now, define-members, add-now, add-members, give-none, give-more, is_in-at, save-all, save-in}
-use Rattle.regalloc2_checker_tables.proofs.TableLaws.{get-below, listed-times, put-home, homes-kept-at, set-as, kept_same, holders-are, IsChanged}
+use Rattle.std.proofs.Common.{ℕ, ◌<◌, List, length, get_or, ap, sym, refl, subst}
+use Rattle.regalloc2_checker_tables.specs.Holding.{holds_now}
+use Rattle.regalloc2_checker_tables.proofs.TableLaws.{kept_then}
+use Rattle.regalloc2_checker_tables.proofs.TableLaws.{give-none, give-more, is_in-at}
 use Rattle.regalloc2_checker_tables.proofs.tables.Tables.give.Goals as goal
 
 pub loop-place-init : goal.loop-place-init

@@ -1,4 +1,4 @@
-use Rattle.std.proofs.Common.{ℕ, nat_eq, get_or, take}
+use Rattle.std.proofs.Common.{nat_eq, get_or, take}
 use Rattle.std.specs.Prelude.{if◌then◌else◌}
 use Rattle.regalloc2_checker_tables.specs.Holding.{holds_now, AreKeptTables, HoldsNow, is_in}
 use Rattle.regalloc2_checker_tables.proofs.tables.Tables.give.Given as goal

@@ -1,16 +1,11 @@
-use Rattle.std.proofs.Common.{ℕ, ◌≡◌, ◌<◌, ◌+◌, List, [], ◌∷◌, ◌++◌, length, get_or, arith, Bool, true, false, ap, sym, ◌∙◌, refl, subst, cond, nat_eq, nat_lt}
-use Rattle.std.specs.Prelude.{◌&&◌, ◌||◌, if◌then◌else◌, slice_set}
-use Rattle.std.proofs.lemmas.Bool.{eqb-true}
-use Rattle.regalloc2_cfg.specs.Numbers.{NumberSet, has_number}
-use Rattle.regalloc2_checker_tables.specs.SavedNumbers.{Numbers, number_at, number_now}
+use Rattle.std.proofs.Common.{ℕ, ◌≡◌, ◌<◌, length, get_or, arith, true, sym, refl, subst, nat_eq}
+use Rattle.std.specs.Prelude.{◌||◌, if◌then◌else◌}
 use Rattle.regalloc2_checker_tables.specs.EntrySets.{is_member}
-use Rattle.regalloc2_checker_tables.specs.Holding.{Holding, held, holds_now, holds_in, IsHome, AreTables, AreKeptTables, HoldsNow, count_of, is_in}
-use Rattle.regalloc2_checker_tables.specs.Holding.{AreMoreHomes}
-use Rattle.regalloc2_checker_tables.proofs.Bits.{read-is, same-sets, ok-as}
-use Rattle.regalloc2_checker_tables.proofs.Listed.{at-position, not-listed}
-use Rattle.regalloc2_checker_tables.proofs.Holders.{homes-same, homes-more, home-at, noted-here}
-use Rattle.regalloc2_checker_tables.proofs.TableLaws.{more-all, put-all, less_either, on_ok_as}
-use Rattle.regalloc2_checker_tables.proofs.TableLaws.{get-below, listed-times, put-home, homes-kept-at, kept_same, IsChanged}
+use Rattle.regalloc2_checker_tables.specs.Holding.{Holding, holds_now, AreKeptTables, HoldsNow}
+use Rattle.regalloc2_checker_tables.proofs.Bits.{same-sets}
+use Rattle.regalloc2_checker_tables.proofs.Holders.{home-at}
+use Rattle.regalloc2_checker_tables.proofs.TableLaws.{more-all, put-all}
+use Rattle.regalloc2_checker_tables.proofs.TableLaws.{put-home}
 use Rattle.regalloc2_checker_tables.proofs.tables.Tables.put.Goals as goal
 
 pub note_at-requires : goal.note_at-requires

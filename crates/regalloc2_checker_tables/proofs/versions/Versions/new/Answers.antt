@@ -1,7 +1,7 @@
-use Rattle.std.proofs.Common.{ℕ, ◌≡◌, ◌<◌, ◌≤◌, ◌+◌, ◌*◌, ◌/◌, ◌%◌, List, [], ◌∷◌, ◌++◌, length, get_or, map, arith, true, false, ap, sym, ◌∙◌, refl, subst}
-use Rattle.std.specs.Prelude.{Option, None, Some, slice_set}
+use Rattle.std.proofs.Common.{ℕ, ◌≡◌, ◌<◌, ◌≤◌, ◌+◌, ◌*◌, ◌/◌, [], length, get_or, arith, sym, ◌∙◌, refl, subst}
+use Rattle.std.specs.Prelude.{None}
 use Rattle.regalloc2_checker_tables.proofs.Rows.{within-as, some-same, zeros}
-use Rattle.regalloc2_checker_tables.specs.SavedCopies.{saved_at, cell_at, number_in, IsChunkAt, AreClean, AreWithin, AreMoreWords, AreBases, AreSame, AreKept}
+use Rattle.regalloc2_checker_tables.specs.SavedCopies.{IsChunkAt}
 use Rattle.regalloc2_checker_tables.proofs.versions.Versions.new.Goals as goal
 
 pub invariant_of-result : goal.invariant_of-result

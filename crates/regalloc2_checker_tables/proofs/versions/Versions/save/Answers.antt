@@ -1,14 +1,12 @@
-use Rattle.std.proofs.Common.{ℕ, ◌≡◌, ◌<◌, ◌≤◌, ◌+◌, ◌*◌, ◌/◌, ◌%◌, List, [], ◌∷◌, ◌++◌, length, get_or, map, arith, true, false, ap, sym, ◌∙◌, refl, subst}
-use Rattle.std.specs.Prelude.{Option, None, Some, slice_set}
+use Rattle.std.proofs.Common.{ℕ, ◌≤◌, List, [], length, get_or, map, arith, ap, sym, ◌∙◌, refl}
+use Rattle.std.specs.Prelude.{Option, slice_set}
 use Rattle.std.specs.Vec.{with_items}
 use Rattle.std.proofs.Common.{inl, inr}
 use Rattle.std.proofs.lemmas.Bool.{cases_eq}
-use Rattle.std.proofs.lemmas.List.{with_items_is, length-set, length-map}
-use Rattle.regalloc2_checker_tables.specs.SavedCopies.{Copies, saved_at, cell_at, number_in, IsChunkAt}
-use Rattle.regalloc2_checker_tables.specs.SavedCopies.{AreClean, AreWithin, AreMoreWords, AreBases, AreSame, AreKept}
+use Rattle.std.proofs.lemmas.List.{with_items_is}
+use Rattle.regalloc2_checker_tables.specs.SavedCopies.{Copies, saved_at, cell_at, number_in}
 use Rattle.regalloc2_checker_tables.proofs.Rows.{row-is, row-less, row-set_same, row-set_other, within-as}
 use Rattle.regalloc2_checker_tables.proofs.Rows.{clean-as, within-more, number-kept, bases-within, bases-same}
-use Rattle.regalloc2_checker_tables.proofs.Rows.{clean-set}
 use Rattle.regalloc2_checker_tables.proofs.versions.Versions.save.Goals as goal
 
 pub save_all-requires-clause-within : goal.save_all-requires-clause-within

@@ -1,11 +1,7 @@
-use Rattle.std.proofs.Common.{ℕ, ◌≡◌, ◌<◌, ◌≤◌, ◌+◌, ◌*◌, ◌/◌, ◌%◌, List, [], ◌∷◌, ◌++◌, length, get_or, map, arith, true, false, ap, sym, ◌∙◌, refl, subst}
-use Rattle.std.specs.Prelude.{Option, None, Some, slice_set}
-use Rattle.std.specs.Vec.{with_items}
-use Rattle.std.proofs.lemmas.List.{with_items_is, length-set, length-map}
-use Rattle.regalloc2_checker_tables.specs.SavedCopies.{Copies, saved_at, cell_at, number_in, IsChunkAt}
-use Rattle.regalloc2_checker_tables.specs.SavedCopies.{AreClean, AreWithin, AreMoreWords, AreBases, AreSame, AreKept}
-use Rattle.regalloc2_checker_tables.proofs.Rows.{row-is, row-less, row-set_same, row-set_other, within-as}
-use Rattle.regalloc2_checker_tables.proofs.Rows.{clean-as, within-more, number-kept, bases-within, bases-same}
+use Rattle.std.proofs.Common.{◌/◌, length, arith, ap}
+use Rattle.std.specs.Prelude.{None}
+use Rattle.std.proofs.lemmas.List.{length-set}
+use Rattle.regalloc2_checker_tables.specs.SavedCopies.{Copies}
 use Rattle.regalloc2_checker_tables.proofs.Rows.{clean-set}
 use Rattle.regalloc2_checker_tables.proofs.versions.Versions.set.Goals as goal
 
