@@ -4,7 +4,7 @@
 -- both tests, and names the first failure. Read `Keeps` in `TableKeepsDefs` first; `ListingsOfFunction` and `DefsCounted` join the listings
 -- with the function, `NotedInParts`, `ListsInParts` and `ListMembers` serve loops. `ErrorOnlyOutOfMemory` has the case without failure.
 -- Tables by number: `room_above` and `short_above` in `TableLengths`.
--- Blocks: `PredsListed` (`all_ways_end`), `TimesInList`, `BlockRanges`, `TablesByBlock`.
+-- Blocks: `PredsListed` (`all_ways_end`), `PredsInOrder` (`order_agrees`), `TimesInList`, `BlockRanges`, `TablesByBlock`.
 -- The order: `leaves_once` and `leaves_reached` in `LeavesReached`; `walked_end` in `DepthFirstWalk`, whose invariant is `Walked`;
 -- `NamedBlocks` for what has to be a block.
 -- Sets: `NumberSets`, over `NumberMaps` and `NumberPlaces` (words by key), `NumberBits` (members of a word) and `NumberUnions`.
@@ -20,6 +20,7 @@ pub mod TableDecidesSSA
 pub mod ErrorOnlyOutOfMemory
 pub mod TimesInList
 pub mod PredsListed
+pub mod PredsInOrder
 pub mod TablesByBlock
 pub mod NamedBlocks
 pub mod DepthFirstWalk

@@ -24,7 +24,7 @@ listed_set ws s w less = ap (λ l. get_or l s []) (map-set (λ w. w.items) ws s 
 listed_kept : {A : Type 0} (ws : List (Vec ℕ A)) (s n : ℕ) (w : Vec ℕ A) → n ≢ s → listed_of (set ws s w) n ≡ listed_of ws n
 listed_kept ws s n w ne = ap (λ l. get_or l n []) (map-set (λ w. w.items) ws s w) ∙ get_or-set_other (map (λ w. w.items) ws) s n w.items [] ne
 
-differ : (x y : ℕ) → x ≢ y → nat_eq x y ≡ false
+pub differ : (x y : ℕ) → x ≢ y → nat_eq x y ≡ false
 differ x y ne = elim (cases_Bool (nat_eq x y)) [ inl e ↦ absurd (ne ((Decides-eqb x y).0 e)) | inr e ↦ e ]
 
 -- one position more

@@ -4,7 +4,6 @@ use Rattle.std.proofs.Common.{arith, eq-eqb, get_or-set_same, get_or-set_other}
 use Rattle.std.specs.Prelude.{Contains, Option, None, Some, slice_index_or, nat_eq}
 use Rattle.std.proofs.lemmas.Bool.{cases_Bool, cases_eq}
 use Rattle.std.proofs.lemmas.Bool.Decides.{Decides-eqb}
-use Rattle.std.proofs.lemmas.List.{get_or-replicate, get_or_past, length-replicate}
 use Rattle.regalloc2_names.specs.Register.{VirtualRegister}
 use Rattle.regalloc2_function.specs.FunctionValue.{FunctionValue, block_at}
 use Rattle.regalloc2_names.specs.Operand.{OperandValue, is_def}
@@ -21,14 +20,13 @@ use Rattle.regalloc2_live_ranges.specs.declared.ends.RangeEnd.{RangeEnd}
 use Rattle.regalloc2_live_ranges.specs.LiveRanges.{AreLiveRanges, IsDefiner, IsLiveRange, IsSSA, range_at}
 use Rattle.regalloc2_live_ranges.specs.LastUses.{EndsFrom, EndsUse, NotesUses, UsesNumber, end_at, end_behind, no_vreg}
 use Rattle.regalloc2_live_ranges.specs.LastUses.UsesNumber.{reads, passes}
+use Rattle.regalloc2_live_ranges.specs.Slots.{spread}
 use Rattle.regalloc2_live_ranges.specs.WalkInvariant.{AreEndsFrom, AreRight, IsWalked, NamesNone, Stay, begin_of}
 use Rattle.regalloc2_live_ranges.proofs.ItemsPastEnd.{any_default, op_is}
+use Rattle.regalloc2_live_ranges.proofs.Spread.{lt_or_le, spread_length, spread_nothing, up_to}
 use Rattle.regalloc2_live_ranges.proofs.UsesNoted.{ends_more, notes_nothing, passed_here}
 use Rattle.regalloc2_live_ranges.proofs.UsesInSSA.{definer_small, defines_number, made_by_definition, made_by_parameter, parameter_small}
 use Rattle.regalloc2_live_ranges.proofs.FirstAndLastPoints.{is_used, range_of_definition, range_of_parameter, used_ends}
-
-lt_or_le : (m n : ℕ) → (m < n) ⊎ (n ≤ m)
-lt_or_le m n = grind arith
 
 -- an entry is written
 here : (t : List (Option LiveRange)) (n : ℕ) (r : LiveRange) → n < length t → range_at (set t n (Some r)) n ≡ Some r
@@ -58,18 +56,6 @@ stay_set t n r less m some = elim (cases_eq m n) [
   | inr ne ↦ (λ h. some (sym (there t n m r ne) ∙ h))
 ]
 
-no_range : (num n : ℕ) → range_at (replicate num None) n ≡ None
-no_range num n = elim (lt_or_le n num) [
-  | inl less ↦ get_or-replicate num n None None less
-  | inr past ↦ get_or_past (replicate num None) n None (rw length-replicate past)
-]
-
-no_end : (num n : ℕ) → end_at (replicate num None) n ≡ None
-no_end num n = elim (lt_or_le n num) [
-  | inl less ↦ get_or-replicate num n None None less
-  | inr past ↦ get_or_past (replicate num None) n None (rw length-replicate past)
-]
-
 -- the same range, by parts
 pub range_same : (f : FunctionValue) (a v : VirtualRegister) (p q : ℕ) (d e : RangeEnd) → a ≡ v → p ≡ q → d ≡ e →
     IsLiveRange f (record { vreg = v; first = q; last = e.last; by = e.by }) → IsLiveRange f (record { vreg = a; first = p; last = d.last; by = d.by })
@@ -77,9 +63,6 @@ range_same f a v p q d e same at end h =
     subst (λ (w : VirtualRegister). IsLiveRange f (record { vreg = w; first = p; last = d.last; by = d.by })) (sym same)
     (subst (λ (n : ℕ). IsLiveRange f (record { vreg = v; first = n; last = d.last; by = d.by })) (sym at)
     (subst (λ (x : RangeEnd). IsLiveRange f (record { vreg = v; first = q; last = x.last; by = x.by })) (sym end) h))
-
-up_to : (k m : ℕ) → k < m + 1 → (k < m) ⊎ (k ≡ m)
-up_to k m lt = grind arith
 
 -- of the first so many operands' definitions, those that are asked for have entries
 abbrev pub AreBegun : (ℕ → Type 0) → List OperandValue → ℕ → List (Option LiveRange) → Type 0
@@ -155,13 +138,13 @@ taken_all f ssa Asked b vs m ends t params noted h v j asked has used =
     (subst (λ (w : VirtualRegister). Asked w.number) (sym at) asked) (subst (λ (w : VirtualRegister). end_at ends w.number ≢ None) (sym at) some))
 
 -- before the walk
-pub walked_none : (f : FunctionValue) → IsSSA f → (Asked : ℕ → Type 0) (m : ℕ) → HasRoom f m →
-    IsWalked f Asked (length f.insts) (length f.blocks) (replicate m None) (replicate m None)
-walked_none f ssa Asked m room = record {
-  ends_room = subst (HasRoom f) (sym (length-replicate m None)) room;
-  ranges_room = subst (HasRoom f) (sym (length-replicate m None)) room;
-  noted = λ n lt asked. subst (EndsFrom f (length f.insts) n) (sym (no_end m n)) (λ j le u. none_past j le n u);
-  right = λ n r h. absurd (let e : Some r ≡ None = sym h ∙ no_range m n in cc);
+pub walked_none : (f : FunctionValue) → IsSSA f → (Asked : ℕ → Type 0) (slots : List ℕ) (m : ℕ) → HasRoom f (length slots) →
+    IsWalked f Asked (length f.insts) (length f.blocks) (spread slots (replicate m None)) (spread slots (replicate m None))
+walked_none f ssa Asked slots m room = record {
+  ends_room = subst (HasRoom f) (sym (spread_length slots (replicate m None))) room;
+  ranges_room = subst (HasRoom f) (sym (spread_length slots (replicate m None))) room;
+  noted = λ n lt asked. subst (EndsFrom f (length f.insts) n) (sym (spread_nothing slots m n)) (λ j le u. none_past j le n u);
+  right = λ n r h. absurd (let e : Some r ≡ None = sym h ∙ spread_nothing slots m n in cc);
   defined = λ v j le asked d. absurd (omega (arith, le, d.0));
   taken = λ v c j le lt. absurd (omega (arith, le, lt));
 }
@@ -214,9 +197,9 @@ walked_over f follow Asked b c i ends ranges lt from upto inside none w =
 
 -- its uses are noted
 pub noted_more : (f : FunctionValue) (Asked : ℕ → Type 0) (i : ℕ) (ends ends' : List (Option RangeEnd)) → AreEndsFrom f Asked (i + 1) ends →
-    length ends' ≡ length ends → ((n : ℕ) → n < length ends → NotesUses f i n (end_at ends n) (end_at ends' n)) → AreEndsFrom f Asked i ends'
+    length ends' ≡ length ends → ((n : ℕ) → n < length ends → Asked n → NotesUses f i n (end_at ends n) (end_at ends' n)) → AreEndsFrom f Asked i ends'
 noted_more f Asked i ends ends' h long uses n lt asked = let less : n < length ends = omega (arith, lt, long) in
-    ends_more f i n (end_at ends n) (end_at ends' n) (h n less asked) (uses n less)
+    ends_more f i n (end_at ends n) (end_at ends' n) (h n less asked) (uses n less asked)
 
 -- one block's beginning more
 pub walked_block : (f : FunctionValue) (Asked : ℕ → Type 0) (i b : ℕ) (ends : List (Option RangeEnd)) (ranges ranges' : List (Option LiveRange)) →
@@ -272,7 +255,7 @@ param_within f b vs k v same lt is = subst (λ (ws : List VirtualRegister). Cont
 -- the entry of the table of ends that was read at the number of a virtual register
 pub record IsRead (ends : List (Option RangeEnd)) (v : VirtualRegister) (n : ℕ) (o : Option RangeEnd) : Type 0 where
   pub number : n ≡ v.number
-  pub entry : o ≡ slice_index_or ends n o
+  pub entry : o ≡ slice_index_or ends n None
 
 -- a range of a virtual register a from p to d that is made where the operand k of the instruction i defines v; q is the point behind the instruction
 pub record IsMade (i k : ℕ) (v a : VirtualRegister) (p q : ℕ) (o : Option RangeEnd) (d : RangeEnd) : Type 0 where
@@ -287,7 +270,7 @@ pub defined_range : (f : FunctionValue) (ssa : IsSSA f) (Asked : ℕ → Type 0)
     IsRead ends v n o → IsMade i k v a p q o d → IsLiveRange f (record { vreg = a; first = p; last = d.last; by = d.by })
 defined_range f ssa Asked ends i k v a {n = n} {p = p} {q = q} o d definer noted asked read made =
     let small = definer_small f ssa (length ends) noted.room v (record { inst = i; index = k }) definer in
-    let entry : o ≡ end_at ends v.number = read.entry ∙ any_default ends n o None (omega (arith, small, read.number)) ∙ ap (end_at ends) read.number in
+    let entry : o ≡ end_at ends v.number = read.entry ∙ ap (end_at ends) read.number in
     let unused : RangeEnd = record { last = q; by = Some (record { inst = i; index = k }) } in
     let right : unused ≡ record { last = before (i + 1); by = Some (record { inst = i; index = k }) } = ap (λ
     (x : ℕ). record { last = x; by = Some (record { inst = i; index = k }) }) made.point in

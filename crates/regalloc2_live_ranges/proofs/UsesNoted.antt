@@ -20,6 +20,7 @@ use Rattle.regalloc2_live_ranges.specs.LastUses.{read_end}
 use Rattle.regalloc2_live_ranges.specs.LastUses.UsesNumber.{reads, passes}
 use Rattle.regalloc2_live_ranges.specs.LastUses.EndsUse.{late, early, passed}
 use Rattle.regalloc2_live_ranges.proofs.ItemsPastEnd.{op_is}
+use Rattle.regalloc2_live_ranges.proofs.Spread.{up_to}
 
 -- what is noted stays so where no more than before is looked for, and all that fitted before fits
 pub notes_weaker : (F G : Type 0) (S T : RangeEnd → Type 0) (old new : Option RangeEnd) → (G → F) → ((e : RangeEnd) → S e → T e) → Notes F S old new →
@@ -42,9 +43,6 @@ notes_then F G S T (Some e) mid new h k = subst (λ (o : Option RangeEnd). Notes
 notes_then F G S T None None None h k = λ s. elim s [ inl a ↦ h a | inr b ↦ k b ]
 notes_then F G S T None None (Some e) h k = inr (h, k)
 notes_then F G S T None (Some d) new h k = subst (λ (o : Option RangeEnd). Notes (F ⊎ G) (λ e. S e ⊎ ((F → ⊥) × T e)) None o) (sym k) (inl h)
-
-up_to : (k m : ℕ) → k < m + 1 → (k < m) ⊎ (k ≡ m)
-up_to k m lt = grind arith
 
 -- operands
 pub reads_more : (at : OperandPos) (i : ℕ) (ops : List OperandValue) (m n : ℕ) (old mid : Option RangeEnd) → ReadsNumber ops n at m →
@@ -95,17 +93,18 @@ pub record IsReader (at : OperandPos) (ops : List OperandValue) (m : ℕ) (o : O
   pub same : v ≡ o.vreg
 
 -- where it reads is noted for it, unless an end is, and nothing else is
-pub record NotesEnd (at : OperandPos) (i m : ℕ) (v : VirtualRegister) (last : ℕ) (before after : List (Option RangeEnd)) : Type 0 where
+pub record NotesEnd (Has : ℕ → Type 0) (at : OperandPos) (i m : ℕ) (v : VirtualRegister) (last : ℕ) (before after : List (Option RangeEnd)) : Type 0 where
   pub end : last ≡ read_end at i
-  pub noted : v.number < length before → end_at after v.number ≡ option_or (end_at before v.number)
+  pub noted : Has v.number → end_at after v.number ≡ option_or (end_at before v.number)
       (Some (record { last = last; by = Some (record { inst = i; index = m }) }))
   pub others : (q : ℕ) → q ≢ v.number → end_at after q ≡ end_at before q
 
 -- an operand that reads is noted
-pub reads_step : (at : OperandPos) (i : ℕ) (ops : List OperandValue) (m n : ℕ) (old : Option RangeEnd) (before after : List (Option RangeEnd))
-    (o : OperandValue) (v : VirtualRegister) (last : ℕ) → IsReader at ops m o v → NotesEnd at i m v last before after → n < length before
+pub reads_step : (Has : ℕ → Type 0) (at : OperandPos) (i : ℕ) (ops : List OperandValue) (m n : ℕ) (old : Option RangeEnd)
+    (before after : List (Option RangeEnd))
+    (o : OperandValue) (v : VirtualRegister) (last : ℕ) → IsReader at ops m o v → NotesEnd Has at i m v last before after → Has n
     → NotesReads at i ops m n old (end_at before n) → NotesReads at i ops (m + 1) n old (end_at after n)
-reads_step at i ops m n old before after o v last by e lt h =
+reads_step Has at i ops m n old before after o v last by e has h =
     let less : m < length ops = by.within in
     let reading = by.reads in
     let same : v ≡ o.vreg = by.same in
@@ -122,7 +121,7 @@ reads_step at i ops m n old before after o v last by e lt h =
           let now : end_at after n ≡ option_or (end_at before n) (Some (end_of_reader at i m)) =
           subst (λ (q : ℕ). end_at after q ≡ option_or (end_at before q) (Some (end_of_reader at i m))) (sym here)
           (subst (λ (p : ℕ). end_at after v.number ≡ option_or (end_at before v.number)
-          (Some (record { last = p; by = Some (record { inst = i; index = m }) }))) e.end (e.noted (omega (arith, lt, here)))) in
+          (Some (record { last = p; by = Some (record { inst = i; index = m }) }))) e.end (e.noted (subst Has here has))) in
           subst (NotesReads at i ops (m + 1) n old) (sym now) (reads_more at i ops m n old (end_at before n) r h))
       | inr ne ↦ (
           let never : ReadsNumber ops n at m → ⊥ = λ r. ne (sym r.number ∙ ap (λ (p : OperandValue). p.vreg.number) item

@@ -2,3 +2,4 @@ pub mod LiveRanges
 pub mod LastUses
 pub mod WalkInvariant
 pub mod Marks
+pub mod Slots

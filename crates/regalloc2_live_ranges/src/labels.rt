@@ -4,9 +4,12 @@ ghost use Rattle.std.specs.Prelude.{◌≡◌, ℕ, [], IfErr, IfOk, IsOk, Match
 ghost use Rattle.regalloc2_function.specs.FunctionValue.{label_of};
 ghost use Rattle.regalloc2_function.specs.DebugPoints.{IsKept};
 ghost use Rattle.regalloc2_live_ranges.specs.LiveRanges.{AreKeptLabels, AreLiveRanges, IsKeptRange, IsLabelled, IsSSA};
+ghost use Rattle.regalloc2_live_ranges.specs.Slots.{spread};
 
+use super::slots::entry;
+use super::walk::few_ranges;
 use super::wanted::labelled;
-use super::{KeptLabel, LiveRange, live_ranges};
+use super::{KeptLabel, LiveRange};
 use regalloc2_function::Function;
 use regalloc2_index::Inst;
 use regalloc2_names::{RegAllocError, VReg};
@@ -16,21 +19,18 @@ use std::alloc::Allocator;
 // most one past that of the last.
 fn kept_range<F: Function>(
     f: &F,
+    slots: &[u32],
     ranges: &[Option<LiveRange>],
     label: (VReg, Inst, Inst, u32),
 ) -> Option<LiveRange>
     requires ssa { IsSSA (F.function f.now) }
-    requires ranges { AreLiveRanges (F.function f.now) (IsLabelled (F.function f.now)) ranges.now }
+    requires ranges { AreLiveRanges (F.function f.now) (IsLabelled (F.function f.now)) (spread slots.now ranges.now) }
     requires labelled { IsLabelled (F.function f.now) (label_of label).vreg.number }
     ensures { MatchOption result ((start end : ℕ) → IsKept (F.function f.now) (label_of label) start end → ⊥)
         (IsKeptRange (F.function f.now) (label_of label)) }
 {
     let (vreg, start, end, _) = label;
-    let number = vreg.vreg();
-    if number >= ranges.len() {
-        return None;
-    }
-    let range = ranges[number]?;
+    let range = entry(ranges, slots, vreg.vreg())?;
     let first = range.first.inst().index();
     let last = range.last.inst().index();
     if range.vreg == vreg && first <= start.index() && end.index() <= last + 1 {
@@ -44,16 +44,17 @@ fn kept_range<F: Function>(
 fn keep_labels<A: Allocator + Copy, F: Function>(
     alloc: A,
     f: &F,
+    slots: &[u32],
     ranges: &[Option<LiveRange>],
 ) -> Result<Vec<KeptLabel, A>, RegAllocError>
     requires ssa { IsSSA (F.function f.now) }
-    requires ranges { AreLiveRanges (F.function f.now) (IsLabelled (F.function f.now)) ranges.now }
+    requires ranges { AreLiveRanges (F.function f.now) (IsLabelled (F.function f.now)) (spread slots.now ranges.now) }
     ensures ok { IfOk result (λ ks. AreKeptLabels (F.function f.now) (F.function f.now).labels ks.items) }
     ensures err { IfErr result (λ e. e ≡ RegAllocError.Memory) }
 {
     let mut kept = Vec::new(alloc);
     for label in f.debug_value_labels() {
-        if let Some(range) = kept_range(f, ranges, *label) {
+        if let Some(range) = kept_range(f, slots, ranges, *label) {
             let (_, _, _, label) = *label;
             kept.push(KeptLabel { label, range })?;
         }
@@ -83,6 +84,6 @@ pub fn kept_labels<A: Allocator + Copy, F: Function>(
         return Ok(Vec::new(alloc));
     }
     let wanted = labelled(alloc, f)?;
-    let ranges = live_ranges(alloc, f, wanted.as_slice())?;
-    keep_labels(alloc, f, ranges.as_slice())
+    let few = few_ranges(alloc, f, wanted.as_slice())?;
+    keep_labels(alloc, f, few.slots.as_slice(), few.entries.as_slice())
 }

@@ -11,6 +11,7 @@ use regalloc2_names::{ProgPoint, VReg};
 mod ends;
 mod labels;
 mod ranges;
+mod slots;
 mod walk;
 mod wanted;
 

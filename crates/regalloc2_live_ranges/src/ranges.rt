@@ -8,9 +8,11 @@ ghost use Rattle.regalloc2_function.specs.DebugPoints.{DefinesAt, UsesAt};
 ghost use Rattle.regalloc2_cfg.specs.TableLength.{HasRoom};
 ghost use Rattle.regalloc2_live_ranges.specs.LastUses.{end_at, end_behind};
 ghost use Rattle.regalloc2_live_ranges.specs.LiveRanges.{IsSSA, IsWanted, range_at};
+ghost use Rattle.regalloc2_live_ranges.specs.Slots.{AreSlots, spread};
 ghost use Rattle.regalloc2_live_ranges.specs.WalkInvariant.{AreEndsFrom, AreRight, Stay};
 
 use super::ends::RangeEnd;
+use super::slots::{entry, set_entry};
 use super::wanted::is_wanted;
 use super::{InstOperand, LiveRange};
 use regalloc2_function::Function;
@@ -41,19 +43,21 @@ fn defines_wanted(wanted: &[bool], operand: Operand) -> bool
 pub fn begin_at_defs<F: Function>(
     ranges: &mut [Option<LiveRange>],
     ends: &[Option<RangeEnd>],
+    slots: &[u32],
     f: &F,
     wanted: &[bool],
     inst: Inst,
 )
     requires ssa { IsSSA (F.function f.now) }
     requires inst { inst < length (F.function f.now).insts }
-    requires ends_room { HasRoom (F.function f.now) (length ends.now) }
-    requires ranges_room { HasRoom (F.function f.now) (length ranges.old) }
-    requires ends { AreEndsFrom (F.function f.now) (IsWanted wanted.now) inst ends.now }
-    requires right { AreRight (F.function f.now) ranges.old }
-    ensures right { AreRight (F.function f.now) ranges.new }
-    ensures stay { Stay ranges.old ranges.new }
-    ensures defined { (v : VirtualRegister) → IsWanted wanted.now v.number → DefinesAt (F.function f.now) v inst → range_at ranges.new v.number ≢ None }
+    requires room { HasRoom (F.function f.now) (length slots.now) }
+    requires ends { AreEndsFrom (F.function f.now) (IsWanted wanted.now) inst (spread slots.now ends.now) }
+    requires slots { AreSlots wanted.now slots.now (length ranges.old) }
+    requires right { AreRight (F.function f.now) (spread slots.now ranges.old) }
+    ensures right { AreRight (F.function f.now) (spread slots.now ranges.new) }
+    ensures stay { Stay (spread slots.now ranges.old) (spread slots.now ranges.new) }
+    ensures defined { (v : VirtualRegister) → IsWanted wanted.now v.number → DefinesAt (F.function f.now) v inst →
+        range_at (spread slots.now ranges.new) v.number ≢ None }
 {
     for (index, operand) in f.inst_operands(inst).iter().enumerate() {
         if defines_wanted(wanted, *operand) {
@@ -62,25 +66,30 @@ pub fn begin_at_defs<F: Function>(
                 last: ProgPoint::before(inst.next()),
                 by: Some(InstOperand { inst, index }),
             };
-            let end = end_of_defined(ends[vreg.vreg()], inst, unused);
-            ranges[vreg.vreg()] = Some(LiveRange {
+            let end = end_of_defined(entry(ends, slots, vreg.vreg()), inst, unused);
+            let range = LiveRange {
                 vreg,
                 first: ProgPoint::after(inst),
                 last: end.last,
                 by: end.by,
-            });
+            };
+            set_entry(ranges, slots, vreg.vreg(), range);
         }
     }
 }
 
 // The end that is noted of a vreg, if that is wanted.
-fn wanted_end(wanted: &[bool], ends: &[Option<RangeEnd>], vreg: VReg) -> Option<RangeEnd>
-    requires { vreg.number < length ends.now }
-    ensures some { IfSome result (λ e. IsWanted wanted.now vreg.number × (end_at ends.now vreg.number ≡ Some e)) }
-    ensures none { IfNone result (IsWanted wanted.now vreg.number → end_at ends.now vreg.number ≡ None) }
+fn wanted_end(
+    wanted: &[bool],
+    ends: &[Option<RangeEnd>],
+    slots: &[u32],
+    vreg: VReg,
+) -> Option<RangeEnd>
+    ensures some { IfSome result (λ e. IsWanted wanted.now vreg.number × (end_at (spread slots.now ends.now) vreg.number ≡ Some e)) }
+    ensures none { IfNone result (IsWanted wanted.now vreg.number → end_at (spread slots.now ends.now) vreg.number ≡ None) }
 {
     if is_wanted(wanted, vreg) {
-        ends[vreg.vreg()]
+        entry(ends, slots, vreg.vreg())
     } else {
         None
     }
@@ -90,30 +99,32 @@ fn wanted_end(wanted: &[bool], ends: &[Option<RangeEnd>], vreg: VReg) -> Option<
 pub fn begin_at_params<F: Function>(
     ranges: &mut [Option<LiveRange>],
     ends: &[Option<RangeEnd>],
+    slots: &[u32],
     f: &F,
     wanted: &[bool],
     block: Block,
 )
     requires ssa { IsSSA (F.function f.now) }
     requires block { block < length (F.function f.now).blocks }
-    requires ends_room { HasRoom (F.function f.now) (length ends.now) }
-    requires ranges_room { HasRoom (F.function f.now) (length ranges.old) }
-    requires ends { AreEndsFrom (F.function f.now) (IsWanted wanted.now) (block_at (F.function f.now) block).range.first ends.now }
-    requires right { AreRight (F.function f.now) ranges.old }
-    ensures right { AreRight (F.function f.now) ranges.new }
-    ensures stay { Stay ranges.old ranges.new }
+    requires room { HasRoom (F.function f.now) (length slots.now) }
+    requires ends { AreEndsFrom (F.function f.now) (IsWanted wanted.now) (block_at (F.function f.now) block).range.first (spread slots.now ends.now) }
+    requires slots { AreSlots wanted.now slots.now (length ranges.old) }
+    requires right { AreRight (F.function f.now) (spread slots.now ranges.old) }
+    ensures right { AreRight (F.function f.now) (spread slots.now ranges.new) }
+    ensures stay { Stay (spread slots.now ranges.old) (spread slots.now ranges.new) }
     ensures taken { (v : VirtualRegister) (j : ℕ) → IsWanted wanted.now v.number → Contains (block_at (F.function f.now) block).params v →
-        UsesAt (F.function f.now) v j → range_at ranges.new v.number ≢ None }
+        UsesAt (F.function f.now) v j → range_at (spread slots.now ranges.new) v.number ≢ None }
 {
     let first = ProgPoint::before(f.block_insns(block).first());
     for param in f.block_params(block) {
-        if let Some(end) = wanted_end(wanted, ends, *param) {
-            ranges[param.vreg()] = Some(LiveRange {
+        if let Some(end) = wanted_end(wanted, ends, slots, *param) {
+            let range = LiveRange {
                 vreg: *param,
                 first,
                 last: end.last,
                 by: end.by,
-            });
+            };
+            set_entry(ranges, slots, param.vreg(), range);
         }
     }
 }

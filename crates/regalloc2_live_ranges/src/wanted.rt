@@ -15,16 +15,22 @@ use regalloc2_index::{Block, Inst};
 use regalloc2_names::{Operand, VReg};
 use std::alloc::{AllocError, Allocator};
 
-/// Whether a vreg is wanted.
-pub fn is_wanted(wanted: &[bool], vreg: VReg) -> bool
-    ensures { result ≡ slice_index_or wanted.now vreg.number false }
+/// Whether a number is marked.
+pub fn is_marked(wanted: &[bool], number: usize) -> bool
+    ensures { result ≡ slice_index_or wanted.now number false }
 {
-    let number = vreg.vreg();
     if number < wanted.len() {
         wanted[number]
     } else {
         false
     }
+}
+
+/// Whether a vreg is wanted.
+pub fn is_wanted(wanted: &[bool], vreg: VReg) -> bool
+    ensures { result ≡ slice_index_or wanted.now vreg.number false }
+{
+    is_marked(wanted, vreg.vreg())
 }
 
 // Whether an operand names a vreg that is wanted.

@@ -1,7 +1,9 @@
 use Rattle.std.proofs.Common.{ℕ, ◌≡◌, ◌<◌, Bool, List, length, ◌∙◌, [], sym, subst}
-use Rattle.std.specs.Prelude.{◌↔◌}
+use Rattle.std.specs.Prelude.{Option, ◌↔◌}
 use Rattle.regalloc2_function.specs.FunctionValue.{FunctionValue, label_of}
 use Rattle.regalloc2_cfg.specs.TableLength.{HasRoom}
+use Rattle.regalloc2_live_ranges.specs.declared.LiveRange.{LiveRange}
+use Rattle.regalloc2_live_ranges.specs.Slots.{spread}
 use Rattle.regalloc2_live_ranges.specs.LiveRanges.{AreLiveRanges, IsLabelled, IsWanted}
 use Rattle.regalloc2_live_ranges.specs.LiveRanges.AreKeptLabels.{none}
 use Rattle.regalloc2_live_ranges.proofs.KeptLabels.{nothing_mapped}
@@ -19,8 +21,11 @@ returns-then-is_empty-clause-ok g c =
 pub keep_labels-requires-clause-ranges : goal.keep_labels-requires-clause-ranges
 keep_labels-requires-clause-ranges g c =
     let f : FunctionValue = g.F.Function.function c.args.f.now in
-    subst (AreLiveRanges f (IsLabelled f)) (sym c.as_slice-2.ensures.value)
-    (ranges_of_labelled f c.requires c.as_slice.result.now c.in_ok-ranges.ranges.items
+    let slots : List ℕ = c.in_ok-few.few.slots.items in
+    let entries : List (Option LiveRange) = c.in_ok-few.few.entries.items in
+    subst (λ (ss : List ℕ). AreLiveRanges f (IsLabelled f) (spread ss c.as_slice-3.result.now)) (sym c.as_slice-2.ensures.value)
+    (subst (λ (t : List (Option LiveRange)). AreLiveRanges f (IsLabelled f) (spread slots t)) (sym c.as_slice-3.ensures.value)
+    (ranges_of_labelled f c.requires c.as_slice.result.now (spread slots entries)
     (subst (λ (ws : List Bool). HasRoom f (length ws)) (sym c.as_slice.ensures.value) c.in_ok-wanted.ensures.room)
     (subst (λ (ws : List Bool). (n : ℕ) → n < length ws → IsWanted ws n ↔ IsLabelled f n) (sym c.as_slice.ensures.value) c.in_ok-wanted.ensures.marks)
-    c.in_ok-ranges.ensures.ok)
+    c.in_ok-few.ensures.ok))

@@ -1,8 +1,9 @@
-use Rattle.std.proofs.Common.{◌≡◌, ◌<◌, ◌∙◌, Some, None, length, sym, ap, arith}
+use Rattle.std.proofs.Common.{◌≡◌, ◌∙◌, List, Option, Some, sym, ap, arith}
 use Rattle.regalloc2_names.specs.Point.{inst_of_point}
 use Rattle.regalloc2_function.specs.FunctionValue.{FunctionValue, Label, label_of}
+use Rattle.regalloc2_live_ranges.specs.declared.LiveRange.{LiveRange}
 use Rattle.regalloc2_live_ranges.specs.LiveRanges.{range_at}
-use Rattle.regalloc2_live_ranges.proofs.ItemsPastEnd.{any_default}
+use Rattle.regalloc2_live_ranges.specs.Slots.{spread}
 use Rattle.regalloc2_live_ranges.proofs.KeptLabels.{kept_right, kept_within, one_word, same_word}
 use Rattle.regalloc2_live_ranges.proofs.labels.kept_range.Goals as goal
 use Rattle.regalloc2_live_ranges.proofs.labels.kept_range.Goals.{else-eq-via-then-eq+then-first-index+else-index-last}
@@ -13,14 +14,13 @@ returns-then-index-last g c =
     let f : FunctionValue = g.F.Function.function c.args.f.now in
     let l : Label = label_of c.args.label in
     let limited = g.met.F.Function.limited c.args.f.now in
-    let less : c.vreg-number.result < length c.args.ranges.now = omega (arith, c.if-number-ranges.false) in
-    let entry : range_at c.args.ranges.now l.vreg.number ≡ Some c.in_ok-range.range = sym (ap (range_at c.args.ranges.now) c.vreg-number.ensures.number)
-    ∙ sym (any_default c.args.ranges.now c.vreg-number.result c.index-ranges-number.result None less) ∙ sym c.index-ranges-number.is ∙ c.in_ok-range.was in
+    let t : List (Option LiveRange) = spread c.args.slots.now c.args.ranges.now in
+    let entry : range_at t l.vreg.number ≡ Some c.in_ok-range.range = sym (ap (range_at t) c.vreg.ensures.number) ∙ sym c.entry.ensures ∙ c.in_ok-range.was in
     let number = (c.requires.ranges.found l.vreg.number c.in_ok-range.range entry).0 in
     let same = same_word c.in_ok-range.range.vreg l.vreg number (sym c.eq.ensures ∙ c.if-eq.true) in
     let first : c.index-first.result ≡ inst_of_point c.in_ok-range.range.first = c.index-first.ensures ∙ c.inst.ensures.inst in
     let last : c.index-last.result ≡ inst_of_point c.in_ok-range.range.last = c.index-last.ensures ∙ c.inst-2.ensures.inst in
-    kept_right f limited c.requires.ssa c.args.ranges.now c.requires.ranges l c.requires.labelled c.in_ok-range.range entry same
+    kept_right f limited c.requires.ssa t c.requires.ranges l c.requires.labelled c.in_ok-range.range entry same
     (omega (arith, first, c.if-first-index.true, c.index.ensures)) (omega (arith, last, c.if-index-last.true, c.index-then-first-index.ensures))
 
 pub returns-else-eq : goal.returns-else-eq
@@ -28,10 +28,9 @@ returns-else-eq g c start end kept =
     let f : FunctionValue = g.F.Function.function c.args.f.now in
     let l : Label = label_of c.args.label in
     let limited = g.met.F.Function.limited c.args.f.now in
-    let less : c.vreg-number.result < length c.args.ranges.now = omega (arith, c.if-number-ranges.false) in
-    let entry : range_at c.args.ranges.now l.vreg.number ≡ Some c.in_ok-range.range = sym (ap (range_at c.args.ranges.now) c.vreg-number.ensures.number)
-    ∙ sym (any_default c.args.ranges.now c.vreg-number.result c.index-ranges-number.result None less) ∙ sym c.index-ranges-number.is ∙ c.in_ok-range.was in
-    let within = kept_within f limited c.requires.ssa c.args.ranges.now c.requires.ranges l c.requires.labelled c.in_ok-range.range entry start end kept in
+    let t : List (Option LiveRange) = spread c.args.slots.now c.args.ranges.now in
+    let entry : range_at t l.vreg.number ≡ Some c.in_ok-range.range = sym (ap (range_at t) c.vreg.ensures.number) ∙ sym c.entry.ensures ∙ c.in_ok-range.was in
+    let within = kept_within f limited c.requires.ssa t c.requires.ranges l c.requires.labelled c.in_ok-range.range entry start end kept in
     let first : c.index-first.result ≡ inst_of_point c.in_ok-range.range.first = c.index-first.ensures ∙ c.inst.ensures.inst in
     let last : c.index-last.result ≡ inst_of_point c.in_ok-range.range.last = c.index-last.ensures ∙ c.inst-2.ensures.inst in
     elim c.else-eq.branch [

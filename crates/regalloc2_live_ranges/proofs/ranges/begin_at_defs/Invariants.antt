@@ -1,4 +1,5 @@
 use Rattle.regalloc2_live_ranges.specs.LiveRanges.{IsWanted}
+use Rattle.regalloc2_live_ranges.specs.Slots.{spread}
 use Rattle.regalloc2_live_ranges.specs.WalkInvariant.{AreRight, Stay}
 use Rattle.regalloc2_live_ranges.proofs.LiveRangeTable.{AreBegun}
 use Rattle.regalloc2_live_ranges.proofs.ranges.begin_at_defs.Given as goal
@@ -6,7 +7,7 @@ use Rattle.regalloc2_live_ranges.proofs.ranges.begin_at_defs.Given as goal
 -- the definitions so far have their entries
 abbrev pub invariant-loop-index : goal.invariant-loop-index
 invariant-loop-index g l = record {
-  right : AreRight (g.F.Function.function l.f) l.ranges;
-  stay : Stay l.fn.ranges l.ranges;
-  so_far : AreBegun (IsWanted l.wanted) l.operand-items l.index l.ranges;
+  right : AreRight (g.F.Function.function l.f) (spread l.slots l.ranges);
+  stay : Stay (spread l.slots l.fn.ranges) (spread l.slots l.ranges);
+  so_far : AreBegun (IsWanted l.wanted) l.operand-items l.index (spread l.slots l.ranges);
 }

@@ -1,4 +1,5 @@
 use Rattle.regalloc2_live_ranges.specs.LiveRanges.{IsWanted}
+use Rattle.regalloc2_live_ranges.specs.Slots.{spread}
 use Rattle.regalloc2_live_ranges.specs.WalkInvariant.{AreRight, Stay}
 use Rattle.regalloc2_live_ranges.proofs.LiveRangeTable.{AreTaken}
 use Rattle.regalloc2_live_ranges.proofs.ranges.begin_at_params.Given as goal
@@ -6,7 +7,7 @@ use Rattle.regalloc2_live_ranges.proofs.ranges.begin_at_params.Given as goal
 -- the parameters so far that are used have their entries
 abbrev pub invariant-loop-param : goal.invariant-loop-param
 invariant-loop-param g l = record {
-  right : AreRight (g.F.Function.function l.f) l.ranges;
-  stay : Stay l.fn.ranges l.ranges;
-  so_far : AreTaken (IsWanted l.wanted) l.param-items l.param-index l.ends l.ranges;
+  right : AreRight (g.F.Function.function l.f) (spread l.slots l.ranges);
+  stay : Stay (spread l.slots l.fn.ranges) (spread l.slots l.ranges);
+  so_far : AreTaken (IsWanted l.wanted) l.param-items l.param-index (spread l.slots l.ends) (spread l.slots l.ranges);
 }

@@ -1,5 +1,6 @@
 use Rattle.std.proofs.Common.{◌≤◌, length}
 use Rattle.regalloc2_live_ranges.specs.LiveRanges.{IsWanted}
+use Rattle.regalloc2_live_ranges.specs.Slots.{spread}
 use Rattle.regalloc2_live_ranges.specs.WalkInvariant.{IsWalked, begin_of}
 use Rattle.regalloc2_live_ranges.proofs.walk.walk_blocks.Given as goal
 
@@ -7,7 +8,8 @@ use Rattle.regalloc2_live_ranges.proofs.walk.walk_blocks.Given as goal
 abbrev pub invariant-loop-b : goal.invariant-loop-b
 invariant-loop-b g l = record {
   within : l.b ≤ length (g.F.Function.function l.f).blocks;
-  walked : IsWalked (g.F.Function.function l.f) (IsWanted l.wanted) (begin_of (g.F.Function.function l.f) l.b) l.b l.ends l.ranges;
+  walked : IsWalked (g.F.Function.function l.f) (IsWanted l.wanted) (begin_of (g.F.Function.function l.f) l.b) l.b
+      (spread l.slots l.ends) (spread l.slots l.ranges);
 }
 
 abbrev pub decreases-loop-b : goal.decreases-loop-b

@@ -1,6 +1,7 @@
 use Rattle.std.proofs.Common.{◌≡◌, ◌+◌, ◌-◌, ◌≤◌}
 use Rattle.regalloc2_function.specs.FunctionValue.{block_at}
 use Rattle.regalloc2_live_ranges.specs.LiveRanges.{IsWanted}
+use Rattle.regalloc2_live_ranges.specs.Slots.{spread}
 use Rattle.regalloc2_live_ranges.specs.WalkInvariant.{IsWalked}
 use Rattle.regalloc2_live_ranges.proofs.walk.walk_insts.Given as goal
 
@@ -10,7 +11,8 @@ invariant-loop-i g l = record {
   first : l.first ≡ (block_at (g.F.Function.function l.f) l.block).range.first;
   from : l.first ≤ l.i;
   within : l.i ≤ (block_at (g.F.Function.function l.f) l.block).range.end;
-  walked : IsWalked (g.F.Function.function l.f) (IsWanted l.wanted) l.i (l.block + 1) l.ends l.ranges;
+  walked : IsWalked (g.F.Function.function l.f) (IsWanted l.wanted) l.i (l.block + 1) (spread l.slots l.ends)
+      (spread l.slots l.ranges);
 }
 
 abbrev pub decreases-loop-i : goal.decreases-loop-i
