@@ -4,6 +4,7 @@ ghost use Rattle.std.specs.Prelude.{None, Some, ◌≡◌, ℕ, ◌%◌, ◌<◌
 ghost use Rattle.regalloc2_names.specs.Operand.{is_def, is_late, is_position, is_reading, nonallocatable_register, reads_at};
 ghost use Rattle.regalloc2_names.specs.Packing.{IsConstraintOf, IsOperand, IsOperandBits, bits_of_operand, constraint_code, operand_of_bits};
 
+use super::registers::CLASSES;
 use super::{OperandConstraint, OperandKind, OperandPos, PReg, RegClass, VReg};
 use std::marker::Model;
 
@@ -222,15 +223,7 @@ impl Operand {
     pub fn class(self) -> RegClass
         ensures { result ≡ self.vreg.class }
     {
-        let code = (self.bits >> 32) % 4;
-        if code == 0 {
-            RegClass::Int
-        } else if code == 1 {
-            RegClass::Float
-        } else {
-            // 2, which needs no test: so there is no jump by a table where a class is asked for
-            RegClass::Vector
-        }
+        CLASSES[((self.bits >> 32) & 3) as usize]
     }
 
     /// The virtual register.
@@ -238,7 +231,8 @@ impl Operand {
     pub fn vreg(self) -> VReg
         ensures { result ≡ self.vreg }
     {
-        VReg::new((self.bits & 0xffff_ffff) as usize, self.class())
+        // its word: the number's thirty bits, and below them the class's two
+        VReg::from_bits(((self.bits & 0x3fff_ffff) << 2) as u32 | ((self.bits >> 32) & 3) as u32)
     }
 
     /// Whether the operand is read or written.
@@ -283,7 +277,9 @@ impl Operand {
         } else if field < 64 {
             OperandConstraint::Reuse(field - 32)
         } else {
-            OperandConstraint::FixedReg(PReg::new(field - 64, self.class()))
+            OperandConstraint::FixedReg(PReg::from_index(
+                (((self.bits >> 32) & 3) << 6) as usize | (field - 64),
+            ))
         }
     }
 

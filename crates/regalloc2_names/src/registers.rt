@@ -7,6 +7,9 @@ ghost use Rattle.regalloc2_names.specs.Register.{IsRegister, class_code, invalid
 use super::RegClass;
 use std::marker::Model;
 
+/// The classes by their code. A class is looked up here where its code is known, which takes one step and no test.
+pub static CLASSES: [RegClass; 3] = [RegClass::Int, RegClass::Float, RegClass::Vector];
+
 impl RegClass {
     /// The number of the class, 0 to 2, by which tables of one item for each class are indexed.
     pub fn code(self) -> usize
@@ -77,11 +80,7 @@ impl PReg {
     pub const fn class(self) -> RegClass
         ensures { result ≡ self.class }
     {
-        match (self.bits >> 6) & 0b11 {
-            0 => RegClass::Int,
-            1 => RegClass::Float,
-            _ => RegClass::Vector,
-        }
+        CLASSES[(self.bits >> 6) as usize]
     }
 
     /// The place among all registers: those of the class `Int` first, then `Float`, then `Vector`.

@@ -34,7 +34,7 @@ impl PRegSet {
         ensures word_small { result.0 < 3 }
         ensures bit_small { result.1 < 64 }
     {
-        (reg.class() as usize, reg.hw_enc())
+        (reg.index() / 64, reg.hw_enc())
     }
 
     /// Whether the register is in the set.

@@ -5,6 +5,7 @@ ghost use Rattle.regalloc2_names.specs.RegisterBits.{IsVRegBits, bits_of_vreg, v
 ghost use Rattle.regalloc2_names.specs.Register.{IsVirtualRegister, invalid_vreg};
 
 use super::RegClass;
+use super::registers::CLASSES;
 use std::marker::Model;
 
 /// A virtual register: a number below 2^30 and the class of its values.
@@ -61,14 +62,7 @@ impl VReg {
     pub const fn class(self) -> RegClass
         ensures { result ≡ self.class }
     {
-        let code = self.bits % 4;
-        if code == 0 {
-            RegClass::Int
-        } else if code == 1 {
-            RegClass::Float
-        } else {
-            RegClass::Vector
-        }
+        CLASSES[(self.bits & 3) as usize]
     }
 
     /// The virtual register that stands for none: the greatest number, of the class `Int`.
