@@ -283,6 +283,14 @@ impl Operand {
         }
     }
 
+    /// Whether the operand may be in any register, which most may.
+    #[tactic(auto, unfolding(crate::specs::Packing::operand_of_bits))]
+    pub fn is_any_reg(self) -> bool
+        ensures { IsTrue result ↔ (self.constraint ≡ OperandConstraint.Reg) }
+    {
+        self.bits >> 36 == 1
+    }
+
     /// The fixed register of an operand that names no virtual register, which the number `VReg::MAX` marks.
     /// Such a use reads nothing, and its register need not be one that may be allocated.
     pub fn as_fixed_nonallocatable(self) -> Option<PReg>
@@ -306,8 +314,12 @@ impl Operand {
     pub fn is_reading(self) -> bool
         ensures { result ≡ is_reading self }
     {
-        let fixed = matches!(self.constraint(), OperandConstraint::FixedReg(_));
-        self.kind() == OperandKind::Use && !(fixed && self.vreg().vreg() == VReg::MAX)
+        if self.kind() != OperandKind::Use {
+            return false;
+        }
+        // the number is asked first, since it is the greatest in hardly any operand
+        self.vreg().vreg() != VReg::MAX
+            || !matches!(self.constraint(), OperandConstraint::FixedReg(_))
     }
 
     /// Whether the operand is read or written at the end of its instruction.
