@@ -1,12 +1,13 @@
 #!/usr/bin/env python3
 """Counts machine instructions for each instruction of an input, for every shape of docs/BENCH.md, and prints a table.
 
-    python3 bench/measure.py [--upstream PATH] [--task allocate|test|check] [--sizes 1000,10000] [--shapes real,switch] [--memory]
+    python3 bench/measure.py [--upstream PATH] [--task allocate|test|check] [--sizes 1000,10000] [--shapes real,switch] [--heap]
 
 It needs valgrind, and the program `regalloc2_bench` (`cd crates/regalloc2_bench && rt lib` builds it, as `rt ci` does). `--upstream` is the
 path of a program that reads a stored function and runs upstream's allocator or checker on it: it is called as `PATH bench FILE TIMES`, with
 `--validate` for the task `test`, and as `PATH bench-check FILE TIMES` for the check, and does the work that many times. One time is the difference of two times and one, so that
-start-up and reading don't count. `--memory` gives the peak of the heap in bytes in place of instructions, with reading.
+start-up and reading don't count. `--heap` gives the bytes that one allocation holds at most beside the function, as `heap.c` counts them, in place
+of instructions; it needs a C compiler.
 """
 import argparse, json, os, re, subprocess, sys, tempfile
 
@@ -28,16 +29,15 @@ def collected(command, stdin, limit):
     return int(found.group(1)) if found and done.returncode == 0 else None
 
 
-def peak(command, stdin, limit):
-    """The greatest size of the heap of one run in bytes, or None."""
-    with tempfile.NamedTemporaryFile() as out:
-        tool = ["valgrind", "--tool=massif", "--massif-out-file=" + out.name]
-        try:
-            subprocess.run(tool + command, stdin=open(stdin), stdout=subprocess.DEVNULL, stderr=subprocess.DEVNULL, timeout=limit)
-        except subprocess.TimeoutExpired:
-            return None
-        sizes = re.findall(r"mem_heap_B=(\d+)", open(out.name).read())
-    return max(map(int, sizes), default=None)
+def heap(library, command, stdin, limit):
+    """The bytes that the run after reading holds at most, or None."""
+    try:
+        env = dict(os.environ, LD_PRELOAD=library)
+        done = subprocess.run(command, stdin=open(stdin), stdout=subprocess.DEVNULL, stderr=subprocess.PIPE, timeout=limit, text=True, env=env)
+    except subprocess.TimeoutExpired:
+        return None
+    found = re.search(r"^heap (\d+)$", done.stderr, re.M)
+    return int(found.group(1)) if found and done.returncode == 0 else None
 
 
 def commands(program, upstream, task, path, times):
@@ -50,8 +50,9 @@ def commands(program, upstream, task, path, times):
 
 def measure(args, program, upstream, path, insts):
     """What one time costs for each instruction, or None."""
-    if args.memory:
-        return peak(commands(program, upstream, args.task, path, 1), path, args.limit)
+    if args.heap:
+        # this port's program allocates once more than it is told, upstream's just as often
+        return heap(args.heap, commands(program, upstream, "allocate", path, 1 if upstream else 0), path, args.limit)
     counts = [collected(commands(program, upstream, args.task, path, n), path, args.limit) for n in (1, 2)]
     return None if None in counts else round((counts[1] - counts[0]) / insts)
 
@@ -64,13 +65,16 @@ def main():
     words.add_argument("--sizes", default="1000,10000")
     words.add_argument("--shapes", default=",".join(shapes.SHAPES))
     words.add_argument("--limit", type=int, default=300, help="seconds for one run")
-    words.add_argument("--memory", action="store_true")
+    words.add_argument("--heap", action="store_true")
     args = words.parse_args()
     sizes = [int(n) for n in args.sizes.split(",")]
     who = (["upstream"] if args.upstream else []) + ["this port"]
     print("| Shape | " + " | ".join(f"{w}, {n:,}" for w in who for n in sizes) + " |")
     print("|---" * (1 + len(who) * len(sizes)) + "|")
     with tempfile.TemporaryDirectory() as folder:
+        if args.heap:
+            args.heap = os.path.join(folder, "heap.so")
+            subprocess.run(["cc", "-O2", "-shared", "-fPIC", "-o", args.heap, os.path.join(HERE, "heap.c"), "-ldl"], check=True)
         for shape in args.shapes.split(","):
             cells = {}
             for n in sizes:
