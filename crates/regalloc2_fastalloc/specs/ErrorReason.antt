@@ -9,7 +9,7 @@ use Rattle.regalloc2_function.specs.FunctionValue.{FunctionValue, inst_at, opera
 use Rattle.regalloc2_function.specs.Fitting.{Fits}
 use Rattle.regalloc2_function.specs.Machine.{MachineValue}
 use Rattle.regalloc2_function.specs.WellFormed.{IsWellFormed}
-use Rattle.regalloc2_validate.specs.Constraints.{AreUnlimited, BranchDefinesInPlace, IsFirst}
+use Rattle.regalloc2_validate.specs.Constraints.{AreUnlimited, BranchDefinesInPlace, IsUnsupported}
 use Rattle.regalloc2_validate.specs.Validated.{IsFault}
 
 -- The first test needs no memory: fewer than 2^32 operands.
@@ -30,11 +30,6 @@ pub record PassesAllChecks (f : FunctionValue) (env : MachineValue) (asked : Boo
 -- the function isn't well-formed, where that is asked for
 abbrev pub FailsValidation : FunctionValue → MachineValue → Bool → RegAllocError → Type 0
 FailsValidation f env asked e = HasFewOperands f × (asked ≡ true) × IsFault f env e
-
--- an instruction that the allocator doesn't take: the first that has a `Limit`, or where none has one, the first branch that
--- defines in any register or by a reuse
-abbrev pub IsUnsupported : FunctionValue → ℕ → Type 0
-IsUnsupported f i = IsFirst f AreUnlimited i ⊎ (((j : ℕ) → j < length f.insts → AreUnlimited (inst_at f j)) × IsFirst f BranchDefinesInPlace i)
 
 -- an instruction has too few registers
 abbrev pub SomeDoesNotFit : FunctionValue → MachineValue → Type 0

@@ -15,7 +15,7 @@ ghost use Rattle.regalloc2_fastalloc.specs.ErrorReason.{IsReason, PassesAllCheck
 
 use regalloc2_function::{Function, MachineEnv, Output, count_operands};
 use regalloc2_names::RegAllocError;
-use regalloc2_validate::constraints::{validate_branches, validate_limits};
+use regalloc2_validate::constraints::validate_operands;
 use regalloc2_validate::validate_function;
 use std::alloc::{Allocator, Global};
 
@@ -120,8 +120,7 @@ pub fn run<A: Allocator + Copy, F: Function, B: Allocator>(
     if options.validate_ssa {
         validate_function(alloc, f, env)?;
     }
-    validate_limits(f)?;
-    validate_branches(f)?;
+    validate_operands(f)?;
     allocate::allocate(alloc, f, env, total)
 }
 

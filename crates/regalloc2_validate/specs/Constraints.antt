@@ -91,3 +91,8 @@ pub record IsFirst (f : FunctionValue) (P : InstValue → Type 0) (i : ℕ) : Ty
 abbrev pub IsFixedFault : FunctionValue → MachineValue → RegAllocError → Type 0
 IsFixedFault f env e = (i : ℕ) × (e ≡ Unsupported i) × (IsFirst f (ReusesAreSound env) i
     ⊎ (((j : ℕ) → j < length f.insts → ReusesAreSound env (inst_at f j)) × IsFirst f FixedAvoidClobbers i))
+
+-- an instruction that the allocator doesn't take: the first that has a `Limit`, or where none has one, the first branch that
+-- defines in any register or by a reuse
+abbrev pub IsUnsupported : FunctionValue → ℕ → Type 0
+IsUnsupported f i = IsFirst f AreUnlimited i ⊎ (((j : ℕ) → j < length f.insts → AreUnlimited (inst_at f j)) × IsFirst f BranchDefinesInPlace i)

@@ -1,6 +1,6 @@
 //! The tests of operands' constraints: reuses, fixed registers beside clobbers, limits, and definitions on branches.
 
-ghost use Rattle.std.specs.Prelude.{ℕ, ◌≡◌, ◌<◌, ◌⊎◌, ◌↔◌, All, length, true, false, IsTrue, IsOk, OnOk, IfSome, IfNone, IfErr, slice_index_or};
+ghost use Rattle.std.specs.Prelude.{ℕ, ◌≡◌, ◌<◌, ◌⊎◌, ◌↔◌, All, length, true, false, IsTrue, IsFalse, IsOk, OnOk, IfSome, IfNone, IfErr, slice_index_or};
 ghost use Rattle.regalloc2_function.specs.FunctionValue.{inst_at};
 ghost use Rattle.regalloc2_function.specs.Views.{machine_of};
 ghost use Rattle.regalloc2_function.specs.WellFormed.{MayBeReused, ReusesAreSound, FixedAvoidClobbers};
@@ -9,7 +9,7 @@ ghost use Rattle.regalloc2_names.specs.Register.{Register};
 ghost use Rattle.regalloc2_names.specs.RegisterSet.{has_register};
 ghost use Rattle.regalloc2_validate.specs.NoLimits.{IsTaken, AreTaken};
 ghost use Rattle.regalloc2_validate.specs.Constraints.{op_at, IsNoReuse, IsReused, IsTarget, IsSoundReuse, AreApart, AvoidsClobbers, IsClear, IsUnlimited};
-ghost use Rattle.regalloc2_validate.specs.Constraints.{AreUnlimited, BranchDefinesInPlace, DefinesInPlace, IsFirst, IsFixedFault};
+ghost use Rattle.regalloc2_validate.specs.Constraints.{AreUnlimited, BranchDefinesInPlace, DefinesInPlace, IsFirst, IsFixedFault, IsUnsupported};
 
 use regalloc2_fastalloc_state::allocatable::allocatable_of;
 use regalloc2_function::{Function, MachineEnv};
@@ -366,5 +366,50 @@ pub fn validate_branches<F: Function>(f: &F) -> Result<(), RegAllocError>
             return Err(RegAllocError::Unsupported(inst));
         }
     }
+    Ok(())
+}
+
+/// Whether an instruction has no operand under `Limit`, and is no branch with a definition in any register or by a reuse.
+fn passes_operand_tests<F: Function>(f: &F, inst: Inst) -> bool
+    requires { inst < length (F.function f.now).insts }
+    ensures passed { IsTrue result → AreUnlimited (inst_at (F.function f.now) inst) × BranchDefinesInPlace (inst_at (F.function f.now) inst) }
+    ensures failed { IsFalse result → AreUnlimited (inst_at (F.function f.now) inst) → BranchDefinesInPlace (inst_at (F.function f.now) inst) → ⊥ }
+    ensures taken { IsTrue result → All IsTaken (inst_at (F.function f.now) inst).operands }
+{
+    has_no_limit(f, inst) && is_sound_branch(f, inst)
+}
+
+/// Whether all instructions pass both tests.
+fn all_pass_operand_tests<F: Function>(f: &F) -> bool
+    ensures unlimited { IsTrue result → (i : ℕ) → i < length (F.function f.now).insts → AreUnlimited (inst_at (F.function f.now) i) }
+    ensures branches { IsTrue result → (i : ℕ) → i < length (F.function f.now).insts → BranchDefinesInPlace (inst_at (F.function f.now) i) }
+    ensures failed { IsFalse result → (i : ℕ) × (i < length (F.function f.now).insts)
+        × (AreUnlimited (inst_at (F.function f.now) i) → BranchDefinesInPlace (inst_at (F.function f.now) i) → ⊥) }
+    ensures taken { IsTrue result → AreTaken (F.function f.now) }
+{
+    for i in 0..f.num_insts() {
+        if !passes_operand_tests(f, Inst::new(i)) {
+            return false;
+        }
+    }
+    true
+}
+
+/// Tests that no operand has `Limit`, and then that no branch has a definition in any register or in the place of another
+/// operand, as [`validate_limits`] and [`validate_branches`] do.
+///
+/// One pass makes both tests, and nearly every function passes it. Only where an instruction fails one are they made one after
+/// the other, for the error that comes first.
+pub fn validate_operands<F: Function>(f: &F) -> Result<(), RegAllocError>
+    ensures unlimited { OnOk result ((i : ℕ) → i < length (F.function f.now).insts → AreUnlimited (inst_at (F.function f.now) i)) }
+    ensures taken { OnOk result (AreTaken (F.function f.now)) }
+    ensures branches { OnOk result ((i : ℕ) → i < length (F.function f.now).insts → BranchDefinesInPlace (inst_at (F.function f.now) i)) }
+    ensures refused { IfErr result (λ e. (i : ℕ) × (e ≡ RegAllocError.Unsupported i) × IsUnsupported (F.function f.now) i) }
+{
+    if all_pass_operand_tests(f) {
+        return Ok(());
+    }
+    validate_limits(f)?;
+    validate_branches(f)?;
     Ok(())
 }

@@ -41,9 +41,8 @@ passed g c =
     record {
       first = search rules;
       well_formed = owed;
-      unlimited = c.in_ok-validate_limits.ensures.ok.0 refl;
-      branches = c.in_ok-validate_branches.ensures.ok.0
-          refl;
+      unlimited = c.in_ok-validate_operands.ensures.unlimited;
+      branches = c.in_ok-validate_operands.ensures.branches;
     }
 
 pub returns-clause-passes_checks : goal.returns-clause-passes_checks
