@@ -1,8 +1,9 @@
 -- Nodes of a ring of registers whose links were changed.
-use Rattle.std.proofs.Common.{ℕ, zero, suc, ◌≡◌, ◌≢◌, ◌+◌, ◌<◌, ◌≤◌, ◌∙◌, refl, arith, sym, ap, subst, List, [], ◌∷◌, ◌++◌, true, false, nat_eq, eq-eqb, length}
-use Rattle.std.specs.Prelude.{All, Contains, slice_index, slice_index_or, slice_set}
+use Rattle.std.proofs.Common.{ℕ, zero, suc, ◌≡◌, ◌≢◌, ◌+◌, ◌<◌, ◌≤◌, ◌∙◌, refl, arith, sym, ap, subst, List, [], ◌∷◌, ◌++◌, true, false, nat_eq, eq-eqb, inl, inr, length}
+use Rattle.std.specs.Prelude.{◌⊎◌, All, Contains, slice_index, slice_index_or, slice_set}
 use Rattle.std.specs.List.{IsDistinct}
 use Rattle.std.proofs.Math.Seq.{map-set_same}
+use Rattle.std.proofs.lemmas.Bool.{cases_eq}
 use Rattle.std.proofs.lemmas.List.{get_or-map, length-map, map-set}
 use Rattle.std.proofs.lemmas.Map.Keys.{IsDistinct-head}
 use Rattle.regalloc2_parts.specs.declared.lru.nodes.LruNode.{LruNode}
@@ -146,6 +147,15 @@ node_turned nodes h xs p of other =
     let same : others nodes h ≡ without p xs ++ p ∷ [] = cc in
     rw kept (stands_for nodes p (h ∷ without p xs)
     (IsRing-turned (nexts nodes) (prevs nodes) h (without p xs) p (subst (λ l. IsRing (nexts nodes) (prevs nodes) h l) same of.ring)))
+
+-- the oldest as head: it goes from the end to the front
+pub oldest_as_head : (nodes : List LruNode) (h p : ℕ) (d : LruNode) → IsNodeRing nodes h → (slice_index_or nodes h d).prev ≡ p →
+    IsRingOf nodes p (p ∷ without p (ring_numbers nodes h))
+oldest_as_head nodes h p d ring e = by_place (cases_eq p h)
+  where
+    by_place : (p ≡ h) ⊎ (p ≢ h) → IsRingOf nodes p (p ∷ without p (ring_numbers nodes h))
+    by_place (inl same) = subst (λ (i : ℕ). IsRingOf nodes i (p ∷ without p (ring_numbers nodes h))) (sym same) (head_out nodes h p ring same)
+    by_place (inr other) = node_turned nodes h (others nodes h) p (oldest_last nodes h p d ring other e) other
 
 -- how many links one change makes differ, and two
 pub link_changes : (old new : List LruNode) (a b : ℕ) → nexts new ≡ slice_set (nexts old) a b → prevs new ≡ slice_set (prevs old) b a →

@@ -83,6 +83,7 @@ impl<A: Allocator> Lru<A> {
     }
 
     /// Makes a member the newest; the others keep their order.
+    #[inline(always)]
     pub fn poke(&mut self, preg: PReg)
         requires { Contains self.old preg }
         ensures moved { self.new ≡ preg ∷ filter (λ r. not (is_register preg r)) self.old }

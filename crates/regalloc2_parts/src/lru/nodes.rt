@@ -64,15 +64,13 @@ fn make_oldest(nodes: &mut [LruNode], head: u8, number: u8)
     ensures few { changed_links nodes.old nodes.new ≤ 6 }
     ensures long { length nodes.new ≡ length nodes.old }
 {
-    if nodes[head as usize].prev == number {
-        return;
-    }
     take_out_node(nodes, head, number);
     append_node(nodes, head, number);
 }
 
-/// Makes a member the newest of a ring; the others keep their order. At most six links and the head change.
-pub fn poke_node(nodes: &mut [LruNode], head: &mut u8, number: u8)
+/// Makes any member the newest of a ring, as `poke_node` does, which calls it for those that aren't the oldest.
+#[inline(never)]
+fn poke_younger(nodes: &mut [LruNode], head: &mut u8, number: u8)
     requires ring { IsNodeRing nodes.old head.old }
     requires member { Contains (ring_numbers nodes.old head.old) number }
     ensures ring { IsRingOf nodes.new head.new (number ∷ filter (λ n. not (nat_eq number n)) (ring_numbers nodes.old head.old)) }
@@ -84,6 +82,25 @@ pub fn poke_node(nodes: &mut [LruNode], head: &mut u8, number: u8)
     }
     make_oldest(nodes, *head, number);
     *head = number;
+}
+
+/// Makes a member the newest of a ring; the others keep their order. At most six links and the head change.
+///
+/// For the oldest only the head moves, and no link changes: in a ring the oldest stands right before the newest, so that
+/// it is at its new place already. It is asked for first, and in line, since the oldest is what an allocator mostly takes.
+#[inline(always)]
+pub fn poke_node(nodes: &mut [LruNode], head: &mut u8, number: u8)
+    requires ring { IsNodeRing nodes.old head.old }
+    requires member { Contains (ring_numbers nodes.old head.old) number }
+    ensures ring { IsRingOf nodes.new head.new (number ∷ filter (λ n. not (nat_eq number n)) (ring_numbers nodes.old head.old)) }
+    ensures few { changed_links nodes.old nodes.new ≤ 6 }
+    ensures long { length nodes.new ≡ length nodes.old }
+{
+    if nodes[*head as usize].prev == number {
+        *head = number;
+        return;
+    }
+    poke_younger(nodes, head, number);
 }
 
 /// Makes the ring of a register's number and of those that a walk over a set has left.

@@ -1,14 +1,7 @@
 use Rattle.std.proofs.Common.{◌<◌, ◌++◌, ◌∷◌, [], List, ℕ, arith, length, subst}
 use Rattle.regalloc2_parts.specs.RingNodes.{IsRingOf, ring_numbers}
-use Rattle.regalloc2_parts.proofs.RingLinks.{changes_added, member_fits, none_changed, oldest_last, taken_out}
+use Rattle.regalloc2_parts.proofs.RingLinks.{changes_added, member_fits, taken_out}
 use Rattle.regalloc2_parts.proofs.lru.nodes.make_oldest.Goals as goal
-
-pub returns-then-nodes-head-clause-ring : goal.returns-then-nodes-head-clause-ring
-returns-then-nodes-head-clause-ring c =
-    oldest_last c.args.nodes.now c.args.head c.args.number (record { prev = 0; next = 0 }) c.requires.ring c.requires.other c.if-nodes-head.true
-
-pub returns-then-nodes-head-clause-few : goal.returns-then-nodes-head-clause-few
-returns-then-nodes-head-clause-few c = omega (arith, none_changed c.args.nodes.now)
 
 pub append_node-requires : goal.append_node-requires
 append_node-requires c = record {
