@@ -117,13 +117,35 @@ pub same_option : (res : Option Register) → option_map (λ (x : Register). x) 
 same_option None = refl
 same_option (Some r) = refl
 
+-- where nothing comes, the ring is empty
+pub none_there : (ring it next : List Register) (res : Option Register) → it ≡ reverse ring → YieldsFirst (λ rest. rest) it res next →
+    IfNone res (ring ≡ [])
+none_there ring it next None e steps = sym (reverse-reverse ring) ∙ ap (λ l. reverse l) (sym e ∙ steps.0)
+none_there ring it next (Some r) e steps = tt
+
 -- the first that comes is the ring's last
 pub popped : (ring it next : List Register) (res : Option Register) → it ≡ reverse ring → YieldsFirst (λ rest. rest) it res next →
     res ≡ slice_get ring (length ring - 1)
 popped ring it next None e steps =
-    let none : ring ≡ [] = sym (reverse-reverse ring) ∙ ap (λ l. reverse l) (sym e ∙ steps.0) in
+    let none : ring ≡ [] = none_there ring it next None e steps in
     rw none refl
 popped ring it next (Some r) e steps = sym (last_of_reverse ring next r (sym e ∙ steps))
+
+-- what comes first is found by each test that it passes
+pub first_passes : (ring it next : List Register) (res : Option Register) → it ≡ reverse ring → YieldsFirst (λ rest. rest) it res next →
+    IfSome res (λ r. (test : Register → Bool) → test r ≡ true → find test (reverse ring) ≡ Some r)
+first_passes ring it next None e steps = tt
+first_passes ring it next (Some r) e steps = λ test t.
+    let turned : reverse ring ≡ r ∷ next = sym e ∙ steps in
+    rw (turned, t) refl
+
+-- and is in the ring
+pub first_there : (ring it next : List Register) (res : Option Register) → it ≡ reverse ring → YieldsFirst (λ rest. rest) it res next →
+    IfSome res (λ r. Contains ring r)
+first_there ring it next None e steps = tt
+first_there ring it next (Some r) e steps =
+    Contains-permutation (reverse ring) ring r (IsPermutation-sym ring (reverse ring) (IsPermutation-reverse ring))
+    (rw (sym e ∙ steps) (0, omega arith, refl))
 
 -- those that a closure was asked about
 within : (P : Register → Type 0) (us : List Register) (r : Register) (vs : List Register) → All P vs →

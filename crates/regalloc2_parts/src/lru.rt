@@ -1,7 +1,7 @@
 //! Registers in the order of their last use.
 
 ghost use Rattle.std.specs.Prelude.{◌≡◌, ◌-◌, ◌∷◌, ◌<◌, ◌≤◌, ◌↔◌, ◌==◌, IsTrue, true, false, IfSome, IfNone, IfOk, IfErr, All, Contains, length};
-ghost use Rattle.std.specs.Prelude.{not, filter, find, reverse, slice_get, slice_index_or, ◌≢◌, [], IsOk};
+ghost use Rattle.std.specs.Prelude.{Bool, Some, not, filter, find, reverse, slice_get, slice_index_or, ◌≢◌, [], IsOk};
 ghost use Rattle.std.specs.List.{IsDistinct};
 ghost use Rattle.regalloc2_names.specs.declared.RegClass.{RegClass};
 ghost use Rattle.regalloc2_names.specs.Register.{Register, class_code, is_register};
@@ -106,6 +106,18 @@ impl<A: Allocator> Lru<A> {
         }
     }
 
+    /// The oldest member; `None` for an empty ring. It is what `last` answers for each set that has it, without a search.
+    #[inline(always)]
+    pub fn oldest(&self) -> Option<PReg>
+        ensures oldest { result ≡ slice_get self.now (length self.now - 1) }
+        ensures first { IfSome result (λ r. (test : Register → Bool) → test r ≡ true → find test (reverse self.now) ≡ Some r) }
+        ensures member { IfSome result (λ r. Contains self.now r) }
+        ensures none { IfNone result (self.now ≡ []) }
+        ensures distinct { IsDistinct is_register self.now }
+    {
+        self.oldest_first().next()
+    }
+
     /// The oldest member, which stays in the ring; `None` for an empty ring.
     pub fn pop(&mut self) -> Option<PReg>
         ensures oldest { result ≡ slice_get self.old (length self.old - 1) }
@@ -113,7 +125,7 @@ impl<A: Allocator> Lru<A> {
         ensures unchanged { self.new ≡ self.old }
         ensures distinct { IsDistinct is_register self.new }
     {
-        self.oldest_first().next()
+        self.oldest()
     }
 
     /// The oldest member that is in the set; `None` where no member is.
