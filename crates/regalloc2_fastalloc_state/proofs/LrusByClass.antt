@@ -1,6 +1,6 @@
 -- The LRU list of each class.
-use Rattle.std.proofs.Common.{ℕ, ◌≡◌, ◌≢◌, ◌<◌, List, [], length, refl, sym, ◌∙◌, ⊎_elim, subst, slice_index_or, set, get_or-set_same}
-use Rattle.std.specs.Prelude.{Option, None, Some, IfSome, IsTrue, Contains, ◌↔◌}
+use Rattle.std.proofs.Common.{ℕ, ◌≡◌, ◌≢◌, ◌<◌, Bool, true, false, List, [], length, arith, refl, sym, ap, ◌∙◌, ⊎_elim, subst, slice_index_or, set, get_or-set_same}
+use Rattle.std.specs.Prelude.{Option, None, Some, IfSome, IfNone, IsTrue, Contains, ◌↔◌}
 use Rattle.std.proofs.lemmas.List.{get_or-set_other}
 use Rattle.std.proofs.Math.ListN.{length-set}
 use Rattle.regalloc2_names.specs.declared.RegClass.{RegClass}
@@ -8,7 +8,7 @@ use Rattle.regalloc2_names.specs.declared.RegClass.TheVariants.{Int, Float, Vect
 use Rattle.regalloc2_names.specs.declared.sets.PRegSet.{PRegSet}
 use Rattle.regalloc2_names.specs.Register.{Register, class_code}
 use Rattle.regalloc2_names.specs.RegisterSet.{has_register}
-use Rattle.regalloc2_fastalloc_state.specs.StateParts.{AllocatableRegsValue, AreLrus, IsLeastRecentIn, lru_of}
+use Rattle.regalloc2_fastalloc_state.specs.StateParts.{AllocatableRegsValue, AreLrus, IsLeastRecentIn, NoneIsFrom, lru_of}
 use Rattle.regalloc2_fastalloc_state.proofs.VRegInPRegInverse.{same_number}
 
 -- a register found in the LRU of its class, which is also in a set of available ones, is allocatable and available
@@ -22,6 +22,25 @@ found_in t class free (Some r) lrus member free_there =
       allocatable = lrus.has class r member;
       free_there = free_there;
     }
+
+-- a register found in the LRU of its class is one of the class that may be allocated
+pub member_in : (t : AllocatableRegsValue) (class : RegClass) (result : Option Register) → AreLrus t.allocatable t.lrus
+    → IfSome result (λ r. Contains (lru_of t class) r) → IfSome result (λ r. (r.class ≡ class) × (r.number < 64) × (has_register t.allocatable r ≡ true))
+member_in t class None lrus member = tt
+member_in t class (Some r) lrus member = ((lrus.of_class class r member).0, (lrus.of_class class r member).1, lrus.has class r member)
+
+-- a class whose LRU is empty has no register that may be allocated
+pub none_in : (t : AllocatableRegsValue) (class : RegClass) (result : Option Register) → AreLrus t.allocatable t.lrus
+    → IfNone result (lru_of t class ≡ []) → IfNone result (NoneIsFrom t.allocatable class 0)
+none_in t class (Some r) lrus none = tt
+none_in t class None lrus none = λ r same low small. by_test (has_register t.allocatable r) r refl same small
+  where
+    by_test : (b : Bool) (r : Register) → has_register t.allocatable r ≡ b → r.class ≡ class → r.number < 64 → b ≡ false
+    by_test false r e same small = refl
+    by_test true r e same small =
+        let there : Contains (lru_of t r.class) r = lrus.all r small e in
+        let here : Contains [] r = subst (λ (l : List Register). Contains l r) (ap (λ (k : RegClass). lru_of t k) same ∙ none) there in
+        absurd (omega (arith, here.1))
 
 -- an LRU list is replaced by one with the same members
 pub rings_kept : (allocatable : PRegSet) (lrus : List (List Register)) (i : ℕ) (ring : List Register) → i < length lrus

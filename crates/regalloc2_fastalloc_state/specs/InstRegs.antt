@@ -1,5 +1,5 @@
 -- The registers of one instruction, and the positions at which its operands hold theirs.
-use Rattle.std.specs.Prelude.{ℕ, ◌≡◌, Bool, true, not, ◌&&◌, ◌||◌, slice_index}
+use Rattle.std.specs.Prelude.{ℕ, ◌≡◌, Bool, true, not, ◌&&◌, ◌||◌, if◌then◌else◌, slice_index}
 use Rattle.regalloc2_names.specs.declared.RegClass.{RegClass}
 use Rattle.regalloc2_names.specs.declared.sets.PRegSet.{PRegSet}
 use Rattle.regalloc2_names.specs.Register.{Register, class_code, is_register}
@@ -13,6 +13,11 @@ use Rattle.regalloc2_fastalloc_state.specs.declared.inst_regs.Positions.{Positio
 pub record IsAvailableAt (inst_regs : InstRegs) (p : Positions) (r : Register) : Type 0 where
   pub early : p.early ≡ true → has_register inst_regs.early r ≡ true
   pub late : p.late ≡ true → has_register inst_regs.late r ≡ true
+
+-- the same as a test; at neither position, it asks for the late one
+abbrev pub is_available_at : InstRegs → Positions → Register → Bool
+is_available_at inst_regs p r =
+    if p.early then has_register inst_regs.early r && (not p.late || has_register inst_regs.late r) else has_register inst_regs.late r
 
 -- how many operands of a class that ask for any register are still to be allocated
 abbrev pub awaited_of : InstRegs → RegClass → ℕ

@@ -1,7 +1,7 @@
 //! The registers that may be allocated.
 
 ghost use Rattle.std.specs.Prelude.{ℕ, ◌≡◌, ◌≢◌, ◌+◌, ◌↔◌, ◌<◌, ◌≤◌, ◌∷◌, ◌||◌, ◌⊎◌, true, not, filter, find, reverse, Contains, IfSome, IfNone};
-ghost use Rattle.std.specs.Prelude.{IfOk, IfErr, None, slice_index_or};
+ghost use Rattle.std.specs.Prelude.{IfOk, IfErr, None, Some, Bool, ◌-◌, length, slice_get, slice_index_or};
 ghost use Rattle.regalloc2_names.specs.declared.RegClass.{RegClass};
 ghost use Rattle.regalloc2_function.specs.Machine.{is_allocatable};
 ghost use Rattle.regalloc2_function.specs.Views.{machine_of};
@@ -187,6 +187,18 @@ impl<A: Allocator> AllocatableRegs<A> {
         ensures none { IfNone result (NoneIsIn self.now class free) }
     {
         self.lrus.items[class.code()].last(free)
+    }
+
+    /// The register of the class that was used longest ago, of all. It is what `least_recently_used` answers for each set
+    /// that has it, without a search.
+    #[inline(always)]
+    pub fn oldest(&self, class: RegClass) -> Option<PReg>
+        ensures oldest { result ≡ slice_get (lru_of self.now class) (length (lru_of self.now class) - 1) }
+        ensures first { IfSome result (λ r. (test : Register → Bool) → test r ≡ true → find test (reverse (lru_of self.now class)) ≡ Some r) }
+        ensures found { IfSome result (λ r. (r.class ≡ class) × (r.number < 64) × (has_register self.now.allocatable r ≡ true)) }
+        ensures none { IfNone result (NoneIsFrom self.now.allocatable class 0) }
+    {
+        self.lrus.items[class.code()].oldest()
     }
 
     /// The register was used just now: it is the newest of its class from now on, and the others keep their order.

@@ -1,9 +1,9 @@
 //! The registers of one instruction: which are free at its two positions, and how many are still asked for.
 
-ghost use Rattle.std.specs.Prelude.{◌≡◌, ◌+◌, ◌-◌, ◌&&◌, ◌||◌, ◌∷◌, [], true, None, Some, not, length, min, slice_index_or, slice_set};
+ghost use Rattle.std.specs.Prelude.{IsTrue, ◌≡◌, ◌+◌, ◌-◌, ◌&&◌, ◌||◌, ◌∷◌, [], true, None, Some, not, length, min, slice_index_or, slice_set};
 ghost use Rattle.regalloc2_names.specs.Register.{Register, class_code, is_register};
 ghost use Rattle.regalloc2_names.specs.RegisterSet.{has_register};
-ghost use Rattle.regalloc2_fastalloc_state.specs.InstRegs.{RemovesAvailable, IsAvailableAt, SameAvailable, awaited_of, both, is_free_throughout, positions_of};
+ghost use Rattle.regalloc2_fastalloc_state.specs.InstRegs.{RemovesAvailable, IsAvailableAt, SameAvailable, awaited_of, both, is_available_at, is_free_throughout, positions_of};
 
 use regalloc2_names::{Operand, OperandKind, OperandPos, PReg, PRegSet, RegClass};
 
@@ -85,6 +85,7 @@ impl InstRegs {
         ensures free { (r : Register) → has_register result r ≡ true → IsAvailableAt self.now positions r }
         ensures throughout { (r : Register) → is_free_throughout self.now r ≡ true → has_register result r ≡ true }
         ensures all { (r : Register) → (positions.early || positions.late) ≡ true → IsAvailableAt self.now positions r → has_register result r ≡ true }
+        ensures same { (r : Register) → has_register result r ≡ is_available_at self.now positions r }
     {
         if positions.early && positions.late {
             self.early & self.late
@@ -92,6 +93,20 @@ impl InstRegs {
             self.early
         } else {
             self.late
+        }
+    }
+
+    /// Whether the register is free at the positions: whether `available_pregs` has it, without that set being made.
+    #[inline(always)]
+    pub fn is_available(&self, preg: PReg, positions: Positions) -> bool
+        ensures same { result ≡ is_available_at self.now positions preg }
+        ensures free { IsTrue result → IsAvailableAt self.now positions preg }
+        ensures all { (positions.early || positions.late) ≡ true → IsAvailableAt self.now positions preg → IsTrue result }
+    {
+        if positions.early {
+            self.early.contains(preg) && (!positions.late || self.late.contains(preg))
+        } else {
+            self.late.contains(preg)
         }
     }
 
