@@ -4,11 +4,11 @@ ghost use Rattle.std.specs.Prelude.{Bool};
 ghost use Rattle.regalloc2_names.specs.RegisterSet.{has_register};
 ghost use Rattle.regalloc2_names.specs.Register.{Register, VirtualRegister};
 ghost use Rattle.regalloc2_fastalloc_walk.specs.SpillFree.{FitInRegs, ArePlaced, ArePlain, IsSpillFree, LeavesSpillFree, AllocsAnyReg};
-ghost use Rattle.std.specs.Prelude.{◌≡◌, ◌<◌, ◌≤◌, ◌+◌, ◌↔◌, [], length, not, false, true, slice_set, slice_index_or, ℕ, OnOk, IfSome};
+ghost use Rattle.std.specs.Prelude.{◌≡◌, ◌<◌, ◌≤◌, ◌+◌, ◌↔◌, [], length, not, false, true, slice_set, slice_index_or, ℕ, OnOk, IfSome, IfNone};
 ghost use Rattle.std.specs.Prelude.{IsNone, IsTrue, List};
 ghost use Rattle.regalloc2_names.specs.Point.{before, after};
 ghost use Rattle.regalloc2_names.specs.Place.{Place, NoPlace, is_place};
-ghost use Rattle.regalloc2_names.specs.Operand.{is_def, is_late};
+ghost use Rattle.regalloc2_names.specs.Operand.{is_def, is_late, is_reading};
 ghost use Rattle.regalloc2_parts.specs.Picked.{picked};
 ghost use Rattle.regalloc2_fastalloc_walk.specs.OperandsAt.{is_at};
 ghost use Rattle.regalloc2_fastalloc_state.specs.StateParts.{AllAtOrAfter, alloc_of};
@@ -27,7 +27,7 @@ use regalloc2_fastalloc_state::inst_regs::{InstRegs, Positions};
 use regalloc2_fastalloc_state::request::{OperandRequest, Requirement};
 use regalloc2_index::Inst;
 use regalloc2_names::{
-    Allocation, Operand, OperandConstraint, OperandPos, PRegSet, ProgPoint, RegAllocError,
+    Allocation, Operand, OperandConstraint, OperandPos, PReg, PRegSet, ProgPoint, RegAllocError,
 };
 use regalloc2_parts::iter::{Operands, PickedOperands};
 use std::alloc::Allocator;
@@ -117,6 +117,24 @@ fn asks_any_reg(operand: Operand, place: Allocation) -> bool
     ensures { IsTrue result ↔ (operand.constraint ≡ OperandConstraint.Reg) × (place ≡ NoPlace) }
 {
     matches!(operand.constraint(), OperandConstraint::Reg) && place.is_none()
+}
+
+/// The register of a use, where it is known before it is placed: the one that a reuse has chosen for it, else the one that it is fixed
+/// to. None for a definition, and for a use that reads nothing: neither is placed as a use.
+fn known_register(operand: Operand, place: Allocation) -> Option<PReg>
+    ensures some { IfSome result (λ r. (is_reading operand ≡ true) × ((use_request operand place).requirement ≡ Requirement.InPReg r)) }
+    ensures none { IfNone result (is_reading operand ≡ true → (r : Register) → (use_request operand place).requirement ≡ Requirement.InPReg r → ⊥) }
+{
+    if !operand.is_reading() {
+        return None;
+    }
+    if let Some(preg) = place.as_reg() {
+        return Some(preg);
+    }
+    match operand.constraint() {
+        OperandConstraint::FixedReg(preg) => Some(preg),
+        _ => None,
+    }
 }
 
 /// An operand that asks for any register, as it is allocated where no reuse has chosen one for it.
@@ -251,7 +269,43 @@ impl<'a, A: Allocator> State<'a, A> {
         Ok(())
     }
 
-    /// Allocates the operand k.
+    /// Allocates the operand k, a use whose register is known before it is placed. It is [`Self::process_operand`] but for what that asks
+    /// first: whether the operand is a use of a vreg, as each that reads is, and what such a use requires, which is the register here.
+    #[inline(never)]
+    fn process_placed_use(
+        &mut self,
+        inst_regs: &mut InstRegs,
+        cx: &InstCx<'_>,
+        here: &mut [Allocation],
+        k: usize,
+        preg: PReg,
+    ) -> Result<(), RegAllocError>
+        requires inside { k < length cx.now.operands.now }
+        requires inst { cx.now.inst < 1073741824 }
+        requires later { AllAtOrAfter (after cx.now.inst) self.old.edits }
+        requires in_tables { InTables cx.now.operands.now (tables_of self.old) }
+        requires here_long { length here.old ≡ length cx.now.operands.now }
+        requires reading { is_reading (op_at cx.now.operands.now k) ≡ true }
+        requires known { (use_request (op_at cx.now.operands.now k) (slice_index_or here.old k NoPlace)).requirement ≡ Requirement.InPReg preg }
+        ensures ok { Makes (ProcessesOperand cx.now.inst cx.now.ends_block cx.now.operands.now k here.old here.new inst_regs.old inst_regs.new) result
+            self.old self.new }
+        ensures step { IsStepAt (after cx.now.inst) result self.old self.new }
+        ensures stops { StopsOnlyIf (ProcessOperandFails cx.now.inst cx.now.ends_block cx.now.operands.now k here.old inst_regs.old) result self.old }
+    {
+        let operands = cx.operands;
+        let operand = operands[k];
+        let point = ProgPoint::after(cx.inst);
+        let request = OperandRequest {
+            vreg: operand.vreg(),
+            requirement: Requirement::InPReg(preg),
+            positions: Positions::of(operand),
+            is_def: false,
+        };
+        here[k] = self.alloc_use(inst_regs, point, &request)?;
+        Ok(())
+    }
+
+    /// Allocates the operand k. The most common kinds have ways of their own, and those do as [`Self::process_operand`] does.
     #[inline(always)]
     fn process_operand_allocation(
         &mut self,
@@ -276,6 +330,9 @@ impl<'a, A: Allocator> State<'a, A> {
         let operands = cx.operands;
         if asks_any_reg(operands[k], here[k]) {
             return self.process_reg_operand(inst_regs, cx, here, k);
+        }
+        if let Some(preg) = known_register(operands[k], here[k]) {
+            return self.process_placed_use(inst_regs, cx, here, k, preg);
         }
         self.process_operand(inst_regs, cx, here, k)
     }
