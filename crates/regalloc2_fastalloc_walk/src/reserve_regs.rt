@@ -204,15 +204,16 @@ impl<'a, A: Allocator> State<'a, A> {
             self.new.registers ≡ self.old.registers) }
     {
         let operand = operands[k];
+        // one that asks for any register claims none, and is fixed to none
+        if operand.is_any_reg() {
+            inst_regs.add_any_reg_op(operand.class());
+            return Ok(());
+        }
         if let Some(claim) = reserved_by(operands, k) {
             self.reserve_preg(inst_regs, claims, claim.0, claim.1)?;
         }
-        match operand.constraint() {
-            OperandConstraint::Reg => inst_regs.add_any_reg_op(operand.class()),
-            OperandConstraint::FixedReg(preg) => {
-                self.remove_fixed(inst_regs, claims, preg, Positions::of(operand));
-            }
-            _ => {}
+        if let Some(preg) = fixed_register(operand) {
+            self.remove_fixed(inst_regs, claims, preg, Positions::of(operand));
         }
         Ok(())
     }
