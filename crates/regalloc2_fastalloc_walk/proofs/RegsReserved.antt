@@ -1,16 +1,13 @@
 -- What operands reserve, one after another.
-use Rattle.std.proofs.Common.{ℕ, zero, suc, add-one, ◌≡◌, ◌≢◌, ◌+◌, ◌<◌, ◌≤◌, ◌⊎◌, inl, inr, Bool, true, false, List, [], ◌∷◌, length, refl}
+use Rattle.std.proofs.Common.{ℕ, zero, suc, add-one, ◌≡◌, ◌+◌, ◌<◌, ◌≤◌, ◌⊎◌, inl, inr, Bool, true, false, List, [], ◌∷◌, length, refl}
 use Rattle.std.proofs.Common.{arith, sym, ap, ◌∙◌, subst}
-use Rattle.std.proofs.Common.{get_or-set_same}
-use Rattle.std.specs.Prelude.{Option, None, Some, IfSome, not, ◌&&◌, ◌||◌, if◌then◌else◌, nat_eq, min, take, slice_index, slice_set}
-use Rattle.std.proofs.lemmas.Bool.{cases_Bool, cases_eq, and_parts, eqb-true}
-use Rattle.std.proofs.lemmas.List.{get_or-set_other, length-take-le, take_all}
+use Rattle.std.specs.Prelude.{Option, None, Some, IfSome, not, ◌&&◌, ◌||◌, take, slice_index}
+use Rattle.std.proofs.lemmas.Bool.{cases_Bool, cases_eq, and_parts}
+use Rattle.std.proofs.lemmas.List.{length-take-le, take_all}
 use Rattle.std.proofs.lemmas.List.Sums.{count_by-le-length, count_by_more_yes, count_by_more_no}
 use Rattle.regalloc2_names.specs.declared.RegClass.{RegClass}
 use Rattle.regalloc2_names.specs.declared.RegClass.TheVariants.{Int, Float, Vector}
-use Rattle.regalloc2_names.specs.declared.OperandConstraint.{OperandConstraint}
-use Rattle.regalloc2_names.specs.declared.OperandConstraint.TheVariants.{Any, Reg, Stack, FixedReg, Reuse, Limit}
-use Rattle.regalloc2_function.specs.Fitting.{is_under_reg}
+use Rattle.regalloc2_names.specs.declared.OperandConstraint.TheVariants.{FixedReg}
 use Rattle.regalloc2_names.specs.Register.{Register, class_code, is_register}
 use Rattle.regalloc2_names.specs.RegisterSet.{has_register}
 use Rattle.regalloc2_names.specs.Operand.{OperandValue}
@@ -18,7 +15,7 @@ use Rattle.regalloc2_semantics.proofs.Cells.{is_register-same, is_register-true}
 use Rattle.regalloc2_fastalloc_state.specs.declared.inst_regs.Positions.{Positions}
 use Rattle.regalloc2_fastalloc_state.specs.declared.inst_regs.InstRegs.{InstRegs}
 use Rattle.regalloc2_fastalloc_walk.specs.declared.reserve_regs.ReservedRegs.{ReservedRegs}
-use Rattle.regalloc2_fastalloc_state.specs.InstRegs.{RemovesAvailable, SameAvailable, awaited_of, is_free_throughout}
+use Rattle.regalloc2_fastalloc_state.specs.InstRegs.{RemovesAvailable, awaited_of, is_free_throughout}
 use Rattle.regalloc2_validate.specs.Constraints.{op_at, no_operand}
 use Rattle.regalloc2_fastalloc_proofs.specs.InstSteps.{StateValue, NeedsFixedReg, own, named, IsFixedIn, ReservesRegs, asks, asking}
 use Rattle.regalloc2_fastalloc_proofs.specs.InstSteps.{EvictsFixed, none_cleared, not_fixed}
@@ -40,14 +37,6 @@ shrinks_held t u r p h = record {
   early = λ q e. (and_parts (not (p.early && is_register r q)) (has_register t.early q) (sym (h.early q) ∙ e)).1;
   late = λ q e. (and_parts (not (p.late && is_register r q)) (has_register t.late q) (sym (h.late q) ∙ e)).1;
   scratch = h.scratch;
-}
-
--- where no register becomes available, none does if only the count of operands that wait changes after that
-pub shrinks_same : (t u w : InstRegs) → Shrinks t u → SameAvailable u w → Shrinks t w
-shrinks_same t u w a s = record {
-  early = λ r h. a.early r (ap (λ x. has_register x r) (sym s.early) ∙ h);
-  late = λ r h. a.late r (ap (λ x. has_register x r) (sym s.late) ∙ h);
-  scratch = s.scratch ∙ a.scratch;
 }
 
 -- one register is held
@@ -103,56 +92,6 @@ claims_then ops k c d e h x y = record {
   early = λ r a. h.early r (ap (λ q. has_register q r) (sym x) ∙ a);
   late = λ r a. h.late r (ap (λ q. has_register q r) (sym y) ∙ a);
 }
-
--- how many operands are awaited
-codes_differ : (a b : RegClass) → nat_eq (class_code a) (class_code b) ≡ false → class_code a ≢ class_code b
-codes_differ Int Int e = absurd cc
-codes_differ Int Float e = λ x. cc
-codes_differ Int Vector e = λ x. cc
-codes_differ Float Int e = λ x. cc
-codes_differ Float Float e = absurd cc
-codes_differ Float Vector e = λ x. cc
-codes_differ Vector Int e = λ x. cc
-codes_differ Vector Float e = λ x. cc
-codes_differ Vector Vector e = absurd cc
-
-code_three : (c : RegClass) → class_code c < 3
-code_three Int = omega arith
-code_three Float = omega arith
-code_three Vector = omega arith
-
--- an operand that asks for any register is awaited
-pub awaits_it : (ops : List OperandValue) (k : ℕ) (t u : InstRegs) → (op_at ops k).constraint ≡ Reg → length t.awaited ≡ 3
-    → u.awaited ≡ slice_set t.awaited (class_code (op_at ops k).vreg.class) (min (awaited_of t (op_at ops k).vreg.class + 1) 18446744073709551615) →
-    AwaitsOne ops k t u
-awaits_it ops k t u is three now class small = elim (cases_Bool (nat_eq (class_code (op_at ops k).vreg.class) (class_code class))) [
-  | inl e ↦ (
-      let code = (op_at ops k).vreg.class in
-      let same : class_code code ≡ class_code class = eqb-true (class_code code) (class_code class) e in
-      let at : awaited_of u class ≡ min (awaited_of t code + 1) 18446744073709551615 = ap (λ (xs : List ℕ). slice_index xs (class_code class)) now
-      ∙ ap (λ (n : ℕ). slice_index (slice_set t.awaited (class_code code) (min (awaited_of t code + 1) 18446744073709551615)) n) (sym same)
-      ∙ get_or-set_same t.awaited (class_code code) (min (awaited_of t code + 1) 18446744073709551615) 0 (let x = code_three code in omega (arith, x, three)) in
-      let there : awaited_of t code ≡ awaited_of t class = ap (λ (n : ℕ). slice_index t.awaited n) same in
-      rw (is, e) (omega (arith, at, there, small)))
-  | inr e ↦ (
-      let code = (op_at ops k).vreg.class in
-      let at : awaited_of u class ≡ awaited_of t class = ap (λ (xs : List ℕ). slice_index xs (class_code class)) now
-      ∙ get_or-set_other t.awaited (class_code code) (class_code class) (min (awaited_of t code + 1) 18446744073709551615) 0
-      (λ x. codes_differ code class e (sym x)) in
-      rw (is, e) (omega (arith, at)))
-]
-
--- and no other is
-pub awaits_nothing : (ops : List OperandValue) (k : ℕ) (t u : InstRegs) → ((op_at ops k).constraint ≡ Reg → ⊥) → u.awaited ≡ t.awaited → AwaitsOne ops k t u
-awaits_nothing ops k t u not_reg now class small = rw (now, not_under (op_at ops k).constraint not_reg) (omega arith)
-  where
-    not_under : (c : OperandConstraint) → (c ≡ Reg → ⊥) → is_under_reg c ≡ false
-    not_under Any h = refl
-    not_under Reg h = absurd (h refl)
-    not_under Stack h = refl
-    not_under (FixedReg r) h = refl
-    not_under (Reuse n) h = refl
-    not_under (Limit n) h = refl
 
 -- what isn't free isn't later on
 pub stays_held : (a b : Bool) → (b ≡ true → a ≡ true) → a ≡ false → b ≡ false
@@ -429,12 +368,6 @@ pub claim_is : (ops : List OperandValue) (k : ℕ) (o : Option (Register × Posi
     (c : Register × Positions) → o ≡ Some c → NeedsFixedReg ops k c.0 c.1
 claim_is ops k None h c e = absurd cc
 claim_is ops k (Some d) h c e = (let same : d ≡ c = cc in subst (λ (x : Register × Positions). NeedsFixedReg ops k x.0 x.1) same h)
-
--- operand k is counted alike from registers with the same count of operands that wait
-pub awaits_from : (ops : List OperandValue) (k : ℕ) (t m u : InstRegs) → m.awaited ≡ t.awaited → AwaitsOne ops k m u → AwaitsOne ops k t u
-awaits_from ops k t m u same h class small =
-    let e : awaited_of m class ≡ awaited_of t class = ap (λ (xs : List ℕ). slice_index xs (class_code class)) same in
-    h class (omega (arith, e, small)) ∙ ap (λ (n : ℕ). n + (if asks class (op_at ops k) then 1 else 0)) e
 
 -- where no operand is fixed to a register, none has to be emptied
 pub evicts_none : (point : ℕ) (ops : List OperandValue) (t : InstRegs) (m : StateValue) →
