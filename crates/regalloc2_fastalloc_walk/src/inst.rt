@@ -116,7 +116,7 @@ fn def_request(operand: Operand) -> OperandRequest
 fn asks_any_reg(operand: Operand, place: Allocation) -> bool
     ensures { IsTrue result ↔ (operand.constraint ≡ OperandConstraint.Reg) × (place ≡ NoPlace) }
 {
-    matches!(operand.constraint(), OperandConstraint::Reg) && place.is_none()
+    operand.is_any_reg() && place.is_none()
 }
 
 /// The register of a use, where it is known before it is placed: the one that a reuse has chosen for it, else the one that it is fixed
