@@ -4,7 +4,7 @@
 //! any of them. The order is found by a walk from each move to the one that writes what it reads; a cycle is broken through a
 //! scratch place.
 
-ghost use Rattle.std.specs.Prelude.{◌≡◌, ◌≢◌, ◌↔◌, ◌<◌, ◌≤◌, length, [], ◌∷◌, ◌++◌, IsTrue, IsOk, IfOk, OnOk, OnErr, IfErr};
+ghost use Rattle.std.specs.Prelude.{◌≡◌, ◌≢◌, ◌↔◌, ◌<◌, ◌≤◌, length, [], ◌∷◌, ◌++◌, IsTrue, IsOk, IfOk, OnOk, OnErr, IfErr, IfSome, IfNone};
 ghost use Rattle.regalloc2_names.specs.Place.{NoPlace};
 ghost use Rattle.regalloc2_parts.specs.AtOnce.{ends_of, HasOneSourceEach, IsPlace};
 
@@ -127,6 +127,19 @@ impl<T: Copy + Default, A: Allocator + Copy> ParallelMoves<T, A> {
         ensures { IsTrue result ↔ (self.now ≡ []) }
     {
         self.parallel_moves.is_empty()
+    }
+
+    /// From where to where the one move goes, where there is just one. What it carries is left out.
+    #[inline(always)]
+    pub fn only(&self) -> Option<(Allocation, Allocation)>
+        ensures one { IfSome result (λ m. (t : T) × (self.now ≡ (m.0, m.1, t) ∷ [])) }
+        ensures none { IfNone result (length self.now ≢ 1) }
+    {
+        let moves = self.parallel_moves.as_slice();
+        if moves.len() != 1 {
+            return None;
+        }
+        Some((moves[0].0, moves[0].1))
     }
 
     /// The moves in an order in which they can be made one after another as if they were made at once. Two moves into one place
