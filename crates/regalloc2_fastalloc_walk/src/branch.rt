@@ -248,7 +248,34 @@ impl<'a, A: Allocator> State<'a, A> {
         Ok(made.moves)
     }
 
+    /// Pushes moves of a class, which are to be made at once, put in order.
+    #[inline(never)]
+    fn push_some<'b, B: Allocator>(
+        &mut self,
+        inst_regs: &InstRegs,
+        point: ProgPoint,
+        class: RegClass,
+        moves: ParallelMoves<(), &'b B>,
+    ) -> Result<(), RegAllocError>
+        requires ends { AreBetweenSlots self.old.slots.count moves }
+        requires one_source { HasOneSourceEach (ends_of moves) }
+        requires apart { AreApart (tables_of self.old) }
+        requires later { AllAtOrAfter point self.old.edits }
+        ensures ok { Makes (Pushes point inst_regs.now class moves.entry) result self.old self.new }
+        ensures later { OnOk result (AllAtOrAfter point self.new.edits) }
+        ensures machine { Between (AddsTempSlotsAtMost 2) self.old self.new }
+        ensures err { IfErr result (IsResourceError (SlotsExhaustedWith self.old.slots (self.old.slots.num_temp_slots + 2))) }
+        ensures stops { StopsOnlyIf (OrderMovesFails class moves.entry) result self.old }
+        ensures registers { OnOk result (self.new.registers ≡ self.old.registers) }
+        ensures none { OnOk result (moves.entry ≡ [] → SameTables self.old self.new) }
+    {
+        let made = self.order(inst_regs, class, moves)?;
+        self.edits.push_all(point, made.as_slice())?;
+        Ok(())
+    }
+
     /// Pushes the moves of a class, which are to be made at once.
+    #[inline(always)]
     fn push_moves<'b, B: Allocator>(
         &mut self,
         inst_regs: &InstRegs,
@@ -272,9 +299,7 @@ impl<'a, A: Allocator> State<'a, A> {
             // most branches have moves of one class, and the list of another isn't handed on to be put in order
             return Ok(());
         }
-        let made = self.order(inst_regs, class, moves)?;
-        self.edits.push_all(point, made.as_slice())?;
-        Ok(())
+        self.push_some(inst_regs, point, class, moves)
     }
 }
 

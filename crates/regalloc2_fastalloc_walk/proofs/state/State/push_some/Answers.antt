@@ -1,0 +1,25 @@
+use Rattle.std.proofs.Common.{ℕ, ◌≡◌, List, ◌++◌, ap, ◌∙◌}
+use Rattle.std.proofs.lemmas.List.{append-nil}
+use Rattle.regalloc2_function.specs.OutputValue.{MoveValue}
+use Rattle.regalloc2_fastalloc_state.specs.ScratchPool.{Moves, pushed}
+use Rattle.regalloc2_fastalloc_proofs.specs.InstSteps.{StateValue}
+use Rattle.regalloc2_fastalloc_walk.specs.StateView.{tables_of}
+use Rattle.regalloc2_fastalloc_walk.proofs.state.State.push_some.Goals as goal
+
+pub returns-clause-ok : goal.returns-clause-ok
+returns-clause-ok g c =
+    let middle : StateValue = tables_of c.order.new.self in
+    record {
+      made = c.in_ok-made.made.items;
+      middle = middle;
+      orders = c.in_ok-made.ensures.ok;
+      pushes = ap (λ (es : List (ℕ × MoveValue)). record middle { edits = es })
+          (c.in_ok-push_all.ensures.ok ∙ ap (λ (ms : Moves). middle.edits ++ pushed c.args.point ms) c.as_slice.ensures);
+    }
+
+pub returns-clause-none : goal.returns-clause-none
+returns-clause-none g c = λ none.
+    let middle : StateValue = tables_of c.order.new.self in
+    let o = c.in_ok-made.ensures.none none in
+    ap (λ (es : List (ℕ × MoveValue)). record middle { edits = es }) (c.in_ok-push_all.ensures.ok
+    ∙ ap (λ (ms : Moves). middle.edits ++ pushed c.args.point ms) (c.as_slice.ensures ∙ o.0) ∙ append-nil middle.edits) ∙ o.1
