@@ -6,8 +6,10 @@
 -- `ScratchRegMidMove` is the same where a vreg is on its way, so the tables have it elsewhere than the listing needs it (`scratch_but`); it
 -- serves `MoveAfterInst` and `Evictions/EvictPReg`, for moves that go through a scratch register in two parts. `StepsAppendEdits` is apart:
 -- each step only adds edits, at its own points (`allocates_pushes`). So is `ParallelMovesOrdered`: moves of one class, ordered by the
--- resolver, do what they do at once (`orders`), as the code's contract says.
+-- resolver, do what they do at once (`orders`), as the code's contract says; and `OneMove`: so does one move that is made by way of a scratch
+-- register (`pushes_one`).
 pub mod MoveAfterInst
+pub mod OneMove
 pub mod ParallelMovesOrdered
 pub mod ScratchRegMidMove
 pub mod ScratchRegTaken

@@ -13,6 +13,7 @@ use Rattle.regalloc2_fastalloc_state.specs.declared.inst_regs.InstRegs.{InstRegs
 use Rattle.regalloc2_fastalloc_proofs.specs.InstSteps.{StateValue}
 use Rattle.regalloc2_fastalloc_proofs.specs.BranchSteps.{GathersEdgeMoves, GathersMoves, IsOwn, OrdersMoves, ProcessesBranch, Pushes, no_edge, none_gathered}
 use Rattle.regalloc2_fastalloc_proofs.specs.BranchSteps.{of_class, one_edge}
+use Rattle.regalloc2_fastalloc_proofs.proofs.Moves.ParallelMovesOrdered.{none_taken}
 
 -- where there are no moves, none are made
 orders_nothing : (inst_regs : InstRegs) (class : RegClass) (t : StateValue) → OrdersMoves inst_regs class [] [] t t
@@ -23,18 +24,7 @@ orders_nothing inst_regs class t = record {
   allocatable = refl;
   fixed_stack = refl;
   dedicated_scratch = refl;
-  lends = (
-    0,
-    (omega arith),
-    record {
-      vreg_spillslots = refl;
-      sizes = refl;
-      by_last = refl;
-      num_temp_slots = omega arith;
-      none = λ e. refl;
-      some = λ k e. absurd (omega (arith, e));
-    },
-  );
+  lends = (0, omega arith, none_taken t.slots class);
   grows = omega arith;
   assigned = λ m c. absurd (omega (arith, c.1));
   kept = λ q real other free. refl;

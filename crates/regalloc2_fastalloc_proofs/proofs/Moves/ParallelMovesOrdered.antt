@@ -285,6 +285,17 @@ ends_from given m (k, lt, e) =
     let d : Place × Place × Unit {0} = (NoPlace, NoPlace, tt) in
     (get_or given k d, (k, here, get_or_default given k (get_or given k d) d here), sym (get_or-map ends given k d m here) ∙ e)
 
+-- no temporary slot is taken where the slots stay
+pub none_taken : (s : SpillSlotsValue) (class : RegClass) → AddsTempSlots s s class 0
+none_taken s class = record {
+  vreg_spillslots = refl;
+  sizes = refl;
+  by_last = refl;
+  num_temp_slots = omega arith;
+  none = λ e. refl;
+  some = λ k e. absurd (omega (arith, e));
+}
+
 -- no moves, where there are none
 pub orders_none : (inst_regs : InstRegs) (class : RegClass) (old : StateValue) (given listed made : Moves) (scratch : Bool) →
     IsResolution given scratch listed → listed ≡ [] → made ≡ listed → OrdersMoves inst_regs class given made old old
@@ -294,18 +305,7 @@ orders_none inst_regs class old given listed made scratch is none same = record 
   allocatable = refl;
   fixed_stack = refl;
   dedicated_scratch = refl;
-  lends = (
-    0,
-    (omega arith),
-    record {
-      vreg_spillslots = refl;
-      sizes = refl;
-      by_last = refl;
-      num_temp_slots = omega arith;
-      none = λ e. refl;
-      some = λ k e. absurd (omega (arith, e));
-    },
-  );
+  lends = (0, omega arith, none_taken old.slots class);
   grows = omega arith;
   assigned = λ m c. ap (λ (ms : Moves). in_turn (ends_of ms) names m.1) same ∙ is.at_once.assigned (ends m) (ends_contain given m c);
   kept = λ q real other free. ap (λ (ms : Moves). in_turn (ends_of ms) names q) same
