@@ -15,6 +15,7 @@ ghost use Rattle.regalloc2_fastalloc_proofs.specs.BranchSteps.{OrdersMoves, Para
 ghost use Rattle.regalloc2_fastalloc_proofs.specs.BranchSteps.{SpillsArgument};
 ghost use Rattle.regalloc2_fastalloc_state.specs.OutOfResources.{SlotsExhaustedWith, IsResourceError};
 ghost use Rattle.regalloc2_parts.specs.ScratchPool.{DoDiffer, IsOfScratchPair};
+ghost use Rattle.regalloc2_fastalloc_proofs.specs.InstSteps.{a_move};
 ghost use Rattle.regalloc2_fastalloc_proofs.specs.OutOfRegs.{GatherEdgeFails, GatherMovesFails, OrderMovesFails, ProcessBranchFails};
 ghost use Rattle.regalloc2_fastalloc_proofs.specs.OutOfRegs.{SpillArgumentFails};
 ghost use Rattle.regalloc2_branch_defs.specs.Tables.{AreBranchDefsOf};
@@ -274,6 +275,30 @@ impl<'a, A: Allocator> State<'a, A> {
         Ok(())
     }
 
+    /// Pushes one move from slot to slot, made by way of a register: the last one pushed is listed first. `push_some` would push just
+    /// these two, since both ends are in memory and the register is the first that it would take. Left out is what needs more than one
+    /// move: putting them in order, a second register and temporary slots.
+    #[inline(never)]
+    fn push_one(
+        &mut self,
+        point: ProgPoint,
+        from: Allocation,
+        to: Allocation,
+        by: PReg,
+    ) -> Result<(), RegAllocError>
+        requires { AllAtOrAfter point self.old.edits }
+        ensures ok { OnOk result (self.new.edits ≡ self.old.edits ++ a_move point (InRegister by) to ∷ a_move point from (InRegister by) ∷ []) }
+        ensures later { AllAtOrAfter point self.new.edits }
+        ensures rest { tables_of self.new ≡ record (tables_of self.old) { edits = self.new.edits } }
+        ensures err { IfErr result (λ e. e ≡ RegAllocError.Memory) }
+        ensures registers { self.new.registers ≡ self.old.registers }
+    {
+        let register = Allocation::reg(by);
+        self.edits.push(point, register, to)?;
+        self.edits.push(point, from, register)?;
+        Ok(())
+    }
+
     /// Pushes the moves of a class, which are to be made at once.
     #[inline(always)]
     fn push_moves<'b, B: Allocator>(
@@ -298,6 +323,14 @@ impl<'a, A: Allocator> State<'a, A> {
         if moves.is_empty() {
             // most branches have moves of one class, and the list of another isn't handed on to be put in order
             return Ok(());
+        }
+        if let Some((from, to)) = moves.only() {
+            if let Some(by) = self.first_scratch(
+                class,
+                inst_regs.available_pregs(Positions::both()),
+            ) {
+                return self.push_one(point, from, to, by);
+            }
         }
         self.push_some(inst_regs, point, class, moves)
     }

@@ -1,5 +1,5 @@
 -- One move from slot to slot, made by way of a scratch register.
-use Rattle.std.proofs.Common.{ℕ, zero, suc, ◌≡◌, ◌≢◌, ◌++◌, [], ◌∷◌, false, refl, sym, ap, ◌∙◌, inl, inr, ⊎_elim, arith}
+use Rattle.std.proofs.Common.{List, ℕ, zero, suc, ◌≡◌, ◌≢◌, ◌++◌, [], ◌∷◌, false, refl, sym, ap, ◌∙◌, subst, inl, inr, ⊎_elim, arith}
 use Rattle.std.specs.Prelude.{Contains}
 use Rattle.std.proofs.lemmas.List.Elements.{All-cons, All-nil}
 use Rattle.regalloc2_names.specs.declared.RegClass.{RegClass}
@@ -7,11 +7,12 @@ use Rattle.regalloc2_names.specs.RegisterSet.{has_register}
 use Rattle.regalloc2_names.specs.Register.{Register}
 use Rattle.regalloc2_names.specs.Place.{Place, NoPlace, InRegister, InSlot}
 use Rattle.regalloc2_names.proofs.EqualNames.{is_place-same, is_place-other}
+use Rattle.regalloc2_function.specs.OutputValue.{MoveValue}
 use Rattle.regalloc2_parts.specs.AtOnce.{ends_of, names, in_turn}
 use Rattle.regalloc2_fastalloc_state.specs.declared.inst_regs.InstRegs.{InstRegs}
 use Rattle.regalloc2_fastalloc_state.specs.ScratchPool.{Moves}
 use Rattle.regalloc2_fastalloc_proofs.specs.InstSteps.{StateValue, a_move}
-use Rattle.regalloc2_fastalloc_proofs.specs.BranchSteps.{MayBeScratch, AreApart, IsSlotBelow, IsOrdered, OrdersMoves, Pushes}
+use Rattle.regalloc2_fastalloc_proofs.specs.BranchSteps.{MayBeScratch, AreApart, AreBetweenSlots, IsSlotBelow, IsOrdered, OrdersMoves, Pushes}
 use Rattle.regalloc2_fastalloc_proofs.proofs.Moves.ParallelMovesOrdered.{none_taken}
 
 -- a move from one place to another
@@ -66,22 +67,26 @@ module _ (inst_regs : InstRegs) (class : RegClass) (t : StateValue) (from to : P
           target = inl (inl (by, refl, inl scratch));
         })
         (All-cons (IsOrdered inst_regs class (from_to from to ∷ []) t t) (from_to (InRegister by) to) []
-            (record {
-              between = ((λ e. cc), (λ e. let no : InSlot below.0 ≡ NoPlace = sym below.1 ∙ e in cc));
-              apart = λ a b. cc plain;
-              source = inl (inl (by, refl, inl scratch));
-              target = inr (from_to from to, (0, omega arith, refl), refl);
-            })
-            (All-nil (IsOrdered inst_regs class (from_to from to ∷ []) t t)));
+        (record {
+          between = ((λ e. cc), (λ e. let no : InSlot below.0 ≡ NoPlace = sym below.1 ∙ e in cc));
+          apart = λ a b. cc plain;
+          source = inl (inl (by, refl, inl scratch));
+          target = inr (from_to from to, (0, omega arith, refl), refl);
+        })
+        (All-nil (IsOrdered inst_regs class (from_to from to ∷ []) t t)));
   }
 
-  -- so are the two moves that are pushed for it, the one that is made last before the other
-  pub pushes_one : (point : ℕ) (new : StateValue) →
-      new ≡ record t { edits = t.edits ++ a_move point (InRegister by) to ∷ a_move point from (InRegister by) ∷ [] } →
-      Pushes point inst_regs class (from_to from to ∷ []) t new
-  pushes_one point new e = record {
-    made = passed from to (InRegister by);
-    middle = t;
-    orders = orders_one;
-    pushes = e;
-  }
+-- so the two moves that are pushed for the only one that is given, the one that is made last before the other, are what it is to do
+pub pushes_one : (inst_regs : InstRegs) (class : RegClass) (t new : StateValue) (given : Moves) (from to : Place) (by : Register) (point : ℕ) →
+    given ≡ (from, to, tt) ∷ [] → AreBetweenSlots t.slots.count given → AreApart t → MayBeScratch inst_regs t class by
+    → new ≡ record t { edits = new.edits } → new.edits ≡ t.edits ++ a_move point (InRegister by) to ∷ a_move point from (InRegister by) ∷ []
+    → Pushes point inst_regs class given t new
+pushes_one inst_regs class t new given from to by point one between apart scratch rest edits =
+    let ends : IsSlotBelow t.slots.count from × IsSlotBelow t.slots.count to =
+    subst (λ (ms : Moves). AreBetweenSlots t.slots.count ms) one between 0 (from_to from to) (omega arith) in
+    subst (λ (ms : Moves). Pushes point inst_regs class ms t new) (sym one) (record {
+      made = passed from to (InRegister by);
+      middle = t;
+      orders = orders_one inst_regs class t from to by ends.0 ends.1 apart scratch;
+      pushes = rest ∙ ap (λ (es : List (ℕ × MoveValue)). record t { edits = es }) edits;
+    })

@@ -1,7 +1,12 @@
-use Rattle.std.proofs.Common.{◌≡◌, [], refl, sym, subst}
+use Rattle.std.proofs.Common.{◌≡◌, [], refl, sym, subst, inl, inr, ⊎_elim}
+use Rattle.std.proofs.lemmas.Result.{on_ok_weaker}
+use Rattle.regalloc2_names.specs.Register.{Register}
+use Rattle.regalloc2_fastalloc_state.specs.InstRegs.{IsAvailableAt}
+use Rattle.regalloc2_fastalloc_state.specs.declared.inst_regs.Positions.{Positions}
 use Rattle.regalloc2_fastalloc_state.specs.ScratchPool.{Moves}
-use Rattle.regalloc2_fastalloc_proofs.specs.BranchSteps.{Pushes}
+use Rattle.regalloc2_fastalloc_proofs.specs.BranchSteps.{MayBeScratch, Pushes}
 use Rattle.regalloc2_fastalloc_proofs.specs.InstSteps.{StateValue}
+use Rattle.regalloc2_fastalloc_proofs.proofs.Moves.OneMove.{pushes_one}
 use Rattle.regalloc2_fastalloc_proofs.proofs.Safety.StateKept.{none_lends}
 use Rattle.regalloc2_fastalloc_walk.proofs.NothingPassed.{pushes_nothing}
 use Rattle.regalloc2_fastalloc_walk.specs.StateView.{tables_of}
@@ -17,3 +22,20 @@ returns-then-is_empty-clause-ok g c =
 
 pub returns-then-is_empty-clause-machine : goal.returns-then-is_empty-clause-machine
 returns-then-is_empty-clause-machine g c = none_lends 2 (tables_of c.args.self.now)
+
+-- one move, and a scratch register
+pub returns-in-Some-first_scratch-clause-ok : goal.returns-in-Some-first_scratch-clause-ok
+returns-in-Some-first_scratch-clause-ok g c =
+    let t : StateValue = tables_of c.args.self.now in
+    let by : Register = c.in-Some-first_scratch.by in
+    let scratch : MayBeScratch c.args.inst_regs.now t c.args.class by = ⊎_elim
+    (λ own. inl own)
+    (λ f. inr (
+      record { of_class = f.of_class; small = f.small; allocatable = f.allocatable },
+      subst (λ (p : Positions). IsAvailableAt c.args.inst_regs.now p by) c.both.ensures (c.available_pregs.ensures.free by f.free_there),
+    ))
+    c.in-Some-first_scratch.ensures.found in
+    on_ok_weaker c.push_one.result
+    (pushes_one c.args.inst_regs.now c.args.class t (tables_of c.push_one.new.self) c.args.moves _ _ by c.args.point c.in-Some.ensures.one.1 c.requires.ends
+    c.requires.apart scratch c.push_one.ensures.rest)
+    c.push_one.ensures.ok
