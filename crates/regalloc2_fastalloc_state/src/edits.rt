@@ -31,13 +31,13 @@ impl<A: Allocator> Model for Edits<A> {
 }
 
 impl<A: Allocator> Edits<A> {
-    /// No moves.
-    pub fn new(alloc: A) -> Self
-        ensures { result ≡ [] }
+    /// No moves, with room for so many. More can be pushed: then the list grows, as any `Vec` does.
+    pub fn with_capacity(alloc: A, moves: usize) -> Result<Self, RegAllocError>
+        ensures empty { IfOk result (λ e. e ≡ []) }
+        ensures err { IfErr result (λ e. e ≡ RegAllocError.Memory) }
     {
-        Edits {
-            pushed: Vec::new(alloc),
-        }
+        let pushed = Vec::with_capacity(alloc, moves)?;
+        Ok(Edits { pushed })
     }
 
     /// One more move, listed before all others, at a point that comes after none of theirs.

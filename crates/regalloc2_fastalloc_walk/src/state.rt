@@ -60,10 +60,13 @@ impl<'a, A: Allocator> State<'a, A> {
         let places = VRegAllocs::new(alloc, vregs)?;
         let slots = SpillSlots::new(alloc, vregs, sizes, f.multi_spillslot_named_by_last_slot())?;
         let registers = AllocatableRegs::new(alloc, env)?;
+        // An instruction seldom needs more than a reload and a store, so there is room for two moves for each. Where there
+        // are more, the list grows as any `Vec` does; where there are fewer, pages that are never written take no memory.
+        let edits = Edits::with_capacity(alloc, 2 * f.num_insts())?;
         Ok(State {
             places,
             slots,
-            edits: Edits::new(alloc),
+            edits,
             registers,
         })
     }
