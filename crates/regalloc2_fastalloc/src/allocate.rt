@@ -58,7 +58,9 @@ fn fill_places<A: Allocator + Copy, F: Function, B: Allocator>(
     let vregs = table_length(f);
     let mut state = State::new(&alloc, f, env, vregs)?;
     state.alloc_blocks(&alloc, f, offsets, allocs)?;
-    // first what takes tables by virtual register, which are gone when the moves are listed
+    // what only the walk needs is let go first: to locate labels takes tables by virtual register, too
+    drop(state.places);
+    drop(state.registers);
     let debug_locations = debug::locations(alloc, f, &state.slots, offsets, allocs)?;
     let edits = state.edits.listed(alloc)?;
     // a law, which the contract needs: the call does nothing
