@@ -62,11 +62,14 @@ fn fill_places<A: Allocator + Copy, F: Function, B: Allocator>(
     drop(state.places);
     drop(state.registers);
     let debug_locations = debug::locations(alloc, f, &state.slots, offsets, allocs)?;
+    let num_spillslots = state.slots.num_units();
+    // and so are the slots, since the moves are there twice when they are listed
+    drop(state.slots);
     let edits = state.edits.listed(alloc)?;
     // a law, which the contract needs: the call does nothing
     reads_the_same_numbers();
     Ok(Rest {
-        num_spillslots: state.slots.num_units(),
+        num_spillslots,
         edits,
         debug_locations,
     })

@@ -165,6 +165,10 @@ pub record AddsTempSlots (old new : SpillSlotsValue) (class : RegClass) (taken :
 abbrev pub no_slots : ℕ → List ℕ → Bool → SpillSlotsValue
 no_slots n sizes by_last = record { vreg_spillslots = replicate n NoPlace; count = 0; num_temp_slots = 0; sizes = sizes; by_last = by_last }
 
+-- a move as it is kept until it is listed: its point, and where it goes from and to
+abbrev pub kept_move : ℕ × Place × Place → ℕ × MoveValue
+kept_move m = (m.0, record { from = m.1; to = m.2 })
+
 -- each point is at most those of the moves that were pushed before
 abbrev pub PointsDescend : List (ℕ × MoveValue) → Type 0
 PointsDescend es = (i j : ℕ) (d : ℕ × MoveValue) → i ≤ j → j < length es → (slice_index_or es j d).0 ≤ (slice_index_or es i d).0

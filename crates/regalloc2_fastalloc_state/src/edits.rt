@@ -3,31 +3,58 @@
 ghost use Rattle.std.specs.Prelude.{◌≡◌, ◌++◌, ◌∷◌, [], OnOk, IfOk, IfErr, map, reverse};
 ghost use Rattle.regalloc2_function.specs.Views.{edit_of};
 ghost use Rattle.regalloc2_fastalloc_state.specs.ScratchPool.{pushed};
-ghost use Rattle.regalloc2_fastalloc_state.specs.StateParts.{PointsDescend, AllAtOrAfter};
+ghost use Rattle.regalloc2_fastalloc_state.specs.StateParts.{PointsDescend, AllAtOrAfter, kept_move};
 
 use regalloc2_function::Edit;
 use regalloc2_names::{Allocation, ProgPoint, RegAllocError};
 use std::alloc::Allocator;
 use std::marker::Model;
 
+/// A move as it is kept until it is listed: its point, and where it goes from and to. That takes twelve bytes, and a move of the output sixteen.
+type KeptMove = (ProgPoint, Allocation, Allocation);
+
 /// The moves of the part that was walked, in the order in which they were pushed: the last one is listed first, so
 /// points never rise.
 #[derive(Drop)]
 pub struct Edits<A: Allocator> {
-    pushed: Vec<(ProgPoint, Edit), A>,
+    pushed: Vec<KeptMove, A>,
 }
 
 impl<A: Allocator> Model for Edits<A> {
     ghost use Rattle.std.specs.Prelude.{ℕ, List, map};
     ghost use Rattle.regalloc2_function.specs.OutputValue.{MoveValue};
-    ghost use Rattle.regalloc2_function.specs.Views.{edit_of};
-    ghost use Rattle.regalloc2_fastalloc_state.specs.StateParts.{PointsDescend};
+    ghost use Rattle.regalloc2_fastalloc_state.specs.StateParts.{PointsDescend, kept_move};
 
     ghost Value = { List (ℕ × MoveValue) };
 
-    ghost view = { λ e. map edit_of e.pushed.items };
+    ghost view = { λ e. map kept_move e.pushed.items };
 
-    ghost invariant = { λ e. PointsDescend (map edit_of e.pushed.items) };
+    ghost invariant = { λ e. PointsDescend (map kept_move e.pushed.items) };
+}
+
+/// A move as the output has it.
+fn as_edit(kept: KeptMove) -> (ProgPoint, Edit)
+    ensures { edit_of result ≡ kept_move kept }
+{
+    let (point, from, to) = kept;
+    (point, Edit::Move { from, to })
+}
+
+/// Moves in the order in which they are listed, the last one first.
+fn list_moves<B: Allocator>(
+    alloc: B,
+    pushed: &[KeptMove],
+) -> Result<Vec<(ProgPoint, Edit), B>, RegAllocError>
+    ensures listed { IfOk result (λ v. map edit_of v.items ≡ reverse (map kept_move pushed.now)) }
+    ensures err { IfErr result (λ e. e ≡ RegAllocError.Memory) }
+{
+    let mut listed = Vec::with_capacity(alloc, pushed.len())?;
+    let mut k = pushed.len();
+    while k > 0 {
+        k -= 1;
+        listed.push(as_edit(pushed[k]))?;
+    }
+    Ok(listed)
 }
 
 impl<A: Allocator> Edits<A> {
@@ -52,7 +79,7 @@ impl<A: Allocator> Edits<A> {
         ensures err { IfErr result (λ e. e ≡ RegAllocError.Memory) }
         ensures later { AllAtOrAfter point self.new }
     {
-        self.pushed.push((point, Edit::Move { from, to }))?;
+        self.pushed.push((point, from, to))?;
         Ok(())
     }
 
@@ -83,8 +110,7 @@ impl<A: Allocator> Edits<A> {
         ensures falling { PointsDescend self.now }
         ensures err { IfErr result (λ e. e ≡ RegAllocError.Memory) }
     {
-        let mut listed = self.pushed.to_vec(alloc)?;
-        listed.reverse();
+        let listed = list_moves(alloc, &self.pushed)?;
         Ok(listed)
     }
 }

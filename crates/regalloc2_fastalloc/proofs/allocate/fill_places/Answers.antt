@@ -115,9 +115,9 @@ locations-requires g c =
     }
 
 -- the output as contracts see it
-abbrev out_of : (g : Over) (c : goal.After-drop-state-3 g) → OutputValue
+abbrev out_of : (g : Over) (c : goal.After-drop-state-2 g) → OutputValue
 out_of g c = record {
-  num_spillslots = c.num_units.result;
+  num_spillslots = c.num_units-num_spillslots.result;
   edits = map edit_of c.in_ok-edits.edits.items;
   allocs = c.alloc_blocks.new.allocs;
   offsets = c.args.offsets.now;
@@ -125,20 +125,20 @@ out_of g c = record {
 }
 
 -- the tables at the walk's start and at its end
-abbrev begun : (g : Over) (c : goal.After-drop-state-3 g) → StateValue
+abbrev begun : (g : Over) (c : goal.After-drop-state-2 g) → StateValue
 begun g c = tables_of c.in_ok-state.state
 
-abbrev left : (g : Over) (c : goal.After-drop-state-3 g) → StateValue
+abbrev left : (g : Over) (c : goal.After-drop-state-2 g) → StateValue
 left g c = tables_of c.alloc_blocks.new.self
 
 -- the machine's registers in the fresh tables
-machine_is : (g : Over) (c : goal.After-drop-state-3 g) → HasMachine (machine_of c.args.env.now) (begun g c)
+machine_is : (g : Over) (c : goal.After-drop-state-2 g) → HasMachine (machine_of c.args.env.now) (begun g c)
 machine_is g c =
     let e = c.in_ok-state.ensures in
     begun_machine (machine_of c.args.env.now) (begun g c) e.registers (λ r. (e.fixed_stack r).0) (λ r. (e.fixed_stack r).1) e.dedicated_scratch
 
 -- a slot of each class takes some units
-units_are : (g : Over) (c : goal.After-drop-state-3 g) → (class : RegClass) →
+units_are : (g : Over) (c : goal.After-drop-state-2 g) → (class : RegClass) →
     0 < units_of (no_slots c.table_length-vregs.result (sizes_of (g.F.Function.function c.args.f.now))
     (g.F.Function.function c.args.f.now).named_by_last_slot) class
 units_are g c =
@@ -148,21 +148,21 @@ units_are g c =
     (limited.slot_sizes Int).positive (limited.slot_sizes Float).positive (limited.slot_sizes Vector).positive
 
 -- the fresh tables are blank
-blank_is : (g : Over) (c : goal.After-drop-state-3 g) → Blank (begun g c)
+blank_is : (g : Over) (c : goal.After-drop-state-2 g) → Blank (begun g c)
 blank_is g c = (let f : FunctionValue = g.F.Function.function c.args.f.now in let e = c.in_ok-state.ensures in
     fresh_blank (begun g c) c.table_length-vregs.result (sizes_of f) f.named_by_last_slot e.places e.slots e.edits (units_are g c))
 
-fit_is : (g : Over) (c : goal.After-drop-state-3 g) → Fit (begun g c)
+fit_is : (g : Over) (c : goal.After-drop-state-2 g) → Fit (begun g c)
 fit_is g c = fresh_fit (g.F.Function.function c.args.f.now) (machine_of c.args.env.now) (begun g c) c.requires.machine (machine_is g c)
     c.in_ok-state.ensures.small
 
 -- the whole walk
-abbrev whole_is : (g : Over) (c : goal.After-drop-state-3 g) → WholeWalk
+abbrev whole_is : (g : Over) (c : goal.After-drop-state-2 g) → WholeWalk
 whole_is g c = whole_walk (machine_of c.args.env.now) (g.F.Function.function c.args.f.now) (g.met.F.Function.limited c.args.f.now) c.requires.well_formed
     c.args.allocs.now (begun g c) (left g c) (out_of g c) (blank_is g c) (fit_is g c) c.in_ok-alloc_blocks.ensures.ok
 
 -- and from which tables it began
-abbrev fresh_is : (g : Over) (c : goal.After-drop-state-3 g) → FreshWalk
+abbrev fresh_is : (g : Over) (c : goal.After-drop-state-2 g) → FreshWalk
 fresh_is g c = record {
   env = machine_of c.args.env.now;
   f = g.F.Function.function c.args.f.now;
@@ -187,31 +187,31 @@ fresh_is g c = record {
 }
 
 -- what the walk left
-walked : (g : Over) (c : goal.After-drop-state-3 g) →
+walked : (g : Over) (c : goal.After-drop-state-2 g) →
     WalkKept (machine_of c.args.env.now) (Made (g.F.Function.function c.args.f.now)) (g.F.Function.function c.args.f.now)
     (MayInBlocks (g.F.Function.function c.args.f.now)) c.alloc_blocks.new.allocs 0 0 c.alloc_blocks.new.allocs (left g c)
 walked g c = walk_kept_through (fresh_is g c) (blank_is g c) (fit_is g c)
 
 -- and at each of its instructions
-safe_is : (g : Over) (c : goal.After-drop-state-3 g) →
+safe_is : (g : Over) (c : goal.After-drop-state-2 g) →
     SafeWithin (machine_of c.args.env.now) (g.F.Function.function c.args.f.now) c.args.allocs.now (begun g c) c.alloc_blocks.new.allocs
 safe_is g c = walk_safe_through (fresh_is g c) (blank_is g c) (fit_is g c)
 
 -- a vreg that is passed as an argument has a slot
-handed_is : (g : Over) (c : goal.After-drop-state-3 g) → (v : VirtualRegister) (i : ℕ) → PassesAt (g.F.Function.function c.args.f.now) v i →
+handed_is : (g : Over) (c : goal.After-drop-state-2 g) → (v : VirtualRegister) (i : ℕ) → PassesAt (g.F.Function.function c.args.f.now) v i →
     slot_name (left g c).slots v.number ≢ NoPlace
 handed_is g c v i p =
     let f : FunctionValue = g.F.Function.function c.args.f.now in
     passed_slots (whole_is g c) (passes_between f) v i p
 
-made : (g : Over) (c : goal.After-drop-state-3 g) →
+made : (g : Over) (c : goal.After-drop-state-2 g) →
     IsMade (g.F.Function.function c.args.f.now) (machine_of c.args.env.now) (Made (g.F.Function.function c.args.f.now))
     (MayInBlocks (g.F.Function.function c.args.f.now)) (left g c) (out_of g c)
 made g c =
     let f : FunctionValue = g.F.Function.function c.args.f.now in
     let env : MachineValue = machine_of c.args.env.now in
     record {
-      count = c.num_units.ensures.count;
+      count = c.num_units-num_spillslots.ensures.count;
       edits = c.in_ok-edits.ensures.listed;
       falling = c.in_ok-edits.ensures.falling;
       long = c.requires.offsets_long;
@@ -224,7 +224,7 @@ made g c =
     }
 
 -- where no path reads before writing, the output is faithful
-faithful_is : (g : Over) (c : goal.After-drop-state-3 g) → IsWrittenFirst (g.F.Function.function c.args.f.now) →
+faithful_is : (g : Over) (c : goal.After-drop-state-2 g) → IsWrittenFirst (g.F.Function.function c.args.f.now) →
     IsFaithful (g.F.Function.function c.args.f.now) (machine_of c.args.env.now) (out_of g c)
 faithful_is g c = λ written.
     let f : FunctionValue = g.F.Function.function c.args.f.now in
@@ -234,24 +234,24 @@ faithful_is g c = λ written.
     (made_in_registers f env (Made f) (MayInBlocks f) (left g c) (out_of g c) m)
     (made_blocks_agree (whole_is g c) c.requires.taken c.requires.branches (safe_is g c) m written)
 
-live_is : (g : Over) (c : goal.After-drop-state-3 g) → IsWrittenFirst (g.F.Function.function c.args.f.now) →
+live_is : (g : Over) (c : goal.After-drop-state-2 g) → IsWrittenFirst (g.F.Function.function c.args.f.now) →
     LiveInSlots (g.F.Function.function c.args.f.now) (out_of g c)
 live_is g c =
     let f : FunctionValue = g.F.Function.function c.args.f.now in
     let env : MachineValue = machine_of c.args.env.now in
     made_in_slots (whole_is g c) c.requires.taken c.requires.branches (safe_is g c) (made g c)
-    c.num_units.ensures.owned (tame_at env f (g.met.F.Function.limited c.args.f.now) c.requires.well_formed c.requires.taken)
+    c.num_units-num_spillslots.ensures.owned (tame_at env f (g.met.F.Function.limited c.args.f.now) c.requires.well_formed c.requires.taken)
 
 -- and debug locations name places of their virtual registers, which hold their values
-labels_are : (g : Over) (c : goal.After-drop-state-3 g) → ShowsLabels (g.F.Function.function c.args.f.now) (machine_of c.args.env.now) (out_of g c)
+labels_are : (g : Over) (c : goal.After-drop-state-2 g) → ShowsLabels (g.F.Function.function c.args.f.now) (machine_of c.args.env.now) (out_of g c)
 labels_are g c =
     let f : FunctionValue = g.F.Function.function c.args.f.now in
     let env : MachineValue = machine_of c.args.env.now in
     let limited : IsLimited f = g.met.F.Function.limited c.args.f.now in
     let tame = tame_at env f limited c.requires.well_formed c.requires.taken in
-    shows_labels env f limited c.requires.well_formed (MayInBlocks f) (left g c) (out_of g c) (made g c) (handed_is g c) c.num_units.ensures.owned tame
+    shows_labels env f limited c.requires.well_formed (MayInBlocks f) (left g c) (out_of g c) (made g c) (handed_is g c) c.num_units-num_spillslots.ensures.owned tame
     (made_label_shown (whole_is g c) c.requires.taken c.requires.branches (safe_is g c) (made g c)
-    c.requires.machine c.num_units.ensures.owned tame) c.in_ok-debug_locations.ensures.ok
+    c.requires.machine c.num_units-num_spillslots.ensures.owned tame) c.in_ok-debug_locations.ensures.ok
 
 -- there are few temporary slots
 few_lent : (f : FunctionValue) (begun left : StateValue) (n : ℕ) (by_last : Bool) (most : ℕ) → begun.slots ≡ no_slots n (sizes_of f) by_last →
@@ -261,7 +261,7 @@ few_lent f begun left n by_last most slots machine =
     let num_temp_slots = machine.num_temp_slots in
     omega (arith, none, num_temp_slots)
 
-owners_are : (g : Over) (c : goal.After-drop-state-3 g) → AreSlotsOwned (g.F.Function.function c.args.f.now) (out_of g c)
+owners_are : (g : Over) (c : goal.After-drop-state-2 g) → AreSlotsOwned (g.F.Function.function c.args.f.now) (out_of g c)
 owners_are g c =
     let f : FunctionValue = g.F.Function.function c.args.f.now in
     let env : MachineValue = machine_of c.args.env.now in
@@ -272,11 +272,11 @@ owners_are g c =
     let e = c.in_ok-state.ensures in
     let classed = walk_classed (fits_keeps f env c.requires.machine) limited c.requires.well_formed c.requires.taken {begin = begin} {last = last} n n
     (sizes_of f) e.places e.slots e.edits (units_are g c) (machine_is g c) c.in_ok-alloc_blocks.ensures.ok in
-    made_slots_owned f env (Made f) (MayInBlocks f) last (out_of g c) (made g c) c.num_units.ensures.owned
+    made_slots_owned f env (Made f) (MayInBlocks f) last (out_of g c) (made g c) c.num_units-num_spillslots.ensures.owned
     (tame_at env f limited c.requires.well_formed c.requires.taken) f.named_by_last_slot (BranchesFrom f 0) classed
     (sizes_agree f last.slots (sizes_kept f begin last n f.named_by_last_slot _ e.slots c.alloc_blocks.ensures.machine)) refl (λ i class m. (m.1, m.2))
 
-slots_are : (g : Over) (c : goal.After-drop-state-3 g) → SlotsAreBounded (g.F.Function.function c.args.f.now) (out_of g c)
+slots_are : (g : Over) (c : goal.After-drop-state-2 g) → SlotsAreBounded (g.F.Function.function c.args.f.now) (out_of g c)
 slots_are g c =
     let f : FunctionValue = g.F.Function.function c.args.f.now in
     let begin : StateValue = tables_of c.in_ok-state.state in
@@ -284,12 +284,12 @@ slots_are g c =
     let machine = c.alloc_blocks.ensures.machine in
     let slots = c.in_ok-state.ensures.slots in
     let n : ℕ = c.table_length-vregs.result in
-    few_slots f last.slots (out_of g c) c.num_units.ensures.count (sizes_kept f begin last n f.named_by_last_slot _ slots machine)
+    few_slots f last.slots (out_of g c) c.num_units-num_spillslots.ensures.count (sizes_kept f begin last n f.named_by_last_slot _ slots machine)
     (vregs_few f begin last n f.named_by_last_slot _ slots machine c.table_length-vregs.ensures.few)
-    (few_lent f begin last n f.named_by_last_slot _ slots machine) c.num_units.ensures.owned
+    (few_lent f begin last n f.named_by_last_slot _ slots machine) c.num_units-num_spillslots.ensures.owned
 
 -- where registers suffice for all virtual registers, the walk makes no move and no slot
-unspilled_is : (g : Over) (c : goal.After-drop-state-3 g) → HasRegistersForAll (g.F.Function.function c.args.f.now) (machine_of c.args.env.now) →
+unspilled_is : (g : Over) (c : goal.After-drop-state-2 g) → HasRegistersForAll (g.F.Function.function c.args.f.now) (machine_of c.args.env.now) →
     ((out_of g c).edits ≡ []) × ((out_of g c).num_spillslots ≡ 0)
 unspilled_is g c = λ h.
     let f : FunctionValue = g.F.Function.function c.args.f.now in
@@ -300,7 +300,7 @@ unspilled_is g c = λ h.
     (asks_for_registers f (machine_of c.args.env.now) h)
     (begins_uncrowded f (names_in f.insts) c.in_ok-state.state.registers begin b.nowhere b.no_move b.no_slot (ap (λ (s : SpillSlotsValue). s.count) e.slots)
     refl (fit_apart begin (fit_is g c)) e.lrus) in
-    (c.in_ok-edits.ensures.listed ∙ ap reverse none.0, c.num_units.ensures.count ∙ none.1)
+    (c.in_ok-edits.ensures.listed ∙ ap reverse none.0, c.num_units-num_spillslots.ensures.count ∙ none.1)
 
 pub returns-clause-allocation : goal.returns-clause-allocation
 returns-clause-allocation g c =
