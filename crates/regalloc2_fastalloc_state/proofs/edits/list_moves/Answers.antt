@@ -1,7 +1,6 @@
 use Rattle.std.proofs.Common.{ℕ, ◌≡◌, ◌+◌, ◌-◌, ◌∷◌, [], ◌++◌, ◌∙◌, ap, refl, arith, rules, map, reverse, length}
 use Rattle.std.specs.Prelude.{drop}
 use Rattle.std.proofs.lemmas.List.{map-append}
-use Rattle.regalloc2_function.specs.OutputValue.{MoveValue}
 use Rattle.regalloc2_function.specs.Views.{edit_of}
 use Rattle.regalloc2_fastalloc_state.specs.StateParts.{kept_move}
 use Rattle.regalloc2_fastalloc_state.proofs.EditsPushed.{none_listed, one_listed}

@@ -1,4 +1,4 @@
-use Rattle.std.proofs.Common.{◌∙◌, ap, map, reverse, ◌≡◌}
+use Rattle.std.proofs.Common.{◌∙◌, ap, map, reverse}
 use Rattle.regalloc2_fastalloc_state.specs.StateParts.{kept_move}
 use Rattle.regalloc2_fastalloc_state.proofs.edits.Edits.listed.Goals as goal
 
