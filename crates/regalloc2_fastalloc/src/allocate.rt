@@ -63,7 +63,7 @@ fn fill_places<A: Allocator + Copy, F: Function, B: Allocator>(
     drop(state.registers);
     let debug_locations = debug::locations(alloc, f, &state.slots, offsets, allocs)?;
     let num_spillslots = state.slots.num_units();
-    // and so are the slots, since the moves are there twice when they are listed
+    // and so are the slots, since a move that is listed takes more than one that is kept
     drop(state.slots);
     let edits = state.edits.listed(alloc)?;
     // a law, which the contract needs: the call does nothing

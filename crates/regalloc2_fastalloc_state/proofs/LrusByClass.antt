@@ -1,5 +1,6 @@
 -- The LRU list of each class.
-use Rattle.std.proofs.Common.{ℕ, ◌≡◌, ◌≢◌, ◌<◌, Bool, true, false, List, [], length, arith, refl, sym, ap, ◌∙◌, ⊎_elim, subst, slice_index_or, set, get_or-set_same}
+use Rattle.std.proofs.Common.{ℕ, ◌≡◌, ◌≢◌, ◌<◌, Bool, true, false, List, [], length, arith, refl, sym, ap, ◌∙◌, ⊎_elim, subst}
+use Rattle.std.proofs.Common.{slice_index_or, set, get_or-set_same}
 use Rattle.std.specs.Prelude.{Option, None, Some, IfSome, IfNone, IsTrue, Contains, ◌↔◌}
 use Rattle.std.proofs.lemmas.List.{get_or-set_other}
 use Rattle.std.proofs.Math.ListN.{length-set}

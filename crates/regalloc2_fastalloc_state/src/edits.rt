@@ -1,6 +1,7 @@
 //! The moves that are added.
 
-ghost use Rattle.std.specs.Prelude.{◌≡◌, ◌++◌, ◌∷◌, [], OnOk, IfOk, IfErr, map, reverse};
+ghost use Rattle.std.specs.Prelude.{◌≡◌, ◌≤◌, ◌+◌, ◌-◌, ◌^◌, ◌++◌, ◌∷◌, [], OnOk, OnErr, IfOk, IfErr};
+ghost use Rattle.std.specs.Prelude.{flat_map, length, map, min, reverse, vec_len, vec_capacity};
 ghost use Rattle.regalloc2_function.specs.Views.{edit_of};
 ghost use Rattle.regalloc2_fastalloc_state.specs.ScratchPool.{pushed};
 ghost use Rattle.regalloc2_fastalloc_state.specs.StateParts.{PointsDescend, AllAtOrAfter, kept_move};
@@ -9,27 +10,37 @@ use regalloc2_function::Edit;
 use regalloc2_names::{Allocation, ProgPoint, RegAllocError};
 use std::alloc::Allocator;
 use std::marker::Model;
+use std::mem;
 
 /// A move as it is kept until it is listed: its point, and where it goes from and to. That takes twelve bytes, and a move of the output sixteen.
 type KeptMove = (ProgPoint, Allocation, Allocation);
 
+/// How many moves a chunk has room for at most: 12 kB of them.
+const MAX_MOVES_IN_CHUNK: usize = 1024;
+
+/// And at least.
+const MIN_MOVES_IN_CHUNK: usize = 16;
+
 /// The moves of the part that was walked, in the order in which they were pushed: the last one is listed first, so
-/// points never rise.
+/// points never rise. They are kept in chunks, so that none is copied when the list grows, and chunks are freed one by one while moves are listed.
 #[derive(Drop)]
-pub struct Edits<A: Allocator> {
-    pushed: Vec<KeptMove, A>,
+pub struct Edits<A: Allocator + Copy> {
+    /// The chunks that are full, in the order in which they were filled.
+    full: Vec<Vec<KeptMove, A>, A>,
+    /// The chunk that is being filled.
+    current: Vec<KeptMove, A>,
 }
 
-impl<A: Allocator> Model for Edits<A> {
-    ghost use Rattle.std.specs.Prelude.{ℕ, List, map};
+impl<A: Allocator + Copy> Model for Edits<A> {
+    ghost use Rattle.std.specs.Prelude.{ℕ, ◌++◌, List, flat_map, map};
     ghost use Rattle.regalloc2_function.specs.OutputValue.{MoveValue};
     ghost use Rattle.regalloc2_fastalloc_state.specs.StateParts.{PointsDescend, kept_move};
 
     ghost Value = { List (ℕ × MoveValue) };
 
-    ghost view = { λ e. map kept_move e.pushed.items };
+    ghost view = { λ e. map kept_move (flat_map (λ chunk. chunk.items) e.full.items ++ e.current.items) };
 
-    ghost invariant = { λ e. PointsDescend (map kept_move e.pushed.items) };
+    ghost invariant = { λ e. PointsDescend (map kept_move (flat_map (λ chunk. chunk.items) e.full.items ++ e.current.items)) };
 }
 
 /// A move as the output has it.
@@ -40,31 +51,60 @@ fn as_edit(kept: KeptMove) -> (ProgPoint, Edit)
     (point, Edit::Move { from, to })
 }
 
-/// Moves in the order in which they are listed, the last one first.
-fn list_moves<B: Allocator>(
-    alloc: B,
-    pushed: &[KeptMove],
-) -> Result<Vec<(ProgPoint, Edit), B>, RegAllocError>
-    ensures listed { IfOk result (λ v. map edit_of v.items ≡ reverse (map kept_move pushed.now)) }
+/// The current chunk becomes one of those that are full, and a new one begins, with room for as many moves.
+#[inline(never)]
+fn begin_chunk<A: Allocator + Copy>(
+    full: &mut Vec<Vec<KeptMove, A>, A>,
+    current: &mut Vec<KeptMove, A>,
+) -> Result<(), RegAllocError>
+    ensures full { OnOk result (full.new.items ≡ full.old.items ++ current.old ∷ []) }
+    ensures current { OnOk result (current.new.items ≡ []) }
+    ensures room { OnOk result (vec_len current.old ≤ vec_capacity current.new) }
+    ensures kept { OnErr result ((full.new.items ≡ full.old.items) × (current.new ≡ current.old)) }
     ensures err { IfErr result (λ e. e ≡ RegAllocError.Memory) }
 {
-    let mut listed = Vec::with_capacity(alloc, pushed.len())?;
-    let mut k = pushed.len();
-    while k > 0 {
-        k -= 1;
-        listed.push(as_edit(pushed[k]))?;
-    }
-    Ok(listed)
+    let next = Vec::with_capacity(*current.allocator(), current.len())?;
+    full.reserve(1)?;
+    let filled = mem::replace(current, next);
+    full.push_reserved(filled);
+    Ok(())
 }
 
-impl<A: Allocator> Edits<A> {
-    /// No moves, with room for so many. More can be pushed: then the list grows, as any `Vec` does.
+/// The moves of a chunk are listed after those that are, the last one first, where there is room for them.
+fn list_chunk<B: Allocator>(listed: &mut Vec<(ProgPoint, Edit), B>, chunk: &[KeptMove])
+    requires room { vec_len listed.old + length chunk.now ≤ vec_capacity listed.old }
+    ensures listed { map edit_of listed.new.items ≡ map edit_of listed.old.items ++ reverse (map kept_move chunk.now) }
+{
+    let mut k = chunk.len();
+    while k > 0 {
+        k -= 1;
+        listed.push_reserved(as_edit(chunk[k]));
+    }
+}
+
+/// How many moves some chunks have in all.
+fn moves_in<A: Allocator>(chunks: &[Vec<KeptMove, A>]) -> usize
+    ensures { result ≡ min (length (flat_map (λ chunk. chunk.items) chunks.now)) (2 ^ 64 - 1) }
+{
+    let mut moves = 0usize;
+    for chunk in chunks {
+        moves = moves.saturating_add(chunk.len());
+    }
+    moves
+}
+
+impl<A: Allocator + Copy> Edits<A> {
+    /// No moves. About so many are expected: a chunk has room for that many, within its bounds.
     pub fn with_capacity(alloc: A, moves: usize) -> Result<Self, RegAllocError>
         ensures empty { IfOk result (λ e. e ≡ []) }
         ensures err { IfErr result (λ e. e ≡ RegAllocError.Memory) }
     {
-        let pushed = Vec::with_capacity(alloc, moves)?;
-        Ok(Edits { pushed })
+        let room = moves.max(MIN_MOVES_IN_CHUNK).min(MAX_MOVES_IN_CHUNK);
+        let current = Vec::with_capacity(alloc, room)?;
+        Ok(Edits {
+            full: Vec::new(alloc),
+            current,
+        })
     }
 
     /// One more move, listed before all others, at a point that comes after none of theirs.
@@ -79,7 +119,10 @@ impl<A: Allocator> Edits<A> {
         ensures err { IfErr result (λ e. e ≡ RegAllocError.Memory) }
         ensures later { AllAtOrAfter point self.new }
     {
-        self.pushed.push((point, from, to))?;
+        if self.current.len() == self.current.capacity() {
+            begin_chunk(&mut self.full, &mut self.current)?;
+        }
+        self.current.push((point, from, to))?;
         Ok(())
     }
 
@@ -104,13 +147,24 @@ impl<A: Allocator> Edits<A> {
         Ok(())
     }
 
-    /// The moves in the order in which they are listed, by rising points.
-    pub fn listed<B: Allocator>(&self, alloc: B) -> Result<Vec<(ProgPoint, Edit), B>, RegAllocError>
-        ensures listed { IfOk result (λ v. map edit_of v.items ≡ reverse self.now) }
-        ensures falling { PointsDescend self.now }
+    /// The moves in the order in which they are listed, by rising points. Room for a quarter of them is asked for at first, and for the others when
+    /// the chunks of that quarter have been listed and freed: so at no time are all of them there twice.
+    pub fn listed<B: Allocator>(self, alloc: B) -> Result<Vec<(ProgPoint, Edit), B>, RegAllocError>
+        ensures listed { IfOk result (λ v. map edit_of v.items ≡ reverse self) }
+        ensures falling { PointsDescend self }
         ensures err { IfErr result (λ e. e ≡ RegAllocError.Memory) }
     {
-        let listed = list_moves(alloc, &self.pushed)?;
+        let Edits { mut full, current } = self;
+        let room = (moves_in(&full) / 4).max(current.len());
+        let mut listed = Vec::with_capacity(alloc, room)?;
+        list_chunk(&mut listed, &current);
+        drop(current);
+        while let Some(chunk) = full.pop() {
+            if listed.capacity() - listed.len() < chunk.len() {
+                listed.reserve_exact(moves_in(&full).saturating_add(chunk.len()))?;
+            }
+            list_chunk(&mut listed, &chunk);
+        }
         Ok(listed)
     }
 }

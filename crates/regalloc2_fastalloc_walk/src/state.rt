@@ -14,7 +14,6 @@ use regalloc2_fastalloc_state::edits::Edits;
 use regalloc2_fastalloc_state::spillslots::SpillSlots;
 use regalloc2_fastalloc_state::vreg_allocs::VRegAllocs;
 use regalloc2_function::{Function, MachineEnv};
-use regalloc2_index::Block;
 use regalloc2_names::{RegAllocError, RegClass};
 use std::alloc::Allocator;
 
@@ -26,21 +25,6 @@ pub struct State<'a, A: Allocator> {
     pub edits: Edits<&'a A>,
     pub registers: AllocatableRegs<&'a A>,
     pub ghost same_long: { length slots.vreg_spillslots ≡ length places.vreg_allocs },
-}
-
-/// How many moves the list of moves begins with room for: five for three instructions, of which some need a reload or a store and most neither, and
-/// two for each parameter of a block. Where there are more, the list grows as any `Vec` does; where there are fewer, pages that are never
-/// written take no memory.
-fn expected_moves<F: Function>(f: &F) -> usize
-    ensures { length (F.function f.now).insts ≤ result }
-{
-    let mut params = 0usize;
-    for b in 0..f.num_blocks() {
-        params = params.saturating_add(f.block_params(Block::new(b)).len());
-    }
-    params
-        .saturating_mul(2)
-        .saturating_add(5 * f.num_insts() / 3)
 }
 
 impl<'a, A: Allocator> State<'a, A> {
@@ -76,7 +60,7 @@ impl<'a, A: Allocator> State<'a, A> {
         let places = VRegAllocs::new(alloc, vregs)?;
         let slots = SpillSlots::new(alloc, vregs, sizes, f.multi_spillslot_named_by_last_slot())?;
         let registers = AllocatableRegs::new(alloc, env)?;
-        let edits = Edits::with_capacity(alloc, expected_moves(f))?;
+        let edits = Edits::with_capacity(alloc, f.num_insts())?;
         Ok(State {
             places,
             slots,

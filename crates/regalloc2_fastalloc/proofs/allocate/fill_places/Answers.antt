@@ -115,7 +115,7 @@ locations-requires g c =
     }
 
 -- the output as contracts see it
-abbrev out_of : (g : Over) (c : goal.After-drop-state-2 g) → OutputValue
+abbrev out_of : (g : Over) (c : goal.After-reads_the_same_numbers g) → OutputValue
 out_of g c = record {
   num_spillslots = c.num_units-num_spillslots.result;
   edits = map edit_of c.in_ok-edits.edits.items;
@@ -125,20 +125,20 @@ out_of g c = record {
 }
 
 -- the tables at the walk's start and at its end
-abbrev begun : (g : Over) (c : goal.After-drop-state-2 g) → StateValue
+abbrev begun : (g : Over) (c : goal.After-reads_the_same_numbers g) → StateValue
 begun g c = tables_of c.in_ok-state.state
 
-abbrev left : (g : Over) (c : goal.After-drop-state-2 g) → StateValue
+abbrev left : (g : Over) (c : goal.After-reads_the_same_numbers g) → StateValue
 left g c = tables_of c.alloc_blocks.new.self
 
 -- the machine's registers in the fresh tables
-machine_is : (g : Over) (c : goal.After-drop-state-2 g) → HasMachine (machine_of c.args.env.now) (begun g c)
+machine_is : (g : Over) (c : goal.After-reads_the_same_numbers g) → HasMachine (machine_of c.args.env.now) (begun g c)
 machine_is g c =
     let e = c.in_ok-state.ensures in
     begun_machine (machine_of c.args.env.now) (begun g c) e.registers (λ r. (e.fixed_stack r).0) (λ r. (e.fixed_stack r).1) e.dedicated_scratch
 
 -- a slot of each class takes some units
-units_are : (g : Over) (c : goal.After-drop-state-2 g) → (class : RegClass) →
+units_are : (g : Over) (c : goal.After-reads_the_same_numbers g) → (class : RegClass) →
     0 < units_of (no_slots c.table_length-vregs.result (sizes_of (g.F.Function.function c.args.f.now))
     (g.F.Function.function c.args.f.now).named_by_last_slot) class
 units_are g c =
@@ -148,21 +148,21 @@ units_are g c =
     (limited.slot_sizes Int).positive (limited.slot_sizes Float).positive (limited.slot_sizes Vector).positive
 
 -- the fresh tables are blank
-blank_is : (g : Over) (c : goal.After-drop-state-2 g) → Blank (begun g c)
+blank_is : (g : Over) (c : goal.After-reads_the_same_numbers g) → Blank (begun g c)
 blank_is g c = (let f : FunctionValue = g.F.Function.function c.args.f.now in let e = c.in_ok-state.ensures in
     fresh_blank (begun g c) c.table_length-vregs.result (sizes_of f) f.named_by_last_slot e.places e.slots e.edits (units_are g c))
 
-fit_is : (g : Over) (c : goal.After-drop-state-2 g) → Fit (begun g c)
+fit_is : (g : Over) (c : goal.After-reads_the_same_numbers g) → Fit (begun g c)
 fit_is g c = fresh_fit (g.F.Function.function c.args.f.now) (machine_of c.args.env.now) (begun g c) c.requires.machine (machine_is g c)
     c.in_ok-state.ensures.small
 
 -- the whole walk
-abbrev whole_is : (g : Over) (c : goal.After-drop-state-2 g) → WholeWalk
+abbrev whole_is : (g : Over) (c : goal.After-reads_the_same_numbers g) → WholeWalk
 whole_is g c = whole_walk (machine_of c.args.env.now) (g.F.Function.function c.args.f.now) (g.met.F.Function.limited c.args.f.now) c.requires.well_formed
     c.args.allocs.now (begun g c) (left g c) (out_of g c) (blank_is g c) (fit_is g c) c.in_ok-alloc_blocks.ensures.ok
 
 -- and from which tables it began
-abbrev fresh_is : (g : Over) (c : goal.After-drop-state-2 g) → FreshWalk
+abbrev fresh_is : (g : Over) (c : goal.After-reads_the_same_numbers g) → FreshWalk
 fresh_is g c = record {
   env = machine_of c.args.env.now;
   f = g.F.Function.function c.args.f.now;
@@ -187,24 +187,24 @@ fresh_is g c = record {
 }
 
 -- what the walk left
-walked : (g : Over) (c : goal.After-drop-state-2 g) →
+walked : (g : Over) (c : goal.After-reads_the_same_numbers g) →
     WalkKept (machine_of c.args.env.now) (Made (g.F.Function.function c.args.f.now)) (g.F.Function.function c.args.f.now)
     (MayInBlocks (g.F.Function.function c.args.f.now)) c.alloc_blocks.new.allocs 0 0 c.alloc_blocks.new.allocs (left g c)
 walked g c = walk_kept_through (fresh_is g c) (blank_is g c) (fit_is g c)
 
 -- and at each of its instructions
-safe_is : (g : Over) (c : goal.After-drop-state-2 g) →
+safe_is : (g : Over) (c : goal.After-reads_the_same_numbers g) →
     SafeWithin (machine_of c.args.env.now) (g.F.Function.function c.args.f.now) c.args.allocs.now (begun g c) c.alloc_blocks.new.allocs
 safe_is g c = walk_safe_through (fresh_is g c) (blank_is g c) (fit_is g c)
 
 -- a vreg that is passed as an argument has a slot
-handed_is : (g : Over) (c : goal.After-drop-state-2 g) → (v : VirtualRegister) (i : ℕ) → PassesAt (g.F.Function.function c.args.f.now) v i →
+handed_is : (g : Over) (c : goal.After-reads_the_same_numbers g) → (v : VirtualRegister) (i : ℕ) → PassesAt (g.F.Function.function c.args.f.now) v i →
     slot_name (left g c).slots v.number ≢ NoPlace
 handed_is g c v i p =
     let f : FunctionValue = g.F.Function.function c.args.f.now in
     passed_slots (whole_is g c) (passes_between f) v i p
 
-made : (g : Over) (c : goal.After-drop-state-2 g) →
+made : (g : Over) (c : goal.After-reads_the_same_numbers g) →
     IsMade (g.F.Function.function c.args.f.now) (machine_of c.args.env.now) (Made (g.F.Function.function c.args.f.now))
     (MayInBlocks (g.F.Function.function c.args.f.now)) (left g c) (out_of g c)
 made g c =
@@ -224,7 +224,7 @@ made g c =
     }
 
 -- where no path reads before writing, the output is faithful
-faithful_is : (g : Over) (c : goal.After-drop-state-2 g) → IsWrittenFirst (g.F.Function.function c.args.f.now) →
+faithful_is : (g : Over) (c : goal.After-reads_the_same_numbers g) → IsWrittenFirst (g.F.Function.function c.args.f.now) →
     IsFaithful (g.F.Function.function c.args.f.now) (machine_of c.args.env.now) (out_of g c)
 faithful_is g c = λ written.
     let f : FunctionValue = g.F.Function.function c.args.f.now in
@@ -234,7 +234,7 @@ faithful_is g c = λ written.
     (made_in_registers f env (Made f) (MayInBlocks f) (left g c) (out_of g c) m)
     (made_blocks_agree (whole_is g c) c.requires.taken c.requires.branches (safe_is g c) m written)
 
-live_is : (g : Over) (c : goal.After-drop-state-2 g) → IsWrittenFirst (g.F.Function.function c.args.f.now) →
+live_is : (g : Over) (c : goal.After-reads_the_same_numbers g) → IsWrittenFirst (g.F.Function.function c.args.f.now) →
     LiveInSlots (g.F.Function.function c.args.f.now) (out_of g c)
 live_is g c =
     let f : FunctionValue = g.F.Function.function c.args.f.now in
@@ -243,7 +243,7 @@ live_is g c =
     c.num_units-num_spillslots.ensures.owned (tame_at env f (g.met.F.Function.limited c.args.f.now) c.requires.well_formed c.requires.taken)
 
 -- and debug locations name places of their virtual registers, which hold their values
-labels_are : (g : Over) (c : goal.After-drop-state-2 g) → ShowsLabels (g.F.Function.function c.args.f.now) (machine_of c.args.env.now) (out_of g c)
+labels_are : (g : Over) (c : goal.After-reads_the_same_numbers g) → ShowsLabels (g.F.Function.function c.args.f.now) (machine_of c.args.env.now) (out_of g c)
 labels_are g c =
     let f : FunctionValue = g.F.Function.function c.args.f.now in
     let env : MachineValue = machine_of c.args.env.now in
@@ -261,7 +261,7 @@ few_lent f begun left n by_last most slots machine =
     let num_temp_slots = machine.num_temp_slots in
     omega (arith, none, num_temp_slots)
 
-owners_are : (g : Over) (c : goal.After-drop-state-2 g) → AreSlotsOwned (g.F.Function.function c.args.f.now) (out_of g c)
+owners_are : (g : Over) (c : goal.After-reads_the_same_numbers g) → AreSlotsOwned (g.F.Function.function c.args.f.now) (out_of g c)
 owners_are g c =
     let f : FunctionValue = g.F.Function.function c.args.f.now in
     let env : MachineValue = machine_of c.args.env.now in
@@ -276,7 +276,7 @@ owners_are g c =
     (tame_at env f limited c.requires.well_formed c.requires.taken) f.named_by_last_slot (BranchesFrom f 0) classed
     (sizes_agree f last.slots (sizes_kept f begin last n f.named_by_last_slot _ e.slots c.alloc_blocks.ensures.machine)) refl (λ i class m. (m.1, m.2))
 
-slots_are : (g : Over) (c : goal.After-drop-state-2 g) → SlotsAreBounded (g.F.Function.function c.args.f.now) (out_of g c)
+slots_are : (g : Over) (c : goal.After-reads_the_same_numbers g) → SlotsAreBounded (g.F.Function.function c.args.f.now) (out_of g c)
 slots_are g c =
     let f : FunctionValue = g.F.Function.function c.args.f.now in
     let begin : StateValue = tables_of c.in_ok-state.state in
@@ -289,7 +289,7 @@ slots_are g c =
     (few_lent f begin last n f.named_by_last_slot _ slots machine) c.num_units-num_spillslots.ensures.owned
 
 -- where registers suffice for all virtual registers, the walk makes no move and no slot
-unspilled_is : (g : Over) (c : goal.After-drop-state-2 g) → HasRegistersForAll (g.F.Function.function c.args.f.now) (machine_of c.args.env.now) →
+unspilled_is : (g : Over) (c : goal.After-reads_the_same_numbers g) → HasRegistersForAll (g.F.Function.function c.args.f.now) (machine_of c.args.env.now) →
     ((out_of g c).edits ≡ []) × ((out_of g c).num_spillslots ≡ 0)
 unspilled_is g c = λ h.
     let f : FunctionValue = g.F.Function.function c.args.f.now in

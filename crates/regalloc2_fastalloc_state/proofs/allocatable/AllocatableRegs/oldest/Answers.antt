@@ -18,7 +18,8 @@ indexed g c =
 pub returns-clause-oldest : goal.returns-clause-oldest
 returns-clause-oldest g c =
     c.oldest.ensures.oldest
-    ∙ ap (λ (l : List Register). slice_get l (length l - 1)) (sym c.index-self-code.is ∙ indexed g c ∙ ap (λ (t : AllocatableRegsValue). lru_of t c.args.class) c.self.view_is)
+    ∙ ap (λ (l : List Register). slice_get l (length l - 1))
+    (sym c.index-self-code.is ∙ indexed g c ∙ ap (λ (t : AllocatableRegsValue). lru_of t c.args.class) c.self.view_is)
 
 pub returns-clause-first : goal.returns-clause-first
 returns-clause-first g c =
