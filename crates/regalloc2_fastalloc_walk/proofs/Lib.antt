@@ -21,6 +21,7 @@ pub mod OperandOutOfRegs
 pub mod OperandTakesFreeReg
 pub mod OwnDefs
 pub mod PickedInTurn
+pub mod SlotUses
 pub mod Steps
 pub mod StoresListed
 pub mod StoresOnEdge

@@ -7,7 +7,7 @@ ghost use Rattle.regalloc2_fastalloc_walk.specs.SpillFree.{FitInRegs, ArePlaced,
 ghost use Rattle.std.specs.Prelude.{◌≡◌, ◌<◌, ◌≤◌, ◌+◌, ◌↔◌, [], length, not, false, true, slice_set, slice_index_or, ℕ, OnOk, IfSome, IfNone};
 ghost use Rattle.std.specs.Prelude.{IsNone, IsTrue, List};
 ghost use Rattle.regalloc2_names.specs.Point.{before, after};
-ghost use Rattle.regalloc2_names.specs.Place.{Place, NoPlace, is_place};
+ghost use Rattle.regalloc2_names.specs.Place.{Place, NoPlace, is_place, is_in_slot};
 ghost use Rattle.regalloc2_names.specs.Operand.{is_def, is_late, is_reading};
 ghost use Rattle.regalloc2_parts.specs.Picked.{picked};
 ghost use Rattle.regalloc2_fastalloc_walk.specs.OperandsAt.{is_at};
@@ -135,6 +135,13 @@ fn known_register(operand: Operand, place: Allocation) -> Option<PReg>
         OperandConstraint::FixedReg(preg) => Some(preg),
         _ => None,
     }
+}
+
+/// Whether an operand is a use that may be anywhere.
+fn is_any_use(operand: Operand) -> bool
+    ensures { IsTrue result ↔ (is_def operand.kind ≡ false) × (operand.constraint ≡ OperandConstraint.Any) }
+{
+    !operand.is_def() && matches!(operand.constraint(), OperandConstraint::Any)
 }
 
 /// An operand that asks for any register, as it is allocated where no reuse has chosen one for it.
@@ -305,6 +312,26 @@ impl<'a, A: Allocator> State<'a, A> {
         Ok(())
     }
 
+    /// The slot in which the vreg of a use is that may be anywhere. [`Self::process_operand`] would leave such a use there too: it claims
+    /// no register, adds no move, and has no location to note. None where the vreg is in a register, or has no location yet.
+    fn slot_of_any_use(&self, operand: Operand) -> Option<Allocation>
+        requires { operand.constraint ≡ OperandConstraint.Any → operand.vreg.number < length self.now.places.vreg_allocs }
+        ensures some { IfSome result (λ p. (is_def operand.kind ≡ false) × (operand.constraint ≡ OperandConstraint.Any) × (is_in_slot p ≡ true)
+            × (alloc_of self.now.places operand.vreg.number ≡ p)) }
+        ensures none { IfNone result (is_def operand.kind ≡ false → operand.constraint ≡ OperandConstraint.Any →
+            is_in_slot (alloc_of self.now.places operand.vreg.number) ≡ false) }
+    {
+        if !is_any_use(operand) {
+            return None;
+        }
+        let current = self.places.current_alloc(operand.vreg());
+        if current.is_stack() {
+            Some(current)
+        } else {
+            None
+        }
+    }
+
     /// Allocates the operand k. The most common kinds have ways of their own, and those do as [`Self::process_operand`] does.
     #[inline(always)]
     fn process_operand_allocation(
@@ -328,13 +355,22 @@ impl<'a, A: Allocator> State<'a, A> {
             self.new.registers) }
     {
         let operands = cx.operands;
-        if asks_any_reg(operands[k], here[k]) {
-            return self.process_reg_operand(inst_regs, cx, here, k);
+        let operand = operands[k];
+        let place = here[k];
+        if asks_any_reg(operand, place) {
+            self.process_reg_operand(inst_regs, cx, here, k)?;
+            return Ok(());
         }
-        if let Some(preg) = known_register(operands[k], here[k]) {
-            return self.process_placed_use(inst_regs, cx, here, k, preg);
+        if let Some(preg) = known_register(operand, place) {
+            self.process_placed_use(inst_regs, cx, here, k, preg)?;
+            return Ok(());
         }
-        self.process_operand(inst_regs, cx, here, k)
+        if let Some(slot) = self.slot_of_any_use(operand) {
+            here[k] = slot;
+            return Ok(());
+        }
+        self.process_operand(inst_regs, cx, here, k)?;
+        Ok(())
     }
 
     /// Allocates the operands of one position, in operand order.

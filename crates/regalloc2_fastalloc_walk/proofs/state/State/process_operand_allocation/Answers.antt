@@ -4,6 +4,7 @@ use Rattle.regalloc2_names.specs.Operand.{OperandValue}
 use Rattle.regalloc2_names.specs.Place.{NoPlace}
 use Rattle.regalloc2_validate.specs.Constraints.{op_at}
 use Rattle.regalloc2_validate.proofs.OperandReads.{read_operand}
+use Rattle.regalloc2_fastalloc_walk.proofs.SlotUses.{slot_use}
 use Rattle.regalloc2_fastalloc_walk.proofs.state.State.process_operand_allocation.Goals as goal
 
 pub process_reg_operand-requires : goal.process_reg_operand-requires
@@ -25,3 +26,13 @@ process_reg_operand-requires g c =
         ),
       ),
     )
+
+-- a use that may be anywhere is read from its vreg's slot
+pub returns-in-Some-slot_of_any_use-clause-ok : goal.returns-in-Some-slot_of_any_use-clause-ok
+returns-in-Some-slot_of_any_use-clause-ok g c =
+    let ops : List OperandValue = c.args.cx.now.operands.now in
+    let o : c.index-operands-k.result ≡ op_at ops c.args.k = read_operand ops c.args.k c.index-operands-k.result c.requires.inside c.index-operands-k.is in
+    let h : c.index-here-k.result ≡ slice_index_or c.args.here.now c.args.k NoPlace = get_or_read c.args.here.now c.args.k c.index-here-k.result
+    (omega (arith, c.requires.inside, c.requires.here_long)) c.index-here-k.is NoPlace in
+    let s = c.in-Some-slot_of_any_use.ensures.some in
+    slot_use c.index-operands-k.result c.index-here-k.result c.in-Some-slot_of_any_use.slot o h s.0 s.1 c.in_default.ensures.none s.2 s.3

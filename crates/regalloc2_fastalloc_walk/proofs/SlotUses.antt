@@ -1,0 +1,74 @@
+-- A use that may be anywhere, whose vreg is in a slot.
+use Rattle.std.proofs.Common.{ℕ, ◌≡◌, Bool, List, refl, sym, ap, ◌∙◌, subst, slice_index_or, slice_set, true, false, nat_eq}
+use Rattle.std.specs.Prelude.{not, ◌&&◌}
+use Rattle.regalloc2_names.specs.declared.OperandConstraint.{OperandConstraint}
+use Rattle.regalloc2_names.specs.declared.OperandConstraint.TheVariants.{Any}
+use Rattle.regalloc2_names.specs.Place.{Place, NoPlace, InRegister, InSlot, is_in_slot}
+use Rattle.regalloc2_names.specs.Point.{after}
+use Rattle.regalloc2_names.specs.Operand.{OperandValue, is_def, is_fixed, is_fixed_nonallocatable, is_reading}
+use Rattle.regalloc2_names.specs.Register.{Register, VirtualRegister}
+use Rattle.regalloc2_validate.specs.Constraints.{op_at}
+use Rattle.regalloc2_fastalloc_state.specs.declared.inst_regs.InstRegs.{InstRegs}
+use Rattle.regalloc2_fastalloc_state.specs.declared.request.OperandRequest.{OperandRequest}
+use Rattle.regalloc2_fastalloc_state.specs.declared.request.Requirement.{Requirement}
+use Rattle.regalloc2_fastalloc_state.specs.declared.request.Requirement.TheVariants.{AnyPlace, InPReg}
+use Rattle.regalloc2_fastalloc_state.specs.StateParts.{alloc_of}
+use Rattle.regalloc2_fastalloc_proofs.specs.InstSteps.{StateValue, AllocsUse, MeetsRequirement, ProcessesOperand, requirement_of, use_request}
+use Rattle.regalloc2_fastalloc_proofs.specs.InstSteps.{a_use, awaited_less, in_slot, stays}
+
+-- it stays there: nothing is claimed, moved or noted
+stays_in_slot : (point : ℕ) (request : OperandRequest) (s : ℕ) (t : InstRegs) (old : StateValue) → request.requirement ≡ AnyPlace →
+    alloc_of old.places request.vreg.number ≡ InSlot s → AllocsUse point request (InSlot s) t t old old
+unfolding MeetsRequirement
+stays_in_slot point request s t old any at = record {
+  middle = old;
+  gets = record {
+    middle = old;
+    picks = stays at (subst (λ (w : Requirement). MeetsRequirement old w (InSlot s)) (sym any) (λ e. absurd cc)) refl;
+    occupies = in_slot s refl (record { early = refl; late = refl; scratch = refl }) refl;
+    affordable = λ asked r e. absurd cc;
+    awaited_in = λ def asked r e. absurd cc;
+  };
+  uses = stays (λ e. absurd cc) refl;
+  awaited = ap (λ (w : Requirement). awaited_less w request.vreg.class t.awaited) (sym any);
+}
+
+-- where no reuse has chosen a register for it, it asks for any place
+asks_any_place : (o : OperandValue) (h : Place) → o.constraint ≡ Any → ((r : Register) → (use_request o h).requirement ≡ InPReg r → ⊥) →
+    (use_request o h).requirement ≡ AnyPlace
+asks_any_place o NoPlace any none = ap requirement_of any
+asks_any_place o (InRegister r) any none = absurd (none r refl)
+asks_any_place o (InSlot n) any none = ap requirement_of any
+
+names_its_vreg : (o : OperandValue) (h : Place) → (use_request o h).vreg ≡ o.vreg
+names_its_vreg o NoPlace = refl
+names_its_vreg o (InRegister r) = refl
+names_its_vreg o (InSlot n) = refl
+
+pub is_unfixed : (o : OperandValue) → o.constraint ≡ Any → is_fixed_nonallocatable o ≡ false
+is_unfixed o any = ap (λ (c : OperandConstraint). is_fixed c && nat_eq o.vreg.number 1073741823) any
+
+reads : (a b : Bool) → a ≡ false → b ≡ false → (not a && not b) ≡ true
+reads true b e f = absurd cc
+reads false true e f = absurd cc
+reads false false e f = refl
+
+pub reads_vreg : (o : OperandValue) → is_def o.kind ≡ false → o.constraint ≡ Any → is_reading o ≡ true
+reads_vreg o used any = reads (is_def o.kind) (is_fixed_nonallocatable o) used (is_unfixed o any)
+
+-- it is processed once its place is set
+pub slot_use : {i : ℕ} {is_ret : Bool} {operands : List OperandValue} {k : ℕ} {here : List Place} {t : InstRegs} {old : StateValue} (o : OperandValue)
+    (h p : Place)
+    → o ≡ op_at operands k → h ≡ slice_index_or here k NoPlace → is_def o.kind ≡ false → o.constraint ≡ Any
+    → (is_reading o ≡ true → (r : Register) → (use_request o h).requirement ≡ InPReg r → ⊥) → is_in_slot p ≡ true → alloc_of old.places o.vreg.number ≡ p
+    → ProcessesOperand i is_ret operands k here (slice_set here k p) t t old old
+slot_use o h NoPlace e f used any none slot at = absurd cc
+slot_use o h (InRegister r) e f used any none slot at = absurd cc
+slot_use {i} {operands} {k} {here} {t} {old} o h (InSlot s) e f used any none slot at =
+    let request : OperandRequest = use_request o h in
+    let same : request ≡ use_request (op_at operands k) (slice_index_or here k NoPlace) =
+    ap (λ (x : OperandValue). use_request x h) e ∙ ap (use_request (op_at operands k)) f in
+    a_use (InSlot s) (ap (λ (x : OperandValue). is_reading x) (sym e) ∙ reads_vreg o used any)
+    (subst (λ (x : OperandRequest). AllocsUse (after i) x (InSlot s) t t old old) same
+    (stays_in_slot (after i) request s t old (asks_any_place o h any (none (reads_vreg o used any)))
+    (ap (λ (v : VirtualRegister). alloc_of old.places v.number) (names_its_vreg o h) ∙ at))) refl
