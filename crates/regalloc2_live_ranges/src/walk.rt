@@ -45,11 +45,12 @@ fn walk_insts<F: Function>(
 {
     let range = f.block_insns(block);
     let first = range.first().index();
-    let mut i = range.end().index();
+    let end = range.end();
+    let mut i = end.index();
     while i > first {
         i -= 1;
         let inst = Inst::new(i);
-        if !is_passed_over(f, wanted, block, inst) {
+        if !is_passed_over(f, wanted, end, inst) {
             note_uses(ends, slots, f, block, inst);
             begin_at_defs(ranges, ends, slots, f, wanted, inst);
         }

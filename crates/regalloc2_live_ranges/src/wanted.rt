@@ -45,14 +45,13 @@ fn some_is_wanted(wanted: &[bool], operands: &[Operand]) -> bool
     false
 }
 
-/// Whether the walk has nothing to do at an instruction of a block: no operand names a vreg that is wanted, and it isn't the last one,
-/// which may pass some.
-pub fn is_passed_over<F: Function>(f: &F, wanted: &[bool], block: Block, inst: Inst) -> bool
-    requires block { block < length (F.function f.now).blocks }
-    requires within { inst < length (F.function f.now).insts }
-    ensures { IsTrue result ↔ ((inst + 1 ≢ (block_at (F.function f.now) block).range.end) × NamesNone (F.function f.now) (IsWanted wanted.now) inst) }
+/// Whether the walk has nothing to do at an instruction of a block that ends before `end`: no operand names a vreg that is wanted, and
+/// it isn't the last one, which may pass some.
+pub fn is_passed_over<F: Function>(f: &F, wanted: &[bool], end: Inst, inst: Inst) -> bool
+    requires { inst < length (F.function f.now).insts }
+    ensures { IsTrue result ↔ ((inst + 1 ≢ end) × NamesNone (F.function f.now) (IsWanted wanted.now) inst) }
 {
-    if inst.next() == f.block_insns(block).end() {
+    if inst.next() == end {
         return false;
     }
     !some_is_wanted(wanted, f.inst_operands(inst))

@@ -1,4 +1,5 @@
-use Rattle.std.proofs.Common.{ℕ, ◌≡◌, ◌≢◌, ◌+◌, ◌-◌, ◌<◌, ◌≤◌, ◌∙◌, List, length, sym, subst, arith}
+use Rattle.std.proofs.Common.{ℕ, ◌≡◌, ◌≢◌, ◌+◌, ◌-◌, ◌<◌, ◌≤◌, ◌∙◌, List, length, sym, ap, subst, arith}
+use Rattle.regalloc2_index.specs.Range.{Span}
 use Rattle.regalloc2_function.specs.FunctionValue.{FunctionValue, block_at}
 use Rattle.regalloc2_function.specs.DebugPoints.{DefinesAt}
 use Rattle.regalloc2_semantics.proofs.Order.{ends_within}
@@ -10,8 +11,8 @@ use Rattle.regalloc2_live_ranges.proofs.LiveRangeTable.{noted_more, walked_inst,
 use Rattle.regalloc2_live_ranges.proofs.Spread.{spread_length}
 use Rattle.regalloc2_live_ranges.proofs.walk.walk_insts.Goals as goal
 
-pub is_passed_over-requires-clause-within : goal.is_passed_over-requires-clause-within
-is_passed_over-requires-clause-within g c =
+pub is_passed_over-requires : goal.is_passed_over-requires
+is_passed_over-requires g c =
     let f : FunctionValue = g.F.Function.function c.args.f.now in
     let within = ends_within f c.requires.ssa.follow c.args.block c.requires.block in
     omega (arith, within, c.new-inst.ensures, c.loop-i-test.true, c.loop-i.invariant.within)
@@ -91,7 +92,8 @@ loop-i-preserved g c =
     subst (λ (n : ℕ). IsWalked f W n (b + 1) (spread slots c.loop-i.ends) (spread slots c.loop-i.ranges)) next
     c.loop-i.invariant.walked in
     let over = c.is_passed_over.ensures.0 c.if-not-is_passed_over.false in
-    let inside : i + 1 ≢ (block_at f b).range.end = subst (λ (n : ℕ). n + 1 ≢ (block_at f b).range.end) at over.0 in
+    let end : c.end-end.result ≡ (block_at f b).range.end = c.end-end.ensures ∙ ap (λ (r : Span). r.end) c.block_insns-range.ensures in
+    let inside : i + 1 ≢ (block_at f b).range.end = subst (λ (n : ℕ). i + 1 ≢ n) end (subst (λ (n : ℕ). n + 1 ≢ c.end-end.result) at over.0) in
     let none : NamesNone f W i = subst (NamesNone f W) at over.1 in
     let from : (block_at f b).range.first ≤ i = omega (arith, c.loop-i-test.true, c.loop-i.invariant.first) in
     let upto : i < (block_at f b).range.end = omega (arith, next, c.loop-i.invariant.within) in
