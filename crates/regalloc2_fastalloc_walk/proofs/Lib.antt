@@ -4,7 +4,7 @@
 -- which registers are found free.
 -- `RegsReserved` (`reserves_all`) is the loop over fixed registers, `OperandOutOfRegs` says where an operand stops, `Steps` chains steps.
 -- `NothingPassed`: a branch to blocks without parameters does nothing to the tables. `FilledClobbers`: only clobbers in which vregs are have to be emptied.
--- `OldestFree`: some set has a register that is free, and all that are free throughout.
+-- `OldestFree`: some set has a register that is free, and all that are free throughout. `SlotUses` (`slot_use`): a use under `Any` stays in its vreg's slot.
 -- What a branch defines: `OwnDefs` (the tables say what is its own), `StoresListed` (`lists_stores`: what a block's beginning stores is listed, each
 -- once, counted in `CountedOnce`), `StoresPushed` (the moves of that, as they are pushed) and `StoresOnEdge` (`stores_on`: those are the stores).
 pub mod AvailableCount

@@ -1,4 +1,4 @@
--- A use that may be anywhere, whose vreg is in a slot.
+-- A use under `Any`, whose vreg is in a slot.
 use Rattle.std.proofs.Common.{ℕ, ◌≡◌, Bool, List, refl, sym, ap, ◌∙◌, subst, slice_index_or, slice_set, true, false, nat_eq}
 use Rattle.std.specs.Prelude.{not, ◌&&◌}
 use Rattle.regalloc2_names.specs.declared.OperandConstraint.{OperandConstraint}

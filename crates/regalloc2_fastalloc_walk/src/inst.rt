@@ -137,7 +137,7 @@ fn known_register(operand: Operand, place: Allocation) -> Option<PReg>
     }
 }
 
-/// Whether an operand is a use that may be anywhere.
+/// Whether an operand is a use under `Any`.
 fn is_any_use(operand: Operand) -> bool
     ensures { IsTrue result ↔ (is_def operand.kind ≡ false) × (operand.constraint ≡ OperandConstraint.Any) }
 {
@@ -312,8 +312,9 @@ impl<'a, A: Allocator> State<'a, A> {
         Ok(())
     }
 
-    /// The slot in which the vreg of a use is that may be anywhere. [`Self::process_operand`] would leave such a use there too: it claims
-    /// no register, adds no move, and has no location to note. None where the vreg is in a register, or has no location yet.
+    /// The slot that a use under `Any` is read from, where its vreg is in one. [`Self::process_operand`] would choose it too, and do nothing
+    /// else: no register is claimed, no move is added, and the vreg stays where it is. None where the vreg is in a register or has no
+    /// location yet.
     fn slot_of_any_use(&self, operand: Operand) -> Option<Allocation>
         requires { operand.constraint ≡ OperandConstraint.Any → operand.vreg.number < length self.now.places.vreg_allocs }
         ensures some { IfSome result (λ p. (is_def operand.kind ≡ false) × (operand.constraint ≡ OperandConstraint.Any) × (is_in_slot p ≡ true)

@@ -27,7 +27,7 @@ process_reg_operand-requires g c =
       ),
     )
 
--- a use that may be anywhere is read from its vreg's slot
+-- a use under `Any` is read from its vreg's slot
 pub returns-in-Some-slot_of_any_use-clause-ok : goal.returns-in-Some-slot_of_any_use-clause-ok
 returns-in-Some-slot_of_any_use-clause-ok g c =
     let ops : List OperandValue = c.args.cx.now.operands.now in
