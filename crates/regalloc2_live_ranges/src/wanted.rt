@@ -2,7 +2,6 @@
 //! instructions that name none of them.
 
 ghost use Rattle.std.specs.Prelude.{ℕ, ◌≡◌, ◌≢◌, ◌<◌, ◌+◌, ◌↔◌, false, length, slice_index_or, IsTrue, IfOk};
-ghost use Rattle.regalloc2_function.specs.FunctionValue.{block_at};
 ghost use Rattle.regalloc2_cfg.specs.TableLength.{HasRoom};
 ghost use Rattle.regalloc2_semantics.specs.Listing.{op_at};
 ghost use Rattle.regalloc2_live_ranges.specs.LiveRanges.{IsLabelled, IsWanted};
@@ -11,7 +10,7 @@ ghost use Rattle.regalloc2_live_ranges.specs.WalkInvariant.{NamesNone};
 
 use regalloc2_cfg::table_length::table_length;
 use regalloc2_function::Function;
-use regalloc2_index::{Block, Inst};
+use regalloc2_index::Inst;
 use regalloc2_names::{Operand, VReg};
 use std::alloc::{AllocError, Allocator};
 
