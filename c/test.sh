@@ -1,0 +1,97 @@
+#!/bin/sh
+# test.sh: builds and runs what `rt ci` doesn't: the static library, the C programs, the assembly that two programs print, the
+# programs on examples/, and the crate for cargo. `make test` calls it. The status is 0 only if nothing differs.
+set -u
+here=$(cd "$(dirname "$0")" && pwd)
+top=$(dirname "$here")
+cc=${CC:-cc}
+
+for tool in "$cc" cargo rt; do
+    if ! command -v "$tool" >/dev/null; then
+        echo "make test needs a C compiler, cargo and rt, and finds no $tool"
+        exit 2
+    fi
+done
+kit=$(dirname "$(rt doc)")
+memory=${LIBC_C:-$kit/c/liblibc_c.a}
+made=$(mktemp -d)
+trap 'rm -rf "$made"' EXIT
+passed=0
+failed=0
+
+# said STATUS WHAT: counts a step, and says how it ended.
+said() {
+    if [ "$1" -eq 0 ]; then
+        passed=$((passed + 1))
+        echo "ok      $2"
+    else
+        failed=$((failed + 1))
+        echo "FAILED  $2"
+    fi
+}
+
+# step WHAT COMMAND..: runs a command, and shows what it printed if it fails.
+step() {
+    what=$1
+    shift
+    "$@" >"$made/log" 2>&1
+    ended=$?
+    [ "$ended" -eq 0 ] || cat "$made/log"
+    said "$ended" "$what"
+    return "$ended"
+}
+
+# program NAME: builds the program of crates/NAME, if it isn't built, and puts it among the programs of the test.
+program() {
+    (cd "$top/crates/$1" && rt run </dev/null) >"$made/log" 2>&1
+    grep -q "^rt: running out/$1" "$made/log" && cp "$top/crates/$1/out/$1" "$made/bin/$1"
+    ended=$?
+    [ "$ended" -eq 0 ] || cat "$made/log"
+    said "$ended" "the program $1 is built"
+    return "$ended"
+}
+
+# compiled_c NAME SOURCE..: compiles a C program.
+compiled_c() {
+    name=$1
+    shift
+    step "$name.c compiles without a warning" "$cc" -std=c11 -Wall -Wextra -Werror -O2 -o "$made/bin/$name" "$@"
+}
+
+# Runs each line `$ COMMAND` of test.txt in the folder examples, and writes that line, what the command wrote, each line on
+# standard error behind a `!`, and its status if that isn't 0.
+transcript() {
+    cd "$top/examples" || return 1
+    grep '^\$ ' "$here/test.txt" | while IFS= read -r line; do
+        echo "$line"
+        PATH="$made/bin:$PATH" sh -c "${line#??}" 2>"$made/err" </dev/null
+        ended=$?
+        sed 's/^/! /' "$made/err"
+        [ "$ended" -eq 0 ] || echo "status $ended"
+    done
+}
+
+mkdir "$made/bin"
+echo "If the libraries aren't proved yet, the first step proves them, which takes an hour of four cores."
+library=$top/crates/regalloc2_c/out/libregalloc2_c.a
+(cd "$top/crates/regalloc2_c" && step "the static library is built" rt lib) || exit 1
+passed=$((passed + 1))
+for name in ra2 ra2_text example_toy compile; do
+    program "$name" || exit 1
+done
+
+compiled_c demo "$here/demo.c" "$library" "$memory" || exit 1
+"$made/bin/example_toy" >"$made/toy.s" && compiled_c toy "$here/toy.c" -x assembler "$made/toy.s"
+"$made/bin/compile" "$top/crates/compile/data/sum.txt" >"$made/compiled.s" &&
+    compiled_c compiled "$here/compiled.c" -x assembler "$made/compiled.s"
+
+transcript >"$made/transcript"
+step "the programs print what test.txt says" diff "$here/test.txt" "$made/transcript"
+step "200 functions return what compile says of them" "$here/compare.sh" "$made/bin/compile" 200
+export REGALLOC2_C="$top/crates/regalloc2_c/out"
+RATTLE_C=$(dirname "$memory")
+export RATTLE_C
+step "the tests of the crate for cargo" cargo test --quiet --offline --manifest-path "$top/shim/Cargo.toml" --target-dir "$made/cargo"
+
+echo "$passed passed, $failed failed"
+[ "$failed" -eq 0 ]
