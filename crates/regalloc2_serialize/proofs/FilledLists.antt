@@ -1,9 +1,11 @@
 -- Lists that are filled by number.
-use Rattle.std.proofs.Common.{◌≡◌, ◌∙◌, ℕ, ◌+◌, ◌<◌, List, [], ◌∷◌, ◌++◌, length, map, get_or, sym, arith, refl}
+use Rattle.std.proofs.Common.{◌≡◌, ◌∙◌, ℕ, ◌+◌, ◌<◌, ◌≤◌, List, [], ◌∷◌, ◌++◌, length, map, get_or, sym, arith, refl}
 use Rattle.std.specs.List.{range_with_len}
-use Rattle.regalloc2_function.specs.FunctionValue.{FunctionValue}
-use Rattle.regalloc2_serialize.specs.CopyOfFunction.{shown_block, shown_inst, shown_function}
-use Rattle.std.proofs.lemmas.List.{ext_get_or, get_or-map, length-map, map-append}
+use Rattle.std.specs.Prelude.{All}
+use Rattle.regalloc2_function.specs.FunctionValue.{FunctionValue, BlockValue, no_block}
+use Rattle.regalloc2_serialize.specs.CopyOfFunction.{shown_block, shown_inst, shown_function, HasNonemptyBlocks}
+use Rattle.regalloc2_serialize.proofs.Lists.{all-under}
+use Rattle.std.proofs.lemmas.List.{ext_get_or, get_or_default, get_or-map, length-map, map-append}
 use Rattle.std.proofs.lemmas.List.FromFn.{get_or-map-range_with_len, length-map-range_with_len, map-range_with_len_more}
 
 -- the parts of a function are each what is shown of another
@@ -34,6 +36,12 @@ same-function f g h =
     }) (shown_function f) =
     rw (h.blocks, h.insts, h.entry, h.num_vregs, h.int, h.float, h.vector, h.named_by_last_slot, h.labels, h.allows_multiple_defs) refl in
     whole
+
+-- what is shown of blocks ends among the instructions
+pub ends-shown : {X : Type 0} (f : FunctionValue) (view : X → BlockValue) (xs : List X) → HasNonemptyBlocks f → map view xs ≡ map shown_block f.blocks →
+    All (λ x. (view x).range.end ≤ length f.insts) xs
+ends-shown f view xs has same = all-under (λ b. b.range.end ≤ length f.insts) view shown_block xs f.blocks same (λ k d less.
+    rw (get_or_default f.blocks k d no_block less) ((has k less).1))
 
 -- one more number
 pub map-next : {X Y : Type 0} (view : X → Y) (f : ℕ → Y) (xs : List X) (k : ℕ) (x : X) → view x ≡ f k →

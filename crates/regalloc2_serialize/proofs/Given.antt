@@ -1,12 +1,16 @@
 -- What the lists of a sound stored function have for a block.
-use Rattle.std.proofs.Common.{◌≡◌, ◌∙◌, ℕ, ◌<◌, List, [], length, map, get_or, slice_index_or, ap, sym, subst, refl, arith}
+use Rattle.std.proofs.Common.{◌≡◌, ◌∙◌, ℕ, ◌<◌, ◌≤◌, List, [], length, map, get_or, slice_index_or, ap, sym, subst, refl, arith}
 use Rattle.std.specs.Prelude.{All}
 use Rattle.std.proofs.lemmas.List.{get_or-map, get_or_read, length-map}
+use Rattle.std.proofs.lemmas.List.FromFn.{get_or-range_with_len, length-range_with_len}
+use Rattle.std.specs.List.{range_with_len}
 use Rattle.std.specs.Vec.{vec_len}
 use Rattle.std.specs.declared.vec.Vec.{Vec}
 use Rattle.regalloc2_index.specs.Range.{Span}
 use Rattle.regalloc2_serialize.specs.Validity.{HasAllOfEachBlock, IsSound}
-use Rattle.regalloc2_serialize.specs.Decoded.{stored_range}
+use Rattle.regalloc2_function.specs.FunctionValue.{BlockValue}
+use Rattle.regalloc2_serialize.specs.Decoded.{stored_block, stored_range}
+use Rattle.regalloc2_serialize.proofs.Lists.{all-under}
 use Rattle.regalloc2_serialize.specs.declared.data.StoredFunction.{StoredFunction}
 
 -- a block has an item in each list by block
@@ -31,6 +35,20 @@ has-block s b sound less = record {
   where
     long : HasAllOfEachBlock s
     long = sound.lengths.blocks
+
+-- a valid stored function's ranges end among the instructions
+pub ends-within : {A X : Type 0} (s : StoredFunction A) (view : X → BlockValue) (xs : List X) → IsSound s →
+    map view xs ≡ map (stored_block s) (range_with_len 0 (length s.blocks.items)) → All (λ x. (view x).range.end ≤ length s.insts.items) xs
+ends-within s view xs sound same = all-under (λ b. b.range.end ≤ length s.insts.items) view (stored_block s) xs (range_with_len 0 count) same at
+  where
+    count : ℕ
+    count = length s.blocks.items
+
+    at : All (λ b. (stored_block s b).range.end ≤ length s.insts.items) (range_with_len 0 count)
+    at k d less =
+        let inside : k < count = omega (arith, less, length-range_with_len 0 count) in
+        let is : get_or (range_with_len 0 count) k d ≡ k = get_or-range_with_len 0 count k d inside ∙ omega arith in
+        rw is ((sound.within.ranges k (0, 0) inside).1)
 
 -- an index of a list is one of the vector that keeps it
 pub in-vec : {X A : Type 0} (v : Vec X A) (i : ℕ) → i < length v.items → i < vec_len v

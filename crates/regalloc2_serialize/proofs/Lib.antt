@@ -5,3 +5,5 @@ pub mod EncodedLists
 pub mod Blocks
 pub mod FilledLists
 pub mod Whole
+pub mod SameNames
+pub mod Storable

@@ -44,3 +44,9 @@ pub zip-next-under : {X Y Z : Type 0} (R : X → Z → Type 0) (f : Y → Z) (xs
     i < length ys → y ≡ get_or ys i y → AllZip R xs (take i (map f ys)) → R x (f y) → AllZip R (xs ++ x ∷ []) (take (i + 1) (map f ys))
 zip-next-under R f xs ys i x y less is before here =
     zip-next R xs (map f ys) i x (f y) (rw length-map less) (ap f is ∙ sym (get_or-map f ys i y (f y) less)) before here
+
+-- lists that agree under two views agree with one more item of each
+pub map-more : {X Y Z : Type 0} (f : X → Z) (h : Y → Z) (xs : List X) (ys : List Y) (i : ℕ) (x : X) (y : Y) →
+    i < length ys → y ≡ get_or ys i y → f x ≡ h y → map f xs ≡ map h (take i ys) → map f (xs ++ x ∷ []) ≡ map h (take (i + 1) ys)
+map-more f h xs ys i x y less is here before =
+    rw (map-append f xs (x ∷ []), take_more ys i y less, ← is, map-append h (take i ys) (y ∷ []), before, here) refl

@@ -9,14 +9,16 @@ use Rattle.regalloc2_function.specs.FunctionValue.{FunctionValue, BlockValue, In
 use Rattle.regalloc2_serialize.specs.CopyOfFunction.{shown_block, shown_inst, shown_function, IsKeptWhole}
 use Rattle.regalloc2_serialize.proofs.FilledLists.{all-numbers}
 
-return-kept : (b r : Bool) → (b ≡ true → r ≡ false) → (not b && r) ≡ r
-return-kept true r h = sym (h refl)
-return-kept false r h = refl
+branch-kept : (b r : Bool) → (b ≡ true → r ≡ false) → (not r && b) ≡ b
+branch-kept true true h = sym (h refl)
+branch-kept true false h = refl
+branch-kept false true h = refl
+branch-kept false false h = refl
 
 insts-kept : (is : List InstValue) → All (λ i. i.is_branch ≡ true → i.is_ret ≡ false) is → map shown_inst is ≡ is
 insts-kept [] h = refl
 insts-kept (i ∷ is) h =
-    let here : (not i.is_branch && i.is_ret) ≡ i.is_ret = return-kept i.is_branch i.is_ret (All-head (λ i. i.is_branch ≡ true → i.is_ret ≡ false) i is h) in
+    let here : (not i.is_ret && i.is_branch) ≡ i.is_branch = branch-kept i.is_branch i.is_ret (All-head (λ i. i.is_branch ≡ true → i.is_ret ≡ false) i is h) in
     let rest : map shown_inst is ≡ is = insts-kept is (All-tail (λ i. i.is_branch ≡ true → i.is_ret ≡ false) i is h) in
     rw (here, rest) refl
 

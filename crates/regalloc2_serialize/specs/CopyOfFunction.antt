@@ -17,9 +17,9 @@ shown_block b = record {
   arguments = map (λ k. slice_index_or b.arguments k []) (range_with_len 0 (length b.succs));
 }
 
--- an instruction, as a return only where it is no branch
+-- an instruction, as a branch only where it is no return
 abbrev pub shown_inst : InstValue → InstValue
-shown_inst i = record { operands = i.operands; clobbers = i.clobbers; is_branch = i.is_branch; is_ret = not i.is_branch && i.is_ret }
+shown_inst i = record { operands = i.operands; clobbers = i.clobbers; is_branch = not i.is_ret && i.is_branch; is_ret = i.is_ret }
 
 -- the function of these blocks and instructions
 abbrev pub shown_function : FunctionValue → FunctionValue

@@ -27,9 +27,10 @@ is_ret Op = false
 is_ret Ret = true
 is_ret Branch = false
 
--- the members of a set are the registers with these indexes
-abbrev pub HasIndexes : List ℕ → PRegSet → Type 0
-HasIndexes indexes s = (r : Register) → (has_register s r ≡ true) ↔ Contains (map register_of_bits indexes) r
+-- the members of a set are the registers with these indexes; a set has a word for each class
+pub record HasIndexes (indexes : List ℕ) (s : PRegSet) : Type 0 where
+  pub words : length s.bits ≡ 3
+  pub members : (r : Register) → (has_register s r ≡ true) ↔ Contains (map register_of_bits indexes) r
 
 -- the instruction of stored numbers
 pub record NamesInst {A : Type 0} (s : StoredInst A) (i : InstValue) : Type 0 where

@@ -1,7 +1,7 @@
 -- Which stored functions are refused, and why.
 use Rattle.std.specs.Prelude.{ℕ, ◌≡◌, ◌<◌, ◌≤◌, ◌-◌, ◌^◌, ◌/◌, length, map, All, IfSome}
 use Rattle.regalloc2_names.specs.Packing.{IsRegisterIndex, IsVRegBits, IsOperandBits}
-use Rattle.regalloc2_function.specs.FunctionValue.{IsSlotSize}
+use Rattle.regalloc2_function.specs.FunctionValue.{FunctionValue, IsSlotSize}
 use Rattle.regalloc2_function.specs.declared.serialize.StoredFault.{StoredFault}
 use Rattle.regalloc2_function.specs.declared.serialize.StoredFault.TheVariants.{Lengths, Index, Bits, Limit, Memory, Shape}
 use Rattle.regalloc2_serialize.specs.declared.data.StoredInst.{StoredInst}
@@ -76,6 +76,12 @@ pub record IsSound {A : Type 0} (s : StoredFunction A) : Type 0 where
   pub within : IsWithin s
   pub names : NamesAll s
   pub limits : KeepsLimits s
+
+-- a function's entry, and what its blocks name as predecessors and successors, are blocks of the function
+pub record NamesItsBlocks (f : FunctionValue) : Type 0 where
+  pub entry : f.entry < length f.blocks
+  pub preds : All (λ b. All (λ p. p < length f.blocks) b.preds) f.blocks
+  pub succs : All (λ b. All (λ n. n < length f.blocks) b.succs) f.blocks
 
 -- the fault that a stored function is refused by: the first of four, or out of memory where it has none
 abbrev pub IsFaultOf : {A : Type 0} → StoredFunction A → StoredFault → Type 0

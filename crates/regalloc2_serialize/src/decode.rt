@@ -24,7 +24,7 @@ fn set_from(indexes: &[u8]) -> PRegSet
 {
     let mut set = PRegSet::empty();
     for index in indexes {
-        set.add(PReg::from_index(usize::from(*index)));
+        set = set.with(PReg::from_index(usize::from(*index)));
     }
     set
 }

@@ -1,13 +1,15 @@
 //! The numbers that name a function and a machine.
 
-ghost use Rattle.std.specs.Prelude.{◌≡◌, ℕ, IfOk, IfErr, length, map};
+ghost use Rattle.std.specs.Prelude.{◌≡◌, ◌↔◌, ℕ, All, IfOk, IfErr, IfSome, length, map};
 ghost use Rattle.std.specs.List.{AllZip};
 ghost use Rattle.std.specs.Option.{option_map};
-ghost use Rattle.regalloc2_names.specs.Packing.{register_of_bits, vreg_of_bits, operand_of_bits};
-ghost use Rattle.regalloc2_function.specs.FunctionValue.{label_of};
+ghost use Rattle.regalloc2_names.specs.Packing.{IsRegisterIndex, IsVRegBits, IsOperandBits, register_of_bits, vreg_of_bits, operand_of_bits};
+ghost use Rattle.regalloc2_function.specs.FunctionValue.{FunctionValue, IsSlotSize, label_of};
+ghost use Rattle.regalloc2_function.specs.Machine.{MachineValue};
 ghost use Rattle.regalloc2_function.specs.Views.{machine_of};
 ghost use Rattle.regalloc2_serialize.specs.Decoded.{HasIndexes, NamesInst, NamesMachine, NamesFunction, stored_range, stored_label, stored_sizes};
 ghost use Rattle.regalloc2_serialize.specs.Tables.{inst_of, block_of, sizes_of, function_of};
+ghost use Rattle.regalloc2_serialize.specs.Validity.{NamesOperands, NamesRegisters, HasThreeClasses, HasLengths, NamesAll, KeepsLimits, NamesItsBlocks, IsSound};
 
 use super::data::{StoredFunction, StoredInst, StoredMachine};
 use super::tables::{BlockTable, InstTable, SerializableFunction, SlotTable};
@@ -18,7 +20,8 @@ use std::alloc::{AllocError, Allocator};
 
 /// The indexes of the registers of a set.
 fn indexes_of<A: Allocator>(alloc: A, set: PRegSet) -> Result<Vec<u8, A>, AllocError>
-    ensures { IfOk result (λ indexes. HasIndexes indexes.items set) }
+    ensures set { IfOk result (λ indexes. HasIndexes indexes.items set) }
+    ensures names { IfOk result (λ indexes. All IsRegisterIndex indexes.items) }
 {
     let mut indexes = Vec::new(alloc);
     for reg in set {
@@ -30,9 +33,11 @@ fn indexes_of<A: Allocator>(alloc: A, set: PRegSet) -> Result<Vec<u8, A>, AllocE
 /// The indexes of the registers of each set.
 fn lists_of_indexes<A: Allocator + Copy>(
     alloc: A,
-    sets: &[PRegSet],
+    sets: &[PRegSet; 3],
 ) -> Result<Vec<Vec<u8, A>, A>, AllocError>
-    ensures { IfOk result (λ lists. AllZip (λ l set. HasIndexes l.items set) lists.items sets.now) }
+    ensures sets { IfOk result (λ lists. AllZip (λ l set. HasIndexes l.items set) lists.items sets.now) }
+    ensures three { IfOk result (λ lists. length lists.items ≡ 3) }
+    ensures names { IfOk result (λ lists. All (λ l. All IsRegisterIndex l.items) lists.items) }
 {
     let mut lists = Vec::with_capacity(alloc, sets.len())?;
     for set in sets {
@@ -46,7 +51,8 @@ fn indexes_of_registers<A: Allocator>(
     alloc: A,
     registers: &[PReg],
 ) -> Result<Vec<u8, A>, AllocError>
-    ensures { IfOk result (λ indexes. map register_of_bits indexes.items ≡ registers.now) }
+    ensures registers { IfOk result (λ indexes. map register_of_bits indexes.items ≡ registers.now) }
+    ensures names { IfOk result (λ indexes. All IsRegisterIndex indexes.items) }
 {
     let mut indexes = Vec::with_capacity(alloc, registers.len())?;
     for reg in registers {
@@ -57,7 +63,8 @@ fn indexes_of_registers<A: Allocator>(
 
 /// The index of a register, if there is one.
 fn index_of(reg: Option<PReg>) -> Option<u8>
-    ensures { option_map register_of_bits result ≡ reg }
+    ensures register { option_map register_of_bits result ≡ reg }
+    ensures name { IfSome result IsRegisterIndex }
 {
     match reg {
         Some(reg) => Some(reg.index() as u8),
@@ -68,9 +75,11 @@ fn index_of(reg: Option<PReg>) -> Option<u8>
 /// The indexes of registers, where there are some.
 fn indexes_of_scratch<A: Allocator>(
     alloc: A,
-    scratch: &[Option<PReg>],
+    scratch: &[Option<PReg>; 3],
 ) -> Result<Vec<Option<u8>, A>, AllocError>
-    ensures { IfOk result (λ indexes. map (option_map register_of_bits) indexes.items ≡ scratch.now) }
+    ensures registers { IfOk result (λ indexes. map (option_map register_of_bits) indexes.items ≡ scratch.now) }
+    ensures three { IfOk result (λ indexes. length indexes.items ≡ 3) }
+    ensures names { IfOk result (λ indexes. All (λ o. IfSome o IsRegisterIndex) indexes.items) }
 {
     let mut indexes = Vec::with_capacity(alloc, scratch.len())?;
     for reg in scratch {
@@ -81,7 +90,8 @@ fn indexes_of_scratch<A: Allocator>(
 
 /// The words of virtual registers.
 fn words_of_vregs<A: Allocator>(alloc: A, vregs: &[VReg]) -> Result<Vec<u32, A>, AllocError>
-    ensures { IfOk result (λ words. map vreg_of_bits words.items ≡ vregs.now) }
+    ensures vregs { IfOk result (λ words. map vreg_of_bits words.items ≡ vregs.now) }
+    ensures names { IfOk result (λ words. All IsVRegBits words.items) }
 {
     let mut words = Vec::with_capacity(alloc, vregs.len())?;
     for vreg in vregs {
@@ -95,7 +105,8 @@ fn words_of_lists<A: Allocator, B: Allocator + Copy>(
     alloc: B,
     lists: &[Vec<VReg, A>],
 ) -> Result<Vec<Vec<u32, B>, B>, AllocError>
-    ensures { IfOk result (λ words. map (λ l. map vreg_of_bits l.items) words.items ≡ map (λ v. v.items) lists.now) }
+    ensures vregs { IfOk result (λ words. map (λ l. map vreg_of_bits l.items) words.items ≡ map (λ v. v.items) lists.now) }
+    ensures names { IfOk result (λ words. All (λ l. All IsVRegBits l.items) words.items) }
 {
     let mut words = Vec::with_capacity(alloc, lists.len())?;
     for list in lists {
@@ -109,7 +120,8 @@ fn words_of_operands<A: Allocator>(
     alloc: A,
     operands: &[Operand],
 ) -> Result<Vec<u64, A>, AllocError>
-    ensures { IfOk result (λ words. map operand_of_bits words.items ≡ operands.now) }
+    ensures operands { IfOk result (λ words. map operand_of_bits words.items ≡ operands.now) }
+    ensures names { IfOk result (λ words. All IsOperandBits words.items) }
 {
     let mut words = Vec::with_capacity(alloc, operands.len())?;
     for operand in operands {
@@ -134,7 +146,8 @@ fn numbers_of_labels<A: Allocator>(
     alloc: A,
     labels: &[(VReg, Inst, Inst, u32)],
 ) -> Result<Vec<(u32, u32, u32, u32), A>, AllocError>
-    ensures { IfOk result (λ numbers. map stored_label numbers.items ≡ map label_of labels.now) }
+    ensures labels { IfOk result (λ numbers. map stored_label numbers.items ≡ map label_of labels.now) }
+    ensures names { IfOk result (λ numbers. All (λ l. IsVRegBits l.0) numbers.items) }
 {
     let mut numbers = Vec::with_capacity(alloc, labels.len())?;
     for label in labels {
@@ -146,7 +159,9 @@ fn numbers_of_labels<A: Allocator>(
 
 /// The sizes of slots.
 fn numbers_of_sizes<A: Allocator>(alloc: A, sizes: &SlotTable) -> Result<Vec<u64, A>, AllocError>
-    ensures { IfOk result (λ numbers. stored_sizes numbers.items ≡ sizes_of sizes.now) }
+    ensures sizes { IfOk result (λ numbers. stored_sizes numbers.items ≡ sizes_of sizes.now) }
+    ensures three { IfOk result (λ numbers. length numbers.items ≡ 3) }
+    ensures limits { IfOk result (λ numbers. All IsSlotSize numbers.items) }
 {
     let mut numbers = Vec::with_capacity(alloc, 3)?;
     numbers.push(sizes.int.units as u64)?;
@@ -160,7 +175,9 @@ fn numbers_of_machine<A: Allocator, B: Allocator + Copy>(
     alloc: B,
     machine: &MachineEnv<A>,
 ) -> Result<StoredMachine<B>, AllocError>
-    ensures { IfOk result (λ numbers. NamesMachine numbers (machine_of machine.now)) }
+    ensures machine { IfOk result (λ numbers. NamesMachine numbers (machine_of machine.now)) }
+    ensures three { IfOk result (λ numbers. HasThreeClasses numbers) }
+    ensures names { IfOk result (λ numbers. NamesRegisters numbers) }
 {
     let preferred = lists_of_indexes(alloc, &machine.preferred_regs_by_class)?;
     let non_preferred = lists_of_indexes(alloc, &machine.non_preferred_regs_by_class)?;
@@ -179,7 +196,8 @@ fn numbers_of_inst<A: Allocator, B: Allocator + Copy>(
     alloc: B,
     inst: &InstTable<A>,
 ) -> Result<StoredInst<B>, AllocError>
-    ensures { IfOk result (λ numbers. NamesInst numbers (inst_of inst.now)) }
+    ensures inst { IfOk result (λ numbers. NamesInst numbers (inst_of inst.now)) }
+    ensures names { IfOk result (λ numbers. NamesOperands numbers) }
 {
     Ok(StoredInst {
         op: inst.op,
@@ -193,7 +211,8 @@ fn numbers_of_insts<A: Allocator, B: Allocator + Copy>(
     alloc: B,
     insts: &[InstTable<A>],
 ) -> Result<Vec<StoredInst<B>, B>, AllocError>
-    ensures { IfOk result (λ numbers. AllZip (λ x i. NamesInst x i) numbers.items (map inst_of insts.now)) }
+    ensures insts { IfOk result (λ numbers. AllZip (λ x i. NamesInst x i) numbers.items (map inst_of insts.now)) }
+    ensures names { IfOk result (λ numbers. All (λ x. NamesOperands x) numbers.items) }
 {
     let mut numbers = Vec::with_capacity(alloc, insts.len())?;
     for inst in insts {
@@ -249,7 +268,8 @@ fn params_of<A: Allocator, B: Allocator + Copy>(
     alloc: B,
     blocks: &[BlockTable<A>],
 ) -> Result<Vec<Vec<u32, B>, B>, AllocError>
-    ensures { IfOk result (λ params. map (λ l. map vreg_of_bits l.items) params.items ≡ map (λ b. (block_of b).params) blocks.now) }
+    ensures params { IfOk result (λ params. map (λ l. map vreg_of_bits l.items) params.items ≡ map (λ b. (block_of b).params) blocks.now) }
+    ensures names { IfOk result (λ params. All (λ l. All IsVRegBits l.items) params.items) }
 {
     let mut params = Vec::with_capacity(alloc, blocks.len())?;
     for block in blocks {
@@ -263,7 +283,8 @@ fn arguments_of<A: Allocator, B: Allocator + Copy>(
     alloc: B,
     blocks: &[BlockTable<A>],
 ) -> Result<Vec<Vec<Vec<u32, B>, B>, B>, AllocError>
-    ensures { IfOk result (λ arguments. map (λ l. map (λ k. map vreg_of_bits k.items) l.items) arguments.items ≡ map (λ b. (block_of b).arguments) blocks.now) }
+    ensures arguments { IfOk result (λ arguments. map (λ l. map (λ k. map vreg_of_bits k.items) l.items) arguments.items ≡ map (λ b. (block_of b).arguments) blocks.now) }
+    ensures names { IfOk result (λ arguments. All (λ l. All (λ k. All IsVRegBits k.items) l.items) arguments.items) }
 {
     let mut arguments = Vec::with_capacity(alloc, blocks.len())?;
     for block in blocks {
@@ -273,13 +294,22 @@ fn arguments_of<A: Allocator, B: Allocator + Copy>(
 }
 
 impl<A: Allocator + Copy> SerializableFunction<A> {
-    /// The numbers of this function and its machine, which [`SerializableFunction::from_stored`] takes back where they
-    /// pass its tests. They are made with the function's own allocator.
+    /// Returns the numbers of this function and its machine, made with the function's own allocator.
     ///
-    /// `Memory` where memory ran out, and nothing else.
+    /// They name this function and this machine, and no other. They pass the tests of
+    /// [`SerializableFunction::from_stored`], unless the function's entry, a predecessor or a successor is no block of the
+    /// function: then `from_stored` returns `Index`. So `from_stored` gives back what was stored, unless it returns `Memory`.
+    ///
+    /// # Errors
+    ///
+    /// `Memory` if memory runs out, and nothing else.
     pub fn stored(&self) -> Result<StoredFunction<A>, RegAllocError>
         ensures function { IfOk result (λ s. NamesFunction s (function_of self.now)) }
         ensures machine { IfOk result (λ s. NamesMachine s.machine_env (machine_of self.now.machine)) }
+        ensures only_function { IfOk result (λ s. (f : FunctionValue) → NamesFunction s f → f ≡ function_of self.now) }
+        ensures only_machine { IfOk result (λ s. (env : MachineValue) → NamesMachine s.machine_env env → env ≡ machine_of self.now.machine) }
+        ensures sound { IfOk result (λ s. IsSound s ↔ NamesItsBlocks (function_of self.now)) }
+        ensures passes { IfOk result (λ s. HasLengths s × NamesAll s × KeepsLimits s) }
         ensures memory { IfErr result (λ e. e ≡ RegAllocError.Memory) }
     {
         let alloc = *self.blocks.allocator();

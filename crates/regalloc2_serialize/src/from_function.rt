@@ -81,10 +81,10 @@ fn copied_inst<F: Function, A: Allocator + Copy>(
     requires { inst < length (F.function f.now).insts }
     ensures { IfOk result (λ table. inst_of table ≡ shown_inst (inst_at (F.function f.now) inst)) }
 {
-    let op = if f.is_branch(inst) {
-        InstOpcode::Branch
-    } else if f.is_ret(inst) {
+    let op = if f.is_ret(inst) {
         InstOpcode::Ret
+    } else if f.is_branch(inst) {
+        InstOpcode::Branch
     } else {
         InstOpcode::Op
     };
@@ -122,8 +122,8 @@ fn copied_units<F: Function>(f: &F, class: RegClass) -> SlotUnits
 impl<A: Allocator + Copy> SerializableFunction<A> {
     /// A function and the machine that it is for, to be stored. Each block has instructions, which are among the function's.
     ///
-    /// Stored data have no instruction that is both a branch and a return: it is kept as a branch. All else is kept, so that
-    /// without such an instruction the value is `f`'s own.
+    /// Stored data have no instruction that is both a branch and a return: it is kept as a return, as by upstream. All else is
+    /// kept, so that without such an instruction the value is `f`'s own.
     /// `Memory` where a growth was refused, and nothing else.
     pub fn new<F: Function>(
         alloc: A,

@@ -36,6 +36,7 @@ pub struct BlockTable<A: Allocator = Global> {
     /// The arguments for each successor.
     pub arguments: Vec<Vec<VReg, A>, A>,
     pub ghost rises: { first ≤ end },
+    pub ghost arguments_counted: { vec_len arguments ≡ vec_len succs },
 }
 
 /// How many units a spill slot takes: a power of two from 1 to 2^24.
@@ -77,6 +78,7 @@ pub struct SerializableFunction<A: Allocator = Global> {
     pub ghost few_blocks: { vec_len blocks < 2 ^ 32 - 1 },
     pub ghost few_vregs: { num_vregs < 2 ^ 30 },
     pub ghost labels_below: { All (λ l. l.0.number < num_vregs) labels.items },
+    pub ghost ends_within: { All (λ b. b.end ≤ vec_len insts) blocks.items },
 }
 
 impl<A: Allocator> Function for SerializableFunction<A> {

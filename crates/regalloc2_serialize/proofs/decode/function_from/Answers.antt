@@ -6,7 +6,8 @@ use Rattle.regalloc2_names.specs.Packing.{IsVRegBits}
 use Rattle.regalloc2_function.specs.FunctionValue.{IsSlotSize, label_of}
 use Rattle.regalloc2_serialize.specs.Validity.{NamesOperands}
 use Rattle.regalloc2_serialize.specs.Decoded.{NamesInst, stored_label, stored_sizes}
-use Rattle.regalloc2_serialize.specs.Tables.{inst_of}
+use Rattle.regalloc2_serialize.specs.Tables.{inst_of, block_of}
+use Rattle.regalloc2_serialize.proofs.Given.{ends-within}
 use Rattle.regalloc2_serialize.proofs.Lists.{all-under}
 use Rattle.regalloc2_serialize.proofs.decode.function_from.Goals as goal
 
@@ -54,6 +55,13 @@ invariant_of-result g c = record {
   labels_below = all-under (λ l. l.vreg.number < c.args.stored.now.num_vregs) label_of stored_label c.in_ok-labels.labels.items
       c.args.stored.now.debug_value_labels.items
       (subst (λ ls. map label_of c.in_ok-labels.labels.items ≡ map stored_label ls) c.as_slice-2.ensures.value c.in_ok-labels.ensures) c.requires.within.labels;
+  ends_within = λ k d less. omega (
+    arith,
+    ends-within c.args.stored.now block_of c.in_ok-blocks.blocks.items c.requires c.in_ok-blocks.ensures.blocks k d less,
+    c.in_ok-insts.ensures.count,
+    ap length c.as_slice.ensures.value,
+    c.in_ok-insts.insts.ok.0,
+  );
 }
 
 pub returns-clause-function : goal.returns-clause-function

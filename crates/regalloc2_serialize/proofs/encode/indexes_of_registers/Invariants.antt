@@ -1,6 +1,10 @@
 use Rattle.std.proofs.Common.{◌≡◌, map, take}
-use Rattle.regalloc2_names.specs.Packing.{register_of_bits}
+use Rattle.std.specs.Prelude.{All}
+use Rattle.regalloc2_names.specs.Packing.{IsRegisterIndex, register_of_bits}
 use Rattle.regalloc2_serialize.proofs.encode.indexes_of_registers.Given as goal
 
 abbrev pub invariant-loop-reg : goal.invariant-loop-reg
-invariant-loop-reg g l = map register_of_bits l.indexes.items ≡ take l.reg-index l.registers
+invariant-loop-reg g l = record {
+  same : map register_of_bits l.indexes.items ≡ take l.reg-index l.registers;
+  names : All IsRegisterIndex l.indexes.items;
+}

@@ -1,6 +1,10 @@
-use Rattle.std.proofs.Common.{rules, ◌≡◌, ◌∷◌, [], ◌++◌, ◌+◌, sym, subst, take, get_or}
+use Rattle.std.proofs.Common.{rules, arith, ◌≡◌, ◌∙◌, ◌∷◌, [], ◌++◌, ◌+◌, ◌<◌, ap, sym, subst, length, take, get_or}
 use Rattle.std.specs.List.{AllZip}
-use Rattle.std.proofs.lemmas.List.{get_or_default}
+use Rattle.std.specs.Prelude.{All}
+use Rattle.std.proofs.lemmas.List.{get_or_default, take_all}
+use Rattle.std.proofs.lemmas.List.Elements.{All-push}
+use Rattle.std.proofs.lemmas.Slice.Zip.{AllZip-long}
+use Rattle.regalloc2_names.specs.Packing.{IsRegisterIndex}
 use Rattle.regalloc2_names.specs.declared.sets.PRegSet.{PRegSet}
 use Rattle.regalloc2_serialize.specs.Decoded.{HasIndexes}
 use Rattle.regalloc2_serialize.proofs.Lists.{zip-next}
@@ -10,7 +14,22 @@ pub loop-set-preserved : goal.loop-set-preserved
 loop-set-preserved g c =
     let e : c.push.new.self.items ≡ c.loop-set.lists.items ++ c.in_ok-indexes_of.field-0 ∷ [] = search rules in
     let none : PRegSet = record { bits = [] } in
-    subst (λ zs. AllZip (λ v set. HasIndexes v.items set) zs (take (c.loop-set.set-index + 1) c.args.sets.now)) (sym e)
-    (zip-next (λ v set. HasIndexes v.items set) c.loop-set.lists.items c.args.sets.now c.loop-set.set-index c.in_ok-indexes_of.field-0
-    (get_or c.args.sets.now c.loop-set.set-index none) c.loop-set-test.true (get_or_default c.args.sets.now c.loop-set.set-index none _ c.loop-set-test.true)
-    c.loop-set.invariant c.in_ok-indexes_of.ensures)
+    let three : length c.args.sets.now ≡ 3 = search rules in
+    let less : c.loop-set.set-index < length c.args.sets.now = omega (arith, three, c.loop-set-test.true) in
+    record {
+      same = subst (λ zs. AllZip (λ v set. HasIndexes v.items set) zs (take (c.loop-set.set-index + 1) c.args.sets.now)) (sym e)
+          (zip-next (λ v set. HasIndexes v.items set) c.loop-set.lists.items c.args.sets.now c.loop-set.set-index c.in_ok-indexes_of.field-0
+          (get_or c.args.sets.now c.loop-set.set-index none) less
+          (get_or_default c.args.sets.now c.loop-set.set-index none _ less) c.loop-set.invariant.same c.in_ok-indexes_of.ensures.set);
+      names = subst (λ zs. All (λ v. All IsRegisterIndex v.items) zs) (sym e)
+          (All-push (λ v. All IsRegisterIndex v.items) c.loop-set.lists.items c.in_ok-indexes_of.field-0 c.loop-set.invariant.names
+          c.in_ok-indexes_of.ensures.names);
+    }
+
+pub returns-clause-three : goal.returns-clause-three
+returns-clause-three g c =
+    let all : take c.loop-set.set-index c.args.sets.now ≡ c.args.sets.now =
+    take_all c.loop-set.set-index c.args.sets.now (omega (arith, c.loop-set-test.false)) in
+    let three : length c.args.sets.now ≡ 3 = search rules in
+    sym (AllZip-long (λ v set. HasIndexes v.items set) c.loop-set.lists.items (take c.loop-set.set-index c.args.sets.now) c.loop-set.invariant.same)
+    ∙ ap length all ∙ three

@@ -1,0 +1,21 @@
+use Rattle.std.proofs.Common.{rules, ◌≡◌, ◌∙◌, ◌∷◌, [], ◌++◌, ◌+◌, sym, subst, take, map}
+use Rattle.std.specs.Prelude.{All}
+use Rattle.std.proofs.lemmas.List.Elements.{All-push}
+use Rattle.regalloc2_names.specs.Packing.{IsVRegBits, vreg_of_bits}
+use Rattle.regalloc2_serialize.proofs.Lists.{map-more}
+use Rattle.regalloc2_serialize.proofs.encode.words_of_lists.Goals as goal
+
+pub loop-list-preserved : goal.loop-list-preserved
+loop-list-preserved g c =
+    let done = c.loop-list.words.items in
+    let one = c.in_ok-words_of_vregs.field-0 in
+    let i = c.loop-list.list-index in
+    let all = c.args.lists.now in
+    let e : c.push.new.self.items ≡ done ++ one ∷ [] = search rules in
+    record {
+      same = subst (λ zs. map (λ v. map vreg_of_bits v.items) zs ≡ map (λ v. v.items) (take (i + 1) all)) (sym e)
+          (map-more (λ v. map vreg_of_bits v.items) (λ v. v.items) done all i one c.list-item.result c.loop-list-test.true
+          c.list-item.is (c.in_ok-words_of_vregs.ensures.vregs ∙ c.as_slice.ensures.value) c.loop-list.invariant.same);
+      names = subst (λ zs. All (λ v. All IsVRegBits v.items) zs) (sym e)
+          (All-push (λ v. All IsVRegBits v.items) done one c.loop-list.invariant.names c.in_ok-words_of_vregs.ensures.names);
+    }
