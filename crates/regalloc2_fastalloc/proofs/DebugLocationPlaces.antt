@@ -18,8 +18,8 @@ use Rattle.regalloc2_function.specs.DebugPoints.{PassesAt}
 use Rattle.regalloc2_function.specs.Fitting.{IsProperPlace}
 use Rattle.regalloc2_function.specs.WellFormed.{IsWellFormed}
 use Rattle.regalloc2_semantics.specs.Listing.{no_operand, op_at}
-use Rattle.regalloc2_semantics.proofs.SingleDef.{Made, made_small, one_made}
-use Rattle.regalloc2_fastalloc_state.specs.StateParts.{SlotsHaveOneOwner, IsSlotOrNone, slot_name}
+use Rattle.regalloc2_semantics.proofs.SingleDef.{Made, made_small}
+use Rattle.regalloc2_fastalloc_state.specs.StateParts.{IsSlotOrNone, slot_name}
 use Rattle.regalloc2_live_ranges.specs.declared.InstOperand.{InstOperand}
 use Rattle.regalloc2_live_ranges.specs.declared.KeptLabel.{KeptLabel}
 use Rattle.regalloc2_live_ranges.specs.declared.LiveRange.{LiveRange}
@@ -30,9 +30,8 @@ use Rattle.regalloc2_debug_proofs.specs.ShownPlace.{shown_place}
 use Rattle.regalloc2_fastalloc_proofs.specs.Safety.{MayBeLocatedAt}
 use Rattle.regalloc2_fastalloc_proofs.specs.InstSteps.{StateValue}
 use Rattle.regalloc2_fastalloc_proofs.specs.BlockSteps.{offset_of}
-use Rattle.regalloc2_fastalloc_proofs.proofs.Operands.AllocsSoFar.{IsTame}
 use Rattle.regalloc2_fastalloc_proofs.proofs.Safety.OutputOfWalk.{IsMade, IsOfLabel, place_is, proper_place, slots_below}
-use Rattle.regalloc2_fastalloc_proofs.proofs.Slots.SlotsOwned.{owner_known}
+use Rattle.regalloc2_fastalloc_proofs.proofs.Slots.ApartSlotsAreOwned.{OwnsSlots}
 use Rattle.regalloc2_fastalloc_proofs.proofs.Safety.InstsKeepSafe.{WalkKept, place_of}
 use Rattle.regalloc2_validate.specs.Constraints.{op_at as operand_at}
 use Rattle.regalloc2_fastalloc.specs.DebugLocations.{AreLocated, location_shown, operand_place, place_by, place_shown}
@@ -91,11 +90,10 @@ module _ (env : MachineValue) (f : FunctionValue) (limited : IsLimited f) (ok : 
 
 module _ (env : MachineValue) (f : FunctionValue) (limited : IsLimited f) (ok : IsWellFormed env f) (May : ℕ → Type 0) (t : StateValue) (out : OutputValue)
     (m : IsMade f env (Made f) May t out)
-    (handed : (v : VirtualRegister) (i : ℕ) → PassesAt f v i → slot_name t.slots v.number ≢ NoPlace) (owned : SlotsHaveOneOwner t.slots)
-    (tame : (i : ℕ) → i < length f.insts → IsTame (Made f) (inst_at f i).operands) where
+    (handed : (v : VirtualRegister) (i : ℕ) → PassesAt f v i → slot_name t.slots v.number ≢ NoPlace) (owns : OwnsSlots (Made f) f t.slots out) where
   -- the place that shows v is one of v's
   place_is_own : (v : VirtualRegister) → Made f v → (p : Place) → slot_name t.slots v.number ≡ p → (by : Option InstOperand) → IsShownBy f v by →
-      IsPlaceOf f out v (if is_no_place p then place_by out.offsets out.allocs by else p)
+      IsPlaceOf f out owns.owned.owner v (if is_no_place p then place_by out.offsets out.allocs by else p)
   place_is_own v made NoPlace is None shown = (let h = shown_within f v shown in absurd (handed v h.0 h.1 is))
   place_is_own v made NoPlace is (Some o) shown = (
       let h = shown_within f v shown in
@@ -111,12 +109,7 @@ module _ (env : MachineValue) (f : FunctionValue) (limited : IsLimited f) (ok : 
       ))
   place_is_own v made (InRegister r) is by shown = absurd (subst (IsSlotOrNone t.slots.count) is (m.kept.safe.slots v.number))
   place_is_own v made (InSlot n) is by shown =
-      inr (
-        n,
-        refl,
-        λ w located. let x = owner_known f env (Made f) May t out m owned tame w n located in
-            one_made f ok.defined_once w v x.0 made (owned.own w.number v.number n x.1 is),
-      )
+      inr (n, refl, owns.vregs v n made is)
 
   -- it is the same in the list of all places and in those of the operand's instruction
   place_is_shown : (v : VirtualRegister) (p : Place) (by : Option InstOperand) → IsShownBy f v by →
@@ -131,10 +124,10 @@ module _ (env : MachineValue) (f : FunctionValue) (limited : IsLimited f) (ok : 
   -- debug locations as `run` promises them
   pub shows_labels : (IsWrittenFirst f → (l : Label) (r : LiveRange) → IsKeptRange f l r →
       ShowsValue f out l.vreg (shown_place out (slot_name t.slots r.vreg.number) r.by)) → AreLocated f t.slots out.offsets out.allocs out.debug_locations →
-      ShowsLabels f env out
+      ShowsLabels f env out owns.owned.owner
   shows_labels shows a = record {
     listed = map (location_shown t.slots out.offsets out.allocs) a.kept;
-    kept = located_labels (λ (l : Label) (d : DebugLocation). IsProperPlace env out l.vreg.class d.place × IsPlaceOf f out l.vreg d.place
+    kept = located_labels (λ (l : Label) (d : DebugLocation). IsProperPlace env out l.vreg.class d.place × IsPlaceOf f out owns.owned.owner l.vreg d.place
         × (IsWrittenFirst f → ShowsValue f out l.vreg d.place)) (λ (k : KeptLabel). place_shown t.slots out.offsets out.allocs k.range) each a.are;
     same = a.same;
     rising = a.rising;
@@ -142,8 +135,8 @@ module _ (env : MachineValue) (f : FunctionValue) (limited : IsLimited f) (ok : 
   }
     where
       each : (l : Label) (k : KeptLabel) → k.label ≡ l.label → IsKeptRange f l k.range →
-          (let p : Place = place_shown t.slots out.offsets out.allocs k.range in IsProperPlace env out l.vreg.class p × IsPlaceOf f out l.vreg p
-          × (IsWrittenFirst f → ShowsValue f out l.vreg p))
+          (let p : Place = place_shown t.slots out.offsets out.allocs k.range in IsProperPlace env out l.vreg.class p
+          × IsPlaceOf f out owns.owned.owner l.vreg p × (IsWrittenFirst f → ShowsValue f out l.vreg p))
       each l k is range = (
         proper_place env out t.slots l.vreg (place_shown t.slots out.offsets out.allocs k.range) (slots_below f env (Made f) May t out m)
             (range_stands env f limited ok May t out.offsets out.allocs m.offsets m.kept handed l k range),

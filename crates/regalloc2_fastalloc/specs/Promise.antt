@@ -1,10 +1,11 @@
 -- What `run` promises of its outputs: the main theorem's conclusion. Its words are in regalloc2_function/specs: paths in Path, what both
 -- runs read in SourceRun and AllocatedRun, outputs in OutputValue, faithful ones in Faithful, proper places in Fitting, slots in Slots,
 -- numbers in Values.
-use Rattle.std.specs.Prelude.{ℕ, ◌≡◌, ◌<◌, ◌≤◌, ◌^◌, ◌⊎◌, List, All, IsSome, length, slice_index_or, Bool, false, [], nat_eq}
+use Rattle.std.specs.Prelude.{ℕ, ◌≡◌, ◌<◌, ◌≤◌, ◌^◌, ◌⊎◌, List, All, IsSome, length, slice_index_or, Bool, false, [], nat_eq, ◌≢◌}
 use Rattle.regalloc2_names.specs.Register.{VirtualRegister, Register}
 use Rattle.regalloc2_names.specs.Operand.{OperandValue}
 use Rattle.regalloc2_names.specs.Place.{Place, InSlot}
+use Rattle.regalloc2_names.specs.Point.{before}
 use Rattle.std.specs.List.{IsDistinct}
 use Rattle.regalloc2_names.specs.declared.OperandConstraint.TheVariants.{Reg}
 use Rattle.regalloc2_names.specs.declared.RegClass.{RegClass}
@@ -19,7 +20,7 @@ use Rattle.regalloc2_function.specs.Faithful.{ConstraintsMet, EditsAreListed, Ha
 use Rattle.regalloc2_function.specs.DebugPaths.{HoldsValue as ShowsValue}
 use Rattle.regalloc2_function.specs.DebugPoints.{AreDebugLocations}
 use Rattle.regalloc2_function.specs.Fitting.{IsProperPlace, PlacesAreProper, allocatable_count}
-use Rattle.regalloc2_function.specs.Slots.{AreSlotsOwned, StandsInSlot}
+use Rattle.regalloc2_function.specs.Slots.{Owner, OfVReg, OfBranch, IsSlotOf, AreSlotsOwned, StandsInSlot}
 use Rattle.regalloc2_function.specs.Values.{Meaning, SameNumbers, numbers, source_reads}
 use Rattle.regalloc2_validate.specs.Constraints.{op_at}
 use Rattle.regalloc2_branch_defs.specs.BranchDefs.{DefinesNumber, IsEdgeInto}
@@ -71,20 +72,31 @@ pub record SlotsAreBounded (f : FunctionValue) (out : OutputValue) : Type 0 wher
   pub limit : out.num_spillslots ≤ 2 ^ 24
   pub needed : out.num_spillslots ≤ units_at_most f
 
+-- The slot n of a branch i: it is the branch's first or second one for its class, and only moves name it, each at the point before the branch.
+pub record ServesBranch (out : OutputValue) (n i time : ℕ) : Type 0 where
+  pub of_two : time < 2
+  pub moves : All (λ e. (e.1.from ≡ InSlot n) ⊎ (e.1.to ≡ InSlot n) → e.0 ≡ before i) out.edits
+  pub no_operand : All (λ p. p ≢ InSlot n) out.allocs
+  pub no_location : All (λ d. d.place ≢ InSlot n) out.debug_locations
+
+-- each slot that a branch owns serves that branch alone
+abbrev pub BranchSlotsServe : FunctionValue → OutputValue → (ℕ → Owner) → Type 0
+BranchSlotsServe f out owner = (n i : ℕ) (class : RegClass) (time : ℕ) → IsSlotOf f out n → owner n ≡ OfBranch i class time → ServesBranch out n i time
+
 -- an operand that names the virtual register has the place
 abbrev pub IsPlaceOfOperand : FunctionValue → OutputValue → VirtualRegister → Place → Type 0
 IsPlaceOfOperand f out v p = (i k : ℕ) × (d : OperandValue) × (i < length f.insts) × (k < length (inst_at f i).operands)
     × ((slice_index_or (inst_at f i).operands k d).vreg ≡ v) × (place_at (allocs_of out i) k ≡ p)
 
--- A place of a virtual register: an operand that names it is there, or it is a slot that no operand of another one has.
-abbrev pub IsPlaceOf : FunctionValue → OutputValue → VirtualRegister → Place → Type 0
-IsPlaceOf f out v p = IsPlaceOfOperand f out v p ⊎ ((n : ℕ) × (p ≡ InSlot n) × ((w : VirtualRegister) → StandsInSlot f out w n → w ≡ v))
+-- A place of a virtual register: an operand that names it is there, or it is the slot that it owns.
+abbrev pub IsPlaceOf : FunctionValue → OutputValue → (ℕ → Owner) → VirtualRegister → Place → Type 0
+IsPlaceOf f out owner v p = IsPlaceOfOperand f out v p ⊎ ((n : ℕ) × (p ≡ InSlot n) × (owner n ≡ OfVReg v))
 
 -- The debug locations are those of the labels that are kept, each from its virtual register's first point to its last one, by rising label,
 -- and as listed where labels are equal. Each place is proper, and one of that virtual register; and where no path from the entry reads a
 -- virtual register before writing it, it holds that one's value.
-abbrev pub ShowsLabels : FunctionValue → MachineValue → OutputValue → Type 0
-ShowsLabels f env out = AreDebugLocations f (λ l d. IsProperPlace env out l.vreg.class d.place × IsPlaceOf f out l.vreg d.place
+abbrev pub ShowsLabels : FunctionValue → MachineValue → OutputValue → (ℕ → Owner) → Type 0
+ShowsLabels f env out owner = AreDebugLocations f (λ l d. IsProperPlace env out l.vreg.class d.place × IsPlaceOf f out owner l.vreg d.place
     × (IsWrittenFirst f → ShowsValue f out l.vreg d.place)) out
 
 -- an operand of the function names the virtual register
@@ -115,6 +127,7 @@ pub record HasRegistersForAll (f : FunctionValue) (env : MachineValue) : Type 0 
 --     slots               slots take few units
 --     unspilled           where each virtual register can have a register of its own, there are no moves and no slots
 --     owners              slots are memory: each that is named has one owner, a virtual register or a branch, and units of its own, of its owner's class
+--     branch_slots        a branch owns two slots for a class at most, and only moves at the point before it name them
 --     labels              debug locations are those of the labels that are kept, and name places of their virtual registers, which hold their values
 pub record IsAllocation (f : FunctionValue) (env : MachineValue) (out : OutputValue) : Type 0 where
   pub in_order : IsInOrder f out
@@ -127,4 +140,5 @@ pub record IsAllocation (f : FunctionValue) (env : MachineValue) (out : OutputVa
   pub slots : SlotsAreBounded f out
   pub unspilled : HasRegistersForAll f env → (out.edits ≡ []) × (out.num_spillslots ≡ 0)
   pub owners : AreSlotsOwned f out
-  pub labels : ShowsLabels f env out
+  pub branch_slots : BranchSlotsServe f out owners.owner
+  pub labels : ShowsLabels f env out owners.owner

@@ -66,11 +66,12 @@ impl<A: Allocator + Copy> Ctx<A> {
 /// well-formed; else that is tested. The output is in order; each operand's place is proper and meets its constraint, also in
 /// instructions that no path reaches; each end of a move is proper, and no move goes from a place in memory to another; and
 /// each move is listed, none after the last instruction of a block. Slots are memory: each that the output names belongs to
-/// one virtual register, and is where its operands stand that are in slots, or to one branch, whose moves put values aside there. It
-/// takes as many units as its owner's class wants, aligned to that number, below the count, and no other slot has one of them; and both
-/// ends of a move are of one class. The debug locations are those of the labels that are kept: each from the first point of its
-/// virtual register to the last one, in a proper place of that, by rising label. All that is promised of an output is one
-/// record, `IsAllocation`, in `specs/Promise.antt`.
+/// one virtual register, and is where its operands stand that are in slots, or to one branch. A branch owns at most two slots for each
+/// class, and only moves at the point before the branch name them. Each slot takes as many units as its owner's class wants, aligned to
+/// that number, below the count, and no other slot has one of them; and both ends of a move are of one class. The debug locations are
+/// those of the labels that are kept, by rising label. Each is from the first point of its virtual register to the last one, in a proper
+/// place: that of an operand of the virtual register, or the slot that it owns. All that is promised of an output is one record,
+/// `IsAllocation`, in `specs/Promise.antt`.
 ///
 /// If no path from the entry reads a virtual register before writing it, the output runs as the function does: along every
 /// path, and whatever the instructions mean, each use reads the function's own value. Where a path comes to a block, the slot of

@@ -10,7 +10,7 @@
 -- slot of the output is in its own vreg's.
 -- That each slot of the output has one owner, with units of its own, is `made_slots_owned` in `OutputOwnsSlots`: each step keeps slots apart
 -- and moves within a class (`NewSlotsApart` and the `..SlotsApart` files, up to `walk_classed`), and such slots are owned
--- (`ApartSlotsAreOwned`).
+-- (`ApartSlotsAreOwned`). Its result, `OwnsSlots`, says too that only moves before a branch name the branch's slots (`ServesAt`).
 pub mod ApartSlotsAreOwned
 pub mod ArgumentHasSlot
 pub mod BranchKeepsSlotsApart

@@ -3,8 +3,9 @@ use Rattle.std.specs.Prelude.{ℕ, ◌≡◌, ◌≢◌, ◌+◌, ◌-◌, ◌%�
 use Rattle.regalloc2_names.specs.Register.{VirtualRegister, class_code}
 use Rattle.regalloc2_names.specs.declared.RegClass.{RegClass}
 use Rattle.regalloc2_names.specs.Place.{Place, NoPlace, InRegister, InSlot}
+use Rattle.regalloc2_names.specs.Point.{before}
 use Rattle.regalloc2_function.specs.OutputValue.{MoveValue}
-use Rattle.regalloc2_function.specs.Slots.{Owner, OfVReg, class_of_owner}
+use Rattle.regalloc2_function.specs.Slots.{Owner, OfVReg, OfBranch, class_of_owner}
 use Rattle.regalloc2_fastalloc_state.specs.StateParts.{SpillSlotsValue, slot_name}
 
 -- a slot that was made: whose it is, and its name
@@ -64,12 +65,17 @@ pub record LaysOut (Known : VirtualRegister → Type 0) (Holds : OwnedSlot → T
 abbrev pub IsNamed : List OwnedSlot → ℕ → Type 0
 IsNamed made n = (c : OwnedSlot) × Contains made c × (c.name ≡ n)
 
--- an end of a move of values of a class: a register of the class, or a slot whose owner is of the class
-abbrev pub IsEndOf : List OwnedSlot → RegClass → Place → Type 0
-IsEndOf made class NoPlace = ⊥
-IsEndOf made class (InRegister r) = r.class ≡ class
-IsEndOf made class (InSlot n) = (c : OwnedSlot) × Contains made c × (c.name ≡ n) × (class_of_owner c.owner ≡ class)
+-- moves at a point may name the slot of an owner: a branch's slot serves the moves before that branch alone
+abbrev pub ServesAt : ℕ → Owner → Type 0
+ServesAt point (OfVReg v) = Unit {0}
+ServesAt point (OfBranch branch class time) = point ≡ before branch
+
+-- an end of a move of values of a class at a point: a register of the class, or a slot that serves there, whose owner is of the class
+abbrev pub IsEndOf : List OwnedSlot → ℕ → RegClass → Place → Type 0
+IsEndOf made point class NoPlace = ⊥
+IsEndOf made point class (InRegister r) = r.class ≡ class
+IsEndOf made point class (InSlot n) = (c : OwnedSlot) × Contains made c × (c.name ≡ n) × (class_of_owner c.owner ≡ class) × ServesAt point c.owner
 
 -- both ends of a move are of one class
 abbrev pub IsOfOneClass : List OwnedSlot → ℕ × MoveValue → Type 0
-IsOfOneClass made e = (class : RegClass) × IsEndOf made class e.1.from × IsEndOf made class e.1.to
+IsOfOneClass made e = (class : RegClass) × IsEndOf made e.0 class e.1.from × IsEndOf made e.0 class e.1.to

@@ -8,13 +8,37 @@ use Rattle.regalloc2_names.specs.declared.RegClass.{RegClass}
 use Rattle.regalloc2_names.specs.declared.RegClass.TheVariants.{Int}
 use Rattle.regalloc2_names.specs.Register.{VirtualRegister}
 use Rattle.regalloc2_names.specs.Place.{Place, NoPlace, InRegister, InSlot}
+use Rattle.regalloc2_names.specs.Point.{before}
 use Rattle.regalloc2_function.specs.FunctionValue.{FunctionValue, slot_size, inst_at}
-use Rattle.regalloc2_function.specs.OutputValue.{OutputValue, DebugLocation, allocs_of, place_at}
+use Rattle.regalloc2_function.specs.OutputValue.{OutputValue, DebugLocation, MoveValue, allocs_of, place_at}
 use Rattle.regalloc2_function.specs.WellFormed.{EachOperand}
-use Rattle.regalloc2_function.specs.Slots.{Owner, OfBranch, class_of_owner, units_of as units_of_owner, first_unit, IsSlotOf, IsOfClass, AreSlotsOwned}
+use Rattle.regalloc2_function.specs.Slots.{Owner, OfVReg, OfBranch, class_of_owner, units_of as units_of_owner, first_unit, IsSlotOf, IsOfClass, AreSlotsOwned}
 use Rattle.regalloc2_fastalloc_state.specs.StateParts.{SpillSlotsValue, slot_name, units_of}
 use Rattle.regalloc2_fastalloc_proofs.specs.SlotLayout.{OwnedSlot, units_in, start_in, start_of, end_of, IsLaidOut, AreApart, AreLaidOut, IsNamed, IsEndOf}
-use Rattle.regalloc2_fastalloc_proofs.specs.SlotLayout.{IsOfOneClass}
+use Rattle.regalloc2_fastalloc_proofs.specs.SlotLayout.{IsOfOneClass, ServesAt}
+
+-- the slot of a vreg that is known
+abbrev pub IsSlotOfKnown : (VirtualRegister → Type 0) → SpillSlotsValue → ℕ → Type 0
+IsSlotOfKnown Known s n = (v : VirtualRegister) × Known v × (slot_name s v.number ≡ InSlot n)
+
+-- a place is no slot, or that of a vreg
+abbrev pub IsNoBranchSlot : (ℕ → Owner) → Place → Type 0
+IsNoBranchSlot owner p = (n : ℕ) → p ≡ InSlot n → (v : VirtualRegister) × (owner n ≡ OfVReg v)
+
+-- a move that names a branch's slot is at the point before that branch
+abbrev pub IsBeforeBranch : (ℕ → Owner) → ℕ × MoveValue → Type 0
+IsBeforeBranch owner e = (n i : ℕ) (class : RegClass) (time : ℕ) → owner n ≡ OfBranch i class time → (e.1.from ≡ InSlot n) ⊎ (e.1.to ≡ InSlot n) →
+    e.0 ≡ before i
+
+-- Slots are owned: that of a known vreg by that vreg. A branch has two for a class at most, which are the places of no operand and of no debug location, and
+-- which the moves before it name alone.
+pub record OwnsSlots (Known : VirtualRegister → Type 0) (f : FunctionValue) (s : SpillSlotsValue) (out : OutputValue) : Type 0 where
+  pub owned : AreSlotsOwned f out
+  pub vregs : (v : VirtualRegister) (n : ℕ) → Known v → slot_name s v.number ≡ InSlot n → owned.owner n ≡ OfVReg v
+  pub two : (n i : ℕ) (class : RegClass) (time : ℕ) → IsSlotOf f out n → owned.owner n ≡ OfBranch i class time → time < 2
+  pub moves : All (IsBeforeBranch owned.owner) out.edits
+  pub allocs : All (IsNoBranchSlot owned.owner) out.allocs
+  pub shown : All (λ d. IsNoBranchSlot owned.owner d.place) out.debug_locations
 
 -- the owner of the slot of a name: that for which it was made
 unfoldable pub owner_in : List OwnedSlot → ℕ → Owner
@@ -102,20 +126,38 @@ module _ (Known : VirtualRegister → Type 0) (f : FunctionValue) (s : SpillSlot
       (by_last : f.named_by_last_slot ≡ s.by_last)
       (operands : (i : ℕ) → i < length f.insts → EachOperand (inst_at f i)
       (λ k o. (n : ℕ) → place_at (allocs_of out i) k ≡ InSlot n → Known o.vreg × (slot_name s o.vreg.number ≡ InSlot n)))
-      (allocs : All (λ p. (n : ℕ) → p ≡ InSlot n → IsNamed made n) out.allocs) (moves : All (IsOfOneClass made) out.edits)
-      (shown : All (λ d. (n : ℕ) → d.place ≡ InSlot n → IsNamed made n) out.debug_locations)
-      (met : (c : OwnedSlot) → Contains made c → (i : ℕ) (class : RegClass) (time : ℕ) → c.owner ≡ OfBranch i class time → (i < length f.insts)
-      × ((inst_at f i).is_branch ≡ true)) where
-    -- an end of a move names a slot that was made
-    end_named : (class : RegClass) (p : Place) (n : ℕ) → IsEndOf made class p → p ≡ InSlot n → IsNamed made n
-    end_named class p n is at = (let x = subst (IsEndOf made class) at is in (x.0, x.1, x.2))
+      (allocs : All (λ p. (n : ℕ) → p ≡ InSlot n → IsSlotOfKnown Known s n) out.allocs) (moves : All (IsOfOneClass made) out.edits)
+      (shown : All (λ d. (n : ℕ) → d.place ≡ InSlot n → IsSlotOfKnown Known s n) out.debug_locations)
+      (met : (c : OwnedSlot) → Contains made c → (i : ℕ) (class : RegClass) (time : ℕ) → c.owner ≡ OfBranch i class time → ((i < length f.insts)
+      × ((inst_at f i).is_branch ≡ true)) × (time < 2)) where
+    -- the slot of a known vreg was made
+    known_named : (n : ℕ) → IsSlotOfKnown Known s n → IsNamed made n
+    known_named n (v, known, is) = (record { owner = OfVReg v; name = n }, h.known v known n is, refl)
+
+    -- and is that vreg's
+    own_slot : (v : VirtualRegister) (n : ℕ) → Known v → slot_name s v.number ≡ InSlot n → owner_in made n ≡ OfVReg v
+    own_slot v n known is = owner_found _ (h.known v known n is)
+
+    -- an end of a move names a slot that was made, and that serves there
+    end_named : (point : ℕ) (class : RegClass) (p : Place) (n : ℕ) → IsEndOf made point class p → p ≡ InSlot n → IsNamed made n
+        × ServesAt point (owner_in made n)
+    end_named point class p n is at =
+        let x = subst (IsEndOf made point class) at is in
+        let mine : x.0.owner ≡ owner_in made n = sym (owner_found x.0 x.1) ∙ ap (owner_in made) x.2 in
+        ((x.0, x.1, x.2), subst (ServesAt point) mine x.4)
+
+    before_branch : All (IsBeforeBranch (owner_in made)) out.edits
+    before_branch k d lt n i class time of names =
+        let m = moves k d lt in
+        let point : ℕ = (slice_index_or out.edits k d).0 in
+        subst (ServesAt point) of (⊎_elim (λ from. (end_named point m.0 _ n m.1 from).1) (λ to. (end_named point m.0 _ n m.2 to).1) names)
 
     -- so does whatever is in the output
     named : (n : ℕ) → IsSlotOf f out n → IsNamed made n
-    named n (inl (k, x, lt, at, is)) = allocs k x lt n (at ∙ is)
+    named n (inl (k, x, lt, at, is)) = known_named n (allocs k x lt n (at ∙ is))
     named n (inr (inl (k, x, lt, at, is))) = (let m = subst (IsOfOneClass made) at (moves k x lt) in
-        ⊎_elim (λ from. end_named m.0 _ n m.1 from) (λ to. end_named m.0 _ n m.2 to) is)
-    named n (inr (inr (k, x, lt, at, is))) = shown k x lt n (subst (λ (d : DebugLocation). d.place ≡ InSlot n) (sym at) is)
+        ⊎_elim (λ from. (end_named x.0 m.0 _ n m.1 from).0) (λ to. (end_named x.0 m.0 _ n m.2 to).0) is)
+    named n (inr (inr (k, x, lt, at, is))) = known_named n (shown k x lt n (subst (λ (d : DebugLocation). d.place ≡ InSlot n) (sym at) is))
 
     -- the owner's units, and the first of them, are those that were made
     first_is : (c : OwnedSlot) → first_unit f c.owner c.name ≡ start_of s.sizes s.by_last c
@@ -135,50 +177,66 @@ module _ (Known : VirtualRegister → Type 0) (f : FunctionValue) (s : SpillSlot
               ∙ sizes (class_of_owner c.owner),
         )
 
-    end_of_class : (class : RegClass) (p : Place) → IsEndOf made class p → IsOfClass (owner_in made) p class
-    end_of_class class NoPlace h = h
-    end_of_class class (InRegister r) h = h
-    end_of_class class (InSlot n) (c, there, is, of) = ap class_of_owner (ap (owner_in made) (sym is) ∙ owner_found c there) ∙ of
+    end_of_class : (point : ℕ) (class : RegClass) (p : Place) → IsEndOf made point class p → IsOfClass (owner_in made) p class
+    end_of_class point class NoPlace h = h
+    end_of_class point class (InRegister r) h = h
+    end_of_class point class (InSlot n) (c, there, is, of, serves) = ap class_of_owner (ap (owner_in made) (sym is) ∙ owner_found c there) ∙ of
 
     -- the slots of an output are owned, where they lie apart and its moves keep to a class
-    pub slots_owned : AreSlotsOwned f out
+    pub slots_owned : OwnsSlots Known f s out
     slots_owned = record {
-      owner = owner_in made;
-      own = λ m n a b e.
-          let x = owner_is m (named m a) in
-          let y = owner_is n (named n b) in
-          ⊎_elim (λ (one : x.0 ≡ y.0). sym x.2 ∙ ap (λ (c : OwnedSlot). c.name) one ∙ y.2) (λ (two : AreTwo x.0 y.0). absurd (two.0 (sym x.3 ∙ e ∙ y.3)))
-          (one_or_two x.0 y.0 x.1 y.1);
-      branches = λ n i class time a e.
+      owned = record {
+        owner = owner_in made;
+        own = λ m n a b e.
+            let x = owner_is m (named m a) in
+            let y = owner_is n (named n b) in
+            ⊎_elim (λ (one : x.0 ≡ y.0). sym x.2 ∙ ap (λ (c : OwnedSlot). c.name) one ∙ y.2) (λ (two : AreTwo x.0 y.0). absurd (two.0 (sym x.3 ∙ e ∙ y.3)))
+            (one_or_two x.0 y.0 x.1 y.1);
+        branches = λ n i class time a e.
+            let x = owner_is n (named n a) in
+            (met x.0 x.1 i class time (sym x.3 ∙ e)).0;
+        operands = λ i lt k d less n at.
+            let o = operands i lt k d less n at in
+            owner_found _ (h.known _ o.0 n o.1);
+        named = λ n a last.
+            let x = owner_is n (named n a) in
+            let l = (lies x.0 x.1).named (sym by_last ∙ last) in
+            let u = x.5 in
+            let e = x.2 in
+            omega (arith, l, u, e);
+        aligned = λ n a.
+            let x = owner_is n (named n a) in
+            ap (λ z. z % units_of_owner f (owner_in made n)) x.4 ∙ ap (λ z. start_of s.sizes s.by_last x.0 % z) x.5 ∙ (lies x.0 x.1).aligned;
+        within = λ n a.
+            let x = owner_is n (named n a) in
+            let w = (lies x.0 x.1).within in
+            let u = x.5 in
+            let e = x.4 in
+            omega (arith, w, u, e, count);
+        apart = λ m n a b other.
+            let x = owner_is m (named m a) in
+            let y = owner_is n (named n b) in
+            let xu = x.5 in
+            let xs = x.4 in
+            let yu = y.5 in
+            let ys = y.4 in
+            ⊎_elim (λ (one : x.0 ≡ y.0). absurd (other (sym x.2 ∙ ap (λ (c : OwnedSlot). c.name) one ∙ y.2)))
+            (λ (two : AreTwo x.0 y.0). ⊎_elim (λ l. inl (omega (arith, l, xu, xs, ys))) (λ g. inr (omega (arith, g, yu, ys, xs))) two.1)
+            (one_or_two x.0 y.0 x.1 y.1);
+        moves = λ k d lt.
+            let m = moves k d lt in
+            let point : ℕ = (slice_index_or out.edits k d).0 in
+            (m.0, end_of_class point m.0 _ m.1, end_of_class point m.0 _ m.2);
+      };
+      vregs = own_slot;
+      two = λ n i class time a e.
           let x = owner_is n (named n a) in
-          met x.0 x.1 i class time (sym x.3 ∙ e);
-      operands = λ i lt k d less n at.
-          let o = operands i lt k d less n at in
-          owner_found _ (h.known _ o.0 n o.1);
-      named = λ n a last.
-          let x = owner_is n (named n a) in
-          let l = (lies x.0 x.1).named (sym by_last ∙ last) in
-          let u = x.5 in
-          let e = x.2 in
-          omega (arith, l, u, e);
-      aligned = λ n a.
-          let x = owner_is n (named n a) in
-          ap (λ z. z % units_of_owner f (owner_in made n)) x.4 ∙ ap (λ z. start_of s.sizes s.by_last x.0 % z) x.5 ∙ (lies x.0 x.1).aligned;
-      within = λ n a.
-          let x = owner_is n (named n a) in
-          let w = (lies x.0 x.1).within in
-          let u = x.5 in
-          let e = x.4 in
-          omega (arith, w, u, e, count);
-      apart = λ m n a b other.
-          let x = owner_is m (named m a) in
-          let y = owner_is n (named n b) in
-          let xu = x.5 in
-          let xs = x.4 in
-          let yu = y.5 in
-          let ys = y.4 in
-          ⊎_elim (λ (one : x.0 ≡ y.0). absurd (other (sym x.2 ∙ ap (λ (c : OwnedSlot). c.name) one ∙ y.2)))
-          (λ (two : AreTwo x.0 y.0). ⊎_elim (λ l. inl (omega (arith, l, xu, xs, ys))) (λ g. inr (omega (arith, g, yu, ys, xs))) two.1)
-          (one_or_two x.0 y.0 x.1 y.1);
-      moves = λ k d lt. let m = moves k d lt in (m.0, end_of_class m.0 _ m.1, end_of_class m.0 _ m.2);
+          (met x.0 x.1 i class time (sym x.3 ∙ e)).1;
+      moves = before_branch;
+      allocs = λ k d lt n at.
+          let x = allocs k d lt n at in
+          (x.0, own_slot x.0 n x.1 x.2);
+      shown = λ k d lt n at.
+          let x = shown k d lt n at in
+          (x.0, own_slot x.0 n x.1 x.2);
     }

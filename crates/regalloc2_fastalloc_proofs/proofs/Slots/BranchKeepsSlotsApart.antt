@@ -84,13 +84,13 @@ met_more Known named Met More t more h = record {
   by_last = h.by_last;
   made = h.made;
   laid = h.laid;
-  met = λ k d lt branch class time e. more branch class (h.met k d lt branch class time e);
+  met = λ k d lt branch class time e. (let m = h.met k d lt branch class time e in (more branch class m.0, m.1));
   edits = h.edits;
 }
 
 -- the names of one owner
-branch_of : (a b : ℕ) (c d : RegClass) (j k : ℕ) → OfBranch a c j ≡ OfBranch b d k → (b ≡ a) × (d ≡ c)
-branch_of a b c d j k e = ((let x : b ≡ a = cc in x), (let x : d ≡ c = cc in x))
+branch_of : (a b : ℕ) (c d : RegClass) (j k : ℕ) → OfBranch a c j ≡ OfBranch b d k → (b ≡ a) × (d ≡ c) × (k ≡ j)
+branch_of a b c d j k e = ((let x : b ≡ a = cc in x), (let x : d ≡ c = cc in x), (let x : k ≡ j = cc in x))
 
 -- how many temporary slots there are, of which one ends below the count
 lent_below : (s t : SpillSlotsValue) (class : RegClass) (taken j : ℕ) → 0 < units_of s class → AddsTempSlots s t class taken → later_end s class j ≤ t.count
@@ -227,8 +227,8 @@ module _ (Known : VirtualRegister → Type 0) (same : (v w : VirtualRegister) �
         let p = parameters_classed params known b.began old h (fresh_classed b.began b.begins_scratch) (length params) b.begun b.middle b.parameters in
         (empties_classed b.begun b.middle p.classed p.inst_regs b.ended new b.empties).classed
 
-  -- the moves of one class are ordered and pushed
-  module _ (Met : ℕ → RegClass → Type 0) (branch point : ℕ) (class : RegClass) (first_time : Met branch class → ⊥) (inst_regs : InstRegs) (given : Moves)
+  -- the moves of one class are ordered and pushed before the branch
+  module _ (Met : ℕ → RegClass → Type 0) (branch : ℕ) (class : RegClass) (first_time : Met branch class → ⊥) (inst_regs : InstRegs) (given : Moves)
       (old middle : StateValue) (made : Moves) (orders : OrdersMoves inst_regs class given made old middle)
       (h : IsClassed Known named Met old) (passed : ArePassedOf Known old.slots class given) where
     abbrev Now : ℕ → RegClass → Type 0
@@ -241,34 +241,41 @@ module _ (Known : VirtualRegister → Type 0) (same : (v w : VirtualRegister) �
     names_stay n k is = same_names n ∙ is
 
     temp : LaysOutTempSlots Known (IsOfMet Now) branch class orders.lends.0 old.slots middle.slots h.made
-    temp = lends_laid Known (IsOfMet Now) branch class old.slots h.made (h.units class) (λ k d lt time e. first_time (h.met k d lt branch class time (sym e)))
-        h.laid (λ time name b c j e. inr (branch_of branch b class c time j e))
-        (λ k d lt b c time e. inl (h.met k d lt b c time e)) middle.slots orders.lends.0 orders.lends.1 orders.lends.2
+    temp = lends_laid Known (IsOfMet Now) branch class old.slots h.made (h.units class) (λ k d lt time e. first_time (h.met k d lt branch class time (sym e)).0)
+        h.laid (λ time name few b c j e. (let x = branch_of branch b class c time j e in let same = x.2 in
+        (inr (x.0, x.1), omega (arith, few, same))))
+        (λ k d lt b c time e. (let m = h.met k d lt b c time e in (inl m.0, m.1))) middle.slots orders.lends.0 orders.lends.1 orders.lends.2
 
-    in_hand_end : (p : Place) → IsScratchUsed inst_regs old middle class p → IsEndOrNone temp.lays.made class p
-    in_hand_end p (inl (r, is, inl (inl own))) = subst (IsEndOrNone temp.lays.made class) (sym is) (h.dedicated_scratch class r own)
-    in_hand_end p (inl (r, is, inl (inr free))) = subst (IsEndOrNone temp.lays.made class) (sym is) free.0.of_class
-    in_hand_end p (inl (r, is, inr borrowed)) = subst (IsEndOrNone temp.lays.made class) (sym is) borrowed.of_class
-    in_hand_end p (inr (k, is, above_it, below, j, which, ends)) = subst (IsEndOrNone temp.lays.made class) (sym is) (
+    abbrev IsEndHere : Place → Type 0
+    IsEndHere = IsEndOrNone temp.lays.made (before branch) class
+
+    in_hand_end : (p : Place) → IsScratchUsed inst_regs old middle class p → IsEndHere p
+    in_hand_end p (inl (r, is, inl (inl own))) = subst IsEndHere (sym is) (h.dedicated_scratch class r own)
+    in_hand_end p (inl (r, is, inl (inr free))) = subst IsEndHere (sym is) free.0.of_class
+    in_hand_end p (inl (r, is, inr borrowed)) = subst IsEndHere (sym is) borrowed.of_class
+    in_hand_end p (inr (k, is, above_it, below, j, which, ends)) = subst IsEndHere (sym is) (
       record { owner = OfBranch branch class j; name = later_slot old.slots class j },
       temp.each j (lent_below old.slots middle.slots class orders.lends.0 j (h.units class) orders.lends.2 ends),
       sym which,
       refl,
+      refl,
     )
 
-    passed_end : (p : Place) → IsPassed Known old.slots class p → IsEndOrNone temp.lays.made class p
-    passed_end p x = subst (λ c. IsEndOrNone temp.lays.made c p) x.2 (own_end Known same named Met middle.slots temp.lays.made temp.lays.laid x.0 p x.1
+    passed_end : (p : Place) → IsPassed Known old.slots class p → IsEndHere p
+    passed_end p x = subst (λ c. IsEndOrNone temp.lays.made (before branch) c p) x.2
+        (own_end Known same named Met middle.slots temp.lays.made temp.lays.laid (before branch) x.0 p x.1
         (own_grows old.slots middle.slots x.0 p names_stay x.3))
 
     made_keeps : (m : Place × Place × Unit {0}) → IsOrdered inst_regs class given old middle m
-        → KeepsToClass temp.lays.made (point, record { from = m.0; to = m.1 })
+        → KeepsToClass temp.lays.made (before branch, record { from = m.0; to = m.1 })
     made_keeps m o = (
       class,
-      elim o.source [ inl hand ↦ in_hand_end m.0 hand | inr x ↦ subst (IsEndOrNone temp.lays.made class) (sym x.2) (passed_end x.0.0 (passed x.0 x.1).0) ],
-      elim o.target [ inl hand ↦ in_hand_end m.1 hand | inr x ↦ subst (IsEndOrNone temp.lays.made class) (sym x.2) (passed_end x.0.1 (passed x.0 x.1).1) ],
+      elim o.source [ inl hand ↦ in_hand_end m.0 hand | inr x ↦ subst IsEndHere (sym x.2) (passed_end x.0.0 (passed x.0 x.1).0) ],
+      elim o.target [ inl hand ↦ in_hand_end m.1 hand | inr x ↦ subst IsEndHere (sym x.2) (passed_end x.0.1 (passed x.0 x.1).1) ],
     )
 
-    ordered_classed : IsClassedTurn inst_regs → StepClassed Known named Now old inst_regs (record middle { edits = middle.edits ++ pushed point made })
+    ordered_classed : IsClassedTurn inst_regs →
+        StepClassed Known named Now old inst_regs (record middle { edits = middle.edits ++ pushed (before branch) made })
     ordered_classed ht = record {
       classed = record {
         holders = subst (λ (x : VRegAllocsValue). (r : Register) (w : VirtualRegister) → r.number < 64 → vreg_of_preg x r ≡ Some w → Known w
@@ -283,20 +290,21 @@ module _ (Known : VirtualRegister → Type 0) (same : (v w : VirtualRegister) �
         made = temp.lays.made;
         laid = temp.lays.laid;
         met = temp.lays.all;
-        edits = All-append (KeepsToClass temp.lays.made) middle.edits (pushed point made)
+        edits = All-append (KeepsToClass temp.lays.made) middle.edits (pushed (before branch) made)
             (subst (All (KeepsToClass temp.lays.made)) (sym orders.edits) (moves_grow h.made temp.lays.made old.edits temp.lays.kept h.edits))
-            (pushed_all (KeepsToClass temp.lays.made) point made (λ k d lt. made_keeps (slice_index_or made k d) (orders.each k d lt)));
+            (pushed_all (KeepsToClass temp.lays.made) (before branch) made (λ k d lt. made_keeps (slice_index_or made k d) (orders.each k d lt)));
       };
       inst_regs = ht;
       stay = names_stay;
     }
 
-  pushes_classed : (Met : ℕ → RegClass → Type 0) (branch point : ℕ) (class : RegClass) → (Met branch class → ⊥) →
-      (inst_regs : InstRegs) (given : Moves) (old new : StateValue) → Pushes point inst_regs class given old new → ArePassedOf Known old.slots class given
-      → IsClassed Known named Met old → IsClassedTurn inst_regs → StepClassed Known named (AndMet Met branch class) old inst_regs new
-  pushes_classed Met branch point class first_time inst_regs given old new p passed h ht =
+  pushes_classed : (Met : ℕ → RegClass → Type 0) (branch : ℕ) (class : RegClass) → (Met branch class → ⊥) →
+      (inst_regs : InstRegs) (given : Moves) (old new : StateValue) → Pushes (before branch) inst_regs class given old new →
+      ArePassedOf Known old.slots class given → IsClassed Known named Met old → IsClassedTurn inst_regs →
+      StepClassed Known named (AndMet Met branch class) old inst_regs new
+  pushes_classed Met branch class first_time inst_regs given old new p passed h ht =
       subst (StepClassed Known named (AndMet Met branch class) old inst_regs) (sym p.pushes)
-      (ordered_classed Met branch point class first_time inst_regs given old p.middle p.made p.orders h passed ht)
+      (ordered_classed Met branch class first_time inst_regs given old p.middle p.made p.orders h passed ht)
 
   -- a branch passes its arguments
   pub passes_classed : {Met More : ℕ → RegClass → Type 0} {f : FunctionValue} {b i : ℕ} → ((c : RegClass) → Met i c → ⊥) →
@@ -310,13 +318,13 @@ module _ (Known : VirtualRegister → Type 0) (same : (v w : VirtualRegister) �
       let One : ℕ → RegClass → Type 0 = AndMet Met i Int in
       let Two : ℕ → RegClass → Type 0 = AndMet One i Float in
       let Three : ℕ → RegClass → Type 0 = AndMet Two i Vector in
-      let i1 = pushes_classed Met i (before i) Int (first_time Int) u (of_class Int p.given) p.gathered p.ints p.int
+      let i1 = pushes_classed Met i Int (first_time Int) u (of_class Int p.given) p.gathered p.ints p.int
       (passed_of Known p.gathered.slots Int p.given x.passed) x.step.classed x.step.inst_regs in
       let given1 : ArePassed Known p.ints.slots p.given = all_passed_grow Known p.gathered.slots p.ints.slots p.given i1.stay x.passed in
-      let i2 = pushes_classed One i (before i) Float (λ m. elim m [ inl a ↦ first_time Float a | inr e ↦ not_int e.1 ]) u (of_class Float p.given) p.ints
+      let i2 = pushes_classed One i Float (λ m. elim m [ inl a ↦ first_time Float a | inr e ↦ not_int e.1 ]) u (of_class Float p.given) p.ints
       p.floats p.float (passed_of Known p.ints.slots Float p.given given1) i1.classed i1.inst_regs in
       let given2 : ArePassed Known p.floats.slots p.given = all_passed_grow Known p.ints.slots p.floats.slots p.given i2.stay given1 in
-      let i3 = pushes_classed Two i (before i) Vector
+      let i3 = pushes_classed Two i Vector
       (λ m. elim m [ inl a ↦ elim a [ inl z ↦ first_time Vector z | inr e ↦ vector_int e.1 ] | inr e ↦ vector_float e.1 ]) u (of_class Vector p.given)
       p.floats new p.vector
       (passed_of Known p.floats.slots Vector p.given given2) i2.classed i2.inst_regs in

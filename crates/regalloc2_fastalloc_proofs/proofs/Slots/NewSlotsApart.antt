@@ -189,12 +189,12 @@ pub record LaysOutTempSlots (Known : VirtualRegister → Type 0) (Holds : OwnedS
 module _ (Known : VirtualRegister → Type 0) (Holds : OwnedSlot → Type 0) (branch : ℕ) (class : RegClass) (s : SpillSlotsValue) (made : List OwnedSlot)
     (some : 0 < units_of s class)
     (first_time : All (λ x. (k : ℕ) → OfBranch branch class k ≢ x.owner) made) (h : AreLaidOut Known s made)
-    (holds : (k n : ℕ) → Holds (record { owner = OfBranch branch class k; name = n })) (all : All Holds made) where
+    (holds : (k n : ℕ) → k < 2 → Holds (record { owner = OfBranch branch class k; name = n })) (all : All Holds made) where
   abbrev temp_slots_at : ℕ → OwnedSlot
   temp_slots_at k = record { owner = OfBranch branch class k; name = later_slot s class k }
 
   one_holds : All Holds (temp_slots_at 0 ∷ made)
-  one_holds = all_more Holds (temp_slots_at 0) made (holds 0 (later_slot s class 0)) all
+  one_holds = all_more Holds (temp_slots_at 0) made (holds 0 (later_slot s class 0) (omega arith)) all
 
   -- the slots with so many temporary ones
   abbrev with_lent : ℕ → ℕ → SpillSlotsValue
@@ -262,7 +262,7 @@ module _ (Known : VirtualRegister → Type 0) (Holds : OwnedSlot → Type 0) (br
           laid = still_laid Known (with_lent t.count t.num_temp_slots) t (temp_slots_at 1 ∷ temp_slots_at 0 ∷ made) l.sizes l.by_last (omega arith) g
               (λ n. ap (λ xs. slice_index_or xs n NoPlace) l.vreg_spillslots);
           kept = λ x is. later_of (temp_slots_at 1) x (temp_slots_at 0 ∷ made) (later_of (temp_slots_at 0) x made is);
-          all = all_more Holds (temp_slots_at 1) (temp_slots_at 0 ∷ made) (holds 1 (later_slot s class 1)) one_holds;
+          all = all_more Holds (temp_slots_at 1) (temp_slots_at 0 ∷ made) (holds 1 (later_slot s class 1) (omega arith)) one_holds;
         };
         each = λ k lt. ⊎_elim (λ (e : k ≡ 0). subst (λ n. Contains (temp_slots_at 1 ∷ temp_slots_at 0 ∷ made) (temp_slots_at n)) (sym e)
             (later_of (temp_slots_at 1) (temp_slots_at 0) (temp_slots_at 0 ∷ made) (first_of (temp_slots_at 0) made)))

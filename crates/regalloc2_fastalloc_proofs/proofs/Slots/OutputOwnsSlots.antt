@@ -12,27 +12,26 @@ use Rattle.regalloc2_function.specs.FunctionValue.{FunctionValue, InstValue, slo
 use Rattle.regalloc2_function.specs.Machine.{MachineValue, scratch_of}
 use Rattle.regalloc2_function.specs.OutputValue.{OutputValue, allocs_of, place_at}
 use Rattle.regalloc2_function.specs.Fitting.{MachineFits}
-use Rattle.regalloc2_function.specs.Slots.{OfVReg, AreSlotsOwned}
-use Rattle.regalloc2_fastalloc_state.specs.StateParts.{SlotsHaveOneOwner, slot_name, units_of}
+use Rattle.regalloc2_fastalloc_state.specs.StateParts.{SlotsHaveOneOwner, units_of}
 use Rattle.regalloc2_validate.specs.Constraints.{op_at}
 use Rattle.regalloc2_fastalloc_proofs.specs.InstSteps.{StateValue}
 use Rattle.regalloc2_fastalloc_proofs.specs.Safety.{MayBeLocatedAt}
-use Rattle.regalloc2_fastalloc_proofs.specs.SlotLayout.{OwnedSlot, IsNamed, IsEndOf, IsOfOneClass}
+use Rattle.regalloc2_fastalloc_proofs.specs.SlotLayout.{OwnedSlot, IsEndOf, IsOfOneClass}
 use Rattle.regalloc2_fastalloc_proofs.proofs.Operands.AllocsSoFar.{IsTame}
 use Rattle.regalloc2_fastalloc_proofs.proofs.Safety.OutputOfWalk.{IsMade, all_reverse, made_in_order, place_is}
 use Rattle.regalloc2_fastalloc_proofs.proofs.Slots.StepsKeepSlotsApart.{IsEndOrNone, KeepsToClass, IsOfMet, IsClassed}
 use Rattle.regalloc2_fastalloc_proofs.proofs.Slots.SlotsOwned.{owner_known}
-use Rattle.regalloc2_fastalloc_proofs.proofs.Slots.ApartSlotsAreOwned.{slots_owned}
+use Rattle.regalloc2_fastalloc_proofs.proofs.Slots.ApartSlotsAreOwned.{IsSlotOfKnown, OwnsSlots, slots_owned}
 
 -- each register that the machine keeps for moves is of the class for which it is kept
 abbrev pub KeepsOfClass : MachineValue → Type 0
 KeepsOfClass env = (c : RegClass) (r : Register) → scratch_of env c ≡ Some r → r.class ≡ c
 
 -- an end that is a place
-whole_end : (made : List OwnedSlot) (class : RegClass) (p : Place) → p ≢ NoPlace → IsEndOrNone made class p → IsEndOf made class p
-whole_end made class NoPlace there h = there refl
-whole_end made class (InRegister r) there h = h
-whole_end made class (InSlot n) there h = h
+whole_end : (made : List OwnedSlot) (point : ℕ) (class : RegClass) (p : Place) → p ≢ NoPlace → IsEndOrNone made point class p → IsEndOf made point class p
+whole_end made point class NoPlace there h = there refl
+whole_end made point class (InRegister r) there h = h
+whole_end made point class (InSlot n) there h = h
 
 -- each place of an output is an operand's
 operand_of : (insts : List InstValue) (d : InstValue) (j : ℕ) → j < sum_by (λ i. length i.operands) insts
@@ -53,12 +52,9 @@ module _ (f : FunctionValue) (env : MachineValue) (Known : VirtualRegister → T
     (m : IsMade f env Known May t o) (owned : SlotsHaveOneOwner t.slots)
     (tame : (i : ℕ) → i < length f.insts → IsTame Known (inst_at f i).operands) (named : Bool) (Met : ℕ → RegClass → Type 0)
     (h : IsClassed Known named Met t) where
-  -- the slot of a known vreg was made
-  known_named : (v : VirtualRegister) (n : ℕ) → Known v → slot_name t.slots v.number ≡ InSlot n → IsNamed h.made n
-  known_named v n known is = (record { owner = OfVReg v; name = n }, h.laid.known v known n is, refl)
-
-  places_named : All (λ p. (n : ℕ) → p ≡ InSlot n → IsNamed h.made n) o.allocs
-  places_named j d lt n at =
+  -- an operand that is in a slot is in its own vreg's
+  places_own : All (λ p. (n : ℕ) → p ≡ InSlot n → IsSlotOfKnown Known t.slots n) o.allocs
+  places_own j d lt n at =
       let r = operand_of f.insts _ j (let long = m.allocs_long in omega (arith, lt, long)) in
       let place : place_at (allocs_of o r.0) r.1 ≡ InSlot n = place_is f env Known May t o m r.0 r.2 r.1 r.3 ∙ ap (λ x. slice_index_or o.allocs x NoPlace) r.4
       ∙ get_or_default o.allocs j NoPlace d lt ∙ at in
@@ -72,27 +68,28 @@ module _ (f : FunctionValue) (env : MachineValue) (Known : VirtualRegister → T
         ap (λ x. x.vreg) (get_or_default (inst_at f r.0).operands r.1 _ _ r.3),
         place,
       ) in
-      known_named v n k.0 k.1
+      (v, k.0, k.1)
 
   moves_keep : All (IsOfOneClass h.made) o.edits
   moves_keep j d lt =
       let e = subst (All (KeepsToClass h.made)) (sym m.edits) (all_reverse (KeepsToClass h.made) t.edits h.edits) j d lt in
       let there = (made_in_order f env Known May t o m).moves_name_places j d lt in
-      (e.0, whole_end h.made e.0 _ there.0 e.1, whole_end h.made e.0 _ there.1 e.2)
+      let point : ℕ = (slice_index_or o.edits j d).0 in
+      (e.0, whole_end h.made point e.0 _ there.0 e.1, whole_end h.made point e.0 _ there.1 e.2)
 
   -- a debug location in a slot is its virtual register's
-  locations_named : All (λ d. (n : ℕ) → d.place ≡ InSlot n → IsNamed h.made n) o.debug_locations
-  locations_named k d lt n at =
+  locations_own : All (λ d. (n : ℕ) → d.place ≡ InSlot n → IsSlotOfKnown Known t.slots n) o.debug_locations
+  locations_own k d lt n at =
       let l = m.debug k d lt in
-      known_named l.1.vreg n l.4.2 (subst (MayBeLocatedAt env t.slots l.1.vreg) at l.4.3)
+      (l.1.vreg, l.4.2, subst (MayBeLocatedAt env t.slots l.1.vreg) at l.4.3)
 
   -- what is made of the walk's tables owns its slots
   pub made_slots_owned : ((c : RegClass) → slot_size f.slot_sizes c ≡ units_of t.slots c) → f.named_by_last_slot ≡ named →
-      ((i : ℕ) (c : RegClass) → Met i c → (i < length f.insts) × ((inst_at f i).is_branch ≡ true)) → AreSlotsOwned f o
+      ((i : ℕ) (c : RegClass) → Met i c → (i < length f.insts) × ((inst_at f i).is_branch ≡ true)) → OwnsSlots Known f t.slots o
   made_slots_owned sizes by_last branches =
       slots_owned Known f t.slots h.made h.laid o m.count sizes (by_last ∙ sym h.by_last)
-      (λ i lt k d less n at. owner_known f env Known May t o m owned tame _ n (i, k, d, lt, less, refl, at)) places_named moves_keep
-      locations_named (λ c there i class time e. branches i class (All-contains (IsOfMet Met) h.made c h.met there i class time e))
+      (λ i lt k d less n at. owner_known f env Known May t o m owned tame _ n (i, k, d, lt, less, refl, at)) places_own moves_keep
+      locations_own (λ c there i class time e. let met = All-contains (IsOfMet Met) h.made c h.met there i class time e in (branches i class met.0, met.1))
 
 -- a fitting machine keeps registers so
 pub fits_keeps : (f : FunctionValue) (env : MachineValue) → MachineFits f env → KeepsOfClass env

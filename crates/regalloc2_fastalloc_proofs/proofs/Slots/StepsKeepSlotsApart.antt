@@ -16,7 +16,7 @@ use Rattle.regalloc2_fastalloc_state.specs.StateParts.{slot_name, units_of}
 use Rattle.regalloc2_fastalloc_proofs.specs.InstSteps.{StateValue, SameMachine, a_move, EvictsVReg, nobody, moved, AllocsScratchReg}
 use Rattle.regalloc2_fastalloc_proofs.specs.InstSteps.{dedicated_scratch, had, found, AddsMove, direct, through, EvictsPReg, empty, cleared}
 use Rattle.regalloc2_fastalloc_proofs.specs.InstSteps.{EvictsOthers, own, others, AddsMoveIf, sent, unsent}
-use Rattle.regalloc2_fastalloc_proofs.specs.SlotLayout.{OwnedSlot, AreLaidOut}
+use Rattle.regalloc2_fastalloc_proofs.specs.SlotLayout.{OwnedSlot, AreLaidOut, ServesAt}
 use Rattle.regalloc2_fastalloc_proofs.proofs.Slots.SlotsGrow.{SlotsStay, gives_stay, same_stay}
 use Rattle.regalloc2_fastalloc_proofs.proofs.Safety.StepsKeepSafe.{same_units, slots_kept, settled_holder, scratch_each}
 use Rattle.regalloc2_fastalloc_proofs.proofs.Slots.NewSlotsApart.{gives_laid}
@@ -27,19 +27,19 @@ IsOwnPlace s v NoPlace = Unit {0}
 IsOwnPlace s v (InRegister r) = r.class ≡ v.class
 IsOwnPlace s v (InSlot n) = slot_name s v.number ≡ InSlot n
 
--- an end of a move of values of a class, if it is a place at all
-abbrev pub IsEndOrNone : List OwnedSlot → RegClass → Place → Type 0
-IsEndOrNone made class NoPlace = Unit {0}
-IsEndOrNone made class (InRegister r) = r.class ≡ class
-IsEndOrNone made class (InSlot n) = (c : OwnedSlot) × Contains made c × (c.name ≡ n) × (class_of_owner c.owner ≡ class)
+-- an end of a move of values of a class at a point, if it is a place at all
+abbrev pub IsEndOrNone : List OwnedSlot → ℕ → RegClass → Place → Type 0
+IsEndOrNone made point class NoPlace = Unit {0}
+IsEndOrNone made point class (InRegister r) = r.class ≡ class
+IsEndOrNone made point class (InSlot n) = (c : OwnedSlot) × Contains made c × (c.name ≡ n) × (class_of_owner c.owner ≡ class) × ServesAt point c.owner
 
--- a move keeps to one class: its ends are registers of that class, or slots made for it
+-- a move keeps to one class: its ends are registers of that class, or slots made for it that serve at its point
 abbrev pub KeepsToClass : List OwnedSlot → ℕ × MoveValue → Type 0
-KeepsToClass made e = (class : RegClass) × IsEndOrNone made class e.1.from × IsEndOrNone made class e.1.to
+KeepsToClass made e = (class : RegClass) × IsEndOrNone made e.0 class e.1.from × IsEndOrNone made e.0 class e.1.to
 
--- if a branch's moves of a class took the slot, that branch was met for the class
+-- if a branch's moves of a class took the slot, that branch was met for the class, and it took two at most
 abbrev pub IsOfMet : (ℕ → RegClass → Type 0) → OwnedSlot → Type 0
-IsOfMet Met c = (branch : ℕ) (class : RegClass) (time : ℕ) → c.owner ≡ OfBranch branch class time → Met branch class
+IsOfMet Met c = (branch : ℕ) (class : RegClass) (time : ℕ) → c.owner ≡ OfBranch branch class time → Met branch class × (time < 2)
 
 -- the tables, as far as slots and classes go
 pub record IsClassed (Known : VirtualRegister → Type 0) (named : Bool) (Met : ℕ → RegClass → Type 0) (t : StateValue) : Type 0 where
@@ -79,19 +79,22 @@ own_grows s t v (InRegister r) stay h = h
 own_grows s t v (InSlot k) stay h = stay v.number k h
 
 -- an end of a move of one class stays an end of that class where more slots are made
-pub ends_grow : (made more : List OwnedSlot) (class : RegClass) (p : Place) → ((c : OwnedSlot) → Contains made c → Contains more c) → IsEndOrNone made class p →
-    IsEndOrNone more class p
-ends_grow made more class NoPlace kept h = h
-ends_grow made more class (InRegister r) kept h = h
-ends_grow made more class (InSlot n) kept h = (h.0, kept h.0 h.1, h.2, h.3)
+pub ends_grow : (made more : List OwnedSlot) (point : ℕ) (class : RegClass) (p : Place) → ((c : OwnedSlot) → Contains made c → Contains more c) →
+    IsEndOrNone made point class p → IsEndOrNone more point class p
+ends_grow made more point class NoPlace kept h = h
+ends_grow made more point class (InRegister r) kept h = h
+ends_grow made more point class (InSlot n) kept h = (h.0, kept h.0 h.1, h.2, h.3, h.4)
 
 -- edits that each keep to one class go on doing so where more slots are made
 pub moves_grow : (made more : List OwnedSlot) (es : List (ℕ × MoveValue)) → ((c : OwnedSlot) → Contains made c → Contains more c) → All (KeepsToClass made) es →
     All (KeepsToClass more) es
-moves_grow made more es kept h k d lt = let e = h k d lt in (e.0, ends_grow made more e.0 _ kept e.1, ends_grow made more e.0 _ kept e.2)
+moves_grow made more es kept h k d lt =
+    let e = h k d lt in
+    let point : ℕ = (slice_index_or es k d).0 in
+    (e.0, ends_grow made more point e.0 _ kept e.1, ends_grow made more point e.0 _ kept e.2)
 
 -- moves of one class
-pub one_keeps : (made : List OwnedSlot) (point : ℕ) (class : RegClass) (from to : Place) → IsEndOrNone made class from → IsEndOrNone made class to →
+pub one_keeps : (made : List OwnedSlot) (point : ℕ) (class : RegClass) (from to : Place) → IsEndOrNone made point class from → IsEndOrNone made point class to →
     All (KeepsToClass made) (a_move point from to ∷ [])
 one_keeps made point class from to f t zero d lt = (class, f, t)
 one_keeps made point class from to f t (suc k) d lt = absurd (omega (arith, lt))
@@ -154,11 +157,11 @@ module _ (Known : VirtualRegister → Type 0) (same : (v w : VirtualRegister) �
   classed_then a b c t u x y = record { classed = y.classed; inst_regs = y.inst_regs; stay = λ n k h. y.stay n k (x.stay n k h) }
 
   -- an end of a move of a known vreg's value
-  pub own_end : (s : SpillSlotsValue) (made : List OwnedSlot) → AreLaidOut Known s made → (v : VirtualRegister) (p : Place) → Known v → IsOwnPlace s v p →
-      IsEndOrNone made v.class p
-  own_end s made laid v NoPlace known h = tt
-  own_end s made laid v (InRegister r) known h = h
-  own_end s made laid v (InSlot n) known h = (record { owner = OfVReg v; name = n }, laid.known v known n h, refl, refl)
+  pub own_end : (s : SpillSlotsValue) (made : List OwnedSlot) → AreLaidOut Known s made → (point : ℕ) (v : VirtualRegister) (p : Place) → Known v →
+      IsOwnPlace s v p → IsEndOrNone made point v.class p
+  own_end s made laid point v NoPlace known h = tt
+  own_end s made laid point v (InRegister r) known h = h
+  own_end s made laid point v (InSlot n) known h = (record { owner = OfVReg v; name = n }, laid.known v known n h, refl, refl, tt)
 
   -- a vreg is given its slot, and moves are pushed
   given : (t u : StateValue) (v : VirtualRegister) (s : Place) (es : List (ℕ × MoveValue)) → Known v → GetsSpillSlot t.slots u.slots v s → SameMachine t u →
@@ -261,7 +264,7 @@ module _ (Known : VirtualRegister → Type 0) (same : (v w : VirtualRegister) �
         record {
           classed = to_slot old new v s (a_move point s (InRegister r) ∷ []) was.0 gives settles machine edits
               (λ made laid. one_keeps made point v.class s (InRegister r)
-              (own_end new.slots made laid v s was.0 (slot_own new.slots v s new.slots.count gives.gives gives.below)) was.1) h;
+              (own_end new.slots made laid point v s was.0 (slot_own new.slots v s new.slots.count gives.gives gives.below)) was.1) h;
           inst_regs = ht;
           stay = gives_stay old.slots new.slots v s gives;
         }
@@ -284,8 +287,8 @@ module _ (Known : VirtualRegister → Type 0) (same : (v w : VirtualRegister) �
         Known v → IsOwnPlace old.slots v from → IsOwnPlace old.slots v to
         → IsClassed Known named Met old → IsClassedTurn t → StepClassed Known named Met old u new
     crosses_classed v {from} {to} {u} {old} (direct one eu en) known f g h ht = subst (StepClassed Known named Met old u) (sym en) (record {
-      classed = pushed_classed old (a_move point from to ∷ []) (λ made laid. one_keeps made point v.class from to (own_end old.slots made laid v from known f)
-          (own_end old.slots made laid v to known g)) h;
+      classed = pushed_classed old (a_move point from to ∷ []) (λ made laid. one_keeps made point v.class from to
+          (own_end old.slots made laid point v from known f) (own_end old.slots made laid point v to known g)) h;
       inst_regs = subst IsClassedTurn (sym eu) ht;
       stay = λ n k is. is;
     })
@@ -294,8 +297,9 @@ module _ (Known : VirtualRegister → Type 0) (same : (v w : VirtualRegister) �
         subst (StepClassed Known named Met old u) (sym en) (record {
           classed = pushed_classed m (a_move point (InRegister by) to ∷ a_move point from (InRegister by) ∷ [])
               (λ made laid. All-append (KeepsToClass made) (a_move point (InRegister by) to ∷ []) (a_move point from (InRegister by) ∷ [])
-              (one_keeps made point v.class (InRegister by) to s.1 (own_end m.slots made laid v to known (own_grows old.slots m.slots v to s.0.stay g)))
-              (one_keeps made point v.class from (InRegister by) (own_end m.slots made laid v from known (own_grows old.slots m.slots v from s.0.stay f)) s.1))
+              (one_keeps made point v.class (InRegister by) to s.1 (own_end m.slots made laid point v to known (own_grows old.slots m.slots v to s.0.stay g)))
+              (one_keeps made point v.class from (InRegister by)
+              (own_end m.slots made laid point v from known (own_grows old.slots m.slots v from s.0.stay f)) s.1))
               s.0.classed;
           inst_regs = s.0.inst_regs;
           stay = s.0.stay;

@@ -63,14 +63,15 @@ module _ (Known : VirtualRegister → Type 0) (same : (v w : VirtualRegister) �
     abbrev o : OperandValue
     o = op_at (branch_operands f e) j
 
-    slot_end : (w : VirtualRegister) (p : Place) → slot_name new.slots w.number ≡ p → Known w → IsEndOrNone h.made w.class p
-    slot_end w p is known = own_end Known same named Met new.slots h.made h.laid w p known
+    slot_end : (w : VirtualRegister) (p : Place) → slot_name new.slots w.number ≡ p → Known w → IsEndOrNone h.made point w.class p
+    slot_end w p is known = own_end Known same named Met new.slots h.made h.laid point w p known
         (slot_own new.slots w p new.slots.count is (subst (IsSlotOrNone new.slots.count) is (h.slots w.number)))
 
-    from_end : (d : Option Register) → fixed_definition o ≡ d → x.from ≡ place_by d (slot_name new.slots o.vreg.number) → IsEndOrNone h.made v.class x.from
-    from_end (Some g) is at = subst (IsEndOrNone h.made v.class) (sym at) (of_class.fixed g is)
-    from_end None is at = subst (IsEndOrNone h.made v.class) (sym at)
-        (subst (λ c. IsEndOrNone h.made c (slot_name new.slots o.vreg.number)) of_class.class
+    from_end : (d : Option Register) → fixed_definition o ≡ d → x.from ≡ place_by d (slot_name new.slots o.vreg.number) →
+        IsEndOrNone h.made point v.class x.from
+    from_end (Some g) is at = subst (IsEndOrNone h.made point v.class) (sym at) (of_class.fixed g is)
+    from_end None is at = subst (IsEndOrNone h.made point v.class) (sym at)
+        (subst (λ c. IsEndOrNone h.made point c (slot_name new.slots o.vreg.number)) of_class.class
         (slot_end o.vreg (slot_name new.slots o.vreg.number) refl known_op))
 
     by_end : (g : Register) → (slice_index_or old.dedicated_scratch (class_code o.vreg.class) None ≡ Some g) ⊎ MayHold old o.vreg.class g → g.class ≡ v.class
@@ -84,7 +85,7 @@ module _ (Known : VirtualRegister → Type 0) (same : (v w : VirtualRegister) �
         (All-nil (λ m. KeepsToClass h.made (point, m)))
     store_keeps (Some q) is =
         let g = r.by_way.through q is in
-        let way : IsEndOrNone h.made v.class q = subst (IsEndOrNone h.made v.class) (sym g.1) (by_end g.0 g.2) in
+        let way : IsEndOrNone h.made point v.class q = subst (IsEndOrNone h.made point v.class) (sym g.1) (by_end g.0 g.2) in
         All-cons (λ m. KeepsToClass h.made (point, m)) (record { from = x.from; to = q }) (record { from = q; to = x.to } ∷ [])
         (v.class, from_end (fixed_definition o) refl r.from, way)
         (All-cons (λ m. KeepsToClass h.made (point, m)) (record { from = q; to = x.to }) [] (v.class, way, slot_end v x.to r.to known)

@@ -12,7 +12,6 @@ use Rattle.regalloc2_function.specs.OutputValue.{OutputValue}
 use Rattle.regalloc2_function.specs.SourceRun.{IsWrittenFirst}
 use Rattle.regalloc2_function.specs.Faithful.{IsFaithful}
 use Rattle.regalloc2_function.specs.DebugPoints.{PassesAt}
-use Rattle.regalloc2_function.specs.Slots.{AreSlotsOwned}
 use Rattle.regalloc2_function.specs.Stored.{location_of}
 use Rattle.regalloc2_function.specs.Views.{edit_of, machine_of}
 use Rattle.regalloc2_semantics.proofs.SingleDef.{Made}
@@ -29,6 +28,7 @@ use Rattle.regalloc2_fastalloc_proofs.specs.Safety.{HasMachine}
 use Rattle.regalloc2_fastalloc_state.specs.StateParts.{VRegAllocsValue, SpillSlotsValue, no_slots, slot_name, units_of}
 use Rattle.regalloc2_fastalloc.proofs.ReadsAgree.{made_blocks_agree, made_in_slots, made_label_shown, walk_kept_through, walk_safe_through}
 use Rattle.regalloc2_fastalloc.proofs.DebugLocationPlaces.{locations_stand, shows_labels}
+use Rattle.regalloc2_fastalloc.proofs.BranchSlots.{branch_slots_serve}
 use Rattle.regalloc2_fastalloc_proofs.proofs.Walk.BlocksCarryFromFreshState.{passed_slots}
 use Rattle.regalloc2_fastalloc_proofs.proofs.Safety.InitialState.{begun_machine}
 use Rattle.regalloc2_fastalloc_proofs.proofs.Safety.OutputOfWalk.{IsMade, made_in_order, made_constraints, made_proper, made_in_registers}
@@ -38,6 +38,7 @@ use Rattle.regalloc2_fastalloc_proofs.proofs.Walk.UsesReadOwnDefs.{fresh_blank, 
 use Rattle.regalloc2_fastalloc_proofs.proofs.Safety.MachineRegs.{fit_apart}
 use Rattle.regalloc2_fastalloc_proofs.proofs.Slots.WalkKeepsSlotsApart.{BranchesFrom, walk_classed}
 use Rattle.regalloc2_fastalloc_proofs.proofs.Slots.OutputOwnsSlots.{fits_keeps, made_slots_owned}
+use Rattle.regalloc2_fastalloc_proofs.proofs.Slots.ApartSlotsAreOwned.{OwnsSlots}
 use Rattle.regalloc2_pressure_proofs.proofs.OutOfRegs.{AreFresh, walk_stops}
 use Rattle.regalloc2_fastalloc.proofs.ErrorsHaveReasons.{lacks_where}
 use Rattle.regalloc2_fastalloc.proofs.UsesReadNumbers.{reads_numbers}
@@ -242,27 +243,10 @@ live_is g c =
     made_in_slots (whole_is g c) c.requires.taken c.requires.branches (safe_is g c) (made g c)
     c.num_units-num_spillslots.ensures.owned (tame_at env f (g.met.F.Function.limited c.args.f.now) c.requires.well_formed c.requires.taken)
 
--- and debug locations name places of their virtual registers, which hold their values
-labels_are : (g : Over) (c : goal.After-reads_the_same_numbers g) → ShowsLabels (g.F.Function.function c.args.f.now) (machine_of c.args.env.now) (out_of g c)
-labels_are g c =
-    let f : FunctionValue = g.F.Function.function c.args.f.now in
-    let env : MachineValue = machine_of c.args.env.now in
-    let limited : IsLimited f = g.met.F.Function.limited c.args.f.now in
-    let tame = tame_at env f limited c.requires.well_formed c.requires.taken in
-    shows_labels env f limited c.requires.well_formed (MayInBlocks f) (left g c) (out_of g c) (made g c) (handed_is g c) c.num_units-num_spillslots.ensures.owned tame
-    (made_label_shown (whole_is g c) c.requires.taken c.requires.branches (safe_is g c) (made g c)
-    c.requires.machine c.num_units-num_spillslots.ensures.owned tame) c.in_ok-debug_locations.ensures.ok
-
--- there are few temporary slots
-few_lent : (f : FunctionValue) (begun left : StateValue) (n : ℕ) (by_last : Bool) (most : ℕ) → begun.slots ≡ no_slots n (sizes_of f) by_last →
-    AddsTempSlotsAtMost most begun left → left.slots.num_temp_slots ≤ most
-few_lent f begun left n by_last most slots machine =
-    let none : begun.slots.num_temp_slots ≡ 0 = ap (λ (s : SpillSlotsValue). s.num_temp_slots) slots in
-    let num_temp_slots = machine.num_temp_slots in
-    omega (arith, none, num_temp_slots)
-
-owners_are : (g : Over) (c : goal.After-reads_the_same_numbers g) → AreSlotsOwned (g.F.Function.function c.args.f.now) (out_of g c)
-owners_are g c =
+-- each slot has its owner
+slots_owned_are : (g : Over) (c : goal.After-reads_the_same_numbers g) →
+    OwnsSlots (Made (g.F.Function.function c.args.f.now)) (g.F.Function.function c.args.f.now) (left g c).slots (out_of g c)
+slots_owned_are g c =
     let f : FunctionValue = g.F.Function.function c.args.f.now in
     let env : MachineValue = machine_of c.args.env.now in
     let limited : IsLimited f = g.met.F.Function.limited c.args.f.now in
@@ -275,6 +259,26 @@ owners_are g c =
     made_slots_owned f env (Made f) (MayInBlocks f) last (out_of g c) (made g c) c.num_units-num_spillslots.ensures.owned
     (tame_at env f limited c.requires.well_formed c.requires.taken) f.named_by_last_slot (BranchesFrom f 0) classed
     (sizes_agree f last.slots (sizes_kept f begin last n f.named_by_last_slot _ e.slots c.alloc_blocks.ensures.machine)) refl (λ i class m. (m.1, m.2))
+
+-- and debug locations name places of their virtual registers, which hold their values
+labels_are : (g : Over) (c : goal.After-reads_the_same_numbers g) → ShowsLabels (g.F.Function.function c.args.f.now) (machine_of c.args.env.now) (out_of g c)
+    (slots_owned_are g c).owned.owner
+labels_are g c =
+    let f : FunctionValue = g.F.Function.function c.args.f.now in
+    let env : MachineValue = machine_of c.args.env.now in
+    let limited : IsLimited f = g.met.F.Function.limited c.args.f.now in
+    let tame = tame_at env f limited c.requires.well_formed c.requires.taken in
+    shows_labels env f limited c.requires.well_formed (MayInBlocks f) (left g c) (out_of g c) (made g c) (handed_is g c) (slots_owned_are g c)
+    (made_label_shown (whole_is g c) c.requires.taken c.requires.branches (safe_is g c) (made g c)
+    c.requires.machine c.num_units-num_spillslots.ensures.owned tame) c.in_ok-debug_locations.ensures.ok
+
+-- there are few temporary slots
+few_lent : (f : FunctionValue) (begun left : StateValue) (n : ℕ) (by_last : Bool) (most : ℕ) → begun.slots ≡ no_slots n (sizes_of f) by_last →
+    AddsTempSlotsAtMost most begun left → left.slots.num_temp_slots ≤ most
+few_lent f begun left n by_last most slots machine =
+    let none : begun.slots.num_temp_slots ≡ 0 = ap (λ (s : SpillSlotsValue). s.num_temp_slots) slots in
+    let num_temp_slots = machine.num_temp_slots in
+    omega (arith, none, num_temp_slots)
 
 slots_are : (g : Over) (c : goal.After-reads_the_same_numbers g) → SlotsAreBounded (g.F.Function.function c.args.f.now) (out_of g c)
 slots_are g c =
@@ -321,7 +325,8 @@ returns-clause-allocation g c =
       live = live_is g c;
       slots = slots_are g c;
       unspilled = unspilled_is g c;
-      owners = owners_are g c;
+      owners = (slots_owned_are g c).owned;
+      branch_slots = branch_slots_serve (Made f) f (left g c).slots (out_of g c) (slots_owned_are g c);
       labels = labels_are g c;
     }
 
