@@ -1,7 +1,7 @@
 #!/usr/bin/env python3
 """Counts machine instructions for each instruction of an input, for every shape of docs/BENCH.md, and prints a table.
 
-    python3 bench/measure.py [--upstream PATH] [--task allocate|test|check] [--sizes 1000,10000] [--shapes real,switch] [--heap]
+    python3 bench/measure.py [--upstream PATH] [--task allocate|test|check|reads] [--sizes 1000,10000] [--shapes real,switch] [--heap]
 
 It needs valgrind, and the program `regalloc2_bench` (`cd crates/regalloc2_bench && rt lib` builds it, as `rt ci` does). `--upstream` is the
 path of a program that reads a stored function and runs upstream's allocator or checker on it: it is called as `PATH bench FILE TIMES`, with
@@ -61,7 +61,7 @@ def main():
     words = argparse.ArgumentParser(description=__doc__, formatter_class=argparse.RawDescriptionHelpFormatter)
     words.add_argument("--program", default=OURS)
     words.add_argument("--upstream")
-    words.add_argument("--task", default="allocate", choices=["allocate", "test", "check"])
+    words.add_argument("--task", default="allocate", choices=["allocate", "test", "check", "reads"])
     words.add_argument("--sizes", default="1000,10000")
     words.add_argument("--shapes", default=",".join(shapes.SHAPES))
     words.add_argument("--limit", type=int, default=300, help="seconds for one run")

@@ -573,6 +573,54 @@ def chain(n, backward=False):
     return f
 
 
+def graph(succs, entries):
+    """Blocks of a definition, a use of it and of the first block's vreg, and a branch, along a graph's edges.
+
+    Each edge of a block with several successors leads over a block of its own, so that no edge is critical. The first block branches to
+    the entries.
+    """
+    f = F()
+    succs = [entries] + [[s for s in to] for to in succs]
+    start, waiting = {}, []
+    for node, to in enumerate(succs):
+        start[node - 1] = f.begin()
+        d = f.new()
+        if node == 0:
+            a = d
+        f.emit([define(d)])
+        f.emit([use(d), use(a)])
+        edges = f.end([[None, []] for _ in to], ret=not to)
+        for k, target in enumerate(to):
+            if len(to) > 1:
+                edges[k][0] = f.begin()
+                waiting.append((f.end([[None, []]])[0], target))
+            else:
+                waiting.append((edges[k], target))
+    for edge, target in waiting:
+        edge[0] = start[target]
+    return f
+
+
+def traps(n):
+    """A chain of tests, each of which may go to one common block, as tests of bounds do."""
+    k = max(2, n // 5)
+    return graph([[i + 1, k] for i in range(k - 1)] + [[k], []], [0])
+
+
+def rungs(n):
+    """Two chains with edges across both ways: irreducible."""
+    k = max(2, n // 10)
+    left = [([i + 1] if i + 1 < k else []) + [k + i * 7 % k] for i in range(k)]
+    right = [([k + i + 1] if i + 1 < k else []) + [i * 5 % k] for i in range(k)]
+    return graph(left + right, [0, k])
+
+
+def two_ends(n):
+    """A chain walked both ways and entered at both ends: irreducible, and no block of it is above another one."""
+    k = max(3, n // 5)
+    return graph([[j for j in (i + 1, i - 1) if 0 <= j < k] for i in range(k)], [0, k - 1])
+
+
 def branch_defs(n, w=8):
     """A chain of blocks; each branch defines what it passes to the next block's parameters."""
     f = F()
@@ -632,6 +680,9 @@ SHAPES = {
     "stack-moves": lambda n, _: stack_moves(n),
     "chain": lambda n, _: chain(n),
     "chain-back": lambda n, _: chain(n, backward=True),
+    "traps": lambda n, _: traps(n),
+    "rungs": lambda n, _: rungs(n),
+    "two-ends": lambda n, _: two_ends(n),
 }
 
 if __name__ == "__main__":

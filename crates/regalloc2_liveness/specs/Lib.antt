@@ -3,3 +3,5 @@ pub mod LiveIn
 pub mod BlockVRegPairs
 pub mod Propagation
 pub mod BlockWalk
+pub mod Scopes
+pub mod Search

@@ -21,7 +21,8 @@ mod rows;
 
 use compile_program::agrees_at_random;
 use maker::Maker;
-use regalloc2::{allocate, run_tested};
+use regalloc2::{allocate, is_framed, run_tested};
+use regalloc2_liveness::decided_by_tree;
 use std::alloc::Global;
 use std::fmt::Debug;
 use std::io::{self, BufWriter, Write};
@@ -31,12 +32,14 @@ fn show<W: Write, T: Debug + Drop>(out: &mut W, name: &str, value: T) -> io::Res
     writeln!(out, "{name}: {value:?}")
 }
 
-/// Whether the function of a seed is allocated, reads nothing unwritten, and what comes out is accepted by the checker.
+/// Whether the function of a seed is allocated, reads nothing unwritten, by the dominator tree, and what comes out is accepted by the
+/// checker.
 fn is_right(alloc: Global, seed: u64) -> Option<bool> {
     let mut maker = Maker::new(alloc, seed)?;
     let f = maker.function()?;
     let is_accepted = allocate(alloc, &f, &maker.env).is_ok();
-    Some(is_accepted && run_tested(alloc, &f, &maker.env).is_ok())
+    let is_by_tree = is_framed(&f) && matches!(decided_by_tree(alloc, &f), Ok(Some(true)));
+    Some(is_accepted && is_by_tree && run_tested(alloc, &f, &maker.env).is_ok())
 }
 
 /// How many of so many functions at random fail.

@@ -1,0 +1,7 @@
+use Rattle.std.specs.Prelude.{All}
+use Rattle.regalloc2_liveness.specs.Search.{LeadsBack}
+use Rattle.regalloc2_liveness.proofs.search.add_succs.Given as goal
+
+-- what was added so far leads back
+abbrev pub invariant-loop-succ : goal.invariant-loop-succ
+invariant-loop-succ g l = All (LeadsBack (g.F.Function.function l.f) l.vreg) l.work.items

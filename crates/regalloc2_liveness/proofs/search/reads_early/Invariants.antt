@@ -1,0 +1,7 @@
+use Rattle.std.specs.Prelude.{All}
+use Rattle.regalloc2_liveness.specs.Search.{LeadsBack}
+use Rattle.regalloc2_liveness.proofs.search.reads_early.Given as goal
+
+-- what waits leads back
+abbrev pub invariant-loop : goal.invariant-loop
+invariant-loop g l = All (LeadsBack (g.F.Function.function l.f) l.vreg) l.work.items
