@@ -5,14 +5,13 @@ use Rattle.std.specs.Prelude.{◌&&◌, if◌then◌else◌}
 use Rattle.std.proofs.lemmas.Bool.{cases_eq, cases_lt}
 use Rattle.std.proofs.lemmas.Bool.Decides.{nat_tests}
 use Rattle.regalloc2_cfg.specs.Numbers.{NumberSet, has_number, times_in, ListsMembers}
-use Rattle.regalloc2_cfg.proofs.NumberBits.{times_in-append}
 use Rattle.std.proofs.Common.{length, get_or, ◌-◌, zero, suc}
 use Rattle.std.specs.Prelude.{Result, Ok, Err, IfOk, OnErr}
 use Rattle.std.specs.declared.alloc.AllocError.{AllocError}
 use Rattle.std.proofs.Math.ListN.{length-append}
 use Rattle.std.proofs.lemmas.List.{get_or-append_right, get_or_append_left}
 use Rattle.regalloc2_checker_tables.specs.EntrySets.{has_bits, is_member, ListsBits, IsSetOf, AreMore}
-use Rattle.regalloc2_checker_tables.proofs.Walked.{times-one, walked-all}
+use Rattle.regalloc2_checker_tables.proofs.Walked.{times-append, times-one, walked-all}
 
 -- the test of order says yes for a number below another
 pub below : (y n : ℕ) → y < n → nat_lt y n ≡ true
@@ -56,7 +55,7 @@ bits-small s y h = elim (cases_lt y 4294967296) [
 -- another one that comes
 pub other-times : (done : List ℕ) (x y : ℕ) → (y ≡ x → ⊥) → times_in (done ++ x ∷ []) y ≡ times_in done y
 other-times done x y n =
-    let a = times_in-append done (x ∷ []) y in
+    let a = times-append done (x ∷ []) y in
     let b = times-one x y in
     let c : ◌≡◌ {A = ℕ} (cond (nat_eq x y) 1 0) 0 = ap (λ t. cond t 1 0) (apart x y (λ q. n (sym q))) in
     omega arith
@@ -64,7 +63,7 @@ other-times done x y n =
 -- a list with a number at its end has that number
 pub same-times : (done : List ℕ) (x : ℕ) → 0 < times_in (done ++ x ∷ []) x
 same-times done x =
-    let a = times_in-append done (x ∷ []) x in
+    let a = times-append done (x ∷ []) x in
     let b = times-one x x in
     let c : ◌≡◌ {A = ℕ} (cond (nat_eq x x) 1 0) 1 = ap (λ t. cond t 1 0) (eq-eqb x x refl) in
     omega arith
@@ -118,8 +117,8 @@ pub listed-more : (members done : List ℕ) (x : ℕ) → x < 4294967296 →
 listed-more members done x small h y = elim (cases_eq y x) [
   | inl e ↦
       let b : nat_lt y 4294967296 ≡ true = below y 4294967296 (omega arith) in
-      let a = times_in-append members (x ∷ []) y in
-      let c = times_in-append done (x ∷ []) y in
+      let a = times-append members (x ∷ []) y in
+      let c = times-append done (x ∷ []) y in
       let d : times_in members y ≡ times_in done y = h y ∙ ap (λ t. if t then times_in done y else 0) b in
       let f : times_in (members ++ x ∷ []) y ≡ times_in (done ++ x ∷ []) y = omega arith in
       f ∙ sym (ap (λ t. if t then times_in (done ++ x ∷ []) y else 0) b)

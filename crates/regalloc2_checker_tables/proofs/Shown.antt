@@ -10,10 +10,9 @@ use Rattle.regalloc2_checker_tables.specs.Showing.{Showing, showing, read_as, ta
 use Rattle.regalloc2_checker_tables.specs.Showing.{AreTablesKept, ShowsNow}
 use Rattle.regalloc2_checker_tables.specs.declared.passing.Passed.{Passed}
 use Rattle.regalloc2_cfg.specs.Numbers.{times_in}
-use Rattle.regalloc2_cfg.proofs.NumberBits.{times_in-append}
 use Rattle.regalloc2_checker_tables.proofs.Bits.{below, above, apart, other-times, same-times}
 use Rattle.regalloc2_checker_tables.proofs.Times.{times-of, contains-of}
-use Rattle.regalloc2_checker_tables.proofs.Walked.{times-nil}
+use Rattle.regalloc2_checker_tables.proofs.Walked.{times-append, times-nil}
 
 -- nothing is passed: each is held under its own bits
 pub read-none : (vs : List ℕ) (y : ℕ) → read_as vs None y ≡ y
@@ -267,7 +266,7 @@ pub without-more : (changed numbers : List ℕ) (number x : ℕ) → (x ≡ numb
     AreWithout (changed ++ x ∷ []) (numbers ++ x ∷ []) number
 without-more changed numbers number x n h = record {
   none = other-times changed x number (λ e. n (sym e)) ∙ h.none;
-  others = λ y m. times_in-append changed (x ∷ []) y ∙ ap (λ k. k + times_in (x ∷ []) y) (h.others y m) ∙ sym (times_in-append numbers (x ∷ []) y);
+  others = λ y m. times-append changed (x ∷ []) y ∙ ap (λ k. k + times_in (x ∷ []) y) (h.others y m) ∙ sym (times-append numbers (x ∷ []) y);
 }
 
 -- one more was, and left out

@@ -1,12 +1,17 @@
 -- How far the members of a set are walked over.
-use Rattle.std.proofs.Common.{inl, inr, subst, ℕ, ◌≡◌, ◌<◌, ◌≤◌, arith, Bool, true}
+use Rattle.std.proofs.Common.{inl, inr, subst, ℕ, ◌≡◌, ◌+◌, ◌<◌, ◌≤◌, arith, Bool, true}
 use Rattle.std.proofs.Common.{false, cond, nat_eq, eq-eqb, List, [], ◌∷◌, ◌++◌, refl, sym, ap, ◌∙◌, append_assoc}
 use Rattle.std.specs.Prelude.{if◌then◌else◌}
 use Rattle.std.proofs.lemmas.Bool.{cases_eq}
 use Rattle.std.proofs.lemmas.Bool.Decides.{nat_tests}
 use Rattle.std.proofs.lemmas.List.{append-nil}
 use Rattle.regalloc2_cfg.specs.Numbers.{NumberSet, has_number, times_in, ListsMembers}
-use Rattle.regalloc2_cfg.proofs.NumberBits.{times_in-append}
+
+-- a number is as often in two lists, one after the other, as in each of them together
+pub times-append : (xs ys : List ℕ) (i : ℕ) → times_in (xs ++ ys) i ≡ times_in xs i + times_in ys i
+unfolding times_in
+times-append [] ys i = omega arith
+times-append (x ∷ xs) ys i = omega (arith, times-append xs ys i)
 
 one_of : (b : Bool) → 0 < (if b then 1 else 0) → b ≡ true
 one_of true h = refl
@@ -38,7 +43,7 @@ walked-on s done left rest x h e i = ap (λ l. times_in l i) (append_assoc done 
 pub walked-is : (s : NumberSet) (done left rest : List ℕ) (x : ℕ) → ListsMembers s (done ++ left) → left ≡ x ∷ rest → has_number s x ≡ true
 walked-is s done left rest x h e =
     one_of (has_number s x)
-    (let a = times_in-append done left x in
+    (let a = times-append done left x in
     let b : times_in left x ≡ times_in (x ∷ rest) x = ap (λ (l : List ℕ). times_in l x) e in
     let c = times-here x rest in
     let d = h x in
@@ -46,12 +51,12 @@ walked-is s done left rest x h e =
 
 -- one that came is a member
 pub walked-was : (s : NumberSet) (done left : List ℕ) (y : ℕ) → ListsMembers s (done ++ left) → 0 < times_in done y → has_number s y ≡ true
-walked-was s done left y h l = one_of (has_number s y) (let a = times_in-append done left y in let d = h y in omega arith)
+walked-was s done left y h l = one_of (has_number s y) (let a = times-append done left y in let d = h y in omega arith)
 
 -- the one that comes did not come before
 pub walked-new : (s : NumberSet) (done left rest : List ℕ) (x : ℕ) → ListsMembers s (done ++ left) → left ≡ x ∷ rest → times_in done x ≡ 0
 walked-new s done left rest x h e =
-    let a = times_in-append done left x in
+    let a = times-append done left x in
     let b : times_in left x ≡ times_in (x ∷ rest) x = ap (λ (l : List ℕ). times_in l x) e in
     let c = times-here x rest in
     let d = h x in
@@ -75,7 +80,7 @@ pub walked-more : (P : ℕ → Type 0) (done : List ℕ) (x : ℕ) → ((y : ℕ
 walked-more P done x h g y l = elim (cases_eq y x) [
   | inl e ↦ subst P (sym e) g
   | inr n ↦ h y
-      (let a = times_in-append done (x ∷ []) y in
+      (let a = times-append done (x ∷ []) y in
       let b = times-one x y in
       let c = other x y (λ q. n (sym q)) in
       omega arith)
