@@ -1,7 +1,7 @@
 //! Registers in the order of their last use.
 
 ghost use Rattle.std.specs.Prelude.{◌≡◌, ◌-◌, ◌∷◌, ◌<◌, ◌≤◌, ◌↔◌, ◌==◌, IsTrue, true, false, IfSome, IfNone, IfOk, IfErr, All, Contains, length};
-ghost use Rattle.std.specs.Prelude.{Bool, Some, not, filter, find, reverse, slice_get, slice_index_or, ◌≢◌, [], IsOk};
+ghost use Rattle.std.specs.Prelude.{Bool, Some, not, filter, find, reverse, slice_get, slice_index_or, slice_set, ◌≢◌, [], IsOk};
 ghost use Rattle.std.specs.List.{IsDistinct};
 ghost use Rattle.regalloc2_names.specs.declared.RegClass.{RegClass};
 ghost use Rattle.regalloc2_names.specs.Register.{Register, class_code, is_register};
@@ -13,7 +13,7 @@ use regalloc2_names::{PReg, PRegSet, RegAllocError, RegClass};
 use std::alloc::{Allocator, Global};
 use std::fmt;
 use std::marker::Model;
-use std::ops::{Index, IndexMut};
+use std::ops::Index;
 
 mod nodes;
 
@@ -179,13 +179,14 @@ impl<T> Index<RegClass> for PartedByRegClass<T> {
     }
 }
 
-impl<T> IndexMut<RegClass> for PartedByRegClass<T> {
-    /// The value of a class, to be written. The contract says which value it is, and not what a write leaves in the others:
-    /// where that matters, write to `items[class as usize]`.
-    fn index_mut(&mut self, class: RegClass) -> &mut T
-        ensures { (other : _) → slice_index_or self.old.items (class_code class) other ≡ result.now }
+impl<T: Drop> PartedByRegClass<T> {
+    /// Sets the value of a class; the values of the other two stay.
+    ///
+    /// Upstream: `IndexMut`.
+    pub fn set(&mut self, class: RegClass, value: T)
+        ensures { self.new.items ≡ slice_set self.old.items (class_code class) value }
     {
-        &mut self.items[class as usize]
+        self.items[class as usize] = value;
     }
 }
 
