@@ -4,7 +4,6 @@ use Rattle.std.proofs.Common.{arith, eqb-true, eq-eqb}
 use Rattle.regalloc2_names.specs.Place.{Place}
 use Rattle.regalloc2_names.specs.PlaceBits.{bits_of_place, place_of_bits}
 use Rattle.regalloc2_parts.specs.AtOnce.{IsPlace}
-use Rattle.regalloc2_parts.proofs.Places.{same_word}
 use Rattle.regalloc2_callmoves.specs.CallMoves.{CallMoves, source, target, HasOtherSource}
 use Rattle.regalloc2_callmoves.proofs.CallPlaces.{split_more}
 
@@ -22,6 +21,10 @@ pub record IsTable (ms : CallMoves) (n : ℕ) (t : Words) : Type 0 where
   pub there : (j : ℕ) → j < n → t (to_word ms j) ≡ Some (from_word ms j)
   pub back : (w v : ℕ) → t w ≡ Some v → (j : ℕ) × (j < n) × (w ≡ to_word ms j) × (v ≡ from_word ms j)
   pub words : (j : ℕ) → j < n → IsPlace (source ms j) × IsPlace (target ms j)
+
+-- two places with one word are one place
+same_word : (p q : Place) → IsPlace p → IsPlace q → bits_of_place p ≡ bits_of_place q → p ≡ q
+same_word p q hp hq e = sym hp ∙ ap place_of_bits e ∙ hq
 
 some_word : (a b : ℕ) → ◌≡◌ {A = Option ℕ} (Some a) (Some b) → a ≡ b
 some_word a b e = cc
