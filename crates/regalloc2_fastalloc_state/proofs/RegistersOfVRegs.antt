@@ -1,12 +1,11 @@
 -- The set of the registers at which the vregs of a list are located.
-use Rattle.std.proofs.Common.{◌≡◌, ◌<◌, ◌++◌, [], ◌∷◌, true, false, List, sym, ap, ◌∙◌, subst, ⊎_elim, arith}
+use Rattle.std.proofs.Common.{◌≡◌, ◌<◌, ◌++◌, [], ◌∷◌, true, false, List, refl, sym, ap, ◌∙◌, subst, ⊎_elim, arith}
 use Rattle.std.specs.Prelude.{Some, Contains, ◌↔◌, ◌||◌, slice_index_or}
 use Rattle.std.proofs.lemmas.List.Elements.{Contains-append_left, Contains-append_right, Contains-push, Contains-push_cases}
 use Rattle.regalloc2_names.specs.Place.{Place, NoPlace, InRegister}
 use Rattle.regalloc2_names.specs.Register.{Register, VirtualRegister, is_register}
 use Rattle.regalloc2_names.specs.RegisterSet.{has_register}
 use Rattle.regalloc2_names.specs.declared.sets.PRegSet.{PRegSet}
-use Rattle.regalloc2_parts.proofs.Tidying.{contains_here}
 use Rattle.regalloc2_semantics.proofs.Cells.{is_register-true, is_register-same}
 use Rattle.regalloc2_fastalloc_state.specs.FilledRegs.{AreRegistersOf}
 use Rattle.regalloc2_fastalloc_state.specs.StateParts.{VRegAllocsValue, IsInverse, vreg_of_preg}
@@ -54,7 +53,7 @@ one_found allocs vregs x r set new at members old = record {
 pub is_met : (walked rest from all : List VirtualRegister) (x : VirtualRegister) → from ≡ x ∷ rest → walked ++ from ≡ all → Contains all x
 is_met walked rest from all x e left =
     subst (λ (l : List VirtualRegister). Contains l x) (ap (λ (l : List VirtualRegister). walked ++ l) (sym e) ∙ left)
-    (Contains-append_right walked (x ∷ rest) x (contains_here x rest))
+    (Contains-append_right walked (x ∷ rest) x (0, omega arith, refl))
 
 -- and with a vreg more that is in no register
 pub none_more : (allocs : List Place) (vregs : List VirtualRegister) (x : VirtualRegister) (set : PRegSet) →
