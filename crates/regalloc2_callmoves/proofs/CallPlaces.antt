@@ -112,7 +112,7 @@ named_more ms n s t u h first second = record {
 }
 
 -- the set has just the registers that are in use before the free register n is
-pub record AreTaken (ms : CallMoves) (f : CallFrame) (n : ℕ) (s : PRegSet) : Type 0 where
+pub record AreTaken {A : Type 0} (ms : CallMoves) (f : CallFrame A) (n : ℕ) (s : PRegSet) : Type 0 where
   pub yes : (r : Register) → has_register s r ≡ true →
       IsNamed ms (InRegister r) ⊎ (((j : ℕ) × (j < n) × (free_at f j ≡ r)) ⊎ (has_register f.stack_pregs r ≡ true))
   pub no : (r : Register) → IsNamed ms (InRegister r) ⊎ (((j : ℕ) × (j < n) × (free_at f j ≡ r)) ⊎ (has_register f.stack_pregs r ≡ true)) →
@@ -122,7 +122,7 @@ register_along : (a b : Register) → is_register a b ≡ true → a ≡ b
 register_along a b e = let same : InRegister a ≡ InRegister b = is_place-true (InRegister a) (InRegister b) e in cc
 
 -- with the free register n put in, the set has those that are in use before the next one is
-pub taken_more : (ms : CallMoves) (f : CallFrame) (n : ℕ) (s t : PRegSet) → AreTaken ms f n s →
+pub taken_more : {A : Type 0} (ms : CallMoves) (f : CallFrame A) (n : ℕ) (s t : PRegSet) → AreTaken ms f n s →
     ((r : Register) → has_register t r ≡ (is_register (free_at f n) r || has_register s r)) → AreTaken ms f (n + 1) t
 taken_more ms f n s t h put = record {
   yes = λ r e. ⊎_elim
@@ -143,7 +143,7 @@ taken_more ms f n s t h put = record {
         put r ∙ true_left (is_register (free_at f n) r) (has_register s r) (is_place-along (InRegister (free_at f n)) (InRegister r) here)
 
 -- a free register that the set doesn't have isn't in use
-pub taken_not : (ms : CallMoves) (f : CallFrame) (n : ℕ) (s : PRegSet) → AreTaken ms f n s → false ≡ has_register s (free_at f n) → IsTaken ms f n → ⊥
+pub taken_not : {A : Type 0} (ms : CallMoves) (f : CallFrame A) (n : ℕ) (s : PRegSet) → AreTaken ms f n s → false ≡ has_register s (free_at f n) → IsTaken ms f n → ⊥
 taken_not ms f n s h e x = let no : true ≡ false = sym (h.no (free_at f n) x) ∙ sym e in cc
 
 -- the lowest slot of those that the first n moves name, from a start on and below an end

@@ -84,7 +84,7 @@ one_source ms h a b ca cb e =
     ∙ same_source ms h j.0 k.0 j.1 k.1 (to_is (end_at ms j.0) a j.2 ∙ e ∙ sym (to_is (end_at ms k.0) b k.2))
     ∙ from_is (end_at ms k.0) b k.2
 
-module _ (ms : CallMoves) (f : CallFrame) (l : ScratchPool) (proper : IsProper ms f) (lends : IsPoolOf f l) where
+module _ {A : Type 0} (ms : CallMoves) (f : CallFrame A) (l : ScratchPool) (proper : IsProper ms f) (lends : IsPoolOf f l) where
   register_at : (k : ℕ) (o : Option Place) (p : Place) → IsRegisterAt f k o → o ≡ Some p → (k < length f.free_regs.items) × (p ≡ InRegister (free_at f k))
   register_at k o p h e = subst (IsRegisterAt f k) e h
 

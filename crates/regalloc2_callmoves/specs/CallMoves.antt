@@ -55,26 +55,26 @@ HasOtherSource ms k = (j : ℕ) × (j < k) × (target ms j ≡ target ms k) × (
 abbrev pub IsNamed : CallMoves → Place → Type 0
 IsNamed ms p = (k : ℕ) × (k < length ms) × ((source ms k ≡ p) ⊎ (target ms k ≡ p))
 
-abbrev pub free_at : CallFrame → ℕ → Register
+abbrev pub free_at : {A : Type 0} → CallFrame A → ℕ → Register
 free_at f k = slice_index_or f.free_regs.items k invalid_register
 
 -- a register that isn't free: a move names it, it stands earlier in the list, or it stands for a place in memory
-abbrev pub IsTaken : CallMoves → CallFrame → ℕ → Type 0
+abbrev pub IsTaken : {A : Type 0} → CallMoves → CallFrame A → ℕ → Type 0
 IsTaken ms f k =
     IsNamed ms (InRegister (free_at f k))
     ⊎ (((j : ℕ) × (j < k) × (free_at f j ≡ free_at f k))
     ⊎ (has_register f.stack_pregs (free_at f k) ≡ true))
 
 -- a register is one of the free ones
-abbrev pub IsFreeRegister : CallFrame → Register → Type 0
+abbrev pub IsFreeRegister : {A : Type 0} → CallFrame A → Register → Type 0
 IsFreeRegister f r = (k : ℕ) × (k < length f.free_regs.items) × (free_at f k ≡ r)
 
 -- the borrowed register is one of the free ones, or stands for a place in memory
-abbrev pub IsBorrowedTaken : CallFrame → Type 0
+abbrev pub IsBorrowedTaken : {A : Type 0} → CallFrame A → Type 0
 IsBorrowedTaken f = IsFreeRegister f f.borrowed ⊎ (has_register f.stack_pregs f.borrowed ≡ true)
 
 -- a slot of the range that a move names
-abbrev pub IsNamedSlot : CallMoves → CallFrame → ℕ → Type 0
+abbrev pub IsNamedSlot : {A : Type 0} → CallMoves → CallFrame A → ℕ → Type 0
 IsNamedSlot ms f n = (f.slots.start ≤ n) × IsNamed ms (InSlot n)
 
 -- the number of a place that is a slot from start on and below lowest, else lowest
@@ -84,31 +84,31 @@ pub record IsLower (p : Place) (start lowest result : ℕ) : Type 0 where
   pub other : (n : ℕ) → start ≤ n → n < result → p ≢ InSlot n
 
 -- the first place in use that should be free: of the free registers, then the borrowed one, then the slots
-abbrev pub IsFirstInUse : CallMoves → CallFrame → Place → Type 0
+abbrev pub IsFirstInUse : {A : Type 0} → CallMoves → CallFrame A → Place → Type 0
 IsFirstInUse ms f p =
     ((k : ℕ) × IsFirst (length f.free_regs.items) (IsTaken ms f) k × (p ≡ InRegister (free_at f k)))
     ⊎ (HasNone (length f.free_regs.items) (IsTaken ms f) × IsBorrowedTaken f × (p ≡ InRegister f.borrowed))
     ⊎ (HasNone (length f.free_regs.items) (IsTaken ms f) × (IsBorrowedTaken f → ⊥) × ((n : ℕ) × IsFirst f.slots.«end» (IsNamedSlot ms f) n × (p ≡ InSlot n)))
 
 -- nothing is in use that should be free
-pub record IsFree (ms : CallMoves) (f : CallFrame) : Type 0 where
+pub record IsFree {A : Type 0} (ms : CallMoves) (f : CallFrame A) : Type 0 where
   pub registers : HasNone (length f.free_regs.items) (IsTaken ms f)
   pub borrowed : IsBorrowedTaken f → ⊥
   pub slots : HasNone f.slots.«end» (IsNamedSlot ms f)
 
 -- the place, or nothing
-abbrev pub IsFirstInUseOrNone : CallMoves → CallFrame → Option Place → Type 0
+abbrev pub IsFirstInUseOrNone : {A : Type 0} → CallMoves → CallFrame A → Option Place → Type 0
 IsFirstInUseOrNone ms f None = IsFree ms f
 IsFirstInUseOrNone ms f (Some p) = IsFirstInUse ms f p
 
 -- moves and a frame without fault
-pub record IsProper (ms : CallMoves) (f : CallFrame) : Type 0 where
+pub record IsProper {A : Type 0} (ms : CallMoves) (f : CallFrame A) : Type 0 where
   pub named : HasNone (length ms) (NamesNone ms)
   pub one_source : HasNone (length ms) (HasOtherSource ms)
   pub free : IsFree ms f
 
 -- what a fault says: of the first three the first that applies, else one of the last two
-abbrev pub IsFault : CallMoves → CallFrame → CallFault → Type 0
+abbrev pub IsFault : {A : Type 0} → CallMoves → CallFrame A → CallFault → Type 0
 IsFault ms f (NoneNamed k) = IsFirst (length ms) (NamesNone ms) k
 IsFault ms f (TwoSources p) = HasNone (length ms) (NamesNone ms) × ((k : ℕ) × IsFirst (length ms) (HasOtherSource ms) k × (p ≡ target ms k))
 IsFault ms f (InUse p) = HasNone (length ms) (NamesNone ms) × HasNone (length ms) (HasOtherSource ms) × IsFirstInUse ms f p
@@ -116,7 +116,7 @@ IsFault ms f NoSlot = IsProper ms f × (f.slots.«end» ≤ f.slots.start + 1)
 IsFault ms f Memory = IsProper ms f
 
 -- no fault, or the first one
-abbrev pub IsFoundOrNone : CallMoves → CallFrame → Option CallFault → Type 0
+abbrev pub IsFoundOrNone : {A : Type 0} → CallMoves → CallFrame A → Option CallFault → Type 0
 IsFoundOrNone ms f None = IsProper ms f
 IsFoundOrNone ms f (Some e) = IsFault ms f e
 
@@ -126,22 +126,22 @@ fault_of NoMoveSlot = NoSlot
 fault_of NoMemory = Memory
 
 -- a free register, or a slot of the range
-abbrev pub IsLent : CallFrame → Place → Type 0
+abbrev pub IsLent : {A : Type 0} → CallFrame A → Place → Type 0
 IsLent f p =
     ((k : ℕ) × (k < length f.free_regs.items) × (p ≡ InRegister (free_at f k)))
     ⊎ ((n : ℕ) × (f.slots.start ≤ n) × (n < f.slots.«end») × (p ≡ InSlot n))
 
 -- the free register of that index, and the slot so many after the start of the range, where they are there
-abbrev pub IsRegisterAt : CallFrame → ℕ → Option Place → Type 0
+abbrev pub IsRegisterAt : {A : Type 0} → CallFrame A → ℕ → Option Place → Type 0
 IsRegisterAt f k None = length f.free_regs.items ≤ k
 IsRegisterAt f k (Some p) = (k < length f.free_regs.items) × (p ≡ InRegister (free_at f k))
 
-abbrev pub IsSlotAt : CallFrame → ℕ → Option Place → Type 0
+abbrev pub IsSlotAt : {A : Type 0} → CallFrame A → ℕ → Option Place → Type 0
 IsSlotAt f k None = f.slots.«end» ≤ f.slots.start + k
 IsSlotAt f k (Some p) = (f.slots.start + k < f.slots.«end») × (p ≡ InSlot (f.slots.start + k))
 
 -- the scratch places of a frame
-pub record IsPoolOf (f : CallFrame) (l : ScratchPool) : Type 0 where
+pub record IsPoolOf {A : Type 0} (f : CallFrame A) (l : ScratchPool) : Type 0 where
   pub first_register : IsRegisterAt f 0 l.registers.first
   pub second_register : IsRegisterAt f 1 l.registers.second
   pub first_slot : IsSlotAt f 0 l.slots.first
@@ -155,7 +155,7 @@ pub record IsMove (stack_pregs : PRegSet) (from to : Place) : Type 0 where
   pub between : (from ≢ NoPlace) × (to ≢ NoPlace)
 
 -- The moves `made`, one after another, are the moves ms at once, but for free registers and slots.
-pub record IsScheduled (ms : CallMoves) (f : CallFrame) (made : List (Place × Place × Unit {0})) : Type 0 where
+pub record IsScheduled {A : Type 0} (ms : CallMoves) (f : CallFrame A) (made : List (Place × Place × Unit {0})) : Type 0 where
   -- each destination has what its source had at first
   pub assigned : (k : ℕ) → k < length ms → in_turn (ends_of made) names (target ms k) ≡ source ms k
   -- each other place, but for free registers and slots of the range, has what it had

@@ -9,7 +9,7 @@ ghost use Rattle.regalloc2_callmoves.specs.CallMoves.{IsLower, IsTaken, IsFreeRe
 
 use super::{CallFault, CallFrame};
 use regalloc2_names::{Allocation, PReg, PRegSet, SpillSlot};
-use std::alloc::{AllocError, Global};
+use std::alloc::{AllocError, Allocator};
 use std::collections::HashMap;
 use std::hash::{BuildHasherDefault, FoldHasher};
 
@@ -92,13 +92,13 @@ fn find_by_pairs(moves: &[(Allocation, Allocation)]) -> Option<usize>
 }
 
 /// The same by a table of destinations, in a time that is linear in their number.
-fn find_by_table(
-    alloc: Global,
+fn find_by_table<A: Allocator + Copy>(
+    alloc: A,
     moves: &[(Allocation, Allocation)],
 ) -> Result<Option<usize>, AllocError>
     ensures { IfOk result (λ found. IsFirstOrNone (length moves.now) (HasOtherSource moves.now) found) }
 {
-    let mut sources: HashMap<u32, u32, BuildHasherDefault<FoldHasher>> = HashMap::new(alloc);
+    let mut sources: HashMap<u32, u32, BuildHasherDefault<FoldHasher>, A> = HashMap::new(alloc);
     for at in 0..moves.len() {
         let from = source_at(moves, at).bits();
         let to = target_at(moves, at).bits();
@@ -112,7 +112,10 @@ fn find_by_table(
 }
 
 /// The same, by a table where that is quicker and gets its memory.
-fn find_two_sources(alloc: Global, moves: &[(Allocation, Allocation)]) -> Option<usize>
+fn find_two_sources<A: Allocator + Copy>(
+    alloc: A,
+    moves: &[(Allocation, Allocation)],
+) -> Option<usize>
     ensures { IsFirstOrNone (length moves.now) (HasOtherSource moves.now) result }
 {
     if moves.len() <= FEW {
@@ -147,7 +150,10 @@ fn named_registers(moves: &[(Allocation, Allocation)]) -> PRegSet
 }
 
 /// The index of the first free register that is in use.
-fn find_taken(moves: &[(Allocation, Allocation)], frame: &CallFrame) -> Option<usize>
+fn find_taken<A: Allocator>(
+    moves: &[(Allocation, Allocation)],
+    frame: &CallFrame<A>,
+) -> Option<usize>
     ensures { IsFirstOrNone (length frame.now.free_regs.items) (IsTaken moves.now frame.now) result }
 {
     let mut taken = named_registers(moves);
@@ -163,7 +169,7 @@ fn find_taken(moves: &[(Allocation, Allocation)], frame: &CallFrame) -> Option<u
 }
 
 /// Whether a register is one of the free ones.
-fn is_free(frame: &CallFrame, preg: PReg) -> bool
+fn is_free<A: Allocator>(frame: &CallFrame<A>, preg: PReg) -> bool
     ensures yes { result ≡ true → IsFreeRegister frame.now preg }
     ensures no { result ≡ false → IsFreeRegister frame.now preg → ⊥ }
 {
@@ -177,7 +183,7 @@ fn is_free(frame: &CallFrame, preg: PReg) -> bool
 }
 
 /// Whether the borrowed register is free or stands for a place in memory.
-fn is_borrowed_taken(frame: &CallFrame) -> bool
+fn is_borrowed_taken<A: Allocator>(frame: &CallFrame<A>) -> bool
     ensures yes { result ≡ true → IsBorrowedTaken frame.now }
     ensures no { result ≡ false → IsBorrowedTaken frame.now → ⊥ }
 {
@@ -218,7 +224,7 @@ fn lower(place: Allocation, start: usize, lowest: usize) -> usize
 }
 
 /// The lowest slot of the range that a move names, or the range's end where there is none.
-fn lowest_slot(moves: &[(Allocation, Allocation)], frame: &CallFrame) -> usize
+fn lowest_slot<A: Allocator>(moves: &[(Allocation, Allocation)], frame: &CallFrame<A>) -> usize
     ensures end { result ≤ frame.now.slots.«end» }
     ensures named { result < frame.now.slots.«end» → IsNamedSlot moves.now frame.now result }
     ensures lower { HasNone result (IsNamedSlot moves.now frame.now) }
@@ -233,7 +239,10 @@ fn lowest_slot(moves: &[(Allocation, Allocation)], frame: &CallFrame) -> usize
 }
 
 /// The first place in use that should be free.
-fn find_in_use(moves: &[(Allocation, Allocation)], frame: &CallFrame) -> Option<Allocation>
+fn find_in_use<A: Allocator>(
+    moves: &[(Allocation, Allocation)],
+    frame: &CallFrame<A>,
+) -> Option<Allocation>
     requires { frame.now.slots.«end» ≤ 16777216 }
     ensures { IsFirstInUseOrNone moves.now frame.now result }
 {
@@ -250,11 +259,11 @@ fn find_in_use(moves: &[(Allocation, Allocation)], frame: &CallFrame) -> Option<
     None
 }
 
-/// The first fault of the moves and the frame, if they have one.
-pub(super) fn find_fault(
-    alloc: Global,
+/// The first fault of the moves and the frame, if they have one. Two sources are looked for last: only they may take memory.
+pub(super) fn find_fault<A: Allocator + Copy, B: Allocator>(
+    alloc: A,
     moves: &[(Allocation, Allocation)],
-    frame: &CallFrame,
+    frame: &CallFrame<B>,
 ) -> Option<CallFault>
     requires { frame.now.slots.«end» ≤ 16777216 }
     ensures { IsFoundOrNone moves.now frame.now result }
@@ -262,10 +271,11 @@ pub(super) fn find_fault(
     if let Some(at) = find_none(moves) {
         return Some(CallFault::NoneNamed(at));
     }
+    let in_use = find_in_use(moves, frame);
     if let Some(at) = find_two_sources(alloc, moves) {
         return Some(CallFault::TwoSources(target_at(moves, at)));
     }
-    match find_in_use(moves, frame) {
+    match in_use {
         Some(place) => Some(CallFault::InUse(place)),
         None => None,
     }

@@ -6,8 +6,9 @@ ghost use Rattle.regalloc2_callmoves.specs.CallMoves.{free_at, IsPoolOf, IsRegis
 use super::CallFrame;
 use regalloc2_names::{Allocation, PReg, SpillSlot};
 use regalloc2_parts::scratch_pool::{ScratchPair, ScratchPool};
+use std::alloc::Allocator;
 
-impl CallFrame {
+impl<A: Allocator> CallFrame<A> {
     /// The free register of that index.
     pub(super) fn free_reg(&self, at: usize) -> PReg
         requires { at < length self.now.free_regs.items }

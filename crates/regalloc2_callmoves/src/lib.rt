@@ -12,14 +12,15 @@ mod frame;
 
 use regalloc2_names::{Allocation, PReg, PRegSet};
 use regalloc2_parts::moves::{MoveFault, MoveVec, ParallelMoves};
-use std::alloc::Global;
+use smallvec::SmallVec;
+use std::alloc::{Allocator, Global};
 use std::ops::Range;
 
 /// What the moves of a call may use, beside the places that they name.
 #[derive(Drop)]
-pub struct CallFrame {
+pub struct CallFrame<A: Allocator = Global> {
     /// Registers whose values are not needed. They are handed out from the front.
-    pub free_regs: Vec<PReg>,
+    pub free_regs: Vec<PReg, A>,
     /// A register that is used where none is free, and restored.
     pub borrowed: PReg,
     /// The registers that stand for places in memory: no move goes from memory to memory.
@@ -60,10 +61,10 @@ impl From<MoveFault> for CallFault {
 }
 
 /// The moves as moves that are to be made at once.
-fn in_parallel(
-    alloc: Global,
+fn in_parallel<A: Allocator + Copy>(
+    alloc: A,
     moves: &[(Allocation, Allocation)],
-) -> Result<ParallelMoves<()>, MoveFault>
+) -> Result<ParallelMoves<(), A>, MoveFault>
     requires { HasNone (length moves.now) (NamesNone moves.now) }
     ensures all { IfOk result (λ p. p ≡ with_units moves.now) }
     ensures memory { IfErr result (λ e. e ≡ MoveFault.Memory) }
@@ -75,21 +76,21 @@ fn in_parallel(
     Ok(parallel)
 }
 
-/// The same for moves and a frame without fault.
-fn schedule_proper(
-    alloc: Global,
+/// The same for moves and a frame without fault. They are made over `&alloc`, whose size is known, and copied.
+fn schedule_proper<A: Allocator + Copy, B: Allocator>(
+    alloc: A,
     moves: &[(Allocation, Allocation)],
-    frame: &CallFrame,
-) -> Result<MoveVec<()>, MoveFault>
+    frame: &CallFrame<B>,
+) -> Result<MoveVec<(), A>, MoveFault>
     requires range { frame.now.slots.start ≤ frame.now.slots.«end» }
     requires small { frame.now.slots.«end» ≤ 16777216 }
     requires proper { IsProper moves.now frame.now }
     ensures { MatchResult result (λ made. IsScheduled moves.now frame.now made.items) (λ e. IsFault moves.now frame.now (fault_of e)) }
 {
-    let parallel = in_parallel(alloc, moves)?;
+    let parallel = in_parallel(&alloc, moves)?;
     let resolved = parallel.resolve()?;
     let made = frame.scratch_pool().compute(resolved)?;
-    Ok(made.moves)
+    Ok(SmallVec::from_slice(alloc, made.moves.as_slice())?)
 }
 
 /// The moves of a call, put in an order in which they can be made one after another as if they were made at once.
@@ -97,12 +98,14 @@ fn schedule_proper(
 /// A cycle goes through a free register, or else through a slot of the range; a move from memory to memory through a free register, or
 /// else through the borrowed one, which is saved in a slot and restored. The range ends at most at 2^24.
 ///
+/// The list comes from `alloc`, and so do the tables that it is made with. A fault of moves or frame is told also where memory runs out.
+///
 /// The contract leaves open in which order the moves come, and how many they are.
-pub fn schedule(
-    alloc: Global,
+pub fn schedule<A: Allocator + Copy, B: Allocator>(
+    alloc: A,
     moves: &[(Allocation, Allocation)],
-    frame: &CallFrame,
-) -> Result<MoveVec<()>, CallFault>
+    frame: &CallFrame<B>,
+) -> Result<MoveVec<(), A>, CallFault>
     requires range { frame.now.slots.start ≤ frame.now.slots.«end» }
     requires small { frame.now.slots.«end» ≤ 16777216 }
     ensures { MatchResult result (λ made. IsProper moves.now frame.now × IsScheduled moves.now frame.now made.items) (IsFault moves.now frame.now) }

@@ -3,4 +3,4 @@ use Rattle.regalloc2_callmoves.specs.CallMoves.{with_units}
 use Rattle.regalloc2_callmoves.proofs.in_parallel.Given as goal
 
 abbrev pub invariant-loop-m : goal.invariant-loop-m
-invariant-loop-m l = l.parallel ≡ with_units (take l.m-index l.moves)
+invariant-loop-m g l = l.parallel ≡ with_units (take l.m-index l.moves)

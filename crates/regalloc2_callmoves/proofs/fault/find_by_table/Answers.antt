@@ -5,7 +5,7 @@ use Rattle.regalloc2_callmoves.proofs.fault.find_by_table.Goals as goal
 use Rattle.regalloc2_callmoves.proofs.fault.find_by_table.Goals.{in-Some+else-earlier-from, in_default}
 
 pub loop-at-preserved : goal.loop-at-preserved
-loop-at-preserved c =
+loop-at-preserved g c =
     let more : (get nat_eq c.loop-at.sources c.bits-to.result ≡ None) ⊎ (get nat_eq c.loop-at.sources c.bits-to.result ≡ Some c.bits-from.result) →
     IsTable c.args.moves.now (c.loop-at.at + 1) (get nat_eq c.insert.new.self) =
     λ old. table_with c.args.moves.now c.loop-at.at (get nat_eq c.loop-at.sources) c.source_at.result c.target_at.result c.bits-from.result c.bits-to.result

@@ -4,4 +4,4 @@ use Rattle.regalloc2_callmoves.proofs.Tables.{IsTable}
 use Rattle.regalloc2_callmoves.proofs.fault.find_by_table.Given as goal
 
 abbrev pub invariant-loop-at : goal.invariant-loop-at
-invariant-loop-at l = IsTable l.moves l.at (get nat_eq l.sources)
+invariant-loop-at g l = IsTable l.moves l.at (get nat_eq l.sources)

@@ -3,7 +3,7 @@ use Rattle.regalloc2_names.specs.Place.{InSlot}
 use Rattle.regalloc2_callmoves.proofs.fault.find_in_use.Goals as goal
 
 pub returns-then-slot-frame : goal.returns-then-slot-frame
-returns-then-slot-frame c = inr (inr (
+returns-then-slot-frame g c = inr (inr (
   c.in_default.ensures,
   c.is_borrowed_taken.ensures.no c.if-is_borrowed_taken.false,
   (
@@ -14,7 +14,7 @@ returns-then-slot-frame c = inr (inr (
 ))
 
 pub returns : goal.returns
-returns c = record {
+returns g c = record {
   registers = c.in_default.ensures;
   borrowed = c.is_borrowed_taken.ensures.no c.if-is_borrowed_taken.false;
   slots = λ k lt. c.lowest_slot-slot.ensures.lower k (omega arith);

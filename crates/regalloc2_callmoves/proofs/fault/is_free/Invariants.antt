@@ -3,4 +3,4 @@ use Rattle.regalloc2_callmoves.specs.CallMoves.{free_at}
 use Rattle.regalloc2_callmoves.proofs.fault.is_free.Given as goal
 
 abbrev pub invariant-loop-at : goal.invariant-loop-at
-invariant-loop-at l = (k : ℕ) → k < l.at → free_at l.frame k ≢ l.fn.preg
+invariant-loop-at g l = (k : ℕ) → k < l.at → free_at l.frame k ≢ l.fn.preg

@@ -5,7 +5,7 @@ use Rattle.regalloc2_callmoves.proofs.CallPlaces.{lowest_more}
 use Rattle.regalloc2_callmoves.proofs.fault.lowest_slot.Goals as goal
 
 pub loop-at-preserved : goal.loop-at-preserved
-loop-at-preserved c =
+loop-at-preserved g c =
     lowest_more c.args.moves.now c.loop-at.at c.args.frame.now.slots.start c.args.frame.now.slots.«end» c.loop-at.lowest c.lower-lowest.result
     c.lower-lowest-in-loop-at.result c.loop-at.invariant
     (subst (λ (p : Place). IsLower p c.args.frame.now.slots.start c.loop-at.lowest c.lower-lowest.result) c.source_at.ensures c.lower-lowest.ensures)
@@ -13,4 +13,4 @@ loop-at-preserved c =
     c.lower-lowest-in-loop-at.ensures)
 
 pub returns-clause-lower : goal.returns-clause-lower
-returns-clause-lower c = λ k lt x. c.loop-at.invariant.none k x.0 lt (x.1.0, (omega (arith, x.1.1)), x.1.2)
+returns-clause-lower g c = λ k lt x. c.loop-at.invariant.none k x.0 lt (x.1.0, (omega (arith, x.1.1)), x.1.2)
