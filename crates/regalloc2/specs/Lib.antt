@@ -42,6 +42,7 @@ pub use Rattle.regalloc2_validate.specs.Constraints
 pub use Rattle.regalloc2_validate.specs.Validated
 pub use Rattle.regalloc2_fastalloc.specs.Promise
 pub use Rattle.regalloc2_fastalloc.specs.ErrorReason
+pub use Rattle.regalloc2_fastalloc.specs.Lending
 pub use Rattle.regalloc2_checker.specs.Facts
 pub use Rattle.regalloc2_checker.specs.Fixpoint
 pub use Rattle.regalloc2_checker.specs.ErrorsFound

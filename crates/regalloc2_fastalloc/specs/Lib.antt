@@ -1,3 +1,4 @@
 pub mod Promise
 pub mod ErrorReason
 pub mod DebugLocations
+pub mod Lending

@@ -6,12 +6,14 @@
 #![tactic(auto)]
 
 ghost use Rattle.std.specs.Prelude.{◌≡◌, ◌≤◌, ◌^◌, ◌↔◌, [], false, IfErr, IfOk, OnErr, OnOk};
+ghost use Rattle.std.specs.Borrow.{sem};
 ghost use Rattle.regalloc2_function.specs.FunctionValue.{operand_count};
 ghost use Rattle.regalloc2_function.specs.Views.{machine_of, output_of};
 ghost use Rattle.regalloc2_function.specs.WellFormed.{IsWellFormed};
 ghost use Rattle.regalloc2_function.specs.Fitting.{MachineFits};
 ghost use Rattle.regalloc2_fastalloc.specs.Promise.{IsAllocation};
 ghost use Rattle.regalloc2_fastalloc.specs.ErrorReason.{IsReason, PassesAllChecks};
+ghost use Rattle.regalloc2_fastalloc.specs.Lending.{LendsOutput};
 
 use regalloc2_function::{Function, MachineEnv, Output, count_operands};
 use regalloc2_names::RegAllocError;
@@ -57,6 +59,31 @@ impl<A: Allocator + Copy> Ctx<A> {
             output: Output::new(alloc),
             alloc,
         }
+    }
+
+    /// Allocates registers to a function, puts the output into `self.output` and lends it.
+    ///
+    /// Preconditions, output and errors are those of [`run`]. After the loan, `self.output` holds what the borrower left in the lent output.
+    /// After an error, `self.output` holds the output that it held at the call.
+    ///
+    /// Upstream: no such method. Spec: `LendsOutput` in `specs/Lending.antt`.
+    pub fn run<F: Function, B: Allocator>(
+        &mut self,
+        f: &F,
+        env: &MachineEnv<B>,
+        options: &RegallocOptions,
+    ) -> Result<&mut Output<A>, RegAllocError>
+        requires machine { MachineFits (F.function f.now) (machine_of env.now) }
+        requires well_formed { options.now.validate_ssa ≡ false → IsWellFormed (machine_of env.now) (F.function f.now) }
+        ensures allocation { IfOk result (λ out. IsAllocation (F.function f.now) (machine_of env.now) (output_of out.now)) }
+        ensures tested { OnOk result (IsWellFormed (machine_of env.now) (F.function f.now)) }
+        ensures passes_checks { OnOk result (PassesAllChecks (F.function f.now) (machine_of env.now) options.now.validate_ssa) }
+        ensures refused { IfErr result (IsReason (F.function f.now) (machine_of env.now) options.now.validate_ssa) }
+        ensures many_operands { (result ≡ Err RegAllocError.TooManyOperands) ↔ (2 ^ 32 ≤ operand_count (F.function f.now)) }
+        ensures* after { sem 𝓛 (LendsOutput A.row A.Allocator self.entry result) }
+    {
+        run_into_ctx(f, env, options, self)?;
+        Ok(&mut self.output)
     }
 }
 
@@ -127,8 +154,8 @@ pub fn run<A: Allocator + Copy, F: Function, B: Allocator>(
 
 /// Allocates registers to a function, and puts the output into `ctx.output`.
 ///
-/// Conditions, output and errors are those of [`run`]. An error leaves `ctx.output`. Upstream has this within
-/// `run_with_ctx`, whose result borrows from the context, so that no contract can say there what an error leaves.
+/// Conditions, output and errors are those of [`run`]. An error leaves `ctx.output`. After a call that returns no error,
+/// `&ctx.output` is the output. Upstream has this within `run_with_ctx`.
 pub fn run_into_ctx<A: Allocator + Copy, F: Function, B: Allocator>(
     f: &F,
     env: &MachineEnv<B>,
@@ -150,7 +177,8 @@ pub fn run_into_ctx<A: Allocator + Copy, F: Function, B: Allocator>(
 
 /// Allocates registers to a function, puts the output into `ctx.output` and lends it.
 ///
-/// It is [`run_into_ctx`] and a loan; an error leaves `ctx.output`, as is said there.
+/// Calls [`Ctx::run`], and lends the output as a `&`. The contract says nothing of `ctx` after the call, because the toolchain proves no
+/// such clause for upstream's signature. [`Ctx::run`] and [`run_into_ctx`] have one.
 pub fn run_with_ctx<'c, A: Allocator + Copy, F: Function, B: Allocator>(
     f: &F,
     env: &MachineEnv<B>,
@@ -165,6 +193,6 @@ pub fn run_with_ctx<'c, A: Allocator + Copy, F: Function, B: Allocator>(
     ensures refused { IfErr result (IsReason (F.function f.now) (machine_of env.now) options.now.validate_ssa) }
     ensures many_operands { (result ≡ Err RegAllocError.TooManyOperands) ↔ (2 ^ 32 ≤ operand_count (F.function f.now)) }
 {
-    run_into_ctx(f, env, options, ctx)?;
-    Ok(&ctx.output)
+    let output = ctx.run(f, env, options)?;
+    Ok(output)
 }
