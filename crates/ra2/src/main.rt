@@ -29,6 +29,7 @@ fn main(rt: HostRuntime) -> ExitCode {
     };
     let (status, _) = ra2_program::answer(
         rt.alloc(),
+        rt.alloc(),
         words.as_slice(),
         rt.stdin(),
         out,

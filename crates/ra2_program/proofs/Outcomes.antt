@@ -18,15 +18,15 @@ use Rattle.ra2_program.specs.declared.task.Task.{Task}
 use Rattle.ra2_program.specs.declared.task.Task.TheVariants.{Run, Check}
 
 -- the bytes of the writer before the listing, after it, and after the judgement
-pub judged : {E : Type 0} (task : Task) (f : FunctionValue) (env : MachineValue) (out : OutputValue) (old listed new : Option (List ℕ)) (r : Result Bool E) →
-    task ≡ Check → IsAllocated f env out →
-    Appends old listed (listing_text f out) → IfOk r (IsJudged f env out (Appends listed new)) → IfOk r (IsOutcome task f env (Appends old new))
+pub judged : (A : Type 0) {E : Type 0} (task : Task) (f : FunctionValue) (env : MachineValue) (out : OutputValue) (old listed new : Option (List ℕ))
+    (r : Result Bool E) → task ≡ Check → IsAllocated f env out →
+    Appends old listed (listing_text f out) → IfOk r (IsJudged A f env out (Appends listed new)) → IfOk r (IsOutcome A task f env (Appends old new))
 unfolding IsJudged
-judged task f env out old listed new (Ok true) e a w h =
-    (out, a, subst (λ t. IsAnswered t f env out (Appends old new)) (sym e) (h.0, Appends-trans old listed new (listing_text f out) checked_line w h.1))
-judged task f env out old listed new (Ok false) e a w h =
+judged A task f env out old listed new (Ok true) e a w h =
+    (out, a, subst (λ t. IsAnswered t f env out (Appends old new)) (sym e) (h.1, Appends-trans old listed new (listing_text f out) checked_line w h.2))
+judged A task f env out old listed new (Ok false) e a w h =
     unaccepted out a e (h.0, h.1, Appends-trans old listed new (listing_text f out) (findings_text h.0) w h.2)
-judged task f env out old listed new (Err y) e a w h = tt
+judged A task f env out old listed new (Err y) e a w h = tt
 
 -- a flush changes no outcome
 answered : (task : Task) (f : FunctionValue) (env : MachineValue) (out : OutputValue) (old shown new : Option (List ℕ)) → Keeps shown new →
@@ -34,11 +34,11 @@ answered : (task : Task) (f : FunctionValue) (env : MachineValue) (out : OutputV
 answered Run f env out old shown new k w = Appends-kept old shown new (listing_text f out) w k
 answered Check f env out old shown new k w = (w.0, Appends-kept old shown new (listing_text f out ++ checked_line) w.1 k)
 
-flushed : (task : Task) (f : FunctionValue) (env : MachineValue) (old shown new : Option (List ℕ)) (accepted : Bool) → Keeps shown new →
-    IsOutcome task f env (Appends old shown) accepted → IsOutcome task f env (Appends old new) accepted
-flushed task f env old shown new true k h = (h.0, h.1, answered task f env h.0 old shown new k h.2)
-flushed task f env old shown new false k (refused e h w) = refused e h (Appends-kept old shown new (refusal_line e) w k)
-flushed task f env old shown new false k (unaccepted out h e x) = unaccepted out h e
+flushed : (A : Type 0) (task : Task) (f : FunctionValue) (env : MachineValue) (old shown new : Option (List ℕ)) (accepted : Bool) → Keeps shown new →
+    IsOutcome A task f env (Appends old shown) accepted → IsOutcome A task f env (Appends old new) accepted
+flushed A task f env old shown new true k h = (h.0, h.1, answered task f env h.0 old shown new k h.2)
+flushed A task f env old shown new false k (refused e h w) = refused e h (Appends-kept old shown new (refusal_line e) w k)
+flushed A task f env old shown new false k (unaccepted out h e x) = unaccepted out h e
     (x.0, x.1, Appends-kept old shown new (listing_text f out ++ findings_text x.0) x.2 k)
 
 -- a buffer that is empty holds nothing back
@@ -47,34 +47,35 @@ unbuffered None bs e = refl
 unbuffered (Some x) bs e = ap (λ ys. Some (x ++ ys)) e ∙ ap Some (append-nil x)
 
 -- the outcome for a function that is given
-pub outcome : {E : Type 0} (bytes : Option (List ℕ)) (task : Task) (f : FunctionValue) (env own : MachineValue) (old new : Option (List ℕ))
-    (r : Result Bool E) (o : Option Bool) → IsGiven bytes f env → own ≡ env → o ≡ result_ok r → IfOk r (IsOutcome task f own (Appends old new)) →
-    IfSome o (HasOutcome bytes (Allocate task) (Appends old new))
-outcome bytes task f env own old new (Ok b) o given e k h = rw k (f, env, given, subst (λ m. IsOutcome task f m (Appends old new) b) e h)
+pub outcome : {A E : Type 0} (bytes : Option (List ℕ)) (task : Task) (f : FunctionValue) (env own : MachineValue) (old new : Option (List ℕ))
+    (r : Result Bool E) (o : Option Bool) → IsGiven A bytes f env → own ≡ env → o ≡ result_ok r → IfOk r (IsOutcome A task f own (Appends old new)) →
+    IfSome o (HasOutcome A bytes (Allocate task) (Appends old new))
+outcome {A} bytes task f env own old new (Ok b) o given e k h = rw k (f, env, given, subst (λ m. IsOutcome A task f m (Appends old new) b) e h)
 outcome bytes task f env own old new (Err y) o given e k h = rw k tt
 
 -- the outcome for an output that is given
-pub verdict : {E : Type 0} (bytes : Option (List ℕ)) (f : FunctionValue) (env own : MachineValue) (out : OutputValue) (old new : Option (List ℕ))
-    (r : Result Bool E) (o : Option Bool) → AreGiven bytes f env out → own ≡ env → o ≡ result_ok r → IfOk r (IsJudged f own out (Appends old new)) →
-    IfSome o (HasOutcome bytes Replay (Appends old new))
-verdict bytes f env own out old new (Ok b) o given e k h = rw k (f, env, out, given, subst (λ m. IsJudged f m out (Appends old new) b) e h)
+pub verdict : {A E : Type 0} (bytes : Option (List ℕ)) (f : FunctionValue) (env own : MachineValue) (out : OutputValue) (old new : Option (List ℕ))
+    (r : Result Bool E) (o : Option Bool) → AreGiven A bytes f env out → own ≡ env → o ≡ result_ok r → IfOk r (IsJudged A f own out (Appends old new)) →
+    IfSome o (HasOutcome A bytes Replay (Appends old new))
+verdict {A} bytes f env own out old new (Ok b) o given e k h = rw k (f, env, out, given, subst (λ m. IsJudged A f m out (Appends old new) b) e h)
 verdict bytes f env own out old new (Err y) o given e k h = rw k tt
 
 -- a flush changes no judgement
-still_judged : (f : FunctionValue) (env : MachineValue) (out : OutputValue) (old shown new : Option (List ℕ)) (accepted : Bool) → Keeps shown new →
-    IsJudged f env out (Appends old shown) accepted → IsJudged f env out (Appends old new) accepted
+still_judged : (A : Type 0) (f : FunctionValue) (env : MachineValue) (out : OutputValue) (old shown new : Option (List ℕ)) (accepted : Bool) → Keeps shown new →
+    IsJudged A f env out (Appends old shown) accepted → IsJudged A f env out (Appends old new) accepted
 unfolding IsJudged
-still_judged f env out old shown new true k h = (h.0, Appends-kept old shown new checked_line h.1 k)
-still_judged f env out old shown new false k h = (h.0, h.1, Appends-kept old shown new (findings_text h.0) h.2 k)
+still_judged A f env out old shown new true k h = (h.0, h.1, Appends-kept old shown new checked_line h.2 k)
+still_judged A f env out old shown new false k h = (h.0, h.1, Appends-kept old shown new (findings_text h.0) h.2 k)
 
-kept : (bytes : Option (List ℕ)) (command : Command) (old shown new : Option (List ℕ)) (accepted : Bool) → Keeps shown new →
-    HasOutcome bytes command (Appends old shown) accepted → HasOutcome bytes command (Appends old new) accepted
-kept bytes (Allocate task) old shown new accepted k h = (h.0, h.1, h.2, flushed task h.0 h.1 old shown new accepted k h.3)
-kept bytes Replay old shown new accepted k h = (h.0, h.1, h.2, h.3, still_judged h.0 h.1 h.2 old shown new accepted k h.4)
+kept : (A : Type 0) (bytes : Option (List ℕ)) (command : Command) (old shown new : Option (List ℕ)) (accepted : Bool) → Keeps shown new →
+    HasOutcome A bytes command (Appends old shown) accepted → HasOutcome A bytes command (Appends old new) accepted
+kept A bytes (Allocate task) old shown new accepted k h = (h.0, h.1, h.2, flushed A task h.0 h.1 old shown new accepted k h.3)
+kept A bytes Replay old shown new accepted k h = (h.0, h.1, h.2, h.3, still_judged A h.0 h.1 h.2 old shown new accepted k h.4)
 
 -- what is given has the outcome, once the buffer is empty
-pub flushed_outcome : (bytes : Option (List ℕ)) (command : Command) (old shown new : Option (List ℕ)) (buffer : List ℕ) (accepted b : Bool) → accepted ≡ b →
-    Keeps shown (append_known new buffer) → buffer ≡ [] → HasOutcome bytes command (Appends old shown) accepted → HasOutcome bytes command (Appends old new) b
-flushed_outcome bytes command old shown new buffer accepted b d k n h =
-    subst (λ a. HasOutcome bytes command (Appends old new) a) d
-    (kept bytes command old shown new accepted (subst (λ x. Keeps shown x) (unbuffered new buffer n) k) h)
+pub flushed_outcome : (A : Type 0) (bytes : Option (List ℕ)) (command : Command) (old shown new : Option (List ℕ)) (buffer : List ℕ) (accepted b : Bool) →
+    accepted ≡ b → Keeps shown (append_known new buffer) → buffer ≡ [] → HasOutcome A bytes command (Appends old shown) accepted →
+    HasOutcome A bytes command (Appends old new) b
+flushed_outcome A bytes command old shown new buffer accepted b d k n h =
+    subst (λ a. HasOutcome A bytes command (Appends old new) a) d
+    (kept A bytes command old shown new accepted (subst (λ x. Keeps shown x) (unbuffered new buffer n) k) h)

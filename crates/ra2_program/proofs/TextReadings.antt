@@ -3,7 +3,6 @@ use Rattle.std.proofs.Common.{◌≡◌, ◌⊎◌, inl, inr, ℕ, List, Bool, f
 use Rattle.std.specs.Prelude.{IfOk, IfSome, is_some}
 use Rattle.std.specs.Option.{option_map}
 use Rattle.std.specs.Result.{result_ok}
-use Rattle.std.specs.declared.alloc.Global.{Global}
 use Rattle.serde_json.specs.Data.{Data}
 use Rattle.serde_json.specs.Read.{read}
 use Rattle.regalloc2_function.specs.Stored.{NamesValues}
@@ -20,7 +19,7 @@ taken P (Ok y) x e h = let same : y ≡ x = cc in subst P same h
 taken P (Err y) x e h = absurd cc
 
 -- a value that was read of a text, and a function that was read of the value
-pub text_of : {E : Type 0} (bytes : Option (List ℕ)) (text : List ℕ) (d : Data) (r : Result (StoredFunction Global) E) (o : Option (StoredFunction Global)) →
+pub text_of : {A E : Type 0} (bytes : Option (List ℕ)) (text : List ℕ) (d : Data) (r : Result (StoredFunction A) E) (o : Option (StoredFunction A)) →
     IfSome bytes (λ xs. text ≡ xs) → read text ≡ Some d → o ≡ result_ok r → IfOk r (λ s. IsFunctionAt d s) → IfSome o (IsTextOf bytes)
 text_of bytes text d (Ok s) o w h e k = rw e (known bytes w)
   where
@@ -30,7 +29,7 @@ text_of bytes text d (Ok s) o w h e k = rw e (known bytes w)
 text_of bytes text d (Err x) o w h e k = rw e tt
 
 -- a pair of a function and an output, at a value that was read of a text
-pub pair_of : (bytes : Option (List ℕ)) (text : List ℕ) (d : Data) (s : StoredFunction Global) (o : StoredOutput Global) →
+pub pair_of : {A : Type 0} (bytes : Option (List ℕ)) (text : List ℕ) (d : Data) (s : StoredFunction A) (o : StoredOutput A) →
     IfSome bytes (λ xs. text ≡ xs) → read text ≡ Some d → IsPairAt d s o → IsTextOfPair bytes s o
 pair_of bytes text d s o w h pair = known bytes w
   where
@@ -44,7 +43,7 @@ absent f None a b e i n = sym e
 absent f (Some x) a b e i n = absurd cc
 
 -- why an output's numbers name none
-pub output_fault : (o : StoredOutput Global) (e : StoredFault) → (e ≡ Bits → NamesValues o → ⊥) → (e ≡ Memory → NamesValues o) → (e ≡ Bits) ⊎ (e ≡ Memory)
-    → IsOutputFault o e
+pub output_fault : {A : Type 0} (o : StoredOutput A) (e : StoredFault) → (e ≡ Bits → NamesValues o → ⊥) → (e ≡ Memory → NamesValues o) →
+    (e ≡ Bits) ⊎ (e ≡ Memory) → IsOutputFault o e
 output_fault o e bits memory (inl h) = subst (IsOutputFault o) (sym h) (bits h)
 output_fault o e bits memory (inr h) = subst (IsOutputFault o) (sym h) (memory h)

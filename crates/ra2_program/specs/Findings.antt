@@ -1,6 +1,5 @@
 -- What the checker finds of an output that it doesn't accept, and its text.
 use Rattle.std.specs.Prelude.{ℕ, Bool, true, false, codes, List, [], ◌∷◌, ◌++◌, flat_map}
-use Rattle.std.specs.declared.alloc.Global.{Global}
 use Rattle.regalloc2_function.specs.FunctionValue.{FunctionValue}
 use Rattle.regalloc2_function.specs.Machine.{MachineValue}
 use Rattle.regalloc2_function.specs.OutputValue.{OutputValue, IsInOrder}
@@ -12,20 +11,20 @@ use Rattle.regalloc2_checker.specs.declared.errors.CheckerError.TheVariants.{Mal
 use Rattle.ra2_program.specs.Text.{checked_line}
 
 -- that it is out of order, or the faults of one that isn't faithful, or that memory ran out
-pub data AreFindings (f : FunctionValue) (env : MachineValue) (out : OutputValue) : List (CheckerError Global) → Type 0 where
+pub data AreFindings {A : Type 0} (f : FunctionValue) (env : MachineValue) (out : OutputValue) : List (CheckerError A) → Type 0 where
   malformed : (IsInOrder f out → ⊥) → AreFindings f env out (MalformedOutput ∷ [])
-  faults : (es : List (CheckerError Global)) → (IsFaithful f env out → ⊥) → IsReport f env out es → AreFindings f env out es
+  faults : (es : List (CheckerError A)) → (IsFaithful f env out → ⊥) → IsReport f env out es → AreFindings f env out es
   memory : AreFindings f env out (Memory ∷ [])
 
 -- each on a line of its own
-abbrev pub findings_text : List (CheckerError Global) → List ℕ
+abbrev pub findings_text : {A : Type 0} → List (CheckerError A) → List ℕ
 findings_text es = flat_map (λ e. fault_text e ++ codes "\n") es
 
--- they are written
-abbrev pub IsUnaccepted : FunctionValue → MachineValue → OutputValue → (List ℕ → Type 0) → Type 0
-IsUnaccepted f env out IsWritten = (es : List (CheckerError Global)) × AreFindings f env out es × IsWritten (findings_text es)
+-- they are written, the checker's memory being an A's
+abbrev pub IsUnaccepted : (A : Type 0) → FunctionValue → MachineValue → OutputValue → (List ℕ → Type 0) → Type 0
+IsUnaccepted A f env out IsWritten = (es : List (CheckerError A)) × AreFindings f env out es × IsWritten (findings_text es)
 
--- what judging an output comes to: it is faithful, and a line says so, or it isn't accepted
-unfoldable pub IsJudged : FunctionValue → MachineValue → OutputValue → (List ℕ → Type 0) → Bool → Type 0
-IsJudged f env out IsWritten true = IsFaithful f env out × IsWritten checked_line
-IsJudged f env out IsWritten false = IsUnaccepted f env out IsWritten
+-- what judging an output comes to: it is in order and faithful, and a line says so, or it isn't accepted
+unfoldable pub IsJudged : (A : Type 0) → FunctionValue → MachineValue → OutputValue → (List ℕ → Type 0) → Bool → Type 0
+IsJudged A f env out IsWritten true = IsInOrder f out × IsFaithful f env out × IsWritten checked_line
+IsJudged A f env out IsWritten false = IsUnaccepted A f env out IsWritten

@@ -1,6 +1,5 @@
 -- What the program is given: a text of stored numbers, and the function, the machine and the output that they name.
 use Rattle.std.specs.Prelude.{ℕ, ◌≡◌, List, Option, Some, None, IfSome}
-use Rattle.std.specs.declared.alloc.Global.{Global}
 use Rattle.serde_json.specs.Data.{Data}
 use Rattle.serde_json.specs.Find.{at}
 use Rattle.serde_json.specs.Read.{read}
@@ -21,11 +20,11 @@ use Rattle.ra2_program.specs.declared.reading.InputError.{InputError}
 use Rattle.ra2_program.specs.declared.reading.InputError.TheVariants.{Unreadable, BadFunction, BadMachine, BadOutput, NotFramed}
 
 -- the bytes, where they are known, are a JSON text of the stored numbers
-abbrev pub IsTextOf : Option (List ℕ) → StoredFunction Global → Type 0
+abbrev pub IsTextOf : {A : Type 0} → Option (List ℕ) → StoredFunction A → Type 0
 IsTextOf bytes s = IfSome bytes (λ text. (d : Data) × (read text ≡ Some d) × IsFunctionAt d s)
 
 -- a value is an array of just two: a function's numbers, and an output's
-pub record IsPairAt (d : Data) (s : StoredFunction Global) (o : StoredOutput Global) : Type 0 where
+pub record IsPairAt {A : Type 0} (d : Data) (s : StoredFunction A) (o : StoredOutput A) : Type 0 where
   pub first : Data
   pub second : Data
   pub at_first : at 0 d ≡ Some first
@@ -35,7 +34,7 @@ pub record IsPairAt (d : Data) (s : StoredFunction Global) (o : StoredOutput Glo
   pub output : output second ≡ Some (output_data o)
 
 -- why numbers name no output
-abbrev pub IsOutputFault : StoredOutput Global → StoredFault → Type 0
+abbrev pub IsOutputFault : {A : Type 0} → StoredOutput A → StoredFault → Type 0
 IsOutputFault o Bits = NamesValues o → ⊥
 IsOutputFault o Memory = NamesValues o
 IsOutputFault o Lengths = ⊥
@@ -43,35 +42,35 @@ IsOutputFault o Index = ⊥
 IsOutputFault o Limit = ⊥
 IsOutputFault o Shape = ⊥
 
--- the bytes are a text of sound numbers, which name this function and this machine
-pub record IsNamed (bytes : Option (List ℕ)) (f : FunctionValue) (env : MachineValue) : Type 0 where
-  pub stored : StoredFunction Global
+-- the bytes are a text of sound numbers, held in an A's memory, which name this function and this machine
+pub record IsNamed (A : Type 0) (bytes : Option (List ℕ)) (f : FunctionValue) (env : MachineValue) : Type 0 where
+  pub stored : StoredFunction A
   pub text : IsTextOf bytes stored
   pub sound : IsSound stored
   pub function : NamesFunction stored f
   pub machine : NamesMachine stored.machine_env env
 
 -- and the machine suits the function
-pub record IsGiven (bytes : Option (List ℕ)) (f : FunctionValue) (env : MachineValue) : Type 0 where
-  pub named : IsNamed bytes f env
+pub record IsGiven (A : Type 0) (bytes : Option (List ℕ)) (f : FunctionValue) (env : MachineValue) : Type 0 where
+  pub named : IsNamed A bytes f env
   pub fits : MachineFits f env
 
 -- why the bytes give none; a failed read, and running out of memory, leave any bytes unreadable
-abbrev pub IsInputFault : Option (List ℕ) → InputError → Type 0
-IsInputFault bytes Unreadable = Unit {0}
-IsInputFault bytes (BadFunction fault) = (s : StoredFunction Global) × IsTextOf bytes s × IsFaultOf s fault
-IsInputFault bytes BadMachine = (f : FunctionValue) × (env : MachineValue) × IsNamed bytes f env × (MachineFits f env → ⊥)
-IsInputFault bytes (BadOutput fault) = ⊥
-IsInputFault bytes NotFramed = ⊥
+abbrev pub IsInputFault : (A : Type 0) → Option (List ℕ) → InputError → Type 0
+IsInputFault A bytes Unreadable = Unit {0}
+IsInputFault A bytes (BadFunction fault) = (s : StoredFunction A) × IsTextOf bytes s × IsFaultOf s fault
+IsInputFault A bytes BadMachine = (f : FunctionValue) × (env : MachineValue) × IsNamed A bytes f env × (MachineFits f env → ⊥)
+IsInputFault A bytes (BadOutput fault) = ⊥
+IsInputFault A bytes NotFramed = ⊥
 
 -- the bytes, where they are known, are a JSON text of an array of just two: the stored numbers of a function, and those of an output
-abbrev pub IsTextOfPair : Option (List ℕ) → StoredFunction Global → StoredOutput Global → Type 0
+abbrev pub IsTextOfPair : {A : Type 0} → Option (List ℕ) → StoredFunction A → StoredOutput A → Type 0
 IsTextOfPair bytes s o = IfSome bytes (λ text. (d : Data) × (read text ≡ Some d) × IsPairAt d s o)
 
 -- the bytes are a text of sound numbers, which name this function, this machine and this output
-pub record AreNamed (bytes : Option (List ℕ)) (f : FunctionValue) (env : MachineValue) (out : OutputValue) : Type 0 where
-  pub stored : StoredFunction Global
-  pub stored_output : StoredOutput Global
+pub record AreNamed (A : Type 0) (bytes : Option (List ℕ)) (f : FunctionValue) (env : MachineValue) (out : OutputValue) : Type 0 where
+  pub stored : StoredFunction A
+  pub stored_output : StoredOutput A
   pub text : IsTextOfPair bytes stored stored_output
   pub sound : IsSound stored
   pub function : NamesFunction stored f
@@ -80,14 +79,14 @@ pub record AreNamed (bytes : Option (List ℕ)) (f : FunctionValue) (env : Machi
   pub output : out ≡ output_of_stored stored_output
 
 -- and the function is framed, so that the output can be judged
-pub record AreGiven (bytes : Option (List ℕ)) (f : FunctionValue) (env : MachineValue) (out : OutputValue) : Type 0 where
-  pub named : AreNamed bytes f env out
+pub record AreGiven (A : Type 0) (bytes : Option (List ℕ)) (f : FunctionValue) (env : MachineValue) (out : OutputValue) : Type 0 where
+  pub named : AreNamed A bytes f env out
   pub framed : IsFramed f
 
 -- why the bytes give none; a failed read, and running out of memory, leave any bytes unreadable
-abbrev pub IsPairFault : Option (List ℕ) → InputError → Type 0
-IsPairFault bytes Unreadable = Unit {0}
-IsPairFault bytes (BadFunction fault) = (s : StoredFunction Global) × (o : StoredOutput Global) × IsTextOfPair bytes s o × IsFaultOf s fault
-IsPairFault bytes (BadOutput fault) = (s : StoredFunction Global) × (o : StoredOutput Global) × IsTextOfPair bytes s o × IsSound s × IsOutputFault o fault
-IsPairFault bytes NotFramed = (f : FunctionValue) × (env : MachineValue) × (out : OutputValue) × AreNamed bytes f env out × (IsFramed f → ⊥)
-IsPairFault bytes BadMachine = ⊥
+abbrev pub IsPairFault : (A : Type 0) → Option (List ℕ) → InputError → Type 0
+IsPairFault A bytes Unreadable = Unit {0}
+IsPairFault A bytes (BadFunction fault) = (s : StoredFunction A) × (o : StoredOutput A) × IsTextOfPair bytes s o × IsFaultOf s fault
+IsPairFault A bytes (BadOutput fault) = (s : StoredFunction A) × (o : StoredOutput A) × IsTextOfPair bytes s o × IsSound s × IsOutputFault o fault
+IsPairFault A bytes NotFramed = (f : FunctionValue) × (env : MachineValue) × (out : OutputValue) × AreNamed A bytes f env out × (IsFramed f → ⊥)
+IsPairFault A bytes BadMachine = ⊥

@@ -33,19 +33,19 @@ IsDone task f env IsWritten = (out : OutputValue) × IsAllocated f env out × Is
 
 -- it isn't done: the function is refused, for a reason, and the reason's line is written; or there is such an output, but the checker
 -- doesn't accept it, and what is written is its listing and what the checker finds of it
-pub data IsTurnedDown (task : Task) (f : FunctionValue) (env : MachineValue) (IsWritten : List ℕ → Type 0) : Type 0 where
-  refused : (e : RegAllocError) → IsReason f env true e → IsWritten (refusal_line e) → IsTurnedDown task f env IsWritten
-  unaccepted : (out : OutputValue) → IsAllocated f env out → task ≡ Check → IsUnaccepted f env out (λ text. IsWritten (listing_text f out ++ text)) →
-      IsTurnedDown task f env IsWritten
+pub data IsTurnedDown (A : Type 0) (task : Task) (f : FunctionValue) (env : MachineValue) (IsWritten : List ℕ → Type 0) : Type 0 where
+  refused : (e : RegAllocError) → IsReason f env true e → IsWritten (refusal_line e) → IsTurnedDown A task f env IsWritten
+  unaccepted : (out : OutputValue) → IsAllocated f env out → task ≡ Check → IsUnaccepted A f env out (λ text. IsWritten (listing_text f out ++ text)) →
+      IsTurnedDown A task f env IsWritten
 
 -- what is accepted is done, and what isn't is turned down
-abbrev pub IsOutcome : Task → FunctionValue → MachineValue → (List ℕ → Type 0) → Bool → Type 0
-IsOutcome task f env IsWritten true = IsDone task f env IsWritten
-IsOutcome task f env IsWritten false = IsTurnedDown task f env IsWritten
+abbrev pub IsOutcome : (A : Type 0) → Task → FunctionValue → MachineValue → (List ℕ → Type 0) → Bool → Type 0
+IsOutcome A task f env IsWritten true = IsDone task f env IsWritten
+IsOutcome A task f env IsWritten false = IsTurnedDown A task f env IsWritten
 
 -- what bytes and a command have for an outcome, for the function and the machine that the bytes name, and for the output where one is to be judged
-abbrev pub HasOutcome : Option (List ℕ) → Command → (List ℕ → Type 0) → Bool → Type 0
-HasOutcome bytes (Allocate task) IsWritten accepted = (f : FunctionValue) × (env : MachineValue) × IsGiven bytes f env
-    × IsOutcome task f env IsWritten accepted
-HasOutcome bytes Replay IsWritten accepted = (f : FunctionValue) × (env : MachineValue) × (out : OutputValue) × AreGiven bytes f env out
-    × IsJudged f env out IsWritten accepted
+abbrev pub HasOutcome : (A : Type 0) → Option (List ℕ) → Command → (List ℕ → Type 0) → Bool → Type 0
+HasOutcome A bytes (Allocate task) IsWritten accepted = (f : FunctionValue) × (env : MachineValue) × IsGiven A bytes f env
+    × IsOutcome A task f env IsWritten accepted
+HasOutcome A bytes Replay IsWritten accepted = (f : FunctionValue) × (env : MachineValue) × (out : OutputValue) × AreGiven A bytes f env out
+    × IsJudged A f env out IsWritten accepted

@@ -14,7 +14,7 @@ use regalloc2::checker::{Checker, CheckerError};
 use regalloc2::{Algorithm, Function, MachineEnv, Output, RegallocOptions, run};
 use regalloc2_tool::listing::write_listing;
 use regalloc2_tool::refusal::number_of;
-use std::alloc::Global;
+use std::alloc::Allocator;
 use std::io::{self, Write};
 
 /// The program's own function was proved by nobody, so it is tested.
@@ -24,7 +24,7 @@ const OPTIONS: RegallocOptions = RegallocOptions {
 };
 
 /// Writes an error's line. The output isn't accepted.
-fn write_finding<O: Write>(error: &CheckerError, out: &mut O) -> io::Result<bool>
+fn write_finding<A: Allocator, O: Write>(error: &CheckerError<A>, out: &mut O) -> io::Result<bool>
     ensures { IfOk result (λ b. (b ≡ false) × Appends (O.contents out.old) (O.contents out.new) (findings_text (error.now ∷ []))) }
 {
     writeln!(out, "{error}")?;
@@ -32,7 +32,10 @@ fn write_finding<O: Write>(error: &CheckerError, out: &mut O) -> io::Result<bool
 }
 
 /// Writes a line for each error. The output isn't accepted.
-fn write_findings<O: Write>(errors: &[CheckerError], out: &mut O) -> io::Result<bool>
+fn write_findings<A: Allocator, O: Write>(
+    errors: &[CheckerError<A>],
+    out: &mut O,
+) -> io::Result<bool>
     ensures { IfOk result (λ b. (b ≡ false) × Appends (O.contents out.old) (O.contents out.new) (findings_text errors.now)) }
 {
     for error in errors {
@@ -50,15 +53,15 @@ fn write_checked<O: Write>(out: &mut O) -> io::Result<bool>
 }
 
 /// Writes `checked`, or the faults that the checker finds of an output. Whether there are none.
-pub fn judge<F: Function, O: Write>(
-    alloc: Global,
+pub fn judge<A: Allocator + Copy, F: Function, O: Write>(
+    alloc: A,
     f: &F,
-    env: &MachineEnv,
-    output: &Output,
+    env: &MachineEnv<A>,
+    output: &Output<A>,
     out: &mut O,
 ) -> io::Result<bool>
     requires framed { IsFramed (F.function f.now) }
-    ensures { IfOk result (IsJudged (F.function f.now) (machine_of env.now) (output_of output.now) (Appends (O.contents out.old) (O.contents out.new))) }
+    ensures { IfOk result (IsJudged A (F.function f.now) (machine_of env.now) (output_of output.now) (Appends (O.contents out.old) (O.contents out.new))) }
 {
     let mut checker = match Checker::new(alloc, f, env) {
         Ok(checker) => checker,
@@ -75,15 +78,15 @@ pub fn judge<F: Function, O: Write>(
 
 /// Allocates registers to a function, writes its listing or the number of the refusal, and judges it if asked. Whether
 /// nothing was refused, and no fault found.
-pub fn show<F: Function, O: Write>(
-    alloc: Global,
+pub fn show<A: Allocator + Copy, F: Function, O: Write>(
+    alloc: A,
     task: Task,
     f: &F,
-    env: &MachineEnv,
+    env: &MachineEnv<A>,
     out: &mut O,
 ) -> io::Result<bool>
     requires machine { MachineFits (F.function f.now) (machine_of env.now) }
-    ensures { IfOk result (IsOutcome task (F.function f.now) (machine_of env.now) (Appends (O.contents out.old) (O.contents out.new))) }
+    ensures { IfOk result (IsOutcome A task (F.function f.now) (machine_of env.now) (Appends (O.contents out.old) (O.contents out.new))) }
 {
     match run(alloc, f, env, &OPTIONS) {
         Ok(output) => {

@@ -9,7 +9,7 @@ ghost use Rattle.ra2_program.specs.Outcome.{HasOutcome};
 use super::judging::{judge, show};
 use super::reading::{function_from, replay_from};
 use super::task::{Command, Task};
-use std::alloc::Global;
+use std::alloc::{Allocator, Global};
 use std::io::{BufWriter, Read, Write};
 
 /// Status of bad words, of bad input and of output that can't be written.
@@ -28,16 +28,17 @@ pub fn refuse_words<E: Write>(err: &mut E) -> u8
 
 /// Does a task with the function that a reader gives. Whether it was done; nothing after a failed write, or if there is no
 /// function, of which `err` then gets a line.
-fn allocate<R: Read + Drop, O: Write, E: Write>(
-    alloc: Global,
+fn allocate<A: Allocator + Copy, R: Read + Drop, O: Write, E: Write>(
+    global: Global,
+    alloc: A,
     task: Task,
     input: R,
     out: &mut O,
     err: &mut E,
 ) -> Option<bool>
-    ensures { IfSome result (HasOutcome (R.remaining input) (Command.Allocate task) (Appends (O.contents out.old) (O.contents out.new))) }
+    ensures { IfSome result (HasOutcome A (R.remaining input) (Command.Allocate task) (Appends (O.contents out.old) (O.contents out.new))) }
 {
-    let f = match function_from(alloc, input) {
+    let f = match function_from(global, alloc, input) {
         Ok(f) => f,
         Err(error) => {
             let _ = writeln!(err, "ra2: {error}");
@@ -49,15 +50,16 @@ fn allocate<R: Read + Drop, O: Write, E: Write>(
 
 /// Judges the output that a reader gives with its function. Whether it is accepted; nothing after a failed write, or if
 /// there is no output, of which `err` then gets a line.
-fn replay<R: Read + Drop, O: Write, E: Write>(
-    alloc: Global,
+fn replay<A: Allocator + Copy, R: Read + Drop, O: Write, E: Write>(
+    global: Global,
+    alloc: A,
     input: R,
     out: &mut O,
     err: &mut E,
 ) -> Option<bool>
-    ensures { IfSome result (HasOutcome (R.remaining input) Command.Replay (Appends (O.contents out.old) (O.contents out.new))) }
+    ensures { IfSome result (HasOutcome A (R.remaining input) Command.Replay (Appends (O.contents out.old) (O.contents out.new))) }
 {
-    let (f, output) = match replay_from(alloc, input) {
+    let (f, output) = match replay_from(global, alloc, input) {
         Ok(given) => given,
         Err(error) => {
             let _ = writeln!(err, "ra2: {error}");
@@ -68,35 +70,38 @@ fn replay<R: Read + Drop, O: Write, E: Write>(
 }
 
 /// Obeys a command with what a reader gives.
-fn obey<R: Read + Drop, O: Write, E: Write>(
-    alloc: Global,
+fn obey<A: Allocator + Copy, R: Read + Drop, O: Write, E: Write>(
+    global: Global,
+    alloc: A,
     command: Command,
     input: R,
     out: &mut O,
     err: &mut E,
 ) -> Option<bool>
-    ensures { IfSome result (HasOutcome (R.remaining input) command (Appends (O.contents out.old) (O.contents out.new))) }
+    ensures { IfSome result (HasOutcome A (R.remaining input) command (Appends (O.contents out.old) (O.contents out.new))) }
 {
     match command {
-        Command::Allocate(task) => allocate(alloc, task, input, out, err),
-        Command::Replay => replay(alloc, input, out, err),
+        Command::Allocate(task) => allocate(global, alloc, task, input, out, err),
+        Command::Replay => replay(global, alloc, input, out, err),
     }
 }
 
 /// Obeys a command with what a reader gives, and answers the status. What it writes has left the buffer where that is 0 or 1.
-fn perform<R: Read + Drop, O: Write + Drop, E: Write>(
-    alloc: Global,
+fn perform<A: Allocator + Copy, R: Read + Drop, O: Write + Drop, E: Write>(
+    global: Global,
+    alloc: A,
     command: Command,
     input: R,
     out: &mut BufWriter<O>,
     err: &mut E,
 ) -> u8
     ensures status { result ≤ 2 }
-    ensures done { result ≡ 0 → HasOutcome (R.remaining input) command (Appends (writer_contents O.contents out.old) (O.contents (writer_inner out.new))) true }
-    ensures turned_down { result ≡ 1 → HasOutcome (R.remaining input) command (Appends (writer_contents O.contents out.old)
+    ensures done { result ≡ 0 → HasOutcome A (R.remaining input) command (Appends (writer_contents O.contents out.old)
+        (O.contents (writer_inner out.new))) true }
+    ensures turned_down { result ≡ 1 → HasOutcome A (R.remaining input) command (Appends (writer_contents O.contents out.old)
         (O.contents (writer_inner out.new))) false }
 {
-    let Some(accepted) = obey(alloc, command, input, out, err) else {
+    let Some(accepted) = obey(global, alloc, command, input, out, err) else {
         return UNUSABLE;
     };
     let Ok(()) = out.flush() else {
@@ -115,8 +120,11 @@ fn perform<R: Read + Drop, O: Write + Drop, E: Write>(
 /// The status is 0; or 1 where the function is refused or a fault is found; or 2, with one line on `err`, where words, input,
 /// stored numbers or machine are bad, which is judged in this order; for `replay` it is the words, the input, the function's
 /// numbers, the output's, and whether the function is framed. A failed write to `out` ends it with 2 and no further text.
-pub fn answer<R: Read + Drop, O: Write + Drop, E: Write>(
-    alloc: Global,
+///
+/// `serde_json` takes its memory from `global`, since it has no other; all else comes from `alloc`.
+pub fn answer<A: Allocator + Copy, R: Read + Drop, O: Write + Drop, E: Write>(
+    global: Global,
+    alloc: A,
     words: &[String],
     input: R,
     mut out: BufWriter<O>,
@@ -125,15 +133,15 @@ pub fn answer<R: Read + Drop, O: Write + Drop, E: Write>(
     ensures status { result.0 ≤ 2 }
     ensures bad_words { command_of words.now ≡ None → result.0 ≡ 2 }
     ensures done { result.0 ≡ 0 → (c : Command) × (command_of words.now ≡ Some c)
-        × HasOutcome (R.remaining input) c (Appends (writer_contents O.contents out) (O.contents result.1)) true }
+        × HasOutcome A (R.remaining input) c (Appends (writer_contents O.contents out) (O.contents result.1)) true }
     ensures turned_down { result.0 ≡ 1 → (c : Command) × (command_of words.now ≡ Some c)
-        × HasOutcome (R.remaining input) c (Appends (writer_contents O.contents out) (O.contents result.1)) false }
+        × HasOutcome A (R.remaining input) c (Appends (writer_contents O.contents out) (O.contents result.1)) false }
 {
     let Some(command) = Command::of(words) else {
         let (untouched, _) = out.into_parts();
         return (refuse_words(err), untouched);
     };
-    let status = perform(alloc, command, input, &mut out, err);
+    let status = perform(global, alloc, command, input, &mut out, err);
     // a buffer that is dropped would write once more what a failed write left in it
     let (written, _) = out.into_parts();
     (status, written)

@@ -12,7 +12,7 @@ use regalloc2::serialize::{
 use regalloc2::{Output, is_framed, machine_fits};
 use regalloc2_tool::stored_fault::number_of;
 use serde_json::Value;
-use std::alloc::Global;
+use std::alloc::{Allocator, Global};
 use std::fmt;
 use std::io::{self, Read};
 
@@ -53,23 +53,28 @@ impl fmt::Display for InputError {
 }
 
 /// The stored function whose JSON text the reader gives.
-fn stored_from<R: Read + Drop>(alloc: Global, input: R) -> Option<StoredFunction>
+fn stored_from<A: Allocator + Copy, R: Read + Drop>(
+    global: Global,
+    alloc: A,
+    input: R,
+) -> Option<StoredFunction<A>>
     ensures { IfSome result (IsTextOf (R.remaining input)) }
 {
     let text = io::read_to_string(alloc, input).ok()?;
-    let value = Value::from_str(alloc, &text).ok()?;
+    let value = Value::from_str(global, &text).ok()?;
     StoredFunction::from_value(alloc, &value).ok()
 }
 
 /// The function whose JSON text the reader gives, with its machine, which suits it.
-pub fn function_from<R: Read + Drop>(
-    alloc: Global,
+pub fn function_from<A: Allocator + Copy, R: Read + Drop>(
+    global: Global,
+    alloc: A,
     input: R,
-) -> Result<SerializableFunction, InputError>
-    ensures ok { IfOk result (λ f. IsGiven (R.remaining input) (function_of f) (machine_of f.machine)) }
-    ensures err { IfErr result (IsInputFault (R.remaining input)) }
+) -> Result<SerializableFunction<A>, InputError>
+    ensures ok { IfOk result (λ f. IsGiven A (R.remaining input) (function_of f) (machine_of f.machine)) }
+    ensures err { IfErr result (IsInputFault A (R.remaining input)) }
 {
-    let Some(stored) = stored_from(alloc, input) else {
+    let Some(stored) = stored_from(global, alloc, input) else {
         return Err(InputError::Unreadable);
     };
     let f = match SerializableFunction::from_stored(alloc, &stored) {
@@ -83,14 +88,15 @@ pub fn function_from<R: Read + Drop>(
 }
 
 /// The stored function and output whose JSON texts the reader gives, in an array of just these two.
-fn stored_pair_from<R: Read + Drop>(
-    alloc: Global,
+fn stored_pair_from<A: Allocator + Copy, R: Read + Drop>(
+    global: Global,
+    alloc: A,
     input: R,
-) -> Option<(StoredFunction, StoredOutput)>
+) -> Option<(StoredFunction<A>, StoredOutput<A>)>
     ensures { IfSome result (λ pair. IsTextOfPair (R.remaining input) pair.0 pair.1) }
 {
     let text = io::read_to_string(alloc, input).ok()?;
-    let value = Value::from_str(alloc, &text).ok()?;
+    let value = Value::from_str(global, &text).ok()?;
     if value.get(2).is_some() {
         return None;
     }
@@ -101,14 +107,15 @@ fn stored_pair_from<R: Read + Drop>(
 
 /// The function, with its machine, and the output whose JSON texts the reader gives. The function is framed, so that the
 /// output can be judged.
-pub fn replay_from<R: Read + Drop>(
-    alloc: Global,
+pub fn replay_from<A: Allocator + Copy, R: Read + Drop>(
+    global: Global,
+    alloc: A,
     input: R,
-) -> Result<(SerializableFunction, Output), InputError>
-    ensures ok { IfOk result (λ pair. AreGiven (R.remaining input) (function_of pair.0) (machine_of pair.0.machine) (output_of pair.1)) }
-    ensures err { IfErr result (IsPairFault (R.remaining input)) }
+) -> Result<(SerializableFunction<A>, Output<A>), InputError>
+    ensures ok { IfOk result (λ pair. AreGiven A (R.remaining input) (function_of pair.0) (machine_of pair.0.machine) (output_of pair.1)) }
+    ensures err { IfErr result (IsPairFault A (R.remaining input)) }
 {
-    let Some((stored, stored_output)) = stored_pair_from(alloc, input) else {
+    let Some((stored, stored_output)) = stored_pair_from(global, alloc, input) else {
         return Err(InputError::Unreadable);
     };
     let f = match SerializableFunction::from_stored(alloc, &stored) {

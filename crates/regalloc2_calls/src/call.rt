@@ -2,6 +2,7 @@
 
 ghost use Rattle.std.specs.Prelude.{◌≡◌, true, IfOk};
 ghost use Rattle.regalloc2_function.specs.Faithful.{IsFaithful};
+ghost use Rattle.regalloc2_function.specs.OutputValue.{IsInOrder};
 ghost use Rattle.regalloc2_function.specs.SourceRun.{IsWrittenFirst};
 ghost use Rattle.regalloc2_function.specs.Views.{machine_of, output_of};
 ghost use Rattle.regalloc2_function.specs.WellFormed.{IsFramed};
@@ -134,7 +135,8 @@ fn judge<F: Function, W: Write>(
     to: &mut W,
 ) -> Result<bool, CallError>
     requires framed { IsFramed (F.function f.now) }
-    ensures accepted { IfOk result (λ b. b ≡ true → IsFaithful (F.function f.now) (machine_of env.now) (output_of output.now)) }
+    ensures accepted { IfOk result (λ b. b ≡ true → IsInOrder (F.function f.now) (output_of output.now)
+        × IsFaithful (F.function f.now) (machine_of env.now) (output_of output.now)) }
 {
     let Ok(mut checker) = Checker::new(alloc, f, env) else {
         return Err(CallError::Memory);

@@ -2,16 +2,18 @@
 //!
 //! The texts come by line, each behind the words that `ra2` gets, with `+` between them. A text `~OLD~NEW` is the last whole one with OLD
 //! replaced by NEW; a line that begins with `#` is a title. Then come deep and large texts, and copies of all whole ones that are
-//! changed at random, from a fixed seed.
+//! changed at random, from a fixed seed. Last, with each whole text, `ra2` is refused each of its requests for memory in turn.
 
 ghost use Rattle.std.specs.Prelude.{◌<◌};
 
 mod asked;
 mod changed;
+mod refused;
 
 use super::random::Random;
 use asked::{Answer, ask};
 use changed::changed;
+use refused::show_refused;
 use std::alloc::{AllocError, Global};
 use std::io::{self, Write};
 
@@ -32,7 +34,7 @@ fn text_of(alloc: Global, whole: &str, text: &str) -> Result<String, AllocError>
 
 /// Writes what is answered to a text.
 fn show<W: Write>(alloc: Global, words: &str, text: &str, out: &mut W) -> io::Result<()> {
-    match ask(alloc, words, text.as_bytes()) {
+    match ask(alloc, alloc, words, text.as_bytes()) {
         Some(answer) => write!(out, "{answer}"),
         None => writeln!(out, "out of memory"),
     }
@@ -116,7 +118,7 @@ fn place_of(answer: Option<Answer>) -> usize
 fn count(alloc: Global, random: &mut Random, words: &str, text: &str, counts: &mut Counts) {
     for _ in 0..COPIES {
         let text = changed(alloc, random, text.as_bytes());
-        let place = place_of(text.and_then(|text| ask(alloc, words, text.as_slice())));
+        let place = place_of(text.and_then(|text| ask(alloc, alloc, words, text.as_slice())));
         counts[place] = counts[place].saturating_add(1);
     }
 }
@@ -133,7 +135,7 @@ fn fuzz(alloc: Global, lines: &str) -> Counts {
     counts
 }
 
-/// Writes what is answered to each line's text, to deep and large ones, and how often what to changed ones.
+/// Writes what is answered to each line's text, to deep and large ones, how often what to changed ones, and what to refused requests.
 pub fn show_fuzz<W: Write>(alloc: Global, lines: &str, out: &mut W) -> io::Result<()> {
     show_all(alloc, lines, out)?;
     let function = lines
@@ -149,5 +151,6 @@ pub fn show_fuzz<W: Write>(alloc: Global, lines: &str, out: &mut W) -> io::Resul
     writeln!(
         out,
         "{ran} changed texts ran: {done} of status 0, {refused} of 1, {unusable} of 2; {broken} crashed or broke a rule"
-    )
+    )?;
+    show_refused(alloc, lines, out)
 }

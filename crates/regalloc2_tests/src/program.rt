@@ -105,7 +105,7 @@ fn is_refused<R: Read + Drop>(
     let words = words(alloc, line)?;
     let out = BufWriter::new(alloc, Vec::new(alloc))?;
     let mut err = Vec::new(alloc);
-    let (status, out) = answer(alloc, words.as_slice(), input, out, &mut err);
+    let (status, out) = answer(alloc, alloc, words.as_slice(), input, out, &mut err);
     Ok(status == 2 && out.is_empty() && err.as_slice() == err_line.as_bytes())
 }
 
@@ -159,7 +159,14 @@ fn answer_faulty(alloc: Global, capacity: usize, sound_writes: u32) -> io::Resul
     let out = Faulty::new(alloc, sound_writes, true);
     let out = BufWriter::with_capacity(alloc, capacity, out)?;
     let mut err = Vec::new(alloc);
-    let (status, out) = answer(alloc, words.as_slice(), TEXT.as_bytes(), out, &mut err);
+    let (status, out) = answer(
+        alloc,
+        alloc,
+        words.as_slice(),
+        TEXT.as_bytes(),
+        out,
+        &mut err,
+    );
     if !err.is_empty() {
         return Ok((u8::MAX, out));
     }
@@ -196,7 +203,7 @@ pub fn failed_flush(alloc: Global) -> io::Result<(u8, bool, bool)> {
     let run = words(alloc, &["run"])?;
     let out = BufWriter::new(alloc, Faulty::new(alloc, u32::MAX, false))?;
     let mut err = Vec::new(alloc);
-    let (status, out) = answer(alloc, run.as_slice(), TEXT.as_bytes(), out, &mut err);
+    let (status, out) = answer(alloc, alloc, run.as_slice(), TEXT.as_bytes(), out, &mut err);
     let is_listed = out.text.as_slice() == LISTING.as_bytes();
     Ok((status, is_listed, err.is_empty()))
 }
@@ -206,6 +213,13 @@ pub fn shut_error_stream(alloc: Global) -> io::Result<(u8, bool)> {
     let walk = words(alloc, &["walk"])?;
     let out = BufWriter::new(alloc, Vec::new(alloc))?;
     let mut shut = Faulty::new(alloc, 0, false);
-    let (status, out) = answer(alloc, walk.as_slice(), TEXT.as_bytes(), out, &mut shut);
+    let (status, out) = answer(
+        alloc,
+        alloc,
+        walk.as_slice(),
+        TEXT.as_bytes(),
+        out,
+        &mut shut,
+    );
     Ok((status, out.is_empty()))
 }

@@ -1,27 +1,41 @@
 //! What `ra2` answers to words and a text.
 
 use ra2_program::answer;
-use std::alloc::Global;
+use std::alloc::{Allocator, Global};
 use std::io::BufWriter;
 use std::{fmt, str};
 
+/// The lines that say that memory ran out: those of status 2, on the standard error, then those of status 1.
+pub const LACKS: [&str; 5] = [
+    "ra2: input unreadable\n",
+    "ra2: bad function 5\n",
+    "ra2: bad output 5\n",
+    "refused 11\n",
+    "error 13\n",
+];
+
 /// What it wrote on each stream, and its status.
-#[derive(Drop)]
+#[derive(Drop, PartialEq)]
 pub struct Answer {
     pub status: u8,
     out: Vec<u8>,
     err: Vec<u8>,
 }
 
-/// Calls the function that `main` calls, with the words between `+`.
-pub fn ask(alloc: Global, line: &str, text: &[u8]) -> Option<Answer> {
-    let mut words = Vec::new(alloc);
+/// Calls the function that `main` calls, with the words between `+`, over an allocator.
+pub fn ask<A: Allocator + Copy>(
+    global: Global,
+    alloc: A,
+    line: &str,
+    text: &[u8],
+) -> Option<Answer> {
+    let mut words = Vec::new(global);
     for word in line.split('+') {
-        words.push(String::from_str(alloc, word).ok()?).ok()?;
+        words.push(String::from_str(global, word).ok()?).ok()?;
     }
-    let out = BufWriter::new(alloc, Vec::new(alloc)).ok()?;
-    let mut err = Vec::new(alloc);
-    let (status, out) = answer(alloc, words.as_slice(), text, out, &mut err);
+    let out = BufWriter::new(global, Vec::new(global)).ok()?;
+    let mut err = Vec::new(global);
+    let (status, out) = answer(global, alloc, words.as_slice(), text, out, &mut err);
     Some(Answer { status, out, err })
 }
 
@@ -63,5 +77,18 @@ impl Answer {
                 && !err.ends_with(" 5\n"),
             _ => false,
         }
+    }
+    /// Which of the lines says that memory ran out, behind a part of what is written with ample memory.
+    pub fn lack(&self, ample: &Answer) -> Option<usize> {
+        let (out, err) = (text_of(&self.out), text_of(&self.err));
+        let said = match self.status {
+            2 if out.is_empty() && err.starts_with("ra2: ") => err,
+            1 if err.is_empty() => out,
+            _ => return None,
+        };
+        LACKS.iter().position(|line| {
+            let before = said.strip_suffix(*line);
+            before.is_some_and(|before| text_of(&ample.out).starts_with(before))
+        })
     }
 }

@@ -13,9 +13,6 @@ use regalloc2::{
 use regalloc2_test_alloc::{Call, Refusing};
 use std::alloc::{AllocError, Allocator, Global};
 
-/// The text of an output that is empty but for its count of slots, which `run_with_ctx` is to leave if it is refused.
-const UNTOUCHED: &str = "7 [] [] [] []";
-
 /// A call.
 #[derive(Clone, Copy, Debug)]
 pub enum Name {
@@ -131,31 +128,39 @@ impl Given<'_> {
         }
     }
 
-    /// Runs with a context. An error leaves the output that it had.
+    /// Runs with a context. An error leaves the whole output that it had.
     fn run_once<A: Allocator + Copy>(&self, ctx: &mut Ctx<A>) -> Result<String, AllocError> {
+        let had = text_of(self.global, &ctx.output)?;
         let Some(answer) = run_with_ctx_fitting(self.f, self.f.machine_env(), ctx) else {
             return self.words("the machine doesn't fit");
         };
         let text = text_of(self.global, &ctx.output)?;
         match answer {
             Ok(_) => Ok(text),
-            Err(_) if text.as_str() != UNTOUCHED => self.words("the output is lost"),
+            Err(_) if text != had => self.words("the output is lost"),
             Err(error) => told(self.global, error),
         }
     }
 
-    /// If memory runs out, the context serves once more.
+    /// Runs three times with a context, so that the second call finds an output, and the third one shows that the context still serves.
     fn run_with_ctx<A: Allocator + Copy>(&self, alloc: A) -> Result<String, AllocError> {
         let mut ctx = Ctx::new(alloc);
         ctx.output.num_spillslots = 7;
-        let first = self.run_once(&mut ctx);
-        if first.is_ok() {
-            return first;
+        let (first, second) = (self.run_once(&mut ctx), self.run_once(&mut ctx));
+        let third = self.run_once(&mut ctx)?;
+        let mut is_refused = false;
+        for run in [first, second] {
+            match run {
+                Ok(text) if text != third => return Ok(text),
+                Ok(_) => {}
+                Err(_) if third != self.wanted => return self.words("the context serves no more"),
+                Err(_) => is_refused = true,
+            }
         }
-        match self.run_once(&mut ctx) {
-            Ok(text) if text == self.wanted => Err(AllocError),
-            _ => self.words("the context serves no more"),
+        if is_refused {
+            return Err(AllocError);
         }
+        Ok(third)
     }
 
     fn run_tested<A: Allocator + Copy>(&self, alloc: A) -> Result<String, AllocError> {
@@ -223,8 +228,9 @@ impl Given<'_> {
         if !is_framed(self.f) {
             return self.words("not framed");
         }
-        let Ok(mut checker) = Checker::new(alloc, self.f, self.f.machine_env()) else {
-            return Err(AllocError);
+        let mut checker = match Checker::new(alloc, self.f, self.f.machine_env()) {
+            Ok(checker) => checker,
+            Err(error) => return faults(self.global, &[error]),
         };
         let prepared = checker.prepare(out);
         let is_refused = matches!(prepared, Err(CheckerError::Memory));

@@ -1,4 +1,5 @@
-use Rattle.std.proofs.Common.{ap, ◌∙◌}
+use Rattle.std.proofs.Common.{ap, subst, ◌∙◌}
+use Rattle.regalloc2_function.specs.OutputValue.{IsInOrder}
 use Rattle.regalloc2_function.specs.Views.{output_of}
 use Rattle.ra2_program.proofs.FindingsWritten.{unmade, untaken, faulty, faithful}
 use Rattle.ra2_program.proofs.judging.judge.Goals as goal
@@ -13,9 +14,11 @@ returns-in-Err-prepare g c =
 
 pub returns-in-Ok-run : goal.returns-in-Ok-run
 returns-in-Ok-run g c =
-    faithful c.write_checked.result _ _ _ _ (output_of c.args.output.now) _ _ _ (ap g.F.Function.function (c.in_default.ensures.subject ∙ c.in-Ok.ensures.ok.0))
-    (c.in_default.ensures.machine ∙ c.in-Ok.ensures.ok.1)
-    c.in_default.ensures.ok.1 c.in-Ok-run.ensures.accepted c.write_checked.ensures
+    faithful _ c.write_checked.result _ _ _ _ (output_of c.args.output.now) _ _ _
+    (ap g.F.Function.function (c.in_default.ensures.subject ∙ c.in-Ok.ensures.ok.0)) (c.in_default.ensures.machine ∙ c.in-Ok.ensures.ok.1)
+    c.in_default.ensures.ok.1
+    (subst (λ x. IsInOrder (g.F.Function.function x) (output_of c.args.output.now)) c.in-Ok.ensures.ok.0 c.in_default.ensures.ok.0)
+    c.in-Ok-run.ensures.accepted c.write_checked.ensures
 
 pub returns-in-Err-run : goal.returns-in-Err-run
 returns-in-Err-run g c =
