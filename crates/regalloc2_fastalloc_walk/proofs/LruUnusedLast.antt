@@ -1,16 +1,15 @@
 -- LRU lists, of whose registers those that weren't used are at the end.
 use Rattle.std.proofs.Common.{ℕ, zero, suc, ◌≡◌, ◌+◌, ◌<◌, ◌≤◌, inl, inr, Bool, true, false, List, [], ◌∷◌, ◌++◌, cond, slice_index_or, length}
 use Rattle.std.proofs.Common.{refl, arith, sym, ap, ◌∙◌, subst}
-use Rattle.std.specs.Prelude.{Some, Contains, filter, find, not, reverse}
+use Rattle.std.specs.Prelude.{Some, Contains, filter, find, not, reverse, ◌↔◌}
 use Rattle.std.proofs.lemmas.Bool.{cases_Bool}
 use Rattle.std.proofs.lemmas.List.{append_assoc, reverse-append}
-use Rattle.std.proofs.lemmas.List.Elements.{Contains-append_right, filter-append}
+use Rattle.std.proofs.lemmas.List.Elements.{All-contains, All-contains_itself, All-filter, Contains-append_right, filter-append}
 use Rattle.regalloc2_names.specs.declared.RegClass.{RegClass}
 use Rattle.regalloc2_names.specs.Register.{Register, class_code, is_register}
 use Rattle.regalloc2_names.specs.Same.{is_register-same, is_register-true}
 use Rattle.regalloc2_function.specs.Fitting.{count_below, register_number}
 use Rattle.regalloc2_fastalloc_state.specs.StateParts.{AreLrus, IsLruOf, AllocatableRegsValue, lru_of}
-use Rattle.regalloc2_parts.proofs.Poked.{kept, was_there}
 
 -- all others than a register
 abbrev pub but : Register → List Register → List Register
@@ -38,13 +37,34 @@ but_less r (x ∷ xs) (suc k, less, at) = by (is_register r x) (but_less r xs (k
     by true h = omega (arith, h)
     by false h = omega (arith, h)
 
+still_in : (b : Bool) (x q : Register) (xs : List Register) → Contains xs q → Contains (cond b (x ∷ xs) xs) q
+still_in true x q xs (k, less, at) = (suc k, omega arith, at)
+still_in false x q xs h = h
+
 -- without one register a list still has each other one that it had
 pub but_others : (r q : Register) (xs : List Register) → Contains xs q → is_register r q ≡ false → Contains (but r xs) q
-but_others r q xs h e = kept (λ x. not (is_register r x)) xs q h (rw e refl)
+but_others r q [] (k, less, at) e = absurd (omega arith)
+but_others r q (x ∷ xs) (zero, less, at) e =
+    let here : is_register r x ≡ false = subst (λ (y : Register). is_register r y ≡ false) (sym at) e in
+    rw here (0, omega arith, at)
+but_others r q (x ∷ xs) (suc k, less, at) e = still_in (not (is_register r x)) x q (but r xs) (but_others r q xs (k, omega arith, at) e)
 
 -- what is in a list without one register is in the list
 pub but_from : (r q : Register) (xs : List Register) → Contains (but r xs) q → Contains xs q
-but_from r q xs h = was_there (λ x. not (is_register r x)) xs q h
+but_from r q xs h =
+    All-contains (Contains xs) (but r xs) q (All-filter (λ x. not (is_register r x)) (Contains xs) xs (All-contains_itself xs)) h
+
+-- with its member in front it has the same members
+pub same_members : (r : Register) (xs : List Register) → Contains xs r → (q : Register) → Contains (r ∷ but r xs) q ↔ Contains xs q
+same_members r xs there q = (onward, back (is_register r q) refl)
+  where
+    onward : Contains (r ∷ but r xs) q → Contains xs q
+    onward (zero, less, at) = subst (λ (y : Register). Contains xs y) at there
+    onward (suc k, less, at) = but_from r q xs (k, omega arith, at)
+
+    back : (b : Bool) → is_register r q ≡ b → Contains xs q → Contains (r ∷ but r xs) q
+    back true e h = (0, omega arith, is_register-true r q e)
+    back false e h = still_in true r q (but r xs) (but_others r q xs h e)
 
 -- it isn't there any more
 pub but_not : (r : Register) (xs : List Register) → Contains (but r xs) r → ⊥

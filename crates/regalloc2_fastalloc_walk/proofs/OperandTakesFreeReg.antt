@@ -14,7 +14,6 @@ use Rattle.regalloc2_names.specs.RegisterSet.{has_register}
 use Rattle.regalloc2_names.specs.Place.{Place, NoPlace, InRegister, InSlot, is_no_place}
 use Rattle.regalloc2_names.specs.Same.{is_register-true}
 use Rattle.regalloc2_function.specs.Fitting.{count_below, register_number}
-use Rattle.regalloc2_parts.proofs.Poked.{same_members}
 use Rattle.regalloc2_fastalloc_state.specs.declared.request.OperandRequest.{OperandRequest}
 use Rattle.regalloc2_fastalloc_state.specs.declared.request.Requirement.TheVariants.{AnyPlace, AnyReg, InMemory}
 use Rattle.regalloc2_fastalloc_state.specs.declared.inst_regs.Positions.{Positions}
@@ -25,7 +24,7 @@ use Rattle.regalloc2_fastalloc_state.specs.InstRegs.{RemovesAvailable, is_free_t
 use Rattle.regalloc2_fastalloc_proofs.specs.InstSteps.{StateValue, AllocsOperand, ClaimsPlace, SelectsPlace, MeetsRequirement, in_slot, in_register}
 use Rattle.regalloc2_fastalloc_proofs.specs.InstSteps.{own, others, empty, cleared, stays, fixed, slot, free, is_stack_in, EvictsOthers}
 use Rattle.regalloc2_fastalloc_walk.proofs.RegsReserved.{takes_held}
-use Rattle.regalloc2_fastalloc_walk.proofs.LruUnusedLast.{but, but_from, but_less, but_most, but_not, counted, found_last, newest_first}
+use Rattle.regalloc2_fastalloc_walk.proofs.LruUnusedLast.{but, but_from, but_less, but_most, but_not, counted, found_last, newest_first, same_members}
 use Rattle.regalloc2_fastalloc_walk.specs.SpillFree.{FitInRegs, SelectsAnyReg, IsSpillFree, IsSpillFreeIn, AllocsAnyReg, Pokes, is_same_number}
 use Rattle.regalloc2_fastalloc_walk.specs.SpillFree.{newest, not_allocatable, least_recently_used_free, where_it_stands}
 
