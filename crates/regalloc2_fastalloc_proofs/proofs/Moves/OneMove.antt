@@ -6,9 +6,9 @@ use Rattle.regalloc2_names.specs.declared.RegClass.{RegClass}
 use Rattle.regalloc2_names.specs.RegisterSet.{has_register}
 use Rattle.regalloc2_names.specs.Register.{Register}
 use Rattle.regalloc2_names.specs.Place.{Place, NoPlace, InRegister, InSlot}
-use Rattle.regalloc2_names.proofs.EqualNames.{is_place-same, is_place-other}
 use Rattle.regalloc2_function.specs.OutputValue.{MoveValue}
 use Rattle.regalloc2_parts.specs.AtOnce.{ends_of, names, in_turn}
+use Rattle.regalloc2_semantics.proofs.Cells.{is_place-same, is_place-other}
 use Rattle.regalloc2_fastalloc_state.specs.declared.inst_regs.InstRegs.{InstRegs}
 use Rattle.regalloc2_fastalloc_state.specs.ScratchPool.{Moves}
 use Rattle.regalloc2_fastalloc_proofs.specs.InstSteps.{StateValue, a_move}
