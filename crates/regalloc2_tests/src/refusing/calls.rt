@@ -230,7 +230,8 @@ impl Given<'_> {
         }
         let mut checker = match Checker::new(alloc, self.f, self.f.machine_env()) {
             Ok(checker) => checker,
-            Err(error) => return faults(self.global, &[error]),
+            Err(CheckerError::Memory) => return Err(AllocError),
+            Err(error) => return format!(in self.global; "{error}"),
         };
         let prepared = checker.prepare(out);
         let is_refused = matches!(prepared, Err(CheckerError::Memory));
