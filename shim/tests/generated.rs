@@ -21,15 +21,18 @@ fn outputs_pass_the_checker() {
 #[test]
 fn damaged_outputs_do_not() {
     let env = machine();
-    let mut damaged = 0;
+    let (mut damaged, mut caught) = (0, 0);
     for seed in 0..100 {
         let code = generated(seed, 6);
         let mut output = run(&code, &env, &RegallocOptions::default()).unwrap();
-        let Some((_, Edit::Move { from, to })) = output.edits.last_mut() else {
+        // the first move stores what is read later; a last one may fill a slot that nothing reads
+        let Some((_, Edit::Move { from, to })) = output.edits.first_mut() else {
             continue;
         };
         std::mem::swap(from, to);
-        damaged += usize::from(check(&code, &env, &output).is_err());
+        damaged += 1;
+        caught += usize::from(check(&code, &env, &output).is_err());
     }
-    assert!(damaged > 0);
+    assert!(damaged >= 80, "{damaged} outputs have moves");
+    assert!(caught * 10 >= damaged * 9, "{caught} of {damaged} damaged outputs don't pass");
 }
