@@ -58,10 +58,10 @@ compiled_c() {
     step "$name.c compiles without a warning" "$cc" -std=c11 -Wall -Wextra -Werror -O2 -o "$made/bin/$name" "$@"
 }
 
-# Runs each line `$ COMMAND` of test.txt in the folder examples, and writes that line, what the command wrote, each line on
-# standard error behind a `!`, and its status if that isn't 0.
+# Runs each line `$ COMMAND` of test.txt in a copy of the folder examples, and writes that line, what the command wrote, each line
+# on standard error behind a `!`, and its status if that isn't 0.
 transcript() {
-    cd "$top/examples" || return 1
+    cp -r "$top/examples" "$made/examples" && cp "$top/crates/ra2_text/data/wrong_way.txt" "$made/examples" && cd "$made/examples" || return 1
     grep '^\$ ' "$here/test.txt" | while IFS= read -r line; do
         echo "$line"
         PATH="$made/bin:$PATH" sh -c "${line#??}" 2>"$made/err" </dev/null

@@ -1,6 +1,6 @@
 -- Blocks, each with a virtual register, and how lists of them grow.
 use Rattle.std.proofs.Common.{ℕ, ◌≡◌, Bool, true, false, cond, List, [], ◌∷◌, ◌++◌, refl, sym, ap, ◌∙◌, subst, nat_eq, eqb-true, eq-eqb, append_assoc}
-use Rattle.std.proofs.Common.{append-nil, inl, inr, ◌⊎◌}
+use Rattle.std.proofs.Common.{append-nil, inl, inr, ◌⊎◌, IsTrue}
 use Rattle.std.specs.Prelude.{◌&&◌, ◌||◌, not}
 use Rattle.std.proofs.lemmas.Bool.{cases_Bool}
 use Rattle.std.proofs.lemmas.List.Folds.{list_any-append}
@@ -23,6 +23,14 @@ pub and_true : (a b : Bool) → (a && b) ≡ true → (a ≡ true) × (b ≡ tru
 and_true true true h = (refl, refl)
 and_true true false h = absurd cc
 and_true false b h = absurd cc
+
+-- where a test that is exact says no, the fact doesn't hold
+pub not_so : {P : Type 0} (b : Bool) → b ≡ false → (P → IsTrue b) → P → ⊥
+not_so b e f p = let t : b ≡ true = f p in cc
+
+-- a test that says no doesn't hold
+pub never_true : IsTrue false → ⊥
+never_true t = cc
 
 -- if `a or b` is true, one of them is
 pub or_true : (a b : Bool) → (a || b) ≡ true → (a ≡ true) ⊎ (b ≡ true)

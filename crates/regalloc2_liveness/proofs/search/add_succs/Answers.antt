@@ -2,8 +2,8 @@ use Rattle.std.proofs.Common.{ℕ, ◌≡◌, ◌<◌, ◌∙◌, ap, sym, false
 use Rattle.std.specs.Prelude.{slice_index}
 use Rattle.std.proofs.lemmas.List.Elements.{All-push}
 use Rattle.regalloc2_function.specs.FunctionValue.{FunctionValue, block_at}
-use Rattle.regalloc2_function.proofs.Tests.{not_so}
 use Rattle.regalloc2_semantics.specs.Blocks.{names, target_at}
+use Rattle.regalloc2_liveness.proofs.PairLists.{not_so}
 use Rattle.regalloc2_liveness.specs.Search.{LeadsBack}
 use Rattle.regalloc2_liveness.proofs.SearchedBack.{leads_over, names_not}
 use Rattle.regalloc2_liveness.proofs.SitesKept.{same_within}
