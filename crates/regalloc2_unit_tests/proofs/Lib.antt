@@ -1,2 +1,3 @@
 mod Rising
 mod MadeRings
+mod Handing

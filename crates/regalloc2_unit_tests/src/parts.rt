@@ -3,6 +3,7 @@
 mod calls;
 mod listed;
 pub mod refused;
+mod resolver;
 mod structures;
 
 use crate::report::Report;
@@ -16,6 +17,9 @@ pub fn write_all(alloc: Global, out: &mut Report) -> Result<(), AllocError> {
     let _ = structures::write_emptied(alloc, out);
     structures::write_picks(out);
     listed::write_resolved(alloc, out);
+    listed::write_left(alloc, out);
+    resolver::write_computed(alloc, out);
     calls::write_scheduled(alloc, out)?;
+    calls::write_refused(alloc, out)?;
     calls::write_long(alloc, out)
 }

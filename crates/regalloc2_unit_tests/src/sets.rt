@@ -15,6 +15,9 @@ pub fn write_all(alloc: Global, out: &mut Report) -> Result<(), AllocError> {
     write_counts(out);
     write_ranges(out);
     write_inline(alloc, out)?;
+    let ample = Refusing::counting(alloc);
+    write_left(out, &ample, &Refusing::new(alloc, 1), true)?;
+    write_left(out, &ample, &Refusing::new(alloc, 1), false)?;
     write_members(alloc, out)
 }
 
@@ -115,6 +118,29 @@ fn write_inline(global: Global, out: &mut Report) -> Result<(), AllocError> {
     out.row("the thirteenth refused", &row);
     set.set(64 * 200, true)?;
     out.row("thirteen", &(count_and_sum(&set), set.get(64 * 200)));
+    Ok(())
+}
+
+/// Writes what is left of a set of one member, to which a set of 40 words is assigned or added, if the allocator of its own refuses a
+/// growth. Of a union the words for which there is room are left.
+fn write_left<'a>(
+    out: &mut Report,
+    ample: &'a Refusing<Global>,
+    short: &'a Refusing<Global>,
+    assigns: bool,
+) -> Result<(), AllocError> {
+    let mut other = IndexSet::new(ample);
+    for word in 0..40usize {
+        other.set(64 * word, true)?;
+    }
+    let mut set = IndexSet::new(short);
+    set.set(7, true)?;
+    let is_refused = if assigns {
+        set.assign(&other).is_err()
+    } else {
+        set.union_with(&other).is_err()
+    };
+    out.row("left", &(is_refused, count_and_sum(&set)));
     Ok(())
 }
 

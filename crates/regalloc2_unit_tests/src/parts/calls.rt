@@ -4,8 +4,9 @@ ghost use Rattle.std.specs.Prelude.{◌≤◌, IfOk};
 
 use super::listed::{Pairs, SLOT, place, write_moves};
 use crate::report::Report;
-use regalloc2_callmoves::{CallFrame, schedule};
+use regalloc2_callmoves::{CallFault, CallFrame, schedule};
 use regalloc2_names::{Allocation, PReg, PRegSet, RegClass};
+use regalloc2_test_alloc::Refusing;
 use std::alloc::{AllocError, Global};
 
 /// A number that stands for no place.
@@ -110,5 +111,55 @@ pub fn write_long(alloc: Global, out: &mut Report) -> Result<(), AllocError> {
     let frame = frame_of(alloc, &[], 3, 20, 2)?;
     let made = schedule(alloc, moves.as_slice(), &frame);
     out.row("long", &made.map(|moves| moves.len()));
+    Ok(())
+}
+
+/// Whether growths, each refused in turn, leave a call's answer as it was, make it `Memory`, or make it another.
+fn answers_refused(
+    global: Global,
+    moves: &[(Allocation, Allocation)],
+    frame: &CallFrame,
+    wanted: &Result<usize, CallFault>,
+) -> (bool, bool, bool)
+    requires range { frame.now.slots.start ≤ frame.now.slots.«end» }
+    requires small { frame.now.slots.«end» ≤ 16777216 }
+{
+    let mut seen = (false, false, false);
+    for nth in 1..1000u64 {
+        let alloc = Refusing::new(global, nth);
+        let answer = schedule(&alloc, moves, frame).map(|moves| moves.len());
+        if !alloc.has_refused() {
+            seen.2 = seen.2 || answer != *wanted;
+            return seen;
+        }
+        seen.0 = seen.0 || answer == *wanted;
+        seen.1 = seen.1 || answer == Err(CallFault::Memory);
+        seen.2 = seen.2 || (answer != *wanted && answer != Err(CallFault::Memory));
+    }
+    (false, false, true)
+}
+
+/// The moves of a cycle of 17 slots, and one before them.
+fn cycle_after(
+    alloc: Global,
+    first: (usize, usize),
+) -> Result<Vec<(Allocation, Allocation)>, AllocError> {
+    let mut moves = vec![in alloc; (place(first.0), place(first.1))]?;
+    for at in 0..17usize {
+        moves.push((place(SLOT + at), place(SLOT + (at + 1) % 17)))?;
+    }
+    Ok(moves)
+}
+
+/// Writes what is made of such a cycle, and what the answers are where a growth is refused.
+pub fn write_refused(global: Global, out: &mut Report) -> Result<(), AllocError> {
+    for (first, free) in [((0, 1), 5), ((0, SLOT + 2), 5), ((0, 1), 0)] {
+        let moves = cycle_after(global, first)?;
+        let frame = frame_of(global, &[free], 2, 20, 2)?;
+        let wanted = schedule(global, moves.as_slice(), &frame).map(|moves| moves.len());
+        let seen = answers_refused(global, moves.as_slice(), &frame, &wanted);
+        out.row("scheduled", &wanted);
+        out.row("refused: the same, Memory, another", &seen);
+    }
     Ok(())
 }

@@ -10,10 +10,11 @@ use crate::report::Report;
 use regalloc2_names::{Allocation, PReg, RegClass, SpillSlot};
 use regalloc2_parts::moves::MoveVecWithScratch::{NoScratch, Scratch};
 use regalloc2_parts::moves::{MoveFault, MoveVecWithScratch, ParallelMoves};
+use regalloc2_test_alloc::Refusing;
 use std::alloc::{Allocator, Global};
 
 /// A move from a place to a place.
-type Move = (Allocation, Allocation, u32);
+pub type Move = (Allocation, Allocation, u32);
 
 /// The number of the first spill slot.
 pub const SLOT: usize = 64;
@@ -43,7 +44,8 @@ pub fn place(number: usize) -> Allocation
     }
 }
 
-/// What moves between places of these numbers resolve to, or none where two into one place have two sources.
+/// What moves between places of these numbers resolve to, or none where two into one place have two sources. A move that is refused
+/// memory is left out.
 pub fn resolved<'a, A: Allocator>(
     global: Global,
     alloc: &'a A,
@@ -55,8 +57,9 @@ pub fn resolved<'a, A: Allocator>(
     let mut list = Vec::new(global);
     for (from, to) in pairs {
         let m = (place(*from), place(*to), 7u32);
-        moves.add(m.0, m.1, m.2)?;
-        list.push(m)?;
+        if moves.add(m.0, m.1, m.2).is_ok() {
+            list.push(m)?;
+        }
     }
     if !has_one_source_each(list.as_mut_slice()) {
         return Ok(None);
@@ -109,5 +112,17 @@ pub fn write_resolved(alloc: Global, out: &mut Report) {
             Ok(Some(Scratch(m))) => write_moves(out, "with scratch", m.as_slice()),
             _ => out.row("resolve", &"nothing"),
         }
+    }
+}
+
+/// Writes what is left of 17 moves if the growth for the last of them is refused: the 16 before it.
+pub fn write_left(global: Global, out: &mut Report) {
+    let alloc = Refusing::new(global, 1);
+    let mut pairs = [(0, 20); 17];
+    for at in 0..pairs.len() {
+        pairs[at] = (at, at + 20);
+    }
+    if let Ok(Some(NoScratch(m))) = resolved(global, &alloc, &pairs) {
+        write_moves(out, "the 17th refused", m.as_slice());
     }
 }

@@ -7,6 +7,7 @@ use regalloc2_cfg::indexset::IndexSet;
 use regalloc2_function::{MachineEnv, Output, StoredFault, StoredOutput, is_framed};
 use regalloc2_names::{PRegSet, RegAllocError};
 use regalloc2_parts::moves::MoveFault;
+use regalloc2_parts::moves::MoveVecWithScratch::{NoScratch, Scratch};
 use regalloc2_parts::vregset::VRegSet;
 use regalloc2_serialize::{FromValue, SerializableFunction, StoredFunction};
 use regalloc2_test_alloc::{Call, Refusing, is_each_told};
@@ -36,7 +37,7 @@ impl Call for Made<'_> {
     }
 }
 
-/// Makes rings and a list, and resolves a cycle of 17 slots.
+/// Makes rings and a list, and resolves a cycle of 17 slots. If one of them is left out, the others need no scratch place.
 fn make_parts(global: Global, alloc: &Refusing<Global>) -> Result<(), RegAllocError> {
     let _rings = three_rings(alloc)?;
     let _list = VRegSet::with_capacity(alloc, 3)?;
@@ -45,8 +46,8 @@ fn make_parts(global: Global, alloc: &Refusing<Global>) -> Result<(), RegAllocEr
         cycle.push((SLOT + at, SLOT + (at + 1) % 17))?;
     }
     match resolved(global, alloc, cycle.as_slice()) {
-        Ok(Some(_)) => Ok(()),
-        Err(MoveFault::Memory) => Err(RegAllocError::Memory),
+        Ok(Some(Scratch(_))) => Ok(()),
+        Ok(Some(NoScratch(_))) | Err(MoveFault::Memory) => Err(RegAllocError::Memory),
         _ => Err(RegAllocError::TooManySpillSlots),
     }
 }
