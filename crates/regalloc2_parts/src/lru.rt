@@ -83,6 +83,8 @@ impl<A: Allocator> Lru<A> {
     }
 
     /// Makes a member the newest; the others keep their order.
+    ///
+    /// Changes at most six links between nodes. The contract of `poke_node` says so; this one sees the list alone.
     #[inline(always)]
     pub fn poke(&mut self, preg: PReg)
         requires { Contains self.old preg }

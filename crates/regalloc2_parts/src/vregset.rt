@@ -101,6 +101,8 @@ impl<A: Allocator> VRegSet<A> {
     }
 
     /// Puts a vreg in front. Its number is below the capacity and no member's.
+    ///
+    /// Changes at most four links between nodes. The contract of `insert_node` says so; this one sees the list alone.
     pub fn insert(&mut self, vreg: VReg)
         requires below { vreg.number < self.old.capacity }
         requires absent { All (λ v. v.number ≢ vreg.number) self.old.members }
@@ -111,6 +113,8 @@ impl<A: Allocator> VRegSet<A> {
     }
 
     /// Takes the member with this number out; the others keep their order.
+    ///
+    /// Changes at most two links between nodes. The contract of `remove_node` says so; this one sees the list alone.
     pub fn remove(&mut self, vreg_num: usize)
         requires { Any (λ v. v.number ≡ vreg_num) self.old.members }
         ensures removed { self.new ≡ record self.old { members = filter (λ v. not (v.number == vreg_num)) self.old.members } }
