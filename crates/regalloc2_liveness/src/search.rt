@@ -1,11 +1,12 @@
 //! Whether a path from the entry comes to a block that reads or passes a vreg, without a write of that vreg before.
 
-ghost use Rattle.std.specs.Prelude.{◌≡◌, ◌<◌, ◌↔◌, ℕ, All, Any, length, true, Contains, IfOk, IsTrue, OnOk};
-ghost use Rattle.regalloc2_function.specs.FunctionValue.{block_at};
+ghost use Rattle.std.specs.Prelude.{◌≡◌, ◌<◌, ◌↔◌, ℕ, All, Any, length, true, Contains, IfOk, IfSome, IsTrue, OnOk};
+ghost use Rattle.regalloc2_function.specs.FunctionValue.{FunctionValue, block_at};
 ghost use Rattle.regalloc2_function.specs.Path.{first_of};
 ghost use Rattle.regalloc2_function.specs.SourceRun.{arguments_at};
 ghost use Rattle.regalloc2_function.specs.WellFormed.{IsFramed};
 ghost use Rattle.regalloc2_names.specs.Operand.{is_def, reads_at};
+ghost use Rattle.regalloc2_names.specs.Register.{VirtualRegister};
 ghost use Rattle.regalloc2_semantics.specs.Blocks.{IsUnwritten};
 ghost use Rattle.regalloc2_liveness.specs.LiveIn.{IsNeeded};
 ghost use Rattle.regalloc2_liveness.specs.Search.{LeadsBack};
@@ -115,33 +116,56 @@ fn mark(marked: &mut [bool], block: Block) {
     }
 }
 
-/// Marks the unmarked successors of a block and adds them to the work, but those that have the vreg as a parameter.
+/// Marks the unmarked successors of a block and adds them to the work, but those that have the vreg as a parameter. Those
+/// numbered up to the last one are near, the others far.
 fn add_succs<A: Allocator, F: Function>(
     f: &F,
     block: Block,
     vreg: VReg,
+    last: Block,
     marked: &mut [bool],
-    work: &mut Vec<Block, A>,
+    near: &mut Vec<Block, A>,
+    far: &mut Vec<Block, A>,
 ) -> Result<(), AllocError>
     requires framed { IsFramed (F.function f.now) }
     requires block { block < length (F.function f.now).blocks }
     requires unwritten { IsUnwritten (F.function f.now) block vreg }
     requires here { LeadsBack (F.function f.now) vreg block }
-    requires work { All (LeadsBack (F.function f.now) vreg) work.old.items }
-    ensures { OnOk result (All (LeadsBack (F.function f.now) vreg) work.new.items) }
+    requires near { All (LeadsBack (F.function f.now) vreg) near.old.items }
+    requires far { All (LeadsBack (F.function f.now) vreg) far.old.items }
+    ensures near { OnOk result (All (LeadsBack (F.function f.now) vreg) near.new.items) }
+    ensures far { OnOk result (All (LeadsBack (F.function f.now) vreg) far.new.items) }
 {
     for succ in f.block_succs(block) {
         if is_on(marked, succ.index()) || is_named(f.block_params(*succ), vreg) {
             continue;
         }
         mark(marked, *succ);
-        work.push(*succ)?;
+        if succ.index() <= last.index() {
+            near.push(*succ)?;
+        } else {
+            far.push(*succ)?;
+        }
     }
     Ok(())
 }
 
+/// Takes a block from the work, a near one if there is one.
+fn take<A: Allocator>(near: &mut Vec<Block, A>, far: &mut Vec<Block, A>) -> Option<Block>
+    ensures { (f : FunctionValue) (v : VirtualRegister) → All (LeadsBack f v) near.old.items → All (LeadsBack f v) far.old.items →
+        All (LeadsBack f v) near.new.items × All (LeadsBack f v) far.new.items × IfSome result (LeadsBack f v) }
+{
+    match near.pop() {
+        Some(block) => Some(block),
+        None => far.pop(),
+    }
+}
+
 /// Whether a block reads or passes a vreg without a definition before, and a path from the entry comes there over blocks
 /// that don't define the vreg and edges that don't give it a value.
+///
+/// The search visits a block numbered above the one looked for only where no other waits: in the usual order of blocks, a
+/// path comes there without any.
 ///
 /// Linear in the blocks, instructions, operands, parameters, arguments and edges. Takes a byte for each block, and a word
 /// for each block that waits for its turn.
@@ -159,18 +183,19 @@ pub fn reads_early<A: Allocator + Copy, F: Function>(
     }
     let mut marked: Vec<bool, A> = Vec::new(alloc);
     marked.resize(f.num_blocks(), false)?;
-    let mut work: Vec<Block, A> = Vec::new(alloc);
+    let mut near: Vec<Block, A> = Vec::new(alloc);
+    let mut far: Vec<Block, A> = Vec::new(alloc);
     mark(marked.as_mut_slice(), f.entry_block());
-    work.push(f.entry_block())?;
+    near.push(f.entry_block())?;
     for _ in 0..f.num_blocks() {
-        let Some(at) = work.pop() else {
+        let Some(at) = take(&mut near, &mut far) else {
             return Ok(false);
         };
         if at == block {
             return Ok(true);
         }
         if is_unwritten(f, at, vreg) {
-            add_succs(f, at, vreg, marked.as_mut_slice(), &mut work)?;
+            add_succs(f, at, vreg, block, marked.as_mut_slice(), &mut near, &mut far)?;
         }
     }
     Ok(false)

@@ -8,6 +8,7 @@ use Rattle.regalloc2_liveness.specs.Search.{LeadsBack}
 use Rattle.regalloc2_liveness.proofs.SearchedBack.{leads_over, names_not}
 use Rattle.regalloc2_liveness.proofs.SitesKept.{same_within}
 use Rattle.regalloc2_liveness.proofs.search.add_succs.Goals as goal
+use Rattle.regalloc2_liveness.proofs.search.add_succs.Goals.{then-index+in_ok-push, else-index+in_ok-push-2}
 
 pub loop-succ-preserved : goal.loop-succ-preserved
 loop-succ-preserved g c =
@@ -25,4 +26,13 @@ loop-succ-preserved g c =
     subst (λ (m : ℕ). LeadsBack f c.args.vreg m) (sym same)
     (leads_over f c.args.block c.args.vreg k c.requires.framed c.requires.unwritten c.requires.here less
     (subst (λ (m : ℕ). names c.args.vreg (block_at f m).params ≡ false) same aside)) in
-    rw c.in_ok-push.ensures.items (All-push (LeadsBack f c.args.vreg) c.loop-succ.work.items c.succ-item.result c.loop-succ.invariant back)
+    elim c.if-index.branch [
+      | then-index+in_ok-push w ↦ record {
+          near = rw (w.near-is, w.in_ok-push.ensures.items) (All-push (LeadsBack f c.args.vreg) c.loop-succ.near.items c.succ-item.result c.loop-succ.invariant.near back);
+          far = rw w.far-is c.loop-succ.invariant.far;
+        }
+      | else-index+in_ok-push-2 w ↦ record {
+          near = rw w.near-is c.loop-succ.invariant.near;
+          far = rw (w.far-is, w.in_ok-push-2.ensures.items) (All-push (LeadsBack f c.args.vreg) c.loop-succ.far.items c.succ-item.result c.loop-succ.invariant.far back);
+        }
+    ]

@@ -4,4 +4,7 @@ use Rattle.regalloc2_liveness.proofs.search.add_succs.Given as goal
 
 -- what was added so far leads back
 abbrev pub invariant-loop-succ : goal.invariant-loop-succ
-invariant-loop-succ g l = All (LeadsBack (g.F.Function.function l.f) l.vreg) l.work.items
+invariant-loop-succ g l = record {
+  near : All (LeadsBack (g.F.Function.function l.f) l.vreg) l.near.items;
+  far : All (LeadsBack (g.F.Function.function l.f) l.vreg) l.far.items;
+}

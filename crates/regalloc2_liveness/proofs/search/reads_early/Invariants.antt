@@ -4,4 +4,7 @@ use Rattle.regalloc2_liveness.proofs.search.reads_early.Given as goal
 
 -- what waits leads back
 abbrev pub invariant-loop : goal.invariant-loop
-invariant-loop g l = All (LeadsBack (g.F.Function.function l.f) l.vreg) l.work.items
+invariant-loop g l = record {
+  near : All (LeadsBack (g.F.Function.function l.f) l.vreg) l.near.items;
+  far : All (LeadsBack (g.F.Function.function l.f) l.vreg) l.far.items;
+}
