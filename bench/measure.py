@@ -1,13 +1,14 @@
 #!/usr/bin/env python3
 """Counts machine instructions for each instruction of an input, for every shape of docs/BENCH.md, and prints a table.
 
-    python3 bench/measure.py [--upstream PATH] [--task allocate|test|check|reads] [--sizes 1000,10000] [--shapes real,switch] [--heap]
+    python3 bench/measure.py [--upstream PATH] [--task allocate|test|check|reads|tested|tree] [--sizes 1000,10000] [--shapes real,switch] [--heap]
 
 It needs valgrind, and the program `regalloc2_bench` (`cd crates/regalloc2_bench && rt lib` builds it, as `rt ci` does). `--upstream` is the
 path of a program that reads a stored function and runs upstream's allocator or checker on it: it is called as `PATH bench FILE TIMES`, with
 `--validate` for the task `test`, and as `PATH bench-check FILE TIMES` for the check, and does the work that many times. One time is the difference of two times and one, so that
 start-up and reading don't count. `--heap` gives the bytes that one allocation holds at most beside the function, as `heap.c` counts them, in place
-of instructions; it needs a C compiler.
+of instructions; it needs a C compiler. The task `tree` counts nothing: for each function it says whether the dominator tree and one search decide
+whether reads come after writes, and the script's status is 1 if some function is left open or some run fails.
 """
 import argparse, json, os, re, subprocess, sys, tempfile
 
@@ -40,6 +41,14 @@ def heap(library, command, stdin, limit):
     return int(found.group(1)) if found and done.returncode == 0 else None
 
 
+def decided(program, stdin, limit):
+    """Whether the dominator tree and one search decide whether reads come after writes."""
+    try:
+        return subprocess.run([program, "tree", "1"], stdin=open(stdin), stdout=subprocess.DEVNULL, timeout=limit).returncode == 0
+    except subprocess.TimeoutExpired:
+        return False
+
+
 def commands(program, upstream, task, path, times):
     """The command of this port's program or of upstream's."""
     if upstream:
@@ -49,7 +58,9 @@ def commands(program, upstream, task, path, times):
 
 
 def measure(args, program, upstream, path, insts):
-    """What one time costs for each instruction, or None."""
+    """What one time costs for each instruction, or None; for the task `tree` a word."""
+    if args.task == "tree":
+        return "decided" if decided(program, path, args.limit) else "OPEN"
     if args.heap:
         # this port's program allocates once more than it is told, upstream's just as often
         return heap(args.heap, commands(program, upstream, "allocate", path, 1 if upstream else 0), path, args.limit)
@@ -61,13 +72,16 @@ def main():
     words = argparse.ArgumentParser(description=__doc__, formatter_class=argparse.RawDescriptionHelpFormatter)
     words.add_argument("--program", default=OURS)
     words.add_argument("--upstream")
-    words.add_argument("--task", default="allocate", choices=["allocate", "test", "check", "reads"])
+    words.add_argument("--task", default="allocate", choices=["allocate", "test", "check", "reads", "tested", "tree"])
     words.add_argument("--sizes", default="1000,10000")
     words.add_argument("--shapes", default=",".join(shapes.SHAPES))
     words.add_argument("--limit", type=int, default=300, help="seconds for one run")
     words.add_argument("--heap", action="store_true")
     args = words.parse_args()
+    if args.task == "tree" and (args.upstream or args.heap):
+        words.error("the task tree is this port's alone, and counts nothing")
     sizes = [int(n) for n in args.sizes.split(",")]
+    is_open = False
     who = (["upstream"] if args.upstream else []) + ["this port"]
     print("| Shape | " + " | ".join(f"{w}, {n:,}" for w in who for n in sizes) + " |")
     print("|---" * (1 + len(who) * len(sizes)) + "|")
@@ -84,8 +98,10 @@ def main():
                 for w in who:
                     cells[w, n] = measure(args, args.upstream if w == "upstream" else args.program, w == "upstream", path, insts)
             row = [cells[w, n] for w in who for n in sizes]
-            print(f"| `{shape}` | " + " | ".join("" if c is None else f"{c:,}" for c in row) + " |", flush=True)
+            is_open = is_open or "OPEN" in row
+            print(f"| `{shape}` | " + " | ".join("" if c is None else c if isinstance(c, str) else f"{c:,}" for c in row) + " |", flush=True)
+    return 1 if is_open else 0
 
 
 if __name__ == "__main__":
-    main()
+    sys.exit(main())

@@ -2,7 +2,8 @@
 //! one time costs.
 //!
 //! Words: the task, and how many times. `allocate` allocates without testing that the function is well-formed, `test` with
-//! those tests, `check` judges the output, and `reads` asks whether reads come after writes. The function comes on standard
+//! those tests, `check` judges the output, `reads` asks whether reads come after writes, `tree` the same of the dominator
+//! tree and one search alone, which fails where they leave it open, and `tested` is `run_tested`. The function comes on standard
 //! input. Or `callmoves-cycle` or `callmoves-swaps`, how many times, and of how many moves: those of a call are scheduled, in one
 //! cycle or in swaps. `docs/BENCH.md` says how to measure.
 #![tactic(auto)]

@@ -8,7 +8,9 @@ use regalloc2::checker::Checker;
 use regalloc2::ssa::reads_written;
 use regalloc2::{
     Algorithm, Function, MachineEnv, Output, RegallocOptions, is_framed, machine_fits, run,
+    run_tested,
 };
+use regalloc2_liveness::decided_by_tree;
 use std::alloc::Global;
 
 /// What is done with a function that was allocated once.
@@ -22,6 +24,10 @@ pub enum Task {
     Check,
     /// To ask whether reads come after writes.
     Reads,
+    /// To ask the same of the dominator tree and one search alone.
+    Tree,
+    /// To make all tests, allocate it again, and ask whether reads come after writes.
+    Tested,
 }
 
 impl Task {
@@ -32,6 +38,8 @@ impl Task {
             "test" => Some(Task::Test),
             "check" => Some(Task::Check),
             "reads" => Some(Task::Reads),
+            "tree" => Some(Task::Tree),
+            "tested" => Some(Task::Tested),
             _ => None,
         }
     }
@@ -64,6 +72,11 @@ fn is_asked<F: Function>(alloc: Global, f: &F) -> bool {
     is_framed(f) && reads_written(alloc, f).is_ok()
 }
 
+/// Whether the dominator tree and one search decide whether reads come after writes.
+fn is_decided<F: Function>(alloc: Global, f: &F) -> bool {
+    is_framed(f) && matches!(decided_by_tree(alloc, f), Ok(Some(_)))
+}
+
 /// Whether a task was done with a function that was allocated.
 fn is_done<F: Function>(alloc: Global, task: Task, f: &F, env: &MachineEnv, output: &Output) -> bool
     requires machine { MachineFits (F.function f.now) (machine_of env.now) }
@@ -74,6 +87,8 @@ fn is_done<F: Function>(alloc: Global, task: Task, f: &F, env: &MachineEnv, outp
         Task::Test => run(alloc, f, env, &TESTED).is_ok(),
         Task::Check => is_accepted(alloc, f, env, output),
         Task::Reads => is_asked(alloc, f),
+        Task::Tree => is_decided(alloc, f),
+        Task::Tested => run_tested(alloc, f, env).is_ok(),
     }
 }
 
