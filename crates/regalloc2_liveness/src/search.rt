@@ -195,7 +195,15 @@ pub fn reads_early<A: Allocator + Copy, F: Function>(
             return Ok(true);
         }
         if is_unwritten(f, at, vreg) {
-            add_succs(f, at, vreg, block, marked.as_mut_slice(), &mut near, &mut far)?;
+            add_succs(
+                f,
+                at,
+                vreg,
+                block,
+                marked.as_mut_slice(),
+                &mut near,
+                &mut far,
+            )?;
         }
     }
     Ok(false)

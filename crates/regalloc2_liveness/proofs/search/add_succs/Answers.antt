@@ -28,11 +28,11 @@ loop-succ-preserved g c =
     (subst (λ (m : ℕ). names c.args.vreg (block_at f m).params ≡ false) same aside)) in
     elim c.if-index.branch [
       | then-index+in_ok-push w ↦ record {
-          near = rw (w.near-is, w.in_ok-push.ensures.items) (All-push (LeadsBack f c.args.vreg) c.loop-succ.near.items c.succ-item.result c.loop-succ.invariant.near back);
-          far = rw w.far-is c.loop-succ.invariant.far;
-        }
+        near = rw (w.near-is, w.in_ok-push.ensures.items) (All-push (LeadsBack f c.args.vreg) c.loop-succ.near.items c.succ-item.result c.loop-succ.invariant.near back);
+        far = rw w.far-is c.loop-succ.invariant.far;
+      }
       | else-index+in_ok-push-2 w ↦ record {
-          near = rw w.near-is c.loop-succ.invariant.near;
-          far = rw (w.far-is, w.in_ok-push-2.ensures.items) (All-push (LeadsBack f c.args.vreg) c.loop-succ.far.items c.succ-item.result c.loop-succ.invariant.far back);
-        }
+        near = rw w.near-is c.loop-succ.invariant.near;
+        far = rw (w.far-is, w.in_ok-push-2.ensures.items) (All-push (LeadsBack f c.args.vreg) c.loop-succ.far.items c.succ-item.result c.loop-succ.invariant.far back);
+      }
     ]

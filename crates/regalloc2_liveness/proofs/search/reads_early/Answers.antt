@@ -43,11 +43,11 @@ loop-preserved g c =
     let taken = c.in-Some.ensures f c.args.vreg c.loop.invariant.near c.loop.invariant.far in
     elim c.if-is_unwritten.branch [
       | then-is_unwritten+in_ok-add_succs w ↦ record {
-          near = rw w.near-is w.in_ok-add_succs.ensures.near;
-          far = rw w.far-is w.in_ok-add_succs.ensures.far;
-        }
+        near = rw w.near-is w.in_ok-add_succs.ensures.near;
+        far = rw w.far-is w.in_ok-add_succs.ensures.far;
+      }
       | else-is_unwritten w ↦ record {
-          near = rw w.near-is taken.0;
-          far = rw w.far-is taken.1;
-        }
+        near = rw w.near-is taken.0;
+        far = rw w.far-is taken.1;
+      }
     ]
