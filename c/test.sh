@@ -63,7 +63,7 @@ compiled_c() {
 transcript() {
     cp -r "$top/examples" "$made/examples" && cp "$top/crates/ra2_text/data/wrong_way.txt" "$made/examples" && cd "$made/examples" || return 1
     grep '^\$ ' "$here/test.txt" | while IFS= read -r line; do
-        echo "$line"
+        printf '%s\n' "$line"
         PATH="$made/bin:$PATH" sh -c "${line#??}" 2>"$made/err" </dev/null
         ended=$?
         sed 's/^/! /' "$made/err"
@@ -72,7 +72,7 @@ transcript() {
 }
 
 mkdir "$made/bin"
-echo "If the libraries aren't proved yet, the first step proves them, which takes an hour of four cores."
+echo "If the libraries aren't proved yet, the first step proves them, which takes most of an hour on four cores."
 library=$top/crates/regalloc2_c/out/libregalloc2_c.a
 (cd "$top/crates/regalloc2_c" && step "the static library is built" rt lib) || exit 1
 passed=$((passed + 1))
