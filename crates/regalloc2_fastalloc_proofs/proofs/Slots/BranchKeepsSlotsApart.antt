@@ -18,8 +18,8 @@ use Rattle.regalloc2_fastalloc_state.specs.StateParts.{units_of, later_slot, lat
 use Rattle.regalloc2_fastalloc_state.specs.ScratchPool.{Moves, pushed}
 use Rattle.regalloc2_fastalloc_state.proofs.SlotsAsPlaces.{slot_grows}
 use Rattle.regalloc2_fastalloc_proofs.specs.InstSteps.{StateValue}
-use Rattle.regalloc2_fastalloc_proofs.specs.BlockStart.{no_vreg, ReloadsParam, nowhere, comes, ReloadsParams, none_begun, one_begun, ReloadsRegs}
-use Rattle.regalloc2_fastalloc_proofs.specs.BlockStart.{none_emptied, one_emptied, ReloadsAtBegin}
+use Rattle.regalloc2_fastalloc_proofs.specs.BlockStart.{no_vreg, ReloadsParam, nowhere, comes, ReloadsParams, none_begun, one_begun}
+use Rattle.regalloc2_fastalloc_proofs.specs.BlockStart.{ReloadsAtBegin}
 use Rattle.regalloc2_fastalloc_proofs.specs.BranchSteps.{SpillsArgument, from_register, in_slot, ClassMove, of_class, GathersEdgeMoves, none_gathered}
 use Rattle.regalloc2_fastalloc_proofs.specs.BranchSteps.{one_gathered, own_argument, GathersMoves, no_edge, one_edge, IsScratchUsed, IsOrdered, OrdersMoves}
 use Rattle.regalloc2_fastalloc_proofs.specs.BranchSteps.{Pushes}
@@ -32,7 +32,8 @@ use Rattle.regalloc2_fastalloc_proofs.proofs.Slots.NewSlotsApart.{LaysOutTempSlo
 use Rattle.regalloc2_fastalloc_proofs.proofs.Slots.StepsKeepSlotsApart.{IsOwnPlace, IsEndOrNone, KeepsToClass, IsOfMet, IsClassed, IsClassedTurn}
 use Rattle.regalloc2_fastalloc_proofs.proofs.Slots.StepsKeepSlotsApart.{StepClassed, slot_own, own_grows, moves_grow, dedicated_kept, own_end}
 use Rattle.regalloc2_fastalloc_proofs.proofs.Slots.StepsKeepSlotsApart.{classed_same, classed_then, to_slot_only, left_in_slot, only_slot}
-use Rattle.regalloc2_fastalloc_proofs.proofs.Slots.StepsKeepSlotsApart.{clears_classed, sends_classed}
+use Rattle.regalloc2_fastalloc_proofs.proofs.Slots.StepsKeepSlotsApart.{clears_classed, evictions_classed, sends_classed}
+use Rattle.regalloc2_fastalloc_proofs.proofs.Changes.Evictions.{regs_evict}
 use Rattle.regalloc2_fastalloc_proofs.proofs.Slots.InstKeepsSlotsApart.{fresh_classed}
 
 -- a place where the value of a known vreg of a class may be
@@ -213,19 +214,12 @@ module _ (Known : VirtualRegister → Type 0) (same : (v w : VirtualRegister) �
         let p = parameters_classed params known t old h ht j w m prev in
         classed_then Known same named Met old m new w u p (begins_classed (slice_index_or params j no_vreg) w u m new one (known j lt) p.classed p.inst_regs)
 
-    empties_classed : (t : InstRegs) (old : StateValue) → IsClassed Known named Met old → IsClassedTurn t → (u : InstRegs) (new : StateValue) →
-        ReloadsRegs point t old u new → StepClassed Known named Met old u new
-    empties_classed t old h ht u new none_emptied = classed_same Known same named Met old old t t refl refl h ht
-    empties_classed t old h ht u new (one_emptied r w x m n prev held clears) =
-        let p = empties_classed t old h ht w m prev in
-        classed_then Known same named Met old m new w u p (clears_classed Known same named Met point r w u m new clears p.classed p.inst_regs)
-
     -- a block's beginning keeps slots apart and moves within a class
     pub begins_block_classed : (params : List VirtualRegister) → ((k : ℕ) → k < length params → Known (slice_index_or params k no_vreg)) →
         (old new : StateValue) → ReloadsAtBegin point params old new → IsClassed Known named Met old → IsClassed Known named Met new
     begins_block_classed params known old new b h =
         let p = parameters_classed params known b.began old h (fresh_classed b.began b.begins_scratch) (length params) b.begun b.middle b.parameters in
-        (empties_classed b.begun b.middle p.classed p.inst_regs b.ended new b.empties).classed
+        (evictions_classed Known same named Met point (regs_evict b.empties) p.classed p.inst_regs).classed
 
   -- the moves of one class are ordered and pushed before the branch
   module _ (Met : ℕ → RegClass → Type 0) (branch : ℕ) (class : RegClass) (first_time : Met branch class → ⊥) (inst_regs : InstRegs) (given : Moves)

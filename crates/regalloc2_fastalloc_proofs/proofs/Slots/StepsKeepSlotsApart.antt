@@ -15,7 +15,8 @@ use Rattle.regalloc2_fastalloc_state.specs.StateParts.{VRegAllocsValue, SpillSlo
 use Rattle.regalloc2_fastalloc_state.specs.StateParts.{slot_name, units_of}
 use Rattle.regalloc2_fastalloc_proofs.specs.InstSteps.{StateValue, SameMachine, a_move, EvictsVReg, nobody, moved, AllocsScratchReg}
 use Rattle.regalloc2_fastalloc_proofs.specs.InstSteps.{dedicated_scratch, had, found, AddsMove, direct, through, EvictsPReg, empty, cleared}
-use Rattle.regalloc2_fastalloc_proofs.specs.InstSteps.{EvictsOthers, own, others, AddsMoveIf, sent, unsent}
+use Rattle.regalloc2_fastalloc_proofs.specs.InstSteps.{AddsMoveIf, sent, unsent}
+use Rattle.regalloc2_fastalloc_proofs.proofs.Changes.Evictions.{Evictions, evictions_keep}
 use Rattle.regalloc2_fastalloc_proofs.specs.SlotLayout.{OwnedSlot, AreLaidOut, ServesAt}
 use Rattle.regalloc2_fastalloc_proofs.proofs.Slots.SlotsGrow.{SlotsStay, gives_stay, same_stay}
 use Rattle.regalloc2_fastalloc_proofs.proofs.Safety.StepsKeepSafe.{same_units, slots_kept, settled_holder, scratch_each}
@@ -326,8 +327,11 @@ module _ (Known : VirtualRegister → Type 0) (same : (v w : VirtualRegister) �
         classed_then old m new t u first (crosses_classed v crosses was.0
         (slot_own m.slots v s m.slots.count gives.gives gives.below) was.1 first.classed ht)
 
-    -- an eviction that spares one vreg keeps slots apart and moves within a class
-    pub clears_but_classed : (r : Register) (v : VirtualRegister) (t u : InstRegs) (old new : StateValue) → EvictsOthers point r v t u old new →
-        IsClassed Known named Met old → IsClassedTurn t → StepClassed Known named Met old u new
-    clears_but_classed r v t u old new (own w held is eu en) h ht = classed_same old new t u en eu h ht
-    clears_but_classed r v t u old new (others not_own clears) h ht = clears_classed r t u old new clears h ht
+    -- any evictions keep slots apart and moves within a class
+    pub evictions_classed : {t u : InstRegs} {old new : StateValue} → Evictions point t old u new → IsClassed Known named Met old → IsClassedTurn t →
+        StepClassed Known named Met old u new
+    evictions_classed = evictions_keep (record {
+      same = λ t u old new eu en. classed_same old new t u en eu;
+      over = λ t u w a b c f g h ht. (let x = f h ht in classed_then a b c u w x (g x.classed x.inst_regs));
+      each = clears_classed;
+    })
