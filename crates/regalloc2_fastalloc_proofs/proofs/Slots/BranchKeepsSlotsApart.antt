@@ -24,15 +24,17 @@ use Rattle.regalloc2_fastalloc_proofs.specs.BranchSteps.{SpillsArgument, from_re
 use Rattle.regalloc2_fastalloc_proofs.specs.BranchSteps.{one_gathered, own_argument, GathersMoves, no_edge, one_edge, IsScratchUsed, IsOrdered, OrdersMoves}
 use Rattle.regalloc2_fastalloc_proofs.specs.BranchSteps.{Pushes}
 use Rattle.regalloc2_fastalloc_proofs.specs.BranchSteps.{ProcessesBranch}
-use Rattle.regalloc2_fastalloc_proofs.proofs.Slots.SlotsGrow.{SlotsStay, gives_stay}
+use Rattle.regalloc2_fastalloc_proofs.proofs.Slots.SlotsGrow.{SlotsStay, gives_stay, changes_stay}
 use Rattle.regalloc2_fastalloc_proofs.proofs.Safety.StepsKeepSafe.{same_units}
 use Rattle.regalloc2_fastalloc_proofs.proofs.Safety.BranchKeepsSafe.{pushed_all}
 use Rattle.regalloc2_fastalloc_proofs.proofs.Branches.EdgeArgsGathered.{of_class-from}
 use Rattle.regalloc2_fastalloc_proofs.proofs.Slots.NewSlotsApart.{LaysOutTempSlots, lends_laid}
 use Rattle.regalloc2_fastalloc_proofs.proofs.Slots.StepsKeepSlotsApart.{IsOwnPlace, IsEndOrNone, KeepsToClass, IsOfMet, IsClassed, IsClassedTurn}
 use Rattle.regalloc2_fastalloc_proofs.proofs.Slots.StepsKeepSlotsApart.{StepClassed, slot_own, own_grows, moves_grow, dedicated_kept, own_end}
-use Rattle.regalloc2_fastalloc_proofs.proofs.Slots.StepsKeepSlotsApart.{classed_same, classed_then, to_slot_only, left_in_slot, only_slot}
+use Rattle.regalloc2_fastalloc_proofs.proofs.Slots.StepsKeepSlotsApart.{classed_same, to_slot_only, left_in_slot, only_slot}
 use Rattle.regalloc2_fastalloc_proofs.proofs.Slots.StepsKeepSlotsApart.{clears_classed, evictions_classed, sends_classed}
+use Rattle.regalloc2_fastalloc_proofs.proofs.Changes.InstChanges.{clears_changes}
+use Rattle.regalloc2_fastalloc_proofs.proofs.Changes.WalkChanges.{settles_changes, pushes_changes}
 use Rattle.regalloc2_fastalloc_proofs.proofs.Changes.Evictions.{regs_evict}
 use Rattle.regalloc2_fastalloc_proofs.proofs.Slots.InstKeepsSlotsApart.{fresh_classed}
 
@@ -111,42 +113,37 @@ lent_below s t class (suc k) j some lends upto = elim (cases_le j k) [
 module _ (Known : VirtualRegister → Type 0) (same : (v w : VirtualRegister) → Known v → Known w → v.number ≡ w.number → v ≡ w) (named : Bool) where
   module _ (Met : ℕ → RegClass → Type 0) (point : ℕ) where
     -- an argument is spilled to its slot
-    pub record Argued (a : VirtualRegister) (s : Place) (old : StateValue) (u : InstRegs) (new : StateValue) : Type 0 where
-      pub step : StepClassed Known named Met old u new
+    pub record Argued (a : VirtualRegister) (s : Place) (u : InstRegs) (new : StateValue) : Type 0 where
+      pub step : StepClassed Known named Met u new
       pub own : IsOwnPlace new.slots a s
 
     settles_classed : (a : VirtualRegister) (s : Place) (t u : InstRegs) (old new : StateValue) → SpillsArgument point a s t u old new → Known a →
-        IsClassed Known named Met old → IsClassedTurn t → Argued a s old u new
+        IsClassed Known named Met old → IsClassedTurn t → Argued a s u new
     settles_classed a s t u old new (from_register r m at gives places edits machine clears) known h ht =
-        let first : StepClassed Known named Met old t m = record {
-          classed = only_slot Known same named Met old m a s known gives places machine edits h;
-          inst_regs = ht;
-          stay = gives_stay old.slots m.slots a s gives;
-        } in
-        let k = clears_classed Known same named Met point r t u m new clears first.classed ht in
         record {
-          step = classed_then Known same named Met old m new t u first k;
-          own = own_grows m.slots new.slots a s k.stay (slot_own m.slots a s m.slots.count gives.gives gives.below);
+          step = clears_classed Known same named Met point r t u m new clears
+              (only_slot Known same named Met old m a s known gives places machine edits h) ht;
+          own = own_grows m.slots new.slots a s (changes_stay (clears_changes (λ q r. tt) clears))
+              (slot_own m.slots a s m.slots.count gives.gives gives.below);
         }
     settles_classed a s t u old new (in_slot away gives settles edits machine eu) known h ht = record {
       step = record {
         classed = to_slot_only Known same named Met old new a s known gives settles machine edits h;
         inst_regs = subst IsClassedTurn (sym eu) ht;
-        stay = gives_stay old.slots new.slots a s gives;
       };
       own = slot_own new.slots a s new.slots.count gives.gives gives.below;
     }
 
     -- what gathering moves keeps
-    pub record GatherClassed (old : StateValue) (u : InstRegs) (new : StateValue) (given : List ClassMove) : Type 0 where
-      pub step : StepClassed Known named Met old u new
+    pub record GatherClassed (u : InstRegs) (new : StateValue) (given : List ClassMove) : Type 0 where
+      pub step : StepClassed Known named Met u new
       pub passed : ArePassed Known new.slots given
 
     edge_classed : {Own : VirtualRegister → Type 0} (params arguments : List VirtualRegister) → ((j : ℕ) → j < length params →
         AreAlike Known (slice_index_or params j no_vreg) (slice_index_or arguments j no_vreg)) → (t : InstRegs) (old : StateValue) (before_it : List ClassMove)
         → IsClassed Known named Met old → IsClassedTurn t → ArePassed Known old.slots before_it →
         (k : ℕ) (u : InstRegs) (new : StateValue) (given : List ClassMove) → GathersEdgeMoves Own point params arguments t old before_it k u new given →
-        GatherClassed old u new given
+        GatherClassed u new given
     edge_classed params arguments alike t old before_it h ht begin k u new given none_gathered =
         record { step = classed_same Known same named Met old old t t refl refl h ht; passed = begin }
     edge_classed params arguments alike t old before_it h ht begin k u new given
@@ -155,21 +152,16 @@ module _ (Known : VirtualRegister → Type 0) (same : (v w : VirtualRegister) �
         let v : VirtualRegister = slice_index_or params j no_vreg in
         let a : VirtualRegister = slice_index_or arguments j no_vreg in
         let known = alike j lt in
-        let first : StepClassed Known named Met m w n = record {
-          classed = only_slot Known same named Met m n v to known.0 gives places machine edits
-              p.step.classed;
-          inst_regs = p.step.inst_regs;
-          stay = gives_stay m.slots n.slots v to gives;
-        } in
-        let second : Argued a from n u new = settles_classed a from w u n new settles known.1 first.classed first.inst_regs in
-        let both_steps : StepClassed Known named Met m u new = classed_then Known same named Met m n new w u first second.step in
+        let first : IsClassed Known named Met n = only_slot Known same named Met m n v to known.0 gives places machine edits p.step.classed in
+        let second : Argued a from u new = settles_classed a from w u n new settles known.1 first p.step.inst_regs in
+        let later : SlotsStay n.slots new.slots = changes_stay (settles_changes (λ q r. tt) tt tt settles) in
         record {
-          step = classed_then Known same named Met old m new w u p.step both_steps;
+          step = second.step;
           passed = All-push (λ (g : ClassMove). IsPassed Known new.slots g.class g.from × IsPassed Known new.slots g.class g.to) some
               (record { class = a.class; from = from; to = to })
-              (all_passed_grow Known m.slots new.slots some both_steps.stay p.passed) (
+              (all_passed_grow Known m.slots new.slots some (λ x d is. later x d (gives_stay m.slots n.slots v to gives x d is)) p.passed) (
                 (a, known.1, refl, second.own),
-                (v, known.0, known.2, own_grows n.slots new.slots v to second.step.stay (slot_own n.slots v to n.slots.count gives.gives gives.below)),
+                (v, known.0, known.2, own_grows n.slots new.slots v to later (slot_own n.slots v to n.slots.count gives.gives gives.below)),
               );
         }
     edge_classed params arguments alike t old before_it h ht begin k u new given (own_argument j some w m lt prev own) =
@@ -179,40 +171,33 @@ module _ (Known : VirtualRegister → Type 0) (same : (v w : VirtualRegister) �
         → ((k j : ℕ) → k < length (block_at f b).succs → j < length (block_at f (target_at f b k)).params →
         AreAlike Known (slice_index_or (block_at f (target_at f b k)).params j no_vreg) (slice_index_or (arguments_at f b k) j no_vreg))
         → (t : InstRegs) (old : StateValue) → IsClassed Known named Met old → IsClassedTurn t →
-        (k : ℕ) (u : InstRegs) (new : StateValue) (given : List ClassMove) → GathersMoves f b point t old k u new given → GatherClassed old u new given
+        (k : ℕ) (u : InstRegs) (new : StateValue) (given : List ClassMove) → GathersMoves f b point t old k u new given → GatherClassed u new given
     gathers_classed f b alike t old h ht k u new given no_edge = record {
       step = classed_same Known same named Met old old t t refl refl h ht;
       passed = λ j d lt. absurd (omega (arith, lt));
     }
     gathers_classed f b alike t old h ht k u new given (one_edge j some more w x m n lt prev edge) =
         let p = gathers_classed f b alike t old h ht j w m some prev in
-        let q = edge_classed (block_at f (target_at f b j)).params (arguments_at f b j) (λ i less. alike j i lt less) w m some p.step.classed p.step.inst_regs
-        p.passed (length (block_at f (target_at f b j)).params) u new given edge in
-        record { step = classed_then Known same named Met old m new w u p.step q.step; passed = q.passed }
+        edge_classed (block_at f (target_at f b j)).params (arguments_at f b j) (λ i less. alike j i lt less) w m some p.step.classed p.step.inst_regs
+        p.passed (length (block_at f (target_at f b j)).params) u new given edge
 
     -- a block's beginning
     begins_classed : (v : VirtualRegister) (t u : InstRegs) (old new : StateValue) → ReloadsParam point v t u old new → Known v →
-        IsClassed Known named Met old → IsClassedTurn t → StepClassed Known named Met old u new
+        IsClassed Known named Met old → IsClassedTurn t → StepClassed Known named Met u new
     begins_classed v t u old new (nowhere none eu en) known h ht = classed_same Known same named Met old new t u en eu h ht
     begins_classed v t u old new (comes s m there gives settles edits machine sends) known h ht =
         let q : Place = alloc_of old.places v.number in
         let stay : SlotsStay old.slots m.slots = gives_stay old.slots m.slots v s gives in
-        let first : StepClassed Known named Met old t m = record {
-          classed = left_in_slot Known same named Met old m v s known gives settles machine edits h;
-          inst_regs = ht;
-          stay = stay;
-        } in
-        classed_then Known same named Met old m new t u first
-        (sends_classed Known same named Met point v sends known (slot_own m.slots v s m.slots.count gives.gives gives.below)
-        (own_grows old.slots m.slots v q stay (h.places v known)) first.classed ht)
+        sends_classed Known same named Met point v sends known (slot_own m.slots v s m.slots.count gives.gives gives.below)
+        (own_grows old.slots m.slots v q stay (h.places v known)) (left_in_slot Known same named Met old m v s known gives settles machine edits h) ht
 
     parameters_classed : (params : List VirtualRegister) → ((k : ℕ) → k < length params → Known (slice_index_or params k no_vreg)) →
         (t : InstRegs) (old : StateValue) → IsClassed Known named Met old → IsClassedTurn t
-        → (k : ℕ) (u : InstRegs) (new : StateValue) → ReloadsParams point params t old k u new → StepClassed Known named Met old u new
+        → (k : ℕ) (u : InstRegs) (new : StateValue) → ReloadsParams point params t old k u new → StepClassed Known named Met u new
     parameters_classed params known t old h ht k u new none_begun = classed_same Known same named Met old old t t refl refl h ht
     parameters_classed params known t old h ht k u new (one_begun j w x m n lt prev one) =
         let p = parameters_classed params known t old h ht j w m prev in
-        classed_then Known same named Met old m new w u p (begins_classed (slice_index_or params j no_vreg) w u m new one (known j lt) p.classed p.inst_regs)
+        begins_classed (slice_index_or params j no_vreg) w u m new one (known j lt) p.classed p.inst_regs
 
     -- a block's beginning keeps slots apart and moves within a class
     pub begins_block_classed : (params : List VirtualRegister) → ((k : ℕ) → k < length params → Known (slice_index_or params k no_vreg)) →
@@ -269,7 +254,7 @@ module _ (Known : VirtualRegister → Type 0) (same : (v w : VirtualRegister) �
     )
 
     ordered_classed : IsClassedTurn inst_regs →
-        StepClassed Known named Now old inst_regs (record middle { edits = middle.edits ++ pushed (before branch) made })
+        StepClassed Known named Now inst_regs (record middle { edits = middle.edits ++ pushed (before branch) made })
     ordered_classed ht = record {
       classed = record {
         holders = subst (λ (x : VRegAllocsValue). (r : Register) (w : VirtualRegister) → r.number < 64 → vreg_of_preg x r ≡ Some w → Known w
@@ -289,15 +274,14 @@ module _ (Known : VirtualRegister → Type 0) (same : (v w : VirtualRegister) �
             (pushed_all (KeepsToClass temp.lays.made) (before branch) made (λ k d lt. made_keeps (slice_index_or made k d) (orders.each k d lt)));
       };
       inst_regs = ht;
-      stay = names_stay;
     }
 
   pushes_classed : (Met : ℕ → RegClass → Type 0) (branch : ℕ) (class : RegClass) → (Met branch class → ⊥) →
       (inst_regs : InstRegs) (given : Moves) (old new : StateValue) → Pushes (before branch) inst_regs class given old new →
       ArePassedOf Known old.slots class given → IsClassed Known named Met old → IsClassedTurn inst_regs →
-      StepClassed Known named (AndMet Met branch class) old inst_regs new
+      StepClassed Known named (AndMet Met branch class) inst_regs new
   pushes_classed Met branch class first_time inst_regs given old new p passed h ht =
-      subst (StepClassed Known named (AndMet Met branch class) old inst_regs) (sym p.pushes)
+      subst (StepClassed Known named (AndMet Met branch class) inst_regs) (sym p.pushes)
       (ordered_classed Met branch class first_time inst_regs given old p.middle p.made p.orders h passed ht)
 
   -- a branch passes its arguments
@@ -314,10 +298,12 @@ module _ (Known : VirtualRegister → Type 0) (same : (v w : VirtualRegister) �
       let Three : ℕ → RegClass → Type 0 = AndMet Two i Vector in
       let i1 = pushes_classed Met i Int (first_time Int) u (of_class Int p.given) p.gathered p.ints p.int
       (passed_of Known p.gathered.slots Int p.given x.passed) x.step.classed x.step.inst_regs in
-      let given1 : ArePassed Known p.ints.slots p.given = all_passed_grow Known p.gathered.slots p.ints.slots p.given i1.stay x.passed in
+      let given1 : ArePassed Known p.ints.slots p.given =
+      all_passed_grow Known p.gathered.slots p.ints.slots p.given (changes_stay (pushes_changes (λ q r. tt) p.int)) x.passed in
       let i2 = pushes_classed One i Float (λ m. elim m [ inl a ↦ first_time Float a | inr e ↦ not_int e.1 ]) u (of_class Float p.given) p.ints
       p.floats p.float (passed_of Known p.ints.slots Float p.given given1) i1.classed i1.inst_regs in
-      let given2 : ArePassed Known p.floats.slots p.given = all_passed_grow Known p.ints.slots p.floats.slots p.given i2.stay given1 in
+      let given2 : ArePassed Known p.floats.slots p.given =
+      all_passed_grow Known p.ints.slots p.floats.slots p.given (changes_stay (pushes_changes (λ q r. tt) p.float)) given1 in
       let i3 = pushes_classed Two i Vector
       (λ m. elim m [ inl a ↦ elim a [ inl z ↦ first_time Vector z | inr e ↦ vector_int e.1 ] | inr e ↦ vector_float e.1 ]) u (of_class Vector p.given)
       p.floats new p.vector

@@ -18,7 +18,8 @@ use Rattle.regalloc2_fastalloc_proofs.specs.InstSteps.{dedicated_scratch, had, f
 use Rattle.regalloc2_fastalloc_proofs.specs.InstSteps.{AddsMoveIf, sent, unsent}
 use Rattle.regalloc2_fastalloc_proofs.proofs.Changes.Evictions.{Evictions, evictions_keep}
 use Rattle.regalloc2_fastalloc_proofs.specs.SlotLayout.{OwnedSlot, AreLaidOut, ServesAt}
-use Rattle.regalloc2_fastalloc_proofs.proofs.Slots.SlotsGrow.{SlotsStay, gives_stay, same_stay}
+use Rattle.regalloc2_fastalloc_proofs.proofs.Slots.SlotsGrow.{SlotsStay, gives_stay, same_stay, changes_stay}
+use Rattle.regalloc2_fastalloc_proofs.proofs.Changes.InstChanges.{scratches_changes}
 use Rattle.regalloc2_fastalloc_proofs.proofs.Safety.StepsKeepSafe.{same_units, slots_kept, settled_holder, scratch_each}
 use Rattle.regalloc2_fastalloc_proofs.proofs.Slots.NewSlotsApart.{gives_laid}
 
@@ -60,12 +61,10 @@ pub record IsClassedTurn (t : InstRegs) : Type 0 where
   pub three : length t.scratch ≡ 3
   pub scratch : (c : RegClass) (r : Register) → slice_index_or t.scratch (class_code c) None ≡ Some r → r.class ≡ c
 
--- what a step keeps
-pub record StepClassed (Known : VirtualRegister → Type 0) (named : Bool) (Met : ℕ → RegClass → Type 0) (old : StateValue) (u : InstRegs)
-    (new : StateValue) : Type 0 where
+-- what a step keeps; that slots stay is asked of the fold (`changes_stay`)
+pub record StepClassed (Known : VirtualRegister → Type 0) (named : Bool) (Met : ℕ → RegClass → Type 0) (u : InstRegs) (new : StateValue) : Type 0 where
   pub classed : IsClassed Known named Met new
   pub inst_regs : IsClassedTurn u
-  pub stay : SlotsStay old.slots new.slots
 
 -- a slot that is given is its vreg's own
 pub slot_own : (s : SpillSlotsValue) (v : VirtualRegister) (p : Place) (count : ℕ) → slot_name s v.number ≡ p → IsSlotOrNone count p → IsOwnPlace s v p
@@ -145,17 +144,11 @@ module _ (Known : VirtualRegister → Type 0) (same : (v w : VirtualRegister) �
     (Met : ℕ → RegClass → Type 0) where
   -- a step that changes nothing keeps slots apart and moves within a class
   pub classed_same : (old new : StateValue) (t u : InstRegs) → new ≡ old → u ≡ t → IsClassed Known named Met old → IsClassedTurn t →
-      StepClassed Known named Met old u new
+      StepClassed Known named Met u new
   classed_same old new t u en eu h ht = record {
     classed = subst (IsClassed Known named Met) (sym en) h;
     inst_regs = subst IsClassedTurn (sym eu) ht;
-    stay = same_stay old.slots new.slots (ap (λ (x : StateValue). x.slots) en);
   }
-
-  -- two steps that each keep slots apart and moves within a class keep them so together
-  pub classed_then : (a b c : StateValue) (t u : InstRegs) → StepClassed Known named Met a t b → StepClassed Known named Met b u c
-      → StepClassed Known named Met a u c
-  classed_then a b c t u x y = record { classed = y.classed; inst_regs = y.inst_regs; stay = λ n k h. y.stay n k (x.stay n k h) }
 
   -- an end of a move of a known vreg's value
   pub own_end : (s : SpillSlotsValue) (made : List OwnedSlot) → AreLaidOut Known s made → (point : ℕ) (v : VirtualRegister) (p : Place) → Known v →
@@ -258,7 +251,7 @@ module _ (Known : VirtualRegister → Type 0) (same : (v w : VirtualRegister) �
   module _ (point : ℕ) where
     -- evicting a vreg from an allocatable register keeps slots apart and moves within a class
     pub evicts_classed : (r : Register) (u : InstRegs) (old new : StateValue) → EvictsVReg point r old new → IsClassed Known named Met old → IsClassedTurn u →
-        StepClassed Known named Met old u new
+        StepClassed Known named Met u new
     evicts_classed r u old new (nobody none is) h ht = classed_same old new u u is refl h ht
     evicts_classed r u old new (moved v s small held gives settles edits machine) h ht =
         let was = h.holders r v small held in
@@ -267,12 +260,11 @@ module _ (Known : VirtualRegister → Type 0) (same : (v w : VirtualRegister) �
               (λ made laid. one_keeps made point v.class s (InRegister r)
               (own_end new.slots made laid point v s was.0 (slot_own new.slots v s new.slots.count gives.gives gives.below)) was.1) h;
           inst_regs = ht;
-          stay = gives_stay old.slots new.slots v s gives;
         }
 
     -- taking a scratch register keeps slots apart and moves within a class, and the register is of the class
     pub scratches_classed : (class : RegClass) (t u : InstRegs) (by : Register) (old new : StateValue) → AllocsScratchReg point class t u by old new →
-        IsClassed Known named Met old → IsClassedTurn t → StepClassed Known named Met old u new × (by.class ≡ class)
+        IsClassed Known named Met old → IsClassedTurn t → StepClassed Known named Met u new × (by.class ≡ class)
     scratches_classed class t u by old new (dedicated_scratch is eu en) h ht = (classed_same old new t u en eu h ht, h.dedicated_scratch class by is)
     scratches_classed class t u by old new (had none is eu en) h ht = (classed_same old new t u en eu h ht, ht.scratch class by is)
     scratches_classed class t u by old new (found none first may early late e l scratch evicts) h ht =
@@ -286,52 +278,46 @@ module _ (Known : VirtualRegister → Type 0) (same : (v w : VirtualRegister) �
     -- a move of a vreg's value
     pub crosses_classed : (v : VirtualRegister) {from to : Place} {t u : InstRegs} {old new : StateValue} → AddsMove point v.class from to t u old new →
         Known v → IsOwnPlace old.slots v from → IsOwnPlace old.slots v to
-        → IsClassed Known named Met old → IsClassedTurn t → StepClassed Known named Met old u new
-    crosses_classed v {from} {to} {u} {old} (direct one eu en) known f g h ht = subst (StepClassed Known named Met old u) (sym en) (record {
+        → IsClassed Known named Met old → IsClassedTurn t → StepClassed Known named Met u new
+    crosses_classed v {from} {to} {u} {old} (direct one eu en) known f g h ht = subst (StepClassed Known named Met u) (sym en) (record {
       classed = pushed_classed old (a_move point from to ∷ []) (λ made laid. one_keeps made point v.class from to
           (own_end old.slots made laid point v from known f) (own_end old.slots made laid point v to known g)) h;
       inst_regs = subst IsClassedTurn (sym eu) ht;
-      stay = λ n k is. is;
     })
     crosses_classed v {from} {to} {t} {u} {old} (through by m both scratches en) known f g h ht =
         let s = scratches_classed v.class t u by old m scratches h ht in
-        subst (StepClassed Known named Met old u) (sym en) (record {
+        let stay : SlotsStay old.slots m.slots = changes_stay (scratches_changes (λ q r. tt) scratches) in
+        subst (StepClassed Known named Met u) (sym en) (record {
           classed = pushed_classed m (a_move point (InRegister by) to ∷ a_move point from (InRegister by) ∷ [])
               (λ made laid. All-append (KeepsToClass made) (a_move point (InRegister by) to ∷ []) (a_move point from (InRegister by) ∷ [])
-              (one_keeps made point v.class (InRegister by) to s.1 (own_end m.slots made laid point v to known (own_grows old.slots m.slots v to s.0.stay g)))
+              (one_keeps made point v.class (InRegister by) to s.1 (own_end m.slots made laid point v to known (own_grows old.slots m.slots v to stay g)))
               (one_keeps made point v.class from (InRegister by)
-              (own_end m.slots made laid point v from known (own_grows old.slots m.slots v from s.0.stay f)) s.1))
+              (own_end m.slots made laid point v from known (own_grows old.slots m.slots v from stay f)) s.1))
               s.0.classed;
           inst_regs = s.0.inst_regs;
-          stay = s.0.stay;
         })
 
     -- adding a move of a vreg's value between its own places, or none, keeps slots apart and moves within a class
     pub sends_classed : (v : VirtualRegister) {is_made : Bool} {from to : Place} {t u : InstRegs} {old new : StateValue} →
         AddsMoveIf point v.class is_made from to t u old new → Known v → IsOwnPlace old.slots v from → IsOwnPlace old.slots v to
-        → IsClassed Known named Met old → IsClassedTurn t → StepClassed Known named Met old u new
+        → IsClassed Known named Met old → IsClassedTurn t → StepClassed Known named Met u new
     sends_classed v {from} {to} {t} {u} {old} {new} (sent is crosses) known f g h ht = crosses_classed v crosses known f g h ht
     sends_classed v {t} {u} {old} {new} (unsent is eu en) known f g h ht = classed_same old new t u en eu h ht
 
     -- evicting a register or a fixed stack slot keeps slots apart and moves within a class
     pub clears_classed : (r : Register) (t u : InstRegs) (old new : StateValue) → EvictsPReg point r t u old new → IsClassed Known named Met old →
-        IsClassedTurn t → StepClassed Known named Met old u new
+        IsClassedTurn t → StepClassed Known named Met u new
     clears_classed r t u old new (empty none eu en) h ht = classed_same old new t u en eu h ht
     clears_classed r t u old new (cleared v s m small held gives settles edits machine crosses) h ht =
         let was = h.holders r v small held in
-        let first : StepClassed Known named Met old t m = record {
-          classed = to_slot_only old m v s was.0 gives settles machine edits h;
-          inst_regs = ht;
-          stay = gives_stay old.slots m.slots v s gives;
-        } in
-        classed_then old m new t u first (crosses_classed v crosses was.0
-        (slot_own m.slots v s m.slots.count gives.gives gives.below) was.1 first.classed ht)
+        crosses_classed v crosses was.0 (slot_own m.slots v s m.slots.count gives.gives gives.below) was.1
+        (to_slot_only old m v s was.0 gives settles machine edits h) ht
 
     -- any evictions keep slots apart and moves within a class
     pub evictions_classed : {t u : InstRegs} {old new : StateValue} → Evictions point t old u new → IsClassed Known named Met old → IsClassedTurn t →
-        StepClassed Known named Met old u new
+        StepClassed Known named Met u new
     evictions_classed = evictions_keep (record {
       same = λ t u old new eu en. classed_same old new t u en eu;
-      over = λ t u w a b c f g h ht. (let x = f h ht in classed_then a b c u w x (g x.classed x.inst_regs));
+      over = λ t u w a b c f g h ht. (let x = f h ht in g x.classed x.inst_regs);
       each = clears_classed;
     })
