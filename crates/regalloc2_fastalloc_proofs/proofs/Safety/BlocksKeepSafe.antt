@@ -21,7 +21,8 @@ use Rattle.regalloc2_fastalloc_proofs.specs.BranchSteps.{ProcessesBranch}
 use Rattle.regalloc2_fastalloc_proofs.specs.Safety.{IsSafe, AreSafeRegs}
 use Rattle.regalloc2_fastalloc_proofs.specs.BlockSteps.{AllocsInstInBlock, AllocsBlockInsts, at_end, one_in, AllocsBlocks, all_left, one_block}
 use Rattle.regalloc2_fastalloc_proofs.proofs.Safety.StepsKeepSafe.{IsApart, StepKept}
-use Rattle.regalloc2_fastalloc_proofs.proofs.Slots.SlotsGrow.{SlotsStay}
+use Rattle.regalloc2_fastalloc_proofs.proofs.Slots.SlotsGrow.{SlotsStay, changes_stay}
+use Rattle.regalloc2_fastalloc_proofs.proofs.Changes.WalkChanges.{any_passed, free_begin, passes_changes, begun_changes}
 use Rattle.regalloc2_fastalloc_proofs.proofs.Operands.AllocsSoFar.{IsTame, good_grows, DefsAreWritten, UsesAreWritten}
 use Rattle.regalloc2_fastalloc_proofs.proofs.Safety.InstKeepsSafe.{InstKept, allocates_kept, allocates_last_kept}
 use Rattle.regalloc2_fastalloc_proofs.proofs.BlockEnd.NoMoveForOperand.{IsOutside}
@@ -108,7 +109,7 @@ module _ (rules : WalkRules) where
   -- the arguments of a branch
   branch_kept : (c b i : ℕ) → b < length f.blocks → (block_at f b).range.first ≤ i → i < (block_at f b).range.end → (inst_at f i).is_branch ≡ true →
       (t u : InstRegs) (old new : StateValue) → ProcessesBranch f b i t u old new
-      → IsSafe env Known (WritesFrom f last c) (MayInBlocks f) old → AreSafeRegs env t → StepKept env Known (WritesFrom f last c) (MayInBlocks f) old u new
+      → IsSafe env Known (WritesFrom f last c) (MayInBlocks f) old → AreSafeRegs env t → StepKept env Known (WritesFrom f last c) (MayInBlocks f) u new
   branch_kept c b i lt ge less branch t u old new p h ht =
       let e : i + 1 ≡ (block_at f b).range.end = branches b i lt ge less branch in
       passes_kept (rules_of env apart Known (WritesFrom f last c) (MayInBlocks f) (before i) (b, i, lt, ge, less, inl refl)) (WritesByBranch f (before i))
@@ -158,7 +159,8 @@ module _ (rules : WalkRules) where
       elim (cases_Bool (inst_at f n).is_branch) [
         | inl branch ↦ (let k = branch_kept (b + 1) b n lt ge less branch a.allocates.allocates.ended a.inst_regs a.middle t (a.branch branch) x.safe
             x.inst_regs in
-            kept_grows (b + 1) (b + 1) n places a.middle t k.safe k.stay m)
+            kept_grows (b + 1) (b + 1) n places a.middle t k.safe
+            (changes_stay (passes_changes (λ p q. tt) (any_passed (λ x. Unit {0}) f b) (a.branch branch))) m)
         | inr none ↦ subst (WalkKept env Known f (MayInBlocks f) last (b + 1) n places) (sym (a.no_branch none)) m
       ]
 
@@ -189,8 +191,8 @@ module _ (rules : WalkRules) where
       let stored = stores_kept env Known (WritesFrom f last b) (MayInBlocks f) f b can (λ d g v edge is. concerned b d g v edge is)
       (λ d g j v slots edge is. alike b d g j v slots edge is)
       (λ d g v n edge is. inr (b, omega arith, lt, refl, (d, g, edge, is))) begins.middle t begins.stores wider in
-      subst (λ n. WalkKept env Known f (MayInBlocks f) last b n places t) (sym e) (kept_grows (b + 1) b B.range.first places u t stored.0
-      (λ n q is. stored.1 n q (k.stay n q is)) second)
+      subst (λ n. WalkKept env Known f (MayInBlocks f) last b n places t) (sym e) (kept_grows (b + 1) b B.range.first places u t stored
+      (changes_stay (begun_changes (free_begin f b) begins)) second)
 
   -- and so at each instruction of a block, with the blocks behind it walked
   pub within_kept : (blank : List Place) (old : StateValue) → IsSafe env Known (WritesFrom f last (length f.blocks)) (MayInBlocks f) old →

@@ -15,22 +15,25 @@ use Rattle.regalloc2_function.specs.FunctionValue.{FunctionValue, block_at}
 use Rattle.regalloc2_semantics.specs.Blocks.{target_at}
 use Rattle.regalloc2_function.specs.OutputValue.{MoveValue}
 use Rattle.regalloc2_fastalloc_state.specs.declared.inst_regs.InstRegs.{InstRegs}
-use Rattle.regalloc2_fastalloc_state.specs.StateParts.{VRegAllocsValue, SpillSlotsValue, GetsSpillSlot, IsSlotOrNone, alloc_of, vreg_of_preg, slot_name}
-use Rattle.regalloc2_fastalloc_proofs.specs.InstSteps.{StateValue, SameMachine}
+use Rattle.regalloc2_fastalloc_state.specs.StateParts.{VRegAllocsValue, SpillSlotsValue, IsSlotOrNone, alloc_of, vreg_of_preg, slot_name}
+use Rattle.regalloc2_fastalloc_proofs.specs.InstSteps.{StateValue}
 use Rattle.regalloc2_fastalloc_proofs.specs.BlockStart.{no_vreg}
 use Rattle.regalloc2_fastalloc_state.specs.ScratchPool.{Moves, pushed}
 use Rattle.regalloc2_fastalloc_proofs.specs.BranchSteps.{SpillsArgument, from_register, in_slot, GathersEdgeMoves, none_gathered, one_gathered, own_argument}
 use Rattle.regalloc2_fastalloc_proofs.specs.BranchSteps.{GathersMoves, no_edge, one_edge, ClassMove, is_class, of_class, MayBeScratch, IsScratchUsed}
 use Rattle.regalloc2_fastalloc_proofs.specs.BranchSteps.{IsOrdered, OrdersMoves, Pushes, ProcessesBranch}
 use Rattle.regalloc2_fastalloc_proofs.specs.Safety.{MayBeLocatedAtOrNone, HasMachine, IsThrough, IsEndOfArgMove, IsSafe, IsSafeEdit, AreSafeRegs}
-use Rattle.regalloc2_fastalloc_proofs.proofs.Safety.StepsKeepSafe.{StepKept, MayBeHeld, kept_both, kept_none, same_units, settled_standing, shifted}
+use Rattle.regalloc2_fastalloc_proofs.proofs.Safety.StepsKeepSafe.{StepKept, MayBeHeld, kept_none, same_units, shifted}
 use Rattle.regalloc2_fastalloc_proofs.proofs.Safety.StepsKeepSafe.{clears_kept}
-use Rattle.regalloc2_fastalloc_proofs.proofs.Slots.SlotsGrow.{SlotsStay, SlotsGrow, gives_stay, edits_grow, none_grows}
+use Rattle.regalloc2_fastalloc_proofs.proofs.Slots.SlotsGrow.{SlotsStay, SlotsGrow, gives_stay, changes_stay, edits_grow, none_grows}
 use Rattle.std.proofs.lemmas.List.Elements.{All-push}
 use Rattle.regalloc2_fastalloc_proofs.proofs.BlockEnd.NoMoveForOperand.{slot_number}
 use Rattle.regalloc2_fastalloc_state.proofs.SlotsAsPlaces.{slot_grows}
 use Rattle.regalloc2_fastalloc_proofs.proofs.Safety.BlockStartKeepsSafe.{given_edits, given_safe}
 use Rattle.regalloc2_fastalloc_proofs.proofs.Safety.StepsKeepSafe.{StepRules}
+use Rattle.regalloc2_fastalloc_proofs.proofs.Changes.OneChange.{in_order}
+use Rattle.regalloc2_fastalloc_proofs.proofs.Changes.InstChanges.{clears_changes}
+use Rattle.regalloc2_fastalloc_proofs.proofs.Changes.WalkChanges.{settles_changes, pushes_changes}
 
 -- the value of a move that is given: it goes from some vreg's slot to that of a known vreg whose value may be written
 pub record IsGiven (Known : VirtualRegister → Type 0) (Passed : VirtualRegister → Type 0) (slots : SpillSlotsValue) (from to : Place) : Type 0 where
@@ -107,39 +110,30 @@ lent_through env inst_regs t class r m (inr free) = inl (m.allocatable r free.0.
 module _ (rules : StepRules) where
   open rules use {env, apart, Known, Writes, May, point, can}
 
-  -- a slot is given, and nothing else changes
-  slot_kept : (u : InstRegs) (t m : StateValue) (v : VirtualRegister) (s : Place) → GetsSpillSlot t.slots m.slots v s → m.places ≡ t.places →
-      m.edits ≡ t.edits → SameMachine t m → IsSafe env Known Writes May t → AreSafeRegs env u → StepKept env Known Writes May t u m
-  slot_kept u t m v s gives places edits machine h ht = record {
-    safe = given_safe env Known Writes May t m v s gives places edits machine h;
-    inst_regs = ht;
-    stay = gives_stay t.slots m.slots v s gives;
-    standing = λ n there e. there (ap (λ (x : VRegAllocsValue). alloc_of x n) (sym places) ∙ e);
-  }
-
   -- an argument is spilled to its slot
-  pub record Argued (a : VirtualRegister) (s : Place) (old : StateValue) (u : InstRegs) (new : StateValue) : Type 0 where
-    pub kept : StepKept env Known Writes May old u new
+  pub record Argued (a : VirtualRegister) (s : Place) (u : InstRegs) (new : StateValue) : Type 0 where
+    pub kept : StepKept env Known Writes May u new
     pub number : ℕ
     pub is : s ≡ InSlot number
     pub own : slot_name new.slots a.number ≡ InSlot number
 
   -- spilling an argument keeps the state safe, and its place is the vreg's own slot
   pub settles_kept : (a : VirtualRegister) (s : Place) (t u : InstRegs) (old new : StateValue) → SpillsArgument point a s t u old new →
-      IsSafe env Known Writes May old → AreSafeRegs env t → Argued a s old u new
+      IsSafe env Known Writes May old → AreSafeRegs env t → Argued a s u new
   settles_kept a s t u old new (from_register r m at gives places edits machine clears) h ht =
-      let first : StepKept env Known Writes May old t m = slot_kept t old m a s gives places edits machine h ht in
-      let k = clears_kept rules r t u m new clears first.safe ht in
       let n = slot_number m.slots.count s gives.there gives.below in
-      record { kept = kept_both env Known Writes May old m new t u first k; number = n.0; is = n.1; own = k.stay a.number n.0 (gives.gives ∙ n.1) }
+      record {
+        kept = clears_kept rules r t u m new clears (given_safe env Known Writes May old m a s gives places edits machine h) ht;
+        number = n.0;
+        is = n.1;
+        own = changes_stay (clears_changes (λ q x. tt) clears) a.number n.0 (gives.gives ∙ n.1);
+      }
   settles_kept a s t u old new (in_slot away gives settles edits machine eu) h ht =
       let n = slot_number new.slots.count s gives.there gives.below in
       record {
         kept = record {
           safe = shifted rules old new a s gives settles machine (given_edits env Known Writes May old new a s gives edits h) h;
           inst_regs = subst (AreSafeRegs env) (sym eu) ht;
-          stay = gives_stay old.slots new.slots a s gives;
-          standing = settled_standing old.places new.places a s gives.there settles;
         };
         number = n.0;
         is = n.1;
@@ -157,7 +151,7 @@ module _ (rules : StepRules) where
         {t : InstRegs} {old : StateValue} {before_it : List ClassMove}
         → IsSafe env Known Writes May old → AreSafeRegs env t → AreGiven Known Passed old.slots before_it
         → {k : ℕ} {u : InstRegs} {new : StateValue} {given : List ClassMove} → GathersEdgeMoves Own point params arguments t old before_it k u new given →
-        StepKept env Known Writes May old u new × AreGiven Known Passed new.slots given
+        StepKept env Known Writes May u new × AreGiven Known Passed new.slots given
     gathers_edge_kept good {t} {old} h ht begin none_gathered =
         (kept_none env Known Writes May old old t t refl refl h ht, begin)
     gathers_edge_kept {params} {arguments} good {t} {old} {before_it} h ht begin {u} {new}
@@ -165,13 +159,13 @@ module _ (rules : StepRules) where
         let p = gathers_edge_kept good h ht begin prev in
         let v : VirtualRegister = slice_index_or params j no_vreg in
         let a : VirtualRegister = slice_index_or arguments j no_vreg in
-        let first : StepKept env Known Writes May m w n = slot_kept w m n v to gives places edits machine p.0.safe p.0.inst_regs in
-        let second : Argued a from n u new = settles_kept a from w u n new settles first.safe first.inst_regs in
+        let first : IsSafe env Known Writes May n = given_safe env Known Writes May m n v to gives places edits machine p.0.safe in
+        let second : Argued a from u new = settles_kept a from w u n new settles first p.0.inst_regs in
         let number = slot_number n.slots.count to gives.there gives.below in
-        let both : StepKept env Known Writes May m u new = kept_both env Known Writes May m n new w u first second.kept in (
-          kept_both env Known Writes May old m new w u p.0 both,
+        let later : SlotsStay n.slots new.slots = changes_stay (settles_changes (λ q x. tt) tt tt settles) in (
+          second.kept,
           All-push (λ (g : ClassMove). IsGiven Known Passed new.slots g.from g.to) some (record { class = a.class; from = from; to = to })
-              (all_given_stay Known Passed m.slots new.slots some both.stay p.1)
+              (all_given_stay Known Passed m.slots new.slots some (λ x d is. later x d (gives_stay m.slots n.slots v to gives x d is)) p.1)
               (record {
                 source = second.number;
                 argument = a.number;
@@ -181,7 +175,7 @@ module _ (rules : StepRules) where
                 parameter = v;
                 known = (good j lt).0;
                 passed = (good j lt).1;
-                goes = second.kept.stay v.number number.0 (gives.gives ∙ number.1);
+                goes = later v.number number.0 (gives.gives ∙ number.1);
                 to_there = number.1;
               }),
         )
@@ -193,12 +187,11 @@ module _ (rules : StepRules) where
         Good (slice_index_or (block_at f (target_at f b k)).params j no_vreg))
         → (t : InstRegs) (old : StateValue) → IsSafe env Known Writes May old → AreSafeRegs env t
         → (k : ℕ) (u : InstRegs) (new : StateValue) (given : List ClassMove) → GathersMoves f b point t old k u new given →
-        StepKept env Known Writes May old u new × AreGiven Known Passed new.slots given
+        StepKept env Known Writes May u new × AreGiven Known Passed new.slots given
     gathers_kept f b good t old h ht k u new given no_edge = (kept_none env Known Writes May old old t t refl refl h ht, λ j d lt. absurd (omega arith))
     gathers_kept f b good t old h ht k u new given (one_edge j some more w x m n lt prev edge) =
         let p = gathers_kept f b good t old h ht j w m some prev in
-        let q = gathers_edge_kept (λ i less. good j i lt less) p.0.safe p.0.inst_regs p.1 edge in
-        (kept_both env Known Writes May old m new w u p.0 q.0, q.1)
+        gathers_edge_kept (λ i less. good j i lt less) p.0.safe p.0.inst_regs p.1 edge
 
     -- the moves of one class are ordered and pushed
     module _ (class : RegClass) (inst_regs : InstRegs) (given : Moves) (old middle : StateValue) (made : Moves)
@@ -272,7 +265,7 @@ module _ (rules : StepRules) where
         point = can;
       }
 
-      ordered_kept : AreSafeRegs env inst_regs → StepKept env Known Writes May old inst_regs (record middle { edits = middle.edits ++ pushed point made })
+      ordered_kept : AreSafeRegs env inst_regs → StepKept env Known Writes May inst_regs (record middle { edits = middle.edits ++ pushed point made })
       ordered_kept ht = record {
         safe = record {
           machine = record {
@@ -294,15 +287,13 @@ module _ (rules : StepRules) where
               (pushed_all (IsSafeEdit env Known Writes middle.slots May) point made (λ k d lt. made_safe (slice_index_or made k d) (orders.each k d lt)));
         };
         inst_regs = ht;
-        stay = lent_grow.stay;
-        standing = λ n there e. there (ap (λ (x : VRegAllocsValue). alloc_of x n) (sym orders.places) ∙ e);
       }
 
     -- pushing the ordered moves of one class keeps the state safe, where the given ones go between slots of vregs
     pub pushes_kept : (class : RegClass) (inst_regs : InstRegs) (given : Moves) (old new : StateValue) → Pushes point inst_regs class given old new →
         All (λ m. IsGiven Known Passed old.slots m.0 m.1) given → IsSafe env Known Writes May old → AreSafeRegs env inst_regs
-        → StepKept env Known Writes May old inst_regs new
-    pushes_kept class inst_regs given old new p all h ht = subst (StepKept env Known Writes May old inst_regs) (sym p.pushes)
+        → StepKept env Known Writes May inst_regs new
+    pushes_kept class inst_regs given old new p all h ht = subst (StepKept env Known Writes May inst_regs) (sym p.pushes)
         (ordered_kept class inst_regs given old p.middle p.made p.orders h all ht)
 
     -- a branch passes its arguments
@@ -310,7 +301,7 @@ module _ (rules : StepRules) where
         ((k j : ℕ) → k < length (block_at f b).succs → j < length (block_at f (target_at f b k)).params →
         Good (slice_index_or (block_at f (target_at f b k)).params j no_vreg))
         → (t u : InstRegs) (old new : StateValue) → ProcessesBranch f b i t u old new → IsSafe env Known Writes May old → AreSafeRegs env t →
-        StepKept env Known Writes May old u new
+        StepKept env Known Writes May u new
     passes_kept f b i e good t u old new p h ht =
         let x = gathers_kept f b good t old h ht (length (block_at f b).succs) u p.gathered p.given
         (subst (λ q. GathersMoves f b q t old (length (block_at f b).succs) u p.gathered p.given) (sym e) p.gathers) in
@@ -322,9 +313,9 @@ module _ (rules : StepRules) where
         let i1 = pushes_kept Int u (of_class Int p.given) p.gathered p.ints (subst (λ q. Pushes q u Int (of_class Int p.given) p.gathered p.ints) (sym e) p.int)
         (of Int) x.0.safe x.0.inst_regs in
         let i2 = pushes_kept Float u (of_class Float p.given) p.ints p.floats
-        (subst (λ q. Pushes q u Float (of_class Float p.given) p.ints p.floats) (sym e) p.float) (stays p.ints i1.stay Float) i1.safe i1.inst_regs in
-        let i3 = pushes_kept Vector u (of_class Vector p.given) p.floats new
+        (subst (λ q. Pushes q u Float (of_class Float p.given) p.ints p.floats) (sym e) p.float)
+        (stays p.ints (changes_stay (pushes_changes (λ q r. tt) p.int)) Float) i1.safe i1.inst_regs in
+        pushes_kept Vector u (of_class Vector p.given) p.floats new
         (subst (λ q. Pushes q u Vector (of_class Vector p.given) p.floats new) (sym e) p.vector)
-        (stays p.floats (λ n k is. i2.stay n k (i1.stay n k is)) Vector) i2.safe i2.inst_regs in
-        kept_both env Known Writes May old p.gathered new u u x.0 (kept_both env Known Writes May p.gathered p.ints new u u i1
-        (kept_both env Known Writes May p.ints p.floats new u u i2 i3))
+        (stays p.floats (changes_stay (in_order p.ints (pushes_changes (λ q r. tt) p.int) (pushes_changes (λ q r. tt) p.float))) Vector)
+        i2.safe i2.inst_regs

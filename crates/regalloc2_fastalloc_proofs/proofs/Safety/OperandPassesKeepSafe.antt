@@ -14,6 +14,9 @@ use Rattle.regalloc2_validate.specs.Constraints.{op_at}
 use Rattle.regalloc2_fastalloc_proofs.specs.InstSteps.{StateValue, use_request, def_request, reuse_request, AllocsDefOp, AllocsUse, ProcessesOperand}
 use Rattle.regalloc2_fastalloc_proofs.specs.InstSteps.{a_register, a_use, a_def, a_reuse, ProcessesOperandsAt, none_placed, of_other, one_placed}
 use Rattle.regalloc2_fastalloc_proofs.specs.Safety.{IsOfMachine, MayBeLocatedAt}
+use Rattle.regalloc2_fastalloc_proofs.proofs.Changes.InstChanges.{places_def_changes, places_use_changes}
+use Rattle.regalloc2_fastalloc_proofs.proofs.Slots.SlotsGrow.{changes_stay}
+use Rattle.regalloc2_fastalloc_proofs.proofs.Slots.LocatedStaysLocated.{changes_last}
 use Rattle.regalloc2_fastalloc_proofs.proofs.Safety.StepsKeepSafe.{IsApart}
 use Rattle.regalloc2_fastalloc_proofs.proofs.Safety.OperandKeepsSafe.{places_def_kept, places_use_kept}
 use Rattle.regalloc2_fastalloc_proofs.proofs.Operands.AllocsSoFar.{at_place, IsInRegister, MeetsAlone, IsGood, not_both, reads_not_def}
@@ -83,8 +86,8 @@ module _ (passes : PassesContext) where
       (tame.known k less allocated)
       (λ r asks. (let e : o.constraint ≡ FixedReg r = asked_fixed o.constraint r asks in
       (fixed k r less allocated e, fixed_class o.vreg.class o.constraint r (tame.constraint k less) e))) h.safe h.inst_regs in
-      let f = filled_on filling D here t u old new w.given.kept.safe w.given.kept.inst_regs w.given.kept.stay
-      (λ j within r there. w.given.kept.standing (op_at ops j).vreg.number there) h in
+      let f = filled_on filling D here t u old new w.given.kept.safe w.given.kept.inst_regs (changes_stay (places_use_changes (λ q s. tt) tt tt places))
+      (λ j within r there. changes_last (op_at ops j).vreg.number (places_use_changes (λ q s. tt) tt tt places) there) h in
       written filling D E k p here u new less more
       (λ n e. not_both (is_def o.kind) (tame.late_reuse k n less e).0 (reads_not_def o reads))
       (record {
@@ -110,8 +113,8 @@ module _ (passes : PassesContext) where
       let w = places_use_kept (rules_of env apart Known Writes May (after i) can) tame.same (use_request o (InRegister r)) p t u old new places
       (tame.known k less allocated)
       (λ q asks. subst (λ (x : Register). IsOfMachine env x × (x.class ≡ o.vreg.class)) (same_at r q asks) stand) h.safe h.inst_regs in
-      let f = filled_on filling D here t u old new w.given.kept.safe w.given.kept.inst_regs w.given.kept.stay
-      (λ j within x there. w.given.kept.standing (op_at ops j).vreg.number there) h in
+      let f = filled_on filling D here t u old new w.given.kept.safe w.given.kept.inst_regs (changes_stay (places_use_changes (λ q s. tt) tt tt places))
+      (λ j within x there. changes_last (op_at ops j).vreg.number (places_use_changes (λ q s. tt) tt tt places) there) h in
       let as_chosen : p ≡ at_place here k = w.given.answer ∙ sym at_it in
       written filling D E k p here u new less more
       (λ n e. not_both (is_def o.kind) (tame.late_reuse k n less e).0 (reads_not_def o reads))
@@ -134,8 +137,8 @@ module _ (passes : PassesContext) where
       (λ n. writes k n less def)
       (λ r asks. (let e : o.constraint ≡ FixedReg r = asked_fixed o.constraint r asks in
       (fixed k r less allocated e, fixed_class o.vreg.class o.constraint r (tame.constraint k less) e))) h.safe h.inst_regs in
-      let f = filled_on filling D here t u old new w.kept.safe w.kept.inst_regs w.kept.stay
-      (λ j within r there. w.kept.standing (op_at ops j).vreg.number (tame.unread k j less within def r) there) h in
+      let f = filled_on filling D here t u old new w.kept.safe w.kept.inst_regs (changes_stay (places_def_changes (λ q s. tt) tt tt places))
+      (λ j within r there. changes_last (op_at ops j).vreg.number (places_def_changes (λ q s. tt) tt (tame.unread k j less within def r) places) there) h in
       written filling D E k p here u new less more no_reuse
       (record { place = λ a. w.place; meets = answer_meets env o.constraint p no_reuse (λ n e. tame.unlimited k n less e) w.answer })
       (λ reads. absurd (not_both (is_def o.kind) def (reads_not_def o reads)))
@@ -157,8 +160,8 @@ module _ (passes : PassesContext) where
       (λ r asks. (let e : m.constraint ≡ FixedReg r = asked_as_fixed m.constraint r asks in
       (fixed n r named.0 (reads_allocated m named.2) e, fixed_class m.vreg.class m.constraint r (tame.constraint n named.0) e ∙ named.3))) h.safe
       h.inst_regs in
-      let f = filled_on filling D here t u old new w.kept.safe w.kept.inst_regs w.kept.stay
-      (λ j within r there. w.kept.standing (op_at ops j).vreg.number (tame.unread k j less within def r) there) h in
+      let f = filled_on filling D here t u old new w.kept.safe w.kept.inst_regs (changes_stay (places_def_changes (λ q s. tt) tt tt places))
+      (λ j within r there. changes_last (op_at ops j).vreg.number (places_def_changes (λ q s. tt) tt (tame.unread k j less within def r) places) there) h in
       let a = answer_named env m.constraint p (tame.named_as k n less reuses) w.answer in
       written_twice filling n less more reuses not_n
       (record { place = λ x. w.place; meets = reuse_meets env o.constraint n p reuses a.1 })

@@ -20,7 +20,6 @@ use Rattle.regalloc2_fastalloc_proofs.specs.StoreSteps.{StoresFor, pushed_moves,
 use Rattle.regalloc2_fastalloc_proofs.specs.Safety.{IsOfMachine, IsEndOfMove, IsSafeEdit, HasMachine, IsSafe, MayBeLocatedAtOrNone}
 use Rattle.regalloc2_fastalloc_proofs.proofs.Safety.StepsKeepSafe.{MayBeHeld, machine_kept, slot_end}
 use Rattle.regalloc2_fastalloc_proofs.proofs.Safety.BlockStartKeepsSafe.{given_safe}
-use Rattle.regalloc2_fastalloc_proofs.proofs.Slots.SlotsGrow.{SlotsStay, gives_stay}
 use Rattle.regalloc2_fastalloc_proofs.proofs.BlockBegin.StoresOfDefs.{with_slots}
 
 -- what the operand j of the branch at the end of the block e defines is of v's class, and the register that it is fixed to is one of the machine, of that class
@@ -66,10 +65,6 @@ module _ (env : MachineValue) (Known : VirtualRegister → Type 0) (Writes : ℕ
         vregs = gives.long;
         num_temp_slots = temps;
       }) (slots_safe P known old m prev h)
-
-  pub slots_stay : (P : VirtualRegister → Type 0) (old s : SpillSlotsValue) → GetsSlots P old s → SlotsStay old s
-  slots_stay P old s no_slot = λ n k is. is
-  slots_stay P old s (one_slot v p m n prev of gives temps) = λ x k is. gives_stay m n v p gives x k (slots_stay P old m prev x k is)
 
   -- moves of which each is safe are safe edits, as they are pushed
   pushed_safe : (slots : SpillSlotsValue) (point : ℕ) (ms : List MoveValue) → All (λ m. IsSafeEdit env Known Writes slots May (point, m)) ms →
@@ -238,9 +233,9 @@ module _ (env : MachineValue) (Known : VirtualRegister → Type 0) (Writes : ℕ
       ((e k : ℕ) (v : VirtualRegister) → IsEdgeInto f b e k → IsConcerned f e k v → Known v) →
       ((e k j : ℕ) (v : VirtualRegister) (slots : SpillSlotsValue) → IsEdgeInto f b e k → IsStoredFor f e k slots j v → IsAlike env f e j v) →
       ((e k : ℕ) (v : VirtualRegister) (n : ℕ) → IsEdgeInto f b e k → IsConcerned f e k v → Writes (before (block_at f b).range.first) v n) →
-      (old new : StateValue) → StoresBranchDefs f b old new → IsSafe env Known Writes May old → IsSafe env Known Writes May new × SlotsStay old.slots new.slots
+      (old new : StateValue) → StoresBranchDefs f b old new → IsSafe env Known Writes May old → IsSafe env Known Writes May new
   stores_kept f b can concerned alike written old new (none_stored none same) h =
-      (subst (IsSafe env Known Writes May) (sym same) h, λ n k is. ap (λ (t : StateValue). slot_name t.slots n) same ∙ is)
+      subst (IsSafe env Known Writes May) (sym same) h
   stores_kept f b can concerned alike written old new (all_stored e k edge s) h =
       let point : ℕ = before (block_at f b).range.first in
       let mid : IsSafe env Known Writes May (with_slots old new.slots) = slots_safe env Known Writes May (IsConcerned f e k)
@@ -269,18 +264,16 @@ module _ (env : MachineValue) (Known : VirtualRegister → Type 0) (Writes : ℕ
         written = λ n. written e k one.1 n edge (stored_concerned f e k old.slots one.0 one.1 stored);
         to_memory = ends.0;
         by_register = ends.1;
-      }) x.by refl) in (
-        record {
-          machine = machine_kept env old new s.machine h.machine;
-          places = λ w known. subst (MayBeLocatedAtOrNone env new.slots w) (ap (λ (y : VRegAllocsValue). alloc_of y w.number) (sym s.places))
-              (mid.places w known);
-          holders = subst (λ (y : VRegAllocsValue). (g : Register) (w : VirtualRegister) → g.number < 64 → vreg_of_preg y g ≡ Some w → MayBeHeld env Known g w)
-              (sym s.places) h.holders;
-          slots = mid.slots;
-          units = mid.units;
-          edits = subst (All (IsSafeEdit env Known Writes new.slots May)) (sym s.edits)
-              (All-append (IsSafeEdit env Known Writes new.slots May) old.edits (pushed_moves point (store_moves s.stores)) mid.edits
-              (pushed_safe env Known Writes May new.slots point (store_moves s.stores) moves));
-        },
-        slots_stay env Known Writes May (IsConcerned f e k) old.slots new.slots s.slots,
-      )
+      }) x.by refl) in
+      record {
+        machine = machine_kept env old new s.machine h.machine;
+        places = λ w known. subst (MayBeLocatedAtOrNone env new.slots w) (ap (λ (y : VRegAllocsValue). alloc_of y w.number) (sym s.places))
+            (mid.places w known);
+        holders = subst (λ (y : VRegAllocsValue). (g : Register) (w : VirtualRegister) → g.number < 64 → vreg_of_preg y g ≡ Some w → MayBeHeld env Known g w)
+            (sym s.places) h.holders;
+        slots = mid.slots;
+        units = mid.units;
+        edits = subst (All (IsSafeEdit env Known Writes new.slots May)) (sym s.edits)
+            (All-append (IsSafeEdit env Known Writes new.slots May) old.edits (pushed_moves point (store_moves s.stores)) mid.edits
+            (pushed_safe env Known Writes May new.slots point (store_moves s.stores) moves));
+      }
