@@ -13,7 +13,6 @@ use Rattle.regalloc2_function.specs.Machine.{MachineValue, IsPlainRegister}
 use Rattle.regalloc2_fastalloc_state.specs.declared.inst_regs.InstRegs.{InstRegs}
 use Rattle.regalloc2_fastalloc_state.specs.declared.request.Requirement.{Requirement}
 use Rattle.regalloc2_fastalloc_state.specs.declared.request.Requirement.TheVariants.{AnyReg, InPReg}
-use Rattle.regalloc2_fastalloc_state.specs.StateParts.{SpillSlotsValue}
 use Rattle.regalloc2_validate.specs.Constraints.{op_at}
 use Rattle.regalloc2_fastalloc_proofs.specs.InstSteps.{StateValue, requirement_of, reuse_requirement_of, use_request}
 use Rattle.regalloc2_fastalloc_proofs.specs.Safety.{IsOfMachine, MayBeLocatedAt}
@@ -51,7 +50,6 @@ not_under c d e h = ap is_under_reg e ∙ h
 -- It is the turn of the operand k: those that D holds of have places, which are paid for by registers that are left in the classes that are named.
 pub record CountedOperand (env : MachineValue) (Known : VirtualRegister → Type 0) (ops : List OperandValue) : Type 1 where
   pub Named : RegClass → Type 0
-  pub base : SpillSlotsValue
   pub fixed : FixedAreKnown env ops
   pub D : ℕ → Type 0
   pub k : ℕ
@@ -60,7 +58,7 @@ pub record CountedOperand (env : MachineValue) (Known : VirtualRegister → Type
   pub old : StateValue
   pub lt : k < length ops
   pub undone : D k → ⊥
-  pub h : Filled env Known AllWrite AllMay base ops D here t old
+  pub h : Filled env Known AllWrite AllMay ops D here t old
   pub p : Paying Named ops D here t old
 
 module _ (env : MachineValue) (Known : VirtualRegister → Type 0) (ops : List OperandValue) (tame : IsTame Known ops) where
@@ -77,7 +75,7 @@ module _ (env : MachineValue) (Known : VirtualRegister → Type 0) (ops : List O
   unchanged here k p long other c = waits_as_before ops here c k p long (λ lt. waits_not ops here c k other ∙ sym (waits_not ops (set here k p) c k other))
 
   module _ (turn : CountedOperand env Known ops) where
-    open turn use {Named, base, fixed, D, k, here, t, old, lt, undone, h, p}
+    open turn use {Named, fixed, D, k, here, t, old, lt, undone, h, p}
 
     -- an operand that has no place yet, and is no reuse
     module _ (allocated : is_fixed_nonallocatable (op_at ops k) ≡ false) (no_reuse : (n : ℕ) → (op_at ops k).constraint ≡ Reuse n → ⊥)

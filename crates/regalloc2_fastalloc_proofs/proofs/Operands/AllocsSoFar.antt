@@ -156,12 +156,11 @@ abbrev pub FixedAreKnown : MachineValue → List OperandValue → Type 0
 FixedAreKnown env ops = (k : ℕ) (r : Register) → k < length ops → is_fixed_nonallocatable (op_at ops k) ≡ false → (op_at ops k).constraint ≡ FixedReg r →
     IsOfMachine env r
 
--- the operands that are done have good places; each other one has none yet, or the one that a reuse chose for it; base: slots that are there at least
+-- the operands that are done have good places; each other one has none yet, or the one that a reuse chose for it
 pub record Filled (env : MachineValue) (Known : VirtualRegister → Type 0) (Writes : ℕ → VirtualRegister → ℕ → Type 0) (May : ℕ → Type 0)
-    (base : SpillSlotsValue) (ops : List OperandValue) (done : ℕ → Type 0) (there : List Place) (u : InstRegs) (t : StateValue) : Type 0 where
+    (ops : List OperandValue) (done : ℕ → Type 0) (there : List Place) (u : InstRegs) (t : StateValue) : Type 0 where
   pub safe : IsSafe env Known Writes May t
   pub inst_regs : AreSafeRegs env u
-  pub stay : SlotsStay base t.slots
   pub long : length there ≡ length ops
   pub good : (j : ℕ) → j < length ops → done j → IsGood env t.slots (op_at ops j) (at_place there j)
   pub shared : (j n : ℕ) → j < length ops → done j → (op_at ops j).constraint ≡ Reuse n → at_place there j ≡ at_place there n
@@ -187,33 +186,30 @@ pub no_place_register : (p : Place) → p ≡ NoPlace → IsInRegister p → ⊥
 no_place_register p e h = subst IsInRegister e h
 
 -- An instruction's operands, which get their places one after another: the machine; the vregs that are known; the slots into which the walk may write a
--- vreg's value, and the points where moves may be; slots that are there at least; and the operands, which are tame.
+-- vreg's value, and the points where moves may be; and the operands, which are tame.
 pub record FillingContext : Type 1 where
   pub env : MachineValue
   pub Known : VirtualRegister → Type 0
   pub Writes : ℕ → VirtualRegister → ℕ → Type 0
   pub May : ℕ → Type 0
-  pub base : SpillSlotsValue
   pub ops : List OperandValue
   pub tame : IsTame Known ops
 
 -- those, of their parts
-abbrev pub filling_of : MachineValue → (Known : VirtualRegister → Type 0) → (ℕ → VirtualRegister → ℕ → Type 0) → (ℕ → Type 0) → SpillSlotsValue →
+abbrev pub filling_of : MachineValue → (Known : VirtualRegister → Type 0) → (ℕ → VirtualRegister → ℕ → Type 0) → (ℕ → Type 0) →
     (ops : List OperandValue) → IsTame Known ops → FillingContext
-filling_of env Known Writes May base ops tame =
-    record { env = env; Known = Known; Writes = Writes; May = May; base = base; ops = ops; tame = tame }
+filling_of env Known Writes May ops tame = record { env = env; Known = Known; Writes = Writes; May = May; ops = ops; tame = tame }
 
 module _ (filling : FillingContext) where
-  open filling use {env, Known, Writes, May, base, ops, tame}
+  open filling use {env, Known, Writes, May, ops, tame}
 
   -- the same operands are done
   pub filled_same : (D E : ℕ → Type 0) (there : List Place) (u : InstRegs) (t : StateValue) → ((j : ℕ) → j < length ops → E j → D j) →
       ((j : ℕ) → j < length ops → D j → E j)
-      → Filled env Known Writes May base ops D there u t → Filled env Known Writes May base ops E there u t
+      → Filled env Known Writes May ops D there u t → Filled env Known Writes May ops E there u t
   filled_same D E there u t back forth h = record {
     safe = h.safe;
     inst_regs = h.inst_regs;
-    stay = h.stay;
     long = h.long;
     good = λ j less e. h.good j less (back j less e);
     shared = λ j n less e. h.shared j n less (back j less e);
@@ -226,11 +222,10 @@ module _ (filling : FillingContext) where
       SlotsStay old.slots new.slots
       → ((j : ℕ) → j < length ops → is_reading (op_at ops j) ≡ true → alloc_of old.places (op_at ops j).vreg.number ≢ NoPlace →
       alloc_of new.places (op_at ops j).vreg.number ≢ NoPlace)
-      → Filled env Known Writes May base ops D there t old → Filled env Known Writes May base ops D there u new
+      → Filled env Known Writes May ops D there t old → Filled env Known Writes May ops D there u new
   filled_on D there t u old new safe inst_regs stay standing h = record {
     safe = safe;
     inst_regs = inst_regs;
-    stay = λ n k is. stay n k (h.stay n k is);
     long = h.long;
     good = λ j less d. good_grows env old.slots new.slots (op_at ops j) (at_place there j) stay (h.good j less d);
     shared = h.shared;
@@ -253,11 +248,10 @@ module _ (filling : FillingContext) where
       ((n : ℕ) → (op_at ops k).constraint ≡ Reuse n → ⊥)
       → IsGood env t.slots (op_at ops k) p → (is_reading (op_at ops k) ≡ true → alloc_of t.places (op_at ops k).vreg.number ≢ NoPlace)
       → ((j : ℕ) → j < length ops → D j → (op_at ops j).constraint ≡ Reuse k → p ≡ at_place here k)
-      → Filled env Known Writes May base ops D here u t → Filled env Known Writes May base ops E (set here k p) u t
+      → Filled env Known Writes May ops D here u t → Filled env Known Writes May ops E (set here k p) u t
   written D E k p here u t lt more no_reuse good found kept h = record {
     safe = h.safe;
     inst_regs = h.inst_regs;
-    stay = h.stay;
     long = length-set here k p ∙ h.long;
     good = λ j less e. elim (more.back j e) [
       | inl d ↦ subst (IsGood env t.slots (op_at ops j)) (sym (elsewhere j (not_k j d))) (h.good j less d)
@@ -295,11 +289,10 @@ module _ (filling : FillingContext) where
   pub written_twice : {D E : ℕ → Type 0} {k : ℕ} (n : ℕ) {p : Place} {here : List Place} {u : InstRegs} {t : StateValue} → k < length ops → OneMore D E k →
       (op_at ops k).constraint ≡ Reuse n → (D n → ⊥)
       → IsGood env t.slots (op_at ops k) p → IsGood env t.slots (op_at ops n) p → IsInRegister p
-      → Filled env Known Writes May base ops D here u t → Filled env Known Writes May base ops E (set (set here k p) n p) u t
+      → Filled env Known Writes May ops D here u t → Filled env Known Writes May ops E (set (set here k p) n p) u t
   written_twice {D} {E} {k} n {p} {here} {t} lt more reuses not_n good good_n register h = record {
     safe = h.safe;
     inst_regs = h.inst_regs;
-    stay = h.stay;
     long = length-set (set here k p) n p ∙ length-set here k p ∙ h.long;
     good = λ j less e. elim (more.back j e) [
       | inl d ↦ subst (IsGood env t.slots (op_at ops j)) (sym (elsewhere j (not_k j d) (not_named j d))) (h.good j less d)

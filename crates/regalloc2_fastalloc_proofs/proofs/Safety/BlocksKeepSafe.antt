@@ -121,7 +121,7 @@ module _ (rules : WalkRules) where
   inst_kept : (c b i : ℕ) → b < length f.blocks → (blank before_it places : List Place) (old s new : StateValue) →
       (ge : (block_at f b).range.first ≤ i) (less : i < (block_at f b).range.end) → IsOutside old → AllocsBlockInsts f b blank old (i + 1) before_it s
       → (a : AllocsInstInBlock f b i before_it places s new) → AreLast f last i places → WalkKept env Known f (MayInBlocks f) last c (i + 1) before_it s
-      → InstKept env Known (WritesFrom f last c) (MayInBlocks f) (inst_at f i).operands a.allocates.here s a.allocates.allocates.ended a.middle
+      → InstKept env Known (WritesFrom f last c) (MayInBlocks f) (inst_at f i).operands a.allocates.here a.allocates.allocates.ended a.middle
   inst_kept c b i lt blank before_it places old s new ge less bare prev a are_last w =
       let inst : InstValue = inst_at f i in
       let end = end_within f follow b lt in

@@ -21,6 +21,8 @@ use Rattle.regalloc2_fastalloc_proofs.specs.Safety.{IsSafe}
 use Rattle.regalloc2_fastalloc_proofs.specs.BlockSteps.{AllocsInstAt, offset_of}
 use Rattle.regalloc2_fastalloc_proofs.proofs.Operands.AllocsSoFar.{at_place, IsTame, IsGood, good_grows, DefsAreWritten, UsesAreWritten}
 use Rattle.regalloc2_fastalloc_proofs.proofs.Safety.InstKeepsSafe.{InstKept}
+use Rattle.regalloc2_fastalloc_proofs.proofs.Slots.SlotsGrow.{SlotsStay, changes_stay}
+use Rattle.regalloc2_fastalloc_proofs.proofs.Changes.InstChanges.{free_operand, allocates_changes}
 
 -- offsets rise by the numbers of operands
 pub offset_next : (f : FunctionValue) (i : ℕ) → i < length f.insts → offset_of f (i + 1) ≡ offset_of f i + length (inst_at f i).operands
@@ -106,7 +108,7 @@ module _ (env : MachineValue) (Known : VirtualRegister → Type 0) (f : Function
     (May : ℕ → Type 0) (last : List Place) (c : ℕ) where
   -- the places of one more instruction
   pub more_places : {i : ℕ} {b p : List Place} {t u : StateValue} → (lt : i < length f.insts) → (a : AllocsInstAt i (inst_at f i) (offset_of f i) b p t u)
-      → InstKept env Known (WritesFrom f last c) May (inst_at f i).operands a.here t a.allocates.ended u
+      → InstKept env Known (WritesFrom f last c) May (inst_at f i).operands a.here a.allocates.ended u
       → ((j k : ℕ) → i + 1 ≤ j → j < length f.insts → k < length (inst_at f j).operands → HasGood env t.slots f b j k)
       → (j k : ℕ) → i ≤ j → j < length f.insts → k < length (inst_at f j).operands → HasGood env u.slots f p j k
   more_places {i} {b} {p} {t} {u} lt a here rest j k le less within = elim (cases_eq j i) [
@@ -118,10 +120,11 @@ module _ (env : MachineValue) (Known : VirtualRegister → Type 0) (f : Function
         }) within)
     | inr d ↦ (
         let g = rest j k (omega arith) less within in
+        let stay : SlotsStay t.slots u.slots = changes_stay (allocates_changes (λ q r. tt) (λ q r. tt) (λ n at. free_operand _) a.allocates) in
         let same : (x : ℕ) → place_of f p j x ≡ place_of f b j x = later_same f i b p t u lt a j (omega arith) less in
         record {
           good = subst (IsGood env u.slots (op_at (inst_at f j).operands k)) (sym (same k))
-              (good_grows env t.slots u.slots (op_at (inst_at f j).operands k) (place_of f b j k) here.stay g.good);
+              (good_grows env t.slots u.slots (op_at (inst_at f j).operands k) (place_of f b j k) stay g.good);
           shared = λ x is. ((g.shared x is).0, same k ∙ (g.shared x is).1 ∙ sym (same x));
         })
   ]

@@ -60,13 +60,13 @@ passes_of filling apart fixed i is_ret can writes =
 
 module _ (passes : PassesContext) where
   open passes use {filling, apart, fixed, i, is_ret, can, writes}
-  open passes.filling use {env, Known, Writes, May, base, ops, tame}
+  open passes.filling use {env, Known, Writes, May, ops, tame}
 
   -- a register that no vreg stands for
   register_kept : (D E : ℕ → Type 0) (k : ℕ) (r : Register) (here : List Place) (t : InstRegs) (old : StateValue) → k < length ops →
       OneMore filling D E k
-      → is_fixed_nonallocatable (op_at ops k) ≡ true → (op_at ops k).constraint ≡ FixedReg r → Filled env Known Writes May base ops D here t old →
-      Filled env Known Writes May base ops E (set here k (InRegister r)) t old
+      → is_fixed_nonallocatable (op_at ops k) ≡ true → (op_at ops k).constraint ≡ FixedReg r → Filled env Known Writes May ops D here t old →
+      Filled env Known Writes May ops E (set here k (InRegister r)) t old
   register_kept D E k r here t old less more silent is h = written filling D E k (InRegister r) here t old less more
       (λ n e. (let x : FixedReg r ≡ Reuse n = sym is ∙ e in cc))
       (record { place = λ a. absurd (not_both (is_fixed_nonallocatable (op_at ops k)) silent a); meets = fixed_meets env (op_at ops k).constraint r is })
@@ -78,7 +78,7 @@ module _ (passes : PassesContext) where
   use_kept : (D E : ℕ → Type 0) (k : ℕ) (p : Place) (here : List Place) (t u : InstRegs) (old new : StateValue) → k < length ops →
       OneMore filling D E k
       → is_reading (op_at ops k) ≡ true → at_place here k ≡ NoPlace → AllocsUse (after i) (use_request (op_at ops k) NoPlace) p t u old new
-      → Filled env Known Writes May base ops D here t old → Filled env Known Writes May base ops E (set here k p) u new
+      → Filled env Known Writes May ops D here t old → Filled env Known Writes May ops E (set here k p) u new
   use_kept D E k p here t u old new less more reads none places h =
       let o : OperandValue = op_at ops k in
       let allocated : is_fixed_nonallocatable o ≡ false = reads_allocated o reads in
@@ -105,7 +105,7 @@ module _ (passes : PassesContext) where
       OneMore filling D E k
       → is_reading (op_at ops k) ≡ true → at_place here k ≡ InRegister r → IsGood env old.slots (op_at ops k) (at_place here k) →
       AllocsUse (after i) (use_request (op_at ops k) (InRegister r)) p t u old new
-      → Filled env Known Writes May base ops D here t old → Filled env Known Writes May base ops E (set here k p) u new
+      → Filled env Known Writes May ops D here t old → Filled env Known Writes May ops E (set here k p) u new
   chosen_kept D E k p r here t u old new less more reads at_it good places h =
       let o : OperandValue = op_at ops k in
       let allocated : is_fixed_nonallocatable o ≡ false = reads_allocated o reads in
@@ -128,7 +128,7 @@ module _ (passes : PassesContext) where
       OneMore filling D E k
       → is_def (op_at ops k).kind ≡ true → ((n : ℕ) → (op_at ops k).constraint ≡ Reuse n → ⊥) →
       AllocsDefOp (after i) (def_request (op_at ops k)) is_ret p t u old new
-      → Filled env Known Writes May base ops D here t old → Filled env Known Writes May base ops E (set here k p) u new
+      → Filled env Known Writes May ops D here t old → Filled env Known Writes May ops E (set here k p) u new
   def_kept D E k p here t u old new less more def no_reuse places h =
       let o : OperandValue = op_at ops k in
       let allocated : is_fixed_nonallocatable o ≡ false = tame.allocated k less def in
@@ -150,7 +150,7 @@ module _ (passes : PassesContext) where
       OneMore filling D E k → (D n → ⊥)
       → is_def (op_at ops k).kind ≡ true → (op_at ops k).constraint ≡ Reuse n →
       AllocsDefOp (after i) (reuse_request (op_at ops k) (op_at ops n)) is_ret p t u old new
-      → Filled env Known Writes May base ops D here t old → Filled env Known Writes May base ops E (set (set here k p) n p) u new
+      → Filled env Known Writes May ops D here t old → Filled env Known Writes May ops E (set (set here k p) n p) u new
   reuse_kept D E k n p here t u old new less more not_n def reuses places h =
       let o : OperandValue = op_at ops k in
       let m : OperandValue = op_at ops n in
@@ -171,15 +171,15 @@ module _ (passes : PassesContext) where
   -- an operand is allocated
   pub one_kept : (D E : ℕ → Type 0) (k : ℕ) (here there : List Place) (t u : InstRegs) (old new : StateValue) →
       ProcessesOperand i is_ret ops k here there t u old new → k < length ops → OneMore filling D E k
-      → ((n : ℕ) → (op_at ops k).constraint ≡ Reuse n → D n → ⊥) → Filled env Known Writes May base ops D here t old →
-      Filled env Known Writes May base ops E there u new
+      → ((n : ℕ) → (op_at ops k).constraint ≡ Reuse n → D n → ⊥) → Filled env Known Writes May ops D here t old →
+      Filled env Known Writes May ops E there u new
   one_kept D E k here there t u old new (a_register r silent is written_it eu en) less more not_n h =
-      subst (λ l. Filled env Known Writes May base ops E l u new) (sym written_it)
-      (subst (λ x. Filled env Known Writes May base ops E (set here k (InRegister r)) x new) (sym eu)
-      (subst (Filled env Known Writes May base ops E (set here k (InRegister r)) t) (sym en)
+      subst (λ l. Filled env Known Writes May ops E l u new) (sym written_it)
+      (subst (λ x. Filled env Known Writes May ops E (set here k (InRegister r)) x new) (sym eu)
+      (subst (Filled env Known Writes May ops E (set here k (InRegister r)) t) (sym en)
       (register_kept D E k r here t old less more silent is h)))
   one_kept D E k here there t u old new (a_use p reads places written_it) less more not_n h =
-      subst (λ l. Filled env Known Writes May base ops E l u new) (sym written_it) (elim (h.waits k less more.before_it) [
+      subst (λ l. Filled env Known Writes May ops E l u new) (sym written_it) (elim (h.waits k less more.before_it) [
         | inl none ↦ use_kept D E k p here t u old new less more reads none
             (subst (λ x. AllocsUse (after i) (use_request (op_at ops k) x) p t u old new) none places) h
         | inr g ↦ (let r = a_place_of (at_place here k) g.1 in
@@ -187,9 +187,9 @@ module _ (passes : PassesContext) where
             (subst (λ x. AllocsUse (after i) (use_request (op_at ops k) x) p t u old new) r.1 places) h)
       ])
   one_kept D E k here there t u old new (a_def p def no_reuse places written_it) less more not_n h =
-      subst (λ l. Filled env Known Writes May base ops E l u new) (sym written_it) (def_kept D E k p here t u old new less more def no_reuse places h)
+      subst (λ l. Filled env Known Writes May ops E l u new) (sym written_it) (def_kept D E k p here t u old new less more def no_reuse places h)
   one_kept D E k here there t u old new (a_reuse n p def reuses places written_it) less more not_n h =
-      subst (λ l. Filled env Known Writes May base ops E l u new) (sym written_it)
+      subst (λ l. Filled env Known Writes May ops E l u new) (sym written_it)
       (reuse_kept D E k n p here t u old new less more (not_n n reuses) def reuses places h)
 
   -- which operands are done in the pass over late operands, and in that over early ones
@@ -242,9 +242,9 @@ module _ (passes : PassesContext) where
   }
 
   -- the pass over late operands
-  pub lates_kept : (blank : List Place) (t : InstRegs) (old : StateValue) → Filled env Known Writes May base ops (InLate 0) blank t old
+  pub lates_kept : (blank : List Place) (t : InstRegs) (old : StateValue) → Filled env Known Writes May ops (InLate 0) blank t old
       → (k : ℕ) (there : List Place) (u : InstRegs) (m : StateValue) → ProcessesOperandsAt i is_ret true ops blank t old k there u m → k ≤ length ops →
-      Filled env Known Writes May base ops (InLate k) there u m
+      Filled env Known Writes May ops (InLate k) there u m
   lates_kept blank t old h k there u m none_placed le = h
   lates_kept blank t old h k there u m (of_other j l w s prev other) le =
       let early : is_late (op_at ops j).position ≡ false = not_true (is_late (op_at ops j).position) other in
@@ -262,9 +262,9 @@ module _ (passes : PassesContext) where
       (lates_kept blank t old h j l w s prev (omega arith))
 
   -- and that over early ones
-  pub earlies_kept : (half : List Place) (t : InstRegs) (old : StateValue) → Filled env Known Writes May base ops (InEarly 0) half t old
+  pub earlies_kept : (half : List Place) (t : InstRegs) (old : StateValue) → Filled env Known Writes May ops (InEarly 0) half t old
       → (k : ℕ) (there : List Place) (u : InstRegs) (m : StateValue) → ProcessesOperandsAt i is_ret false ops half t old k there u m → k ≤ length ops →
-      Filled env Known Writes May base ops (InEarly k) there u m
+      Filled env Known Writes May ops (InEarly k) there u m
   earlies_kept half t old h k there u m none_placed le = h
   earlies_kept half t old h k there u m (of_other j l w s prev other) le =
       let late : is_late (op_at ops j).position ≡ true = not_false (is_late (op_at ops j).position) other in
