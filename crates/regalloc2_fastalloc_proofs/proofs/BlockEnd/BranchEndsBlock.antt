@@ -17,7 +17,8 @@ use Rattle.regalloc2_fastalloc_proofs.specs.InstSteps.{StateValue, AllocsInst, e
 use Rattle.regalloc2_fastalloc_state.specs.declared.inst_regs.InstRegs.{InstRegs}
 use Rattle.regalloc2_fastalloc_state.specs.StateParts.{slot_name, units_of}
 use Rattle.regalloc2_fastalloc_proofs.proofs.Safety.StepsKeepState.{slot_in, IsWhole}
-use Rattle.regalloc2_fastalloc_proofs.proofs.Operands.RecordOverState.{opt, opt_from, opt_real, opt_none, stands_at, slots_at, no_register_slot, slot_below}
+use Rattle.regalloc2_fastalloc_proofs.proofs.Operands.RecordOverState.{opt_from, opt_real, opt_none, stands_at, slots_at, no_register_slot, slot_below}
+use Rattle.regalloc2_fastalloc_proofs.proofs.Operands.RecordOverState.{grown_slots}
 use Rattle.regalloc2_fastalloc_proofs.proofs.Slots.StepsKeepSlots.{Grown, IsAt, allocates_grown}
 use Rattle.regalloc2_fastalloc_proofs.proofs.Operands.DefinedNumbers.{defined_by, defined_by-at}
 use Rattle.regalloc2_fastalloc_proofs.proofs.Inst.OneInstCarries.{Between, Needed, alone}
@@ -38,10 +39,6 @@ pub slot_there : (t : StateValue) → IsWhole t → (x : ℕ) (p : Place) → sl
 slot_there t w x NoPlace at = absurd (opt_real (slot_in t x) NoPlace at refl)
 slot_there t w x (InRegister r) at = absurd (no_register_slot t.slots.count (slot_in t x) r (w.below x) (opt_from (slot_in t x) (InRegister r) at))
 slot_there t w x (InSlot n) at = (n, refl, slot_below t.slots.count (slot_in t x) n (w.below x) (opt_from (slot_in t x) (InSlot n) at))
-
--- slots that are there stay
-pub grown_slots : (At : ℕ → Type 0) (a b : StateValue) → Grown At a b → (x : ℕ) (p : Place) → slots_at a x ≡ Some p → slots_at b x ≡ Some p
-grown_slots At a b g x p at = ap opt (g.stay x (λ none. opt_real (slot_name a.slots x) p at (sym (opt_from (slot_name a.slots x) p at) ∙ none))) ∙ at
 
 -- a place or none
 pub cases_opt : (x : Option Place) → (x ≡ None) ⊎ ((p : Place) × (x ≡ Some p))

@@ -28,13 +28,14 @@ use Rattle.regalloc2_fastalloc_state.specs.StateParts.{VRegAllocsValue, IsSlotOr
 use Rattle.regalloc2_fastalloc_proofs.specs.InstSteps.{StateValue, AllocsInst, ends_block}
 use Rattle.regalloc2_fastalloc_proofs.specs.BranchSteps.{of_class, ProcessesBranch, IsOwn}
 use Rattle.regalloc2_fastalloc_proofs.proofs.Safety.StepsKeepState.{place_in, slot_in, IsWhole}
-use Rattle.regalloc2_fastalloc_proofs.proofs.Operands.RecordOverState.{opt, stands_at, slots_at}
+use Rattle.regalloc2_fastalloc_proofs.proofs.Operands.RecordOverState.{opt, stands_at, slots_at, grown_slots}
 use Rattle.regalloc2_fastalloc_proofs.proofs.Moves.ScratchRegTaken.{of_machine, Fit}
 use Rattle.regalloc2_fastalloc_proofs.proofs.Operands.AllocsSoFar.{IsTame}
-use Rattle.regalloc2_fastalloc_proofs.proofs.Slots.StepsKeepSlots.{IsAt, allocates_grown}
+use Rattle.regalloc2_fastalloc_proofs.proofs.Slots.StepsKeepSlots.{IsAt, allocates_grown, changes_grow}
 use Rattle.regalloc2_fastalloc_proofs.proofs.Operands.DefinedNumbers.{defined_by, defined_by-at}
 use Rattle.regalloc2_fastalloc_proofs.proofs.BlockEnd.NoMoveForOperand.{IsOutside}
-use Rattle.regalloc2_fastalloc_proofs.proofs.Moves.StepsAppendEdits.{Pushes, pushes_then, pushes_weaken}
+use Rattle.regalloc2_fastalloc_proofs.proofs.Moves.StepsAppendEdits.{Pushes, pushes_then, pushes_weaken, changes_push}
+use Rattle.regalloc2_fastalloc_proofs.proofs.Changes.WalkChanges.{any_passed, gathers_changes}
 use Rattle.regalloc2_fastalloc_proofs.proofs.Inst.OneInstCarries.{Between, Alone, alone}
 use Rattle.regalloc2_fastalloc_proofs.proofs.Walk.InstForOneVReg.{undefined_by}
 use Rattle.regalloc2_fastalloc_proofs.proofs.Walk.InstsBeforeLastCarry.{defined_from}
@@ -45,7 +46,7 @@ use Rattle.regalloc2_fastalloc_proofs.proofs.Branches.ArgMovesPushed.{walked_mad
 use Rattle.regalloc2_fastalloc_proofs.proofs.Branches.ArgMovesByClass.{Stepped, stepped, all_moves, all_at, all_other, all_places, all_slots, all_grow}
 use Rattle.regalloc2_fastalloc_proofs.proofs.Branches.EdgeArgsGathered.{passes_at, argument_at, params_on}
 use Rattle.regalloc2_fastalloc_proofs.proofs.BlockEnd.BranchAlone.{IsHeldHere, IsUseMove, Branched, branched, unmoved, none_below}
-use Rattle.regalloc2_fastalloc_proofs.proofs.BlockEnd.BranchEndsBlock.{EndsBlock, ToCome, grown_slots, to_come-back, reads_own, own_moves}
+use Rattle.regalloc2_fastalloc_proofs.proofs.BlockEnd.BranchEndsBlock.{EndsBlock, ToCome, to_come-back, reads_own, own_moves}
 use Rattle.regalloc2_fastalloc_proofs.proofs.Branches.ArgMovesEffect.{ArgMoves, names_at, relied_kept, passed_moved}
 use Rattle.regalloc2_fastalloc_proofs.proofs.Branches.BranchInParts.{settled_carries, Parted, parted}
 use Rattle.regalloc2_fastalloc_proofs.proofs.Inst.ProperInsts.{ProperCode}
@@ -216,7 +217,8 @@ module _ (branch : BlockBranch) where
   }
 
   come_middle : ToCome F middle
-  come_middle = to_come-back (λ q. q ≡ before last) F middle p.gathered by_itself.between.whole.units part.comes.grown come_gathered
+  come_middle = to_come-back (λ q. q ≡ before last) F middle p.gathered by_itself.between.whole.units
+      (changes_grow (λ q. q ≡ before last) (gathers_changes (λ q r. refl) (any_passed (λ e. e.0 ≡ before last) f b) p.gathers)) come_gathered
 
   stays_old : (x : ℕ) (q : Place) → slots_at old x ≡ Some q → F x ≡ Some q
   stays_old x q at = come_middle.stays x q (grown_slots (IsAt last) old middle (allocates_grown last (inst_at f last) blank here old middle a) x q at)
@@ -267,7 +269,8 @@ module _ (branch : BlockBranch) where
       let pushes : Pushes P old.edits p.gathered.edits =
       pushes_then P old.edits middle.edits p.gathered.edits (pushes_weaken (IsUseMove last (inst_at f last).operands here) P old.edits middle.edits
       (λ d x. inl x) br.pushes)
-      (pushes_weaken (IsReload (before last)) P middle.edits p.gathered.edits (λ d x. inr x) part.comes.pushes) in
+      (pushes_weaken (IsReload (before last)) P middle.edits p.gathered.edits (λ d x. inr x)
+      (changes_push (IsReload (before last)) (gathers_changes (λ q r. (refl, (r, refl))) (any_passed (IsReload (before last)) f b) p.gathers))) in
       untouched_walked (InSlot n) (inst_at f) (at_point (listed p.gathered.edits)) placesf last 1
       (λ q ge lt. unmoved P (InSlot n) q old.edits p.gathered.edits
       (λ d is to. elim is [

@@ -19,7 +19,10 @@ use Rattle.regalloc2_fastalloc_proofs.specs.BranchSteps.{ClassMove, is_class, of
 use Rattle.regalloc2_fastalloc_proofs.specs.BranchSteps.{GathersMoves}
 use Rattle.regalloc2_fastalloc_proofs.specs.BranchSteps.{no_edge, one_edge, IsOwn}
 use Rattle.regalloc2_fastalloc_proofs.proofs.Safety.StepsKeepState.{place_in}
-use Rattle.regalloc2_fastalloc_proofs.proofs.Operands.RecordOverState.{opt, opt_some, slots_at}
+use Rattle.regalloc2_fastalloc_proofs.proofs.Operands.RecordOverState.{opt, opt_some, slots_at, changes_slots}
+use Rattle.regalloc2_fastalloc_proofs.proofs.Slots.LocatedStaysLocated.{changes_last}
+use Rattle.regalloc2_fastalloc_proofs.proofs.Changes.OneChange.{slot_given, changed, in_order}
+use Rattle.regalloc2_fastalloc_proofs.proofs.Changes.WalkChanges.{settles_changes, edge_changes}
 use Rattle.regalloc2_fastalloc_proofs.proofs.Branches.ArgsSpilled.{Comes, comes_all, comes_then, Stage, gives_stage, argued}
 use Rattle.regalloc2_fastalloc_proofs.proofs.Operands.BlockTail.{BlockTail}
 
@@ -127,7 +130,7 @@ module _ (tail : BlockTail) (item : Item) (X : Place → ℕ → Bool) (clear : 
       (old new : StateValue)
       (given : List ClassMove) : Type 0 where
     pub stage : Stage tail item X clear u new
-    pub comes : Comes i t u old new
+    pub comes : Comes t u old new
     pub kept : (g : ClassMove) → Contains before_it g → Contains given g
     pub origin : (g : ClassMove) → Contains given g → Contains before_it g ⊎ ((j : ℕ) × IsArgued params arguments j new g)
     pub all : (j : ℕ) → j < k → (Own (argument_at arguments j) → ⊥) → (g : ClassMove) × Contains given g × IsArgued params arguments j new g
@@ -140,7 +143,7 @@ module _ (tail : BlockTail) (item : Item) (X : Place → ℕ → Bool) (clear : 
       EdgeDone Own params arguments before_it k t u old new given
   edge_done params arguments t old before_it h k u new given none_gathered = record {
     stage = h;
-    comes = comes_all i t old;
+    comes = comes_all t old;
     kept = λ g has. has;
     origin = λ g has. inl has;
     all = λ j lt not_own. absurd (omega arith);
@@ -150,23 +153,24 @@ module _ (tail : BlockTail) (item : Item) (X : Place → ℕ → Bool) (clear : 
       let a = edge_done params arguments t old before_it h j u m had prev in
       let g = gives_stage tail item X clear (argument_at params j) to u m p gives places edits machine a.stage in
       let s = argued tail item X clear (argument_at arguments j) from u w p o settles g.0 in
-      let c : Comes i u w m o = comes_then i u u w m p o g.1 s.comes in
+      let slots : (x : ℕ) (r : Place) → slots_at m x ≡ Some r → slots_at o x ≡ Some r = changes_slots (in_order p
+      (changed (slot_given (argument_at params j) to tt gives places edits machine)) (settles_changes (λ q b. tt) tt tt settles)) in
       let one : ClassMove = record { class = (argument_at arguments j).class; from = from; to = to } in
       let is : IsArgued params arguments j o one = (
         lt,
         refl,
         s.slot,
-        s.comes.slots (argument_at params j).number to
+        changes_slots (settles_changes (λ q b. tt) tt tt settles) (argument_at params j).number to
             (ap opt gives.gives ∙ opt_some to gives.there),
       ) in
       record {
         stage = s.stage;
-        comes = comes_then i t u w old m o a.comes c;
+        comes = comes_then t u w old m o a.comes (comes_then u u w m p o g.1 s.comes);
         kept = λ d has. Contains-append_left had (one ∷ []) d (a.kept d has);
         origin = λ d has. elim (Contains-append_cases had (one ∷ []) d has) [
           | inl before ↦ elim (a.origin d before) [
             | inl y ↦ inl y
-            | inr y ↦ inr (y.0, argued_on params arguments y.0 m o d c.slots y.1)
+            | inr y ↦ inr (y.0, argued_on params arguments y.0 m o d slots y.1)
           ]
           | inr here ↦ elim (contains_cases one d [] here) [
             | inl same ↦ inr (j, subst (IsArgued params arguments j o) same is)
@@ -178,12 +182,14 @@ module _ (tail : BlockTail) (item : Item) (X : Place → ℕ → Bool) (clear : 
           | inr ne ↦ (let y = a.all l (omega (arith, less, ne)) not_own in (
             y.0,
             Contains-append_left had (one ∷ []) y.0 y.1,
-            argued_on params arguments l m o y.0 c.slots y.2,
+            argued_on params arguments l m o y.0 slots y.2,
           ))
         ];
         there = λ l less not_own. elim (cases_eq l j) [
           | inl e ↦ subst (λ z. place_in o (argument_at arguments z).number ≢ NoPlace) (sym e) s.there
-          | inr ne ↦ (λ none. a.there l (omega (arith, less, ne)) not_own (c.lasts (argument_at arguments l).number none))
+          | inr ne ↦ changes_last (argument_at arguments l).number (in_order p
+              (changed (slot_given (argument_at params j) to tt gives places edits machine)) (settles_changes (λ q b. tt) tt tt settles))
+              (a.there l (omega (arith, less, ne)) not_own)
         ];
       }
   edge_done {Own} params arguments t old before_it h k w o given (own_argument j had u m lt prev own) =
@@ -206,7 +212,7 @@ module _ (tail : BlockTail) (item : Item) (X : Place → ℕ → Bool) (clear : 
   -- those of the first k edges
   pub record MovesByClass (f : FunctionValue) (b k : ℕ) (t u : InstRegs) (old new : StateValue) (given : List ClassMove) : Type 0 where
     pub stage : Stage tail item X clear u new
-    pub comes : Comes i t u old new
+    pub comes : Comes t u old new
     pub origin : (g : ClassMove) → Contains given g → (e j : ℕ) × (e < k) × IsArgued (params_on f b e) (arguments_at f b e) j new g
     pub all : (e j : ℕ) → e < k → j < length (params_on f b e) → (IsOwn f b (argument_at (arguments_at f b e) j) → ⊥) → (g : ClassMove) × Contains given g
         × IsArgued (params_on f b e) (arguments_at f b e) j new g
@@ -219,7 +225,7 @@ module _ (tail : BlockTail) (item : Item) (X : Place → ℕ → Bool) (clear : 
       → MovesByClass f b k t u old new given
   gathered f b t old h k u new given no_edge = record {
     stage = h;
-    comes = comes_all i t old;
+    comes = comes_all t old;
     origin = λ g has. absurd (let lt : has.0 < 0 = has.1 in omega (arith, lt));
     all = λ e j lt less not_own. absurd (omega arith);
     there = λ e j lt less not_own. absurd (omega arith);
@@ -227,16 +233,17 @@ module _ (tail : BlockTail) (item : Item) (X : Place → ℕ → Bool) (clear : 
   gathered f b t old h k u new given (one_edge d had more x w m o lt prev edge) =
       let a = gathered f b t old h d x m had prev in
       let g = edge_done (params_on f b d) (arguments_at f b d) x m had a.stage (length (params_on f b d)) u new given edge in
-      let c : Comes i x u m new = g.comes in
+      let slots : (y : ℕ) (p : Place) → slots_at m y ≡ Some p → slots_at new y ≡ Some p =
+      changes_slots (edge_changes (λ q r. tt) (λ j less. record { target = tt; source = tt; spills = tt }) edge) in
       record {
         stage = g.stage;
-        comes = comes_then i t x u old m new a.comes c;
+        comes = comes_then t x u old m new a.comes g.comes;
         origin = λ y has. elim (g.origin y has) [
           | inl before ↦ (let z = a.origin y before in (
             z.0,
             z.1,
             omega (arith, z.2),
-            argued_on (params_on f b z.0) (arguments_at f b z.0) z.1 m new y c.slots z.3,
+            argued_on (params_on f b z.0) (arguments_at f b z.0) z.1 m new y slots z.3,
           ))
           | inr here ↦ (d, here.0, omega arith, here.1)
         ];
@@ -245,12 +252,14 @@ module _ (tail : BlockTail) (item : Item) (X : Place → ℕ → Bool) (clear : 
               let y = g.all j s (subst (λ z. IsOwn f b (argument_at (arguments_at f b z) j) → ⊥) same not_own) in
               (y.0, y.1, subst (λ z. IsArgued (params_on f b z) (arguments_at f b z) j new y.0) (sym same) y.2))
           | inr ne ↦ (let y = a.all e j (omega (arith, less, ne)) short not_own in
-              (y.0, g.kept y.0 y.1, argued_on (params_on f b e) (arguments_at f b e) j m new y.0 c.slots y.2))
+              (y.0, g.kept y.0 y.1, argued_on (params_on f b e) (arguments_at f b e) j m new y.0 slots y.2))
         ];
         there = λ e j less short not_own. elim (cases_eq e d) [
           | inl same ↦ (let s : j < length (params_on f b d) = subst (λ z. j < length (params_on f b z)) same short in
               subst (λ z. place_in new (argument_at (arguments_at f b z) j).number ≢ NoPlace) (sym same)
               (g.there j s (subst (λ z. IsOwn f b (argument_at (arguments_at f b z) j) → ⊥) same not_own)))
-          | inr ne ↦ (λ none. a.there e j (omega (arith, less, ne)) short not_own (c.lasts (argument_at (arguments_at f b e) j).number none))
+          | inr ne ↦ changes_last (argument_at (arguments_at f b e) j).number
+              (edge_changes (λ q r. tt) (λ l below. record { target = tt; source = tt; spills = tt }) edge)
+              (a.there e j (omega (arith, less, ne)) short not_own)
         ];
       }

@@ -20,6 +20,8 @@ use Rattle.regalloc2_fastalloc_proofs.specs.InstSteps.{StateValue, a_move}
 use Rattle.regalloc2_fastalloc_proofs.proofs.Safety.StepsKeepState.{place_in, slot_in, IsWhole, whole_tidy, away_holds, away_stands, given, given_own}
 use Rattle.regalloc2_fastalloc_proofs.proofs.Safety.StepsKeepState.{given_below, given_units}
 use Rattle.regalloc2_fastalloc_proofs.proofs.Operands.BlockTail.{BlockTail}
+use Rattle.regalloc2_fastalloc_proofs.proofs.Slots.StepsKeepSlots.{Grown, changes_grow}
+use Rattle.regalloc2_fastalloc_proofs.proofs.Changes.OneChange.{Anything, Changes}
 
 -- a place, unless it is none
 abbrev pub opt : Place → Option Place
@@ -94,6 +96,14 @@ pub record Shifts (old new : StateValue) (v : VirtualRegister) (r : Register) (s
   pub grows : (x : ℕ) (p : Place) → slots_at old x ≡ Some p → slots_at new x ≡ Some p
   pub fresh : (x : ℕ) (p : Place) → slots_at new x ≡ Some p → (slots_at old x ≡ Some p) ⊎ ((k : ℕ) × (p ≡ InSlot k) × (old.slots.count ≤ k))
   pub count : old.slots.count ≤ new.slots.count
+
+-- slots that are there stay where slots grow
+pub grown_slots : (At : ℕ → Type 0) (old new : StateValue) → Grown At old new → (x : ℕ) (p : Place) → slots_at old x ≡ Some p → slots_at new x ≡ Some p
+grown_slots At old new g x p e = ap opt (g.stay x (λ none. opt_real (slot_in old x) p e (sym (opt_from (slot_in old x) p e) ∙ none))) ∙ e
+
+-- and over any changes
+pub changes_slots : {old new : StateValue} → Changes Anything old new → (x : ℕ) (p : Place) → slots_at old x ≡ Some p → slots_at new x ≡ Some p
+changes_slots {old} {new} c = grown_slots (λ q. Unit {0}) old new (changes_grow (λ q. Unit {0}) c)
 
 module _ (old new : StateValue) (v : VirtualRegister) (s : Place) (g : GetsSpillSlot old.slots new.slots v s) (w : IsWhole old) where
   -- slots that are there stay where v gets its own

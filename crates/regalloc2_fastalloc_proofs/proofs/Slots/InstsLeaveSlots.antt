@@ -17,7 +17,7 @@ use Rattle.regalloc2_validate.specs.Constraints.{op_at}
 use Rattle.regalloc2_fastalloc_proofs.specs.InstSteps.{StateValue}
 use Rattle.regalloc2_fastalloc_proofs.specs.Safety.{MayBeLocatedAt, IsSafe}
 use Rattle.regalloc2_fastalloc_proofs.proofs.Safety.StepsKeepState.{slot_in, IsWhole}
-use Rattle.regalloc2_fastalloc_proofs.proofs.Operands.RecordOverState.{slots_at, opt_from, opt_real, no_register_slot}
+use Rattle.regalloc2_fastalloc_proofs.proofs.Operands.RecordOverState.{slots_at, opt_from, opt_real, no_register_slot, grown_slots}
 use Rattle.regalloc2_fastalloc_proofs.proofs.Operands.DefinedNumbers.{defined_by, defined_by-at}
 use Rattle.regalloc2_fastalloc_proofs.proofs.Walk.InstsCarry.{AreListed}
 use Rattle.regalloc2_fastalloc_proofs.proofs.Safety.InstsKeepSafe.{HasGood, WritesAt, WritesFrom, place_of}
@@ -25,7 +25,6 @@ use Rattle.regalloc2_fastalloc_proofs.proofs.Safety.OutputOfWalk.{all_reverse}
 use Rattle.regalloc2_fastalloc_proofs.proofs.Slots.InstLeavesOwnedSlot.{no_move_or, writes_allowed}
 use Rattle.regalloc2_fastalloc_proofs.proofs.Slots.StepsKeepSlots.{Grown, cases_none}
 use Rattle.regalloc2_fastalloc_proofs.proofs.Safety.FunctionKeepsSafe.{no_branch_writes, none_written_behind}
-use Rattle.regalloc2_fastalloc_proofs.proofs.Walk.InstBoundaries.{grown_slots}
 use Rattle.regalloc2_fastalloc_proofs.proofs.Walk.LastInstAndRest.{AnyPlace, KeepsSlots}
 use Rattle.regalloc2_fastalloc_proofs.proofs.Walk.FunctionLaws.{PlacedCode}
 

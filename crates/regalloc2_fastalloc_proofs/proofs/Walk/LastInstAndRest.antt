@@ -13,14 +13,14 @@ use Rattle.regalloc2_semantics.proofs.Order.{ends_within}
 use Rattle.regalloc2_semantics.proofs.UnwrittenPlaces.{Keeps}
 use Rattle.regalloc2_fastalloc_proofs.specs.InstSteps.{StateValue, AllocsInst}
 use Rattle.regalloc2_fastalloc_proofs.specs.BlockSteps.{AllocsInstInBlock, AllocsBlockInsts, at_end, one_in}
-use Rattle.regalloc2_fastalloc_proofs.proofs.Operands.RecordOverState.{slots_at}
+use Rattle.regalloc2_fastalloc_proofs.proofs.Operands.RecordOverState.{slots_at, grown_slots}
 use Rattle.regalloc2_fastalloc_proofs.proofs.Operands.DefinedNumbers.{defined_by}
 use Rattle.regalloc2_fastalloc_proofs.proofs.Walk.InstsCarry.{AreListed}
 use Rattle.regalloc2_fastalloc_proofs.proofs.Safety.InstsKeepSafe.{later_same}
 use Rattle.regalloc2_fastalloc_proofs.proofs.Slots.StepsKeepSlots.{Grown, IsAt, grown_then}
 use Rattle.regalloc2_fastalloc_proofs.proofs.Walk.InstForOneVReg.{Leaves}
 use Rattle.regalloc2_fastalloc_proofs.proofs.Walk.InstsBeforeLastCarry.{Goes, stopped, one_more}
-use Rattle.regalloc2_fastalloc_proofs.proofs.Walk.InstBoundaries.{grown_weaken, grown_slots, in_grown}
+use Rattle.regalloc2_fastalloc_proofs.proofs.Walk.InstBoundaries.{grown_weaken, in_grown}
 use Rattle.regalloc2_fastalloc_proofs.proofs.Walk.FunctionLaws.{PlacedCode}
 use Rattle.regalloc2_fastalloc_proofs.proofs.Walk.InstBoundaries.{kept_of}
 
