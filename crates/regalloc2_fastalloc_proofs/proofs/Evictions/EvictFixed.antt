@@ -1,4 +1,5 @@
 -- Fixed registers are emptied and claimed, before operands are allocated.
+-- The fold in `Changes` doesn't fit: what the listing carries, or the operands' record, differs from step to step.
 use Rattle.std.proofs.Common.{ℕ, ◌≡◌, ◌≢◌, ◌+◌, ◌<◌, ◌≤◌, Bool, true, false, cond, List, length, refl, arith, sym, ap, ◌∙◌, subst, inl, inr, ◌⊎◌}
 use Rattle.std.proofs.Common.{⊎_elim, nat_eq, eq-eqb}
 use Rattle.std.specs.Prelude.{None, Some, not, ◌&&◌, ◌||◌, slice_index_or}

@@ -1,4 +1,5 @@
 -- Registers are emptied, and scratch registers are taken.
+-- The fold in `Changes` doesn't fit: what the listing carries, or the operands' record, differs from step to step.
 use Rattle.std.proofs.Common.{ℕ, ◌≡◌, ◌≢◌, Bool, true, false, List, refl, sym, ap, ◌∙◌, subst, inl, inr}
 use Rattle.std.specs.Prelude.{None, Some, not}
 use Rattle.std.proofs.lemmas.Bool.{cases_eq}

@@ -1,4 +1,5 @@
 -- The list of the vregs that are in registers gets shorter with each reload of the newest.
+-- The fold in `Changes` doesn't fit: it takes two to four relations apart, fewer than there are kinds of change.
 use Rattle.std.proofs.Common.{ℕ, ◌≡◌, ◌<◌, ◌≤◌, ◌∙◌, false, not, length, refl, sym, ap, arith, nat_eq, eq-eqb, true}
 use Rattle.std.specs.Prelude.{Contains, Some}
 use Rattle.regalloc2_names.specs.Register.{Register, VirtualRegister}

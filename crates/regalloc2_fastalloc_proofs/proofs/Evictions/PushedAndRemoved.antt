@@ -1,4 +1,5 @@
 -- Moves that are pushed, and the registers that are taken.
+-- The fold in `Changes` doesn't fit: it takes two to four relations apart, fewer than there are kinds of change.
 use Rattle.std.proofs.Common.{ℕ, ◌≡◌, Bool, true, false, List, [], ◌∷◌, ◌++◌, refl, sym, ap, ◌∙◌, subst}
 use Rattle.std.specs.Prelude.{Option, None, Some, ◌&&◌, not, ◌<◌, if◌then◌else◌}
 use Rattle.regalloc2_names.specs.Register.{Register, VirtualRegister, is_register}

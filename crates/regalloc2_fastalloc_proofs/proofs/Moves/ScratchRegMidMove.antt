@@ -1,4 +1,5 @@
 -- A scratch register is taken while a vreg is on its way: the tables have it elsewhere than the listing needs it.
+-- The fold in `Changes` doesn't fit: what the listing carries, or the operands' record, differs from step to step.
 use Rattle.std.proofs.Common.{ℕ, ◌≡◌, Bool, true, false, cond, List, [], ◌∷◌, ◌++◌, refl, sym, ap, ◌∙◌, subst, inl, inr, nat_eq, eq-eqb}
 use Rattle.std.specs.Prelude.{Option, None, Some, not}
 use Rattle.std.proofs.lemmas.Bool.{cases_eq, ne_eqb}

@@ -1,4 +1,5 @@
 -- Before an instruction: scratch registers are taken, and uses are moved to their places.
+-- The fold in `Changes` doesn't fit: what the listing carries, or the operands' record, differs from step to step.
 use Rattle.std.proofs.Common.{ℕ, ◌≡◌, ◌+◌, ◌≤◌, Bool, true, false, List, [], ◌∷◌, ◌++◌, length, refl, arith, sym, ap, ◌∙◌, subst, inr, ⊎_elim}
 use Rattle.std.specs.Prelude.{Option, None, Some, not}
 use Rattle.std.proofs.lemmas.Bool.{and_parts}

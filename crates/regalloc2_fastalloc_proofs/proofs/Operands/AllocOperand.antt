@@ -1,4 +1,5 @@
 -- An operand gets its place: it keeps that of its vreg, or its slot, or takes a free register, or the one that it claimed before.
+-- The fold in `Changes` doesn't fit: what the listing carries, or the operands' record, differs from step to step.
 use Rattle.std.proofs.Common.{ℕ, ◌≡◌, ◌≢◌, ◌<◌, Bool, true, false, cond, List, refl, sym, ap, ◌∙◌, subst, inl, inr, ◌⊎◌, ⊎_elim, nat_eq, eq-eqb}
 use Rattle.std.specs.Prelude.{None, Some, not, slice_index_or}
 use Rattle.std.proofs.lemmas.Bool.{cases_Bool, cases_eq, ne_eqb}

@@ -1,4 +1,5 @@
 -- A definition is placed: its vreg has no location before it, and is moved to where it was awaited and to its slot.
+-- The fold in `Changes` doesn't fit: what the listing carries, or the operands' record, differs from step to step.
 use Rattle.std.proofs.Common.{ℕ, ◌≡◌, ◌≢◌, Bool, true, false, List, refl, sym, ap, ◌∙◌, subst, inl, inr, ◌⊎◌, ⊎_elim}
 use Rattle.std.specs.Prelude.{None, Some, not, ◌&&◌}
 use Rattle.std.proofs.lemmas.Bool.{cases_Bool, cases_eq}

@@ -1,4 +1,5 @@
 -- What the walk over all blocks keeps.
+-- The fold in `Changes` doesn't fit: what holds depends on how far the walk is.
 use Rattle.std.proofs.Common.{ℕ, ◌≡◌, ◌+◌, ◌-◌, ◌<◌, ◌≤◌, ◌⊎◌, List, true, length, slice_index_or, refl, sym, ap, ◌∙◌, inl, inr, subst, arith}
 use Rattle.std.proofs.lemmas.Bool.{cases_eq, cases_Bool}
 use Rattle.regalloc2_names.specs.Register.{VirtualRegister}

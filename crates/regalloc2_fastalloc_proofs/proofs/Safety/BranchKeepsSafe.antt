@@ -1,4 +1,5 @@
 -- A branch that passes its arguments keeps the tables safe.
+-- The fold in `Changes` serves its evictions alone: the list of gathered moves grows with the state.
 use Rattle.std.proofs.Common.{ℕ, zero, suc, ◌≡◌, ◌≢◌, ◌<◌, List, [], ◌∷◌, ◌++◌, Bool, true, false, cond, refl, sym, ap, ◌∙◌, ◌⊎◌, inl, inr, subst}
 use Rattle.std.proofs.Common.{arith, length, slice_index_or}
 use Rattle.std.specs.Prelude.{All, Option, Some, None, Contains}

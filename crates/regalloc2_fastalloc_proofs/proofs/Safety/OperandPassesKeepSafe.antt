@@ -1,4 +1,5 @@
 -- The passes over an instruction's operands keep the tables safe and fill the places.
+-- The fold in `Changes` serves its evictions alone: an operand's place is handed from its selection to the steps that follow.
 use Rattle.std.proofs.Common.{ℕ, ◌≡◌, ◌≢◌, ◌+◌, ◌<◌, ◌≤◌, List, Bool, true, false, refl, sym, ap, ◌∙◌, ◌⊎◌, inl, inr, subst, arith, length, set}
 use Rattle.std.proofs.lemmas.Bool.{cases_eq}
 use Rattle.regalloc2_names.specs.declared.OperandConstraint.TheVariants.{FixedReg, Reuse}

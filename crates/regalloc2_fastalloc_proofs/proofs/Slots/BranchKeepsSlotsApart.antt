@@ -1,4 +1,5 @@
 -- A branch that passes its arguments, and the beginning of a block, keep slots apart and move within a class.
+-- The fold in `Changes` serves its evictions alone: the list of gathered moves grows with the state.
 use Rattle.std.proofs.Common.{ℕ, zero, suc, ◌≡◌, ◌+◌, ◌*◌, ◌<◌, ◌≤◌, List, ◌++◌, Bool, refl, sym, ap, ◌∙◌, ◌⊎◌, inl, inr, subst, arith, length, slice_index_or}
 use Rattle.std.specs.Prelude.{All, Contains, Some}
 use Rattle.std.proofs.Math.Nat.{mul-le-mul_right}

@@ -1,4 +1,5 @@
 -- Each step of the walk keeps slots apart and moves within a class: registers hold values of their class, and each vreg's slot is its own.
+-- The fold in `Changes` doesn't fit: a change names no move's vreg, which an eviction has just taken from its register. Evictions do (`evictions_classed`).
 use Rattle.std.proofs.Common.{ℕ, zero, suc, ◌≡◌, ◌<◌, List, [], ◌∷◌, ◌++◌, Bool, refl, sym, ap, ◌∙◌, inl, inr, subst, arith, length, slice_index_or}
 use Rattle.std.specs.Prelude.{All, Contains, Option, None, Some}
 use Rattle.std.proofs.lemmas.Bool.{cases_eq}

@@ -1,4 +1,5 @@
 -- The whole walk keeps slots apart and moves within a class.
+-- The fold in `Changes` doesn't fit: what holds depends on how far the walk is.
 use Rattle.std.proofs.Common.{ℕ, ◌≡◌, ◌+◌, ◌<◌, ◌≤◌, ◌∙◌, List, [], true, Bool, length, slice_index_or, refl, sym, ap, inl, inr, subst, arith}
 use Rattle.std.proofs.lemmas.Bool.{cases_Bool}
 use Rattle.regalloc2_names.specs.declared.RegClass.{RegClass}

@@ -1,4 +1,5 @@
 -- The instructions of a block in the walk: its last one, and those before it, which are no branches and no returns.
+-- The fold in `Changes` doesn't fit: what holds depends on how far the walk is.
 use Rattle.std.proofs.Common.{ℕ, ◌≡◌, ◌+◌, ◌<◌, ◌≤◌, inl, inr, false, List, length, refl, sym, ◌∙◌, subst, arith}
 use Rattle.std.specs.Prelude.{Some, slice_index_or}
 use Rattle.std.proofs.lemmas.Bool.{cases_eq}
