@@ -1,12 +1,12 @@
 -- The arguments of all edges are spilled, and the moves from their slots to those of the parameters are gathered.
-use Rattle.std.proofs.Common.{ℕ, zero, suc, ◌≡◌, ◌≢◌, ◌<◌, ◌⊎◌, inl, inr, Bool, true, false, cond, List, [], ◌∷◌, length, refl, sym, ap, ◌∙◌, subst, arith}
+use Rattle.std.proofs.Common.{ℕ, zero, suc, ◌≡◌, ◌<◌, ◌⊎◌, inl, inr, Bool, true, false, cond, List, [], ◌∷◌, length, refl, sym, ap, ◌∙◌, subst, arith}
 use Rattle.std.specs.Prelude.{Some, Contains, slice_index_or}
 use Rattle.std.proofs.lemmas.Bool.{cases_eq}
 use Rattle.std.proofs.lemmas.List.Elements.{Contains-append_left, Contains-append_right, Contains-append_cases}
 use Rattle.regalloc2_names.specs.declared.RegClass.{RegClass}
 use Rattle.regalloc2_names.specs.declared.RegClass.TheVariants.{Int, Float, Vector}
 use Rattle.regalloc2_names.specs.Register.{Register, VirtualRegister}
-use Rattle.regalloc2_names.specs.Place.{Place, NoPlace, InRegister}
+use Rattle.regalloc2_names.specs.Place.{Place, InRegister}
 use Rattle.regalloc2_names.specs.Point.{before}
 use Rattle.regalloc2_function.specs.FunctionValue.{FunctionValue, block_at}
 use Rattle.regalloc2_function.specs.SourceRun.{arguments_at}
@@ -18,9 +18,7 @@ use Rattle.regalloc2_fastalloc_proofs.specs.BlockStart.{no_vreg}
 use Rattle.regalloc2_fastalloc_proofs.specs.BranchSteps.{ClassMove, is_class, of_class, GathersEdgeMoves, none_gathered, one_gathered, own_argument}
 use Rattle.regalloc2_fastalloc_proofs.specs.BranchSteps.{GathersMoves}
 use Rattle.regalloc2_fastalloc_proofs.specs.BranchSteps.{no_edge, one_edge, IsOwn}
-use Rattle.regalloc2_fastalloc_proofs.proofs.Safety.StepsKeepState.{place_in}
 use Rattle.regalloc2_fastalloc_proofs.proofs.Operands.RecordOverState.{opt, opt_some, slots_at, changes_slots}
-use Rattle.regalloc2_fastalloc_proofs.proofs.Slots.LocatedStaysLocated.{changes_last}
 use Rattle.regalloc2_fastalloc_proofs.proofs.Changes.OneChange.{slot_given, changed, in_order}
 use Rattle.regalloc2_fastalloc_proofs.proofs.Changes.WalkChanges.{settles_changes, edge_changes}
 use Rattle.regalloc2_fastalloc_proofs.proofs.Branches.ArgsSpilled.{Comes, comes_all, comes_then, Stage, gives_stage, argued}
@@ -134,7 +132,6 @@ module _ (tail : BlockTail) (item : Item) (X : Place → ℕ → Bool) (clear : 
     pub kept : (g : ClassMove) → Contains before_it g → Contains given g
     pub origin : (g : ClassMove) → Contains given g → Contains before_it g ⊎ ((j : ℕ) × IsArgued params arguments j new g)
     pub all : (j : ℕ) → j < k → (Own (argument_at arguments j) → ⊥) → (g : ClassMove) × Contains given g × IsArgued params arguments j new g
-    pub there : (j : ℕ) → j < k → (Own (argument_at arguments j) → ⊥) → place_in new (argument_at arguments j).number ≢ NoPlace
 
   -- gathering the first k arguments of an edge keeps the state at the branch, and its moves go from the arguments' slots to the parameters'
   pub edge_done : {Own : VirtualRegister → Type 0} (params arguments : List VirtualRegister) (t : InstRegs) (old : StateValue) (before_it : List ClassMove) →
@@ -147,7 +144,6 @@ module _ (tail : BlockTail) (item : Item) (X : Place → ℕ → Bool) (clear : 
     kept = λ g has. has;
     origin = λ g has. inl has;
     all = λ j lt not_own. absurd (omega arith);
-    there = λ j lt not_own. absurd (omega arith);
   }
   edge_done params arguments t old before_it h k w o given (one_gathered j had to from u x m p q lt prev gives places edits machine settles foreign) =
       let a = edge_done params arguments t old before_it h j u m had prev in
@@ -185,12 +181,6 @@ module _ (tail : BlockTail) (item : Item) (X : Place → ℕ → Bool) (clear : 
             argued_on params arguments l m o y.0 slots y.2,
           ))
         ];
-        there = λ l less not_own. elim (cases_eq l j) [
-          | inl e ↦ subst (λ z. place_in o (argument_at arguments z).number ≢ NoPlace) (sym e) s.there
-          | inr ne ↦ changes_last (argument_at arguments l).number (in_order p
-              (changed (slot_given (argument_at params j) to tt gives places edits machine)) (settles_changes (λ q b. tt) tt tt settles))
-              (a.there l (omega (arith, less, ne)) not_own)
-        ];
       }
   edge_done {Own} params arguments t old before_it h k w o given (own_argument j had u m lt prev own) =
       let a : EdgeDone Own params arguments before_it j t w old o given = edge_done params arguments t old before_it h j w o given prev in
@@ -203,10 +193,6 @@ module _ (tail : BlockTail) (item : Item) (X : Place → ℕ → Bool) (clear : 
           | inl e ↦ absurd (not_own (subst (λ z. Own (argument_at arguments z)) (sym e) own))
           | inr ne ↦ a.all l (omega (arith, less, ne)) not_own
         ];
-        there = λ l less not_own. elim (cases_eq l j) [
-          | inl e ↦ absurd (not_own (subst (λ z. Own (argument_at arguments z)) (sym e) own))
-          | inr ne ↦ a.there l (omega (arith, less, ne)) not_own
-        ];
       }
 
   -- those of the first k edges
@@ -216,8 +202,6 @@ module _ (tail : BlockTail) (item : Item) (X : Place → ℕ → Bool) (clear : 
     pub origin : (g : ClassMove) → Contains given g → (e j : ℕ) × (e < k) × IsArgued (params_on f b e) (arguments_at f b e) j new g
     pub all : (e j : ℕ) → e < k → j < length (params_on f b e) → (IsOwn f b (argument_at (arguments_at f b e) j) → ⊥) → (g : ClassMove) × Contains given g
         × IsArgued (params_on f b e) (arguments_at f b e) j new g
-    pub there : (e j : ℕ) → e < k → j < length (params_on f b e) → (IsOwn f b (argument_at (arguments_at f b e) j) → ⊥) →
-        place_in new (argument_at (arguments_at f b e) j).number ≢ NoPlace
 
   -- gathering the arguments of the first k edges keeps the state at the branch, and gives the moves of all their arguments
   pub gathered : (f : FunctionValue) (b : ℕ) (t : InstRegs) (old : StateValue) → Stage tail item X clear t old
@@ -228,7 +212,6 @@ module _ (tail : BlockTail) (item : Item) (X : Place → ℕ → Bool) (clear : 
     comes = comes_all t old;
     origin = λ g has. absurd (let lt : has.0 < 0 = has.1 in omega (arith, lt));
     all = λ e j lt less not_own. absurd (omega arith);
-    there = λ e j lt less not_own. absurd (omega arith);
   }
   gathered f b t old h k u new given (one_edge d had more x w m o lt prev edge) =
       let a = gathered f b t old h d x m had prev in
@@ -253,13 +236,5 @@ module _ (tail : BlockTail) (item : Item) (X : Place → ℕ → Bool) (clear : 
               (y.0, y.1, subst (λ z. IsArgued (params_on f b z) (arguments_at f b z) j new y.0) (sym same) y.2))
           | inr ne ↦ (let y = a.all e j (omega (arith, less, ne)) short not_own in
               (y.0, g.kept y.0 y.1, argued_on (params_on f b e) (arguments_at f b e) j m new y.0 slots y.2))
-        ];
-        there = λ e j less short not_own. elim (cases_eq e d) [
-          | inl same ↦ (let s : j < length (params_on f b d) = subst (λ z. j < length (params_on f b z)) same short in
-              subst (λ z. place_in new (argument_at (arguments_at f b z) j).number ≢ NoPlace) (sym same)
-              (g.there j s (subst (λ z. IsOwn f b (argument_at (arguments_at f b z) j) → ⊥) same not_own)))
-          | inr ne ↦ changes_last (argument_at (arguments_at f b e) j).number
-              (edge_changes (λ q r. tt) (λ l below. record { target = tt; source = tt; spills = tt }) edge)
-              (a.there e j (omega (arith, less, ne)) short not_own)
         ];
       }
