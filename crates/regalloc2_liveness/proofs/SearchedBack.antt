@@ -1,6 +1,6 @@
 -- A block that reads a vreg too early, and the way back from it to the entry.
-use Rattle.std.proofs.Common.{ℕ, ◌≡◌, ◌+◌, ◌-◌, ◌<◌, ◌≤◌, ◌∙◌, true, false, List, length, subst, sym, arith, inl, inr}
-use Rattle.std.specs.Prelude.{Any, Contains}
+use Rattle.std.proofs.Common.{ℕ, ◌≡◌, ◌+◌, ◌-◌, ◌<◌, ◌≤◌, ◌∙◌, ap, true, false, List, length, subst, sym, arith, inl, inr}
+use Rattle.std.specs.Prelude.{Any, Contains, slice_index, slice_index_or}
 use Rattle.std.proofs.lemmas.Bool.{cases_Bool}
 use Rattle.regalloc2_names.specs.declared.OperandPos.{OperandPos}
 use Rattle.regalloc2_names.specs.declared.OperandPos.TheVariants.{Early, Late}
@@ -36,7 +36,7 @@ undefined_by : (ops : List OperandValue) (v : VirtualRegister) → (Any (λ o. (
 undefined_by ops v none j less def is = none (j, op_at ops j, less, same_within ops j (op_at ops j) no_operand less, (def, is))
 
 -- a vreg that a list doesn't contain isn't named by it
-pub names_not : (v : VirtualRegister) (xs : List VirtualRegister) → (Contains xs v → ⊥) → names v xs ≡ false
+names_not : (v : VirtualRegister) (xs : List VirtualRegister) → (Contains xs v → ⊥) → names v xs ≡ false
 names_not v xs none = elim (cases_Bool (names v xs)) [
   | inl named ↦ absurd (none (names_found v xs named))
   | inr other ↦ other
@@ -84,3 +84,12 @@ module _ (f : FunctionValue) (b : ℕ) (v : VirtualRegister) where
       names v (block_at f (target_at f b k)).params ≡ false → LeadsBack f v (target_at f b k)
   leads_over k framed free (less, back) lk aside =
       (framed.successors.1 b less k 0 lk, λ n. back (needed_over f b k v (framed.follow b less).0 lk aside free n))
+
+  -- the same of a successor that is read off the list
+  pub leads_item : (k s : ℕ) (succs : List ℕ) → IsFramed f → IsUnwritten f b v → LeadsBack f v b → succs ≡ (block_at f b).succs → k < length succs →
+      s ≡ slice_index_or succs k s → (Contains (block_at f s).params v → ⊥) → LeadsBack f v s
+  leads_item k s succs framed free back listed less is aside =
+      let same : s ≡ target_at f b k = is ∙ same_within succs k s 0 less ∙ ap (λ (xs : List ℕ). slice_index xs k) listed in
+      subst (λ (m : ℕ). LeadsBack f v m) (sym same)
+      (leads_over k framed free back (subst (λ (xs : List ℕ). k < length xs) listed less)
+      (subst (λ (m : ℕ). names v (block_at f m).params ≡ false) same (names_not v (block_at f s).params aside)))

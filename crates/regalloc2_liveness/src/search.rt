@@ -117,16 +117,16 @@ fn mark(marked: &mut [bool], block: Block) {
 }
 
 /// Marks the unmarked successors of a block and adds them to the work, but those that have the vreg as a parameter. Those
-/// numbered up to the last one are near, the others far.
+/// numbered up to the block looked for are near, the others far. Returns whether the block looked for is among them, and stops there.
 fn add_succs<A: Allocator, F: Function>(
     f: &F,
     block: Block,
     vreg: VReg,
-    last: Block,
+    sought: Block,
     marked: &mut [bool],
     near: &mut Vec<Block, A>,
     far: &mut Vec<Block, A>,
-) -> Result<(), AllocError>
+) -> Result<bool, AllocError>
     requires framed { IsFramed (F.function f.now) }
     requires block { block < length (F.function f.now).blocks }
     requires unwritten { IsUnwritten (F.function f.now) block vreg }
@@ -135,19 +135,23 @@ fn add_succs<A: Allocator, F: Function>(
     requires far { All (LeadsBack (F.function f.now) vreg) far.old.items }
     ensures near { OnOk result (All (LeadsBack (F.function f.now) vreg) near.new.items) }
     ensures far { OnOk result (All (LeadsBack (F.function f.now) vreg) far.new.items) }
+    ensures found { IfOk result (λ b. b ≡ true → LeadsBack (F.function f.now) vreg sought) }
 {
     for succ in f.block_succs(block) {
         if is_on(marked, succ.index()) || is_named(f.block_params(*succ), vreg) {
             continue;
         }
+        if *succ == sought {
+            return Ok(true);
+        }
         mark(marked, *succ);
-        if succ.index() <= last.index() {
+        if succ.index() < sought.index() {
             near.push(*succ)?;
         } else {
             far.push(*succ)?;
         }
     }
-    Ok(())
+    Ok(false)
 }
 
 /// Takes a block from the work, a near one if there is one.
@@ -181,29 +185,33 @@ pub fn reads_early<A: Allocator + Copy, F: Function>(
     if block.index() >= f.num_blocks() || !is_asked(f, block, vreg) {
         return Ok(false);
     }
+    let entry = f.entry_block();
+    if block == entry {
+        return Ok(true);
+    }
     let mut marked: Vec<bool, A> = Vec::new(alloc);
     marked.resize(f.num_blocks(), false)?;
     let mut near: Vec<Block, A> = Vec::new(alloc);
     let mut far: Vec<Block, A> = Vec::new(alloc);
-    mark(marked.as_mut_slice(), f.entry_block());
-    near.push(f.entry_block())?;
+    mark(marked.as_mut_slice(), entry);
+    near.push(entry)?;
     for _ in 0..f.num_blocks() {
         let Some(at) = take(&mut near, &mut far) else {
             return Ok(false);
         };
-        if at == block {
-            return Ok(true);
+        if !is_unwritten(f, at, vreg) {
+            continue;
         }
-        if is_unwritten(f, at, vreg) {
-            add_succs(
-                f,
-                at,
-                vreg,
-                block,
-                marked.as_mut_slice(),
-                &mut near,
-                &mut far,
-            )?;
+        if add_succs(
+            f,
+            at,
+            vreg,
+            block,
+            marked.as_mut_slice(),
+            &mut near,
+            &mut far,
+        )? {
+            return Ok(true);
         }
     }
     Ok(false)

@@ -3,14 +3,12 @@ use Rattle.regalloc2_function.specs.FunctionValue.{FunctionValue}
 use Rattle.regalloc2_function.specs.Path.{first_of}
 use Rattle.regalloc2_liveness.specs.LiveIn.{IsNeeded}
 use Rattle.regalloc2_liveness.proofs.search.reads_early.Goals as goal
-use Rattle.regalloc2_liveness.proofs.search.reads_early.Goals.{then-is_unwritten+in_ok-add_succs, else-is_unwritten}
 
 pub returns-then-eq : goal.returns-then-eq
 returns-then-eq g c = λ yes.
     let f : FunctionValue = g.F.Function.function c.args.f.now in
-    let taken = c.in-Some.ensures f c.args.vreg c.loop.invariant.near c.loop.invariant.far in
-    let same : c.in-Some.at ≡ c.args.block = eqb-true c.in-Some.at c.args.block (sym c.eq.ensures ∙ c.if-eq.true) in
-    taken.2.1 (subst (λ (b : ℕ). IsNeeded f c.args.vreg (first_of f b)) (sym same) (c.is_asked.ensures c.if-not-is_asked.false))
+    let same : c.args.block ≡ f.entry = eqb-true c.args.block c.entry_block-entry.result (sym c.eq.ensures ∙ c.if-eq.true) ∙ c.entry_block-entry.ensures in
+    subst (λ (b : ℕ). IsNeeded f c.args.vreg (first_of f b)) same (c.is_asked.ensures c.if-not-is_asked.false)
 
 pub is_unwritten-requires-clause-block : goal.is_unwritten-requires-clause-block
 is_unwritten-requires-clause-block g c =
@@ -37,17 +35,14 @@ add_succs-requires-clause-far g c =
     let f : FunctionValue = g.F.Function.function c.args.f.now in
     (c.in-Some.ensures f c.args.vreg c.loop.invariant.near c.loop.invariant.far).1
 
-pub loop-preserved : goal.loop-preserved
-loop-preserved g c =
+pub loop-preserved-then-not-is_unwritten : goal.loop-preserved-then-not-is_unwritten
+loop-preserved-then-not-is_unwritten g c =
     let f : FunctionValue = g.F.Function.function c.args.f.now in
     let taken = c.in-Some.ensures f c.args.vreg c.loop.invariant.near c.loop.invariant.far in
-    elim c.if-is_unwritten.branch [
-      | then-is_unwritten+in_ok-add_succs w ↦ record {
-        near = rw w.near-is w.in_ok-add_succs.ensures.near;
-        far = rw w.far-is w.in_ok-add_succs.ensures.far;
-      }
-      | else-is_unwritten w ↦ record {
-        near = rw w.near-is taken.0;
-        far = rw w.far-is taken.1;
-      }
-    ]
+    record {
+      near = taken.0;
+      far = taken.1;
+    }
+
+pub returns-then-branch : goal.returns-then-branch
+returns-then-branch g c = λ yes. (c.in_ok-add_succs.ensures.found c.if-branch.true).1 (c.is_asked.ensures c.if-not-is_asked.false)
