@@ -113,8 +113,37 @@ fn save_chunks<A: Allocator + Copy>(
     Ok(())
 }
 
-/// The first position from one on at which the array differs from a saved copy.
+/// The first position from one on at which the array differs from a saved copy. It is past the chunks before a given one.
 fn first_position<A: Allocator + Copy>(
+    words: &[u32],
+    bases: &Versions<A>,
+    copy: usize,
+    cells: &[u32],
+    from: usize,
+    start: usize,
+) -> Option<usize>
+    requires copy { copy < length bases.now.saved }
+    requires kept { AreChunksKept words.now cells.now bases.now }
+    requires start { AreAlike words.now cells.now bases.now copy from (64 * start) }
+    ensures { MatchOption result (AreAlike words.now cells.now bases.now copy from (length cells.now))
+        (λ i. (from ≤ i) × (i < length cells.now) × (get_or cells.now i 0 ≢ get_or words.now (saved_at bases.now copy (i / 64) + i % 64) 0)
+        × AreAlike words.now cells.now bases.now copy from i) }
+{
+    let mut first = start;
+    'chunks: while let Some(chunk) = bases.next_difference(copy, first) {
+        let base = bases.saved(copy, chunk) as usize;
+        let found = difference_in(words, base, cells, 64 * chunk, from);
+        if found.is_some() {
+            return found;
+        }
+        first = chunk + 1;
+    }
+    None
+}
+
+/// The same, where the position may stand anywhere. The rest of a chunk that it stands in is looked through at once, since
+/// positions that differ often stand in one chunk.
+fn next_position<A: Allocator + Copy>(
     words: &[u32],
     bases: &Versions<A>,
     copy: usize,
@@ -127,16 +156,16 @@ fn first_position<A: Allocator + Copy>(
         (λ i. (from ≤ i) × (i < length cells.now) × (get_or cells.now i 0 ≢ get_or words.now (saved_at bases.now copy (i / 64) + i % 64) 0)
         × AreAlike words.now cells.now bases.now copy from i) }
 {
-    let mut first = from / 64;
-    'chunks: while let Some(chunk) = bases.next_difference(copy, first) {
-        let base = bases.saved(copy, chunk) as usize;
-        let found = difference_in(words, base, cells, 64 * chunk, from);
-        if found.is_some() {
-            return found;
-        }
-        first = chunk + 1;
+    let chunk = from / 64;
+    if from % 64 == 0 || chunk >= bases.len() {
+        return first_position(words, bases, copy, cells, from, chunk);
     }
-    None
+    let base = bases.saved(copy, chunk) as usize;
+    let found = difference_in(words, base, cells, 64 * chunk, from);
+    if found.is_some() {
+        return found;
+    }
+    first_position(words, bases, copy, cells, from, chunk + 1)
 }
 
 impl<A: Allocator + Copy> Entries<A> {
@@ -236,6 +265,6 @@ impl<A: Allocator + Copy> Entries<A> {
         ensures { MatchOption result (AreAlikeBetween self.now copy from (length self.now.cells))
             (λ i. (from ≤ i) × (i < length self.now.cells) × (number_now self.now i ≢ number_at self.now copy i) × AreAlikeBetween self.now copy from i) }
     {
-        first_position(&self.words, &self.bases, copy, &self.cells, from)
+        next_position(&self.words, &self.bases, copy, &self.cells, from)
     }
 }

@@ -134,7 +134,8 @@ impl<A: Allocator + Copy> Sets<A> {
     pub fn new(alloc: A, count: usize) -> Result<Sets<A>, AllocError>
         ensures { IfOk result (λ s. IsSetOf s 0 (λ y. false)) }
     {
-        let mut sets = Vec::new(alloc);
+        // Most bits get a set of their own, and some sets have more members.
+        let mut sets = Vec::with_capacity(alloc, (count / 2).saturating_add(count))?;
         sets.push(IndexSet::new(alloc))?;
         let mut lone = Vec::new(alloc);
         lone.push(None)?;
@@ -181,6 +182,7 @@ impl<A: Allocator + Copy> Sets<A> {
     }
 
     /// Adds a set, and its one member, if that is known; answers its number.
+    #[inline(always)]
     fn add(&mut self, set: IndexSet<A>, only: Option<u32>) -> Result<u32, AllocError>
         requires { (b : ℕ) → only ≡ Some b → (y : ℕ) → has_bits set y ≡ nat_eq y b }
         ensures more { AreMore self.old self.new }
@@ -229,6 +231,19 @@ impl<A: Allocator + Copy> Sets<A> {
         }
     }
 
+    /// Adds a set of one member. It stands apart, so that where the set is kept no room is made for a new one.
+    #[inline(never)]
+    fn new_single(&mut self, bits: u32) -> Result<u32, AllocError>
+        ensures more { AreMore self.old self.new }
+        ensures found { IfOk result (λ n. IsSetOf self.new n (λ y. nat_eq y bits)) }
+    {
+        let mut set = IndexSet::new(self.alloc);
+        set.set(bits as usize, true)?;
+        let number = self.add(set, Some(bits))?;
+        self.keep_single(bits, number);
+        Ok(number)
+    }
+
     /// A set of one member.
     pub fn single(&mut self, bits: u32) -> Result<u32, AllocError>
         ensures more { AreMore self.old self.new }
@@ -237,11 +252,7 @@ impl<A: Allocator + Copy> Sets<A> {
         if let Some(number) = self.kept_single(bits) {
             return Ok(number);
         }
-        let mut set = IndexSet::new(self.alloc);
-        set.set(bits as usize, true)?;
-        let number = self.add(set, Some(bits))?;
-        self.keep_single(bits, number);
-        Ok(number)
+        self.new_single(bits)
     }
 
     /// The number of a set: that of the empty one, of one of one member, or one that is added.
@@ -260,6 +271,7 @@ impl<A: Allocator + Copy> Sets<A> {
     }
 
     /// A set with its one member changed: `bits` is a member or none.
+    #[inline(always)]
     fn changed(&self, set: u32, bits: u32, is_in: bool) -> Result<IndexSet<A>, AllocError>
         requires { set < length self.now }
         ensures { IfOk result (λ s. (y : ℕ) → has_bits s y ≡ (if nat_eq y bits then is_in else is_member self.now set y)) }
@@ -295,6 +307,19 @@ impl<A: Allocator + Copy> Sets<A> {
         });
     }
 
+    /// Adds a set of another and one member more.
+    #[inline(never)]
+    fn new_grown(&mut self, set: u32, bits: u32) -> Result<u32, AllocError>
+        requires { set < length self.old }
+        ensures more { AreMore self.old self.new }
+        ensures found { IfOk result (λ n. IsSetOf self.new n (λ y. if nat_eq y bits then true else is_member self.old set y)) }
+    {
+        let more = self.changed(set, bits, true)?;
+        let number = self.add(more, None)?;
+        self.keep_grown(set, bits, number);
+        Ok(number)
+    }
+
     /// A set and one member more.
     pub fn with(&mut self, set: u32, bits: u32) -> Result<u32, AllocError>
         requires { set < length self.old }
@@ -311,10 +336,18 @@ impl<A: Allocator + Copy> Sets<A> {
         if let Some(number) = self.kept_grown(set, bits) {
             return Ok(number);
         }
-        let more = self.changed(set, bits, true)?;
-        let number = self.add(more, None)?;
-        self.keep_grown(set, bits, number);
-        Ok(number)
+        self.new_grown(set, bits)
+    }
+
+    /// The number of a set without one of its members.
+    #[inline(never)]
+    fn shrunk(&mut self, set: u32, bits: u32) -> Result<u32, AllocError>
+        requires { set < length self.old }
+        ensures more { AreMore self.old self.new }
+        ensures found { IfOk result (λ n. IsSetOf self.new n (λ y. if nat_eq y bits then false else is_member self.old set y)) }
+    {
+        let less = self.changed(set, bits, false)?;
+        self.settle(less)
     }
 
     /// A set and one member less.
@@ -330,11 +363,11 @@ impl<A: Allocator + Copy> Sets<A> {
         if let Some(_only) = self.only(set) {
             return Ok(0);
         }
-        let less = self.changed(set, bits, false)?;
-        self.settle(less)
+        self.shrunk(set, bits)
     }
 
     /// The members of two sets.
+    #[inline(never)]
     fn both(&mut self, set: u32, other: u32) -> Result<u32, AllocError>
         requires set { set < length self.old }
         requires other { other < length self.old }

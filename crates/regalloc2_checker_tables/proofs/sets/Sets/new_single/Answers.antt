@@ -1,7 +1,7 @@
 use Rattle.std.proofs.Common.{arith, sym, nat_eq}
 use Rattle.regalloc2_checker_tables.specs.EntrySets.{has_bits}
 use Rattle.regalloc2_checker_tables.proofs.Lone.{single-is, single-as, set-of, set-is}
-use Rattle.regalloc2_checker_tables.proofs.sets.Sets.single.Goals as goal
+use Rattle.regalloc2_checker_tables.proofs.sets.Sets.new_single.Goals as goal
 
 pub add-requires : goal.add-requires
 add-requires g c b e y = single-as c.new-set.result c.set.new.self c.args.bits (omega arith) c.new-set.ensures c.in_ok-set.ensures.ok b e y
