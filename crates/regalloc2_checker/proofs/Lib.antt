@@ -23,3 +23,7 @@ pub mod NoErrorsIsFaithful
 pub mod OperandErrors
 pub mod Members
 pub mod ErrorsOnPaths
+mod AddedSlots
+mod SweptSlots
+mod OutputItems
+mod JudgedCells

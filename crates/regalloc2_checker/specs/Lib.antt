@@ -15,3 +15,5 @@ pub mod Report
 pub mod CheckInputs
 pub mod Blocks
 pub mod Text
+pub mod Cells
+pub mod CellFaults
