@@ -1,5 +1,9 @@
-/* The allocator and its checker. Link libregalloc2_c.a, and the kit's liblibc_c.a or three functions of your own: rattle_alloc,
-   rattle_dealloc, rattle_realloc.
+/* The allocator and its checker. Link libregalloc2_c.a, and libregalloc2_c_heap.a (regalloc2_c_heap.c), the toolchain's liblibc_c.a, or
+   three functions of your own: rattle_alloc, rattle_realloc and rattle_dealloc, declared below.
+
+   Each pointer names memory of its length in words or bytes, aligned as its type; none is null, also where the length is 0. What a call
+   writes overlaps nothing else that it is given, and nobody else reads or writes it during the call; what it only reads nobody writes. The
+   library keeps nothing from call to call, so threads may call at once if the heap functions allow that, as those over malloc do.
 
    All numbers are 32-bit words. A list is its length and then its members; a number of 64 bits is two words, the lower one first.
    A register is its index (hardware number + 64 * class: 0 integer, 1 float, 2 vector), a vreg 4 * number + class, an operand
@@ -18,6 +22,7 @@
    of offsets, one for each instruction; a list of debug locations, each a label, two points, a place. */
 #ifndef REGALLOC2_C_H
 #define REGALLOC2_C_H
+#include <stdbool.h>
 #include <stddef.h>
 #include <stdint.h>
 #ifdef __cplusplus
@@ -47,6 +52,37 @@ uint32_t regalloc2_c_allocate_json(const uint8_t *json, size_t len, uint32_t *ou
 
 /* RA2_OK if the checker accepts an output of a function. */
 uint32_t regalloc2_c_check(const uint32_t *words, size_t len, const uint32_t *output, size_t output_len);
+
+/* The memory that the library asks for. `ok` is whether there is some. `p` is never null: where there is none it is any address. `align` is at
+   most 16, and a `size` of 0 still asks for a place. `kept` is how many bytes of `p` were asked for; a refused rattle_realloc leaves `p` as it was. */
+struct rattle_tried {
+    bool ok;
+    uint8_t *p;
+};
+struct rattle_tried rattle_alloc(size_t size, size_t align);
+struct rattle_tried rattle_realloc(uint8_t *p, size_t kept, size_t size, size_t align);
+void rattle_dealloc(uint8_t *p);
+
+/* Words: classes, registers, virtual registers, operands and places. */
+enum { RA2_INT = 0, RA2_FLOAT = 1, RA2_VECTOR = 2 };
+enum { RA2_EARLY = 0, RA2_LATE = 1 };
+enum { RA2_DEF = 0, RA2_USE = 1 };
+enum {
+    RA2_ANY = 0,
+    RA2_REG = 1,
+    RA2_STACK = 2,
+    RA2_LIMIT = 16, /* and the limit's logarithm, 0 to 6 */
+    RA2_REUSE = 32, /* and the operand's index, 0 to 31 */
+    RA2_FIXED = 64  /* and the register's number, 0 to 63 */
+};
+
+static inline uint32_t ra2_register(uint32_t class_, uint32_t number) { return 64 * class_ + number; }
+static inline uint32_t ra2_vreg(uint32_t class_, uint32_t number) { return 4 * number + class_; }
+static inline uint64_t ra2_operand(uint32_t class_, uint32_t number, uint32_t kind, uint32_t position, uint32_t constraint) {
+    return (uint64_t)number | (uint64_t)(class_ | position << 2 | kind << 3 | constraint << 4) << 32;
+}
+static inline uint32_t ra2_in_register(uint32_t reg) { return 1u << 29 | reg; }
+static inline uint32_t ra2_in_slot(uint32_t slot) { return 2u << 29 | slot; }
 
 #ifdef __cplusplus
 }
