@@ -11,8 +11,8 @@ use Rattle.regalloc2_names.specs.PlaceBits.{index_of_place}
 use Rattle.codegen_ir.specs.declared.operation.Operation.{Operation}
 use Rattle.codegen_machine.specs.declared.Source.TheVariants.{Slot}
 use Rattle.codegen_machine.specs.declared.Instruction.{Instruction}
-use Rattle.codegen_machine.specs.declared.Instruction.TheVariants.{Store}
-use Rattle.codegen.specs.Emitted.{source_of, move_code, register_of, item_code, items_code, block_code, blocks_code, start_of, label_of, resolved, emitted}
+use Rattle.codegen_machine.specs.declared.Instruction.TheVariants.{Load, Store}
+use Rattle.codegen.specs.Emitted.{source_of, fetched, move_code, register_of, item_code, items_code, block_code, blocks_code, start_of, label_of, resolved, emitted}
 
 -- a slot is read as one
 pub slot_source : (p : Place) → is_in_slot p ≡ true → Slot (index_of_place p) ≡ source_of p
@@ -25,6 +25,12 @@ pub slot_written : (from to : Place) → is_in_slot to ≡ true → Store (index
 slot_written from NoPlace h = absurd cc
 slot_written from (InRegister r) h = absurd cc
 slot_written from (InSlot n) h = refl
+
+-- and a register takes what stands in it
+pub slot_fetched : (to : ℕ) (p : Place) → is_in_slot p ≡ true → Load to (index_of_place p) ≡ fetched to p
+slot_fetched to NoPlace h = absurd cc
+slot_fetched to (InRegister r) h = absurd cc
+slot_fetched to (InSlot n) h = refl
 
 -- what is within a block is within the function
 wider : (first end n : ℕ) (x : Listed) → end ≤ n → IsListedWithin first end x → IsListedWithin 0 n x

@@ -9,7 +9,9 @@ use Rattle.regalloc2_function.specs.OutputValue.{OutputValue, allocs_of, place_a
 use Rattle.codegen_ir.specs.Operands.{operands_of}
 use Rattle.codegen_ir.specs.declared.operation.Operation.{Operation}
 use Rattle.codegen_ir.specs.declared.operation.Operation.TheVariants.{Argument as TakeArgument, Constant as TakeConstant, Copy, Compute as Computation}
-use Rattle.codegen_ir.specs.declared.operation.Operation.TheVariants.{Compare as Comparison, Jump as GoTo, BranchIf, Return as GiveBack}
+use Rattle.codegen_ir.specs.declared.operation.Operation.TheVariants.{Compare as Comparison, Select, Jump as GoTo, BranchIf, BranchIfHolds, Return as GiveBack}
+use Rattle.codegen_ir.specs.declared.operation.Right.{Right}
+use Rattle.codegen_ir.specs.declared.operation.Right.TheVariants.{VReg, Number as Given}
 use Rattle.codegen_machine.specs.Machine.{CodeValue, is_general}
 use Rattle.codegen.specs.Emitted.{operation_at, blocks_code, start_of, resolved}
 
@@ -31,38 +33,40 @@ CanMove slots from NoPlace = ⊥
 CanMove slots from (InRegister r) = ((r.class ≡ Int) × (is_general r.number ≡ true)) × IsHere slots from
 CanMove slots from (InSlot n) = (n < slots) × IsGeneral from
 
+-- the place of a second number, which has none where it is given
+abbrev pub IsRightHere : ℕ → Right → Place → Type 0
+IsRightHere slots (VReg v) p = IsHere slots p
+IsRightHere slots (Given n) p = Unit {0}
+
 -- the places of an operation's operands are such that it can be emitted
 abbrev pub IsPlaced : ℕ → Operation → List Place → Type 0
 IsPlaced slots (TakeArgument to k) ps = IsGeneral (place_at ps 0)
 IsPlaced slots (TakeConstant to n) ps = IsGeneral (place_at ps 0)
 IsPlaced slots (Copy to from) ps = IsGeneral (place_at ps 0) × IsHere slots (place_at ps 1)
-IsPlaced slots (Computation o to left right) ps = IsGeneral (place_at ps 0) × (place_at ps 0 ≡ place_at ps 1) × IsHere slots (place_at ps 2)
-IsPlaced slots (Comparison c to left right) ps = IsGeneral (place_at ps 0) × IsGeneral (place_at ps 1) × IsHere slots (place_at ps 2)
+IsPlaced slots (Computation o to left right) ps = IsGeneral (place_at ps 0) × (place_at ps 0 ≡ place_at ps 1) × IsRightHere slots right (place_at ps 2)
+IsPlaced slots (Comparison c to left right) ps = IsGeneral (place_at ps 0) × IsGeneral (place_at ps 1) × IsRightHere slots right (place_at ps 2)
+IsPlaced slots (Select to c one other) ps =
+    IsGeneral (place_at ps 0) × (place_at ps 0 ≡ place_at ps 1) × IsHere slots (place_at ps 2) × IsHere slots (place_at ps 3)
 IsPlaced slots GoTo ps = Unit {0}
-IsPlaced slots (BranchIf v) ps = IsGeneral (place_at ps 0)
+IsPlaced slots (BranchIf v) ps = IsHere slots (place_at ps 0)
+IsPlaced slots (BranchIfHolds c left right) ps = IsGeneral (place_at ps 0) × IsRightHere slots right (place_at ps 1)
 IsPlaced slots (GiveBack v) ps = IsHere slots (place_at ps 0)
 
 -- an operation that goes on to the next line
 abbrev pub IsPlain : Operation → Type 0
-IsPlain (TakeArgument to k) = Unit {0}
-IsPlain (TakeConstant to n) = Unit {0}
-IsPlain (Copy to from) = Unit {0}
-IsPlain (Computation o to left right) = Unit {0}
-IsPlain (Comparison c to left right) = Unit {0}
 IsPlain GoTo = ⊥
 IsPlain (BranchIf v) = ⊥
+IsPlain (BranchIfHolds c left right) = ⊥
 IsPlain (GiveBack v) = ⊥
+IsPlain o = Unit {0}
 
 -- one that ends a block with so many successors
 abbrev pub IsEnd : Operation → ℕ → Type 0
-IsEnd (TakeArgument to k) count = ⊥
-IsEnd (TakeConstant to n) count = ⊥
-IsEnd (Copy to from) count = ⊥
-IsEnd (Computation o to left right) count = ⊥
-IsEnd (Comparison c to left right) count = ⊥
 IsEnd GoTo count = 0 < count
 IsEnd (BranchIf v) count = 1 < count
+IsEnd (BranchIfHolds c left right) count = 1 < count
 IsEnd (GiveBack v) count = Unit {0}
+IsEnd o count = ⊥
 
 -- what is known of the source, of its allocation and of the code, whose jumps to a block go where that starts
 pub record IsEmitted (f : FunctionValue) (operations : List Operation) (out : OutputValue) (start : ℕ → ℕ) (code : CodeValue) : Type 0 where

@@ -1,12 +1,13 @@
 -- The premises of the proofs hold of what is emitted for an allocated procedure.
 use Rattle.std.proofs.Common.{ℕ, ◌≡◌, ◌+◌, ◌-◌, ◌<◌, ◌≤◌, Bool, true, false, cond, List, [], ◌∷◌, length, Option, None, Some, refl, sym, ap, ◌∙◌, subst}
-use Rattle.std.proofs.Common.{arith, lt-ltb}
+use Rattle.std.proofs.Common.{arith, lt-ltb, ◌++◌, length-append}
+use Rattle.std.proofs.Math.Seq.{get_or-append_seam}
 use Rattle.std.proofs.Common.{◌⊎◌, inl, inr}
 use Rattle.std.specs.Prelude.{slice_index_or, Contains, All}
 use Rattle.std.proofs.lemmas.List.{length-map}
 use Rattle.regalloc2_names.specs.Register.{Register}
 use Rattle.regalloc2_names.specs.declared.RegClass.{RegClass}
-use Rattle.regalloc2_names.specs.declared.OperandConstraint.TheVariants.{Any, Reg}
+use Rattle.regalloc2_names.specs.declared.OperandConstraint.TheVariants.{Any, Reg, Reuse}
 use Rattle.regalloc2_names.specs.Operand.{OperandValue, is_fixed_nonallocatable}
 use Rattle.regalloc2_names.specs.Place.{Place, NoPlace, InRegister, InSlot}
 use Rattle.regalloc2_function.specs.FunctionValue.{FunctionValue, block_at, inst_at}
@@ -17,16 +18,18 @@ use Rattle.regalloc2_function.specs.Fitting.{IsProperPlace, IsMoveEnd}
 use Rattle.regalloc2_function.specs.Following.{end_within}
 use Rattle.regalloc2_function.specs.WellFormed.{IsWellFormed, EndsBlock}
 use Rattle.regalloc2.specs.Promise.{IsAllocation}
-use Rattle.codegen_ir.specs.Operands.{def_in, use_in, operands_of, is_jump, is_return}
+use Rattle.codegen_ir.specs.Operands.{def_in, use_in, right_in, operands_of, is_jump, is_return}
 use Rattle.codegen_ir.specs.Successors.{wanted_by}
 use Rattle.codegen_ir.specs.Seen.{function_of, inst_of, operations}
 use Rattle.codegen_ir.specs.declared.operation.Operation.{Operation}
 use Rattle.codegen_ir.specs.declared.operation.Operation.TheVariants.{Argument as TakeArgument, Constant as TakeConstant, Copy, Compute as Computation}
-use Rattle.codegen_ir.specs.declared.operation.Operation.TheVariants.{Compare as Comparison, Jump as GoTo, BranchIf, Return as GiveBack}
+use Rattle.codegen_ir.specs.declared.operation.Operation.TheVariants.{Compare as Comparison, Select, Jump as GoTo, BranchIf, BranchIfHolds, Return as GiveBack}
+use Rattle.codegen_ir.specs.declared.operation.Right.{Right}
+use Rattle.codegen_ir.specs.declared.operation.Right.TheVariants.{VReg, Number as Given}
 use Rattle.codegen_ir.specs.declared.procedure.Procedure.{Procedure}
 use Rattle.codegen.specs.Emitted.{operation_at, emitted, label_of, start_of}
 use Rattle.codegen.specs.Target.{IsTarget}
-use Rattle.codegen.proofs.Premise.{IsGeneral, IsHere, CanMove, IsPlaced, IsPlain, IsEnd, IsEmitted}
+use Rattle.codegen.proofs.Premise.{IsGeneral, IsHere, IsRightHere, CanMove, IsPlaced, IsPlain, IsEnd, IsEmitted}
 use Rattle.codegen.proofs.Procedures.{insts_are, blocks_have}
 
 no_member : (rs : List Register) (r : Register) → rs ≡ [] → Contains rs r → ⊥
@@ -75,6 +78,17 @@ module _ (env : MachineValue) (out : OutputValue) (t : IsTarget env) where
         IsProperPlace env out (slice_index_or os k d).vreg.class (place_at ps k)
     meets : (k : ℕ) (d : OperandValue) → k < length os → Meets env (length os) ps (slice_index_or os k d).constraint (place_at ps k)
 
+  -- the last operand is that of a second number, unless it is given
+  right_here : (right : Right) (os : List OperandValue) (ps : List Place) → AreFor (os ++ right_in right) ps →
+      IsRightHere out.num_spillslots right (place_at ps (length os))
+  right_here (Given n) os ps h = tt
+  right_here (VReg v) os ps h =
+      let d : OperandValue = use_in Any v in
+      let within : length os < length (os ++ d ∷ []) = omega (arith, length-append os (d ∷ [])) in
+      let last : slice_index_or (os ++ d ∷ []) (length os) d ≡ d = get_or-append_seam os d [] d in
+      here v.class (place_at ps (length os)) (subst (λ (o : OperandValue). is_fixed_nonallocatable o ≡ false →
+      IsProperPlace env out o.vreg.class (place_at ps (length os))) last (h.proper (length os) d within) refl)
+
   -- are such that the operation can be emitted
   is_placed : (o : Operation) (ps : List Place) → AreFor (operands_of o) ps → IsPlaced out.num_spillslots o ps
   is_placed (TakeArgument to k) ps h =
@@ -90,39 +104,46 @@ module _ (env : MachineValue) (out : OutputValue) (t : IsTarget env) where
       let d : OperandValue = def_in Reg to in
       let same : place_at ps 0 ≡ place_at ps 1 = (h.meets 0 d (omega arith)).2 in
       let first : IsGeneral (place_at ps 1) = general left.class (place_at ps 1) (h.proper 1 d (omega arith) refl) (h.meets 1 d (omega arith)) in
-      (subst IsGeneral (sym same) first, same, here right.class (place_at ps 2) (h.proper 2 d (omega arith) refl))
+      (subst IsGeneral (sym same) first, same, right_here right (def_in (Reuse 1) to ∷ use_in Reg left ∷ []) ps h)
   is_placed (Comparison c to left right) ps h =
       let d : OperandValue = def_in Reg to in (
         general to.class (place_at ps 0) (h.proper 0 d (omega arith) refl) (h.meets 0 d (omega arith)),
         general left.class (place_at ps 1) (h.proper 1 d (omega arith) refl) (h.meets 1 d (omega arith)),
-        here right.class (place_at ps 2) (h.proper 2 d (omega arith) refl),
+        right_here right (def_in Reg to ∷ use_in Reg left ∷ []) ps h,
+      )
+  is_placed (Select to c one other) ps h =
+      let d : OperandValue = def_in Reg to in
+      let same : place_at ps 0 ≡ place_at ps 1 = (h.meets 0 d (omega arith)).2 in
+      let first : IsGeneral (place_at ps 1) = general one.class (place_at ps 1) (h.proper 1 d (omega arith) refl) (h.meets 1 d (omega arith)) in (
+        subst IsGeneral (sym same) first,
+        same,
+        here other.class (place_at ps 2) (h.proper 2 d (omega arith) refl),
+        here c.class (place_at ps 3) (h.proper 3 d (omega arith) refl),
       )
   is_placed GoTo ps h = tt
-  is_placed (BranchIf v) ps h =
-      let d : OperandValue = use_in Reg v in general v.class (place_at ps 0) (h.proper 0 d (omega arith) refl) (h.meets 0 d (omega arith))
+  is_placed (BranchIf v) ps h = let d : OperandValue = use_in Any v in here v.class (place_at ps 0) (h.proper 0 d (omega arith) refl)
+  is_placed (BranchIfHolds c left right) ps h =
+      let d : OperandValue = use_in Reg left in (
+        general left.class (place_at ps 0) (h.proper 0 d (omega arith) refl) (h.meets 0 d (omega arith)),
+        right_here right (use_in Reg left ∷ []) ps h,
+      )
   is_placed (GiveBack v) ps h = let d : OperandValue = use_in Any v in here v.class (place_at ps 0) (h.proper 0 d (omega arith) refl)
 
 -- an operation that neither branches nor returns goes on
 is_plain : (o : Operation) → is_jump o ≡ false → is_return o ≡ false → IsPlain o
-is_plain (TakeArgument to k) j r = tt
-is_plain (TakeConstant to n) j r = tt
-is_plain (Copy to from) j r = tt
-is_plain (Computation o to left right) j r = tt
-is_plain (Comparison c to left right) j r = tt
 is_plain GoTo j r = absurd cc
 is_plain (BranchIf v) j r = absurd cc
+is_plain (BranchIfHolds c left right) j r = absurd cc
 is_plain (GiveBack v) j r = absurd cc
+is_plain o j r = tt
 
 -- and one that does ends its block
 is_end : (o : Operation) (count : ℕ) → (is_jump o ≡ true) ⊎ (is_return o ≡ true) → wanted_by o ≤ count → IsEnd o count
-is_end (TakeArgument to k) count e w = absurd (elim e [ inl j ↦ cc | inr r ↦ cc ])
-is_end (TakeConstant to n) count e w = absurd (elim e [ inl j ↦ cc | inr r ↦ cc ])
-is_end (Copy to from) count e w = absurd (elim e [ inl j ↦ cc | inr r ↦ cc ])
-is_end (Computation o to left right) count e w = absurd (elim e [ inl j ↦ cc | inr r ↦ cc ])
-is_end (Comparison c to left right) count e w = absurd (elim e [ inl j ↦ cc | inr r ↦ cc ])
 is_end GoTo count e w = omega arith
 is_end (BranchIf v) count e w = omega arith
+is_end (BranchIfHolds c left right) count e w = omega arith
 is_end (GiveBack v) count e w = tt
+is_end o count e w = absurd (elim e [ inl j ↦ cc | inr r ↦ cc ])
 
 module _ (p : Procedure) (env : MachineValue) (out : OutputValue) (t : IsTarget env) (w : IsWellFormed env (function_of p))
     (a : IsAllocation (function_of p) env out) where

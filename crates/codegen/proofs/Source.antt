@@ -9,12 +9,13 @@ use Rattle.regalloc2_function.specs.FunctionValue.{FunctionValue, block_at}
 use Rattle.regalloc2_function.specs.OutputValue.{OutputValue}
 use Rattle.regalloc2_function.specs.Path.{Way, Onward, ToSuccessor, next_of}
 use Rattle.regalloc2_values.specs.Interpreters.{History, State, read_by, edge_to, way_on, defined, passed_over, source_reads, source_step}
-use Rattle.codegen_ir.specs.Numbers.{Outcome, Running, Returned, Stuck}
+use Rattle.codegen_ir.specs.Numbers.{Outcome, Running, Returned, Stuck, holds}
 use Rattle.codegen_ir.specs.Operands.{operands_of}
 use Rattle.codegen_ir.specs.Meaning.{ProcedureState, entered, along, done, procedure_step}
 use Rattle.codegen_ir.specs.declared.operation.Operation.{Operation}
 use Rattle.codegen_ir.specs.declared.operation.Operation.TheVariants.{Argument as TakeArgument, Constant as TakeConstant, Copy, Compute as Computation}
-use Rattle.codegen_ir.specs.declared.operation.Operation.TheVariants.{Compare as Comparison, Jump as GoTo, BranchIf, Return as GiveBack}
+use Rattle.codegen_ir.specs.declared.operation.Operation.TheVariants.{Compare as Comparison, Select, Jump as GoTo, BranchIf, BranchIfHolds, Return as GiveBack}
+use Rattle.codegen_ir.specs.declared.operation.Right.TheVariants.{VReg, Number as Given}
 use Rattle.codegen_machine.specs.Machine.{CodeValue}
 use Rattle.codegen.specs.Emitted.{operation_at}
 use Rattle.codegen.proofs.Premise.{IsPlain, IsEnd, IsEmitted}
@@ -60,11 +61,12 @@ module _ (f : FunctionValue) (args : ℕ → ℕ) where
   plain_goes (TakeArgument to k) c plain = refl
   plain_goes (TakeConstant to n) c plain = refl
   plain_goes (Copy to from) c plain = refl
-  plain_goes (Computation o to left right) c plain = refl
-  plain_goes (Comparison o to left right) c plain = refl
-  plain_goes GoTo c plain = absurd plain
-  plain_goes (BranchIf v) c plain = absurd plain
-  plain_goes (GiveBack v) c plain = absurd plain
+  plain_goes (Computation o to left (VReg v)) c plain = refl
+  plain_goes (Computation o to left (Given n)) c plain = refl
+  plain_goes (Comparison o to left (VReg v)) c plain = refl
+  plain_goes (Comparison o to left (Given n)) c plain = refl
+  plain_goes (Select to test one other) c plain = refl
+  plain_goes o c plain = absurd plain
 
   -- an edge
   edge_goes : (read : List ℕ) (c : State VirtualRegister) (h : History) (k : ℕ) → k < length (block_at f c.at.block).succs →
@@ -78,25 +80,28 @@ module _ (f : FunctionValue) (args : ℕ → ℕ) where
       (Some (record { at = next_of f c.at (ToSuccessor k); history = h; numbers = passed_over f c.at (ToSuccessor k) c.numbers }))
       (entered f (seen c) k x)) (sym (slice_get-get_or (block_at f c.at.block).succs k 0 lt)) refl)
 
-  which : (b : Bool) (count : ℕ) → 1 < count → cond b 1 0 < count
-  which true count lt = lt
-  which false count lt = omega arith
+  which : (b : Bool) (k n count : ℕ) → k < count → n < count → cond b k n < count
+  which true k n count lt also = lt
+  which false k n count lt also = also
 
   -- a block's last operation
   last_goes : (o : Operation) (c : State VirtualRegister) → IsEnd o (length (block_at f c.at.block).succs) →
       GoAlike (reads_of (operands_of o) c.numbers) (option_map (state_on c o (operands_of o))
       (edge_to (length (block_at f c.at.block).succs) (way_of o (reads_of (operands_of o) c.numbers)))) (done f args (Some o) (seen c))
   unfolding defined read_by
-  last_goes (TakeArgument to k) c end = absurd end
-  last_goes (TakeConstant to n) c end = absurd end
-  last_goes (Copy to from) c end = absurd end
-  last_goes (Computation o to left right) c end = absurd end
-  last_goes (Comparison o to left right) c end = absurd end
   last_goes GoTo c end = edge_goes [] c ((c.at.inst, []) ∷ c.history) 0 end
   last_goes (BranchIf v) c end =
       edge_goes (c.numbers v ∷ []) c ((c.at.inst, c.numbers v ∷ []) ∷ c.history) (cond (nat_eq (c.numbers v) 0) 1 0)
-      (which (nat_eq (c.numbers v) 0) (length (block_at f c.at.block).succs) end)
+      (which (nat_eq (c.numbers v) 0) 1 0 (length (block_at f c.at.block).succs) end (omega arith))
+  last_goes (BranchIfHolds o left (VReg v)) c end =
+      edge_goes (c.numbers left ∷ c.numbers v ∷ []) c ((c.at.inst, c.numbers left ∷ c.numbers v ∷ []) ∷ c.history)
+      (cond (holds o (c.numbers left) (c.numbers v)) 0 1)
+      (which (holds o (c.numbers left) (c.numbers v)) 0 1 (length (block_at f c.at.block).succs) (omega arith) end)
+  last_goes (BranchIfHolds o left (Given n)) c end =
+      edge_goes (c.numbers left ∷ []) c ((c.at.inst, c.numbers left ∷ []) ∷ c.history) (cond (holds o (c.numbers left) n) 0 1)
+      (which (holds o (c.numbers left) n) 0 1 (length (block_at f c.at.block).succs) (omega arith) end)
   last_goes (GiveBack v) c end = refl
+  last_goes o c end = absurd end
 
   -- each operation
   goes_on : (o : Operation) (c : State VirtualRegister) → IsPlain o → c.at.inst + 1 < (block_at f c.at.block).range.end →

@@ -7,44 +7,47 @@ use Rattle.regalloc2_names.specs.Place.{Place, NoPlace, InRegister, InSlot}
 use Rattle.regalloc2_function.specs.OutputValue.{place_at}
 use Rattle.regalloc2_function.specs.Path.{Way, Onward, ToSuccessor}
 use Rattle.regalloc2_values.specs.Interpreters.{History, Meaning, read_by, place_set, written_to, disturbed, edge_to}
-use Rattle.codegen_ir.specs.Numbers.{Running, Returned, computed, holds, truth}
+use Rattle.codegen_ir.specs.Numbers.{Outcome, Running, Returned, computed, holds, truth}
 use Rattle.codegen_ir.specs.Operands.{operands_of}
 use Rattle.codegen_ir.specs.declared.operation.Operator.{Operator}
 use Rattle.codegen_ir.specs.declared.operation.Condition.{Condition}
-use Rattle.codegen_ir.specs.declared.operation.Condition.TheVariants.{NotEqual}
+use Rattle.codegen_ir.specs.declared.operation.Condition.TheVariants.{Equal, NotEqual}
 use Rattle.codegen_ir.specs.declared.operation.Operation.{Operation}
 use Rattle.codegen_ir.specs.declared.operation.Operation.TheVariants.{Argument as TakeArgument, Constant as TakeConstant, Copy, Compute as Computation}
-use Rattle.codegen_ir.specs.declared.operation.Operation.TheVariants.{Compare as Comparison, Jump as GoTo, BranchIf, Return as GiveBack}
+use Rattle.codegen_ir.specs.declared.operation.Operation.TheVariants.{Compare as Comparison, Select, Jump as GoTo, BranchIf, BranchIfHolds, Return as GiveBack}
+use Rattle.codegen_ir.specs.declared.operation.Right.{Right}
+use Rattle.codegen_ir.specs.declared.operation.Right.TheVariants.{VReg, Number as Given}
 use Rattle.codegen_machine.specs.declared.Instruction.{Instruction}
-use Rattle.codegen_machine.specs.declared.Instruction.TheVariants.{Constant, Clear, Argument, Compute, Compare, Set, Test, Jump, JumpIf, Return}
+use Rattle.codegen_machine.specs.declared.Instruction.TheVariants.{Constant, Clear, Argument, Compute, Compare, Set, MoveIf, Test, Jump, JumpIf, Return}
 use Rattle.codegen_machine.specs.Machine.{CodeValue, MachineState, is_general, with_source, written, compared_to, jumped, executed, machine_run}
-use Rattle.codegen.specs.Emitted.{register_of, source_of, fetched, constant_code, branch_code, resolved, operation_at, operation_code}
-use Rattle.codegen.proofs.Premise.{IsGeneral, IsHere, IsPlaced, IsPlain, IsEnd}
+use Rattle.codegen.specs.Emitted.{register_of, source_of, right_source, fetched, constant_code, branch_code, branch_if_code, compare_code, select_code}
+use Rattle.codegen.specs.Emitted.{resolved, operation_at, operation_code}
+use Rattle.codegen.proofs.Premise.{IsGeneral, IsHere, IsRightHere, IsPlaced, IsPlain, IsEnd}
 use Rattle.codegen.proofs.Runs.{Comes, comes_by, comes_on, ends_by, ends_then}
 use Rattle.codegen.proofs.Stands.{StandAt}
 use Rattle.codegen.proofs.Places.{Agree, wrote, reads_register, reads_source, writes_place, agree_register, fetches}
+
+-- a second number: the one that was read last, unless it is given
+abbrev pub right_read : Right → ℕ → ℕ
+right_read (VReg v) n = n
+right_read (Given n) m = n
 
 -- the number that an operation writes, from those that it reads
 abbrev pub value_of : (ℕ → ℕ) → Operation → List ℕ → ℕ
 value_of args (TakeArgument to k) xs = args k
 value_of args (TakeConstant to n) xs = n
 value_of args (Copy to from) xs = slice_index xs 0
-value_of args (Computation o to left right) xs = computed o (slice_index xs 0) (slice_index xs 1)
-value_of args (Comparison c to left right) xs = truth (holds c (slice_index xs 0) (slice_index xs 1))
-value_of args GoTo xs = 0
-value_of args (BranchIf v) xs = 0
-value_of args (GiveBack v) xs = 0
+value_of args (Computation o to left right) xs = computed o (slice_index xs 0) (right_read right (slice_index xs 1))
+value_of args (Comparison c to left right) xs = truth (holds c (slice_index xs 0) (right_read right (slice_index xs 1)))
+value_of args (Select to c one other) xs = cond (nat_eq (slice_index xs 2) 0) (slice_index xs 1) (slice_index xs 0)
+value_of args o xs = 0
 
 -- the position of the successor that it takes
 abbrev pub way_of : Operation → List ℕ → Option ℕ
-way_of (TakeArgument to k) xs = None
-way_of (TakeConstant to n) xs = None
-way_of (Copy to from) xs = None
-way_of (Computation o to left right) xs = None
-way_of (Comparison c to left right) xs = None
 way_of GoTo xs = Some 0
 way_of (BranchIf v) xs = Some (cond (nat_eq (slice_index xs 0) 0) 1 0)
-way_of (GiveBack v) xs = None
+way_of (BranchIfHolds c left right) xs = Some (cond (holds c (slice_index xs 0) (right_read right (slice_index xs 1))) 0 1)
+way_of o xs = None
 
 -- what operations mean, by what was read: the number that the newest one writes
 abbrev pub meaning_writes : List Operation → (ℕ → ℕ) → History → ℕ → ℕ
@@ -66,10 +69,15 @@ unfolding disturbed
 undisturbed (TakeArgument to k) noise ps numbers = refl
 undisturbed (TakeConstant to n) noise ps numbers = refl
 undisturbed (Copy to from) noise ps numbers = refl
-undisturbed (Computation o to left right) noise ps numbers = refl
-undisturbed (Comparison c to left right) noise ps numbers = refl
+undisturbed (Computation o to left (VReg v)) noise ps numbers = refl
+undisturbed (Computation o to left (Given n)) noise ps numbers = refl
+undisturbed (Comparison c to left (VReg v)) noise ps numbers = refl
+undisturbed (Comparison c to left (Given n)) noise ps numbers = refl
+undisturbed (Select to c one other) noise ps numbers = refl
 undisturbed GoTo noise ps numbers = refl
 undisturbed (BranchIf v) noise ps numbers = refl
+undisturbed (BranchIfHolds c left (VReg v)) noise ps numbers = refl
+undisturbed (BranchIfHolds c left (Given n)) noise ps numbers = refl
 undisturbed (GiveBack v) noise ps numbers = refl
 
 -- what an operation reads in its places
@@ -108,30 +116,76 @@ module _ (args : ℕ → ℕ) (starts : ℕ → ℕ) (code : CodeValue) (succs :
     stands = h.1;
   }
 
-  compute_done : (o : Operator) (s : MachineState) (numbers : Place → ℕ) (p q r : Place) → IsGeneral p → p ≡ q → IsHere code.slots r →
-      Agree s.registers s.frame numbers →
-      StandAt starts code.instructions s.pc (Compute o (register_of p) (source_of r) ∷ rest) → Done s (place_set numbers p (computed o (numbers q) (numbers r)))
-  compute_done o s numbers p q r hp e hr a h =
-      by_one (Compute o (register_of p) (source_of r)) s None numbers p (computed o (numbers q) (numbers r)) hp a
-      (reads_register s numbers a p hp (λ x. with_source code.slots s (source_of r) (λ y. written s (register_of p) (computed o x y) None))
-      ∙ reads_source code.slots s numbers a r hr (λ y. written s (register_of p) (computed o (numbers p) y) None)
-      ∙ writes_place s p (computed o (numbers p) (numbers r)) None hp
-      ∙ ap (λ (x : Place). Running (wrote s (register_of p) (computed o (numbers x) (numbers r)) None)) e) h
+  -- a second number read
+  reads_right : (right : Right) (s : MachineState) (numbers : Place → ℕ) (r : Place) → IsRightHere code.slots right r → Agree s.registers s.frame numbers →
+      (go : ℕ → Outcome MachineState) → with_source code.slots s (right_source right r) go ≡ go (right_read right (numbers r))
+  reads_right (VReg v) s numbers r h a go = reads_source code.slots s numbers a r h go
+  reads_right (Given n) s numbers r h a go = refl
 
-  compare_done : (c : Condition) (s : MachineState) (numbers : Place → ℕ) (p q r : Place) → IsGeneral p → IsGeneral q → IsHere code.slots r →
+  compute_done : (o : Operator) (right : Right) (s : MachineState) (numbers : Place → ℕ) (p q r : Place) → IsGeneral p → p ≡ q → IsRightHere code.slots right r →
       Agree s.registers s.frame numbers →
-      StandAt starts code.instructions s.pc (Compare (register_of q) (source_of r) ∷ Set (register_of p) c ∷ rest) →
-      Done s (place_set numbers p (truth (holds c (numbers q) (numbers r))))
-  compare_done c s numbers p q r hp hq hr a h =
-      let t : MachineState = compared_state s (numbers q) (numbers r) in
-      let acts : executed args code.slots (Some (Compare (register_of q) (source_of r))) s ≡ Running t =
-      reads_register s numbers a q hq (λ x. with_source code.slots s (source_of r) (λ y. compared_to s x y))
-      ∙ reads_source code.slots s numbers a r hr (λ y. compared_to s (numbers q) y) in
-      let first : Comes code args 1 s t = comes_by code args (Compare (register_of q) (source_of r)) s t h.0 acts in
-      let done : Done t (place_set numbers p (truth (holds c (numbers q) (numbers r)))) =
-      by_one (Set (register_of p) c) t t.compared numbers p (truth (holds c (numbers q) (numbers r))) hp a
-      (writes_place t p (truth (holds c (numbers q) (numbers r))) t.compared hp) h.1 in
-      record { to = done.to; comes = comes_on code args 1 1 1 s t done.to (omega arith) first done.comes; agree = done.agree; stands = done.stands }
+      StandAt starts code.instructions s.pc (Compute o (register_of p) (right_source right r) ∷ rest) →
+      Done s (place_set numbers p (computed o (numbers q) (right_read right (numbers r))))
+  compute_done o right s numbers p q r hp e hr a h =
+      let y : ℕ = right_read right (numbers r) in
+      by_one (Compute o (register_of p) (right_source right r)) s None numbers p (computed o (numbers q) y) hp a
+      (reads_register s numbers a p hp (λ x. with_source code.slots s (right_source right r) (λ y. written s (register_of p) (computed o x y) None))
+      ∙ reads_right right s numbers r hr a (λ y. written s (register_of p) (computed o (numbers p) y) None)
+      ∙ writes_place s p (computed o (numbers p) y) None hp
+      ∙ ap (λ (x : Place). Running (wrote s (register_of p) (computed o (numbers x) y) None)) e) h
+
+  -- numbers are compared
+  compares : (right : Right) (s : MachineState) (numbers : Place → ℕ) (q r : Place) → IsGeneral q → IsRightHere code.slots right r → Agree s.registers s.frame numbers →
+      slice_get code.instructions s.pc ≡ Some (Compare (register_of q) (right_source right r)) →
+      Comes code args 1 s (compared_state s (numbers q) (right_read right (numbers r)))
+  compares right s numbers q r hq hr a h =
+      comes_by code args (Compare (register_of q) (right_source right r)) s (compared_state s (numbers q) (right_read right (numbers r))) h
+      (reads_register s numbers a q hq (λ x. with_source code.slots s (right_source right r) (λ y. compared_to s x y))
+      ∙ reads_right right s numbers r hr a (λ y. compared_to s (numbers q) y))
+
+  -- a number is compared to 0
+  tests : (s : MachineState) (numbers : Place → ℕ) (q : Place) → IsHere code.slots q → Agree s.registers s.frame numbers →
+      slice_get code.instructions s.pc ≡ Some (Test (source_of q)) → Comes code args 1 s (compared_state s (numbers q) 0)
+  tests s numbers q hq a h =
+      comes_by code args (Test (source_of q)) s (compared_state s (numbers q) 0) h (reads_source code.slots s numbers a q hq (λ x. compared_to s x 0))
+
+  -- what is done after an instruction
+  done_later : (s t : MachineState) (numbers : Place → ℕ) → Comes code args 1 s t → Done t numbers → Done s numbers
+  done_later s t numbers c done = record {
+    to = done.to;
+    comes = comes_on code args 1 1 1 s t done.to (omega arith) c done.comes;
+    agree = done.agree;
+    stands = done.stands;
+  }
+
+  compare_done : (c : Condition) (right : Right) (s : MachineState) (numbers : Place → ℕ) (ps : List Place) → IsGeneral (place_at ps 0) → IsGeneral (place_at ps 1) →
+      IsRightHere code.slots right (place_at ps 2) → Agree s.registers s.frame numbers → StandAt starts code.instructions s.pc (compare_code c right ps ++ rest) →
+      Done s (place_set numbers (place_at ps 0) (truth (holds c (numbers (place_at ps 1)) (right_read right (numbers (place_at ps 2))))))
+  compare_done c right s numbers ps hp hq hr a h =
+      let x : ℕ = numbers (place_at ps 1) in
+      let y : ℕ = right_read right (numbers (place_at ps 2)) in
+      let t : MachineState = compared_state s x y in
+      done_later s t (place_set numbers (place_at ps 0) (truth (holds c x y))) (compares right s numbers (place_at ps 1) (place_at ps 2) hq hr a h.0)
+      (by_one (Set (register_of (place_at ps 0)) c) t t.compared numbers (place_at ps 0) (truth (holds c x y)) hp a
+      (writes_place t (place_at ps 0) (truth (holds c x y)) t.compared hp) h.1)
+
+  select_done : (s : MachineState) (numbers : Place → ℕ) (ps : List Place) → IsGeneral (place_at ps 0) → place_at ps 0 ≡ place_at ps 1 →
+      IsHere code.slots (place_at ps 2) → IsHere code.slots (place_at ps 3) → Agree s.registers s.frame numbers →
+      StandAt starts code.instructions s.pc (select_code ps ++ rest) →
+      Done s (place_set numbers (place_at ps 0) (cond (nat_eq (numbers (place_at ps 3)) 0) (numbers (place_at ps 2)) (numbers (place_at ps 1))))
+  select_done s numbers ps hp e hn hc a h =
+      let p : Place = place_at ps 0 in
+      let c : ℕ = numbers (place_at ps 3) in
+      let n : ℕ = numbers (place_at ps 2) in
+      let t : MachineState = compared_state s c 0 in
+      let v : ℕ = cond (nat_eq c 0) n (numbers (place_at ps 1)) in
+      done_later s t (place_set numbers p v) (tests s numbers (place_at ps 3) hc a h.0)
+      (by_one (MoveIf Equal (register_of p) (source_of (place_at ps 2))) t t.compared numbers p v hp a
+      (reads_register t numbers a p hp (λ x. with_source code.slots t (source_of (place_at ps 2))
+      (λ y. written t (register_of p) (cond (nat_eq c 0) y x) t.compared))
+      ∙ reads_source code.slots t numbers a (place_at ps 2) hn (λ y. written t (register_of p) (cond (nat_eq c 0) y (numbers p)) t.compared)
+      ∙ writes_place t p (cond (nat_eq c 0) n (numbers p)) t.compared hp
+      ∙ ap (λ (x : Place). Running (wrote t (register_of p) (cond (nat_eq c 0) n (numbers x)) t.compared)) e) h.1)
 
   constant_done : (n : ℕ) (s : MachineState) (numbers : Place → ℕ) (p : Place) → IsGeneral p → Agree s.registers s.frame numbers →
       StandAt starts code.instructions s.pc (constant_code (register_of p) n ∷ rest) → Done s (place_set numbers p n)
@@ -166,13 +220,14 @@ module _ (args : ℕ → ℕ) (starts : ℕ → ℕ) (code : CodeValue) (succs :
       (writes_place s (place_at ps 0) (args k) s.compared placed) h
   plain_done (TakeConstant to n) s ps numbers plain placed a h = constant_done n s numbers (place_at ps 0) placed a h
   plain_done (Copy to from) s ps numbers plain placed a h = copy_done s numbers (place_at ps 0) (place_at ps 1) placed.0 placed.1 a h
-  plain_done (Computation o to left right) s ps numbers plain placed a h =
-      compute_done o s numbers (place_at ps 0) (place_at ps 1) (place_at ps 2) placed.0 placed.1 placed.2 a h
-  plain_done (Comparison c to left right) s ps numbers plain placed a h =
-      compare_done c s numbers (place_at ps 0) (place_at ps 1) (place_at ps 2) placed.0 placed.1 placed.2 a h
-  plain_done GoTo s ps numbers plain placed a h = absurd plain
-  plain_done (BranchIf v) s ps numbers plain placed a h = absurd plain
-  plain_done (GiveBack v) s ps numbers plain placed a h = absurd plain
+  plain_done (Computation o to left (VReg v)) s ps numbers plain placed a h =
+      compute_done o (VReg v) s numbers (place_at ps 0) (place_at ps 1) (place_at ps 2) placed.0 placed.1 placed.2 a h
+  plain_done (Computation o to left (Given n)) s ps numbers plain placed a h =
+      compute_done o (Given n) s numbers (place_at ps 0) (place_at ps 1) (place_at ps 2) placed.0 placed.1 placed.2 a h
+  plain_done (Comparison c to left (VReg v)) s ps numbers plain placed a h = compare_done c (VReg v) s numbers ps placed.0 placed.1 placed.2 a h
+  plain_done (Comparison c to left (Given n)) s ps numbers plain placed a h = compare_done c (Given n) s numbers ps placed.0 placed.1 placed.2 a h
+  plain_done (Select to c one other) s ps numbers plain placed a h = select_done s numbers ps placed.0 placed.1 placed.2 placed.3 a h
+  plain_done o s ps numbers plain placed a h = absurd plain
 
   -- the machine has come to the start of a block
   pub record Entered (s : MachineState) (k : ℕ) (numbers : Place → ℕ) : Type 0 where
@@ -213,28 +268,46 @@ module _ (args : ℕ → ℕ) (starts : ℕ → ℕ) (code : CodeValue) (succs :
   over_edge : (s : MachineState) (read : List ℕ) (k : ℕ) (numbers : Place → ℕ) → Entered s k numbers → Left s read numbers (edge_to (length succs) (Some k))
   over_edge s read k numbers e = subst (λ (x : Bool). Left s read numbers (cond x (Some (ToSuccessor k)) None)) (sym (lt-ltb k (length succs) e.there)) e
 
-  -- a branch, once its number has been compared to 0
-  branches : (s : MachineState) (n : ℕ) (numbers : Place → ℕ) → 1 < length succs → Agree s.registers s.frame numbers →
-      StandAt starts code.instructions (s.pc + 1) (JumpIf NotEqual (slice_index succs 0) ∷ Jump (slice_index succs 1) ∷ rest) →
-      (b : Bool) → nat_eq n 0 ≡ b → Entered (compared_state s n 0) (cond b 1 0) numbers
-  branches s n numbers lt a h false e =
-      enters (JumpIf NotEqual (starts (slice_index succs 0))) (compared_state s n 0) 0 numbers (omega arith) a h.0
-      (ap (λ (x : Bool). jumped (compared_state s n 0) (cond (not x) (starts (slice_index succs 0)) (s.pc + 1 + 1))) e)
-  branches s n numbers lt a h true e =
-      let u : MachineState = jump_state (compared_state s n 0) (s.pc + 1 + 1) in
-      let acts : executed args code.slots (Some (JumpIf NotEqual (starts (slice_index succs 0)))) (compared_state s n 0) ≡ Running u =
-      ap (λ (x : Bool). jumped (compared_state s n 0) (cond (not x) (starts (slice_index succs 0)) (s.pc + 1 + 1))) e in
-      later (compared_state s n 0) u 1 numbers (comes_by code args (JumpIf NotEqual (starts (slice_index succs 0))) (compared_state s n 0) u h.0 acts)
+  -- a branch, once numbers have been compared
+  branches : (c : Condition) (s : MachineState) (x y : ℕ) (numbers : Place → ℕ) → 1 < length succs → Agree s.registers s.frame numbers →
+      StandAt starts code.instructions (s.pc + 1) (branch_code c succs ++ rest) →
+      (b : Bool) → holds c x y ≡ b → Entered (compared_state s x y) (cond b 0 1) numbers
+  branches c s x y numbers lt a h true e =
+      enters (JumpIf c (starts (slice_index succs 0))) (compared_state s x y) 0 numbers (omega arith) a h.0
+      (ap (λ (b : Bool). jumped (compared_state s x y) (cond b (starts (slice_index succs 0)) (s.pc + 1 + 1))) e)
+  branches c s x y numbers lt a h false e =
+      let u : MachineState = jump_state (compared_state s x y) (s.pc + 1 + 1) in
+      let acts : executed args code.slots (Some (JumpIf c (starts (slice_index succs 0)))) (compared_state s x y) ≡ Running u =
+      ap (λ (b : Bool). jumped (compared_state s x y) (cond b (starts (slice_index succs 0)) (s.pc + 1 + 1))) e in
+      later (compared_state s x y) u 1 numbers (comes_by code args (JumpIf c (starts (slice_index succs 0))) (compared_state s x y) u h.0 acts)
       (enters (Jump (starts (slice_index succs 1))) u 1 numbers lt a h.1.0 refl)
 
-  forks : (s : MachineState) (p : Place) (numbers : Place → ℕ) → IsGeneral p → 1 < length succs → Agree s.registers s.frame numbers →
-      StandAt starts code.instructions s.pc (branch_code (register_of p) succs ++ rest) →
+  -- from where they are compared
+  forks : (c : Condition) (s : MachineState) (x y : ℕ) (read : List ℕ) (numbers : Place → ℕ) → 1 < length succs → Agree s.registers s.frame numbers →
+      Comes code args 1 s (compared_state s x y) → StandAt starts code.instructions (s.pc + 1) (branch_code c succs ++ rest) →
+      Left s read numbers (edge_to (length succs) (Some (cond (holds c x y) 0 1)))
+  forks c s x y read numbers lt a first h =
+      over_edge s read (cond (holds c x y) 0 1) numbers
+      (later s (compared_state s x y) (cond (holds c x y) 0 1) numbers first (branches c s x y numbers lt a h (holds c x y) refl))
+
+  -- the other way round
+  turned : (b : Bool) → ◌≡◌ {A = ℕ} (cond (not b) 0 1) (cond b 1 0)
+  turned true = refl
+  turned false = refl
+
+  forks_if : (s : MachineState) (p : Place) (numbers : Place → ℕ) → IsHere code.slots p → 1 < length succs → Agree s.registers s.frame numbers →
+      StandAt starts code.instructions s.pc (branch_if_code p succs ++ rest) →
       Left s (numbers p ∷ []) numbers (edge_to (length succs) (Some (cond (nat_eq (numbers p) 0) 1 0)))
-  forks s p numbers hp lt a h =
-      let t : MachineState = compared_state s (numbers p) 0 in
-      let first : Comes code args 1 s t = comes_by code args (Test (register_of p)) s t h.0 (reads_register s numbers a p hp (λ x. compared_to s x 0)) in
-      over_edge s (numbers p ∷ []) (cond (nat_eq (numbers p) 0) 1 0) numbers
-      (later s t (cond (nat_eq (numbers p) 0) 1 0) numbers first (branches s (numbers p) numbers lt a h.1 (nat_eq (numbers p) 0) refl))
+  forks_if s p numbers hp lt a h =
+      subst (λ (k : ℕ). Left s (numbers p ∷ []) numbers (edge_to (length succs) (Some k))) (turned (nat_eq (numbers p) 0))
+      (forks NotEqual s (numbers p) 0 (numbers p ∷ []) numbers lt a (tests s numbers p hp a h.0) h.1)
+
+  forks_so : (c : Condition) (right : Right) (s : MachineState) (p q : Place) (read : List ℕ) (numbers : Place → ℕ) → IsGeneral p → IsRightHere code.slots right q →
+      1 < length succs → Agree s.registers s.frame numbers →
+      StandAt starts code.instructions s.pc (Compare (register_of p) (right_source right q) ∷ branch_code c succs ++ rest) →
+      Left s read numbers (edge_to (length succs) (Some (cond (holds c (numbers p) (right_read right (numbers q))) 0 1)))
+  forks_so c right s p q read numbers hp hq lt a h =
+      forks c s (numbers p) (right_read right (numbers q)) read numbers lt a (compares right s numbers p q hp hq a h.0) h.1
 
   returns : (s : MachineState) (p : Place) (numbers : Place → ℕ) → IsHere code.slots p → Agree s.registers s.frame numbers →
       StandAt starts code.instructions s.pc (fetched 0 p ∷ Return ∷ rest) → (j : ℕ) × (machine_run code args j s ≡ Returned (numbers p))
@@ -248,12 +321,12 @@ module _ (args : ℕ → ℕ) (starts : ℕ → ℕ) (code : CodeValue) (succs :
       Agree s.registers s.frame numbers → StandAt starts code.instructions s.pc (operation_code o ps succs ++ rest) →
       Left s (reads_at o ps numbers) (writes_at args o ps numbers) (edge_to (length succs) (way_of o (reads_at o ps numbers)))
   unfolding written_to read_by
-  last_leaves (TakeArgument to k) s ps numbers ends placed a h = absurd ends
-  last_leaves (TakeConstant to n) s ps numbers ends placed a h = absurd ends
-  last_leaves (Copy to from) s ps numbers ends placed a h = absurd ends
-  last_leaves (Computation o to left right) s ps numbers ends placed a h = absurd ends
-  last_leaves (Comparison c to left right) s ps numbers ends placed a h = absurd ends
   last_leaves GoTo s ps numbers ends placed a h =
       over_edge s [] 0 numbers (enters (Jump (starts (slice_index succs 0))) s 0 numbers ends a h.0 refl)
-  last_leaves (BranchIf v) s ps numbers ends placed a h = forks s (place_at ps 0) numbers placed ends a h
+  last_leaves (BranchIf v) s ps numbers ends placed a h = forks_if s (place_at ps 0) numbers placed ends a h
+  last_leaves (BranchIfHolds c left (VReg v)) s ps numbers ends placed a h =
+      forks_so c (VReg v) s (place_at ps 0) (place_at ps 1) (numbers (place_at ps 0) ∷ numbers (place_at ps 1) ∷ []) numbers placed.0 placed.1 ends a h
+  last_leaves (BranchIfHolds c left (Given n)) s ps numbers ends placed a h =
+      forks_so c (Given n) s (place_at ps 0) (place_at ps 1) (numbers (place_at ps 0) ∷ []) numbers placed.0 placed.1 ends a h
   last_leaves (GiveBack v) s ps numbers ends placed a h = returns s (place_at ps 0) numbers placed a h
+  last_leaves o s ps numbers ends placed a h = absurd ends

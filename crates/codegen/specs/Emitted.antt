@@ -7,13 +7,16 @@ use Rattle.regalloc2_function.specs.OutputValue.{OutputValue, allocs_of, place_a
 use Rattle.regalloc2_function.specs.Listing.{Listed, ListedInst, ListedMove, block_listing}
 use Rattle.codegen_ir.specs.declared.operation.Operation.{Operation}
 use Rattle.codegen_ir.specs.declared.operation.Operation.TheVariants.{Argument as TakeArgument, Constant as TakeConstant, Copy, Compute as Computation}
-use Rattle.codegen_ir.specs.declared.operation.Operation.TheVariants.{Compare as Comparison, Jump as GoTo, BranchIf, Return as GiveBack}
-use Rattle.codegen_ir.specs.declared.operation.Condition.TheVariants.{NotEqual}
+use Rattle.codegen_ir.specs.declared.operation.Operation.TheVariants.{Compare as Comparison, Select, Jump as GoTo, BranchIf, BranchIfHolds, Return as GiveBack}
+use Rattle.codegen_ir.specs.declared.operation.Condition.{Condition}
+use Rattle.codegen_ir.specs.declared.operation.Condition.TheVariants.{Equal, NotEqual}
+use Rattle.codegen_ir.specs.declared.operation.Right.{Right}
+use Rattle.codegen_ir.specs.declared.operation.Right.TheVariants.{VReg, Number as Given}
 use Rattle.codegen_machine.specs.declared.Source.{Source}
-use Rattle.codegen_machine.specs.declared.Source.TheVariants.{Register, Slot}
+use Rattle.codegen_machine.specs.declared.Source.TheVariants.{Register, Slot, Number}
 use Rattle.codegen_machine.specs.declared.Instruction.{Instruction}
 use Rattle.codegen_machine.specs.declared.Instruction.TheVariants.{Constant, Clear, Argument, Move, Load, Store, Compute}
-use Rattle.codegen_machine.specs.declared.Instruction.TheVariants.{Compare, Set, Test, Jump, JumpIf, Return}
+use Rattle.codegen_machine.specs.declared.Instruction.TheVariants.{Compare, Set, MoveIf, Test, Jump, JumpIf, Return}
 use Rattle.codegen_machine.specs.Machine.{CodeValue}
 
 -- what stands where no register can be named
@@ -32,6 +35,11 @@ source_of NoPlace = Register no_register
 source_of (InRegister r) = Register r.number
 source_of (InSlot n) = Slot n
 
+-- a second number, whose operand has a place unless it is given
+abbrev pub right_source : Right → Place → Source
+right_source (VReg v) p = source_of p
+right_source (Given n) p = Number n
+
 -- a register takes what stands in a place
 abbrev pub fetched : ℕ → Place → Instruction
 fetched to NoPlace = Move to no_register
@@ -48,37 +56,42 @@ move_code from (InSlot n) = Store n (register_of from)
 abbrev pub constant_code : ℕ → ℕ → Instruction
 constant_code to n = if nat_eq n 0 then Clear to else Constant to n
 
--- a branch to the first successor where a register's number isn't 0, and else to the second
-abbrev pub branch_code : ℕ → List ℕ → List Instruction
-branch_code r succs = Test r ∷ JumpIf NotEqual (slice_index succs 0) ∷ Jump (slice_index succs 1) ∷ []
+-- a branch to the first successor where the numbers last compared meet a condition, and else to the second
+abbrev pub branch_code : Condition → List ℕ → List Instruction
+branch_code c succs = JumpIf c (slice_index succs 0) ∷ Jump (slice_index succs 1) ∷ []
+
+-- where a place's number isn't 0
+abbrev pub branch_if_code : Place → List ℕ → List Instruction
+branch_if_code p succs = Test (source_of p) ∷ branch_code NotEqual succs
+
+-- a comparison, whose answer a register takes
+abbrev pub compare_code : Condition → Right → List Place → List Instruction
+compare_code c right places =
+    Compare (register_of (place_at places 1)) (right_source right (place_at places 2)) ∷ Set (register_of (place_at places 0)) c ∷ []
+
+-- one of two numbers: the register has the first, and takes the second where the condition's number is 0
+abbrev pub select_code : List Place → List Instruction
+select_code places = Test (source_of (place_at places 3)) ∷ MoveIf Equal (register_of (place_at places 0)) (source_of (place_at places 2)) ∷ []
 
 -- an operation, in the places of its operands; jumps name blocks
 abbrev pub operation_code : Operation → List Place → List ℕ → List Instruction
 operation_code (TakeArgument to k) places succs = Argument (register_of (place_at places 0)) k ∷ []
 operation_code (TakeConstant to n) places succs = constant_code (register_of (place_at places 0)) n ∷ []
 operation_code (Copy to from) places succs = fetched (register_of (place_at places 0)) (place_at places 1) ∷ []
-operation_code (Computation o to left right) places succs = Compute o (register_of (place_at places 0)) (source_of (place_at places 2)) ∷ []
-operation_code (Comparison c to left right) places succs =
-    Compare (register_of (place_at places 1)) (source_of (place_at places 2)) ∷ Set (register_of (place_at places 0)) c ∷ []
+operation_code (Computation o to left right) places succs = Compute o (register_of (place_at places 0)) (right_source right (place_at places 2)) ∷ []
+operation_code (Comparison c to left right) places succs = compare_code c right places
+operation_code (Select to c one other) places succs = select_code places
 operation_code GoTo places succs = Jump (slice_index succs 0) ∷ []
-operation_code (BranchIf v) places succs = branch_code (register_of (place_at places 0)) succs
+operation_code (BranchIf v) places succs = branch_if_code (place_at places 0) succs
+operation_code (BranchIfHolds c left right) places succs =
+    Compare (register_of (place_at places 0)) (right_source right (place_at places 1)) ∷ branch_code c succs
 operation_code (GiveBack v) places succs = fetched 0 (place_at places 0) ∷ Return ∷ []
 
 -- jumps to where blocks begin
 abbrev pub resolved : (ℕ → ℕ) → Instruction → Instruction
-resolved start (Constant to n) = Constant to n
-resolved start (Clear to) = Clear to
-resolved start (Argument to k) = Argument to k
-resolved start (Move to from) = Move to from
-resolved start (Load to k) = Load to k
-resolved start (Store k from) = Store k from
-resolved start (Compute o to from) = Compute o to from
-resolved start (Compare left right) = Compare left right
-resolved start (Set to c) = Set to c
-resolved start (Test r) = Test r
 resolved start (Jump b) = Jump (start b)
 resolved start (JumpIf c b) = JumpIf c (start b)
-resolved start Return = Return
+resolved start i = i
 
 -- the operation of that number; past the last one there is a jump
 abbrev pub operation_at : List Operation → ℕ → Operation

@@ -8,10 +8,11 @@ ghost use Rattle.regalloc2_function.specs.Views.{item_of, output_of};
 ghost use Rattle.regalloc2_function.specs.WellFormed.{BlocksFollow};
 ghost use Rattle.codegen_ir.specs.Seen.{function_of, operations};
 ghost use Rattle.codegen_machine.specs.Machine.{code_of};
-ghost use Rattle.codegen.specs.Emitted.{register_of, source_of, fetched, move_code, constant_code, branch_code, operation_code, item_code, resolved};
+ghost use Rattle.codegen.specs.Emitted.{register_of, source_of, right_source, fetched, move_code, constant_code, operation_code, item_code, resolved};
+ghost use Rattle.codegen.specs.Emitted.{branch_code, branch_if_code, compare_code, select_code};
 ghost use Rattle.codegen.specs.Emitted.{block_code, emitted};
 
-use codegen_ir::{Condition, Operation, Procedure};
+use codegen_ir::{Condition, Operation, Procedure, Right};
 use codegen_machine::{Code, Instruction, NO_REGISTER, Source};
 use regalloc2::{Allocation, Block, Function, InstOrEdit, Output};
 use std::alloc::{AllocError, Global};
@@ -37,13 +38,26 @@ fn source(place: Allocation) -> Source
     }
 }
 
+/// A second number, whose operand has a place unless it is given.
+fn right_source(right: Right, place: Allocation) -> Source
+    ensures { result ≡ right_source right place }
+{
+    match right {
+        Right::VReg(_) => source(place),
+        Right::Number(number) => Source::Number(number),
+    }
+}
+
 /// A register takes what stands in a place.
 fn fetch(to: usize, from: Allocation) -> Instruction
     ensures { result ≡ fetched to from }
 {
-    match source(from) {
-        Source::Slot(slot) => Instruction::Load { to, slot },
-        Source::Register(from) => Instruction::Move { to, from },
+    if from.is_stack() {
+        let slot = from.index();
+        Instruction::Load { to, slot }
+    } else {
+        let from = register(from);
+        Instruction::Move { to, from }
     }
 }
 
@@ -105,6 +119,66 @@ fn put(code: &mut Vec<Instruction>, instruction: Instruction) -> Result<(), Allo
     Ok(())
 }
 
+/// A comparison, and the register that takes whether its condition holds.
+fn emit_compare(
+    code: &mut Vec<Instruction>,
+    condition: Condition,
+    right: Right,
+    places: &[Allocation],
+) -> Result<(), AllocError>
+    ensures { OnOk result (code.new.items ≡ code.old.items ++ compare_code condition right places.now) }
+{
+    let (to, left) = (register(place(places, 0)), register(place(places, 1)));
+    let right = right_source(right, place(places, 2));
+    put(code, Instruction::Compare { left, right })?;
+    put(code, Instruction::Set { to, condition })
+}
+
+/// A selection: the register has the first number, and takes the second one where the condition's number is 0.
+fn emit_select(code: &mut Vec<Instruction>, places: &[Allocation]) -> Result<(), AllocError>
+    ensures { OnOk result (code.new.items ≡ code.old.items ++ select_code places.now) }
+{
+    let from = source(place(places, 3));
+    put(code, Instruction::Test { from })?;
+    let (to, from) = (register(place(places, 0)), source(place(places, 2)));
+    let condition = Condition::Equal;
+    put(
+        code,
+        Instruction::MoveIf {
+            condition,
+            to,
+            from,
+        },
+    )
+}
+
+/// A branch: to the first successor if the numbers last compared meet a condition, and else to the second.
+fn emit_branch(
+    code: &mut Vec<Instruction>,
+    condition: Condition,
+    succs: &[Block],
+) -> Result<(), AllocError>
+    ensures { OnOk result (code.new.items ≡ code.old.items ++ branch_code condition succs.now) }
+{
+    let target = successor(succs, 0);
+    put(code, Instruction::JumpIf { condition, target })?;
+    let target = successor(succs, 1);
+    put(code, Instruction::Jump { target })
+}
+
+/// A branch: to the first successor if a place's number isn't 0, and else to the second.
+fn emit_branch_if(
+    code: &mut Vec<Instruction>,
+    place: Allocation,
+    succs: &[Block],
+) -> Result<(), AllocError>
+    ensures { OnOk result (code.new.items ≡ code.old.items ++ branch_if_code place succs.now) }
+{
+    let from = source(place);
+    put(code, Instruction::Test { from })?;
+    emit_branch(code, Condition::NotEqual, succs)
+}
+
 /// What an operation is, in the places of its operands. Jumps name blocks.
 fn emit_operation(
     code: &mut Vec<Instruction>,
@@ -120,44 +194,39 @@ fn emit_operation(
         Operation::Argument { index, .. } => put(code, Instruction::Argument { to, index }),
         Operation::Constant { value, .. } => put(code, constant(to, value)),
         Operation::Copy { .. } => put(code, fetch(to, place(places, 1))),
-        Operation::Compute { operator, .. } => {
-            let from = source(place(places, 2));
+        Operation::Compute {
+            operator,
+            right,
+            ..
+        } => {
+            let from = right_source(right, place(places, 2));
             put(code, Instruction::Compute { operator, to, from })
         }
-        Operation::Compare { condition, .. } => {
-            let left = register(place(places, 1));
-            let right = source(place(places, 2));
-            put(code, Instruction::Compare { left, right })?;
-            put(code, Instruction::Set { to, condition })
-        }
+        Operation::Compare {
+            condition,
+            right,
+            ..
+        } => emit_compare(code, condition, right, places),
+        Operation::Select { .. } => emit_select(code, places),
         Operation::Jump => {
             let target = successor(succs, 0);
             put(code, Instruction::Jump { target })
         }
-        Operation::BranchIf { .. } => emit_branch(code, to, succs),
+        Operation::BranchIf { .. } => emit_branch_if(code, first, succs),
+        Operation::BranchIfHolds {
+            condition,
+            right,
+            ..
+        } => {
+            let right = right_source(right, place(places, 1));
+            put(code, Instruction::Compare { left: to, right })?;
+            emit_branch(code, condition, succs)
+        }
         Operation::Return { .. } => {
             put(code, fetch(0, first))?;
             put(code, Instruction::Return)
         }
     }
-}
-
-/// A branch: to the first successor if a register's number isn't 0, and else to the second.
-fn emit_branch(
-    code: &mut Vec<Instruction>,
-    register: usize,
-    succs: &[Block],
-) -> Result<(), AllocError>
-    ensures { OnOk result (code.new.items ≡ code.old.items ++ branch_code register succs.now) }
-{
-    put(code, Instruction::Test { register })?;
-    let jump = Instruction::JumpIf {
-        condition: Condition::NotEqual,
-        target: successor(succs, 0),
-    };
-    put(code, jump)?;
-    let target = successor(succs, 1);
-    put(code, Instruction::Jump { target })
 }
 
 /// An item of a block's listing.

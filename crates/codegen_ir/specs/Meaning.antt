@@ -7,7 +7,9 @@ use Rattle.regalloc2_function.specs.SourceRun.{arguments_at}
 use Rattle.regalloc2_values.specs.Interpreters.{number_set, passed_on}
 use Rattle.codegen_ir.specs.Numbers.{Outcome, Running, Returned, Stuck, further, computed, holds, truth}
 use Rattle.codegen_ir.specs.declared.operation.Operation.{Operation}
-use Rattle.codegen_ir.specs.declared.operation.Operation.TheVariants.{Argument, Constant, Copy, Compute, Compare, Jump, BranchIf, Return}
+use Rattle.codegen_ir.specs.declared.operation.Operation.TheVariants.{Argument, Constant, Copy, Compute, Compare, Select, Jump, BranchIf, BranchIfHolds, Return}
+use Rattle.codegen_ir.specs.declared.operation.Right.{Right}
+use Rattle.codegen_ir.specs.declared.operation.Right.TheVariants.{VReg, Number}
 
 -- where a run is, and the numbers of the virtual registers
 pub record ProcedureState : Type 0 where
@@ -29,16 +31,23 @@ entered f s k (Some b) = Running (record {
 abbrev pub along : FunctionValue → ProcedureState → ℕ → Outcome ProcedureState
 along f s k = entered f s k (slice_get (block_at f s.at.block).succs k)
 
+-- a second number, where virtual registers have these
+abbrev pub right_number : (VirtualRegister → ℕ) → Right → ℕ
+right_number numbers (VReg v) = numbers v
+right_number numbers (Number n) = n
+
 -- what a line does; the arguments are given by their numbers
 abbrev pub done : FunctionValue → (ℕ → ℕ) → Option Operation → ProcedureState → Outcome ProcedureState
 done f args None s = Stuck
 done f args (Some (Argument to k)) s = onward s to (args k)
 done f args (Some (Constant to n)) s = onward s to n
 done f args (Some (Copy to from)) s = onward s to (s.numbers from)
-done f args (Some (Compute o to left right)) s = onward s to (computed o (s.numbers left) (s.numbers right))
-done f args (Some (Compare c to left right)) s = onward s to (truth (holds c (s.numbers left) (s.numbers right)))
+done f args (Some (Compute o to left right)) s = onward s to (computed o (s.numbers left) (right_number s.numbers right))
+done f args (Some (Compare c to left right)) s = onward s to (truth (holds c (s.numbers left) (right_number s.numbers right)))
+done f args (Some (Select to c one other)) s = onward s to (if nat_eq (s.numbers c) 0 then s.numbers other else s.numbers one)
 done f args (Some Jump) s = along f s 0
 done f args (Some (BranchIf v)) s = along f s (if nat_eq (s.numbers v) 0 then 1 else 0)
+done f args (Some (BranchIfHolds c left right)) s = along f s (if holds c (s.numbers left) (right_number s.numbers right) then 0 else 1)
 done f args (Some (Return v)) s = Returned (s.numbers v)
 
 -- one step: that of the line at which the run is

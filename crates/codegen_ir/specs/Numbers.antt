@@ -1,15 +1,23 @@
 -- Whole numbers of 64 bits: what operators compute of them, and which conditions hold.
-use Rattle.std.specs.Prelude.{ℕ, ◌+◌, ◌-◌, ◌*◌, ◌%◌, ◌^◌, Bool, not, nat_eq, nat_lt, nat_le, if◌then◌else◌}
+use Rattle.std.specs.Prelude.{ℕ, ◌+◌, ◌-◌, ◌*◌, ◌%◌, ◌^◌, Bool, not, nat_eq, nat_lt, nat_le, if◌then◌else◌, bit_and, bit_or, bit_xor}
 use Rattle.codegen_ir.specs.declared.operation.Operator.{Operator}
-use Rattle.codegen_ir.specs.declared.operation.Operator.TheVariants.{Add, Sub, Mul}
+use Rattle.codegen_ir.specs.declared.operation.Operator.TheVariants.{Add, Sub, Mul, And, Or, Xor}
 use Rattle.codegen_ir.specs.declared.operation.Condition.{Condition}
 use Rattle.codegen_ir.specs.declared.operation.Condition.TheVariants.{Equal, NotEqual, Less, LessOrEqual, Greater, GreaterOrEqual}
+use Rattle.codegen_ir.specs.declared.operation.Condition.TheVariants.{SignedLess, SignedLessOrEqual, SignedGreater, SignedGreaterOrEqual}
 
 -- what an operator computes, modulo 2^64
 abbrev pub computed : Operator → ℕ → ℕ → ℕ
 computed Add a b = (a + b) % 2 ^ 64
 computed Sub a b = (a + (2 ^ 64 - b)) % 2 ^ 64
 computed Mul a b = (a * b) % 2 ^ 64
+computed And a b = bit_and a b
+computed Or a b = bit_or a b
+computed Xor a b = bit_xor a b
+
+-- a number's rank among those with sign: from 2^63 on they come first
+abbrev pub signed_rank : ℕ → ℕ
+signed_rank a = (a + 2 ^ 63) % 2 ^ 64
 
 -- whether a condition holds
 abbrev pub holds : Condition → ℕ → ℕ → Bool
@@ -19,6 +27,10 @@ holds Less a b = nat_lt a b
 holds LessOrEqual a b = nat_le a b
 holds Greater a b = nat_lt b a
 holds GreaterOrEqual a b = nat_le b a
+holds SignedLess a b = nat_lt (signed_rank a) (signed_rank b)
+holds SignedLessOrEqual a b = nat_le (signed_rank a) (signed_rank b)
+holds SignedGreater a b = nat_lt (signed_rank b) (signed_rank a)
+holds SignedGreaterOrEqual a b = nat_le (signed_rank b) (signed_rank a)
 
 -- 1 for what holds, 0 for what doesn't
 abbrev pub truth : Bool → ℕ

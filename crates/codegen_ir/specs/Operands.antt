@@ -7,7 +7,9 @@ use Rattle.regalloc2_names.specs.declared.OperandConstraint.TheVariants.{Any, Re
 use Rattle.regalloc2_names.specs.declared.OperandKind.TheVariants.{Def, Use}
 use Rattle.regalloc2_names.specs.declared.OperandPos.TheVariants.{Early, Late}
 use Rattle.codegen_ir.specs.declared.operation.Operation.{Operation}
-use Rattle.codegen_ir.specs.declared.operation.Operation.TheVariants.{Argument, Constant, Copy, Compute, Compare, Jump, BranchIf, Return}
+use Rattle.codegen_ir.specs.declared.operation.Operation.TheVariants.{Argument, Constant, Copy, Compute, Compare, Select, Jump, BranchIf, BranchIfHolds, Return}
+use Rattle.codegen_ir.specs.declared.operation.Right.{Right}
+use Rattle.codegen_ir.specs.declared.operation.Right.TheVariants.{VReg, Number}
 
 -- a definition at the end of the instruction, and a use at its beginning
 abbrev pub def_in : OperandConstraint → VirtualRegister → OperandValue
@@ -16,34 +18,31 @@ def_in c v = record { vreg = v; constraint = c; kind = Def; position = Late }
 abbrev pub use_in : OperandConstraint → VirtualRegister → OperandValue
 use_in c v = record { vreg = v; constraint = c; kind = Use; position = Early }
 
+-- a second number is read from anywhere, unless it is given
+abbrev pub right_in : Right → List OperandValue
+right_in (VReg v) = use_in Any v ∷ []
+right_in (Number n) = []
+
 abbrev pub operands_of : Operation → List OperandValue
 operands_of (Argument to k) = def_in Reg to ∷ []
 operands_of (Constant to n) = def_in Reg to ∷ []
 operands_of (Copy to from) = def_in Reg to ∷ use_in Any from ∷ []
-operands_of (Compute o to left right) = def_in (Reuse 1) to ∷ use_in Reg left ∷ use_in Any right ∷ []
-operands_of (Compare c to left right) = def_in Reg to ∷ use_in Reg left ∷ use_in Any right ∷ []
+operands_of (Compute o to left right) = def_in (Reuse 1) to ∷ use_in Reg left ∷ right_in right
+operands_of (Compare c to left right) = def_in Reg to ∷ use_in Reg left ∷ right_in right
+operands_of (Select to c one other) = def_in (Reuse 1) to ∷ use_in Reg one ∷ use_in Any other ∷ use_in Any c ∷ []
 operands_of Jump = []
-operands_of (BranchIf v) = use_in Reg v ∷ []
+operands_of (BranchIf v) = use_in Any v ∷ []
+operands_of (BranchIfHolds c left right) = use_in Reg left ∷ right_in right
 operands_of (Return v) = use_in Any v ∷ []
 
 -- the operations that go on to a successor
 abbrev pub is_jump : Operation → Bool
-is_jump (Argument to k) = false
-is_jump (Constant to n) = false
-is_jump (Copy to from) = false
-is_jump (Compute o to left right) = false
-is_jump (Compare c to left right) = false
 is_jump Jump = true
 is_jump (BranchIf v) = true
-is_jump (Return v) = false
+is_jump (BranchIfHolds c left right) = true
+is_jump o = false
 
 -- the operation that returns
 abbrev pub is_return : Operation → Bool
-is_return (Argument to k) = false
-is_return (Constant to n) = false
-is_return (Copy to from) = false
-is_return (Compute o to left right) = false
-is_return (Compare c to left right) = false
-is_return Jump = false
-is_return (BranchIf v) = false
 is_return (Return v) = true
+is_return o = false

@@ -1,10 +1,10 @@
 //! What a function's lines do.
 
-ghost use Rattle.std.specs.Prelude.{◌≡◌, false, IfOk};
+ghost use Rattle.std.specs.Prelude.{◌≡◌, ◌++◌, false, IfOk, OnOk};
 ghost use Rattle.std.proofs.Props.{props};
 ghost use Rattle.regalloc2_names.specs.Register.{Register};
 ghost use Rattle.regalloc2_names.specs.RegisterSet.{has_register};
-ghost use Rattle.codegen_ir.specs.Operands.{operands_of};
+ghost use Rattle.codegen_ir.specs.Operands.{operands_of, right_in};
 ghost use Rattle.codegen_ir.specs.Once.{operands-once};
 
 use regalloc2::{Operand, PRegSet, VReg};
@@ -19,9 +19,17 @@ pub enum Operator {
     Sub,
     /// Their product.
     Mul,
+    /// The bits that both have.
+    And,
+    /// The bits that one of them has, or both.
+    Or,
+    /// The bits that one of them has, and not the other.
+    Xor,
 }
 
 /// How a number compares to another one.
+///
+/// The signed conditions take the numbers from 2^63 on for those less 2^64.
 #[derive(Clone, Copy, Debug, PartialEq, Eq)]
 pub enum Condition {
     /// They are equal.
@@ -36,6 +44,23 @@ pub enum Condition {
     Greater,
     /// It is greater or equal.
     GreaterOrEqual,
+    /// It is less, with sign.
+    SignedLess,
+    /// It is less or equal, with sign.
+    SignedLessOrEqual,
+    /// It is greater, with sign.
+    SignedGreater,
+    /// It is greater or equal, with sign.
+    SignedGreaterOrEqual,
+}
+
+/// The second number of an operation.
+#[derive(Clone, Copy)]
+pub enum Right {
+    /// That of a virtual register.
+    VReg(VReg),
+    /// This one, below 2^31: an instruction of x86-64 extends greater ones with their sign.
+    Number(u32),
 }
 
 /// What a line does.
@@ -62,7 +87,7 @@ pub enum Operation {
         /// Of what.
         from: VReg,
     },
-    /// A sum, difference or product.
+    /// A sum, difference or product, or bits.
     Compute {
         /// Which one.
         operator: Operator,
@@ -71,7 +96,7 @@ pub enum Operation {
         /// The first number.
         left: VReg,
         /// The second number.
-        right: VReg,
+        right: Right,
     },
     /// 1 where a condition holds, and else 0.
     Compare {
@@ -82,7 +107,18 @@ pub enum Operation {
         /// The first number.
         left: VReg,
         /// The second number.
-        right: VReg,
+        right: Right,
+    },
+    /// One of two numbers.
+    Select {
+        /// What takes it.
+        to: VReg,
+        /// The number that decides.
+        condition: VReg,
+        /// The number that is taken where that isn't 0.
+        yes: VReg,
+        /// The number that is taken where it is.
+        no: VReg,
     },
     /// Goes to the only successor of its block.
     Jump,
@@ -90,6 +126,15 @@ pub enum Operation {
     BranchIf {
         /// The number.
         value: VReg,
+    },
+    /// Goes to the first successor where a condition holds, and else to the second.
+    BranchIfHolds {
+        /// The condition.
+        condition: Condition,
+        /// The first number.
+        left: VReg,
+        /// The second number.
+        right: Right,
     },
     /// Ends with a number.
     Return {
@@ -111,6 +156,28 @@ pub struct Line {
     pub ghost none: { (r : Register) → has_register clobbers r ≡ false } by { Prim.hlevel props },
 }
 
+/// The operand of a second number, which is read from anywhere; a number has none.
+fn add_right(operands: &mut Vec<Operand>, right: Right) -> Result<(), AllocError>
+    ensures { OnOk result (operands.new.items ≡ operands.old.items ++ right_in right) }
+{
+    match right {
+        Right::VReg(vreg) => {
+            operands.push(Operand::any_use(vreg))?;
+            Ok(())
+        }
+        Right::Number(_) => Ok(()),
+    }
+}
+
+/// The operands of an operation that takes a second number: the others come first.
+fn and_right(alloc: Global, first: &[Operand], right: Right) -> Result<Vec<Operand>, AllocError>
+    ensures { IfOk result (λ v. v.items ≡ first.now ++ right_in right) }
+{
+    let mut operands = first.to_vec(alloc)?;
+    add_right(&mut operands, right)?;
+    Ok(operands)
+}
+
 /// What an operation reads and writes. The machine computes in a register, where one number was, and takes the other from anywhere.
 fn operands(alloc: Global, operation: &Operation) -> Result<Vec<Operand>, AllocError>
     ensures { IfOk result (λ v. v.items ≡ operands_of operation.now) }
@@ -129,7 +196,7 @@ fn operands(alloc: Global, operation: &Operation) -> Result<Vec<Operand>, AllocE
             ..
         } => {
             let to = Operand::reg_reuse_def(to, 1);
-            [to, Operand::reg_use(left), Operand::any_use(right)].to_vec(alloc)
+            and_right(alloc, &[to, Operand::reg_use(left)], right)
         }
         Operation::Compare {
             to,
@@ -138,11 +205,25 @@ fn operands(alloc: Global, operation: &Operation) -> Result<Vec<Operand>, AllocE
             ..
         } => {
             let to = Operand::reg_def(to);
-            [to, Operand::reg_use(left), Operand::any_use(right)].to_vec(alloc)
+            and_right(alloc, &[to, Operand::reg_use(left)], right)
+        }
+        Operation::Select {
+            to,
+            condition,
+            yes,
+            no,
+        } => {
+            let to = Operand::reg_reuse_def(to, 1);
+            let (no, condition) = (Operand::any_use(no), Operand::any_use(condition));
+            [to, Operand::reg_use(yes), no, condition].to_vec(alloc)
         }
         Operation::Jump => Ok(Vec::new(alloc)),
-        Operation::BranchIf { value } => [Operand::reg_use(value)].to_vec(alloc),
-        Operation::Return { value } => [Operand::any_use(value)].to_vec(alloc),
+        Operation::BranchIfHolds { left, right, .. } => {
+            and_right(alloc, &[Operand::reg_use(left)], right)
+        }
+        Operation::BranchIf { value } | Operation::Return { value } => {
+            [Operand::any_use(value)].to_vec(alloc)
+        }
     }
 }
 

@@ -2,9 +2,9 @@
 
 ghost use Rattle.std.specs.Prelude.{◌≡◌, ◌⊎◌, ◌<◌, ◌^◌, ◌-◌, IfOk, IfErr, IsTrue, All, map, vec_len};
 ghost use Rattle.std.specs.List.{list_all};
-ghost use Rattle.codegen_ir.specs.Successors.{has_successors, operations_of, wanted_by, IsMalformed};
+ghost use Rattle.codegen_ir.specs.Successors.{has_small_number, has_successors, knows_registers, operations_of, wanted_by, IsMalformed};
 
-use super::operation::{Line, Operation};
+use super::operation::{Line, Operation, Right};
 use regalloc2::{Block, Function, Inst, InstRange, Operand, PRegSet, RegClass, VReg};
 use std::error::Error;
 use std::fmt;
@@ -36,6 +36,8 @@ pub struct Procedure {
     pub ghost few_parts: { vec_len parts < 2 ^ 32 - 1 },
     pub ghost few_lines: { vec_len lines < 2 ^ 30 },
     pub ghost few_vregs: { num_vregs < 2 ^ 30 },
+    pub ghost known: { IsTrue (list_all (knows_registers num_vregs) lines.items) },
+    pub ghost small: { IsTrue (list_all has_small_number lines.items) },
     pub ghost successors: { IsTrue (list_all (has_successors (operations_of lines.items)) parts.items) },
 }
 
@@ -46,6 +48,10 @@ pub enum Malformed {
     TooLarge,
     /// A block ends with a branch to a successor that it doesn't have.
     MissingSuccessor,
+    /// A line names a virtual register whose number isn't below the function's.
+    UnknownRegister,
+    /// A line has a second number of 2^31 or more.
+    LargeNumber,
 }
 
 impl fmt::Display for Malformed {
@@ -53,6 +59,13 @@ impl fmt::Display for Malformed {
         match self {
             Malformed::TooLarge => write!(f, "the function is too large"),
             Malformed::MissingSuccessor => write!(f, "a block has too few successors"),
+            Malformed::UnknownRegister => {
+                write!(
+                    f,
+                    "a line names a virtual register that the function doesn't have"
+                )
+            }
+            Malformed::LargeNumber => write!(f, "a line has a number of 2^31 or more"),
         }
     }
 }
@@ -65,7 +78,7 @@ fn successors_wanted(operation: Operation) -> usize
 {
     match operation {
         Operation::Jump => 1,
-        Operation::BranchIf { .. } => 2,
+        Operation::BranchIf { .. } | Operation::BranchIfHolds { .. } => 2,
         _ => 0,
     }
 }
@@ -88,8 +101,50 @@ fn all_have_them(lines: &[Line], parts: &[Part]) -> bool
     parts.iter().all(|part| has_them(lines, part))
 }
 
+/// Whether a line's virtual registers have numbers below `num_vregs`.
+fn knows_registers(line: &Line, num_vregs: usize) -> bool
+    ensures { result ≡ knows_registers num_vregs line.now }
+{
+    line.operands
+        .iter()
+        .all(|operand| operand.vreg().vreg() < num_vregs)
+}
+
+/// Whether a line's second number is below 2^31, if it is given.
+fn has_small_number(line: &Line) -> bool
+    ensures { result ≡ has_small_number line.now }
+{
+    match line.operation {
+        Operation::Compute { right, .. }
+        | Operation::Compare { right, .. }
+        | Operation::BranchIfHolds { right, .. } => match right {
+            Right::VReg(_) => true,
+            Right::Number(number) => number < 1 << 31,
+        },
+        _ => true,
+    }
+}
+
+/// Whether each line's virtual registers have numbers below `num_vregs`.
+fn all_know_registers(lines: &[Line], num_vregs: usize) -> bool
+    ensures { result ≡ list_all (knows_registers num_vregs) lines.now }
+{
+    lines.iter().all(|line| knows_registers(line, num_vregs))
+}
+
+/// Whether each line's second number is below 2^31, if it is given.
+fn all_are_small(lines: &[Line]) -> bool
+    ensures { result ≡ list_all has_small_number lines.now }
+{
+    lines.iter().all(|line| has_small_number(line))
+}
+
 impl Procedure {
-    /// The function of these blocks and lines, unless they are too many or a branch lacks a successor.
+    /// The function of these blocks and lines.
+    ///
+    /// # Errors
+    ///
+    /// The first that holds: `TooLarge`, `MissingSuccessor`, `UnknownRegister`, `LargeNumber`.
     pub fn new(parts: Vec<Part>, lines: Vec<Line>, num_vregs: usize) -> Result<Procedure, Malformed>
         ensures ok { IfOk result (λ p. (p.parts ≡ parts) × (p.lines ≡ lines) × (p.num_vregs ≡ num_vregs)) }
         ensures err { IfErr result (IsMalformed parts.items lines.items num_vregs) }
@@ -100,6 +155,12 @@ impl Procedure {
         }
         if !all_have_them(&lines, &parts) {
             return Err(Malformed::MissingSuccessor);
+        }
+        if !all_know_registers(&lines, num_vregs) {
+            return Err(Malformed::UnknownRegister);
+        }
+        if !all_are_small(&lines) {
+            return Err(Malformed::LargeNumber);
         }
         Ok(Procedure {
             parts,
@@ -155,7 +216,7 @@ impl Function for Procedure {
 
     fn is_branch(&self, inst: Inst) -> bool {
         match self.lines[inst.index()].operation {
-            Operation::Jump | Operation::BranchIf { .. } => true,
+            Operation::Jump | Operation::BranchIf { .. } | Operation::BranchIfHolds { .. } => true,
             _ => false,
         }
     }

@@ -3,10 +3,10 @@
 use Rattle.std.specs.Prelude.{ℕ, zero, suc, ◌+◌, Bool, ◌&&◌, not, nat_eq, nat_lt, if◌then◌else◌, List, slice_get, Option, None, Some}
 use Rattle.codegen_ir.specs.Numbers.{Outcome, Running, Returned, Stuck, further, computed, holds, truth, put}
 use Rattle.codegen_machine.specs.declared.Source.{Source}
-use Rattle.codegen_machine.specs.declared.Source.TheVariants.{Register, Slot}
+use Rattle.codegen_machine.specs.declared.Source.TheVariants.{Register, Slot, Number}
 use Rattle.codegen_machine.specs.declared.Instruction.{Instruction}
 use Rattle.codegen_machine.specs.declared.Instruction.TheVariants.{Constant, Clear, Argument, Move, Load, Store, Compute}
-use Rattle.codegen_machine.specs.declared.Instruction.TheVariants.{Compare, Set, Test, Jump, JumpIf, Return}
+use Rattle.codegen_machine.specs.declared.Instruction.TheVariants.{Compare, Set, MoveIf, Test, Jump, JumpIf, Return}
 use Rattle.codegen_machine.specs.declared.Code.{Code}
 
 -- where the machine is, the numbers of its registers and slots, and those last compared, unless they are forgotten
@@ -20,7 +20,7 @@ pub record MachineState : Type 0 where
 abbrev pub is_general : ℕ → Bool
 is_general r = nat_lt r 16 && not (nat_eq r 4) && not (nat_eq r 7)
 
--- goes on with the number of a register, of a slot of a frame of so many, or of one of the two; or with the numbers last compared
+-- goes on with the number of a register, of a slot of a frame of so many, or from wherever it is read; or with the numbers last compared
 abbrev pub with_register : MachineState → ℕ → (ℕ → Outcome MachineState) → Outcome MachineState
 with_register s r go = if is_general r then go (s.registers r) else Stuck
 
@@ -30,6 +30,7 @@ with_slot slots s k go = if nat_lt k slots then go (s.frame k) else Stuck
 abbrev pub with_source : ℕ → MachineState → Source → (ℕ → Outcome MachineState) → Outcome MachineState
 with_source slots s (Register r) go = with_register s r go
 with_source slots s (Slot k) go = with_slot slots s k go
+with_source slots s (Number n) go = go n
 
 abbrev pub with_compared : Option (ℕ × ℕ) → (ℕ → ℕ → Outcome MachineState) → Outcome MachineState
 with_compared None go = Stuck
@@ -63,7 +64,9 @@ executed args slots (Some (Store k from)) s = with_register s from (λ n. stored
 executed args slots (Some (Compute o to from)) s = with_register s to (λ a. with_source slots s from (λ b. written s to (computed o a b) None))
 executed args slots (Some (Compare left right)) s = with_register s left (λ a. with_source slots s right (λ b. compared_to s a b))
 executed args slots (Some (Set to c)) s = with_compared s.compared (λ a b. written s to (truth (holds c a b)) s.compared)
-executed args slots (Some (Test r)) s = with_register s r (λ n. compared_to s n 0)
+executed args slots (Some (MoveIf c to from)) s = with_compared s.compared (λ a b. with_register s to (λ x. with_source slots s from
+    (λ y. written s to (if holds c a b then y else x) s.compared)))
+executed args slots (Some (Test from)) s = with_source slots s from (λ n. compared_to s n 0)
 executed args slots (Some (Jump target)) s = jumped s target
 executed args slots (Some (JumpIf c target)) s = with_compared s.compared (λ a b. jumped s (if holds c a b then target else s.pc + 1))
 executed args slots (Some Return) s = Returned (s.registers 0)

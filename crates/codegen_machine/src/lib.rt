@@ -9,13 +9,16 @@ use codegen_ir::{Condition, Operator};
 /// What stands in the place of a register where none can be named. The machine has no such register, and stops at it.
 pub const NO_REGISTER: usize = 16;
 
-/// A register or a slot of the frame, by its number.
+/// Where a number is read: a register or a slot of the frame, by its number, or the instruction itself.
 #[derive(Clone, Copy, Debug, PartialEq, Eq)]
 pub enum Source {
     /// A register.
     Register(usize),
     /// A slot.
     Slot(usize),
+    /// The instruction, which has the number. The processor takes it where an instruction computes with a register or compares one to
+    /// it, and below 2^31.
+    Number(u32),
 }
 
 /// An instruction. Registers and slots are named by their numbers; a target is the number of an instruction.
@@ -84,10 +87,19 @@ pub enum Instruction {
         /// The condition.
         condition: Condition,
     },
-    /// Compares a register's number to 0.
-    Test {
+    /// Puts a number into a register if the numbers last compared meet a condition.
+    MoveIf {
+        /// The condition.
+        condition: Condition,
         /// The register.
-        register: usize,
+        to: usize,
+        /// The number.
+        from: Source,
+    },
+    /// Compares a number to 0.
+    Test {
+        /// The number.
+        from: Source,
     },
     /// Goes to an instruction.
     Jump {

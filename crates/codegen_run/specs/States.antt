@@ -7,7 +7,7 @@ use Rattle.codegen_ir.specs.Meaning.{ProcedureState}
 use Rattle.codegen_ir.specs.Numbers.{Outcome}
 use Rattle.codegen_machine.specs.Machine.{MachineState, is_general}
 use Rattle.codegen_machine.specs.declared.Source.{Source}
-use Rattle.codegen_machine.specs.declared.Source.TheVariants.{Register, Slot}
+use Rattle.codegen_machine.specs.declared.Source.TheVariants.{Register, Slot, Number}
 use Rattle.codegen_run.specs.Runs.{stands}
 use Rattle.codegen_run.specs.declared.machine.Machine.{Machine}
 use Rattle.codegen_run.specs.declared.procedure.State.{State}
@@ -17,10 +17,11 @@ use Rattle.codegen_run.specs.declared.standing.Standing.TheVariants.{Stuck}
 abbrev pub machine_of : Machine → MachineState
 machine_of m = record { pc = m.pc; registers = λ r. slice_index m.registers r; frame = λ k. slice_index m.frame.items k; compared = m.compared }
 
--- the number of a register for numbers, or of a slot of a frame of so many
+-- the number of a register for numbers, of a slot of a frame of so many, or the one that is given
 abbrev pub source_number : ℕ → MachineState → Source → Option ℕ
 source_number slots s (Register r) = if is_general r then Some (s.registers r) else None
 source_number slots s (Slot k) = if nat_lt k slots then Some (s.frame k) else None
+source_number slots s (Number n) = Some n
 
 -- what was made is that outcome, stuck where there is no answer, and the frame is as long as before
 abbrev pub Makes : Outcome MachineState → Machine → Machine → Option Standing → Type 0

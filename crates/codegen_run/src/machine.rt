@@ -48,13 +48,14 @@ impl Machine {
         self.frame.get(slot).copied()
     }
 
-    /// The number of one of the two.
+    /// The number that is read from there.
     fn source(&self, source: Source) -> Option<u64>
         ensures { result ≡ source_number (vec_len self.now.frame) (machine_of self.now) source }
     {
         match source {
             Source::Register(register) => self.register(register),
             Source::Slot(slot) => self.slot(slot),
+            Source::Number(number) => Some(u64::from(number)),
         }
     }
 
@@ -142,6 +143,25 @@ impl Machine {
         self.write(to, number, compared)
     }
 
+    /// Puts a number into a register where a condition holds.
+    fn move_if(&mut self, condition: Condition, to: usize, from: Source) -> Option<Standing>
+        requires room { self.old.pc + 1 < 2 ^ 64 }
+        ensures { let s = machine_of self.old in Makes (with_compared s.compared (λ a b. with_register s to (λ x.
+            with_source (vec_len self.old.frame) s from (λ y. written s to (if holds condition a b then y else x) s.compared))))
+            self.old self.new result }
+    {
+        let compared = self.compared;
+        let (left, right) = compared?;
+        let kept = self.register(to)?;
+        let taken = self.source(from)?;
+        let number = if does_hold(condition, left, right) {
+            taken
+        } else {
+            kept
+        };
+        self.write(to, number, compared)
+    }
+
     /// Jumps where a condition holds.
     fn jump_if(&mut self, condition: Condition, target: usize) -> Option<Standing>
         requires room { self.old.pc + 1 < 2 ^ 64 }
@@ -176,8 +196,13 @@ impl Machine {
             Instruction::Compute { operator, to, from } => self.compute(operator, to, from),
             Instruction::Compare { left, right } => self.compare_to(left, right),
             Instruction::Set { to, condition } => self.set(to, condition),
-            Instruction::Test { register } => {
-                let number = self.register(register)?;
+            Instruction::MoveIf {
+                condition,
+                to,
+                from,
+            } => self.move_if(condition, to, from),
+            Instruction::Test { from } => {
+                let number = self.source(from)?;
                 self.compare(number, 0)
             }
             Instruction::Jump { target } => {

@@ -1,7 +1,7 @@
 //! What is computed of numbers of 64 bits.
 
 ghost use Rattle.std.specs.Prelude.{◌≡◌, slice_index};
-ghost use Rattle.codegen_ir.specs.Numbers.{computed, holds};
+ghost use Rattle.codegen_ir.specs.Numbers.{computed, holds, signed_rank};
 ghost use Rattle.codegen_run.specs.Runs.{arguments_of};
 
 use codegen_ir::{Condition, Operator};
@@ -14,7 +14,17 @@ pub fn compute(operator: Operator, left: u64, right: u64) -> u64
         Operator::Add => left.wrapping_add(right),
         Operator::Sub => left.wrapping_sub(right),
         Operator::Mul => left.wrapping_mul(right),
+        Operator::And => left & right,
+        Operator::Or => left | right,
+        Operator::Xor => left ^ right,
     }
+}
+
+/// A number's rank among those with sign: from 2^63 on they come first.
+fn signed_rank(number: u64) -> u64
+    ensures { result ≡ signed_rank number }
+{
+    number.wrapping_add(1 << 63)
 }
 
 /// Whether a condition holds.
@@ -28,6 +38,10 @@ pub fn does_hold(condition: Condition, left: u64, right: u64) -> bool
         Condition::LessOrEqual => left <= right,
         Condition::Greater => left > right,
         Condition::GreaterOrEqual => left >= right,
+        Condition::SignedLess => signed_rank(left) < signed_rank(right),
+        Condition::SignedLessOrEqual => signed_rank(left) <= signed_rank(right),
+        Condition::SignedGreater => signed_rank(left) > signed_rank(right),
+        Condition::SignedGreaterOrEqual => signed_rank(left) >= signed_rank(right),
     }
 }
 

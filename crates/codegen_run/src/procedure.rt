@@ -5,14 +5,14 @@ ghost use Rattle.regalloc2_values.specs.Interpreters.{number_set, passed_on};
 ghost use Rattle.regalloc2_function.specs.FunctionValue.{block_at};
 ghost use Rattle.regalloc2_function.specs.Path.{first_of};
 ghost use Rattle.regalloc2_function.specs.SourceRun.{arguments_at};
-ghost use Rattle.codegen_ir.specs.Meaning.{along, onward, procedure_run, procedure_step};
+ghost use Rattle.codegen_ir.specs.Meaning.{along, onward, right_number, procedure_run, procedure_step};
 ghost use Rattle.codegen_ir.specs.Seen.{function_of, operations};
 ghost use Rattle.codegen_run.specs.Runs.{arguments_of, first_state, standing_of, stands};
 ghost use Rattle.codegen_run.specs.States.{numbers_of, state_of};
 
 use super::numbers::{argument, compute, does_hold};
 use super::standing::Standing;
-use codegen_ir::{Operation, Procedure};
+use codegen_ir::{Operation, Procedure, Right};
 use regalloc2::{Block, Function, VReg};
 use std::alloc::{AllocError, Global};
 use std::collections::HashMap;
@@ -112,6 +112,16 @@ impl State {
         number_of(&self.numbers, vreg)
     }
 
+    /// A second number.
+    fn right(&self, right: Right) -> u64
+        ensures { result ≡ right_number (numbers_of self.now.numbers) right }
+    {
+        match right {
+            Right::VReg(vreg) => self.number(vreg),
+            Right::Number(number) => u64::from(number),
+        }
+    }
+
     /// Goes on with the next line of the block, where a virtual register has been written.
     fn write(&mut self, to: VReg, number: u64) -> Result<Standing, AllocError>
         requires room { self.old.inst + 1 < 2 ^ 64 }
@@ -177,7 +187,7 @@ impl State {
                 left,
                 right,
             } => {
-                let number = compute(operator, self.number(left), self.number(right));
+                let number = compute(operator, self.number(left), self.right(right));
                 self.write(to, number)
             }
             Operation::Compare {
@@ -186,13 +196,31 @@ impl State {
                 left,
                 right,
             } => {
-                let holds = does_hold(condition, self.number(left), self.number(right));
+                let holds = does_hold(condition, self.number(left), self.right(right));
                 self.write(to, u64::from(holds))
+            }
+            Operation::Select {
+                to,
+                condition,
+                yes,
+                no,
+            } => {
+                let taken = if self.number(condition) == 0 { no } else { yes };
+                let number = self.number(taken);
+                self.write(to, number)
             }
             Operation::Jump => self.enter(alloc, procedure, 0),
             Operation::BranchIf { value } => {
                 let position = usize::from(self.number(value) == 0);
                 self.enter(alloc, procedure, position)
+            }
+            Operation::BranchIfHolds {
+                condition,
+                left,
+                right,
+            } => {
+                let holds = does_hold(condition, self.number(left), self.right(right));
+                self.enter(alloc, procedure, usize::from(!holds))
             }
             Operation::Return { value } => Ok(Standing::Returned(self.number(value))),
         }

@@ -2,11 +2,12 @@
 use Rattle.std.specs.Prelude.{ℕ, ◌+◌, codes, List, [], ◌∷◌, ◌++◌, slice_index_or}
 use Rattle.std.specs.Fmt.{decimal}
 use Rattle.codegen_ir.specs.declared.operation.Operator.{Operator}
-use Rattle.codegen_ir.specs.declared.operation.Operator.TheVariants.{Add, Sub, Mul}
+use Rattle.codegen_ir.specs.declared.operation.Operator.TheVariants.{Add, Sub, Mul, And, Or, Xor}
 use Rattle.codegen_ir.specs.declared.operation.Condition.{Condition}
 use Rattle.codegen_ir.specs.declared.operation.Condition.TheVariants.{Equal, NotEqual, Less, LessOrEqual, Greater, GreaterOrEqual}
+use Rattle.codegen_ir.specs.declared.operation.Condition.TheVariants.{SignedLess, SignedLessOrEqual, SignedGreater, SignedGreaterOrEqual}
 use Rattle.codegen_machine.specs.declared.Source.{Source}
-use Rattle.codegen_machine.specs.declared.Source.TheVariants.{Register, Slot}
+use Rattle.codegen_machine.specs.declared.Source.TheVariants.{Register, Slot, Number}
 use Rattle.codegen_machine.specs.declared.Instruction.{Instruction}
 use Rattle.codegen_machine.specs.declared.Instruction.TheVariants as variant
 use Rattle.codegen_machine.specs.declared.Code.{Code}
@@ -31,8 +32,11 @@ abbrev pub operator_name : Operator → List ℕ
 operator_name Add = codes "addq"
 operator_name Sub = codes "subq"
 operator_name Mul = codes "imulq"
+operator_name And = codes "andq"
+operator_name Or = codes "orq"
+operator_name Xor = codes "xorq"
 
--- the conditions of numbers without sign
+-- the conditions: above and below for numbers without sign, greater and less for those with sign
 abbrev pub condition_letters : Condition → List ℕ
 condition_letters Equal = codes "e"
 condition_letters NotEqual = codes "ne"
@@ -40,6 +44,10 @@ condition_letters Less = codes "b"
 condition_letters LessOrEqual = codes "be"
 condition_letters Greater = codes "a"
 condition_letters GreaterOrEqual = codes "ae"
+condition_letters SignedLess = codes "l"
+condition_letters SignedLessOrEqual = codes "le"
+condition_letters SignedGreater = codes "g"
+condition_letters SignedGreaterOrEqual = codes "ge"
 
 -- eight bytes of memory at a register
 abbrev pub slot_text : ℕ → List ℕ
@@ -48,6 +56,7 @@ slot_text k = codes "8*" ++ decimal k ++ codes "(%rsp)"
 abbrev pub source_text : Source → List ℕ
 source_text (Register r) = register_name r
 source_text (Slot k) = slot_text k
+source_text (Number n) = codes "$" ++ decimal n
 
 -- an instruction, as addq %rcx, %rax
 abbrev pub instruction_text : Instruction → List ℕ
@@ -61,7 +70,8 @@ instruction_text (variant.Compute o to from) = operator_name o ++ codes " " ++ s
 instruction_text (variant.Compare left right) = codes "cmpq " ++ source_text right ++ codes ", " ++ register_name left
 instruction_text (variant.Set to c) = codes "set" ++ condition_letters c ++ codes " " ++ byte_name to ++ codes "; movzbq " ++ byte_name to ++ codes ", "
     ++ register_name to
-instruction_text (variant.Test r) = codes "testq " ++ register_name r ++ codes ", " ++ register_name r
+instruction_text (variant.MoveIf c to from) = codes "cmov" ++ condition_letters c ++ codes "q " ++ source_text from ++ codes ", " ++ register_name to
+instruction_text (variant.Test from) = codes "cmpq $0, " ++ source_text from
 instruction_text (variant.Jump target) = codes "jmp .L" ++ decimal target
 instruction_text (variant.JumpIf c target) = codes "j" ++ condition_letters c ++ codes " .L" ++ decimal target
 instruction_text variant.Return = codes "jmp .Lreturn"

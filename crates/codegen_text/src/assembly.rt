@@ -98,6 +98,9 @@ fn operator_name(operator: Operator) -> &'static str
         Operator::Add => "addq",
         Operator::Sub => "subq",
         Operator::Mul => "imulq",
+        Operator::And => "andq",
+        Operator::Or => "orq",
+        Operator::Xor => "xorq",
     }
 }
 
@@ -112,10 +115,14 @@ fn condition_letters(condition: Condition) -> &'static str
         Condition::LessOrEqual => "be",
         Condition::Greater => "a",
         Condition::GreaterOrEqual => "ae",
+        Condition::SignedLess => "l",
+        Condition::SignedLessOrEqual => "le",
+        Condition::SignedGreater => "g",
+        Condition::SignedGreaterOrEqual => "ge",
     }
 }
 
-/// A register, or eight bytes of the frame.
+/// A register, eight bytes of the frame, or a number.
 #[derive(Clone, Copy)]
 struct SourceText(Source);
 
@@ -126,6 +133,7 @@ impl fmt::Display for SourceText {
         match self.0 {
             Source::Register(register) => f.write_str(register_name(register)),
             Source::Slot(slot) => write!(f, "8*{slot}(%rsp)"),
+            Source::Number(number) => write!(f, "${number}"),
         }
     }
 }
@@ -183,9 +191,21 @@ impl fmt::Display for InstructionText {
                 );
                 write!(f, "set{letters} {byte}; movzbq {byte}, {to}")
             }
-            Instruction::Test { register } => {
-                let register = register_name(register);
-                write!(f, "testq {register}, {register}")
+            Instruction::MoveIf {
+                condition,
+                to,
+                from,
+            } => {
+                let (letters, to, from) = (
+                    condition_letters(condition),
+                    register_name(to),
+                    SourceText(from),
+                );
+                write!(f, "cmov{letters}q {from}, {to}")
+            }
+            Instruction::Test { from } => {
+                let from = SourceText(from);
+                write!(f, "cmpq $0, {from}")
             }
             Instruction::Jump { target } => write!(f, "jmp .L{target}"),
             Instruction::JumpIf { condition, target } => {

@@ -1,6 +1,6 @@
 //! What the lines of a text say, and the function that they make.
 
-use super::operations::{read_value, read_vreg};
+use super::operations::{read_branch, read_value, read_vreg};
 use codegen_ir::{Line, Malformed, Operation, Part, Procedure};
 use regalloc2::{Block, Inst, InstRange, VReg};
 use regalloc2_text_cursor::{Cursor, Expected, Flaw, Found, Token};
@@ -59,11 +59,11 @@ impl DraftBlock {
             return Operation::Jump;
         }
         if cursor.has("branch_if") {
-            let value = read_vreg(cursor);
+            let branch = read_branch(cursor);
             self.read_target(alloc, cursor);
             cursor.want(",");
             self.read_target(alloc, cursor);
-            return Operation::BranchIf { value };
+            return branch;
         }
         if !cursor.has("return") {
             cursor.misfit("a virtual register, `jump`, `branch_if`, `return` or a block");
@@ -238,6 +238,8 @@ fn flaw_of<'t>(malformed: Malformed) -> Flaw<'t> {
     let expected = match malformed {
         Malformed::TooLarge => "at most a million blocks, instructions and virtual registers",
         Malformed::MissingSuccessor => "two successors of a `branch_if`, and one of a `jump`",
+        Malformed::UnknownRegister => "virtual registers of the function",
+        Malformed::LargeNumber => "second numbers up to 2147483647",
     };
     Flaw::new(1, Expected::Words(expected), Found::TextEnd)
 }

@@ -3,12 +3,15 @@
 ghost use Rattle.std.specs.Prelude.{◌≤◌};
 ghost use Rattle.regalloc2_text_cursor.specs.Cursor.{tokens_left};
 
-use codegen_ir::{Condition, Operation, Operator};
+use codegen_ir::{Condition, Operation, Operator, Right};
 use regalloc2::{RegClass, VReg};
 use regalloc2_text_cursor::Cursor;
 
 /// The greatest number of an argument, whose address an instruction of x86-64 can still name.
 const LAST_ARGUMENT: u64 = (1 << 28) - 1;
+
+/// The greatest second number that an instruction of x86-64 holds without a sign.
+const LAST_NUMBER: u64 = (1 << 31) - 1;
 
 /// The operator of that name.
 fn operator_named(name: &str) -> Option<Operator> {
@@ -16,6 +19,9 @@ fn operator_named(name: &str) -> Option<Operator> {
         "add" => Some(Operator::Add),
         "sub" => Some(Operator::Sub),
         "mul" => Some(Operator::Mul),
+        "and" => Some(Operator::And),
+        "or" => Some(Operator::Or),
+        "xor" => Some(Operator::Xor),
         _ => None,
     }
 }
@@ -29,6 +35,10 @@ fn condition_named(name: &str) -> Option<Condition> {
         "less_or_equal" => Some(Condition::LessOrEqual),
         "greater" => Some(Condition::Greater),
         "greater_or_equal" => Some(Condition::GreaterOrEqual),
+        "signed_less" => Some(Condition::SignedLess),
+        "signed_less_or_equal" => Some(Condition::SignedLessOrEqual),
+        "signed_greater" => Some(Condition::SignedGreater),
+        "signed_greater_or_equal" => Some(Condition::SignedGreaterOrEqual),
         _ => None,
     }
 }
@@ -46,11 +56,50 @@ pub fn read_vreg(cursor: &mut Cursor<'_, '_>) -> VReg
     VReg::new(number, RegClass::Int)
 }
 
-/// Two virtual registers, with a comma between them.
-fn read_pair(cursor: &mut Cursor<'_, '_>) -> (VReg, VReg) {
+/// A second number: a virtual register, or a number up to 2147483647.
+fn read_right(cursor: &mut Cursor<'_, '_>) -> Right {
+    if cursor.begins("v") {
+        Right::VReg(read_vreg(cursor))
+    } else {
+        Right::Number(cursor.number(LAST_NUMBER) as u32)
+    }
+}
+
+/// A virtual register and a second number, with a comma between them.
+fn read_pair(cursor: &mut Cursor<'_, '_>) -> (VReg, Right) {
     let left = read_vreg(cursor);
     cursor.want(",");
-    (left, read_vreg(cursor))
+    (left, read_right(cursor))
+}
+
+/// A selection, from its condition on: the condition and the two numbers, with commas between them.
+fn read_select(cursor: &mut Cursor<'_, '_>, to: VReg) -> Operation {
+    let condition = read_vreg(cursor);
+    cursor.want(",");
+    let yes = read_vreg(cursor);
+    cursor.want(",");
+    let no = read_vreg(cursor);
+    Operation::Select {
+        to,
+        condition,
+        yes,
+        no,
+    }
+}
+
+/// A branch, after its name: the number that decides, or a condition and the two numbers that it is asked of.
+pub fn read_branch(cursor: &mut Cursor<'_, '_>) -> Operation {
+    let Some(condition) = condition_named(cursor.peek().unwrap_or("")) else {
+        let value = read_vreg(cursor);
+        return Operation::BranchIf { value };
+    };
+    cursor.advance();
+    let (left, right) = read_pair(cursor);
+    Operation::BranchIfHolds {
+        condition,
+        left,
+        right,
+    }
 }
 
 /// What computes the number of a virtual register, from the register on.
@@ -86,9 +135,12 @@ pub fn read_value(cursor: &mut Cursor<'_, '_>) -> Operation {
             right,
         };
     }
+    if cursor.has("select") {
+        return read_select(cursor, to);
+    }
     if !cursor.has("constant") {
         cursor.misfit(
-            "an operation: `argument`, `constant`, `copy`, `add`, `sub`, `mul` or a condition",
+            "an operation: `argument`, `constant`, `copy`, `select`, an operator as `add`, or a condition as `less`",
         );
     }
     let value = cursor.number(u64::MAX);

@@ -5,19 +5,29 @@ ghost use Rattle.std.specs.Prelude.{◌≡◌, ◌<◌};
 use std::alloc::{AllocError, Global};
 
 /// The operations of two numbers, additions more often than others.
-const OPERATIONS: [&str; 11] = [
+const OPERATIONS: [&str; 18] = [
     "add",
     "add",
     "add",
     "sub",
     "mul",
+    "and",
+    "or",
+    "xor",
     "equal",
     "not_equal",
     "less",
     "less_or_equal",
     "greater",
     "greater_or_equal",
+    "signed_less",
+    "signed_less_or_equal",
+    "signed_greater",
+    "signed_greater_or_equal",
 ];
+
+/// Where the conditions begin among the operations.
+const CONDITIONS: usize = 8;
 
 /// Numbers that look random, the same ones for the same seed.
 #[derive(Drop)]
@@ -79,19 +89,37 @@ impl Draft {
         self.known.get(at).copied().unwrap_or(0)
     }
 
+    /// Writes an operation of two numbers, of which the second is given once in three times.
+    fn write_pair(&mut self, name: &str) -> Result<(), AllocError> {
+        let left = self.pick();
+        if self.random.below(3) == 0 {
+            let number = self.random.next() >> 33 >> (self.random.next() >> 59);
+            write!(self.text, "{name} v{left}, {number}")?;
+        } else {
+            let right = self.pick();
+            write!(self.text, "{name} v{left}, v{right}")?;
+        }
+        Ok(())
+    }
+
     /// Writes an operation.
     fn write_operation(&mut self) -> Result<(), AllocError> {
-        let (left, right) = (self.pick(), self.pick());
         let to = self.new_vreg();
-        let at = self.random.below(14);
+        write!(self.text, "  v{to} = ")?;
+        let at = self.random.below(22);
         if let Some(name) = OPERATIONS.get(at) {
-            writeln!(self.text, "  v{to} = {name} v{left}, v{right}")?;
-        } else if at == 11 {
-            writeln!(self.text, "  v{to} = copy v{left}")?;
+            self.write_pair(name)?;
+        } else if at == 18 {
+            let from = self.pick();
+            write!(self.text, "copy v{from}")?;
+        } else if at == 19 {
+            let (test, left, right) = (self.pick(), self.pick(), self.pick());
+            write!(self.text, "select v{test}, v{left}, v{right}")?;
         } else {
             let number = self.random.next();
-            writeln!(self.text, "  v{to} = constant {number}")?;
+            write!(self.text, "constant {number}")?;
         }
+        writeln!(self.text)?;
         self.known.push(to)?;
         Ok(())
     }
@@ -120,14 +148,24 @@ impl Draft {
         Ok(())
     }
 
+    /// Writes what decides a branch: a number, or a condition of two.
+    fn write_test(&mut self) -> Result<(), AllocError> {
+        let at = self.random.below(2 * (OPERATIONS.len() - CONDITIONS));
+        if let Some(name) = OPERATIONS.get(CONDITIONS + at) {
+            return self.write_pair(name);
+        }
+        let test = self.pick();
+        write!(self.text, "v{test}")?;
+        Ok(())
+    }
+
     /// Writes a branch to two blocks, and the block where they meet.
     fn write_fork(&mut self) -> Result<(), AllocError> {
         let (first, second, join) = (self.new_block(), self.new_block(), self.new_block());
-        let (test, left, right) = (self.pick(), self.pick(), self.pick());
-        writeln!(
-            self.text,
-            "  branch_if v{test} block{first}(v{left}), block{second}(v{right})"
-        )?;
+        write!(self.text, "  branch_if ")?;
+        self.write_test()?;
+        let (left, right) = (self.pick(), self.pick());
+        writeln!(self.text, " block{first}(v{left}), block{second}(v{right})")?;
         self.write_side(first, join)?;
         self.write_side(second, join)?;
         let (left, right) = (self.new_vreg(), self.new_vreg());

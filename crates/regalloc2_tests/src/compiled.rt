@@ -28,10 +28,55 @@ fn show<W: Write>(alloc: Global, text: &[u8], to: &mut W) -> io::Result<()> {
     writeln!(to, "compile: status {status}, {written}, {told:?}")
 }
 
-/// Writes what is answered to each of the texts, of which assembly is asked.
+/// Functions of two arguments, which are run.
+const RUNS: [(&str, u64, u64); 7] = [
+    ("v2 = and v0, v1", 12, 10),
+    ("v2 = or v0, 10", 12, 0),
+    ("v2 = xor v0, v1", 12, 10),
+    ("v2 = less v0, 5", MINUS_ONE, 0),
+    ("v2 = signed_less v0, 5", MINUS_ONE, 0),
+    ("v2 = select v0, v1, v0", 0, 7),
+    ("v2 = select v0, v1, v0", 3, 7),
+];
+
+/// -1 modulo 2^64.
+const MINUS_ONE: u64 = u64::MAX;
+
+/// Writes what a function returns that has this line, and what its code does.
+fn show_run<W: Write>(
+    alloc: Global,
+    (line, left, right): (&str, u64, u64),
+    to: &mut W,
+) -> io::Result<()> {
+    let mut text = String::new(alloc);
+    let written = write!(
+        text,
+        "block0:\n  v0 = argument 0\n  v1 = argument 1\n  {line}\n  return v2\n"
+    );
+    if written.is_err() {
+        return Ok(());
+    }
+    let mut arguments = Vec::new(alloc);
+    if arguments.push(left).is_err() || arguments.push(right).is_err() {
+        return Ok(());
+    }
+    let task = Task::Read("text", Action::Run(arguments));
+    let (mut out, mut err) = (Vec::new(alloc), Vec::new(alloc));
+    let status = answer(alloc, &task, text.as_bytes(), &mut out, &mut err);
+    let told = str::from_utf8(&out).unwrap_or("no text");
+    writeln!(
+        to,
+        "{line}, of {left} and {right}: status {status}, {told:?}"
+    )
+}
+
+/// Writes what is answered to each of the texts, of which assembly is asked, and what the functions return that are run.
 pub fn show_all<W: Write>(alloc: Global, to: &mut W) -> io::Result<()> {
     for text in TEXTS {
         show(alloc, text, to)?;
+    }
+    for run in RUNS {
+        show_run(alloc, run, to)?;
     }
     Ok(())
 }
