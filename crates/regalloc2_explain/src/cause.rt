@@ -1,0 +1,424 @@
+//! Causes, and their words.
+
+use crate::stored::{ClassName, Counted, VRegName};
+use regalloc2_names::{PReg, RegClass, VReg};
+use std::fmt;
+
+/// A part of a function.
+#[derive(Clone, Copy)]
+pub enum Site {
+    /// The function as a whole.
+    Function,
+    /// A block's own line, with its parameters.
+    Block(usize),
+    /// An instruction.
+    Inst(usize),
+    /// An operand, by the number of its instruction and its index there.
+    Operand(usize, usize),
+}
+
+/// As `block1`, `inst3` or, for an operand, that of its instruction.
+impl fmt::Display for Site {
+    fn fmt<W: fmt::Write>(&self, f: &mut fmt::Formatter<W>) -> fmt::Result {
+        match self {
+            Site::Function => f.write_str("the function"),
+            Site::Block(block) => write!(f, "block{block}"),
+            Site::Inst(inst) | Site::Operand(inst, _) => write!(f, "inst{inst}"),
+        }
+    }
+}
+
+/// Why a function is refused.
+#[derive(Clone, Copy)]
+pub enum Cause {
+    /// An edge from a block with several successors to one that is entered in several ways.
+    CriticalEdge {
+        from: usize,
+        to: usize,
+        succs: usize,
+        ways: usize,
+    },
+    /// A vreg has two definitions.
+    DefinedTwice {
+        vreg: VReg,
+    },
+    /// A vreg's number isn't below the function's count.
+    PastCount {
+        vreg: VReg,
+        count: u64,
+    },
+    /// A vreg is read, and no instruction or parameter defines it.
+    Undefined {
+        vreg: VReg,
+    },
+    /// A vreg is read under another class than that of its definition.
+    OtherClass {
+        vreg: VReg,
+        defined: VReg,
+    },
+    /// A vreg is read no later than it is defined.
+    UsedEarly {
+        vreg: VReg,
+    },
+    /// A block has no instructions.
+    Empty {
+        block: usize,
+    },
+    /// A block doesn't begin where the one before ends.
+    Begins {
+        block: usize,
+        first: usize,
+        wanted: usize,
+    },
+    /// The last block doesn't end with the last instruction.
+    Ends {
+        block: usize,
+        end: usize,
+        insts: usize,
+    },
+    /// A block's predecessors aren't the blocks that lead to it.
+    Predecessors {
+        block: usize,
+        listed: usize,
+        leading: usize,
+    },
+    /// The entry isn't block 0.
+    EntryIsLater {
+        entry: usize,
+    },
+    /// A block goes on past its last instruction.
+    OpenEnd {
+        block: usize,
+        inst: usize,
+    },
+    /// A return ends a block with successors.
+    ReturnLeads {
+        block: usize,
+        succs: usize,
+    },
+    /// A branch or a return isn't its block's last instruction.
+    EndsWithin {
+        block: usize,
+        inst: usize,
+    },
+    /// A block passes another number of arguments than its successor has parameters.
+    ArgumentCount {
+        succ: usize,
+        passed: usize,
+        wanted: usize,
+    },
+    /// An argument is of another class than its parameter.
+    ArgumentClass {
+        succ: usize,
+        passed: VReg,
+        wanted: VReg,
+    },
+    /// The entry has parameters.
+    EntryParams {
+        count: usize,
+    },
+    /// A branch with operands leads to a block that is entered in several ways.
+    BranchOperands {
+        inst: usize,
+        operands: usize,
+        succ: usize,
+        ways: usize,
+    },
+    /// An instruction needs more registers of a class than the machine has.
+    Registers {
+        inst: usize,
+        class: RegClass,
+        needed: usize,
+        available: usize,
+    },
+    /// An operand is fixed to a register that the machine lacks.
+    NoSuchRegister {
+        inst: usize,
+        register: PReg,
+    },
+    /// Two operands that are held at one time are fixed to one register.
+    FixedTwice {
+        inst: usize,
+        register: PReg,
+    },
+    /// The operands are 2^32 or more.
+    ManyOperands,
+    /// A reuse isn't a late definition.
+    ReuseIsNoDef {
+        inst: usize,
+    },
+    /// A reuse names no operand.
+    ReusesNothing {
+        inst: usize,
+        index: usize,
+        operands: usize,
+    },
+    /// A reuse names an operand that it can't take the place of.
+    ReusesOther {
+        inst: usize,
+        index: usize,
+    },
+    /// Two reuses name one operand.
+    ReusedTwice {
+        inst: usize,
+        index: usize,
+    },
+    /// An operand is fixed to a register that its instruction overwrites.
+    FixedClobbered {
+        inst: usize,
+        register: PReg,
+    },
+    /// An operand is under a limit.
+    Limited {
+        inst: usize,
+    },
+    /// A branch defines in any register, or by a reuse.
+    BranchDefines {
+        inst: usize,
+    },
+    /// The slots would take more units than numbers of slots count.
+    ManySlots {
+        vregs: u64,
+    },
+    /// Nothing that a test of this crate finds.
+    Other,
+}
+
+/// The words of causes that lie in blocks and edges; false if it is another cause.
+fn write_of_blocks<W: fmt::Write>(
+    cause: &Cause,
+    f: &mut fmt::Formatter<W>,
+) -> Result<bool, fmt::Error> {
+    match *cause {
+        Cause::CriticalEdge {
+            from,
+            to,
+            succs,
+            ways,
+        } => write!(
+            f,
+            "block{from} has {succs} successors, and one of them, block{to}, is entered in {ways} ways"
+        )?,
+        Cause::Empty { block } => write!(f, "block{block} has no instructions")?,
+        Cause::Begins {
+            block,
+            first,
+            wanted,
+        } => write!(
+            f,
+            "block{block} begins at inst{first}, and inst{wanted} is the first after the blocks before"
+        )?,
+        Cause::Ends { block, end, insts } => {
+            let insts = Counted(insts, "instruction");
+            write!(
+                f,
+                "block{block}, the last one, ends before inst{end}, and the function has {insts}"
+            )?;
+        }
+        Cause::Predecessors {
+            block,
+            listed,
+            leading,
+        } => {
+            let listed = Counted(listed, "predecessor");
+            let leading = Counted(leading, "edge");
+            write!(
+                f,
+                "block{block} lists {listed}, not those of the {leading} into it"
+            )?;
+        }
+        _ => return Ok(false),
+    }
+    Ok(true)
+}
+
+/// The words of causes that lie in entries, ends of blocks and arguments; false if it is another cause.
+fn write_of_ends<W: fmt::Write>(
+    cause: &Cause,
+    f: &mut fmt::Formatter<W>,
+) -> Result<bool, fmt::Error> {
+    match *cause {
+        Cause::EntryIsLater { entry } => {
+            write!(f, "the entry is block{entry}; it must be block0")?;
+        }
+        Cause::EntryParams { count } => {
+            let count = Counted(count, "parameter");
+            write!(f, "the entry has {count}, which nothing passes")?;
+        }
+        Cause::OpenEnd { block, inst } => write!(
+            f,
+            "inst{inst}, the last of block{block}, neither branches nor returns"
+        )?,
+        Cause::ReturnLeads { block, succs } => {
+            let succs = Counted(succs, "successor");
+            write!(f, "block{block} ends in a return and has {succs}")?;
+        }
+        Cause::EndsWithin { block, inst } => write!(
+            f,
+            "inst{inst} branches or returns, and isn't the last of block{block}"
+        )?,
+        Cause::ArgumentCount {
+            succ,
+            passed,
+            wanted,
+        } => {
+            let passed = Counted(passed, "argument");
+            let wanted = Counted(wanted, "parameter");
+            write!(f, "{passed} for block{succ}, which has {wanted}")?;
+        }
+        Cause::ArgumentClass {
+            succ,
+            passed,
+            wanted,
+        } => {
+            let passed = VRegName(passed);
+            let wanted = VRegName(wanted);
+            write!(
+                f,
+                "the argument {passed} for the parameter {wanted} of block{succ} is of another class"
+            )?;
+        }
+        Cause::BranchOperands {
+            inst,
+            operands,
+            succ,
+            ways,
+        } => {
+            let operands = Counted(operands, "operand");
+            write!(
+                f,
+                "inst{inst} has {operands} and leads to block{succ}, which is entered in {ways} ways"
+            )?;
+        }
+        _ => return Ok(false),
+    }
+    Ok(true)
+}
+
+/// The words of causes that lie in virtual registers; false if it is another cause.
+fn write_of_vregs<W: fmt::Write>(
+    cause: &Cause,
+    f: &mut fmt::Formatter<W>,
+) -> Result<bool, fmt::Error> {
+    match *cause {
+        Cause::DefinedTwice { vreg } => {
+            let vreg = VRegName(vreg);
+            write!(f, "{vreg} is defined twice")?;
+        }
+        Cause::PastCount { vreg, count } => {
+            let vreg = VRegName(vreg);
+            write!(
+                f,
+                "{vreg} is defined, and only numbers below {count} may be"
+            )?;
+        }
+        Cause::Undefined { vreg } => {
+            let vreg = VRegName(vreg);
+            write!(f, "{vreg} is used, and nothing defines it")?;
+        }
+        Cause::OtherClass { vreg, defined } => {
+            let vreg = VRegName(vreg);
+            let defined = VRegName(defined);
+            write!(f, "{vreg} is used, and its number is defined as {defined}")?;
+        }
+        Cause::UsedEarly { vreg } => {
+            let vreg = VRegName(vreg);
+            write!(f, "{vreg} is used before its definition")?;
+        }
+        _ => return Ok(false),
+    }
+    Ok(true)
+}
+
+/// The words of causes that lie in an instruction's operands; false if it is another cause.
+fn write_of_operands<W: fmt::Write>(
+    cause: &Cause,
+    f: &mut fmt::Formatter<W>,
+) -> Result<bool, fmt::Error> {
+    match *cause {
+        Cause::ReuseIsNoDef { inst } => {
+            write!(f, "a reuse of inst{inst} is no definition at its end")?;
+        }
+        Cause::ReusesNothing {
+            inst,
+            index,
+            operands,
+        } => {
+            let is = if operands == 1 { "is" } else { "are" };
+            let operands = Counted(operands, "operand");
+            write!(
+                f,
+                "a reuse of inst{inst} names operand {index}, counted from 0, and there {is} {operands}"
+            )?;
+        }
+        Cause::ReusesOther { inst, index } => write!(
+            f,
+            "operand {index} of inst{inst}, counted from 0, is reused and is no early use of the class in a register that may be allocated"
+        )?,
+        Cause::ReusedTwice { inst, index } => write!(
+            f,
+            "two definitions of inst{inst} reuse operand {index}, counted from 0"
+        )?,
+        Cause::FixedClobbered { inst, register } => write!(
+            f,
+            "an operand of inst{inst} is fixed to {register}, which the instruction clobbers"
+        )?,
+        Cause::Limited { inst } => write!(
+            f,
+            "an operand of inst{inst} is under a limit, which the allocator doesn't support"
+        )?,
+        Cause::BranchDefines { inst } => write!(
+            f,
+            "inst{inst} branches and defines in any register or by a reuse: only fixed registers and the stack are possible there"
+        )?,
+        _ => return Ok(false),
+    }
+    Ok(true)
+}
+
+/// The words of causes that lie in what the machine has.
+fn write_of_resources<W: fmt::Write>(cause: &Cause, f: &mut fmt::Formatter<W>) -> fmt::Result {
+    match *cause {
+        Cause::Registers {
+            inst,
+            class,
+            needed,
+            available,
+        } => {
+            let needed = Counted(needed, "register");
+            let class = ClassName(class);
+            write!(
+                f,
+                "inst{inst} needs {needed} of the class {class}, and the machine has {available}"
+            )
+        }
+        Cause::NoSuchRegister { inst, register } => write!(
+            f,
+            "an operand of inst{inst} is fixed to {register}, which the machine doesn't allocate"
+        ),
+        Cause::FixedTwice { inst, register } => write!(
+            f,
+            "two operands of inst{inst} are fixed to {register} at one time"
+        ),
+        Cause::ManyOperands => f.write_str("the function has 4294967296 operands or more"),
+        Cause::ManySlots { vregs } => write!(
+            f,
+            "the slots of {vregs} virtual registers would take more than 16777216 units"
+        ),
+        _ => f.write_str("no test finds the cause"),
+    }
+}
+
+/// What is wrong, as `v0i is defined twice`, on one line.
+impl fmt::Display for Cause {
+    fn fmt<W: fmt::Write>(&self, f: &mut fmt::Formatter<W>) -> fmt::Result {
+        let is_told = write_of_blocks(self, f)?
+            || write_of_ends(self, f)?
+            || write_of_vregs(self, f)?
+            || write_of_operands(self, f)?;
+        if is_told {
+            return Ok(());
+        }
+        write_of_resources(self, f)
+    }
+}

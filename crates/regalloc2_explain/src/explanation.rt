@@ -1,0 +1,198 @@
+//! Why a function is refused, with the lines that say it.
+
+use crate::cause::{Cause, Site};
+use crate::pressure::{
+    count_named, is_in_any, names_register, of_registers, register_index, spare,
+};
+use crate::source::Source;
+use crate::stored::{ClassName, VRegName, class_number, is_allocatable, operand_of, operands_at};
+use crate::{blocks, definitions, operands};
+use regalloc2_function::MachineMisfit;
+use regalloc2_names::{PReg, RegAllocError, RegClass};
+use regalloc2_serialize::StoredFunction;
+use std::fmt;
+use std::io::{self, Write};
+
+/// Why a function is refused: the cause, where it lies, and another part that belongs to it.
+#[derive(Clone, Copy)]
+pub struct Explanation {
+    /// The cause.
+    pub cause: Cause,
+    /// Where it lies.
+    pub site: Site,
+    /// The definition that it stands against, if it stands against one.
+    pub against: Option<Site>,
+}
+
+impl Explanation {
+    /// An explanation of a cause at a site.
+    fn of(found: (Cause, Site)) -> Explanation {
+        let (cause, site) = found;
+        Explanation {
+            cause,
+            site,
+            against: None,
+        }
+    }
+}
+
+/// Why the allocator refuses a function with that error: it looks for what the error names. Linear in the function.
+pub fn explain(function: &StoredFunction, error: &RegAllocError) -> Explanation {
+    match error {
+        RegAllocError::CritEdge(from, to) => {
+            Explanation::of(blocks::of_edge(function, from.index(), to.index()))
+        }
+        RegAllocError::SSA(vreg, inst) => {
+            let (cause, site, against) = definitions::of_vreg(function, *vreg, *inst);
+            Explanation {
+                cause,
+                site,
+                against,
+            }
+        }
+        RegAllocError::BB(block) => Explanation::of(blocks::of_block(function, block.index())),
+        RegAllocError::Branch(inst) => {
+            Explanation::of(blocks::of_arguments(function, inst.index()))
+        }
+        RegAllocError::EntryLivein => Explanation::of(blocks::of_entry(function)),
+        RegAllocError::DisallowedBranchArg(inst) => {
+            Explanation::of(blocks::of_branch(function, inst.index()))
+        }
+        RegAllocError::TooManyLiveRegs => Explanation::of(of_registers(function)),
+        RegAllocError::TooManyOperands => Explanation::of((Cause::ManyOperands, Site::Function)),
+        RegAllocError::Unsupported(inst) => {
+            Explanation::of(operands::of_operand(function, inst.index()))
+        }
+        RegAllocError::TooManySpillSlots => {
+            let vregs = function.num_vregs;
+            Explanation::of((Cause::ManySlots { vregs }, Site::Function))
+        }
+        RegAllocError::Memory => Explanation::of((Cause::Other, Site::Function)),
+    }
+}
+
+/// The first operand of the class that a machine has no register for, if that is why the machine doesn't fit.
+pub fn misfit_at(function: &StoredFunction, misfit: MachineMisfit) -> Option<Site> {
+    let MachineMisfit::NoRegister(class) = misfit else {
+        return None;
+    };
+    for (inst, data) in function.insts.iter().enumerate() {
+        let found = data.operands.iter().position(|bits| {
+            operand_of(*bits).is_some_and(|operand| {
+                operand.as_fixed_nonallocatable().is_none() && operand.class() == class
+            })
+        });
+        if let Some(k) = found {
+            return Some(Site::Operand(inst, k));
+        }
+    }
+    None
+}
+
+/// The operands of an instruction that may be in any register of a class.
+#[derive(Drop)]
+struct InAny<'a> {
+    operands: &'a [u64],
+    class: usize,
+}
+
+impl fmt::Display for InAny<'_> {
+    fn fmt<W: fmt::Write>(&self, f: &mut fmt::Formatter<W>) -> fmt::Result {
+        let mut before = "";
+        for bits in self.operands {
+            if !is_in_any(*bits, self.class) {
+                continue;
+            }
+            if let Some(operand) = operand_of(*bits) {
+                let vreg = VRegName(operand.vreg());
+                write!(f, "{before}{vreg}")?;
+                before = ", ";
+            }
+        }
+        Ok(())
+    }
+}
+
+/// The allocated registers of a class that an instruction names.
+#[derive(Drop)]
+struct Named<'a> {
+    function: &'a StoredFunction,
+    inst: usize,
+    class: usize,
+}
+
+impl fmt::Display for Named<'_> {
+    fn fmt<W: fmt::Write>(&self, f: &mut fmt::Formatter<W>) -> fmt::Result {
+        let mut before = "";
+        for number in 0..64u8 {
+            let index = register_index(self.class, number);
+            let place = usize::from(index);
+            let is_counted = is_allocatable(&self.function.machine_env, index)
+                && names_register(self.function, self.inst, place);
+            if is_counted && PReg::is_index(place) {
+                let register = PReg::from_index(place);
+                write!(f, "{before}{register}")?;
+                before = ", ";
+            }
+        }
+        Ok(())
+    }
+}
+
+/// Writes what an instruction needs registers of a class for, a line for each kind.
+fn write_needs<W: Write>(
+    function: &StoredFunction,
+    inst: usize,
+    class: RegClass,
+    to: &mut W,
+) -> io::Result<()> {
+    let number = class_number(class);
+    let operands = operands_at(function, inst);
+    let in_any = InAny {
+        operands,
+        class: number,
+    };
+    if operands.iter().any(|bits| is_in_any(*bits, number)) {
+        writeln!(to, "  in any register: {in_any}")?;
+    }
+    let named = Named {
+        function,
+        inst,
+        class: number,
+    };
+    if count_named(function, inst, number) > 0 {
+        writeln!(to, "  fixed or clobbered: {named}")?;
+    }
+    if spare(function, number) > 0 {
+        let class = ClassName(class);
+        writeln!(
+            to,
+            "  one register is kept for moves between stack places of the class {class}"
+        )?;
+    }
+    Ok(())
+}
+
+impl Explanation {
+    /// Writes the cause behind `before` on a line, then the line of the text at which it lies, what it needs or stands against.
+    pub fn write<T: fmt::Display, W: Write>(
+        &self,
+        before: &T,
+        function: &StoredFunction,
+        source: &Source<'_>,
+        to: &mut W,
+    ) -> io::Result<()> {
+        let cause = self.cause;
+        writeln!(to, "{before}{cause}")?;
+        if let Some(line) = source.find(self.site) {
+            writeln!(to, "  {line}")?;
+        }
+        if let Cause::Registers { inst, class, .. } = cause {
+            write_needs(function, inst, class, to)?;
+        }
+        if let Some(line) = self.against.and_then(|site| source.find(site)) {
+            writeln!(to, "  defined: {line}")?;
+        }
+        Ok(())
+    }
+}

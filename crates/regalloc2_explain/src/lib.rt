@@ -1,0 +1,21 @@
+//! Why a function is refused, or what a finding of the checker comes from: the instruction or block as it is written, and the cause with numbers.
+//!
+//! All calls take stored functions, also ill-formed ones, whose numbers may name nothing.
+#![tactic(auto)]
+
+mod blocks;
+mod cause;
+mod definitions;
+mod explanation;
+mod operands;
+mod paths;
+mod pressure;
+mod source;
+mod stored;
+mod writes;
+
+pub use cause::{Cause, Site};
+pub use explanation::{Explanation, explain, misfit_at};
+pub use paths::{UnwrittenRead, find_unwritten_read};
+pub use source::{Source, SourceLine};
+pub use writes::{LastWrite, last_write};

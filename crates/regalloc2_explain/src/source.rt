@@ -1,0 +1,159 @@
+//! The lines of a text in which blocks and instructions stand.
+
+use crate::cause::Site;
+use std::fmt;
+
+/// The text of a function, in which its blocks and instructions are looked up.
+#[derive(Clone, Copy)]
+pub struct Source<'t> {
+    /// What stands before a line's number, as `loop.txt:`; nothing if lines have no numbers, as those of a function that was read from JSON.
+    pub name: Option<&'t str>,
+    /// The text.
+    pub text: &'t str,
+    /// The number of its first line.
+    pub first_line: usize,
+}
+
+/// A part of a text.
+#[derive(Clone, Copy)]
+pub struct SourceLine<'t> {
+    /// What stands before the line's number.
+    name: Option<&'t str>,
+    /// The line's number.
+    pub number: usize,
+    /// The column in bytes, counted from 1, at which the part begins.
+    pub column: usize,
+    /// The line, without comment and blanks at both ends.
+    pub words: &'t str,
+}
+
+/// As `loop.txt:12:20: op: Def: v0i reg`, or the line alone if it has no number.
+impl fmt::Display for SourceLine<'_> {
+    fn fmt<W: fmt::Write>(&self, f: &mut fmt::Formatter<W>) -> fmt::Result {
+        let SourceLine {
+            name,
+            number,
+            column,
+            words,
+        } = self;
+        match name {
+            Some(name) => write!(f, "{name}{number}:{column}: {words}"),
+            None => f.write_str(words),
+        }
+    }
+}
+
+/// The bytes of a text before one at a place, and those from there on.
+fn split(text: &str, at: usize) -> (&str, &str) {
+    text.split_at_checked(at).unwrap_or((text, ""))
+}
+
+/// A line without its comment.
+fn without_comment(line: &str) -> &str {
+    line.split_once('#').map_or(line, |(front, _)| front)
+}
+
+/// How many blanks a line begins with.
+fn indent_of(line: &str) -> usize {
+    line.bytes()
+        .position(|byte| byte != b' ' && byte != b'\t')
+        .unwrap_or(line.len())
+}
+
+/// The first word of a line.
+fn first_word(line: &str) -> &str {
+    let (_, words) = split(line, indent_of(line));
+    let len = words
+        .bytes()
+        .position(|byte| !byte.is_ascii_alphanumeric())
+        .unwrap_or(words.len());
+    split(words, len).0
+}
+
+/// Whether a word is made of a name and digits.
+fn is_numbered(word: &str, name: &str) -> bool {
+    match word.strip_prefix(name) {
+        Some(digits) => !digits.is_empty() && digits.bytes().all(|byte| byte.is_ascii_digit()),
+        None => false,
+    }
+}
+
+/// Whether a line is that of an instruction.
+fn is_inst(line: &str) -> bool {
+    let word = first_word(line);
+    word == "op" || word == "branch" || word == "ret" || is_numbered(word, "inst")
+}
+
+/// Whether a line is that of a block.
+fn is_block(line: &str) -> bool {
+    is_numbered(first_word(line), "block")
+}
+
+/// The place in a line at which its `k`th operand begins: each is behind the first colon or a comma outside brackets.
+fn operand_start(line: &str, k: usize) -> usize {
+    let mut next = 0usize;
+    let mut depth = 0usize;
+    let mut is_behind = false;
+    for (at, byte) in line.bytes().enumerate() {
+        match byte {
+            b'(' | b'[' => depth = depth.saturating_add(1),
+            b')' | b']' => depth = depth.saturating_sub(1),
+            b',' if is_behind && depth == 0 => next = next.saturating_add(1),
+            b':' => is_behind = true,
+            b' ' => {}
+            _ if is_behind && next == k && depth == 0 => return at,
+            _ => {}
+        }
+    }
+    indent_of(line)
+}
+
+impl<'t> Source<'t> {
+    /// A part of a line that begins at a place.
+    fn part(&self, number: usize, line: &'t str, start: usize) -> SourceLine<'t> {
+        SourceLine {
+            name: self.name,
+            number,
+            column: start.saturating_add(1),
+            words: without_comment(line).trim(),
+        }
+    }
+
+    /// The line of the `k`th block.
+    fn block_line(&self, k: usize) -> Option<SourceLine<'t>> {
+        let (index, line) = self
+            .text
+            .lines()
+            .enumerate()
+            .filter(|(_, line)| is_block(line))
+            .nth(k)?;
+        let number = self.first_line.saturating_add(index);
+        Some(self.part(number, line, indent_of(line)))
+    }
+
+    /// The line of the `k`th instruction, from one of its operands on if that is named.
+    fn inst_line(&self, k: usize, operand: Option<usize>) -> Option<SourceLine<'t>> {
+        let (index, line) = self
+            .text
+            .lines()
+            .enumerate()
+            .filter(|(_, line)| is_inst(line))
+            .nth(k)?;
+        let start = match operand {
+            Some(operand) => operand_start(line, operand),
+            None => indent_of(line),
+        };
+        let number = self.first_line.saturating_add(index);
+        Some(self.part(number, line, start))
+    }
+
+    /// Where a part of the function is in the text, if it has a line. Linear in the text.
+    pub fn find(&self, site: Site) -> Option<SourceLine<'t>> {
+        match site {
+            Site::Function => None,
+            Site::Block(block) => self.block_line(block),
+            Site::Inst(inst) => self.inst_line(inst, None),
+            Site::Operand(inst, operand) => self.inst_line(inst, Some(operand)),
+        }
+    }
+}

@@ -1,0 +1,130 @@
+//! What stored numbers name.
+
+use regalloc2_names::{Operand, RegClass, VReg};
+use regalloc2_serialize::{StoredFunction, StoredMachine};
+use std::fmt;
+
+/// The operand of a word, if it is that of one.
+pub(crate) fn operand_of(bits: u64) -> Option<Operand> {
+    if Operand::is_bits(bits) {
+        Some(Operand::from_bits(bits))
+    } else {
+        None
+    }
+}
+
+/// The vreg of a word, if it is that of one.
+pub(crate) fn vreg_of(bits: u32) -> Option<VReg> {
+    if VReg::is_bits(bits) {
+        Some(VReg::from_bits(bits))
+    } else {
+        None
+    }
+}
+
+/// The words of an instruction's operands; none if there is no such instruction.
+pub(crate) fn operands_at(function: &StoredFunction, inst: usize) -> &[u64] {
+    match function.insts.get(inst) {
+        Some(data) => data.operands.as_slice(),
+        None => &[],
+    }
+}
+
+/// A block's instructions: the first, and one past the last.
+pub(crate) fn range_of(function: &StoredFunction, block: usize) -> (usize, usize) {
+    match function.blocks.get(block) {
+        Some((first, end)) => (*first as usize, *end as usize),
+        None => (0, 0),
+    }
+}
+
+/// A block's list in lists by block; empty if there is none.
+pub(crate) fn list_of(lists: &[Vec<u32>], block: usize) -> &[u32] {
+    match lists.get(block) {
+        Some(list) => list.as_slice(),
+        None => &[],
+    }
+}
+
+/// The arguments that a block passes to its successor at a position.
+pub(crate) fn arguments_of(function: &StoredFunction, block: usize, position: usize) -> &[u32] {
+    match function.block_params_out.get(block) {
+        Some(lists) => list_of(lists.as_slice(), position),
+        None => &[],
+    }
+}
+
+/// The block that holds an instruction, if a block does.
+pub(crate) fn block_of(function: &StoredFunction, inst: usize) -> Option<usize> {
+    function.blocks.iter().position(|(first, end)| *first as usize <= inst && inst < *end as usize)
+}
+
+/// Whether a register index is listed to be allocated for its own class.
+pub(crate) fn is_allocatable(machine: &StoredMachine, index: u8) -> bool {
+    let class = usize::from(index >> 6);
+    let is_in = |lists: &[Vec<u8>]| match lists.get(class) {
+        Some(list) => list.iter().any(|listed| *listed == index),
+        None => false,
+    };
+    is_in(machine.preferred_regs_by_class.as_slice())
+        || is_in(machine.non_preferred_regs_by_class.as_slice())
+}
+
+/// The number of a class, from 0.
+pub(crate) fn class_number(class: RegClass) -> usize {
+    match class {
+        RegClass::Int => 0,
+        RegClass::Float => 1,
+        RegClass::Vector => 2,
+    }
+}
+
+/// The class of a number, from 0.
+pub(crate) fn class_of_number(number: usize) -> RegClass {
+    match number {
+        0 => RegClass::Int,
+        1 => RegClass::Float,
+        _ => RegClass::Vector,
+    }
+}
+
+/// A class as a text names it.
+#[derive(Clone, Copy)]
+pub(crate) struct ClassName(pub RegClass);
+
+impl fmt::Display for ClassName {
+    fn fmt<W: fmt::Write>(&self, f: &mut fmt::Formatter<W>) -> fmt::Result {
+        f.write_str(match self.0 {
+            RegClass::Int => "int",
+            RegClass::Float => "float",
+            RegClass::Vector => "vector",
+        })
+    }
+}
+
+/// A vreg with the letter of its class, as `v7i`.
+#[derive(Clone, Copy)]
+pub(crate) struct VRegName(pub VReg);
+
+impl fmt::Display for VRegName {
+    fn fmt<W: fmt::Write>(&self, f: &mut fmt::Formatter<W>) -> fmt::Result {
+        let vreg = self.0;
+        match vreg.class() {
+            RegClass::Int => write!(f, "{vreg}i"),
+            RegClass::Float => write!(f, "{vreg}f"),
+            RegClass::Vector => write!(f, "{vreg}v"),
+        }
+    }
+}
+
+/// A count with its noun, as `1 register` or `2 registers`.
+#[derive(Clone, Copy)]
+pub(crate) struct Counted(pub usize, pub &'static str);
+
+impl fmt::Display for Counted {
+    fn fmt<W: fmt::Write>(&self, f: &mut fmt::Formatter<W>) -> fmt::Result {
+        let Counted(count, noun) = self;
+        let ending = if *count == 1 { "" } else { "s" };
+        write!(f, "{count} {noun}{ending}")
+    }
+}

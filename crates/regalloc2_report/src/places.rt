@@ -1,0 +1,120 @@
+//! The places and operands that stored numbers name.
+
+use regalloc2_function::StoredOutput;
+use regalloc2_names::{Allocation, Operand, PReg, ProgPoint};
+use regalloc2_serialize::{StoredFunction, StoredMachine};
+use std::fmt;
+
+/// The operand of a word, if it is that of one.
+pub(crate) fn operand_of(bits: u64) -> Option<Operand> {
+    if Operand::is_bits(bits) {
+        Some(Operand::from_bits(bits))
+    } else {
+        None
+    }
+}
+
+/// Whether the place of a word is in memory: a spill slot, or a register that is a fixed stack slot.
+pub(crate) fn is_memory(machine: &StoredMachine, bits: u32) -> bool {
+    if !Allocation::is_bits(bits) {
+        return false;
+    }
+    let place = Allocation::from_bits(bits);
+    match place.as_reg() {
+        Some(register) => {
+            let index = register.index();
+            machine
+                .fixed_stack_slots
+                .iter()
+                .any(|slot| usize::from(*slot) == index)
+        }
+        None => place.is_stack(),
+    }
+}
+
+/// The places of an instruction's operands.
+pub(crate) fn places_of(output: &StoredOutput, inst: usize) -> &[u32] {
+    let offsets = output.inst_alloc_offsets.as_slice();
+    let Some(start) = offsets.get(inst) else {
+        return &[];
+    };
+    let end = match offsets.get(inst.saturating_add(1)) {
+        Some(end) => *end as usize,
+        None => output.allocs.len(),
+    };
+    output
+        .allocs
+        .as_slice()
+        .get(*start as usize..end)
+        .unwrap_or(&[])
+}
+
+/// The words of an instruction's operands; none if there is no such instruction.
+pub(crate) fn operands_at(function: &StoredFunction, inst: usize) -> &[u64] {
+    match function.insts.get(inst) {
+        Some(data) => data.operands.as_slice(),
+        None => &[],
+    }
+}
+
+/// A place's word, as `p3i`, `stack5` or `none`.
+#[derive(Clone, Copy)]
+pub(crate) struct PlaceText(pub u32);
+
+impl fmt::Display for PlaceText {
+    fn fmt<W: fmt::Write>(&self, f: &mut fmt::Formatter<W>) -> fmt::Result {
+        let bits = self.0;
+        if !Allocation::is_bits(bits) {
+            return write!(f, "bits({bits})");
+        }
+        let place = Allocation::from_bits(bits);
+        write!(f, "{place}")
+    }
+}
+
+/// An operand's word, as `Use: v0i reg`.
+#[derive(Clone, Copy)]
+pub(crate) struct OperandText(pub u64);
+
+impl fmt::Display for OperandText {
+    fn fmt<W: fmt::Write>(&self, f: &mut fmt::Formatter<W>) -> fmt::Result {
+        match operand_of(self.0) {
+            Some(operand) => write!(f, "{operand}"),
+            None => {
+                let bits = self.0;
+                write!(f, "bits({bits})")
+            }
+        }
+    }
+}
+
+/// A register's index, as `p3i`.
+#[derive(Clone, Copy)]
+pub(crate) struct RegisterText(pub u8);
+
+impl fmt::Display for RegisterText {
+    fn fmt<W: fmt::Write>(&self, f: &mut fmt::Formatter<W>) -> fmt::Result {
+        let index = usize::from(self.0);
+        if !PReg::is_index(index) {
+            return write!(f, "bits({index})");
+        }
+        let register = PReg::from_index(index);
+        write!(f, "{register}")
+    }
+}
+
+/// A point's number, as `inst3-pre` or `inst3-post`.
+#[derive(Clone, Copy)]
+pub(crate) struct PointText(pub u32);
+
+impl fmt::Display for PointText {
+    fn fmt<W: fmt::Write>(&self, f: &mut fmt::Formatter<W>) -> fmt::Result {
+        let number = self.0;
+        if !ProgPoint::is_index(number) {
+            return write!(f, "bits({number})");
+        }
+        let inst = number >> 1;
+        let ending = if number & 1 == 0 { "pre" } else { "post" };
+        write!(f, "inst{inst}-{ending}")
+    }
+}
