@@ -9,7 +9,7 @@ use Rattle.regalloc2_parts.specs.Picked.{left_from}
 use Rattle.regalloc2_validate.specs.Constraints.{op_at}
 use Rattle.regalloc2_fastalloc_state.specs.declared.inst_regs.InstRegs.{InstRegs}
 use Rattle.regalloc2_fastalloc_state.specs.StateParts.{AllocatableRegsValue}
-use Rattle.regalloc2_fastalloc_proofs.specs.InstSteps.{StateValue, ProcessesOperand, ProcessesOperandsAt, none_placed, of_other, one_placed, next}
+use Rattle.regalloc2_fastalloc_proofs.specs.InstSteps.{StateValue, ProcessesOperand, ProcessesOperandsAt, none_placed, of_other, one_placed}
 use Rattle.regalloc2_fastalloc_walk.specs.OperandsAt.{is_at}
 use Rattle.regalloc2_fastalloc_walk.specs.SpillFree.{AllocsAnyReg, ArePlaced, ArePlain, FitInRegs, IsSpillFree}
 use Rattle.regalloc2_fastalloc_walk.proofs.OperandsSpillFree.{none_placed_yet, one_placed_more, other_left}

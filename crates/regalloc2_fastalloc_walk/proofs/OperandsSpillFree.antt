@@ -20,7 +20,7 @@ use Rattle.regalloc2_fastalloc_state.specs.declared.request.Requirement.TheVaria
 use Rattle.regalloc2_fastalloc_state.specs.declared.inst_regs.InstRegs.{InstRegs}
 use Rattle.regalloc2_fastalloc_state.specs.StateParts.{AllocatableRegsValue, lru_of, slot_name, alloc_of}
 use Rattle.regalloc2_validate.specs.Constraints.{op_at}
-use Rattle.regalloc2_fastalloc_proofs.specs.InstSteps.{StateValue, FreesDef, AllocsDefOp, ProcessesOperand, AllocsUse, AddsMoveIf, SameMachine, next}
+use Rattle.regalloc2_fastalloc_proofs.specs.InstSteps.{StateValue, FreesDef, AllocsDefOp, ProcessesOperand, AllocsUse, AddsMoveIf, SameMachine}
 use Rattle.regalloc2_fastalloc_proofs.specs.InstSteps.{LocatesUse, a_register, a_use, a_def, a_reuse, requirement_of, def_request, is_another, sent}
 use Rattle.regalloc2_fastalloc_proofs.specs.InstSteps.{unsent, stays, located, use_request}
 use Rattle.regalloc2_fastalloc_walk.proofs.OperandTakesFreeReg.{Got, Taken, in_register_same, operand_got}

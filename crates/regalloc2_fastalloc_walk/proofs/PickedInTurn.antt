@@ -12,7 +12,6 @@ use Rattle.regalloc2_names.specs.Operand.{OperandValue, is_def, is_fixed_nonallo
 use Rattle.regalloc2_parts.specs.Picked.{is_use, left_from, stands_early, stands_late, uses}
 use Rattle.regalloc2_fastalloc_walk.specs.OperandsAt.{is_at}
 use Rattle.regalloc2_validate.specs.Constraints.{op_at, no_operand}
-use Rattle.regalloc2_fastalloc_proofs.specs.InstSteps.{next}
 
 module _ (test : OperandValue → Bool) (ops : List OperandValue) where
   -- the operand at an index is the next where it passes

@@ -1,4 +1,5 @@
 use Rattle.std.proofs.Common.{◌≡◌, inl, sym, ◌∙◌, refl}
+use Rattle.std.proofs.lemmas.Result.{err_from_is_err_and}
 use Rattle.regalloc2_names.specs.Place.{NoPlace}
 use Rattle.regalloc2_fastalloc_state.specs.StateParts.{alloc_of}
 use Rattle.regalloc2_fastalloc_proofs.specs.InstSteps.{stays, located}
@@ -31,3 +32,8 @@ returns-clause-outcome g c =
           { allocatable = refl; fixed_stack = refl; dedicated_scratch = refl; sizes = refl; vregs = refl; num_temp_slots = refl });
       awaited = c.in_ok-place.ensures.awaited;
     }
+
+pub returns-in_err-place-clause-outcome : goal.returns-in_err-place-clause-outcome
+returns-in_err-place-clause-outcome g c =
+    let e = err_from_is_err_and c.from_residual.result c.from_residual.ensures.1 in
+    rw e.1 (λ lacks. c.in_err-place.ensures.outcome (sym e.2 ∙ lacks))

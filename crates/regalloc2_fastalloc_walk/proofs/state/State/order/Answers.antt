@@ -5,7 +5,7 @@ use Rattle.regalloc2_parts.specs.Resolved.{listed, has_scratch, with_place}
 use Rattle.regalloc2_parts.specs.declared.scratch_pool.ScratchPool.{ScratchPool}
 use Rattle.regalloc2_fastalloc_state.specs.OutOfResources.{IsResourceError, SlotsExhaustedWith}
 use Rattle.regalloc2_parts.specs.ScratchPool.{HasTooFewSlots}
-use Rattle.regalloc2_fastalloc_proofs.specs.InstSteps.{StateValue, MayHold, next}
+use Rattle.regalloc2_fastalloc_proofs.specs.InstSteps.{StateValue, MayHold}
 use Rattle.regalloc2_fastalloc_walk.specs.StateView.{tables_of}
 use Rattle.regalloc2_fastalloc_proofs.proofs.Moves.ParallelMovesOrdered.{GivenMoves, orders, orders_none, serves_given, short_full, taken_fits}
 use Rattle.regalloc2_fastalloc_state.proofs.SpillSlotUnits.{lacks_slots, no_register, slots_of_fault}
