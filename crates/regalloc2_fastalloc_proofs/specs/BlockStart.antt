@@ -1,19 +1,22 @@
 -- What a block's beginning does to the tables.
-use Rattle.std.specs.Prelude.{ℕ, ◌≡◌, ◌≢◌, ◌+◌, ◌<◌, ◌||◌, not, List, [], ◌∷◌, length, None, slice_index_or}
+use Rattle.std.specs.Prelude.{ℕ, ◌≡◌, ◌≢◌, ◌+◌, ◌<◌, not, List, length, None, slice_index_or}
 use Rattle.regalloc2_names.specs.declared.RegClass.TheVariants.{Int}
 use Rattle.regalloc2_names.specs.Register.{Register, VirtualRegister}
-use Rattle.regalloc2_names.specs.RegisterSet.{has_register}
 use Rattle.regalloc2_names.specs.Place.{Place, NoPlace, is_place}
 use Rattle.regalloc2_fastalloc_state.specs.declared.inst_regs.InstRegs.{InstRegs}
 use Rattle.regalloc2_fastalloc_state.specs.StateParts.{IsNewest, alloc_of, vreg_of_preg, GetsSpillSlot, SetsAlloc}
-use Rattle.regalloc2_fastalloc_proofs.specs.InstSteps.{StateValue, SameMachine, EvictsPReg, AddsMoveIf}
+use Rattle.regalloc2_fastalloc_proofs.specs.InstSteps.{StateValue, Outcome, next, no_register, InTurn, SameMachine, IsFresh, EvictPReg}
+use Rattle.regalloc2_fastalloc_proofs.specs.InstSteps.{EvictsPReg, AddMoveIf}
 
 -- a parameter of the block: it comes in its slot, and has no location before
-pub data ReloadsParam (point : ℕ) (v : VirtualRegister) (t u : InstRegs) (old new : StateValue) : Type 0 where
-  nowhere : alloc_of old.places v.number ≡ NoPlace → u ≡ t → new ≡ old → ReloadsParam point v t u old new
-  comes : (s : Place) (m : StateValue) → alloc_of old.places v.number ≢ NoPlace → GetsSpillSlot old.slots m.slots v s →
+pub data ReloadParam (point : ℕ) (v : VirtualRegister) (t : InstRegs) (old : StateValue) : Outcome InstRegs → Type 0 where
+  nowhere : {u : InstRegs} {new : StateValue} → alloc_of old.places v.number ≡ NoPlace → u ≡ t → new ≡ old → ReloadParam point v t old (next u new)
+  comes : {o : Outcome InstRegs} (s : Place) (m : StateValue) → alloc_of old.places v.number ≢ NoPlace → GetsSpillSlot old.slots m.slots v s →
       SetsAlloc old.places m.places v NoPlace → m.edits ≡ old.edits → SameMachine old m
-      → AddsMoveIf point v.class (not (is_place s (alloc_of old.places v.number))) s (alloc_of old.places v.number) t u m new → ReloadsParam point v t u old new
+      → AddMoveIf point v.class (not (is_place s (alloc_of old.places v.number))) s (alloc_of old.places v.number) t m o → ReloadParam point v t old o
+
+abbrev pub ReloadsParam : ℕ → VirtualRegister → InstRegs → InstRegs → StateValue → StateValue → Type 0
+ReloadsParam point v t u old new = ReloadParam point v t old (next u new)
 
 -- a vreg that no function has
 abbrev pub no_vreg : VirtualRegister
@@ -25,11 +28,27 @@ pub data ReloadsParams (point : ℕ) (params : List VirtualRegister) (t : InstRe
   one_begun : (k : ℕ) (u w : InstRegs) (m n : StateValue) → k < length params → ReloadsParams point params t old k u m →
       ReloadsParam point (slice_index_or params k no_vreg) u w m n → ReloadsParams point params t old (k + 1) w n
 
+abbrev pub ReloadParams : ℕ → List VirtualRegister → InstRegs → StateValue → Outcome InstRegs → Type 0
+ReloadParams point params t old = InTurn (length params) (ReloadsParams point params t old)
+    (λ k u m. ReloadParam point (slice_index_or params k no_vreg) u m no_register)
+
 -- registers in which a vreg is located are emptied, one after another, the one to which a vreg came last first
 pub data ReloadsRegs (point : ℕ) (t : InstRegs) (old : StateValue) : InstRegs → StateValue → Type 0 where
   none_emptied : ReloadsRegs point t old t old
   one_emptied : (r : Register) (u w : InstRegs) (m n : StateValue) → ReloadsRegs point t old u m → IsNewest m.places r → EvictsPReg point r u w m n →
       ReloadsRegs point t old w n
+
+-- one can't be emptied, after others
+pub record RegsAreNotReloaded (point : ℕ) (t : InstRegs) (old : StateValue) : Type 0 where
+  pub register : Register
+  pub inst_regs : InstRegs
+  pub middle : StateValue
+  pub empties : ReloadsRegs point t old inst_regs middle
+  pub stops : EvictPReg point register inst_regs middle no_register
+
+abbrev pub ReloadRegs : ℕ → InstRegs → StateValue → Outcome InstRegs → Type 0
+ReloadRegs point t old (next u new) = ReloadsRegs point t old u new
+ReloadRegs point t old no_register = RegsAreNotReloaded point t old
 
 -- The beginning of a block: its parameters come in their slots, and so does each vreg that is in a register behind.
 pub record ReloadsAtBegin (point : ℕ) (params : List VirtualRegister) (old new : StateValue) : Type 0 where
@@ -37,9 +56,17 @@ pub record ReloadsAtBegin (point : ℕ) (params : List VirtualRegister) (old new
   pub begun : InstRegs
   pub ended : InstRegs
   pub middle : StateValue
-  pub begins_early : (r : Register) → has_register began.early r ≡ (has_register old.allocatable r || has_register old.fixed_stack r)
-  pub begins_late : (r : Register) → has_register began.late r ≡ (has_register old.allocatable r || has_register old.fixed_stack r)
-  pub begins_scratch : began.scratch ≡ None ∷ None ∷ None ∷ []
+  pub fresh : IsFresh began old
   pub parameters : ReloadsParams point params began old (length params) begun middle
   pub empties : ReloadsRegs point begun middle ended new
   pub emptied : (r : Register) → r.number < 64 → vreg_of_preg new.places r ≡ None
+
+-- a parameter can't be moved, or a register can't be emptied
+pub data BeginIsNotReloaded (point : ℕ) (params : List VirtualRegister) (old : StateValue) : Type 0 where
+  at_parameter : (began : InstRegs) → IsFresh began old → ReloadParams point params began old no_register → BeginIsNotReloaded point params old
+  at_register : (began begun : InstRegs) (m : StateValue) → IsFresh began old → ReloadsParams point params began old (length params) begun m →
+      ReloadRegs point begun m no_register → BeginIsNotReloaded point params old
+
+abbrev pub ReloadAtBegin : ℕ → List VirtualRegister → StateValue → Outcome (Unit {0}) → Type 0
+ReloadAtBegin point params old (next x new) = ReloadsAtBegin point params old new
+ReloadAtBegin point params old no_register = BeginIsNotReloaded point params old

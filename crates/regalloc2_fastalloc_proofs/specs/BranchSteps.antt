@@ -17,11 +17,12 @@ use Rattle.regalloc2_parts.specs.AtOnce.{ends_of, names, in_turn, HasOneSourceEa
 use Rattle.regalloc2_fastalloc_state.specs.declared.inst_regs.InstRegs.{InstRegs}
 use Rattle.regalloc2_parts.specs.declared.scratch_pool.ScratchPair.{ScratchPair}
 use Rattle.regalloc2_fastalloc_state.specs.StateParts.{SpillSlotsValue, alloc_of, SetsAlloc, GetsSpillSlot, SlotsHaveOneOwner, AddsTempSlots, later_end}
-use Rattle.regalloc2_fastalloc_state.specs.StateParts.{later_slot, most_units}
+use Rattle.regalloc2_fastalloc_state.specs.StateParts.{NoneIsFrom, later_slot, most_units}
 use Rattle.regalloc2_fastalloc_proofs.specs.BlockStart.{no_vreg}
 use Rattle.regalloc2_fastalloc_state.specs.ScratchPool.{Moves, pushed, HasTooFewSlots}
 use Rattle.regalloc2_fastalloc_state.specs.InstRegs.{IsAvailableAt, both}
-use Rattle.regalloc2_fastalloc_proofs.specs.InstSteps.{StateValue, SameMachine, EvictsPReg, MayHold}
+use Rattle.regalloc2_fastalloc_proofs.specs.InstSteps.{StateValue, Outcome, next, no_register, InTurn, SameMachine, EvictPReg}
+use Rattle.regalloc2_fastalloc_proofs.specs.InstSteps.{EvictsPReg, MayHold}
 
 -- the next two slots of a class, where there is room for them
 pub record AreNextTempSlots (s : SpillSlotsValue) (class : RegClass) (pair : ScratchPair) : Type 0 where
@@ -90,6 +91,18 @@ pub record Pushes (point : ℕ) (inst_regs : InstRegs) (class : RegClass) (given
   pub orders : OrdersMoves inst_regs class given made old middle
   pub pushes : new ≡ record middle { edits = middle.edits ++ pushed point made }
 
+-- there are moves, and no register of their class is allocatable
+abbrev pub LacksMoveReg : RegClass → Moves → StateValue → Type 0
+LacksMoveReg class given old = (given ≢ []) × NoneIsFrom old.allocatable class 0
+
+abbrev pub OrderMoves : InstRegs → RegClass → Moves → StateValue → Outcome Moves → Type 0
+OrderMoves inst_regs class given old (next made new) = OrdersMoves inst_regs class given made old new
+OrderMoves inst_regs class given old no_register = LacksMoveReg class given old
+
+abbrev pub PushMoves : ℕ → InstRegs → RegClass → Moves → StateValue → Outcome (Unit {0}) → Type 0
+PushMoves point inst_regs class given old (next x new) = Pushes point inst_regs class given old new
+PushMoves point inst_regs class given old no_register = LacksMoveReg class given old
+
 -- an argument is in its slot s from now on, and is moved from there to the register where it was awaited
 pub data SpillsArgument (point : ℕ) (a : VirtualRegister) (s : Place) (t u : InstRegs) (old new : StateValue) : Type 0 where
   from_register : (r : Register) (m : StateValue) → alloc_of old.places a.number ≡ InRegister r → GetsSpillSlot old.slots m.slots a s → m.places ≡ old.places →
@@ -98,6 +111,18 @@ pub data SpillsArgument (point : ℕ) (a : VirtualRegister) (s : Place) (t u : I
   in_slot : ((r : Register) → alloc_of old.places a.number ≡ InRegister r → ⊥) → GetsSpillSlot old.slots new.slots a s → SetsAlloc old.places new.places a s →
       new.edits ≡ old.edits → SameMachine old new → u ≡ t
       → SpillsArgument point a s t u old new
+
+-- the register where it was awaited can't be emptied
+pub record ArgumentIsNotSpilled (point : ℕ) (t : InstRegs) (old : StateValue) : Type 0 where
+  pub register : Register
+  pub middle : StateValue
+  pub places : middle.places ≡ old.places
+  pub machine : SameMachine old middle
+  pub stops : EvictPReg point register t middle no_register
+
+abbrev pub SpillArgument : ℕ → VirtualRegister → InstRegs → StateValue → Outcome (Place × InstRegs) → Type 0
+SpillArgument point a t old (next (s, u) new) = SpillsArgument point a s t u old new
+SpillArgument point a t old no_register = ArgumentIsNotSpilled point t old
 
 -- a move of a class, from one place to another
 pub record ClassMove : Type 0 where
@@ -137,6 +162,12 @@ pub data GathersEdgeMoves (Own : VirtualRegister → Type 0) (point : ℕ) (para
       GathersEdgeMoves Own point params arguments t old before_it j u m given → Own (slice_index_or arguments j no_vreg)
       → GathersEdgeMoves Own point params arguments t old before_it (j + 1) u m given
 
+abbrev pub GatherEdge : (VirtualRegister → Type 0) → ℕ → List VirtualRegister → List VirtualRegister → InstRegs → StateValue → List ClassMove →
+    Outcome (InstRegs × List ClassMove) → Type 0
+GatherEdge Own point params arguments t old before_it = InTurn (length params)
+    (λ k g m. GathersEdgeMoves Own point params arguments t old before_it k g.0 m g.1)
+    (λ k g m. (n : StateValue) × (n.places ≡ m.places) × SameMachine m n × SpillArgument point (slice_index_or arguments k no_vreg) g.0 n no_register)
+
 -- those of the first k edges out of the block b
 pub data GathersMoves (f : FunctionValue) (b point : ℕ) (t : InstRegs) (old : StateValue) : ℕ → InstRegs → StateValue → List ClassMove → Type 0 where
   no_edge : GathersMoves f b point t old 0 t old []
@@ -145,6 +176,10 @@ pub data GathersMoves (f : FunctionValue) (b point : ℕ) (t : InstRegs) (old : 
       → GathersEdgeMoves (IsOwn f b) point (block_at f (target_at f b k)).params (arguments_at f b k) u m given (length (block_at f (target_at f b k)).params)
       w n more →
       GathersMoves f b point t old (k + 1) w n more
+
+abbrev pub GatherMoves : FunctionValue → ℕ → ℕ → InstRegs → StateValue → Outcome (InstRegs × List ClassMove) → Type 0
+GatherMoves f b point t old = InTurn (length (block_at f b).succs) (λ k g m. GathersMoves f b point t old k g.0 m g.1)
+    (λ k g m. GatherEdge (IsOwn f b) point (block_at f (target_at f b k)).params (arguments_at f b k) g.0 m g.1 no_register)
 
 -- a branch at the end of the block b passes its arguments: all are spilled, then the moves of each class are pushed
 pub record ProcessesBranch (f : FunctionValue) (b i : ℕ) (t u : InstRegs) (old new : StateValue) : Type 0 where
@@ -156,6 +191,17 @@ pub record ProcessesBranch (f : FunctionValue) (b i : ℕ) (t u : InstRegs) (old
   pub int : Pushes (before i) u Int (of_class Int given) gathered ints
   pub float : Pushes (before i) u Float (of_class Float given) ints floats
   pub vector : Pushes (before i) u Vector (of_class Vector given) floats new
+
+-- an argument can't be spilled, or the moves of one class lack a register
+pub data BranchIsNotProcessed (f : FunctionValue) (b i : ℕ) (t : InstRegs) (old : StateValue) : Type 0 where
+  in_gather : GatherMoves f b (before i) t old no_register → BranchIsNotProcessed f b i t old
+  in_order : (class : RegClass) (u : InstRegs) (m n : StateValue) (given : List ClassMove) →
+      GathersMoves f b (before i) t old (length (block_at f b).succs) u m given → n.allocatable ≡ m.allocatable
+      → LacksMoveReg class (of_class class given) n → BranchIsNotProcessed f b i t old
+
+abbrev pub ProcessBranch : FunctionValue → ℕ → ℕ → InstRegs → StateValue → Outcome InstRegs → Type 0
+ProcessBranch f b i t old (next u new) = ProcessesBranch f b i t u old new
+ProcessBranch f b i t old no_register = BranchIsNotProcessed f b i t old
 
 -- the moves of each class, gathered apart
 pub record AreOf (ints floats vectors : Moves) (given : List ClassMove) : Type 0 where
@@ -196,6 +242,11 @@ pub record PushesAllClasses (point : ℕ) (inst_regs : InstRegs) (ints floats ve
   pub int : Pushes point inst_regs Int ints old after_ints
   pub float : Pushes point inst_regs Float floats after_ints after_floats
   pub vector : Pushes point inst_regs Vector vectors after_floats new
+
+abbrev pub PushAllClasses : ℕ → InstRegs → Moves → Moves → Moves → StateValue → Outcome (Unit {0}) → Type 0
+PushAllClasses point inst_regs ints floats vectors old (next x new) = PushesAllClasses point inst_regs ints floats vectors old new
+PushAllClasses point inst_regs ints floats vectors old no_register =
+    LacksMoveReg Int ints old ⊎ (LacksMoveReg Float floats old ⊎ LacksMoveReg Vector vectors old)
 
 -- moves that may be made at once: between slots below a count, two into one place from one
 pub record MayBeParallel (count : ℕ) (ms : Moves) : Type 0 where

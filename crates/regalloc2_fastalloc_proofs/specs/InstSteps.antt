@@ -1,4 +1,6 @@
 -- What the steps of the walk do to the tables, with operands of every kind but `Limit`.
+-- A relation with the name of a function of the walk, as `AddMove`, is between a state and what that comes to: the next state, or that a register is
+-- missing. In the third person, as `AddsMove`, it is the part with a next state.
 use Rattle.std.specs.Prelude.{ℕ, ◌≡◌, ◌≢◌, ◌+◌, ◌<◌, ◌⊎◌, Bool, true, false, not, ◌&&◌, ◌||◌, List, [], ◌∷◌, ◌++◌, length, Option, None, Some}
 use Rattle.std.specs.Prelude.{slice_index, slice_index_or, slice_set, ◌-◌, ◌≤◌, nat_eq, is_none, if◌then◌else◌}
 use Rattle.regalloc2_names.specs.declared.RegClass.{RegClass}
@@ -43,6 +45,25 @@ pub record SameMachine (old new : StateValue) : Type 0 where
   pub vregs : length new.slots.vreg_spillslots ≡ length old.slots.vreg_spillslots
   pub num_temp_slots : new.slots.num_temp_slots ≡ old.slots.num_temp_slots
 
+-- What a step comes to: what it gives and the next state, or, where a register is missing, neither.
+pub data Outcome (Given : Type 0) : Type 0 where
+  next : Given → StateValue → Outcome Given
+  no_register : Outcome Given
+
+-- the steps before the one at an index are done, and that one lacks a register
+pub record StopsAt {Given : Type 0} (count : ℕ) (Done : ℕ → Given → StateValue → Type 0) (Stops : ℕ → Given → StateValue → Type 0) : Type 0 where
+  pub index : ℕ
+  pub given : Given
+  pub middle : StateValue
+  pub inside : index < count
+  pub done : Done index given middle
+  pub stops : Stops index given middle
+
+-- so many steps, one after another: all are done, or one of them lacks a register
+abbrev pub InTurn : {Given : Type 0} → ℕ → (ℕ → Given → StateValue → Type 0) → (ℕ → Given → StateValue → Type 0) → Outcome Given → Type 0
+InTurn count Done Stops (next given new) = Done count given new
+InTurn count Done Stops no_register = StopsAt count Done Stops
+
 -- a move at a point
 abbrev pub a_move : ℕ → Place → Place → ℕ × MoveValue
 a_move point from to = (point, record { from = from; to = to })
@@ -64,6 +85,11 @@ pub data EvictsVReg (point : ℕ) (r : Register) (old new : StateValue) : Type 0
       SetsAlloc old.places new.places v s
       → new.edits ≡ old.edits ++ a_move point s (InRegister r) ∷ [] → SameMachine old new → EvictsVReg point r old new
 
+-- which takes no other register
+abbrev pub EvictVReg : ℕ → Register → StateValue → Outcome (Unit {0}) → Type 0
+EvictVReg point r old (next x new) = EvictsVReg point r old new
+EvictVReg point r old no_register = ⊥
+
 -- the register through which moves of a class from stack to stack go at an instruction
 pub data AllocsScratchReg (point : ℕ) (class : RegClass) (t u : InstRegs) (by : Register) (old new : StateValue) : Type 0 where
   dedicated_scratch : slice_index_or old.dedicated_scratch (class_code class) None ≡ Some by → u ≡ t → new ≡ old → AllocsScratchReg point class t u by old new
@@ -75,26 +101,52 @@ pub data AllocsScratchReg (point : ℕ) (class : RegClass) (t u : InstRegs) (by 
       ((q : Register) → has_register u.late q ≡ not (is_register by q) && has_register t.late q)
       → u.scratch ≡ slice_set t.scratch (class_code class) (Some by) → EvictsVReg point by old new → AllocsScratchReg point class t u by old new
 
+-- no register of a class is free at both positions
+abbrev pub NoneIsAvailable : RegClass → InstRegs → StateValue → Type 0
+NoneIsAvailable class t old = (r : Register) → MayHold old class r → is_free_throughout t r ≡ true → ⊥
+
+-- none is kept for moves of a class or was taken for them, and none is free
+pub record LacksScratchReg (class : RegClass) (t : InstRegs) (old : StateValue) : Type 0 where
+  pub none_kept : slice_index_or old.dedicated_scratch (class_code class) None ≡ None
+  pub none_taken : slice_index_or t.scratch (class_code class) None ≡ None
+  pub none_free : NoneIsAvailable class t old
+
+abbrev pub AllocScratchReg : ℕ → RegClass → InstRegs → StateValue → Outcome (Register × InstRegs) → Type 0
+AllocScratchReg point class t old (next (by, u) new) = AllocsScratchReg point class t u by old new
+AllocScratchReg point class t old no_register = LacksScratchReg class t old
+
 -- one more move, listed before all others, by way of a register where both ends are places in memory
-pub data AddsMove (point : ℕ) (class : RegClass) (from to : Place) (t u : InstRegs) (old new : StateValue) : Type 0 where
-  direct : (is_stack_in old from && is_stack_in old to) ≡ false → u ≡ t → new ≡ record old { edits = old.edits ++ a_move point from to ∷ [] } →
-      AddsMove point class from to t u old new
-  through : (by : Register) (m : StateValue) → (is_stack_in old from && is_stack_in old to) ≡ true → AllocsScratchReg point class t u by old m
-      → new ≡ record m { edits = m.edits ++ a_move point (InRegister by) to ∷ a_move point from (InRegister by) ∷ [] }
-      → AddsMove point class from to t u old new
+pub data AddMove (point : ℕ) (class : RegClass) (from to : Place) (t : InstRegs) (old : StateValue) : Outcome InstRegs → Type 0 where
+  direct : {u : InstRegs} {new : StateValue} → (is_stack_in old from && is_stack_in old to) ≡ false → u ≡ t →
+      new ≡ record old { edits = old.edits ++ a_move point from to ∷ [] } → AddMove point class from to t old (next u new)
+  through : {u : InstRegs} {new : StateValue} (by : Register) (m : StateValue) → (is_stack_in old from && is_stack_in old to) ≡ true →
+      AllocsScratchReg point class t u by old m →
+      new ≡ record m { edits = m.edits ++ a_move point (InRegister by) to ∷ a_move point from (InRegister by) ∷ [] }
+      → AddMove point class from to t old (next u new)
+  no_scratch : (is_stack_in old from && is_stack_in old to) ≡ true → LacksScratchReg class t old → AddMove point class from to t old no_register
+
+abbrev pub AddsMove : ℕ → RegClass → Place → Place → InstRegs → InstRegs → StateValue → StateValue → Type 0
+AddsMove point class from to t u old new = AddMove point class from to t old (next u new)
 
 -- a register or fixed stack slot is emptied
-pub data EvictsPReg (point : ℕ) (r : Register) (t u : InstRegs) (old new : StateValue) : Type 0 where
-  empty : vreg_of_preg old.places r ≡ None → u ≡ t → new ≡ old → EvictsPReg point r t u old new
-  cleared : (v : VirtualRegister) (s : Place) (m : StateValue) → r.number < 64 → vreg_of_preg old.places r ≡ Some v → GetsSpillSlot old.slots m.slots v s →
-      SetsAlloc old.places m.places v s → m.edits ≡ old.edits → SameMachine old m
-      → AddsMove point v.class s (InRegister r) t u m new → EvictsPReg point r t u old new
+pub data EvictPReg (point : ℕ) (r : Register) (t : InstRegs) (old : StateValue) : Outcome InstRegs → Type 0 where
+  empty : {u : InstRegs} {new : StateValue} → vreg_of_preg old.places r ≡ None → u ≡ t → new ≡ old → EvictPReg point r t old (next u new)
+  cleared : {o : Outcome InstRegs} (v : VirtualRegister) (s : Place) (m : StateValue) → r.number < 64 → vreg_of_preg old.places r ≡ Some v →
+      GetsSpillSlot old.slots m.slots v s → SetsAlloc old.places m.places v s → m.edits ≡ old.edits → SameMachine old m
+      → AddMove point v.class s (InRegister r) t m o → EvictPReg point r t old o
+
+abbrev pub EvictsPReg : ℕ → Register → InstRegs → InstRegs → StateValue → StateValue → Type 0
+EvictsPReg point r t u old new = EvictPReg point r t old (next u new)
 
 -- and of all vregs but that of one number
-pub data EvictsOthers (point : ℕ) (r : Register) (v : VirtualRegister) (t u : InstRegs) (old new : StateValue) : Type 0 where
-  own : (w : VirtualRegister) → vreg_of_preg old.places r ≡ Some w → w.number ≡ v.number → u ≡ t → new ≡ old → EvictsOthers point r v t u old new
-  others : ((w : VirtualRegister) → vreg_of_preg old.places r ≡ Some w → w.number ≢ v.number) → EvictsPReg point r t u old new
-      → EvictsOthers point r v t u old new
+pub data EvictOthers (point : ℕ) (r : Register) (v : VirtualRegister) (t : InstRegs) (old : StateValue) : Outcome InstRegs → Type 0 where
+  own : {u : InstRegs} {new : StateValue} (w : VirtualRegister) → vreg_of_preg old.places r ≡ Some w → w.number ≡ v.number → u ≡ t → new ≡ old →
+      EvictOthers point r v t old (next u new)
+  others : {o : Outcome InstRegs} → ((w : VirtualRegister) → vreg_of_preg old.places r ≡ Some w → w.number ≢ v.number) → EvictPReg point r t old o
+      → EvictOthers point r v t old o
+
+abbrev pub EvictsOthers : ℕ → Register → VirtualRegister → InstRegs → InstRegs → StateValue → StateValue → Type 0
+EvictsOthers point r v t u old new = EvictOthers point r v t old (next u new)
 
 -- a place meets what is asked
 unfoldable pub MeetsRequirement : StateValue → Requirement → Place → Type 0
@@ -111,6 +163,11 @@ pub data SelectsPlace (inst_regs : InstRegs) (o : OperandRequest) (p : Place) (o
       new.edits ≡ old.edits → SameMachine old new → SelectsPlace inst_regs o p old new
   free : (r : Register) → (o.requirement ≡ AnyPlace) ⊎ (o.requirement ≡ AnyReg) → MayHold old o.vreg.class r → IsAvailableAt inst_regs o.positions r →
       p ≡ InRegister r → new ≡ old → SelectsPlace inst_regs o p old new
+
+-- or there is none: any register was asked for, and none is free
+abbrev pub SelectPlace : InstRegs → OperandRequest → StateValue → Outcome Place → Type 0
+SelectPlace t o old (next p new) = SelectsPlace t o p old new
+SelectPlace t o old no_register = (o.requirement ≡ AnyReg) × NoneIsAvailable o.vreg.class t old
 
 -- how many registers of a class are still kept for a move from stack to stack: none once one was taken for such moves
 abbrev pub scratch_reserve_left : PRegSet → List (Option Register) → InstRegs → RegClass → ℕ
@@ -135,6 +192,11 @@ pub data ClaimsPlace (point : ℕ) (o : OperandRequest) (p : Place) (t u : InstR
   in_register : (r : Register) (m : InstRegs) → p ≡ InRegister r → EvictsOthers point r o.vreg t m old new → RemovesAvailable m u r o.positions
       → ClaimsPlace point o p t u old new
 
+-- or the register can't be emptied
+abbrev pub ClaimPlace : ℕ → OperandRequest → Place → InstRegs → StateValue → Outcome InstRegs → Type 0
+ClaimPlace point o p t old (next u new) = ClaimsPlace point o p t u old new
+ClaimPlace point o p t old no_register = (r : Register) × (p ≡ InRegister r) × EvictOthers point r o.vreg t old no_register
+
 -- an operand gets a place
 pub record AllocsOperand (point : ℕ) (o : OperandRequest) (p : Place) (t u : InstRegs) (old new : StateValue) : Type 0 where
   pub middle : StateValue
@@ -144,10 +206,22 @@ pub record AllocsOperand (point : ℕ) (o : OperandRequest) (p : Place) (t u : I
   pub awaited_in : o.is_def ≡ true → o.requirement ≡ AnyPlace → (r : Register) → p ≡ InRegister r → (q : Register)
       × (alloc_of old.places o.vreg.number ≡ InRegister q)
 
+-- no place is there for it, or the place can't be claimed
+pub data LacksPlace (point : ℕ) (o : OperandRequest) (t : InstRegs) (old : StateValue) : Type 0 where
+  in_pick : SelectPlace t o old no_register → LacksPlace point o t old
+  in_clear : (p : Place) (m : StateValue) → SelectsPlace t o p old m → ClaimPlace point o p t m no_register → LacksPlace point o t old
+
+abbrev pub AllocOperand : ℕ → OperandRequest → InstRegs → StateValue → Outcome (Place × InstRegs) → Type 0
+AllocOperand point o t old (next (p, u) new) = AllocsOperand point o p t u old new
+AllocOperand point o t old no_register = LacksPlace point o t old
+
 -- a move that is made unless it goes nowhere
-pub data AddsMoveIf (point : ℕ) (class : RegClass) (is_made : Bool) (from to : Place) (t u : InstRegs) (old new : StateValue) : Type 0 where
-  sent : is_made ≡ true → AddsMove point class from to t u old new → AddsMoveIf point class is_made from to t u old new
-  unsent : is_made ≡ false → u ≡ t → new ≡ old → AddsMoveIf point class is_made from to t u old new
+pub data AddMoveIf (point : ℕ) (class : RegClass) (is_made : Bool) (from to : Place) (t : InstRegs) (old : StateValue) : Outcome InstRegs → Type 0 where
+  sent : {o : Outcome InstRegs} → is_made ≡ true → AddMove point class from to t old o → AddMoveIf point class is_made from to t old o
+  unsent : {u : InstRegs} {new : StateValue} → is_made ≡ false → u ≡ t → new ≡ old → AddMoveIf point class is_made from to t old (next u new)
+
+abbrev pub AddsMoveIf : ℕ → RegClass → Bool → Place → Place → InstRegs → InstRegs → StateValue → StateValue → Type 0
+AddsMoveIf point class is_made from to t u old new = AddMoveIf point class is_made from to t old (next u new)
 
 -- whether a place is there, and isn't that other one
 abbrev pub is_another : Place → Place → Bool
@@ -165,6 +239,22 @@ pub record FreesDef (point : ℕ) (v : VirtualRegister) (is_ret : Bool) (p : Pla
   pub awaited : AddsMoveIf point v.class (not is_ret && is_another (alloc_of old.places v.number) p) p (alloc_of old.places v.number) t inst_regs left middle
   pub stored : (let s : Place = slot_name old.slots v.number in AddsMoveIf point v.class
       (not is_ret && (is_another s p && not (is_place s (alloc_of old.places v.number)))) p s inst_regs u middle new)
+
+-- a move of the definition can't be made: to where its vreg was awaited, or then to its slot
+pub data DefIsNotFreed (point : ℕ) (v : VirtualRegister) (is_ret : Bool) (p : Place) (t : InstRegs) (old : StateValue) : Type 0 where
+  to_awaited : (left : StateValue) → SetsAlloc old.places left.places v NoPlace → left.slots ≡ old.slots → left.edits ≡ old.edits → SameMachine old left
+      → AddMoveIf point v.class (not is_ret && is_another (alloc_of old.places v.number) p) p (alloc_of old.places v.number) t left no_register
+      → DefIsNotFreed point v is_ret p t old
+  to_slot : (left middle : StateValue) (inst_regs : InstRegs) → SetsAlloc old.places left.places v NoPlace → left.slots ≡ old.slots →
+      left.edits ≡ old.edits → SameMachine old left
+      → AddsMoveIf point v.class (not is_ret && is_another (alloc_of old.places v.number) p) p (alloc_of old.places v.number) t inst_regs left middle
+      → AddMoveIf point v.class (not is_ret && (is_another (slot_name old.slots v.number) p
+      && not (is_place (slot_name old.slots v.number) (alloc_of old.places v.number)))) p (slot_name old.slots v.number) inst_regs middle no_register
+      → DefIsNotFreed point v is_ret p t old
+
+abbrev pub FreeDef : ℕ → VirtualRegister → Bool → Place → InstRegs → StateValue → Outcome InstRegs → Type 0
+FreeDef point v is_ret p t old (next u new) = FreesDef point v is_ret p t u old new
+FreeDef point v is_ret p t old no_register = DefIsNotFreed point v is_ret p t old
 
 -- the use of a vreg in a place: it is there from now on if it had no location
 pub data LocatesUse (v : VirtualRegister) (p : Place) (old new : StateValue) : Type 0 where
@@ -185,6 +275,20 @@ pub record AllocsUse (point : ℕ) (o : OperandRequest) (p : Place) (t u : InstR
   pub gets : AllocsOperand point o p t u old middle
   pub uses : LocatesUse o.vreg p middle new
   pub awaited : u.awaited ≡ awaited_less o.requirement o.vreg.class t.awaited
+
+-- a definition gets no place, or can't be sent from there
+pub data DefIsNotAllocated (point : ℕ) (o : OperandRequest) (is_ret : Bool) (t : InstRegs) (old : StateValue) : Type 0 where
+  in_get : AllocOperand point o t old no_register → DefIsNotAllocated point o is_ret t old
+  in_define : (p : Place) (inst_regs : InstRegs) (middle : StateValue) → AllocsOperand point o p t inst_regs old middle →
+      FreeDef point o.vreg is_ret p inst_regs middle no_register → DefIsNotAllocated point o is_ret t old
+
+abbrev pub AllocDefOp : ℕ → OperandRequest → Bool → InstRegs → StateValue → Outcome (Place × InstRegs) → Type 0
+AllocDefOp point o is_ret t old (next (p, u) new) = AllocsDefOp point o is_ret p t u old new
+AllocDefOp point o is_ret t old no_register = DefIsNotAllocated point o is_ret t old
+
+abbrev pub AllocUse : ℕ → OperandRequest → InstRegs → StateValue → Outcome (Place × InstRegs) → Type 0
+AllocUse point o t old (next (p, u) new) = AllocsUse point o p t u old new
+AllocUse point o t old no_register = AllocOperand point o t old no_register
 
 -- each operand that reads or defines names a vreg of the tables
 abbrev pub InTables : List OperandValue → StateValue → Type 0
@@ -237,6 +341,22 @@ pub data ProcessesOperand (i : ℕ) (is_ret : Bool) (operands : List OperandValu
       AllocsDefOp (after i) (reuse_request (op_at operands k) (op_at operands n)) is_ret p t u old new
       → there ≡ slice_set (slice_set here k p) n p → ProcessesOperand i is_ret operands k here there t u old new
 
+-- the operand k gets no place, or its moves can't be made
+pub data OperandIsNotProcessed (i : ℕ) (is_ret : Bool) (operands : List OperandValue) (k : ℕ) (here : List Place) (t : InstRegs) (old : StateValue) :
+    Type 0 where
+  at_use : is_reading (op_at operands k) ≡ true →
+      AllocUse (after i) (use_request (op_at operands k) (slice_index_or here k NoPlace)) t old no_register →
+      OperandIsNotProcessed i is_ret operands k here t old
+  at_def : is_def (op_at operands k).kind ≡ true → ((n : ℕ) → (op_at operands k).constraint ≡ Reuse n → ⊥) →
+      AllocDefOp (after i) (def_request (op_at operands k)) is_ret t old no_register → OperandIsNotProcessed i is_ret operands k here t old
+  at_reuse : (n : ℕ) → is_def (op_at operands k).kind ≡ true → (op_at operands k).constraint ≡ Reuse n →
+      AllocDefOp (after i) (reuse_request (op_at operands k) (op_at operands n)) is_ret t old no_register →
+      OperandIsNotProcessed i is_ret operands k here t old
+
+abbrev pub ProcessOperand : ℕ → Bool → List OperandValue → ℕ → List Place → InstRegs → StateValue → Outcome (List Place × InstRegs) → Type 0
+ProcessOperand i is_ret operands k here t old (next (there, u) new) = ProcessesOperand i is_ret operands k here there t u old new
+ProcessOperand i is_ret operands k here t old no_register = OperandIsNotProcessed i is_ret operands k here t old
+
 -- the operands of one position among the first k are placed, one after another
 pub data ProcessesOperandsAt (i : ℕ) (is_ret late : Bool) (operands : List OperandValue) (here : List Place) (t : InstRegs) (old : StateValue) : ℕ →
     List Place → InstRegs → StateValue → Type 0 where
@@ -247,6 +367,10 @@ pub data ProcessesOperandsAt (i : ℕ) (is_ret late : Bool) (operands : List Ope
       is_late (op_at operands k).position ≡ late
       → ProcessesOperand i is_ret operands k there next u w m n → ProcessesOperandsAt i is_ret late operands here t old (k + 1) next w n
 
+abbrev pub ProcessOperandsAt : ℕ → Bool → Bool → List OperandValue → List Place → InstRegs → StateValue → Outcome (List Place × InstRegs) → Type 0
+ProcessOperandsAt i is_ret late operands here t old = InTurn (length operands) (λ k g m. ProcessesOperandsAt i is_ret late operands here t old k g.0 g.1 m)
+    (λ k g m. (is_late (op_at operands k).position ≡ late) × ProcessOperand i is_ret operands k g.0 g.1 m no_register)
+
 -- the uses among the first k operands that read are moved to their places from where their vregs are located
 pub data MovesUses (point : ℕ) (operands : List OperandValue) (here : List Place) (t : InstRegs) (old : StateValue) : ℕ → InstRegs → StateValue → Type 0 where
   none_moved : MovesUses point operands here t old 0 t old
@@ -256,6 +380,14 @@ pub data MovesUses (point : ℕ) (operands : List OperandValue) (here : List Pla
       → (let p : Place = slice_index_or here k NoPlace in let q : Place = alloc_of m.places (op_at operands k).vreg.number in
       AddsMoveIf point (op_at operands k).vreg.class (not (is_place q p)) q p u w m n)
       → MovesUses point operands here t old (k + 1) w n
+
+-- the move of a use from where its vreg is located to its place
+abbrev pub MoveUse : ℕ → OperandValue → Place → InstRegs → StateValue → Outcome InstRegs → Type 0
+MoveUse point o p t old = (let q : Place = alloc_of old.places o.vreg.number in AddMoveIf point o.vreg.class (not (is_place q p)) q p t old)
+
+abbrev pub MoveUses : ℕ → List OperandValue → List Place → InstRegs → StateValue → Outcome InstRegs → Type 0
+MoveUses point operands here t old = InTurn (length operands) (MovesUses point operands here t old)
+    (λ k u m. (is_reading (op_at operands k) ≡ true) × MoveUse point (op_at operands k) (slice_index_or here k NoPlace) u m no_register)
 
 -- what an operand claims before operands are allocated: its fixed register, where it isn't one that reads nothing; and for a reuse that of
 -- the operand that it names, while late operands are there
@@ -290,6 +422,17 @@ pub record ReservesRegs (operands : List OperandValue) (t u : InstRegs) (old : S
   pub only : (r : Register) → is_free_throughout t r ≡ true → is_free_throughout u r ≡ false → IsFixedIn operands r
   pub awaited : t.awaited ≡ 0 ∷ 0 ∷ 0 ∷ [] → (c : RegClass) → awaited_of u c ≡ asking operands c
 
+-- an operand claims a register that isn't the machine's, or that an operand before it claims at a position of its own
+pub data RegsAreNotReserved (operands : List OperandValue) (old : StateValue) : Type 0 where
+  unknown : (k : ℕ) (r : Register) (p : Positions) → k < length operands → NeedsFixedReg operands k r p →
+      (has_register old.allocatable r || has_register old.fixed_stack r) ≡ false → RegsAreNotReserved operands old
+  shared : (j k : ℕ) (r : Register) (p q : Positions) → j < k → k < length operands → NeedsFixedReg operands j r p → NeedsFixedReg operands k r q →
+      ((p.early && q.early) || (p.late && q.late)) ≡ true → RegsAreNotReserved operands old
+
+abbrev pub ReserveRegs : List OperandValue → InstRegs → StateValue → Outcome InstRegs → Type 0
+ReserveRegs operands t old (next u new) = ReservesRegs operands t u old
+ReserveRegs operands t old no_register = RegsAreNotReserved operands old
+
 -- the clobbers are held while late operands are there
 pub record RemovesClobbers (clobbers : PRegSet) (t u : InstRegs) : Type 0 where
   pub late : (r : Register) → has_register u.late r ≡ not (has_register clobbers r) && has_register t.late r
@@ -310,41 +453,106 @@ pub data EvictsFixed (point : ℕ) (operands : List OperandValue) (t : InstRegs)
       j < length operands → (op_at operands j).constraint ≡ FixedReg r
       → EvictsPReg point r u w m n → EvictsFixed point operands t old (k + 1) w n
 
+-- or a register of an operand can't be emptied
+abbrev pub EvictFixed : ℕ → List OperandValue → InstRegs → StateValue → Outcome InstRegs → Type 0
+EvictFixed point operands t old = InTurn (length operands) (EvictsFixed point operands t old)
+    (λ k u m. (r : Register) × EvictPReg point r u m no_register)
+
 -- registers are emptied, one after another
 pub data EvictsEach (point : ℕ) : List Register → InstRegs → StateValue → InstRegs → StateValue → Type 0 where
   none_left : (t : InstRegs) (m : StateValue) → EvictsEach point [] t m t m
   one_more : (r : Register) (rs : List Register) (t u w : InstRegs) (old m new : StateValue) → EvictsPReg point r t u old m → EvictsEach point rs u m w new →
       EvictsEach point (r ∷ rs) t old w new
 
+-- one can't be emptied, after others
+pub record EachIsNotEvicted (point : ℕ) (t : InstRegs) (old : StateValue) : Type 0 where
+  pub cleared : List Register
+  pub inst_regs : InstRegs
+  pub middle : StateValue
+  pub register : Register
+  pub clears : EvictsEach point cleared t old inst_regs middle
+  pub stops : EvictPReg point register inst_regs middle no_register
+
+abbrev pub EvictEach : ℕ → List Register → InstRegs → StateValue → Outcome InstRegs → Type 0
+EvictEach point rs t old (next u new) = EvictsEach point rs t old u new
+EvictEach point rs t old no_register = EachIsNotEvicted point t old
+
 -- an instruction that ends its block, after which no move is listed
 abbrev pub ends_block : InstValue → Bool
 ends_block inst = inst.is_branch || inst.is_ret
 
--- An instruction is allocated: fixed registers and clobbers are taken and emptied; late operands are allocated, then early ones; then uses are moved.
-pub record AllocsInst (i : ℕ) (inst : InstValue) (blank places : List Place) (old new : StateValue) : Type 0 where
-  pub began : InstRegs
+-- all registers of the machine are free, none is kept for moves yet, and no operand asks for one
+pub record IsFresh (inst_regs : InstRegs) (t : StateValue) : Type 0 where
+  pub early : (r : Register) → has_register inst_regs.early r ≡ (has_register t.allocatable r || has_register t.fixed_stack r)
+  pub late : (r : Register) → has_register inst_regs.late r ≡ (has_register t.allocatable r || has_register t.fixed_stack r)
+  pub scratch : inst_regs.scratch ≡ None ∷ None ∷ None ∷ []
+  pub awaited : inst_regs.awaited ≡ 0 ∷ 0 ∷ 0 ∷ []
+
+-- an instruction's fixed registers and clobbers are taken and emptied
+pub record PreparesRegs (i : ℕ) (operands : List OperandValue) (clobbers : PRegSet) (t quiet : InstRegs) (old new : StateValue) : Type 0 where
   pub reserved : InstRegs
   pub held : InstRegs
   pub cleared : InstRegs
+  pub middle : StateValue
+  pub reserves : ReservesRegs operands t reserved old
+  pub holds : RemovesClobbers clobbers reserved held
+  pub fixed : EvictsFixed (after i) operands held old (length operands) cleared middle
+  pub emptied : EvictsEach (after i) (registers_of clobbers) cleared middle quiet new
+  pub awaited : (c : RegClass) → awaited_of quiet c ≡ asking operands c
+
+-- they can't be taken, or not emptied
+pub data RegsAreNotPrepared (i : ℕ) (operands : List OperandValue) (clobbers : PRegSet) (t : InstRegs) (old : StateValue) : Type 0 where
+  in_reserve : ReserveRegs operands t old no_register → RegsAreNotPrepared i operands clobbers t old
+  in_fixed : (reserved held : InstRegs) → ReservesRegs operands t reserved old → RemovesClobbers clobbers reserved held →
+      EvictFixed (after i) operands held old no_register → RegsAreNotPrepared i operands clobbers t old
+  in_clobbers : (reserved held cleared : InstRegs) (m : StateValue) → ReservesRegs operands t reserved old → RemovesClobbers clobbers reserved held
+      → EvictsFixed (after i) operands held old (length operands) cleared m → EvictEach (after i) (registers_of clobbers) cleared m no_register →
+      RegsAreNotPrepared i operands clobbers t old
+
+abbrev pub PrepareRegs : ℕ → List OperandValue → PRegSet → InstRegs → StateValue → Outcome InstRegs → Type 0
+PrepareRegs i operands clobbers t old (next quiet new) = PreparesRegs i operands clobbers t quiet old new
+PrepareRegs i operands clobbers t old no_register = RegsAreNotPrepared i operands clobbers t old
+
+-- An instruction is allocated: its registers are prepared; late operands are allocated, then early ones; then uses are moved. After one that ends its
+-- block no move is listed.
+pub record AllocsInstOf (i : ℕ) (operands : List OperandValue) (clobbers : PRegSet) (ends : Bool) (blank places : List Place) (old new : StateValue) :
+    Type 0 where
+  pub began : InstRegs
   pub quiet : InstRegs
   pub late : InstRegs
   pub early : InstRegs
   pub ended : InstRegs
-  pub after_fixed : StateValue
   pub after_clobbers : StateValue
   pub after_late : StateValue
   pub after_early : StateValue
   pub half : List Place
-  pub long : length blank ≡ length inst.operands
+  pub long : length blank ≡ length operands
   pub no_places : (k : ℕ) → slice_index_or blank k NoPlace ≡ NoPlace
-  pub begins_early : (r : Register) → has_register began.early r ≡ (has_register old.allocatable r || has_register old.fixed_stack r)
-  pub begins_late : (r : Register) → has_register began.late r ≡ (has_register old.allocatable r || has_register old.fixed_stack r)
-  pub begins_scratch : began.scratch ≡ None ∷ None ∷ None ∷ []
-  pub awaited : (c : RegClass) → awaited_of quiet c ≡ asking inst.operands c
-  pub reserves : ReservesRegs inst.operands began reserved old
-  pub holds : RemovesClobbers inst.clobbers reserved held
-  pub fixed : EvictsFixed (after i) inst.operands held old (length inst.operands) cleared after_fixed
-  pub clobbers : EvictsEach (after i) (registers_of inst.clobbers) cleared after_fixed quiet after_clobbers
-  pub lates : ProcessesOperandsAt i (ends_block inst) true inst.operands blank quiet after_clobbers (length inst.operands) half late after_late
-  pub earlies : ProcessesOperandsAt i (ends_block inst) false inst.operands half late after_late (length inst.operands) places early after_early
-  pub moves : MovesUses (before i) inst.operands places early after_early (length inst.operands) ended new
+  pub fresh : IsFresh began old
+  pub prepares : PreparesRegs i operands clobbers began quiet old after_clobbers
+  pub lates : ProcessesOperandsAt i ends true operands blank quiet after_clobbers (length operands) half late after_late
+  pub earlies : ProcessesOperandsAt i ends false operands half late after_late (length operands) places early after_early
+  pub moves : MovesUses (before i) operands places early after_early (length operands) ended new
+
+-- by its operands, its clobbers and whether it ends its block
+abbrev pub AllocsInst : ℕ → InstValue → List Place → List Place → StateValue → StateValue → Type 0
+AllocsInst i inst blank places old new = AllocsInstOf i inst.operands inst.clobbers (ends_block inst) blank places old new
+
+-- an instruction stops at one of its stages
+pub data InstIsNotAllocated (i : ℕ) (operands : List OperandValue) (clobbers : PRegSet) (ends : Bool) (blank : List Place) (t : InstRegs)
+    (old : StateValue) : Type 0 where
+  in_prepare : PrepareRegs i operands clobbers t old no_register → InstIsNotAllocated i operands clobbers ends blank t old
+  in_lates : (quiet : InstRegs) (m : StateValue) → PreparesRegs i operands clobbers t quiet old m →
+      ProcessOperandsAt i ends true operands blank quiet m no_register → InstIsNotAllocated i operands clobbers ends blank t old
+  in_earlies : (quiet late : InstRegs) (m n : StateValue) (half : List Place) → PreparesRegs i operands clobbers t quiet old m →
+      ProcessesOperandsAt i ends true operands blank quiet m (length operands) half late n
+      → ProcessOperandsAt i ends false operands half late n no_register → InstIsNotAllocated i operands clobbers ends blank t old
+  in_moves : (quiet late early : InstRegs) (m n o : StateValue) (half places : List Place) → PreparesRegs i operands clobbers t quiet old m →
+      ProcessesOperandsAt i ends true operands blank quiet m (length operands) half late n
+      → ProcessesOperandsAt i ends false operands half late n (length operands) places early o
+      → MoveUses (before i) operands places early o no_register → InstIsNotAllocated i operands clobbers ends blank t old
+
+abbrev pub AllocInst : ℕ → List OperandValue → PRegSet → Bool → List Place → InstRegs → StateValue → Outcome (List Place × InstRegs) → Type 0
+AllocInst i operands clobbers ends blank t old (next (places, u) new) =
+    (a : AllocsInstOf i operands clobbers ends blank places old new) × (a.ended ≡ u)
+AllocInst i operands clobbers ends blank t old no_register = InstIsNotAllocated i operands clobbers ends blank t old

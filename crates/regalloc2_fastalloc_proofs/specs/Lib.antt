@@ -4,5 +4,4 @@ pub mod BranchSteps
 pub mod SlotLayout
 pub mod Safety
 pub mod InstSteps
-pub mod OutOfRegs
 pub mod BlockSteps

@@ -13,8 +13,8 @@ use Rattle.regalloc2_semantics.specs.Blocks.{target_at}
 use Rattle.regalloc2_semantics.specs.Listing.{op_at}
 use Rattle.regalloc2_semantics.specs.Stores.{Store, store_moves, IsOneOf, AreInOrder}
 use Rattle.regalloc2_branch_defs.specs.BranchDefs.{DefinesNumber, IsStoredOperand, IsEdgeInto, fixed_definition}
-use Rattle.regalloc2_fastalloc_state.specs.StateParts.{SpillSlotsValue, GetsSpillSlot, slot_name}
-use Rattle.regalloc2_fastalloc_proofs.specs.InstSteps.{StateValue, SameMachine, MayHold}
+use Rattle.regalloc2_fastalloc_state.specs.StateParts.{SpillSlotsValue, GetsSpillSlot, NoneIsFrom, slot_name}
+use Rattle.regalloc2_fastalloc_proofs.specs.InstSteps.{StateValue, Outcome, next, no_register, SameMachine, MayHold}
 use Rattle.regalloc2_fastalloc_proofs.specs.BlockStart.{no_vreg}
 
 -- the operands of the branch at a block's end
@@ -83,3 +83,17 @@ pub record StoresOn (f : FunctionValue) (e k point : ℕ) (old new : StateValue)
 pub data StoresBranchDefs (f : FunctionValue) (b : ℕ) (old new : StateValue) : Type 0 where
   none_stored : ((e k : ℕ) → IsEdgeInto f b e k → ⊥) → new ≡ old → StoresBranchDefs f b old new
   all_stored : (e k : ℕ) → IsEdgeInto f b e k → StoresOn f e k (before (block_at f b).range.first) old new → StoresBranchDefs f b old new
+
+-- a store goes from memory to memory, and its class has no allocatable register
+pub record StoreHasNoRegister (f : FunctionValue) (b : ℕ) (old : StateValue) : Type 0 where
+  pub from : ℕ
+  pub position : ℕ
+  pub index : ℕ
+  pub vreg : VirtualRegister
+  pub edge : IsEdgeInto f b from position
+  pub stored : IsStoredFor f from position old.slots index vreg
+  pub none : NoneIsFrom old.allocatable (op_at (branch_operands f from) index).vreg.class 0
+
+abbrev pub StoreBranchDefs : FunctionValue → ℕ → StateValue → Outcome (Unit {0}) → Type 0
+StoreBranchDefs f b old (next x new) = StoresBranchDefs f b old new
+StoreBranchDefs f b old no_register = StoreHasNoRegister f b old

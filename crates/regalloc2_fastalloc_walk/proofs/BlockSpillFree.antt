@@ -12,6 +12,7 @@ use Rattle.regalloc2_names.specs.declared.sets.PRegSet.{PRegSet}
 use Rattle.regalloc2_names.specs.Register.{Register, VirtualRegister}
 use Rattle.regalloc2_names.specs.RegisterSet.{has_register, registers_of}
 use Rattle.regalloc2_names.specs.Listed.{listed_is}
+use Rattle.regalloc2_names.specs.Point.{after}
 use Rattle.regalloc2_names.specs.Operand.{OperandValue, fixed_register, is_def, is_late, is_reading}
 use Rattle.regalloc2_names.specs.Place.{Place, NoPlace, InRegister, is_place}
 use Rattle.regalloc2_names.specs.Same.{is_place-same}
@@ -36,7 +37,7 @@ use Rattle.regalloc2_fastalloc_proofs.specs.InstSteps.{one_moved}
 use Rattle.regalloc2_fastalloc_proofs.specs.BranchSteps.{AreApart, ClassMove, GathersMoves, GathersEdgeMoves, no_edge, none_gathered, of_class, one_edge}
 use Rattle.regalloc2_fastalloc_proofs.specs.BranchSteps.{one_gathered, own_argument}
 use Rattle.regalloc2_fastalloc_proofs.specs.BlockStart.{ReloadsParams, none_begun, one_begun}
-use Rattle.regalloc2_fastalloc_proofs.specs.BlockSteps.{IsFresh}
+use Rattle.regalloc2_fastalloc_proofs.specs.InstSteps.{IsFresh, PreparesRegs}
 use Rattle.regalloc2_fastalloc_proofs.specs.StoreSteps.{IsStoredFor, branch_operands, given as given_param, its_own}
 use Rattle.regalloc2_fastalloc_walk.proofs.OperandsSpillFree.{unsent_same}
 use Rattle.regalloc2_fastalloc_walk.proofs.OperandTakesFreeReg.{cases_place}
@@ -134,20 +135,19 @@ moved_none point operands here t old n u new at (one_moved k x y m o before read
     sends).1 ∙ rest
 
 -- before operands are allocated nothing changes but the instruction's registers
-pub ready : {names : List VirtualRegister} {gone : ℕ → Bool} {operands : List OperandValue} {clobbers : PRegSet} {p q : ℕ} {before after : AllocatableRegsValue}
-    {t0 t2 t3 t4 : StateValue} {u0 u1 u2 u3 u4 : InstRegs} → ((k : ℕ) → k < length operands → (op_at operands k).constraint ≡ Reg)
-    → ((r : Register) → has_register clobbers r ≡ false) → after ≡ before → t2 ≡ t0 → ReservesRegs operands u0 u1 t0 → RemovesClobbers clobbers u1 u2 →
-    EvictsFixed p operands u2 t2 (length operands) u3 t3 → EvictsEach q (registers_of clobbers) u3 t3 u4 t4 → IsSpillFree names gone before t0 u0
-    → (t4 ≡ t0) × IsSpillFree names gone after t4 u4
-ready {names} {gone} {operands} {clobbers} {p} {q} {before} {t0} {t2} {t3} {t4} {u0} {u1} {u2} {u3} {u4} reg none regs same reserves holds fixed cleared h =
-    let f = cleared_none p operands u2 t2 (length operands) u3 t3 (omega arith) reg fixed in
-    let c = cleared_all_none q (registers_of clobbers) u3 t3 u4 t4 (λ r c. (let wrong : true ≡ false = sym (listed_is clobbers r c).1 ∙ none r in cc))
-    cleared in
-    let tables : t4 ≡ t0 = c.1 ∙ f.1 ∙ same in
-    let inst_regs : u4 ≡ u2 = c.0 ∙ f.0 in (
+pub ready : {names : List VirtualRegister} {gone : ℕ → Bool} {i : ℕ} {operands : List OperandValue} {clobbers : PRegSet} {regs regs_now : AllocatableRegsValue}
+    {old new : StateValue} {t quiet : InstRegs} → ((k : ℕ) → k < length operands → (op_at operands k).constraint ≡ Reg)
+    → ((r : Register) → has_register clobbers r ≡ false) → regs_now ≡ regs → PreparesRegs i operands clobbers t quiet old new → IsSpillFree names gone regs old t
+    → (new ≡ old) × IsSpillFree names gone regs_now new quiet
+ready {names} {gone} {i} {operands} {clobbers} {regs} {old} {new} {t} {quiet} reg none same p h =
+    let f = cleared_none (after i) operands p.held old (length operands) p.cleared p.middle (omega arith) reg p.fixed in
+    let c = cleared_all_none (after i) (registers_of clobbers) p.cleared p.middle quiet new
+    (λ r c. (let wrong : true ≡ false = sym (listed_is clobbers r c).1 ∙ none r in cc)) p.emptied in
+    let tables : new ≡ old = c.1 ∙ f.1 in
+    let inst_regs : quiet ≡ p.held = c.0 ∙ f.0 in (
       tables,
-      rw (regs, tables, inst_regs) (held_none names gone before clobbers t0 u1 u2 none holds
-          (reserved_none names gone before operands t0 u0 u1 reg reserves h)),
+      rw (same, tables, inst_regs) (held_none names gone regs clobbers old p.reserved p.held none p.holds
+          (reserved_none names gone regs operands old t p.reserved reg p.reserves h)),
     )
 
 -- early operands may be placed after late ones

@@ -11,9 +11,9 @@ use Rattle.regalloc2_branch_defs.specs.declared.BranchDefs.{BranchDefs}
 use Rattle.regalloc2_branch_defs.specs.declared.DefSite.{DefSite}
 use Rattle.regalloc2_branch_defs.proofs.BlockEnds.{site_defines}
 use Rattle.regalloc2_fastalloc_state.specs.declared.inst_regs.InstRegs.{InstRegs}
-use Rattle.regalloc2_fastalloc_proofs.specs.InstSteps.{StateValue}
+use Rattle.regalloc2_fastalloc_proofs.specs.InstSteps.{StateValue, no_register}
 use Rattle.regalloc2_fastalloc_proofs.specs.BranchSteps.{ClassMove, GathersEdgeMoves, none_gathered, one_gathered, own_argument, IsOwn}
-use Rattle.regalloc2_fastalloc_proofs.specs.OutOfRegs.{GatherEdgeFails}
+use Rattle.regalloc2_fastalloc_proofs.specs.BranchSteps.{GatherEdge}
 use Rattle.regalloc2_fastalloc_walk.specs.OwnDefs.{IsOwnBy}
 
 -- the tables name the operand by which a branch defines a number
@@ -56,15 +56,12 @@ module _ (P Q : VirtualRegister → Type 0) (to : (v : VirtualRegister) → P v 
       one_gathered j g p q x w m n o lt (gathers_as j x m g prev) slot places edits machine spills (λ own. foreign (back _ own))
   gathers_as k u new more (own_argument j g x m lt prev own) = own_argument j g x m lt (gathers_as j x m g prev) (to _ own)
 
-  pub fails_as : GatherEdgeFails P point params arguments t old given → GatherEdgeFails Q point params arguments t old given
+  pub fails_as : GatherEdge P point params arguments t old given no_register → GatherEdge Q point params arguments t old given no_register
   fails_as h = record {
     index = h.index;
-    inst_regs = h.inst_regs;
-    middle = h.middle;
-    new = h.new;
     given = h.given;
-    gathers = gathers_as h.index h.inst_regs h.middle h.given h.gathers;
-    places = h.places;
-    machine = h.machine;
+    middle = h.middle;
+    inside = h.inside;
+    done = gathers_as h.index h.given.0 h.middle h.given.1 h.done;
     stops = h.stops;
   }

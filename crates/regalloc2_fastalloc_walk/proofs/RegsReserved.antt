@@ -20,8 +20,8 @@ use Rattle.regalloc2_validate.specs.Constraints.{op_at, no_operand}
 use Rattle.regalloc2_fastalloc_proofs.specs.InstSteps.{StateValue, NeedsFixedReg, own, named, IsFixedIn, ReservesRegs, asks, asking}
 use Rattle.regalloc2_fastalloc_proofs.specs.InstSteps.{EvictsFixed, none_cleared, not_fixed}
 use Rattle.regalloc2_fastalloc_walk.specs.ReserveSteps.{IsKnown, Shrinks, Grows, IsNewlyReserved, IsReserved, ReservesRegForOperand, TakesOnly}
-use Rattle.regalloc2_fastalloc_walk.specs.ReserveSteps.{TakesFixed, AwaitsOne, ReservesOnly, OperandReserves, ReserveForOperandFails}
-use Rattle.regalloc2_fastalloc_proofs.specs.OutOfRegs.{ReserveRegsFails, unknown, shared}
+use Rattle.regalloc2_fastalloc_walk.specs.ReserveSteps.{TakesFixed, AwaitsOne, ReservesOnly, OperandReserves, RegIsNotReserved}
+use Rattle.regalloc2_fastalloc_proofs.specs.InstSteps.{RegsAreNotReserved, unknown, shared}
 
 -- no register becomes available where nothing changes
 pub shrinks_none : (t : InstRegs) → Shrinks t t
@@ -255,7 +255,7 @@ or_parts false b e = inr e
 
 -- where operand k can't reserve its register, the reservation of the instruction's registers fails for a reason that is named
 pub stops_reserve : (ops : List OperandValue) (k : ℕ) (t u : InstRegs) (c : ReservedRegs) (old : StateValue) → k < length ops → Reserving ops k t u c old →
-    ReserveForOperandFails ops k c old → ReserveRegsFails ops old
+    RegIsNotReserved ops k c old → RegsAreNotReserved ops old
 stops_reserve ops k t u c old lt h s = elim s.stops [
   | inl absent ↦ unknown k s.register s.positions lt s.claims absent
   | inr at ↦ elim (or_parts (s.positions.early && has_register c.early s.register) (s.positions.late && has_register c.late s.register) at) [

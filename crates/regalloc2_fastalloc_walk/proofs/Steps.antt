@@ -1,9 +1,11 @@
 -- Steps of the walk, one after another.
 use Rattle.std.proofs.Common.{ℕ, ◌≡◌, length, sym, ◌∙◌, subst, rules}
-use Rattle.std.specs.Prelude.{Result, Ok, Err, OnOk, IfErr}
+use Rattle.std.specs.Prelude.{Result, Ok, Err, OnOk, IfErr, MatchResult}
 use Rattle.regalloc2_names.specs.declared.RegAllocError.{RegAllocError}
+use Rattle.regalloc2_names.specs.Register.{Register, VirtualRegister}
+use Rattle.regalloc2_fastalloc_state.specs.declared.inst_regs.InstRegs.{InstRegs}
 use Rattle.regalloc2_fastalloc_proofs.proofs.Evictions.PushedAndRemoved.{same_then}
-use Rattle.regalloc2_fastalloc_proofs.specs.InstSteps.{StateValue, SameMachine}
+use Rattle.regalloc2_fastalloc_proofs.specs.InstSteps.{StateValue, SameMachine, no_register, EvictPReg, EvictOthers, others}
 use Rattle.regalloc2_fastalloc_state.specs.OutOfResources.{IsResourceErrorIn}
 use Rattle.regalloc2_fastalloc_state.specs.StateParts.{AllAtOrAfter}
 use Rattle.regalloc2_fastalloc_walk.specs.declared.state.State.{State}
@@ -43,3 +45,14 @@ fails_with r a b is same kept lacks = rw is (rw same (record { machine = kept; l
 pub step_then_fails : {A T U : Type 0} {point at : ℕ} {e d : RegAllocError} (r : Result U RegAllocError) (a b c : State A) → r ≡ Err d → d ≡ e
     → SameMachine (tables_of a) (tables_of b) → IsStepAt {T = T} point (Err e) b c → IsStepAt at r a c
 step_then_fails r a b c is same kept step = fails_with r a c is same (same_then (tables_of a) (tables_of b) (tables_of c) kept step.machine) step.err
+
+-- what is known of a value and of an error says what a call comes to
+pub outcome_of : {T P R : Type 0} {Q S : RegAllocError → Type 0} (r : Result T RegAllocError) → OnOk r P → IfErr r Q → (P → R) → ((e : RegAllocError) → Q e → S e)
+    → MatchResult r (λ x. R) S
+outcome_of (Ok x) p q ok err = ok p
+outcome_of (Err e) p q ok err = err e q
+
+-- a register that can't be emptied of others can't be emptied
+pub stops_others : {point : ℕ} {r : Register} {v : VirtualRegister} {t : InstRegs} {old : StateValue} → EvictOthers point r v t old no_register →
+    EvictPReg point r t old no_register
+stops_others (others not_own stops) = stops

@@ -19,10 +19,10 @@ use Rattle.regalloc2_semantics.proofs.SingleDef.{DefinesAt, not_both, one_operan
 use Rattle.regalloc2_semantics.proofs.Soundness.{well_formed_are_sound}
 use Rattle.regalloc2_branch_defs.specs.BranchDefs.{DefinesNumber, IsEdgeInto, fixed_definition}
 use Rattle.regalloc2_fastalloc_state.specs.StateParts.{SpillSlotsValue, GetsSpillSlot, IsSlotOrNone, NoneIsFrom, slot_name}
-use Rattle.regalloc2_fastalloc_proofs.specs.InstSteps.{StateValue, SameMachine}
+use Rattle.regalloc2_fastalloc_proofs.specs.InstSteps.{StateValue, SameMachine, no_register}
 use Rattle.regalloc2_fastalloc_proofs.specs.BlockSteps.{MayBeAllocated}
 use Rattle.regalloc2_fastalloc_proofs.specs.BranchSteps.{AreApart}
-use Rattle.regalloc2_fastalloc_proofs.specs.OutOfRegs.{StoreBranchDefsFails}
+use Rattle.regalloc2_fastalloc_proofs.specs.StoreSteps.{StoreBranchDefs}
 use Rattle.regalloc2_fastalloc_proofs.specs.StoreSteps.{branch_operands, place_by, defined_place, IsStoredFor, its_own, given, IsConcerned, GetsSlots, no_slot}
 use Rattle.regalloc2_fastalloc_proofs.specs.StoreSteps.{one_slot, IsByWay, StoresFor, StoresOn, pushed_moves}
 use Rattle.regalloc2_fastalloc_proofs.proofs.Safety.StoredDefs.{last_within}
@@ -526,7 +526,7 @@ module _ (at_edge : EdgeStores) where
       listed_at (x ∷ xs) (suc i) d lt is = listed_at xs i d (omega (arith, lt)) is
 
   -- Where a class lacks a register for one of the moves, the stores fail by that.
-  pub stores_lack : LacksStoreReg t ms → StoreBranchDefsFails f b t
+  pub stores_lack : LacksStoreReg t ms → StoreBranchDefs f b t no_register
   stores_lack h = (
       let lt : h.1.0 < length ms = h.1.1 in
       let is : move_at ms h.1.0 ≡ h.0 = move_is ms h.1.0 h.0 h.1.1 h.1.2 in record {

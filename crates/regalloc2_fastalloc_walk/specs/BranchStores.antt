@@ -4,17 +4,15 @@ use Rattle.std.specs.Prelude.{None, Some, slice_index_or}
 use Rattle.regalloc2_names.specs.Register.{Register, VirtualRegister}
 use Rattle.regalloc2_names.specs.Operand.{OperandValue}
 use Rattle.regalloc2_names.specs.Place.{Place, NoPlace, InRegister, is_memory}
-use Rattle.regalloc2_names.specs.Point.{before}
-use Rattle.regalloc2_function.specs.FunctionValue.{FunctionValue, block_at}
+use Rattle.regalloc2_function.specs.FunctionValue.{FunctionValue}
 use Rattle.regalloc2_semantics.specs.Listing.{op_at}
-use Rattle.regalloc2_semantics.specs.Stores.{Store, store_moves}
+use Rattle.regalloc2_semantics.specs.Stores.{Store, moves_by, store_moves}
 use Rattle.regalloc2_branch_defs.specs.BranchDefs.{fixed_definition}
 use Rattle.regalloc2_branch_defs.specs.Tables.{site_of}
 use Rattle.regalloc2_branch_defs.specs.declared.BranchDefs.{BranchDefs}
 use Rattle.regalloc2_fastalloc_state.specs.StateParts.{SpillSlotsValue, GetsSpillSlot, NoneIsFrom, slot_name}
-use Rattle.regalloc2_fastalloc_proofs.specs.BlockStart.{ReloadsAtBegin, no_vreg}
-use Rattle.regalloc2_fastalloc_proofs.specs.InstSteps.{StateValue}
-use Rattle.regalloc2_fastalloc_proofs.specs.OutOfRegs.{ReloadAtBeginFails, StoreBranchDefsFails}
+use Rattle.regalloc2_fastalloc_proofs.specs.BlockStart.{no_vreg}
+use Rattle.regalloc2_fastalloc_proofs.specs.InstSteps.{StateValue, Outcome, next, no_register}
 use Rattle.regalloc2_fastalloc_proofs.specs.StoreSteps.{IsByWay, IsStoredFor, pushed_moves}
 use Rattle.regalloc2_fastalloc_walk.specs.declared.operand.PlaceMove.{PlaceMove}
 use Rattle.regalloc2_fastalloc_walk.specs.declared.store.StoredDef.{StoredDef}
@@ -102,8 +100,11 @@ pub record PushesStores (point : ℕ) (from_memory : Bool) (ms : List PlaceMove)
 abbrev pub LacksStoreReg : StateValue → List PlaceMove → Type 0
 LacksStoreReg t ms = (m : PlaceMove) × Contains ms m × NoneIsFrom t.allocatable m.class 0
 
--- the beginning of a block stops: at its reloads, or then at the stores
-pub data BeginBlockFails (f : FunctionValue) (b : ℕ) (old : StateValue) : Type 0 where
-  at_reloads : ReloadAtBeginFails (before (block_at f b).range.first) (block_at f b).params old → BeginBlockFails f b old
-  at_its_stores : (m : StateValue) → ReloadsAtBegin (before (block_at f b).range.first) (block_at f b).params old m → StoreBranchDefsFails f b m →
-      BeginBlockFails f b old
+abbrev pub PushStores : ℕ → Bool → List PlaceMove → StateValue → Outcome (Unit {0}) → Type 0
+PushStores point from_memory ms old (next x new) = PushesStores point from_memory ms old new
+PushStores point from_memory ms old no_register = LacksStoreReg old ms
+
+-- a store, by way of a register where it is from memory
+abbrev pub PushStore : ℕ → PlaceMove → StateValue → Outcome (Unit {0}) → Type 0
+PushStore point m old (next x new) = (s : Store) × IsMadeOf old m s × (new ≡ record old { edits = old.edits ++ pushed_moves point (moves_by s.from s.by s.to) })
+PushStore point m old no_register = NoneIsFrom old.allocatable m.class 0

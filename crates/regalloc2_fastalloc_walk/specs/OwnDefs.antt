@@ -6,9 +6,8 @@ use Rattle.regalloc2_branch_defs.specs.Tables.{site_of}
 use Rattle.regalloc2_branch_defs.specs.declared.BranchDefs.{BranchDefs}
 use Rattle.regalloc2_fastalloc_state.specs.StateParts.{GetsSpillSlot}
 use Rattle.regalloc2_fastalloc_state.specs.declared.inst_regs.InstRegs.{InstRegs}
-use Rattle.regalloc2_fastalloc_proofs.specs.InstSteps.{StateValue, SameMachine}
-use Rattle.regalloc2_fastalloc_proofs.specs.BranchSteps.{SpillsArgument}
-use Rattle.regalloc2_fastalloc_proofs.specs.OutOfRegs.{SpillArgumentFails}
+use Rattle.regalloc2_fastalloc_proofs.specs.InstSteps.{StateValue, Outcome, next, no_register, SameMachine}
+use Rattle.regalloc2_fastalloc_proofs.specs.BranchSteps.{SpillsArgument, SpillArgument}
 
 -- the tables say that the branch defines v's number
 abbrev pub IsOwnBy : {A : Type 0} → BranchDefs A → ℕ → VirtualRegister → Type 0
@@ -23,9 +22,8 @@ pub record GathersArgument (point : ℕ) (param argument : VirtualRegister) (to 
   pub machine : SameMachine old middle
   pub spills : SpillsArgument point argument from t u middle new
 
--- the argument can't be spilled
-pub record GatherArgumentFails (argument : VirtualRegister) (t : InstRegs) (old : StateValue) : Type 0 where
-  pub middle : StateValue
-  pub places : middle.places ≡ old.places
-  pub machine : SameMachine old middle
-  pub stops : SpillArgumentFails argument t middle
+-- or the argument can't be spilled
+abbrev pub GatherArgument : ℕ → VirtualRegister → VirtualRegister → InstRegs → StateValue → Outcome (Place × Place × InstRegs) → Type 0
+GatherArgument point param argument t old (next (to, from, u) new) = GathersArgument point param argument to from t u old new
+GatherArgument point param argument t old no_register = (m : StateValue) × (m.places ≡ old.places) × SameMachine old m
+    × SpillArgument point argument t m no_register

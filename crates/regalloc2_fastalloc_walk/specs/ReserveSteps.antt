@@ -78,7 +78,7 @@ pub record ReservesRegForOperand (operands : List OperandValue) (k : ℕ) (t u :
   pub reserved : (r : Register) (p : Positions) → NeedsFixedReg operands k r p → IsReserved old r p u c d
 
 -- the operand k claims a register that isn't the machine's, or that is claimed at a position of its own
-pub record ReserveForOperandFails (operands : List OperandValue) (k : ℕ) (c : ReservedRegs) (old : StateValue) : Type 0 where
+pub record RegIsNotReserved (operands : List OperandValue) (k : ℕ) (c : ReservedRegs) (old : StateValue) : Type 0 where
   pub register : Register
   pub positions : Positions
   pub claims : NeedsFixedReg operands k register positions

@@ -1,11 +1,10 @@
 -- The tables that a state holds, as the relations of steps see them, and what each step keeps.
-use Rattle.std.specs.Prelude.{ℕ, ◌≡◌, ◌≢◌, ◌+◌, length, Result, OnOk, IfOk, IfErr}
+use Rattle.std.specs.Prelude.{ℕ, ◌≡◌, ◌≢◌, ◌+◌, length, Result, MatchResult, OnOk, IfErr}
 use Rattle.regalloc2_names.specs.declared.RegAllocError.{RegAllocError}
 use Rattle.regalloc2_names.specs.declared.RegAllocError.TheVariants.{TooManyLiveRegs}
 use Rattle.regalloc2_fastalloc_walk.specs.declared.state.State.{State}
-use Rattle.regalloc2_fastalloc_proofs.specs.InstSteps.{StateValue, SameMachine}
+use Rattle.regalloc2_fastalloc_proofs.specs.InstSteps.{StateValue, Outcome, next, no_register, SameMachine}
 use Rattle.regalloc2_fastalloc_proofs.specs.BranchSteps.{AddsTempSlotsAtMost}
-use Rattle.regalloc2_fastalloc_proofs.specs.OutOfRegs.{OutOfRegsOnlyIf}
 use Rattle.regalloc2_fastalloc_state.specs.OutOfResources.{IsResourceError, IsResourceErrorIn, SlotsExhaustedWith}
 use Rattle.regalloc2_fastalloc_state.specs.StateParts.{AllAtOrAfter}
 
@@ -23,16 +22,15 @@ tables_of s = record {
 abbrev pub Between : {A : Type 0} → (StateValue → StateValue → Type 0) → State A → State A → Type 0
 Between Step old new = Step (tables_of old) (tables_of new)
 
--- a call makes the step, unless it fails; and one that returns a value makes the step with that value
-abbrev pub Makes : {A T : Type 0} → (StateValue → StateValue → Type 0) → Result T RegAllocError → State A → State A → Type 0
-Makes Step result old new = OnOk result (Between Step old new)
+-- a call comes to an outcome of the step: the next state with what the step gives, or, where that is the error, a register that is missing
+abbrev pub ComesTo : {A T Given : Type 0} → (StateValue → Outcome Given → Type 0) → Given → Result T RegAllocError → State A → State A → Type 0
+ComesTo Step given result old new = MatchResult result (λ x. Step (tables_of old) (next given (tables_of new)))
+    (λ e. e ≡ TooManyLiveRegs → Step (tables_of old) no_register)
 
-abbrev pub MakesOne : {A T : Type 0} → (T → StateValue → StateValue → Type 0) → Result T RegAllocError → State A → State A → Type 0
-MakesOne Step result old new = IfOk result (λ x. Between (Step x) old new)
-
--- a call runs out of registers only if the tables lack them in this way
-abbrev pub StopsOnlyIf : {A T : Type 0} → (StateValue → Type 0) → Result T RegAllocError → State A → Type 0
-StopsOnlyIf Lack result old = IfErr result (OutOfRegsOnlyIf (Lack (tables_of old)))
+-- where the call returns what the step gives, or a part of it
+abbrev pub ComesToOne : {A T Given : Type 0} → (StateValue → Outcome Given → Type 0) → (T → Given) → Result T RegAllocError → State A → State A → Type 0
+ComesToOne Step given result old new = MatchResult result (λ x. Step (tables_of old) (next (given x) (tables_of new)))
+    (λ e. e ≡ TooManyLiveRegs → Step (tables_of old) no_register)
 
 -- the tables stay, in whatever order registers were used
 abbrev pub SameTables : {A : Type 0} → State A → State A → Type 0

@@ -4,10 +4,9 @@ ghost use Rattle.std.specs.Prelude.{ℕ, ◌≡◌, ◌<◌, [], All, length, No
 ghost use Rattle.regalloc2_names.specs.Point.{before};
 ghost use Rattle.regalloc2_names.specs.Place.{NoPlace};
 ghost use Rattle.regalloc2_names.specs.Register.{Register};
-ghost use Rattle.regalloc2_fastalloc_proofs.specs.BlockStart.{ReloadsAtBegin, ReloadsParam, ReloadsParams, ReloadsRegs};
-ghost use Rattle.regalloc2_fastalloc_proofs.specs.OutOfRegs.{ReloadAtBeginFails, ReloadRegsFails, ReloadParamFails, ReloadParamsFails};
-ghost use Rattle.regalloc2_fastalloc_walk.specs.StateView.{IsStepAt, Makes, SameTables, StopsOnlyIf};
+ghost use Rattle.regalloc2_fastalloc_walk.specs.StateView.{IsStepAt, SameTables, ComesTo};
 ghost use Rattle.regalloc2_fastalloc_state.specs.StateParts.{AllAtOrAfter, vreg_of_preg, alloc_of};
+ghost use Rattle.regalloc2_fastalloc_proofs.specs.BlockStart.{ReloadParam, ReloadParams, ReloadRegs, ReloadAtBegin};
 
 use super::inst::differ;
 use super::operand::PlaceMove;
@@ -28,9 +27,8 @@ impl<'a, A: Allocator> State<'a, A> {
     ) -> Result<(), RegAllocError>
         requires later { AllAtOrAfter point self.old.edits }
         requires known { param.number < length self.old.places.vreg_allocs }
-        ensures ok { Makes (ReloadsParam point param inst_regs.old inst_regs.new) result self.old self.new }
+        ensures outcome { ComesTo (ReloadParam point param inst_regs.old) inst_regs.new result self.old self.new }
         ensures step { IsStepAt point result self.old self.new }
-        ensures stops { StopsOnlyIf (ReloadParamFails param inst_regs.old) result self.old }
     {
         let current = self.places.current_alloc(param);
         if current.is_none() {
@@ -61,9 +59,8 @@ impl<'a, A: Allocator> State<'a, A> {
     ) -> Result<(), RegAllocError>
         requires later { AllAtOrAfter point self.old.edits }
         requires known { All (λ v. v.number < length self.old.places.vreg_allocs) params.now }
-        ensures ok { Makes (λ t. ReloadsParams point params.now inst_regs.old t (length params.now) inst_regs.new) result self.old self.new }
+        ensures outcome { ComesTo (ReloadParams point params.now inst_regs.old) inst_regs.new result self.old self.new }
         ensures step { IsStepAt point result self.old self.new }
-        ensures stops { StopsOnlyIf (ReloadParamsFails point params.now inst_regs.old) result self.old }
     {
         for param in params {
             self.reload_param(inst_regs, point, *param)?;
@@ -78,10 +75,9 @@ impl<'a, A: Allocator> State<'a, A> {
         point: ProgPoint,
     ) -> Result<(), RegAllocError>
         requires { AllAtOrAfter point self.old.edits }
-        ensures ok { Makes (λ t. ReloadsRegs point inst_regs.old t inst_regs.new) result self.old self.new }
+        ensures outcome { ComesTo (ReloadRegs point inst_regs.old) inst_regs.new result self.old self.new }
         ensures emptied { OnOk result ((r : Register) → r.number < 64 → vreg_of_preg self.new.places r ≡ None) }
         ensures step { IsStepAt point result self.old self.new }
-        ensures stops { StopsOnlyIf (ReloadRegsFails point inst_regs.old) result self.old }
         ensures nobody { OnOk result (((n : ℕ) → alloc_of self.old.places n ≡ NoPlace) → SameTables self.old self.new) }
     {
         while let Some(preg) = self.places.newest_filled() {
@@ -96,9 +92,8 @@ impl<'a, A: Allocator> State<'a, A> {
         requires inst { first < 1073741824 }
         requires later { AllAtOrAfter (before first) self.old.edits }
         requires known { All (λ v. v.number < length self.old.places.vreg_allocs) params.now }
-        ensures ok { Makes (ReloadsAtBegin (before first) params.now) result self.old self.new }
+        ensures outcome { ComesTo (ReloadAtBegin (before first) params.now) tt result self.old self.new }
         ensures step { IsStepAt (before first) result self.old self.new }
-        ensures stops { StopsOnlyIf (ReloadAtBeginFails (before first) params.now) result self.old }
         ensures nobody { OnOk result (((n : ℕ) → alloc_of self.old.places n ≡ NoPlace) → params.now ≡ [] → SameTables self.old self.new) }
     {
         let mut inst_regs = InstRegs::new(self.registers.available_regs());

@@ -2,26 +2,23 @@
 
 ghost use Rattle.regalloc2_semantics.specs.Blocks.{HasEdge, target_at};
 ghost use Rattle.std.specs.Prelude.{ℕ, List, ◌≡◌, ◌↔◌, ◌≢◌, ◌<◌, ◌≤◌, ◌+◌, ◌++◌, ◌∷◌, ◌⊎◌, [], None, Some, length, IsTrue, IfOk, IfSome, IfErr, OnOk};
-ghost use Rattle.std.specs.Prelude.{OnErr, IfNone, find, reverse, slice_index_or, true};
+ghost use Rattle.std.specs.Prelude.{OnErr, IfNone, find, reverse, slice_index_or, true, MatchResult};
 ghost use Rattle.regalloc2_names.specs.Place.{Place, NoPlace, InRegister};
 ghost use Rattle.regalloc2_names.specs.Point.{before};
 ghost use Rattle.regalloc2_names.specs.Register.{Register, class_code};
 ghost use Rattle.regalloc2_function.specs.FunctionValue.{block_at, inst_at};
 ghost use Rattle.regalloc2_parts.specs.AtOnce.{ends_of, HasOneSourceEach};
 ghost use Rattle.regalloc2_parts.specs.Resolved.{has_scratch, listed, with_place, IsResolution, IsRunnable};
-ghost use Rattle.regalloc2_fastalloc_proofs.specs.BranchSteps.{AreApart, AreBetweenSlots, AreKnown, AreNextTempSlots, AreOf, ClassMove, GathersMoves};
-ghost use Rattle.regalloc2_fastalloc_proofs.specs.BranchSteps.{GathersEdgeMoves, IsScratchRegFor, AddsTempSlotsAtMost, MayBeParallel, MayBranch};
-ghost use Rattle.regalloc2_fastalloc_proofs.specs.BranchSteps.{OrdersMoves, ParametersDiffer, ProcessesBranch, Pushes, PushesAllClasses};
-ghost use Rattle.regalloc2_fastalloc_proofs.specs.BranchSteps.{SpillsArgument};
+ghost use Rattle.regalloc2_fastalloc_proofs.specs.BranchSteps.{AreApart, AreBetweenSlots, AreKnown, AreNextTempSlots, AreOf, ClassMove, OrderMoves};
+ghost use Rattle.regalloc2_fastalloc_proofs.specs.BranchSteps.{IsScratchRegFor, AddsTempSlotsAtMost, MayBeParallel, MayBranch, PushMoves, SpillArgument};
+ghost use Rattle.regalloc2_fastalloc_proofs.specs.BranchSteps.{ParametersDiffer, GatherEdge, GatherMoves, PushAllClasses, ProcessBranch};
 ghost use Rattle.regalloc2_fastalloc_state.specs.OutOfResources.{SlotsExhaustedWith, IsResourceError};
 ghost use Rattle.regalloc2_parts.specs.ScratchPool.{DoDiffer, IsOfScratchPair};
-ghost use Rattle.regalloc2_fastalloc_proofs.specs.InstSteps.{a_move};
-ghost use Rattle.regalloc2_fastalloc_proofs.specs.OutOfRegs.{GatherEdgeFails, GatherMovesFails, OrderMovesFails, ProcessBranchFails};
-ghost use Rattle.regalloc2_fastalloc_proofs.specs.OutOfRegs.{SpillArgumentFails};
+ghost use Rattle.regalloc2_fastalloc_proofs.specs.InstSteps.{a_move, next, no_register};
 ghost use Rattle.regalloc2_branch_defs.specs.Tables.{AreBranchDefsOf};
 ghost use Rattle.regalloc2_fastalloc_proofs.specs.BlockSteps.{MayBeAllocated};
-ghost use Rattle.regalloc2_fastalloc_walk.specs.OwnDefs.{IsOwnBy, GathersArgument, GatherArgumentFails};
-ghost use Rattle.regalloc2_fastalloc_walk.specs.StateView.{Between, IsBranchStepAt, IsStepAt, Makes, MakesOne, SameTables, StopsOnlyIf, tables_of};
+ghost use Rattle.regalloc2_fastalloc_walk.specs.OwnDefs.{IsOwnBy, GatherArgument};
+ghost use Rattle.regalloc2_fastalloc_walk.specs.StateView.{Between, IsBranchStepAt, IsStepAt, SameTables, tables_of, ComesTo, ComesToOne};
 ghost use Rattle.regalloc2_names.specs.RegisterSet.{has_register};
 ghost use Rattle.regalloc2_fastalloc_state.specs.InstRegs.{is_free_throughout};
 ghost use Rattle.regalloc2_fastalloc_state.specs.StateParts.{SlotsHaveOneOwner, IsLeastRecentIn, NoneIsIn, AllAtOrAfter, lru_of};
@@ -224,10 +221,9 @@ impl<'a, A: Allocator> State<'a, A> {
         requires ends { AreBetweenSlots self.old.slots.count moves }
         requires one_source { HasOneSourceEach (ends_of moves) }
         requires apart { AreApart (tables_of self.old) }
-        ensures ok { MakesOne (λ made. OrdersMoves inst_regs.now class moves.entry made.items) result self.old self.new }
+        ensures outcome { ComesToOne (OrderMoves inst_regs.now class moves.entry) (λ made. made.items) result self.old self.new }
         ensures unchanged { OnErr result (SameTables self.old self.new) }
         ensures err { IfErr result (IsResourceError (SlotsExhaustedWith self.old.slots (self.old.slots.num_temp_slots + 2))) }
-        ensures stops { StopsOnlyIf (OrderMovesFails class moves.entry) result self.old }
         ensures registers { OnOk result (self.new.registers ≡ self.old.registers) }
         ensures none { IfOk result (λ made. moves.entry ≡ [] → (made.items ≡ []) × (SameTables self.old self.new)) }
     {
@@ -262,11 +258,10 @@ impl<'a, A: Allocator> State<'a, A> {
         requires one_source { HasOneSourceEach (ends_of moves) }
         requires apart { AreApart (tables_of self.old) }
         requires later { AllAtOrAfter point self.old.edits }
-        ensures ok { Makes (Pushes point inst_regs.now class moves.entry) result self.old self.new }
+        ensures outcome { ComesTo (PushMoves point inst_regs.now class moves.entry) tt result self.old self.new }
         ensures later { OnOk result (AllAtOrAfter point self.new.edits) }
         ensures machine { Between (AddsTempSlotsAtMost 2) self.old self.new }
         ensures err { IfErr result (IsResourceError (SlotsExhaustedWith self.old.slots (self.old.slots.num_temp_slots + 2))) }
-        ensures stops { StopsOnlyIf (OrderMovesFails class moves.entry) result self.old }
         ensures registers { OnOk result (self.new.registers ≡ self.old.registers) }
         ensures none { OnOk result (moves.entry ≡ [] → SameTables self.old self.new) }
     {
@@ -312,11 +307,10 @@ impl<'a, A: Allocator> State<'a, A> {
         requires one_source { HasOneSourceEach (ends_of moves) }
         requires apart { AreApart (tables_of self.old) }
         requires later { AllAtOrAfter point self.old.edits }
-        ensures ok { Makes (Pushes point inst_regs.now class moves.entry) result self.old self.new }
+        ensures outcome { ComesTo (PushMoves point inst_regs.now class moves.entry) tt result self.old self.new }
         ensures later { OnOk result (AllAtOrAfter point self.new.edits) }
         ensures machine { Between (AddsTempSlotsAtMost 2) self.old self.new }
         ensures err { IfErr result (IsResourceError (SlotsExhaustedWith self.old.slots (self.old.slots.num_temp_slots + 2))) }
-        ensures stops { StopsOnlyIf (OrderMovesFails class moves.entry) result self.old }
         ensures registers { OnOk result (self.new.registers ≡ self.old.registers) }
         ensures none { OnOk result (moves.entry ≡ [] → SameTables self.old self.new) }
     {
@@ -346,9 +340,8 @@ impl<'a, A: Allocator> State<'a, A> {
     ) -> Result<Allocation, RegAllocError>
         requires later { AllAtOrAfter point self.old.edits }
         requires known { argument.number < length self.old.places.vreg_allocs }
-        ensures ok { MakesOne (λ s. SpillsArgument point argument s inst_regs.old inst_regs.new) result self.old self.new }
+        ensures outcome { ComesToOne (SpillArgument point argument inst_regs.old) (λ s. (s, inst_regs.new)) result self.old self.new }
         ensures step { IsStepAt point result self.old self.new }
-        ensures stops { StopsOnlyIf (SpillArgumentFails argument inst_regs.old) result self.old }
         ensures registers { OnOk result (self.new.registers ≡ self.old.registers) }
     {
         let slot = self.slots.get_spillslot(argument)?;
@@ -372,12 +365,12 @@ impl<'a, A: Allocator> State<'a, A> {
         requires later { AllAtOrAfter point self.old.edits }
         requires param { param.number < length self.old.places.vreg_allocs }
         requires argument { argument.number < length self.old.places.vreg_allocs }
-        ensures ok { OnOk result ((to from : Place)
-            × GathersArgument point param argument to from inst_regs.old inst_regs.new (tables_of self.old) (tables_of self.new)
+        ensures outcome { MatchResult result (λ x. (to from : Place)
+            × GatherArgument point param argument inst_regs.old (tables_of self.old) (next (to, from, inst_regs.new) (tables_of self.new))
             × ((given : List ClassMove) → AreOf moves.old.int moves.old.float moves.old.vector given →
-            AreOf moves.new.int moves.new.float moves.new.vector (given ++ record { class = argument.class; from = from; to = to } ∷ []))) }
+            AreOf moves.new.int moves.new.float moves.new.vector (given ++ record { class = argument.class; from = from; to = to } ∷ [])))
+            (λ e. e ≡ RegAllocError.TooManyLiveRegs → GatherArgument point param argument inst_regs.old (tables_of self.old) no_register) }
         ensures step { IsStepAt point result self.old self.new }
-        ensures stops { StopsOnlyIf (GatherArgumentFails argument inst_regs.old) result self.old }
         ensures registers { OnOk result (self.new.registers ≡ self.old.registers) }
     {
         let to = self.slots.get_spillslot(param)?;
@@ -400,13 +393,13 @@ impl<'a, A: Allocator> State<'a, A> {
         requires counted { length arguments.now ≡ length params.now }
         requires parameters { AreKnown params.now (tables_of self.old) }
         requires arguments { AreKnown arguments.now (tables_of self.old) }
-        ensures ok { OnOk result ((given : List ClassMove) → AreOf moves.old.int moves.old.float moves.old.vector given → (more : List ClassMove)
-            × AreOf moves.new.int moves.new.float moves.new.vector more
-            × GathersEdgeMoves (IsOwnBy own.now.defs.now own.now.branch) (before own.now.branch) params.now arguments.now inst_regs.old (tables_of self.old)
-            given (length params.now) inst_regs.new (tables_of self.new) more) }
+        ensures outcome { (given : List ClassMove) → AreOf moves.old.int moves.old.float moves.old.vector given → MatchResult result
+            (λ x. (more : List ClassMove) × AreOf moves.new.int moves.new.float moves.new.vector more
+            × GatherEdge (IsOwnBy own.now.defs.now own.now.branch) (before own.now.branch) params.now arguments.now inst_regs.old (tables_of self.old)
+            given (next (inst_regs.new, more) (tables_of self.new)))
+            (λ e. e ≡ RegAllocError.TooManyLiveRegs → GatherEdge (IsOwnBy own.now.defs.now own.now.branch) (before own.now.branch) params.now
+            arguments.now inst_regs.old (tables_of self.old) given no_register) }
         ensures step { IsStepAt (before own.now.branch) result self.old self.new }
-        ensures stops { StopsOnlyIf (λ t. (given : List ClassMove) → AreOf moves.old.int moves.old.float moves.old.vector given → GatherEdgeFails
-            (IsOwnBy own.now.defs.now own.now.branch) (before own.now.branch) params.now arguments.now inst_regs.old t given) result self.old }
         ensures registers { OnOk result (self.new.registers ≡ self.old.registers) }
     {
         let point = ProgPoint::before(own.branch);
@@ -437,11 +430,11 @@ impl<'a, A: Allocator> State<'a, A> {
         requires defs { AreBranchDefsOf (F.function cx.now.f.now) cx.now.defs.now }
         requires later { AllAtOrAfter (before inst) self.old.edits }
         requires may_pass { MayBranch (F.function cx.now.f.now) block (tables_of self.old) }
-        ensures ok { IfOk result (λ m. (given : List ClassMove) × AreOf m.int m.float m.vector given
-            × GathersMoves (F.function cx.now.f.now) block (before inst) inst_regs.old (tables_of self.old)
-            (length (block_at (F.function cx.now.f.now) block).succs) inst_regs.new (tables_of self.new) given) }
+        ensures outcome { MatchResult result (λ m. (given : List ClassMove) × AreOf m.int m.float m.vector given
+            × GatherMoves (F.function cx.now.f.now) block (before inst) inst_regs.old (tables_of self.old) (next (inst_regs.new, given) (tables_of self.new)))
+            (λ e. e ≡ RegAllocError.TooManyLiveRegs → GatherMoves (F.function cx.now.f.now) block (before inst) inst_regs.old (tables_of self.old)
+            no_register) }
         ensures step { IsStepAt (before inst) result self.old self.new }
-        ensures stops { StopsOnlyIf (GatherMovesFails (F.function cx.now.f.now) block (before inst) inst_regs.old) result self.old }
         ensures registers { OnOk result (self.new.registers ≡ self.old.registers) }
     {
         let own = OwnDefs {
@@ -470,12 +463,10 @@ impl<'a, A: Allocator> State<'a, A> {
         requires vectors { MayBeParallel self.old.slots.count moves.vector }
         requires apart { AreApart (tables_of self.old) }
         requires later { AllAtOrAfter point self.old.edits }
-        ensures ok { Makes (PushesAllClasses point inst_regs.now moves.entry.int moves.entry.float moves.entry.vector) result self.old self.new }
+        ensures outcome { ComesTo (PushAllClasses point inst_regs.now moves.entry.int moves.entry.float moves.entry.vector) tt result self.old self.new }
         ensures later { OnOk result (AllAtOrAfter point self.new.edits) }
         ensures machine { Between (AddsTempSlotsAtMost 6) self.old self.new }
         ensures err { IfErr result (IsResourceError (SlotsExhaustedWith self.old.slots (self.old.slots.num_temp_slots + 6))) }
-        ensures stops { StopsOnlyIf (λ t. OrderMovesFails RegClass.Int moves.entry.int t ⊎ (OrderMovesFails RegClass.Float moves.entry.float t ⊎
-            OrderMovesFails RegClass.Vector moves.entry.vector t)) result self.old }
         ensures registers { OnOk result (self.new.registers ≡ self.old.registers) }
         ensures none { OnOk result (moves.entry.int ≡ [] → moves.entry.float ≡ [] → moves.entry.vector ≡ [] → SameTables self.old self.new) }
     {
@@ -514,9 +505,8 @@ impl<'a, A: Allocator> State<'a, A> {
         requires may_pass { MayBranch (F.function cx.now.f.now) block (tables_of self.old) }
         requires differ { ParametersDiffer (F.function cx.now.f.now) block }
         requires apart { AreApart (tables_of self.old) }
-        ensures ok { Makes (ProcessesBranch (F.function cx.now.f.now) block inst inst_regs.old inst_regs.new) result self.old self.new }
+        ensures outcome { ComesTo (ProcessBranch (F.function cx.now.f.now) block inst inst_regs.old) inst_regs.new result self.old self.new }
         ensures step { IsBranchStepAt (before inst) 6 result self.old self.new }
-        ensures stops { StopsOnlyIf (ProcessBranchFails (F.function cx.now.f.now) block inst inst_regs.old) result self.old }
         ensures registers { OnOk result (self.new.registers ≡ self.old.registers) }
         ensures none { OnOk result (((k : ℕ) → HasEdge (F.function cx.now.f.now) block k → (block_at (F.function cx.now.f.now)
             (target_at (F.function cx.now.f.now) block k)).params ≡ []) → SameTables self.old self.new) }

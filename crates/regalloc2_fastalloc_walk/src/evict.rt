@@ -3,9 +3,8 @@
 ghost use Rattle.std.specs.Prelude.{◌≡◌, ◌<◌, OnOk, IfErr, None, Some};
 ghost use Rattle.regalloc2_names.specs.Place.{NoPlace};
 ghost use Rattle.regalloc2_fastalloc_state.specs.StateParts.{AllAtOrAfter, IsInverse, vreg_of_preg, alloc_of};
-ghost use Rattle.regalloc2_fastalloc_proofs.specs.InstSteps.{is_stack_in, EvictsVReg, AllocsScratchReg, AddsMove, EvictsPReg, EvictsOthers};
-ghost use Rattle.regalloc2_fastalloc_proofs.specs.OutOfRegs.{OutOfRegsOnlyIf, EvictPRegFails, AddMoveFails, AllocScratchRegFails};
-ghost use Rattle.regalloc2_fastalloc_walk.specs.StateView.{IsStepAt, Makes, MakesOne, StopsOnlyIf, tables_of};
+ghost use Rattle.regalloc2_fastalloc_proofs.specs.InstSteps.{is_stack_in, AllocScratchReg, AddMove, EvictPReg, EvictOthers, EvictVReg};
+ghost use Rattle.regalloc2_fastalloc_walk.specs.StateView.{IsStepAt, tables_of, ComesTo, ComesToOne};
 
 use super::state::State;
 use regalloc2_fastalloc_state::inst_regs::{InstRegs, Positions};
@@ -24,9 +23,8 @@ impl<'a, A: Allocator> State<'a, A> {
     /// there at the point.
     fn evict_vreg_in_preg(&mut self, point: ProgPoint, preg: PReg) -> Result<(), RegAllocError>
         requires { AllAtOrAfter point self.old.edits }
-        ensures ok { Makes (EvictsVReg point preg) result self.old self.new }
+        ensures outcome { ComesTo (EvictVReg point preg) tt result self.old self.new }
         ensures step { IsStepAt point result self.old self.new }
-        ensures stops { IfErr result (OutOfRegsOnlyIf (⊥)) }
         ensures registers { OnOk result (self.new.registers ≡ self.old.registers) }
     {
         let Some(vreg) = self.places.vreg_in(preg) else {
@@ -47,10 +45,9 @@ impl<'a, A: Allocator> State<'a, A> {
         class: RegClass,
     ) -> Result<PReg, RegAllocError>
         requires { AllAtOrAfter point self.old.edits }
-        ensures ok { MakesOne (λ r. AllocsScratchReg point class inst_regs.old inst_regs.new r) result self.old self.new }
+        ensures outcome { ComesToOne (AllocScratchReg point class inst_regs.old) (λ r. (r, inst_regs.new)) result self.old self.new }
         ensures awaited { inst_regs.new.awaited ≡ inst_regs.old.awaited }
         ensures step { IsStepAt point result self.old self.new }
-        ensures stops { StopsOnlyIf (AllocScratchRegFails class inst_regs.old) result self.old }
         ensures registers { OnOk result (self.new.registers ≡ self.old.registers) }
     {
         if let Some(preg) = self.registers.dedicated_scratch(class) {
@@ -80,10 +77,9 @@ impl<'a, A: Allocator> State<'a, A> {
         to: Allocation,
     ) -> Result<(), RegAllocError>
         requires { AllAtOrAfter point self.old.edits }
-        ensures ok { Makes (AddsMove point class from to inst_regs.old inst_regs.new) result self.old self.new }
+        ensures outcome { ComesTo (AddMove point class from to inst_regs.old) inst_regs.new result self.old self.new }
         ensures awaited { inst_regs.new.awaited ≡ inst_regs.old.awaited }
         ensures step { IsStepAt point result self.old self.new }
-        ensures stops { StopsOnlyIf (AddMoveFails class from to inst_regs.old) result self.old }
         ensures registers { OnOk result (self.new.registers ≡ self.old.registers) }
     {
         // most moves are reloads, which go to a register
@@ -111,11 +107,10 @@ impl<'a, A: Allocator> State<'a, A> {
         requires small { preg.number < 64 }
         requires inverse { IsInverse self.old.places }
         requires later { AllAtOrAfter point self.old.edits }
-        ensures ok { Makes (EvictsPReg point preg inst_regs.old inst_regs.new) result self.old self.new }
+        ensures outcome { ComesTo (EvictPReg point preg inst_regs.old) inst_regs.new result self.old self.new }
         ensures awaited { inst_regs.new.awaited ≡ inst_regs.old.awaited }
         ensures empty { OnOk result (vreg_of_preg self.new.places preg ≡ None) }
         ensures step { IsStepAt point result self.old self.new }
-        ensures stops { StopsOnlyIf (EvictPRegFails preg inst_regs.old) result self.old }
         ensures registers { OnOk result (self.new.registers ≡ self.old.registers) }
     {
         let slot = self.slots.get_spillslot(vreg)?;
@@ -134,11 +129,10 @@ impl<'a, A: Allocator> State<'a, A> {
         preg: PReg,
     ) -> Result<(), RegAllocError>
         requires { AllAtOrAfter point self.old.edits }
-        ensures ok { Makes (EvictsPReg point preg inst_regs.old inst_regs.new) result self.old self.new }
+        ensures outcome { ComesTo (EvictPReg point preg inst_regs.old) inst_regs.new result self.old self.new }
         ensures awaited { inst_regs.new.awaited ≡ inst_regs.old.awaited }
         ensures empty { OnOk result (vreg_of_preg self.new.places preg ≡ None) }
         ensures step { IsStepAt point result self.old self.new }
-        ensures stops { StopsOnlyIf (EvictPRegFails preg inst_regs.old) result self.old }
         ensures registers { OnOk result (self.new.registers ≡ self.old.registers) }
     {
         let Some(vreg) = self.places.vreg_in(preg) else {
@@ -158,11 +152,10 @@ impl<'a, A: Allocator> State<'a, A> {
         vreg: VReg,
     ) -> Result<(), RegAllocError>
         requires { AllAtOrAfter point self.old.edits }
-        ensures ok { Makes (EvictsOthers point preg vreg inst_regs.old inst_regs.new) result self.old self.new }
+        ensures outcome { ComesTo (EvictOthers point preg vreg inst_regs.old) inst_regs.new result self.old self.new }
         ensures awaited { inst_regs.new.awaited ≡ inst_regs.old.awaited }
         ensures alone { OnOk result (alloc_of self.new.places vreg.number ≡ NoPlace → vreg_of_preg self.new.places preg ≡ None) }
         ensures step { IsStepAt point result self.old self.new }
-        ensures stops { StopsOnlyIf (EvictPRegFails preg inst_regs.old) result self.old }
         ensures registers { OnOk result (self.new.registers ≡ self.old.registers) }
     {
         if let Some(held) = self.places.vreg_in(preg) {

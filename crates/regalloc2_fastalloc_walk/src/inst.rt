@@ -13,13 +13,10 @@ ghost use Rattle.regalloc2_parts.specs.Picked.{picked};
 ghost use Rattle.regalloc2_fastalloc_walk.specs.OperandsAt.{is_at};
 ghost use Rattle.regalloc2_fastalloc_state.specs.StateParts.{AllAtOrAfter, alloc_of};
 ghost use Rattle.regalloc2_validate.specs.Constraints.{op_at};
-ghost use Rattle.regalloc2_fastalloc_proofs.specs.InstSteps.{AllocsInst, reuse_requirement_of, requirement_of, def_request, reuse_request};
-ghost use Rattle.regalloc2_fastalloc_proofs.specs.InstSteps.{use_request, InTables, MovesUses, ProcessesOperandsAt, ProcessesOperand};
-ghost use Rattle.regalloc2_fastalloc_proofs.specs.InstSteps.{AddsMoveIf};
-ghost use Rattle.regalloc2_fastalloc_proofs.specs.OutOfRegs.{ProcessOperandsAtFails, AllocInstFails, MoveUsesFails, ProcessOperandFails};
-ghost use Rattle.regalloc2_fastalloc_proofs.specs.OutOfRegs.{AddMoveIfFails};
-ghost use Rattle.regalloc2_fastalloc_walk.specs.StateView.{IsStepAt, Makes, StopsOnlyIf, tables_of};
-ghost use Rattle.regalloc2_fastalloc_proofs.specs.BlockSteps.{AllocsInstInto, IsFresh};
+ghost use Rattle.regalloc2_fastalloc_proofs.specs.InstSteps.{IsFresh, reuse_requirement_of, requirement_of, def_request, reuse_request, ProcessOperand};
+ghost use Rattle.regalloc2_fastalloc_proofs.specs.InstSteps.{use_request, InTables, ProcessOperandsAt, MoveUse, MoveUses, PrepareRegs, AllocInst};
+ghost use Rattle.regalloc2_fastalloc_walk.specs.StateView.{IsStepAt, tables_of, ComesTo};
+ghost use Rattle.regalloc2_fastalloc_proofs.specs.BlockSteps.{AllocInstAt};
 
 use super::operand::PlaceMove;
 use super::state::State;
@@ -210,10 +207,9 @@ impl<'a, A: Allocator> State<'a, A> {
         requires later { AllAtOrAfter (after cx.now.inst) self.old.edits }
         requires in_tables { InTables cx.now.operands.now (tables_of self.old) }
         requires here_long { length here.old ≡ length cx.now.operands.now }
-        ensures ok { Makes (ProcessesOperand cx.now.inst cx.now.ends_block cx.now.operands.now k here.old here.new inst_regs.old inst_regs.new) result
-            self.old self.new }
+        ensures outcome { ComesTo (ProcessOperand cx.now.inst cx.now.ends_block cx.now.operands.now k here.old inst_regs.old) (here.new, inst_regs.new)
+            result self.old self.new }
         ensures step { IsStepAt (after cx.now.inst) result self.old self.new }
-        ensures stops { StopsOnlyIf (ProcessOperandFails cx.now.inst cx.now.ends_block cx.now.operands.now k here.old inst_regs.old) result self.old }
         ensures takes { OnOk result ((op_at cx.now.operands.now k).constraint ≡ OperandConstraint.Reg → slice_index_or here.old k NoPlace ≡ NoPlace →
             AllocsAnyReg inst_regs.old (op_at cx.now.operands.now k).vreg (slice_index_or here.new k NoPlace) (tables_of self.old) self.old.registers
             self.new.registers) }
@@ -257,10 +253,9 @@ impl<'a, A: Allocator> State<'a, A> {
         requires here_long { length here.old ≡ length cx.now.operands.now }
         requires reg { (op_at cx.now.operands.now k).constraint ≡ OperandConstraint.Reg }
         requires unplaced { slice_index_or here.old k NoPlace ≡ NoPlace }
-        ensures ok { Makes (ProcessesOperand cx.now.inst cx.now.ends_block cx.now.operands.now k here.old here.new inst_regs.old inst_regs.new) result
-            self.old self.new }
+        ensures outcome { ComesTo (ProcessOperand cx.now.inst cx.now.ends_block cx.now.operands.now k here.old inst_regs.old) (here.new, inst_regs.new)
+            result self.old self.new }
         ensures step { IsStepAt (after cx.now.inst) result self.old self.new }
-        ensures stops { StopsOnlyIf (ProcessOperandFails cx.now.inst cx.now.ends_block cx.now.operands.now k here.old inst_regs.old) result self.old }
         ensures takes { OnOk result (AllocsAnyReg inst_regs.old (op_at cx.now.operands.now k).vreg (slice_index_or here.new k NoPlace)
             (tables_of self.old) self.old.registers self.new.registers) }
     {
@@ -294,10 +289,9 @@ impl<'a, A: Allocator> State<'a, A> {
         requires here_long { length here.old ≡ length cx.now.operands.now }
         requires reading { is_reading (op_at cx.now.operands.now k) ≡ true }
         requires known { (use_request (op_at cx.now.operands.now k) (slice_index_or here.old k NoPlace)).requirement ≡ Requirement.InPReg preg }
-        ensures ok { Makes (ProcessesOperand cx.now.inst cx.now.ends_block cx.now.operands.now k here.old here.new inst_regs.old inst_regs.new) result
-            self.old self.new }
+        ensures outcome { ComesTo (ProcessOperand cx.now.inst cx.now.ends_block cx.now.operands.now k here.old inst_regs.old) (here.new, inst_regs.new)
+            result self.old self.new }
         ensures step { IsStepAt (after cx.now.inst) result self.old self.new }
-        ensures stops { StopsOnlyIf (ProcessOperandFails cx.now.inst cx.now.ends_block cx.now.operands.now k here.old inst_regs.old) result self.old }
     {
         let operands = cx.operands;
         let operand = operands[k];
@@ -347,10 +341,9 @@ impl<'a, A: Allocator> State<'a, A> {
         requires later { AllAtOrAfter (after cx.now.inst) self.old.edits }
         requires in_tables { InTables cx.now.operands.now (tables_of self.old) }
         requires here_long { length here.old ≡ length cx.now.operands.now }
-        ensures ok { Makes (ProcessesOperand cx.now.inst cx.now.ends_block cx.now.operands.now k here.old here.new inst_regs.old inst_regs.new) result
-            self.old self.new }
+        ensures outcome { ComesTo (ProcessOperand cx.now.inst cx.now.ends_block cx.now.operands.now k here.old inst_regs.old) (here.new, inst_regs.new)
+            result self.old self.new }
         ensures step { IsStepAt (after cx.now.inst) result self.old self.new }
-        ensures stops { StopsOnlyIf (ProcessOperandFails cx.now.inst cx.now.ends_block cx.now.operands.now k here.old inst_regs.old) result self.old }
         ensures takes { OnOk result ((op_at cx.now.operands.now k).constraint ≡ OperandConstraint.Reg → slice_index_or here.old k NoPlace ≡ NoPlace →
             AllocsAnyReg inst_regs.old (op_at cx.now.operands.now k).vreg (slice_index_or here.new k NoPlace) (tables_of self.old) self.old.registers
             self.new.registers) }
@@ -387,11 +380,9 @@ impl<'a, A: Allocator> State<'a, A> {
         requires later { AllAtOrAfter (after cx.now.inst) self.old.edits }
         requires in_tables { InTables cx.now.operands.now (tables_of self.old) }
         requires here_long { length here.old ≡ length cx.now.operands.now }
-        ensures ok { Makes (λ t. ProcessesOperandsAt cx.now.inst cx.now.ends_block (is_late pos) cx.now.operands.now here.old inst_regs.old t
-            (length cx.now.operands.now) here.new inst_regs.new) result self.old self.new }
+        ensures outcome { ComesTo (ProcessOperandsAt cx.now.inst cx.now.ends_block (is_late pos) cx.now.operands.now here.old inst_regs.old)
+            (here.new, inst_regs.new) result self.old self.new }
         ensures step { IsStepAt (after cx.now.inst) result self.old self.new }
-        ensures stops { StopsOnlyIf (ProcessOperandsAtFails cx.now.inst cx.now.ends_block (is_late pos) cx.now.operands.now here.old inst_regs.old) result
-            self.old }
         ensures spill_free { OnOk result ((names : List VirtualRegister) (gone : ℕ → Bool) → FitInRegs names self.old.registers.allocatable →
             ArePlain names gone cx.now.operands.now (is_late pos) → ((j : ℕ) → is_late (op_at cx.now.operands.now j).position ≡ is_late pos →
             slice_index_or here.old j NoPlace ≡ NoPlace) → IsSpillFree names gone self.old.registers (tables_of self.old) inst_regs.old
@@ -414,11 +405,8 @@ impl<'a, A: Allocator> State<'a, A> {
     ) -> Result<(), RegAllocError>
         requires later { AllAtOrAfter point self.old.edits }
         requires vreg { operand.vreg.number < length self.old.places.vreg_allocs }
-        ensures ok { Makes (AddsMoveIf point operand.vreg.class (not (is_place (alloc_of self.old.places operand.vreg.number) place))
-            (alloc_of self.old.places operand.vreg.number) place inst_regs.old inst_regs.new) result self.old self.new }
+        ensures outcome { ComesTo (MoveUse point operand place inst_regs.old) inst_regs.new result self.old self.new }
         ensures step { IsStepAt point result self.old self.new }
-        ensures stops { StopsOnlyIf (AddMoveIfFails operand.vreg.class (not (is_place (alloc_of self.old.places operand.vreg.number) place))
-            (alloc_of self.old.places operand.vreg.number) place inst_regs.old) result self.old }
         ensures registers { OnOk result (self.new.registers ≡ self.old.registers) }
     {
         let current = self.places.current_alloc(operand.vreg());
@@ -447,9 +435,8 @@ impl<'a, A: Allocator> State<'a, A> {
         requires later { AllAtOrAfter point self.old.edits }
         requires in_tables { InTables operands.now (tables_of self.old) }
         requires here_long { length here.now ≡ length operands.now }
-        ensures ok { Makes (λ t. MovesUses point operands.now here.now inst_regs.old t (length operands.now) inst_regs.new) result self.old self.new }
+        ensures outcome { ComesTo (MoveUses point operands.now here.now inst_regs.old) inst_regs.new result self.old self.new }
         ensures step { IsStepAt point result self.old self.new }
-        ensures stops { StopsOnlyIf (MoveUsesFails point operands.now here.now inst_regs.old) result self.old }
         ensures registers { OnOk result (self.new.registers ≡ self.old.registers) }
     {
         for (k, operand) in Operands::new(operands).use_ops() {
@@ -462,6 +449,29 @@ impl<'a, A: Allocator> State<'a, A> {
 }
 
 impl<'a, A: Allocator> State<'a, A> {
+    /// Takes the fixed registers and the clobbers of an instruction, and empties them.
+    #[inline(always)]
+    fn prepare_regs(
+        &mut self,
+        inst_regs: &mut InstRegs,
+        cx: &InstCx<'_>,
+    ) -> Result<(), RegAllocError>
+        requires inst { cx.now.inst < 1073741824 }
+        requires later { AllAtOrAfter (after cx.now.inst) self.old.edits }
+        requires fresh { IsFresh inst_regs.old (tables_of self.old) }
+        ensures outcome { ComesTo (PrepareRegs cx.now.inst cx.now.operands.now cx.now.clobbers inst_regs.old) inst_regs.new result self.old self.new }
+        ensures step { IsStepAt (after cx.now.inst) result self.old self.new }
+        ensures registers { OnOk result (((k : ℕ) (r : Register) → k < length cx.now.operands.now →
+            (op_at cx.now.operands.now k).constraint ≡ OperandConstraint.FixedReg r → ⊥) → self.new.registers ≡ self.old.registers) }
+    {
+        let point = ProgPoint::after(cx.inst);
+        let any_fixed = self.reserve(inst_regs, cx.operands)?;
+        self.remove_clobbers_from_available_pregs(inst_regs, cx.clobbers);
+        self.evict_fixed(inst_regs, point, cx.operands, any_fixed)?;
+        self.evict_clobbers(inst_regs, point, cx.clobbers)?;
+        Ok(())
+    }
+
     /// Allocates an instruction: `here`, which has no place yet, gets those of its operands.
     pub fn alloc_inst(
         &mut self,
@@ -475,25 +485,18 @@ impl<'a, A: Allocator> State<'a, A> {
         requires here_long { length here.old ≡ length cx.now.operands.now }
         requires no_places { (k : ℕ) → slice_index_or here.old k NoPlace ≡ NoPlace }
         requires fresh { IsFresh inst_regs.old (tables_of self.old) }
-        ensures ok { OnOk result ((a : AllocsInst cx.now.inst (record
-            { operands = cx.now.operands.now; clobbers = cx.now.clobbers; is_branch = false; is_ret = cx.now.ends_block }) here.old here.new
-            (tables_of self.old) (tables_of self.new)) × (a.ended ≡ inst_regs.new)) }
+        ensures outcome { ComesTo (AllocInst cx.now.inst cx.now.operands.now cx.now.clobbers cx.now.ends_block here.old inst_regs.old)
+            (here.new, inst_regs.new) result self.old self.new }
         ensures step { IsStepAt (before cx.now.inst) result self.old self.new }
-        ensures stops { StopsOnlyIf (AllocInstFails cx.now.inst cx.now.ends_block cx.now.operands.now cx.now.clobbers here.old inst_regs.old) result self.old }
         ensures spill_free { OnOk result ((names : List VirtualRegister) (gone : ℕ → Bool) → FitInRegs names self.old.registers.allocatable →
             ((late : Bool) → ArePlain names gone cx.now.operands.now late) → ((r : Register) → has_register cx.now.clobbers r ≡ false) →
             IsSpillFree names gone self.old.registers (tables_of self.old) inst_regs.old
             → LeavesSpillFree names gone cx.now.operands.now self.new.registers (tables_of self.new)) }
     {
-        let operands = cx.operands;
-        let point = ProgPoint::after(cx.inst);
-        let any_fixed = self.reserve(inst_regs, operands)?;
-        self.remove_clobbers_from_available_pregs(inst_regs, cx.clobbers);
-        self.evict_fixed(inst_regs, point, operands, any_fixed)?;
-        self.evict_clobbers(inst_regs, point, cx.clobbers)?;
+        self.prepare_regs(inst_regs, cx)?;
         self.process_operands_at(inst_regs, OperandPos::Late, cx, here)?;
         self.process_operands_at(inst_regs, OperandPos::Early, cx, here)?;
-        self.move_uses(inst_regs, ProgPoint::before(cx.inst), operands, here)?;
+        self.move_uses(inst_regs, ProgPoint::before(cx.inst), cx.operands, here)?;
         Ok(())
     }
 
@@ -511,16 +514,9 @@ impl<'a, A: Allocator> State<'a, A> {
         requires room { start + length cx.now.operands.now ≤ length allocs.old }
         requires no_places { (k : ℕ) → k < start + length cx.now.operands.now → slice_index_or allocs.old k NoPlace ≡ NoPlace }
         requires fresh { IsFresh inst_regs.old (tables_of self.old) }
-        ensures ok { Makes (AllocsInstInto inst_regs.new cx.now.inst (record {
-          operands = cx.now.operands.now;
-          clobbers = cx.now.clobbers;
-          is_branch = false;
-          is_ret = cx.now.ends_block;
-        }) start allocs.old allocs.new) result self.old self.new }
+        ensures outcome { ComesTo (AllocInstAt cx.now.inst cx.now.operands.now cx.now.clobbers cx.now.ends_block start allocs.old inst_regs.old)
+            (allocs.new, inst_regs.new) result self.old self.new }
         ensures step { IsStepAt (before cx.now.inst) result self.old self.new }
-        ensures stops { StopsOnlyIf (λ t. (blank : List Place) × (length blank ≡ length cx.now.operands.now)
-            × ((k : ℕ) → slice_index_or blank k NoPlace ≡ NoPlace) × AllocInstFails cx.now.inst cx.now.ends_block cx.now.operands.now cx.now.clobbers blank
-            inst_regs.old t) result self.old }
         ensures spill_free { OnOk result ((names : List VirtualRegister) (gone : ℕ → Bool) → FitInRegs names self.old.registers.allocatable →
             ((late : Bool) → ArePlain names gone cx.now.operands.now late) → ((r : Register) → has_register cx.now.clobbers r ≡ false) →
             IsSpillFree names gone self.old.registers (tables_of self.old) inst_regs.old

@@ -10,13 +10,11 @@ ghost use Rattle.regalloc2_names.specs.Place.{NoPlace, InRegister, is_place};
 ghost use Rattle.regalloc2_fastalloc_state.specs.StateParts.{IsInverse, AllAtOrAfter, vreg_of_preg, lru_of, alloc_of};
 ghost use Rattle.regalloc2_fastalloc_state.specs.OutOfResources.{IsResourceErrorIn};
 ghost use Rattle.regalloc2_fastalloc_state.specs.InstRegs.{IsAvailableAt, SameAvailable, free_count, is_available_at, is_free_throughout};
-ghost use Rattle.regalloc2_fastalloc_proofs.specs.InstSteps.{awaited_less, is_another, scratch_reserve_left, FreesDef, AllocsOperand, IsAffordable};
-ghost use Rattle.regalloc2_fastalloc_proofs.specs.InstSteps.{MayHold, ClaimsPlace, SelectsPlace, AllocsDefOp, AllocsUse, SameMachine, AddsMoveIf};
+ghost use Rattle.regalloc2_fastalloc_proofs.specs.InstSteps.{awaited_less, is_another, scratch_reserve_left, IsAffordable, SelectPlace, ClaimPlace};
+ghost use Rattle.regalloc2_fastalloc_proofs.specs.InstSteps.{MayHold, SameMachine, AllocOperand, AddMoveIf, FreeDef, AllocDefOp, AllocUse, NoneIsAvailable};
 ghost use Rattle.regalloc2_fastalloc_proofs.specs.InstSteps.{MeetsRequirement};
-ghost use Rattle.regalloc2_fastalloc_proofs.specs.OutOfRegs.{NoneIsAvailable, EvictPRegFails, AllocDefOpFails, FreeDefFails};
-ghost use Rattle.regalloc2_fastalloc_proofs.specs.OutOfRegs.{AllocOperandFails, SelectPlaceFails, AddMoveIfFails};
 ghost use Rattle.regalloc2_fastalloc_walk.specs.PlaceChoice.{IsUnaffordable};
-ghost use Rattle.regalloc2_fastalloc_walk.specs.StateView.{Between, IsStepAt, Makes, MakesOne, SameTables, StopsOnlyIf, tables_of};
+ghost use Rattle.regalloc2_fastalloc_walk.specs.StateView.{Between, IsStepAt, SameTables, tables_of, ComesTo, ComesToOne};
 
 use super::state::State;
 use regalloc2_fastalloc_state::inst_regs::{InstRegs, Positions};
@@ -250,7 +248,7 @@ impl<'a, A: Allocator> State<'a, A> {
         request: &OperandRequest,
     ) -> Result<Allocation, RegAllocError>
         requires { request.now.vreg.number < length self.old.places.vreg_allocs }
-        ensures ok { MakesOne (λ p. SelectsPlace inst_regs.now request.now p) result self.old self.new }
+        ensures outcome { ComesToOne (SelectPlace inst_regs.now request.now) (λ p. p) result self.old self.new }
         ensures affordable { IfOk result (λ p. request.now.requirement ≡ Requirement.AnyPlace → (r : Register) → p ≡ InRegister r →
             IsAffordable inst_regs.now (tables_of self.old) r) }
         ensures there { IfOk result (λ p. p ≢ NoPlace) }
@@ -258,7 +256,6 @@ impl<'a, A: Allocator> State<'a, A> {
         ensures edits { self.new.edits ≡ self.old.edits }
         ensures machine { Between SameMachine self.old self.new }
         ensures err { IfErr result (IsResourceErrorIn self.new.slots) }
-        ensures stops { StopsOnlyIf (SelectPlaceFails request.now inst_regs.now) result self.old }
         ensures registers { OnOk result (self.new.registers ≡ self.old.registers) }
         ensures chooses { IfOk result (λ p. request.now.requirement ≡ Requirement.AnyReg →
             (MeetsRequirement (tables_of self.old) Requirement.AnyReg (alloc_of self.old.places request.now.vreg.number) → ⊥) →
@@ -287,7 +284,7 @@ impl<'a, A: Allocator> State<'a, A> {
         request: &OperandRequest,
     ) -> Result<Allocation, RegAllocError>
         requires { request.now.vreg.number < length self.old.places.vreg_allocs }
-        ensures ok { MakesOne (λ p. SelectsPlace inst_regs.now request.now p) result self.old self.new }
+        ensures outcome { ComesToOne (SelectPlace inst_regs.now request.now) (λ p. p) result self.old self.new }
         ensures affordable { IfOk result (λ p. request.now.requirement ≡ Requirement.AnyPlace → (r : Register) → p ≡ InRegister r →
             IsAffordable inst_regs.now (tables_of self.old) r) }
         ensures there { IfOk result (λ p. p ≢ NoPlace) }
@@ -295,7 +292,6 @@ impl<'a, A: Allocator> State<'a, A> {
         ensures edits { self.new.edits ≡ self.old.edits }
         ensures machine { Between SameMachine self.old self.new }
         ensures err { IfErr result (IsResourceErrorIn self.new.slots) }
-        ensures stops { StopsOnlyIf (SelectPlaceFails request.now inst_regs.now) result self.old }
         ensures registers { OnOk result (self.new.registers ≡ self.old.registers) }
         ensures chooses { IfOk result (λ p. request.now.requirement ≡ Requirement.AnyReg →
             SelectsAnyReg inst_regs.now request.now.vreg self.old.registers (tables_of self.old) p) }
@@ -334,11 +330,10 @@ impl<'a, A: Allocator> State<'a, A> {
         preg: PReg,
     ) -> Result<(), RegAllocError>
         requires { AllAtOrAfter point self.old.edits }
-        ensures ok { Makes (ClaimsPlace point request.now (InRegister preg) inst_regs.old inst_regs.new) result self.old self.new }
+        ensures outcome { ComesTo (ClaimPlace point request.now (InRegister preg) inst_regs.old) inst_regs.new result self.old self.new }
         ensures awaited { inst_regs.new.awaited ≡ inst_regs.old.awaited }
         ensures alone { OnOk result (alloc_of self.new.places request.now.vreg.number ≡ NoPlace → vreg_of_preg self.new.places preg ≡ None) }
         ensures step { IsStepAt point result self.old self.new }
-        ensures stops { StopsOnlyIf (EvictPRegFails preg inst_regs.old) result self.old }
         ensures order { OnOk result (request.now.requirement ≡ Requirement.AnyReg → Pokes preg self.old.registers self.new.registers) }
     {
         self.evict_others(inst_regs, point, preg, request.vreg)?;
@@ -358,12 +353,11 @@ impl<'a, A: Allocator> State<'a, A> {
     ) -> Result<(), RegAllocError>
         requires later { AllAtOrAfter point self.old.edits }
         requires there { place ≢ NoPlace }
-        ensures ok { Makes (ClaimsPlace point request.now place inst_regs.old inst_regs.new) result self.old self.new }
+        ensures outcome { ComesTo (ClaimPlace point request.now place inst_regs.old) inst_regs.new result self.old self.new }
         ensures awaited { inst_regs.new.awaited ≡ inst_regs.old.awaited }
         ensures alone { OnOk result ((r : Register) → place ≡ InRegister r → alloc_of self.new.places request.now.vreg.number ≡ NoPlace →
             vreg_of_preg self.new.places r ≡ None) }
         ensures step { IsStepAt point result self.old self.new }
-        ensures stops { StopsOnlyIf (λ t. (r : Register) × (place ≡ InRegister r) × EvictPRegFails r inst_regs.old t) result self.old }
         ensures order { OnOk result (request.now.requirement ≡ Requirement.AnyReg → (r : Register) → place ≡ InRegister r →
             Pokes r self.old.registers self.new.registers) }
     {
@@ -384,12 +378,11 @@ impl<'a, A: Allocator> State<'a, A> {
     ) -> Result<Allocation, RegAllocError>
         requires later { AllAtOrAfter point self.old.edits }
         requires vreg { request.now.vreg.number < length self.old.places.vreg_allocs }
-        ensures ok { MakesOne (λ p. AllocsOperand point request.now p inst_regs.old inst_regs.new) result self.old self.new }
+        ensures outcome { ComesToOne (AllocOperand point request.now inst_regs.old) (λ p. (p, inst_regs.new)) result self.old self.new }
         ensures awaited { OnOk result (inst_regs.new.awaited ≡ awaited_less request.now.requirement request.now.vreg.class inst_regs.old.awaited) }
         ensures alone { IfOk result (λ p. (r : Register) → p ≡ InRegister r → alloc_of self.new.places request.now.vreg.number ≡ NoPlace →
             vreg_of_preg self.new.places r ≡ None) }
         ensures step { IsStepAt point result self.old self.new }
-        ensures stops { StopsOnlyIf (AllocOperandFails request.now inst_regs.old) result self.old }
         ensures takes { IfOk result (λ p. request.now.requirement ≡ Requirement.AnyReg →
             AllocsAnyReg inst_regs.old request.now.vreg p (tables_of self.old) self.old.registers self.new.registers) }
     {
@@ -409,10 +402,9 @@ impl<'a, A: Allocator> State<'a, A> {
         m: PlaceMove,
     ) -> Result<(), RegAllocError>
         requires { AllAtOrAfter point self.old.edits }
-        ensures ok { Makes (AddsMoveIf point m.class is_made m.from m.to inst_regs.old inst_regs.new) result self.old self.new }
+        ensures outcome { ComesTo (AddMoveIf point m.class is_made m.from m.to inst_regs.old) inst_regs.new result self.old self.new }
         ensures awaited { inst_regs.new.awaited ≡ inst_regs.old.awaited }
         ensures step { IsStepAt point result self.old self.new }
-        ensures stops { StopsOnlyIf (AddMoveIfFails m.class is_made m.from m.to inst_regs.old) result self.old }
         ensures registers { OnOk result (self.new.registers ≡ self.old.registers) }
     {
         if !is_made {
@@ -435,10 +427,9 @@ impl<'a, A: Allocator> State<'a, A> {
     ) -> Result<(), RegAllocError>
         requires later { AllAtOrAfter point self.old.edits }
         requires vreg { vreg.number < length self.old.places.vreg_allocs }
-        ensures ok { Makes (FreesDef point vreg is_ret place inst_regs.old inst_regs.new) result self.old self.new }
+        ensures outcome { ComesTo (FreeDef point vreg is_ret place inst_regs.old) inst_regs.new result self.old self.new }
         ensures awaited { inst_regs.new.awaited ≡ inst_regs.old.awaited }
         ensures step { IsStepAt point result self.old self.new }
-        ensures stops { StopsOnlyIf (FreeDefFails point vreg is_ret place inst_regs.old) result self.old }
         ensures registers { OnOk result (self.new.registers ≡ self.old.registers) }
     {
         let class = vreg.class();
@@ -474,9 +465,8 @@ impl<'a, A: Allocator> State<'a, A> {
     ) -> Result<Allocation, RegAllocError>
         requires later { AllAtOrAfter point self.old.edits }
         requires vreg { request.now.vreg.number < length self.old.places.vreg_allocs }
-        ensures ok { MakesOne (λ p. AllocsDefOp point request.now is_ret p inst_regs.old inst_regs.new) result self.old self.new }
+        ensures outcome { ComesToOne (AllocDefOp point request.now is_ret inst_regs.old) (λ p. (p, inst_regs.new)) result self.old self.new }
         ensures step { IsStepAt point result self.old self.new }
-        ensures stops { StopsOnlyIf (AllocDefOpFails point request.now is_ret inst_regs.old) result self.old }
         ensures takes { IfOk result (λ p. request.now.requirement ≡ Requirement.AnyReg →
             AllocsAnyReg inst_regs.old request.now.vreg p (tables_of self.old) self.old.registers self.new.registers) }
     {
@@ -495,9 +485,8 @@ impl<'a, A: Allocator> State<'a, A> {
     ) -> Result<Allocation, RegAllocError>
         requires later { AllAtOrAfter point self.old.edits }
         requires vreg { request.now.vreg.number < length self.old.places.vreg_allocs }
-        ensures ok { MakesOne (λ p. AllocsUse point request.now p inst_regs.old inst_regs.new) result self.old self.new }
+        ensures outcome { ComesToOne (AllocUse point request.now inst_regs.old) (λ p. (p, inst_regs.new)) result self.old self.new }
         ensures step { IsStepAt point result self.old self.new }
-        ensures stops { StopsOnlyIf (AllocOperandFails request.now inst_regs.old) result self.old }
         ensures takes { IfOk result (λ p. request.now.requirement ≡ Requirement.AnyReg →
             AllocsAnyReg inst_regs.old request.now.vreg p (tables_of self.old) self.old.registers self.new.registers) }
     {

@@ -1,16 +1,15 @@
 //! What an instruction takes before its operands are allocated: fixed registers and clobbers.
 
-ghost use Rattle.std.specs.Prelude.{ℕ, ◌≡◌, ◌<◌, ◌⊎◌, ◌||◌, ◌↔◌, length, true, false, IsTrue, OnOk, IfOk, IfSome, IfNone, IfErr, Some};
+ghost use Rattle.std.specs.Prelude.{ℕ, ◌≡◌, ◌<◌, ◌⊎◌, ◌||◌, ◌↔◌, length, true, false, IsTrue, OnOk, IfOk, IfSome, IfNone, IfErr, Some, MatchResult};
 ghost use Rattle.regalloc2_names.specs.Register.{Register};
 ghost use Rattle.regalloc2_names.specs.RegisterSet.{has_register, registers_of};
 ghost use Rattle.regalloc2_fastalloc_state.specs.StateParts.{AllAtOrAfter};
 ghost use Rattle.regalloc2_fastalloc_state.specs.OutOfResources.{IsResourceErrorIn};
 ghost use Rattle.regalloc2_validate.specs.Constraints.{op_at};
-ghost use Rattle.regalloc2_fastalloc_proofs.specs.InstSteps.{NeedsFixedReg, ReservesRegs, RemovesClobbers, EvictsFixed, EvictsEach};
-ghost use Rattle.regalloc2_fastalloc_proofs.specs.OutOfRegs.{OutOfRegsOnlyIf, EvictClobbersFails, EvictFixedFails, ReserveRegsFails};
-ghost use Rattle.regalloc2_fastalloc_walk.specs.StateView.{IsStepAt, Makes, SameTables, StopsOnlyIf, tables_of};
+ghost use Rattle.regalloc2_fastalloc_proofs.specs.InstSteps.{NeedsFixedReg, RemovesClobbers, ReserveRegs, EvictFixed, EvictEach};
+ghost use Rattle.regalloc2_fastalloc_walk.specs.StateView.{IsStepAt, SameTables, tables_of, ComesTo};
 ghost use Rattle.regalloc2_fastalloc_walk.specs.ReserveSteps.{AwaitsOne, ReservesOnly, IsNewlyReserved, IsReservedAt, IsReserved, Grows, Shrinks};
-ghost use Rattle.regalloc2_fastalloc_walk.specs.ReserveSteps.{ReservesRegForOperand, ReserveForOperandFails, TakesOnly};
+ghost use Rattle.regalloc2_fastalloc_walk.specs.ReserveSteps.{ReservesRegForOperand, TakesOnly, RegIsNotReserved};
 
 use super::state::State;
 use regalloc2_fastalloc_state::inst_regs::{InstRegs, Positions};
@@ -150,9 +149,9 @@ impl<'a, A: Allocator> State<'a, A> {
         ensures grows { Grows claims.old claims.new }
         ensures only { ReservesOnly claims.old claims.new preg positions }
         ensures err { IfErr result (IsResourceErrorIn self.now.slots) }
-        ensures stops { IfErr result (OutOfRegsOnlyIf
-            (((has_register self.now.registers.allocatable preg || has_register self.now.registers.fixed_stack preg) ≡ false)
-            ⊎ IsReservedAt claims.old preg positions)) }
+        ensures stops { IfErr result (λ e. e ≡ RegAllocError.TooManyLiveRegs →
+            ((has_register self.now.registers.allocatable preg || has_register self.now.registers.fixed_stack preg) ≡ false)
+            ⊎ IsReservedAt claims.old preg positions) }
     {
         if !self.registers.available_regs().contains(preg) {
             return Err(RegAllocError::TooManyLiveRegs);
@@ -195,11 +194,12 @@ impl<'a, A: Allocator> State<'a, A> {
         k: usize,
     ) -> Result<(), RegAllocError>
         requires { k < length operands.now }
-        ensures ok { OnOk result (ReservesRegForOperand operands.now k inst_regs.old inst_regs.new claims.old claims.new (tables_of self.old)) }
+        ensures outcome { MatchResult result
+            (λ x. ReservesRegForOperand operands.now k inst_regs.old inst_regs.new claims.old claims.new (tables_of self.old))
+            (λ e. e ≡ RegAllocError.TooManyLiveRegs → RegIsNotReserved operands.now k claims.old (tables_of self.old)) }
         ensures awaited { OnOk result (AwaitsOne operands.now k inst_regs.old inst_regs.new) }
         ensures same { SameTables self.old self.new }
         ensures err { IfErr result (IsResourceErrorIn self.new.slots) }
-        ensures stops { StopsOnlyIf (ReserveForOperandFails operands.now k claims.old) result self.old }
         ensures registers { OnOk result (((r : Register) → (op_at operands.now k).constraint ≡ OperandConstraint.FixedReg r → ⊥) →
             self.new.registers ≡ self.old.registers) }
     {
@@ -224,10 +224,9 @@ impl<'a, A: Allocator> State<'a, A> {
         inst_regs: &mut InstRegs,
         operands: &[Operand],
     ) -> Result<bool, RegAllocError>
-        ensures ok { OnOk result (ReservesRegs operands.now inst_regs.old inst_regs.new (tables_of self.old)) }
+        ensures outcome { ComesTo (ReserveRegs operands.now inst_regs.old) inst_regs.new result self.old self.new }
         ensures same { SameTables self.old self.new }
         ensures err { IfErr result (IsResourceErrorIn self.new.slots) }
-        ensures stops { StopsOnlyIf (ReserveRegsFails operands.now) result self.old }
         ensures registers { OnOk result (((k : ℕ) (r : Register) → k < length operands.now →
             (op_at operands.now k).constraint ≡ OperandConstraint.FixedReg r → ⊥) → self.new.registers ≡ self.old.registers) }
         ensures fixed { IfOk result (λ any_fixed. any_fixed ≡ false → (k : ℕ) → k < length operands.now → (r : Register) →
@@ -269,10 +268,9 @@ impl<'a, A: Allocator> State<'a, A> {
         requires later { AllAtOrAfter point self.old.edits }
         requires unfixed { any_fixed ≡ false → (k : ℕ) → k < length operands.now → (r : Register) →
             (op_at operands.now k).constraint ≡ OperandConstraint.FixedReg r → ⊥ }
-        ensures ok { Makes (λ t. EvictsFixed point operands.now inst_regs.old t (length operands.now) inst_regs.new) result self.old self.new }
+        ensures outcome { ComesTo (EvictFixed point operands.now inst_regs.old) inst_regs.new result self.old self.new }
         ensures awaited { inst_regs.new.awaited ≡ inst_regs.old.awaited }
         ensures step { IsStepAt point result self.old self.new }
-        ensures stops { StopsOnlyIf (EvictFixedFails point operands.now inst_regs.old) result self.old }
         ensures registers { OnOk result (self.new.registers ≡ self.old.registers) }
     {
         if !any_fixed {
@@ -304,10 +302,9 @@ impl<'a, A: Allocator> State<'a, A> {
         clobbers: PRegSet,
     ) -> Result<(), RegAllocError>
         requires { AllAtOrAfter point self.old.edits }
-        ensures ok { Makes (λ t. EvictsEach point (registers_of clobbers) inst_regs.old t inst_regs.new) result self.old self.new }
+        ensures outcome { ComesTo (EvictEach point (registers_of clobbers) inst_regs.old) inst_regs.new result self.old self.new }
         ensures awaited { inst_regs.new.awaited ≡ inst_regs.old.awaited }
         ensures step { IsStepAt point result self.old self.new }
-        ensures stops { StopsOnlyIf (EvictClobbersFails point inst_regs.old) result self.old }
         ensures registers { OnOk result (self.new.registers ≡ self.old.registers) }
     {
         if has_none(clobbers) {

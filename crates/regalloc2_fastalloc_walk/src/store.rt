@@ -12,11 +12,10 @@ ghost use Rattle.regalloc2_fastalloc_state.specs.StateParts.{AllAtOrAfter, NoneI
 ghost use Rattle.regalloc2_fastalloc_proofs.specs.InstSteps.{MayHold};
 ghost use Rattle.regalloc2_fastalloc_proofs.specs.BlockSteps.{DefinesBelow, MayBeAllocated};
 ghost use Rattle.regalloc2_fastalloc_proofs.specs.BranchSteps.{AreApart};
-ghost use Rattle.regalloc2_fastalloc_proofs.specs.OutOfRegs.{OutOfRegsOnlyIf, StoreBranchDefsFails};
-ghost use Rattle.regalloc2_fastalloc_proofs.specs.StoreSteps.{IsStoredFor, StoresBranchDefs, pushed_moves};
-ghost use Rattle.regalloc2_fastalloc_walk.specs.BranchStores.{FindsDefined, FindsStore, FindsStores, IsMadeOf, LacksStoreReg, ListsGiven, ListsParams};
-ghost use Rattle.regalloc2_fastalloc_walk.specs.BranchStores.{ListsStores, PushesStores, own_store};
-ghost use Rattle.regalloc2_fastalloc_walk.specs.StateView.{IsStepAt, Makes, MakesSlots, SameTables, StopsOnlyIf, tables_of};
+ghost use Rattle.regalloc2_fastalloc_proofs.specs.StoreSteps.{IsStoredFor, StoreBranchDefs};
+ghost use Rattle.regalloc2_fastalloc_walk.specs.BranchStores.{FindsDefined, FindsStore, FindsStores, ListsGiven, ListsParams, PushStore, PushStores};
+ghost use Rattle.regalloc2_fastalloc_walk.specs.BranchStores.{ListsStores, own_store};
+ghost use Rattle.regalloc2_fastalloc_walk.specs.StateView.{IsStepAt, MakesSlots, SameTables, tables_of, ComesTo};
 
 use super::operand::PlaceMove;
 use super::state::State;
@@ -203,10 +202,8 @@ impl<'a, A: Allocator> State<'a, A> {
         m: PlaceMove,
     ) -> Result<(), RegAllocError>
         requires { AllAtOrAfter point self.old.edits }
-        ensures ok { OnOk result ((s : Store) × IsMadeOf (tables_of self.old) m s
-            × (tables_of self.new ≡ record (tables_of self.old) { edits = self.old.edits ++ pushed_moves point (moves_by s.from s.by s.to) })) }
+        ensures outcome { ComesTo (PushStore point m) tt result self.old self.new }
         ensures step { IsStepAt point result self.old self.new }
-        ensures stops { IfErr result (OutOfRegsOnlyIf (NoneIsFrom self.old.registers.allocatable m.class 0)) }
         ensures registers { OnOk result (self.new.registers ≡ self.old.registers) }
     {
         if !self.is_stack(m.from) {
@@ -228,9 +225,8 @@ impl<'a, A: Allocator> State<'a, A> {
         moves: &[PlaceMove],
     ) -> Result<(), RegAllocError>
         requires { AllAtOrAfter point self.old.edits }
-        ensures ok { Makes (PushesStores point from_memory moves.now) result self.old self.new }
+        ensures outcome { ComesTo (PushStores point from_memory moves.now) tt result self.old self.new }
         ensures step { IsStepAt point result self.old self.new }
-        ensures stops { StopsOnlyIf (λ t. LacksStoreReg t moves.now) result self.old }
         ensures registers { OnOk result (self.new.registers ≡ self.old.registers) }
     {
         let mut k = moves.len();
@@ -260,9 +256,8 @@ impl<'a, A: Allocator> State<'a, A> {
         requires room { DefinesBelow (F.function f.now) (length self.old.slots.vreg_spillslots) }
         requires apart { AreApart (tables_of self.old) }
         requires later { AllAtOrAfter (before (block_at (F.function f.now) block).range.first) self.old.edits }
-        ensures ok { Makes (StoresBranchDefs (F.function f.now) block) result self.old self.new }
+        ensures outcome { ComesTo (StoreBranchDefs (F.function f.now) block) tt result self.old self.new }
         ensures step { IsStepAt (before (block_at (F.function f.now) block).range.first) result self.old self.new }
-        ensures stops { StopsOnlyIf (StoreBranchDefsFails (F.function f.now) block) result self.old }
         ensures registers { OnOk result (self.new.registers ≡ self.old.registers) }
         ensures none { OnOk result (((e k j : ℕ) (v : VirtualRegister) → IsEdgeInto (F.function f.now) block e k → IsStoredFor (F.function f.now) e k
             self.old.slots j v → ⊥) → SameTables self.old self.new) }

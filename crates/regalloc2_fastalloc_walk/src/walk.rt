@@ -17,12 +17,10 @@ ghost use Rattle.regalloc2_fastalloc_state.specs.StateParts.{AllAtOrAfter, Spill
 ghost use Rattle.regalloc2_fastalloc_proofs.specs.InstSteps.{ends_block};
 ghost use Rattle.regalloc2_fastalloc_proofs.specs.BranchSteps.{AreApart, AddsTempSlotsAtMost};
 ghost use Rattle.regalloc2_fastalloc_state.specs.OutOfResources.{SlotsExhaustedWith, IsResourceError};
-ghost use Rattle.regalloc2_fastalloc_proofs.specs.OutOfRegs.{AllocBlocksFails, AllocInstInBlockFails, AllocBlockInstsFails};
 ghost use Rattle.regalloc2_branch_defs.specs.BranchDefs.{IsEdgeInto};
 ghost use Rattle.regalloc2_fastalloc_proofs.specs.StoreSteps.{IsStoredFor};
-ghost use Rattle.regalloc2_fastalloc_walk.specs.BranchStores.{BeginBlockFails};
-ghost use Rattle.regalloc2_fastalloc_walk.specs.StateView.{Between, IsBranchStepAt, IsStepAt, Makes, SameTables, StopsOnlyIf, tables_of};
-ghost use Rattle.regalloc2_fastalloc_proofs.specs.BlockSteps.{AllocsInstInBlock, BeginsBlock, MayBeAllocated, AllocsBlocks, AllocsBlockInsts, temp_slots_at};
+ghost use Rattle.regalloc2_fastalloc_walk.specs.StateView.{Between, IsBranchStepAt, IsStepAt, SameTables, tables_of, ComesTo};
+ghost use Rattle.regalloc2_fastalloc_proofs.specs.BlockSteps.{MayBeAllocated, temp_slots_at, AllocInstInBlock, AllocBlock, BeginBlock, AllocBlocks};
 ghost use Rattle.regalloc2_fastalloc_proofs.specs.BlockSteps.{DefinesBelow, offset_of};
 
 use super::inst::InstCx;
@@ -78,9 +76,8 @@ impl<'a, A: Allocator> State<'a, A> {
         requires start { at.start ≡ offset_of (F.function cx.now.f.now) at.inst }
         requires allocs_long { length allocs.old ≡ operand_count (F.function cx.now.f.now) }
         requires no_places { (k : ℕ) → k < offset_of (F.function cx.now.f.now) (at.inst + 1) → slice_index_or allocs.old k NoPlace ≡ NoPlace }
-        ensures ok { Makes (AllocsInstInBlock (F.function cx.now.f.now) block at.inst allocs.old allocs.new) result self.old self.new }
+        ensures outcome { ComesTo (AllocInstInBlock (F.function cx.now.f.now) block at.inst allocs.old) allocs.new result self.old self.new }
         ensures step { IsBranchStepAt (before at.inst) (temp_slots_at (F.function cx.now.f.now) at.inst) result self.old self.new }
-        ensures stops { StopsOnlyIf (AllocInstInBlockFails (F.function cx.now.f.now) block at.inst allocs.old) result self.old }
         ensures spill_free { OnOk result ((names : List VirtualRegister) → FitInRegs names self.old.registers.allocatable →
             HasRegOperandsOnly names (F.function cx.now.f.now) →
             IsSpillFreeFrom names (F.function cx.now.f.now) (at.inst + 1) self.old.registers (tables_of self.old) →
@@ -125,12 +122,10 @@ impl<'a, A: Allocator> State<'a, A> {
         requires allocs_long { length allocs.old ≡ operand_count (F.function cx.now.f.now) }
         requires no_places { (k : ℕ) → k < offset_of (F.function cx.now.f.now) (block_at (F.function cx.now.f.now) block).range.end →
             slice_index_or allocs.old k NoPlace ≡ NoPlace }
-        ensures ok { Makes (λ t. AllocsBlockInsts (F.function cx.now.f.now) block allocs.old t (block_at (F.function cx.now.f.now) block).range.first
-            allocs.new) result self.old self.new }
+        ensures outcome { ComesTo (AllocBlock (F.function cx.now.f.now) block allocs.old) allocs.new result self.old self.new }
         ensures no_places { OnOk result ((k : ℕ) → k < offset_of (F.function cx.now.f.now) (block_at (F.function cx.now.f.now) block).range.first →
             slice_index_or allocs.new k NoPlace ≡ NoPlace) }
         ensures step { IsBranchStepAt (before (block_at (F.function cx.now.f.now) block).range.first) 6 result self.old self.new }
-        ensures stops { StopsOnlyIf (AllocBlockInstsFails (F.function cx.now.f.now) block allocs.old) result self.old }
         ensures spill_free { OnOk result ((names : List VirtualRegister) → FitInRegs names self.old.registers.allocatable →
             HasRegOperandsOnly names (F.function cx.now.f.now) → IsSpillFreeFrom names (F.function cx.now.f.now)
             (block_at (F.function cx.now.f.now) block).range.end self.old.registers (tables_of self.old)
@@ -163,9 +158,8 @@ impl<'a, A: Allocator> State<'a, A> {
         requires room { DefinesBelow (F.function cx.now.f.now) (length self.old.places.vreg_allocs) }
         requires apart { AreApart (tables_of self.old) }
         requires later { AllAtOrAfter (before (block_at (F.function cx.now.f.now) block).range.first) self.old.edits }
-        ensures ok { Makes (BeginsBlock (F.function cx.now.f.now) block) result self.old self.new }
+        ensures outcome { ComesTo (BeginBlock (F.function cx.now.f.now) block) tt result self.old self.new }
         ensures step { IsStepAt (before (block_at (F.function cx.now.f.now) block).range.first) result self.old self.new }
-        ensures stops { StopsOnlyIf (BeginBlockFails (F.function cx.now.f.now) block) result self.old }
         ensures nobody { OnOk result (((n : ℕ) → alloc_of self.old.places n ≡ NoPlace) → (block_at (F.function cx.now.f.now) block).params ≡ [] →
             ((e k j : ℕ) (v : VirtualRegister) (s : SpillSlotsValue) → IsEdgeInto (F.function cx.now.f.now) block e k → IsStoredFor (F.function cx.now.f.now)
             e k s j v → ⊥) → SameTables self.old self.new) }
@@ -193,11 +187,10 @@ impl<'a, A: Allocator> State<'a, A> {
         requires offsets { (i : ℕ) → i < length (F.function f.now).insts → slice_index offsets.now i ≡ offset_of (F.function f.now) i }
         requires allocs_long { length allocs.old ≡ operand_count (F.function f.now) }
         requires no_places { (k : ℕ) → slice_index_or allocs.old k NoPlace ≡ NoPlace }
-        ensures ok { Makes (λ t. AllocsBlocks (F.function f.now) allocs.old t 0 allocs.new) result self.old self.new }
+        ensures outcome { ComesTo (AllocBlocks (F.function f.now) allocs.old) allocs.new result self.old self.new }
         ensures machine { Between (AddsTempSlotsAtMost (6 * length (F.function f.now).blocks)) self.old self.new }
         ensures err { IfErr result (IsResourceError
             (SlotsExhaustedWith self.old.slots (self.old.slots.num_temp_slots + 6 * length (F.function f.now).blocks))) }
-        ensures stops { StopsOnlyIf (AllocBlocksFails (F.function f.now) allocs.old) result self.old }
         ensures spill_free { OnOk result ((names : List VirtualRegister) → FitInRegs names self.old.registers.allocatable →
             HasRegOperandsOnly names (F.function f.now) → IsSpillFreeFrom names (F.function f.now) (length (F.function f.now).insts) self.old.registers
             (tables_of self.old) → (self.new.edits ≡ []) × (self.new.slots.count ≡ 0)) }

@@ -14,7 +14,7 @@ use Rattle.regalloc2_validate.specs.Constraints.{op_at, no_operand}
 use Rattle.regalloc2_fastalloc_state.specs.declared.inst_regs.Positions.{Positions}
 use Rattle.regalloc2_fastalloc_state.specs.InstRegs.{positions_of}
 use Rattle.regalloc2_fastalloc_proofs.specs.InstSteps.{StateValue, NeedsFixedReg, own, named}
-use Rattle.regalloc2_fastalloc_proofs.specs.OutOfRegs.{ReserveRegsFails, unknown, shared}
+use Rattle.regalloc2_fastalloc_proofs.specs.InstSteps.{RegsAreNotReserved, unknown, shared}
 use Rattle.regalloc2_fastalloc_proofs.proofs.Operands.AllocsSoFar.{IsTame, reads_not_def, reads_allocated}
 use Rattle.regalloc2_pressure_proofs.proofs.StepsKeepMachine.{HasAll}
 
@@ -150,7 +150,7 @@ module _ (f : FunctionValue) (env : MachineValue) (inst : InstValue) (fits : Fit
   ]
 
   -- an instruction that fits the machine reserves its registers: each is the machine's, and none is shared at a position
-  pub never_reserve : (old : StateValue) → HasAll env old → ReserveRegsFails ops old → ⊥
+  pub never_reserve : (old : StateValue) → HasAll env old → RegsAreNotReserved ops old → ⊥
   never_reserve old all (unknown k r p lt claims none) = either_false (has_register old.allocatable r) (has_register old.fixed_stack r)
       (elim (known k r p lt claims) [
         | inl a ↦ inl (all.allocatable r a)

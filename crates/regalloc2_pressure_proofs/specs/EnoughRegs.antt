@@ -10,12 +10,17 @@ use Rattle.regalloc2_function.specs.Machine.{MachineValue}
 use Rattle.regalloc2_validate.specs.Constraints.{op_at}
 use Rattle.regalloc2_fastalloc_state.specs.declared.inst_regs.InstRegs.{InstRegs}
 use Rattle.regalloc2_fastalloc_state.specs.InstRegs.{free_count}
-use Rattle.regalloc2_fastalloc_proofs.specs.InstSteps.{StateValue, scratch_reserve_left, asks}
+use Rattle.regalloc2_fastalloc_proofs.specs.InstSteps.{StateValue, Outcome, next, no_register, scratch_reserve_left, asks}
 use Rattle.regalloc2_fastalloc_proofs.specs.Safety.{IsSafe}
 
 -- of each class that is named, enough registers are free for all that is needed and for the scratch reserve
 abbrev pub HasEnoughRegs : (RegClass → Type 0) → (RegClass → ℕ) → InstRegs → StateValue → Type 0
 HasEnoughRegs Named needed u t = (c : RegClass) → Named c → needed c + scratch_reserve_left t.fixed_stack t.dedicated_scratch u c ≤ free_count t.allocatable u c
+
+-- a step lacks none, and leaves enough
+abbrev pub LeavesEnoughRegs : (RegClass → Type 0) → (RegClass → ℕ) → Outcome InstRegs → Type 0
+LeavesEnoughRegs Named needed (next u t) = HasEnoughRegs Named needed u t
+LeavesEnoughRegs Named needed no_register = ⊥
 
 -- all but one register are as free as before
 pub record TakesAtMost (by : Register) (t u : InstRegs) : Type 0 where

@@ -134,10 +134,10 @@ module _ (Known : VirtualRegister → Type 0) (ops : List OperandValue) (tame : 
       calm.2 (λ q def. calm.0.away j q (omega (arith, le)) def) (early_none half t old c h j l w s prev (omega (arith, le)))
 
 -- such a definition is in no register
-pub defs_in_slots : {Known : VirtualRegister → Type 0} {i : ℕ} {inst : InstValue} {blank places : List Place} {old new : StateValue} →
+pub defs_in_slots : {Known : VirtualRegister → Type 0} {i : ℕ} (inst : InstValue) {blank places : List Place} {old new : StateValue} →
     IsTame Known inst.operands → ends_block inst ≡ true → AllocsInst i inst blank places old new → IsOutside old → (k : ℕ) → k < length inst.operands →
     is_def (op_at inst.operands k).kind ≡ true → IsAnyOrStack (op_at inst.operands k).constraint → (r : Register) → at_place places k ≡ InRegister r → ⊥
-defs_in_slots {Known} {i} {inst} {blank} {places} {old} {new} tame ends a bare k less =
+defs_in_slots {Known} {i} inst {blank} {places} {old} {new} tame ends a bare k less =
     let ops : List OperandValue = inst.operands in
     let ret : (j : ℕ) → j < length ops → is_def (op_at ops j).kind ≡ true → ends_block inst ≡ true = λ j lj def. ends in
     let start = calm_start Known i inst blank places old new tame ret a bare in

@@ -193,17 +193,17 @@ module _ (tail : BlockTail) where
       Laid tail inst.operands (lives_in old) (is_clobbered inst.clobbers) (ends_block inst) true 0 blank a.quiet a.after_clobbers
   opened inst blank places old new o v ends c a =
       let ops : List OperandValue = inst.operands in
-      let none : a.held.scratch ≡ None ∷ None ∷ None ∷ [] = a.holds.scratch ∙ a.reserves.scratch ∙ a.begins_scratch in
-      let x : FixedUpTo tail ops (lives_in old) (ends_block inst) a.held old (length ops) a.cleared a.after_fixed =
-      fixed_done tail ops (lives_in old) (ends_block inst) a.held old o
-      (reserved_all ops inst.clobbers a.began a.reserved a.held old c.fit a.reserves a.holds) (start ops (ends_block inst) a.held old c ends none)
+      let none : a.prepares.held.scratch ≡ None ∷ None ∷ None ∷ [] = a.prepares.holds.scratch ∙ a.prepares.reserves.scratch ∙ a.fresh.scratch in
+      let x : FixedUpTo tail ops (lives_in old) (ends_block inst) a.prepares.held old (length ops) a.prepares.cleared a.prepares.middle =
+      fixed_done tail ops (lives_in old) (ends_block inst) a.prepares.held old o
+      (reserved_all ops inst.clobbers a.began a.prepares.reserved a.prepares.held old c.fit a.prepares.reserves a.prepares.holds) (start ops (ends_block inst) a.prepares.held old c ends none)
       (length ops)
-      a.cleared a.after_fixed a.fixed (omega arith) in
-      let y : Quieted ops x.here x.claimed (lives_in old) (ends_block inst) (registers_of inst.clobbers) a.cleared a.quiet a.after_fixed a.after_clobbers =
-      all_cleared ops x.here x.claimed (lives_in old) (ends_block inst) (registers_of inst.clobbers) a.cleared a.quiet a.after_fixed a.after_clobbers
-      a.clobbers
+      a.prepares.cleared a.prepares.middle a.prepares.fixed (omega arith) in
+      let y : Quieted ops x.here x.claimed (lives_in old) (ends_block inst) (registers_of inst.clobbers) a.prepares.cleared a.quiet a.prepares.middle a.after_clobbers =
+      all_cleared ops x.here x.claimed (lives_in old) (ends_block inst) (registers_of inst.clobbers) a.prepares.cleared a.quiet a.prepares.middle a.after_clobbers
+      a.prepares.emptied
       x.ready in
-      let less : Less a.held a.quiet = less_then a.held a.cleared a.quiet x.less y.less in
+      let less : Less a.prepares.held a.quiet = less_then a.prepares.held a.prepares.cleared a.quiet x.less y.less in
       record {
         here = x.here;
         claimed = x.claimed;
@@ -223,8 +223,8 @@ module _ (tail : BlockTail) where
           held = y.ready.held;
           scratch_reserve = y.ready.scratch_reserve;
           fit = y.ready.fit;
-          clobbers = λ r e. less.late r (now_held (has_register inst.clobbers r) (has_register a.reserved.late r) (has_register a.held.late r)
-              (a.holds.late r) e);
+          clobbers = λ r e. less.late r (now_held (has_register inst.clobbers r) (has_register a.prepares.reserved.late r) (has_register a.prepares.held.late r)
+              (a.prepares.holds.late r) e);
           within = y.ready.within;
           small = y.ready.small;
         };

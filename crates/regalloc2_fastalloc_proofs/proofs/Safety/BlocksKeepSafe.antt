@@ -135,9 +135,9 @@ module _ (rules : WalkRules) where
         | inl e ↦ (
             let start : s ≡ old = block_start f b blank old (i + 1) before_it s prev e in
             let still = calm_end Known i inst x.blank x.here s a.middle (tame i within) (returns b i lt e) x.allocates (subst IsOutside (sym start) bare) in
-            allocates_last_kept apart (b, i, lt, ge, less, inl refl)
+            allocates_last_kept apart inst (b, i, lt, ge, less, inl refl)
             (tame i within) defs uses x.allocates still w.safe)
-        | inr d ↦ allocates_kept apart (b, i, lt, ge, less, inl refl)
+        | inr d ↦ allocates_kept apart inst (b, i, lt, ge, less, inl refl)
             (b, i, lt, ge, less, inr (refl, omega (arith, d, less))) (tame i within) defs uses x.allocates w.safe
       ]
 

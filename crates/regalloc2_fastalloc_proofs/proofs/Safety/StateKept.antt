@@ -22,7 +22,7 @@ use Rattle.regalloc2_fastalloc_state.specs.StateParts.{SpillSlotsValue, AreUpTo,
 use Rattle.regalloc2_fastalloc_state.specs.OutOfResources.{IsResourceError, SlotsExhaustedWith, IsResourceErrorIn}
 use Rattle.regalloc2_fastalloc_proofs.specs.BranchSteps.{AreApart, AddsTempSlotsAtMost}
 use Rattle.regalloc2_fastalloc_proofs.specs.InstSteps.{StateValue, SameMachine, ProcessesOperandsAt, ends_block}
-use Rattle.regalloc2_fastalloc_proofs.specs.BlockSteps.{AllocsInstAt, AllocsInstInto, DefinesBelow, temp_slots_at}
+use Rattle.regalloc2_fastalloc_proofs.specs.BlockSteps.{AllocsInstInto, DefinesBelow, temp_slots_at}
 use Rattle.regalloc2_fastalloc_state.proofs.SpillSlotUnits.{lacks_then}
 
 -- no temporary slot is added over no step
@@ -150,49 +150,11 @@ params_known f n b below lt = All-from_get_or (λ (v : VirtualRegister). v.numbe
     below v (before (block_at f b).range.first) (inl (b, lt, omega arith, (k, less, get_or_default (block_at f b).params k v no_vreg less))))
 
 -- an instruction is allocated by its operands, clobbers and whether it ends its block
-pub to_inst : (inst_regs : InstRegs) (i : ℕ) (v : InstValue) (start : ℕ) (before_it places : List Place) (old new : StateValue) (ops : List OperandValue)
-    (clobbers : PRegSet) (b ret : Bool)
-    → ops ≡ v.operands → clobbers ≡ v.clobbers → (b || ret) ≡ ends_block v
-    → AllocsInstInto inst_regs i (record { operands = ops; clobbers = clobbers; is_branch = b; is_ret = ret }) start before_it places old new →
-    AllocsInstInto inst_regs i v start before_it places old new
-to_inst inst_regs i v start before_it places old new ops clobbers b ret e f g h =
-    let P : List OperandValue → PRegSet → Type 0 = λ o s. AllocsInstInto inst_regs i
-    (record { operands = o; clobbers = s; is_branch = v.is_branch; is_ret = v.is_ret }) start before_it places old new in
-    let a = h.0.allocates in
-    let same : AllocsInstAt i (record { operands = ops; clobbers = clobbers; is_branch = v.is_branch; is_ret = v.is_ret }) start before_it places old
-    new = record {
-      blank = h.0.blank;
-      here = h.0.here;
-      allocates = record {
-        began = a.began;
-        reserved = a.reserved;
-        held = a.held;
-        cleared = a.cleared;
-        quiet = a.quiet;
-        late = a.late;
-        early = a.early;
-        ended = a.ended;
-        after_fixed = a.after_fixed;
-        after_clobbers = a.after_clobbers;
-        after_late = a.after_late;
-        after_early = a.after_early;
-        half = a.half;
-        long = a.long;
-        no_places = a.no_places;
-        begins_early = a.begins_early;
-        begins_late = a.begins_late;
-        begins_scratch = a.begins_scratch;
-        awaited = a.awaited;
-        reserves = a.reserves;
-        holds = a.holds;
-        fixed = a.fixed;
-        clobbers = a.clobbers;
-        lates = subst (λ (r : Bool). ProcessesOperandsAt i r true ops h.0.blank a.quiet a.after_clobbers (length ops) a.half a.late a.after_late) g a.lates;
-        earlies = subst (λ (r : Bool). ProcessesOperandsAt i r false ops a.half a.late a.after_late (length ops) h.0.here a.early a.after_early) g a.earlies;
-        moves = a.moves;
-      };
-      long = h.0.long;
-      inside = h.0.inside;
-      outside = h.0.outside;
-    } in
-    subst (λ (s : PRegSet). P v.operands s) f (subst (λ (o : List OperandValue). P o clobbers) e (same, h.1))
+pub to_inst : {inst_regs : InstRegs} {i : ℕ} (v : InstValue) {start at : ℕ} {before_it places : List Place} {old new : StateValue} {ops : List OperandValue}
+    {clobbers : PRegSet} {ends : Bool} → ops ≡ v.operands → clobbers ≡ v.clobbers → ends ≡ ends_block v → start ≡ at →
+    AllocsInstInto inst_regs i ops clobbers ends start before_it places old new →
+    AllocsInstInto inst_regs i v.operands v.clobbers (ends_block v) at before_it places old new
+to_inst {inst_regs} {i} v {start} {at} {before_it} {places} {old} {new} {ops} {clobbers} {ends} e f g same h =
+    let P : List OperandValue → PRegSet → Bool → ℕ → Type 0 = λ o s b n. AllocsInstInto inst_regs i o s b n before_it places old new in
+    subst (P v.operands v.clobbers (ends_block v)) same (subst (λ (b : Bool). P v.operands v.clobbers b start) g
+    (subst (λ (s : PRegSet). P v.operands s ends start) f (subst (λ (o : List OperandValue). P o clobbers ends start) e h)))

@@ -204,7 +204,7 @@ module _ (Known : VirtualRegister → Type 0) (same : (v w : VirtualRegister) �
     pub begins_block_classed : (params : List VirtualRegister) → ((k : ℕ) → k < length params → Known (slice_index_or params k no_vreg)) →
         (old new : StateValue) → ReloadsAtBegin point params old new → IsClassed Known named Met old → IsClassed Known named Met new
     begins_block_classed params known old new b h =
-        let p = parameters_classed params known b.began old h (fresh_classed b.began b.begins_scratch) (length params) b.begun b.middle b.parameters in
+        let p = parameters_classed params known b.began old h (fresh_classed b.began b.fresh.scratch) (length params) b.begun b.middle b.parameters in
         (evictions_classed Known same named Met point (regs_evict b.empties) p.classed p.inst_regs).classed
 
   -- the moves of one class are ordered and pushed before the branch

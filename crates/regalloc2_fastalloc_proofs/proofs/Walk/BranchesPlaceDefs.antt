@@ -116,7 +116,7 @@ defs_placed env f limited ok taken placesf final good places e le branch m = rec
   kinds = λ j lt def. in_place (op_at (branch_operands f e) j).constraint (places last within branch j lt def) (λ n. tame.unlimited j n lt);
   fixed = λ j r lt def at. subst (λ c. MeetsAlone env c (left_at f placesf e j)) at (good last j within lt).meets;
   slotted = λ j lt def kind. in_slot j lt def kind (left_at f placesf e j) refl ((good last j within lt).place (tame.allocated j lt def));
-  apart = λ j k r lj lk dj dk at_j at_k. m.allocates.reserves.apart j k r (positions_of (op_at (branch_operands f e) j))
+  apart = λ j k r lj lk dj dk at_j at_k. m.allocates.prepares.reserves.apart j k r (positions_of (op_at (branch_operands f e) j))
       (positions_of (op_at (branch_operands f e) k)) lj lk (NeedsFixedReg.own (tame.allocated j lj dj) at_j refl)
       (NeedsFixedReg.own (tame.allocated k lk dk) at_k refl) (both_late (op_at (branch_operands f e) j) (op_at (branch_operands f e) k) dj dk);
 }
@@ -138,6 +138,6 @@ defs_placed env f limited ok taken placesf final good places e le branch m = rec
         MayBeLocatedAt env final.slots (op_at (branch_operands f e) j).vreg (left_at f placesf e j) →
         (n : ℕ) × (left_at f placesf e j ≡ InSlot n) × (slots_at final (op_at (branch_operands f e) j).vreg.number ≡ Some (InSlot n))
     in_slot j lt def kind NoPlace is may = absurd (subst (MayBeLocatedAt env final.slots (op_at (branch_operands f e) j).vreg) is may)
-    in_slot j lt def kind (InRegister r) is may = absurd (defs_in_slots tame ends m.allocates m.bare j
+    in_slot j lt def kind (InRegister r) is may = absurd (defs_in_slots (inst_at f last) tame ends m.allocates m.bare j
         lt def kind r (sym (m.at j lt) ∙ is))
     in_slot j lt def kind (InSlot n) is may = (n, is, ap opt (subst (MayBeLocatedAt env final.slots (op_at (branch_operands f e) j).vreg) is may))

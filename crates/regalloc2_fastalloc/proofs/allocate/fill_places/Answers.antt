@@ -160,7 +160,7 @@ fit_is g c = fresh_fit (g.F.Function.function c.args.f.now) (machine_of c.args.e
 -- the whole walk
 abbrev whole_is : (g : Over) (c : goal.After-reads_the_same_numbers g) → WholeWalk
 whole_is g c = whole_walk (machine_of c.args.env.now) (g.F.Function.function c.args.f.now) (g.met.F.Function.limited c.args.f.now) c.requires.well_formed
-    c.args.allocs.now (begun g c) (left g c) (out_of g c) (blank_is g c) (fit_is g c) c.in_ok-alloc_blocks.ensures.ok
+    c.args.allocs.now (begun g c) (left g c) (out_of g c) (blank_is g c) (fit_is g c) c.in_ok-alloc_blocks.ensures.outcome
 
 -- and from which tables it began
 abbrev fresh_is : (g : Over) (c : goal.After-reads_the_same_numbers g) → FreshWalk
@@ -184,7 +184,7 @@ fresh_is g c = record {
   none = c.in_ok-state.ensures.edits;
   units = units_are g c;
   machine = machine_is g c;
-  walks = c.in_ok-alloc_blocks.ensures.ok;
+  walks = c.in_ok-alloc_blocks.ensures.outcome;
 }
 
 -- what the walk left
@@ -255,7 +255,7 @@ slots_owned_are g c =
     let n : ℕ = c.table_length-vregs.result in
     let e = c.in_ok-state.ensures in
     let classed = walk_classed (fits_keeps f env c.requires.machine) limited c.requires.well_formed c.requires.taken {begin = begin} {last = last} n n
-    (sizes_of f) e.places e.slots e.edits (units_are g c) (machine_is g c) c.in_ok-alloc_blocks.ensures.ok in
+    (sizes_of f) e.places e.slots e.edits (units_are g c) (machine_is g c) c.in_ok-alloc_blocks.ensures.outcome in
     made_slots_owned f env (Made f) (MayInBlocks f) last (out_of g c) (made g c) c.num_units-num_spillslots.ensures.owned
     (tame_at env f limited c.requires.well_formed c.requires.taken) f.named_by_last_slot (BranchesFrom f 0) classed
     (sizes_agree f last.slots (sizes_kept f begin last n f.named_by_last_slot _ e.slots c.alloc_blocks.ensures.machine)) refl (λ i class m. (m.1, m.2))
@@ -364,4 +364,4 @@ returns-in_err-alloc_blocks-clause-err g c =
     } in
     rw p.1 (subst (Lacks (SomeDoesNotFit f env) (2 ^ 24 < units_at_most f)) (sym p.2)
     (lacks_where (SomeDoesNotFit f env) (SlotsExhaustedWith begin.slots most) (2 ^ 24 < units_at_most f) more _ c.in_err-alloc_blocks.ensures.err
-    (λ lacks. walk_stops c.requires.machine limited c.requires.well_formed c.requires.taken fresh (c.in_err-alloc_blocks.ensures.stops lacks))))
+    (λ lacks. walk_stops c.requires.machine limited c.requires.well_formed c.requires.taken fresh (c.in_err-alloc_blocks.ensures.outcome lacks))))

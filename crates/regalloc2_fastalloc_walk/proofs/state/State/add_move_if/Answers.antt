@@ -1,5 +1,15 @@
-use Rattle.regalloc2_fastalloc_proofs.specs.InstSteps.{sent}
+use Rattle.std.proofs.Common.{refl, sym, ◌∙◌}
+use Rattle.std.proofs.lemmas.Result.{err_from_is_err_and}
+use Rattle.regalloc2_fastalloc_proofs.specs.InstSteps.{sent, unsent}
 use Rattle.regalloc2_fastalloc_walk.proofs.state.State.add_move_if.Goals as goal
 
-pub returns-clause-ok : goal.returns-clause-ok
-returns-clause-ok g c = sent c.if-not-is_made.false c.in_ok-add_move.ensures.ok
+pub returns-then-not-is_made-clause-outcome : goal.returns-then-not-is_made-clause-outcome
+returns-then-not-is_made-clause-outcome g c = unsent c.if-not-is_made.true refl refl
+
+pub returns-clause-outcome : goal.returns-clause-outcome
+returns-clause-outcome g c = sent c.if-not-is_made.false c.in_ok-add_move.ensures.outcome
+
+pub returns-in_err-add_move-clause-outcome : goal.returns-in_err-add_move-clause-outcome
+returns-in_err-add_move-clause-outcome g c =
+    let e = err_from_is_err_and c.from_residual.result c.from_residual.ensures.1 in
+    rw e.1 (λ lacks. sent c.if-not-is_made.false (c.in_err-add_move.ensures.outcome (sym e.2 ∙ lacks)))

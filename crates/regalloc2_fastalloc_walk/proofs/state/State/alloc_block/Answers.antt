@@ -6,11 +6,10 @@ use Rattle.regalloc2_index.specs.Range.{Span}
 use Rattle.regalloc2_function.specs.FunctionValue.{FunctionValue, block_at, inst_at, no_inst}
 use Rattle.regalloc2_fastalloc_state.specs.OutOfResources.{IsResourceError, SlotsExhaustedWith}
 use Rattle.regalloc2_fastalloc_state.specs.StateParts.{AllAtOrAfter}
-use Rattle.regalloc2_fastalloc_proofs.specs.InstSteps.{StateValue}
-use Rattle.regalloc2_fastalloc_proofs.specs.OutOfRegs.{AllocInstInBlockFails}
+use Rattle.regalloc2_fastalloc_proofs.specs.InstSteps.{StateValue, no_register}
 use Rattle.regalloc2_fastalloc_walk.specs.StateView.{tables_of}
 use Rattle.regalloc2_fastalloc_proofs.specs.BranchSteps.{AddsTempSlotsAtMost}
-use Rattle.regalloc2_fastalloc_proofs.specs.BlockSteps.{AllocsInstInBlock, AllocsBlockInsts, DefinesBelow, at_end, one_in, temp_slots_at, offset_of}
+use Rattle.regalloc2_fastalloc_proofs.specs.BlockSteps.{AllocsInstInBlock, AllocInstInBlock, AllocsBlockInsts, DefinesBelow, at_end, one_in, temp_slots_at, offset_of}
 use Rattle.regalloc2_fastalloc_proofs.proofs.Safety.StateKept.{none_lends, lends_then, apart_kept, lacks_all, block_within, lent_so_far}
 use Rattle.regalloc2_fastalloc_walk.specs.SpillFree.{FitInRegs, IsSpillFreeFrom}
 use Rattle.regalloc2_fastalloc_walk.proofs.state.State.alloc_block.Goals as goal
@@ -106,7 +105,7 @@ loop-i-preserved g c =
     let A : ℕ → Type 0 = λ n. AllocsInstInBlock f c.args.block n c.loop-i.allocs c.alloc_inst_in_block.new.allocs t u in
     let Q : ℕ → Type 0 = λ n. AllAtOrAfter (before n) c.alloc_inst_in_block.new.self.edits in
     let L : ℕ → Type 0 = λ n. AddsTempSlotsAtMost (temp_slots_at f n) t u in
-    let a : A i = subst A at c.in_ok-alloc_inst_in_block.ensures.ok in
+    let a : A i = subst A at c.in_ok-alloc_inst_in_block.ensures.outcome in
     let so_far = lent_so_far f c.requires.well_formed.1.end c.args.block i c.requires.block from upto (tables_of c.args.self.now) (tables_of c.loop-i.self)
     c.loop-i.invariant.machine (λ e. c.loop-i.invariant.begun (next ∙ e)) in
     record {
@@ -152,8 +151,8 @@ returns-in_err-alloc_inst_in_block-clause-step g c =
           (lacks_all so_far.0 (temp_slots_at f c.new.result) 6 a m so_far.2 few _ c.in_err-alloc_inst_in_block.ensures.step.err);
     })
 
-pub returns-clause-ok : goal.returns-clause-ok
-returns-clause-ok g c =
+pub returns-clause-outcome : goal.returns-clause-outcome
+returns-clause-outcome g c =
     let f : FunctionValue = g.F.Function.function c.args.cx.now.f.now in
     let at_first : c.loop-i.i ≡ (block_at f c.args.block).range.first = omega (arith, c.loop-i-test.false, c.loop-i.invariant.from, c.loop-i.invariant.first) in
     subst (λ (n : ℕ). AllocsBlockInsts f c.args.block c.args.allocs.now (tables_of c.args.self.now) n c.loop-i.allocs (tables_of c.loop-i.self)) at_first
@@ -176,8 +175,8 @@ returns-clause-step g c =
       err = search rules;
     }
 
-pub returns-in_err-alloc_inst_in_block-clause-stops : goal.returns-in_err-alloc_inst_in_block-clause-stops
-returns-in_err-alloc_inst_in_block-clause-stops g c =
+pub returns-in_err-alloc_inst_in_block-clause-outcome : goal.returns-in_err-alloc_inst_in_block-clause-outcome
+returns-in_err-alloc_inst_in_block-clause-outcome g c =
     let f : FunctionValue = g.F.Function.function c.args.cx.now.f.now in
     let i : ℕ = c.loop-i.i - 1 in
     let next : c.loop-i.i ≡ i + 1 = omega (arith, c.loop-i-test.true) in
@@ -190,8 +189,8 @@ returns-in_err-alloc_inst_in_block-clause-stops g c =
       inside = omega (arith, next, c.loop-i.invariant.within);
       walks = subst (λ (n : ℕ). AllocsBlockInsts f c.args.block c.args.allocs.now (tables_of c.args.self.now) n c.loop-i.allocs m) next
           c.loop-i.invariant.walks;
-      stops = subst (λ (n : ℕ). AllocInstInBlockFails f c.args.block n c.loop-i.allocs m) c.new.ensures
-          (c.in_err-alloc_inst_in_block.ensures.stops (sym e.2 ∙ lacks));
+      stops = subst (λ (n : ℕ). AllocInstInBlock f c.args.block n c.loop-i.allocs m no_register) c.new.ensures
+          (c.in_err-alloc_inst_in_block.ensures.outcome (sym e.2 ∙ lacks));
     })
 
 pub returns-clause-spill_free : goal.returns-clause-spill_free

@@ -5,9 +5,8 @@ use Rattle.regalloc2_function.specs.OutputValue.{MoveValue}
 use Rattle.regalloc2_function.specs.FunctionValue.{FunctionValue, block_at}
 use Rattle.regalloc2_fastalloc_state.specs.OutOfResources.{IsResourceError, SlotsExhaustedWith}
 use Rattle.regalloc2_fastalloc_state.specs.StateParts.{AllAtOrAfter}
-use Rattle.regalloc2_fastalloc_proofs.specs.InstSteps.{StateValue}
-use Rattle.regalloc2_fastalloc_proofs.specs.OutOfRegs.{AllocBlockInstsFails, in_block, at_beginning, at_stores}
-use Rattle.regalloc2_fastalloc_walk.specs.BranchStores.{BeginBlockFails, at_reloads, at_its_stores}
+use Rattle.regalloc2_fastalloc_proofs.specs.InstSteps.{StateValue, no_register}
+use Rattle.regalloc2_fastalloc_proofs.specs.BlockSteps.{AllocBlock, BeginBlock, in_block, at_beginning}
 use Rattle.regalloc2_fastalloc_walk.specs.StateView.{tables_of}
 use Rattle.regalloc2_fastalloc_proofs.specs.BlockSteps.{AllocsBlockInsts, AllocsBlocks, BeginsBlock, DefinesBelow, all_left, one_block, offset_of}
 use Rattle.regalloc2_fastalloc_proofs.proofs.Safety.StateKept.{none_lends, same_lends, lends_then, apart_kept, lacks_all, lack_all, joins_at}
@@ -113,13 +112,13 @@ loop-b-preserved g c =
     let P : ℕ → Type 0 = λ n. AllocsBlocks f c.args.allocs.now a n c.loop-b.allocs t in
     let I : ℕ → Type 0 = λ n. AllocsBlockInsts f n c.loop-b.allocs t (block_at f n).range.first c.alloc_block.new.allocs u in
     let first : (block_at f d).range.first ≡ (block_at f b).range.first = ap (λ (n : ℕ). (block_at f n).range.first) same in
-    let begins : BeginsBlock f b u w = subst (λ (n : ℕ). BeginsBlock f n u w) same c.in_ok-begin_block.ensures.ok in
+    let begins : BeginsBlock f b u w = subst (λ (n : ℕ). BeginsBlock f n u w) same c.in_ok-begin_block.ensures.outcome in
     let joins : 0 < b → (block_at f (b - 1)).range.end ≡ (block_at f b).range.first = joins_at f c.requires.well_formed.1.follow b lt in
     let N : ℕ → Type 0 = λ n. AllAtOrAfter (before n) c.begin_block.new.self.edits in
     record {
       within = omega (arith, c.loop-b.invariant.within);
       walks = one_block b c.loop-b.allocs c.alloc_block.new.allocs t u w lt (subst P next c.loop-b.invariant.walks)
-          (subst I same c.in_ok-alloc_block.ensures.ok) begins;
+          (subst I same c.in_ok-alloc_block.ensures.outcome) begins;
       blank = λ some k less. c.in_ok-alloc_block.ensures.no_places k
           (let e = ap (offset_of f) (joins some) in let h = ap (λ (n : ℕ). offset_of f (block_at f n).range.first) same in omega (arith, less, e, h));
       later = λ some. subst N (first ∙ sym (joins some)) c.in_ok-begin_block.ensures.step.later;
@@ -192,8 +191,8 @@ returns-in_err-begin_block-clause-err g c =
     (lends_then 6 0 6 t u w (omega arith) c.alloc_block.ensures.step.machine (same_lends 0 u w c.begin_block.ensures.step.machine)))
     (omega arith) _ c.in_err-begin_block.ensures.step.err))
 
-pub returns-clause-ok : goal.returns-clause-ok
-returns-clause-ok g c =
+pub returns-clause-outcome : goal.returns-clause-outcome
+returns-clause-outcome g c =
     let f : FunctionValue = g.F.Function.function c.args.f.now in
     let e : c.loop-b.b ≡ 0 = omega (arith, c.loop-b-test.false) in
     subst (λ (n : ℕ). AllocsBlocks f c.args.allocs.now (tables_of c.args.self.now) n c.loop-b.allocs (tables_of c.loop-b.self)) e c.loop-b.invariant.walks
@@ -206,8 +205,8 @@ returns-clause-machine g c =
     (none_lends 0 t)
 
 -- where it stops
-pub returns-in_err-alloc_block-clause-stops : goal.returns-in_err-alloc_block-clause-stops
-returns-in_err-alloc_block-clause-stops g c =
+pub returns-in_err-alloc_block-clause-outcome : goal.returns-in_err-alloc_block-clause-outcome
+returns-in_err-alloc_block-clause-outcome g c =
     let f : FunctionValue = g.F.Function.function c.args.f.now in
     let b : ℕ = c.loop-b.b - 1 in
     let t : StateValue = tables_of c.loop-b.self in
@@ -215,10 +214,10 @@ returns-in_err-alloc_block-clause-stops g c =
     let P : ℕ → Type 0 = λ n. AllocsBlocks f c.args.allocs.now (tables_of c.args.self.now) n c.loop-b.allocs t in
     let e = err_from_is_err_and c.from_residual-in_err-alloc_block.result c.from_residual-in_err-alloc_block.ensures.1 in
     rw e.1 (λ lacks. in_block b c.loop-b.allocs t (omega (arith, next, c.loop-b.invariant.within)) (subst P next c.loop-b.invariant.walks)
-    (subst (λ (n : ℕ). AllocBlockInstsFails f n c.loop-b.allocs t) c.new-block.ensures (c.in_err-alloc_block.ensures.stops (sym e.2 ∙ lacks))))
+    (subst (λ (n : ℕ). AllocBlock f n c.loop-b.allocs t no_register) c.new-block.ensures (c.in_err-alloc_block.ensures.outcome (sym e.2 ∙ lacks))))
 
-pub returns-in_err-begin_block-clause-stops : goal.returns-in_err-begin_block-clause-stops
-returns-in_err-begin_block-clause-stops g c =
+pub returns-in_err-begin_block-clause-outcome : goal.returns-in_err-begin_block-clause-outcome
+returns-in_err-begin_block-clause-outcome g c =
     let f : FunctionValue = g.F.Function.function c.args.f.now in
     let b : ℕ = c.loop-b.b - 1 in
     let t : StateValue = tables_of c.loop-b.self in
@@ -229,12 +228,9 @@ returns-in_err-begin_block-clause-stops g c =
     let P : ℕ → Type 0 = λ n. AllocsBlocks f c.args.allocs.now (tables_of c.args.self.now) n c.loop-b.allocs t in
     let I : ℕ → Type 0 = λ n. AllocsBlockInsts f n c.loop-b.allocs t (block_at f n).range.first c.alloc_block.new.allocs u in
     let e = err_from_is_err_and c.from_residual-in_err-begin_block.result c.from_residual-in_err-begin_block.ensures.1 in
-    rw e.1 (λ lacks. elim (subst (λ (n : ℕ). BeginBlockFails f n u) same (c.in_err-begin_block.ensures.stops (sym e.2 ∙ lacks))) [
-      | at_reloads h ↦ at_beginning b c.loop-b.allocs c.alloc_block.new.allocs t u lt (subst P next c.loop-b.invariant.walks)
-          (subst I same c.in_ok-alloc_block.ensures.ok) h
-      | at_its_stores m r h ↦ at_stores b c.loop-b.allocs c.alloc_block.new.allocs t u m lt (subst P next c.loop-b.invariant.walks)
-          (subst I same c.in_ok-alloc_block.ensures.ok) r h
-    ])
+    rw e.1 (λ lacks. at_beginning b c.loop-b.allocs c.alloc_block.new.allocs t u lt (subst P next c.loop-b.invariant.walks)
+    (subst I same c.in_ok-alloc_block.ensures.outcome)
+    (subst (λ (n : ℕ). BeginBlock f n u no_register) same (c.in_err-begin_block.ensures.outcome (sym e.2 ∙ lacks))))
 
 -- where there is no memory for what branches define
 pub returns-in_err-defs-clause-machine : goal.returns-in_err-defs-clause-machine

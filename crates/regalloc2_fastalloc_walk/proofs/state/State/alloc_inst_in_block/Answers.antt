@@ -7,18 +7,17 @@ use Rattle.regalloc2_names.specs.RegisterSet.{has_register}
 use Rattle.regalloc2_function.specs.FunctionValue.{FunctionValue, InstValue, block_at, inst_at, no_inst}
 use Rattle.regalloc2_function.specs.Machine.{MachineValue}
 use Rattle.regalloc2_fastalloc_state.specs.declared.inst_regs.InstRegs.{InstRegs}
-use Rattle.regalloc2_fastalloc_proofs.specs.BranchSteps.{ProcessesBranch}
+use Rattle.regalloc2_fastalloc_proofs.specs.BranchSteps.{ProcessesBranch, ProcessBranch}
 use Rattle.regalloc2_fastalloc_state.specs.OutOfResources.{IsResourceError, SlotsExhaustedWith}
-use Rattle.regalloc2_fastalloc_proofs.specs.InstSteps.{StateValue, InTables}
-use Rattle.regalloc2_fastalloc_proofs.specs.OutOfRegs.{AllocInstFails, ProcessBranchFails, in_inst, in_pass}
+use Rattle.regalloc2_fastalloc_proofs.specs.InstSteps.{StateValue, InTables, no_register, ends_block}
 use Rattle.regalloc2_fastalloc_walk.specs.StateView.{tables_of}
-use Rattle.regalloc2_fastalloc_proofs.specs.BlockSteps.{AllocsInstInto, DefinesBelow, offset_of, temp_slots_at}
+use Rattle.regalloc2_fastalloc_proofs.specs.BlockSteps.{AllocInstAt, in_inst, in_pass, DefinesBelow, offset_of, temp_slots_at}
 use Rattle.regalloc2_fastalloc_proofs.proofs.Safety.StateKept.{same_lends, lends_then, apart_kept, ends_in_branch, lack_all, lacks_all, lent_six, to_inst}
 use Rattle.regalloc2_fastalloc_proofs.proofs.Walk.UsesReadOwnDefs.{all_in_tables}
 use Rattle.regalloc2_fastalloc_proofs.proofs.Branches.WellFormedMayBranch.{may_pass, parameters_differ}
 use Rattle.regalloc2_semantics.specs.Blocks.{target_at}
 use Rattle.regalloc2_fastalloc_state.specs.StateParts.{AllocatableRegsValue}
-use Rattle.regalloc2_fastalloc_proofs.specs.BlockSteps.{IsFresh}
+use Rattle.regalloc2_fastalloc_proofs.specs.InstSteps.{IsFresh}
 use Rattle.regalloc2_fastalloc_walk.proofs.BlockSpillFree.{edge_block, from_next, no_params, plain_at, refreshed}
 use Rattle.regalloc2_fastalloc_walk.specs.SpillFree.{ArePlain, IsSpillFreeFrom, LeavesSpillFree}
 use Rattle.regalloc2_fastalloc_walk.proofs.state.State.alloc_inst_in_block.Goals as goal
@@ -57,16 +56,10 @@ alloc_inst_at-requires g c =
       ),
     )
 
-pub returns-then-not-is_branch-clause-ok : goal.returns-then-not-is_branch-clause-ok
-returns-then-not-is_branch-clause-ok g c =
-    let i : ℕ = c.args.at.inst in
-    let v : InstValue = inst_at (g.F.Function.function c.args.cx.now.f.now) i in
-    let P : ℕ → Type 0 = λ s. AllocsInstInto c.alloc_inst_at.new.inst_regs i v s c.args.allocs.now c.alloc_inst_at.new.allocs (tables_of c.args.self.now)
-    (tables_of c.alloc_inst_at.new.self) in
-    let h : P (offset_of (g.F.Function.function c.args.cx.now.f.now) i) = subst P c.requires.start
-    (to_inst c.alloc_inst_at.new.inst_regs i v c.args.at.start c.args.allocs.now c.alloc_inst_at.new.allocs (tables_of c.args.self.now)
-    (tables_of c.alloc_inst_at.new.self) c.inst_operands-operands.result.now c.inst_clobbers-clobbers.result _ c.ends_block-ends_block.result
-    c.inst_operands-operands.ensures c.inst_clobbers-clobbers.ensures c.ends_block-ends_block.ensures c.in_ok-alloc_inst_at.ensures.ok) in
+pub returns-then-not-is_branch-clause-outcome : goal.returns-then-not-is_branch-clause-outcome
+returns-then-not-is_branch-clause-outcome g c =
+    let h = to_inst (inst_at (g.F.Function.function c.args.cx.now.f.now) c.args.at.inst) c.inst_operands-operands.ensures c.inst_clobbers-clobbers.ensures
+    c.ends_block-ends_block.ensures c.requires.start c.in_ok-alloc_inst_at.ensures.outcome in
     let no : c.is_branch.result ≡ false = c.if-not-is_branch.true in
     record {
       middle = tables_of c.alloc_inst_at.new.self;
@@ -77,17 +70,11 @@ returns-then-not-is_branch-clause-ok g c =
           absurd cc;
     }
 
-pub returns-clause-ok : goal.returns-clause-ok
-returns-clause-ok g c =
+pub returns-clause-outcome : goal.returns-clause-outcome
+returns-clause-outcome g c =
     let f : FunctionValue = g.F.Function.function c.args.cx.now.f.now in
-    let i : ℕ = c.args.at.inst in
-    let v : InstValue = inst_at (g.F.Function.function c.args.cx.now.f.now) i in
-    let P : ℕ → Type 0 = λ s. AllocsInstInto c.alloc_inst_at.new.inst_regs i v s c.args.allocs.now c.alloc_inst_at.new.allocs (tables_of c.args.self.now)
-    (tables_of c.alloc_inst_at.new.self) in
-    let h : P (offset_of (g.F.Function.function c.args.cx.now.f.now) i) = subst P c.requires.start
-    (to_inst c.alloc_inst_at.new.inst_regs i v c.args.at.start c.args.allocs.now c.alloc_inst_at.new.allocs (tables_of c.args.self.now)
-    (tables_of c.alloc_inst_at.new.self) c.inst_operands-operands.result.now c.inst_clobbers-clobbers.result _ c.ends_block-ends_block.result
-    c.inst_operands-operands.ensures c.inst_clobbers-clobbers.ensures c.ends_block-ends_block.ensures c.in_ok-alloc_inst_at.ensures.ok) in
+    let h = to_inst (inst_at (g.F.Function.function c.args.cx.now.f.now) c.args.at.inst) c.inst_operands-operands.ensures c.inst_clobbers-clobbers.ensures
+    c.ends_block-ends_block.ensures c.requires.start c.in_ok-alloc_inst_at.ensures.outcome in
     let on : c.is_branch.result ≡ true = c.if-not-is_branch.false in
     let Q : InstRegs → Type 0 = λ t. ProcessesBranch f c.args.block c.args.at.inst t c.process_branch.new.inst_regs (tables_of c.alloc_inst_at.new.self)
     (tables_of c.process_branch.new.self) in
@@ -96,7 +83,7 @@ returns-clause-ok g c =
       inst_regs = c.process_branch.new.inst_regs;
       allocates = h.0;
       no_branch = λ e. absurd cc;
-      branch = λ e. subst Q (sym h.1) c.in_ok-process_branch.ensures.ok;
+      branch = λ e. subst Q (sym h.1) c.in_ok-process_branch.ensures.outcome;
     }
 
 pub process_branch-requires : goal.process_branch-requires
@@ -198,39 +185,36 @@ returns-clause-step g c =
     }
 
 -- where it stops
-pub returns-in_err-alloc_inst_at-clause-stops : goal.returns-in_err-alloc_inst_at-clause-stops
-returns-in_err-alloc_inst_at-clause-stops g c =
-    let v : InstValue = inst_at (g.F.Function.function c.args.cx.now.f.now) c.args.at.inst in
-    let t : StateValue = tables_of c.args.self.now in
+pub returns-in_err-alloc_inst_at-clause-outcome : goal.returns-in_err-alloc_inst_at-clause-outcome
+returns-in_err-alloc_inst_at-clause-outcome g c =
+    let f : FunctionValue = g.F.Function.function c.args.cx.now.f.now in
+    let v : InstValue = inst_at f c.args.at.inst in
     let e = err_from_is_err_and c.from_residual.result c.from_residual.ensures.1 in
-    rw e.1 (λ lacks.
-    let s = c.in_err-alloc_inst_at.ensures.stops (sym e.2 ∙ lacks) in
-    let X : Bool → List OperandValue → PRegSet → Type 0 = λ r o k. AllocInstFails c.args.at.inst r o k s.0 c.new-inst_regs.result t in
-    in_inst c.new-inst_regs.result s.0 (record {
+    let X : List OperandValue → PRegSet → Bool → ℕ → Type 0 = λ o k b n. AllocInstAt c.args.at.inst o k b n c.args.allocs.now c.new-inst_regs.result
+    (tables_of c.args.self.now) no_register in
+    rw e.1 (λ lacks. in_inst c.new-inst_regs.result (record {
       early = λ r. ap (λ (x : PRegSet). has_register x r) c.new-inst_regs.ensures.early ∙ c.available_regs.ensures r;
       late = λ r. ap (λ (x : PRegSet). has_register x r) c.new-inst_regs.ensures.late ∙ c.available_regs.ensures r;
       scratch = c.new-inst_regs.ensures.scratch;
       awaited = c.new-inst_regs.ensures.awaited;
-    }) (s.1 ∙ ap length c.inst_operands-operands.ensures) s.2
-    (subst (λ (r : Bool). X r v.operands v.clobbers) c.ends_block-ends_block.ensures
-    (subst (λ (k : PRegSet). X c.ends_block-ends_block.result v.operands k) c.inst_clobbers-clobbers.ensures
-    (subst (λ (o : List OperandValue). X c.ends_block-ends_block.result o c.inst_clobbers-clobbers.result) c.inst_operands-operands.ensures s.3))))
+    })
+    (subst (X v.operands v.clobbers (ends_block v)) c.requires.start
+    (subst (λ (b : Bool). X v.operands v.clobbers b c.args.at.start) c.ends_block-ends_block.ensures
+    (subst (λ (k : PRegSet). X v.operands k c.ends_block-ends_block.result c.args.at.start) c.inst_clobbers-clobbers.ensures
+    (subst (λ (o : List OperandValue). X o c.inst_clobbers-clobbers.result c.ends_block-ends_block.result c.args.at.start) c.inst_operands-operands.ensures
+    (c.in_err-alloc_inst_at.ensures.outcome (sym e.2 ∙ lacks)))))))
 
-pub returns-in_err-process_branch-clause-stops : goal.returns-in_err-process_branch-clause-stops
-returns-in_err-process_branch-clause-stops g c =
+pub returns-in_err-process_branch-clause-outcome : goal.returns-in_err-process_branch-clause-outcome
+returns-in_err-process_branch-clause-outcome g c =
     let f : FunctionValue = g.F.Function.function c.args.cx.now.f.now in
     let i : ℕ = c.args.at.inst in
-    let v : InstValue = inst_at f i in
     let m : StateValue = tables_of c.alloc_inst_at.new.self in
-    let P : ℕ → Type 0 = λ s. AllocsInstInto c.alloc_inst_at.new.inst_regs i v s c.args.allocs.now c.alloc_inst_at.new.allocs (tables_of c.args.self.now) m in
-    let h : P (offset_of f i) = subst P c.requires.start
-    (to_inst c.alloc_inst_at.new.inst_regs i v c.args.at.start c.args.allocs.now c.alloc_inst_at.new.allocs (tables_of c.args.self.now) m
-    c.inst_operands-operands.result.now c.inst_clobbers-clobbers.result _ c.ends_block-ends_block.result
-    c.inst_operands-operands.ensures c.inst_clobbers-clobbers.ensures c.ends_block-ends_block.ensures c.in_ok-alloc_inst_at.ensures.ok) in
+    let h = to_inst (inst_at (g.F.Function.function c.args.cx.now.f.now) c.args.at.inst) c.inst_operands-operands.ensures c.inst_clobbers-clobbers.ensures
+    c.ends_block-ends_block.ensures c.requires.start c.in_ok-alloc_inst_at.ensures.outcome in
     let on : c.is_branch.result ≡ true = c.if-not-is_branch.false in
     let e = err_from_is_err_and c.from_residual-in_err-process_branch.result c.from_residual-in_err-process_branch.ensures.1 in
     rw e.1 (λ lacks. in_pass c.alloc_inst_at.new.allocs m h.0 (sym c.is_branch.ensures ∙ on)
-    (subst (λ (t : InstRegs). ProcessBranchFails f c.args.block i t m) (sym h.1) (c.in_err-process_branch.ensures.stops (sym e.2 ∙ lacks))))
+    (subst (λ (t : InstRegs). ProcessBranch f c.args.block i t m no_register) (sym h.1) (c.in_err-process_branch.ensures.outcome (sym e.2 ∙ lacks))))
 
 -- where registers suffice for all vregs
 pub returns-then-not-is_branch-clause-spill_free : goal.returns-then-not-is_branch-clause-spill_free

@@ -9,12 +9,12 @@ use Rattle.regalloc2_fastalloc_state.specs.declared.request.Requirement.TheVaria
 use Rattle.regalloc2_fastalloc_walk.specs.SpillFree.{least_recently_used_free}
 use Rattle.regalloc2_fastalloc_walk.proofs.state.State.alloc_new_place.Goals as goal
 
-pub returns-in-InPReg-clause-ok : goal.returns-in-InPReg-clause-ok
-returns-in-InPReg-clause-ok g c = fixed c.in-InPReg.preg c.in-InPReg.is c.reg.ensures refl
+pub returns-in-InPReg-clause-outcome : goal.returns-in-InPReg-clause-outcome
+returns-in-InPReg-clause-outcome g c = fixed c.in-InPReg.preg c.in-InPReg.is c.reg.ensures refl
 
 pub returns-in-Some : goal.returns-in-Some
 returns-in-Some g c = record {
-  ok = free c.in-Some.preg c.in-Some.ensures.asks c.in-Some.ensures.may_hold c.in-Some.ensures.free c.reg-in-Some.ensures refl;
+  outcome = free c.in-Some.preg c.in-Some.ensures.asks c.in-Some.ensures.may_hold c.in-Some.ensures.free c.reg-in-Some.ensures refl;
   affordable = λ requirement r e. subst (IsAffordable c.args.inst_regs.now (tables_of c.args.self.now))
       (same_register c.in-Some.preg r (sym c.reg-in-Some.ensures ∙ e)) (c.in-Some.ensures.affordable requirement);
   there = λ e. let f : InRegister c.in-Some.preg ≡ NoPlace = sym c.reg-in-Some.ensures ∙ e in absurd cc;
@@ -22,14 +22,13 @@ returns-in-Some g c = record {
   edits = refl;
   machine = record { allocatable = refl; fixed_stack = refl; dedicated_scratch = refl; sizes = refl; vregs = refl; num_temp_slots = refl };
   err = tt;
-  stops = tt;
   registers = refl;
   chooses = λ any unsuited. (let o = c.in-Some.ensures.oldest in least_recently_used_free o.0 c.in-Some.preg unsuited o.1 o.2 c.reg-in-Some.ensures);
   awaited = λ any def r e. c.in-Some.ensures.awaited any def;
 }
 
-pub returns-clause-ok : goal.returns-clause-ok
-returns-clause-ok g c = slot
+pub returns-clause-outcome : goal.returns-clause-outcome
+returns-clause-outcome g c = slot
     (wanted_rest c.args.request.now.requirement c.in_default.not-InPReg
     (λ e. let t = c.is_any_register.ensures.1 e in let f = c.if-is_any_register.false in absurd cc))
     c.in_ok-slot.ensures.ok refl refl (record {
@@ -44,7 +43,6 @@ returns-clause-ok g c = slot
 -- any register was asked for, and none is free
 pub returns-then-is_any_register : goal.returns-then-is_any_register
 returns-then-is_any_register g c = record {
-  ok = tt;
   affordable = tt;
   there = tt;
   places = refl;
@@ -54,7 +52,7 @@ returns-then-is_any_register g c = record {
   registers = tt;
   chooses = tt;
   awaited = tt;
-  stops = λ same. (let any = c.is_any_register.ensures.0 c.if-is_any_register.true in (any, c.in_default-select_free_reg.ensures.none any));
+  outcome = λ same. (let any = c.is_any_register.ensures.0 c.if-is_any_register.true in (any, c.in_default-select_free_reg.ensures.none any));
 }
 
 -- where any register was asked for, none is asked for by name, and no slot is made

@@ -1,7 +1,7 @@
 use Rattle.std.proofs.Common.{ℕ, List, sym, ◌∙◌, subst, rules}
 use Rattle.regalloc2_function.specs.OutputValue.{MoveValue}
 use Rattle.std.proofs.lemmas.Result.{err_from_is_err_and}
-use Rattle.regalloc2_fastalloc_proofs.specs.OutOfRegs.{in_clear}
+use Rattle.regalloc2_fastalloc_proofs.specs.InstSteps.{in_clear}
 use Rattle.regalloc2_fastalloc_walk.specs.StateView.{tables_of}
 use Rattle.regalloc2_fastalloc_state.specs.StateParts.{AllAtOrAfter}
 use Rattle.regalloc2_fastalloc_proofs.proofs.Operands.SelectedPlace.{occupies_counted}
@@ -15,21 +15,21 @@ claim_place-requires g c = (
   (subst (λ (es : List (ℕ × MoveValue)). AllAtOrAfter c.args.point es) (sym c.select_place.ensures.edits) c.requires.later, c.in_ok-place.ensures.there),
 )
 
-pub returns-clause-ok : goal.returns-clause-ok
-returns-clause-ok g c = record {
+pub returns-clause-outcome : goal.returns-clause-outcome
+returns-clause-outcome g c = record {
   middle = tables_of c.select_place.new.self;
-  picks = c.in_ok-place.ensures.ok;
+  picks = c.in_ok-place.ensures.outcome;
   occupies = occupies_counted c.args.point c.args.request.now c.in_ok-place.place c.args.inst_regs.now c.claim_place.new.inst_regs c.note_placed.new.inst_regs
-      (tables_of c.select_place.new.self) (tables_of c.claim_place.new.self) c.in_ok-claim_place.ensures.ok c.note_placed.ensures.sets;
+      (tables_of c.select_place.new.self) (tables_of c.claim_place.new.self) c.in_ok-claim_place.ensures.outcome c.note_placed.ensures.sets;
   affordable = c.in_ok-place.ensures.affordable;
   awaited_in = c.in_ok-place.ensures.awaited_in;
 }
 
-pub returns-in_err-claim_place-clause-stops : goal.returns-in_err-claim_place-clause-stops
-returns-in_err-claim_place-clause-stops g c =
+pub returns-in_err-claim_place-clause-outcome : goal.returns-in_err-claim_place-clause-outcome
+returns-in_err-claim_place-clause-outcome g c =
     let e = err_from_is_err_and c.from_residual-in_err-claim_place.result c.from_residual-in_err-claim_place.ensures.1 in
-    rw e.1 (λ same. let s = c.in_err-claim_place.ensures.stops (sym e.2 ∙ same) in
-    in_clear c.in_ok-place.place s.0 (tables_of c.select_place.new.self) c.in_ok-place.ensures.ok s.1 s.2)
+    rw e.1 (λ same. in_clear c.in_ok-place.place (tables_of c.select_place.new.self) c.in_ok-place.ensures.outcome
+    (c.in_err-claim_place.ensures.outcome (sym e.2 ∙ same)))
 
 -- any register is taken
 pub returns-clause-takes : goal.returns-clause-takes

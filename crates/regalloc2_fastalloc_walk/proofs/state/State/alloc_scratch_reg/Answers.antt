@@ -7,8 +7,8 @@ use Rattle.regalloc2_fastalloc_proofs.specs.InstSteps.{found}
 use Rattle.regalloc2_fastalloc_proofs.proofs.Evictions.PushedAndRemoved.{left_of_both}
 use Rattle.regalloc2_fastalloc_walk.proofs.state.State.alloc_scratch_reg.Goals as goal
 
-pub returns-clause-ok : goal.returns-clause-ok
-returns-clause-ok g c =
+pub returns-clause-outcome : goal.returns-clause-outcome
+returns-clause-outcome g c =
     let r : Register = c.in-Some-least_recently_used.preg in
     let f = c.in-Some-least_recently_used.ensures.found in
     let free : IsAvailableAt c.args.inst_regs.now c.both.result r = c.available_pregs-free.ensures.free r f.free_there in
@@ -22,4 +22,4 @@ returns-clause-ok g c =
     (ap (λ (p : Positions). p.late) c.both-2.ensures) c.remove_available.ensures.removed.late c.set_scratch.ensures.late)
     (c.set_scratch.ensures.scratch ∙ ap (λ (l : List (Option Register)). slice_set l (class_code c.args.class) (Some r))
     c.remove_available.ensures.removed.scratch)
-    c.in_ok-evict_vreg_in_preg.ensures.ok
+    c.in_ok-evict_vreg_in_preg.ensures.outcome

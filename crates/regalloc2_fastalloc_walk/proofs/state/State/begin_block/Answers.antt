@@ -6,12 +6,10 @@ use Rattle.regalloc2_names.specs.Point.{before}
 use Rattle.regalloc2_names.specs.Register.{VirtualRegister}
 use Rattle.regalloc2_function.specs.FunctionValue.{FunctionValue, block_at}
 use Rattle.regalloc2_fastalloc_state.specs.StateParts.{AllAtOrAfter}
-use Rattle.regalloc2_fastalloc_proofs.specs.BlockStart.{ReloadsAtBegin}
-use Rattle.regalloc2_fastalloc_proofs.specs.BlockSteps.{DefinesBelow}
-use Rattle.regalloc2_fastalloc_proofs.specs.InstSteps.{StateValue}
-use Rattle.regalloc2_fastalloc_proofs.specs.OutOfRegs.{ReloadAtBeginFails}
+use Rattle.regalloc2_fastalloc_proofs.specs.BlockStart.{ReloadsAtBegin, ReloadAtBegin}
+use Rattle.regalloc2_fastalloc_proofs.specs.BlockSteps.{DefinesBelow, at_reloads, at_stores}
+use Rattle.regalloc2_fastalloc_proofs.specs.InstSteps.{StateValue, no_register}
 use Rattle.regalloc2_fastalloc_proofs.proofs.Safety.StateKept.{same_lends, apart_kept, block_within, params_known}
-use Rattle.regalloc2_fastalloc_walk.specs.BranchStores.{at_reloads, at_its_stores}
 use Rattle.regalloc2_fastalloc_walk.specs.StateView.{tables_of, IsStepAt}
 use Rattle.regalloc2_fastalloc_walk.proofs.Steps.{step_then}
 use Rattle.regalloc2_fastalloc_walk.proofs.state.State.begin_block.Goals as goal
@@ -64,8 +62,8 @@ store_branch_defs-requires g c =
       ),
     )
 
-pub returns-clause-ok : goal.returns-clause-ok
-returns-clause-ok g c =
+pub returns-clause-outcome : goal.returns-clause-outcome
+returns-clause-outcome g c =
     let f : FunctionValue = g.F.Function.function c.args.cx.now.f.now in
     let old : StateValue = tables_of c.args.self.now in
     let m : StateValue = tables_of c.reload_at_begin.new.self in
@@ -74,8 +72,8 @@ returns-clause-ok g c =
       middle = m;
       reloads = subst (λ (n : ℕ). ReloadsAtBegin (before n) (block_at f c.args.block).params old m) first
           (subst (λ (vs : List VirtualRegister). ReloadsAtBegin (before c.first-first.result) vs old m) c.block_params.ensures
-          c.in_ok-reload_at_begin.ensures.ok);
-      stores = c.in_ok-store_branch_defs.ensures.ok;
+          c.in_ok-reload_at_begin.ensures.outcome);
+      stores = c.in_ok-store_branch_defs.ensures.outcome;
     }
 
 pub returns-clause-step : goal.returns-clause-step
@@ -86,26 +84,26 @@ returns-clause-step g c =
     (subst (λ (n : ℕ). IsStepAt (before n) (Ok tt) c.args.self.now c.reload_at_begin.new.self) first c.in_ok-reload_at_begin.ensures.step)
     c.in_ok-store_branch_defs.ensures.step
 
-pub returns-in_err-reload_at_begin-clause-stops : goal.returns-in_err-reload_at_begin-clause-stops
-returns-in_err-reload_at_begin-clause-stops g c =
+pub returns-in_err-reload_at_begin-clause-outcome : goal.returns-in_err-reload_at_begin-clause-outcome
+returns-in_err-reload_at_begin-clause-outcome g c =
     let f : FunctionValue = g.F.Function.function c.args.cx.now.f.now in
     let old : StateValue = tables_of c.args.self.now in
     let first : c.first-first.result ≡ (block_at f c.args.block).range.first = c.first-first.ensures ∙ ap (λ (r : Span). r.first) c.block_insns.ensures in
     let e = err_from_is_err_and c.from_residual.result c.from_residual.ensures.1 in
-    rw e.1 (λ lacks. at_reloads (subst (λ (n : ℕ). ReloadAtBeginFails (before n) (block_at f c.args.block).params old) first
-    (subst (λ (vs : List VirtualRegister). ReloadAtBeginFails (before c.first-first.result) vs old) c.block_params.ensures
-    (c.in_err-reload_at_begin.ensures.stops (sym e.2 ∙ lacks)))))
+    rw e.1 (λ lacks. at_reloads (subst (λ (n : ℕ). ReloadAtBegin (before n) (block_at f c.args.block).params old no_register) first
+    (subst (λ (vs : List VirtualRegister). ReloadAtBegin (before c.first-first.result) vs old no_register) c.block_params.ensures
+    (c.in_err-reload_at_begin.ensures.outcome (sym e.2 ∙ lacks)))))
 
-pub returns-in_err-store_branch_defs-clause-stops : goal.returns-in_err-store_branch_defs-clause-stops
-returns-in_err-store_branch_defs-clause-stops g c =
+pub returns-in_err-store_branch_defs-clause-outcome : goal.returns-in_err-store_branch_defs-clause-outcome
+returns-in_err-store_branch_defs-clause-outcome g c =
     let f : FunctionValue = g.F.Function.function c.args.cx.now.f.now in
     let old : StateValue = tables_of c.args.self.now in
     let m : StateValue = tables_of c.reload_at_begin.new.self in
     let first : c.first-first.result ≡ (block_at f c.args.block).range.first = c.first-first.ensures ∙ ap (λ (r : Span). r.first) c.block_insns.ensures in
     let e = err_from_is_err_and c.from_residual-in_err-store_branch_defs.result c.from_residual-in_err-store_branch_defs.ensures.1 in
-    rw e.1 (λ lacks. at_its_stores m (subst (λ (n : ℕ). ReloadsAtBegin (before n) (block_at f c.args.block).params old m) first
-    (subst (λ (vs : List VirtualRegister). ReloadsAtBegin (before c.first-first.result) vs old m) c.block_params.ensures c.in_ok-reload_at_begin.ensures.ok))
-    (c.in_err-store_branch_defs.ensures.stops (sym e.2 ∙ lacks)))
+    rw e.1 (λ lacks. at_stores m (subst (λ (n : ℕ). ReloadsAtBegin (before n) (block_at f c.args.block).params old m) first
+    (subst (λ (vs : List VirtualRegister). ReloadsAtBegin (before c.first-first.result) vs old m) c.block_params.ensures c.in_ok-reload_at_begin.ensures.outcome))
+    (c.in_err-store_branch_defs.ensures.outcome (sym e.2 ∙ lacks)))
 
 -- where no vreg has a location, and nothing is stored, nothing changes
 pub returns-clause-nobody : goal.returns-clause-nobody

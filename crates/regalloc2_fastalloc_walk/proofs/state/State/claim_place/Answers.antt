@@ -1,5 +1,6 @@
 use Rattle.std.proofs.Common.{◌≡◌, refl, sym, ◌∙◌, subst}
 use Rattle.std.specs.Prelude.{None}
+use Rattle.std.proofs.lemmas.Result.{err_from_is_err_and}
 use Rattle.regalloc2_names.specs.Register.{Register}
 use Rattle.regalloc2_names.specs.Place.{Place, NoPlace, InRegister, InSlot}
 use Rattle.regalloc2_fastalloc_state.specs.StateParts.{vreg_of_preg, alloc_of}
@@ -10,17 +11,23 @@ use Rattle.regalloc2_semantics.proofs.Forms.{place_of_register, same_register}
 use Rattle.regalloc2_fastalloc_walk.specs.SpillFree.{Pokes}
 use Rattle.regalloc2_fastalloc_walk.proofs.state.State.claim_place.Goals as goal
 
-pub returns-in_default-clause-ok : goal.returns-in_default-clause-ok
-returns-in_default-clause-ok g c =
+pub returns-in_default-clause-outcome : goal.returns-in_default-clause-outcome
+returns-in_default-clause-outcome g c =
     let s = slot_place c.args.place c.requires.there (sym c.as_reg.ensures ∙ c.in_default.is) in
     in_slot s.0 s.1 (record { early = refl; late = refl; scratch = refl }) refl
 
-pub returns-clause-ok : goal.returns-clause-ok
-returns-clause-ok g c =
+pub returns-clause-outcome : goal.returns-clause-outcome
+returns-clause-outcome g c =
     let e : c.args.place ≡ InRegister c.in-Some.preg = place_of_register c.args.place c.in-Some.preg (sym c.as_reg.ensures ∙ c.in-Some.is) in
     let P : Place → Type 0 = λ p. ClaimsPlace c.args.point c.args.request.now p c.args.inst_regs.now c.claim_preg.new.inst_regs (tables_of c.args.self.now)
     (tables_of c.claim_preg.new.self) in
-    subst P (sym e) c.in_ok-claim_preg.ensures.ok
+    subst P (sym e) c.in_ok-claim_preg.ensures.outcome
+
+pub returns-in_err-claim_preg-clause-outcome : goal.returns-in_err-claim_preg-clause-outcome
+returns-in_err-claim_preg-clause-outcome g c =
+    let is : c.args.place ≡ InRegister c.in-Some.preg = place_of_register c.args.place c.in-Some.preg (sym c.as_reg.ensures ∙ c.in-Some.is) in
+    let e = err_from_is_err_and c.from_residual.result c.from_residual.ensures.1 in
+    rw e.1 (λ lacks. let h = c.in_err-claim_preg.ensures.outcome (sym e.2 ∙ lacks) in (h.0, is ∙ h.1, h.2))
 
 pub returns-clause-alone : goal.returns-clause-alone
 returns-clause-alone g c = λ r f.

@@ -29,7 +29,7 @@ loop-preg-preserved g c = record {
   left = rw (append_assoc, ← c.in-Some.ensures.steps) c.loop-preg.invariant.left;
   cleared = clears_more c.args.point c.loop-preg.yielded c.in-Some.preg c.args.inst_regs.now c.loop-preg.inst_regs c.evict_preg.new.inst_regs
       (tables_of c.args.self.now) (tables_of c.loop-preg.self) (tables_of c.evict_preg.new.self)
-      c.loop-preg.invariant.cleared c.in_ok-evict_preg.ensures.ok;
+      c.loop-preg.invariant.cleared c.in_ok-evict_preg.ensures.outcome;
   awaited = c.evict_preg.ensures.awaited ∙ c.loop-preg.invariant.awaited;
   later = c.in_ok-evict_preg.ensures.step.later;
   long = c.in_ok-evict_preg.ensures.step.long ∙ c.loop-preg.invariant.long;
@@ -46,14 +46,14 @@ loop-preg-preserved g c = record {
   registers = c.in_ok-evict_preg.ensures.registers ∙ c.loop-preg.invariant.registers;
 }
 
-pub returns-then-has_none-clause-ok : goal.returns-then-has_none-clause-ok
-returns-then-has_none-clause-ok g c =
+pub returns-then-has_none-clause-outcome : goal.returns-then-has_none-clause-outcome
+returns-then-has_none-clause-outcome g c =
     let none : registers_of c.args.clobbers ≡ [] = none_listed c.args.clobbers (c.if-has_none.ensures.0 refl) in
     subst (λ (rs : List Register). EvictsEach c.args.point rs c.args.inst_regs.now (tables_of c.args.self.now) c.args.inst_regs.now
     (tables_of c.args.self.now)) (sym none) (none_left c.args.inst_regs.now (tables_of c.args.self.now))
 
-pub returns-clause-ok : goal.returns-clause-ok
-returns-clause-ok g c =
+pub returns-clause-outcome : goal.returns-clause-outcome
+returns-clause-outcome g c =
     let old : StateValue = tables_of c.args.self.now in
     let new : StateValue = tables_of c.loop-preg.self in
     let filled : PRegSet = c.filled-filled.result in

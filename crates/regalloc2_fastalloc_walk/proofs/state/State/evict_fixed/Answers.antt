@@ -13,8 +13,8 @@ use Rattle.regalloc2_fastalloc_walk.proofs.state.State.evict_fixed.Goals.{in-Reu
 use Rattle.regalloc2_fastalloc_walk.proofs.state.State.evict_fixed.Goals.{in-Reuse+in_default-reused_register, in_default}
 
 -- no operand is fixed to a register
-pub returns-then-not-any_fixed-clause-ok : goal.returns-then-not-any_fixed-clause-ok
-returns-then-not-any_fixed-clause-ok g c =
+pub returns-then-not-any_fixed-clause-outcome : goal.returns-then-not-any_fixed-clause-outcome
+returns-then-not-any_fixed-clause-outcome g c =
     evicts_none c.args.point c.args.operands.now c.args.inst_regs.now (tables_of c.args.self.now) (c.requires.unfixed c.if-not-any_fixed.true)
     (length c.args.operands.now) (omega arith)
 
@@ -45,7 +45,7 @@ loop-k-preserved g c =
           let P : VirtualRegister → Type 0 = λ v. EvictsOthers c.args.point w.in-FixedReg.preg v c.loop-k.inst_regs w.evict_others.new.inst_regs m n in
           record {
             cleared = of_fixed k w.in-FixedReg.preg c.loop-k.inst_regs w.evict_others.new.inst_regs m n h.cleared (at ∙ w.in-FixedReg.is)
-                (subst P (read_vreg ops k o w.vreg.result c.loop-k-test.true c.index-operands-k.is w.vreg.ensures) w.in_ok-evict_others-in-FixedReg.ensures.ok);
+                (subst P (read_vreg ops k o w.vreg.result c.loop-k-test.true c.index-operands-k.is w.vreg.ensures) w.in_ok-evict_others-in-FixedReg.ensures.outcome);
             awaited = w.evict_others.ensures.awaited ∙ h.awaited;
             later = w.in_ok-evict_others-in-FixedReg.ensures.step.later;
             long = w.in_ok-evict_others-in-FixedReg.ensures.step.long ∙ h.long;
@@ -57,7 +57,7 @@ loop-k-preserved g c =
           let named = w.in-Some.ensures.some in
           record {
             cleared = of_reuse k named.0 w.in-Some.preg c.loop-k.inst_regs w.evict_preg.new.inst_regs m n h.cleared (asks ∙ named.1) named.2
-                named.3 w.in_ok-evict_preg-in-Reuse.ensures.ok;
+                named.3 w.in_ok-evict_preg-in-Reuse.ensures.outcome;
             awaited = w.evict_preg.ensures.awaited ∙ h.awaited;
             later = w.in_ok-evict_preg-in-Reuse.ensures.step.later;
             long = w.in_ok-evict_preg-in-Reuse.ensures.step.long ∙ h.long;
@@ -84,8 +84,8 @@ loop-k-preserved g c =
       })
     ]
 
-pub returns-clause-ok : goal.returns-clause-ok
-returns-clause-ok g c =
+pub returns-clause-outcome : goal.returns-clause-outcome
+returns-clause-outcome g c =
     let e : c.loop-k.k ≡ length c.args.operands.now = omega arith in
     subst (λ k. EvictsFixed c.args.point c.args.operands.now c.args.inst_regs.now (tables_of c.args.self.now) k c.loop-k.inst_regs (tables_of c.loop-k.self)) e
     c.loop-k.invariant.cleared

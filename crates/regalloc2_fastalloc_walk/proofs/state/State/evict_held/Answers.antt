@@ -1,9 +1,10 @@
-use Rattle.std.proofs.Common.{◌≡◌, ◌<◌, refl, arith, subst}
+use Rattle.std.proofs.Common.{◌≡◌, ◌<◌, refl, sym, ◌∙◌, arith, subst}
 use Rattle.std.specs.Prelude.{Some}
+use Rattle.std.proofs.lemmas.Result.{err_from_is_err_and}
 use Rattle.regalloc2_names.specs.declared.RegClass.{RegClass}
 use Rattle.regalloc2_names.specs.Place.{Place, InRegister}
 use Rattle.regalloc2_fastalloc_state.specs.StateParts.{vreg_of_preg, alloc_of}
-use Rattle.regalloc2_fastalloc_proofs.specs.InstSteps.{StateValue, AddsMove, cleared}
+use Rattle.regalloc2_fastalloc_proofs.specs.InstSteps.{StateValue, AddMove, next, no_register, cleared}
 use Rattle.regalloc2_fastalloc_walk.specs.StateView.{tables_of}
 use Rattle.regalloc2_fastalloc_proofs.proofs.Evictions.PushedAndRemoved.{crosses_empty, settled_empty}
 use Rattle.regalloc2_fastalloc_state.proofs.SlotsAsPlaces.{slot_is_no_register}
@@ -20,15 +21,13 @@ set_alloc-requires-clause-vreg g c =
     let h : vreg_of_preg c.args.self.now.places c.args.preg ≡ Some c.args.vreg = c.requires.held in
     c.requires.inverse.known c.args.preg c.args.vreg c.requires.small h
 
-pub returns-clause-ok : goal.returns-clause-ok
-returns-clause-ok g c =
+pub returns-clause-outcome : goal.returns-clause-outcome
+returns-clause-outcome g c =
     let h : vreg_of_preg c.args.self.now.places c.args.preg ≡ Some c.args.vreg = c.requires.held in
     let t : StateValue = tables_of c.args.self.now in
     let m : StateValue = record t { places = c.set_alloc.new.self; slots = c.get_spillslot.new.self } in
-    let X : RegClass → Place → Type 0 = λ k p. AddsMove c.args.point k c.in_ok-slot.slot p c.args.inst_regs.now c.add_move.new.inst_regs m
-    (tables_of c.add_move.new.self) in
-    let x : X c.args.vreg.class (InRegister c.args.preg) = subst (X c.args.vreg.class) c.reg.ensures
-    (subst (λ (k : RegClass). X k c.reg.result) c.class.ensures c.in_ok-add_move.ensures.ok) in
+    let X : RegClass → Place → Type 0 = λ k p. AddMove c.args.point k c.in_ok-slot.slot p c.args.inst_regs.now m
+    (next c.add_move.new.inst_regs (tables_of c.add_move.new.self)) in
     cleared c.args.vreg c.in_ok-slot.slot m c.requires.small h c.in_ok-slot.ensures.ok c.set_alloc.ensures.settled refl
     (record {
       allocatable = refl;
@@ -37,7 +36,27 @@ returns-clause-ok g c =
       sizes = c.get_spillslot.ensures.sizes;
       vregs = c.get_spillslot.ensures.vregs;
       num_temp_slots = c.get_spillslot.ensures.num_temp_slots;
-    }) x
+    })
+    (subst (X c.args.vreg.class) c.reg.ensures (subst (λ (k : RegClass). X k c.reg.result) c.class.ensures c.in_ok-add_move.ensures.outcome))
+
+pub returns-in_err-add_move-clause-outcome : goal.returns-in_err-add_move-clause-outcome
+returns-in_err-add_move-clause-outcome g c =
+    let h : vreg_of_preg c.args.self.now.places c.args.preg ≡ Some c.args.vreg = c.requires.held in
+    let t : StateValue = tables_of c.args.self.now in
+    let m : StateValue = record t { places = c.set_alloc.new.self; slots = c.get_spillslot.new.self } in
+    let X : RegClass → Place → Type 0 = λ k p. AddMove c.args.point k c.in_ok-slot.slot p c.args.inst_regs.now m no_register in
+    let e = err_from_is_err_and c.from_residual-in_err-add_move.result c.from_residual-in_err-add_move.ensures.1 in
+    rw e.1 (λ lacks. cleared c.args.vreg c.in_ok-slot.slot m c.requires.small h c.in_ok-slot.ensures.ok c.set_alloc.ensures.settled refl
+    (record {
+      allocatable = refl;
+      fixed_stack = refl;
+      dedicated_scratch = refl;
+      sizes = c.get_spillslot.ensures.sizes;
+      vregs = c.get_spillslot.ensures.vregs;
+      num_temp_slots = c.get_spillslot.ensures.num_temp_slots;
+    })
+    (subst (X c.args.vreg.class) c.reg.ensures (subst (λ (k : RegClass). X k c.reg.result) c.class.ensures
+    (c.in_err-add_move.ensures.outcome (sym e.2 ∙ lacks)))))
 
 pub returns-clause-empty : goal.returns-clause-empty
 returns-clause-empty g c =
@@ -47,7 +66,7 @@ returns-clause-empty g c =
     small h in
     let m : StateValue = record (tables_of c.args.self.now) { places = c.set_alloc.new.self; slots = c.get_spillslot.new.self } in
     crosses_empty c.args.point c.class.result c.in_ok-slot.slot c.reg.result c.args.inst_regs.now c.add_move.new.inst_regs m (tables_of c.add_move.new.self)
-    c.in_ok-add_move.ensures.ok c.args.preg small
+    c.in_ok-add_move.ensures.outcome c.args.preg small
     (settled_empty c.args.self.now.places c.set_alloc.new.self c.args.vreg c.in_ok-slot.slot c.args.preg small
     (λ e. slot_is_no_register c.args.self.now.slots c.get_spillslot.new.self c.args.vreg c.in_ok-slot.slot c.args.preg c.in_ok-slot.ensures.ok
     c.get_spillslot.ensures.owned e) there c.set_alloc.ensures.settled)

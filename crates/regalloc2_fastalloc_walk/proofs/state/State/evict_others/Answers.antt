@@ -1,5 +1,6 @@
 use Rattle.std.proofs.Common.{ℕ, ◌≡◌, refl, sym, ◌∙◌, ap, arith}
 use Rattle.std.specs.Prelude.{None, Some}
+use Rattle.std.proofs.lemmas.Result.{err_from_is_err_and}
 use Rattle.regalloc2_names.specs.Place.{NoPlace, InRegister}
 use Rattle.regalloc2_fastalloc_state.specs.StateParts.{vreg_of_preg, alloc_of}
 use Rattle.regalloc2_fastalloc_proofs.specs.InstSteps.{own, others}
@@ -7,8 +8,8 @@ use Rattle.regalloc2_fastalloc_proofs.proofs.Evictions.PushedAndRemoved.{same_he
 use Rattle.regalloc2_fastalloc_walk.proofs.state.State.evict_others.Goals as goal
 use Rattle.regalloc2_fastalloc_walk.proofs.state.State.evict_others.Goals.{in-Some+else-vreg, in_default}
 
-pub returns-then-vreg-clause-ok : goal.returns-then-vreg-clause-ok
-returns-then-vreg-clause-ok g c = own c.in-Some.held (sym c.vreg_in.ensures.vreg ∙ c.in-Some.is)
+pub returns-then-vreg-clause-outcome : goal.returns-then-vreg-clause-outcome
+returns-then-vreg-clause-outcome g c = own c.in-Some.held (sym c.vreg_in.ensures.vreg ∙ c.in-Some.is)
     (sym c.vreg.ensures.number ∙ c.if-vreg.true ∙ c.vreg-in-Some.ensures.number) refl refl
 
 pub returns-then-vreg-clause-alone : goal.returns-then-vreg-clause-alone
@@ -20,8 +21,8 @@ returns-then-vreg-clause-alone g c = λ e.
     let none : NoPlace ≡ InRegister c.args.preg = sym e ∙ ap (λ (n : ℕ). alloc_of c.args.self.now.places n) (sym number) ∙ there in
     absurd cc
 
-pub returns-clause-ok : goal.returns-clause-ok
-returns-clause-ok g c = others
+pub returns-clause-outcome : goal.returns-clause-outcome
+returns-clause-outcome g c = others
     (λ w h e. elim c.match-vreg_in.branch [
       | in-Some+else-vreg x ↦
           let same : w.number ≡ x.in-Some.held.number = same_held w x.in-Some.held (vreg_of_preg c.args.self.now.places c.args.preg) h
@@ -29,4 +30,17 @@ returns-clause-ok g c = others
           x.if-vreg.false (x.vreg.ensures.number ∙ sym same ∙ e ∙ sym x.vreg-in-Some.ensures.number)
       | in_default x ↦ let none : None ≡ Some w = sym x.in_default.is ∙ c.vreg_in.ensures.vreg ∙ h in absurd cc
     ])
-    c.in_ok-evict_preg.ensures.ok
+    c.in_ok-evict_preg.ensures.outcome
+
+pub returns-in_err-evict_preg-clause-outcome : goal.returns-in_err-evict_preg-clause-outcome
+returns-in_err-evict_preg-clause-outcome g c =
+    let e = err_from_is_err_and c.from_residual.result c.from_residual.ensures.1 in
+    rw e.1 (λ lacks. others
+    (λ w h is. elim c.match-vreg_in.branch [
+      | in-Some+else-vreg x ↦
+          let same : w.number ≡ x.in-Some.held.number = same_held w x.in-Some.held (vreg_of_preg c.args.self.now.places c.args.preg) h
+          (sym c.vreg_in.ensures.vreg ∙ x.in-Some.is) in
+          x.if-vreg.false (x.vreg.ensures.number ∙ sym same ∙ is ∙ sym x.vreg-in-Some.ensures.number)
+      | in_default x ↦ let none : None ≡ Some w = sym x.in_default.is ∙ c.vreg_in.ensures.vreg ∙ h in absurd cc
+    ])
+    (c.in_err-evict_preg.ensures.outcome (sym e.2 ∙ lacks)))

@@ -17,8 +17,8 @@ set_alloc-requires-clause-vreg g c =
     let h : vreg_of_preg c.args.self.now.places c.args.preg ≡ Some c.in-Some.vreg = sym c.vreg_in.ensures.vreg ∙ c.in-Some.is in
     c.vreg_in.ensures.inverse.known c.args.preg c.in-Some.vreg (omega (arith, c.vreg_in.ensures.in_range)) h
 
-pub returns-clause-ok : goal.returns-clause-ok
-returns-clause-ok g c =
+pub returns-clause-outcome : goal.returns-clause-outcome
+returns-clause-outcome g c =
     let h : vreg_of_preg c.args.self.now.places c.args.preg ≡ Some c.in-Some.vreg = sym c.vreg_in.ensures.vreg ∙ c.in-Some.is in
     let one : Place → List (ℕ × MoveValue) = λ p. c.args.self.now.edits ++ (c.args.point, record { from = c.in_ok-slot.slot; to = p }) ∷ [] in
     moved c.in-Some.vreg c.in_ok-slot.slot (omega (arith, c.vreg_in.ensures.in_range)) h c.in_ok-slot.ensures.ok c.set_alloc.ensures.settled

@@ -3,14 +3,14 @@ use Rattle.std.specs.Prelude.{not, ◌&&◌}
 use Rattle.regalloc2_names.specs.declared.RegClass.{RegClass}
 use Rattle.regalloc2_names.specs.Place.{Place, is_place}
 use Rattle.regalloc2_fastalloc_state.specs.StateParts.{SetsAlloc, alloc_of, slot_name}
-use Rattle.regalloc2_fastalloc_proofs.specs.InstSteps.{StateValue, AddsMoveIf, is_another}
+use Rattle.regalloc2_fastalloc_proofs.specs.InstSteps.{StateValue, AddsMoveIf, is_another, AddMoveIf, no_register}
 use Rattle.std.proofs.lemmas.Result.{err_from_is_err_and}
-use Rattle.regalloc2_fastalloc_proofs.specs.OutOfRegs.{AddMoveIfFails, to_awaited, to_slot}
+use Rattle.regalloc2_fastalloc_proofs.specs.InstSteps.{to_awaited, to_slot}
 use Rattle.regalloc2_fastalloc_walk.specs.StateView.{tables_of}
 use Rattle.regalloc2_fastalloc_walk.proofs.state.State.free_def.Goals as goal
 
-pub returns-clause-ok : goal.returns-clause-ok
-returns-clause-ok g c =
+pub returns-clause-outcome : goal.returns-clause-outcome
+returns-clause-outcome g c =
     let t : StateValue = tables_of c.args.self.now in
     let p : Place = c.args.place in
     let left : StateValue = record t { places = c.set_alloc.new.self } in
@@ -19,7 +19,7 @@ returns-clause-ok g c =
     let awaited : Place = alloc_of t.places c.args.vreg.number in
     let A : RegClass → Bool → Place → Type 0 = λ k b q. AddsMoveIf c.args.point k b p q c.args.inst_regs.now c.add_move_if.new.inst_regs left middle in
     let a1 : A c.args.vreg.class c.is_awaited-is_awaited.result c.current_alloc-awaited.result = subst (λ (k : RegClass). A k c.is_awaited-is_awaited.result
-    c.current_alloc-awaited.result) c.class-class.ensures c.in_ok-add_move_if.ensures.ok in
+    c.current_alloc-awaited.result) c.class-class.ensures c.in_ok-add_move_if.ensures.outcome in
     let a2 : A c.args.vreg.class (not ret && is_another c.current_alloc-awaited.result p)
     c.current_alloc-awaited.result = subst (λ (b : Bool). A c.args.vreg.class b c.current_alloc-awaited.result) c.is_awaited-is_awaited.ensures a1 in
     let a3 : A c.args.vreg.class (not ret && is_another awaited p) awaited = subst (λ (q : Place). A c.args.vreg.class (not ret && is_another q p) q)
@@ -27,7 +27,7 @@ returns-clause-ok g c =
     let S : RegClass → Bool → Place → Type 0 = λ k b q. AddsMoveIf c.args.point k b p q c.add_move_if.new.inst_regs c.add_move_if-2.new.inst_regs middle
     (tables_of c.add_move_if-2.new.self) in
     let s1 : S c.args.vreg.class c.is_stored-is_stored.result c.find_spillslot-slot.result = subst (λ (k : RegClass). S k c.is_stored-is_stored.result
-    c.find_spillslot-slot.result) c.class-class.ensures c.in_ok-add_move_if-2.ensures.ok in
+    c.find_spillslot-slot.result) c.class-class.ensures c.in_ok-add_move_if-2.ensures.outcome in
     let s2 = subst (λ (b : Bool). S c.args.vreg.class b c.find_spillslot-slot.result) c.is_stored-is_stored.ensures s1 in
     let s3 = subst (λ (q : Place). S c.args.vreg.class (not ret && (is_another q p && not (is_place q c.current_alloc-awaited.result))) q)
     c.find_spillslot-slot.ensures.slot s2 in
@@ -46,41 +46,42 @@ returns-clause-ok g c =
     }
 
 -- a move of the definition stops
-pub returns-in_err-add_move_if-clause-stops : goal.returns-in_err-add_move_if-clause-stops
-returns-in_err-add_move_if-clause-stops g c =
+pub returns-in_err-add_move_if-clause-outcome : goal.returns-in_err-add_move_if-clause-outcome
+returns-in_err-add_move_if-clause-outcome g c =
     let t : StateValue = tables_of c.args.self.now in
     let p : Place = c.args.place in
     let left : StateValue = record t { places = c.set_alloc.new.self } in
     let ret : Bool = c.args.is_ret in
-    let A : RegClass → Bool → Place → Type 0 = λ k b q. AddMoveIfFails k b p q c.args.inst_regs.now left in
+    let A : RegClass → Bool → Place → Type 0 = λ k b q. AddMoveIf c.args.point k b p q c.args.inst_regs.now left no_register in
     let e = err_from_is_err_and c.from_residual.result c.from_residual.ensures.1 in
     rw e.1 (λ same.
-    let a0 = c.in_err-add_move_if.ensures.stops (sym e.2 ∙ same) in
+    let a0 = c.in_err-add_move_if.ensures.outcome (sym e.2 ∙ same) in
     let a1 = subst (λ (k : RegClass). A k c.is_awaited-is_awaited.result c.current_alloc-awaited.result) c.class-class.ensures a0 in
     let a2 = subst (λ (b : Bool). A c.args.vreg.class b c.current_alloc-awaited.result) c.is_awaited-is_awaited.ensures a1 in
     let a3 = subst (λ (q : Place). A c.args.vreg.class (not ret && is_another q p) q) c.current_alloc-awaited.ensures.place a2 in
-    to_awaited left refl (record { allocatable = refl; fixed_stack = refl; dedicated_scratch = refl; sizes = refl; vregs = refl; num_temp_slots = refl }) a3)
+    to_awaited left (subst (SetsAlloc t.places c.set_alloc.new.self c.args.vreg) c.none.ensures c.set_alloc.ensures.settled) refl refl
+    (record { allocatable = refl; fixed_stack = refl; dedicated_scratch = refl; sizes = refl; vregs = refl; num_temp_slots = refl }) a3)
 
-pub returns-in_err-add_move_if-2-clause-stops : goal.returns-in_err-add_move_if-2-clause-stops
-returns-in_err-add_move_if-2-clause-stops g c =
+pub returns-in_err-add_move_if-2-clause-outcome : goal.returns-in_err-add_move_if-2-clause-outcome
+returns-in_err-add_move_if-2-clause-outcome g c =
     let t : StateValue = tables_of c.args.self.now in
     let p : Place = c.args.place in
     let left : StateValue = record t { places = c.set_alloc.new.self } in
     let middle : StateValue = tables_of c.add_move_if.new.self in
     let ret : Bool = c.args.is_ret in
     let A : RegClass → Bool → Place → Type 0 = λ k b q. AddsMoveIf c.args.point k b p q c.args.inst_regs.now c.add_move_if.new.inst_regs left middle in
-    let a1 = subst (λ (k : RegClass). A k c.is_awaited-is_awaited.result c.current_alloc-awaited.result) c.class-class.ensures c.in_ok-add_move_if.ensures.ok in
+    let a1 = subst (λ (k : RegClass). A k c.is_awaited-is_awaited.result c.current_alloc-awaited.result) c.class-class.ensures c.in_ok-add_move_if.ensures.outcome in
     let a2 = subst (λ (b : Bool). A c.args.vreg.class b c.current_alloc-awaited.result) c.is_awaited-is_awaited.ensures a1 in
     let a3 = subst (λ (q : Place). A c.args.vreg.class (not ret && is_another q p) q) c.current_alloc-awaited.ensures.place a2 in
-    let S : RegClass → Bool → Place → Type 0 = λ k b q. AddMoveIfFails k b p q c.add_move_if.new.inst_regs middle in
+    let S : RegClass → Bool → Place → Type 0 = λ k b q. AddMoveIf c.args.point k b p q c.add_move_if.new.inst_regs middle no_register in
     let s : Place = slot_name t.slots c.args.vreg.number in
     let e = err_from_is_err_and c.from_residual-in_err-add_move_if-2.result c.from_residual-in_err-add_move_if-2.ensures.1 in
     rw e.1 (λ same.
-    let s0 = c.in_err-add_move_if-2.ensures.stops (sym e.2 ∙ same) in
+    let s0 = c.in_err-add_move_if-2.ensures.outcome (sym e.2 ∙ same) in
     let s1 = subst (λ (k : RegClass). S k c.is_stored-is_stored.result c.find_spillslot-slot.result) c.class-class.ensures s0 in
     let s2 = subst (λ (b : Bool). S c.args.vreg.class b c.find_spillslot-slot.result) c.is_stored-is_stored.ensures s1 in
     let s3 = subst (λ (q : Place). S c.args.vreg.class (not ret && (is_another q p && not (is_place q c.current_alloc-awaited.result))) q)
     c.find_spillslot-slot.ensures.slot s2 in
     let s4 = subst (λ (q : Place). S c.args.vreg.class (not ret && (is_another s p && not (is_place s q))) s) c.current_alloc-awaited.ensures.place s3 in
-    to_slot left middle c.add_move_if.new.inst_regs refl
+    to_slot left middle c.add_move_if.new.inst_regs (subst (SetsAlloc t.places c.set_alloc.new.self c.args.vreg) c.none.ensures c.set_alloc.ensures.settled) refl refl
     (record { allocatable = refl; fixed_stack = refl; dedicated_scratch = refl; sizes = refl; vregs = refl; num_temp_slots = refl }) a3 s4)

@@ -6,9 +6,9 @@ use Rattle.regalloc2_function.specs.FunctionValue.{FunctionValue, block_at, inst
 use Rattle.regalloc2_function.specs.SourceRun.{arguments_at}
 use Rattle.regalloc2_semantics.specs.Blocks.{target_at}
 use Rattle.regalloc2_fastalloc_proofs.specs.BranchSteps.{GathersMoves, no_edge, one_edge, IsOwn}
-use Rattle.regalloc2_fastalloc_proofs.specs.InstSteps.{StateValue}
+use Rattle.regalloc2_fastalloc_proofs.specs.InstSteps.{StateValue, no_register}
 use Rattle.std.proofs.lemmas.Result.{err_from_is_err_and}
-use Rattle.regalloc2_fastalloc_proofs.specs.OutOfRegs.{GatherEdgeFails}
+use Rattle.regalloc2_fastalloc_proofs.specs.BranchSteps.{GatherEdge}
 use Rattle.regalloc2_branch_defs.specs.Tables.{AreBranchDefsOf}
 use Rattle.regalloc2_branch_defs.specs.declared.BranchDefs.{BranchDefs}
 use Rattle.regalloc2_fastalloc_proofs.specs.BlockSteps.{MayBeAllocated}
@@ -96,7 +96,7 @@ loop-k-preserved g c =
     let m : StateValue = tables_of c.loop-k.self in
     let n : StateValue = tables_of c.gather_edge.new.self in
     let x = c.loop-k.invariant.done in
-    let y = c.in_ok-gather_edge.ensures.ok x.0 x.1 in
+    let y = c.in_ok-gather_edge.ensures.outcome x.0 x.1 in
     record {
       done = (
         y.0,
@@ -119,8 +119,8 @@ loop-k-preserved g c =
       registers = c.in_ok-gather_edge.ensures.registers ∙ c.loop-k.invariant.registers;
     }
 
-pub returns-clause-ok : goal.returns-clause-ok
-returns-clause-ok g c =
+pub returns-clause-outcome : goal.returns-clause-outcome
+returns-clause-outcome g c =
     let f = g.F.Function.function c.args.cx.now.f.now in
     let e : c.loop-k.k ≡ length (block_at f c.args.block).succs = omega (arith, ap (λ (l : List ℕ). length l) c.block_succs-succs.ensures) in
     let x = c.loop-k.invariant.done in (
@@ -130,8 +130,8 @@ returns-clause-ok g c =
           (tables_of c.loop-k.self) x.0) e x.2,
     )
 
-pub returns-in_err-gather_edge-clause-stops : goal.returns-in_err-gather_edge-clause-stops
-returns-in_err-gather_edge-clause-stops g c =
+pub returns-in_err-gather_edge-clause-outcome : goal.returns-in_err-gather_edge-clause-outcome
+returns-in_err-gather_edge-clause-outcome g c =
     let f = g.F.Function.function c.args.cx.now.f.now in
     let k : ℕ = c.loop-k.k in
     let succs : c.block_succs-succs.result.now ≡ (block_at f c.args.block).succs = c.block_succs-succs.ensures in
@@ -144,16 +144,14 @@ returns-in_err-gather_edge-clause-stops g c =
     let m : StateValue = tables_of c.loop-k.self in
     let x = c.loop-k.invariant.done in
     let p = err_from_is_err_and c.from_residual.result c.from_residual.ensures.1 in
-    let F : List VirtualRegister → List VirtualRegister → Type 0 = λ ps xs. GatherEdgeFails (IsOwnBy c.args.cx.now.defs.now c.args.inst) (before
-    c.args.inst) ps xs
-    c.loop-k.inst_regs m x.0 in
+    let F : List VirtualRegister → List VirtualRegister → Type 0 = λ ps xs. GatherEdge (IsOwnBy c.args.cx.now.defs.now c.args.inst)
+    (before c.args.inst) ps xs c.loop-k.inst_regs m x.0 no_register in
     rw p.1 (λ same. record {
       index = k;
-      inst_regs = c.loop-k.inst_regs;
+      given = (c.loop-k.inst_regs, x.0);
       middle = m;
-      given = x.0;
       inside = lt;
-      gathers = x.2;
+      done = x.2;
       stops = fails_as (IsOwnBy c.args.cx.now.defs.now c.args.inst) (IsOwn f c.args.block)
           (own_there f c.args.cx.now.defs.now c.requires.defs c.requires.well_formed c.args.block c.args.inst c.requires.block c.requires.last
           c.requires.branch)
@@ -161,5 +159,5 @@ returns-in_err-gather_edge-clause-stops g c =
           c.requires.branch)
           (before c.args.inst) (block_at f (target_at f c.args.block k)).params (arguments_at f c.args.block k) c.loop-k.inst_regs m x.0
           (subst (λ (l : List VirtualRegister). F l (arguments_at f c.args.block k)) ps
-          (subst (λ (l : List VirtualRegister). F c.block_params-params.result.now l) xs (c.in_err-gather_edge.ensures.stops (sym p.2 ∙ same) x.0 x.1)));
+          (subst (λ (l : List VirtualRegister). F c.block_params-params.result.now l) xs (c.in_err-gather_edge.ensures.outcome x.0 x.1 (sym p.2 ∙ same))));
     })

@@ -12,11 +12,11 @@ get_spillslot-requires g c = omega (arith, c.requires.param, c.args.self.now.sam
 pub add-requires : goal.add-requires
 add-requires g c =
     let s = settled_slot c.args.point c.args.argument c.in_ok-from.from c.args.inst_regs.now c.spill_argument.new.inst_regs
-    (record (tables_of c.args.self.now) { slots = c.get_spillslot.new.self }) (tables_of c.spill_argument.new.self) c.in_ok-from.ensures.ok in
+    (record (tables_of c.args.self.now) { slots = c.get_spillslot.new.self }) (tables_of c.spill_argument.new.self) c.in_ok-from.ensures.outcome in
     record { from = s.1; to = c.in_ok-to.ensures.ok.there }
 
-pub returns-clause-ok : goal.returns-clause-ok
-returns-clause-ok g c =
+pub returns-clause-outcome : goal.returns-clause-outcome
+returns-clause-outcome g c =
     let one : RegClass → ClassMove = λ k. record { class = k; from = c.in_ok-from.from; to = c.in_ok-to.to } in (
       c.in_ok-to.to,
       c.in_ok-from.from,
@@ -33,25 +33,25 @@ returns-clause-ok g c =
           vregs = c.get_spillslot.ensures.vregs;
           num_temp_slots = c.get_spillslot.ensures.num_temp_slots;
         };
-        spills = c.in_ok-from.ensures.ok;
+        spills = c.in_ok-from.ensures.outcome;
       },
       λ given is. subst (λ (k : RegClass). AreOf c.add.new.self.int c.add.new.self.float c.add.new.self.vector (given ++ one k ∷ [])) c.class.ensures
           (c.in_ok-add.ensures.ok given is),
     )
 
-pub returns-in_err-from-clause-stops : goal.returns-in_err-from-clause-stops
-returns-in_err-from-clause-stops g c =
+pub returns-in_err-from-clause-outcome : goal.returns-in_err-from-clause-outcome
+returns-in_err-from-clause-outcome g c =
     let e = err_from_is_err_and c.from_residual-in_err-from.result c.from_residual-in_err-from.ensures.1 in
-    rw e.1 (λ same. record {
-      middle = record (tables_of c.args.self.now) { slots = c.get_spillslot.new.self };
-      places = refl;
-      machine = record {
+    rw e.1 (λ same. (
+      record (tables_of c.args.self.now) { slots = c.get_spillslot.new.self },
+      refl,
+      record {
         allocatable = refl;
         fixed_stack = refl;
         dedicated_scratch = refl;
         sizes = c.get_spillslot.ensures.sizes;
         vregs = c.get_spillslot.ensures.vregs;
         num_temp_slots = c.get_spillslot.ensures.num_temp_slots;
-      };
-      stops = c.in_err-from.ensures.stops (sym e.2 ∙ same);
-    })
+      },
+      c.in_err-from.ensures.outcome (sym e.2 ∙ same),
+    ))

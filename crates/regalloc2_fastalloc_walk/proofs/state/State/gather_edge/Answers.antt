@@ -6,8 +6,8 @@ use Rattle.regalloc2_names.specs.Point.{before}
 use Rattle.regalloc2_names.specs.Register.{VirtualRegister}
 use Rattle.regalloc2_fastalloc_proofs.specs.BlockStart.{no_vreg}
 use Rattle.regalloc2_fastalloc_proofs.specs.BranchSteps.{AreOf, ClassMove, GathersEdgeMoves, SpillsArgument, none_gathered, one_gathered, own_argument}
-use Rattle.regalloc2_fastalloc_proofs.specs.InstSteps.{StateValue}
-use Rattle.regalloc2_fastalloc_proofs.specs.OutOfRegs.{GatherEdgeFails, SpillArgumentFails}
+use Rattle.regalloc2_fastalloc_proofs.specs.InstSteps.{StateValue, no_register}
+use Rattle.regalloc2_fastalloc_proofs.specs.BranchSteps.{GatherEdge, SpillArgument}
 use Rattle.regalloc2_fastalloc_state.specs.StateParts.{AllAtOrAfter, GetsSpillSlot}
 use Rattle.regalloc2_fastalloc_proofs.proofs.Evictions.PushedAndRemoved.{same_then}
 use Rattle.regalloc2_fastalloc_walk.specs.OwnDefs.{IsOwnBy}
@@ -62,7 +62,7 @@ loop-j-preserved g c =
           let param : w.index-params-j.result ≡ slice_index_or ps j no_vreg = get_or_read ps j w.index-params-j.result c.loop-j-test.true w.index-params-j.is
           no_vreg in
           let o : StateValue = tables_of w.gather_argument.new.self in
-          let y = w.in_ok-gather_argument.ensures.ok in
+          let y = w.in_ok-gather_argument.ensures.outcome in
           let n : StateValue = y.2.middle in
           let one : VirtualRegister → ClassMove = λ v. record { class = v.class; from = y.1; to = y.0 } in
           record {
@@ -99,8 +99,8 @@ loop-j-preserved g c =
       })
     ]
 
-pub returns-clause-ok : goal.returns-clause-ok
-returns-clause-ok g c = λ given is.
+pub returns-clause-outcome : goal.returns-clause-outcome
+returns-clause-outcome g c = λ given is.
     let at : c.before-point.result ≡ before c.args.own.now.branch = c.before-point.ensures.point (λ e. omega (arith, c.requires.inst)) in
     let e : c.loop-j.j ≡ length c.args.params.now = omega arith in
     let x = c.loop-j.invariant.done given is in
@@ -121,8 +121,8 @@ returns-clause-step g c =
       err = search rules;
     }
 
-pub returns-in_err-gather_argument-clause-stops : goal.returns-in_err-gather_argument-clause-stops
-returns-in_err-gather_argument-clause-stops g c =
+pub returns-in_err-gather_argument-clause-outcome : goal.returns-in_err-gather_argument-clause-outcome
+returns-in_err-gather_argument-clause-outcome g c =
     let at : c.before-point.result ≡ before c.args.own.now.branch = c.before-point.ensures.point (λ e. omega (arith, c.requires.inst)) in
     let vs : List VirtualRegister = c.args.arguments.now in
     let lt : c.loop-j.j < length vs = omega (arith, c.loop-j-test.true, c.requires.counted) in
@@ -130,19 +130,17 @@ returns-in_err-gather_argument-clause-stops g c =
     c.index-arguments-j.is no_vreg in
     let m : StateValue = tables_of c.loop-j.self in
     let e = err_from_is_err_and c.from_residual.result c.from_residual.ensures.1 in
-    let F : ℕ → List ClassMove → Type 0 = λ p given. GatherEdgeFails (IsOwnBy c.args.own.now.defs.now c.args.own.now.branch) p c.args.params.now
-    c.args.arguments.now c.args.inst_regs.now (tables_of c.args.self.now) given in
-    rw e.1 (λ same given is.
+    let F : ℕ → List ClassMove → Type 0 = λ p given. GatherEdge (IsOwnBy c.args.own.now.defs.now c.args.own.now.branch) p c.args.params.now
+    c.args.arguments.now c.args.inst_regs.now (tables_of c.args.self.now) given no_register in
+    λ given is. rw e.1 (λ same.
     let x = c.loop-j.invariant.done given is in
-    let f = c.in_err-gather_argument.ensures.stops (sym e.2 ∙ same) in
+    let f = c.in_err-gather_argument.ensures.outcome (sym e.2 ∙ same) in
+    let S : VirtualRegister → Type 0 = λ v. SpillArgument c.before-point.result v c.loop-j.inst_regs f.0 no_register in
     subst (λ (p : ℕ). F p given) at (record {
       index = c.loop-j.j;
-      inst_regs = c.loop-j.inst_regs;
+      given = (c.loop-j.inst_regs, x.0);
       middle = m;
-      new = f.middle;
-      given = x.0;
-      gathers = x.2;
-      places = f.places;
-      machine = f.machine;
-      stops = subst (λ (v : VirtualRegister). SpillArgumentFails v c.loop-j.inst_regs f.middle) argument f.stops;
+      inside = c.loop-j-test.true;
+      done = x.2;
+      stops = (f.0, f.1, f.2, subst S argument f.3);
     }))

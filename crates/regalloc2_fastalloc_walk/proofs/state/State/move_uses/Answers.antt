@@ -6,9 +6,8 @@ use Rattle.regalloc2_names.specs.Operand.{OperandValue, is_reading}
 use Rattle.regalloc2_fastalloc_state.specs.StateParts.{alloc_of}
 use Rattle.regalloc2_parts.specs.Picked.{is_use, picked}
 use Rattle.regalloc2_validate.specs.Constraints.{op_at}
-use Rattle.regalloc2_fastalloc_proofs.specs.InstSteps.{none_moved, not_moved, one_moved, AddsMoveIf}
+use Rattle.regalloc2_fastalloc_proofs.specs.InstSteps.{none_moved, not_moved, one_moved, AddsMoveIf, MoveUse, no_register}
 use Rattle.std.proofs.lemmas.Result.{err_from_is_err_and}
-use Rattle.regalloc2_fastalloc_proofs.specs.OutOfRegs.{AddMoveIfFails}
 use Rattle.regalloc2_fastalloc_walk.specs.StateView.{tables_of}
 use Rattle.regalloc2_fastalloc_proofs.proofs.Evictions.PushedAndRemoved.{same_then}
 use Rattle.regalloc2_fastalloc_proofs.proofs.Operands.AllocsSoFar.{reads_allocated}
@@ -78,7 +77,7 @@ loop-k-preserved-in-Continue-1 g c =
         sym met.after,
         one_moved k c.loop-k.inst_regs c.move_use.new.inst_regs (tables_of c.loop-k.self) (tables_of c.move_use.new.self) met.so_far
             (kind ∙ c.if-is_reading.true)
-            (subst (S (op_at ops k)) place (subst (λ (o : OperandValue). S o c.index-here-k.result) met.operand c.in_ok-move_use.ensures.ok)),
+            (subst (S (op_at ops k)) place (subst (λ (o : OperandValue). S o c.index-here-k.result) met.operand c.in_ok-move_use.ensures.outcome)),
       );
       later = c.in_ok-move_use.ensures.step.later;
       long = c.in_ok-move_use.ensures.step.long ∙ c.loop-k.invariant.long;
@@ -109,33 +108,34 @@ loop-k-preserved g c =
       registers = c.loop-k.invariant.registers;
     }
 
-pub returns-clause-ok : goal.returns-clause-ok
-returns-clause-ok g c =
+pub returns-clause-outcome : goal.returns-clause-outcome
+returns-clause-outcome g c =
     let h = c.loop-k.invariant.done in
     uses_all c.args.point c.args.operands.now c.args.here.now c.args.inst_regs.now (tables_of c.args.self.now) c.loop-k.inst_regs (tables_of c.loop-k.self) h.0
     c.loop-k.k-iterator h.1 h.2 c.in-None.ensures.steps.0 h.3
 
 -- a use can't be moved
-pub returns-in_err-move_use-clause-stops : goal.returns-in_err-move_use-clause-stops
-returns-in_err-move_use-clause-stops g c =
+pub returns-in_err-move_use-clause-outcome : goal.returns-in_err-move_use-clause-outcome
+returns-in_err-move_use-clause-outcome g c =
     let ops : List OperandValue = c.args.operands.now in
     let k : ℕ = c.in-Some.k in
     let h = c.loop-k.invariant.done in
     let met = use_next c.args.point ops c.args.here.now c.args.inst_regs.now (tables_of c.args.self.now) c.loop-k.inst_regs (tables_of c.loop-k.self) h.0
     c.loop-k.k-iterator c.next.new.self (k, c.in-Some.operand) h.1 h.2 c.in-Some.ensures.steps h.3 in
     let less : k < length ops = met.inside in
-    let F : OperandValue → Place → Type 0 = λ o p. AddMoveIfFails o.vreg.class (not (is_place (alloc_of c.loop-k.self.places o.vreg.number) p))
-    (alloc_of c.loop-k.self.places o.vreg.number) p c.loop-k.inst_regs (tables_of c.loop-k.self) in
+    let F : OperandValue → Place → Type 0 = λ o p. MoveUse c.args.point o p c.loop-k.inst_regs (tables_of c.loop-k.self) no_register in
     let place : c.index-here-k.result ≡ slice_index_or c.args.here.now k NoPlace = get_or_read c.args.here.now k c.index-here-k.result
     (omega (arith, less, c.requires.here_long)) c.index-here-k.is NoPlace in
     let e = err_from_is_err_and c.from_residual.result c.from_residual.ensures.1 in
     rw e.1 (λ same. record {
       index = k;
-      inst_regs = c.loop-k.inst_regs;
+      given = c.loop-k.inst_regs;
       middle = tables_of c.loop-k.self;
       inside = less;
-      moves = met.so_far;
-      reading = ap (λ (o : OperandValue). is_reading o) (sym met.operand) ∙ sym c.is_reading.ensures ∙ c.if-is_reading.true;
-      stops = subst (F (op_at ops k)) place (subst (λ (o : OperandValue). F o c.index-here-k.result) met.operand
-          (c.in_err-move_use.ensures.stops (sym e.2 ∙ same)));
+      done = met.so_far;
+      stops = (
+        ap (λ (o : OperandValue). is_reading o) (sym met.operand) ∙ sym c.is_reading.ensures ∙ c.if-is_reading.true,
+        subst (F (op_at ops k)) place (subst (λ (o : OperandValue). F o c.index-here-k.result) met.operand
+            (c.in_err-move_use.ensures.outcome (sym e.2 ∙ same))),
+      );
     })

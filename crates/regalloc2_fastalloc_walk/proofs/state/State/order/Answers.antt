@@ -11,8 +11,8 @@ use Rattle.regalloc2_fastalloc_proofs.proofs.Moves.ParallelMovesOrdered.{GivenMo
 use Rattle.regalloc2_fastalloc_state.proofs.SpillSlotUnits.{lacks_slots, no_register, slots_of_fault}
 use Rattle.regalloc2_fastalloc_walk.proofs.state.State.order.Goals as goal
 
-pub returns-then-are_none-clause-ok : goal.returns-then-are_none-clause-ok
-returns-then-are_none-clause-ok g c =
+pub returns-then-are_none-clause-outcome : goal.returns-then-are_none-clause-outcome
+returns-then-are_none-clause-outcome g c =
     orders_none c.args.inst_regs.now c.args.class (tables_of c.args.self.now) c.args.moves (listed c.in_ok-resolved.resolved) c.with_scratch.result.items
     (has_scratch c.in_ok-resolved.resolved) c.in_ok-resolved.ensures.resolved ((c.if-are_none.ensures.none.0 refl))
     (c.with_scratch.ensures.items ∙ ap (λ (p : Place). with_place p c.in_ok-resolved.resolved) c.none.ensures ∙ c.if-are_none.ensures.same refl)
@@ -65,8 +65,8 @@ pub add_temp_slots-requires-clause-room : goal.add_temp_slots-requires-clause-ro
 add_temp_slots-requires-clause-room g c = taken_fits c.args.self.now.slots c.args.class c.temp_slots.result c.temp_slots.ensures c.in_ok-made.made.slots
     c.in_ok-made.ensures.there
 
-pub returns-clause-ok : goal.returns-clause-ok
-returns-clause-ok g c =
+pub returns-clause-outcome : goal.returns-clause-outcome
+returns-clause-outcome g c =
     let l : ScratchPool = record {
       registers = c.scratch_regs.result;
       slots = c.temp_slots.result;
@@ -116,15 +116,15 @@ returns-clause-ok g c =
     refl refl refl refl refl
 
 -- moves of a class that has no allocatable register
-pub returns-in_default-clause-stops : goal.returns-in_default-clause-stops
-returns-in_default-clause-stops g c = λ lacks. (
+pub returns-in_default-clause-outcome : goal.returns-in_default-clause-outcome
+returns-in_default-clause-outcome g c = λ lacks. (
   λ none. let short : listed c.in_ok-resolved.resolved ≡ [] = c.in_ok-resolved.ensures.resolved.short (rw none (omega arith)) ∙ none in
       let yes = c.are_none.ensures.none.1 short in let no = c.if-are_none.false in cc,
   c.in_default.ensures.none,
 )
 
-pub returns-in_err-made-clause-stops : goal.returns-in_err-made-clause-stops
-returns-in_err-made-clause-stops g c =
+pub returns-in_err-made-clause-outcome : goal.returns-in_err-made-clause-outcome
+returns-in_err-made-clause-outcome g c =
     let p = err_from_is_err_and c.from_residual-in_err-made.result c.from_residual-in_err-made.ensures.1 in
     rw p.1 (λ same. absurd (no_register (HasTooFewSlots c.temp_slots.result) _
     (slots_of_fault (HasTooFewSlots c.temp_slots.result) _ c.in_err-made.ensures.err) (sym p.2 ∙ same)))

@@ -8,7 +8,7 @@ use Rattle.regalloc2_fastalloc_proofs.specs.BranchSteps.{MayBeParallel, of_class
 use Rattle.regalloc2_fastalloc_state.specs.OutOfResources.{SlotsExhausted, SlotsExhaustedWith, IsResourceError}
 use Rattle.regalloc2_fastalloc_state.specs.ScratchPool.{Moves}
 use Rattle.regalloc2_fastalloc_proofs.specs.InstSteps.{StateValue}
-use Rattle.regalloc2_fastalloc_proofs.specs.OutOfRegs.{OrderMovesFails, in_gather, in_order}
+use Rattle.regalloc2_fastalloc_proofs.specs.BranchSteps.{LacksMoveReg, in_gather, in_order}
 use Rattle.regalloc2_fastalloc_walk.specs.StateView.{tables_of}
 use Rattle.regalloc2_fastalloc_state.specs.StateParts.{AllAtOrAfter}
 use Rattle.regalloc2_fastalloc_proofs.proofs.Branches.ArgMovesAreParallel.{apart_lent, full_before, gathered_below, gathered_sources, lends_none, pushes_at}
@@ -20,8 +20,8 @@ use Rattle.regalloc2_fastalloc_walk.proofs.NothingPassed.{processes_nothing}
 use Rattle.regalloc2_fastalloc_walk.proofs.state.State.process_branch.Goals as goal
 
 -- a branch that passes nothing is done at once
-pub returns-then-passes_nothing-clause-ok : goal.returns-then-passes_nothing-clause-ok
-returns-then-passes_nothing-clause-ok g c =
+pub returns-then-passes_nothing-clause-outcome : goal.returns-then-passes_nothing-clause-outcome
+returns-then-passes_nothing-clause-outcome g c =
     processes_nothing (g.F.Function.function c.args.cx.now.f.now) c.args.block c.args.inst_regs.now (tables_of c.args.self.now)
     (c.if-passes_nothing.ensures.0 refl) c.args.inst
 
@@ -39,7 +39,7 @@ push_gathered-requires g c =
     let at : c.before-point.result ≡ before c.args.inst = c.before-point.ensures.point (λ e. omega (arith, c.requires.inst)) in
     let old : StateValue = tables_of c.args.self.now in
     let m : StateValue = tables_of c.gather.new.self in
-    let x = c.in_ok-moves.ensures.ok in
+    let x = c.in_ok-moves.ensures.outcome in
     let le : m.slots.count ≤ m.slots.count = omega arith in
     let k : ℕ = length (block_at f c.args.block).succs in
     let each : (class : RegClass) (ms : Moves) → ms ≡ of_class class x.0 → MayBeParallel m.slots.count ms = λ class ms is. record {
@@ -63,14 +63,14 @@ push_gathered-requires g c =
       ),
     )
 
-pub returns-clause-ok : goal.returns-clause-ok
-returns-clause-ok g c =
+pub returns-clause-outcome : goal.returns-clause-outcome
+returns-clause-outcome g c =
     let at : c.before-point.result ≡ before c.args.inst = c.before-point.ensures.point (λ e. omega (arith, c.requires.inst)) in
     let m : StateValue = tables_of c.gather.new.self in
-    let x = c.in_ok-moves.ensures.ok in
+    let x = c.in_ok-moves.ensures.outcome in
     let u = c.gather.new.inst_regs in
     let p : ℕ = c.before-point.result in
-    let y = c.in_ok-push_gathered.ensures.ok in
+    let y = c.in_ok-push_gathered.ensures.outcome in
     record {
       given = x.0;
       gathered = m;
@@ -90,7 +90,7 @@ returns-clause-step g c =
     let b : StateValue = tables_of c.gather.new.self in
     let u = c.gather.new.inst_regs in
     let p : ℕ = c.before-point.result in
-    let y = c.in_ok-push_gathered.ensures.ok in
+    let y = c.in_ok-push_gathered.ensures.outcome in
     record {
       machine = lends_then 0 6 6 old b (tables_of c.push_gathered.new.self) (omega arith) (lends_none old b c.gather.ensures.step.machine)
           c.push_gathered.ensures.machine;
@@ -137,22 +137,22 @@ returns-in_err-push_gathered-clause-step g c =
     })
 
 -- an argument that can't be spilled
-pub returns-in_err-moves-clause-stops : goal.returns-in_err-moves-clause-stops
-returns-in_err-moves-clause-stops g c =
+pub returns-in_err-moves-clause-outcome : goal.returns-in_err-moves-clause-outcome
+returns-in_err-moves-clause-outcome g c =
     let p = err_from_is_err_and c.from_residual.result c.from_residual.ensures.1 in
-    rw p.1 (λ same. in_gather (c.in_err-moves.ensures.stops (sym p.2 ∙ same)))
+    rw p.1 (λ same. in_gather (c.in_err-moves.ensures.outcome (sym p.2 ∙ same)))
 
 -- moves of a class that has no register
-pub returns-in_err-push_gathered-clause-stops : goal.returns-in_err-push_gathered-clause-stops
-returns-in_err-push_gathered-clause-stops g c =
+pub returns-in_err-push_gathered-clause-outcome : goal.returns-in_err-push_gathered-clause-outcome
+returns-in_err-push_gathered-clause-outcome g c =
     let u = c.gather.new.inst_regs in
     let m : StateValue = tables_of c.gather.new.self in
-    let x = c.in_ok-moves.ensures.ok in
+    let x = c.in_ok-moves.ensures.outcome in
     let p = err_from_is_err_and c.from_residual-in_err-push_gathered.result c.from_residual-in_err-push_gathered.ensures.1 in
-    rw p.1 (λ same. elim (c.in_err-push_gathered.ensures.stops (sym p.2 ∙ same)) [
-      | inl a ↦ in_order Int u m m x.0 x.2 refl (subst (λ (ms : Moves). OrderMovesFails Int ms m) x.1.int a)
-      | inr (inl a) ↦ in_order Float u m m x.0 x.2 refl (subst (λ (ms : Moves). OrderMovesFails Float ms m) x.1.float a)
-      | inr (inr a) ↦ in_order Vector u m m x.0 x.2 refl (subst (λ (ms : Moves). OrderMovesFails Vector ms m) x.1.vector a)
+    rw p.1 (λ same. elim (c.in_err-push_gathered.ensures.outcome (sym p.2 ∙ same)) [
+      | inl a ↦ in_order Int u m m x.0 x.2 refl (subst (λ (ms : Moves). LacksMoveReg Int ms m) x.1.int a)
+      | inr (inl a) ↦ in_order Float u m m x.0 x.2 refl (subst (λ (ms : Moves). LacksMoveReg Float ms m) x.1.float a)
+      | inr (inr a) ↦ in_order Vector u m m x.0 x.2 refl (subst (λ (ms : Moves). LacksMoveReg Vector ms m) x.1.vector a)
     ])
 
 -- edges to blocks without parameters pass nothing
@@ -160,7 +160,7 @@ pub returns-clause-none : goal.returns-clause-none
 returns-clause-none g c = λ empty.
     let f = g.F.Function.function c.args.cx.now.f.now in
     let m : StateValue = tables_of c.gather.new.self in
-    let x = c.in_ok-moves.ensures.ok in
+    let x = c.in_ok-moves.ensures.outcome in
     let none = gathers_none f c.args.block (before c.args.inst) c.args.inst_regs.now (tables_of c.args.self.now) (length (block_at f c.args.block).succs)
     c.gather.new.inst_regs m x.0 empty x.2 in
     c.in_ok-push_gathered.ensures.none (of_none Int x.0 c.in_ok-moves.moves.int none.1 x.1.int) (of_none Float x.0 c.in_ok-moves.moves.float none.1 x.1.float)

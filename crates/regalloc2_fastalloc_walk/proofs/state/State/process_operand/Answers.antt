@@ -16,8 +16,8 @@ use Rattle.regalloc2_fastalloc_walk.proofs.OperandsSpillFree.{reg_is_free, reg_n
 use Rattle.regalloc2_fastalloc_proofs.specs.InstSteps.{requirement_of}
 use Rattle.regalloc2_fastalloc_walk.proofs.state.State.process_operand.Goals as goal
 
-pub returns-in-Some-clause-ok : goal.returns-in-Some-clause-ok
-returns-in-Some-clause-ok g c =
+pub returns-in-Some-clause-outcome : goal.returns-in-Some-clause-outcome
+returns-in-Some-clause-outcome g c =
     let ops : List OperandValue = c.args.cx.now.operands.now in
     let o : c.index-operands-k.result ≡ op_at ops c.args.k = read_operand ops c.args.k c.index-operands-k.result c.requires.inside c.index-operands-k.is in
     one_register c.args.cx.now.inst c.args.cx.now.ends_block ops c.args.k c.args.here.now c.args.inst_regs.now (tables_of c.args.self.now)
@@ -39,8 +39,8 @@ alloc_use-requires g c =
       ),
     )
 
-pub returns-then-not-is_def-clause-ok : goal.returns-then-not-is_def-clause-ok
-returns-then-not-is_def-clause-ok g c =
+pub returns-then-not-is_def-clause-outcome : goal.returns-then-not-is_def-clause-outcome
+returns-then-not-is_def-clause-outcome g c =
     let ops : List OperandValue = c.args.cx.now.operands.now in
     let o : c.index-operands-k.result ≡ op_at ops c.args.k = read_operand ops c.args.k c.index-operands-k.result c.requires.inside c.index-operands-k.is in
     let not_it : is_fixed_nonallocatable c.index-operands-k.result ≡ false = is_unmarked c.index-operands-k.result
@@ -49,7 +49,7 @@ returns-then-not-is_def-clause-ok g c =
     let h : c.index-here-k.result ≡ slice_index_or c.args.here.now c.args.k NoPlace = get_or_read c.args.here.now c.args.k c.index-here-k.result
     (omega (arith, c.requires.inside, c.requires.here_long)) c.index-here-k.is NoPlace in
     one_use c.index-operands-k.result c.index-here-k.result o h c.use_request-request.ensures at not_it (sym c.is_def.ensures ∙ c.if-not-is_def.true)
-    c.in_ok-here.ensures.ok
+    c.in_ok-here.ensures.outcome
 
 pub returns-then-not-is_def-clause-step : goal.returns-then-not-is_def-clause-step
 returns-then-not-is_def-clause-step g c =
@@ -71,13 +71,13 @@ alloc_def_op-requires g c =
       ),
     )
 
-pub returns-in-Some-reused-clause-ok : goal.returns-in-Some-reused-clause-ok
-returns-in-Some-reused-clause-ok g c =
+pub returns-in-Some-reused-clause-outcome : goal.returns-in-Some-reused-clause-outcome
+returns-in-Some-reused-clause-outcome g c =
     let ops : List OperandValue = c.args.cx.now.operands.now in
     let o : c.index-operands-k.result ≡ op_at ops c.args.k = read_operand ops c.args.k c.index-operands-k.result c.requires.inside c.index-operands-k.is in
     let at : c.after-point.result ≡ after c.args.cx.now.inst = c.after-point.ensures.point (λ e. omega (arith, c.requires.inst)) in
     one_reuse c.index-operands-k.result c.in-Some-reused.index o c.reuse_request-request.ensures at (sym c.is_def.ensures ∙ c.if-not-is_def.false)
-    c.in-Some-reused.ensures.some c.set_place.ensures c.in_ok-place.ensures.ok
+    c.in-Some-reused.ensures.some c.set_place.ensures c.in_ok-place.ensures.outcome
 
 pub returns-in-Some-reused-clause-step : goal.returns-in-Some-reused-clause-step
 returns-in-Some-reused-clause-step g c =
@@ -99,13 +99,13 @@ alloc_def_op-requires-2 g c =
       ),
     )
 
-pub returns-clause-ok : goal.returns-clause-ok
-returns-clause-ok g c =
+pub returns-clause-outcome : goal.returns-clause-outcome
+returns-clause-outcome g c =
     let ops : List OperandValue = c.args.cx.now.operands.now in
     let o : c.index-operands-k.result ≡ op_at ops c.args.k = read_operand ops c.args.k c.index-operands-k.result c.requires.inside c.index-operands-k.is in
     let at : c.after-point.result ≡ after c.args.cx.now.inst = c.after-point.ensures.point (λ e. omega (arith, c.requires.inst)) in
     one_def c.index-operands-k.result o c.def_request.ensures at (sym c.is_def.ensures ∙ c.if-not-is_def.false)
-    (c.in_default-reused.ensures.none refl) c.in_ok-here-2.ensures.ok
+    (c.in_default-reused.ensures.none refl) c.in_ok-here-2.ensures.outcome
 
 pub returns-clause-step : goal.returns-clause-step
 returns-clause-step g c =
@@ -113,41 +113,36 @@ returns-clause-step g c =
     step_ok c.args.self.now c.alloc_def_op-2.new.self at c.in_ok-here-2.ensures.step
 
 -- an operand gets no place
-pub returns-in_err-here-clause-stops : goal.returns-in_err-here-clause-stops
-returns-in_err-here-clause-stops g c =
+pub returns-in_err-here-clause-outcome : goal.returns-in_err-here-clause-outcome
+returns-in_err-here-clause-outcome g c =
     let ops : List OperandValue = c.args.cx.now.operands.now in
     let o : c.index-operands-k.result ≡ op_at ops c.args.k = read_operand ops c.args.k c.index-operands-k.result c.requires.inside c.index-operands-k.is in
     let not_it : is_fixed_nonallocatable c.index-operands-k.result ≡ false = is_unmarked c.index-operands-k.result
     (sym c.as_fixed_nonallocatable.ensures ∙ c.in_default.is) in
     let h : c.index-here-k.result ≡ slice_index_or c.args.here.now c.args.k NoPlace = get_or_read c.args.here.now c.args.k c.index-here-k.result
     (omega (arith, c.requires.inside, c.requires.here_long)) c.index-here-k.is NoPlace in
+    let at : c.after-point.result ≡ after c.args.cx.now.inst = c.after-point.ensures.point (λ e. omega (arith, c.requires.inst)) in
     let e = err_from_is_err_and c.from_residual.result c.from_residual.ensures.1 in
-    rw e.1 (λ same. stop_use c.args.cx.now.inst c.args.cx.now.ends_block ops c.args.k c.args.here.now c.args.inst_regs.now
-    (tables_of c.args.self.now) c.index-operands-k.result
-    c.index-here-k.result c.use_request-request.result
-    o h c.use_request-request.ensures not_it (sym c.is_def.ensures ∙ c.if-not-is_def.true) (c.in_err-here.ensures.stops (sym e.2 ∙ same)))
+    rw e.1 (λ same. stop_use c.index-operands-k.result c.index-here-k.result o h c.use_request-request.ensures at not_it (sym c.is_def.ensures ∙ c.if-not-is_def.true) (c.in_err-here.ensures.outcome (sym e.2 ∙ same)))
 
-pub returns-in_err-place-clause-stops : goal.returns-in_err-place-clause-stops
-returns-in_err-place-clause-stops g c =
+pub returns-in_err-place-clause-outcome : goal.returns-in_err-place-clause-outcome
+returns-in_err-place-clause-outcome g c =
     let ops : List OperandValue = c.args.cx.now.operands.now in
     let o : c.index-operands-k.result ≡ op_at ops c.args.k = read_operand ops c.args.k c.index-operands-k.result c.requires.inside c.index-operands-k.is in
     let at : c.after-point.result ≡ after c.args.cx.now.inst = c.after-point.ensures.point (λ e. omega (arith, c.requires.inst)) in
     let e = err_from_is_err_and c.from_residual-in_err-place.result c.from_residual-in_err-place.ensures.1 in
     rw e.1 (λ same. stop_reuse c.index-operands-k.result
     c.in-Some-reused.index o c.reuse_request-request.ensures at (sym c.is_def.ensures ∙ c.if-not-is_def.false) c.in-Some-reused.ensures.some
-    (c.in_err-place.ensures.stops (sym e.2 ∙ same)))
+    (c.in_err-place.ensures.outcome (sym e.2 ∙ same)))
 
-pub returns-in_err-here-2-clause-stops : goal.returns-in_err-here-2-clause-stops
-returns-in_err-here-2-clause-stops g c =
+pub returns-in_err-here-2-clause-outcome : goal.returns-in_err-here-2-clause-outcome
+returns-in_err-here-2-clause-outcome g c =
     let ops : List OperandValue = c.args.cx.now.operands.now in
     let o : c.index-operands-k.result ≡ op_at ops c.args.k = read_operand ops c.args.k c.index-operands-k.result c.requires.inside c.index-operands-k.is in
     let at : c.after-point.result ≡ after c.args.cx.now.inst = c.after-point.ensures.point (λ e. omega (arith, c.requires.inst)) in
     let e = err_from_is_err_and c.from_residual-in_err-here-2.result c.from_residual-in_err-here-2.ensures.1 in
-    rw e.1 (λ same. stop_def c.args.cx.now.inst c.args.cx.now.ends_block ops c.args.k c.args.here.now c.args.inst_regs.now
-    (tables_of c.args.self.now) c.index-operands-k.result
-    c.def_request.result
-    c.after-point.result o c.def_request.ensures at (sym c.is_def.ensures ∙ c.if-not-is_def.false) (c.in_default-reused.ensures.none refl)
-    (c.in_err-here-2.ensures.stops (sym e.2 ∙ same)))
+    rw e.1 (λ same. stop_def c.index-operands-k.result o c.def_request.ensures at (sym c.is_def.ensures ∙ c.if-not-is_def.false) (c.in_default-reused.ensures.none refl)
+    (c.in_err-here-2.ensures.outcome (sym e.2 ∙ same)))
 
 -- an operand under `Reg` takes its register
 pub returns-in-Some-clause-takes : goal.returns-in-Some-clause-takes

@@ -28,8 +28,8 @@ process_reg_operand-requires g c =
     )
 
 -- a use under `Any` is read from its vreg's slot
-pub returns-in-Some-slot_of_any_use-clause-ok : goal.returns-in-Some-slot_of_any_use-clause-ok
-returns-in-Some-slot_of_any_use-clause-ok g c =
+pub returns-in-Some-slot_of_any_use-clause-outcome : goal.returns-in-Some-slot_of_any_use-clause-outcome
+returns-in-Some-slot_of_any_use-clause-outcome g c =
     let ops : List OperandValue = c.args.cx.now.operands.now in
     let o : c.index-operands-k.result ≡ op_at ops c.args.k = read_operand ops c.args.k c.index-operands-k.result c.requires.inside c.index-operands-k.is in
     let h : c.index-here-k.result ≡ slice_index_or c.args.here.now c.args.k NoPlace = get_or_read c.args.here.now c.args.k c.index-here-k.result

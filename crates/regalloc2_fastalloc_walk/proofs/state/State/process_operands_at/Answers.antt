@@ -56,7 +56,7 @@ loop-k-preserved g c =
         sym met.after,
         processed_more c.args.cx.now.inst c.args.cx.now.ends_block c.args.pos c.args.cx.now.operands.now c.args.here.now c.args.inst_regs.now
             (tables_of c.args.self.now) c.args.self.now.registers met.inside refl c.requires.here_long met.passes
-            c.in_ok-process_operand_allocation.ensures.takes c.in_ok-process_operand_allocation.ensures.ok met.so_far,
+            c.in_ok-process_operand_allocation.ensures.takes c.in_ok-process_operand_allocation.ensures.outcome met.so_far,
       );
       later = c.in_ok-process_operand_allocation.ensures.step.later;
       long = c.in_ok-process_operand_allocation.ensures.step.long ∙ c.loop-k.invariant.long;
@@ -64,8 +64,8 @@ loop-k-preserved g c =
           c.in_ok-process_operand_allocation.ensures.step.machine;
     }
 
-pub returns-clause-ok : goal.returns-clause-ok
-returns-clause-ok g c =
+pub returns-clause-outcome : goal.returns-clause-outcome
+returns-clause-outcome g c =
     let h = c.loop-k.invariant.done in
     (processed_all c.args.cx.now.inst c.args.cx.now.ends_block c.args.pos c.args.cx.now.operands.now c.args.here.now c.args.inst_regs.now
     (tables_of c.args.self.now) c.args.self.now.registers
@@ -79,8 +79,8 @@ returns-clause-spill_free g c =
     c.loop-k.k-iterator h.1 h.2 c.in-None.ensures.steps.0 h.3).spill_free
 
 -- an operand can't be placed
-pub returns-in_err-process_operand_allocation-clause-stops : goal.returns-in_err-process_operand_allocation-clause-stops
-returns-in_err-process_operand_allocation-clause-stops g c =
+pub returns-in_err-process_operand_allocation-clause-outcome : goal.returns-in_err-process_operand_allocation-clause-outcome
+returns-in_err-process_operand_allocation-clause-outcome g c =
     let h = c.loop-k.invariant.done in
     let met = processed_next c.args.cx.now.inst c.args.cx.now.ends_block c.args.pos c.args.cx.now.operands.now c.args.here.now c.args.inst_regs.now
     (tables_of c.args.self.now) c.args.self.now.registers
@@ -88,11 +88,12 @@ returns-in_err-process_operand_allocation-clause-stops g c =
     let e = err_from_is_err_and c.from_residual.result c.from_residual.ensures.1 in
     rw e.1 (λ same. record {
       index = c.in-Some.k;
-      there = c.loop-k.here;
-      inst_regs = c.loop-k.inst_regs;
+      given = (c.loop-k.here, c.loop-k.inst_regs);
       middle = tables_of c.loop-k.self;
       inside = met.inside;
-      places = met.so_far.done;
-      position = is_there c.args.pos (op_at c.args.cx.now.operands.now c.in-Some.k) met.passes;
-      stops = c.in_err-process_operand_allocation.ensures.stops (sym e.2 ∙ same);
+      done = met.so_far.done;
+      stops = (
+        is_there c.args.pos (op_at c.args.cx.now.operands.now c.in-Some.k) met.passes,
+        c.in_err-process_operand_allocation.ensures.outcome (sym e.2 ∙ same),
+      );
     })

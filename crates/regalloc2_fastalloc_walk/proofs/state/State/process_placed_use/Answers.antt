@@ -12,7 +12,7 @@ use Rattle.regalloc2_fastalloc_state.specs.declared.request.OperandRequest.{Oper
 use Rattle.regalloc2_validate.specs.Constraints.{op_at}
 use Rattle.regalloc2_validate.proofs.OperandReads.{read_operand}
 use Rattle.regalloc2_fastalloc_proofs.specs.InstSteps.{AllocsUse, use_request, a_use}
-use Rattle.regalloc2_fastalloc_proofs.specs.OutOfRegs.{AllocOperandFails, at_use}
+use Rattle.regalloc2_fastalloc_proofs.specs.InstSteps.{no_register, AllocUse, at_use}
 use Rattle.regalloc2_fastalloc_walk.specs.StateView.{tables_of}
 use Rattle.regalloc2_fastalloc_walk.proofs.state.State.process_placed_use.Goals as goal
 
@@ -32,8 +32,8 @@ placed o p h r v at same known is_v is_at =
     ∙ ap (λ (x : Positions). record { vreg = p.vreg; requirement = InPReg r; positions = x; is_def = false }) (is_at ∙ ap positions_of same)
     ∙ ap (λ (x : Requirement). record { vreg = p.vreg; requirement = x; positions = positions_of p; is_def = false }) (sym known) ∙ parts p h
 
-pub returns-clause-ok : goal.returns-clause-ok
-returns-clause-ok g c =
+pub returns-clause-outcome : goal.returns-clause-outcome
+returns-clause-outcome g c =
     let ops : List OperandValue = c.args.cx.now.operands.now in
     let h : Place = slice_index_or c.args.here.now c.args.k NoPlace in
     let o : c.index-operands-k.result ≡ op_at ops c.args.k = read_operand ops c.args.k c.index-operands-k.result c.requires.inside c.index-operands-k.is in
@@ -43,16 +43,18 @@ returns-clause-ok g c =
     let P : ℕ → OperandRequest → Type 0 =
     λ n x. AllocsUse n x c.in_ok-here.field-0 c.args.inst_regs.now c.alloc_use.new.inst_regs (tables_of c.args.self.now) (tables_of c.alloc_use.new.self) in
     a_use c.in_ok-here.field-0 c.requires.reading
-    (subst (P (after c.args.cx.now.inst)) asked (subst (λ (n : ℕ). P n request) at c.in_ok-here.ensures.ok)) refl
+    (subst (P (after c.args.cx.now.inst)) asked (subst (λ (n : ℕ). P n request) at c.in_ok-here.ensures.outcome)) refl
 
 -- it gets no place
-pub returns-in_err-here-clause-stops : goal.returns-in_err-here-clause-stops
-returns-in_err-here-clause-stops g c =
+pub returns-in_err-here-clause-outcome : goal.returns-in_err-here-clause-outcome
+returns-in_err-here-clause-outcome g c =
     let ops : List OperandValue = c.args.cx.now.operands.now in
     let h : Place = slice_index_or c.args.here.now c.args.k NoPlace in
     let o : c.index-operands-k.result ≡ op_at ops c.args.k = read_operand ops c.args.k c.index-operands-k.result c.requires.inside c.index-operands-k.is in
     let asked = placed c.index-operands-k.result (op_at ops c.args.k) h c.args.preg c.vreg.result c.of.result o c.requires.known c.vreg.ensures c.of.ensures in
+    let at : c.after-point.result ≡ after c.args.cx.now.inst = c.after-point.ensures.point (λ e. omega (arith, c.requires.inst)) in
+    let P : ℕ → OperandRequest → Type 0 = λ n x. AllocUse n x c.args.inst_regs.now (tables_of c.args.self.now) no_register in
+    let request : OperandRequest = record { vreg = c.vreg.result; requirement = InPReg c.args.preg; positions = c.of.result; is_def = false } in
     let e = err_from_is_err_and c.from_residual.result c.from_residual.ensures.1 in
     rw e.1 (λ same. at_use c.requires.reading
-    (subst (λ (x : OperandRequest). AllocOperandFails x c.args.inst_regs.now (tables_of c.args.self.now)) asked
-    (c.in_err-here.ensures.stops (sym e.2 ∙ same))))
+    (subst (P (after c.args.cx.now.inst)) asked (subst (λ (n : ℕ). P n request) at (c.in_err-here.ensures.outcome (sym e.2 ∙ same)))))

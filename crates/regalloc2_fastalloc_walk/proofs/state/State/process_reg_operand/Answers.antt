@@ -37,15 +37,15 @@ alloc_use-requires g c =
       ),
     )
 
-pub returns-then-not-is_def-clause-ok : goal.returns-then-not-is_def-clause-ok
-returns-then-not-is_def-clause-ok g c =
+pub returns-then-not-is_def-clause-outcome : goal.returns-then-not-is_def-clause-outcome
+returns-then-not-is_def-clause-outcome g c =
     let ops : List OperandValue = c.args.cx.now.operands.now in
     let o : c.index-operands-k.result ≡ op_at ops c.args.k = read_operand ops c.args.k c.index-operands-k.result c.requires.inside c.index-operands-k.is in
     let reg : c.index-operands-k.result.constraint ≡ Reg = ap (λ (x : OperandValue). x.constraint) o ∙ c.requires.reg in
     let at : c.after-point.result ≡ after c.args.cx.now.inst = c.after-point.ensures.point (λ e. omega (arith, c.requires.inst)) in
     let reads : is_def c.index-operands-k.result.kind ≡ false = sym c.is_def.ensures ∙ c.if-not-is_def.true in
     one_use c.index-operands-k.result NoPlace o (sym c.requires.unplaced) (c.reg_request-request.ensures.used reads) at
-    (reg_not_nonallocatable c.index-operands-k.result reg) reads c.in_ok-here.ensures.ok
+    (reg_not_nonallocatable c.index-operands-k.result reg) reads c.in_ok-here.ensures.outcome
 
 pub returns-then-not-is_def-clause-step : goal.returns-then-not-is_def-clause-step
 returns-then-not-is_def-clause-step g c =
@@ -68,15 +68,15 @@ alloc_def_op-requires g c =
       ),
     )
 
-pub returns-clause-ok : goal.returns-clause-ok
-returns-clause-ok g c =
+pub returns-clause-outcome : goal.returns-clause-outcome
+returns-clause-outcome g c =
     let ops : List OperandValue = c.args.cx.now.operands.now in
     let o : c.index-operands-k.result ≡ op_at ops c.args.k = read_operand ops c.args.k c.index-operands-k.result c.requires.inside c.index-operands-k.is in
     let reg : c.index-operands-k.result.constraint ≡ Reg = ap (λ (x : OperandValue). x.constraint) o ∙ c.requires.reg in
     let at : c.after-point.result ≡ after c.args.cx.now.inst = c.after-point.ensures.point (λ e. omega (arith, c.requires.inst)) in
     let def = sym c.is_def.ensures ∙ c.if-not-is_def.false in
     one_def c.index-operands-k.result o (c.reg_request-request.ensures.defined def) at def
-    (λ n e. reg_no_reuse c.index-operands-k.result n reg e) c.in_ok-here-2.ensures.ok
+    (λ n e. reg_no_reuse c.index-operands-k.result n reg e) c.in_ok-here-2.ensures.outcome
 
 pub returns-clause-step : goal.returns-clause-step
 returns-clause-step g c =
@@ -84,30 +84,27 @@ returns-clause-step g c =
     step_ok c.args.self.now c.alloc_def_op.new.self at c.in_ok-here-2.ensures.step
 
 -- an operand gets no place
-pub returns-in_err-here-clause-stops : goal.returns-in_err-here-clause-stops
-returns-in_err-here-clause-stops g c =
+pub returns-in_err-here-clause-outcome : goal.returns-in_err-here-clause-outcome
+returns-in_err-here-clause-outcome g c =
     let ops : List OperandValue = c.args.cx.now.operands.now in
     let o : c.index-operands-k.result ≡ op_at ops c.args.k = read_operand ops c.args.k c.index-operands-k.result c.requires.inside c.index-operands-k.is in
     let reg : c.index-operands-k.result.constraint ≡ Reg = ap (λ (x : OperandValue). x.constraint) o ∙ c.requires.reg in
     let reads : is_def c.index-operands-k.result.kind ≡ false = sym c.is_def.ensures ∙ c.if-not-is_def.true in
+    let at : c.after-point.result ≡ after c.args.cx.now.inst = c.after-point.ensures.point (λ e. omega (arith, c.requires.inst)) in
     let e = err_from_is_err_and c.from_residual.result c.from_residual.ensures.1 in
-    rw e.1 (λ same. stop_use c.args.cx.now.inst c.args.cx.now.ends_block ops c.args.k c.args.here.now c.args.inst_regs.now
-    (tables_of c.args.self.now) c.index-operands-k.result NoPlace c.reg_request-request.result
-    o (sym c.requires.unplaced) (c.reg_request-request.ensures.used reads) (reg_not_nonallocatable c.index-operands-k.result reg) reads
-    (c.in_err-here.ensures.stops (sym e.2 ∙ same)))
+    rw e.1 (λ same. stop_use c.index-operands-k.result NoPlace o (sym c.requires.unplaced) (c.reg_request-request.ensures.used reads) at (reg_not_nonallocatable c.index-operands-k.result reg) reads
+    (c.in_err-here.ensures.outcome (sym e.2 ∙ same)))
 
-pub returns-in_err-here-2-clause-stops : goal.returns-in_err-here-2-clause-stops
-returns-in_err-here-2-clause-stops g c =
+pub returns-in_err-here-2-clause-outcome : goal.returns-in_err-here-2-clause-outcome
+returns-in_err-here-2-clause-outcome g c =
     let ops : List OperandValue = c.args.cx.now.operands.now in
     let o : c.index-operands-k.result ≡ op_at ops c.args.k = read_operand ops c.args.k c.index-operands-k.result c.requires.inside c.index-operands-k.is in
     let reg : c.index-operands-k.result.constraint ≡ Reg = ap (λ (x : OperandValue). x.constraint) o ∙ c.requires.reg in
     let at : c.after-point.result ≡ after c.args.cx.now.inst = c.after-point.ensures.point (λ e. omega (arith, c.requires.inst)) in
     let def = sym c.is_def.ensures ∙ c.if-not-is_def.false in
     let e = err_from_is_err_and c.from_residual-in_err-here-2.result c.from_residual-in_err-here-2.ensures.1 in
-    rw e.1 (λ same. stop_def c.args.cx.now.inst c.args.cx.now.ends_block ops c.args.k c.args.here.now c.args.inst_regs.now
-    (tables_of c.args.self.now) c.index-operands-k.result c.reg_request-request.result
-    c.after-point.result o (c.reg_request-request.ensures.defined def) at def (λ n e. reg_no_reuse c.index-operands-k.result n reg e)
-    (c.in_err-here-2.ensures.stops (sym e.2 ∙ same)))
+    rw e.1 (λ same. stop_def c.index-operands-k.result o (c.reg_request-request.ensures.defined def) at def (λ n e. reg_no_reuse c.index-operands-k.result n reg e)
+    (c.in_err-here-2.ensures.outcome (sym e.2 ∙ same)))
 
 -- it takes its register
 pub returns-then-not-is_def-clause-takes : goal.returns-then-not-is_def-clause-takes

@@ -17,7 +17,7 @@ pub push_moves-requires-2 : goal.push_moves-requires-2
 push_moves-requires-2 g c =
     let old : StateValue = tables_of c.args.self.now in
     let g1 = pushes_grow c.args.point c.args.inst_regs.now Int c.args.moves.int (tables_of c.args.self.now) (tables_of c.push_moves.new.self)
-    c.in_ok-push_moves.ensures.ok in
+    c.in_ok-push_moves.ensures.outcome in
     let le : old.slots.count ≤ c.push_moves.new.self.slots.count = omega (arith, g1) in (
       search rules,
       (
@@ -41,9 +41,9 @@ pub push_moves-requires-3 : goal.push_moves-requires-3
 push_moves-requires-3 g c =
     let old : StateValue = tables_of c.args.self.now in
     let g1 = pushes_grow c.args.point c.args.inst_regs.now Int c.args.moves.int (tables_of c.args.self.now) (tables_of c.push_moves.new.self)
-    c.in_ok-push_moves.ensures.ok in
+    c.in_ok-push_moves.ensures.outcome in
     let g2 = pushes_grow c.args.point c.args.inst_regs.now Float c.args.moves.float (tables_of c.push_moves.new.self) (tables_of c.push_moves-2.new.self)
-    c.in_ok-push_moves-2.ensures.ok in
+    c.in_ok-push_moves-2.ensures.outcome in
     let le : old.slots.count ≤ c.push_moves-2.new.self.slots.count = omega (arith, g1, g2) in (
       search rules,
       (
@@ -64,13 +64,13 @@ push_moves-requires-3 g c =
       ),
     )
 
-pub returns-clause-ok : goal.returns-clause-ok
-returns-clause-ok g c = record {
+pub returns-clause-outcome : goal.returns-clause-outcome
+returns-clause-outcome g c = record {
   after_ints = tables_of c.push_moves.new.self;
   after_floats = tables_of c.push_moves-2.new.self;
-  int = c.in_ok-push_moves.ensures.ok;
-  float = c.in_ok-push_moves-2.ensures.ok;
-  vector = c.in_ok-push_moves-3.ensures.ok;
+  int = c.in_ok-push_moves.ensures.outcome;
+  float = c.in_ok-push_moves-2.ensures.outcome;
+  vector = c.in_ok-push_moves-3.ensures.outcome;
 }
 
 -- what is lacking, wherever it stops

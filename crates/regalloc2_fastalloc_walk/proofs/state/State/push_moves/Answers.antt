@@ -1,5 +1,6 @@
-use Rattle.std.proofs.Common.{◌≡◌, [], refl, sym, subst, inl, inr, ⊎_elim}
-use Rattle.std.proofs.lemmas.Result.{on_ok_weaker}
+use Rattle.std.proofs.Common.{◌≡◌, [], refl, sym, ◌∙◌, subst, inl, inr, ⊎_elim}
+use Rattle.regalloc2_fastalloc_walk.proofs.Steps.{outcome_of}
+use Rattle.regalloc2_names.specs.declared.RegAllocError.TheVariants.{Memory, TooManyLiveRegs}
 use Rattle.regalloc2_names.specs.Register.{Register}
 use Rattle.regalloc2_fastalloc_state.specs.InstRegs.{IsAvailableAt}
 use Rattle.regalloc2_fastalloc_state.specs.declared.inst_regs.Positions.{Positions}
@@ -13,8 +14,8 @@ use Rattle.regalloc2_fastalloc_walk.specs.StateView.{tables_of}
 use Rattle.regalloc2_fastalloc_walk.proofs.state.State.push_moves.Goals as goal
 
 -- no moves of the class
-pub returns-then-is_empty-clause-ok : goal.returns-then-is_empty-clause-ok
-returns-then-is_empty-clause-ok g c =
+pub returns-then-is_empty-clause-outcome : goal.returns-then-is_empty-clause-outcome
+returns-then-is_empty-clause-outcome g c =
     let t : StateValue = tables_of c.args.self.now in
     let none : c.args.moves ≡ [] = c.if-is_empty.ensures.0 refl in
     subst (λ (ms : Moves). Pushes c.args.point c.args.inst_regs.now c.args.class ms t t) (sym none)
@@ -24,8 +25,8 @@ pub returns-then-is_empty-clause-machine : goal.returns-then-is_empty-clause-mac
 returns-then-is_empty-clause-machine g c = none_lends 2 (tables_of c.args.self.now)
 
 -- one move, and a scratch register
-pub returns-in-Some-first_scratch-clause-ok : goal.returns-in-Some-first_scratch-clause-ok
-returns-in-Some-first_scratch-clause-ok g c =
+pub returns-in-Some-first_scratch-clause-outcome : goal.returns-in-Some-first_scratch-clause-outcome
+returns-in-Some-first_scratch-clause-outcome g c =
     let t : StateValue = tables_of c.args.self.now in
     let by : Register = c.in-Some-first_scratch.by in
     let scratch : MayBeScratch c.args.inst_regs.now t c.args.class by = ⊎_elim
@@ -35,7 +36,7 @@ returns-in-Some-first_scratch-clause-ok g c =
       subst (λ (p : Positions). IsAvailableAt c.args.inst_regs.now p by) c.both.ensures (c.available_pregs.ensures.free by f.free_there),
     ))
     c.in-Some-first_scratch.ensures.found in
-    on_ok_weaker c.push_one.result
+    outcome_of c.push_one.result c.push_one.ensures.ok c.push_one.ensures.err
     (pushes_one c.args.inst_regs.now c.args.class t (tables_of c.push_one.new.self) c.args.moves _ _ by c.args.point c.in-Some.ensures.one.1 c.requires.ends
     c.requires.apart scratch c.push_one.ensures.rest)
-    c.push_one.ensures.ok
+    (λ e memory lacks. absurd (let no_memory : Memory ≡ TooManyLiveRegs = sym memory ∙ lacks in cc))

@@ -6,13 +6,13 @@ use Rattle.regalloc2_fastalloc_proofs.specs.InstSteps.{StateValue}
 use Rattle.regalloc2_fastalloc_walk.specs.StateView.{tables_of}
 use Rattle.regalloc2_fastalloc_walk.proofs.state.State.push_some.Goals as goal
 
-pub returns-clause-ok : goal.returns-clause-ok
-returns-clause-ok g c =
+pub returns-clause-outcome : goal.returns-clause-outcome
+returns-clause-outcome g c =
     let middle : StateValue = tables_of c.order.new.self in
     record {
       made = c.in_ok-made.made.items;
       middle = middle;
-      orders = c.in_ok-made.ensures.ok;
+      orders = c.in_ok-made.ensures.outcome;
       pushes = ap (λ (es : List (ℕ × MoveValue)). record middle { edits = es })
           (c.in_ok-push_all.ensures.ok ∙ ap (λ (ms : Moves). middle.edits ++ pushed c.args.point ms) c.as_slice.ensures);
     }

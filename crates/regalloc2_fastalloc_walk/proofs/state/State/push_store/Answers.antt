@@ -8,9 +8,9 @@ use Rattle.regalloc2_fastalloc_walk.specs.StateView.{tables_of}
 use Rattle.regalloc2_fastalloc_walk.proofs.state.State.push_store.Goals as goal
 
 -- from a register
-pub returns-then-not-is_stack-clause-ok : goal.returns-then-not-is_stack-clause-ok
+pub returns-then-not-is_stack-clause-outcome : goal.returns-then-not-is_stack-clause-outcome
 unfolding pushed_moves
-returns-then-not-is_stack-clause-ok g c =
+returns-then-not-is_stack-clause-outcome g c =
     let t : StateValue = tables_of c.args.self.now in
     let flat : is_memory t.fixed_stack c.args.m.from ≡ false = sym c.is_stack.ensures ∙ c.if-not-is_stack.true in (
       record { from = c.args.m.from; by = None; to = c.args.m.to },
@@ -24,9 +24,9 @@ returns-then-not-is_stack-clause-ok g c =
     )
 
 -- from memory
-pub returns-clause-ok : goal.returns-clause-ok
+pub returns-clause-outcome : goal.returns-clause-outcome
 unfolding pushed_moves
-returns-clause-ok g c =
+returns-clause-outcome g c =
     let t : StateValue = tables_of c.args.self.now in
     let by : Place = c.reg-by.result in
     let there : is_memory t.fixed_stack c.args.m.from ≡ true = sym c.is_stack.ensures ∙ c.if-not-is_stack.false in

@@ -29,7 +29,7 @@ loop-k-preserved-in-Continue-1 g c =
     let u : StateValue = tables_of c.loop-k.self in
     let m : PlaceMove = c.index-moves-k.result in
     let item : m ≡ slice_index_or ms k m = c.index-moves-k.is in
-    let y = c.in_ok-push_store.ensures.ok in
+    let y = c.in_ok-push_store.ensures.outcome in
     let P : ℕ → Type 0 = λ n. PushesStores c.args.point c.args.from_memory (drop n ms) t u in
     record {
       within = omega (arith, next, c.loop-k.invariant.within);

@@ -4,13 +4,13 @@ use Rattle.regalloc2_names.specs.Point.{before}
 use Rattle.regalloc2_names.specs.RegisterSet.{has_register}
 use Rattle.regalloc2_fastalloc_proofs.specs.BlockStart.{ReloadsParams, ReloadsRegs}
 use Rattle.std.proofs.lemmas.Result.{err_from_is_err_and}
-use Rattle.regalloc2_fastalloc_proofs.specs.OutOfRegs.{ReloadParamsFails, ReloadRegsFails, at_parameter, at_register}
+use Rattle.regalloc2_fastalloc_proofs.specs.BlockStart.{ReloadParams, ReloadRegs, at_parameter, at_register}
 use Rattle.regalloc2_fastalloc_walk.proofs.Steps.{step_then}
 use Rattle.std.specs.Prelude.{Ok}
 use Rattle.regalloc2_fastalloc_walk.specs.StateView.{tables_of, IsStepAt}
 use Rattle.regalloc2_fastalloc_state.specs.StateParts.{AllAtOrAfter}
 use Rattle.regalloc2_fastalloc_state.specs.StateParts.{alloc_of}
-use Rattle.regalloc2_fastalloc_proofs.specs.InstSteps.{StateValue}
+use Rattle.regalloc2_fastalloc_proofs.specs.InstSteps.{StateValue, no_register}
 use Rattle.regalloc2_fastalloc_walk.proofs.BlockSpillFree.{none_begun_none}
 use Rattle.regalloc2_fastalloc_walk.proofs.state.State.reload_at_begin.Goals as goal
 
@@ -19,8 +19,8 @@ reload_params-requires g c =
     let at : c.before-point.result ≡ before c.args.first = c.before-point.ensures.point (λ e. omega (arith, c.requires.inst)) in
     (search rules, (subst (λ (p : ℕ). AllAtOrAfter p c.args.self.now.edits) (sym at) c.requires.later, c.requires.known))
 
-pub returns-clause-ok : goal.returns-clause-ok
-returns-clause-ok g c =
+pub returns-clause-outcome : goal.returns-clause-outcome
+returns-clause-outcome g c =
     let at : c.before-point.result ≡ before c.args.first = c.before-point.ensures.point (λ e. omega (arith, c.requires.inst)) in
     let m = tables_of c.reload_params.new.self in
     let n = tables_of c.reload_regs.new.self in
@@ -29,12 +29,15 @@ returns-clause-ok g c =
       begun = c.reload_params.new.inst_regs;
       ended = c.reload_regs.new.inst_regs;
       middle = m;
-      begins_early = λ r. ap (λ (s : PRegSet). has_register s r) c.new-inst_regs.ensures.early ∙ c.available_regs.ensures r;
-      begins_late = λ r. ap (λ (s : PRegSet). has_register s r) c.new-inst_regs.ensures.late ∙ c.available_regs.ensures r;
-      begins_scratch = c.new-inst_regs.ensures.scratch;
+      fresh = record {
+        early = λ r. ap (λ (s : PRegSet). has_register s r) c.new-inst_regs.ensures.early ∙ c.available_regs.ensures r;
+        late = λ r. ap (λ (s : PRegSet). has_register s r) c.new-inst_regs.ensures.late ∙ c.available_regs.ensures r;
+        scratch = c.new-inst_regs.ensures.scratch;
+        awaited = c.new-inst_regs.ensures.awaited;
+      };
       parameters = subst (λ (p : ℕ). ReloadsParams p c.args.params.now c.new-inst_regs.result (tables_of c.args.self.now) (length c.args.params.now)
-          c.reload_params.new.inst_regs m) at c.in_ok-reload_params.ensures.ok;
-      empties = subst (λ (p : ℕ). ReloadsRegs p c.reload_params.new.inst_regs m c.reload_regs.new.inst_regs n) at c.in_ok-reload_regs.ensures.ok;
+          c.reload_params.new.inst_regs m) at c.in_ok-reload_params.ensures.outcome;
+      empties = subst (λ (p : ℕ). ReloadsRegs p c.reload_params.new.inst_regs m c.reload_regs.new.inst_regs n) at c.in_ok-reload_regs.ensures.outcome;
       emptied = c.in_ok-reload_regs.ensures.emptied;
     }
 
@@ -45,8 +48,8 @@ returns-clause-step g c =
     (step_then c.args.self.now c.reload_params.new.self c.reload_regs.new.self c.in_ok-reload_params.ensures.step c.in_ok-reload_regs.ensures.step)
 
 -- a parameter can't be moved, or a register can't be emptied
-pub returns-in_err-reload_params-clause-stops : goal.returns-in_err-reload_params-clause-stops
-returns-in_err-reload_params-clause-stops g c =
+pub returns-in_err-reload_params-clause-outcome : goal.returns-in_err-reload_params-clause-outcome
+returns-in_err-reload_params-clause-outcome g c =
     let at : c.before-point.result ≡ before c.args.first = c.before-point.ensures.point (λ e. omega (arith, c.requires.inst)) in
     let e = err_from_is_err_and c.from_residual.result c.from_residual.ensures.1 in
     rw e.1 (λ same. at_parameter c.new-inst_regs.result (record {
@@ -55,11 +58,11 @@ returns-in_err-reload_params-clause-stops g c =
       scratch = c.new-inst_regs.ensures.scratch;
       awaited = c.new-inst_regs.ensures.awaited;
     })
-    (subst (λ (p : ℕ). ReloadParamsFails p c.args.params.now c.new-inst_regs.result (tables_of c.args.self.now)) at (c.in_err-reload_params.ensures.stops
+    (subst (λ (p : ℕ). ReloadParams p c.args.params.now c.new-inst_regs.result (tables_of c.args.self.now) no_register) at (c.in_err-reload_params.ensures.outcome
     (sym e.2 ∙ same))))
 
-pub returns-in_err-reload_regs-clause-stops : goal.returns-in_err-reload_regs-clause-stops
-returns-in_err-reload_regs-clause-stops g c =
+pub returns-in_err-reload_regs-clause-outcome : goal.returns-in_err-reload_regs-clause-outcome
+returns-in_err-reload_regs-clause-outcome g c =
     let at : c.before-point.result ≡ before c.args.first = c.before-point.ensures.point (λ e. omega (arith, c.requires.inst)) in
     let m = tables_of c.reload_params.new.self in
     let e = err_from_is_err_and c.from_residual-in_err-reload_regs.result c.from_residual-in_err-reload_regs.ensures.1 in
@@ -70,8 +73,8 @@ returns-in_err-reload_regs-clause-stops g c =
       awaited = c.new-inst_regs.ensures.awaited;
     })
     (subst (λ (p : ℕ). ReloadsParams p c.args.params.now c.new-inst_regs.result (tables_of c.args.self.now) (length c.args.params.now)
-    c.reload_params.new.inst_regs m) at c.in_ok-reload_params.ensures.ok)
-    (subst (λ (p : ℕ). ReloadRegsFails p c.reload_params.new.inst_regs m) at (c.in_err-reload_regs.ensures.stops (sym e.2 ∙ same))))
+    c.reload_params.new.inst_regs m) at c.in_ok-reload_params.ensures.outcome)
+    (subst (λ (p : ℕ). ReloadRegs p c.reload_params.new.inst_regs m no_register) at (c.in_err-reload_regs.ensures.outcome (sym e.2 ∙ same))))
 
 -- where no vreg has a location, and there are no parameters, nothing changes
 pub returns-clause-nobody : goal.returns-clause-nobody
@@ -79,5 +82,5 @@ returns-clause-nobody g c = λ nobody none.
     let t = tables_of c.args.self.now in
     let m = tables_of c.reload_params.new.self in
     let same : m ≡ t = none_begun_none c.before-point.result c.args.params.now c.new-inst_regs.result t (length c.args.params.now) c.reload_params.new.inst_regs
-    m (ap length none) c.in_ok-reload_params.ensures.ok in
+    m (ap length none) c.in_ok-reload_params.ensures.outcome in
     c.in_ok-reload_regs.ensures.nobody (λ n. ap (λ (x : StateValue). alloc_of x.places n) same ∙ nobody n) ∙ same

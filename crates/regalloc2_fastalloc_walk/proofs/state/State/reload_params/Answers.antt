@@ -41,14 +41,14 @@ loop-param-preserved g c =
     record {
       done = one_begun k c.loop-param.inst_regs c.reload_param.new.inst_regs m n c.loop-param-test.true c.loop-param.invariant.done
           (subst (λ (v : VirtualRegister). ReloadsParam c.args.point v c.loop-param.inst_regs c.reload_param.new.inst_regs m n) is
-          c.in_ok-reload_param.ensures.ok);
+          c.in_ok-reload_param.ensures.outcome);
       later = c.in_ok-reload_param.ensures.step.later;
       long = c.in_ok-reload_param.ensures.step.long ∙ c.loop-param.invariant.long;
       machine = same_then (tables_of c.args.self.now) m n c.loop-param.invariant.machine c.in_ok-reload_param.ensures.step.machine;
     }
 
-pub returns-clause-ok : goal.returns-clause-ok
-returns-clause-ok g c =
+pub returns-clause-outcome : goal.returns-clause-outcome
+returns-clause-outcome g c =
     let e : c.loop-param.param-index ≡ length c.args.params.now = omega arith in
     subst (λ k. ReloadsParams c.args.point c.args.params.now c.args.inst_regs.now (tables_of c.args.self.now) k c.loop-param.inst_regs
     (tables_of c.loop-param.self)) e c.loop-param.invariant.done

@@ -22,7 +22,7 @@ loop-preg-preserved g c =
     let n : StateValue = tables_of c.evict_preg.new.self in
     let newest = c.in-Some.ensures.some in
     record {
-      done = one_emptied c.in-Some.preg c.loop-preg.inst_regs c.evict_preg.new.inst_regs m n c.loop-preg.invariant.done newest c.in_ok-evict_preg.ensures.ok;
+      done = one_emptied c.in-Some.preg c.loop-preg.inst_regs c.evict_preg.new.inst_regs m n c.loop-preg.invariant.done newest c.in_ok-evict_preg.ensures.outcome;
       later = c.in_ok-evict_preg.ensures.step.later;
       long = c.in_ok-evict_preg.ensures.step.long ∙ c.loop-preg.invariant.long;
       machine = same_then (tables_of c.args.self.now) m n c.loop-preg.invariant.machine c.in_ok-evict_preg.ensures.step.machine;
@@ -33,7 +33,7 @@ loop-preg-preserved g c =
 
 pub loop-preg-smaller : goal.loop-preg-smaller
 loop-preg-smaller g c = newest_leaves c.args.point c.in-Some.preg c.loop-preg.inst_regs c.evict_preg.new.inst_regs (tables_of c.loop-preg.self)
-    (tables_of c.evict_preg.new.self) c.in_ok-evict_preg.ensures.ok c.in-Some.ensures.some
+    (tables_of c.evict_preg.new.self) c.in_ok-evict_preg.ensures.outcome c.in-Some.ensures.some
 
 pub returns-clause-emptied : goal.returns-clause-emptied
 returns-clause-emptied g c = λ r small. no_some (vreg_of_preg c.loop-preg.self.places r)

@@ -2,7 +2,7 @@ use Rattle.std.proofs.Common.{◌≡◌, length, refl, sym, ◌∙◌, subst, ar
 use Rattle.std.proofs.lemmas.Result.{err_from_is_err_and}
 use Rattle.regalloc2_fastalloc_proofs.specs.InstSteps.{StateValue}
 use Rattle.regalloc2_fastalloc_walk.specs.StateView.{tables_of}
-use Rattle.regalloc2_fastalloc_walk.specs.ReserveSteps.{ReservesRegForOperand, ReserveForOperandFails}
+use Rattle.regalloc2_fastalloc_walk.specs.ReserveSteps.{ReservesRegForOperand, RegIsNotReserved}
 use Rattle.regalloc2_fastalloc_walk.proofs.RegsReserved.{awaiting_none, awaiting_more, none_fixed_more, reserving_none, reserving_more, reserves_all}
 use Rattle.regalloc2_fastalloc_walk.proofs.RegsReserved.{some_fixed_more, stops_reserve}
 use Rattle.regalloc2_validate.proofs.OperandReads.{read_operand}
@@ -25,7 +25,7 @@ loop-k-preserved g c = record {
   reserving = reserving_more c.args.operands.now c.loop-k.k c.args.inst_regs.now c.loop-k.inst_regs c.reserve_reg_for_operand.new.inst_regs c.loop-k.claims
       c.reserve_reg_for_operand.new.claims (tables_of c.args.self.now) c.loop-k.invariant.reserving
       (subst (λ (t : StateValue). ReservesRegForOperand c.args.operands.now c.loop-k.k c.loop-k.inst_regs c.reserve_reg_for_operand.new.inst_regs
-      c.loop-k.claims c.reserve_reg_for_operand.new.claims t) c.loop-k.invariant.same c.in_ok-reserve_reg_for_operand.ensures.ok);
+      c.loop-k.claims c.reserve_reg_for_operand.new.claims t) c.loop-k.invariant.same c.in_ok-reserve_reg_for_operand.ensures.outcome);
   awaiting = awaiting_more c.args.operands.now c.loop-k.k c.args.inst_regs.now c.loop-k.inst_regs c.reserve_reg_for_operand.new.inst_regs (omega arith)
       (omega arith) c.in_ok-reserve_reg_for_operand.ensures.awaited c.loop-k.invariant.awaiting;
   same = c.reserve_reg_for_operand.ensures.same ∙ c.loop-k.invariant.same;
@@ -38,8 +38,8 @@ loop-k-preserved g c = record {
       c.index-operands-k.result c.loop-k-test.true c.index-operands-k.is) c.loop-k.invariant.fixed (c.is_fixed_so_far-any_fixed.ensures.some yes);
 }
 
-pub returns-clause-ok : goal.returns-clause-ok
-returns-clause-ok g c = let e : c.loop-k.k ≡ length c.args.operands.now = omega arith in
+pub returns-clause-outcome : goal.returns-clause-outcome
+returns-clause-outcome g c = let e : c.loop-k.k ≡ length c.args.operands.now = omega arith in
     reserves_all c.args.operands.now c.loop-k.k c.args.inst_regs.now c.loop-k.inst_regs c.loop-k.claims (tables_of c.args.self.now) e
     c.loop-k.invariant.awaiting c.loop-k.invariant.reserving
 
@@ -49,14 +49,14 @@ returns-clause-same g c = c.loop-k.invariant.same
 pub returns-in_err-reserve_reg_for_operand-clause-same : goal.returns-in_err-reserve_reg_for_operand-clause-same
 returns-in_err-reserve_reg_for_operand-clause-same g c = c.reserve_reg_for_operand.ensures.same ∙ c.loop-k.invariant.same
 
-pub returns-in_err-reserve_reg_for_operand-clause-stops : goal.returns-in_err-reserve_reg_for_operand-clause-stops
-returns-in_err-reserve_reg_for_operand-clause-stops g c =
+pub returns-in_err-reserve_reg_for_operand-clause-outcome : goal.returns-in_err-reserve_reg_for_operand-clause-outcome
+returns-in_err-reserve_reg_for_operand-clause-outcome g c =
     let ops = c.args.operands.now in
     let e = err_from_is_err_and c.from_residual.result c.from_residual.ensures.1 in
     rw e.1 (λ lacks. stops_reserve ops c.loop-k.k c.args.inst_regs.now c.loop-k.inst_regs c.loop-k.claims (tables_of c.args.self.now) (omega arith)
     c.loop-k.invariant.reserving
-    (subst (λ (t : StateValue). ReserveForOperandFails ops c.loop-k.k c.loop-k.claims t) c.loop-k.invariant.same
-    (c.in_err-reserve_reg_for_operand.ensures.stops (sym e.2 ∙ lacks))))
+    (subst (λ (t : StateValue). RegIsNotReserved ops c.loop-k.k c.loop-k.claims t) c.loop-k.invariant.same
+    (c.in_err-reserve_reg_for_operand.ensures.outcome (sym e.2 ∙ lacks))))
 
 pub returns-clause-registers : goal.returns-clause-registers
 returns-clause-registers g c = λ none. c.loop-k.invariant.registers (λ k r less e. none k r (omega (arith, less)) e)

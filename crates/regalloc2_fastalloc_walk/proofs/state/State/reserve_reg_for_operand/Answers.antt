@@ -30,8 +30,8 @@ claimed g c =
           (λ r p h. let e : None ≡ Some (r, p) = sym w.in_default.is ∙ c.reserved_by.ensures.all r p h in cc))
     ]
 
-pub returns-clause-ok : goal.returns-clause-ok
-returns-clause-ok g c =
+pub returns-clause-outcome : goal.returns-clause-outcome
+returns-clause-outcome g c =
     let ops : List OperandValue = c.args.operands.now in
     let old : StateValue = tables_of c.args.self.now in
     let m = c.match-reserved_by.inst_regs in
@@ -46,8 +46,8 @@ returns-clause-ok g c =
       | in_default-fixed_register w ↦ rw (w.inst_regs-is, w.claims-is) (claimed g c)
     ]
 
-pub returns-in_err-reserve_preg-clause-stops : goal.returns-in_err-reserve_preg-clause-stops
-returns-in_err-reserve_preg-clause-stops g c =
+pub returns-in_err-reserve_preg-clause-outcome : goal.returns-in_err-reserve_preg-clause-outcome
+returns-in_err-reserve_preg-clause-outcome g c =
     let e = err_from_is_err_and c.from_residual.result c.from_residual.ensures.1 in
     rw e.1 (λ lacks. record {
       register = c.in-Some.claim.0;

@@ -7,8 +7,8 @@ use Rattle.regalloc2_fastalloc_walk.specs.StateView.{tables_of}
 use Rattle.regalloc2_semantics.proofs.Forms.{place_of_register}
 use Rattle.regalloc2_fastalloc_walk.proofs.state.State.spill_argument.Goals as goal
 
-pub returns-in-Some-clause-ok : goal.returns-in-Some-clause-ok
-returns-in-Some-clause-ok g c =
+pub returns-in-Some-clause-outcome : goal.returns-in-Some-clause-outcome
+returns-in-Some-clause-outcome g c =
     let e : c.current_alloc.result ≡ InRegister c.in-Some.preg = place_of_register c.current_alloc.result c.in-Some.preg
     (sym c.as_reg.ensures ∙ c.in-Some.is) in
     let m : StateValue = record (tables_of c.args.self.now) { slots = c.get_spillslot.new.self } in
@@ -20,10 +20,10 @@ returns-in-Some-clause-ok g c =
       sizes = c.get_spillslot.ensures.sizes;
       vregs = c.get_spillslot.ensures.vregs;
       num_temp_slots = c.get_spillslot.ensures.num_temp_slots;
-    }) c.in_ok-evict_preg.ensures.ok
+    }) c.in_ok-evict_preg.ensures.outcome
 
-pub returns-in_err-evict_preg-clause-stops : goal.returns-in_err-evict_preg-clause-stops
-returns-in_err-evict_preg-clause-stops g c =
+pub returns-in_err-evict_preg-clause-outcome : goal.returns-in_err-evict_preg-clause-outcome
+returns-in_err-evict_preg-clause-outcome g c =
     let e = err_from_is_err_and c.from_residual-in_err-evict_preg.result c.from_residual-in_err-evict_preg.ensures.1 in
     rw e.1 (λ same. record {
       register = c.in-Some.preg;
@@ -37,5 +37,5 @@ returns-in_err-evict_preg-clause-stops g c =
         vregs = c.get_spillslot.ensures.vregs;
         num_temp_slots = c.get_spillslot.ensures.num_temp_slots;
       };
-      stops = c.in_err-evict_preg.ensures.stops (sym e.2 ∙ same);
+      stops = c.in_err-evict_preg.ensures.outcome (sym e.2 ∙ same);
     })

@@ -127,8 +127,8 @@ lack_before t u same ms ns is h = (
   subst (λ set. NoneIsFrom set h.0.class 0) same.allocatable h.2,
 )
 
-pub returns-in_err-push_stores-clause-stops : goal.returns-in_err-push_stores-clause-stops
-returns-in_err-push_stores-clause-stops g c =
+pub returns-in_err-push_stores-clause-outcome : goal.returns-in_err-push_stores-clause-outcome
+returns-in_err-push_stores-clause-outcome g c =
     let f : FunctionValue = g.F.Function.function c.args.f.now in
     let ie = c.requires.defs.edge c.args.block c.in-Some.edge (sym c.edge_into.ensures ∙ c.in-Some.is) in
     let e : ℕ = c.in-Some.edge.from in
@@ -145,11 +145,11 @@ returns-in_err-push_stores-clause-stops g c =
     let r = err_from_is_err_and c.from_residual-in_err-push_stores.result c.from_residual-in_err-push_stores.ensures.1 in
     rw r.1 (λ lacks. stores_lack (edge_stores f c.requires.well_formed c.args.block e c.in-Some.edge.position ie.edge old c.requires.apart ds
     c.in_ok-stores.ensures.ok ms slots finds c.num_units-count.ensures.owned.own)
-    (lack_before old t c.store_moves.ensures.step.machine ms c.deref-2.result.now c.deref-2.ensures.value (c.in_err-push_stores.ensures.stops (sym r.2 ∙
+    (lack_before old t c.store_moves.ensures.step.machine ms c.deref-2.result.now c.deref-2.ensures.value (c.in_err-push_stores.ensures.outcome (sym r.2 ∙
     lacks))))
 
-pub returns-in_err-push_stores-2-clause-stops : goal.returns-in_err-push_stores-2-clause-stops
-returns-in_err-push_stores-2-clause-stops g c =
+pub returns-in_err-push_stores-2-clause-outcome : goal.returns-in_err-push_stores-2-clause-outcome
+returns-in_err-push_stores-2-clause-outcome g c =
     let f : FunctionValue = g.F.Function.function c.args.f.now in
     let ie = c.requires.defs.edge c.args.block c.in-Some.edge (sym c.edge_into.ensures ∙ c.in-Some.is) in
     let e : ℕ = c.in-Some.edge.from in
@@ -167,10 +167,10 @@ returns-in_err-push_stores-2-clause-stops g c =
     rw r.1 (λ lacks. stores_lack (edge_stores f c.requires.well_formed c.args.block e c.in-Some.edge.position ie.edge old c.requires.apart ds
     c.in_ok-stores.ensures.ok ms slots finds c.num_units-count.ensures.owned.own)
     (lack_before old u (same_then old t u c.store_moves.ensures.step.machine c.in_ok-push_stores.ensures.step.machine) ms c.deref-3.result.now
-    c.deref-3.ensures.value (c.in_err-push_stores-2.ensures.stops (sym r.2 ∙ lacks))))
+    c.deref-3.ensures.value (c.in_err-push_stores-2.ensures.outcome (sym r.2 ∙ lacks))))
 
-pub returns-clause-ok : goal.returns-clause-ok
-returns-clause-ok g c =
+pub returns-clause-outcome : goal.returns-clause-outcome
+returns-clause-outcome g c =
     let f : FunctionValue = g.F.Function.function c.args.f.now in
     let ie = c.requires.defs.edge c.args.block c.in-Some.edge (sym c.edge_into.ensures ∙ c.in-Some.is) in
     let e : ℕ = c.in-Some.edge.from in
@@ -188,9 +188,9 @@ returns-clause-ok g c =
     let point : ℕ = c.before-point.result in
     let tables : t ≡ record old { slots = slots } = c.store_moves.ensures.step.tables in
     let p : PushesStores point true ms (record old { slots = slots }) u = subst (λ (x : StateValue). PushesStores point true ms x u) tables
-    (subst (λ (l : List PlaceMove). PushesStores point true l t u) c.deref-2.ensures.value c.in_ok-push_stores.ensures.ok) in
+    (subst (λ (l : List PlaceMove). PushesStores point true l t u) c.deref-2.ensures.value c.in_ok-push_stores.ensures.outcome) in
     let q : PushesStores point false ms u w = subst (λ (l : List PlaceMove). PushesStores point false l u w) c.deref-3.ensures.value
-    c.in_ok-push_stores-2.ensures.ok in
+    c.in_ok-push_stores-2.ensures.outcome in
     let first : c.first.result ≡ (block_at f c.args.block).range.first = c.first.ensures ∙ ap (λ (r : Span). r.first) c.block_insns.ensures in
     let some = (c.requires.well_formed.1.follow c.args.block c.requires.block).0 in
     let within = block_within f c.requires.well_formed.1.follow c.args.block c.requires.block in
@@ -256,9 +256,9 @@ returns-clause-none g c = λ nothing.
     let point : ℕ = c.before-point.result in
     let tables : t ≡ record old { slots = slots } = c.store_moves.ensures.step.tables in
     let p : PushesStores point true ms (record old { slots = slots }) u = subst (λ (x : StateValue). PushesStores point true ms x u) tables
-    (subst (λ (l : List PlaceMove). PushesStores point true l t u) c.deref-2.ensures.value c.in_ok-push_stores.ensures.ok) in
+    (subst (λ (l : List PlaceMove). PushesStores point true l t u) c.deref-2.ensures.value c.in_ok-push_stores.ensures.outcome) in
     let q : PushesStores point false ms u w = subst (λ (l : List PlaceMove). PushesStores point false l u w) c.deref-3.ensures.value
-    c.in_ok-push_stores-2.ensures.ok in
+    c.in_ok-push_stores-2.ensures.outcome in
     stores_none (edge_stores f c.requires.well_formed c.args.block e c.in-Some.edge.position ie.edge old c.requires.apart ds c.in_ok-stores.ensures.ok
     ms slots finds c.num_units-count.ensures.owned.own)
     (λ j v. nothing e c.in-Some.edge.position j v ie.edge) p q
