@@ -1,5 +1,5 @@
 -- What the proofs take of the source, of its allocation and of what is emitted.
-use Rattle.std.specs.Prelude.{ℕ, ◌≡◌, ◌+◌, ◌<◌, ◌≤◌, true, false, List, map, length, slice_index, All}
+use Rattle.std.specs.Prelude.{ℕ, ◌≡◌, ◌+◌, ◌<◌, ◌≤◌, true, false, nat_eq, List, map, length, slice_index, All}
 use Rattle.regalloc2_names.specs.declared.RegClass.TheVariants.{Int}
 use Rattle.regalloc2_names.specs.Register.{Register}
 use Rattle.regalloc2_names.specs.RegisterSet.{has_register}
@@ -9,11 +9,13 @@ use Rattle.regalloc2_function.specs.OutputValue.{OutputValue, allocs_of, place_a
 use Rattle.codegen_ir.specs.Operands.{operands_of}
 use Rattle.codegen_ir.specs.declared.operation.Operation.{Operation}
 use Rattle.codegen_ir.specs.declared.operation.Operation.TheVariants.{Argument as TakeArgument, Constant as TakeConstant, Copy, Compute as Computation}
-use Rattle.codegen_ir.specs.declared.operation.Operation.TheVariants.{Compare as Comparison, Select, Jump as GoTo, BranchIf, BranchIfHolds, Return as GiveBack}
+use Rattle.codegen_ir.specs.declared.operation.Operation.TheVariants.{Shift as Shifting, Compare as Comparison, Select, Jump as GoTo, BranchIf, BranchIfHolds, Return as GiveBack}
+use Rattle.codegen_ir.specs.declared.operation.Count.{Count}
+use Rattle.codegen_ir.specs.declared.operation.Count.TheVariants.{VReg as CountIn, Number as CountOf}
 use Rattle.codegen_ir.specs.declared.operation.Right.{Right}
 use Rattle.codegen_ir.specs.declared.operation.Right.TheVariants.{VReg, Number as Given}
 use Rattle.codegen_machine.specs.Machine.{CodeValue, is_general}
-use Rattle.codegen.specs.Emitted.{operation_at, blocks_code, start_of, resolved}
+use Rattle.codegen.specs.Emitted.{register_of, operation_at, blocks_code, start_of, resolved}
 
 -- a register for numbers
 abbrev pub IsGeneral : Place → Type 0
@@ -38,12 +40,27 @@ abbrev pub IsRightHere : ℕ → Right → Place → Type 0
 IsRightHere slots (VReg v) p = IsHere slots p
 IsRightHere slots (Given n) p = Unit {0}
 
+-- the place of a count is register 1, unless it is given
+abbrev pub IsCountHere : Count → Place → Type 0
+IsCountHere (CountIn v) p = IsGeneral p × (register_of p ≡ 1)
+IsCountHere (CountOf n) p = Unit {0}
+
+-- an operation's uses in registers of their own are read: only that of the greatest virtual register is not
+abbrev pub IsCountRead : Count → Type 0
+IsCountRead (CountIn v) = nat_eq v.number 1073741823 ≡ false
+IsCountRead (CountOf n) = Unit {0}
+
+abbrev pub IsRead : Operation → Type 0
+IsRead (Shifting o to left count) = IsCountRead count
+IsRead o = Unit {0}
+
 -- the places of an operation's operands are such that it can be emitted
 abbrev pub IsPlaced : ℕ → Operation → List Place → Type 0
 IsPlaced slots (TakeArgument to k) ps = IsGeneral (place_at ps 0)
 IsPlaced slots (TakeConstant to n) ps = IsGeneral (place_at ps 0)
 IsPlaced slots (Copy to from) ps = IsGeneral (place_at ps 0) × IsHere slots (place_at ps 1)
 IsPlaced slots (Computation o to left right) ps = IsGeneral (place_at ps 0) × (place_at ps 0 ≡ place_at ps 1) × IsRightHere slots right (place_at ps 2)
+IsPlaced slots (Shifting o to left count) ps = IsGeneral (place_at ps 0) × (place_at ps 0 ≡ place_at ps 1) × IsCountHere count (place_at ps 2)
 IsPlaced slots (Comparison c to left right) ps = IsGeneral (place_at ps 0) × IsGeneral (place_at ps 1) × IsRightHere slots right (place_at ps 2)
 IsPlaced slots (Select to c one other) ps =
     IsGeneral (place_at ps 0) × (place_at ps 0 ≡ place_at ps 1) × IsHere slots (place_at ps 2) × IsHere slots (place_at ps 3)
@@ -52,12 +69,13 @@ IsPlaced slots (BranchIf v) ps = IsHere slots (place_at ps 0)
 IsPlaced slots (BranchIfHolds c left right) ps = IsGeneral (place_at ps 0) × IsRightHere slots right (place_at ps 1)
 IsPlaced slots (GiveBack v) ps = IsHere slots (place_at ps 0)
 
--- an operation that goes on to the next line
+-- an operation that goes on to the next line, and reads all its uses
 abbrev pub IsPlain : Operation → Type 0
 IsPlain GoTo = ⊥
 IsPlain (BranchIf v) = ⊥
 IsPlain (BranchIfHolds c left right) = ⊥
 IsPlain (GiveBack v) = ⊥
+IsPlain (Shifting o to left count) = IsCountRead count
 IsPlain o = Unit {0}
 
 -- one that ends a block with so many successors

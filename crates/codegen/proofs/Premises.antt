@@ -1,11 +1,12 @@
 -- The premises of the proofs hold of what is emitted for an allocated procedure.
-use Rattle.std.proofs.Common.{ℕ, ◌≡◌, ◌+◌, ◌-◌, ◌<◌, ◌≤◌, Bool, true, false, cond, List, [], ◌∷◌, length, Option, None, Some, refl, sym, ap, ◌∙◌, subst}
-use Rattle.std.proofs.Common.{arith, lt-ltb, ◌++◌, length-append}
+use Rattle.std.proofs.Common.{ℕ, ◌≡◌, ◌+◌, ◌-◌, ◌<◌, ◌≤◌, Bool, true, false, ◌&&◌, cond, List, [], ◌∷◌, length, Option, None, Some, refl, sym, ap, ◌∙◌, subst}
+use Rattle.std.proofs.Common.{arith, lt-ltb, ltb-true, eqb-true, nat_eq, ◌^◌, ◌++◌, length-append}
 use Rattle.std.proofs.Math.Seq.{get_or-append_seam}
 use Rattle.std.proofs.Common.{◌⊎◌, inl, inr}
-use Rattle.std.specs.Prelude.{slice_index_or, Contains, All}
+use Rattle.std.specs.Prelude.{slice_index_or, nat_lt, Contains, All}
+use Rattle.std.specs.List.{list_all}
 use Rattle.std.proofs.lemmas.List.{length-map}
-use Rattle.regalloc2_names.specs.Register.{Register}
+use Rattle.regalloc2_names.specs.Register.{Register, VirtualRegister}
 use Rattle.regalloc2_names.specs.declared.RegClass.{RegClass}
 use Rattle.regalloc2_names.specs.declared.OperandConstraint.TheVariants.{Any, Reg, Reuse}
 use Rattle.regalloc2_names.specs.Operand.{OperandValue, is_fixed_nonallocatable}
@@ -18,19 +19,21 @@ use Rattle.regalloc2_function.specs.Fitting.{IsProperPlace, IsMoveEnd}
 use Rattle.regalloc2_function.specs.Following.{end_within}
 use Rattle.regalloc2_function.specs.WellFormed.{IsWellFormed, EndsBlock}
 use Rattle.regalloc2.specs.Promise.{IsAllocation}
-use Rattle.codegen_ir.specs.Operands.{def_in, use_in, right_in, operands_of, is_jump, is_return}
+use Rattle.codegen_ir.specs.Operands.{def_in, use_in, right_in, count_in, operands_of, is_jump, is_return}
 use Rattle.codegen_ir.specs.Successors.{wanted_by}
 use Rattle.codegen_ir.specs.Seen.{function_of, inst_of, operations}
 use Rattle.codegen_ir.specs.declared.operation.Operation.{Operation}
 use Rattle.codegen_ir.specs.declared.operation.Operation.TheVariants.{Argument as TakeArgument, Constant as TakeConstant, Copy, Compute as Computation}
-use Rattle.codegen_ir.specs.declared.operation.Operation.TheVariants.{Compare as Comparison, Select, Jump as GoTo, BranchIf, BranchIfHolds, Return as GiveBack}
+use Rattle.codegen_ir.specs.declared.operation.Operation.TheVariants.{Shift as Shifting, Compare as Comparison, Select, Jump as GoTo, BranchIf, BranchIfHolds, Return as GiveBack}
+use Rattle.codegen_ir.specs.declared.operation.Count.{Count}
+use Rattle.codegen_ir.specs.declared.operation.Count.TheVariants.{VReg as CountIn, Number as CountOf}
 use Rattle.codegen_ir.specs.declared.operation.Right.{Right}
 use Rattle.codegen_ir.specs.declared.operation.Right.TheVariants.{VReg, Number as Given}
 use Rattle.codegen_ir.specs.declared.procedure.Procedure.{Procedure}
-use Rattle.codegen.specs.Emitted.{operation_at, emitted, label_of, start_of}
+use Rattle.codegen.specs.Emitted.{register_of, operation_at, emitted, label_of, start_of}
 use Rattle.codegen.specs.Target.{IsTarget}
-use Rattle.codegen.proofs.Premise.{IsGeneral, IsHere, IsRightHere, CanMove, IsPlaced, IsPlain, IsEnd, IsEmitted}
-use Rattle.codegen.proofs.Procedures.{insts_are, blocks_have}
+use Rattle.codegen.proofs.Premise.{IsGeneral, IsHere, IsRightHere, IsCountHere, IsCountRead, IsRead, CanMove, IsPlaced, IsPlain, IsEnd, IsEmitted}
+use Rattle.codegen.proofs.Procedures.{both, insts_are, registers_known, blocks_have}
 
 no_member : (rs : List Register) (r : Register) → rs ≡ [] → Contains rs r → ⊥
 no_member [] r e h = let less : h.0 < 0 = h.1 in omega arith
@@ -78,6 +81,18 @@ module _ (env : MachineValue) (out : OutputValue) (t : IsTarget env) where
         IsProperPlace env out (slice_index_or os k d).vreg.class (place_at ps k)
     meets : (k : ℕ) (d : OperandValue) → k < length os → Meets env (length os) ps (slice_index_or os k d).constraint (place_at ps k)
 
+  -- the place of an operand in a register of its own
+  fixed_here : (c : RegClass) (n : ℕ) (p : Place) → IsProperPlace env out c p → p ≡ InRegister (record { number = n; class = c }) →
+      IsGeneral p × (register_of p ≡ n)
+  fixed_here c n p proper e = (subst IsGeneral (sym e) (subst (IsHere out.num_spillslots) e (here c p proper)), ap register_of e)
+
+  count_here : (count : Count) (to left : VirtualRegister) (ps : List Place) → IsCountRead count →
+      AreFor (def_in (Reuse 1) to ∷ use_in Reg left ∷ count_in count) ps → IsCountHere count (place_at ps 2)
+  count_here (CountOf n) to left ps read h = tt
+  count_here (CountIn v) to left ps read h =
+      let d : OperandValue = use_in Any v in
+      fixed_here v.class 1 (place_at ps 2) (h.proper 2 d (omega arith) read) (h.meets 2 d (omega arith))
+
   -- the last operand is that of a second number, unless it is given
   right_here : (right : Right) (os : List OperandValue) (ps : List Place) → AreFor (os ++ right_in right) ps →
       IsRightHere out.num_spillslots right (place_at ps (length os))
@@ -90,28 +105,33 @@ module _ (env : MachineValue) (out : OutputValue) (t : IsTarget env) where
       IsProperPlace env out o.vreg.class (place_at ps (length os))) last (h.proper (length os) d within) refl)
 
   -- are such that the operation can be emitted
-  is_placed : (o : Operation) (ps : List Place) → AreFor (operands_of o) ps → IsPlaced out.num_spillslots o ps
-  is_placed (TakeArgument to k) ps h =
+  is_placed : (o : Operation) (ps : List Place) → IsRead o → AreFor (operands_of o) ps → IsPlaced out.num_spillslots o ps
+  is_placed (TakeArgument to k) ps read h =
       let d : OperandValue = def_in Reg to in general to.class (place_at ps 0) (h.proper 0 d (omega arith) refl) (h.meets 0 d (omega arith))
-  is_placed (TakeConstant to n) ps h =
+  is_placed (TakeConstant to n) ps read h =
       let d : OperandValue = def_in Reg to in general to.class (place_at ps 0) (h.proper 0 d (omega arith) refl) (h.meets 0 d (omega arith))
-  is_placed (Copy to from) ps h =
+  is_placed (Copy to from) ps read h =
       let d : OperandValue = def_in Reg to in (
         general to.class (place_at ps 0) (h.proper 0 d (omega arith) refl) (h.meets 0 d (omega arith)),
         here from.class (place_at ps 1) (h.proper 1 d (omega arith) refl),
       )
-  is_placed (Computation o to left right) ps h =
+  is_placed (Computation o to left right) ps read h =
       let d : OperandValue = def_in Reg to in
       let same : place_at ps 0 ≡ place_at ps 1 = (h.meets 0 d (omega arith)).2 in
       let first : IsGeneral (place_at ps 1) = general left.class (place_at ps 1) (h.proper 1 d (omega arith) refl) (h.meets 1 d (omega arith)) in
       (subst IsGeneral (sym same) first, same, right_here right (def_in (Reuse 1) to ∷ use_in Reg left ∷ []) ps h)
-  is_placed (Comparison c to left right) ps h =
+  is_placed (Shifting o to left count) ps read h =
+      let d : OperandValue = def_in Reg to in
+      let same : place_at ps 0 ≡ place_at ps 1 = (h.meets 0 d (omega arith)).2 in
+      let first : IsGeneral (place_at ps 1) = general left.class (place_at ps 1) (h.proper 1 d (omega arith) refl) (h.meets 1 d (omega arith)) in
+      (subst IsGeneral (sym same) first, same, count_here count to left ps read h)
+  is_placed (Comparison c to left right) ps read h =
       let d : OperandValue = def_in Reg to in (
         general to.class (place_at ps 0) (h.proper 0 d (omega arith) refl) (h.meets 0 d (omega arith)),
         general left.class (place_at ps 1) (h.proper 1 d (omega arith) refl) (h.meets 1 d (omega arith)),
         right_here right (def_in Reg to ∷ use_in Reg left ∷ []) ps h,
       )
-  is_placed (Select to c one other) ps h =
+  is_placed (Select to c one other) ps read h =
       let d : OperandValue = def_in Reg to in
       let same : place_at ps 0 ≡ place_at ps 1 = (h.meets 0 d (omega arith)).2 in
       let first : IsGeneral (place_at ps 1) = general one.class (place_at ps 1) (h.proper 1 d (omega arith) refl) (h.meets 1 d (omega arith)) in (
@@ -120,22 +140,40 @@ module _ (env : MachineValue) (out : OutputValue) (t : IsTarget env) where
         here other.class (place_at ps 2) (h.proper 2 d (omega arith) refl),
         here c.class (place_at ps 3) (h.proper 3 d (omega arith) refl),
       )
-  is_placed GoTo ps h = tt
-  is_placed (BranchIf v) ps h = let d : OperandValue = use_in Any v in here v.class (place_at ps 0) (h.proper 0 d (omega arith) refl)
-  is_placed (BranchIfHolds c left right) ps h =
+  is_placed GoTo ps read h = tt
+  is_placed (BranchIf v) ps read h = let d : OperandValue = use_in Any v in here v.class (place_at ps 0) (h.proper 0 d (omega arith) refl)
+  is_placed (BranchIfHolds c left right) ps read h =
       let d : OperandValue = use_in Reg left in (
         general left.class (place_at ps 0) (h.proper 0 d (omega arith) refl) (h.meets 0 d (omega arith)),
         right_here right (use_in Reg left ∷ []) ps h,
       )
-  is_placed (GiveBack v) ps h = let d : OperandValue = use_in Any v in here v.class (place_at ps 0) (h.proper 0 d (omega arith) refl)
+  is_placed (GiveBack v) ps read h = let d : OperandValue = use_in Any v in here v.class (place_at ps 0) (h.proper 0 d (omega arith) refl)
+
+-- virtual registers with small numbers are read
+not_same : (m n : ℕ) → m < n → nat_eq m n ≡ false
+not_same m n less = pick (nat_eq m n) refl
+  where
+    pick : (b : Bool) → nat_eq m n ≡ b → b ≡ false
+    pick false e = refl
+    pick true e = let same : m ≡ n = eqb-true m n e in absurd (omega (arith, same))
+
+is_read : (vregs : ℕ) (o : Operation) → vregs < 2 ^ 30 → list_all (λ x. nat_lt x.vreg.number vregs) (operands_of o) ≡ true → IsRead o
+is_read vregs (Shifting o to left (CountIn v)) few h =
+    let uses : (nat_lt left.number vregs && (nat_lt v.number vregs && true)) ≡ true = (both _ _ h).1 in
+    let last : (nat_lt v.number vregs && true) ≡ true = (both _ _ uses).1 in
+    let known : nat_lt v.number vregs ≡ true = (both _ _ last).0 in
+    not_same v.number 1073741823 (let less : v.number < vregs = ltb-true _ _ known in omega arith)
+is_read vregs (Shifting o to left (CountOf n)) few h = tt
+is_read vregs o few h = tt
 
 -- an operation that neither branches nor returns goes on
-is_plain : (o : Operation) → is_jump o ≡ false → is_return o ≡ false → IsPlain o
-is_plain GoTo j r = absurd cc
-is_plain (BranchIf v) j r = absurd cc
-is_plain (BranchIfHolds c left right) j r = absurd cc
-is_plain (GiveBack v) j r = absurd cc
-is_plain o j r = tt
+is_plain : (o : Operation) → IsRead o → is_jump o ≡ false → is_return o ≡ false → IsPlain o
+is_plain GoTo read j r = absurd cc
+is_plain (BranchIf v) read j r = absurd cc
+is_plain (BranchIfHolds c left right) read j r = absurd cc
+is_plain (GiveBack v) read j r = absurd cc
+is_plain (Shifting o to left count) read j r = read
+is_plain o read j r = tt
 
 -- and one that does ends its block
 is_end : (o : Operation) (count : ℕ) → (is_jump o ≡ true) ⊎ (is_return o ≡ true) → wanted_by o ≤ count → IsEnd o count
@@ -165,7 +203,7 @@ module _ (p : Procedure) (env : MachineValue) (out : OutputValue) (t : IsTarget 
   placed : (i : ℕ) → i < length f.insts → IsPlaced out.num_spillslots (op i) (allocs_of out i)
   placed i less =
       let all : AreFor env out t (inst_at f i).operands (allocs_of out i) = record { proper = a.proper.operands i less; meets = a.constraints i less } in
-      is_placed env out t (op i) (allocs_of out i)
+      is_placed env out t (op i) (allocs_of out i) (is_read p.num_vregs (op i) p.few_vregs (registers_known p i less))
       (subst (λ (os : List OperandValue). AreFor env out t os (allocs_of out i)) (insts_are p i less).operands all)
 
   moves : All (λ e. CanMove out.num_spillslots e.1.from e.1.to) out.edits
@@ -178,7 +216,7 @@ module _ (p : Procedure) (env : MachineValue) (out : OutputValue) (t : IsTarget 
       let in_all : i < length f.insts = (let long = within b less in omega arith) in
       let is = insts_are p i in_all in
       let none = (w.end b less).1 i from (omega arith) (omega arith) in
-      is_plain (op i) (sym is.branches ∙ none.0) (sym is.returns ∙ none.1)
+      is_plain (op i) (is_read p.num_vregs (op i) p.few_vregs (registers_known p i in_all)) (sym is.branches ∙ none.0) (sym is.returns ∙ none.1)
 
   ends : (b i : ℕ) → b < length f.blocks → (block_at f b).range.first ≤ i → i + 1 ≡ (block_at f b).range.end → IsEnd (op i) (length (block_at f b).succs)
   ends b i less from last =

@@ -1,13 +1,13 @@
 -- What a procedure's function is, instruction by instruction and block by block.
 use Rattle.std.proofs.Common.{ℕ, zero, suc, ◌≡◌, ◌-◌, ◌<◌, ◌≤◌, Bool, true, false, ◌&&◌, List, [], ◌∷◌, length, map, refl, arith, leb-true}
-use Rattle.std.specs.Prelude.{slice_index_or, slice_get}
+use Rattle.std.specs.Prelude.{slice_index_or, slice_get, nat_lt}
 use Rattle.std.specs.List.{list_all}
 use Rattle.std.proofs.lemmas.List.{length-map}
 use Rattle.regalloc2_names.specs.Register.{Register}
 use Rattle.regalloc2_names.specs.RegisterSet.{has_register}
 use Rattle.regalloc2_function.specs.FunctionValue.{InstValue, no_inst, no_block, block_at, inst_at}
 use Rattle.codegen_ir.specs.Operands.{operands_of, is_jump, is_return}
-use Rattle.codegen_ir.specs.Successors.{wanted_by, operations_of, are_enough, has_successors}
+use Rattle.codegen_ir.specs.Successors.{wanted_by, operations_of, are_enough, has_successors, knows_registers}
 use Rattle.codegen_ir.specs.Seen.{function_of, inst_of, block_of, operations}
 use Rattle.codegen_ir.specs.declared.operation.Operation.{Operation}
 use Rattle.codegen_ir.specs.declared.operation.Line.{Line}
@@ -27,10 +27,16 @@ each_inst [] i less = absurd (omega arith)
 each_inst (l ∷ ls) zero less = record { operands = refl; clobbers = l.none; branches = refl; returns = refl }
 each_inst (l ∷ ls) (suc i) less = each_inst ls i (omega arith)
 
-both : (a b : Bool) → (a && b) ≡ true → (a ≡ true) × (b ≡ true)
+pub both : (a b : Bool) → (a && b) ≡ true → (a ≡ true) × (b ≡ true)
 both true true e = (refl, refl)
 both true false e = absurd cc
 both false b e = absurd cc
+
+each_known : (n : ℕ) (lines : List Line) (i : ℕ) → list_all (knows_registers n) lines ≡ true → i < length lines →
+    list_all (λ o. nat_lt o.vreg.number n) (operands_of (operation_at (operations_of lines) i)) ≡ true
+each_known n [] i h less = absurd (omega arith)
+each_known n (l ∷ ls) zero h less = (both _ _ h).0
+each_known n (l ∷ ls) (suc i) h less = each_known n ls i (both _ _ h).1 (omega arith)
 
 each_block : (os : List Operation) (parts : List Part) (b : ℕ) → list_all (has_successors os) parts ≡ true → b < length parts →
     are_enough (length (slice_index_or (map block_of parts) b no_block).succs)
@@ -47,6 +53,11 @@ enough (o ∷ os) (suc i) count less h = enough os i count (omega arith) h
 -- the instructions of a procedure are those of its operations
 pub insts_are : (p : Procedure) (i : ℕ) → i < length (function_of p).insts → IsInstOf (inst_at (function_of p) i) (operation_at (operations p) i)
 insts_are p i less = each_inst p.lines.items i (rw length-map at less)
+
+-- whose virtual registers have numbers below the procedure's
+pub registers_known : (p : Procedure) (i : ℕ) → i < length (function_of p).insts →
+    list_all (λ o. nat_lt o.vreg.number p.num_vregs) (operands_of (operation_at (operations p) i)) ≡ true
+registers_known p i less = each_known p.num_vregs p.lines.items i p.known (rw length-map at less)
 
 -- and its blocks have the successors that their last lines go on to
 pub blocks_have : (p : Procedure) (b : ℕ) → b < length (function_of p).blocks → (block_at (function_of p) b).range.end - 1 < length (operations p) →

@@ -1,5 +1,5 @@
 -- A procedure's own run is that of the interpreter over virtual registers, with what operations mean.
-use Rattle.std.proofs.Common.{ℕ, zero, suc, ◌≡◌, ◌+◌, ◌<◌, ◌≤◌, Bool, true, false, cond, List, [], ◌∷◌, length, Option, Some, None, refl, sym, subst, arith}
+use Rattle.std.proofs.Common.{ℕ, zero, suc, ◌≡◌, ◌+◌, ◌<◌, ◌≤◌, Bool, true, false, cond, not, List, [], ◌∷◌, length, Option, Some, None, refl, sym, subst, arith}
 use Rattle.std.proofs.Common.{nat_eq, lt-ltb, le-ltb, eq-eqb}
 use Rattle.std.specs.Prelude.{slice_get, slice_index, option_map}
 use Rattle.std.proofs.lemmas.Option.{slice_get-get_or}
@@ -9,12 +9,13 @@ use Rattle.regalloc2_function.specs.FunctionValue.{FunctionValue, block_at}
 use Rattle.regalloc2_function.specs.OutputValue.{OutputValue}
 use Rattle.regalloc2_function.specs.Path.{Way, Onward, ToSuccessor, next_of}
 use Rattle.regalloc2_values.specs.Interpreters.{History, State, read_by, edge_to, way_on, defined, passed_over, source_reads, source_step}
-use Rattle.codegen_ir.specs.Numbers.{Outcome, Running, Returned, Stuck, holds}
+use Rattle.codegen_ir.specs.Numbers.{Outcome, Running, Returned, Stuck, shifted, holds}
 use Rattle.codegen_ir.specs.Operands.{operands_of}
-use Rattle.codegen_ir.specs.Meaning.{ProcedureState, entered, along, done, procedure_step}
+use Rattle.codegen_ir.specs.Meaning.{ProcedureState, onward, entered, along, done, procedure_step}
 use Rattle.codegen_ir.specs.declared.operation.Operation.{Operation}
 use Rattle.codegen_ir.specs.declared.operation.Operation.TheVariants.{Argument as TakeArgument, Constant as TakeConstant, Copy, Compute as Computation}
-use Rattle.codegen_ir.specs.declared.operation.Operation.TheVariants.{Compare as Comparison, Select, Jump as GoTo, BranchIf, BranchIfHolds, Return as GiveBack}
+use Rattle.codegen_ir.specs.declared.operation.Operation.TheVariants.{Shift as Shifting, Compare as Comparison, Select, Jump as GoTo, BranchIf, BranchIfHolds, Return as GiveBack}
+use Rattle.codegen_ir.specs.declared.operation.Count.TheVariants.{VReg as CountIn, Number as CountOf}
 use Rattle.codegen_ir.specs.declared.operation.Right.TheVariants.{VReg, Number as Given}
 use Rattle.codegen_machine.specs.Machine.{CodeValue}
 use Rattle.codegen.specs.Emitted.{operation_at}
@@ -63,6 +64,11 @@ module _ (f : FunctionValue) (args : ℕ → ℕ) where
   plain_goes (Copy to from) c plain = refl
   plain_goes (Computation o to left (VReg v)) c plain = refl
   plain_goes (Computation o to left (Given n)) c plain = refl
+  plain_goes (Shifting o to left (CountIn v)) c plain =
+      let x : ℕ = c.numbers left in
+      let n : ℕ = c.numbers v in
+      subst (λ (b : Bool). onward (seen c) to (shifted o x n) ≡ onward (seen c) to (shifted o x (slice_index (x ∷ cond (not b) (n ∷ []) []) 1))) (sym plain) refl
+  plain_goes (Shifting o to left (CountOf n)) c plain = refl
   plain_goes (Comparison o to left (VReg v)) c plain = refl
   plain_goes (Comparison o to left (Given n)) c plain = refl
   plain_goes (Select to test one other) c plain = refl

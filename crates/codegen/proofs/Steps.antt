@@ -7,22 +7,25 @@ use Rattle.regalloc2_names.specs.Place.{Place, NoPlace, InRegister, InSlot}
 use Rattle.regalloc2_function.specs.OutputValue.{place_at}
 use Rattle.regalloc2_function.specs.Path.{Way, Onward, ToSuccessor}
 use Rattle.regalloc2_values.specs.Interpreters.{History, Meaning, read_by, place_set, written_to, disturbed, edge_to}
-use Rattle.codegen_ir.specs.Numbers.{Outcome, Running, Returned, computed, holds, truth}
+use Rattle.codegen_ir.specs.Numbers.{Outcome, Running, Returned, computed, shifted, holds, truth}
 use Rattle.codegen_ir.specs.Operands.{operands_of}
 use Rattle.codegen_ir.specs.declared.operation.Operator.{Operator}
+use Rattle.codegen_ir.specs.declared.operation.ShiftOperator.{ShiftOperator}
 use Rattle.codegen_ir.specs.declared.operation.Condition.{Condition}
 use Rattle.codegen_ir.specs.declared.operation.Condition.TheVariants.{Equal, NotEqual}
 use Rattle.codegen_ir.specs.declared.operation.Operation.{Operation}
 use Rattle.codegen_ir.specs.declared.operation.Operation.TheVariants.{Argument as TakeArgument, Constant as TakeConstant, Copy, Compute as Computation}
-use Rattle.codegen_ir.specs.declared.operation.Operation.TheVariants.{Compare as Comparison, Select, Jump as GoTo, BranchIf, BranchIfHolds, Return as GiveBack}
+use Rattle.codegen_ir.specs.declared.operation.Operation.TheVariants.{Shift as Shifting, Compare as Comparison, Select, Jump as GoTo, BranchIf, BranchIfHolds, Return as GiveBack}
+use Rattle.codegen_ir.specs.declared.operation.Count.{Count}
+use Rattle.codegen_ir.specs.declared.operation.Count.TheVariants.{VReg as CountIn, Number as CountOf}
 use Rattle.codegen_ir.specs.declared.operation.Right.{Right}
 use Rattle.codegen_ir.specs.declared.operation.Right.TheVariants.{VReg, Number as Given}
 use Rattle.codegen_machine.specs.declared.Instruction.{Instruction}
-use Rattle.codegen_machine.specs.declared.Instruction.TheVariants.{Constant, Clear, Argument, Compute, Compare, Set, MoveIf, Test, Jump, JumpIf, Return}
-use Rattle.codegen_machine.specs.Machine.{CodeValue, MachineState, is_general, with_source, written, compared_to, jumped, executed, machine_run}
-use Rattle.codegen.specs.Emitted.{register_of, source_of, right_source, fetched, constant_code, branch_code, branch_if_code, compare_code, select_code}
+use Rattle.codegen_machine.specs.declared.Instruction.TheVariants.{Constant, Clear, Argument, Compute, Shift, ShiftBy, Compare, Set, MoveIf, Test, Jump, JumpIf, Return}
+use Rattle.codegen_machine.specs.Machine.{CodeValue, MachineState, is_general, with_register, with_source, written, compared_to, jumped, executed, machine_run}
+use Rattle.codegen.specs.Emitted.{register_of, source_of, right_source, fetched, constant_code, branch_code, branch_if_code, compare_code, select_code, shift_code}
 use Rattle.codegen.specs.Emitted.{resolved, operation_at, operation_code}
-use Rattle.codegen.proofs.Premise.{IsGeneral, IsHere, IsRightHere, IsPlaced, IsPlain, IsEnd}
+use Rattle.codegen.proofs.Premise.{IsGeneral, IsHere, IsRightHere, IsCountHere, IsPlaced, IsPlain, IsEnd}
 use Rattle.codegen.proofs.Runs.{Comes, comes_by, comes_on, ends_by, ends_then}
 use Rattle.codegen.proofs.Stands.{StandAt}
 use Rattle.codegen.proofs.Places.{Agree, wrote, reads_register, reads_source, writes_place, agree_register, fetches}
@@ -32,12 +35,18 @@ abbrev pub right_read : Right → ℕ → ℕ
 right_read (VReg v) n = n
 right_read (Given n) m = n
 
+-- and a count of places
+abbrev pub count_read : Count → ℕ → ℕ
+count_read (CountIn v) n = n
+count_read (CountOf n) m = n
+
 -- the number that an operation writes, from those that it reads
 abbrev pub value_of : (ℕ → ℕ) → Operation → List ℕ → ℕ
 value_of args (TakeArgument to k) xs = args k
 value_of args (TakeConstant to n) xs = n
 value_of args (Copy to from) xs = slice_index xs 0
 value_of args (Computation o to left right) xs = computed o (slice_index xs 0) (right_read right (slice_index xs 1))
+value_of args (Shifting o to left count) xs = shifted o (slice_index xs 0) (count_read count (slice_index xs 1))
 value_of args (Comparison c to left right) xs = truth (holds c (slice_index xs 0) (right_read right (slice_index xs 1)))
 value_of args (Select to c one other) xs = cond (nat_eq (slice_index xs 2) 0) (slice_index xs 1) (slice_index xs 0)
 value_of args o xs = 0
@@ -71,6 +80,8 @@ undisturbed (TakeConstant to n) noise ps numbers = refl
 undisturbed (Copy to from) noise ps numbers = refl
 undisturbed (Computation o to left (VReg v)) noise ps numbers = refl
 undisturbed (Computation o to left (Given n)) noise ps numbers = refl
+undisturbed (Shifting o to left (CountIn v)) noise ps numbers = refl
+undisturbed (Shifting o to left (CountOf n)) noise ps numbers = refl
 undisturbed (Comparison c to left (VReg v)) noise ps numbers = refl
 undisturbed (Comparison c to left (Given n)) noise ps numbers = refl
 undisturbed (Select to c one other) noise ps numbers = refl
@@ -133,6 +144,22 @@ module _ (args : ℕ → ℕ) (starts : ℕ → ℕ) (code : CodeValue) (succs :
       ∙ reads_right right s numbers r hr a (λ y. written s (register_of p) (computed o (numbers p) y) None)
       ∙ writes_place s p (computed o (numbers p) y) None hp
       ∙ ap (λ (x : Place). Running (wrote s (register_of p) (computed o (numbers x) y) None)) e) h
+
+  shift_done : (o : ShiftOperator) (count : Count) (s : MachineState) (numbers : Place → ℕ) (p q r : Place) → IsGeneral p → p ≡ q → IsCountHere count r →
+      Agree s.registers s.frame numbers → StandAt starts code.instructions s.pc (shift_code o count (register_of p) ∷ rest) →
+      Done s (place_set numbers p (shifted o (numbers q) (count_read count (numbers r))))
+  shift_done o (CountIn v) s numbers p q r hp e hr a h =
+      by_one (Shift o (register_of p)) s None numbers p (shifted o (numbers q) (numbers r)) hp a
+      (reads_register s numbers a p hp (λ x. with_register s 1 (λ n. written s (register_of p) (shifted o x n) None))
+      ∙ ap (λ (k : ℕ). with_register s k (λ n. written s (register_of p) (shifted o (numbers p) n) None)) (sym hr.1)
+      ∙ reads_register s numbers a r hr.0 (λ n. written s (register_of p) (shifted o (numbers p) n) None)
+      ∙ writes_place s p (shifted o (numbers p) (numbers r)) None hp
+      ∙ ap (λ (x : Place). Running (wrote s (register_of p) (shifted o (numbers x) (numbers r)) None)) e) h
+  shift_done o (CountOf n) s numbers p q r hp e hr a h =
+      by_one (ShiftBy o (register_of p) n) s None numbers p (shifted o (numbers q) n) hp a
+      (reads_register s numbers a p hp (λ x. written s (register_of p) (shifted o x n) None)
+      ∙ writes_place s p (shifted o (numbers p) n) None hp
+      ∙ ap (λ (x : Place). Running (wrote s (register_of p) (shifted o (numbers x) n) None)) e) h
 
   -- numbers are compared
   compares : (right : Right) (s : MachineState) (numbers : Place → ℕ) (q r : Place) → IsGeneral q → IsRightHere code.slots right r → Agree s.registers s.frame numbers →
@@ -224,6 +251,14 @@ module _ (args : ℕ → ℕ) (starts : ℕ → ℕ) (code : CodeValue) (succs :
       compute_done o (VReg v) s numbers (place_at ps 0) (place_at ps 1) (place_at ps 2) placed.0 placed.1 placed.2 a h
   plain_done (Computation o to left (Given n)) s ps numbers plain placed a h =
       compute_done o (Given n) s numbers (place_at ps 0) (place_at ps 1) (place_at ps 2) placed.0 placed.1 placed.2 a h
+  plain_done (Shifting o to left (CountIn v)) s ps numbers plain placed a h =
+      let p : Place = place_at ps 0 in
+      let x : ℕ = numbers (place_at ps 1) in
+      let n : ℕ = numbers (place_at ps 2) in
+      subst (λ (b : Bool). Done s (place_set numbers p (shifted o x (slice_index (x ∷ cond (not b) (n ∷ []) []) 1)))) (sym plain)
+      (shift_done o (CountIn v) s numbers p (place_at ps 1) (place_at ps 2) placed.0 placed.1 placed.2 a h)
+  plain_done (Shifting o to left (CountOf n)) s ps numbers plain placed a h =
+      shift_done o (CountOf n) s numbers (place_at ps 0) (place_at ps 1) (place_at ps 2) placed.0 placed.1 placed.2 a h
   plain_done (Comparison c to left (VReg v)) s ps numbers plain placed a h = compare_done c (VReg v) s numbers ps placed.0 placed.1 placed.2 a h
   plain_done (Comparison c to left (Given n)) s ps numbers plain placed a h = compare_done c (Given n) s numbers ps placed.0 placed.1 placed.2 a h
   plain_done (Select to c one other) s ps numbers plain placed a h = select_done s numbers ps placed.0 placed.1 placed.2 placed.3 a h

@@ -7,16 +7,19 @@ use Rattle.regalloc2_function.specs.OutputValue.{OutputValue, allocs_of, place_a
 use Rattle.regalloc2_function.specs.Listing.{Listed, ListedInst, ListedMove, block_listing}
 use Rattle.codegen_ir.specs.declared.operation.Operation.{Operation}
 use Rattle.codegen_ir.specs.declared.operation.Operation.TheVariants.{Argument as TakeArgument, Constant as TakeConstant, Copy, Compute as Computation}
-use Rattle.codegen_ir.specs.declared.operation.Operation.TheVariants.{Compare as Comparison, Select, Jump as GoTo, BranchIf, BranchIfHolds, Return as GiveBack}
+use Rattle.codegen_ir.specs.declared.operation.Operation.TheVariants.{Shift as Shifting, Compare as Comparison, Select, Jump as GoTo, BranchIf, BranchIfHolds, Return as GiveBack}
+use Rattle.codegen_ir.specs.declared.operation.ShiftOperator.{ShiftOperator}
 use Rattle.codegen_ir.specs.declared.operation.Condition.{Condition}
 use Rattle.codegen_ir.specs.declared.operation.Condition.TheVariants.{Equal, NotEqual}
+use Rattle.codegen_ir.specs.declared.operation.Count.{Count}
+use Rattle.codegen_ir.specs.declared.operation.Count.TheVariants.{VReg as CountIn, Number as CountOf}
 use Rattle.codegen_ir.specs.declared.operation.Right.{Right}
 use Rattle.codegen_ir.specs.declared.operation.Right.TheVariants.{VReg, Number as Given}
 use Rattle.codegen_machine.specs.declared.Source.{Source}
 use Rattle.codegen_machine.specs.declared.Source.TheVariants.{Register, Slot, Number}
 use Rattle.codegen_machine.specs.declared.Instruction.{Instruction}
 use Rattle.codegen_machine.specs.declared.Instruction.TheVariants.{Constant, Clear, Argument, Move, Load, Store, Compute}
-use Rattle.codegen_machine.specs.declared.Instruction.TheVariants.{Compare, Set, MoveIf, Test, Jump, JumpIf, Return}
+use Rattle.codegen_machine.specs.declared.Instruction.TheVariants.{Shift, ShiftBy, Compare, Set, MoveIf, Test, Jump, JumpIf, Return}
 use Rattle.codegen_machine.specs.Machine.{CodeValue}
 
 -- what stands where no register can be named
@@ -64,6 +67,11 @@ branch_code c succs = JumpIf c (slice_index succs 0) ∷ Jump (slice_index succs
 abbrev pub branch_if_code : Place → List ℕ → List Instruction
 branch_if_code p succs = Test (source_of p) ∷ branch_code NotEqual succs
 
+-- a shift, by register 1 or by a number
+abbrev pub shift_code : ShiftOperator → Count → ℕ → Instruction
+shift_code o (CountIn v) r = Shift o r
+shift_code o (CountOf n) r = ShiftBy o r n
+
 -- a comparison, whose answer a register takes
 abbrev pub compare_code : Condition → Right → List Place → List Instruction
 compare_code c right places =
@@ -73,19 +81,24 @@ compare_code c right places =
 abbrev pub select_code : List Place → List Instruction
 select_code places = Test (source_of (place_at places 3)) ∷ MoveIf Equal (register_of (place_at places 0)) (source_of (place_at places 2)) ∷ []
 
+-- the end, with a place's number in register 0
+abbrev pub return_code : Place → List Instruction
+return_code p = fetched 0 p ∷ Return ∷ []
+
 -- an operation, in the places of its operands; jumps name blocks
 abbrev pub operation_code : Operation → List Place → List ℕ → List Instruction
 operation_code (TakeArgument to k) places succs = Argument (register_of (place_at places 0)) k ∷ []
 operation_code (TakeConstant to n) places succs = constant_code (register_of (place_at places 0)) n ∷ []
 operation_code (Copy to from) places succs = fetched (register_of (place_at places 0)) (place_at places 1) ∷ []
 operation_code (Computation o to left right) places succs = Compute o (register_of (place_at places 0)) (right_source right (place_at places 2)) ∷ []
+operation_code (Shifting o to left count) places succs = shift_code o count (register_of (place_at places 0)) ∷ []
 operation_code (Comparison c to left right) places succs = compare_code c right places
 operation_code (Select to c one other) places succs = select_code places
 operation_code GoTo places succs = Jump (slice_index succs 0) ∷ []
 operation_code (BranchIf v) places succs = branch_if_code (place_at places 0) succs
 operation_code (BranchIfHolds c left right) places succs =
     Compare (register_of (place_at places 0)) (right_source right (place_at places 1)) ∷ branch_code c succs
-operation_code (GiveBack v) places succs = fetched 0 (place_at places 0) ∷ Return ∷ []
+operation_code (GiveBack v) places succs = return_code (place_at places 0)
 
 -- jumps to where blocks begin
 abbrev pub resolved : (ℕ → ℕ) → Instruction → Instruction

@@ -9,10 +9,10 @@ ghost use Rattle.regalloc2_function.specs.WellFormed.{BlocksFollow};
 ghost use Rattle.codegen_ir.specs.Seen.{function_of, operations};
 ghost use Rattle.codegen_machine.specs.Machine.{code_of};
 ghost use Rattle.codegen.specs.Emitted.{register_of, source_of, right_source, fetched, move_code, constant_code, operation_code, item_code, resolved};
-ghost use Rattle.codegen.specs.Emitted.{branch_code, branch_if_code, compare_code, select_code};
+ghost use Rattle.codegen.specs.Emitted.{branch_code, branch_if_code, compare_code, return_code, select_code, shift_code};
 ghost use Rattle.codegen.specs.Emitted.{block_code, emitted};
 
-use codegen_ir::{Condition, Operation, Procedure, Right};
+use codegen_ir::{Condition, Count, Operation, Procedure, Right, ShiftOperator};
 use codegen_machine::{Code, Instruction, NO_REGISTER, Source};
 use regalloc2::{Allocation, Block, Function, InstOrEdit, Output};
 use std::alloc::{AllocError, Global};
@@ -111,12 +111,34 @@ fn successor(succs: &[Block], position: usize) -> usize
     }
 }
 
+/// A jump to the block at a position of a block's successors.
+fn jump(succs: &[Block], position: usize) -> Instruction
+    ensures { result ≡ Instruction.Jump (slice_index succs.now position) }
+{
+    let target = successor(succs, position);
+    Instruction::Jump { target }
+}
+
 /// One more instruction.
 fn put(code: &mut Vec<Instruction>, instruction: Instruction) -> Result<(), AllocError>
     ensures { OnOk result (code.new.items ≡ code.old.items ++ instruction ∷ []) }
 {
     code.push(instruction)?;
     Ok(())
+}
+
+/// A shift, by register 1, in which its count is, or by a number.
+fn shift(operator: ShiftOperator, count: Count, to: usize) -> Instruction
+    ensures { result ≡ shift_code operator count to }
+{
+    match count {
+        Count::VReg(_) => Instruction::Shift { operator, to },
+        Count::Number(count) => Instruction::ShiftBy {
+            operator,
+            to,
+            count,
+        },
+    }
 }
 
 /// A comparison, and the register that takes whether its condition holds.
@@ -162,8 +184,7 @@ fn emit_branch(
 {
     let target = successor(succs, 0);
     put(code, Instruction::JumpIf { condition, target })?;
-    let target = successor(succs, 1);
-    put(code, Instruction::Jump { target })
+    put(code, jump(succs, 1))
 }
 
 /// A branch: to the first successor if a place's number isn't 0, and else to the second.
@@ -177,6 +198,14 @@ fn emit_branch_if(
     let from = source(place);
     put(code, Instruction::Test { from })?;
     emit_branch(code, Condition::NotEqual, succs)
+}
+
+/// The end, with a place's number in register 0.
+fn emit_return(code: &mut Vec<Instruction>, place: Allocation) -> Result<(), AllocError>
+    ensures { OnOk result (code.new.items ≡ code.old.items ++ return_code place) }
+{
+    put(code, fetch(0, place))?;
+    put(code, Instruction::Return)
 }
 
 /// What an operation is, in the places of its operands. Jumps name blocks.
@@ -202,16 +231,18 @@ fn emit_operation(
             let from = right_source(right, place(places, 2));
             put(code, Instruction::Compute { operator, to, from })
         }
+        Operation::Shift {
+            operator,
+            count,
+            ..
+        } => put(code, shift(operator, count, to)),
         Operation::Compare {
             condition,
             right,
             ..
         } => emit_compare(code, condition, right, places),
         Operation::Select { .. } => emit_select(code, places),
-        Operation::Jump => {
-            let target = successor(succs, 0);
-            put(code, Instruction::Jump { target })
-        }
+        Operation::Jump => put(code, jump(succs, 0)),
         Operation::BranchIf { .. } => emit_branch_if(code, first, succs),
         Operation::BranchIfHolds {
             condition,
@@ -222,10 +253,7 @@ fn emit_operation(
             put(code, Instruction::Compare { left: to, right })?;
             emit_branch(code, condition, succs)
         }
-        Operation::Return { .. } => {
-            put(code, fetch(0, first))?;
-            put(code, Instruction::Return)
-        }
+        Operation::Return { .. } => emit_return(code, first),
     }
 }
 

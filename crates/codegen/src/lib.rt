@@ -21,12 +21,13 @@
 //! | moves | `IsAllocation.no_stack_to_stack` | a move is one instruction |
 //! | operands, moves, the frame | `IsAllocation.proper` | a place is a register of the machine or a slot below the count, so no instruction names the stack pointer, and the frame is long enough |
 //! | results that reuse a register; numbers that have to be in one | `IsAllocation.constraints` | the place meets the operand's constraint |
+//! | counts of shifts | `IsAllocation.constraints` and `proper` | the count is in register 1, where the processor takes it |
 //! | blocks and branches | `tested` | blocks follow one another and end in their only branch or return; successors exist; the entry is block 0 |
 //! | the theorem | `runs`, and the law `runs_alike` | whatever instructions compute, the interpreter over places reads the same numbers as the one over vregs |
 //! | `refused` of `compile` | `refused` | when each error comes |
 //!
 //! `Procedure` establishes two facts itself, because the allocator doesn't guarantee them: a branch has the successors that it may take, and each vreg's
-//! number is below the function's count, so that no operand in a register of its own names the vreg that nobody reads.
+//! number is below the function's count. So no count of a shift is the vreg of the greatest number, which a fixed operand names and nobody reads.
 //!
 //! # The proof
 //!

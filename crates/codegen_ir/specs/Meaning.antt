@@ -5,9 +5,11 @@ use Rattle.regalloc2_function.specs.FunctionValue.{FunctionValue, block_at}
 use Rattle.regalloc2_function.specs.Path.{Location, first_of}
 use Rattle.regalloc2_function.specs.SourceRun.{arguments_at}
 use Rattle.regalloc2_values.specs.Interpreters.{number_set, passed_on}
-use Rattle.codegen_ir.specs.Numbers.{Outcome, Running, Returned, Stuck, further, computed, holds, truth}
+use Rattle.codegen_ir.specs.Numbers.{Outcome, Running, Returned, Stuck, further, computed, shifted, holds, truth}
 use Rattle.codegen_ir.specs.declared.operation.Operation.{Operation}
-use Rattle.codegen_ir.specs.declared.operation.Operation.TheVariants.{Argument, Constant, Copy, Compute, Compare, Select, Jump, BranchIf, BranchIfHolds, Return}
+use Rattle.codegen_ir.specs.declared.operation.Operation.TheVariants.{Argument, Constant, Copy, Compute, Shift, Compare, Select, Jump, BranchIf, BranchIfHolds, Return}
+use Rattle.codegen_ir.specs.declared.operation.Count.{Count}
+use Rattle.codegen_ir.specs.declared.operation.Count.TheVariants.{VReg as CountIn, Number as CountOf}
 use Rattle.codegen_ir.specs.declared.operation.Right.{Right}
 use Rattle.codegen_ir.specs.declared.operation.Right.TheVariants.{VReg, Number}
 
@@ -36,6 +38,11 @@ abbrev pub right_number : (VirtualRegister → ℕ) → Right → ℕ
 right_number numbers (VReg v) = numbers v
 right_number numbers (Number n) = n
 
+-- and a count of places
+abbrev pub count_number : (VirtualRegister → ℕ) → Count → ℕ
+count_number numbers (CountIn v) = numbers v
+count_number numbers (CountOf n) = n
+
 -- what a line does; the arguments are given by their numbers
 abbrev pub done : FunctionValue → (ℕ → ℕ) → Option Operation → ProcedureState → Outcome ProcedureState
 done f args None s = Stuck
@@ -43,6 +50,7 @@ done f args (Some (Argument to k)) s = onward s to (args k)
 done f args (Some (Constant to n)) s = onward s to n
 done f args (Some (Copy to from)) s = onward s to (s.numbers from)
 done f args (Some (Compute o to left right)) s = onward s to (computed o (s.numbers left) (right_number s.numbers right))
+done f args (Some (Shift o to left count)) s = onward s to (shifted o (s.numbers left) (count_number s.numbers count))
 done f args (Some (Compare c to left right)) s = onward s to (truth (holds c (s.numbers left) (right_number s.numbers right)))
 done f args (Some (Select to c one other)) s = onward s to (if nat_eq (s.numbers c) 0 then s.numbers other else s.numbers one)
 done f args (Some Jump) s = along f s 0

@@ -1,7 +1,9 @@
 -- Whole numbers of 64 bits: what operators compute of them, and which conditions hold.
-use Rattle.std.specs.Prelude.{ℕ, ◌+◌, ◌-◌, ◌*◌, ◌%◌, ◌^◌, Bool, not, nat_eq, nat_lt, nat_le, if◌then◌else◌, bit_and, bit_or, bit_xor}
+use Rattle.std.specs.Prelude.{ℕ, ◌+◌, ◌-◌, ◌*◌, ◌/◌, ◌%◌, ◌^◌, Bool, not, nat_eq, nat_lt, nat_le, if◌then◌else◌, bit_and, bit_or, bit_xor}
 use Rattle.codegen_ir.specs.declared.operation.Operator.{Operator}
 use Rattle.codegen_ir.specs.declared.operation.Operator.TheVariants.{Add, Sub, Mul, And, Or, Xor}
+use Rattle.codegen_ir.specs.declared.operation.ShiftOperator.{ShiftOperator}
+use Rattle.codegen_ir.specs.declared.operation.ShiftOperator.TheVariants.{Left, Right, SignedRight}
 use Rattle.codegen_ir.specs.declared.operation.Condition.{Condition}
 use Rattle.codegen_ir.specs.declared.operation.Condition.TheVariants.{Equal, NotEqual, Less, LessOrEqual, Greater, GreaterOrEqual}
 use Rattle.codegen_ir.specs.declared.operation.Condition.TheVariants.{SignedLess, SignedLessOrEqual, SignedGreater, SignedGreaterOrEqual}
@@ -14,6 +16,12 @@ computed Mul a b = (a * b) % 2 ^ 64
 computed And a b = bit_and a b
 computed Or a b = bit_or a b
 computed Xor a b = bit_xor a b
+
+-- a number whose bits are moved by a count of places, modulo 64
+abbrev pub shifted : ShiftOperator → ℕ → ℕ → ℕ
+shifted Left a n = (a * 2 ^ (n % 64)) % 2 ^ 64
+shifted Right a n = a / 2 ^ (n % 64)
+shifted SignedRight a n = if nat_lt a (2 ^ 63) then a / 2 ^ (n % 64) else 2 ^ 64 - 1 - (2 ^ 64 - 1 - a) / 2 ^ (n % 64)
 
 -- a number's rank among those with sign: from 2^63 on they come first
 abbrev pub signed_rank : ℕ → ℕ

@@ -3,11 +3,13 @@ use Rattle.std.specs.Prelude.{Bool, true, false, List, [], ◌∷◌}
 use Rattle.regalloc2_names.specs.Register.{VirtualRegister}
 use Rattle.regalloc2_names.specs.Operand.{OperandValue}
 use Rattle.regalloc2_names.specs.declared.OperandConstraint.{OperandConstraint}
-use Rattle.regalloc2_names.specs.declared.OperandConstraint.TheVariants.{Any, Reg, Reuse}
+use Rattle.regalloc2_names.specs.declared.OperandConstraint.TheVariants.{Any, Reg, FixedReg, Reuse}
 use Rattle.regalloc2_names.specs.declared.OperandKind.TheVariants.{Def, Use}
 use Rattle.regalloc2_names.specs.declared.OperandPos.TheVariants.{Early, Late}
 use Rattle.codegen_ir.specs.declared.operation.Operation.{Operation}
-use Rattle.codegen_ir.specs.declared.operation.Operation.TheVariants.{Argument, Constant, Copy, Compute, Compare, Select, Jump, BranchIf, BranchIfHolds, Return}
+use Rattle.codegen_ir.specs.declared.operation.Operation.TheVariants.{Argument, Constant, Copy, Compute, Shift, Compare, Select, Jump, BranchIf, BranchIfHolds, Return}
+use Rattle.codegen_ir.specs.declared.operation.Count.{Count}
+use Rattle.codegen_ir.specs.declared.operation.Count.TheVariants.{VReg as CountIn, Number as CountOf}
 use Rattle.codegen_ir.specs.declared.operation.Right.{Right}
 use Rattle.codegen_ir.specs.declared.operation.Right.TheVariants.{VReg, Number}
 
@@ -23,11 +25,17 @@ abbrev pub right_in : Right → List OperandValue
 right_in (VReg v) = use_in Any v ∷ []
 right_in (Number n) = []
 
+-- a count of places is read from register 1, unless it is given
+abbrev pub count_in : Count → List OperandValue
+count_in (CountIn v) = use_in (FixedReg (record { number = 1; class = v.class })) v ∷ []
+count_in (CountOf n) = []
+
 abbrev pub operands_of : Operation → List OperandValue
 operands_of (Argument to k) = def_in Reg to ∷ []
 operands_of (Constant to n) = def_in Reg to ∷ []
 operands_of (Copy to from) = def_in Reg to ∷ use_in Any from ∷ []
 operands_of (Compute o to left right) = def_in (Reuse 1) to ∷ use_in Reg left ∷ right_in right
+operands_of (Shift o to left count) = def_in (Reuse 1) to ∷ use_in Reg left ∷ count_in count
 operands_of (Compare c to left right) = def_in Reg to ∷ use_in Reg left ∷ right_in right
 operands_of (Select to c one other) = def_in (Reuse 1) to ∷ use_in Reg one ∷ use_in Any other ∷ use_in Any c ∷ []
 operands_of Jump = []

@@ -6,5 +6,5 @@
 mod operation;
 mod procedure;
 
-pub use operation::{Condition, Line, Operation, Operator, Right};
+pub use operation::{Condition, Count, Line, Operation, Operator, Right, ShiftOperator};
 pub use procedure::{Malformed, Part, Procedure};

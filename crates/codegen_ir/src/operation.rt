@@ -1,14 +1,17 @@
 //! What a function's lines do.
 
-ghost use Rattle.std.specs.Prelude.{◌≡◌, ◌++◌, false, IfOk, OnOk};
+ghost use Rattle.std.specs.Prelude.{◌≡◌, ◌∷◌, ◌++◌, false, IfOk, OnOk};
 ghost use Rattle.std.proofs.Props.{props};
 ghost use Rattle.regalloc2_names.specs.Register.{Register};
 ghost use Rattle.regalloc2_names.specs.RegisterSet.{has_register};
-ghost use Rattle.codegen_ir.specs.Operands.{operands_of, right_in};
+ghost use Rattle.codegen_ir.specs.Operands.{count_in, def_in, operands_of, right_in, use_in};
 ghost use Rattle.codegen_ir.specs.Once.{operands-once};
 
-use regalloc2::{Operand, PRegSet, VReg};
+use regalloc2::{Operand, OperandConstraint, PReg, PRegSet, VReg};
 use std::alloc::{AllocError, Global};
+
+/// The register from which the processor takes counts of shifts.
+const COUNT_REGISTER: usize = 1;
 
 /// What is computed of two numbers, modulo 2^64.
 #[derive(Clone, Copy, Debug, PartialEq, Eq)]
@@ -25,6 +28,17 @@ pub enum Operator {
     Or,
     /// The bits that one of them has, and not the other.
     Xor,
+}
+
+/// How a number's bits are moved.
+#[derive(Clone, Copy, Debug, PartialEq, Eq)]
+pub enum ShiftOperator {
+    /// To greater places, modulo 2^64.
+    Left,
+    /// To smaller places; zeros come in.
+    Right,
+    /// To smaller places; copies of the highest bit come in.
+    SignedRight,
 }
 
 /// How a number compares to another one.
@@ -63,6 +77,15 @@ pub enum Right {
     Number(u32),
 }
 
+/// By how many places bits are moved, modulo 64.
+#[derive(Clone, Copy)]
+pub enum Count {
+    /// As many as the number of a virtual register.
+    VReg(VReg),
+    /// As many as this.
+    Number(u8),
+}
+
 /// What a line does.
 #[derive(Clone, Copy)]
 pub enum Operation {
@@ -97,6 +120,17 @@ pub enum Operation {
         left: VReg,
         /// The second number.
         right: Right,
+    },
+    /// A number whose bits are moved.
+    Shift {
+        /// How.
+        operator: ShiftOperator,
+        /// What takes it.
+        to: VReg,
+        /// The number.
+        left: VReg,
+        /// By how many places.
+        count: Count,
     },
     /// 1 where a condition holds, and else 0.
     Compare {
@@ -169,6 +203,25 @@ fn add_right(operands: &mut Vec<Operand>, right: Right) -> Result<(), AllocError
     }
 }
 
+/// The operands of a shift. The processor takes a count from register 1 alone.
+fn shift_operands(
+    alloc: Global,
+    to: VReg,
+    left: VReg,
+    count: Count,
+) -> Result<Vec<Operand>, AllocError>
+    ensures { IfOk result (λ v. v.items ≡ def_in (OperandConstraint.Reuse 1) to ∷ use_in OperandConstraint.Reg left ∷ count_in count) }
+{
+    let (to, left) = (Operand::reg_reuse_def(to, 1), Operand::reg_use(left));
+    match count {
+        Count::VReg(vreg) => {
+            let register = PReg::new(COUNT_REGISTER, vreg.class());
+            [to, left, Operand::reg_fixed_use(vreg, register)].to_vec(alloc)
+        }
+        Count::Number(_) => [to, left].to_vec(alloc),
+    }
+}
+
 /// The operands of an operation that takes a second number: the others come first.
 fn and_right(alloc: Global, first: &[Operand], right: Right) -> Result<Vec<Operand>, AllocError>
     ensures { IfOk result (λ v. v.items ≡ first.now ++ right_in right) }
@@ -198,6 +251,12 @@ fn operands(alloc: Global, operation: &Operation) -> Result<Vec<Operand>, AllocE
             let to = Operand::reg_reuse_def(to, 1);
             and_right(alloc, &[to, Operand::reg_use(left)], right)
         }
+        Operation::Shift {
+            to,
+            left,
+            count,
+            ..
+        } => shift_operands(alloc, to, left, count),
         Operation::Compare {
             to,
             left,

@@ -1,12 +1,12 @@
 -- What the machine does: an interpreter that makes a step for each instruction. It is stuck where there is no instruction, no such register
 -- for numbers or slot, and where numbers are needed that were compared, and none were since the last instruction that forgets them.
 use Rattle.std.specs.Prelude.{ℕ, zero, suc, ◌+◌, Bool, ◌&&◌, not, nat_eq, nat_lt, if◌then◌else◌, List, slice_get, Option, None, Some}
-use Rattle.codegen_ir.specs.Numbers.{Outcome, Running, Returned, Stuck, further, computed, holds, truth, put}
+use Rattle.codegen_ir.specs.Numbers.{Outcome, Running, Returned, Stuck, further, computed, shifted, holds, truth, put}
 use Rattle.codegen_machine.specs.declared.Source.{Source}
 use Rattle.codegen_machine.specs.declared.Source.TheVariants.{Register, Slot, Number}
 use Rattle.codegen_machine.specs.declared.Instruction.{Instruction}
 use Rattle.codegen_machine.specs.declared.Instruction.TheVariants.{Constant, Clear, Argument, Move, Load, Store, Compute}
-use Rattle.codegen_machine.specs.declared.Instruction.TheVariants.{Compare, Set, MoveIf, Test, Jump, JumpIf, Return}
+use Rattle.codegen_machine.specs.declared.Instruction.TheVariants.{Shift, ShiftBy, Compare, Set, MoveIf, Test, Jump, JumpIf, Return}
 use Rattle.codegen_machine.specs.declared.Code.{Code}
 
 -- where the machine is, the numbers of its registers and slots, and those last compared, unless they are forgotten
@@ -62,6 +62,8 @@ executed args slots (Some (Move to from)) s = with_register s from (λ n. writte
 executed args slots (Some (Load to k)) s = with_slot slots s k (λ n. written s to n s.compared)
 executed args slots (Some (Store k from)) s = with_register s from (λ n. stored slots s k n)
 executed args slots (Some (Compute o to from)) s = with_register s to (λ a. with_source slots s from (λ b. written s to (computed o a b) None))
+executed args slots (Some (Shift o to)) s = with_register s to (λ a. with_register s 1 (λ n. written s to (shifted o a n) None))
+executed args slots (Some (ShiftBy o to n)) s = with_register s to (λ a. written s to (shifted o a n) None)
 executed args slots (Some (Compare left right)) s = with_register s left (λ a. with_source slots s right (λ b. compared_to s a b))
 executed args slots (Some (Set to c)) s = with_compared s.compared (λ a b. written s to (truth (holds c a b)) s.compared)
 executed args slots (Some (MoveIf c to from)) s = with_compared s.compared (λ a b. with_register s to (λ x. with_source slots s from

@@ -4,7 +4,7 @@
 //! which the arguments are. `specs/Machine.antt` has what each instruction does, step by step.
 #![tactic(auto)]
 
-use codegen_ir::{Condition, Operator};
+use codegen_ir::{Condition, Operator, ShiftOperator};
 
 /// What stands in the place of a register where none can be named. The machine has no such register, and stops at it.
 pub const NO_REGISTER: usize = 16;
@@ -72,6 +72,22 @@ pub enum Instruction {
         to: usize,
         /// The second number.
         from: Source,
+    },
+    /// Moves a register's bits by as many places as the number of register 1; forgets the numbers last compared.
+    Shift {
+        /// How.
+        operator: ShiftOperator,
+        /// The register.
+        to: usize,
+    },
+    /// Moves a register's bits by a number of places; forgets the numbers last compared.
+    ShiftBy {
+        /// How.
+        operator: ShiftOperator,
+        /// The register.
+        to: usize,
+        /// By how many places, modulo 64.
+        count: u8,
     },
     /// Compares two numbers.
     Compare {

@@ -1,15 +1,15 @@
 //! The machine, step by step.
 
 ghost use Rattle.std.specs.Prelude.{◌≡◌, ◌+◌, ◌<◌, ◌^◌, IfOk, nat_lt, if◌then◌else◌, replicate, vec_len};
-ghost use Rattle.codegen_ir.specs.Numbers.{computed, holds, truth};
+ghost use Rattle.codegen_ir.specs.Numbers.{computed, holds, shifted, truth};
 ghost use Rattle.codegen_machine.specs.Machine.{code_of, compared_to, executed, is_general, jumped, machine_run, machine_step};
 ghost use Rattle.codegen_machine.specs.Machine.{stored, with_compared, with_register, with_source, written};
 ghost use Rattle.codegen_run.specs.Runs.{arguments_of, first_machine, standing_of, stands};
 ghost use Rattle.codegen_run.specs.States.{machine_of, source_number, Makes};
 
-use super::numbers::{argument, compute, does_hold};
+use super::numbers::{argument, compute, does_hold, shift};
 use super::standing::Standing;
-use codegen_ir::{Condition, Operator};
+use codegen_ir::{Condition, Operator, ShiftOperator};
 use codegen_machine::{Code, Instruction, Source};
 use std::alloc::{AllocError, Global};
 
@@ -110,6 +110,27 @@ impl Machine {
         self.write(to, compute(operator, left, right), None)
     }
 
+    /// Moves a register's bits by as many places as a number says.
+    fn shift_by(&mut self, operator: ShiftOperator, to: usize, count: u64) -> Option<Standing>
+        requires room { self.old.pc + 1 < 2 ^ 64 }
+        ensures { let s = machine_of self.old in
+            Makes (with_register s to (λ a. written s to (shifted operator a count) None)) self.old self.new result }
+    {
+        let number = self.register(to)?;
+        self.write(to, shift(operator, number, count), None)
+    }
+
+    /// Moves a register's bits by as many places as the number of register 1.
+    fn shift(&mut self, operator: ShiftOperator, to: usize) -> Option<Standing>
+        requires room { self.old.pc + 1 < 2 ^ 64 }
+        ensures { let s = machine_of self.old in Makes (with_register s to (λ a. with_register s 1
+            (λ n. written s to (shifted operator a n) None))) self.old self.new result }
+    {
+        let number = self.register(to)?;
+        let count = self.register(1)?;
+        self.write(to, shift(operator, number, count), None)
+    }
+
     /// Keeps the numbers that are compared.
     fn compare(&mut self, left: u64, right: u64) -> Option<Standing>
         requires room { self.old.pc + 1 < 2 ^ 64 }
@@ -194,6 +215,12 @@ impl Machine {
             Instruction::Load { to, slot } => self.fetch(to, Source::Slot(slot)),
             Instruction::Store { slot, from } => self.store(slot, from),
             Instruction::Compute { operator, to, from } => self.compute(operator, to, from),
+            Instruction::Shift { operator, to } => self.shift(operator, to),
+            Instruction::ShiftBy {
+                operator,
+                to,
+                count,
+            } => self.shift_by(operator, to, u64::from(count)),
             Instruction::Compare { left, right } => self.compare_to(left, right),
             Instruction::Set { to, condition } => self.set(to, condition),
             Instruction::MoveIf {

@@ -1,10 +1,10 @@
 //! What is computed of numbers of 64 bits.
 
 ghost use Rattle.std.specs.Prelude.{◌≡◌, slice_index};
-ghost use Rattle.codegen_ir.specs.Numbers.{computed, holds, signed_rank};
+ghost use Rattle.codegen_ir.specs.Numbers.{computed, holds, shifted, signed_rank};
 ghost use Rattle.codegen_run.specs.Runs.{arguments_of};
 
-use codegen_ir::{Condition, Operator};
+use codegen_ir::{Condition, Operator, ShiftOperator};
 
 /// What an operator computes.
 pub fn compute(operator: Operator, left: u64, right: u64) -> u64
@@ -17,6 +17,19 @@ pub fn compute(operator: Operator, left: u64, right: u64) -> u64
         Operator::And => left & right,
         Operator::Or => left | right,
         Operator::Xor => left ^ right,
+    }
+}
+
+/// A number whose bits are moved by a count of places, modulo 64.
+pub fn shift(operator: ShiftOperator, number: u64, count: u64) -> u64
+    ensures { result ≡ shifted operator number count }
+{
+    let places = (count % 64) as u32;
+    match operator {
+        ShiftOperator::Left => number << places,
+        ShiftOperator::Right => number >> places,
+        ShiftOperator::SignedRight if number < 1 << 63 => number >> places,
+        ShiftOperator::SignedRight => !(!number >> places),
     }
 }
 

@@ -5,14 +5,14 @@ ghost use Rattle.regalloc2_values.specs.Interpreters.{number_set, passed_on};
 ghost use Rattle.regalloc2_function.specs.FunctionValue.{block_at};
 ghost use Rattle.regalloc2_function.specs.Path.{first_of};
 ghost use Rattle.regalloc2_function.specs.SourceRun.{arguments_at};
-ghost use Rattle.codegen_ir.specs.Meaning.{along, onward, right_number, procedure_run, procedure_step};
+ghost use Rattle.codegen_ir.specs.Meaning.{along, count_number, onward, right_number, procedure_run, procedure_step};
 ghost use Rattle.codegen_ir.specs.Seen.{function_of, operations};
 ghost use Rattle.codegen_run.specs.Runs.{arguments_of, first_state, standing_of, stands};
 ghost use Rattle.codegen_run.specs.States.{numbers_of, state_of};
 
-use super::numbers::{argument, compute, does_hold};
+use super::numbers::{argument, compute, does_hold, shift};
 use super::standing::Standing;
-use codegen_ir::{Operation, Procedure, Right};
+use codegen_ir::{Count, Operation, Procedure, Right};
 use regalloc2::{Block, Function, VReg};
 use std::alloc::{AllocError, Global};
 use std::collections::HashMap;
@@ -122,6 +122,16 @@ impl State {
         }
     }
 
+    /// A count of places.
+    fn count(&self, count: Count) -> u64
+        ensures { result ≡ count_number (numbers_of self.now.numbers) count }
+    {
+        match count {
+            Count::VReg(vreg) => self.number(vreg),
+            Count::Number(number) => u64::from(number),
+        }
+    }
+
     /// Goes on with the next line of the block, where a virtual register has been written.
     fn write(&mut self, to: VReg, number: u64) -> Result<Standing, AllocError>
         requires room { self.old.inst + 1 < 2 ^ 64 }
@@ -188,6 +198,15 @@ impl State {
                 right,
             } => {
                 let number = compute(operator, self.number(left), self.right(right));
+                self.write(to, number)
+            }
+            Operation::Shift {
+                operator,
+                to,
+                left,
+                count,
+            } => {
+                let number = shift(operator, self.number(left), self.count(count));
                 self.write(to, number)
             }
             Operation::Compare {

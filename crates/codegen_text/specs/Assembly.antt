@@ -1,8 +1,10 @@
 -- Instructions as assembly for x86-64, in the syntax of AT&T, which names the source before the destination.
-use Rattle.std.specs.Prelude.{ℕ, ◌+◌, codes, List, [], ◌∷◌, ◌++◌, slice_index_or}
+use Rattle.std.specs.Prelude.{ℕ, ◌+◌, Bool, false, nat_eq, if◌then◌else◌, codes, List, [], ◌∷◌, ◌++◌, length, slice_index_or}
 use Rattle.std.specs.Fmt.{decimal}
 use Rattle.codegen_ir.specs.declared.operation.Operator.{Operator}
 use Rattle.codegen_ir.specs.declared.operation.Operator.TheVariants.{Add, Sub, Mul, And, Or, Xor}
+use Rattle.codegen_ir.specs.declared.operation.ShiftOperator.{ShiftOperator}
+use Rattle.codegen_ir.specs.declared.operation.ShiftOperator.TheVariants.{Left, Right, SignedRight}
 use Rattle.codegen_ir.specs.declared.operation.Condition.{Condition}
 use Rattle.codegen_ir.specs.declared.operation.Condition.TheVariants.{Equal, NotEqual, Less, LessOrEqual, Greater, GreaterOrEqual}
 use Rattle.codegen_ir.specs.declared.operation.Condition.TheVariants.{SignedLess, SignedLessOrEqual, SignedGreater, SignedGreaterOrEqual}
@@ -36,6 +38,11 @@ operator_name And = codes "andq"
 operator_name Or = codes "orq"
 operator_name Xor = codes "xorq"
 
+abbrev pub shift_name : ShiftOperator → List ℕ
+shift_name Left = codes "shlq"
+shift_name Right = codes "shrq"
+shift_name SignedRight = codes "sarq"
+
 -- the conditions: above and below for numbers without sign, greater and less for those with sign
 abbrev pub condition_letters : Condition → List ℕ
 condition_letters Equal = codes "e"
@@ -67,6 +74,8 @@ instruction_text (variant.Move to from) = codes "movq " ++ register_name from ++
 instruction_text (variant.Load to k) = codes "movq " ++ slot_text k ++ codes ", " ++ register_name to
 instruction_text (variant.Store k from) = codes "movq " ++ register_name from ++ codes ", " ++ slot_text k
 instruction_text (variant.Compute o to from) = operator_name o ++ codes " " ++ source_text from ++ codes ", " ++ register_name to
+instruction_text (variant.Shift o to) = shift_name o ++ codes " %cl, " ++ register_name to
+instruction_text (variant.ShiftBy o to n) = shift_name o ++ codes " $" ++ decimal n ++ codes ", " ++ register_name to
 instruction_text (variant.Compare left right) = codes "cmpq " ++ source_text right ++ codes ", " ++ register_name left
 instruction_text (variant.Set to c) = codes "set" ++ condition_letters c ++ codes " " ++ byte_name to ++ codes "; movzbq " ++ byte_name to ++ codes ", "
     ++ register_name to
@@ -76,14 +85,24 @@ instruction_text (variant.Jump target) = codes "jmp .L" ++ decimal target
 instruction_text (variant.JumpIf c target) = codes "j" ++ condition_letters c ++ codes " .L" ++ decimal target
 instruction_text variant.Return = codes "jmp .Lreturn"
 
--- a line, with its label
-abbrev pub line_text : ℕ → Instruction → List ℕ
-line_text k i = codes ".L" ++ (decimal k ++ (codes ": " ++ (instruction_text i ++ 10 ∷ [])))
+-- whether an instruction, the one of that number among so many, only goes on to the next line
+abbrev pub is_next : ℕ → ℕ → Instruction → Bool
+is_next count k (variant.Jump target) = nat_eq target (k + 1)
+is_next count k variant.Return = nat_eq (k + 1) count
+is_next count k i = false
 
--- instructions, one on each line, with labels by number from k on
-unfoldable pub lines_text : ℕ → List Instruction → List ℕ
-lines_text k [] = []
-lines_text k (i ∷ rest) = line_text k i ++ lines_text (k + 1) rest
+-- what is on a line behind its label
+abbrev pub line_rest : ℕ → ℕ → Instruction → List ℕ
+line_rest count k i = if is_next count k i then [] else codes " " ++ instruction_text i
+
+-- a line, with its label; what only goes on to the next line has nothing else
+abbrev pub line_text : ℕ → ℕ → Instruction → List ℕ
+line_text count k i = codes ".L" ++ (decimal k ++ (codes ":" ++ (line_rest count k i ++ 10 ∷ [])))
+
+-- instructions of so many, one on each line, with labels by number from k on
+unfoldable pub lines_text : ℕ → ℕ → List Instruction → List ℕ
+lines_text count k [] = []
+lines_text count k (i ∷ rest) = line_text count k i ++ lines_text count (k + 1) rest
 
 -- how a function begins: what its caller keeps in registers is put aside
 unfoldable pub entry_text : List ℕ
@@ -97,5 +116,5 @@ exit_text = codes "  popq %r15\n  popq %r14\n  popq %r13\n  popq %r12\n  popq %r
 
 -- code as a function: its frame has room for the slots, and is given back before it ends
 abbrev pub assembly_text : Code → List ℕ
-assembly_text c = entry_text ++ (codes "  subq $8*" ++ (decimal c.slots ++ (codes ", %rsp\n" ++ (lines_text 0 c.instructions.items
+assembly_text c = entry_text ++ (codes "  subq $8*" ++ (decimal c.slots ++ (codes ", %rsp\n" ++ (lines_text (length c.instructions.items) 0 c.instructions.items
     ++ (codes ".Lreturn:\n  addq $8*" ++ (decimal c.slots ++ (codes ", %rsp\n" ++ exit_text)))))))

@@ -1,10 +1,10 @@
 //! Code as assembly for x86-64, in the syntax of AT&T.
 
-ghost use Rattle.std.specs.Prelude.{◌≡◌, Some};
-ghost use Rattle.codegen_text.specs.Assembly.{byte_name, condition_letters, operator_name, register_name};
-ghost use Rattle.codegen_text.specs.Assembly.{assembly_text, entry_text, exit_text, instruction_text, lines_text, source_text};
+ghost use Rattle.std.specs.Prelude.{◌≡◌, ◌+◌, length, nat_eq, Some};
+ghost use Rattle.codegen_text.specs.Assembly.{byte_name, condition_letters, operator_name, register_name, shift_name};
+ghost use Rattle.codegen_text.specs.Assembly.{assembly_text, entry_text, exit_text, instruction_text, is_next, line_text, lines_text, source_text};
 
-use codegen_ir::{Condition, Operator};
+use codegen_ir::{Condition, Operator, ShiftOperator};
 use codegen_machine::{Code, Instruction, Source};
 use std::fmt;
 
@@ -104,6 +104,17 @@ fn operator_name(operator: Operator) -> &'static str
     }
 }
 
+/// The name of a shift's instruction.
+fn shift_name(operator: ShiftOperator) -> &'static str
+    ensures { result.now ≡ shift_name operator }
+{
+    match operator {
+        ShiftOperator::Left => "shlq",
+        ShiftOperator::Right => "shrq",
+        ShiftOperator::SignedRight => "sarq",
+    }
+}
+
 /// How the names of instructions end that look whether a condition holds.
 fn condition_letters(condition: Condition) -> &'static str
     ensures { result.now ≡ condition_letters condition }
@@ -179,6 +190,18 @@ impl fmt::Display for InstructionText {
                 );
                 write!(f, "{name} {from}, {to}")
             }
+            Instruction::Shift { operator, to } => {
+                let (name, to) = (shift_name(operator), register_name(to));
+                write!(f, "{name} %cl, {to}")
+            }
+            Instruction::ShiftBy {
+                operator,
+                to,
+                count,
+            } => {
+                let (name, to) = (shift_name(operator), register_name(to));
+                write!(f, "{name} ${count}, {to}")
+            }
             Instruction::Compare { left, right } => {
                 let (left, right) = (register_name(left), SourceText(right));
                 write!(f, "cmpq {right}, {left}")
@@ -217,18 +240,64 @@ impl fmt::Display for InstructionText {
     }
 }
 
+/// An instruction of that number, among so many, as a line with its label. What only goes on to the next line is left out.
+#[derive(Clone, Copy)]
+struct LineText {
+    count: usize,
+    at: usize,
+    instruction: Instruction,
+}
+
+/// Whether a line is the next one after line `at`.
+fn is_after(line: usize, at: usize) -> bool
+    ensures { result ≡ nat_eq line (at + 1) }
+{
+    line > at && line - at == 1
+}
+
+impl LineText {
+    /// Whether the instruction only goes on to the next line.
+    fn is_next(&self) -> bool
+        ensures { result ≡ is_next self.now.count self.now.at self.now.instruction }
+    {
+        match self.instruction {
+            Instruction::Jump { target } => is_after(target, self.at),
+            Instruction::Return => is_after(self.count, self.at),
+            _ => false,
+        }
+    }
+}
+
+impl fmt::Display for LineText {
+    ghost output = { λ l. Some (line_text l.count l.at l.instruction) };
+
+    fn fmt<W: fmt::Write>(&self, f: &mut fmt::Formatter<W>) -> fmt::Result {
+        let (at, text) = (self.at, InstructionText(self.instruction));
+        if self.is_next() {
+            writeln!(f, ".L{at}:")
+        } else {
+            writeln!(f, ".L{at}: {text}")
+        }
+    }
+}
+
 /// Instructions as assembly, one on each line, with labels by number.
 #[derive(Clone, Copy)]
 struct LinesText<'a>(&'a [Instruction]);
 
 impl fmt::Display for LinesText<'_> {
-    ghost output = { λ t. Some (lines_text 0 t.0.now) };
+    ghost output = { λ t. Some (lines_text (length t.0.now) 0 t.0.now) };
 
     fn fmt<W: fmt::Write>(&self, f: &mut fmt::Formatter<W>) -> fmt::Result {
         let LinesText(instructions) = *self;
-        for at in 0..instructions.len() {
-            let text = InstructionText(instructions[at]);
-            writeln!(f, ".L{at}: {text}")?;
+        let count = instructions.len();
+        for at in 0..count {
+            let line = LineText {
+                count,
+                at,
+                instruction: instructions[at],
+            };
+            write!(f, "{line}")?;
         }
         Ok(())
     }

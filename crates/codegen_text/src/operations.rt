@@ -3,7 +3,7 @@
 ghost use Rattle.std.specs.Prelude.{◌≤◌};
 ghost use Rattle.regalloc2_text_cursor.specs.Cursor.{tokens_left};
 
-use codegen_ir::{Condition, Operation, Operator, Right};
+use codegen_ir::{Condition, Count, Operation, Operator, Right, ShiftOperator};
 use regalloc2::{RegClass, VReg};
 use regalloc2_text_cursor::Cursor;
 
@@ -12,6 +12,9 @@ const LAST_ARGUMENT: u64 = (1 << 28) - 1;
 
 /// The greatest second number that an instruction of x86-64 holds without a sign.
 const LAST_NUMBER: u64 = (1 << 31) - 1;
+
+/// The greatest count of places that is given as a number.
+const LAST_COUNT: u64 = 63;
 
 /// The operator of that name.
 fn operator_named(name: &str) -> Option<Operator> {
@@ -22,6 +25,16 @@ fn operator_named(name: &str) -> Option<Operator> {
         "and" => Some(Operator::And),
         "or" => Some(Operator::Or),
         "xor" => Some(Operator::Xor),
+        _ => None,
+    }
+}
+
+/// The shift of that name.
+fn shift_named(name: &str) -> Option<ShiftOperator> {
+    match name {
+        "shift_left" => Some(ShiftOperator::Left),
+        "shift_right" => Some(ShiftOperator::Right),
+        "signed_shift_right" => Some(ShiftOperator::SignedRight),
         _ => None,
     }
 }
@@ -70,6 +83,23 @@ fn read_pair(cursor: &mut Cursor<'_, '_>) -> (VReg, Right) {
     let left = read_vreg(cursor);
     cursor.want(",");
     (left, read_right(cursor))
+}
+
+/// A shift, from its number on: the number and the count, with a comma between them.
+fn read_shift(cursor: &mut Cursor<'_, '_>, operator: ShiftOperator, to: VReg) -> Operation {
+    let left = read_vreg(cursor);
+    cursor.want(",");
+    let count = if cursor.begins("v") {
+        Count::VReg(read_vreg(cursor))
+    } else {
+        Count::Number(cursor.number(LAST_COUNT) as u8)
+    };
+    Operation::Shift {
+        operator,
+        to,
+        left,
+        count,
+    }
 }
 
 /// A selection, from its condition on: the condition and the two numbers, with commas between them.
@@ -134,6 +164,10 @@ pub fn read_value(cursor: &mut Cursor<'_, '_>) -> Operation {
             left,
             right,
         };
+    }
+    if let Some(operator) = shift_named(name) {
+        cursor.advance();
+        return read_shift(cursor, operator, to);
     }
     if cursor.has("select") {
         return read_select(cursor, to);

@@ -26,6 +26,9 @@ const OPERATIONS: [&str; 18] = [
     "signed_greater_or_equal",
 ];
 
+/// The shifts.
+const SHIFTS: [&str; 3] = ["shift_left", "shift_right", "signed_shift_right"];
+
 /// Where the conditions begin among the operations.
 const CONDITIONS: usize = 8;
 
@@ -102,11 +105,24 @@ impl Draft {
         Ok(())
     }
 
+    /// Writes a shift, by a number or by a virtual register.
+    fn write_shift(&mut self, name: &str) -> Result<(), AllocError> {
+        let left = self.pick();
+        if self.random.below(2) == 0 {
+            let places = self.random.below(64);
+            write!(self.text, "{name} v{left}, {places}")?;
+        } else {
+            let count = self.pick();
+            write!(self.text, "{name} v{left}, v{count}")?;
+        }
+        Ok(())
+    }
+
     /// Writes an operation.
     fn write_operation(&mut self) -> Result<(), AllocError> {
         let to = self.new_vreg();
         write!(self.text, "  v{to} = ")?;
-        let at = self.random.below(22);
+        let at = self.random.below(24);
         if let Some(name) = OPERATIONS.get(at) {
             self.write_pair(name)?;
         } else if at == 18 {
@@ -115,6 +131,8 @@ impl Draft {
         } else if at == 19 {
             let (test, left, right) = (self.pick(), self.pick(), self.pick());
             write!(self.text, "select v{test}, v{left}, v{right}")?;
+        } else if let Some(name) = SHIFTS.get(at.saturating_sub(20)) {
+            self.write_shift(name)?;
         } else {
             let number = self.random.next();
             write!(self.text, "constant {number}")?;

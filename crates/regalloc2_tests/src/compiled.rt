@@ -29,7 +29,7 @@ fn show<W: Write>(alloc: Global, text: &[u8], to: &mut W) -> io::Result<()> {
 }
 
 /// Functions of two arguments, which are run.
-const RUNS: [(&str, u64, u64); 7] = [
+const RUNS: [(&str, u64, u64); 12] = [
     ("v2 = and v0, v1", 12, 10),
     ("v2 = or v0, 10", 12, 0),
     ("v2 = xor v0, v1", 12, 10),
@@ -37,6 +37,11 @@ const RUNS: [(&str, u64, u64); 7] = [
     ("v2 = signed_less v0, 5", MINUS_ONE, 0),
     ("v2 = select v0, v1, v0", 0, 7),
     ("v2 = select v0, v1, v0", 3, 7),
+    ("v2 = shift_left v0, v1", 3, 63),
+    ("v2 = shift_left v0, v1", 3, 64),
+    ("v2 = shift_right v0, v1", MINUS_ONE, 65),
+    ("v2 = signed_shift_right v0, 63", MINUS_ONE, 0),
+    ("v2 = shift_left v1, v1", 0, 3),
 ];
 
 /// -1 modulo 2^64.
