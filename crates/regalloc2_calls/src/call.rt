@@ -1,13 +1,14 @@
 //! What can be asked about a stored function, and the answer as a text.
 
 ghost use Rattle.std.specs.Prelude.{◌≡◌, true, IfOk};
+ghost use Rattle.regalloc2_checker.specs.Cells.{AreCells};
 ghost use Rattle.regalloc2_function.specs.Faithful.{IsFaithful};
 ghost use Rattle.regalloc2_function.specs.OutputValue.{IsInOrder};
 ghost use Rattle.regalloc2_function.specs.SourceRun.{IsWrittenFirst};
 ghost use Rattle.regalloc2_function.specs.Views.{machine_of, output_of};
 ghost use Rattle.regalloc2_function.specs.WellFormed.{IsFramed};
 
-use regalloc2_checker::{Checker, CheckerError};
+use regalloc2_checker::{CellFault, Checker, CheckerError, test_cells};
 use regalloc2_fastalloc::{Algorithm, RegallocOptions, run};
 use regalloc2_function::{
     Function, MachineEnv, Output, StoredFault, StoredOutput, is_framed, machine_fits,
@@ -126,7 +127,8 @@ fn write_findings<W: Write>(errors: &[CheckerError], to: &mut W) -> Result<(), C
     Ok(())
 }
 
-/// Writes `checked`, or the faults that the checker finds of an output. Whether there are none.
+/// Writes `checked`, or the faults that the checker finds of an output, or else the first fault of its places as cells. Whether there
+/// are none.
 fn judge<F: Function, W: Write>(
     alloc: Global,
     f: &F,
@@ -136,7 +138,8 @@ fn judge<F: Function, W: Write>(
 ) -> Result<bool, CallError>
     requires framed { IsFramed (F.function f.now) }
     ensures accepted { IfOk result (λ b. b ≡ true → IsInOrder (F.function f.now) (output_of output.now)
-        × IsFaithful (F.function f.now) (machine_of env.now) (output_of output.now)) }
+        × IsFaithful (F.function f.now) (machine_of env.now) (output_of output.now)
+        × AreCells (F.function f.now) (machine_of env.now) (output_of output.now)) }
 {
     let Ok(mut checker) = Checker::new(alloc, f, env) else {
         return Err(CallError::Memory);
@@ -146,10 +149,17 @@ fn judge<F: Function, W: Write>(
         return Ok(false);
     }
     match checker.run() {
-        Ok(()) => {
-            writeln!(to, "checked")?;
-            Ok(true)
-        }
+        Ok(()) => match test_cells(alloc, f, env, output) {
+            Ok(()) => {
+                writeln!(to, "checked")?;
+                Ok(true)
+            }
+            Err(CellFault::Memory) => Err(CallError::Memory),
+            Err(fault) => {
+                writeln!(to, "{fault}")?;
+                Ok(false)
+            }
+        },
         Err(errors) => {
             write_findings(errors.errors(), to)?;
             Ok(false)
