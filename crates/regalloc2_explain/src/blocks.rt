@@ -73,17 +73,26 @@ fn listings_of(function: &StoredFunction, from: usize, to: usize) -> usize {
         .count()
 }
 
+/// How many edges lead to a block.
+fn edges_into(function: &StoredFunction, block: usize) -> usize {
+    let mut leading = 0usize;
+    for from in 0..function.blocks.len() {
+        leading = leading.saturating_add(edges_between(function, from, block));
+    }
+    leading
+}
+
 /// The cause if a block's predecessors aren't the blocks that lead to it.
 fn of_preds(function: &StoredFunction, block: usize) -> Option<Cause> {
-    let listed = list_of(function.block_preds.as_slice(), block).len();
-    let mut leading = 0usize;
-    let mut is_as_listed = true;
-    for from in 0..function.blocks.len() {
-        let edges = edges_between(function, from, block);
-        leading = leading.saturating_add(edges);
-        is_as_listed = is_as_listed && edges == listings_of(function, from, block);
-    }
-    if is_as_listed && listed == leading {
+    let preds = list_of(function.block_preds.as_slice(), block);
+    let listed = preds.len();
+    let leading = edges_into(function, block);
+    let is_as_listed = listed == leading
+        && preds.iter().all(|pred| {
+            let from = *pred as usize;
+            edges_between(function, from, block) == listings_of(function, from, block)
+        });
+    if is_as_listed {
         return None;
     }
     Some(Cause::Predecessors {

@@ -36,7 +36,8 @@ impl Explanation {
     }
 }
 
-/// Why the allocator refuses a function with that error: it looks for what the error names. Linear in the function.
+/// Why the allocator refuses a function with that error: it looks for what the error names. Linear in the function, but
+/// for a block whose predecessors are wrong: each of them is counted among the block's.
 pub fn explain(function: &StoredFunction, error: &RegAllocError) -> Explanation {
     match error {
         RegAllocError::CritEdge(from, to) => {

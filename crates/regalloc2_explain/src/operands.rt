@@ -40,9 +40,9 @@ fn is_reused_before(operands: &[u64], k: usize, index: usize) -> bool {
     operands.iter().take(k).any(|bits| operand_of(*bits).and_then(reused_index) == Some(index))
 }
 
-/// Whether an operand reuses the one at an index.
+/// Whether an operand reuses the one at an index, which is below 32 then.
 pub(crate) fn is_reused(operands: &[u64], index: usize) -> bool {
-    is_reused_before(operands, operands.len(), index)
+    index < 32 && is_reused_before(operands, operands.len(), index)
 }
 
 /// The cause if an operand at the index `k` is a reuse that isn't as it has to be.

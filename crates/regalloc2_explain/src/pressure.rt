@@ -183,27 +183,34 @@ fn is_reuse(operand: Operand) -> bool {
     matches!(operand.constraint(), OperandConstraint::Reuse(_))
 }
 
-/// Whether an operand before the index `k` is fixed to the same register and held at the same position as that operand.
-fn clashes_before(operands: &[u64], k: usize, operand: Operand, register: PReg) -> bool {
-    for (j, bits) in operands.iter().take(k).enumerate() {
-        let Some(other) = operand_of(*bits) else {
-            continue;
-        };
-        let is_same = fixed_register(other) == Some(register);
-        let is_at = |pos: OperandPos| {
-            holds_at(operands, j, other, pos) && holds_at(operands, k, operand, pos)
-        };
-        if is_same && (is_at(OperandPos::Early) || is_at(OperandPos::Late)) {
-            return true;
-        }
+/// The registers that operands of an instruction are fixed to and hold at its beginning and at its end, by index.
+#[derive(Clone, Copy)]
+struct Held {
+    early: [bool; 192],
+    late: [bool; 192],
+}
+
+impl Held {
+    /// Notes that an operand at the index `k` holds a register. Whether another one holds it at the same time.
+    fn clashes(&mut self, operands: &[u64], k: usize, operand: Operand, register: PReg) -> bool {
+        let index = register.index();
+        let is_early = holds_at(operands, k, operand, OperandPos::Early);
+        let is_late = holds_at(operands, k, operand, OperandPos::Late);
+        let clashes = (is_early && self.early[index]) || (is_late && self.late[index]);
+        self.early[index] = self.early[index] || is_early;
+        self.late[index] = self.late[index] || is_late;
+        clashes
     }
-    false
 }
 
 /// The cause if an operand is fixed to a register that it can't have.
 fn of_fixed(function: &StoredFunction, inst: usize) -> Option<(Cause, Site)> {
     let machine = &function.machine_env;
     let operands = operands_at(function, inst);
+    let mut held = Held {
+        early: [false; 192],
+        late: [false; 192],
+    };
     for (k, bits) in operands.iter().enumerate() {
         let Some(operand) = operand_of(*bits) else {
             continue;
@@ -219,7 +226,7 @@ fn of_fixed(function: &StoredFunction, inst: usize) -> Option<(Cause, Site)> {
                 Site::Operand(inst, k),
             ));
         }
-        if clashes_before(operands, k, operand, register) {
+        if held.clashes(operands, k, operand, register) {
             return Some((Cause::FixedTwice { inst, register }, Site::Operand(inst, k)));
         }
     }

@@ -5,8 +5,9 @@ ghost use Rattle.regalloc2_function.specs.OutputValue.{IsInOrder};
 ghost use Rattle.regalloc2_function.specs.Views.{output_of};
 ghost use Rattle.regalloc2_tool.specs.Framed.{BlocksAreWithin};
 
+use super::head::Head;
 use super::lanes::Lanes;
-use super::shapes;
+use super::shapes::{self, Sheet};
 use regalloc2_function::{Edit, Function, InstOrEdit, Output};
 use regalloc2_index::{Block, Inst};
 use regalloc2_names::{Allocation, Operand};
@@ -34,6 +35,8 @@ struct Span {
 pub struct Picture<A: Allocator = Global> {
     lanes: Lanes<A>,
     spans: Vec<Option<Span>, A>,
+    /// The lanes whose places the current block names, some of them several times.
+    named: Vec<usize, A>,
 }
 
 /// The row of an operand of an instruction that begins in this one.
@@ -56,7 +59,18 @@ impl<A: Allocator> Picture<A> {
         for _ in lanes.places() {
             spans.push(None)?;
         }
-        Ok(Picture { lanes, spans })
+        Ok(Picture {
+            lanes,
+            spans,
+            named: Vec::new(alloc),
+        })
+    }
+
+    /// How the picture is laid out.
+    fn sheet(&self) -> Sheet {
+        Sheet {
+            lanes: self.lanes.places().len(),
+        }
     }
 
     /// The rows over which a place has held what it holds, where it is known to hold something.
@@ -70,12 +84,18 @@ impl<A: Allocator> Picture<A> {
     }
 
     /// Notes what a place holds.
-    fn set_span(&mut self, place: Allocation, span: Span) {
-        if let Some(lane) = self.lanes.lane_of(place) {
-            if lane < self.spans.len() {
-                self.spans[lane] = Some(span);
-            }
+    fn set_span(&mut self, place: Allocation, span: Span) -> Result<(), AllocError> {
+        let Some(lane) = self.lanes.lane_of(place) else {
+            return Ok(());
+        };
+        if lane >= self.spans.len() {
+            return Ok(());
         }
+        if self.spans[lane].is_none() {
+            self.named.push(lane)?;
+        }
+        self.spans[lane] = Some(span);
+        Ok(())
     }
 
     /// Notes that a place is read in a row, by an operand of the virtual register of that number, or by a move. If it isn't written in its block before,
@@ -86,7 +106,7 @@ impl<A: Allocator> Picture<A> {
         row: usize,
         block_row: usize,
         by: Option<usize>,
-    ) -> Option<usize> {
+    ) -> Result<Option<usize>, AllocError> {
         let (first, known) = match self.span_of(place) {
             Some(span) => (span.first, span.vreg),
             None => (block_row, None),
@@ -99,8 +119,8 @@ impl<A: Allocator> Picture<A> {
                 last: row,
                 vreg,
             },
-        );
-        vreg
+        )?;
+        Ok(vreg)
     }
 
     /// Draws the bar of what a lane holds, until a row where that is given.
@@ -117,7 +137,8 @@ impl<A: Allocator> Picture<A> {
             return Ok(());
         };
         self.spans[lane] = None;
-        shapes::bar(lane, span.first, until.unwrap_or(span.last), span.vreg, to)
+        let rows = (span.first, until.unwrap_or(span.last));
+        shapes::bar(self.sheet(), lane, rows, span.vreg, to)
     }
 
     /// Notes that a place is written in a row, and draws the bar of what it held.
@@ -138,7 +159,7 @@ impl<A: Allocator> Picture<A> {
                 last: row,
                 vreg,
             },
-        );
+        )?;
         Ok(())
     }
 
@@ -149,13 +170,14 @@ impl<A: Allocator> Picture<A> {
         places: &[Allocation],
         row: usize,
         block_row: usize,
-    ) {
+    ) -> Result<(), AllocError> {
         for (operand, place) in operands.iter().zip(places.iter()) {
             if operand.is_reading() {
                 let by = Some(operand.vreg().vreg());
-                self.note_read(*place, row_of(*operand, row), block_row, by);
+                self.note_read(*place, row_of(*operand, row), block_row, by)?;
             }
         }
+        Ok(())
     }
 
     /// Notes what an instruction writes, and draws the bars that end there.
@@ -177,7 +199,12 @@ impl<A: Allocator> Picture<A> {
 
     /// Draws the bars that a block leaves, those of slots until its last row.
     fn end_block<W: Write>(&mut self, row: usize, to: &mut W) -> io::Result<()> {
-        for lane in 0..self.lanes.places().len() {
+        self.named.sort_unstable();
+        self.named.dedup();
+        for k in 0..self.named.len() {
+            let Some(lane) = self.named.get(k).copied() else {
+                continue;
+            };
             let is_slot = self
                 .lanes
                 .places()
@@ -185,6 +212,7 @@ impl<A: Allocator> Picture<A> {
                 .is_some_and(|place| place.is_stack());
             self.end_bar(lane, if is_slot { Some(row) } else { None }, to)?;
         }
+        self.named.clear();
         Ok(())
     }
 
@@ -208,14 +236,14 @@ impl<A: Allocator> Picture<A> {
                     if inst.index() < f.num_insts() {
                         let operands = f.inst_operands(*inst);
                         let places = output.inst_allocs(*inst);
-                        self.note_uses(operands, places, row, block_row);
+                        self.note_uses(operands, places, row, block_row)?;
                         self.note_defs(operands, places, row, to)?;
                     }
                     row = row.saturating_add(INST_ROWS);
                 }
                 InstOrEdit::Edit(edit) => {
                     let (from, into) = edit.places();
-                    let vreg = self.note_read(from, row, block_row, None);
+                    let vreg = self.note_read(from, row, block_row, None)?;
                     self.note_write(into, row, vreg, to)?;
                     row = row.saturating_add(1);
                 }
@@ -253,7 +281,14 @@ impl<A: Allocator> Picture<A> {
         for (operand, place) in operands.iter().zip(places.iter()) {
             if let Some(lane) = self.lanes.lane_of(*place) {
                 let row = row_of(*operand, row);
-                shapes::cell(lane, row, operand.vreg(), operand.is_def(), to)?;
+                shapes::cell(
+                    self.sheet(),
+                    lane,
+                    row,
+                    operand.vreg(),
+                    operand.is_def(),
+                    to,
+                )?;
             }
         }
         Ok(())
@@ -275,7 +310,7 @@ impl<A: Allocator> Picture<A> {
         }
         let number = inst.index();
         let name = opcode_name(f, inst);
-        shapes::label(row, &format_args!("inst{number} {name}"), to)?;
+        shapes::label(self.sheet(), row, &format_args!("inst{number} {name}"), to)?;
         self.draw_operands(f.inst_operands(inst), output.inst_allocs(inst), row, to)
     }
 
@@ -283,7 +318,7 @@ impl<A: Allocator> Picture<A> {
     fn draw_move<W: Write>(&self, edit: Edit, row: usize, to: &mut W) -> io::Result<()> {
         let (from, into) = edit.places();
         match (self.lanes.lane_of(from), self.lanes.lane_of(into)) {
-            (Some(tail), Some(tip)) => shapes::arrow(tail, tip, row, to),
+            (Some(tail), Some(tip)) => shapes::arrow(self.sheet(), tail, tip, row, to),
             _ => Ok(()),
         }
     }
@@ -301,9 +336,8 @@ impl<A: Allocator> Picture<A> {
         requires blocks { BlocksAreWithin (F.function f.now) }
         requires block { block < length (F.function f.now).blocks }
     {
-        let number = block.index();
-        shapes::rule(block_row, self.lanes.places().len(), to)?;
-        shapes::label(block_row, &format_args!("block{number}"), to)?;
+        shapes::rule(self.sheet(), block_row, to)?;
+        shapes::label(self.sheet(), block_row, &Head { f, block }, to)?;
         let mut row = block_row.saturating_add(1);
         for item in output.block_insts_and_edits(f, block) {
             match &item {
@@ -337,15 +371,23 @@ impl<A: Allocator> Picture<A> {
         Ok(())
     }
 
-    /// Writes the names of the places above their lanes.
-    fn draw_names<W: Write>(&self, to: &mut W) -> io::Result<()> {
+    /// Writes the names of the places above the lanes of a column.
+    fn draw_names<W: Write>(&self, column: usize, to: &mut W) -> io::Result<()> {
         for (lane, place) in self.lanes.places().iter().enumerate() {
-            shapes::name(lane, place, to)?;
+            shapes::name(self.sheet(), column, lane, place, to)?;
         }
         Ok(())
     }
 
-    /// Draws an output of a function, block by block. Linear in them.
+    /// Writes the names above the lanes of so many columns.
+    fn draw_all_names<W: Write>(&self, columns: usize, to: &mut W) -> io::Result<()> {
+        for column in 0..columns {
+            self.draw_names(column, to)?;
+        }
+        Ok(())
+    }
+
+    /// Draws an output of a function, block by block. Linear in them, but for the logarithm of the number of places that a block names.
     ///
     /// The contract doesn't say what is written: that is shown by tests.
     pub fn draw<F: Function, B: Allocator, W: Write>(
@@ -361,8 +403,8 @@ impl<A: Allocator> Picture<A> {
         let rows = inst_rows
             .saturating_add(f.num_blocks())
             .saturating_add(output.edits.len());
-        shapes::begin(self.lanes.places().len(), rows, to)?;
-        self.draw_names(to)?;
+        shapes::begin(self.sheet(), rows, to)?;
+        self.draw_all_names(shapes::columns(rows), to)?;
         self.draw_bars(f, output, to)?;
         self.draw_blocks(f, output, to)?;
         shapes::end(to)
