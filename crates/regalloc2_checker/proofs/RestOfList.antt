@@ -17,7 +17,7 @@ use Rattle.regalloc2_function.specs.declared.listing.Edit.{Edit}
 use Rattle.regalloc2_function.specs.Views.{move_of}
 use Rattle.regalloc2_function.specs.OutputValue.{MoveValue, place_at}
 use Rattle.regalloc2_checker.specs.Facts.{Facts, placed, defined, facts_after_moves, facts_after_early_defs, facts_after_defs, facts_after_clobbers, renaming}
-use Rattle.regalloc2_checker.specs.Renamed.{facts_renamed, HoldersAre, AreHoldersOf}
+use Rattle.regalloc2_checker.specs.Renamed.{facts_renamed, HoldersAre, AreHoldersOf, TakesArgument, AreOthersKept}
 use Rattle.regalloc2_checker.specs.TableFacts.{IsListed, IsListedVReg}
 use Rattle.regalloc2_names.specs.Same.{is_register-true, is_register-same}
 use Rattle.regalloc2_checker.proofs.TableSteps.{one-facts}
@@ -71,15 +71,52 @@ pub defs_done : (places : List Place) (os : List OperandValue) (k : ℕ) (F : Fa
 unfolding facts_after_defs
 defs_done places os k F l = let e : drop k os ≡ [] = drop_all k os l in rw e refl
 
--- so many parameters took what their arguments had: what each virtual register has now one had before
+-- so many parameters took what their arguments had: what each virtual register has now one had before, but those that are still to take theirs
 pub record AreRenamedTo (params arguments : List VirtualRegister) (k : ℕ) (F G : Facts) : Type 0 where
   pub before : VirtualRegister → VirtualRegister
-  pub same : (p : Place) (v : VirtualRegister) → G p v ≡ F p (before v)
+  pub same : (p : Place) (v : VirtualRegister) → (G p v ≡ F p (before v)) ⊎ TakesArgument (drop k params) (drop k arguments) v
   pub rest : (v : VirtualRegister) → renaming (drop k params) (drop k arguments) before v ≡ renaming params arguments (λ u. u) v
 
 -- none did
-pub renamed_none : (params arguments : List VirtualRegister) (F : Facts) → AreRenamedTo params arguments 0 F F
-renamed_none params arguments F = record { before = λ u. u; same = λ p v. refl; rest = λ v. refl }
+pub renamed_none : (params arguments : List VirtualRegister) (F G : Facts) → AreOthersKept params arguments F G → AreRenamedTo params arguments 0 F G
+renamed_none params arguments F G h = record { before = λ u. u; same = h; rest = λ v. refl }
+
+-- a virtual register is renamed as what it would be otherwise says
+renaming-at : (ps as' : List VirtualRegister) (r s : VirtualRegister → VirtualRegister) (v : VirtualRegister) → r v ≡ s v →
+    renaming ps as' r v ≡ renaming ps as' s v
+unfolding renaming
+renaming-at [] as' r s v e = e
+renaming-at (p ∷ ps) [] r s v e = e
+renaming-at (p ∷ ps) (a ∷ as') r s v e =
+    renaming-at ps as' (λ q. cond (is_vreg p q) a (r q)) (λ q. cond (is_vreg p q) a (s q)) v (ap (λ u. cond (is_vreg p v) a u) e)
+
+-- a parameter that has an argument takes it
+pub takes-at : (ps as' : List VirtualRegister) (k : ℕ) (p v : VirtualRegister) → k < length ps → k < length as' → p ≡ get_or ps k p → is_vreg p v ≡ true →
+    TakesArgument ps as' v
+unfolding renaming
+takes-at [] as' k p v lp la ip is r s = absurd (omega arith)
+takes-at (q ∷ ps) [] k p v lp la ip is r s = absurd (omega arith)
+takes-at (q ∷ ps) (a ∷ as') zero p v lp la ip is r s =
+    let h : is_vreg q v ≡ true = ap (λ x. is_vreg x v) (sym ip) ∙ is in
+    renaming-at ps as' (λ u. cond (is_vreg q u) a (r u)) (λ u. cond (is_vreg q u) a (s u)) v
+    (ap (λ b. cond b a (r v)) h ∙ sym (ap (λ b. cond b a (s v)) h))
+takes-at (q ∷ ps) (a ∷ as') (suc k) p v lp la ip is r s =
+    takes-at ps as' k p v (omega arith) (omega arith) ip is (λ u. cond (is_vreg q u) a (r u)) (λ u. cond (is_vreg q u) a (s u))
+
+-- nothing is changed yet
+pub others-kept : (params arguments : List VirtualRegister) (F : Facts) → AreOthersKept params arguments F F
+others-kept params arguments F p v = inl refl
+
+-- one more parameter is forgotten
+pub others-more : (params arguments : List VirtualRegister) (k : ℕ) (p : VirtualRegister) (F G H : Facts) → k < length params → k < length arguments →
+    p ≡ get_or params k p → ((q : Place) (v : VirtualRegister) → is_vreg p v ≡ false → H q v ≡ G q v) → AreOthersKept params arguments F G →
+    AreOthersKept params arguments F H
+others-more params arguments k p F G H lp la ip h o q v = by_test (is_vreg p v) refl (o q v)
+  where
+    by_test : (b : Bool) → is_vreg p v ≡ b → (G q v ≡ F q v) ⊎ TakesArgument params arguments v → (H q v ≡ F q v) ⊎ TakesArgument params arguments v
+    by_test true is x = inr (takes-at params arguments k p v lp la ip is)
+    by_test false is (inl e) = inl (h q v is ∙ e)
+    by_test false is (inr t) = inr t
 
 renaming_step : (ps as' : List VirtualRegister) (k : ℕ) (p a : VirtualRegister) (r : VirtualRegister → VirtualRegister) (v : VirtualRegister) →
     k < length ps → k < length as' → p ≡ get_or ps k p → a ≡ get_or as' k a →
@@ -98,13 +135,25 @@ pub renamed_more : (params arguments : List VirtualRegister) (k : ℕ) (p a : Vi
     AreRenamedTo params arguments (k + 1) F H
 renamed_more params arguments k p a F G H lp la ip ia h r = record {
   before = λ q. cond (is_vreg p q) a (r.before q);
-  same = λ q v. h q v ∙ ap (λ b. cond (is_vreg p v) (F q a) b) (r.same q v) ∙ by_test q (is_vreg p v) (r.before v);
+  same = λ q v. by_test q v (is_vreg p v) refl (r.same q v);
   rest = λ v. sym (renaming_step params arguments k p a r.before v lp la ip ia) ∙ r.rest v;
 }
   where
-    by_test : (q : Place) (b : Bool) (u : VirtualRegister) → cond b (F q a) (F q u) ≡ F q (cond b a u)
-    by_test q true u = refl
-    by_test q false u = refl
+    later : (v : VirtualRegister) → is_vreg p v ≡ false → TakesArgument (drop k params) (drop k arguments) v →
+        TakesArgument (drop (k + 1) params) (drop (k + 1) arguments) v
+    later v not t x y =
+        renaming-at (drop (k + 1) params) (drop (k + 1) arguments) x (λ q. cond (is_vreg p q) a (x q)) v (sym (ap (λ b. cond b a (x v)) not))
+        ∙ sym (renaming_step params arguments k p a x v lp la ip ia) ∙ t x y ∙ renaming_step params arguments k p a y v lp la ip ia
+        ∙ renaming-at (drop (k + 1) params) (drop (k + 1) arguments) (λ q. cond (is_vreg p q) a (y q)) y v (ap (λ b. cond b a (y v)) not)
+
+    by_test : (q : Place) (v : VirtualRegister) (b : Bool) → is_vreg p v ≡ b →
+        (G q v ≡ F q (r.before v)) ⊎ TakesArgument (drop k params) (drop k arguments) v →
+        (H q v ≡ F q (cond (is_vreg p v) a (r.before v))) ⊎ TakesArgument (drop (k + 1) params) (drop (k + 1) arguments) v
+    by_test q v true is x =
+        inl (h q v ∙ ap (λ b. cond b (F q a) (G q v)) is ∙ sym (ap (λ b. F q (cond b a (r.before v))) is))
+    by_test q v false is (inl e) =
+        inl (h q v ∙ ap (λ b. cond b (F q a) (G q v)) is ∙ e ∙ sym (ap (λ b. F q (cond b a (r.before v))) is))
+    by_test q v false is (inr t) = inr (later v is t)
 
 -- a number that is at least the smaller of two is at least one of them
 either_short : (a b k : ℕ) → min a b ≤ k → (a ≤ k) ⊎ (b ≤ k)
@@ -121,11 +170,27 @@ unfolding renaming
 renaming_done ps as' k r v (inl h) = let e : drop k ps ≡ [] = drop_all k ps h in rw e refl
 renaming_done ps as' k r v (inr h) = let e : drop k as' ≡ [] = drop_all k as' h in rw e (renaming_none (drop k ps) r v)
 
+-- no virtual register takes an argument where none is left
+takes-none : (ps as' : List VirtualRegister) (k : ℕ) (v : VirtualRegister) → (length ps ≤ k) ⊎ (length as' ≤ k) → TakesArgument (drop k ps) (drop k as') v → ⊥
+takes-none ps as' k v short t =
+    let next : VirtualRegister = record { number = v.number + 1; class = v.class } in
+    let e : v ≡ next =
+    sym (renaming_done ps as' k (λ u. u) v short) ∙ t (λ u. u) (λ u. next) ∙ renaming_done ps as' k (λ u. next) v short in
+    let n : v.number ≡ v.number + 1 = ap (λ (u : VirtualRegister). u.number) e in
+    omega arith
+
 -- all did
 pub renamed_all : (params arguments : List VirtualRegister) (k : ℕ) (F G : Facts) → min (length params) (length arguments) ≤ k →
     AreRenamedTo params arguments k F G → G ≡ facts_renamed params arguments F
-renamed_all params arguments k F G h r = one-facts G (facts_renamed params arguments F)
-    (λ p v. r.same p v ∙ ap (F p) (sym (renaming_done params arguments k r.before v (either_short _ _ k h)) ∙ r.rest v))
+renamed_all params arguments k F G h r = one-facts G (facts_renamed params arguments F) (λ p v. by p v (r.same p v))
+  where
+    short : (length params ≤ k) ⊎ (length arguments ≤ k)
+    short = either_short _ _ k h
+
+    by : (p : Place) (v : VirtualRegister) → (G p v ≡ F p (r.before v)) ⊎ TakesArgument (drop k params) (drop k arguments) v →
+        G p v ≡ facts_renamed params arguments F p v
+    by p v (inl e) = e ∙ ap (F p) (sym (renaming_done params arguments k r.before v short) ∙ r.rest v)
+    by p v (inr t) = absurd (takes-none params arguments k v short t)
 
 -- the registers of a list are emptied
 unfoldable pub emptied : List Register → Facts → Facts

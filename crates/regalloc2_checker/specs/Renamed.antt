@@ -1,5 +1,5 @@
 -- What parameters hold after they took their arguments.
-use Rattle.std.specs.Prelude.{ℕ, ◌≡◌, ◌<◌, Bool, true, ◌&&◌, if◌then◌else◌, List, length, get_or}
+use Rattle.std.specs.Prelude.{ℕ, ◌≡◌, ◌<◌, ◌⊎◌, Bool, true, ◌&&◌, if◌then◌else◌, List, length, get_or}
 use Rattle.std.specs.declared.vec.Vec.{Vec}
 use Rattle.regalloc2_names.specs.Register.{VirtualRegister, is_vreg}
 use Rattle.regalloc2_names.specs.Place.{Place}
@@ -27,3 +27,11 @@ AreHoldersOf places has vs had = (k : ℕ) (d : Vec ℕ _) (u : VirtualRegister)
 -- a virtual register is held by the places at just these positions
 abbrev pub given_to : VirtualRegister → List ℕ → List ℕ → Facts → Facts
 given_to v places positions F = λ p u. if is_vreg v u then stands_in places positions p else F p u
+
+-- a virtual register is a parameter that takes an argument: what it is renamed to doesn't depend on what it would be otherwise
+abbrev pub TakesArgument : List VirtualRegister → List VirtualRegister → VirtualRegister → Type 0
+TakesArgument params arguments v = (r s : VirtualRegister → VirtualRegister) → renaming params arguments r v ≡ renaming params arguments s v
+
+-- the facts of all virtual registers but such parameters stay
+abbrev pub AreOthersKept : List VirtualRegister → List VirtualRegister → Facts → Facts → Type 0
+AreOthersKept params arguments F G = (p : Place) (v : VirtualRegister) → (G p v ≡ F p v) ⊎ TakesArgument params arguments v

@@ -2,6 +2,8 @@
 
 ghost use Rattle.std.specs.Prelude.{◌≡◌, ◌<◌, ◌↔◌, ◌∷◌, [], ℕ, OnOk, IfOk, All, true, false, map, not, nat_lt, ◌&&◌, if◌then◌else◌, length};
 ghost use Rattle.regalloc2_names.specs.Operand.{is_def, is_late};
+ghost use Rattle.regalloc2_names.specs.Place.{Place};
+ghost use Rattle.regalloc2_names.specs.Register.{VirtualRegister, is_vreg};
 ghost use Rattle.regalloc2_names.specs.RegisterBits.{bits_of_vreg};
 ghost use Rattle.regalloc2_function.specs.OutputValue.{place_at};
 ghost use Rattle.regalloc2_function.specs.Views.{move_of};
@@ -9,12 +11,15 @@ ghost use Rattle.regalloc2_checker_tables.specs.Holding.{is_in};
 ghost use Rattle.regalloc2_checker_tables.specs.Showing.{shows_now, AreTablesKept};
 ghost use Rattle.regalloc2_checker.specs.Facts.{placed, defined, facts_after_moves, facts_after_early_defs, facts_after_defs, facts_after_clobbers};
 ghost use Rattle.regalloc2_checker.specs.TableFacts.{is_packed, is_packed_vreg, place_in, vreg_in, facts_now, IsMissingUnlisted, IsListed, IsListedVReg};
-ghost use Rattle.regalloc2_checker.specs.Renamed.{facts_renamed, HoldersAre, AreHoldersOf, given_to};
+ghost use Rattle.regalloc2_checker.specs.Renamed.{facts_renamed, HoldersAre, AreHoldersOf, AreOthersKept, given_to};
 
 use regalloc2_checker_tables::PassingTables;
 use regalloc2_function::Edit;
 use regalloc2_names::{Allocation, Operand, PRegSet, VReg};
 use std::alloc::{AllocError, Allocator};
+
+/// So many parameters get their arguments' places one after another, without a step before.
+const FEW_PARAMS: usize = 8;
 
 /// The place of an operand; `none` where the list ends before.
 pub fn place_at(places: &[Allocation], k: usize) -> Allocation
@@ -288,6 +293,40 @@ fn give<A: Allocator + Copy>(
     Ok(())
 }
 
+/// Takes a virtual register out of every place.
+fn forget<A: Allocator + Copy>(values: &mut PassingTables<A>, vreg: VReg) -> Result<(), AllocError>
+    requires { IsListedVReg values.old.vregs vreg }
+    ensures kept { OnOk result (AreTablesKept values.old values.new) }
+    ensures now { OnOk result ((p : Place) (v : VirtualRegister) → is_vreg vreg v ≡ false → facts_now values.new p v ≡ facts_now values.old p v) }
+{
+    let Some(vreg) = vreg_position(values, vreg) else {
+        return Ok(());
+    };
+    values.forget(vreg)?;
+    Ok(())
+}
+
+/// Takes parameters that are to get their arguments' places out of those where they are, if they are many. So no place holds
+/// an old parameter beside a new one meanwhile, as it would where a loop passes its parameters on in another order.
+fn forget_params<A: Allocator + Copy>(
+    values: &mut PassingTables<A>,
+    params: &[VReg],
+    arguments: &[VReg],
+) -> Result<(), AllocError>
+    requires { All (IsListedVReg values.old.vregs) params.now }
+    ensures kept { OnOk result (AreTablesKept values.old values.new) }
+    ensures others { OnOk result (AreOthersKept params.now arguments.now (facts_now values.old) (facts_now values.new)) }
+{
+    let count = params.len().min(arguments.len());
+    if count <= FEW_PARAMS {
+        return Ok(());
+    }
+    for k in 0..count {
+        forget(values, params[k])?;
+    }
+    Ok(())
+}
+
 /// Gives a block's parameters what its arguments had, all at once.
 fn assign_params<A: Allocator + Copy>(
     alloc: A,
@@ -301,6 +340,7 @@ fn assign_params<A: Allocator + Copy>(
     ensures now { OnOk result (facts_now values.new ≡ facts_renamed params.now arguments.now (facts_now values.old)) }
 {
     let had = holders_of_all(alloc, values, arguments)?;
+    forget_params(values, params, arguments)?;
     for k in 0..params.len().min(had.len()) {
         give(values, params[k], &had[k])?;
     }

@@ -7,13 +7,14 @@ use Rattle.regalloc2_checker_tables.specs.Showing.{shows_now}
 use Rattle.regalloc2_checker.specs.Renamed.{HoldersAre}
 use Rattle.regalloc2_checker.specs.TableFacts.{facts_now, IsListedVReg}
 use Rattle.regalloc2_checker.proofs.RestOfList.{renamed_none, renamed_more, renamed_all, vreg-listed}
-use Rattle.regalloc2_checker.proofs.TableSteps.{kept-same, kept-twice, given-renamed}
+use Rattle.regalloc2_checker.proofs.TableSteps.{kept-twice, given-renamed}
 use Rattle.regalloc2_checker.proofs.transfer.assign_params.Goals as goal
 
 pub loop-k-init : goal.loop-k-init
 loop-k-init g c = record {
-  kept = kept-same c.args.values.now;
-  renamed = renamed_none c.args.params.now c.args.arguments.now (facts_now c.args.values.now);
+  kept = c.in_ok-forget_params.ensures.kept;
+  renamed = renamed_none c.args.params.now c.args.arguments.now (facts_now c.args.values.now) (facts_now c.forget_params.new.values)
+      c.in_ok-forget_params.ensures.others;
 }
 
 pub give-requires-clause-param : goal.give-requires-clause-param

@@ -1,0 +1,11 @@
+use Rattle.regalloc2_checker_tables.specs.Showing.{AreTablesKept}
+use Rattle.regalloc2_checker.specs.Renamed.{AreOthersKept}
+use Rattle.regalloc2_checker.specs.TableFacts.{facts_now}
+use Rattle.regalloc2_checker.proofs.transfer.forget_params.Given as goal
+
+-- so many parameters are forgotten
+abbrev pub invariant-loop-k : goal.invariant-loop-k
+invariant-loop-k g l = record {
+  kept : AreTablesKept l.fn.values l.values;
+  others : AreOthersKept l.params l.arguments (facts_now l.fn.values) (facts_now l.values);
+}
