@@ -1,7 +1,7 @@
 -- An operand under `Reg` takes a register in which no other vreg is located, as long as registers suffice for all vregs.
 use Rattle.std.proofs.Common.{ℕ, zero, suc, ◌≡◌, ◌≢◌, ◌+◌, ◌<◌, ◌≤◌, ◌⊎◌, inl, inr, Bool, true, false, List, ◌∷◌, ◌++◌, length, refl, arith, sym}
 use Rattle.std.proofs.Common.{ap, ◌∙◌, subst, length-append, eqb-true}
-use Rattle.std.specs.Prelude.{Some, All, Contains, find, reverse, slice_index_or}
+use Rattle.std.specs.Prelude.{Some, All, Contains, slice_index_or}
 use Rattle.std.specs.List.{IsDistinct}
 use Rattle.std.proofs.lemmas.Bool.{cases_Bool}
 use Rattle.std.proofs.lemmas.List.Elements.{All-cons, Contains-append_cases, Contains-append_right, Contains-get_or, recursion_from_All}
@@ -20,9 +20,11 @@ use Rattle.regalloc2_fastalloc_state.specs.declared.inst_regs.Positions.{Positio
 use Rattle.regalloc2_fastalloc_state.specs.declared.inst_regs.InstRegs.{InstRegs}
 use Rattle.regalloc2_fastalloc_state.specs.StateParts.{IsLruOf, AllocatableRegsValue, vreg_of_preg, lru_of}
 use Rattle.regalloc2_fastalloc_state.specs.StateParts.{alloc_of}
-use Rattle.regalloc2_fastalloc_state.specs.InstRegs.{RemovesAvailable, is_free_throughout}
+use Rattle.regalloc2_fastalloc_state.specs.Choice.{chosen}
+use Rattle.regalloc2_fastalloc_state.specs.InstRegs.{RemovesAvailable, is_available_at, is_free_throughout}
 use Rattle.regalloc2_fastalloc_proofs.specs.InstSteps.{StateValue, AllocsOperand, ClaimsPlace, SelectsPlace, MeetsRequirement, in_slot, in_register}
 use Rattle.regalloc2_fastalloc_proofs.specs.InstSteps.{own, others, empty, cleared, stays, fixed, slot, free, is_stack_in, EvictsOthers}
+use Rattle.regalloc2_fastalloc_walk.proofs.OldestFree.{free_at_any}
 use Rattle.regalloc2_fastalloc_walk.proofs.RegsReserved.{takes_held}
 use Rattle.regalloc2_fastalloc_walk.proofs.LruUnusedLast.{but, but_from, but_less, but_most, but_not, counted, found_last, newest_first, same_members}
 use Rattle.regalloc2_fastalloc_walk.specs.SpillFree.{FitInRegs, SelectsAnyReg, IsSpillFree, IsSpillFreeIn, AllocsAnyReg, Pokes, is_same_number}
@@ -389,15 +391,15 @@ operand_got {names} {gone} {point} {o} {p} {t} {u} {old} {new} {before} {after} 
         onward r (claimed r is (λ w holds. (let own = takes.inverse.vreg_allocs o.vreg.number r (at ∙ is) in
         ap (λ (v : VirtualRegister). v.number) (some_same w own.0 (sym holds ∙ own.2)) ∙ own.1)))
         (stays_there names gone o r p t u old before after h is at allocatable small (takes.touches r is))
-    by (least_recently_used_free among r unsuited all found is) =
+    by (least_recently_used_free positions r unsuited found is) =
         let nowhere : alloc_of old.places o.vreg.number ≡ NoPlace = nobody unsuited in
         let own_class = h.each o.vreg.class in
         let lrus : IsLruOf old.allocatable o.vreg.class (lru_of before o.vreg.class) = subst (λ (s : PRegSet). IsLruOf s o.vreg.class
         (lru_of before o.vreg.class)) h.allocatable (h.lrus o.vreg.class) in
         let some : 0 < length own_class.unused = is_left names gone o.vreg (lru_of before o.vreg.class) old.allocatable old t own_class lrus few nowhere there
         named in
-        let unused : Contains own_class.unused r = found_last (has_register among) own_class.used own_class.unused r some (λ q c. all q (own_class.free q c))
-        (ap (λ (l : List Register). find (has_register among) (reverse l)) (sym own_class.ring) ∙ found) in
+        let unused : Contains own_class.unused r = found_last (is_available_at t positions) own_class.used own_class.unused r some
+        (λ q c. free_at_any t positions q (own_class.free q c)) (ap (chosen (is_available_at t positions)) (sym own_class.ring) ∙ found) in
         let small : r.number < 64 = ((h.lrus o.vreg.class).of_class r (subst (λ (l : List Register). Contains l r) (sym own_class.ring)
         (Contains-append_right own_class.used own_class.unused r unused))).1 in
         onward r (claimed r is (λ w holds. absurd (own_class.empty w.number r (takes.inverse.holds r w small holds) unused)))

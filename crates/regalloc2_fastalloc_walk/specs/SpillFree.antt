@@ -1,6 +1,6 @@
 -- A block in which each vreg has a register of its own: which register an operand takes, and what holds all along the walk.
-use Rattle.std.specs.Prelude.{ℕ, ◌≡◌, ◌≢◌, ◌<◌, ◌≤◌, ◌⊎◌, Bool, true, false, not, List, [], ◌∷◌, ◌++◌, All, Contains, Some, find, filter}
-use Rattle.std.specs.Prelude.{reverse, length, nat_eq, slice_index_or}
+use Rattle.std.specs.Prelude.{ℕ, ◌≡◌, ◌≢◌, ◌<◌, ◌≤◌, ◌⊎◌, Bool, true, false, not, List, [], ◌∷◌, ◌++◌, All, Contains, Some, filter}
+use Rattle.std.specs.Prelude.{length, nat_eq, slice_index_or}
 use Rattle.std.specs.List.{IsDistinct}
 use Rattle.regalloc2_names.specs.declared.RegClass.{RegClass}
 use Rattle.regalloc2_names.specs.declared.OperandConstraint.TheVariants.{Reg}
@@ -14,7 +14,9 @@ use Rattle.regalloc2_function.specs.FunctionValue.{FunctionValue, inst_at}
 use Rattle.regalloc2_fastalloc_state.specs.declared.request.Requirement.TheVariants.{AnyReg}
 use Rattle.regalloc2_fastalloc_state.specs.declared.inst_regs.InstRegs.{InstRegs}
 use Rattle.regalloc2_fastalloc_state.specs.StateParts.{IsInverse, IsLruOf, AllocatableRegsValue, SameRegisters, lru_of, slot_name, alloc_of}
-use Rattle.regalloc2_fastalloc_state.specs.InstRegs.{is_free_throughout}
+use Rattle.regalloc2_fastalloc_state.specs.declared.inst_regs.Positions.{Positions}
+use Rattle.regalloc2_fastalloc_state.specs.Choice.{chosen}
+use Rattle.regalloc2_fastalloc_state.specs.InstRegs.{is_available_at, is_free_throughout}
 use Rattle.regalloc2_validate.specs.Constraints.{op_at}
 use Rattle.regalloc2_fastalloc_proofs.specs.BranchSteps.{AreApart}
 use Rattle.regalloc2_fastalloc_proofs.specs.InstSteps.{MeetsRequirement, StateValue}
@@ -28,9 +30,8 @@ pub data Pokes (r : Register) (old new : AllocatableRegsValue) : Type 0 where
 -- the place of a vreg that asks for any register: the register where it is, else the free one that was used longest ago
 pub data SelectsAnyReg (inst_regs : InstRegs) (v : VirtualRegister) (registers : AllocatableRegsValue) (t : StateValue) (p : Place) : Type 0 where
   where_it_stands : alloc_of t.places v.number ≡ p → MeetsRequirement t AnyReg p → SelectsAnyReg inst_regs v registers t p
-  least_recently_used_free : (free : PRegSet) (r : Register) → (MeetsRequirement t AnyReg (alloc_of t.places v.number) → ⊥) →
-      ((q : Register) → is_free_throughout inst_regs q ≡ true → has_register free q ≡ true)
-      → find (has_register free) (reverse (lru_of registers v.class)) ≡ Some r → p ≡ InRegister r → SelectsAnyReg inst_regs v registers t p
+  least_recently_used_free : (positions : Positions) (r : Register) → (MeetsRequirement t AnyReg (alloc_of t.places v.number) → ⊥) →
+      chosen (is_available_at inst_regs positions) (lru_of registers v.class) ≡ Some r → p ≡ InRegister r → SelectsAnyReg inst_regs v registers t p
 
 -- it is taken, and counts as used last
 pub record AllocsAnyReg (inst_regs : InstRegs) (v : VirtualRegister) (p : Place) (t : StateValue) (old new : AllocatableRegsValue) : Type 0 where

@@ -2,7 +2,7 @@
 
 ghost use Rattle.regalloc2_semantics.specs.Blocks.{HasEdge, target_at};
 ghost use Rattle.std.specs.Prelude.{ℕ, List, ◌≡◌, ◌↔◌, ◌≢◌, ◌<◌, ◌≤◌, ◌+◌, ◌++◌, ◌∷◌, ◌⊎◌, [], None, Some, length, IsTrue, IfOk, IfSome, IfErr, OnOk};
-ghost use Rattle.std.specs.Prelude.{OnErr, IfNone, find, reverse, slice_index_or, true};
+ghost use Rattle.std.specs.Prelude.{OnErr, IfNone, slice_index_or, true};
 ghost use Rattle.regalloc2_names.specs.Place.{Place, NoPlace, InRegister};
 ghost use Rattle.regalloc2_names.specs.Point.{before};
 ghost use Rattle.regalloc2_names.specs.Register.{Register, class_code};
@@ -24,6 +24,7 @@ ghost use Rattle.regalloc2_fastalloc_walk.specs.OwnDefs.{IsOwnBy, GathersArgumen
 ghost use Rattle.regalloc2_fastalloc_walk.specs.StateView.{Between, IsBranchStepAt, IsStepAt, Makes, MakesOne, SameTables, StopsOnlyIf, tables_of};
 ghost use Rattle.regalloc2_names.specs.RegisterSet.{has_register};
 ghost use Rattle.regalloc2_fastalloc_state.specs.InstRegs.{is_free_throughout};
+ghost use Rattle.regalloc2_fastalloc_state.specs.Choice.{chosen};
 ghost use Rattle.regalloc2_fastalloc_state.specs.StateParts.{SlotsHaveOneOwner, IsLeastRecentIn, NoneIsIn, AllAtOrAfter, lru_of};
 
 use super::state::State;
@@ -165,18 +166,18 @@ impl<'b, B: Allocator> MovesByClass<'b, B> {
 }
 
 impl<'a, A: Allocator> State<'a, A> {
-    /// The first scratch register for moves of a class: that of the machine, else the least recently used one in the set.
+    /// The first scratch register for moves of a class: that of the machine, else the one that is taken of the set.
     fn first_scratch(&self, class: RegClass, free: PRegSet) -> Option<PReg>
         ensures found { IfSome result (λ r. (slice_index_or self.now.registers.dedicated_scratch (class_code class) None ≡ Some r)
             ⊎ IsLeastRecentIn self.now.registers class free r) }
         ensures own { (r : Register) → slice_index_or self.now.registers.dedicated_scratch (class_code class) None ≡ Some r → result ≡ Some r }
-        ensures oldest { slice_index_or self.now.registers.dedicated_scratch (class_code class) None ≡ None →
-            result ≡ find (has_register free) (reverse (lru_of self.now.registers class)) }
+        ensures chosen { slice_index_or self.now.registers.dedicated_scratch (class_code class) None ≡ None →
+            result ≡ chosen (has_register free) (lru_of self.now.registers class) }
         ensures none { IfNone result (NoneIsIn self.now.registers class free) }
     {
         match self.registers.dedicated_scratch(class) {
             Some(preg) => Some(preg),
-            None => self.registers.least_recently_used(class, free),
+            None => self.registers.choose_register(class, free),
         }
     }
 
@@ -200,7 +201,7 @@ impl<'a, A: Allocator> State<'a, A> {
         rest.remove(first);
         ScratchPair {
             first: Some(Allocation::reg(first)),
-            second: as_place(self.registers.least_recently_used(class, rest)),
+            second: as_place(self.registers.choose_register(class, rest)),
         }
     }
 

@@ -60,7 +60,7 @@ impl<'a, A: Allocator> State<'a, A> {
             return Ok(preg);
         }
         let free = inst_regs.available_pregs(Positions::both());
-        let Some(preg) = self.registers.least_recently_used(class, free) else {
+        let Some(preg) = self.registers.choose_register(class, free) else {
             return Err(RegAllocError::TooManyLiveRegs);
         };
         inst_regs.remove_available(preg, Positions::both());

@@ -1,15 +1,15 @@
 //! The place of an operand.
 
-ghost use Rattle.std.specs.Prelude.{Some, true, false, find, reverse, IsFalse};
+ghost use Rattle.std.specs.Prelude.{Some, true, false, IsFalse};
 ghost use Rattle.regalloc2_names.specs.RegisterSet.{has_register};
-ghost use Rattle.regalloc2_names.specs.declared.sets.PRegSet.{PRegSet};
 ghost use Rattle.regalloc2_fastalloc_walk.specs.SpillFree.{SelectsAnyReg, AllocsAnyReg, Pokes};
 ghost use Rattle.std.specs.Prelude.{◌≡◌, ◌≢◌, ◌<◌, ◌≤◌, ◌↔◌, ◌⊎◌, ◌&&◌, length, not, None, OnOk, IfOk, IfErr, IfNone, IfSome, IsTrue};
 ghost use Rattle.regalloc2_names.specs.Register.{Register};
 ghost use Rattle.regalloc2_names.specs.Place.{NoPlace, InRegister, is_place};
+ghost use Rattle.regalloc2_fastalloc_state.specs.Choice.{chosen};
 ghost use Rattle.regalloc2_fastalloc_state.specs.StateParts.{IsInverse, AllAtOrAfter, vreg_of_preg, lru_of, alloc_of};
 ghost use Rattle.regalloc2_fastalloc_state.specs.OutOfResources.{IsResourceErrorIn};
-ghost use Rattle.regalloc2_fastalloc_state.specs.InstRegs.{IsAvailableAt, SameAvailable, free_count, is_available_at, is_free_throughout};
+ghost use Rattle.regalloc2_fastalloc_state.specs.InstRegs.{IsAvailableAt, SameAvailable, free_count, is_available_at};
 ghost use Rattle.regalloc2_fastalloc_proofs.specs.InstSteps.{awaited_less, is_another, scratch_reserve_left, FreesDef, AllocsOperand, IsAffordable};
 ghost use Rattle.regalloc2_fastalloc_proofs.specs.InstSteps.{MayHold, ClaimsPlace, SelectsPlace, AllocsDefOp, AllocsUse, SameMachine, AddsMoveIf};
 ghost use Rattle.regalloc2_fastalloc_proofs.specs.InstSteps.{MeetsRequirement};
@@ -173,7 +173,7 @@ impl<'a, A: Allocator> State<'a, A> {
         self.is_enough(inst_regs, preg)
     }
 
-    /// The register of the class that was used longest ago of those that are free at the positions.
+    /// The register of the class that is taken, of those that are free at the positions.
     #[inline(never)]
     fn search_free(
         &self,
@@ -181,11 +181,9 @@ impl<'a, A: Allocator> State<'a, A> {
         class: RegClass,
         positions: Positions,
     ) -> Option<PReg>
+        ensures chosen { IfSome result (λ r. chosen (is_available_at inst_regs.now positions) (lru_of self.now.registers class) ≡ Some r) }
         ensures may_hold { IfSome result (λ r. MayHold (tables_of self.now) class r) }
         ensures free { IfSome result (λ r. IsAvailableAt inst_regs.now positions r) }
-        ensures oldest { IfSome result (λ r. (free : PRegSet) × ((q : Register) → is_free_throughout inst_regs.now q ≡ true → has_register free q ≡ true)
-            × (find (has_register free) (reverse (lru_of self.now.registers class)) ≡ Some r)) }
-        ensures first { IfSome result (λ r. find (is_available_at inst_regs.now positions) (reverse (lru_of self.now.registers class)) ≡ Some r) }
         ensures none { IfNone result ((r : Register) → MayHold (tables_of self.now) class r → is_available_at inst_regs.now positions r ≡ false) }
     {
         let free = inst_regs.available_pregs(positions);
@@ -193,28 +191,26 @@ impl<'a, A: Allocator> State<'a, A> {
             // where an instruction has more operands than there are registers, each of the others comes here
             return None;
         }
-        self.registers.least_recently_used(class, free)
+        self.registers.choose_register(class, free)
     }
 
-    /// The register that was used longest ago of those that are free for the operand.
+    /// The register that is taken for the operand, of those that are free for it.
     ///
-    /// The one that was used longest ago of all is asked for first, and mostly it is free. Then no set is made of those
-    /// that are free, and no ring is searched for the first of them, since the search would stop at its first step.
+    /// The first choice of all is asked for first, and mostly it is free. Then no set is made of those that are free, and no ring
+    /// is searched for the first of them, since the search would stop at its first step.
     #[inline(always)]
-    fn oldest_free(&self, inst_regs: &InstRegs, request: &OperandRequest) -> Option<PReg>
+    fn choose_free(&self, inst_regs: &InstRegs, request: &OperandRequest) -> Option<PReg>
+        ensures chosen { IfSome result (λ r. chosen (is_available_at inst_regs.now request.now.positions)
+            (lru_of self.now.registers request.now.vreg.class) ≡ Some r) }
         ensures may_hold { IfSome result (λ r. MayHold (tables_of self.now) request.now.vreg.class r) }
         ensures free { IfSome result (λ r. IsAvailableAt inst_regs.now request.now.positions r) }
-        ensures oldest { IfSome result (λ r. (free : PRegSet) × ((q : Register) → is_free_throughout inst_regs.now q ≡ true → has_register free q ≡ true)
-            × (find (has_register free) (reverse (lru_of self.now.registers request.now.vreg.class)) ≡ Some r)) }
-        ensures first { IfSome result (λ r. find (is_available_at inst_regs.now request.now.positions)
-            (reverse (lru_of self.now.registers request.now.vreg.class)) ≡ Some r) }
         ensures none { IfNone result ((r : Register) → MayHold (tables_of self.now) request.now.vreg.class r →
             is_available_at inst_regs.now request.now.positions r ≡ false) }
     {
         let class = request.vreg.class();
-        let oldest = self.registers.oldest(class)?;
-        if inst_regs.is_available(oldest, request.positions) {
-            return Some(oldest);
+        let first = self.registers.first_choice(class)?;
+        if inst_regs.is_available(first, request.positions) {
+            return Some(first);
         }
         self.search_free(inst_regs, class, request.positions)
     }
@@ -231,10 +227,10 @@ impl<'a, A: Allocator> State<'a, A> {
             alloc_of self.now.places request.now.vreg.number ≢ NoPlace) }
         ensures none { IfNone result (request.now.requirement ≡ Requirement.AnyReg →
             NoneIsAvailable request.now.vreg.class inst_regs.now (tables_of self.now)) }
-        ensures oldest { IfSome result (λ r. (free : PRegSet) × ((q : Register) → is_free_throughout inst_regs.now q ≡ true → has_register free q ≡ true)
-            × (find (has_register free) (reverse (lru_of self.now.registers request.now.vreg.class)) ≡ Some r)) }
+        ensures chosen { IfSome result (λ r. chosen (is_available_at inst_regs.now request.now.positions) (lru_of self.now.registers request.now.vreg.class)
+            ≡ Some r) }
     {
-        let preg = self.oldest_free(inst_regs, request)?;
+        let preg = self.choose_free(inst_regs, request)?;
         match request.requirement {
             Requirement::AnyReg => Some(preg),
             Requirement::AnyPlace if self.prefers_register(inst_regs, request, preg) => Some(preg),

@@ -186,7 +186,7 @@ impl<'a, A: Allocator> State<'a, A> {
             return Ok(preg);
         }
         let free = self.registers.available_regs() & held.invert();
-        if let Some(preg) = self.registers.least_recently_used(class, free) {
+        if let Some(preg) = self.registers.choose_register(class, free) {
             return Ok(preg);
         }
         match self.registers.preferred_victim(class) {

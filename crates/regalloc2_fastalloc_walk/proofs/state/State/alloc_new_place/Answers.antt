@@ -24,7 +24,7 @@ returns-in-Some g c = record {
   err = tt;
   stops = tt;
   registers = refl;
-  chooses = λ any unsuited. (let o = c.in-Some.ensures.oldest in least_recently_used_free o.0 c.in-Some.preg unsuited o.1 o.2 c.reg-in-Some.ensures);
+  chooses = λ any unsuited. least_recently_used_free c.args.request.now.positions c.in-Some.preg unsuited c.in-Some.ensures.chosen c.reg-in-Some.ensures;
   awaited = λ any def r e. c.in-Some.ensures.awaited any def;
 }
 
