@@ -13,7 +13,7 @@ pub data ReloadsParam (point : ℕ) (v : VirtualRegister) (t u : InstRegs) (old 
   nowhere : alloc_of old.places v.number ≡ NoPlace → u ≡ t → new ≡ old → ReloadsParam point v t u old new
   comes : (s : Place) (m : StateValue) → alloc_of old.places v.number ≢ NoPlace → GetsSpillSlot old.slots m.slots v s →
       SetsAlloc old.places m.places v NoPlace → m.edits ≡ old.edits → SameMachine old m
-      → AddsMoveIf point v.class (not (is_place s (alloc_of old.places v.number))) s (alloc_of old.places v.number) t u m new → ReloadsParam point v t u old new
+      → m.lrus ≡ old.lrus → AddsMoveIf point v.class (not (is_place s (alloc_of old.places v.number))) s (alloc_of old.places v.number) t u m new → ReloadsParam point v t u old new
 
 -- a vreg that no function has
 abbrev pub no_vreg : VirtualRegister

@@ -17,6 +17,7 @@ tables_of s = record {
   allocatable = s.registers.allocatable;
   fixed_stack = s.registers.fixed_stack;
   dedicated_scratch = s.registers.dedicated_scratch;
+  lrus = s.registers.lrus;
 }
 
 -- a relation between the tables of two states
@@ -34,7 +35,7 @@ MakesOne Step result old new = IfOk result (λ x. Between (Step x) old new)
 abbrev pub StopsOnlyIf : {A T : Type 0} → (StateValue → Type 0) → Result T RegAllocError → State A → Type 0
 StopsOnlyIf Lack result old = IfErr result (OutOfRegsOnlyIf (Lack (tables_of old)))
 
--- the tables stay, in whatever order registers were used
+-- the tables stay
 abbrev pub SameTables : {A : Type 0} → State A → State A → Type 0
 SameTables old new = tables_of new ≡ tables_of old
 
@@ -56,6 +57,5 @@ pub record IsBranchStepAt {A T : Type 0} (point more : ℕ) (result : Result T R
 -- a step that makes slots at most, and fails only where slots or memory are out
 pub record MakesSlots {A T : Type 0} (result : Result T RegAllocError) (old new : State A) : Type 0 where
   pub tables : tables_of new ≡ record (tables_of old) { slots = new.slots }
-  pub registers : new.registers ≡ old.registers
   pub machine : Between SameMachine old new
   pub err : IfErr result (λ e. IsResourceErrorIn new.slots e × (e ≢ TooManyLiveRegs))

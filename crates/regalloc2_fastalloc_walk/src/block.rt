@@ -82,7 +82,6 @@ impl<'a, A: Allocator> State<'a, A> {
         ensures emptied { OnOk result ((r : Register) → r.number < 64 → vreg_of_preg self.new.places r ≡ None) }
         ensures step { IsStepAt point result self.old self.new }
         ensures stops { StopsOnlyIf (ReloadRegsFails point inst_regs.old) result self.old }
-        ensures nobody { OnOk result (((n : ℕ) → alloc_of self.old.places n ≡ NoPlace) → SameTables self.old self.new) }
     {
         while let Some(preg) = self.places.newest_filled() {
             self.evict_preg(inst_regs, point, preg)?;
@@ -99,7 +98,6 @@ impl<'a, A: Allocator> State<'a, A> {
         ensures ok { Makes (ReloadsAtBegin (before first) params.now) result self.old self.new }
         ensures step { IsStepAt (before first) result self.old self.new }
         ensures stops { StopsOnlyIf (ReloadAtBeginFails (before first) params.now) result self.old }
-        ensures nobody { OnOk result (((n : ℕ) → alloc_of self.old.places n ≡ NoPlace) → params.now ≡ [] → SameTables self.old self.new) }
     {
         let mut inst_regs = InstRegs::new(self.registers.available_regs());
         let point = ProgPoint::before(first);

@@ -229,8 +229,6 @@ impl<'a, A: Allocator> State<'a, A> {
         ensures unchanged { OnErr result (SameTables self.old self.new) }
         ensures err { IfErr result (IsResourceError (SlotsExhaustedWith self.old.slots (self.old.slots.num_temp_slots + 2))) }
         ensures stops { StopsOnlyIf (OrderMovesFails class moves.entry) result self.old }
-        ensures registers { OnOk result (self.new.registers ≡ self.old.registers) }
-        ensures none { IfOk result (λ made. moves.entry ≡ [] → (made.items ≡ []) × (SameTables self.old self.new)) }
     {
         let resolved = resolve(moves)?;
         if are_none(&resolved) {
@@ -268,8 +266,6 @@ impl<'a, A: Allocator> State<'a, A> {
         ensures machine { Between (AddsTempSlotsAtMost 2) self.old self.new }
         ensures err { IfErr result (IsResourceError (SlotsExhaustedWith self.old.slots (self.old.slots.num_temp_slots + 2))) }
         ensures stops { StopsOnlyIf (OrderMovesFails class moves.entry) result self.old }
-        ensures registers { OnOk result (self.new.registers ≡ self.old.registers) }
-        ensures none { OnOk result (moves.entry ≡ [] → SameTables self.old self.new) }
     {
         let made = self.order(inst_regs, class, moves)?;
         self.edits.push_all(point, made.as_slice())?;
@@ -292,7 +288,6 @@ impl<'a, A: Allocator> State<'a, A> {
         ensures later { AllAtOrAfter point self.new.edits }
         ensures rest { tables_of self.new ≡ record (tables_of self.old) { edits = self.new.edits } }
         ensures err { IfErr result (λ e. e ≡ RegAllocError.Memory) }
-        ensures registers { self.new.registers ≡ self.old.registers }
     {
         let register = Allocation::reg(by);
         self.edits.push(point, register, to)?;
@@ -318,8 +313,6 @@ impl<'a, A: Allocator> State<'a, A> {
         ensures machine { Between (AddsTempSlotsAtMost 2) self.old self.new }
         ensures err { IfErr result (IsResourceError (SlotsExhaustedWith self.old.slots (self.old.slots.num_temp_slots + 2))) }
         ensures stops { StopsOnlyIf (OrderMovesFails class moves.entry) result self.old }
-        ensures registers { OnOk result (self.new.registers ≡ self.old.registers) }
-        ensures none { OnOk result (moves.entry ≡ [] → SameTables self.old self.new) }
     {
         if moves.is_empty() {
             // most branches have moves of one class, and the list of another isn't handed on to be put in order
@@ -350,7 +343,6 @@ impl<'a, A: Allocator> State<'a, A> {
         ensures ok { MakesOne (λ s. SpillsArgument point argument s inst_regs.old inst_regs.new) result self.old self.new }
         ensures step { IsStepAt point result self.old self.new }
         ensures stops { StopsOnlyIf (SpillArgumentFails argument inst_regs.old) result self.old }
-        ensures registers { OnOk result (self.new.registers ≡ self.old.registers) }
     {
         let slot = self.slots.get_spillslot(argument)?;
         if let Some(preg) = self.places.current_alloc(argument).as_reg() {
@@ -379,7 +371,6 @@ impl<'a, A: Allocator> State<'a, A> {
             AreOf moves.new.int moves.new.float moves.new.vector (given ++ record { class = argument.class; from = from; to = to } ∷ []))) }
         ensures step { IsStepAt point result self.old self.new }
         ensures stops { StopsOnlyIf (GatherArgumentFails argument inst_regs.old) result self.old }
-        ensures registers { OnOk result (self.new.registers ≡ self.old.registers) }
     {
         let to = self.slots.get_spillslot(param)?;
         let from = self.spill_argument(inst_regs, point, argument)?;
@@ -408,7 +399,6 @@ impl<'a, A: Allocator> State<'a, A> {
         ensures step { IsStepAt (before own.now.branch) result self.old self.new }
         ensures stops { StopsOnlyIf (λ t. (given : List ClassMove) → AreOf moves.old.int moves.old.float moves.old.vector given → GatherEdgeFails
             (IsOwnBy own.now.defs.now own.now.branch) (before own.now.branch) params.now arguments.now inst_regs.old t given) result self.old }
-        ensures registers { OnOk result (self.new.registers ≡ self.old.registers) }
     {
         let point = ProgPoint::before(own.branch);
         for j in 0..params.len() {
@@ -443,7 +433,6 @@ impl<'a, A: Allocator> State<'a, A> {
             (length (block_at (F.function cx.now.f.now) block).succs) inst_regs.new (tables_of self.new) given) }
         ensures step { IsStepAt (before inst) result self.old self.new }
         ensures stops { StopsOnlyIf (GatherMovesFails (F.function cx.now.f.now) block (before inst) inst_regs.old) result self.old }
-        ensures registers { OnOk result (self.new.registers ≡ self.old.registers) }
     {
         let own = OwnDefs {
             defs: cx.defs,
@@ -477,8 +466,6 @@ impl<'a, A: Allocator> State<'a, A> {
         ensures err { IfErr result (IsResourceError (SlotsExhaustedWith self.old.slots (self.old.slots.num_temp_slots + 6))) }
         ensures stops { StopsOnlyIf (λ t. OrderMovesFails RegClass.Int moves.entry.int t ⊎ (OrderMovesFails RegClass.Float moves.entry.float t ⊎
             OrderMovesFails RegClass.Vector moves.entry.vector t)) result self.old }
-        ensures registers { OnOk result (self.new.registers ≡ self.old.registers) }
-        ensures none { OnOk result (moves.entry.int ≡ [] → moves.entry.float ≡ [] → moves.entry.vector ≡ [] → SameTables self.old self.new) }
     {
         let MovesByClass { int, float, vector } = moves;
         self.push_moves(inst_regs, point, RegClass::Int, int)?;
@@ -518,9 +505,6 @@ impl<'a, A: Allocator> State<'a, A> {
         ensures ok { Makes (ProcessesBranch (F.function cx.now.f.now) block inst inst_regs.old inst_regs.new) result self.old self.new }
         ensures step { IsBranchStepAt (before inst) 6 result self.old self.new }
         ensures stops { StopsOnlyIf (ProcessBranchFails (F.function cx.now.f.now) block inst inst_regs.old) result self.old }
-        ensures registers { OnOk result (self.new.registers ≡ self.old.registers) }
-        ensures none { OnOk result (((k : ℕ) → HasEdge (F.function cx.now.f.now) block k → (block_at (F.function cx.now.f.now)
-            (target_at (F.function cx.now.f.now) block k)).params ≡ []) → SameTables self.old self.new) }
     {
         if passes_nothing(cx.f, block) {
             return Ok(());

@@ -27,7 +27,6 @@ impl<'a, A: Allocator> State<'a, A> {
         ensures ok { Makes (EvictsVReg point preg) result self.old self.new }
         ensures step { IsStepAt point result self.old self.new }
         ensures stops { IfErr result (OutOfRegsOnlyIf (⊥)) }
-        ensures registers { OnOk result (self.new.registers ≡ self.old.registers) }
     {
         let Some(vreg) = self.places.vreg_in(preg) else {
             return Ok(());
@@ -51,7 +50,6 @@ impl<'a, A: Allocator> State<'a, A> {
         ensures awaited { inst_regs.new.awaited ≡ inst_regs.old.awaited }
         ensures step { IsStepAt point result self.old self.new }
         ensures stops { StopsOnlyIf (AllocScratchRegFails class inst_regs.old) result self.old }
-        ensures registers { OnOk result (self.new.registers ≡ self.old.registers) }
     {
         if let Some(preg) = self.registers.dedicated_scratch(class) {
             return Ok(preg);
@@ -84,7 +82,6 @@ impl<'a, A: Allocator> State<'a, A> {
         ensures awaited { inst_regs.new.awaited ≡ inst_regs.old.awaited }
         ensures step { IsStepAt point result self.old self.new }
         ensures stops { StopsOnlyIf (AddMoveFails class from to inst_regs.old) result self.old }
-        ensures registers { OnOk result (self.new.registers ≡ self.old.registers) }
     {
         // most moves are reloads, which go to a register
         if self.is_stack(to) && self.is_stack(from) {
@@ -116,7 +113,6 @@ impl<'a, A: Allocator> State<'a, A> {
         ensures empty { OnOk result (vreg_of_preg self.new.places preg ≡ None) }
         ensures step { IsStepAt point result self.old self.new }
         ensures stops { StopsOnlyIf (EvictPRegFails preg inst_regs.old) result self.old }
-        ensures registers { OnOk result (self.new.registers ≡ self.old.registers) }
     {
         let slot = self.slots.get_spillslot(vreg)?;
         self.places.set_alloc(vreg, slot);
@@ -139,7 +135,6 @@ impl<'a, A: Allocator> State<'a, A> {
         ensures empty { OnOk result (vreg_of_preg self.new.places preg ≡ None) }
         ensures step { IsStepAt point result self.old self.new }
         ensures stops { StopsOnlyIf (EvictPRegFails preg inst_regs.old) result self.old }
-        ensures registers { OnOk result (self.new.registers ≡ self.old.registers) }
     {
         let Some(vreg) = self.places.vreg_in(preg) else {
             return Ok(());
@@ -163,7 +158,6 @@ impl<'a, A: Allocator> State<'a, A> {
         ensures alone { OnOk result (alloc_of self.new.places vreg.number ≡ NoPlace → vreg_of_preg self.new.places preg ≡ None) }
         ensures step { IsStepAt point result self.old self.new }
         ensures stops { StopsOnlyIf (EvictPRegFails preg inst_regs.old) result self.old }
-        ensures registers { OnOk result (self.new.registers ≡ self.old.registers) }
     {
         if let Some(held) = self.places.vreg_in(preg) {
             if held.vreg() == vreg.vreg() {

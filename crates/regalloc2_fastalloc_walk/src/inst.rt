@@ -3,7 +3,6 @@
 ghost use Rattle.std.specs.Prelude.{Bool};
 ghost use Rattle.regalloc2_names.specs.RegisterSet.{has_register};
 ghost use Rattle.regalloc2_names.specs.Register.{Register, VirtualRegister};
-ghost use Rattle.regalloc2_fastalloc_walk.specs.SpillFree.{FitInRegs, ArePlaced, ArePlain, IsSpillFree, LeavesSpillFree, AllocsAnyReg};
 ghost use Rattle.std.specs.Prelude.{◌≡◌, ◌<◌, ◌≤◌, ◌+◌, ◌↔◌, [], length, not, false, true, slice_set, slice_index_or, ℕ, OnOk, IfSome, IfNone};
 ghost use Rattle.std.specs.Prelude.{IsNone, IsTrue, List};
 ghost use Rattle.regalloc2_names.specs.Point.{before, after};
@@ -214,9 +213,6 @@ impl<'a, A: Allocator> State<'a, A> {
             self.old self.new }
         ensures step { IsStepAt (after cx.now.inst) result self.old self.new }
         ensures stops { StopsOnlyIf (ProcessOperandFails cx.now.inst cx.now.ends_block cx.now.operands.now k here.old inst_regs.old) result self.old }
-        ensures takes { OnOk result ((op_at cx.now.operands.now k).constraint ≡ OperandConstraint.Reg → slice_index_or here.old k NoPlace ≡ NoPlace →
-            AllocsAnyReg inst_regs.old (op_at cx.now.operands.now k).vreg (slice_index_or here.new k NoPlace) (tables_of self.old) self.old.registers
-            self.new.registers) }
     {
         let operands = cx.operands;
         let operand = operands[k];
@@ -261,8 +257,6 @@ impl<'a, A: Allocator> State<'a, A> {
             self.old self.new }
         ensures step { IsStepAt (after cx.now.inst) result self.old self.new }
         ensures stops { StopsOnlyIf (ProcessOperandFails cx.now.inst cx.now.ends_block cx.now.operands.now k here.old inst_regs.old) result self.old }
-        ensures takes { OnOk result (AllocsAnyReg inst_regs.old (op_at cx.now.operands.now k).vreg (slice_index_or here.new k NoPlace)
-            (tables_of self.old) self.old.registers self.new.registers) }
     {
         let operands = cx.operands;
         let operand = operands[k];
@@ -351,9 +345,6 @@ impl<'a, A: Allocator> State<'a, A> {
             self.old self.new }
         ensures step { IsStepAt (after cx.now.inst) result self.old self.new }
         ensures stops { StopsOnlyIf (ProcessOperandFails cx.now.inst cx.now.ends_block cx.now.operands.now k here.old inst_regs.old) result self.old }
-        ensures takes { OnOk result ((op_at cx.now.operands.now k).constraint ≡ OperandConstraint.Reg → slice_index_or here.old k NoPlace ≡ NoPlace →
-            AllocsAnyReg inst_regs.old (op_at cx.now.operands.now k).vreg (slice_index_or here.new k NoPlace) (tables_of self.old) self.old.registers
-            self.new.registers) }
     {
         let operands = cx.operands;
         let operand = operands[k];
@@ -392,11 +383,6 @@ impl<'a, A: Allocator> State<'a, A> {
         ensures step { IsStepAt (after cx.now.inst) result self.old self.new }
         ensures stops { StopsOnlyIf (ProcessOperandsAtFails cx.now.inst cx.now.ends_block (is_late pos) cx.now.operands.now here.old inst_regs.old) result
             self.old }
-        ensures spill_free { OnOk result ((names : List VirtualRegister) (gone : ℕ → Bool) → FitInRegs names self.old.registers.allocatable →
-            ArePlain names gone cx.now.operands.now (is_late pos) → ((j : ℕ) → is_late (op_at cx.now.operands.now j).position ≡ is_late pos →
-            slice_index_or here.old j NoPlace ≡ NoPlace) → IsSpillFree names gone self.old.registers (tables_of self.old) inst_regs.old
-            → ArePlaced names gone cx.now.operands.now (is_late pos) (length cx.now.operands.now) here.old here.new self.new.registers (tables_of self.old)
-            (tables_of self.new) inst_regs.new) }
     {
         for (k, _operand) in operands_at(cx.operands, pos) {
             self.process_operand_allocation(inst_regs, cx, here, k)?;
@@ -419,7 +405,6 @@ impl<'a, A: Allocator> State<'a, A> {
         ensures step { IsStepAt point result self.old self.new }
         ensures stops { StopsOnlyIf (AddMoveIfFails operand.vreg.class (not (is_place (alloc_of self.old.places operand.vreg.number) place))
             (alloc_of self.old.places operand.vreg.number) place inst_regs.old) result self.old }
-        ensures registers { OnOk result (self.new.registers ≡ self.old.registers) }
     {
         let current = self.places.current_alloc(operand.vreg());
         let is_moved = differ(current, place);
@@ -450,7 +435,6 @@ impl<'a, A: Allocator> State<'a, A> {
         ensures ok { Makes (λ t. MovesUses point operands.now here.now inst_regs.old t (length operands.now) inst_regs.new) result self.old self.new }
         ensures step { IsStepAt point result self.old self.new }
         ensures stops { StopsOnlyIf (MoveUsesFails point operands.now here.now inst_regs.old) result self.old }
-        ensures registers { OnOk result (self.new.registers ≡ self.old.registers) }
     {
         for (k, operand) in Operands::new(operands).use_ops() {
             if operand.is_reading() {
@@ -480,10 +464,6 @@ impl<'a, A: Allocator> State<'a, A> {
             (tables_of self.old) (tables_of self.new)) × (a.ended ≡ inst_regs.new)) }
         ensures step { IsStepAt (before cx.now.inst) result self.old self.new }
         ensures stops { StopsOnlyIf (AllocInstFails cx.now.inst cx.now.ends_block cx.now.operands.now cx.now.clobbers here.old inst_regs.old) result self.old }
-        ensures spill_free { OnOk result ((names : List VirtualRegister) (gone : ℕ → Bool) → FitInRegs names self.old.registers.allocatable →
-            ((late : Bool) → ArePlain names gone cx.now.operands.now late) → ((r : Register) → has_register cx.now.clobbers r ≡ false) →
-            IsSpillFree names gone self.old.registers (tables_of self.old) inst_regs.old
-            → LeavesSpillFree names gone cx.now.operands.now self.new.registers (tables_of self.new)) }
     {
         let operands = cx.operands;
         let point = ProgPoint::after(cx.inst);
@@ -521,10 +501,6 @@ impl<'a, A: Allocator> State<'a, A> {
         ensures stops { StopsOnlyIf (λ t. (blank : List Place) × (length blank ≡ length cx.now.operands.now)
             × ((k : ℕ) → slice_index_or blank k NoPlace ≡ NoPlace) × AllocInstFails cx.now.inst cx.now.ends_block cx.now.operands.now cx.now.clobbers blank
             inst_regs.old t) result self.old }
-        ensures spill_free { OnOk result ((names : List VirtualRegister) (gone : ℕ → Bool) → FitInRegs names self.old.registers.allocatable →
-            ((late : Bool) → ArePlain names gone cx.now.operands.now late) → ((r : Register) → has_register cx.now.clobbers r ≡ false) →
-            IsSpillFree names gone self.old.registers (tables_of self.old) inst_regs.old
-            → LeavesSpillFree names gone cx.now.operands.now self.new.registers (tables_of self.new)) }
     {
         let end = start + cx.operands.len();
         self.alloc_inst(inst_regs, cx, &mut allocs[start..end])?;

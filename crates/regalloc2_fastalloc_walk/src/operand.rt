@@ -2,7 +2,6 @@
 
 ghost use Rattle.std.specs.Prelude.{Some, true, false, IsFalse};
 ghost use Rattle.regalloc2_names.specs.RegisterSet.{has_register};
-ghost use Rattle.regalloc2_fastalloc_walk.specs.SpillFree.{SelectsAnyReg, AllocsAnyReg, Pokes};
 ghost use Rattle.std.specs.Prelude.{◌≡◌, ◌≢◌, ◌<◌, ◌≤◌, ◌↔◌, ◌⊎◌, ◌&&◌, length, not, None, OnOk, IfOk, IfErr, IfNone, IfSome, IsTrue};
 ghost use Rattle.regalloc2_names.specs.Register.{Register};
 ghost use Rattle.regalloc2_names.specs.Place.{NoPlace, InRegister, is_place};
@@ -11,12 +10,12 @@ ghost use Rattle.regalloc2_fastalloc_state.specs.StateParts.{IsInverse, AllAtOrA
 ghost use Rattle.regalloc2_fastalloc_state.specs.OutOfResources.{IsResourceErrorIn};
 ghost use Rattle.regalloc2_fastalloc_state.specs.InstRegs.{IsAvailableAt, SameAvailable, free_count, is_available_at};
 ghost use Rattle.regalloc2_fastalloc_proofs.specs.InstSteps.{awaited_less, is_another, scratch_reserve_left, FreesDef, AllocsOperand, IsAffordable};
-ghost use Rattle.regalloc2_fastalloc_proofs.specs.InstSteps.{MayHold, ClaimsPlace, SelectsPlace, AllocsDefOp, AllocsUse, SameMachine, AddsMoveIf};
+ghost use Rattle.regalloc2_fastalloc_proofs.specs.InstSteps.{MayHold, TakesPlace, UsesPlace, SelectsPlace, AllocsDefOp, AllocsUse, SameMachine, AddsMoveIf};
 ghost use Rattle.regalloc2_fastalloc_proofs.specs.InstSteps.{MeetsRequirement};
 ghost use Rattle.regalloc2_fastalloc_proofs.specs.OutOfRegs.{NoneIsAvailable, EvictPRegFails, AllocDefOpFails, FreeDefFails};
 ghost use Rattle.regalloc2_fastalloc_proofs.specs.OutOfRegs.{AllocOperandFails, SelectPlaceFails, AddMoveIfFails};
 ghost use Rattle.regalloc2_fastalloc_walk.specs.PlaceChoice.{IsUnaffordable};
-ghost use Rattle.regalloc2_fastalloc_walk.specs.StateView.{Between, IsStepAt, Makes, MakesOne, SameTables, StopsOnlyIf, tables_of};
+ghost use Rattle.regalloc2_fastalloc_walk.specs.StateView.{Between, IsStepAt, Makes, MakesOne, StopsOnlyIf, tables_of};
 
 use super::state::State;
 use regalloc2_fastalloc_state::inst_regs::{InstRegs, Positions};
@@ -245,7 +244,9 @@ impl<'a, A: Allocator> State<'a, A> {
         inst_regs: &InstRegs,
         request: &OperandRequest,
     ) -> Result<Allocation, RegAllocError>
-        requires { request.now.vreg.number < length self.old.places.vreg_allocs }
+        requires vreg { request.now.vreg.number < length self.old.places.vreg_allocs }
+        requires away { request.now.requirement ≡ Requirement.AnyReg →
+            MeetsRequirement (tables_of self.old) Requirement.AnyReg (alloc_of self.old.places request.now.vreg.number) → ⊥ }
         ensures ok { MakesOne (λ p. SelectsPlace inst_regs.now request.now p) result self.old self.new }
         ensures affordable { IfOk result (λ p. request.now.requirement ≡ Requirement.AnyPlace → (r : Register) → p ≡ InRegister r →
             IsAffordable inst_regs.now (tables_of self.old) r) }
@@ -255,10 +256,6 @@ impl<'a, A: Allocator> State<'a, A> {
         ensures machine { Between SameMachine self.old self.new }
         ensures err { IfErr result (IsResourceErrorIn self.new.slots) }
         ensures stops { StopsOnlyIf (SelectPlaceFails request.now inst_regs.now) result self.old }
-        ensures registers { OnOk result (self.new.registers ≡ self.old.registers) }
-        ensures chooses { IfOk result (λ p. request.now.requirement ≡ Requirement.AnyReg →
-            (MeetsRequirement (tables_of self.old) Requirement.AnyReg (alloc_of self.old.places request.now.vreg.number) → ⊥) →
-            SelectsAnyReg inst_regs.now request.now.vreg self.old.registers (tables_of self.old) p) }
         ensures awaited { IfOk result (λ p. request.now.requirement ≡ Requirement.AnyPlace → request.now.is_def ≡ true → (r : Register) → p ≡ InRegister r →
             alloc_of self.old.places request.now.vreg.number ≢ NoPlace) }
     {
@@ -292,9 +289,6 @@ impl<'a, A: Allocator> State<'a, A> {
         ensures machine { Between SameMachine self.old self.new }
         ensures err { IfErr result (IsResourceErrorIn self.new.slots) }
         ensures stops { StopsOnlyIf (SelectPlaceFails request.now inst_regs.now) result self.old }
-        ensures registers { OnOk result (self.new.registers ≡ self.old.registers) }
-        ensures chooses { IfOk result (λ p. request.now.requirement ≡ Requirement.AnyReg →
-            SelectsAnyReg inst_regs.now request.now.vreg self.old.registers (tables_of self.old) p) }
         ensures awaited_in { IfOk result (λ p. request.now.is_def ≡ true → request.now.requirement ≡ Requirement.AnyPlace → (r : Register) →
             p ≡ InRegister r → (q : Register) × (alloc_of self.old.places request.now.vreg.number ≡ InRegister q)) }
         ensures inverse { IsInverse self.old.places }
@@ -309,8 +303,7 @@ impl<'a, A: Allocator> State<'a, A> {
     /// An allocatable register counts as used just now if it wasn't asked for by name.
     #[inline(always)]
     fn note_taken(&mut self, requirement: Requirement, preg: PReg)
-        ensures tables { SameTables self.old self.new }
-        ensures order { requirement ≡ Requirement.AnyReg → Pokes preg self.old.registers self.new.registers }
+        ensures { Between (UsesPlace requirement (InRegister preg)) self.old self.new }
     {
         if !self.registers.is_allocatable(preg) {
             return;
@@ -330,12 +323,11 @@ impl<'a, A: Allocator> State<'a, A> {
         preg: PReg,
     ) -> Result<(), RegAllocError>
         requires { AllAtOrAfter point self.old.edits }
-        ensures ok { Makes (ClaimsPlace point request.now (InRegister preg) inst_regs.old inst_regs.new) result self.old self.new }
+        ensures ok { Makes (TakesPlace point request.now (InRegister preg) inst_regs.old inst_regs.new) result self.old self.new }
         ensures awaited { inst_regs.new.awaited ≡ inst_regs.old.awaited }
         ensures alone { OnOk result (alloc_of self.new.places request.now.vreg.number ≡ NoPlace → vreg_of_preg self.new.places preg ≡ None) }
         ensures step { IsStepAt point result self.old self.new }
         ensures stops { StopsOnlyIf (EvictPRegFails preg inst_regs.old) result self.old }
-        ensures order { OnOk result (request.now.requirement ≡ Requirement.AnyReg → Pokes preg self.old.registers self.new.registers) }
     {
         self.evict_others(inst_regs, point, preg, request.vreg)?;
         inst_regs.remove_available(preg, request.positions);
@@ -354,14 +346,12 @@ impl<'a, A: Allocator> State<'a, A> {
     ) -> Result<(), RegAllocError>
         requires later { AllAtOrAfter point self.old.edits }
         requires there { place ≢ NoPlace }
-        ensures ok { Makes (ClaimsPlace point request.now place inst_regs.old inst_regs.new) result self.old self.new }
+        ensures ok { Makes (TakesPlace point request.now place inst_regs.old inst_regs.new) result self.old self.new }
         ensures awaited { inst_regs.new.awaited ≡ inst_regs.old.awaited }
         ensures alone { OnOk result ((r : Register) → place ≡ InRegister r → alloc_of self.new.places request.now.vreg.number ≡ NoPlace →
             vreg_of_preg self.new.places r ≡ None) }
         ensures step { IsStepAt point result self.old self.new }
         ensures stops { StopsOnlyIf (λ t. (r : Register) × (place ≡ InRegister r) × EvictPRegFails r inst_regs.old t) result self.old }
-        ensures order { OnOk result (request.now.requirement ≡ Requirement.AnyReg → (r : Register) → place ≡ InRegister r →
-            Pokes r self.old.registers self.new.registers) }
     {
         let Some(preg) = place.as_reg() else {
             return Ok(());
@@ -386,8 +376,6 @@ impl<'a, A: Allocator> State<'a, A> {
             vreg_of_preg self.new.places r ≡ None) }
         ensures step { IsStepAt point result self.old self.new }
         ensures stops { StopsOnlyIf (AllocOperandFails request.now inst_regs.old) result self.old }
-        ensures takes { IfOk result (λ p. request.now.requirement ≡ Requirement.AnyReg →
-            AllocsAnyReg inst_regs.old request.now.vreg p (tables_of self.old) self.old.registers self.new.registers) }
     {
         let place = self.select_place(inst_regs, request)?;
         self.claim_place(inst_regs, point, request, place)?;
@@ -409,7 +397,6 @@ impl<'a, A: Allocator> State<'a, A> {
         ensures awaited { inst_regs.new.awaited ≡ inst_regs.old.awaited }
         ensures step { IsStepAt point result self.old self.new }
         ensures stops { StopsOnlyIf (AddMoveIfFails m.class is_made m.from m.to inst_regs.old) result self.old }
-        ensures registers { OnOk result (self.new.registers ≡ self.old.registers) }
     {
         if !is_made {
             return Ok(());
@@ -435,7 +422,6 @@ impl<'a, A: Allocator> State<'a, A> {
         ensures awaited { inst_regs.new.awaited ≡ inst_regs.old.awaited }
         ensures step { IsStepAt point result self.old self.new }
         ensures stops { StopsOnlyIf (FreeDefFails point vreg is_ret place inst_regs.old) result self.old }
-        ensures registers { OnOk result (self.new.registers ≡ self.old.registers) }
     {
         let class = vreg.class();
         let awaited = self.places.current_alloc(vreg);
@@ -473,8 +459,6 @@ impl<'a, A: Allocator> State<'a, A> {
         ensures ok { MakesOne (λ p. AllocsDefOp point request.now is_ret p inst_regs.old inst_regs.new) result self.old self.new }
         ensures step { IsStepAt point result self.old self.new }
         ensures stops { StopsOnlyIf (AllocDefOpFails point request.now is_ret inst_regs.old) result self.old }
-        ensures takes { IfOk result (λ p. request.now.requirement ≡ Requirement.AnyReg →
-            AllocsAnyReg inst_regs.old request.now.vreg p (tables_of self.old) self.old.registers self.new.registers) }
     {
         let place = self.alloc_operand(inst_regs, point, request)?;
         self.free_def(inst_regs, point, request.vreg, is_ret, place)?;
@@ -494,8 +478,6 @@ impl<'a, A: Allocator> State<'a, A> {
         ensures ok { MakesOne (λ p. AllocsUse point request.now p inst_regs.old inst_regs.new) result self.old self.new }
         ensures step { IsStepAt point result self.old self.new }
         ensures stops { StopsOnlyIf (AllocOperandFails request.now inst_regs.old) result self.old }
-        ensures takes { IfOk result (λ p. request.now.requirement ≡ Requirement.AnyReg →
-            AllocsAnyReg inst_regs.old request.now.vreg p (tables_of self.old) self.old.registers self.new.registers) }
     {
         let place = self.alloc_operand(inst_regs, point, request)?;
         if self.places.current_alloc(request.vreg).is_some() {

@@ -6,9 +6,9 @@ ghost use Rattle.regalloc2_names.specs.RegisterSet.{has_register, registers_of};
 ghost use Rattle.regalloc2_fastalloc_state.specs.StateParts.{AllAtOrAfter};
 ghost use Rattle.regalloc2_fastalloc_state.specs.OutOfResources.{IsResourceErrorIn};
 ghost use Rattle.regalloc2_validate.specs.Constraints.{op_at};
-ghost use Rattle.regalloc2_fastalloc_proofs.specs.InstSteps.{NeedsFixedReg, ReservesRegs, RemovesClobbers, EvictsFixed, EvictsEach};
+ghost use Rattle.regalloc2_fastalloc_proofs.specs.InstSteps.{NeedsFixedReg, NoneUsed, ReservesRegs, RemovesClobbers, EvictsFixed, EvictsEach, SameButOrder};
 ghost use Rattle.regalloc2_fastalloc_proofs.specs.OutOfRegs.{OutOfRegsOnlyIf, EvictClobbersFails, EvictFixedFails, ReserveRegsFails};
-ghost use Rattle.regalloc2_fastalloc_walk.specs.StateView.{IsStepAt, Makes, SameTables, StopsOnlyIf, tables_of};
+ghost use Rattle.regalloc2_fastalloc_walk.specs.StateView.{Between, IsStepAt, Makes, SameTables, StopsOnlyIf, tables_of};
 ghost use Rattle.regalloc2_fastalloc_walk.specs.ReserveSteps.{AwaitsOne, ReservesOnly, IsNewlyReserved, IsReservedAt, IsReserved, Grows, Shrinks};
 ghost use Rattle.regalloc2_fastalloc_walk.specs.ReserveSteps.{ReservesRegForOperand, ReserveForOperandFails, TakesOnly};
 
@@ -170,7 +170,7 @@ impl<'a, A: Allocator> State<'a, A> {
         preg: PReg,
         positions: Positions,
     )
-        ensures same { SameTables self.old self.new }
+        ensures same { Between SameButOrder self.old self.new }
         ensures shrinks { Shrinks inst_regs.old inst_regs.new }
         ensures takes { TakesOnly preg inst_regs.old inst_regs.new }
         ensures awaited { inst_regs.new.awaited ≡ inst_regs.old.awaited }
@@ -197,11 +197,11 @@ impl<'a, A: Allocator> State<'a, A> {
         requires { k < length operands.now }
         ensures ok { OnOk result (ReservesRegForOperand operands.now k inst_regs.old inst_regs.new claims.old claims.new (tables_of self.old)) }
         ensures awaited { OnOk result (AwaitsOne operands.now k inst_regs.old inst_regs.new) }
-        ensures same { SameTables self.old self.new }
+        ensures same { Between SameButOrder self.old self.new }
         ensures err { IfErr result (IsResourceErrorIn self.new.slots) }
         ensures stops { StopsOnlyIf (ReserveForOperandFails operands.now k claims.old) result self.old }
-        ensures registers { OnOk result (((r : Register) → (op_at operands.now k).constraint ≡ OperandConstraint.FixedReg r → ⊥) →
-            self.new.registers ≡ self.old.registers) }
+        ensures unused { OnOk result (((r : Register) → (op_at operands.now k).constraint ≡ OperandConstraint.FixedReg r → ⊥) →
+            self.new.registers.lrus ≡ self.old.registers.lrus) }
     {
         let operand = operands[k];
         // one that asks for any register claims none, and is fixed to none
@@ -225,11 +225,10 @@ impl<'a, A: Allocator> State<'a, A> {
         operands: &[Operand],
     ) -> Result<bool, RegAllocError>
         ensures ok { OnOk result (ReservesRegs operands.now inst_regs.old inst_regs.new (tables_of self.old)) }
-        ensures same { SameTables self.old self.new }
+        ensures same { Between SameButOrder self.old self.new }
         ensures err { IfErr result (IsResourceErrorIn self.new.slots) }
         ensures stops { StopsOnlyIf (ReserveRegsFails operands.now) result self.old }
-        ensures registers { OnOk result (((k : ℕ) (r : Register) → k < length operands.now →
-            (op_at operands.now k).constraint ≡ OperandConstraint.FixedReg r → ⊥) → self.new.registers ≡ self.old.registers) }
+        ensures unused { OnOk result (NoneUsed operands.now self.old.registers.lrus self.new.registers.lrus) }
         ensures fixed { IfOk result (λ any_fixed. any_fixed ≡ false → (k : ℕ) → k < length operands.now → (r : Register) →
             (op_at operands.now k).constraint ≡ OperandConstraint.FixedReg r → ⊥) }
         ensures some { IfOk result (λ any_fixed. any_fixed ≡ true → (k : ℕ) × (r : Register) × (k < length operands.now)
@@ -252,7 +251,6 @@ impl<'a, A: Allocator> State<'a, A> {
     )
         ensures removed { RemovesClobbers clobbers inst_regs.old inst_regs.new }
         ensures same { SameTables self.old self.new }
-        ensures registers { self.new.registers ≡ self.old.registers }
     {
         inst_regs.remove_late(clobbers);
     }
@@ -273,7 +271,6 @@ impl<'a, A: Allocator> State<'a, A> {
         ensures awaited { inst_regs.new.awaited ≡ inst_regs.old.awaited }
         ensures step { IsStepAt point result self.old self.new }
         ensures stops { StopsOnlyIf (EvictFixedFails point operands.now inst_regs.old) result self.old }
-        ensures registers { OnOk result (self.new.registers ≡ self.old.registers) }
     {
         if !any_fixed {
             return Ok(());
@@ -308,7 +305,6 @@ impl<'a, A: Allocator> State<'a, A> {
         ensures awaited { inst_regs.new.awaited ≡ inst_regs.old.awaited }
         ensures step { IsStepAt point result self.old self.new }
         ensures stops { StopsOnlyIf (EvictClobbersFails point inst_regs.old) result self.old }
-        ensures registers { OnOk result (self.new.registers ≡ self.old.registers) }
     {
         if has_none(clobbers) {
             return Ok(());

@@ -207,7 +207,6 @@ impl<'a, A: Allocator> State<'a, A> {
             × (tables_of self.new ≡ record (tables_of self.old) { edits = self.old.edits ++ pushed_moves point (moves_by s.from s.by s.to) })) }
         ensures step { IsStepAt point result self.old self.new }
         ensures stops { IfErr result (OutOfRegsOnlyIf (NoneIsFrom self.old.registers.allocatable m.class 0)) }
-        ensures registers { OnOk result (self.new.registers ≡ self.old.registers) }
     {
         if !self.is_stack(m.from) {
             self.edits.push(point, m.from, m.to)?;
@@ -231,7 +230,6 @@ impl<'a, A: Allocator> State<'a, A> {
         ensures ok { Makes (PushesStores point from_memory moves.now) result self.old self.new }
         ensures step { IsStepAt point result self.old self.new }
         ensures stops { StopsOnlyIf (λ t. LacksStoreReg t moves.now) result self.old }
-        ensures registers { OnOk result (self.new.registers ≡ self.old.registers) }
     {
         let mut k = moves.len();
         while k > 0 {
@@ -263,9 +261,6 @@ impl<'a, A: Allocator> State<'a, A> {
         ensures ok { Makes (StoresBranchDefs (F.function f.now) block) result self.old self.new }
         ensures step { IsStepAt (before (block_at (F.function f.now) block).range.first) result self.old self.new }
         ensures stops { StopsOnlyIf (StoreBranchDefsFails (F.function f.now) block) result self.old }
-        ensures registers { OnOk result (self.new.registers ≡ self.old.registers) }
-        ensures none { OnOk result (((e k j : ℕ) (v : VirtualRegister) → IsEdgeInto (F.function f.now) block e k → IsStoredFor (F.function f.now) e k
-            self.old.slots j v → ⊥) → SameTables self.old self.new) }
     {
         let Some(edge) = defs.edge_into(block) else {
             return Ok(());

@@ -1,4 +1,4 @@
-use Rattle.std.proofs.Common.{ℕ, ◌≡◌, true, false, List, length, refl, sym, ap, ◌∙◌, subst, rules, arith, slice_index}
+use Rattle.std.proofs.Common.{ℕ, ◌≡◌, List, length, refl, sym, ap, ◌∙◌, subst, rules, arith, slice_index}
 use Rattle.regalloc2_names.specs.Register.{class_code}
 use Rattle.regalloc2_names.specs.RegisterSet.{registers_of}
 use Rattle.regalloc2_names.specs.Point.{before, after}
@@ -10,17 +10,14 @@ use Rattle.regalloc2_fastalloc_proofs.specs.OutOfRegs.{in_lates, in_earlies, in_
 use Rattle.std.proofs.lemmas.Result.{err_from_is_err_and}
 use Rattle.regalloc2_fastalloc_walk.proofs.Steps.{fails_with, step_then_fails}
 use Rattle.regalloc2_fastalloc_walk.specs.StateView.{tables_of}
-use Rattle.regalloc2_fastalloc_proofs.proofs.Evictions.PushedAndRemoved.{same_of, same_then}
-use Rattle.regalloc2_validate.specs.Constraints.{op_at}
-use Rattle.regalloc2_fastalloc_walk.proofs.OperandsSpillFree.{reg_not_fixed}
-use Rattle.regalloc2_fastalloc_walk.proofs.BlockSpillFree.{early_plain, inst_done, ready}
-use Rattle.regalloc2_fastalloc_walk.specs.SpillFree.{FitInRegs}
+use Rattle.regalloc2_fastalloc_proofs.proofs.Evictions.PushedAndRemoved.{same_then}
+use Rattle.regalloc2_fastalloc_proofs.proofs.Evictions.FixedUsed.{fails_from, fixed_from, same_used}
 use Rattle.regalloc2_fastalloc_walk.proofs.state.State.alloc_inst.Goals as goal
 
 pub evict_fixed-requires : goal.evict_fixed-requires
 evict_fixed-requires g c =
     let at : c.after-point.result ≡ after c.args.cx.now.inst = c.after-point.ensures.point (λ e. omega (arith, c.requires.inst)) in
-    let same : tables_of c.remove_clobbers_from_available_pregs.new.self ≡ tables_of c.args.self.now = c.remove_clobbers_from_available_pregs.ensures.same
+    let same : tables_of c.remove_clobbers_from_available_pregs.new.self ≡ record (tables_of c.args.self.now) { lrus = c.reserve.new.self.registers.lrus } = c.remove_clobbers_from_available_pregs.ensures.same
     ∙ c.reserve.ensures.same in (
       search rules,
       (
@@ -33,7 +30,7 @@ evict_fixed-requires g c =
 pub process_operands_at-requires : goal.process_operands_at-requires
 process_operands_at-requires g c =
     let at : c.after-point.result ≡ after c.args.cx.now.inst = c.after-point.ensures.point (λ e. omega (arith, c.requires.inst)) in
-    let same : tables_of c.remove_clobbers_from_available_pregs.new.self ≡ tables_of c.args.self.now = c.remove_clobbers_from_available_pregs.ensures.same
+    let same : tables_of c.remove_clobbers_from_available_pregs.new.self ≡ record (tables_of c.args.self.now) { lrus = c.reserve.new.self.registers.lrus } = c.remove_clobbers_from_available_pregs.ensures.same
     ∙ c.reserve.ensures.same in
     let long : length c.evict_clobbers.new.self.places.vreg_allocs ≡ length c.args.self.now.places.vreg_allocs =
     c.in_ok-evict_clobbers.ensures.step.long ∙ c.in_ok-evict_fixed.ensures.step.long ∙ ap (λ (t : StateValue). length t.places.vreg_allocs) same in (
@@ -49,7 +46,7 @@ process_operands_at-requires g c =
 
 pub process_operands_at-requires-2 : goal.process_operands_at-requires-2
 process_operands_at-requires-2 g c =
-    let same : tables_of c.remove_clobbers_from_available_pregs.new.self ≡ tables_of c.args.self.now = c.remove_clobbers_from_available_pregs.ensures.same
+    let same : tables_of c.remove_clobbers_from_available_pregs.new.self ≡ record (tables_of c.args.self.now) { lrus = c.reserve.new.self.registers.lrus } = c.remove_clobbers_from_available_pregs.ensures.same
     ∙ c.reserve.ensures.same in
     let long : length c.process_operands_at.new.self.places.vreg_allocs ≡ length c.args.self.now.places.vreg_allocs =
     c.in_ok-process_operands_at.ensures.step.long ∙ c.in_ok-evict_clobbers.ensures.step.long ∙ c.in_ok-evict_fixed.ensures.step.long
@@ -70,7 +67,7 @@ process_operands_at-requires-2 g c =
 pub move_uses-requires : goal.move_uses-requires
 move_uses-requires g c =
     let at : c.before-2.result ≡ before c.args.cx.now.inst = c.before-2.ensures.point (λ e. omega (arith, c.requires.inst)) in
-    let same : tables_of c.remove_clobbers_from_available_pregs.new.self ≡ tables_of c.args.self.now = c.remove_clobbers_from_available_pregs.ensures.same
+    let same : tables_of c.remove_clobbers_from_available_pregs.new.self ≡ record (tables_of c.args.self.now) { lrus = c.reserve.new.self.registers.lrus } = c.remove_clobbers_from_available_pregs.ensures.same
     ∙ c.reserve.ensures.same in
     let long : length c.process_operands_at-2.new.self.places.vreg_allocs ≡ length c.args.self.now.places.vreg_allocs =
     c.in_ok-process_operands_at-2.ensures.step.long ∙ c.in_ok-process_operands_at.ensures.step.long ∙ c.in_ok-evict_clobbers.ensures.step.long
@@ -91,7 +88,7 @@ returns-clause-ok g c =
     let ops : List OperandValue = c.args.cx.now.operands.now in
     let at : c.after-point.result ≡ after c.args.cx.now.inst = c.after-point.ensures.point (λ e. omega (arith, c.requires.inst)) in
     let early : c.before-2.result ≡ before c.args.cx.now.inst = c.before-2.ensures.point (λ e. omega (arith, c.requires.inst)) in
-    let same : tables_of c.remove_clobbers_from_available_pregs.new.self ≡ tables_of c.args.self.now = c.remove_clobbers_from_available_pregs.ensures.same
+    let same : tables_of c.remove_clobbers_from_available_pregs.new.self ≡ record (tables_of c.args.self.now) { lrus = c.reserve.new.self.registers.lrus } = c.remove_clobbers_from_available_pregs.ensures.same
     ∙ c.reserve.ensures.same in
     let F : ℕ → StateValue → Type 0 = λ p t. EvictsFixed p ops c.remove_clobbers_from_available_pregs.new.inst_regs t (length ops) c.evict_fixed.new.inst_regs
     (tables_of c.evict_fixed.new.self) in
@@ -123,8 +120,8 @@ returns-clause-ok g c =
             ∙ c.in_ok-any_fixed.ensures.ok.awaited c.requires.fresh.awaited class;
         reserves = c.in_ok-any_fixed.ensures.ok;
         holds = c.remove_clobbers_from_available_pregs.ensures.removed;
-        fixed = subst (F (after c.args.cx.now.inst)) same
-            (subst (λ (p : ℕ). F p (tables_of c.remove_clobbers_from_available_pregs.new.self)) at c.in_ok-evict_fixed.ensures.ok);
+        fixed = fixed_from c.in_ok-any_fixed.ensures.unused (subst (F (after c.args.cx.now.inst)) same
+            (subst (λ (p : ℕ). F p (tables_of c.remove_clobbers_from_available_pregs.new.self)) at c.in_ok-evict_fixed.ensures.ok));
         clobbers = subst C at c.in_ok-evict_clobbers.ensures.ok;
         lates = c.in_ok-process_operands_at.ensures.ok;
         earlies = c.in_ok-process_operands_at-2.ensures.ok;
@@ -137,33 +134,33 @@ returns-clause-ok g c =
 pub returns-in_err-any_fixed-clause-step : goal.returns-in_err-any_fixed-clause-step
 returns-in_err-any_fixed-clause-step g c =
     let e = err_from_is_err_and c.from_residual.result c.from_residual.ensures.1 in
-    fails_with c.from_residual.result c.args.self.now c.reserve.new.self e.1 e.2 (same_of _ _ c.reserve.ensures.same) c.in_err-any_fixed.ensures.err
+    fails_with c.from_residual.result c.args.self.now c.reserve.new.self e.1 e.2 (same_used _ _ _ c.reserve.ensures.same) c.in_err-any_fixed.ensures.err
 
 pub returns-in_err-evict_fixed-clause-step : goal.returns-in_err-evict_fixed-clause-step
 returns-in_err-evict_fixed-clause-step g c =
     let e = err_from_is_err_and c.from_residual-in_err-evict_fixed.result c.from_residual-in_err-evict_fixed.ensures.1 in
     step_then_fails c.from_residual-in_err-evict_fixed.result c.args.self.now c.remove_clobbers_from_available_pregs.new.self c.evict_fixed.new.self e.1 e.2
-    (same_of _ _ (c.remove_clobbers_from_available_pregs.ensures.same ∙ c.reserve.ensures.same)) c.in_err-evict_fixed.ensures.step
+    (same_used _ _ _ (c.remove_clobbers_from_available_pregs.ensures.same ∙ c.reserve.ensures.same)) c.in_err-evict_fixed.ensures.step
 
 pub returns-in_err-evict_clobbers-clause-step : goal.returns-in_err-evict_clobbers-clause-step
 returns-in_err-evict_clobbers-clause-step g c =
     let e = err_from_is_err_and c.from_residual-in_err-evict_clobbers.result c.from_residual-in_err-evict_clobbers.ensures.1 in
     step_then_fails c.from_residual-in_err-evict_clobbers.result c.args.self.now c.evict_fixed.new.self c.evict_clobbers.new.self e.1 e.2
-    (same_then _ _ _ (same_of _ _ (c.remove_clobbers_from_available_pregs.ensures.same ∙ c.reserve.ensures.same)) c.evict_fixed.ensures.step.machine)
+    (same_then _ _ _ (same_used _ _ _ (c.remove_clobbers_from_available_pregs.ensures.same ∙ c.reserve.ensures.same)) c.evict_fixed.ensures.step.machine)
     c.in_err-evict_clobbers.ensures.step
 
 pub returns-in_err-process_operands_at-clause-step : goal.returns-in_err-process_operands_at-clause-step
 returns-in_err-process_operands_at-clause-step g c =
     let e = err_from_is_err_and c.from_residual-in_err-process_operands_at.result c.from_residual-in_err-process_operands_at.ensures.1 in
     step_then_fails c.from_residual-in_err-process_operands_at.result c.args.self.now c.evict_clobbers.new.self c.process_operands_at.new.self e.1 e.2
-    (same_then _ _ _ (same_then _ _ _ (same_of _ _ (c.remove_clobbers_from_available_pregs.ensures.same ∙ c.reserve.ensures.same))
+    (same_then _ _ _ (same_then _ _ _ (same_used _ _ _ (c.remove_clobbers_from_available_pregs.ensures.same ∙ c.reserve.ensures.same))
     c.evict_fixed.ensures.step.machine) c.evict_clobbers.ensures.step.machine) c.in_err-process_operands_at.ensures.step
 
 pub returns-in_err-process_operands_at-2-clause-step : goal.returns-in_err-process_operands_at-2-clause-step
 returns-in_err-process_operands_at-2-clause-step g c =
     let e = err_from_is_err_and c.from_residual-in_err-process_operands_at-2.result c.from_residual-in_err-process_operands_at-2.ensures.1 in
     step_then_fails c.from_residual-in_err-process_operands_at-2.result c.args.self.now c.process_operands_at.new.self c.process_operands_at-2.new.self e.1 e.2
-    (same_then _ _ _ (same_then _ _ _ (same_then _ _ _ (same_of _ _ (c.remove_clobbers_from_available_pregs.ensures.same ∙ c.reserve.ensures.same))
+    (same_then _ _ _ (same_then _ _ _ (same_then _ _ _ (same_used _ _ _ (c.remove_clobbers_from_available_pregs.ensures.same ∙ c.reserve.ensures.same))
     c.evict_fixed.ensures.step.machine) c.evict_clobbers.ensures.step.machine) c.process_operands_at.ensures.step.machine)
     c.in_err-process_operands_at-2.ensures.step
 
@@ -172,18 +169,18 @@ returns-in_err-move_uses-clause-step g c =
     let e = err_from_is_err_and c.from_residual-in_err-move_uses.result c.from_residual-in_err-move_uses.ensures.1 in
     step_then_fails c.from_residual-in_err-move_uses.result c.args.self.now c.process_operands_at-2.new.self c.move_uses.new.self e.1 e.2
     (same_then _ _ _ (same_then _ _ _ (same_then _ _ _ (same_then _ _ _
-    (same_of _ _ (c.remove_clobbers_from_available_pregs.ensures.same ∙ c.reserve.ensures.same)) c.evict_fixed.ensures.step.machine)
+    (same_used _ _ _ (c.remove_clobbers_from_available_pregs.ensures.same ∙ c.reserve.ensures.same)) c.evict_fixed.ensures.step.machine)
     c.evict_clobbers.ensures.step.machine) c.process_operands_at.ensures.step.machine) c.process_operands_at-2.ensures.step.machine)
     c.in_err-move_uses.ensures.step
 
 pub returns-clause-step : goal.returns-clause-step
 returns-clause-step g c =
     let early : c.before-2.result ≡ before c.args.cx.now.inst = c.before-2.ensures.point (λ e. omega (arith, c.requires.inst)) in
-    let same : tables_of c.remove_clobbers_from_available_pregs.new.self ≡ tables_of c.args.self.now = c.remove_clobbers_from_available_pregs.ensures.same
+    let same : tables_of c.remove_clobbers_from_available_pregs.new.self ≡ record (tables_of c.args.self.now) { lrus = c.reserve.new.self.registers.lrus } = c.remove_clobbers_from_available_pregs.ensures.same
     ∙ c.reserve.ensures.same in
     record {
       machine = (same_then _ _ _ (same_then _ _ _ (same_then _ _ _
-          (same_then _ _ _ (same_then _ _ _ (same_of _ _ (c.remove_clobbers_from_available_pregs.ensures.same ∙ c.reserve.ensures.same))
+          (same_then _ _ _ (same_then _ _ _ (same_used _ _ _ (c.remove_clobbers_from_available_pregs.ensures.same ∙ c.reserve.ensures.same))
           c.evict_fixed.ensures.step.machine) c.evict_clobbers.ensures.step.machine) c.process_operands_at.ensures.step.machine)
           c.process_operands_at-2.ensures.step.machine) c.move_uses.ensures.step.machine);
       later = subst (λ (p : ℕ). AllAtOrAfter p c.move_uses.new.self.edits) early c.in_ok-move_uses.ensures.step.later;
@@ -204,13 +201,13 @@ returns-in_err-evict_fixed-clause-stops g c =
     let i : ℕ = c.args.cx.now.inst in
     let at : c.after-point.result ≡ after i = c.after-point.ensures.point (λ e. omega (arith, c.requires.inst)) in
     let old : StateValue = tables_of c.args.self.now in
-    let same : tables_of c.remove_clobbers_from_available_pregs.new.self ≡ old = c.remove_clobbers_from_available_pregs.ensures.same ∙ c.reserve.ensures.same in
+    let same : tables_of c.remove_clobbers_from_available_pregs.new.self ≡ record old { lrus = c.reserve.new.self.registers.lrus } = c.remove_clobbers_from_available_pregs.ensures.same ∙ c.reserve.ensures.same in
     let X : ℕ → StateValue → Type 0 = λ p t. EvictFixedFails p ops c.remove_clobbers_from_available_pregs.new.inst_regs t in
     let e = err_from_is_err_and c.from_residual-in_err-evict_fixed.result c.from_residual-in_err-evict_fixed.ensures.1 in
     rw e.1 (λ lacks. in_fixed c.reserve.new.inst_regs c.remove_clobbers_from_available_pregs.new.inst_regs c.in_ok-any_fixed.ensures.ok
     c.remove_clobbers_from_available_pregs.ensures.removed
-    (subst (X (after i)) same (subst (λ (p : ℕ). X p (tables_of c.remove_clobbers_from_available_pregs.new.self)) at
-    (c.in_err-evict_fixed.ensures.stops (sym e.2 ∙ lacks)))))
+    (fails_from c.in_ok-any_fixed.ensures.unused (subst (X (after i)) same
+    (subst (λ (p : ℕ). X p (tables_of c.remove_clobbers_from_available_pregs.new.self)) at (c.in_err-evict_fixed.ensures.stops (sym e.2 ∙ lacks))))))
 
 pub returns-in_err-evict_clobbers-clause-stops : goal.returns-in_err-evict_clobbers-clause-stops
 returns-in_err-evict_clobbers-clause-stops g c =
@@ -218,11 +215,11 @@ returns-in_err-evict_clobbers-clause-stops g c =
     let i : ℕ = c.args.cx.now.inst in
     let at : c.after-point.result ≡ after i = c.after-point.ensures.point (λ e. omega (arith, c.requires.inst)) in
     let old : StateValue = tables_of c.args.self.now in
-    let same : tables_of c.remove_clobbers_from_available_pregs.new.self ≡ old = c.remove_clobbers_from_available_pregs.ensures.same ∙ c.reserve.ensures.same in
+    let same : tables_of c.remove_clobbers_from_available_pregs.new.self ≡ record old { lrus = c.reserve.new.self.registers.lrus } = c.remove_clobbers_from_available_pregs.ensures.same ∙ c.reserve.ensures.same in
     let F : ℕ → StateValue → Type 0 = λ p t. EvictsFixed p ops c.remove_clobbers_from_available_pregs.new.inst_regs t (length ops) c.evict_fixed.new.inst_regs
     (tables_of c.evict_fixed.new.self) in
-    let fixed : F (after i) old = subst (F (after i)) same
-    (subst (λ (p : ℕ). F p (tables_of c.remove_clobbers_from_available_pregs.new.self)) at c.in_ok-evict_fixed.ensures.ok) in
+    let fixed : F (after i) old = fixed_from c.in_ok-any_fixed.ensures.unused (subst (F (after i)) same
+    (subst (λ (p : ℕ). F p (tables_of c.remove_clobbers_from_available_pregs.new.self)) at c.in_ok-evict_fixed.ensures.ok)) in
     let e = err_from_is_err_and c.from_residual-in_err-evict_clobbers.result c.from_residual-in_err-evict_clobbers.ensures.1 in
     rw e.1 (λ lacks. in_clobbers c.reserve.new.inst_regs c.remove_clobbers_from_available_pregs.new.inst_regs c.evict_fixed.new.inst_regs
     (tables_of c.evict_fixed.new.self) c.in_ok-any_fixed.ensures.ok c.remove_clobbers_from_available_pregs.ensures.removed fixed
@@ -235,11 +232,11 @@ returns-in_err-process_operands_at-clause-stops g c =
     let i : ℕ = c.args.cx.now.inst in
     let at : c.after-point.result ≡ after i = c.after-point.ensures.point (λ e. omega (arith, c.requires.inst)) in
     let old : StateValue = tables_of c.args.self.now in
-    let same : tables_of c.remove_clobbers_from_available_pregs.new.self ≡ old = c.remove_clobbers_from_available_pregs.ensures.same ∙ c.reserve.ensures.same in
+    let same : tables_of c.remove_clobbers_from_available_pregs.new.self ≡ record old { lrus = c.reserve.new.self.registers.lrus } = c.remove_clobbers_from_available_pregs.ensures.same ∙ c.reserve.ensures.same in
     let F : ℕ → StateValue → Type 0 = λ p t. EvictsFixed p ops c.remove_clobbers_from_available_pregs.new.inst_regs t (length ops) c.evict_fixed.new.inst_regs
     (tables_of c.evict_fixed.new.self) in
-    let fixed : F (after i) old = subst (F (after i)) same
-    (subst (λ (p : ℕ). F p (tables_of c.remove_clobbers_from_available_pregs.new.self)) at c.in_ok-evict_fixed.ensures.ok) in
+    let fixed : F (after i) old = fixed_from c.in_ok-any_fixed.ensures.unused (subst (F (after i)) same
+    (subst (λ (p : ℕ). F p (tables_of c.remove_clobbers_from_available_pregs.new.self)) at c.in_ok-evict_fixed.ensures.ok)) in
     let C : ℕ → Type 0 = λ p. EvictsEach p (registers_of c.args.cx.now.clobbers) c.evict_fixed.new.inst_regs (tables_of c.evict_fixed.new.self)
     c.evict_clobbers.new.inst_regs (tables_of c.evict_clobbers.new.self) in
     let ready : PreparesRegs i ops c.args.cx.now.clobbers c.args.inst_regs.now c.evict_clobbers.new.inst_regs old
@@ -266,11 +263,11 @@ returns-in_err-process_operands_at-2-clause-stops g c =
     let i : ℕ = c.args.cx.now.inst in
     let at : c.after-point.result ≡ after i = c.after-point.ensures.point (λ e. omega (arith, c.requires.inst)) in
     let old : StateValue = tables_of c.args.self.now in
-    let same : tables_of c.remove_clobbers_from_available_pregs.new.self ≡ old = c.remove_clobbers_from_available_pregs.ensures.same ∙ c.reserve.ensures.same in
+    let same : tables_of c.remove_clobbers_from_available_pregs.new.self ≡ record old { lrus = c.reserve.new.self.registers.lrus } = c.remove_clobbers_from_available_pregs.ensures.same ∙ c.reserve.ensures.same in
     let F : ℕ → StateValue → Type 0 = λ p t. EvictsFixed p ops c.remove_clobbers_from_available_pregs.new.inst_regs t (length ops) c.evict_fixed.new.inst_regs
     (tables_of c.evict_fixed.new.self) in
-    let fixed : F (after i) old = subst (F (after i)) same
-    (subst (λ (p : ℕ). F p (tables_of c.remove_clobbers_from_available_pregs.new.self)) at c.in_ok-evict_fixed.ensures.ok) in
+    let fixed : F (after i) old = fixed_from c.in_ok-any_fixed.ensures.unused (subst (F (after i)) same
+    (subst (λ (p : ℕ). F p (tables_of c.remove_clobbers_from_available_pregs.new.self)) at c.in_ok-evict_fixed.ensures.ok)) in
     let C : ℕ → Type 0 = λ p. EvictsEach p (registers_of c.args.cx.now.clobbers) c.evict_fixed.new.inst_regs (tables_of c.evict_fixed.new.self)
     c.evict_clobbers.new.inst_regs (tables_of c.evict_clobbers.new.self) in
     let ready : PreparesRegs i ops c.args.cx.now.clobbers c.args.inst_regs.now c.evict_clobbers.new.inst_regs old
@@ -298,11 +295,11 @@ returns-in_err-move_uses-clause-stops g c =
     let i : ℕ = c.args.cx.now.inst in
     let at : c.after-point.result ≡ after i = c.after-point.ensures.point (λ e. omega (arith, c.requires.inst)) in
     let old : StateValue = tables_of c.args.self.now in
-    let same : tables_of c.remove_clobbers_from_available_pregs.new.self ≡ old = c.remove_clobbers_from_available_pregs.ensures.same ∙ c.reserve.ensures.same in
+    let same : tables_of c.remove_clobbers_from_available_pregs.new.self ≡ record old { lrus = c.reserve.new.self.registers.lrus } = c.remove_clobbers_from_available_pregs.ensures.same ∙ c.reserve.ensures.same in
     let F : ℕ → StateValue → Type 0 = λ p t. EvictsFixed p ops c.remove_clobbers_from_available_pregs.new.inst_regs t (length ops) c.evict_fixed.new.inst_regs
     (tables_of c.evict_fixed.new.self) in
-    let fixed : F (after i) old = subst (F (after i)) same
-    (subst (λ (p : ℕ). F p (tables_of c.remove_clobbers_from_available_pregs.new.self)) at c.in_ok-evict_fixed.ensures.ok) in
+    let fixed : F (after i) old = fixed_from c.in_ok-any_fixed.ensures.unused (subst (F (after i)) same
+    (subst (λ (p : ℕ). F p (tables_of c.remove_clobbers_from_available_pregs.new.self)) at c.in_ok-evict_fixed.ensures.ok)) in
     let C : ℕ → Type 0 = λ p. EvictsEach p (registers_of c.args.cx.now.clobbers) c.evict_fixed.new.inst_regs (tables_of c.evict_fixed.new.self)
     c.evict_clobbers.new.inst_regs (tables_of c.evict_clobbers.new.self) in
     let ready : PreparesRegs i ops c.args.cx.now.clobbers c.args.inst_regs.now c.evict_clobbers.new.inst_regs old
@@ -326,27 +323,3 @@ returns-in_err-move_uses-clause-stops g c =
     c.process_operands_at.new.here c.process_operands_at-2.new.here ready c.in_ok-process_operands_at.ensures.ok c.in_ok-process_operands_at-2.ensures.ok
     (subst (λ (p : ℕ). MoveUsesFails p ops c.process_operands_at-2.new.here c.process_operands_at-2.new.inst_regs (tables_of c.process_operands_at-2.new.self))
     early (c.in_err-move_uses.ensures.stops (sym e.2 ∙ lacks))))
-
--- where registers suffice for all vregs
-pub returns-clause-spill_free : goal.returns-clause-spill_free
-returns-clause-spill_free g c = λ names gone few plain none h.
-    let ops : List OperandValue = c.args.cx.now.operands.now in
-    let here = c.args.here.now in
-    let t0 : StateValue = tables_of c.args.self.now in
-    let t4 : StateValue = tables_of c.evict_clobbers.new.self in
-    let t5 : StateValue = tables_of c.process_operands_at.new.self in
-    let reg = (plain true).under_reg in
-    let same : tables_of c.remove_clobbers_from_available_pregs.new.self ≡ t0 = c.remove_clobbers_from_available_pregs.ensures.same ∙ c.reserve.ensures.same in
-    let regs = c.in_ok-evict_clobbers.ensures.registers ∙ c.in_ok-evict_fixed.ensures.registers ∙ c.remove_clobbers_from_available_pregs.ensures.registers
-    ∙ c.in_ok-any_fixed.ensures.registers (λ k r lt e. reg_not_fixed (op_at ops k) r (reg k lt) e) in
-    let begun = ready
-    reg none regs same c.in_ok-any_fixed.ensures.ok c.remove_clobbers_from_available_pregs.ensures.removed c.in_ok-evict_fixed.ensures.ok
-    c.in_ok-evict_clobbers.ensures.ok h in
-    let few4 : FitInRegs names t4.allocatable = subst (λ (t : StateValue). FitInRegs names t.allocatable) (sym begun.0) few in
-    let late = c.in_ok-process_operands_at.ensures.spill_free names gone few4 (plain true) (λ j at. c.requires.no_places j) begun.1 in
-    let few5 : FitInRegs names t5.allocatable = subst (FitInRegs names) (sym late.machine) few4 in
-    let early = c.in_ok-process_operands_at-2.ensures.spill_free names late.gone_now few5
-    (early_plain names gone ops here c.process_operands_at.new.here c.process_operands_at.new.self.registers t4 t5 c.process_operands_at.new.inst_regs plain
-    late)
-    (λ j at. late.others j (λ e. absurd (let no : true ≡ false = sym e ∙ at in cc)) ∙ c.requires.no_places j) late.spill_free in
-    inst_done plain late early c.in_ok-move_uses.ensures.ok c.in_ok-move_uses.ensures.registers

@@ -28,6 +28,6 @@ returns-clause-ok g c =
       middle = tables_of c.alloc_operand.new.self;
       gets = c.in_ok-place.ensures.ok;
       uses = located none c.set_alloc.ensures.settled refl refl (record
-          { allocatable = refl; fixed_stack = refl; dedicated_scratch = refl; sizes = refl; vregs = refl; num_temp_slots = refl });
+          { allocatable = refl; fixed_stack = refl; dedicated_scratch = refl; sizes = refl; vregs = refl; num_temp_slots = refl }) refl;
       awaited = c.in_ok-place.ensures.awaited;
     }

@@ -20,12 +20,11 @@ returns-then-not-any_fixed-clause-ok g c =
 
 pub loop-k-init : goal.loop-k-init
 loop-k-init g c = record {
-  cleared = none_cleared;
+  cleared = none_cleared c.args.self.now.registers.lrus (λ none. refl);
   awaited = refl;
   later = c.requires.later;
   long = refl;
   machine = record { allocatable = refl; fixed_stack = refl; dedicated_scratch = refl; sizes = refl; vregs = refl; num_temp_slots = refl };
-  registers = refl;
 }
 
 pub loop-k-preserved : goal.loop-k-preserved
@@ -50,7 +49,6 @@ loop-k-preserved g c =
             later = w.in_ok-evict_others-in-FixedReg.ensures.step.later;
             long = w.in_ok-evict_others-in-FixedReg.ensures.step.long ∙ h.long;
             machine = machine_then begin m n h.machine w.in_ok-evict_others-in-FixedReg.ensures.step.machine;
-            registers = w.in_ok-evict_others-in-FixedReg.ensures.registers ∙ h.registers;
           })
       | in-Reuse+in-Some+in_ok-evict_preg-in-Reuse w ↦ rw (w.self-is, w.inst_regs-is) (
           let n : StateValue = tables_of w.evict_preg.new.self in
@@ -62,7 +60,6 @@ loop-k-preserved g c =
             later = w.in_ok-evict_preg-in-Reuse.ensures.step.later;
             long = w.in_ok-evict_preg-in-Reuse.ensures.step.long ∙ h.long;
             machine = machine_then begin m n h.machine w.in_ok-evict_preg-in-Reuse.ensures.step.machine;
-            registers = w.in_ok-evict_preg-in-Reuse.ensures.registers ∙ h.registers;
           })
       | in-Reuse+in_default-reused_register w ↦ rw (w.self-is, w.inst_regs-is) (record {
         cleared = not_fixed k c.loop-k.inst_regs m h.cleared (λ r e. let x = sym (at ∙ w.in-Reuse.is) ∙ e in cc)
@@ -71,7 +68,6 @@ loop-k-preserved g c =
         later = h.later;
         long = h.long;
         machine = h.machine;
-        registers = h.registers;
       })
       | in_default w ↦ rw (w.self-is, w.inst_regs-is) (record {
         cleared = not_fixed k c.loop-k.inst_regs m h.cleared (λ r e. w.in_default.not-FixedReg r (sym at ∙ e))
@@ -80,7 +76,6 @@ loop-k-preserved g c =
         later = h.later;
         long = h.long;
         machine = h.machine;
-        registers = h.registers;
       })
     ]
 

@@ -37,7 +37,7 @@ returns-clause-ok g c =
       sizes = c.get_spillslot.ensures.sizes;
       vregs = c.get_spillslot.ensures.vregs;
       num_temp_slots = c.get_spillslot.ensures.num_temp_slots;
-    }) x
+    }) refl x
 
 pub returns-clause-empty : goal.returns-clause-empty
 returns-clause-empty g c =

@@ -23,7 +23,6 @@ loop-j-init g c =
       later = subst (λ (p : ℕ). AllAtOrAfter p c.args.self.now.edits) (sym at) c.requires.later;
       long = refl;
       machine = record { allocatable = refl; fixed_stack = refl; dedicated_scratch = refl; sizes = refl; vregs = refl; num_temp_slots = refl };
-      registers = refl;
     }
 
 pub gather_argument-requires : goal.gather_argument-requires
@@ -82,7 +81,6 @@ loop-j-preserved g c =
             later = w.in_ok-gather_argument.ensures.step.later;
             long = w.in_ok-gather_argument.ensures.step.long ∙ c.loop-j.invariant.long;
             machine = same_then (tables_of c.args.self.now) m o c.loop-j.invariant.machine w.in_ok-gather_argument.ensures.step.machine;
-            registers = w.in_ok-gather_argument.ensures.registers ∙ c.loop-j.invariant.registers;
           })
       | else-not-has w ↦ rw (w.self-is, w.inst_regs-is, w.moves-is) (record {
         done = λ given is.
@@ -95,7 +93,6 @@ loop-j-preserved g c =
         later = c.loop-j.invariant.later;
         long = c.loop-j.invariant.long;
         machine = c.loop-j.invariant.machine;
-        registers = c.loop-j.invariant.registers;
       })
     ]
 

@@ -37,4 +37,4 @@ returns-clause-ok g c =
       vregs = c.get_spillslot.ensures.vregs;
       num_temp_slots = c.get_spillslot.ensures.num_temp_slots;
     })
-    (subst (λ (p : Place). S c.args.param.class (not (is_place s p)) p) c.current_alloc-current.ensures.place two)
+    refl (subst (λ (p : Place). S c.args.param.class (not (is_place s p)) p) c.current_alloc-current.ensures.place two)

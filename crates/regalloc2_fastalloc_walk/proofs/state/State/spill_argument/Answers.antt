@@ -20,7 +20,7 @@ returns-in-Some-clause-ok g c =
       sizes = c.get_spillslot.ensures.sizes;
       vregs = c.get_spillslot.ensures.vregs;
       num_temp_slots = c.get_spillslot.ensures.num_temp_slots;
-    }) c.in_ok-evict_preg.ensures.ok
+    }) refl c.in_ok-evict_preg.ensures.ok
 
 pub returns-in_err-evict_preg-clause-stops : goal.returns-in_err-evict_preg-clause-stops
 returns-in_err-evict_preg-clause-stops g c =
