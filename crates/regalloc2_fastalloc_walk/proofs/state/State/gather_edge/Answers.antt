@@ -71,7 +71,7 @@ loop-j-preserved g c =
                   subst (λ (v : VirtualRegister). AreOf w.gather_argument.new.moves.int w.gather_argument.new.moves.float w.gather_argument.new.moves.vector
                       (x.0 ++ one v ∷ [])) argument (y.3 x.0 x.1),
                   one_gathered j x.0 y.0 y.1 c.loop-j.inst_regs w.gather_argument.new.inst_regs m n o c.loop-j-test.true x.2
-                      (subst (λ (v : VirtualRegister). GetsSpillSlot m.slots n.slots v y.0) param y.2.slot) y.2.places y.2.edits y.2.machine
+                      (subst (λ (v : VirtualRegister). GetsSpillSlot m.slots n.slots v y.0) param y.2.slot) y.2.places y.2.edits y.2.machine y.2.lrus
                       (subst (λ (v : VirtualRegister). SpillsArgument c.before-point.result v y.1 c.loop-j.inst_regs w.gather_argument.new.inst_regs n o)
                       argument y.2.spills)
                       (λ own. let has = c.has.ensures.1 (subst (λ (v : VirtualRegister). IsOwnBy c.args.own.now.defs.now c.args.own.now.branch v)

@@ -24,7 +24,7 @@ use Rattle.regalloc2_fastalloc_walk.specs.StateView.{IsStepAt, tables_of}
 use Rattle.regalloc2_fastalloc_walk.specs.declared.operand.PlaceMove.{PlaceMove}
 use Rattle.regalloc2_fastalloc_walk.specs.declared.store.StoredDef.{StoredDef}
 use Rattle.regalloc2_fastalloc_walk.proofs.Steps.{step_then}
-use Rattle.regalloc2_fastalloc_walk.proofs.StoresOnEdge.{edge_stores, stores_on, stores_lack, stores_none}
+use Rattle.regalloc2_fastalloc_walk.proofs.StoresOnEdge.{edge_stores, stores_on, stores_lack}
 use Rattle.regalloc2_fastalloc_walk.proofs.state.State.store_branch_defs.Goals as goal
 
 -- what is stored is of vregs of the function, and of operands of the branch
