@@ -5,12 +5,13 @@
 -- adds fixed stack slots, whose reload goes through a scratch register (`clears_step`, `clears_but_step`); `EvictKeepsRecord` puts either
 -- into the record; `EvictFixed` does so for all fixed registers, which their operands then claim (`fixed_done`). Clobbers are evicted in
 -- `Inst/BoundaryToFirstOperand`, by `ready_clears`. `FixedAvoidClobbers` gives its premise for well-formed instructions. `EvictClobbers`,
--- `NewestLeaves` and `PushedAndRemoved` serve other crates: no file here imports them.
+-- `FixedUsed`, `NewestLeaves` and `PushedAndRemoved` serve other crates: no file here imports them.
 pub mod EvictClobbers
 pub mod EvictFixed
 pub mod EvictKeepsRecord
 pub mod EvictPReg
 pub mod EvictVReg
 pub mod FixedAvoidClobbers
+pub mod FixedUsed
 pub mod NewestLeaves
 pub mod PushedAndRemoved

@@ -13,7 +13,8 @@ pub data ReloadParam (point : ℕ) (v : VirtualRegister) (t : InstRegs) (old : S
   nowhere : {u : InstRegs} {new : StateValue} → alloc_of old.places v.number ≡ NoPlace → u ≡ t → new ≡ old → ReloadParam point v t old (next u new)
   comes : {o : Outcome InstRegs} (s : Place) (m : StateValue) → alloc_of old.places v.number ≢ NoPlace → GetsSpillSlot old.slots m.slots v s →
       SetsAlloc old.places m.places v NoPlace → m.edits ≡ old.edits → SameMachine old m
-      → AddMoveIf point v.class (not (is_place s (alloc_of old.places v.number))) s (alloc_of old.places v.number) t m o → ReloadParam point v t old o
+      → m.lrus ≡ old.lrus → AddMoveIf point v.class (not (is_place s (alloc_of old.places v.number))) s (alloc_of old.places v.number) t m o
+      → ReloadParam point v t old o
 
 abbrev pub ReloadsParam : ℕ → VirtualRegister → InstRegs → InstRegs → StateValue → StateValue → Type 0
 ReloadsParam point v t u old new = ReloadParam point v t old (next u new)

@@ -77,12 +77,14 @@ pub record OrdersMoves (inst_regs : InstRegs) (class : RegClass) (given made : M
   pub allocatable : new.allocatable ≡ old.allocatable
   pub fixed_stack : new.fixed_stack ≡ old.fixed_stack
   pub dedicated_scratch : new.dedicated_scratch ≡ old.dedicated_scratch
+  pub lrus : new.lrus ≡ old.lrus
   pub lends : (taken : ℕ) × (taken ≤ 2) × AddsTempSlots old.slots new.slots class taken
   pub grows : old.slots.count ≤ new.slots.count
   pub assigned : (m : Place × Place × Unit {0}) → Contains given m → in_turn (ends_of made) names m.1 ≡ m.0
   pub kept : (q : Place) → q ≢ NoPlace → (IsScratchPlace inst_regs old class q → ⊥) → ((m : Place × Place × Unit {0}) → Contains given m → m.1 ≢ q) →
       in_turn (ends_of made) names q ≡ q
   pub each : All (IsOrdered inst_regs class given old new) made
+  pub idle : given ≡ [] → (made ≡ []) × (new ≡ old)
 
 -- they are pushed at a point, so that they are listed in their order before all others
 pub record Pushes (point : ℕ) (inst_regs : InstRegs) (class : RegClass) (given : Moves) (old new : StateValue) : Type 0 where
@@ -106,10 +108,10 @@ PushMoves point inst_regs class given old no_register = LacksMoveReg class given
 -- an argument is in its slot s from now on, and is moved from there to the register where it was awaited
 pub data SpillsArgument (point : ℕ) (a : VirtualRegister) (s : Place) (t u : InstRegs) (old new : StateValue) : Type 0 where
   from_register : (r : Register) (m : StateValue) → alloc_of old.places a.number ≡ InRegister r → GetsSpillSlot old.slots m.slots a s → m.places ≡ old.places →
-      m.edits ≡ old.edits → SameMachine old m
+      m.edits ≡ old.edits → SameMachine old m → m.lrus ≡ old.lrus
       → EvictsPReg point r t u m new → SpillsArgument point a s t u old new
   in_slot : ((r : Register) → alloc_of old.places a.number ≡ InRegister r → ⊥) → GetsSpillSlot old.slots new.slots a s → SetsAlloc old.places new.places a s →
-      new.edits ≡ old.edits → SameMachine old new → u ≡ t
+      new.edits ≡ old.edits → SameMachine old new → new.lrus ≡ old.lrus → u ≡ t
       → SpillsArgument point a s t u old new
 
 -- the register where it was awaited can't be emptied
@@ -154,7 +156,7 @@ pub data GathersEdgeMoves (Own : VirtualRegister → Type 0) (point : ℕ) (para
   none_gathered : GathersEdgeMoves Own point params arguments t old before_it 0 t old before_it
   one_gathered : (j : ℕ) (given : List ClassMove) (to from : Place) (u w : InstRegs) (m n o : StateValue) → j < length params →
       GathersEdgeMoves Own point params arguments t old before_it j u m given
-      → GetsSpillSlot m.slots n.slots (slice_index_or params j no_vreg) to → n.places ≡ m.places → n.edits ≡ m.edits → SameMachine m n →
+      → GetsSpillSlot m.slots n.slots (slice_index_or params j no_vreg) to → n.places ≡ m.places → n.edits ≡ m.edits → SameMachine m n → n.lrus ≡ m.lrus →
       SpillsArgument point (slice_index_or arguments j no_vreg) from u w n o → (Own (slice_index_or arguments j no_vreg) → ⊥)
       → GathersEdgeMoves Own point params arguments t old before_it (j + 1) w o
       (given ++ record { class = (slice_index_or arguments j no_vreg).class; from = from; to = to } ∷ [])

@@ -2,7 +2,7 @@
 -- A relation with the name of a function of the walk, as `AddMove`, is between a state and what that comes to: the next state, or that a register is
 -- missing. In the third person, as `AddsMove`, it is the part with a next state.
 use Rattle.std.specs.Prelude.{ℕ, ◌≡◌, ◌≢◌, ◌+◌, ◌<◌, ◌⊎◌, Bool, true, false, not, ◌&&◌, ◌||◌, List, [], ◌∷◌, ◌++◌, length, Option, None, Some}
-use Rattle.std.specs.Prelude.{slice_index, slice_index_or, slice_set, ◌-◌, ◌≤◌, nat_eq, is_none, if◌then◌else◌}
+use Rattle.std.specs.Prelude.{slice_index, slice_index_or, slice_set, ◌-◌, ◌≤◌, nat_eq, is_none, filter, if◌then◌else◌}
 use Rattle.regalloc2_names.specs.declared.RegClass.{RegClass}
 use Rattle.regalloc2_names.specs.declared.OperandConstraint.{OperandConstraint}
 use Rattle.regalloc2_names.specs.declared.OperandConstraint.TheVariants.{Any, Reg, Stack, FixedReg, Reuse, Limit}
@@ -18,8 +18,9 @@ use Rattle.regalloc2_function.specs.FunctionValue.{InstValue}
 use Rattle.regalloc2_function.specs.OutputValue.{MoveValue}
 use Rattle.regalloc2_fastalloc_state.specs.StateParts.{VRegAllocsValue, SpillSlotsValue, alloc_of, vreg_of_preg, SetsAlloc, GetsSpillSlot, slot_name}
 use Rattle.regalloc2_fastalloc_state.specs.StateParts.{needs_scratch_reserve}
+use Rattle.regalloc2_fastalloc_state.specs.Choice.{chosen}
 use Rattle.regalloc2_fastalloc_state.specs.InstRegs.{IsAvailableAt, RemovesAvailable, SameAvailable, positions_of, both, awaited_of, free_count, is_free}
-use Rattle.regalloc2_fastalloc_state.specs.InstRegs.{is_free_throughout}
+use Rattle.regalloc2_fastalloc_state.specs.InstRegs.{is_available_at, is_free_throughout}
 use Rattle.regalloc2_validate.specs.Constraints.{op_at}
 use Rattle.regalloc2_fastalloc_state.specs.declared.inst_regs.InstRegs.{InstRegs}
 use Rattle.regalloc2_fastalloc_state.specs.declared.inst_regs.Positions.{Positions}
@@ -27,7 +28,8 @@ use Rattle.regalloc2_fastalloc_state.specs.declared.request.Requirement.{Require
 use Rattle.regalloc2_fastalloc_state.specs.declared.request.Requirement.TheVariants.{AnyPlace, AnyReg, InMemory, InPReg}
 use Rattle.regalloc2_fastalloc_state.specs.declared.request.OperandRequest.{OperandRequest}
 
--- the tables of the walk; the moves in the order in which they were pushed; the machine's registers
+-- the tables of the walk; the moves in the order in which they were pushed; the machine's registers, and for each class the order in which its allocatable
+-- ones were used, the newest first
 pub record StateValue : Type 0 where
   pub places : VRegAllocsValue
   pub slots : SpillSlotsValue
@@ -35,6 +37,11 @@ pub record StateValue : Type 0 where
   pub allocatable : PRegSet
   pub fixed_stack : PRegSet
   pub dedicated_scratch : List (Option Register)
+  pub lrus : List (List Register)
+
+-- the registers of a class, in the order in which they were used
+abbrev pub order_of : StateValue → RegClass → List Register
+order_of t class = slice_index_or t.lrus (class_code class) []
 
 -- the machine's registers stay, and so do the sizes of slots, the number of vregs, and how many temporary slots there are
 pub record SameMachine (old new : StateValue) : Type 0 where
@@ -64,6 +71,10 @@ abbrev pub InTurn : {Given : Type 0} → ℕ → (ℕ → Given → StateValue �
 InTurn count Done Stops (next given new) = Done count given new
 InTurn count Done Stops no_register = StopsAt count Done Stops
 
+-- registers may have been used, and nothing else changes
+abbrev pub SameButOrder : StateValue → StateValue → Type 0
+SameButOrder old new = new ≡ record old { lrus = new.lrus }
+
 -- a move at a point
 abbrev pub a_move : ℕ → Place → Place → ℕ × MoveValue
 a_move point from to = (point, record { from = from; to = to })
@@ -83,7 +94,7 @@ pub data EvictsVReg (point : ℕ) (r : Register) (old new : StateValue) : Type 0
   nobody : vreg_of_preg old.places r ≡ None → new ≡ old → EvictsVReg point r old new
   moved : (v : VirtualRegister) (s : Place) → r.number < 64 → vreg_of_preg old.places r ≡ Some v → GetsSpillSlot old.slots new.slots v s →
       SetsAlloc old.places new.places v s
-      → new.edits ≡ old.edits ++ a_move point s (InRegister r) ∷ [] → SameMachine old new → EvictsVReg point r old new
+      → new.edits ≡ old.edits ++ a_move point s (InRegister r) ∷ [] → SameMachine old new → new.lrus ≡ old.lrus → EvictsVReg point r old new
 
 -- which takes no other register
 abbrev pub EvictVReg : ℕ → Register → StateValue → Outcome (Unit {0}) → Type 0
@@ -133,7 +144,7 @@ pub data EvictPReg (point : ℕ) (r : Register) (t : InstRegs) (old : StateValue
   empty : {u : InstRegs} {new : StateValue} → vreg_of_preg old.places r ≡ None → u ≡ t → new ≡ old → EvictPReg point r t old (next u new)
   cleared : {o : Outcome InstRegs} (v : VirtualRegister) (s : Place) (m : StateValue) → r.number < 64 → vreg_of_preg old.places r ≡ Some v →
       GetsSpillSlot old.slots m.slots v s → SetsAlloc old.places m.places v s → m.edits ≡ old.edits → SameMachine old m
-      → AddMove point v.class s (InRegister r) t m o → EvictPReg point r t old o
+      → m.lrus ≡ old.lrus → AddMove point v.class s (InRegister r) t m o → EvictPReg point r t old o
 
 abbrev pub EvictsPReg : ℕ → Register → InstRegs → InstRegs → StateValue → StateValue → Type 0
 EvictsPReg point r t u old new = EvictPReg point r t old (next u new)
@@ -155,14 +166,16 @@ MeetsRequirement t AnyReg p = (r : Register) × (p ≡ InRegister r) × (is_stac
 MeetsRequirement t InMemory p = is_stack_in t p ≡ true
 MeetsRequirement t (InPReg r) p = p ≡ InRegister r
 
--- The place of an operand, before it is claimed: where its vreg is located; or the register that it asks for; or its slot; or a register that is free.
+-- The place of an operand, before it is claimed: where its vreg is located; or the register that it asks for; or its slot; or of the registers that are free the
+-- one that is chosen, but where any register will do only if its vreg is in none.
 pub data SelectsPlace (inst_regs : InstRegs) (o : OperandRequest) (p : Place) (old new : StateValue) : Type 0 where
   stays : alloc_of old.places o.vreg.number ≡ p → MeetsRequirement old o.requirement p → new ≡ old → SelectsPlace inst_regs o p old new
   fixed : (r : Register) → o.requirement ≡ InPReg r → p ≡ InRegister r → new ≡ old → SelectsPlace inst_regs o p old new
   slot : (o.requirement ≡ AnyPlace) ⊎ (o.requirement ≡ InMemory) → GetsSpillSlot old.slots new.slots o.vreg p → new.places ≡ old.places →
-      new.edits ≡ old.edits → SameMachine old new → SelectsPlace inst_regs o p old new
-  free : (r : Register) → (o.requirement ≡ AnyPlace) ⊎ (o.requirement ≡ AnyReg) → MayHold old o.vreg.class r → IsAvailableAt inst_regs o.positions r →
-      p ≡ InRegister r → new ≡ old → SelectsPlace inst_regs o p old new
+      new.edits ≡ old.edits → SameMachine old new → new.lrus ≡ old.lrus → SelectsPlace inst_regs o p old new
+  free : (r : Register) → (o.requirement ≡ AnyPlace) ⊎ (o.requirement ≡ AnyReg) →
+      (o.requirement ≡ AnyReg → MeetsRequirement old AnyReg (alloc_of old.places o.vreg.number) → ⊥) → MayHold old o.vreg.class r →
+      IsAvailableAt inst_regs o.positions r → chosen (is_available_at inst_regs o.positions) (order_of old o.vreg.class) ≡ Some r → p ≡ InRegister r → new ≡ old → SelectsPlace inst_regs o p old new
 
 -- or there is none: any register was asked for, and none is free
 abbrev pub SelectPlace : InstRegs → OperandRequest → StateValue → Outcome Place → Type 0
@@ -192,16 +205,34 @@ pub data ClaimsPlace (point : ℕ) (o : OperandRequest) (p : Place) (t u : InstR
   in_register : (r : Register) (m : InstRegs) → p ≡ InRegister r → EvictsOthers point r o.vreg t m old new → RemovesAvailable m u r o.positions
       → ClaimsPlace point o p t u old new
 
+-- a register counts as the one of its class that was used last
+pub record UsesReg (r : Register) (old new : StateValue) : Type 0 where
+  pub rest : SameButOrder old new
+  pub newest : order_of new r.class ≡ r ∷ filter (λ q. not (is_register r q)) (order_of old r.class)
+  pub others : (class : RegClass) → class ≢ r.class → order_of new class ≡ order_of old class
+
+-- so does the place of an operand that asked for any register or place, if it is a register that may be allocated
+pub data UsesPlace (w : Requirement) (p : Place) (old new : StateValue) : Type 0 where
+  used : (r : Register) → (w ≡ AnyPlace) ⊎ (w ≡ AnyReg) → p ≡ InRegister r → has_register old.allocatable r ≡ true → UsesReg r old new → UsesPlace w p old new
+  not_used : ((r : Register) → (w ≡ AnyPlace) ⊎ (w ≡ AnyReg) → p ≡ InRegister r → has_register old.allocatable r ≡ false) → new ≡ old →
+      UsesPlace w p old new
+
+-- both
+pub record TakesPlace (point : ℕ) (o : OperandRequest) (p : Place) (t u : InstRegs) (old new : StateValue) : Type 0 where
+  pub claimed : StateValue
+  pub occupies : ClaimsPlace point o p t u old claimed
+  pub uses : UsesPlace o.requirement p claimed new
+
 -- or the register can't be emptied
 abbrev pub ClaimPlace : ℕ → OperandRequest → Place → InstRegs → StateValue → Outcome InstRegs → Type 0
-ClaimPlace point o p t old (next u new) = ClaimsPlace point o p t u old new
+ClaimPlace point o p t old (next u new) = TakesPlace point o p t u old new
 ClaimPlace point o p t old no_register = (r : Register) × (p ≡ InRegister r) × EvictOthers point r o.vreg t old no_register
 
 -- an operand gets a place
 pub record AllocsOperand (point : ℕ) (o : OperandRequest) (p : Place) (t u : InstRegs) (old new : StateValue) : Type 0 where
   pub middle : StateValue
   pub picks : SelectsPlace t o p old middle
-  pub occupies : ClaimsPlace point o p t u middle new
+  pub takes : TakesPlace point o p t u middle new
   pub affordable : o.requirement ≡ AnyPlace → (r : Register) → p ≡ InRegister r → IsAffordable t old r
   pub awaited_in : o.is_def ≡ true → o.requirement ≡ AnyPlace → (r : Register) → p ≡ InRegister r → (q : Register)
       × (alloc_of old.places o.vreg.number ≡ InRegister q)
@@ -236,6 +267,7 @@ pub record FreesDef (point : ℕ) (v : VirtualRegister) (is_ret : Bool) (p : Pla
   pub slots : left.slots ≡ old.slots
   pub edits : left.edits ≡ old.edits
   pub machine : SameMachine old left
+  pub lrus : left.lrus ≡ old.lrus
   pub awaited : AddsMoveIf point v.class (not is_ret && is_another (alloc_of old.places v.number) p) p (alloc_of old.places v.number) t inst_regs left middle
   pub stored : (let s : Place = slot_name old.slots v.number in AddsMoveIf point v.class
       (not is_ret && (is_another s p && not (is_place s (alloc_of old.places v.number)))) p s inst_regs u middle new)
@@ -260,7 +292,7 @@ FreeDef point v is_ret p t old no_register = DefIsNotFreed point v is_ret p t ol
 pub data LocatesUse (v : VirtualRegister) (p : Place) (old new : StateValue) : Type 0 where
   stays : alloc_of old.places v.number ≢ NoPlace → new ≡ old → LocatesUse v p old new
   located : alloc_of old.places v.number ≡ NoPlace → SetsAlloc old.places new.places v p → new.slots ≡ old.slots → new.edits ≡ old.edits → SameMachine old new →
-      LocatesUse v p old new
+      new.lrus ≡ old.lrus → LocatesUse v p old new
 
 -- an operand is allocated
 pub record AllocsDefOp (point : ℕ) (o : OperandRequest) (is_ret : Bool) (p : Place) (t u : InstRegs) (old new : StateValue) : Type 0 where
@@ -440,9 +472,14 @@ pub record RemovesClobbers (clobbers : PRegSet) (t u : InstRegs) : Type 0 where
   pub scratch : u.scratch ≡ t.scratch
   pub awaited : u.awaited ≡ t.awaited
 
--- the fixed registers of the first k operands are emptied of all vregs but each operand's own, and those that reuses share with fixed uses of all
+-- none was used where no operand is fixed to a register
+abbrev pub NoneUsed : List OperandValue → List (List Register) → List (List Register) → Type 0
+NoneUsed operands old new = ((k : ℕ) (r : Register) → k < length operands → (op_at operands k).constraint ≡ FixedReg r → ⊥) → new ≡ old
+
+-- The fixed registers of the first k operands are emptied of all vregs but each operand's own, and those that reuses share with fixed uses of all. Before that,
+-- the registers to which operands are fixed count as used, in some order.
 pub data EvictsFixed (point : ℕ) (operands : List OperandValue) (t : InstRegs) (old : StateValue) : ℕ → InstRegs → StateValue → Type 0 where
-  none_cleared : EvictsFixed point operands t old 0 t old
+  none_cleared : (order : List (List Register)) → NoneUsed operands old.lrus order → EvictsFixed point operands t old 0 t (record old { lrus = order })
   not_fixed : (k : ℕ) (u : InstRegs) (m : StateValue) → EvictsFixed point operands t old k u m
       → ((r : Register) → (op_at operands k).constraint ≡ FixedReg r → ⊥)
       → ((n : ℕ) (r : Register) → (op_at operands k).constraint ≡ Reuse n → n < length operands → (op_at operands n).constraint ≡ FixedReg r → ⊥) →

@@ -75,9 +75,11 @@ pub record StoresOn (f : FunctionValue) (e k point : ℕ) (old new : StateValue)
   pub each : (s : Store) → IsOneOf s stores → (j : ℕ) × (v : VirtualRegister) × StoresFor f e k old new s j v
   pub all : (j : ℕ) (v : VirtualRegister) → IsStoredFor f e k old.slots j v → (s : Store) × IsOneOf s stores × StoresFor f e k old new s j v
   pub slots : GetsSlots (IsConcerned f e k) old.slots new.slots
+  pub idle : ((j : ℕ) (v : VirtualRegister) → IsStoredFor f e k old.slots j v → ⊥) → new.slots ≡ old.slots
   pub places : new.places ≡ old.places
   pub edits : new.edits ≡ old.edits ++ pushed_moves point (store_moves stores)
   pub machine : SameMachine old new
+  pub lrus : new.lrus ≡ old.lrus
 
 -- the beginning of the block b stores what the branch into it defines
 pub data StoresBranchDefs (f : FunctionValue) (b : ℕ) (old new : StateValue) : Type 0 where

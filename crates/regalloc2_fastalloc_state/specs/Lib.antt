@@ -1,3 +1,4 @@
+pub mod Choice
 pub mod OutOfResources
 pub mod ScratchPool
 pub mod StateParts

@@ -1,13 +1,14 @@
 //! The registers that may be allocated.
 
-ghost use Rattle.std.specs.Prelude.{ℕ, ◌≡◌, ◌≢◌, ◌+◌, ◌↔◌, ◌<◌, ◌≤◌, ◌∷◌, ◌||◌, ◌⊎◌, true, not, filter, find, reverse, Contains, IfSome, IfNone};
-ghost use Rattle.std.specs.Prelude.{IfOk, IfErr, None, Some, Bool, ◌-◌, length, slice_get, slice_index_or};
+ghost use Rattle.std.specs.Prelude.{ℕ, ◌≡◌, ◌≢◌, ◌+◌, ◌↔◌, ◌<◌, ◌≤◌, ◌∷◌, ◌||◌, ◌⊎◌, true, not, filter, Contains, IfSome, IfNone};
+ghost use Rattle.std.specs.Prelude.{IfOk, IfErr, None, Some, Bool, slice_index_or};
 ghost use Rattle.regalloc2_names.specs.declared.RegClass.{RegClass};
 ghost use Rattle.regalloc2_function.specs.Machine.{is_allocatable};
 ghost use Rattle.regalloc2_function.specs.Views.{machine_of};
 ghost use Rattle.regalloc2_names.specs.Register.{Register, class_code, is_register};
 ghost use Rattle.regalloc2_names.specs.Place.{is_memory};
 ghost use Rattle.regalloc2_names.specs.RegisterSet.{has_register};
+ghost use Rattle.regalloc2_fastalloc_state.specs.Choice.{chosen};
 ghost use Rattle.regalloc2_fastalloc_state.specs.StateParts.{IsLeastRecentIn, NoneIsIn, NoneIsFrom, AreLrus, AreThoseBelow, SameRegisters, lru_of};
 ghost use Rattle.regalloc2_fastalloc_state.specs.StateParts.{scratch_reserve_for};
 
@@ -180,21 +181,24 @@ impl<A: Allocator> AllocatableRegs<A> {
         }
     }
 
-    /// The register of the class in the set that was used longest ago.
-    pub fn least_recently_used(&self, class: RegClass, free: PRegSet) -> Option<PReg>
-        ensures oldest { result ≡ find (has_register free) (reverse (lru_of self.now class)) }
-        ensures found { IfSome result (λ r. IsLeastRecentIn self.now class free r) }
-        ensures none { IfNone result (NoneIsIn self.now class free) }
+    /// The register of a class that is taken, of those that are available: the one that was used longest ago.
+    ///
+    /// `chosen` says which that is. Nothing else decides it: to change the policy, edit that definition, and this function with its
+    /// short cut `first_choice`.
+    pub fn choose_register(&self, class: RegClass, available: PRegSet) -> Option<PReg>
+        ensures chosen { result ≡ chosen (has_register available) (lru_of self.now class) }
+        ensures found { IfSome result (λ r. IsLeastRecentIn self.now class available r) }
+        ensures none { IfNone result (NoneIsIn self.now class available) }
     {
-        self.lrus.items[class.code()].last(free)
+        self.lrus.items[class.code()].last(available)
     }
 
-    /// The register of the class that was used longest ago, of all. It is what `least_recently_used` answers for each set
-    /// that has it, without a search.
+    /// The register that would be taken if all of the class were available. It is what `choose_register` answers for each set that
+    /// has it, without a search.
     #[inline(always)]
-    pub fn oldest(&self, class: RegClass) -> Option<PReg>
-        ensures oldest { result ≡ slice_get (lru_of self.now class) (length (lru_of self.now class) - 1) }
-        ensures first { IfSome result (λ r. (test : Register → Bool) → test r ≡ true → find test (reverse (lru_of self.now class)) ≡ Some r) }
+    pub fn first_choice(&self, class: RegClass) -> Option<PReg>
+        ensures chosen { result ≡ chosen (λ r. true) (lru_of self.now class) }
+        ensures first { IfSome result (λ r. (available : Register → Bool) → available r ≡ true → chosen available (lru_of self.now class) ≡ Some r) }
         ensures found { IfSome result (λ r. (r.class ≡ class) × (r.number < 64) × (has_register self.now.allocatable r ≡ true)) }
         ensures none { IfNone result (NoneIsFrom self.now.allocatable class 0) }
     {

@@ -1,24 +1,19 @@
 -- Lemmas for the contracts of the walk's functions; that these make the steps of regalloc2_fastalloc_proofs is answered function by function.
--- Main theorem: `none_left_over` in `BlockSpillFree`: a function of one block with registers for all its vregs gets no moves and no slots. Read
--- `OperandTakesFreeReg` (`operand_got`), then `OperandsSpillFree` (`one_placed_more`) and `inst_done`. `LruUnusedLast` and `AvailableCount` say
--- which registers are found free.
+-- `AvailableCount` says which registers are found free, and `LrusOfClasses` what the order of their use has.
 -- `RegsReserved` (`reserves_all`) is the loop over fixed registers, `OperandOutOfRegs` says where an operand stops, `Steps` chains steps.
 -- `NothingPassed`: a branch to blocks without parameters does nothing to the tables. `FilledClobbers`: only clobbers in which vregs are have to be emptied.
--- `OldestFree`: some set has a register that is free, and all that are free throughout. `SlotUses` (`slot_use`): a use under `Any` stays in its vreg's slot.
+-- `SlotUses` (`slot_use`): a use under `Any` stays in its vreg's slot.
 -- What a branch defines: `OwnDefs` (the tables say what is its own), `StoresListed` (`lists_stores`: what a block's beginning stores is listed, each
 -- once, counted in `CountedOnce`), `StoresPushed` (the moves of that, as they are pushed) and `StoresOnEdge` (`stores_on`: those are the stores).
 pub mod AvailableCount
-pub mod BlockSpillFree
 pub mod CountedOnce
 pub mod FilledClobbers
+pub mod RegOperands
 pub mod RegsReserved
-pub mod LruUnusedLast
+pub mod LrusOfClasses
 pub mod NothingPassed
-pub mod OldestFree
-pub mod OperandsSpillFree
 pub mod OperandsProcessed
 pub mod OperandOutOfRegs
-pub mod OperandTakesFreeReg
 pub mod OwnDefs
 pub mod PickedInTurn
 pub mod SlotUses

@@ -24,11 +24,13 @@ orders_nothing inst_regs class t = record {
   allocatable = refl;
   fixed_stack = refl;
   dedicated_scratch = refl;
+  lrus = refl;
   lends = (0, omega arith, none_taken t.slots class);
   grows = omega arith;
   assigned = λ m c. absurd (omega (arith, c.1));
   kept = λ q real other free. refl;
   each = λ k d lt. absurd (omega arith);
+  idle = λ e. (refl, refl);
 }
 
 -- and none are pushed

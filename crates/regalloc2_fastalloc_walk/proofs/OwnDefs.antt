@@ -52,8 +52,8 @@ module _ (P Q : VirtualRegister → Type 0) (to : (v : VirtualRegister) → P v 
   pub gathers_as : (k : ℕ) (u : InstRegs) (new : StateValue) (more : List ClassMove) → GathersEdgeMoves P point params arguments t old given k u new more →
       GathersEdgeMoves Q point params arguments t old given k u new more
   gathers_as k u new more none_gathered = none_gathered
-  gathers_as k u new more (one_gathered j g p q x w m n o lt prev slot places edits machine spills foreign) =
-      one_gathered j g p q x w m n o lt (gathers_as j x m g prev) slot places edits machine spills (λ own. foreign (back _ own))
+  gathers_as k u new more (one_gathered j g p q x w m n o lt prev slot places edits machine order spills foreign) =
+      one_gathered j g p q x w m n o lt (gathers_as j x m g prev) slot places edits machine order spills (λ own. foreign (back _ own))
   gathers_as k u new more (own_argument j g x m lt prev own) = own_argument j g x m lt (gathers_as j x m g prev) (to _ own)
 
   pub fails_as : GatherEdge P point params arguments t old given no_register → GatherEdge Q point params arguments t old given no_register

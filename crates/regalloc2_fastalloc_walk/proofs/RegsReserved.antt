@@ -21,7 +21,7 @@ use Rattle.regalloc2_fastalloc_proofs.specs.InstSteps.{StateValue, NeedsFixedReg
 use Rattle.regalloc2_fastalloc_proofs.specs.InstSteps.{EvictsFixed, none_cleared, not_fixed}
 use Rattle.regalloc2_fastalloc_walk.specs.ReserveSteps.{IsKnown, Shrinks, Grows, IsNewlyReserved, IsReserved, ReservesRegForOperand, TakesOnly}
 use Rattle.regalloc2_fastalloc_walk.specs.ReserveSteps.{TakesFixed, AwaitsOne, ReservesOnly, OperandReserves, RegIsNotReserved}
-use Rattle.regalloc2_fastalloc_proofs.specs.InstSteps.{RegsAreNotReserved, unknown, shared}
+use Rattle.regalloc2_fastalloc_proofs.specs.InstSteps.{RegsAreNotReserved, SameButOrder, unknown, shared}
 
 -- no register becomes available where nothing changes
 pub shrinks_none : (t : InstRegs) → Shrinks t t
@@ -372,10 +372,33 @@ claim_is ops k (Some d) h c e = (let same : d ≡ c = cc in subst (λ (x : Regis
 -- where no operand is fixed to a register, none has to be emptied
 pub evicts_none : (point : ℕ) (ops : List OperandValue) (t : InstRegs) (m : StateValue) →
     ((k : ℕ) → k < length ops → (r : Register) → (op_at ops k).constraint ≡ FixedReg r → ⊥) → (n : ℕ) → n ≤ length ops → EvictsFixed point ops t m n t m
-evicts_none point ops t m never zero le = none_cleared
+evicts_none point ops t m never zero le = none_cleared m.lrus (λ none. refl)
 evicts_none point ops t m never (suc n) le =
     subst (λ (k : ℕ). EvictsFixed point ops t m k t m) (add-one n)
     (not_fixed n t m (evicts_none point ops t m never n (omega arith)) (λ r e. never n (omega arith) r e) (λ j r e less named. never j less r named))
+
+-- what is reserved, and why it can't be, is the same whatever registers were used
+pub reserves_used : (ops : List OperandValue) (k : ℕ) (t u : InstRegs) (c d : ReservedRegs) (old m : StateValue) → SameButOrder old m →
+    ReservesRegForOperand ops k t u c d m → ReservesRegForOperand ops k t u c d old
+reserves_used ops k t u c d old m e h =
+    (let x : ReservesRegForOperand ops k t u c d (record old { lrus = m.lrus }) = subst (ReservesRegForOperand ops k t u c d) e h in record {
+      shrinks = x.shrinks;
+      grows = x.grows;
+      takes = x.takes;
+      claims = x.claims;
+      reserved = λ r p n. (let y = x.reserved r p n in
+          record { known = y.known; claimed = y.claimed; held_early = y.held_early; held_late = y.held_late });
+    })
+
+pub reserve_fails_used : (ops : List OperandValue) (k : ℕ) (c : ReservedRegs) (old m : StateValue) → SameButOrder old m → RegIsNotReserved ops k c m →
+    RegIsNotReserved ops k c old
+reserve_fails_used ops k c old m e h =
+    (let x : RegIsNotReserved ops k c (record old { lrus = m.lrus }) = subst (RegIsNotReserved ops k c) e h in
+    record { register = x.register; positions = x.positions; claims = x.claims; stops = x.stops })
+
+-- registers that are used in two steps
+pub used_then : (a b c : StateValue) → SameButOrder a b → SameButOrder b c → SameButOrder a c
+used_then a b c x y = y ∙ ap (λ (t : StateValue). record t { lrus = c.lrus }) x
 
 -- the operands up to the next one, where none of them is fixed, or some one is
 abbrev pub NoneIsFixed : List OperandValue → ℕ → Type 0

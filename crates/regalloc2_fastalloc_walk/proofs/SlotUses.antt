@@ -14,7 +14,7 @@ use Rattle.regalloc2_fastalloc_state.specs.declared.request.Requirement.{Require
 use Rattle.regalloc2_fastalloc_state.specs.declared.request.Requirement.TheVariants.{AnyPlace, InPReg}
 use Rattle.regalloc2_fastalloc_state.specs.StateParts.{alloc_of}
 use Rattle.regalloc2_fastalloc_proofs.specs.InstSteps.{StateValue, AllocsUse, MeetsRequirement, ProcessesOperand, requirement_of, use_request}
-use Rattle.regalloc2_fastalloc_proofs.specs.InstSteps.{a_use, awaited_less, in_slot, stays}
+use Rattle.regalloc2_fastalloc_proofs.specs.InstSteps.{a_use, awaited_less, in_slot, not_used, stays}
 
 -- it stays there: nothing is claimed, moved or noted
 stays_in_slot : (point : ℕ) (request : OperandRequest) (s : ℕ) (t : InstRegs) (old : StateValue) → request.requirement ≡ AnyPlace →
@@ -25,7 +25,11 @@ stays_in_slot point request s t old any at = record {
   gets = record {
     middle = old;
     picks = stays at (subst (λ (w : Requirement). MeetsRequirement old w (InSlot s)) (sym any) (λ e. absurd cc)) refl;
-    occupies = in_slot s refl (record { early = refl; late = refl; scratch = refl }) refl;
+    takes = record {
+      claimed = old;
+      occupies = in_slot s refl (record { early = refl; late = refl; scratch = refl }) refl;
+      uses = not_used (λ r wants e. absurd cc) refl;
+    };
     affordable = λ asked r e. absurd cc;
     awaited_in = λ def asked r e. absurd cc;
   };

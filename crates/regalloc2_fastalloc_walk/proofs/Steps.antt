@@ -5,7 +5,8 @@ use Rattle.regalloc2_names.specs.declared.RegAllocError.{RegAllocError}
 use Rattle.regalloc2_names.specs.Register.{Register, VirtualRegister}
 use Rattle.regalloc2_fastalloc_state.specs.declared.inst_regs.InstRegs.{InstRegs}
 use Rattle.regalloc2_fastalloc_proofs.proofs.Evictions.PushedAndRemoved.{same_then}
-use Rattle.regalloc2_fastalloc_proofs.specs.InstSteps.{StateValue, SameMachine, no_register, EvictPReg, EvictOthers, others}
+use Rattle.regalloc2_fastalloc_proofs.specs.InstSteps.{StateValue, SameButOrder, SameMachine, no_register, EvictPReg, EvictOthers, others}
+use Rattle.regalloc2_fastalloc_proofs.proofs.Evictions.FixedUsed.{same_used}
 use Rattle.regalloc2_fastalloc_state.specs.OutOfResources.{IsResourceErrorIn}
 use Rattle.regalloc2_fastalloc_state.specs.StateParts.{AllAtOrAfter}
 use Rattle.regalloc2_fastalloc_walk.specs.declared.state.State.{State}
@@ -26,11 +27,11 @@ pub step_ok : {A T U : Type 0} {point at : ℕ} {t : T} {u : U} (a b : State A) 
 step_ok {at = at} a b same step =
     record { machine = step.machine; later = subst (λ (p : ℕ). AllAtOrAfter p b.edits) same step.later; long = step.long; err = search rules }
 
--- the state is another with the same tables
-pub step_same : {A T : Type 0} {point : ℕ} (r : Result T RegAllocError) (a b c : State A) → tables_of c ≡ tables_of b → IsStepAt point r a b →
+-- registers are used after it
+pub step_used : {A T : Type 0} {point : ℕ} (r : Result T RegAllocError) (a b c : State A) → SameButOrder (tables_of b) (tables_of c) → IsStepAt point r a b →
     IsStepAt point r a c
-step_same {point = point} r a b c same step = record {
-  machine = subst (SameMachine (tables_of a)) (sym same) step.machine;
+step_used {point = point} r a b c same step = record {
+  machine = same_then (tables_of a) (tables_of b) (tables_of c) step.machine (same_used (tables_of b) (tables_of c) c.registers.lrus same);
   later = subst (λ (t : StateValue). OnOk r (AllAtOrAfter point t.edits)) (sym same) step.later;
   long = subst (λ (t : StateValue). OnOk r (length t.places.vreg_allocs ≡ length a.places.vreg_allocs)) (sym same) step.long;
   err = subst (λ (t : StateValue). IfErr r (IsResourceErrorIn t.slots)) (sym same) step.err;

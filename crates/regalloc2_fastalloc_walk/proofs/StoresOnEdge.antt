@@ -452,6 +452,14 @@ module _ (at_edge : EdgeStores) where
         by_way = subst (λ c. IsByWay t c x) h.class made.by_way;
       }
 
+  -- where nothing is stored, no slot is made
+  slots_idle : ((j : ℕ) (v : VirtualRegister) → IsStoredFor f e k t.slots j v → ⊥) → s ≡ t.slots
+  slots_idle none = by_list ds refl
+    where
+      by_list : (xs : List StoredDef) → ds ≡ xs → s ≡ t.slots
+      by_list (x ∷ xs) is = absurd (none (store_at ds 0).index (store_at ds 0).to (lists.each 0 no_store (let l = ap length is in omega (arith, l))))
+      by_list [] is = no_slots_made f e t ds (length ds) ms s finds (ap length is)
+
   -- Pushed, the ones from memory first, they are the stores on the edge.
   pub stores_on : {point : ℕ} → SameMachine t (record t { slots = s }) → {u w : StateValue} → PushesStores point true ms (record t { slots = s }) u →
       PushesStores point false ms u w → StoresOn f e k point t w
@@ -485,6 +493,7 @@ module _ (at_edge : EdgeStores) where
               (o.0, of_first o.0 q.stores p.stores o.1, is_for_vreg w slots_are c.0 lt o.0 o.2))
         ]));
     slots = subst (GetsSlots (IsConcerned f e k) t.slots) (sym slots_are) slots_got;
+    idle = λ none. slots_are ∙ slots_idle none;
     places = ap (λ (z : StateValue). z.places) after_both;
     edits = ap (λ (z : StateValue). z.edits) after_both ∙ append_assoc t.edits (pushed_moves point (store_moves p.stores)) (pushed_moves point (store_moves
         q.stores))
@@ -498,6 +507,7 @@ module _ (at_edge : EdgeStores) where
       vregs = machine.vregs;
       num_temp_slots = machine.num_temp_slots;
     });
+    lrus = ap (λ (z : StateValue). z.lrus) after_both;
   }
     where
       after_memory : u ≡ record t { slots = s; edits = t.edits ++ pushed_moves point (store_moves p.stores) }
@@ -543,20 +553,3 @@ module _ (at_edge : EdgeStores) where
       move_is [] i d lt is = absurd (omega (arith, lt))
       move_is (x ∷ xs) zero d lt is = is
       move_is (x ∷ xs) (suc i) d lt is = move_is xs i d (omega (arith, lt)) is
-
-  -- Where nothing is stored, nothing changes.
-  pub stores_none : {point : ℕ} → ((j : ℕ) (v : VirtualRegister) → IsStoredFor f e k t.slots j v → ⊥) → {u w : StateValue} →
-      PushesStores point true ms (record t { slots = s }) u → PushesStores point false ms u w → w ≡ t
-  stores_none {point} none {u} {w} p q = by_list ds refl
-    where
-      by_list : (xs : List StoredDef) → ds ≡ xs → w ≡ t
-      by_list (x ∷ xs) is = absurd (none (store_at ds 0).index (store_at ds 0).to (lists.each 0 no_store (let l = ap length is in omega (arith, l))))
-      by_list [] is =
-          let few : length ds ≡ 0 = ap length is in
-          let no_moves : length ms ≡ 0 = (let l = long in omega (arith, l, few)) in
-          let same : s ≡ t.slots = no_slots_made f e t ds (length ds) ms s finds few in
-          let first_none : p.stores ≡ [] = none_of (record t { slots = s }) true ms p.stores no_moves p.made in
-          let second_none : q.stores ≡ [] = none_of u false ms q.stores no_moves q.made in
-          q.pushed ∙ ap (λ (z : StateValue). record z { edits = z.edits ++ pushed_moves point (store_moves q.stores) }) p.pushed
-          ∙ nothing_pushed t s point p.stores q.stores first_none second_none
-          ∙ ap (λ z. record t { slots = z }) same

@@ -4,4 +4,3 @@ pub mod OwnDefs
 pub mod PlaceChoice
 pub mod ReserveSteps
 pub mod StateView
-pub mod SpillFree

@@ -19,6 +19,7 @@ pub record GathersArgument (point : ℕ) (param argument : VirtualRegister) (to 
   pub slot : GetsSpillSlot old.slots middle.slots param to
   pub places : middle.places ≡ old.places
   pub edits : middle.edits ≡ old.edits
+  pub lrus : middle.lrus ≡ old.lrus
   pub machine : SameMachine old middle
   pub spills : SpillsArgument point argument from t u middle new
 

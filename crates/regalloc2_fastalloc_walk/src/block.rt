@@ -78,7 +78,6 @@ impl<'a, A: Allocator> State<'a, A> {
         ensures outcome { ComesTo (ReloadRegs point inst_regs.old) inst_regs.new result self.old self.new }
         ensures emptied { OnOk result ((r : Register) → r.number < 64 → vreg_of_preg self.new.places r ≡ None) }
         ensures step { IsStepAt point result self.old self.new }
-        ensures nobody { OnOk result (((n : ℕ) → alloc_of self.old.places n ≡ NoPlace) → SameTables self.old self.new) }
     {
         while let Some(preg) = self.places.newest_filled() {
             self.evict_preg(inst_regs, point, preg)?;
@@ -94,7 +93,6 @@ impl<'a, A: Allocator> State<'a, A> {
         requires known { All (λ v. v.number < length self.old.places.vreg_allocs) params.now }
         ensures outcome { ComesTo (ReloadAtBegin (before first) params.now) tt result self.old self.new }
         ensures step { IsStepAt (before first) result self.old self.new }
-        ensures nobody { OnOk result (((n : ℕ) → alloc_of self.old.places n ≡ NoPlace) → params.now ≡ [] → SameTables self.old self.new) }
     {
         let mut inst_regs = InstRegs::new(self.registers.available_regs());
         let point = ProgPoint::before(first);

@@ -2,7 +2,7 @@
 
 ghost use Rattle.regalloc2_semantics.specs.Blocks.{HasEdge, target_at};
 ghost use Rattle.std.specs.Prelude.{ℕ, List, ◌≡◌, ◌↔◌, ◌≢◌, ◌<◌, ◌≤◌, ◌+◌, ◌++◌, ◌∷◌, ◌⊎◌, [], None, Some, length, IsTrue, IfOk, IfSome, IfErr, OnOk};
-ghost use Rattle.std.specs.Prelude.{OnErr, IfNone, find, reverse, slice_index_or, true, MatchResult};
+ghost use Rattle.std.specs.Prelude.{OnErr, IfNone, slice_index_or, true, MatchResult};
 ghost use Rattle.regalloc2_names.specs.Place.{Place, NoPlace, InRegister};
 ghost use Rattle.regalloc2_names.specs.Point.{before};
 ghost use Rattle.regalloc2_names.specs.Register.{Register, class_code};
@@ -21,6 +21,7 @@ ghost use Rattle.regalloc2_fastalloc_walk.specs.OwnDefs.{IsOwnBy, GatherArgument
 ghost use Rattle.regalloc2_fastalloc_walk.specs.StateView.{Between, IsBranchStepAt, IsStepAt, SameTables, tables_of, ComesTo, ComesToOne};
 ghost use Rattle.regalloc2_names.specs.RegisterSet.{has_register};
 ghost use Rattle.regalloc2_fastalloc_state.specs.InstRegs.{is_free_throughout};
+ghost use Rattle.regalloc2_fastalloc_state.specs.Choice.{chosen};
 ghost use Rattle.regalloc2_fastalloc_state.specs.StateParts.{SlotsHaveOneOwner, IsLeastRecentIn, NoneIsIn, AllAtOrAfter, lru_of};
 
 use super::state::State;
@@ -162,18 +163,18 @@ impl<'b, B: Allocator> MovesByClass<'b, B> {
 }
 
 impl<'a, A: Allocator> State<'a, A> {
-    /// The first scratch register for moves of a class: that of the machine, else the least recently used one in the set.
+    /// The first scratch register for moves of a class: that of the machine, else the one that is taken of the set.
     fn first_scratch(&self, class: RegClass, free: PRegSet) -> Option<PReg>
         ensures found { IfSome result (λ r. (slice_index_or self.now.registers.dedicated_scratch (class_code class) None ≡ Some r)
             ⊎ IsLeastRecentIn self.now.registers class free r) }
         ensures own { (r : Register) → slice_index_or self.now.registers.dedicated_scratch (class_code class) None ≡ Some r → result ≡ Some r }
-        ensures oldest { slice_index_or self.now.registers.dedicated_scratch (class_code class) None ≡ None →
-            result ≡ find (has_register free) (reverse (lru_of self.now.registers class)) }
+        ensures chosen { slice_index_or self.now.registers.dedicated_scratch (class_code class) None ≡ None →
+            result ≡ chosen (has_register free) (lru_of self.now.registers class) }
         ensures none { IfNone result (NoneIsIn self.now.registers class free) }
     {
         match self.registers.dedicated_scratch(class) {
             Some(preg) => Some(preg),
-            None => self.registers.least_recently_used(class, free),
+            None => self.registers.choose_register(class, free),
         }
     }
 
@@ -197,7 +198,7 @@ impl<'a, A: Allocator> State<'a, A> {
         rest.remove(first);
         ScratchPair {
             first: Some(Allocation::reg(first)),
-            second: as_place(self.registers.least_recently_used(class, rest)),
+            second: as_place(self.registers.choose_register(class, rest)),
         }
     }
 
@@ -224,8 +225,6 @@ impl<'a, A: Allocator> State<'a, A> {
         ensures outcome { ComesToOne (OrderMoves inst_regs.now class moves.entry) (λ made. made.items) result self.old self.new }
         ensures unchanged { OnErr result (SameTables self.old self.new) }
         ensures err { IfErr result (IsResourceError (SlotsExhaustedWith self.old.slots (self.old.slots.num_temp_slots + 2))) }
-        ensures registers { OnOk result (self.new.registers ≡ self.old.registers) }
-        ensures none { IfOk result (λ made. moves.entry ≡ [] → (made.items ≡ []) × (SameTables self.old self.new)) }
     {
         let resolved = resolve(moves)?;
         if are_none(&resolved) {
@@ -262,8 +261,6 @@ impl<'a, A: Allocator> State<'a, A> {
         ensures later { OnOk result (AllAtOrAfter point self.new.edits) }
         ensures machine { Between (AddsTempSlotsAtMost 2) self.old self.new }
         ensures err { IfErr result (IsResourceError (SlotsExhaustedWith self.old.slots (self.old.slots.num_temp_slots + 2))) }
-        ensures registers { OnOk result (self.new.registers ≡ self.old.registers) }
-        ensures none { OnOk result (moves.entry ≡ [] → SameTables self.old self.new) }
     {
         let made = self.order(inst_regs, class, moves)?;
         self.edits.push_all(point, made.as_slice())?;
@@ -286,7 +283,6 @@ impl<'a, A: Allocator> State<'a, A> {
         ensures later { AllAtOrAfter point self.new.edits }
         ensures rest { tables_of self.new ≡ record (tables_of self.old) { edits = self.new.edits } }
         ensures err { IfErr result (λ e. e ≡ RegAllocError.Memory) }
-        ensures registers { self.new.registers ≡ self.old.registers }
     {
         let register = Allocation::reg(by);
         self.edits.push(point, register, to)?;
@@ -311,8 +307,6 @@ impl<'a, A: Allocator> State<'a, A> {
         ensures later { OnOk result (AllAtOrAfter point self.new.edits) }
         ensures machine { Between (AddsTempSlotsAtMost 2) self.old self.new }
         ensures err { IfErr result (IsResourceError (SlotsExhaustedWith self.old.slots (self.old.slots.num_temp_slots + 2))) }
-        ensures registers { OnOk result (self.new.registers ≡ self.old.registers) }
-        ensures none { OnOk result (moves.entry ≡ [] → SameTables self.old self.new) }
     {
         if moves.is_empty() {
             // most branches have moves of one class, and the list of another isn't handed on to be put in order
@@ -342,7 +336,6 @@ impl<'a, A: Allocator> State<'a, A> {
         requires known { argument.number < length self.old.places.vreg_allocs }
         ensures outcome { ComesToOne (SpillArgument point argument inst_regs.old) (λ s. (s, inst_regs.new)) result self.old self.new }
         ensures step { IsStepAt point result self.old self.new }
-        ensures registers { OnOk result (self.new.registers ≡ self.old.registers) }
     {
         let slot = self.slots.get_spillslot(argument)?;
         if let Some(preg) = self.places.current_alloc(argument).as_reg() {
@@ -371,7 +364,6 @@ impl<'a, A: Allocator> State<'a, A> {
             AreOf moves.new.int moves.new.float moves.new.vector (given ++ record { class = argument.class; from = from; to = to } ∷ [])))
             (λ e. e ≡ RegAllocError.TooManyLiveRegs → GatherArgument point param argument inst_regs.old (tables_of self.old) no_register) }
         ensures step { IsStepAt point result self.old self.new }
-        ensures registers { OnOk result (self.new.registers ≡ self.old.registers) }
     {
         let to = self.slots.get_spillslot(param)?;
         let from = self.spill_argument(inst_regs, point, argument)?;
@@ -400,7 +392,6 @@ impl<'a, A: Allocator> State<'a, A> {
             (λ e. e ≡ RegAllocError.TooManyLiveRegs → GatherEdge (IsOwnBy own.now.defs.now own.now.branch) (before own.now.branch) params.now
             arguments.now inst_regs.old (tables_of self.old) given no_register) }
         ensures step { IsStepAt (before own.now.branch) result self.old self.new }
-        ensures registers { OnOk result (self.new.registers ≡ self.old.registers) }
     {
         let point = ProgPoint::before(own.branch);
         for j in 0..params.len() {
@@ -435,7 +426,6 @@ impl<'a, A: Allocator> State<'a, A> {
             (λ e. e ≡ RegAllocError.TooManyLiveRegs → GatherMoves (F.function cx.now.f.now) block (before inst) inst_regs.old (tables_of self.old)
             no_register) }
         ensures step { IsStepAt (before inst) result self.old self.new }
-        ensures registers { OnOk result (self.new.registers ≡ self.old.registers) }
     {
         let own = OwnDefs {
             defs: cx.defs,
@@ -467,8 +457,6 @@ impl<'a, A: Allocator> State<'a, A> {
         ensures later { OnOk result (AllAtOrAfter point self.new.edits) }
         ensures machine { Between (AddsTempSlotsAtMost 6) self.old self.new }
         ensures err { IfErr result (IsResourceError (SlotsExhaustedWith self.old.slots (self.old.slots.num_temp_slots + 6))) }
-        ensures registers { OnOk result (self.new.registers ≡ self.old.registers) }
-        ensures none { OnOk result (moves.entry.int ≡ [] → moves.entry.float ≡ [] → moves.entry.vector ≡ [] → SameTables self.old self.new) }
     {
         let MovesByClass { int, float, vector } = moves;
         self.push_moves(inst_regs, point, RegClass::Int, int)?;
@@ -507,9 +495,6 @@ impl<'a, A: Allocator> State<'a, A> {
         requires apart { AreApart (tables_of self.old) }
         ensures outcome { ComesTo (ProcessBranch (F.function cx.now.f.now) block inst inst_regs.old) inst_regs.new result self.old self.new }
         ensures step { IsBranchStepAt (before inst) 6 result self.old self.new }
-        ensures registers { OnOk result (self.new.registers ≡ self.old.registers) }
-        ensures none { OnOk result (((k : ℕ) → HasEdge (F.function cx.now.f.now) block k → (block_at (F.function cx.now.f.now)
-            (target_at (F.function cx.now.f.now) block k)).params ≡ []) → SameTables self.old self.new) }
     {
         if passes_nothing(cx.f, block) {
             return Ok(());

@@ -25,7 +25,6 @@ impl<'a, A: Allocator> State<'a, A> {
         requires { AllAtOrAfter point self.old.edits }
         ensures outcome { ComesTo (EvictVReg point preg) tt result self.old self.new }
         ensures step { IsStepAt point result self.old self.new }
-        ensures registers { OnOk result (self.new.registers ≡ self.old.registers) }
     {
         let Some(vreg) = self.places.vreg_in(preg) else {
             return Ok(());
@@ -48,7 +47,6 @@ impl<'a, A: Allocator> State<'a, A> {
         ensures outcome { ComesToOne (AllocScratchReg point class inst_regs.old) (λ r. (r, inst_regs.new)) result self.old self.new }
         ensures awaited { inst_regs.new.awaited ≡ inst_regs.old.awaited }
         ensures step { IsStepAt point result self.old self.new }
-        ensures registers { OnOk result (self.new.registers ≡ self.old.registers) }
     {
         if let Some(preg) = self.registers.dedicated_scratch(class) {
             return Ok(preg);
@@ -57,7 +55,7 @@ impl<'a, A: Allocator> State<'a, A> {
             return Ok(preg);
         }
         let free = inst_regs.available_pregs(Positions::both());
-        let Some(preg) = self.registers.least_recently_used(class, free) else {
+        let Some(preg) = self.registers.choose_register(class, free) else {
             return Err(RegAllocError::TooManyLiveRegs);
         };
         inst_regs.remove_available(preg, Positions::both());
@@ -80,7 +78,6 @@ impl<'a, A: Allocator> State<'a, A> {
         ensures outcome { ComesTo (AddMove point class from to inst_regs.old) inst_regs.new result self.old self.new }
         ensures awaited { inst_regs.new.awaited ≡ inst_regs.old.awaited }
         ensures step { IsStepAt point result self.old self.new }
-        ensures registers { OnOk result (self.new.registers ≡ self.old.registers) }
     {
         // most moves are reloads, which go to a register
         if self.is_stack(to) && self.is_stack(from) {
@@ -111,7 +108,6 @@ impl<'a, A: Allocator> State<'a, A> {
         ensures awaited { inst_regs.new.awaited ≡ inst_regs.old.awaited }
         ensures empty { OnOk result (vreg_of_preg self.new.places preg ≡ None) }
         ensures step { IsStepAt point result self.old self.new }
-        ensures registers { OnOk result (self.new.registers ≡ self.old.registers) }
     {
         let slot = self.slots.get_spillslot(vreg)?;
         self.places.set_alloc(vreg, slot);
@@ -133,7 +129,6 @@ impl<'a, A: Allocator> State<'a, A> {
         ensures awaited { inst_regs.new.awaited ≡ inst_regs.old.awaited }
         ensures empty { OnOk result (vreg_of_preg self.new.places preg ≡ None) }
         ensures step { IsStepAt point result self.old self.new }
-        ensures registers { OnOk result (self.new.registers ≡ self.old.registers) }
     {
         let Some(vreg) = self.places.vreg_in(preg) else {
             return Ok(());
@@ -156,7 +151,6 @@ impl<'a, A: Allocator> State<'a, A> {
         ensures awaited { inst_regs.new.awaited ≡ inst_regs.old.awaited }
         ensures alone { OnOk result (alloc_of self.new.places vreg.number ≡ NoPlace → vreg_of_preg self.new.places preg ≡ None) }
         ensures step { IsStepAt point result self.old self.new }
-        ensures registers { OnOk result (self.new.registers ≡ self.old.registers) }
     {
         if let Some(held) = self.places.vreg_in(preg) {
             if held.vreg() == vreg.vreg() {

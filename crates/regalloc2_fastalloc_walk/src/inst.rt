@@ -3,7 +3,6 @@
 ghost use Rattle.std.specs.Prelude.{Bool};
 ghost use Rattle.regalloc2_names.specs.RegisterSet.{has_register};
 ghost use Rattle.regalloc2_names.specs.Register.{Register, VirtualRegister};
-ghost use Rattle.regalloc2_fastalloc_walk.specs.SpillFree.{FitInRegs, ArePlaced, ArePlain, IsSpillFree, LeavesSpillFree, AllocsAnyReg};
 ghost use Rattle.std.specs.Prelude.{◌≡◌, ◌<◌, ◌≤◌, ◌+◌, ◌↔◌, [], length, not, false, true, slice_set, slice_index_or, ℕ, OnOk, IfSome, IfNone};
 ghost use Rattle.std.specs.Prelude.{IsNone, IsTrue, List};
 ghost use Rattle.regalloc2_names.specs.Point.{before, after};
@@ -210,9 +209,6 @@ impl<'a, A: Allocator> State<'a, A> {
         ensures outcome { ComesTo (ProcessOperand cx.now.inst cx.now.ends_block cx.now.operands.now k here.old inst_regs.old) (here.new, inst_regs.new)
             result self.old self.new }
         ensures step { IsStepAt (after cx.now.inst) result self.old self.new }
-        ensures takes { OnOk result ((op_at cx.now.operands.now k).constraint ≡ OperandConstraint.Reg → slice_index_or here.old k NoPlace ≡ NoPlace →
-            AllocsAnyReg inst_regs.old (op_at cx.now.operands.now k).vreg (slice_index_or here.new k NoPlace) (tables_of self.old) self.old.registers
-            self.new.registers) }
     {
         let operands = cx.operands;
         let operand = operands[k];
@@ -256,8 +252,6 @@ impl<'a, A: Allocator> State<'a, A> {
         ensures outcome { ComesTo (ProcessOperand cx.now.inst cx.now.ends_block cx.now.operands.now k here.old inst_regs.old) (here.new, inst_regs.new)
             result self.old self.new }
         ensures step { IsStepAt (after cx.now.inst) result self.old self.new }
-        ensures takes { OnOk result (AllocsAnyReg inst_regs.old (op_at cx.now.operands.now k).vreg (slice_index_or here.new k NoPlace)
-            (tables_of self.old) self.old.registers self.new.registers) }
     {
         let operands = cx.operands;
         let operand = operands[k];
@@ -344,9 +338,6 @@ impl<'a, A: Allocator> State<'a, A> {
         ensures outcome { ComesTo (ProcessOperand cx.now.inst cx.now.ends_block cx.now.operands.now k here.old inst_regs.old) (here.new, inst_regs.new)
             result self.old self.new }
         ensures step { IsStepAt (after cx.now.inst) result self.old self.new }
-        ensures takes { OnOk result ((op_at cx.now.operands.now k).constraint ≡ OperandConstraint.Reg → slice_index_or here.old k NoPlace ≡ NoPlace →
-            AllocsAnyReg inst_regs.old (op_at cx.now.operands.now k).vreg (slice_index_or here.new k NoPlace) (tables_of self.old) self.old.registers
-            self.new.registers) }
     {
         let operands = cx.operands;
         let operand = operands[k];
@@ -383,11 +374,6 @@ impl<'a, A: Allocator> State<'a, A> {
         ensures outcome { ComesTo (ProcessOperandsAt cx.now.inst cx.now.ends_block (is_late pos) cx.now.operands.now here.old inst_regs.old)
             (here.new, inst_regs.new) result self.old self.new }
         ensures step { IsStepAt (after cx.now.inst) result self.old self.new }
-        ensures spill_free { OnOk result ((names : List VirtualRegister) (gone : ℕ → Bool) → FitInRegs names self.old.registers.allocatable →
-            ArePlain names gone cx.now.operands.now (is_late pos) → ((j : ℕ) → is_late (op_at cx.now.operands.now j).position ≡ is_late pos →
-            slice_index_or here.old j NoPlace ≡ NoPlace) → IsSpillFree names gone self.old.registers (tables_of self.old) inst_regs.old
-            → ArePlaced names gone cx.now.operands.now (is_late pos) (length cx.now.operands.now) here.old here.new self.new.registers (tables_of self.old)
-            (tables_of self.new) inst_regs.new) }
     {
         for (k, _operand) in operands_at(cx.operands, pos) {
             self.process_operand_allocation(inst_regs, cx, here, k)?;
@@ -407,7 +393,6 @@ impl<'a, A: Allocator> State<'a, A> {
         requires vreg { operand.vreg.number < length self.old.places.vreg_allocs }
         ensures outcome { ComesTo (MoveUse point operand place inst_regs.old) inst_regs.new result self.old self.new }
         ensures step { IsStepAt point result self.old self.new }
-        ensures registers { OnOk result (self.new.registers ≡ self.old.registers) }
     {
         let current = self.places.current_alloc(operand.vreg());
         let is_moved = differ(current, place);
@@ -437,7 +422,6 @@ impl<'a, A: Allocator> State<'a, A> {
         requires here_long { length here.now ≡ length operands.now }
         ensures outcome { ComesTo (MoveUses point operands.now here.now inst_regs.old) inst_regs.new result self.old self.new }
         ensures step { IsStepAt point result self.old self.new }
-        ensures registers { OnOk result (self.new.registers ≡ self.old.registers) }
     {
         for (k, operand) in Operands::new(operands).use_ops() {
             if operand.is_reading() {
@@ -461,8 +445,6 @@ impl<'a, A: Allocator> State<'a, A> {
         requires fresh { IsFresh inst_regs.old (tables_of self.old) }
         ensures outcome { ComesTo (PrepareRegs cx.now.inst cx.now.operands.now cx.now.clobbers inst_regs.old) inst_regs.new result self.old self.new }
         ensures step { IsStepAt (after cx.now.inst) result self.old self.new }
-        ensures registers { OnOk result (((k : ℕ) (r : Register) → k < length cx.now.operands.now →
-            (op_at cx.now.operands.now k).constraint ≡ OperandConstraint.FixedReg r → ⊥) → self.new.registers ≡ self.old.registers) }
     {
         let point = ProgPoint::after(cx.inst);
         let any_fixed = self.reserve(inst_regs, cx.operands)?;
@@ -488,10 +470,6 @@ impl<'a, A: Allocator> State<'a, A> {
         ensures outcome { ComesTo (AllocInst cx.now.inst cx.now.operands.now cx.now.clobbers cx.now.ends_block here.old inst_regs.old)
             (here.new, inst_regs.new) result self.old self.new }
         ensures step { IsStepAt (before cx.now.inst) result self.old self.new }
-        ensures spill_free { OnOk result ((names : List VirtualRegister) (gone : ℕ → Bool) → FitInRegs names self.old.registers.allocatable →
-            ((late : Bool) → ArePlain names gone cx.now.operands.now late) → ((r : Register) → has_register cx.now.clobbers r ≡ false) →
-            IsSpillFree names gone self.old.registers (tables_of self.old) inst_regs.old
-            → LeavesSpillFree names gone cx.now.operands.now self.new.registers (tables_of self.new)) }
     {
         self.prepare_regs(inst_regs, cx)?;
         self.process_operands_at(inst_regs, OperandPos::Late, cx, here)?;
@@ -517,10 +495,6 @@ impl<'a, A: Allocator> State<'a, A> {
         ensures outcome { ComesTo (AllocInstAt cx.now.inst cx.now.operands.now cx.now.clobbers cx.now.ends_block start allocs.old inst_regs.old)
             (allocs.new, inst_regs.new) result self.old self.new }
         ensures step { IsStepAt (before cx.now.inst) result self.old self.new }
-        ensures spill_free { OnOk result ((names : List VirtualRegister) (gone : ℕ → Bool) → FitInRegs names self.old.registers.allocatable →
-            ((late : Bool) → ArePlain names gone cx.now.operands.now late) → ((r : Register) → has_register cx.now.clobbers r ≡ false) →
-            IsSpillFree names gone self.old.registers (tables_of self.old) inst_regs.old
-            → LeavesSpillFree names gone cx.now.operands.now self.new.registers (tables_of self.new)) }
     {
         let end = start + cx.operands.len();
         self.alloc_inst(inst_regs, cx, &mut allocs[start..end])?;

@@ -1,20 +1,19 @@
 //! The place of an operand.
 
-ghost use Rattle.std.specs.Prelude.{Some, true, false, find, reverse, IsFalse};
+ghost use Rattle.std.specs.Prelude.{Some, true, false, IsFalse};
 ghost use Rattle.regalloc2_names.specs.RegisterSet.{has_register};
-ghost use Rattle.regalloc2_names.specs.declared.sets.PRegSet.{PRegSet};
-ghost use Rattle.regalloc2_fastalloc_walk.specs.SpillFree.{SelectsAnyReg, AllocsAnyReg, Pokes};
 ghost use Rattle.std.specs.Prelude.{◌≡◌, ◌≢◌, ◌<◌, ◌≤◌, ◌↔◌, ◌⊎◌, ◌&&◌, length, not, None, OnOk, IfOk, IfErr, IfNone, IfSome, IsTrue};
 ghost use Rattle.regalloc2_names.specs.Register.{Register};
 ghost use Rattle.regalloc2_names.specs.Place.{NoPlace, InRegister, is_place};
+ghost use Rattle.regalloc2_fastalloc_state.specs.Choice.{chosen};
 ghost use Rattle.regalloc2_fastalloc_state.specs.StateParts.{IsInverse, AllAtOrAfter, vreg_of_preg, lru_of, alloc_of};
 ghost use Rattle.regalloc2_fastalloc_state.specs.OutOfResources.{IsResourceErrorIn};
-ghost use Rattle.regalloc2_fastalloc_state.specs.InstRegs.{IsAvailableAt, SameAvailable, free_count, is_available_at, is_free_throughout};
-ghost use Rattle.regalloc2_fastalloc_proofs.specs.InstSteps.{awaited_less, is_another, scratch_reserve_left, IsAffordable, SelectPlace, ClaimPlace};
+ghost use Rattle.regalloc2_fastalloc_state.specs.InstRegs.{IsAvailableAt, SameAvailable, free_count, is_available_at};
+ghost use Rattle.regalloc2_fastalloc_proofs.specs.InstSteps.{awaited_less, is_another, scratch_reserve_left, IsAffordable, SelectPlace, ClaimPlace, UsesPlace};
 ghost use Rattle.regalloc2_fastalloc_proofs.specs.InstSteps.{MayHold, SameMachine, AllocOperand, AddMoveIf, FreeDef, AllocDefOp, AllocUse, NoneIsAvailable};
 ghost use Rattle.regalloc2_fastalloc_proofs.specs.InstSteps.{MeetsRequirement};
 ghost use Rattle.regalloc2_fastalloc_walk.specs.PlaceChoice.{IsUnaffordable};
-ghost use Rattle.regalloc2_fastalloc_walk.specs.StateView.{Between, IsStepAt, SameTables, tables_of, ComesTo, ComesToOne};
+ghost use Rattle.regalloc2_fastalloc_walk.specs.StateView.{Between, IsStepAt, tables_of, ComesTo, ComesToOne};
 
 use super::state::State;
 use regalloc2_fastalloc_state::inst_regs::{InstRegs, Positions};
@@ -171,7 +170,7 @@ impl<'a, A: Allocator> State<'a, A> {
         self.is_enough(inst_regs, preg)
     }
 
-    /// The register of the class that was used longest ago of those that are free at the positions.
+    /// The register of the class that is taken, of those that are free at the positions.
     #[inline(never)]
     fn search_free(
         &self,
@@ -179,11 +178,9 @@ impl<'a, A: Allocator> State<'a, A> {
         class: RegClass,
         positions: Positions,
     ) -> Option<PReg>
+        ensures chosen { IfSome result (λ r. chosen (is_available_at inst_regs.now positions) (lru_of self.now.registers class) ≡ Some r) }
         ensures may_hold { IfSome result (λ r. MayHold (tables_of self.now) class r) }
         ensures free { IfSome result (λ r. IsAvailableAt inst_regs.now positions r) }
-        ensures oldest { IfSome result (λ r. (free : PRegSet) × ((q : Register) → is_free_throughout inst_regs.now q ≡ true → has_register free q ≡ true)
-            × (find (has_register free) (reverse (lru_of self.now.registers class)) ≡ Some r)) }
-        ensures first { IfSome result (λ r. find (is_available_at inst_regs.now positions) (reverse (lru_of self.now.registers class)) ≡ Some r) }
         ensures none { IfNone result ((r : Register) → MayHold (tables_of self.now) class r → is_available_at inst_regs.now positions r ≡ false) }
     {
         let free = inst_regs.available_pregs(positions);
@@ -191,28 +188,26 @@ impl<'a, A: Allocator> State<'a, A> {
             // where an instruction has more operands than there are registers, each of the others comes here
             return None;
         }
-        self.registers.least_recently_used(class, free)
+        self.registers.choose_register(class, free)
     }
 
-    /// The register that was used longest ago of those that are free for the operand.
+    /// The register that is taken for the operand, of those that are free for it.
     ///
-    /// The one that was used longest ago of all is asked for first, and mostly it is free. Then no set is made of those
-    /// that are free, and no ring is searched for the first of them, since the search would stop at its first step.
+    /// The first choice of all is asked for first, and mostly it is free. Then no set is made of those that are free, and no ring
+    /// is searched for the first of them, since the search would stop at its first step.
     #[inline(always)]
-    fn oldest_free(&self, inst_regs: &InstRegs, request: &OperandRequest) -> Option<PReg>
+    fn choose_free(&self, inst_regs: &InstRegs, request: &OperandRequest) -> Option<PReg>
+        ensures chosen { IfSome result (λ r. chosen (is_available_at inst_regs.now request.now.positions)
+            (lru_of self.now.registers request.now.vreg.class) ≡ Some r) }
         ensures may_hold { IfSome result (λ r. MayHold (tables_of self.now) request.now.vreg.class r) }
         ensures free { IfSome result (λ r. IsAvailableAt inst_regs.now request.now.positions r) }
-        ensures oldest { IfSome result (λ r. (free : PRegSet) × ((q : Register) → is_free_throughout inst_regs.now q ≡ true → has_register free q ≡ true)
-            × (find (has_register free) (reverse (lru_of self.now.registers request.now.vreg.class)) ≡ Some r)) }
-        ensures first { IfSome result (λ r. find (is_available_at inst_regs.now request.now.positions)
-            (reverse (lru_of self.now.registers request.now.vreg.class)) ≡ Some r) }
         ensures none { IfNone result ((r : Register) → MayHold (tables_of self.now) request.now.vreg.class r →
             is_available_at inst_regs.now request.now.positions r ≡ false) }
     {
         let class = request.vreg.class();
-        let oldest = self.registers.oldest(class)?;
-        if inst_regs.is_available(oldest, request.positions) {
-            return Some(oldest);
+        let first = self.registers.first_choice(class)?;
+        if inst_regs.is_available(first, request.positions) {
+            return Some(first);
         }
         self.search_free(inst_regs, class, request.positions)
     }
@@ -229,10 +224,10 @@ impl<'a, A: Allocator> State<'a, A> {
             alloc_of self.now.places request.now.vreg.number ≢ NoPlace) }
         ensures none { IfNone result (request.now.requirement ≡ Requirement.AnyReg →
             NoneIsAvailable request.now.vreg.class inst_regs.now (tables_of self.now)) }
-        ensures oldest { IfSome result (λ r. (free : PRegSet) × ((q : Register) → is_free_throughout inst_regs.now q ≡ true → has_register free q ≡ true)
-            × (find (has_register free) (reverse (lru_of self.now.registers request.now.vreg.class)) ≡ Some r)) }
+        ensures chosen { IfSome result (λ r. chosen (is_available_at inst_regs.now request.now.positions) (lru_of self.now.registers request.now.vreg.class)
+            ≡ Some r) }
     {
-        let preg = self.oldest_free(inst_regs, request)?;
+        let preg = self.choose_free(inst_regs, request)?;
         match request.requirement {
             Requirement::AnyReg => Some(preg),
             Requirement::AnyPlace if self.prefers_register(inst_regs, request, preg) => Some(preg),
@@ -247,7 +242,9 @@ impl<'a, A: Allocator> State<'a, A> {
         inst_regs: &InstRegs,
         request: &OperandRequest,
     ) -> Result<Allocation, RegAllocError>
-        requires { request.now.vreg.number < length self.old.places.vreg_allocs }
+        requires vreg { request.now.vreg.number < length self.old.places.vreg_allocs }
+        requires away { request.now.requirement ≡ Requirement.AnyReg →
+            MeetsRequirement (tables_of self.old) Requirement.AnyReg (alloc_of self.old.places request.now.vreg.number) → ⊥ }
         ensures outcome { ComesToOne (SelectPlace inst_regs.now request.now) (λ p. p) result self.old self.new }
         ensures affordable { IfOk result (λ p. request.now.requirement ≡ Requirement.AnyPlace → (r : Register) → p ≡ InRegister r →
             IsAffordable inst_regs.now (tables_of self.old) r) }
@@ -256,10 +253,6 @@ impl<'a, A: Allocator> State<'a, A> {
         ensures edits { self.new.edits ≡ self.old.edits }
         ensures machine { Between SameMachine self.old self.new }
         ensures err { IfErr result (IsResourceErrorIn self.new.slots) }
-        ensures registers { OnOk result (self.new.registers ≡ self.old.registers) }
-        ensures chooses { IfOk result (λ p. request.now.requirement ≡ Requirement.AnyReg →
-            (MeetsRequirement (tables_of self.old) Requirement.AnyReg (alloc_of self.old.places request.now.vreg.number) → ⊥) →
-            SelectsAnyReg inst_regs.now request.now.vreg self.old.registers (tables_of self.old) p) }
         ensures awaited { IfOk result (λ p. request.now.requirement ≡ Requirement.AnyPlace → request.now.is_def ≡ true → (r : Register) → p ≡ InRegister r →
             alloc_of self.old.places request.now.vreg.number ≢ NoPlace) }
     {
@@ -292,9 +285,6 @@ impl<'a, A: Allocator> State<'a, A> {
         ensures edits { self.new.edits ≡ self.old.edits }
         ensures machine { Between SameMachine self.old self.new }
         ensures err { IfErr result (IsResourceErrorIn self.new.slots) }
-        ensures registers { OnOk result (self.new.registers ≡ self.old.registers) }
-        ensures chooses { IfOk result (λ p. request.now.requirement ≡ Requirement.AnyReg →
-            SelectsAnyReg inst_regs.now request.now.vreg self.old.registers (tables_of self.old) p) }
         ensures awaited_in { IfOk result (λ p. request.now.is_def ≡ true → request.now.requirement ≡ Requirement.AnyPlace → (r : Register) →
             p ≡ InRegister r → (q : Register) × (alloc_of self.old.places request.now.vreg.number ≡ InRegister q)) }
         ensures inverse { IsInverse self.old.places }
@@ -309,8 +299,7 @@ impl<'a, A: Allocator> State<'a, A> {
     /// An allocatable register counts as used just now if it wasn't asked for by name.
     #[inline(always)]
     fn note_taken(&mut self, requirement: Requirement, preg: PReg)
-        ensures tables { SameTables self.old self.new }
-        ensures order { requirement ≡ Requirement.AnyReg → Pokes preg self.old.registers self.new.registers }
+        ensures { Between (UsesPlace requirement (InRegister preg)) self.old self.new }
     {
         if !self.registers.is_allocatable(preg) {
             return;
@@ -334,7 +323,6 @@ impl<'a, A: Allocator> State<'a, A> {
         ensures awaited { inst_regs.new.awaited ≡ inst_regs.old.awaited }
         ensures alone { OnOk result (alloc_of self.new.places request.now.vreg.number ≡ NoPlace → vreg_of_preg self.new.places preg ≡ None) }
         ensures step { IsStepAt point result self.old self.new }
-        ensures order { OnOk result (request.now.requirement ≡ Requirement.AnyReg → Pokes preg self.old.registers self.new.registers) }
     {
         self.evict_others(inst_regs, point, preg, request.vreg)?;
         inst_regs.remove_available(preg, request.positions);
@@ -358,8 +346,6 @@ impl<'a, A: Allocator> State<'a, A> {
         ensures alone { OnOk result ((r : Register) → place ≡ InRegister r → alloc_of self.new.places request.now.vreg.number ≡ NoPlace →
             vreg_of_preg self.new.places r ≡ None) }
         ensures step { IsStepAt point result self.old self.new }
-        ensures order { OnOk result (request.now.requirement ≡ Requirement.AnyReg → (r : Register) → place ≡ InRegister r →
-            Pokes r self.old.registers self.new.registers) }
     {
         let Some(preg) = place.as_reg() else {
             return Ok(());
@@ -383,8 +369,6 @@ impl<'a, A: Allocator> State<'a, A> {
         ensures alone { IfOk result (λ p. (r : Register) → p ≡ InRegister r → alloc_of self.new.places request.now.vreg.number ≡ NoPlace →
             vreg_of_preg self.new.places r ≡ None) }
         ensures step { IsStepAt point result self.old self.new }
-        ensures takes { IfOk result (λ p. request.now.requirement ≡ Requirement.AnyReg →
-            AllocsAnyReg inst_regs.old request.now.vreg p (tables_of self.old) self.old.registers self.new.registers) }
     {
         let place = self.select_place(inst_regs, request)?;
         self.claim_place(inst_regs, point, request, place)?;
@@ -405,7 +389,6 @@ impl<'a, A: Allocator> State<'a, A> {
         ensures outcome { ComesTo (AddMoveIf point m.class is_made m.from m.to inst_regs.old) inst_regs.new result self.old self.new }
         ensures awaited { inst_regs.new.awaited ≡ inst_regs.old.awaited }
         ensures step { IsStepAt point result self.old self.new }
-        ensures registers { OnOk result (self.new.registers ≡ self.old.registers) }
     {
         if !is_made {
             return Ok(());
@@ -430,7 +413,6 @@ impl<'a, A: Allocator> State<'a, A> {
         ensures outcome { ComesTo (FreeDef point vreg is_ret place inst_regs.old) inst_regs.new result self.old self.new }
         ensures awaited { inst_regs.new.awaited ≡ inst_regs.old.awaited }
         ensures step { IsStepAt point result self.old self.new }
-        ensures registers { OnOk result (self.new.registers ≡ self.old.registers) }
     {
         let class = vreg.class();
         let awaited = self.places.current_alloc(vreg);
@@ -467,8 +449,6 @@ impl<'a, A: Allocator> State<'a, A> {
         requires vreg { request.now.vreg.number < length self.old.places.vreg_allocs }
         ensures outcome { ComesToOne (AllocDefOp point request.now is_ret inst_regs.old) (λ p. (p, inst_regs.new)) result self.old self.new }
         ensures step { IsStepAt point result self.old self.new }
-        ensures takes { IfOk result (λ p. request.now.requirement ≡ Requirement.AnyReg →
-            AllocsAnyReg inst_regs.old request.now.vreg p (tables_of self.old) self.old.registers self.new.registers) }
     {
         let place = self.alloc_operand(inst_regs, point, request)?;
         self.free_def(inst_regs, point, request.vreg, is_ret, place)?;
@@ -487,8 +467,6 @@ impl<'a, A: Allocator> State<'a, A> {
         requires vreg { request.now.vreg.number < length self.old.places.vreg_allocs }
         ensures outcome { ComesToOne (AllocUse point request.now inst_regs.old) (λ p. (p, inst_regs.new)) result self.old self.new }
         ensures step { IsStepAt point result self.old self.new }
-        ensures takes { IfOk result (λ p. request.now.requirement ≡ Requirement.AnyReg →
-            AllocsAnyReg inst_regs.old request.now.vreg p (tables_of self.old) self.old.registers self.new.registers) }
     {
         let place = self.alloc_operand(inst_regs, point, request)?;
         if self.places.current_alloc(request.vreg).is_some() {

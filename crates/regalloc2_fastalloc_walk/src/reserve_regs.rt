@@ -6,8 +6,8 @@ ghost use Rattle.regalloc2_names.specs.RegisterSet.{has_register, registers_of};
 ghost use Rattle.regalloc2_fastalloc_state.specs.StateParts.{AllAtOrAfter};
 ghost use Rattle.regalloc2_fastalloc_state.specs.OutOfResources.{IsResourceErrorIn};
 ghost use Rattle.regalloc2_validate.specs.Constraints.{op_at};
-ghost use Rattle.regalloc2_fastalloc_proofs.specs.InstSteps.{NeedsFixedReg, RemovesClobbers, ReserveRegs, EvictFixed, EvictEach};
-ghost use Rattle.regalloc2_fastalloc_walk.specs.StateView.{IsStepAt, SameTables, tables_of, ComesTo};
+ghost use Rattle.regalloc2_fastalloc_proofs.specs.InstSteps.{NeedsFixedReg, NoneUsed, RemovesClobbers, ReserveRegs, EvictFixed, EvictEach, SameButOrder};
+ghost use Rattle.regalloc2_fastalloc_walk.specs.StateView.{Between, IsStepAt, SameTables, tables_of, ComesTo};
 ghost use Rattle.regalloc2_fastalloc_walk.specs.ReserveSteps.{AwaitsOne, ReservesOnly, IsNewlyReserved, IsReservedAt, IsReserved, Grows, Shrinks};
 ghost use Rattle.regalloc2_fastalloc_walk.specs.ReserveSteps.{ReservesRegForOperand, TakesOnly, RegIsNotReserved};
 
@@ -169,7 +169,7 @@ impl<'a, A: Allocator> State<'a, A> {
         preg: PReg,
         positions: Positions,
     )
-        ensures same { SameTables self.old self.new }
+        ensures same { Between SameButOrder self.old self.new }
         ensures shrinks { Shrinks inst_regs.old inst_regs.new }
         ensures takes { TakesOnly preg inst_regs.old inst_regs.new }
         ensures awaited { inst_regs.new.awaited ≡ inst_regs.old.awaited }
@@ -198,10 +198,10 @@ impl<'a, A: Allocator> State<'a, A> {
             (λ x. ReservesRegForOperand operands.now k inst_regs.old inst_regs.new claims.old claims.new (tables_of self.old))
             (λ e. e ≡ RegAllocError.TooManyLiveRegs → RegIsNotReserved operands.now k claims.old (tables_of self.old)) }
         ensures awaited { OnOk result (AwaitsOne operands.now k inst_regs.old inst_regs.new) }
-        ensures same { SameTables self.old self.new }
+        ensures same { Between SameButOrder self.old self.new }
         ensures err { IfErr result (IsResourceErrorIn self.new.slots) }
-        ensures registers { OnOk result (((r : Register) → (op_at operands.now k).constraint ≡ OperandConstraint.FixedReg r → ⊥) →
-            self.new.registers ≡ self.old.registers) }
+        ensures unused { OnOk result (((r : Register) → (op_at operands.now k).constraint ≡ OperandConstraint.FixedReg r → ⊥) →
+            self.new.registers.lrus ≡ self.old.registers.lrus) }
     {
         let operand = operands[k];
         // one that asks for any register claims none, and is fixed to none
@@ -225,10 +225,9 @@ impl<'a, A: Allocator> State<'a, A> {
         operands: &[Operand],
     ) -> Result<bool, RegAllocError>
         ensures outcome { ComesTo (ReserveRegs operands.now inst_regs.old) inst_regs.new result self.old self.new }
-        ensures same { SameTables self.old self.new }
+        ensures same { Between SameButOrder self.old self.new }
         ensures err { IfErr result (IsResourceErrorIn self.new.slots) }
-        ensures registers { OnOk result (((k : ℕ) (r : Register) → k < length operands.now →
-            (op_at operands.now k).constraint ≡ OperandConstraint.FixedReg r → ⊥) → self.new.registers ≡ self.old.registers) }
+        ensures unused { OnOk result (NoneUsed operands.now self.old.registers.lrus self.new.registers.lrus) }
         ensures fixed { IfOk result (λ any_fixed. any_fixed ≡ false → (k : ℕ) → k < length operands.now → (r : Register) →
             (op_at operands.now k).constraint ≡ OperandConstraint.FixedReg r → ⊥) }
         ensures some { IfOk result (λ any_fixed. any_fixed ≡ true → (k : ℕ) × (r : Register) × (k < length operands.now)
@@ -251,7 +250,6 @@ impl<'a, A: Allocator> State<'a, A> {
     )
         ensures removed { RemovesClobbers clobbers inst_regs.old inst_regs.new }
         ensures same { SameTables self.old self.new }
-        ensures registers { self.new.registers ≡ self.old.registers }
     {
         inst_regs.remove_late(clobbers);
     }
@@ -271,7 +269,6 @@ impl<'a, A: Allocator> State<'a, A> {
         ensures outcome { ComesTo (EvictFixed point operands.now inst_regs.old) inst_regs.new result self.old self.new }
         ensures awaited { inst_regs.new.awaited ≡ inst_regs.old.awaited }
         ensures step { IsStepAt point result self.old self.new }
-        ensures registers { OnOk result (self.new.registers ≡ self.old.registers) }
     {
         if !any_fixed {
             return Ok(());
@@ -305,7 +302,6 @@ impl<'a, A: Allocator> State<'a, A> {
         ensures outcome { ComesTo (EvictEach point (registers_of clobbers) inst_regs.old) inst_regs.new result self.old self.new }
         ensures awaited { inst_regs.new.awaited ≡ inst_regs.old.awaited }
         ensures step { IsStepAt point result self.old self.new }
-        ensures registers { OnOk result (self.new.registers ≡ self.old.registers) }
     {
         if has_none(clobbers) {
             return Ok(());

@@ -185,7 +185,7 @@ impl<'a, A: Allocator> State<'a, A> {
             return Ok(preg);
         }
         let free = self.registers.available_regs() & held.invert();
-        if let Some(preg) = self.registers.least_recently_used(class, free) {
+        if let Some(preg) = self.registers.choose_register(class, free) {
             return Ok(preg);
         }
         match self.registers.preferred_victim(class) {
@@ -204,7 +204,6 @@ impl<'a, A: Allocator> State<'a, A> {
         requires { AllAtOrAfter point self.old.edits }
         ensures outcome { ComesTo (PushStore point m) tt result self.old self.new }
         ensures step { IsStepAt point result self.old self.new }
-        ensures registers { OnOk result (self.new.registers ≡ self.old.registers) }
     {
         if !self.is_stack(m.from) {
             self.edits.push(point, m.from, m.to)?;
@@ -227,7 +226,6 @@ impl<'a, A: Allocator> State<'a, A> {
         requires { AllAtOrAfter point self.old.edits }
         ensures outcome { ComesTo (PushStores point from_memory moves.now) tt result self.old self.new }
         ensures step { IsStepAt point result self.old self.new }
-        ensures registers { OnOk result (self.new.registers ≡ self.old.registers) }
     {
         let mut k = moves.len();
         while k > 0 {
@@ -258,9 +256,6 @@ impl<'a, A: Allocator> State<'a, A> {
         requires later { AllAtOrAfter (before (block_at (F.function f.now) block).range.first) self.old.edits }
         ensures outcome { ComesTo (StoreBranchDefs (F.function f.now) block) tt result self.old self.new }
         ensures step { IsStepAt (before (block_at (F.function f.now) block).range.first) result self.old self.new }
-        ensures registers { OnOk result (self.new.registers ≡ self.old.registers) }
-        ensures none { OnOk result (((e k j : ℕ) (v : VirtualRegister) → IsEdgeInto (F.function f.now) block e k → IsStoredFor (F.function f.now) e k
-            self.old.slots j v → ⊥) → SameTables self.old self.new) }
     {
         let Some(edge) = defs.edge_into(block) else {
             return Ok(());

@@ -7,7 +7,6 @@
 
 ghost use Rattle.std.specs.Prelude.{List};
 ghost use Rattle.regalloc2_names.specs.Register.{VirtualRegister};
-ghost use Rattle.regalloc2_fastalloc_walk.specs.SpillFree.{FitInRegs, HasRegOperandsOnly, IsSpillFreeFrom};
 ghost use Rattle.std.specs.Prelude.{◌≡◌, ◌<◌, ◌≤◌, ◌+◌, ◌*◌, [], length, slice_index, slice_index_or, ℕ, OnOk, IfErr};
 ghost use Rattle.regalloc2_names.specs.Point.{before, after};
 ghost use Rattle.regalloc2_names.specs.Place.{NoPlace};
@@ -78,10 +77,6 @@ impl<'a, A: Allocator> State<'a, A> {
         requires no_places { (k : ℕ) → k < offset_of (F.function cx.now.f.now) (at.inst + 1) → slice_index_or allocs.old k NoPlace ≡ NoPlace }
         ensures outcome { ComesTo (AllocInstInBlock (F.function cx.now.f.now) block at.inst allocs.old) allocs.new result self.old self.new }
         ensures step { IsBranchStepAt (before at.inst) (temp_slots_at (F.function cx.now.f.now) at.inst) result self.old self.new }
-        ensures spill_free { OnOk result ((names : List VirtualRegister) → FitInRegs names self.old.registers.allocatable →
-            HasRegOperandsOnly names (F.function cx.now.f.now) →
-            IsSpillFreeFrom names (F.function cx.now.f.now) (at.inst + 1) self.old.registers (tables_of self.old) →
-            IsSpillFreeFrom names (F.function cx.now.f.now) at.inst self.new.registers (tables_of self.new)) }
     {
         let f = cx.f;
         let mut inst_regs = InstRegs::new(self.registers.available_regs());
@@ -126,10 +121,6 @@ impl<'a, A: Allocator> State<'a, A> {
         ensures no_places { OnOk result ((k : ℕ) → k < offset_of (F.function cx.now.f.now) (block_at (F.function cx.now.f.now) block).range.first →
             slice_index_or allocs.new k NoPlace ≡ NoPlace) }
         ensures step { IsBranchStepAt (before (block_at (F.function cx.now.f.now) block).range.first) 6 result self.old self.new }
-        ensures spill_free { OnOk result ((names : List VirtualRegister) → FitInRegs names self.old.registers.allocatable →
-            HasRegOperandsOnly names (F.function cx.now.f.now) → IsSpillFreeFrom names (F.function cx.now.f.now)
-            (block_at (F.function cx.now.f.now) block).range.end self.old.registers (tables_of self.old)
-            → IsSpillFreeFrom names (F.function cx.now.f.now) (block_at (F.function cx.now.f.now) block).range.first self.new.registers (tables_of self.new)) }
     {
         let range = cx.f.block_insns(block);
         let first = range.first().index();
@@ -160,9 +151,6 @@ impl<'a, A: Allocator> State<'a, A> {
         requires later { AllAtOrAfter (before (block_at (F.function cx.now.f.now) block).range.first) self.old.edits }
         ensures outcome { ComesTo (BeginBlock (F.function cx.now.f.now) block) tt result self.old self.new }
         ensures step { IsStepAt (before (block_at (F.function cx.now.f.now) block).range.first) result self.old self.new }
-        ensures nobody { OnOk result (((n : ℕ) → alloc_of self.old.places n ≡ NoPlace) → (block_at (F.function cx.now.f.now) block).params ≡ [] →
-            ((e k j : ℕ) (v : VirtualRegister) (s : SpillSlotsValue) → IsEdgeInto (F.function cx.now.f.now) block e k → IsStoredFor (F.function cx.now.f.now)
-            e k s j v → ⊥) → SameTables self.old self.new) }
     {
         let f = cx.f;
         let first = f.block_insns(block).first();
@@ -191,9 +179,6 @@ impl<'a, A: Allocator> State<'a, A> {
         ensures machine { Between (AddsTempSlotsAtMost (6 * length (F.function f.now).blocks)) self.old self.new }
         ensures err { IfErr result (IsResourceError
             (SlotsExhaustedWith self.old.slots (self.old.slots.num_temp_slots + 6 * length (F.function f.now).blocks))) }
-        ensures spill_free { OnOk result ((names : List VirtualRegister) → FitInRegs names self.old.registers.allocatable →
-            HasRegOperandsOnly names (F.function f.now) → IsSpillFreeFrom names (F.function f.now) (length (F.function f.now).insts) self.old.registers
-            (tables_of self.old) → (self.new.edits ≡ []) × (self.new.slots.count ≡ 0)) }
     {
         let defs = BranchDefs::of(alloc, f)?;
         let cx = FunctionCx { f, defs: &defs };

@@ -71,7 +71,7 @@ some_position o = by_test (is_def o.kind) (is_late o.position)
 -- so it is free no more
 pub gets_settled : (point : ℕ) (o : OperandRequest) (p : Place) (t u : InstRegs) (old new : StateValue) → AllocsOperand point o p t u old new →
     (o.positions.early ≡ true) ⊎ (o.positions.late ≡ true) → (set : PRegSet) (r : Register) → p ≡ InRegister r → is_free set u r ≡ false
-gets_settled point o p t u old new g some set r is = by_case g.occupies
+gets_settled point o p t u old new g some set r is = by_case g.takes.occupies
   where
     held : (b c y x : Bool) → x ≡ (not (b && c) && y) → b ≡ true → c ≡ true → x ≡ false
     held b c y x e f h = (let n : x ≡ (not (true && true) && y) = rw (f, h) at e in n)
@@ -86,7 +86,7 @@ gets_settled point o p t u old new g some set r is = by_case g.occupies
     no_early true false d e = refl
     no_early false b d e = refl
 
-    by_case : ClaimsPlace point o p t u g.middle new → is_free set u r ≡ false
+    by_case : ClaimsPlace point o p t u g.middle g.takes.claimed → is_free set u r ≡ false
     by_case (in_slot k at sets en) = (let x : InRegister r ≡ InSlot k = sym is ∙ at in absurd cc)
     by_case (in_register q m at clears holds) =
         let x : InRegister q ≡ InRegister r = sym at ∙ is in

@@ -65,8 +65,8 @@ module _ (Known : VirtualRegister → Type 0) (ops : List OperandValue) (tame : 
       by_place : requirement_of (op_at ops j).constraint ≡ InMemory → SelectsPlace t (def_request (op_at ops j)) p old d.gets.middle → ⊥
       by_place wish (stays there suits en) = away r (there ∙ at)
       by_place wish (fixed q wants same en) = (let x : InMemory ≡ InPReg q = sym wish ∙ wants in cc)
-      by_place wish (slot wants gives places es machine) = no_slot_register d.gets.middle.slots.count p r gives.below at
-      by_place wish (free q wants may is_free same en) = no_wish (requirement_of (op_at ops j).constraint) wish wants
+      by_place wish (slot wants gives places es machine order) = no_slot_register d.gets.middle.slots.count p r gives.below at
+      by_place wish (free q wants away may is_free first same en) = no_wish (requirement_of (op_at ops j).constraint) wish wants
 
   one_none : (D E : ℕ → Type 0) (j : ℕ) (here there : List Place) (t u : InstRegs) (old new : StateValue) →
       ProcessesOperand i is_ret ops j here there t u old new →

@@ -23,6 +23,7 @@ use Rattle.regalloc2_fastalloc_proofs.specs.InstSteps.SelectsPlace.{stays, fixed
 use Rattle.regalloc2_fastalloc_proofs.proofs.Safety.OperandKeepsSafe.{suits_there}
 use Rattle.regalloc2_semantics.proofs.Plain.{no_some}
 use Rattle.regalloc2_fastalloc_proofs.proofs.Operands.AllocsSoFar.{at_place}
+use Rattle.regalloc2_fastalloc_proofs.proofs.Changes.OneChange.{uses_rest}
 
 -- no vreg has a location
 pub record IsEmpty (t : StateValue) : Type 0 where
@@ -33,6 +34,10 @@ pub record IsEmpty (t : StateValue) : Type 0 where
 pub record IsOutside (t : StateValue) : Type 0 where
   pub no_register : (n : ℕ) (r : Register) → alloc_of t.places n ≡ InRegister r → ⊥
   pub nobody : (r : Register) → r.number < 64 → vreg_of_preg t.places r ≡ None
+
+-- whatever registers were used
+pub outside_used : (t : StateValue) (order : List (List Register)) → IsOutside t → IsOutside (record t { lrus = order })
+outside_used t order o = record { no_register = o.no_register; nobody = o.nobody }
 
 -- two operands hold their registers at one time
 abbrev pub Overlap : Positions → Positions → Type 0
@@ -122,15 +127,15 @@ module _ (point : ℕ) (ops : List OperandValue) (pass : Bool) (edits : List (�
   origin_of : (t : InstRegs) (o : OperandRequest) (p : Place) (old new : StateValue) → SelectsPlace t o p old new → Origin o p t old
   origin_of t o p old new (stays there suits en) = stood_there there (suits_there old o.requirement p suits)
   origin_of t o p old new (fixed r wants is en) = asked r is wants
-  origin_of t o p old new (slot wants gives places e machine) = (let k = slot_number new.slots.count p gives.there gives.below in in_a_slot k.0 k.1)
-  origin_of t o p old new (free r wants may is_free is en) = was_free r is may.small is_free
+  origin_of t o p old new (slot wants gives places e machine order) = (let k = slot_number new.slots.count p gives.there gives.below in in_a_slot k.0 k.1)
+  origin_of t o p old new (free r wants away may is_free first is en) = was_free r is may.small is_free
 
   picks_nobody : (t : InstRegs) (o : OperandRequest) (p : Place) (old new : StateValue) → SelectsPlace t o p old new → (new.places ≡ old.places)
       × (new.edits ≡ old.edits)
   picks_nobody t o p old new (stays there suits en) = (ap (λ (x : StateValue). x.places) en, ap (λ (x : StateValue). x.edits) en)
   picks_nobody t o p old new (fixed r wants is en) = (ap (λ (x : StateValue). x.places) en, ap (λ (x : StateValue). x.edits) en)
-  picks_nobody t o p old new (slot wants gives places e machine) = (places, e)
-  picks_nobody t o p old new (free r wants may is_free is en) = (ap (λ (x : StateValue). x.places) en, ap (λ (x : StateValue). x.edits) en)
+  picks_nobody t o p old new (slot wants gives places e machine order) = (places, e)
+  picks_nobody t o p old new (free r wants away may is_free first is en) = (ap (λ (x : StateValue). x.places) en, ap (λ (x : StateValue). x.edits) en)
 
   -- no other vreg is in the register that an operand got
   alone : (t : InstRegs) (o : OperandRequest) (p : Place) (old : StateValue) (r : Register) (w : VirtualRegister) → Origin o p t old
@@ -154,7 +159,7 @@ module _ (point : ℕ) (ops : List OperandValue) (pass : Bool) (edits : List (�
       → ((w : VirtualRegister) → r.number < 64 → vreg_of_preg old.places r ≡ Some w → w.number ≡ o.vreg.number) → (u ≡ t) × (new ≡ old)
   clears_nobody o r t u old new (own w held same eu en) only = (eu, en)
   clears_nobody o r t u old new (others not_own (empty none eu en)) only = (eu, en)
-  clears_nobody o r t u old new (others not_own (cleared v s m small held gives settles e machine crosses)) only = absurd (not_own v held (only v small held))
+  clears_nobody o r t u old new (others not_own (cleared v s m small held gives settles e machine order crosses)) only = absurd (not_own v held (only v small held))
 
   occupies_nobody : (o : OperandRequest) (p : Place) (t u : InstRegs) (old new : StateValue) → ClaimsPlace point o p t u old new
       → ((r : Register) (w : VirtualRegister) → p ≡ InRegister r → r.number < 64 → vreg_of_preg old.places r ≡ Some w → w.number ≡ o.vreg.number)
@@ -188,11 +193,11 @@ module _ (point : ℕ) (ops : List OperandValue) (pass : Bool) (edits : List (�
   gets_calm o p t u old new g still none taken =
       let a = picks_nobody t o p old g.middle g.picks in
       let from : Origin o p t old = origin_of t o p old g.middle g.picks in
-      let b = occupies_nobody o p t u g.middle new g.occupies (λ r w is small held. alone t o p old r w from still none taken is small
+      let b = occupies_nobody o p t u g.middle g.takes.claimed g.takes.occupies (λ r w is small held. alone t o p old r w from still none taken is small
       (ap (λ (x : VRegAllocsValue). vreg_of_preg x r) (sym a.0) ∙ held)) in
       record {
-        places = ap (λ (x : StateValue). x.places) b.0 ∙ a.0;
-        edits = ap (λ (x : StateValue). x.edits) b.0 ∙ a.1;
+        places = ap (λ (x : StateValue). x.places) (uses_rest g.takes.uses) ∙ ap (λ (x : StateValue). x.places) b.0 ∙ a.0;
+        edits = ap (λ (x : StateValue). x.edits) (uses_rest g.takes.uses) ∙ ap (λ (x : StateValue). x.edits) b.0 ∙ a.1;
         later = b.1;
         claimed_early = b.2.0;
         claimed_late = b.2.1;

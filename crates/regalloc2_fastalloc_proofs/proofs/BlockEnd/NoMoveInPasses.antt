@@ -433,7 +433,7 @@ module _ (Known : VirtualRegister → Type 0) (ops : List OperandValue) (tame : 
       by_use : LocatesUse (use_request (op_at ops k) (at_place here k)).vreg p d.middle new → Calm E (set here k p) u new
       by_use (stays there en) = same_calm D E k p here t u old new next g.later
           (same_places old new (ap (λ (x : StateValue). x.places) en ∙ g.places) (ap (λ (x : StateValue). x.edits) en ∙ g.edits)) c
-      by_use (located stood_nowhere settles slots pushed machine) =
+      by_use (located stood_nowhere settles slots pushed machine order) =
           let nowhere : alloc_of old.places (op_at ops k).vreg.number ≡ NoPlace = ap (alloc_of old.places) (sym same_number)
           ∙ ap (λ (x : VRegAllocsValue). alloc_of x (use_request (op_at ops k) (at_place here k)).vreg.number) (sym g.places) ∙ stood_nowhere in
           let z : SetsAlloc old.places new.places (use_request (op_at ops k) (at_place here k)).vreg

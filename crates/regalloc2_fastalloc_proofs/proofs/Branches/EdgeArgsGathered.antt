@@ -145,7 +145,7 @@ module _ (tail : BlockTail) (item : Item) (X : Place → ℕ → Bool) (clear : 
     origin = λ g has. inl has;
     all = λ j lt not_own. absurd (omega arith);
   }
-  edge_done params arguments t old before_it h k w o given (one_gathered j had to from u x m p q lt prev gives places edits machine settles foreign) =
+  edge_done params arguments t old before_it h k w o given (one_gathered j had to from u x m p q lt prev gives places edits machine order settles foreign) =
       let a = edge_done params arguments t old before_it h j u m had prev in
       let g = gives_stage tail item X clear (argument_at params j) to u m p gives places edits machine a.stage in
       let s = argued tail item X clear (argument_at arguments j) from u w p o settles g.0 in

@@ -30,6 +30,8 @@ use Rattle.regalloc2_fastalloc_proofs.proofs.Operands.RecordOfInst.{Orderly, Rea
 use Rattle.regalloc2_fastalloc_proofs.proofs.Evictions.EvictKeepsRecord.{ready_clears, ready_clears_but}
 use Rattle.regalloc2_fastalloc_proofs.proofs.Operands.ClaimKeepsRecord.{Grips, ready_claim}
 use Rattle.regalloc2_fastalloc_proofs.proofs.Operands.BlockTail.{BlockTail}
+use Rattle.regalloc2_fastalloc_proofs.proofs.Evictions.EvictVReg.{kept_used}
+use Rattle.regalloc2_fastalloc_proofs.proofs.Operands.RecordOfInst.{ready_used}
 
 -- operands that hold no position together may be in one place
 share_apart : (a b : ℕ) (d l e k : Bool) → (((not d || not l) && (not e || not k)) || ((d || l) && (e || k))) ≡ false →
@@ -124,7 +126,7 @@ crosses_free b point class from to t u old new (through by m stack s en) less f 
 pub clears_free : (b : InstRegs) (point : ℕ) (r : Register) (t u : InstRegs) (old new : StateValue) → EvictsPReg point r t u old new → Less b t → WereFree b t
     → WereFree b u
 clears_free b point r t u old new (empty none eu en) less f = free_same b t u eu f
-clears_free b point r t u old new (cleared v s m lt held gives settles edits machine c) less f =
+clears_free b point r t u old new (cleared v s m lt held gives settles edits machine order c) less f =
     crosses_free b point v.class s (InRegister r) t u m new c less f
 
 -- the same for an eviction that spares one vreg: its scratch register was available in b
@@ -343,7 +345,17 @@ module _ (tail : BlockTail) where
   pub fixed_done : (ops : List OperandValue) (lived : ℕ → Bool) (ret : Bool) (b : InstRegs) (old : StateValue) → Orderly ops → Reserved ops b old →
       FixedUpTo ops lived ret b old 0 b old →
       (k : ℕ) (u : InstRegs) (t : StateValue) → EvictsFixed (after i) ops b old k u t → k ≤ length ops → FixedUpTo ops lived ret b old k u t
-  fixed_done ops lived ret b old o s begin k u t none_cleared = λ le. begin
+  fixed_done ops lived ret b old o s begin k u t (none_cleared order used) = λ le. record {
+    here = begin.here;
+    claimed = begin.claimed;
+    ready = ready_used tail ops (begun begin.here begin.claimed lived) ret b old order begin.ready;
+    kept = kept_used old old order begin.kept;
+    less = begin.less;
+    free = begin.free;
+    took = begin.took;
+    fixed = begin.fixed;
+    fixed_reuse = begin.fixed_reuse;
+  }
   fixed_done ops lived ret b old o s begin k u t (not_fixed j w m prev unfixed unnamed) = λ le.
       let x : FixedUpTo ops lived ret b old j u t = fixed_done ops lived ret b old o s begin j u t prev (omega arith) in
       pass_one ops lived ret b old j u u t t x x.ready (kept_all t) (less_same u u refl) x.free (λ r c e. unfixed r e)

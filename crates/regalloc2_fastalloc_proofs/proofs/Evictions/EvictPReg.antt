@@ -133,7 +133,7 @@ module _ (tail : BlockTail) where
         kept = kept_all old;
         scratch_reserve = spare_same far.here far.claimed far.made_at t u old old eu refl sp;
       })
-  clears_step what far r t u old new (cleared v s m lt held gives settles edits machine (direct flat eu en)) may sp f h st o =
+  clears_step what far r t u old new (cleared v s m lt held gives settles edits machine order (direct flat eu en)) may sp f h st o =
       let p : StateValue = record m { edits = m.edits ++ a_move (after i) s (InRegister r) ∷ [] } in
       let e : Emptied tail what far r old p =
       evict_step tail what far r old p
@@ -145,7 +145,7 @@ module _ (tail : BlockTail) where
         sizes = machine.sizes;
         vregs = machine.vregs;
         num_temp_slots = machine.num_temp_slots;
-      })) may st o in
+      }) order) may st o in
       subst (Cleared what far r u old) (sym en) (record {
         located = e.located;
         owes = e.owes;
@@ -154,7 +154,7 @@ module _ (tail : BlockTail) where
         kept = e.kept;
         scratch_reserve = spare_same far.here far.claimed far.made_at t u p p eu refl (spare_kept far.here far.claimed far.made_at t old p e.kept sp);
       })
-  clears_step what far r t u old new (cleared v s m lt held gives settles edits machine (through by m2 stack scratches en)) may
+  clears_step what far r t u old new (cleared v s m lt held gives settles edits machine order (through by m2 stack scratches en)) may
       sp f h st o =
       let w : IsWhole m = shift_whole old m v r s lt held gives settles st.whole in
       let g : Shifts old m v r s = shifts old m v r s lt held gives settles st.whole in

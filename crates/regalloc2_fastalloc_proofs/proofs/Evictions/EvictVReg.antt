@@ -48,6 +48,24 @@ kept_all t = record {
   machine = record { allocatable = refl; fixed_stack = refl; dedicated_scratch = refl; sizes = refl; vregs = refl; num_temp_slots = refl };
 }
 
+-- nor does it matter whatever registers were used
+pub kept_used : (s t : StateValue) (order : List (List Register)) → Kept s t → Kept s (record t { lrus = order })
+kept_used s t order k = record {
+  slots = k.slots;
+  registers = k.registers;
+  nowhere = k.nowhere;
+  slotted = k.slotted;
+  unslotted = k.unslotted;
+  machine = record {
+    allocatable = k.machine.allocatable;
+    fixed_stack = k.machine.fixed_stack;
+    dedicated_scratch = k.machine.dedicated_scratch;
+    sizes = k.machine.sizes;
+    vregs = k.machine.vregs;
+    num_temp_slots = k.machine.num_temp_slots;
+  };
+}
+
 -- edits are none of what no eviction changes, so other ones may take their place
 pub kept_edits : (s t : StateValue) (es : List (ℕ × MoveValue)) → Kept s t → Kept s (record t { edits = es })
 kept_edits s t es k = record {
@@ -117,7 +135,7 @@ module _ (tail : BlockTail) where
         others = λ x h. refl;
         kept = kept_all old;
       })
-  evict_step what far r old new (moved v s lt held gives settles edits machine) may st o =
+  evict_step what far r old new (moved v s lt held gives settles edits machine order) may st o =
       let w : IsWhole new = shift_whole old new v r s lt held gives settles st.whole in
       let h : Shifts old new v r s = shifts old new v r s lt held gives settles st.whole in
       let m = may v.number h.was in

@@ -31,7 +31,7 @@ no_longer old new v s count slot z = rw (left_alone old new v s count slot z) (l
 evicts_no_longer : (point : ℕ) (by : Register) (old new : StateValue) → EvictsVReg point by old new →
     length new.places.in_registers ≤ length old.places.in_registers
 evicts_no_longer point by old new (nobody h e) = rw e (omega arith)
-evicts_no_longer point by old new (moved v s small h gives settles edits machine) = no_longer old.places new.places v s new.slots.count gives.below settles
+evicts_no_longer point by old new (moved v s small h gives settles edits machine order) = no_longer old.places new.places v s new.slots.count gives.below settles
 
 scratches_no_longer : (point : ℕ) (class : RegClass) (t u : InstRegs) (by : Register) (old new : StateValue) → AllocsScratchReg point class t u by old new →
     length new.places.in_registers ≤ length old.places.in_registers
@@ -49,7 +49,7 @@ crosses_no_longer point class from to t u old new (through by m b s e) = rw e (s
 pub newest_leaves : (point : ℕ) (by : Register) (t u : InstRegs) (old new : StateValue) → EvictsPReg point by t u old new → IsNewest old.places by →
     length new.places.in_registers < length old.places.in_registers
 newest_leaves point by t u old new (empty h e f) n = absurd (let held = n.held in cc)
-newest_leaves point by t u old new (cleared v s m small h gives settles edits machine crosses) n =
+newest_leaves point by t u old new (cleared v s m small h gives settles edits machine order crosses) n =
     let same : n.vreg ≡ v = (let e : Some n.vreg ≡ Some v = sym n.held ∙ h in cc) in
     let there : Contains old.places.in_registers v = rw n.newest (0, omega arith, same) in
     let self : nat_eq v.number v.number ≡ true = eq-eqb v.number v.number refl in

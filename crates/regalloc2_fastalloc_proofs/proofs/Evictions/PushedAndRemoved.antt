@@ -60,7 +60,7 @@ same_held v w o e f = let s : Some v ≡ Some w = sym e ∙ f in let same : v �
 pub evicts_empty : (point : ℕ) (by : Register) (old new : StateValue) → EvictsVReg point by old new → (r : Register) → r.number < 64 →
     vreg_of_preg old.places r ≡ None → vreg_of_preg new.places r ≡ None
 evicts_empty point by old new (nobody h e) r lt none = ap (λ (t : StateValue). vreg_of_preg t.places r) e ∙ none
-evicts_empty point by old new (moved v s small h gives settles edits machine) r lt none =
+evicts_empty point by old new (moved v s small h gives settles edits machine order) r lt none =
     settles_empty old.places new.places v s r lt (λ e. subst (IsSlotOrNone new.slots.count) e gives.below) settles none
 
 scratches_empty : (point : ℕ) (class : RegClass) (t u : InstRegs) (by : Register) (old new : StateValue) → AllocsScratchReg point class t u by old new
@@ -80,7 +80,7 @@ crosses_empty point class from to t u old new (through by m b s e) r lt none = a
 pub clears_empty : (point : ℕ) (by : Register) (t u : InstRegs) (old new : StateValue) → EvictsPReg point by t u old new → (r : Register) → r.number < 64 →
     vreg_of_preg old.places r ≡ None → vreg_of_preg new.places r ≡ None
 clears_empty point by t u old new (empty h f e) r lt none = ap (λ (m : StateValue). vreg_of_preg m.places r) e ∙ none
-clears_empty point by t u old new (cleared v s m small h gives settles edits machine crosses) r lt none =
+clears_empty point by t u old new (cleared v s m small h gives settles edits machine order crosses) r lt none =
     crosses_empty point v.class s (InRegister by) t u m new crosses r lt
     (settles_empty old.places m.places v s r lt (λ e. subst (IsSlotOrNone m.slots.count) e gives.below) settles none)
 

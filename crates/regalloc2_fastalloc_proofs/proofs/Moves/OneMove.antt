@@ -52,6 +52,7 @@ module _ (inst_regs : InstRegs) (class : RegClass) (t : StateValue) (from to : P
     allocatable = refl;
     fixed_stack = refl;
     dedicated_scratch = refl;
+    lrus = refl;
     lends = (0, omega arith, none_taken t.slots class);
     grows = omega arith;
     assigned = λ m c.
@@ -74,6 +75,7 @@ module _ (inst_regs : InstRegs) (class : RegClass) (t : StateValue) (from to : P
           target = inr (from_to from to, (0, omega arith, refl), refl);
         })
         (All-nil (IsOrdered inst_regs class (from_to from to ∷ []) t t)));
+    idle = λ e. absurd cc;
   }
 
 -- so the two moves that are pushed for the only one that is given, the one that is made last before the other, are what it is to do

@@ -305,12 +305,14 @@ orders_none inst_regs class old given listed made scratch is none same = record 
   allocatable = refl;
   fixed_stack = refl;
   dedicated_scratch = refl;
+  lrus = refl;
   lends = (0, omega arith, none_taken old.slots class);
   grows = omega arith;
   assigned = λ m c. ap (λ (ms : Moves). in_turn (ends_of ms) names m.1) same ∙ is.at_once.assigned (ends m) (ends_contain given m c);
   kept = λ q real other free. ap (λ (ms : Moves). in_turn (ends_of ms) names q) same
       ∙ is.at_once.kept q real (λ m c e. let x = ends_from given m c in free x.0 x.1 (ap (λ (y : Ends). y.to) x.2 ∙ e));
   each = subst (λ (ms : Moves). All (IsOrdered inst_regs class given old old) ms) (sym (same ∙ none)) (λ k d lt. absurd (omega arith));
+  idle = λ e. (same ∙ none, refl);
 }
 
 -- Moves of a class that are given, between slots, and what serves to make them: a scratch pair of two places, the next temporary slots, and a register that
@@ -431,16 +433,19 @@ module _ (moves : GivenMoves) where
 
     -- where only temporary slots were added, the moves made are the given ones in an order in which they can be made
     pub orders : new.places ≡ old.places → new.edits ≡ old.edits → new.allocatable ≡ old.allocatable → new.fixed_stack ≡ old.fixed_stack →
-        new.dedicated_scratch ≡ old.dedicated_scratch → OrdersMoves inst_regs class given made old new
-    orders places edits allocatable fixed_stack dedicated_scratch = record {
+        new.dedicated_scratch ≡ old.dedicated_scratch → new.lrus ≡ old.lrus → (given ≡ [] → ⊥) →
+        OrdersMoves inst_regs class given made old new
+    orders places edits allocatable fixed_stack dedicated_scratch lrus some = record {
       places = places;
       edits = edits;
       allocatable = allocatable;
       fixed_stack = fixed_stack;
       dedicated_scratch = dedicated_scratch;
+      lrus = lrus;
       lends = (taken, few, lends);
       grows = lends_grows old.slots class l.slots next new.slots taken lends few;
       assigned = assigned_all;
       kept = kept_all;
       each = each_ordered;
+      idle = λ none. absurd (some none);
     }

@@ -80,7 +80,7 @@ module _ (tail : BlockTail) where
       Owes tail lived out X (put (stands_at new) v c) (slots_at new) new.edits
   evict_but lived out X r old new v c (nobody none same) w other away clear o =
       subst (λ (t : StateValue). Owes tail lived out X (put (stands_at t) v c) (slots_at t) t.edits) (sym same) o
-  evict_but lived out X r old new v c (moved u s lt held gives settles edits machine) w other away clear o =
+  evict_but lived out X r old new v c (moved u s lt held gives settles edits machine order) w other away clear o =
       let h : Shifts old new u r s = shifts old new u r s lt held gives settles w in
       let apart : u.number ≡ v → ⊥ = λ e. away (opt_from (place_in old v) (InRegister r) (ap (stands_at old) (sym e) ∙ h.was)) in
       let L : List Item = after_part insts (listed old.edits) placesf i n in
@@ -128,7 +128,7 @@ module _ (tail : BlockTail) where
         others = λ x h. refl;
         kept = kept_all old;
       })
-  evict_tables what far r old new (moved v s lt held gives settles edits machine) may st =
+  evict_tables what far r old new (moved v s lt held gives settles edits machine order) may st =
       let w : IsWhole new = shift_whole old new v r s lt held gives settles st.whole in
       let h : Shifts old new v r s = shifts old new v r s lt held gives settles st.whole in
       record {

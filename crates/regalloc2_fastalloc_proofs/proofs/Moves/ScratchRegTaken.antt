@@ -41,6 +41,24 @@ pub record Spare (here : ℕ → Place) (claimed : ℕ → Bool) (X : Place → 
   pub early : (c : RegClass) (b : Register) → slice_index_or u.scratch (class_code c) None ≡ Some b → has_register u.early b ≡ false
   pub late : (c : RegClass) (b : Register) → slice_index_or u.scratch (class_code c) None ≡ Some b → has_register u.late b ≡ false
 
+-- whatever registers were used
+pub fit_used : (t : StateValue) (order : List (List Register)) → Fit t → Fit (record t { lrus = order })
+fit_used t order f = record { small = f.small; stack_apart = f.stack_apart; own_apart = f.own_apart }
+
+scratch_before : (c : RegClass) (u : InstRegs) (t : StateValue) (order : List (List Register)) (b : Register) → IsScratch c u (record t { lrus = order }) b →
+    IsScratch c u t b
+scratch_before c u t order b (of_machine e) = of_machine e
+scratch_before c u t order b (taken e) = taken e
+
+pub spare_used : (here : ℕ → Place) (claimed : ℕ → Bool) (X : Place → ℕ → Bool) (u : InstRegs) (t : StateValue) (order : List (List Register)) →
+    Spare here claimed X u t → Spare here claimed X u (record t { lrus = order })
+spare_used here claimed X u t order s = record {
+  idle = λ c b is. (let y = s.idle c b (scratch_before c u t order b is) in record { no_allocs = y.no_allocs; clear = y.clear; unclaimed = y.unclaimed });
+  own = s.own;
+  early = s.early;
+  late = s.late;
+}
+
 -- more is held
 pub record Less (t u : InstRegs) : Type 0 where
   pub early : (q : Register) → has_register t.early q ≡ false → has_register u.early q ≡ false

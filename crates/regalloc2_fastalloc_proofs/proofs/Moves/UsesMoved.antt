@@ -78,7 +78,7 @@ module _ (tail : BlockTail) (item : Item) where
         others = λ x h. refl;
         kept = kept_all old;
       })
-  evict_before what far k r old new (moved v s lt held gives settles edits machine) may free st p =
+  evict_before what far k r old new (moved v s lt held gives settles edits machine order) may free st p =
       let w : IsWhole new = shift_whole old new v r s lt held gives settles st.whole in
       let h : Shifts old new v r s = shifts old new v r s lt held gives settles st.whole in
       let L : List Item = before_part insts (listed old.edits) placesf i n item in

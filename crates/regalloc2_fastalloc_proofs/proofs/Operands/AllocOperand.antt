@@ -33,6 +33,8 @@ use Rattle.regalloc2_fastalloc_proofs.proofs.Operands.RecordOfInst.{Ready}
 use Rattle.regalloc2_fastalloc_proofs.proofs.Evictions.EvictKeepsRecord.{Nothing, ready_clears_but, clears_but_flat}
 use Rattle.regalloc2_fastalloc_proofs.proofs.Operands.ClaimKeepsRecord.{Grips, grips_register, grips_slot, ready_claim}
 use Rattle.regalloc2_fastalloc_proofs.proofs.Operands.BlockTail.{BlockTail}
+use Rattle.regalloc2_fastalloc_proofs.proofs.Operands.RecordOfInst.{ready_used}
+use Rattle.regalloc2_fastalloc_proofs.proofs.Changes.OneChange.{uses_rest}
 
 -- the operand k is at p from now on, and is claimed
 abbrev pub set_at : (ℕ → Place) → ℕ → Place → ℕ → Place
@@ -374,13 +376,30 @@ module _ (tail : BlockTail) (ops : List OperandValue) (far : Progress) (ret : Bo
     gets_by middle new (owed r ck at w) (fixed g wg pg en) occ =
         let same : InPReg r ≡ InPReg g = sym w ∙ wg in let one : r ≡ g = cc in
         get_owed new r ck at (pg ∙ ap InRegister (sym one)) (subst (λ m. ClaimsPlace (after i) o p t u m new) en occ)
-    gets_by middle new (owed r ck at w) (slot h g e ed machine) occ = absurd (not_both o.requirement InMemory r w h (λ a. cc))
-    gets_by middle new (owed r ck at w) (free g h may fr pg en) occ = absurd (not_both o.requirement AnyReg r w h (λ a. cc))
+    gets_by middle new (owed r ck at w) (slot h g e ed machine order) occ = absurd (not_both o.requirement InMemory r w h (λ a. cc))
+    gets_by middle new (owed r ck at w) (free g h away may fr first pg en) occ = absurd (not_both o.requirement AnyReg r w h (λ a. cc))
     gets_by middle new (fresh f other) (stays x su en) occ = get_kept new f x (subst (λ m. ClaimsPlace (after i) o p t u m new) en occ)
     gets_by middle new (fresh f other) (fixed g wg pg en) occ = absurd (other g wg)
-    gets_by middle new (fresh f other) (slot h g e ed machine) occ = get_slot middle new f g e ed machine occ
-    gets_by middle new (fresh f other) (free g h may fr pg en) occ = get_free new g f may fr pg (subst (λ m. ClaimsPlace (after i) o p t u m new) en occ)
+    gets_by middle new (fresh f other) (slot h g e ed machine order) occ = get_slot middle new f g e ed machine occ
+    gets_by middle new (fresh f other) (free g h away may fr first pg en) occ = get_free new g f may fr pg (subst (λ m. ClaimsPlace (after i) o p t u m new) en occ)
+
+    -- whatever registers were used
+    got_used : (new : StateValue) (order : List (List Register)) → Got k p u new → Got k p u (record new { lrus = order })
+    got_used new order x = record {
+      there = x.there;
+      claimed2 = x.claimed2;
+      ready = ready_used tail ops (record far { here = x.there; claimed = x.claimed2 }) ret u new order x.ready;
+      at_k = x.at_k;
+      at_j = x.at_j;
+      same = x.same;
+      grows = x.grows;
+      keeps = x.keeps;
+      claims = x.claims;
+      alone = x.alone;
+      own_slot = x.own_slot;
+    }
 
     -- an operand that gets a place claims it, and the record of the operands is kept
     pub gets_step : {new : StateValue} → Due far.here far.claimed k o.requirement → AllocsOperand (after i) o p t u old new → Got k p u new
-    gets_step {new} due g = gets_by g.middle new due g.picks g.occupies
+    gets_step {new} due g = subst (Got k p u) (sym (uses_rest g.takes.uses))
+        (got_used g.takes.claimed new.lrus (gets_by g.middle g.takes.claimed due g.picks g.takes.occupies))

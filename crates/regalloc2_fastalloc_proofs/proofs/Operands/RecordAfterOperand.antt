@@ -157,7 +157,7 @@ module _ (tail : BlockTail) (ops : List OperandValue) (far : Progress) (ret : Bo
             within = g.ready.within;
             small = g.ready.small;
           })
-      use_step new (located nowhere z slots edits machine) = use_new new nowhere z slots edits machine
+      use_step new (located nowhere z slots edits machine order) = use_new new nowhere z slots edits machine
 
     -- a definition
     pub def_step : (w : InstRegs) (new : StateValue) → is_def (op_at ops k).kind ≡ true → FreesDef (after i) (op_at ops k).vreg ret p u w old new →

@@ -16,6 +16,8 @@ use Rattle.regalloc2_fastalloc_proofs.proofs.Operands.RecordOverState.{stands_at
 use Rattle.regalloc2_fastalloc_proofs.proofs.Evictions.EvictVReg.{held_early, held_late}
 use Rattle.regalloc2_fastalloc_proofs.proofs.Moves.ScratchRegTaken.{Fit, Spare}
 use Rattle.regalloc2_fastalloc_proofs.proofs.Operands.BlockTail.{BlockTail}
+use Rattle.regalloc2_fastalloc_proofs.proofs.Operands.RecordOverState.{located_used}
+use Rattle.regalloc2_fastalloc_proofs.proofs.Moves.ScratchRegTaken.{fit_used, spare_used}
 
 -- The operands of an instruction, as a well-formed function has them. A number is defined once, and isn't read where it is defined;
 -- a reuse is a late definition that names an early use, which no other one names, under Reg or FixedReg.
@@ -61,6 +63,21 @@ module _ (tail : BlockTail) where
     pub clobbers : (r : Register) → far.clobbered (InRegister r) ≡ true → has_register u.late r ≡ false
     pub within : (j : ℕ) → far.claimed j ≡ true → Counts ops j
     pub small : (j : ℕ) (r : Register) → far.claimed j ≡ true → far.here j ≡ InRegister r → r.number < 64
+
+  -- whatever registers were used
+  pub ready_used : (ops : List OperandValue) (far : Progress) (ret : Bool) (u : InstRegs) (t : StateValue) (order : List (List Register)) →
+      Ready ops far ret u t → Ready ops far ret u (record t { lrus = order })
+  ready_used ops far ret u t order h = record {
+    located = located_used (what_of ops) far t order h.located;
+    owes = h.owes;
+    nothing = h.nothing;
+    held = h.held;
+    scratch_reserve = spare_used far.here far.claimed far.made_at u t order h.scratch_reserve;
+    fit = fit_used t order h.fit;
+    clobbers = h.clobbers;
+    within = h.within;
+    small = h.small;
+  }
 
   -- Before the operand k is allocated in the pass over late operands, or in that over early ones; list has the places of the instruction so far.
   pub record Laid (ops : List OperandValue) (lived : ℕ → Bool) (clob : Place → Bool) (ret late : Bool) (k : ℕ) (list : List Place) (u : InstRegs)

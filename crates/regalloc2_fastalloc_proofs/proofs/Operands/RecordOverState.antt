@@ -22,6 +22,7 @@ use Rattle.regalloc2_fastalloc_proofs.proofs.Safety.StepsKeepState.{given_below,
 use Rattle.regalloc2_fastalloc_proofs.proofs.Operands.BlockTail.{BlockTail}
 use Rattle.regalloc2_fastalloc_proofs.proofs.Slots.StepsKeepSlots.{Grown, changes_grow}
 use Rattle.regalloc2_fastalloc_proofs.proofs.Changes.OneChange.{Anything, Changes}
+use Rattle.regalloc2_fastalloc_proofs.proofs.Safety.StepsKeepState.{whole_used}
 
 -- a place, unless it is none
 abbrev pub opt : Place → Option Place
@@ -80,6 +81,11 @@ pub record Located (what : ℕ → What) (far : Progress) (t : StateValue) : Typ
   pub placed : Placed what far (stands_at t) (slots_at t)
   pub below : (j k : ℕ) → far.claimed j ≡ true → far.here j ≡ InSlot k → k < t.slots.count
   pub calm : (k : ℕ) → far.clobbered (InSlot k) ≡ false
+
+-- whatever registers were used
+pub located_used : (what : ℕ → What) (far : Progress) (t : StateValue) (order : List (List Register)) → Located what far t →
+    Located what far (record t { lrus = order })
+located_used what far t order l = record { whole = whole_used t order l.whole; placed = l.placed; below = l.below; calm = l.calm }
 
 -- a vreg goes from its register to its slot, which it had or which is made
 pub record Shifts (old new : StateValue) (v : VirtualRegister) (r : Register) (s : Place) : Type 0 where

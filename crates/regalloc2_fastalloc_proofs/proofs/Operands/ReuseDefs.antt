@@ -77,11 +77,11 @@ picks_register t o p old new w (stays x su en) = elim w [
       (a.0, suits_at old o.requirement p a.0 a.1 su)
 ]
 picks_register t o p old new w (fixed r a e en) = (r, e)
-picks_register t o p old new w (slot h g e ed machine) = absurd (elim w [
+picks_register t o p old new w (slot h g e ed machine order) = absurd (elim w [
   | inl a ↦ elim h [ inl b ↦ (let x : AnyReg ≡ AnyPlace = sym a ∙ b in cc) | inr b ↦ (let x : AnyReg ≡ InMemory = sym a ∙ b in cc) ]
   | inr a ↦ elim h [ inl b ↦ (let x : InPReg a.0 ≡ AnyPlace = sym a.1 ∙ b in cc) | inr b ↦ (let x : InPReg a.0 ≡ InMemory = sym a.1 ∙ b in cc) ]
 ])
-picks_register t o p old new w (free r h may fr e en) = (r, e)
+picks_register t o p old new w (free r h away may fr first e en) = (r, e)
 
 -- a reuse that requires one preg names an operand that is fixed to that preg
 pub asked_as_at : (c : OperandConstraint) (r : Register) → reuse_requirement_of c ≡ InPReg r → c ≡ FixedReg r
@@ -193,11 +193,11 @@ module _ (laying : LayingContext) (late : Bool) (k : ℕ) (list : List Place) (u
         Clear (what_of ops) L.here L.claimed q (InRegister r)
     named_clear r p middle at (stays x su en) = λ j c e. absurd (kept_only (InRegister r) (ap opt (x ∙ at)) j c e)
     named_clear r p middle at (fixed g w e en) = let x : AnyReg ≡ InPReg g = ap reuse_requirement_of (sym any) ∙ w in absurd cc
-    named_clear r p middle at (slot h g e ed machine) = absurd (elim h [
+    named_clear r p middle at (slot h g e ed machine order) = absurd (elim h [
       | inl b ↦ (let x : AnyReg ≡ AnyPlace = ap reuse_requirement_of (sym any) ∙ b in cc)
       | inr b ↦ (let x : AnyReg ≡ InMemory = ap reuse_requirement_of (sym any) ∙ b in cc)
     ])
-    named_clear r p middle at (free g h may fr e en) =
+    named_clear r p middle at (free g h away may fr first e en) =
         let x : InRegister g ≡ InRegister r = sym e ∙ at in let same : g ≡ r = cc in
         let free_at : FreeAt (held_early u) (held_late u) true true (InRegister r) = record {
           free_early = λ a. ap not (ap (has_register u.early) (sym same) ∙ fr.early a);
@@ -329,7 +329,8 @@ module _ (laying : LayingContext) (late : Bool) (k : ℕ) (list : List Place) (u
 
       held_w : held_early w (InRegister in_reg.0) ≡ true
       held_w = ap not ((defines_less (after i) (op_at ops k).vreg ret p s.inst_regs w s.middle m s.defines).early in_reg.0
-          (occupies_early (after i) o p in_reg.0 u s.inst_regs s.gets.middle s.middle refl in_reg.1 s.gets.occupies))
+          (occupies_early (after i) o p in_reg.0 u s.inst_regs s.gets.middle s.gets.takes.claimed refl in_reg.1
+          s.gets.takes.occupies))
 
       abbrev pos : Positions
       pos = record { early = true; late = false }

@@ -121,7 +121,7 @@ module _ (rules : StepRules) where
   -- spilling an argument keeps the state safe, and its place is the vreg's own slot
   pub settles_kept : (a : VirtualRegister) (s : Place) (t u : InstRegs) (old new : StateValue) → SpillsArgument point a s t u old new →
       IsSafe env Known Writes May old → AreSafeRegs env t → Argued a s u new
-  settles_kept a s t u old new (from_register r m at gives places edits machine clears) h ht =
+  settles_kept a s t u old new (from_register r m at gives places edits machine order clears) h ht =
       let n = slot_number m.slots.count s gives.there gives.below in
       record {
         kept = clears_kept rules r t u m new clears (given_safe env Known Writes May old m a s gives places edits machine h) ht;
@@ -129,7 +129,7 @@ module _ (rules : StepRules) where
         is = n.1;
         own = changes_stay (clears_changes (λ q x. tt) clears) a.number n.0 (gives.gives ∙ n.1);
       }
-  settles_kept a s t u old new (in_slot away gives settles edits machine eu) h ht =
+  settles_kept a s t u old new (in_slot away gives settles edits machine order eu) h ht =
       let n = slot_number new.slots.count s gives.there gives.below in
       record {
         kept = record {
@@ -156,7 +156,7 @@ module _ (rules : StepRules) where
     gathers_edge_kept good {t} {old} h ht begin none_gathered =
         (kept_none env Known Writes May old old t t refl refl h ht, begin)
     gathers_edge_kept {params} {arguments} good {t} {old} {before_it} h ht begin {u} {new}
-        (one_gathered j some to from w x m n o lt prev gives places edits machine settles foreign) =
+        (one_gathered j some to from w x m n o lt prev gives places edits machine order settles foreign) =
         let p = gathers_edge_kept good h ht begin prev in
         let v : VirtualRegister = slice_index_or params j no_vreg in
         let a : VirtualRegister = slice_index_or arguments j no_vreg in

@@ -11,6 +11,7 @@ use Rattle.regalloc2_fastalloc_state.specs.StateParts.{IsSlotOrNone, SetsAlloc, 
 use Rattle.regalloc2_fastalloc_proofs.specs.InstSteps.{StateValue}
 use Rattle.regalloc2_semantics.specs.Instruction.{IsTidy}
 use Rattle.regalloc2_semantics.proofs.Cells.{is_place-true, is_place-same, is_place-other}
+use Rattle.std.proofs.Common.{List}
 
 -- where the vregs are located, and their slots, as functions of the number
 abbrev pub place_in : StateValue → ℕ → Place
@@ -29,6 +30,11 @@ pub record IsWhole (t : StateValue) : Type 0 where
   pub below : (n : ℕ) → IsSlotOrNone t.slots.count (slot_in t n)
   pub own : (m n k : ℕ) → slot_in t m ≡ InSlot k → slot_in t n ≡ InSlot k → m ≡ n
   pub units : (c : RegClass) → 0 < units_of t.slots c
+
+-- whatever registers were used
+pub whole_used : (t : StateValue) (order : List (List Register)) → IsWhole t → IsWhole (record t { lrus = order })
+whole_used t order w =
+    record { holds = w.holds; stands_in = w.stands_in; own_slot = w.own_slot; below = w.below; own = w.own; units = w.units }
 
 slot_no_register : (count : ℕ) (p : Place) (r : Register) → IsSlotOrNone count p → p ≡ InRegister r → ⊥
 slot_no_register count NoPlace r h e = cc

@@ -120,14 +120,14 @@ module _ (Known : VirtualRegister → Type 0) (same : (v w : VirtualRegister) �
 
     settles_classed : (a : VirtualRegister) (s : Place) (t u : InstRegs) (old new : StateValue) → SpillsArgument point a s t u old new → Known a →
         IsClassed Known named Met old → IsClassedTurn t → Argued a s u new
-    settles_classed a s t u old new (from_register r m at gives places edits machine clears) known h ht =
+    settles_classed a s t u old new (from_register r m at gives places edits machine order clears) known h ht =
         record {
           step = clears_classed Known same named Met point r t u m new clears
               (only_slot Known same named Met old m a s known gives places machine edits h) ht;
           own = own_grows m.slots new.slots a s (changes_stay (clears_changes (λ q r. tt) clears))
               (slot_own m.slots a s m.slots.count gives.gives gives.below);
         }
-    settles_classed a s t u old new (in_slot away gives settles edits machine eu) known h ht = record {
+    settles_classed a s t u old new (in_slot away gives settles edits machine order eu) known h ht = record {
       step = record {
         classed = to_slot_only Known same named Met old new a s known gives settles machine edits h;
         inst_regs = subst IsClassedTurn (sym eu) ht;
@@ -148,7 +148,7 @@ module _ (Known : VirtualRegister → Type 0) (same : (v w : VirtualRegister) �
     edge_classed params arguments alike t old before_it h ht begin k u new given none_gathered =
         record { step = classed_same Known same named Met old old t t refl refl h ht; passed = begin }
     edge_classed params arguments alike t old before_it h ht begin k u new given
-        (one_gathered j some to from w x m n o lt prev gives places edits machine settles foreign) =
+        (one_gathered j some to from w x m n o lt prev gives places edits machine order settles foreign) =
         let p = edge_classed params arguments alike t old before_it h ht begin j w m some prev in
         let v : VirtualRegister = slice_index_or params j no_vreg in
         let a : VirtualRegister = slice_index_or arguments j no_vreg in
@@ -186,7 +186,7 @@ module _ (Known : VirtualRegister → Type 0) (same : (v w : VirtualRegister) �
     begins_classed : (v : VirtualRegister) (t u : InstRegs) (old new : StateValue) → ReloadsParam point v t u old new → Known v →
         IsClassed Known named Met old → IsClassedTurn t → StepClassed Known named Met u new
     begins_classed v t u old new (nowhere none eu en) known h ht = classed_same Known same named Met old new t u en eu h ht
-    begins_classed v t u old new (comes s m there gives settles edits machine sends) known h ht =
+    begins_classed v t u old new (comes s m there gives settles edits machine order sends) known h ht =
         let q : Place = alloc_of old.places v.number in
         let stay : SlotsStay old.slots m.slots = gives_stay old.slots m.slots v s gives in
         sends_classed Known same named Met point v sends known (slot_own m.slots v s m.slots.count gives.gives gives.below)

@@ -23,6 +23,7 @@ use Rattle.regalloc2_fastalloc_proofs.proofs.Slots.SlotsGrow.{SlotsStay, gives_s
 use Rattle.regalloc2_fastalloc_proofs.proofs.Changes.InstChanges.{scratches_changes}
 use Rattle.regalloc2_fastalloc_proofs.proofs.Safety.StepsKeepSafe.{same_units, slots_kept, settled_holder, scratch_each}
 use Rattle.regalloc2_fastalloc_proofs.proofs.Slots.NewSlotsApart.{gives_laid}
+use Rattle.regalloc2_fastalloc_proofs.specs.InstSteps.{SameButOrder}
 
 -- where the value of a vreg may be, if anywhere: in a register of its class, or in its own slot
 abbrev pub IsOwnPlace : SpillSlotsValue → VirtualRegister → Place → Type 0
@@ -151,6 +152,21 @@ module _ (Known : VirtualRegister → Type 0) (same : (v w : VirtualRegister) �
     inst_regs = subst IsClassedTurn (sym eu) ht;
   }
 
+  -- and one that uses registers at most
+  pub classed_used : (old new : StateValue) → SameButOrder old new → IsClassed Known named Met old → IsClassed Known named Met new
+  classed_used old new e h = subst (IsClassed Known named Met) (sym e) (record {
+    holders = h.holders;
+    places = h.places;
+    slots = h.slots;
+    units = h.units;
+    dedicated_scratch = h.dedicated_scratch;
+    by_last = h.by_last;
+    made = h.made;
+    laid = h.laid;
+    met = h.met;
+    edits = h.edits;
+  })
+
   -- an end of a move of a known vreg's value
   pub own_end : (s : SpillSlotsValue) (made : List OwnedSlot) → AreLaidOut Known s made → (point : ℕ) (v : VirtualRegister) (p : Place) → Known v →
       IsOwnPlace s v p → IsEndOrNone made point v.class p
@@ -254,7 +270,7 @@ module _ (Known : VirtualRegister → Type 0) (same : (v w : VirtualRegister) �
     pub evicts_classed : (r : Register) (u : InstRegs) (old new : StateValue) → EvictsVReg point r old new → IsClassed Known named Met old → IsClassedTurn u →
         StepClassed Known named Met u new
     evicts_classed r u old new (nobody none is) h ht = classed_same old new u u is refl h ht
-    evicts_classed r u old new (moved v s small held gives settles edits machine) h ht =
+    evicts_classed r u old new (moved v s small held gives settles edits machine order) h ht =
         let was = h.holders r v small held in
         record {
           classed = to_slot old new v s (a_move point s (InRegister r) ∷ []) was.0 gives settles machine edits
@@ -309,7 +325,7 @@ module _ (Known : VirtualRegister → Type 0) (same : (v w : VirtualRegister) �
     pub clears_classed : (r : Register) (t u : InstRegs) (old new : StateValue) → EvictsPReg point r t u old new → IsClassed Known named Met old →
         IsClassedTurn t → StepClassed Known named Met u new
     clears_classed r t u old new (empty none eu en) h ht = classed_same old new t u en eu h ht
-    clears_classed r t u old new (cleared v s m small held gives settles edits machine crosses) h ht =
+    clears_classed r t u old new (cleared v s m small held gives settles edits machine order crosses) h ht =
         let was = h.holders r v small held in
         crosses_classed v crosses was.0 (slot_own m.slots v s m.slots.count gives.gives gives.below) was.1
         (to_slot_only old m v s was.0 gives settles machine edits h) ht
@@ -318,7 +334,7 @@ module _ (Known : VirtualRegister → Type 0) (same : (v w : VirtualRegister) �
     pub evictions_classed : {t u : InstRegs} {old new : StateValue} → Evictions point t old u new → IsClassed Known named Met old → IsClassedTurn t →
         StepClassed Known named Met u new
     evictions_classed = evictions_keep (record {
-      same = λ t u old new eu en. classed_same old new t u en eu;
+      same = λ t u old new eu en h ht. record { classed = classed_used old new en h; inst_regs = subst IsClassedTurn (sym eu) ht };
       over = λ t u w a b c f g h ht. (let x = f h ht in g x.classed x.inst_regs);
       each = clears_classed;
     })

@@ -29,7 +29,7 @@ pub record Blank (t : StateValue) : Type 0 where
   pub units : (c : RegClass) → 0 < units_of t.slots c
   pub no_move : t.edits ≡ []
 
-blank_whole : (t : StateValue) → Blank t → IsWhole t
+pub blank_whole : (t : StateValue) → Blank t → IsWhole t
 blank_whole t b = record {
   holds = λ r v lt h. let x : None ≡ Some v = sym (b.nobody r lt) ∙ h in absurd cc;
   stands_in = λ n r h. let x : NoPlace ≡ InRegister r = sym (b.nowhere n) ∙ h in absurd cc;

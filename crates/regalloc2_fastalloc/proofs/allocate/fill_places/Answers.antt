@@ -43,13 +43,14 @@ use Rattle.regalloc2_pressure_proofs.proofs.OutOfRegs.{AreFresh, walk_stops}
 use Rattle.regalloc2_fastalloc.proofs.ErrorsHaveReasons.{lacks_where}
 use Rattle.regalloc2_fastalloc.proofs.UsesReadNumbers.{reads_numbers}
 use Rattle.regalloc2_fastalloc.proofs.UnitsNeeded.{sizes_of, sizes_agree, few_slots, full_needs}
-use Rattle.regalloc2_fastalloc_proofs.proofs.Walk.InstsCarry.{Blank}
+use Rattle.regalloc2_fastalloc_proofs.proofs.Walk.InstsCarry.{Blank, blank_whole}
 use Rattle.regalloc2_fastalloc_proofs.proofs.Safety.FunctionKeepsSafe.{SafeWithin, made_listed_blocks}
 use Rattle.regalloc2_fastalloc_proofs.proofs.Safety.BlocksKeepSafe.{MayInBlocks}
 use Rattle.regalloc2_fastalloc_proofs.proofs.Moves.ScratchRegTaken.{Fit}
 use Rattle.regalloc2_fastalloc_proofs.proofs.Safety.BranchArgsKeepState.{passes_between}
 use Rattle.regalloc2_fastalloc_proofs.proofs.Safety.InstsKeepSafe.{WalkKept}
-use Rattle.regalloc2_fastalloc_walk.proofs.BlockSpillFree.{begins_uncrowded}
+use Rattle.regalloc2_unspilled_proofs.proofs.BlockSpillFree.{begins_uncrowded}
+use Rattle.regalloc2_unspilled_proofs.proofs.OneBlock.{unspilled}
 use Rattle.regalloc2_fastalloc.proofs.RoomInTables.{has_room}
 use Rattle.regalloc2_fastalloc.proofs.RegistersForAll.{are_few, asks_for_registers, names_in}
 use Rattle.regalloc2_fastalloc.proofs.allocate.fill_places.Given.{Over}
@@ -300,10 +301,10 @@ unspilled_is g c = λ h.
     let begin : StateValue = tables_of c.in_ok-state.state in
     let e = c.in_ok-state.ensures in
     let b = blank_is g c in
-    let none = c.in_ok-alloc_blocks.ensures.spill_free (names_in f.insts) (are_few f (machine_of c.args.env.now) begin.allocatable h e.all)
-    (asks_for_registers f (machine_of c.args.env.now) h)
-    (begins_uncrowded f (names_in f.insts) c.in_ok-state.state.registers begin b.nowhere b.no_move b.no_slot (ap (λ (s : SpillSlotsValue). s.count) e.slots)
-    refl (fit_apart begin (fit_is g c)) e.lrus) in
+    let none = unspilled f (machine_of c.args.env.now) c.requires.well_formed (names_in f.insts) (asks_for_registers f (machine_of c.args.env.now) h) 0
+    c.args.allocs.now c.alloc_blocks.new.allocs begin (left g c) refl (are_few f (machine_of c.args.env.now) begin.allocatable h e.all)
+    (begins_uncrowded f (names_in f.insts) begin b.nowhere b.no_move b.no_slot (ap (λ (s : SpillSlotsValue). s.count) e.slots)
+    (blank_whole begin b) (fit_apart begin (fit_is g c)) e.lrus) c.in_ok-alloc_blocks.ensures.outcome in
     (c.in_ok-edits.ensures.listed ∙ ap reverse none.0, c.num_units-num_spillslots.ensures.count ∙ none.1)
 
 pub returns-clause-allocation : goal.returns-clause-allocation

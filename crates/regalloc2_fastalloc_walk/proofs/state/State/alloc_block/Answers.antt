@@ -11,7 +11,6 @@ use Rattle.regalloc2_fastalloc_walk.specs.StateView.{tables_of}
 use Rattle.regalloc2_fastalloc_proofs.specs.BranchSteps.{AddsTempSlotsAtMost}
 use Rattle.regalloc2_fastalloc_proofs.specs.BlockSteps.{AllocsInstInBlock, AllocInstInBlock, AllocsBlockInsts, DefinesBelow, at_end, one_in, temp_slots_at, offset_of}
 use Rattle.regalloc2_fastalloc_proofs.proofs.Safety.StateKept.{none_lends, lends_then, apart_kept, lacks_all, block_within, lent_so_far}
-use Rattle.regalloc2_fastalloc_walk.specs.SpillFree.{FitInRegs, IsSpillFreeFrom}
 use Rattle.regalloc2_fastalloc_walk.proofs.state.State.alloc_block.Goals as goal
 
 pub first-requires : goal.first-requires
@@ -42,7 +41,6 @@ loop-i-init g c =
       later = subst Q (sym end) c.requires.later;
       long = refl;
       machine = none_lends 6 t;
-      spill_free = λ names few asks h. subst (λ (n : ℕ). IsSpillFreeFrom names f n c.args.self.now.registers t) (sym end) h;
       begun = λ e. none_lends 0 t;
     }
 
@@ -119,12 +117,6 @@ loop-i-preserved g c =
       long = c.in_ok-alloc_inst_in_block.ensures.step.long ∙ c.loop-i.invariant.long;
       machine = lends_then so_far.0 (temp_slots_at f i) 6 (tables_of c.args.self.now) t u so_far.1 so_far.2
           (subst L at c.alloc_inst_in_block.ensures.step.machine);
-      spill_free = λ names few asks h.
-          let before = c.loop-i.invariant.spill_free names few asks h in
-          let few_now : FitInRegs names t.allocatable = subst (FitInRegs names) (sym c.loop-i.invariant.machine.allocatable) few in
-          subst (λ (n : ℕ). IsSpillFreeFrom names f n c.alloc_inst_in_block.new.self.registers u) at
-          (c.in_ok-alloc_inst_in_block.ensures.spill_free names few_now asks
-          (subst (λ (n : ℕ). IsSpillFreeFrom names f n c.loop-i.self.registers t) (next ∙ ap (λ (n : ℕ). n + 1) (sym at)) before));
       begun = λ e. absurd (omega (arith, e, upto));
     }
 
@@ -192,9 +184,3 @@ returns-in_err-alloc_inst_in_block-clause-outcome g c =
       stops = subst (λ (n : ℕ). AllocInstInBlock f c.args.block n c.loop-i.allocs m no_register) c.new.ensures
           (c.in_err-alloc_inst_in_block.ensures.outcome (sym e.2 ∙ lacks));
     })
-
-pub returns-clause-spill_free : goal.returns-clause-spill_free
-returns-clause-spill_free g c = λ names few asks h.
-    let f : FunctionValue = g.F.Function.function c.args.cx.now.f.now in
-    let at_first : c.loop-i.i ≡ (block_at f c.args.block).range.first = omega (arith, c.loop-i-test.false, c.loop-i.invariant.from, c.loop-i.invariant.first) in
-    subst (λ (n : ℕ). IsSpillFreeFrom names f n c.loop-i.self.registers (tables_of c.loop-i.self)) at_first (c.loop-i.invariant.spill_free names few asks h)

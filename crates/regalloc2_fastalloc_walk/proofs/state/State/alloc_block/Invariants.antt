@@ -8,7 +8,6 @@ use Rattle.regalloc2_fastalloc_proofs.specs.BranchSteps.{AddsTempSlotsAtMost}
 use Rattle.regalloc2_fastalloc_proofs.specs.BlockSteps.{AllocsBlockInsts, offset_of}
 use Rattle.std.specs.Prelude.{List}
 use Rattle.regalloc2_names.specs.Register.{VirtualRegister}
-use Rattle.regalloc2_fastalloc_walk.specs.SpillFree.{FitInRegs, HasRegOperandsOnly, IsSpillFreeFrom}
 use Rattle.regalloc2_fastalloc_walk.proofs.state.State.alloc_block.Given as goal
 
 abbrev pub invariant-loop-i : goal.invariant-loop-i
@@ -22,10 +21,6 @@ invariant-loop-i g l = record {
   later : AllAtOrAfter (before l.i) l.self.edits;
   long : length l.self.places.vreg_allocs ≡ length l.fn.self.places.vreg_allocs;
   machine : AddsTempSlotsAtMost 6 (tables_of l.fn.self) (tables_of l.self);
-  spill_free : (names : List VirtualRegister) → FitInRegs names l.fn.self.registers.allocatable → HasRegOperandsOnly names (g.F.Function.function l.cx.f.now) →
-      IsSpillFreeFrom names (g.F.Function.function l.cx.f.now) (block_at (g.F.Function.function l.cx.f.now) l.block).range.end l.fn.self.registers
-      (tables_of l.fn.self)
-      → IsSpillFreeFrom names (g.F.Function.function l.cx.f.now) l.i l.self.registers (tables_of l.self);
   begun : l.i ≡ (block_at (g.F.Function.function l.cx.f.now) l.block).range.end → AddsTempSlotsAtMost 0 (tables_of l.fn.self) (tables_of l.self);
 }
 

@@ -10,9 +10,6 @@ use Rattle.regalloc2_fastalloc_proofs.specs.BlockSteps.{AllocBlock, BeginBlock, 
 use Rattle.regalloc2_fastalloc_walk.specs.StateView.{tables_of}
 use Rattle.regalloc2_fastalloc_proofs.specs.BlockSteps.{AllocsBlockInsts, AllocsBlocks, BeginsBlock, DefinesBelow, all_left, one_block, offset_of}
 use Rattle.regalloc2_fastalloc_proofs.proofs.Safety.StateKept.{none_lends, same_lends, lends_then, apart_kept, lacks_all, lack_all, joins_at}
-use Rattle.regalloc2_fastalloc_state.specs.StateParts.{AllocatableRegsValue}
-use Rattle.regalloc2_fastalloc_walk.proofs.BlockSpillFree.{no_params, nobody_left, none_is_stored, none_left_over}
-use Rattle.regalloc2_fastalloc_walk.specs.SpillFree.{FitInRegs, IsSpillFreeFrom}
 use Rattle.regalloc2_fastalloc_walk.proofs.state.State.alloc_blocks.Goals as goal
 
 pub loop-b-init : goal.loop-b-init
@@ -28,8 +25,6 @@ loop-b-init g c =
       later = λ some. subst Q (sym c.requires.fresh) (λ k d lt. absurd (omega arith));
       long = refl;
       machine = none_lends _ t;
-      begins = λ e. (refl, refl);
-      spill_free = λ zero names few asks h. absurd (omega (arith, zero, c.num_blocks-b.ensures.count, asks.one_block));
     }
 
 pub alloc_block-requires : goal.alloc_block-requires
@@ -125,29 +120,6 @@ loop-b-preserved g c =
       long = c.in_ok-begin_block.ensures.step.long ∙ c.in_ok-alloc_block.ensures.step.long ∙ c.loop-b.invariant.long;
       machine = lends_then (6 * (length f.blocks - c.loop-b.b)) 6 _ a t w (omega (arith, next, lt)) c.loop-b.invariant.machine
           (lends_then 6 0 6 t u w (omega arith) c.alloc_block.ensures.step.machine (same_lends 0 u w c.begin_block.ensures.step.machine));
-      begins = λ e. absurd (omega (arith, e, lt));
-      spill_free = λ zero names few asks h.
-          let whole : c.loop-b.b ≡ length f.blocks = omega (arith, next, zero, asks.one_block) in
-          let start = c.loop-b.invariant.begins whole in
-          let follows = c.requires.well_formed.1.follow b lt in
-          let end : (block_at f d).range.end ≡ length f.insts = ap (λ (n : ℕ). (block_at f n).range.end) same
-          ∙ follows.3 (omega (arith, zero, asks.one_block)) in
-          let begin : (block_at f d).range.first ≡ 0 = ap (λ (n : ℕ). (block_at f n).range.first) same ∙ follows.1 zero in
-          let few_now : FitInRegs names t.allocatable = subst (λ (x : StateValue). FitInRegs names x.allocatable) (sym start.1) few in
-          let at_end : IsSpillFreeFrom names f (block_at f d).range.end c.loop-b.self.registers
-          t = subst (λ (n : ℕ). IsSpillFreeFrom names f n c.loop-b.self.registers t) (sym end)
-          (subst (λ (r : AllocatableRegsValue). IsSpillFreeFrom names f (length f.insts) r t) (sym start.0)
-          (subst (λ (x : StateValue). IsSpillFreeFrom names f (length f.insts) c.args.self.now.registers x) (sym start.1) h)) in
-          let done : IsSpillFreeFrom names f 0 c.alloc_block.new.self.registers
-          u = subst (λ (n : ℕ). IsSpillFreeFrom names f n c.alloc_block.new.self.registers u) begin
-          (c.in_ok-alloc_block.ensures.spill_free names few_now asks at_end) in
-          let nobody = nobody_left f c.requires.well_formed.0 names c.alloc_block.new.self.registers u c.requires.well_formed.1 asks done in
-          let params : (block_at f d).params ≡ [] = ap (λ (n : ℕ). (block_at f n).params) same
-          ∙ no_params f c.requires.well_formed.0 names b c.requires.well_formed.1 asks lt in
-          let kept : w ≡ u = c.in_ok-begin_block.ensures.nobody nobody params (λ e k j v slots edge stored.
-          none_is_stored f c.requires.well_formed.0 names c.requires.well_formed.1 asks d e k j v slots edge stored) in
-          let none = none_left_over f c.requires.well_formed.0 names c.alloc_block.new.self.registers u done in
-          (ap (λ (x : StateValue). x.edits) kept ∙ none.0, ap (λ (x : StateValue). x.slots.count) kept ∙ none.1);
     }
 
 pub returns-in_err-alloc_block-clause-machine : goal.returns-in_err-alloc_block-clause-machine
@@ -235,7 +207,3 @@ returns-in_err-begin_block-clause-outcome g c =
 -- where there is no memory for what branches define
 pub returns-in_err-defs-clause-machine : goal.returns-in_err-defs-clause-machine
 returns-in_err-defs-clause-machine g c = none_lends _ (tables_of c.args.self.now)
-
-pub returns-clause-spill_free : goal.returns-clause-spill_free
-returns-clause-spill_free g c = λ names few asks h. (let e : c.loop-b.b ≡ 0 = omega (arith, c.loop-b-test.false) in
-    c.loop-b.invariant.spill_free e names few asks h)

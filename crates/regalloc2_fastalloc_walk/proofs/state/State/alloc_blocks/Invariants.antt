@@ -8,7 +8,6 @@ use Rattle.regalloc2_fastalloc_proofs.specs.BranchSteps.{AddsTempSlotsAtMost}
 use Rattle.regalloc2_fastalloc_proofs.specs.BlockSteps.{AllocsBlocks, offset_of}
 use Rattle.std.specs.Prelude.{List, []}
 use Rattle.regalloc2_names.specs.Register.{VirtualRegister}
-use Rattle.regalloc2_fastalloc_walk.specs.SpillFree.{FitInRegs, HasRegOperandsOnly, IsSpillFreeFrom}
 use Rattle.regalloc2_fastalloc_walk.proofs.state.State.alloc_blocks.Given as goal
 
 abbrev pub invariant-loop-b : goal.invariant-loop-b
@@ -20,11 +19,6 @@ invariant-loop-b g l = record {
   later : 0 < l.b → AllAtOrAfter (before (block_at (g.F.Function.function l.f) (l.b - 1)).range.end) l.self.edits;
   long : length l.self.places.vreg_allocs ≡ length l.fn.self.places.vreg_allocs;
   machine : AddsTempSlotsAtMost (6 * (length (g.F.Function.function l.f).blocks - l.b)) (tables_of l.fn.self) (tables_of l.self);
-  begins : l.b ≡ length (g.F.Function.function l.f).blocks → (l.self.registers ≡ l.fn.self.registers) × (tables_of l.self ≡ tables_of l.fn.self);
-  spill_free : l.b ≡ 0 → (names : List VirtualRegister) → FitInRegs names l.fn.self.registers.allocatable →
-      HasRegOperandsOnly names (g.F.Function.function l.f) → IsSpillFreeFrom names (g.F.Function.function l.f) (length (g.F.Function.function l.f).insts)
-      l.fn.self.registers (tables_of l.fn.self)
-      → (l.self.edits ≡ []) × (l.self.slots.count ≡ 0);
 }
 
 abbrev pub decreases-loop-b : goal.decreases-loop-b

@@ -4,7 +4,6 @@ use Rattle.regalloc2_fastalloc_proofs.specs.InstSteps.{in_get, in_define}
 use Rattle.regalloc2_fastalloc_walk.specs.StateView.{tables_of}
 use Rattle.std.proofs.Common.{subst}
 use Rattle.regalloc2_fastalloc_state.specs.StateParts.{AllocatableRegsValue}
-use Rattle.regalloc2_fastalloc_walk.specs.SpillFree.{AllocsAnyReg}
 use Rattle.regalloc2_fastalloc_walk.proofs.state.State.alloc_def_op.Goals as goal
 
 pub returns-in_err-place-clause-outcome : goal.returns-in_err-place-clause-outcome
@@ -17,7 +16,3 @@ returns-in_err-free_def-clause-outcome g c =
     let e = err_from_is_err_and c.from_residual-in_err-free_def.result c.from_residual-in_err-free_def.ensures.1 in
     rw e.1 (λ same. in_define c.in_ok-place.place c.alloc_operand.new.inst_regs (tables_of c.alloc_operand.new.self) c.in_ok-place.ensures.outcome
     (c.in_err-free_def.ensures.outcome (sym e.2 ∙ same)))
-
-pub returns-clause-takes : goal.returns-clause-takes
-returns-clause-takes g c = λ any. subst (λ (r : AllocatableRegsValue). AllocsAnyReg c.args.inst_regs.now c.args.request.now.vreg c.in_ok-place.place
-    (tables_of c.args.self.now) c.args.self.now.registers r) (sym c.in_ok-free_def.ensures.registers) (c.in_ok-place.ensures.takes any)

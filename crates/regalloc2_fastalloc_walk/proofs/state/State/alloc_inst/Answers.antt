@@ -1,4 +1,4 @@
-use Rattle.std.proofs.Common.{ℕ, ◌≡◌, true, false, List, length, refl, sym, ap, ◌∙◌, subst, rules, arith}
+use Rattle.std.proofs.Common.{ℕ, ◌≡◌, List, length, refl, sym, ap, ◌∙◌, subst, rules, arith}
 use Rattle.regalloc2_names.specs.Point.{before, after}
 use Rattle.regalloc2_names.specs.Operand.{OperandValue}
 use Rattle.regalloc2_fastalloc_state.specs.StateParts.{AllAtOrAfter}
@@ -8,10 +8,6 @@ use Rattle.std.proofs.lemmas.Result.{err_from_is_err_and}
 use Rattle.regalloc2_fastalloc_walk.proofs.Steps.{fails_with, step_then_fails}
 use Rattle.regalloc2_fastalloc_walk.specs.StateView.{tables_of}
 use Rattle.regalloc2_fastalloc_proofs.proofs.Evictions.PushedAndRemoved.{same_then}
-use Rattle.regalloc2_validate.specs.Constraints.{op_at}
-use Rattle.regalloc2_fastalloc_walk.proofs.OperandsSpillFree.{reg_not_fixed}
-use Rattle.regalloc2_fastalloc_walk.proofs.BlockSpillFree.{early_plain, inst_done, ready}
-use Rattle.regalloc2_fastalloc_walk.specs.SpillFree.{FitInRegs}
 use Rattle.regalloc2_fastalloc_walk.proofs.state.State.alloc_inst.Goals as goal
 
 pub process_operands_at-requires : goal.process_operands_at-requires
@@ -157,22 +153,3 @@ returns-in_err-move_uses-clause-outcome g c =
     c.in_ok-process_operands_at-2.ensures.outcome
     (subst (λ (p : ℕ). MoveUses p ops c.process_operands_at-2.new.here c.process_operands_at-2.new.inst_regs (tables_of c.process_operands_at-2.new.self)
     no_register) early (c.in_err-move_uses.ensures.outcome (sym e.2 ∙ lacks))))
-
--- where registers suffice for all vregs
-pub returns-clause-spill_free : goal.returns-clause-spill_free
-returns-clause-spill_free g c = λ names gone few plain none h.
-    let ops : List OperandValue = c.args.cx.now.operands.now in
-    let here = c.args.here.now in
-    let t4 : StateValue = tables_of c.prepare_regs.new.self in
-    let t5 : StateValue = tables_of c.process_operands_at.new.self in
-    let reg = (plain true).under_reg in
-    let begun = ready reg none (c.in_ok-prepare_regs.ensures.registers (λ k r lt e. reg_not_fixed (op_at ops k) r (reg k lt) e))
-    c.in_ok-prepare_regs.ensures.outcome h in
-    let few4 : FitInRegs names t4.allocatable = subst (λ (t : StateValue). FitInRegs names t.allocatable) (sym begun.0) few in
-    let late = c.in_ok-process_operands_at.ensures.spill_free names gone few4 (plain true) (λ j at. c.requires.no_places j) begun.1 in
-    let few5 : FitInRegs names t5.allocatable = subst (FitInRegs names) (sym late.machine) few4 in
-    let early = c.in_ok-process_operands_at-2.ensures.spill_free names late.gone_now few5
-    (early_plain names gone ops here c.process_operands_at.new.here c.process_operands_at.new.self.registers t4 t5 c.process_operands_at.new.inst_regs plain
-    late)
-    (λ j at. late.others j (λ e. absurd (let no : true ≡ false = sym e ∙ at in cc)) ∙ c.requires.no_places j) late.spill_free in
-    inst_done plain late early c.in_ok-move_uses.ensures.outcome c.in_ok-move_uses.ensures.registers

@@ -18,8 +18,6 @@ use Rattle.regalloc2_fastalloc_proofs.proofs.Branches.WellFormedMayBranch.{may_p
 use Rattle.regalloc2_semantics.specs.Blocks.{target_at}
 use Rattle.regalloc2_fastalloc_state.specs.StateParts.{AllocatableRegsValue}
 use Rattle.regalloc2_fastalloc_proofs.specs.InstSteps.{IsFresh}
-use Rattle.regalloc2_fastalloc_walk.proofs.BlockSpillFree.{edge_block, from_next, no_params, plain_at, refreshed}
-use Rattle.regalloc2_fastalloc_walk.specs.SpillFree.{ArePlain, IsSpillFreeFrom, LeavesSpillFree}
 use Rattle.regalloc2_fastalloc_walk.proofs.state.State.alloc_inst_in_block.Goals as goal
 
 pub alloc_inst_at-requires : goal.alloc_inst_at-requires
@@ -215,51 +213,3 @@ returns-in_err-process_branch-clause-outcome g c =
     let e = err_from_is_err_and c.from_residual-in_err-process_branch.result c.from_residual-in_err-process_branch.ensures.1 in
     rw e.1 (λ lacks. in_pass c.alloc_inst_at.new.allocs m h.0 (sym c.is_branch.ensures ∙ on)
     (subst (λ (t : InstRegs). ProcessBranch f c.args.block i t m no_register) (sym h.1) (c.in_err-process_branch.ensures.outcome (sym e.2 ∙ lacks))))
-
--- where registers suffice for all vregs
-pub returns-then-not-is_branch-clause-spill_free : goal.returns-then-not-is_branch-clause-spill_free
-returns-then-not-is_branch-clause-spill_free g c = λ names few asks h.
-    let f : FunctionValue = g.F.Function.function c.args.cx.now.f.now in
-    let i : ℕ = c.args.at.inst in
-    let t : StateValue = tables_of c.args.self.now in
-    let env : MachineValue = c.requires.well_formed.0 in
-    let fresh : IsFresh c.new-inst_regs.result t = record {
-      early = λ r. ap (λ (x : PRegSet). has_register x r) c.new-inst_regs.ensures.early ∙ c.available_regs.ensures r;
-      late = λ r. ap (λ (x : PRegSet). has_register x r) c.new-inst_regs.ensures.late ∙ c.available_regs.ensures r;
-      scratch = c.new-inst_regs.ensures.scratch;
-      awaited = c.new-inst_regs.ensures.awaited;
-    } in
-    let L : List OperandValue → Type 0 = λ ops. LeavesSpillFree names h.gone ops c.alloc_inst_at.new.self.registers (tables_of c.alloc_inst_at.new.self) in
-    from_next f names i c.args.self.now.registers c.alloc_inst_at.new.self.registers t (tables_of c.alloc_inst_at.new.self) c.requires.inst h
-    (subst L c.inst_operands-operands.ensures (c.in_ok-alloc_inst_at.ensures.spill_free names h.gone few
-    (λ late. subst (λ (ops : List OperandValue). ArePlain names h.gone ops late) (sym c.inst_operands-operands.ensures)
-    (plain_at f env names i c.args.self.now.registers t c.requires.well_formed.1 asks c.requires.inst h late))
-    (λ r. ap (λ (x : PRegSet). has_register x r) c.inst_clobbers-clobbers.ensures ∙ asks.no_clobbers i r c.requires.inst)
-    (refreshed names h.gone c.args.self.now.registers t h.inst_regs c.new-inst_regs.result h.spill_free fresh)))
-
-pub returns-clause-spill_free : goal.returns-clause-spill_free
-returns-clause-spill_free g c = λ names few asks h.
-    let f : FunctionValue = g.F.Function.function c.args.cx.now.f.now in
-    let i : ℕ = c.args.at.inst in
-    let t : StateValue = tables_of c.args.self.now in
-    let env : MachineValue = c.requires.well_formed.0 in
-    let m : StateValue = tables_of c.alloc_inst_at.new.self in
-    let fresh : IsFresh c.new-inst_regs.result t = record {
-      early = λ r. ap (λ (x : PRegSet). has_register x r) c.new-inst_regs.ensures.early ∙ c.available_regs.ensures r;
-      late = λ r. ap (λ (x : PRegSet). has_register x r) c.new-inst_regs.ensures.late ∙ c.available_regs.ensures r;
-      scratch = c.new-inst_regs.ensures.scratch;
-      awaited = c.new-inst_regs.ensures.awaited;
-    } in
-    let L : List OperandValue → Type 0 = λ ops. LeavesSpillFree names h.gone ops c.alloc_inst_at.new.self.registers m in
-    let done : IsSpillFreeFrom names f i c.alloc_inst_at.new.self.registers m = from_next f names i c.args.self.now.registers c.alloc_inst_at.new.self.registers
-    t m c.requires.inst h
-    (subst L c.inst_operands-operands.ensures (c.in_ok-alloc_inst_at.ensures.spill_free names h.gone few
-    (λ late. subst (λ (ops : List OperandValue). ArePlain names h.gone ops late) (sym c.inst_operands-operands.ensures)
-    (plain_at f env names i c.args.self.now.registers t c.requires.well_formed.1 asks c.requires.inst h late))
-    (λ r. ap (λ (x : PRegSet). has_register x r) c.inst_clobbers-clobbers.ensures ∙ asks.no_clobbers i r c.requires.inst)
-    (refreshed names h.gone c.args.self.now.registers t h.inst_regs c.new-inst_regs.result h.spill_free fresh))) in
-    let same : tables_of c.process_branch.new.self ≡ m = c.in_ok-process_branch.ensures.none
-    (λ k lt. no_params f env names (target_at f c.args.block k) c.requires.well_formed.1 asks
-    (edge_block f env c.requires.well_formed.1 c.args.block k c.requires.block lt)) in
-    subst (λ (x : StateValue). IsSpillFreeFrom names f i c.process_branch.new.self.registers x) (sym same)
-    (subst (λ (r : AllocatableRegsValue). IsSpillFreeFrom names f i r m) (sym c.in_ok-process_branch.ensures.registers) done)

@@ -6,7 +6,6 @@ use Rattle.regalloc2_fastalloc_walk.specs.StateView.{tables_of}
 use Rattle.regalloc2_fastalloc_proofs.proofs.Operands.RecordOverState.{no_register_slot}
 use Rattle.regalloc2_fastalloc_proofs.proofs.Operands.SelectedPlace.{wanted_rest}
 use Rattle.regalloc2_fastalloc_state.specs.declared.request.Requirement.TheVariants.{AnyPlace, AnyReg, InPReg}
-use Rattle.regalloc2_fastalloc_walk.specs.SpillFree.{least_recently_used_free}
 use Rattle.regalloc2_fastalloc_walk.proofs.state.State.alloc_new_place.Goals as goal
 
 pub returns-in-InPReg-clause-outcome : goal.returns-in-InPReg-clause-outcome
@@ -14,7 +13,8 @@ returns-in-InPReg-clause-outcome g c = fixed c.in-InPReg.preg c.in-InPReg.is c.r
 
 pub returns-in-Some : goal.returns-in-Some
 returns-in-Some g c = record {
-  outcome = free c.in-Some.preg c.in-Some.ensures.asks c.in-Some.ensures.may_hold c.in-Some.ensures.free c.reg-in-Some.ensures refl;
+  outcome = free c.in-Some.preg c.in-Some.ensures.asks c.requires.away c.in-Some.ensures.may_hold c.in-Some.ensures.free c.in-Some.ensures.chosen
+      c.reg-in-Some.ensures refl;
   affordable = λ requirement r e. subst (IsAffordable c.args.inst_regs.now (tables_of c.args.self.now))
       (same_register c.in-Some.preg r (sym c.reg-in-Some.ensures ∙ e)) (c.in-Some.ensures.affordable requirement);
   there = λ e. let f : InRegister c.in-Some.preg ≡ NoPlace = sym c.reg-in-Some.ensures ∙ e in absurd cc;
@@ -22,8 +22,6 @@ returns-in-Some g c = record {
   edits = refl;
   machine = record { allocatable = refl; fixed_stack = refl; dedicated_scratch = refl; sizes = refl; vregs = refl; num_temp_slots = refl };
   err = tt;
-  registers = refl;
-  chooses = λ any unsuited. (let o = c.in-Some.ensures.oldest in least_recently_used_free o.0 c.in-Some.preg unsuited o.1 o.2 c.reg-in-Some.ensures);
   awaited = λ any def r e. c.in-Some.ensures.awaited any def;
 }
 
@@ -39,6 +37,7 @@ returns-clause-outcome g c = slot
       vregs = c.get_spillslot.ensures.vregs;
       num_temp_slots = c.get_spillslot.ensures.num_temp_slots;
     })
+    refl
 
 -- any register was asked for, and none is free
 pub returns-then-is_any_register : goal.returns-then-is_any_register
@@ -49,18 +48,9 @@ returns-then-is_any_register g c = record {
   edits = refl;
   machine = record { allocatable = refl; fixed_stack = refl; dedicated_scratch = refl; sizes = refl; vregs = refl; num_temp_slots = refl };
   err = tt;
-  registers = tt;
-  chooses = tt;
   awaited = tt;
   outcome = λ same. (let any = c.is_any_register.ensures.0 c.if-is_any_register.true in (any, c.in_default-select_free_reg.ensures.none any));
 }
-
--- where any register was asked for, none is asked for by name, and no slot is made
-pub returns-in-InPReg-clause-chooses : goal.returns-in-InPReg-clause-chooses
-returns-in-InPReg-clause-chooses g c = λ any unsuited. absurd (let no : InPReg c.in-InPReg.preg ≡ AnyReg = sym c.in-InPReg.is ∙ any in cc)
-
-pub returns-clause-chooses : goal.returns-clause-chooses
-returns-clause-chooses g c = λ any unsuited. absurd (let t = c.is_any_register.ensures.1 any in let f = c.if-is_any_register.false in cc)
 
 -- a register is taken only for a vreg that is somewhere
 pub returns-in-InPReg-clause-awaited : goal.returns-in-InPReg-clause-awaited

@@ -9,8 +9,8 @@ use Rattle.regalloc2_fastalloc_walk.proofs.state.State.alloc_scratch_reg.Goals a
 
 pub returns-clause-outcome : goal.returns-clause-outcome
 returns-clause-outcome g c =
-    let r : Register = c.in-Some-least_recently_used.preg in
-    let f = c.in-Some-least_recently_used.ensures.found in
+    let r : Register = c.in-Some-choose_register.preg in
+    let f = c.in-Some-choose_register.ensures.found in
     let free : IsAvailableAt c.args.inst_regs.now c.both.result r = c.available_pregs-free.ensures.free r f.free_there in
     found (sym c.dedicated_scratch.ensures ∙ c.in_default.is) (sym c.scratch_of.ensures ∙ c.in_default-scratch_of.is)
     (record { of_class = f.of_class; small = f.small; allocatable = f.allocatable })

@@ -104,9 +104,3 @@ returns-in_err-store_branch_defs-clause-outcome g c =
     rw e.1 (λ lacks. at_stores m (subst (λ (n : ℕ). ReloadsAtBegin (before n) (block_at f c.args.block).params old m) first
     (subst (λ (vs : List VirtualRegister). ReloadsAtBegin (before c.first-first.result) vs old m) c.block_params.ensures c.in_ok-reload_at_begin.ensures.outcome))
     (c.in_err-store_branch_defs.ensures.outcome (sym e.2 ∙ lacks)))
-
--- where no vreg has a location, and nothing is stored, nothing changes
-pub returns-clause-nobody : goal.returns-clause-nobody
-returns-clause-nobody g c = λ nobody none nothing.
-    c.in_ok-store_branch_defs.ensures.none (λ e k j v edge stored. nothing e k j v c.reload_at_begin.new.self.slots edge stored)
-    ∙ c.in_ok-reload_at_begin.ensures.nobody nobody (c.block_params.ensures ∙ none)

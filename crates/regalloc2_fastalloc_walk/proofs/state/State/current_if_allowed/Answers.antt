@@ -1,13 +1,23 @@
-use Rattle.std.proofs.Common.{◌≢◌, sym, subst, ◌∙◌}
-use Rattle.regalloc2_names.specs.Place.{Place, NoPlace}
+use Rattle.std.proofs.Common.{◌≡◌, ◌≢◌, true, refl, sym, subst, ◌∙◌}
+use Rattle.regalloc2_names.specs.Place.{Place, NoPlace, InRegister, InSlot, is_no_place}
 use Rattle.regalloc2_fastalloc_state.specs.declared.request.Requirement.{Requirement}
 use Rattle.regalloc2_fastalloc_state.specs.declared.request.Requirement.TheVariants.{AnyPlace, AnyReg}
 use Rattle.regalloc2_fastalloc_proofs.specs.InstSteps.{StateValue, MeetsRequirement}
 use Rattle.regalloc2_fastalloc_walk.specs.StateView.{tables_of}
-use Rattle.regalloc2_fastalloc_walk.proofs.OperandTakesFreeReg.{no_place_is, suits_none}
 use Rattle.regalloc2_fastalloc_walk.proofs.state.State.current_if_allowed.Goals.{then-is_none-via-then-is_none}
 use Rattle.regalloc2_fastalloc_walk.proofs.state.State.current_if_allowed.Goals.{then-is_none-via-else-is_none+then-not-allocd_within_constraint}
 use Rattle.regalloc2_fastalloc_walk.proofs.state.State.current_if_allowed.Goals as goal
+
+-- no place at all doesn't meet the requirement of any register
+suits_none : (t : StateValue) (p : Place) → p ≡ NoPlace → MeetsRequirement t AnyReg p → ⊥
+unfolding MeetsRequirement
+suits_none t p e (r, is, apart) = (let wrong : NoPlace ≡ InRegister r = sym e ∙ is in cc)
+
+-- a place that tests as none is none
+no_place_is : (p : Place) → is_no_place p ≡ true → p ≡ NoPlace
+no_place_is NoPlace e = refl
+no_place_is (InRegister r) e = absurd cc
+no_place_is (InSlot n) e = absurd cc
 
 pub returns-then-leaves_enough_regs-clause-suits : goal.returns-then-leaves_enough_regs-clause-suits
 returns-then-leaves_enough_regs-clause-suits g

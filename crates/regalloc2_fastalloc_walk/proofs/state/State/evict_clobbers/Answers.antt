@@ -18,7 +18,6 @@ loop-preg-init g c = record {
   later = c.requires;
   long = refl;
   machine = record { allocatable = refl; fixed_stack = refl; dedicated_scratch = refl; sizes = refl; vregs = refl; num_temp_slots = refl };
-  registers = refl;
 }
 
 pub evict_preg-requires : goal.evict_preg-requires
@@ -43,7 +42,6 @@ loop-preg-preserved g c = record {
         vregs = b.vregs ∙ a.vregs;
         num_temp_slots = b.num_temp_slots ∙ a.num_temp_slots;
       });
-  registers = c.in_ok-evict_preg.ensures.registers ∙ c.loop-preg.invariant.registers;
 }
 
 pub returns-then-has_none-clause-outcome : goal.returns-then-has_none-clause-outcome

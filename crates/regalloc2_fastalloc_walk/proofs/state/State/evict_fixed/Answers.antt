@@ -6,7 +6,9 @@ use Rattle.regalloc2_fastalloc_proofs.specs.InstSteps.{StateValue, EvictsOthers,
 use Rattle.regalloc2_fastalloc_walk.specs.StateView.{tables_of}
 use Rattle.regalloc2_fastalloc_proofs.proofs.Evictions.EvictClobbers.{machine_then}
 use Rattle.regalloc2_validate.proofs.OperandReads.{read_operand, read_vreg}
+use Rattle.std.proofs.lemmas.Result.{err_from_is_err_and}
 use Rattle.regalloc2_fastalloc_walk.proofs.RegsReserved.{evicts_none}
+use Rattle.regalloc2_fastalloc_walk.proofs.Steps.{stops_others}
 use Rattle.regalloc2_fastalloc_walk.proofs.state.State.evict_fixed.Goals as goal
 use Rattle.regalloc2_fastalloc_walk.proofs.state.State.evict_fixed.Goals.{in-FixedReg+in_ok-evict_others-in-FixedReg}
 use Rattle.regalloc2_fastalloc_walk.proofs.state.State.evict_fixed.Goals.{in-Reuse+in-Some+in_ok-evict_preg-in-Reuse}
@@ -20,12 +22,11 @@ returns-then-not-any_fixed-clause-outcome g c =
 
 pub loop-k-init : goal.loop-k-init
 loop-k-init g c = record {
-  cleared = none_cleared;
+  cleared = none_cleared c.args.self.now.registers.lrus (λ none. refl);
   awaited = refl;
   later = c.requires.later;
   long = refl;
   machine = record { allocatable = refl; fixed_stack = refl; dedicated_scratch = refl; sizes = refl; vregs = refl; num_temp_slots = refl };
-  registers = refl;
 }
 
 pub loop-k-preserved : goal.loop-k-preserved
@@ -50,7 +51,6 @@ loop-k-preserved g c =
             later = w.in_ok-evict_others-in-FixedReg.ensures.step.later;
             long = w.in_ok-evict_others-in-FixedReg.ensures.step.long ∙ h.long;
             machine = machine_then begin m n h.machine w.in_ok-evict_others-in-FixedReg.ensures.step.machine;
-            registers = w.in_ok-evict_others-in-FixedReg.ensures.registers ∙ h.registers;
           })
       | in-Reuse+in-Some+in_ok-evict_preg-in-Reuse w ↦ rw (w.self-is, w.inst_regs-is) (
           let n : StateValue = tables_of w.evict_preg.new.self in
@@ -62,7 +62,6 @@ loop-k-preserved g c =
             later = w.in_ok-evict_preg-in-Reuse.ensures.step.later;
             long = w.in_ok-evict_preg-in-Reuse.ensures.step.long ∙ h.long;
             machine = machine_then begin m n h.machine w.in_ok-evict_preg-in-Reuse.ensures.step.machine;
-            registers = w.in_ok-evict_preg-in-Reuse.ensures.registers ∙ h.registers;
           })
       | in-Reuse+in_default-reused_register w ↦ rw (w.self-is, w.inst_regs-is) (record {
         cleared = not_fixed k c.loop-k.inst_regs m h.cleared (λ r e. let x = sym (at ∙ w.in-Reuse.is) ∙ e in cc)
@@ -71,7 +70,6 @@ loop-k-preserved g c =
         later = h.later;
         long = h.long;
         machine = h.machine;
-        registers = h.registers;
       })
       | in_default w ↦ rw (w.self-is, w.inst_regs-is) (record {
         cleared = not_fixed k c.loop-k.inst_regs m h.cleared (λ r e. w.in_default.not-FixedReg r (sym at ∙ e))
@@ -80,7 +78,6 @@ loop-k-preserved g c =
         later = h.later;
         long = h.long;
         machine = h.machine;
-        registers = h.registers;
       })
     ]
 
@@ -89,3 +86,16 @@ returns-clause-outcome g c =
     let e : c.loop-k.k ≡ length c.args.operands.now = omega arith in
     subst (λ k. EvictsFixed c.args.point c.args.operands.now c.args.inst_regs.now (tables_of c.args.self.now) k c.loop-k.inst_regs (tables_of c.loop-k.self)) e
     c.loop-k.invariant.cleared
+
+-- a register can't be emptied of others
+pub returns-in_err-evict_others-in-FixedReg-clause-outcome : goal.returns-in_err-evict_others-in-FixedReg-clause-outcome
+returns-in_err-evict_others-in-FixedReg-clause-outcome g c =
+    let e = err_from_is_err_and c.from_residual.result c.from_residual.ensures.1 in
+    rw e.1 (λ same. record {
+      index = c.loop-k.k;
+      given = c.loop-k.inst_regs;
+      middle = tables_of c.loop-k.self;
+      inside = c.loop-k-test.true;
+      done = c.loop-k.invariant.cleared;
+      stops = (c.in-FixedReg.preg, stops_others (c.in_err-evict_others-in-FixedReg.ensures.outcome (sym e.2 ∙ same)));
+    })

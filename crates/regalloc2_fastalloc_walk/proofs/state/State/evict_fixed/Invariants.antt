@@ -11,5 +11,4 @@ invariant-loop-k g l = record {
   later : AllAtOrAfter l.point l.self.edits;
   long : length l.self.places.vreg_allocs ≡ length l.fn.self.places.vreg_allocs;
   machine : SameMachine (tables_of l.fn.self) (tables_of l.self);
-  registers : l.self.registers ≡ l.fn.self.registers;
 }

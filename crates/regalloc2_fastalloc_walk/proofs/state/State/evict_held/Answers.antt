@@ -37,7 +37,7 @@ returns-clause-outcome g c =
       vregs = c.get_spillslot.ensures.vregs;
       num_temp_slots = c.get_spillslot.ensures.num_temp_slots;
     })
-    (subst (X c.args.vreg.class) c.reg.ensures (subst (λ (k : RegClass). X k c.reg.result) c.class.ensures c.in_ok-add_move.ensures.outcome))
+    refl (subst (X c.args.vreg.class) c.reg.ensures (subst (λ (k : RegClass). X k c.reg.result) c.class.ensures c.in_ok-add_move.ensures.outcome))
 
 pub returns-in_err-add_move-clause-outcome : goal.returns-in_err-add_move-clause-outcome
 returns-in_err-add_move-clause-outcome g c =
@@ -55,7 +55,7 @@ returns-in_err-add_move-clause-outcome g c =
       vregs = c.get_spillslot.ensures.vregs;
       num_temp_slots = c.get_spillslot.ensures.num_temp_slots;
     })
-    (subst (X c.args.vreg.class) c.reg.ensures (subst (λ (k : RegClass). X k c.reg.result) c.class.ensures
+    refl (subst (X c.args.vreg.class) c.reg.ensures (subst (λ (k : RegClass). X k c.reg.result) c.class.ensures
     (c.in_err-add_move.ensures.outcome (sym e.2 ∙ lacks)))))
 
 pub returns-clause-empty : goal.returns-clause-empty

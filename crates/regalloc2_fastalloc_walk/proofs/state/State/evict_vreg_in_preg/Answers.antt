@@ -30,4 +30,4 @@ returns-clause-outcome g c =
       sizes = c.get_spillslot.ensures.sizes;
       vregs = c.get_spillslot.ensures.vregs;
       num_temp_slots = c.get_spillslot.ensures.num_temp_slots;
-    })
+    }) refl

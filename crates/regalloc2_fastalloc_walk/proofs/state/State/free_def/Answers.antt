@@ -41,6 +41,7 @@ returns-clause-outcome g c =
       slots = refl;
       edits = refl;
       machine = record { allocatable = refl; fixed_stack = refl; dedicated_scratch = refl; sizes = refl; vregs = refl; num_temp_slots = refl };
+      lrus = refl;
       awaited = a3;
       stored = s4;
     }

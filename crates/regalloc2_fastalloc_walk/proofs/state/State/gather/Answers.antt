@@ -26,7 +26,6 @@ loop-k-init g c = record {
   later = c.requires.later;
   long = refl;
   machine = record { allocatable = refl; fixed_stack = refl; dedicated_scratch = refl; sizes = refl; vregs = refl; num_temp_slots = refl };
-  registers = refl;
 }
 
 pub block_params-params-requires : goal.block_params-params-requires
@@ -116,7 +115,6 @@ loop-k-preserved g c =
       later = c.in_ok-gather_edge.ensures.step.later;
       long = c.in_ok-gather_edge.ensures.step.long ∙ c.loop-k.invariant.long;
       machine = same_then (tables_of c.args.self.now) m n c.loop-k.invariant.machine c.gather_edge.ensures.step.machine;
-      registers = c.in_ok-gather_edge.ensures.registers ∙ c.loop-k.invariant.registers;
     }
 
 pub returns-clause-outcome : goal.returns-clause-outcome

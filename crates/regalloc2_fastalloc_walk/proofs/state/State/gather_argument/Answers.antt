@@ -25,6 +25,7 @@ returns-clause-outcome g c =
         slot = c.in_ok-to.ensures.ok;
         places = refl;
         edits = refl;
+        lrus = refl;
         machine = record {
           allocatable = refl;
           fixed_stack = refl;

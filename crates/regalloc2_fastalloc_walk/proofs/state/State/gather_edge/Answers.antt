@@ -23,7 +23,6 @@ loop-j-init g c =
       later = subst (λ (p : ℕ). AllAtOrAfter p c.args.self.now.edits) (sym at) c.requires.later;
       long = refl;
       machine = record { allocatable = refl; fixed_stack = refl; dedicated_scratch = refl; sizes = refl; vregs = refl; num_temp_slots = refl };
-      registers = refl;
     }
 
 pub gather_argument-requires : goal.gather_argument-requires
@@ -72,7 +71,7 @@ loop-j-preserved g c =
                   subst (λ (v : VirtualRegister). AreOf w.gather_argument.new.moves.int w.gather_argument.new.moves.float w.gather_argument.new.moves.vector
                       (x.0 ++ one v ∷ [])) argument (y.3 x.0 x.1),
                   one_gathered j x.0 y.0 y.1 c.loop-j.inst_regs w.gather_argument.new.inst_regs m n o c.loop-j-test.true x.2
-                      (subst (λ (v : VirtualRegister). GetsSpillSlot m.slots n.slots v y.0) param y.2.slot) y.2.places y.2.edits y.2.machine
+                      (subst (λ (v : VirtualRegister). GetsSpillSlot m.slots n.slots v y.0) param y.2.slot) y.2.places y.2.edits y.2.machine y.2.lrus
                       (subst (λ (v : VirtualRegister). SpillsArgument c.before-point.result v y.1 c.loop-j.inst_regs w.gather_argument.new.inst_regs n o)
                       argument y.2.spills)
                       (λ own. let has = c.has.ensures.1 (subst (λ (v : VirtualRegister). IsOwnBy c.args.own.now.defs.now c.args.own.now.branch v)
@@ -82,7 +81,6 @@ loop-j-preserved g c =
             later = w.in_ok-gather_argument.ensures.step.later;
             long = w.in_ok-gather_argument.ensures.step.long ∙ c.loop-j.invariant.long;
             machine = same_then (tables_of c.args.self.now) m o c.loop-j.invariant.machine w.in_ok-gather_argument.ensures.step.machine;
-            registers = w.in_ok-gather_argument.ensures.registers ∙ c.loop-j.invariant.registers;
           })
       | else-not-has w ↦ rw (w.self-is, w.inst_regs-is, w.moves-is) (record {
         done = λ given is.
@@ -95,7 +93,6 @@ loop-j-preserved g c =
         later = c.loop-j.invariant.later;
         long = c.loop-j.invariant.long;
         machine = c.loop-j.invariant.machine;
-        registers = c.loop-j.invariant.registers;
       })
     ]
 

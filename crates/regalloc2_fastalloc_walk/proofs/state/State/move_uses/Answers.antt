@@ -25,7 +25,6 @@ loop-k-init g c = record {
   later = c.requires.later;
   long = refl;
   machine = record { allocatable = refl; fixed_stack = refl; dedicated_scratch = refl; sizes = refl; vregs = refl; num_temp_slots = refl };
-  registers = refl;
 }
 
 pub move_use-requires : goal.move_use-requires
@@ -83,7 +82,6 @@ loop-k-preserved-in-Continue-1 g c =
       long = c.in_ok-move_use.ensures.step.long ∙ c.loop-k.invariant.long;
       machine = same_then (tables_of c.args.self.now) (tables_of c.loop-k.self) (tables_of c.move_use.new.self) c.loop-k.invariant.machine
           c.in_ok-move_use.ensures.step.machine;
-      registers = c.in_ok-move_use.ensures.registers ∙ c.loop-k.invariant.registers;
     }
 
 -- one that doesn't is left alone
@@ -105,7 +103,6 @@ loop-k-preserved g c =
       later = c.loop-k.invariant.later;
       long = c.loop-k.invariant.long;
       machine = c.loop-k.invariant.machine;
-      registers = c.loop-k.invariant.registers;
     }
 
 pub returns-clause-outcome : goal.returns-clause-outcome

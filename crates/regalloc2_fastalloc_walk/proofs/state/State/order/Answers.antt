@@ -82,6 +82,7 @@ returns-clause-outcome g c =
       allocatable = s.registers.allocatable;
       fixed_stack = s.registers.fixed_stack;
       dedicated_scratch = s.registers.dedicated_scratch;
+      lrus = s.registers.lrus;
     } in
     let held : MayHold old c.args.class c.in-Some.borrowed = record {
       of_class = c.in-Some.ensures.found.0;
@@ -113,7 +114,9 @@ returns-clause-outcome g c =
       is = c.in_ok-resolved.ensures.resolved;
       made_so = c.in_ok-made.ensures.made;
     })
-    refl refl refl refl refl
+    refl refl refl refl refl refl
+    (λ none. let short : listed c.in_ok-resolved.resolved ≡ [] = c.in_ok-resolved.ensures.resolved.short (rw none (omega arith)) ∙ none in
+    let yes = c.are_none.ensures.none.1 short in let no = c.if-are_none.false in cc)
 
 -- moves of a class that has no allocatable register
 pub returns-in_default-clause-outcome : goal.returns-in_default-clause-outcome
@@ -128,16 +131,3 @@ returns-in_err-made-clause-outcome g c =
     let p = err_from_is_err_and c.from_residual-in_err-made.result c.from_residual-in_err-made.ensures.1 in
     rw p.1 (λ same. absurd (no_register (HasTooFewSlots c.temp_slots.result) _
     (slots_of_fault (HasTooFewSlots c.temp_slots.result) _ c.in_err-made.ensures.err) (sym p.2 ∙ same)))
-
--- no moves are made for none
-pub returns-then-are_none-clause-none : goal.returns-then-are_none-clause-none
-returns-then-are_none-clause-none g c = λ none. (
-  c.with_scratch.ensures.items ∙ ap (λ (p : Place). with_place p c.in_ok-resolved.resolved) c.none.ensures
-      ∙ c.if-are_none.ensures.same refl ∙ c.if-are_none.ensures.none.0 refl,
-  refl,
-)
-
-pub returns-clause-none : goal.returns-clause-none
-returns-clause-none g c = λ none.
-    let short : listed c.in_ok-resolved.resolved ≡ [] = c.in_ok-resolved.ensures.resolved.short (rw none (omega arith)) ∙ none in
-    absurd (let y = c.are_none.ensures.none.1 short in let n = c.if-are_none.false in cc)

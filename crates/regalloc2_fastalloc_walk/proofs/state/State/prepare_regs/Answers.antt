@@ -7,7 +7,8 @@ use Rattle.regalloc2_names.specs.Operand.{OperandValue}
 use Rattle.regalloc2_fastalloc_state.specs.StateParts.{AllAtOrAfter}
 use Rattle.regalloc2_fastalloc_proofs.specs.InstSteps.{StateValue, EvictsFixed, EvictsEach}
 use Rattle.regalloc2_fastalloc_proofs.specs.InstSteps.{no_register, EvictFixed, EvictEach, in_reserve, in_fixed, in_clobbers}
-use Rattle.regalloc2_fastalloc_proofs.proofs.Evictions.PushedAndRemoved.{same_of, same_then}
+use Rattle.regalloc2_fastalloc_proofs.proofs.Evictions.PushedAndRemoved.{same_then}
+use Rattle.regalloc2_fastalloc_proofs.proofs.Evictions.FixedUsed.{fails_from, fixed_from, same_used}
 use Rattle.regalloc2_fastalloc_walk.proofs.Steps.{fails_with, step_then_fails}
 use Rattle.regalloc2_fastalloc_walk.specs.StateView.{tables_of}
 use Rattle.regalloc2_fastalloc_walk.proofs.state.State.prepare_regs.Goals as goal
@@ -15,8 +16,8 @@ use Rattle.regalloc2_fastalloc_walk.proofs.state.State.prepare_regs.Goals as goa
 pub evict_fixed-requires : goal.evict_fixed-requires
 evict_fixed-requires g c =
     let at : c.after-point.result ≡ after c.args.cx.now.inst = c.after-point.ensures.point (λ e. omega (arith, c.requires.inst)) in
-    let same : tables_of c.remove_clobbers_from_available_pregs.new.self ≡ tables_of c.args.self.now = c.remove_clobbers_from_available_pregs.ensures.same
-    ∙ c.reserve.ensures.same in (
+    let same : tables_of c.remove_clobbers_from_available_pregs.new.self ≡ record (tables_of c.args.self.now) { lrus = c.reserve.new.self.registers.lrus } =
+    c.remove_clobbers_from_available_pregs.ensures.same ∙ c.reserve.ensures.same in (
       search rules,
       (
         subst (λ (t : StateValue). AllAtOrAfter c.after-point.result t.edits) (sym same)
@@ -29,8 +30,8 @@ pub returns-clause-outcome : goal.returns-clause-outcome
 returns-clause-outcome g c =
     let ops : List OperandValue = c.args.cx.now.operands.now in
     let at : c.after-point.result ≡ after c.args.cx.now.inst = c.after-point.ensures.point (λ e. omega (arith, c.requires.inst)) in
-    let same : tables_of c.remove_clobbers_from_available_pregs.new.self ≡ tables_of c.args.self.now = c.remove_clobbers_from_available_pregs.ensures.same
-    ∙ c.reserve.ensures.same in
+    let same : tables_of c.remove_clobbers_from_available_pregs.new.self ≡ record (tables_of c.args.self.now) { lrus = c.reserve.new.self.registers.lrus } =
+    c.remove_clobbers_from_available_pregs.ensures.same ∙ c.reserve.ensures.same in
     let F : ℕ → StateValue → Type 0 = λ p t. EvictsFixed p ops c.remove_clobbers_from_available_pregs.new.inst_regs t (length ops) c.evict_fixed.new.inst_regs
     (tables_of c.evict_fixed.new.self) in
     let C : ℕ → Type 0 = λ p. EvictsEach p (registers_of c.args.cx.now.clobbers) c.evict_fixed.new.inst_regs (tables_of c.evict_fixed.new.self)
@@ -42,8 +43,8 @@ returns-clause-outcome g c =
       middle = tables_of c.evict_fixed.new.self;
       reserves = c.in_ok-any_fixed.ensures.outcome;
       holds = c.remove_clobbers_from_available_pregs.ensures.removed;
-      fixed = subst (F (after c.args.cx.now.inst)) same
-          (subst (λ (p : ℕ). F p (tables_of c.remove_clobbers_from_available_pregs.new.self)) at c.in_ok-evict_fixed.ensures.outcome);
+      fixed = fixed_from c.in_ok-any_fixed.ensures.unused (subst (F (after c.args.cx.now.inst)) same
+          (subst (λ (p : ℕ). F p (tables_of c.remove_clobbers_from_available_pregs.new.self)) at c.in_ok-evict_fixed.ensures.outcome));
       emptied = subst C at c.in_ok-evict_clobbers.ensures.outcome;
       awaited = λ class. ap (λ (xs : List ℕ). slice_index xs (class_code class))
           (c.evict_clobbers.ensures.awaited ∙ c.evict_fixed.ensures.awaited ∙ c.remove_clobbers_from_available_pregs.ensures.removed.awaited)
@@ -53,36 +54,32 @@ returns-clause-outcome g c =
 pub returns-clause-step : goal.returns-clause-step
 returns-clause-step g c =
     let at : c.after-point.result ≡ after c.args.cx.now.inst = c.after-point.ensures.point (λ e. omega (arith, c.requires.inst)) in
-    let same : tables_of c.remove_clobbers_from_available_pregs.new.self ≡ tables_of c.args.self.now = c.remove_clobbers_from_available_pregs.ensures.same
-    ∙ c.reserve.ensures.same in
+    let same : tables_of c.remove_clobbers_from_available_pregs.new.self ≡ record (tables_of c.args.self.now) { lrus = c.reserve.new.self.registers.lrus } =
+    c.remove_clobbers_from_available_pregs.ensures.same ∙ c.reserve.ensures.same in
     record {
-      machine = same_then _ _ _ (same_then _ _ _ (same_of _ _ same) c.evict_fixed.ensures.step.machine) c.evict_clobbers.ensures.step.machine;
+      machine = same_then _ _ _ (same_then _ _ _ (same_used _ _ _ same) c.evict_fixed.ensures.step.machine) c.evict_clobbers.ensures.step.machine;
       later = subst (λ (p : ℕ). AllAtOrAfter p c.evict_clobbers.new.self.edits) at c.in_ok-evict_clobbers.ensures.step.later;
       long = c.in_ok-evict_clobbers.ensures.step.long ∙ c.in_ok-evict_fixed.ensures.step.long ∙ ap (λ (t : StateValue). length t.places.vreg_allocs) same;
       err = search rules;
     }
 
-pub returns-clause-registers : goal.returns-clause-registers
-returns-clause-registers g c = λ unfixed. c.in_ok-evict_clobbers.ensures.registers ∙ c.in_ok-evict_fixed.ensures.registers
-    ∙ c.remove_clobbers_from_available_pregs.ensures.registers ∙ c.in_ok-any_fixed.ensures.registers unfixed
-
 -- the machine stays, wherever the walk stops
 pub returns-in_err-any_fixed-clause-step : goal.returns-in_err-any_fixed-clause-step
 returns-in_err-any_fixed-clause-step g c =
     let e = err_from_is_err_and c.from_residual.result c.from_residual.ensures.1 in
-    fails_with c.from_residual.result c.args.self.now c.reserve.new.self e.1 e.2 (same_of _ _ c.reserve.ensures.same) c.in_err-any_fixed.ensures.err
+    fails_with c.from_residual.result c.args.self.now c.reserve.new.self e.1 e.2 (same_used _ _ _ c.reserve.ensures.same) c.in_err-any_fixed.ensures.err
 
 pub returns-in_err-evict_fixed-clause-step : goal.returns-in_err-evict_fixed-clause-step
 returns-in_err-evict_fixed-clause-step g c =
     let e = err_from_is_err_and c.from_residual-in_err-evict_fixed.result c.from_residual-in_err-evict_fixed.ensures.1 in
     step_then_fails c.from_residual-in_err-evict_fixed.result c.args.self.now c.remove_clobbers_from_available_pregs.new.self c.evict_fixed.new.self e.1 e.2
-    (same_of _ _ (c.remove_clobbers_from_available_pregs.ensures.same ∙ c.reserve.ensures.same)) c.in_err-evict_fixed.ensures.step
+    (same_used _ _ _ (c.remove_clobbers_from_available_pregs.ensures.same ∙ c.reserve.ensures.same)) c.in_err-evict_fixed.ensures.step
 
 pub returns-in_err-evict_clobbers-clause-step : goal.returns-in_err-evict_clobbers-clause-step
 returns-in_err-evict_clobbers-clause-step g c =
     let e = err_from_is_err_and c.from_residual-in_err-evict_clobbers.result c.from_residual-in_err-evict_clobbers.ensures.1 in
     step_then_fails c.from_residual-in_err-evict_clobbers.result c.args.self.now c.evict_fixed.new.self c.evict_clobbers.new.self e.1 e.2
-    (same_then _ _ _ (same_of _ _ (c.remove_clobbers_from_available_pregs.ensures.same ∙ c.reserve.ensures.same)) c.evict_fixed.ensures.step.machine)
+    (same_then _ _ _ (same_used _ _ _ (c.remove_clobbers_from_available_pregs.ensures.same ∙ c.reserve.ensures.same)) c.evict_fixed.ensures.step.machine)
     c.in_err-evict_clobbers.ensures.step
 
 -- what is lacking
@@ -97,13 +94,14 @@ returns-in_err-evict_fixed-clause-outcome g c =
     let i : ℕ = c.args.cx.now.inst in
     let at : c.after-point.result ≡ after i = c.after-point.ensures.point (λ e. omega (arith, c.requires.inst)) in
     let old : StateValue = tables_of c.args.self.now in
-    let same : tables_of c.remove_clobbers_from_available_pregs.new.self ≡ old = c.remove_clobbers_from_available_pregs.ensures.same ∙ c.reserve.ensures.same in
+    let same : tables_of c.remove_clobbers_from_available_pregs.new.self ≡ record old { lrus = c.reserve.new.self.registers.lrus } =
+    c.remove_clobbers_from_available_pregs.ensures.same ∙ c.reserve.ensures.same in
     let X : ℕ → StateValue → Type 0 = λ p t. EvictFixed p ops c.remove_clobbers_from_available_pregs.new.inst_regs t no_register in
     let e = err_from_is_err_and c.from_residual-in_err-evict_fixed.result c.from_residual-in_err-evict_fixed.ensures.1 in
     rw e.1 (λ lacks. in_fixed c.reserve.new.inst_regs c.remove_clobbers_from_available_pregs.new.inst_regs c.in_ok-any_fixed.ensures.outcome
     c.remove_clobbers_from_available_pregs.ensures.removed
-    (subst (X (after i)) same (subst (λ (p : ℕ). X p (tables_of c.remove_clobbers_from_available_pregs.new.self)) at
-    (c.in_err-evict_fixed.ensures.outcome (sym e.2 ∙ lacks)))))
+    (fails_from c.in_ok-any_fixed.ensures.unused (subst (X (after i)) same
+    (subst (λ (p : ℕ). X p (tables_of c.remove_clobbers_from_available_pregs.new.self)) at (c.in_err-evict_fixed.ensures.outcome (sym e.2 ∙ lacks))))))
 
 pub returns-in_err-evict_clobbers-clause-outcome : goal.returns-in_err-evict_clobbers-clause-outcome
 returns-in_err-evict_clobbers-clause-outcome g c =
@@ -111,11 +109,12 @@ returns-in_err-evict_clobbers-clause-outcome g c =
     let i : ℕ = c.args.cx.now.inst in
     let at : c.after-point.result ≡ after i = c.after-point.ensures.point (λ e. omega (arith, c.requires.inst)) in
     let old : StateValue = tables_of c.args.self.now in
-    let same : tables_of c.remove_clobbers_from_available_pregs.new.self ≡ old = c.remove_clobbers_from_available_pregs.ensures.same ∙ c.reserve.ensures.same in
+    let same : tables_of c.remove_clobbers_from_available_pregs.new.self ≡ record old { lrus = c.reserve.new.self.registers.lrus } =
+    c.remove_clobbers_from_available_pregs.ensures.same ∙ c.reserve.ensures.same in
     let F : ℕ → StateValue → Type 0 = λ p t. EvictsFixed p ops c.remove_clobbers_from_available_pregs.new.inst_regs t (length ops) c.evict_fixed.new.inst_regs
     (tables_of c.evict_fixed.new.self) in
-    let fixed : F (after i) old = subst (F (after i)) same
-    (subst (λ (p : ℕ). F p (tables_of c.remove_clobbers_from_available_pregs.new.self)) at c.in_ok-evict_fixed.ensures.outcome) in
+    let fixed : F (after i) old = fixed_from c.in_ok-any_fixed.ensures.unused (subst (F (after i)) same
+    (subst (λ (p : ℕ). F p (tables_of c.remove_clobbers_from_available_pregs.new.self)) at c.in_ok-evict_fixed.ensures.outcome)) in
     let e = err_from_is_err_and c.from_residual-in_err-evict_clobbers.result c.from_residual-in_err-evict_clobbers.ensures.1 in
     rw e.1 (λ lacks. in_clobbers c.reserve.new.inst_regs c.remove_clobbers_from_available_pregs.new.inst_regs c.evict_fixed.new.inst_regs
     (tables_of c.evict_fixed.new.self) c.in_ok-any_fixed.ensures.outcome c.remove_clobbers_from_available_pregs.ensures.removed fixed

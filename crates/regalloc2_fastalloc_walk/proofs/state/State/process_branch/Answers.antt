@@ -15,7 +15,6 @@ use Rattle.regalloc2_fastalloc_proofs.proofs.Branches.ArgMovesAreParallel.{apart
 use Rattle.regalloc2_fastalloc_proofs.proofs.Safety.StateKept.{lends_then, none_lends, same_lends}
 use Rattle.regalloc2_fastalloc_proofs.proofs.Branches.ArgMovesAreParallel.{pushes_long}
 use Rattle.regalloc2_fastalloc_state.proofs.SpillSlotUnits.{lacks_then}
-use Rattle.regalloc2_fastalloc_walk.proofs.BlockSpillFree.{gathers_none, of_none}
 use Rattle.regalloc2_fastalloc_walk.proofs.NothingPassed.{processes_nothing}
 use Rattle.regalloc2_fastalloc_walk.proofs.state.State.process_branch.Goals as goal
 
@@ -154,14 +153,3 @@ returns-in_err-push_gathered-clause-outcome g c =
       | inr (inl a) ↦ in_order Float u m m x.0 x.2 refl (subst (λ (ms : Moves). LacksMoveReg Float ms m) x.1.float a)
       | inr (inr a) ↦ in_order Vector u m m x.0 x.2 refl (subst (λ (ms : Moves). LacksMoveReg Vector ms m) x.1.vector a)
     ])
-
--- edges to blocks without parameters pass nothing
-pub returns-clause-none : goal.returns-clause-none
-returns-clause-none g c = λ empty.
-    let f = g.F.Function.function c.args.cx.now.f.now in
-    let m : StateValue = tables_of c.gather.new.self in
-    let x = c.in_ok-moves.ensures.outcome in
-    let none = gathers_none f c.args.block (before c.args.inst) c.args.inst_regs.now (tables_of c.args.self.now) (length (block_at f c.args.block).succs)
-    c.gather.new.inst_regs m x.0 empty x.2 in
-    c.in_ok-push_gathered.ensures.none (of_none Int x.0 c.in_ok-moves.moves.int none.1 x.1.int) (of_none Float x.0 c.in_ok-moves.moves.float none.1 x.1.float)
-    (of_none Vector x.0 c.in_ok-moves.moves.vector none.1 x.1.vector) ∙ none.0

@@ -12,7 +12,6 @@ use Rattle.regalloc2_fastalloc_walk.proofs.Steps.{step_ok}
 use Rattle.regalloc2_fastalloc_walk.specs.StateView.{tables_of}
 use Rattle.regalloc2_validate.proofs.OperandReads.{read_operand}
 use Rattle.regalloc2_fastalloc_proofs.proofs.Operands.OperandRules.{is_unmarked, op_in_tables, use_in_tables, one_register, one_use, one_def, one_reuse}
-use Rattle.regalloc2_fastalloc_walk.proofs.OperandsSpillFree.{reg_is_free, reg_no_reuse, reg_wanted, takes_at}
 use Rattle.regalloc2_fastalloc_proofs.specs.InstSteps.{requirement_of}
 use Rattle.regalloc2_fastalloc_walk.proofs.state.State.process_operand.Goals as goal
 
@@ -143,42 +142,3 @@ returns-in_err-here-2-clause-outcome g c =
     let e = err_from_is_err_and c.from_residual-in_err-here-2.result c.from_residual-in_err-here-2.ensures.1 in
     rw e.1 (λ same. stop_def c.index-operands-k.result o c.def_request.ensures at (sym c.is_def.ensures ∙ c.if-not-is_def.false) (c.in_default-reused.ensures.none refl)
     (c.in_err-here-2.ensures.outcome (sym e.2 ∙ same)))
-
--- an operand under `Reg` takes its register
-pub returns-in-Some-clause-takes : goal.returns-in-Some-clause-takes
-returns-in-Some-clause-takes g c = λ reg none.
-    let ops : List OperandValue = c.args.cx.now.operands.now in
-    let o : c.index-operands-k.result ≡ op_at ops c.args.k = read_operand ops c.args.k c.index-operands-k.result c.requires.inside c.index-operands-k.is in
-    absurd (reg_is_free c.index-operands-k.result c.in-Some.preg (ap (λ (x : OperandValue). x.constraint) o ∙ reg)
-    (sym c.as_fixed_nonallocatable.ensures ∙ c.in-Some.is))
-
-pub returns-then-not-is_def-clause-takes : goal.returns-then-not-is_def-clause-takes
-returns-then-not-is_def-clause-takes g c = λ reg none.
-    let ops : List OperandValue = c.args.cx.now.operands.now in
-    let here = c.args.here.now in
-    let o : c.index-operands-k.result ≡ op_at ops c.args.k = read_operand ops c.args.k c.index-operands-k.result c.requires.inside c.index-operands-k.is in
-    let lt : c.args.k < length here = omega (arith, c.requires.inside, c.requires.here_long) in
-    let h : c.index-here-k.result ≡ NoPlace = get_or_read here c.args.k c.index-here-k.result lt c.index-here-k.is NoPlace ∙ none in
-    let w = reg_wanted c.index-operands-k.result c.index-here-k.result c.use_request-request.result (ap (λ (x : OperandValue). x.constraint) o ∙ reg) h
-    c.use_request-request.ensures in
-    takes_at c.args.inst_regs.now c.use_request-request.result.vreg (op_at ops c.args.k).vreg here c.args.k c.in_ok-here.field-0 (tables_of c.args.self.now)
-    c.args.self.now.registers c.alloc_use.new.self.registers (w.1 ∙ ap (λ (x : OperandValue). x.vreg) o) lt (c.in_ok-here.ensures.takes w.0)
-
-pub returns-in-Some-reused-clause-takes : goal.returns-in-Some-reused-clause-takes
-returns-in-Some-reused-clause-takes g c = λ reg none.
-    let ops : List OperandValue = c.args.cx.now.operands.now in
-    let o : c.index-operands-k.result ≡ op_at ops c.args.k = read_operand ops c.args.k c.index-operands-k.result c.requires.inside c.index-operands-k.is in
-    absurd (reg_no_reuse (op_at ops c.args.k) c.in-Some-reused.index reg (sym (ap (λ (x : OperandValue). x.constraint) o) ∙ c.in-Some-reused.ensures.some))
-
-pub returns-clause-takes : goal.returns-clause-takes
-returns-clause-takes g c = λ reg none.
-    let ops : List OperandValue = c.args.cx.now.operands.now in
-    let here = c.args.here.now in
-    let o : c.index-operands-k.result ≡ op_at ops c.args.k = read_operand ops c.args.k c.index-operands-k.result c.requires.inside c.index-operands-k.is in
-    let lt : c.args.k < length here = omega (arith, c.requires.inside, c.requires.here_long) in
-    let p = c.def_request.result in
-    takes_at c.args.inst_regs.now p.vreg (op_at ops c.args.k).vreg here c.args.k c.in_ok-here-2.field-0 (tables_of c.args.self.now) c.args.self.now.registers
-    c.alloc_def_op-2.new.self.registers
-    (ap (λ (x : OperandRequest). x.vreg) c.def_request.ensures ∙ ap (λ (x : OperandValue). x.vreg) o) lt
-    (c.in_ok-here-2.ensures.takes (ap (λ (x : OperandRequest). x.requirement) c.def_request.ensures ∙ ap (λ (x : OperandValue). requirement_of x.constraint) o
-    ∙ ap requirement_of reg))

@@ -4,7 +4,8 @@ use Rattle.regalloc2_validate.specs.Constraints.{op_at}
 use Rattle.regalloc2_fastalloc_walk.specs.StateView.{tables_of}
 use Rattle.regalloc2_fastalloc_walk.proofs.PickedInTurn.{is_there}
 use Rattle.regalloc2_fastalloc_proofs.proofs.Evictions.PushedAndRemoved.{same_then}
-use Rattle.regalloc2_fastalloc_walk.proofs.OperandsProcessed.{processed_all, processed_more, processed_next, processed_none}
+use Rattle.regalloc2_fastalloc_walk.proofs.OperandsProcessed.{processed_all, processed_more, processed_next}
+use Rattle.regalloc2_fastalloc_proofs.specs.InstSteps.{none_placed}
 use Rattle.regalloc2_fastalloc_walk.proofs.state.State.process_operands_at.Goals as goal
 
 pub loop-k-init : goal.loop-k-init
@@ -13,8 +14,7 @@ loop-k-init g c = record {
     0,
     omega arith,
     sym (c.into_iter-k-iterator.ensures.into_iter_gives ∙ c.operands_at-k-items.ensures),
-    processed_none c.args.cx.now.inst c.args.cx.now.ends_block c.args.pos c.args.cx.now.operands.now c.args.here.now c.args.inst_regs.now
-        (tables_of c.args.self.now) c.args.self.now.registers,
+    none_placed,
   );
   later = c.requires.later;
   long = refl;
@@ -25,7 +25,7 @@ pub process_operand_allocation-requires : goal.process_operand_allocation-requir
 process_operand_allocation-requires g c =
     let h = c.loop-k.invariant.done in
     let met = processed_next c.args.cx.now.inst c.args.cx.now.ends_block c.args.pos c.args.cx.now.operands.now c.args.here.now c.args.inst_regs.now
-    (tables_of c.args.self.now) c.args.self.now.registers
+    (tables_of c.args.self.now)
     c.loop-k.k-iterator h.1 h.2 c.in-Some.ensures.steps h.3 in (
       search rules,
       (
@@ -47,7 +47,7 @@ pub loop-k-preserved : goal.loop-k-preserved
 loop-k-preserved g c =
     let h = c.loop-k.invariant.done in
     let met = processed_next c.args.cx.now.inst c.args.cx.now.ends_block c.args.pos c.args.cx.now.operands.now c.args.here.now c.args.inst_regs.now
-    (tables_of c.args.self.now) c.args.self.now.registers
+    (tables_of c.args.self.now)
     c.loop-k.k-iterator h.1 h.2 c.in-Some.ensures.steps h.3 in
     record {
       done = (
@@ -55,8 +55,7 @@ loop-k-preserved g c =
         omega (arith, met.inside),
         sym met.after,
         processed_more c.args.cx.now.inst c.args.cx.now.ends_block c.args.pos c.args.cx.now.operands.now c.args.here.now c.args.inst_regs.now
-            (tables_of c.args.self.now) c.args.self.now.registers met.inside refl c.requires.here_long met.passes
-            c.in_ok-process_operand_allocation.ensures.takes c.in_ok-process_operand_allocation.ensures.outcome met.so_far,
+            (tables_of c.args.self.now) met.passes c.in_ok-process_operand_allocation.ensures.outcome met.so_far,
       );
       later = c.in_ok-process_operand_allocation.ensures.step.later;
       long = c.in_ok-process_operand_allocation.ensures.step.long ∙ c.loop-k.invariant.long;
@@ -67,23 +66,16 @@ loop-k-preserved g c =
 pub returns-clause-outcome : goal.returns-clause-outcome
 returns-clause-outcome g c =
     let h = c.loop-k.invariant.done in
-    (processed_all c.args.cx.now.inst c.args.cx.now.ends_block c.args.pos c.args.cx.now.operands.now c.args.here.now c.args.inst_regs.now
-    (tables_of c.args.self.now) c.args.self.now.registers
-    c.loop-k.k-iterator h.1 h.2 c.in-None.ensures.steps.0 h.3).done
-
-pub returns-clause-spill_free : goal.returns-clause-spill_free
-returns-clause-spill_free g c =
-    let h = c.loop-k.invariant.done in
-    (processed_all c.args.cx.now.inst c.args.cx.now.ends_block c.args.pos c.args.cx.now.operands.now c.args.here.now c.args.inst_regs.now
-    (tables_of c.args.self.now) c.args.self.now.registers
-    c.loop-k.k-iterator h.1 h.2 c.in-None.ensures.steps.0 h.3).spill_free
+    processed_all c.args.cx.now.inst c.args.cx.now.ends_block c.args.pos c.args.cx.now.operands.now c.args.here.now c.args.inst_regs.now
+    (tables_of c.args.self.now)
+    c.loop-k.k-iterator h.1 h.2 c.in-None.ensures.steps.0 h.3
 
 -- an operand can't be placed
 pub returns-in_err-process_operand_allocation-clause-outcome : goal.returns-in_err-process_operand_allocation-clause-outcome
 returns-in_err-process_operand_allocation-clause-outcome g c =
     let h = c.loop-k.invariant.done in
     let met = processed_next c.args.cx.now.inst c.args.cx.now.ends_block c.args.pos c.args.cx.now.operands.now c.args.here.now c.args.inst_regs.now
-    (tables_of c.args.self.now) c.args.self.now.registers
+    (tables_of c.args.self.now)
     c.loop-k.k-iterator h.1 h.2 c.in-Some.ensures.steps h.3 in
     let e = err_from_is_err_and c.from_residual.result c.from_residual.ensures.1 in
     rw e.1 (λ same. record {
@@ -91,7 +83,7 @@ returns-in_err-process_operand_allocation-clause-outcome g c =
       given = (c.loop-k.here, c.loop-k.inst_regs);
       middle = tables_of c.loop-k.self;
       inside = met.inside;
-      done = met.so_far.done;
+      done = met.so_far;
       stops = (
         is_there c.args.pos (op_at c.args.cx.now.operands.now c.in-Some.k) met.passes,
         c.in_err-process_operand_allocation.ensures.outcome (sym e.2 ∙ same),

@@ -12,8 +12,8 @@ use Rattle.regalloc2_fastalloc_walk.proofs.state.State.process_operands_at.Given
 abbrev pub invariant-loop-k : goal.invariant-loop-k
 invariant-loop-k g l = record {
   done : (n : ℕ) × (n ≤ length l.cx.operands.now) × (left_from (is_at l.fn.pos) n l.cx.operands.now ≡ l.k-iterator)
-      × AreProcessed l.cx.inst l.cx.ends_block l.fn.pos l.cx.operands.now l.fn.here l.fn.inst_regs (tables_of l.fn.self) l.fn.self.registers l.here l.inst_regs
-      (tables_of l.self) l.self.registers n;
+      × AreProcessed l.cx.inst l.cx.ends_block l.fn.pos l.cx.operands.now l.fn.here l.fn.inst_regs (tables_of l.fn.self) l.here l.inst_regs
+      (tables_of l.self) n;
   later : AllAtOrAfter (after l.cx.inst) l.self.edits;
   long : length l.self.places.vreg_allocs ≡ length l.fn.self.places.vreg_allocs;
   machine : SameMachine (tables_of l.fn.self) (tables_of l.self);

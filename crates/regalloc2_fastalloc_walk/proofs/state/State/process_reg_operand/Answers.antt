@@ -12,7 +12,7 @@ use Rattle.regalloc2_fastalloc_walk.proofs.Steps.{step_ok}
 use Rattle.regalloc2_fastalloc_walk.specs.StateView.{tables_of}
 use Rattle.regalloc2_validate.proofs.OperandReads.{read_operand}
 use Rattle.regalloc2_fastalloc_proofs.proofs.Operands.OperandRules.{op_in_tables, use_in_tables, one_use, one_def}
-use Rattle.regalloc2_fastalloc_walk.proofs.OperandsSpillFree.{reg_not_nonallocatable, reg_no_reuse, reg_wanted, takes_at}
+use Rattle.regalloc2_fastalloc_walk.proofs.RegOperands.{reg_not_nonallocatable, reg_no_reuse}
 use Rattle.regalloc2_fastalloc_proofs.specs.InstSteps.{requirement_of}
 use Rattle.regalloc2_fastalloc_walk.proofs.state.State.process_reg_operand.Goals as goal
 
@@ -105,30 +105,3 @@ returns-in_err-here-2-clause-outcome g c =
     let e = err_from_is_err_and c.from_residual-in_err-here-2.result c.from_residual-in_err-here-2.ensures.1 in
     rw e.1 (λ same. stop_def c.index-operands-k.result o (c.reg_request-request.ensures.defined def) at def (λ n e. reg_no_reuse c.index-operands-k.result n reg e)
     (c.in_err-here-2.ensures.outcome (sym e.2 ∙ same)))
-
--- it takes its register
-pub returns-then-not-is_def-clause-takes : goal.returns-then-not-is_def-clause-takes
-returns-then-not-is_def-clause-takes g c =
-    let ops : List OperandValue = c.args.cx.now.operands.now in
-    let here = c.args.here.now in
-    let o : c.index-operands-k.result ≡ op_at ops c.args.k = read_operand ops c.args.k c.index-operands-k.result c.requires.inside c.index-operands-k.is in
-    let reg : c.index-operands-k.result.constraint ≡ Reg = ap (λ (x : OperandValue). x.constraint) o ∙ c.requires.reg in
-    let lt : c.args.k < length here = omega (arith, c.requires.inside, c.requires.here_long) in
-    let w = reg_wanted c.index-operands-k.result NoPlace c.reg_request-request.result reg refl
-    (c.reg_request-request.ensures.used (sym c.is_def.ensures ∙ c.if-not-is_def.true)) in
-    takes_at c.args.inst_regs.now c.reg_request-request.result.vreg (op_at ops c.args.k).vreg here c.args.k c.in_ok-here.field-0 (tables_of c.args.self.now)
-    c.args.self.now.registers c.alloc_use.new.self.registers (w.1 ∙ ap (λ (x : OperandValue). x.vreg) o) lt (c.in_ok-here.ensures.takes w.0)
-
-pub returns-clause-takes : goal.returns-clause-takes
-returns-clause-takes g c =
-    let ops : List OperandValue = c.args.cx.now.operands.now in
-    let here = c.args.here.now in
-    let o : c.index-operands-k.result ≡ op_at ops c.args.k = read_operand ops c.args.k c.index-operands-k.result c.requires.inside c.index-operands-k.is in
-    let lt : c.args.k < length here = omega (arith, c.requires.inside, c.requires.here_long) in
-    let p = c.reg_request-request.result in
-    let is = c.reg_request-request.ensures.defined (sym c.is_def.ensures ∙ c.if-not-is_def.false) in
-    takes_at c.args.inst_regs.now p.vreg (op_at ops c.args.k).vreg here c.args.k c.in_ok-here-2.field-0 (tables_of c.args.self.now) c.args.self.now.registers
-    c.alloc_def_op.new.self.registers
-    (ap (λ (x : OperandRequest). x.vreg) is ∙ ap (λ (x : OperandValue). x.vreg) o) lt
-    (c.in_ok-here-2.ensures.takes (ap (λ (x : OperandRequest). x.requirement) is ∙ ap (λ (x : OperandValue). requirement_of x.constraint) o
-    ∙ ap requirement_of c.requires.reg))

@@ -16,10 +16,3 @@ returns-clause-outcome g c =
       pushes = ap (λ (es : List (ℕ × MoveValue)). record middle { edits = es })
           (c.in_ok-push_all.ensures.ok ∙ ap (λ (ms : Moves). middle.edits ++ pushed c.args.point ms) c.as_slice.ensures);
     }
-
-pub returns-clause-none : goal.returns-clause-none
-returns-clause-none g c = λ none.
-    let middle : StateValue = tables_of c.order.new.self in
-    let o = c.in_ok-made.ensures.none none in
-    ap (λ (es : List (ℕ × MoveValue)). record middle { edits = es }) (c.in_ok-push_all.ensures.ok
-    ∙ ap (λ (ms : Moves). middle.edits ++ pushed c.args.point ms) (c.as_slice.ensures ∙ o.0) ∙ append-nil middle.edits) ∙ o.1

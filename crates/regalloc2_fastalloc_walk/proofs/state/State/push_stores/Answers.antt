@@ -15,7 +15,6 @@ loop-k-init g c = record {
   pushes = pushes_none c.args.point c.args.from_memory c.args.moves.now (tables_of c.args.self.now) (tables_of c.args.self.now) _ (drop-length c.args.moves.now)
       refl;
   later = c.requires;
-  registers = refl;
 }
 
 -- one of the kind is pushed
@@ -39,7 +38,6 @@ loop-k-preserved-in-Continue-1 g c =
           c.if-is_stack-from_memory.true))
           (subst P next c.loop-k.invariant.pushes) (subst (λ (x : PlaceMove). IsMadeOf u x y.0) item y.1) y.2;
       later = c.in_ok-push_store.ensures.step.later;
-      registers = c.in_ok-push_store.ensures.registers ∙ c.loop-k.invariant.registers;
     }
 
 -- one of the other kind is passed over
@@ -62,5 +60,4 @@ loop-k-preserved g c =
           c.if-is_stack-from_memory.false))
           (subst P next c.loop-k.invariant.pushes);
       later = c.loop-k.invariant.later;
-      registers = c.loop-k.invariant.registers;
     }

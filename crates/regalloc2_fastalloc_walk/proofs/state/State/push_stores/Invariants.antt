@@ -10,7 +10,6 @@ invariant-loop-k g l = record {
   within : l.k ≤ length l.moves;
   pushes : PushesStores l.point l.from_memory (drop l.k l.moves) (tables_of l.fn.self) (tables_of l.self);
   later : AllAtOrAfter l.point l.self.edits;
-  registers : l.self.registers ≡ l.fn.self.registers;
 }
 
 abbrev pub decreases-loop-k : goal.decreases-loop-k

@@ -11,7 +11,6 @@ use Rattle.regalloc2_fastalloc_walk.specs.StateView.{tables_of, IsStepAt}
 use Rattle.regalloc2_fastalloc_state.specs.StateParts.{AllAtOrAfter}
 use Rattle.regalloc2_fastalloc_state.specs.StateParts.{alloc_of}
 use Rattle.regalloc2_fastalloc_proofs.specs.InstSteps.{StateValue, no_register}
-use Rattle.regalloc2_fastalloc_walk.proofs.BlockSpillFree.{none_begun_none}
 use Rattle.regalloc2_fastalloc_walk.proofs.state.State.reload_at_begin.Goals as goal
 
 pub reload_params-requires : goal.reload_params-requires
@@ -75,12 +74,3 @@ returns-in_err-reload_regs-clause-outcome g c =
     (subst (λ (p : ℕ). ReloadsParams p c.args.params.now c.new-inst_regs.result (tables_of c.args.self.now) (length c.args.params.now)
     c.reload_params.new.inst_regs m) at c.in_ok-reload_params.ensures.outcome)
     (subst (λ (p : ℕ). ReloadRegs p c.reload_params.new.inst_regs m no_register) at (c.in_err-reload_regs.ensures.outcome (sym e.2 ∙ same))))
-
--- where no vreg has a location, and there are no parameters, nothing changes
-pub returns-clause-nobody : goal.returns-clause-nobody
-returns-clause-nobody g c = λ nobody none.
-    let t = tables_of c.args.self.now in
-    let m = tables_of c.reload_params.new.self in
-    let same : m ≡ t = none_begun_none c.before-point.result c.args.params.now c.new-inst_regs.result t (length c.args.params.now) c.reload_params.new.inst_regs
-    m (ap length none) c.in_ok-reload_params.ensures.outcome in
-    c.in_ok-reload_regs.ensures.nobody (λ n. ap (λ (x : StateValue). alloc_of x.places n) same ∙ nobody n) ∙ same

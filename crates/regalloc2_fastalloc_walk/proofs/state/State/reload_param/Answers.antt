@@ -38,7 +38,7 @@ returns-clause-outcome g c =
       vregs = c.get_spillslot.ensures.vregs;
       num_temp_slots = c.get_spillslot.ensures.num_temp_slots;
     })
-    (subst (λ (p : Place). S c.args.param.class (not (is_place s p)) p) c.current_alloc-current.ensures.place two)
+    refl (subst (λ (p : Place). S c.args.param.class (not (is_place s p)) p) c.current_alloc-current.ensures.place two)
 
 pub returns-in_err-add_move_if-clause-outcome : goal.returns-in_err-add_move_if-clause-outcome
 returns-in_err-add_move_if-clause-outcome g c =
@@ -65,4 +65,4 @@ returns-in_err-add_move_if-clause-outcome g c =
       vregs = c.get_spillslot.ensures.vregs;
       num_temp_slots = c.get_spillslot.ensures.num_temp_slots;
     })
-    (subst (λ (p : Place). S c.args.param.class (not (is_place s p)) p) c.current_alloc-current.ensures.place two))
+    refl (subst (λ (p : Place). S c.args.param.class (not (is_place s p)) p) c.current_alloc-current.ensures.place two))

@@ -13,7 +13,6 @@ loop-preg-init g c = record {
   later = c.requires;
   long = refl;
   machine = record { allocatable = refl; fixed_stack = refl; dedicated_scratch = refl; sizes = refl; vregs = refl; num_temp_slots = refl };
-  nobody = λ none. refl;
 }
 
 pub loop-preg-preserved : goal.loop-preg-preserved
@@ -26,9 +25,6 @@ loop-preg-preserved g c =
       later = c.in_ok-evict_preg.ensures.step.later;
       long = c.in_ok-evict_preg.ensures.step.long ∙ c.loop-preg.invariant.long;
       machine = same_then (tables_of c.args.self.now) m n c.loop-preg.invariant.machine c.in_ok-evict_preg.ensures.step.machine;
-      nobody = λ none. absurd (
-          let there = c.in-Some.ensures.inverse.holds c.in-Some.preg newest.vreg newest.small newest.held in
-          let nowhere = ap (λ (t : StateValue). alloc_of t.places newest.vreg.number) (c.loop-preg.invariant.nobody none) ∙ none newest.vreg.number in cc);
     }
 
 pub loop-preg-smaller : goal.loop-preg-smaller

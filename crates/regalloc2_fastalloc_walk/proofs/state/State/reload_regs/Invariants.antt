@@ -13,7 +13,6 @@ invariant-loop-preg g l = record {
   later : AllAtOrAfter l.point l.self.edits;
   long : length l.self.places.vreg_allocs ≡ length l.fn.self.places.vreg_allocs;
   machine : SameMachine (tables_of l.fn.self) (tables_of l.self);
-  nobody : ((n : ℕ) → alloc_of l.fn.self.places n ≡ NoPlace) → tables_of l.self ≡ tables_of l.fn.self;
 }
 
 -- how many vregs are still in registers

@@ -1,4 +1,5 @@
 use Rattle.std.proofs.Common.{◌≡◌, true, false}
+use Rattle.regalloc2_fastalloc_proofs.specs.InstSteps.{SameButOrder}
 use Rattle.regalloc2_fastalloc_walk.specs.StateView.{tables_of}
 use Rattle.regalloc2_fastalloc_walk.proofs.RegsReserved.{Awaiting, NoneIsFixed, Reserving, SomeIsFixed}
 use Rattle.std.specs.Prelude.{ℕ, ◌<◌}
@@ -11,8 +12,8 @@ abbrev pub invariant-loop-k : goal.invariant-loop-k
 invariant-loop-k g l = record {
   reserving : Reserving l.operands l.k l.fn.inst_regs l.inst_regs l.claims (tables_of l.fn.self);
   awaiting : Awaiting l.operands l.k l.fn.inst_regs l.inst_regs;
-  same : tables_of l.self ≡ tables_of l.fn.self;
-  registers : ((k : ℕ) (r : Register) → k < l.k → (op_at l.operands k).constraint ≡ FixedReg r → ⊥) → l.self.registers ≡ l.fn.self.registers;
+  same : SameButOrder (tables_of l.fn.self) (tables_of l.self);
+  unused : ((k : ℕ) (r : Register) → k < l.k → (op_at l.operands k).constraint ≡ FixedReg r → ⊥) → l.self.registers.lrus ≡ l.fn.self.registers.lrus;
   unfixed : l.any_fixed ≡ false → NoneIsFixed l.operands l.k;
   fixed : l.any_fixed ≡ true → SomeIsFixed l.operands l.k;
 }

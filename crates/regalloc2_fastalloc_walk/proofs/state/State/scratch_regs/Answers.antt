@@ -22,7 +22,7 @@ returns-clause-scratch_reserve g c =
       first = c.in-Some.first;
       place = c.reg.result;
       second = c.as_place.result;
-      oldest = c.least_recently_used.result;
+      oldest = c.choose_register.result;
       allocatable = refl;
       dedicated_scratch = refl;
       is_free = λ r e. subst (λ (p : Positions). IsAvailableAt c.args.inst_regs.now p r) c.both.ensures (c.available_pregs-free.ensures.free r e);
@@ -30,7 +30,7 @@ returns-clause-scratch_reserve g c =
       left = c.remove.ensures.members;
       at_first = c.reg.ensures;
       at_second = c.as_place.ensures.some;
-      found = c.least_recently_used.ensures.found;
+      found = c.choose_register.ensures.found;
     })
 
 pub returns-clause-differ : goal.returns-clause-differ
@@ -45,7 +45,7 @@ returns-clause-differ g c =
       first = c.in-Some.first;
       place = c.reg.result;
       second = c.as_place.result;
-      oldest = c.least_recently_used.result;
+      oldest = c.choose_register.result;
       allocatable = refl;
       dedicated_scratch = refl;
       is_free = λ r e. subst (λ (p : Positions). IsAvailableAt c.args.inst_regs.now p r) c.both.ensures (c.available_pregs-free.ensures.free r e);
@@ -53,7 +53,7 @@ returns-clause-differ g c =
       left = c.remove.ensures.members;
       at_first = c.reg.ensures;
       at_second = c.as_place.ensures.some;
-      found = c.least_recently_used.ensures.found;
+      found = c.choose_register.ensures.found;
     })
 
 -- the machine's own comes first
@@ -76,7 +76,7 @@ returns-clause-all g c = λ r small of_class held free. (
   λ none. absurd cc,
   λ none. let gone = c.as_place.ensures.none none in
       let rest = subst (λ (o : Option Register). IfNone o (NoneIsIn c.args.self.now.registers c.args.class c.remove.new.self)) gone
-      c.least_recently_used.ensures.none in
+      c.choose_register.ensures.none in
       let same = only_first c.available_pregs-free.result c.remove.new.self c.in-Some.first r (c.remove.ensures.members r)
       (c.available_pregs-free.ensures.throughout r free) (rest r small of_class held) in
       ap (λ (p : Place). Some p) (c.reg.ensures ∙ ap (λ (q : Register). InRegister q) same),

@@ -3,19 +3,10 @@ use Rattle.regalloc2_fastalloc_proofs.proofs.Operands.SelectedPlace.{suits_there
 use Rattle.std.proofs.Common.{subst, ◌∙◌}
 use Rattle.regalloc2_fastalloc_proofs.specs.InstSteps.{MeetsRequirement}
 use Rattle.regalloc2_fastalloc_state.specs.declared.request.Requirement.{Requirement}
-use Rattle.regalloc2_fastalloc_walk.specs.SpillFree.{where_it_stands}
 use Rattle.regalloc2_fastalloc_walk.proofs.state.State.select_place.Goals as goal
 
 pub returns-in-Some-clause-there : goal.returns-in-Some-clause-there
 returns-in-Some-clause-there g c = suits_there (tables_of c.args.self.now) c.args.request.now.requirement c.in-Some.current c.in-Some.ensures.suits.1
-
--- any register: that where the vreg is located, or the one that was used longest ago
-pub returns-in-Some-clause-chooses : goal.returns-in-Some-clause-chooses
-returns-in-Some-clause-chooses g c = λ any. where_it_stands c.in-Some.ensures.suits.0
-    (subst (λ (w : Requirement). MeetsRequirement (tables_of c.args.self.now) w c.in-Some.current) any c.in-Some.ensures.suits.1)
-
-pub returns-clause-chooses : goal.returns-clause-chooses
-returns-clause-chooses g c = λ any. c.in_ok-place.ensures.chooses any (c.in_default.ensures.none any)
 
 -- a definition that may be anywhere takes a register only where its vreg is in one
 pub returns-in-Some-clause-awaited_in : goal.returns-in-Some-clause-awaited_in

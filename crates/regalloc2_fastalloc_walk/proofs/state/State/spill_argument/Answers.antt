@@ -20,7 +20,7 @@ returns-in-Some-clause-outcome g c =
       sizes = c.get_spillslot.ensures.sizes;
       vregs = c.get_spillslot.ensures.vregs;
       num_temp_slots = c.get_spillslot.ensures.num_temp_slots;
-    }) c.in_ok-evict_preg.ensures.outcome
+    }) refl c.in_ok-evict_preg.ensures.outcome
 
 pub returns-in_err-evict_preg-clause-outcome : goal.returns-in_err-evict_preg-clause-outcome
 returns-in_err-evict_preg-clause-outcome g c =

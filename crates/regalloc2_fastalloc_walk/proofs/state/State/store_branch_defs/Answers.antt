@@ -24,7 +24,7 @@ use Rattle.regalloc2_fastalloc_walk.specs.StateView.{IsStepAt, tables_of}
 use Rattle.regalloc2_fastalloc_walk.specs.declared.operand.PlaceMove.{PlaceMove}
 use Rattle.regalloc2_fastalloc_walk.specs.declared.store.StoredDef.{StoredDef}
 use Rattle.regalloc2_fastalloc_walk.proofs.Steps.{step_then}
-use Rattle.regalloc2_fastalloc_walk.proofs.StoresOnEdge.{edge_stores, stores_on, stores_lack, stores_none}
+use Rattle.regalloc2_fastalloc_walk.proofs.StoresOnEdge.{edge_stores, stores_on, stores_lack}
 use Rattle.regalloc2_fastalloc_walk.proofs.state.State.store_branch_defs.Goals as goal
 
 -- what is stored is of vregs of the function, and of operands of the branch
@@ -236,29 +236,3 @@ returns-clause-step g c =
     } in
     subst (λ (n : ℕ). IsStepAt n (Ok tt) c.args.self.now c.push_stores-2.new.self) at
     (step_then c.args.self.now c.push_stores.new.self c.push_stores-2.new.self begun c.in_ok-push_stores-2.ensures.step)
-
-pub returns-clause-none : goal.returns-clause-none
-returns-clause-none g c = λ nothing.
-    let f : FunctionValue = g.F.Function.function c.args.f.now in
-    let ie = c.requires.defs.edge c.args.block c.in-Some.edge (sym c.edge_into.ensures ∙ c.in-Some.is) in
-    let e : ℕ = c.in-Some.edge.from in
-    let old : StateValue = tables_of c.args.self.now in
-    let t : StateValue = tables_of c.store_moves.new.self in
-    let u : StateValue = tables_of c.push_stores.new.self in
-    let ds : List StoredDef = c.in_ok-stores.stores.items in
-    let ms : List PlaceMove = c.in_ok-moves.moves.items in
-    let slots : SpillSlotsValue = c.store_moves.new.self.slots in
-    let ops : c.inst_operands.result.now ≡ branch_operands f e = c.inst_operands.ensures ∙ ap (λ (n : ℕ). (inst_at f n).operands) ie.branch in
-    let finds : FindsStores (branch_operands f e) ds old.slots (length ds) ms slots =
-    subst (λ (l : List OperandValue). FindsStores l ds old.slots (length ds) ms slots) ops
-    (subst (λ (l : List StoredDef). FindsStores c.inst_operands.result.now l old.slots (length l) ms slots) c.deref.ensures.value c.in_ok-moves.ensures.ok) in
-    let w : StateValue = tables_of c.push_stores-2.new.self in
-    let point : ℕ = c.before-point.result in
-    let tables : t ≡ record old { slots = slots } = c.store_moves.ensures.step.tables in
-    let p : PushesStores point true ms (record old { slots = slots }) u = subst (λ (x : StateValue). PushesStores point true ms x u) tables
-    (subst (λ (l : List PlaceMove). PushesStores point true l t u) c.deref-2.ensures.value c.in_ok-push_stores.ensures.outcome) in
-    let q : PushesStores point false ms u w = subst (λ (l : List PlaceMove). PushesStores point false l u w) c.deref-3.ensures.value
-    c.in_ok-push_stores-2.ensures.outcome in
-    stores_none (edge_stores f c.requires.well_formed c.args.block e c.in-Some.edge.position ie.edge old c.requires.apart ds c.in_ok-stores.ensures.ok
-    ms slots finds c.num_units-count.ensures.owned.own)
-    (λ j v. nothing e c.in-Some.edge.position j v ie.edge) p q

@@ -17,7 +17,6 @@ loop-store-init g c = record {
   finds = subst (λ (ms : List PlaceMove). FindsStores c.args.operands.now c.args.stores.now c.args.self.now.slots 0 ms c.args.self.now.slots)
       (sym c.new-moves.ensures.items) none_found;
   tables = refl;
-  registers = refl;
   machine = record { allocatable = refl; fixed_stack = refl; dedicated_scratch = refl; sizes = refl; vregs = refl; num_temp_slots = refl };
 }
 
@@ -67,6 +66,5 @@ loop-store-preserved g c =
           (one_found k c.loop-store.moves.items c.in_ok-m.m c.loop-store.self.slots c.store_move.new.self.slots c.loop-store-test.true
           c.loop-store.invariant.finds (subst (λ (d : StoredDef). F (op_at ops d.index) d.to) item one));
       tables = c.store_move.ensures.step.tables ∙ ap (λ (x : StateValue). record x { slots = c.store_move.new.self.slots }) c.loop-store.invariant.tables;
-      registers = c.store_move.ensures.step.registers ∙ c.loop-store.invariant.registers;
       machine = same_then t (tables_of c.loop-store.self) (tables_of c.store_move.new.self) c.loop-store.invariant.machine c.store_move.ensures.step.machine;
     }

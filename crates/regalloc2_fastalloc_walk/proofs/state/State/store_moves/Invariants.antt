@@ -8,6 +8,5 @@ abbrev pub invariant-loop-store : goal.invariant-loop-store
 invariant-loop-store g l = record {
   finds : FindsStores l.operands l.stores l.fn.self.slots l.store-index l.moves.items l.self.slots;
   tables : tables_of l.self ≡ record (tables_of l.fn.self) { slots = l.self.slots };
-  registers : l.self.registers ≡ l.fn.self.registers;
   machine : SameMachine (tables_of l.fn.self) (tables_of l.self);
 }

@@ -1,5 +1,5 @@
 -- Operands of an instruction under `Reg`, one after another, as long as registers suffice for all vregs.
-use Rattle.std.proofs.Common.{ℕ, ◌≡◌, ◌≢◌, ◌+◌, ◌<◌, ◌⊎◌, inl, inr, Bool, true, false, List, length, refl, arith, sym, ap, ◌∙◌}
+use Rattle.std.proofs.Common.{ℕ, ◌≡◌, ◌≢◌, ◌+◌, ◌<◌, ◌≤◌, ◌⊎◌, inl, inr, Bool, true, false, List, length, refl, arith, sym, ap, ◌∙◌}
 use Rattle.std.proofs.Common.{subst, eqb-true, eq-eqb, get_or-set_same}
 use Rattle.std.specs.Prelude.{None, Some, if◌then◌else◌, Contains, nat_eq, slice_index_or, slice_set, ◌&&◌, ◌||◌, not}
 use Rattle.std.proofs.lemmas.Bool.{cases_Bool}
@@ -18,13 +18,19 @@ use Rattle.regalloc2_fastalloc_state.proofs.VRegInPRegInverse.{same_number}
 use Rattle.regalloc2_fastalloc_state.specs.declared.request.OperandRequest.{OperandRequest}
 use Rattle.regalloc2_fastalloc_state.specs.declared.request.Requirement.TheVariants.{AnyReg}
 use Rattle.regalloc2_fastalloc_state.specs.declared.inst_regs.InstRegs.{InstRegs}
-use Rattle.regalloc2_fastalloc_state.specs.StateParts.{AllocatableRegsValue, lru_of, slot_name, alloc_of}
+use Rattle.regalloc2_fastalloc_state.specs.StateParts.{slot_name, alloc_of}
 use Rattle.regalloc2_validate.specs.Constraints.{op_at}
 use Rattle.regalloc2_fastalloc_proofs.specs.InstSteps.{StateValue, FreesDef, AllocsDefOp, ProcessesOperand, AllocsUse, AddsMoveIf, SameMachine}
 use Rattle.regalloc2_fastalloc_proofs.specs.InstSteps.{LocatesUse, a_register, a_use, a_def, a_reuse, requirement_of, def_request, is_another, sent}
 use Rattle.regalloc2_fastalloc_proofs.specs.InstSteps.{unsent, stays, located, use_request}
-use Rattle.regalloc2_fastalloc_walk.proofs.OperandTakesFreeReg.{Got, Taken, in_register_same, operand_got}
-use Rattle.regalloc2_fastalloc_walk.specs.SpillFree.{FitInRegs, ArePlaced, ArePlain, IsSpillFree, IsSpillFreeIn, AllocsAnyReg}
+use Rattle.regalloc2_unspilled_proofs.proofs.OperandTakesFreeReg.{Got, Taken, in_register_same, operand_got}
+use Rattle.regalloc2_unspilled_proofs.specs.SpillFree.{FitInRegs, ArePlaced, ArePlain, IsSpillFree, IsSpillFreeIn}
+use Rattle.regalloc2_fastalloc_state.specs.StateParts.{SetsAlloc}
+use Rattle.regalloc2_fastalloc_proofs.proofs.Evictions.PushedAndRemoved.{same_then}
+use Rattle.regalloc2_fastalloc_proofs.proofs.Operands.FreeDef.{leave_whole}
+use Rattle.regalloc2_fastalloc_proofs.proofs.Inst.AcrossInst.{arrive_register}
+use Rattle.regalloc2_fastalloc_proofs.proofs.Safety.StepsKeepState.{whole_used, IsWhole}
+use Rattle.regalloc2_fastalloc_proofs.specs.InstSteps.{SameButOrder, order_of, ProcessesOperandsAt, none_placed, of_other, one_placed}
 
 -- the vreg of a register that was taken is there from now on, or its definition was met and it has no location
 class_settled : (names : List VirtualRegister) (gone gone_now : ℕ → Bool) (n : ℕ) (r : Register) (class : RegClass) (ring : List Register) (t u : StateValue)
@@ -66,18 +72,19 @@ class_settled names gone gone_now n r class ring t u inst_regs h others own grow
       | inr ne ↦ h.empty m q (sym (others m ne) ∙ at) c
     ]
 
-settled : (names : List VirtualRegister) (gone gone_now : ℕ → Bool) (o : OperandRequest) (p : Place) (inst_regs after_turn : InstRegs)
-    (old left new : StateValue) (before after : AllocatableRegsValue) → IsSpillFree names gone before old inst_regs → Contains names o.vreg
-    → (got : Got names gone o p after_turn old left before after) → ((m : ℕ) → m ≢ o.vreg.number → alloc_of new.places m ≡ alloc_of old.places m)
+-- so a step leaves the state as it sets the vreg's location; left: the state once the register was taken
+settled : (names : List VirtualRegister) (gone gone_now : ℕ → Bool) (o : OperandRequest) (p : Place) (inst_regs after_turn : InstRegs) (old left new : StateValue)
+    → IsSpillFree names gone old inst_regs → Contains names o.vreg → (got : Got names gone o p after_turn old left) → IsWhole new →
+    ((m : ℕ) → m ≢ o.vreg.number → alloc_of new.places m ≡ alloc_of old.places m)
     → (alloc_of new.places o.vreg.number ≡ p) ⊎ ((alloc_of new.places o.vreg.number ≡ NoPlace) × (gone_now o.vreg.number ≡ true)) →
     ((m : ℕ) → gone m ≡ true → gone_now m ≡ true)
     → ((m : ℕ) → gone_now m ≡ true → alloc_of new.places m ≡ NoPlace) → new.edits ≡ old.edits → new.slots ≡ old.slots → SameMachine old new →
-    IsSpillFree names gone_now after new after_turn
-settled names gone gone_now o p inst_regs after_turn old left new before after h named got others own grows nowhere edits slots machine = record {
+    new.lrus ≡ left.lrus → IsSpillFree names gone_now new after_turn
+settled names gone gone_now o p inst_regs after_turn old left new h named got whole others own grows nowhere edits slots machine order = record {
   no_moves = edits ∙ h.no_moves;
   no_slots = λ m. ap (λ s. slot_name s m) slots ∙ h.no_slots m;
   no_units = ap (λ s. s.count) slots ∙ h.no_units;
-  allocatable = got.machine ∙ h.allocatable ∙ sym machine.allocatable;
+  whole = whole;
   apart = record {
     allocatable = λ r has. ap (λ (s : PRegSet). has_register s r) machine.fixed_stack
         ∙ h.apart.allocatable r (ap (λ (s : PRegSet). has_register s r) (sym machine.allocatable) ∙ has);
@@ -85,12 +92,12 @@ settled names gone gone_now o p inst_regs after_turn old left new before after h
         λ c r has. ap (λ (s : PRegSet). has_register s r) machine.fixed_stack
         ∙ h.apart.dedicated_scratch c r (ap (λ xs. slice_index_or xs (class_code c) None) (sym machine.dedicated_scratch) ∙ has);
   };
-  lrus = got.lrus;
+  lrus = λ class. rw (machine.allocatable, order) (got.lrus class);
   stand = stand;
   named = named_there;
   nowhere = nowhere;
-  each = λ class. class_settled names gone gone_now o.vreg.number got.register class (lru_of after class) old new after_turn (got.each class) others
-      own_register grows;
+  each = λ class. class_settled names gone gone_now o.vreg.number got.register class (order_of new class) old new after_turn
+      (rw order (got.each class)) others own_register grows;
 }
   where
     own_register : (alloc_of new.places o.vreg.number ≡ InRegister got.register)
@@ -114,31 +121,35 @@ settled names gone gone_now o p inst_regs after_turn old left new before after h
     ]
 
 -- what an operand under `Reg` does
-pub record Placed (names : List VirtualRegister) (gone_now : ℕ → Bool) (n : ℕ) (p : Place) (is_def : Bool) (u : InstRegs) (old new : StateValue)
-    (after : AllocatableRegsValue) : Type 0 where
-  pub spill_free : IsSpillFree names gone_now after new u
+pub record Placed (names : List VirtualRegister) (gone_now : ℕ → Bool) (n : ℕ) (p : Place) (is_def : Bool) (u : InstRegs) (old new : StateValue) : Type 0 where
+  pub spill_free : IsSpillFree names gone_now new u
   pub machine : new.allocatable ≡ old.allocatable
   pub there : p ≢ NoPlace
   pub others : (m : ℕ) → m ≢ n → alloc_of new.places m ≡ alloc_of old.places m
   pub stays : is_def ≡ false → alloc_of old.places n ≢ NoPlace → alloc_of new.places n ≡ alloc_of old.places n
   pub own : is_def ≡ false → alloc_of new.places n ≡ p
 
-no_machine : (t : StateValue) → SameMachine t t
-no_machine t = record { allocatable = refl; fixed_stack = refl; dedicated_scratch = refl; sizes = refl; vregs = refl; num_temp_slots = refl }
+no_machine : (t u : StateValue) → SameButOrder t u → SameMachine t u
+no_machine t u e = subst (SameMachine t) (sym e)
+    (record { allocatable = refl; fixed_stack = refl; dedicated_scratch = refl; sizes = refl; vregs = refl; num_temp_slots = refl })
 
 -- a use
-use_placed : (names : List VirtualRegister) (gone : ℕ → Bool) (point : ℕ) (o : OperandRequest) (p : Place) (t u : InstRegs) (old new : StateValue)
-    (before after : AllocatableRegsValue) → o.requirement ≡ AnyReg → IsSpillFree names gone before old t
-    → FitInRegs names old.allocatable → Contains names o.vreg → gone o.vreg.number ≡ false → AllocsAnyReg t o.vreg p old before after →
-    AllocsUse point o p t u old new → Placed names gone o.vreg.number p false u old new after
-use_placed names gone point o p t u old new before after any h few named there takes places =
-    by (subst (λ (x : StateValue). LocatesUse o.vreg p x new) got.same places.uses)
+use_placed : (names : List VirtualRegister) (gone : ℕ → Bool) (point : ℕ) (o : OperandRequest) (p : Place) (t u : InstRegs) (old new : StateValue) →
+    o.requirement ≡ AnyReg → IsSpillFree names gone old t → FitInRegs names old.allocatable → Contains names o.vreg → gone o.vreg.number ≡ false →
+    AllocsUse point o p t u old new → Placed names gone o.vreg.number p false u old new
+use_placed names gone point o p t u old new any h few named there places = by places.uses
   where
-    got : Got names gone o p u old places.middle before after
-    got = operand_got any h few named there takes places.gets
+    taken : StateValue
+    taken = places.middle
+
+    got : Got names gone o p u old taken
+    got = operand_got any h few named there places.gets
 
     is_there : p ≢ NoPlace
     is_there e = (let wrong : InRegister got.register ≡ NoPlace = sym got.is ∙ e in cc)
+
+    whole_there : IsWhole taken
+    whole_there = subst IsWhole (sym got.same) (whole_used old taken.lrus h.whole)
 
     still_nowhere : (m : ℕ) → gone m ≡ true → ((a : ℕ) → a ≢ o.vreg.number → alloc_of new.places a ≡ alloc_of old.places a) → alloc_of new.places m ≡ NoPlace
     still_nowhere m g others = elim (same_number m o.vreg.number) [
@@ -146,27 +157,39 @@ use_placed names gone point o p t u old new before after any h few named there t
       | inr ne ↦ others m ne ∙ h.nowhere m g
     ]
 
-    by : LocatesUse o.vreg p old new → Placed names gone o.vreg.number p false u old new after
+    same_at : (m : ℕ) → alloc_of taken.places m ≡ alloc_of old.places m
+    same_at m = ap (λ (x : StateValue). alloc_of x.places m) got.same
+
+    by : LocatesUse o.vreg p taken new → Placed names gone o.vreg.number p false u old new
     by (stays stood_somewhere same) =
-        let at : alloc_of old.places o.vreg.number ≡ p = elim got.stood_there [ inl a ↦ a | inr b ↦ absurd (stood_somewhere b) ] in
+        let at : alloc_of old.places o.vreg.number ≡ p = elim got.stood_there [ inl a ↦ a | inr b ↦ absurd (stood_somewhere (same_at o.vreg.number ∙ b)) ] in
         rw same (record {
-          spill_free = settled names gone gone o p t u old places.middle old before after h named got (λ m ne. refl) (inl at) (λ m g. g) h.nowhere refl refl
-              (no_machine old);
-          machine = refl;
+          spill_free = settled names gone gone o p t u old taken taken h named got whole_there (λ m ne. same_at m) (inl (same_at o.vreg.number ∙ at)) (λ m g. g)
+              (λ m g. same_at m ∙ h.nowhere m g) (ap (λ (x : StateValue). x.edits) got.same) (ap (λ (x : StateValue). x.slots) got.same)
+              (no_machine old taken got.same) refl;
+          machine = ap (λ (x : StateValue). x.allocatable) got.same;
           there = is_there;
-          others = λ m ne. refl;
-          stays = λ e ne. refl;
-          own = λ e. at;
+          others = λ m ne. same_at m;
+          stays = λ e ne. same_at o.vreg.number;
+          own = λ e. same_at o.vreg.number ∙ at;
         })
-    by (located nowhere settles slots edits machine) = record {
-      spill_free = settled names gone gone o p t u old places.middle new before after h named got settles.others (inl settles.here) (λ m g. g)
-          (λ m g. still_nowhere m g settles.others) edits slots machine;
-      machine = machine.allocatable;
-      there = is_there;
-      others = settles.others;
-      stays = λ e ne. absurd (ne nowhere);
-      own = λ e. settles.here;
-    }
+    by (located nowhere settles slots edits machine order) =
+        let there_none : alloc_of old.places o.vreg.number ≡ NoPlace = sym (same_at o.vreg.number) ∙ nowhere in
+        let others : (m : ℕ) → m ≢ o.vreg.number → alloc_of new.places m ≡ alloc_of old.places m = λ m ne. settles.others m ne ∙ same_at m in
+        let whole : IsWhole new = arrive_register taken new o.vreg nowhere slots whole_there got.register got.small
+        (λ x e. (let own : x ≡ o.vreg.number = got.alone x (sym (same_at x) ∙ e) in
+        let wrong : NoPlace ≡ InRegister got.register = sym nowhere ∙ ap (alloc_of taken.places) (sym own) ∙ e in cc))
+        (subst (SetsAlloc taken.places new.places o.vreg) got.is settles) in
+        record {
+          spill_free = settled names gone gone o p t u old taken new h named got whole others (inl settles.here) (λ m g. g)
+              (λ m g. still_nowhere m g others) (edits ∙ ap (λ (x : StateValue). x.edits) got.same) (slots ∙ ap (λ (x : StateValue). x.slots) got.same)
+              (same_then old taken new (no_machine old taken got.same) machine) order;
+          machine = machine.allocatable ∙ ap (λ (x : StateValue). x.allocatable) got.same;
+          there = is_there;
+          others = others;
+          stays = λ e ne. absurd (ne there_none);
+          own = λ e. settles.here;
+        }
 
 -- nothing is sent
 pub unsent_same : (point : ℕ) (class : RegClass) (b : Bool) (p q : Place) (t u : InstRegs) (old new : StateValue) → b ≡ false →
@@ -219,44 +242,56 @@ gone_from n gone m e = by (nat_eq n m) refl e
     by false e h = inl h
 
 def_placed : (names : List VirtualRegister) (gone : ℕ → Bool) (point : ℕ) (o : OperandRequest) (is_ret : Bool) (p : Place) (t u : InstRegs)
-    (old new : StateValue) (before after : AllocatableRegsValue) → o.requirement ≡ AnyReg → IsSpillFree names gone before old t
-    → FitInRegs names old.allocatable → Contains names o.vreg → gone o.vreg.number ≡ false → AllocsAnyReg t o.vreg p old before after →
-    AllocsDefOp point o is_ret p t u old new → Placed names (and_gone o.vreg.number gone) o.vreg.number p true u old new after
-def_placed names gone point o is_ret p t u old new before after any h few named there takes places =
-    by (subst (λ (x : StateValue). FreesDef point o.vreg is_ret p places.inst_regs u x new) got.same places.defines)
+    (old new : StateValue) → o.requirement ≡ AnyReg → IsSpillFree names gone old t → FitInRegs names old.allocatable → Contains names o.vreg →
+    gone o.vreg.number ≡ false → AllocsDefOp point o is_ret p t u old new → Placed names (and_gone o.vreg.number gone) o.vreg.number p true u old new
+def_placed names gone point o is_ret p t u old new any h few named there places =
+    let first = unsent_same point o.vreg.class (not is_ret && is_another (alloc_of taken.places o.vreg.number) p) p (alloc_of taken.places o.vreg.number)
+    places.inst_regs d.inst_regs d.left d.middle (no_other (not is_ret) (alloc_of taken.places o.vreg.number) p stood_there) d.awaited in
+    let second = unsent_same point o.vreg.class
+    (not is_ret && (is_another (slot_name taken.slots o.vreg.number) p
+    && not (is_place (slot_name taken.slots o.vreg.number) (alloc_of taken.places o.vreg.number)))) p (slot_name taken.slots o.vreg.number) d.inst_regs u
+    d.middle new
+    (nor_stored (not is_ret) (not (is_place (slot_name taken.slots o.vreg.number) (alloc_of taken.places o.vreg.number)))
+    (slot_name taken.slots o.vreg.number) p (ap (λ (x : StateValue). slot_name x.slots o.vreg.number) got.same ∙ h.no_slots o.vreg.number)) d.stored in
+    let inst_regs : u ≡ places.inst_regs = second.0 ∙ first.0 in
+    let same : new ≡ d.left = second.1 ∙ first.1 in
+    subst (λ (x : StateValue). Placed names (and_gone o.vreg.number gone) o.vreg.number p true u old x) (sym same)
+    (subst (λ (x : InstRegs). Placed names (and_gone o.vreg.number gone) o.vreg.number p true x old d.left) (sym inst_regs) (record {
+      spill_free = settled names gone (and_gone o.vreg.number gone) o p t places.inst_regs old taken d.left h named got
+          (leave_whole taken d.left o.vreg d.settles d.slots (subst IsWhole (sym got.same) (whole_used old taken.lrus h.whole))) others
+          (inr (d.settles.here, gone_here o.vreg.number gone)) (gone_grows o.vreg.number gone) still_nowhere
+          (d.edits ∙ ap (λ (x : StateValue). x.edits) got.same) (d.slots ∙ ap (λ (x : StateValue). x.slots) got.same)
+          (same_then old taken d.left (no_machine old taken got.same) d.machine) d.lrus;
+      machine = d.machine.allocatable ∙ ap (λ (x : StateValue). x.allocatable) got.same;
+      there = λ e. (let wrong : InRegister got.register ≡ NoPlace = sym got.is ∙ e in cc);
+      others = others;
+      stays = λ e. absurd cc;
+      own = λ e. absurd cc;
+    }))
   where
-    got : Got names gone o p places.inst_regs old places.middle before after
-    got = operand_got any h few named there takes places.gets
+    taken : StateValue
+    taken = places.middle
 
-    still_nowhere : (m : ℕ) → and_gone o.vreg.number gone m ≡ true → (d : FreesDef point o.vreg is_ret p places.inst_regs u old new)
-        → alloc_of d.left.places m ≡ NoPlace
-    still_nowhere m g d = elim (same_number m o.vreg.number) [
+    d : FreesDef point o.vreg is_ret p places.inst_regs u taken new
+    d = places.defines
+
+    got : Got names gone o p places.inst_regs old taken
+    got = operand_got any h few named there places.gets
+
+    same_at : (m : ℕ) → alloc_of taken.places m ≡ alloc_of old.places m
+    same_at m = ap (λ (x : StateValue). alloc_of x.places m) got.same
+
+    stood_there : (alloc_of taken.places o.vreg.number ≡ p) ⊎ (alloc_of taken.places o.vreg.number ≡ NoPlace)
+    stood_there = elim got.stood_there [ inl a ↦ inl (same_at o.vreg.number ∙ a) | inr b ↦ inr (same_at o.vreg.number ∙ b) ]
+
+    others : (m : ℕ) → m ≢ o.vreg.number → alloc_of d.left.places m ≡ alloc_of old.places m
+    others m ne = d.settles.others m ne ∙ same_at m
+
+    still_nowhere : (m : ℕ) → and_gone o.vreg.number gone m ≡ true → alloc_of d.left.places m ≡ NoPlace
+    still_nowhere m g = elim (same_number m o.vreg.number) [
       | inl e ↦ ap (alloc_of d.left.places) e ∙ d.settles.here
-      | inr ne ↦ d.settles.others m ne ∙ elim (gone_from o.vreg.number gone m g) [ inl x ↦ h.nowhere m x | inr x ↦ absurd (ne (sym x)) ]
+      | inr ne ↦ others m ne ∙ elim (gone_from o.vreg.number gone m g) [ inl x ↦ h.nowhere m x | inr x ↦ absurd (ne (sym x)) ]
     ]
-
-    by : FreesDef point o.vreg is_ret p places.inst_regs u old new → Placed names (and_gone o.vreg.number gone) o.vreg.number p true u old new after
-    by d =
-        let first = unsent_same point o.vreg.class (not is_ret && is_another (alloc_of old.places o.vreg.number) p) p (alloc_of old.places o.vreg.number)
-        places.inst_regs d.inst_regs d.left d.middle (no_other (not is_ret) (alloc_of old.places o.vreg.number) p got.stood_there) d.awaited in
-        let second = unsent_same point o.vreg.class
-        (not is_ret && (is_another (slot_name old.slots o.vreg.number) p
-        && not (is_place (slot_name old.slots o.vreg.number) (alloc_of old.places o.vreg.number)))) p (slot_name old.slots o.vreg.number) d.inst_regs u
-        d.middle new
-        (nor_stored (not is_ret) (not (is_place (slot_name old.slots o.vreg.number) (alloc_of old.places o.vreg.number))) (slot_name old.slots o.vreg.number) p
-        (h.no_slots o.vreg.number)) d.stored in
-        let inst_regs : u ≡ places.inst_regs = second.0 ∙ first.0 in
-        let same : new ≡ d.left = second.1 ∙ first.1 in
-        rw (same, inst_regs) (record {
-          spill_free = settled names gone (and_gone o.vreg.number gone) o p t places.inst_regs old places.middle d.left before after h named got
-              d.settles.others (inr (d.settles.here, gone_here o.vreg.number gone)) (gone_grows o.vreg.number gone) (λ m g. still_nowhere m g d) d.edits d.slots
-              d.machine;
-          machine = d.machine.allocatable;
-          there = λ e. (let wrong : InRegister got.register ≡ NoPlace = sym got.is ∙ e in cc);
-          others = d.settles.others;
-          stays = λ e. absurd cc;
-          own = λ e. absurd cc;
-        })
 
 -- a use isn't a definition
 reads_only : (o : OperandValue) → is_reading o ≡ true → is_def o.kind ≡ false
@@ -268,13 +303,13 @@ reads_only o e = by (is_def o.kind) (not (is_fixed_nonallocatable o)) e
 
 -- the operand k is placed, after those before it
 more_placed : (names : List VirtualRegister) (gone : ℕ → Bool) (operands : List OperandValue) (k : ℕ) (late d : Bool) (here there next : List Place) (p : Place)
-    (old m n : StateValue) (u w : InstRegs) (before after : AllocatableRegsValue) → ArePlain names gone operands late
+    (old m n : StateValue) (u w : InstRegs) → ArePlain names gone operands late
     → k < length operands → length here ≡ length operands → is_late (op_at operands k).position ≡ late → is_def (op_at operands k).kind ≡ d →
-    (h : ArePlaced names gone operands late k here there before old m u) → next ≡ slice_set there k p
+    (h : ArePlaced names gone operands late k here there old m u) → next ≡ slice_set there k p
     → (gone_now : ℕ → Bool) → ((a : ℕ) → gone_now a ≡ true → (h.gone_now a ≡ true) ⊎ ((d ≡ true) × ((op_at operands k).vreg.number ≡ a))) →
     ((a : ℕ) → h.gone_now a ≡ true → gone_now a ≡ true) → (d ≡ true → gone_now (op_at operands k).vreg.number ≡ true)
-    → Placed names gone_now (op_at operands k).vreg.number p d w m n after → ArePlaced names gone operands late (k + 1) here next after old n w
-more_placed names gone operands k late d here there next p old m n u w before after plain lt here_long at kind h set_to gone_now from_gone to_gone def_gone
+    → Placed names gone_now (op_at operands k).vreg.number p d w m n → ArePlaced names gone operands late (k + 1) here next old n w
+more_placed names gone operands k late d here there next p old m n u w plain lt here_long at kind h set_to gone_now from_gone to_gone def_gone
     placed = record {
       gone_now = gone_now;
       spill_free = placed.spill_free;
@@ -336,23 +371,18 @@ more_placed names gone operands k late d here there next p old m n u w before af
 
 -- whose place is that of a register that was taken
 pub one_placed_more : {names : List VirtualRegister} {gone : ℕ → Bool} {i : ℕ} {is_ret : Bool} {operands : List OperandValue} {k : ℕ} {late : Bool}
-    {here there next : List Place} {old m n : StateValue} {u w : InstRegs} {before after : AllocatableRegsValue} → FitInRegs names old.allocatable
-    → ArePlain names gone operands late → k < length operands → length here ≡ length operands →
-    ((j : ℕ) → is_late (op_at operands j).position ≡ late → slice_index_or here j NoPlace ≡ NoPlace) → is_late (op_at operands k).position ≡ late
-    → ArePlaced names gone operands late k here there before old m u → ((op_at operands k).constraint ≡ Reg → slice_index_or there k NoPlace ≡ NoPlace →
-    AllocsAnyReg u (op_at operands k).vreg (slice_index_or next k NoPlace) m before after)
-    → ProcessesOperand i is_ret operands k there next u w m n → ArePlaced names gone operands late (k + 1) here next after old n w
-one_placed_more {names} {gone} {i} {is_ret} {operands} {k} {late} {here} {there} {next} {old} {m} {n} {u} {w} {before} {after} few plain lt here_long blank at
-    h takes one = by one
+    {here there next : List Place} {old m n : StateValue} {u w : InstRegs} → FitInRegs names old.allocatable → ArePlain names gone operands late →
+    k < length operands → length here ≡ length operands →
+    ((j : ℕ) → is_late (op_at operands j).position ≡ late → slice_index_or here j NoPlace ≡ NoPlace) → is_late (op_at operands k).position ≡ late →
+    ArePlaced names gone operands late k here there old m u → ProcessesOperand i is_ret operands k there next u w m n →
+    ArePlaced names gone operands late (k + 1) here next old n w
+one_placed_more {names} {gone} {i} {is_ret} {operands} {k} {late} {here} {there} {next} {old} {m} {n} {u} {w} few plain lt here_long blank at h one = by one
   where
     reg : (op_at operands k).constraint ≡ Reg
     reg = plain.under_reg k lt
 
     no_place : slice_index_or there k NoPlace ≡ NoPlace
     no_place = h.others k (λ e. omega arith) ∙ blank k at
-
-    there_long : k < length there
-    there_long = omega (arith, h.long, here_long, lt)
 
     few_now : FitInRegs names m.allocatable
     few_now = subst (FitInRegs names) (sym h.machine) few
@@ -366,34 +396,29 @@ one_placed_more {names} {gone} {i} {is_ret} {operands} {k} {late} {here} {there}
       | inr e ↦ e
     ]
 
-    taken : (p : Place) → next ≡ slice_set there k p → AllocsAnyReg u (op_at operands k).vreg p m before after
-    taken p e = subst (λ (q : Place). AllocsAnyReg u (op_at operands k).vreg q m before after)
-        (ap (λ (l : List Place). slice_index_or l k NoPlace) e ∙ get_or-set_same there k p NoPlace there_long) (takes reg no_place)
-
-    by : ProcessesOperand i is_ret operands k there next u w m n → ArePlaced names gone operands late (k + 1) here next after old n w
+    by : ProcessesOperand i is_ret operands k there next u w m n → ArePlaced names gone operands late (k + 1) here next old n w
     by (a_register r fixed is set_to inst_regs same) = absurd (let wrong : FixedReg r ≡ Reg = sym is ∙ reg in cc)
     by (a_use p reading places set_to) =
         let o : OperandRequest = use_request (op_at operands k) NoPlace in
         let done : AllocsUse (after_point i) o p u w m n = subst (λ (q : Place). AllocsUse (after_point i) (use_request (op_at operands k) q) p u w m n)
         no_place places in
-        more_placed names gone operands k late false here there next p old m n u w before after plain lt here_long at (reads_only (op_at operands k) reading) h
+        more_placed names gone operands k late false here there next p old m n u w plain lt here_long at (reads_only (op_at operands k) reading) h
         set_to h.gone_now (λ a g. inl g) (λ a g. g) (λ e. absurd cc)
-        (use_placed names h.gone_now (after_point i) o p u w m n before after (ap requirement_of reg) h.spill_free few_now (plain.named k lt) there_now
-        (taken p set_to) done)
+        (use_placed names h.gone_now (after_point i) o p u w m n (ap requirement_of reg) h.spill_free few_now (plain.named k lt) there_now done)
     by (a_def p defines not_reuse places set_to) =
-        more_placed names gone operands k late true here there next p old m n u w before after plain lt here_long at defines h set_to
+        more_placed names gone operands k late true here there next p old m n u w plain lt here_long at defines h set_to
         (and_gone (op_at operands k).vreg.number h.gone_now)
         (λ a g. elim (gone_from (op_at operands k).vreg.number h.gone_now a g) [ inl x ↦ inl x | inr x ↦ inr (refl, x) ])
         (gone_grows (op_at operands k).vreg.number h.gone_now) (λ e. gone_here (op_at operands k).vreg.number h.gone_now)
-        (def_placed names h.gone_now (after_point i) (def_request (op_at operands k)) is_ret p u w m n before after (ap requirement_of reg) h.spill_free few_now
-        (plain.named k lt) there_now (taken p set_to) places)
+        (def_placed names h.gone_now (after_point i) (def_request (op_at operands k)) is_ret p u w m n (ap requirement_of reg) h.spill_free few_now
+        (plain.named k lt) there_now places)
     by (a_reuse a p defines is places set_to) = absurd (let wrong : Reuse a ≡ Reg = sym is ∙ reg in cc)
 
 -- an operand of the other position is left out
 pub other_left : (names : List VirtualRegister) (gone : ℕ → Bool) (operands : List OperandValue) (k : ℕ) (late : Bool) (here there : List Place)
-    (old m : StateValue) (u : InstRegs) (regs : AllocatableRegsValue) → (is_late (op_at operands k).position ≡ late → ⊥)
-    → ArePlaced names gone operands late k here there regs old m u → ArePlaced names gone operands late (k + 1) here there regs old m u
-other_left names gone operands k late here there old m u regs not_at h = record {
+    (old m : StateValue) (u : InstRegs) → (is_late (op_at operands k).position ≡ late → ⊥) → ArePlaced names gone operands late k here there old m u →
+    ArePlaced names gone operands late (k + 1) here there old m u
+other_left names gone operands k late here there old m u not_at h = record {
   gone_now = h.gone_now;
   spill_free = h.spill_free;
   machine = h.machine;
@@ -414,8 +439,8 @@ other_left names gone operands k late here there old m u regs not_at h = record 
 
 -- none is placed yet
 pub none_placed_yet : (names : List VirtualRegister) (gone : ℕ → Bool) (operands : List OperandValue) (late : Bool) (here : List Place) (old : StateValue)
-    (u : InstRegs) (regs : AllocatableRegsValue) → IsSpillFree names gone regs old u → ArePlaced names gone operands late 0 here here regs old old u
-none_placed_yet names gone operands late here old u regs h = record {
+    (u : InstRegs) → IsSpillFree names gone old u → ArePlaced names gone operands late 0 here here old old u
+none_placed_yet names gone operands late here old u h = record {
   gone_now = gone;
   spill_free = h;
   machine = refl;
@@ -428,35 +453,15 @@ none_placed_yet names gone operands late here old u regs h = record {
   uses = λ j less. absurd (omega (arith, less));
 }
 
--- what an operand under `Reg` isn't, and what it asks
-pub reg_is_free : (o : OperandValue) (r : Register) → o.constraint ≡ Reg → nonallocatable_register o ≡ Some r → ⊥
-reg_is_free o r reg e = by (nat_eq o.vreg.number 1073741823) (rw reg at e)
-  where
-    by : (b : Bool) → (if b then None else None) ≡ Some r → ⊥
-    by true h = cc
-    by false h = cc
-
--- nor one that names a register and no vreg
-pub reg_not_nonallocatable : (o : OperandValue) → o.constraint ≡ Reg → is_fixed_nonallocatable o ≡ false
-reg_not_nonallocatable o reg = ap (λ (c : OperandConstraint). is_fixed c && nat_eq o.vreg.number 1073741823) reg
-
--- an operand under `Reg` isn't fixed to a register
-pub reg_not_fixed : (o : OperandValue) (r : Register) → o.constraint ≡ Reg → o.constraint ≡ FixedReg r → ⊥
-reg_not_fixed o r reg e = (let wrong : Reg ≡ FixedReg r = sym reg ∙ e in cc)
-
--- an operand under `Reg` is no reuse
-pub reg_no_reuse : (o : OperandValue) (n : ℕ) → o.constraint ≡ Reg → o.constraint ≡ Reuse n → ⊥
-reg_no_reuse o n reg e = (let wrong : Reg ≡ Reuse n = sym reg ∙ e in cc)
-
--- a use under `Reg` for which no reuse has chosen a register requires any register of its vreg's class
-pub reg_wanted : (o : OperandValue) (q : Place) (request : OperandRequest) → o.constraint ≡ Reg → q ≡ NoPlace → request ≡ use_request o q →
-    (request.requirement ≡ AnyReg) × (request.vreg ≡ o.vreg)
-reg_wanted o q request reg none is = (let e : request ≡ use_request o NoPlace = is ∙ ap (use_request o) none in
-    (ap (λ (x : OperandRequest). x.requirement) e ∙ ap requirement_of reg, ap (λ (x : OperandRequest). x.vreg) e))
-
--- the place that was selected for a vreg is the one then listed for its operand
-pub takes_at : (inst_regs : InstRegs) (v w : VirtualRegister) (here : List Place) (k : ℕ) (p : Place) (t : StateValue) (before after : AllocatableRegsValue) →
-    v ≡ w → k < length here → AllocsAnyReg inst_regs v p t before after →
-    AllocsAnyReg inst_regs w (slice_index_or (slice_set here k p) k NoPlace) t before after
-takes_at inst_regs v w here k p t before after e lt h = subst (λ (q : Place). AllocsAnyReg inst_regs w q t before after)
-    (sym (get_or-set_same here k p NoPlace lt)) (subst (λ (x : VirtualRegister). AllocsAnyReg inst_regs x p t before after) e h)
+-- the first operands of a position are placed
+pub operands_placed : {names : List VirtualRegister} {gone : ℕ → Bool} {i : ℕ} {is_ret late : Bool} {operands : List OperandValue} {here : List Place}
+    {t : InstRegs} {old : StateValue} {k : ℕ} {there : List Place} {u : InstRegs} {m : StateValue} → FitInRegs names old.allocatable →
+    ArePlain names gone operands late → length here ≡ length operands →
+    ((j : ℕ) → is_late (op_at operands j).position ≡ late → slice_index_or here j NoPlace ≡ NoPlace) → IsSpillFree names gone old t → k ≤ length operands →
+    ProcessesOperandsAt i is_ret late operands here t old k there u m → ArePlaced names gone operands late k here there old m u
+operands_placed {names} {gone} {late} {operands} {here} {t} {old} few plain long blank h le none_placed =
+    none_placed_yet names gone operands late here old t h
+operands_placed {names} {gone} {late} {operands} {here} {old} few plain long blank h le (of_other k there u m before other) =
+    other_left names gone operands k late here there old m u other (operands_placed few plain long blank h (omega (arith, le)) before)
+operands_placed few plain long blank h le (one_placed k there next u w m n before at one) =
+    one_placed_more few plain (omega (arith, le)) long blank at (operands_placed few plain long blank h (omega (arith, le)) before) one

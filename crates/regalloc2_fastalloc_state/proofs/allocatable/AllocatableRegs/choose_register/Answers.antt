@@ -5,7 +5,7 @@ use Rattle.regalloc2_names.specs.Register.{Register, class_code}
 use Rattle.regalloc2_names.specs.RegisterSet.{has_register}
 use Rattle.regalloc2_fastalloc_state.specs.StateParts.{AllocatableRegsValue, IsLeastRecentIn, lru_of}
 use Rattle.regalloc2_fastalloc_state.proofs.LrusByClass.{found_in}
-use Rattle.regalloc2_fastalloc_state.proofs.allocatable.AllocatableRegs.least_recently_used.Goals as goal
+use Rattle.regalloc2_fastalloc_state.proofs.allocatable.AllocatableRegs.choose_register.Goals as goal
 
 pub returns-clause-found : goal.returns-clause-found
 returns-clause-found g c =
@@ -13,7 +13,7 @@ returns-clause-found g c =
     let lt : c.code.result < length lrus = omega (arith, c.self.invariant.0.three, c.code.ensures.small) in
     let ring : c.index-self-code.result ≡ slice_index_or lrus (class_code c.args.class) [] =
     get_or_read lrus _ _ lt c.index-self-code.is [] ∙ ap (λ k. slice_index_or lrus k []) c.code.ensures.code in
-    let P : AllocatableRegsValue → Type 0 = λ t. IfSome c.last.result (λ r. IsLeastRecentIn t c.args.class c.args.free r) in
+    let P : AllocatableRegsValue → Type 0 = λ t. IfSome c.last.result (λ r. IsLeastRecentIn t c.args.class c.args.available r) in
     let Q : List Register → Type 0 = λ l. IfSome c.last.result (λ r. Contains l r) in
     subst P c.self.view_is
     (found_in (record {
@@ -21,14 +21,14 @@ returns-clause-found g c =
       lrus = lrus;
       fixed_stack = c.self.inside.fixed_stack;
       dedicated_scratch = c.self.inside.dedicated_scratch;
-    }) c.args.class c.args.free c.last.result c.self.invariant.0
+    }) c.args.class c.args.available c.last.result c.self.invariant.0
     (subst Q (sym c.index-self-code.is ∙ ring) c.last.ensures.member) c.last.ensures.in_set)
 
-pub returns-clause-oldest : goal.returns-clause-oldest
-returns-clause-oldest g c =
+pub returns-clause-chosen : goal.returns-clause-chosen
+returns-clause-chosen g c =
     let lrus : List (List Register) = c.self.inside.lrus.items in
     let lt : c.code.result < length lrus = omega (arith, c.self.invariant.0.three, c.code.ensures.small) in
     let ring : c.index-self-code.result ≡ slice_index_or lrus (class_code c.args.class) [] =
     get_or_read lrus _ _ lt c.index-self-code.is [] ∙ ap (λ k. slice_index_or lrus k []) c.code.ensures.code in
-    let found : List Register → Option Register = λ l. find (has_register c.args.free) (reverse l) in
+    let found : List Register → Option Register = λ l. find (has_register c.args.available) (reverse l) in
     c.last.ensures.oldest ∙ ap found (sym c.index-self-code.is ∙ ring ∙ ap (λ (t : AllocatableRegsValue). lru_of t c.args.class) c.self.view_is)

@@ -1,7 +1,7 @@
 -- An operand under `Reg` takes a register in which no other vreg is located, as long as registers suffice for all vregs.
 use Rattle.std.proofs.Common.{ℕ, zero, suc, ◌≡◌, ◌≢◌, ◌+◌, ◌<◌, ◌≤◌, ◌⊎◌, inl, inr, Bool, true, false, List, ◌∷◌, ◌++◌, length, refl, arith, sym}
 use Rattle.std.proofs.Common.{ap, ◌∙◌, subst, length-append, eqb-true}
-use Rattle.std.specs.Prelude.{Some, All, Contains, find, reverse, slice_index_or}
+use Rattle.std.specs.Prelude.{Some, All, Contains, slice_index_or, not, ◌&&◌}
 use Rattle.std.specs.List.{IsDistinct}
 use Rattle.std.proofs.lemmas.Bool.{cases_Bool}
 use Rattle.std.proofs.lemmas.List.Elements.{All-cons, Contains-append_cases, Contains-append_right, Contains-get_or, recursion_from_All}
@@ -11,22 +11,25 @@ use Rattle.regalloc2_names.specs.declared.RegClass.TheVariants.{Int, Float, Vect
 use Rattle.regalloc2_names.specs.declared.sets.PRegSet.{PRegSet}
 use Rattle.regalloc2_names.specs.Register.{Register, VirtualRegister, is_register}
 use Rattle.regalloc2_names.specs.RegisterSet.{has_register}
-use Rattle.regalloc2_names.specs.Place.{Place, NoPlace, InRegister, InSlot, is_no_place}
+use Rattle.regalloc2_names.specs.Place.{Place, NoPlace, InRegister, InSlot}
 use Rattle.regalloc2_names.specs.Same.{is_register-true}
 use Rattle.regalloc2_function.specs.Fitting.{count_below, register_number}
 use Rattle.regalloc2_fastalloc_state.specs.declared.request.OperandRequest.{OperandRequest}
-use Rattle.regalloc2_fastalloc_state.specs.declared.request.Requirement.TheVariants.{AnyPlace, AnyReg, InMemory}
+use Rattle.regalloc2_fastalloc_state.specs.declared.request.Requirement.{Requirement}
+use Rattle.regalloc2_fastalloc_state.specs.declared.request.Requirement.TheVariants.{AnyPlace, AnyReg, InMemory, InPReg}
 use Rattle.regalloc2_fastalloc_state.specs.declared.inst_regs.Positions.{Positions}
 use Rattle.regalloc2_fastalloc_state.specs.declared.inst_regs.InstRegs.{InstRegs}
-use Rattle.regalloc2_fastalloc_state.specs.StateParts.{IsLruOf, AllocatableRegsValue, vreg_of_preg, lru_of}
+use Rattle.regalloc2_fastalloc_state.specs.StateParts.{IsLruOf, vreg_of_preg}
 use Rattle.regalloc2_fastalloc_state.specs.StateParts.{alloc_of}
-use Rattle.regalloc2_fastalloc_state.specs.InstRegs.{RemovesAvailable, is_free_throughout}
-use Rattle.regalloc2_fastalloc_proofs.specs.InstSteps.{StateValue, AllocsOperand, ClaimsPlace, SelectsPlace, MeetsRequirement, in_slot, in_register}
+use Rattle.regalloc2_fastalloc_state.specs.Choice.{chosen}
+use Rattle.regalloc2_fastalloc_state.specs.InstRegs.{RemovesAvailable, is_available_at, is_free_throughout}
+use Rattle.regalloc2_fastalloc_proofs.specs.InstSteps.{StateValue, SameButOrder, AllocsOperand, ClaimsPlace, SelectsPlace, MeetsRequirement, in_slot}
+use Rattle.regalloc2_fastalloc_proofs.specs.InstSteps.{in_register, UsesReg, UsesPlace, used, not_used, TakesPlace, order_of}
 use Rattle.regalloc2_fastalloc_proofs.specs.InstSteps.{own, others, empty, cleared, stays, fixed, slot, free, is_stack_in, EvictsOthers}
-use Rattle.regalloc2_fastalloc_walk.proofs.RegsReserved.{takes_held}
-use Rattle.regalloc2_fastalloc_walk.proofs.LruUnusedLast.{but, but_from, but_less, but_most, but_not, counted, found_last, newest_first, same_members}
-use Rattle.regalloc2_fastalloc_walk.specs.SpillFree.{FitInRegs, SelectsAnyReg, IsSpillFree, IsSpillFreeIn, AllocsAnyReg, Pokes, is_same_number}
-use Rattle.regalloc2_fastalloc_walk.specs.SpillFree.{newest, not_allocatable, least_recently_used_free, where_it_stands}
+use Rattle.regalloc2_unspilled_proofs.proofs.FreeAtAny.{free_at_any}
+use Rattle.regalloc2_unspilled_proofs.proofs.LruUnusedLast.{but, but_from, but_less, but_most, but_not, counted, found_last, newest_first, same_members}
+use Rattle.regalloc2_fastalloc_proofs.proofs.Safety.StepsKeepState.{whole_tidy}
+use Rattle.regalloc2_unspilled_proofs.specs.SpillFree.{FitInRegs, IsSpillFree, IsSpillFreeIn, is_same_number}
 
 -- two register classes are the same, or they aren't
 pub cases_class : (a b : RegClass) → (a ≡ b) ⊎ (a ≢ b)
@@ -72,10 +75,13 @@ pub record Taken (names : List VirtualRegister) (gone : ℕ → Bool) (n : ℕ) 
 -- other registers stay free
 pub free_others : (t u : InstRegs) (r : Register) (p : Positions) → RemovesAvailable t u r p → (q : Register) → is_register r q ≡ false →
     is_free_throughout t q ≡ true → is_free_throughout u q ≡ true
-free_others t u r p h q e f =
-    let early : has_register u.early q ≡ has_register t.early q = (takes_held t u r p h).early q e in
-    let late : has_register u.late q ≡ has_register t.late q = (takes_held t u r p h).late q e in
-    rw (early, late) f
+free_others t u r p h q e f = rw (h.early q, h.late q, e) (by p.early p.late (has_register t.early q) (has_register t.late q) f)
+  where
+    by : (a b c d : Bool) → (c && d) ≡ true → ((not (a && false) && c) && (not (b && false) && d)) ≡ true
+    by true true c d f = f
+    by true false c d f = f
+    by false true c d f = f
+    by false false c d f = f
 
 -- of another class nothing changes
 taken_elsewhere : (names : List VirtualRegister) (gone : ℕ → Bool) (n : ℕ) (r : Register) (class : RegClass) (old new : List Register) (t : StateValue)
@@ -188,160 +194,140 @@ occupied point o r t u old new only (in_register q m is clears holds) =
         EvictsOthers point q o.vreg t m old new → (new ≡ old) × (m ≡ t)
     by_clears q h (own w at number inst_regs same) = (same, inst_regs)
     by_clears q h (others ne (empty none inst_regs same)) = (same, inst_regs)
-    by_clears q h (others ne (cleared w s x small at gives settles edits machine crosses)) = absurd (ne w at (h w at))
+    by_clears q h (others ne (cleared w s x small at gives settles edits machine order crosses)) = absurd (ne w at (h w at))
 
 -- an operand that asks for any register has no other slot, and changes no table as it is picked
 pub picked_same : (inst_regs : InstRegs) (o : OperandRequest) (p : Place) (old new : StateValue) → o.requirement ≡ AnyReg → SelectsPlace inst_regs o p old new
     → new ≡ old
 picked_same inst_regs o p old new any (stays at suits same) = same
 picked_same inst_regs o p old new any (fixed r is at same) = same
-picked_same inst_regs o p old new any (slot asks gives places edits machine) =
+picked_same inst_regs o p old new any (slot asks gives places edits machine order) =
     absurd (elim asks [ inl a ↦ (let wrong : AnyPlace ≡ AnyReg = sym a ∙ any in cc) | inr b ↦ (let wrong : InMemory ≡ AnyReg = sym b ∙ any in cc) ])
-picked_same inst_regs o p old new any (free r asks may is_free at same) = same
+picked_same inst_regs o p old new any (free r asks away may is_free first at same) = same
 
--- What comes of it: a register is the operand's, no table changes, and the vreg was there or nowhere.
-pub record Got (names : List VirtualRegister) (gone : ℕ → Bool) (o : OperandRequest) (p : Place) (u : InstRegs) (old new : StateValue)
-    (before after : AllocatableRegsValue) : Type 0 where
+-- What comes of it: a register is the operand's, nothing but the order changes, and the vreg was there or nowhere, and no other one there.
+pub record Got (names : List VirtualRegister) (gone : ℕ → Bool) (o : OperandRequest) (p : Place) (u : InstRegs) (old new : StateValue) : Type 0 where
   pub register : Register
   pub is : p ≡ InRegister register
   pub small : register.number < 64
   pub allocatable : has_register old.allocatable register ≡ true
-  pub same : new ≡ old
+  pub same : SameButOrder old new
   pub stood_there : (alloc_of old.places o.vreg.number ≡ p) ⊎ (alloc_of old.places o.vreg.number ≡ NoPlace)
-  pub machine : after.allocatable ≡ before.allocatable
-  pub lrus : (class : RegClass) → IsLruOf after.allocatable class (lru_of after class)
-  pub each : (class : RegClass) → Taken names gone o.vreg.number register class (lru_of after class) old u
+  pub alone : (m : ℕ) → alloc_of old.places m ≡ InRegister register → m ≡ o.vreg.number
+  pub lrus : (class : RegClass) → IsLruOf old.allocatable class (order_of new class)
+  pub each : (class : RegClass) → Taken names gone o.vreg.number register class (order_of new class) old u
 
--- the LRU lists have the same members
-rings_kept : (r : Register) (before after : AllocatableRegsValue) → has_register before.allocatable r ≡ true → r.number < 64 → Pokes r before after →
-    ((class : RegClass) → IsLruOf before.allocatable class (lru_of before class))
-    → (after.allocatable ≡ before.allocatable) × ((class : RegClass) → IsLruOf after.allocatable class (lru_of after class))
-rings_kept r before after is small (not_allocatable lacks same) lrus = absurd (let x : true ≡ false = sym is ∙ lacks in cc)
-rings_kept r before after is small (newest listed machine here there) lrus = (
-  machine.allocatable,
-  λ class. elim (cases_class class r.class) [
-    | inl e ↦ subst (λ (c : RegClass). IsLruOf after.allocatable c (lru_of after c)) (sym e) turned
-    | inr e ↦ subst (λ (l : List Register). IsLruOf after.allocatable class l) (sym (there class e))
-        (subst (λ (s : PRegSet). IsLruOf s class (lru_of before class)) (sym machine.allocatable) (lrus class))
-  ],
-)
+-- the order of each class has the same members
+rings_kept : (r : Register) (old new : StateValue) → has_register old.allocatable r ≡ true → r.number < 64 → UsesReg r old new →
+    ((class : RegClass) → IsLruOf old.allocatable class (order_of old class)) → (class : RegClass) → IsLruOf old.allocatable class (order_of new class)
+rings_kept r old new is small uses lrus class = elim (cases_class class r.class) [
+  | inl e ↦ subst (λ (c : RegClass). IsLruOf old.allocatable c (order_of new c)) (sym e) turned
+  | inr e ↦ subst (λ (l : List Register). IsLruOf old.allocatable class l) (sym (uses.others class e)) (lrus class)
+]
   where
-    members : (q : Register) → Contains (lru_of after r.class) q → Contains (lru_of before r.class) q
-    members q c = (same_members r (lru_of before r.class) ((lrus r.class).all r small refl is) q).0 (subst (λ (l : List Register). Contains l q) here c)
+    members : (q : Register) → Contains (order_of new r.class) q → Contains (order_of old r.class) q
+    members q c = (same_members r (order_of old r.class) ((lrus r.class).all r small refl is) q).0
+        (subst (λ (l : List Register). Contains l q) uses.newest c)
 
-    turned : IsLruOf after.allocatable r.class (lru_of after r.class)
+    turned : IsLruOf old.allocatable r.class (order_of new r.class)
     turned = record {
       of_class = λ q c. (lrus r.class).of_class q (members q c);
-      has = λ q c. ap (λ (s : PRegSet). has_register s q) machine.allocatable ∙ (lrus r.class).has q (members q c);
-      all = λ q lt e has. subst (λ (l : List Register). Contains l q) (sym here)
-          ((same_members r (lru_of before r.class) ((lrus r.class).all r small refl is) q).1
-          ((lrus r.class).all q lt e (ap (λ (s : PRegSet). has_register s q) (sym machine.allocatable) ∙ has)));
+      has = λ q c. (lrus r.class).has q (members q c);
+      all = λ q lt e has. subst (λ (l : List Register). Contains l q) (sym uses.newest)
+          ((same_members r (order_of old r.class) ((lrus r.class).all r small refl is) q).1 ((lrus r.class).all q lt e has));
     }
 
 -- how each class stands, once the register is the newest of its own
-each_taken : (names : List VirtualRegister) (gone : ℕ → Bool) (n : ℕ) (r : Register) (before after : AllocatableRegsValue) (t : StateValue)
-    (inst_regs u : InstRegs) → has_register before.allocatable r ≡ true → Pokes r before after
-    → ((class : RegClass) → IsLruOf before.allocatable class (lru_of before class)) →
+each_taken : (names : List VirtualRegister) (gone : ℕ → Bool) (n : ℕ) (r : Register) (old new : StateValue) (inst_regs u : InstRegs) → UsesReg r old new
+    → ((class : RegClass) → IsLruOf old.allocatable class (order_of old class)) →
     ((q : Register) → is_register r q ≡ false → is_free_throughout inst_regs q ≡ true → is_free_throughout u q ≡ true)
-    → ((class : RegClass) → IsSpillFreeIn names gone class (lru_of before class) t inst_regs)
-    → (lru_of after r.class ≡ r ∷ but r (lru_of before r.class) → Taken names gone n r r.class (lru_of after r.class) t u) → (class : RegClass) →
-    Taken names gone n r class (lru_of after class) t u
-each_taken names gone n r before after t inst_regs u is (not_allocatable lacks same) lrus kept each here class =
-    absurd (let x : true ≡ false = sym is ∙ lacks in cc)
-each_taken names gone n r before after t inst_regs u is (newest listed machine first there) lrus kept each here class = elim (cases_class class r.class) [
-  | inl e ↦ subst (λ (c : RegClass). Taken names gone n r c (lru_of after c) t u) (sym e) (here first)
-  | inr e ↦ taken_elsewhere names gone n r class (lru_of before class) (lru_of after class) t inst_regs u e (λ q c. ((lrus class).of_class q c).0) kept
-      (there class e) (each class)
+    → ((class : RegClass) → IsSpillFreeIn names gone class (order_of old class) old inst_regs)
+    → (order_of new r.class ≡ r ∷ but r (order_of old r.class) → Taken names gone n r r.class (order_of new r.class) old u) → (class : RegClass) →
+    Taken names gone n r class (order_of new class) old u
+each_taken names gone n r old new inst_regs u uses lrus kept each here class = elim (cases_class class r.class) [
+  | inl e ↦ subst (λ (c : RegClass). Taken names gone n r c (order_of new c) old u) (sym e) (here uses.newest)
+  | inr e ↦ taken_elsewhere names gone n r class (order_of old class) (order_of new class) old inst_regs u e (λ q c. ((lrus class).of_class q c).0) kept
+      (uses.others class e) (each class)
 ]
 
 -- the vreg is located in the register
-stays_there : (names : List VirtualRegister) (gone : ℕ → Bool) (o : OperandRequest) (r : Register) (p : Place) (t u : InstRegs) (old : StateValue)
-    (before after : AllocatableRegsValue) → IsSpillFree names gone before old t → p ≡ InRegister r
-    → alloc_of old.places o.vreg.number ≡ p → has_register old.allocatable r ≡ true → r.number < 64 → Pokes r before after →
-    RemovesAvailable t u r o.positions → Got names gone o p u old old before after
-stays_there names gone o r p t u old before after h is at allocatable small touches holds =
-    let mine : has_register before.allocatable r ≡ true = ap (λ (s : PRegSet). has_register s r) h.allocatable ∙ allocatable in
-    let kept = rings_kept r before after mine small touches h.lrus in record {
-      register = r;
-      is = is;
-      small = small;
-      allocatable = allocatable;
-      same = refl;
-      stood_there = inl at;
-      machine = kept.0;
-      lrus = kept.1;
-      each = each_taken names gone o.vreg.number r before after old t u mine touches h.lrus (free_others t u r o.positions holds) h.each (λ first. here first);
-    }
+stays_there : (names : List VirtualRegister) (gone : ℕ → Bool) (o : OperandRequest) (r : Register) (p : Place) (t u : InstRegs) (old new : StateValue) →
+    IsSpillFree names gone old t → p ≡ InRegister r → alloc_of old.places o.vreg.number ≡ p → has_register old.allocatable r ≡ true → r.number < 64 →
+    UsesReg r old new → RemovesAvailable t u r o.positions → Got names gone o p u old new
+stays_there names gone o r p t u old new h is at allocatable small uses holds = record {
+  register = r;
+  is = is;
+  small = small;
+  allocatable = allocatable;
+  same = uses.rest;
+  stood_there = inl at;
+  alone = λ m e. (whole_tidy old h.whole).apart m o.vreg.number r e (at ∙ is);
+  lrus = rings_kept r old new allocatable small uses h.lrus;
+  each = each_taken names gone o.vreg.number r old new t u uses h.lrus (free_others t u r o.positions holds) h.each here;
+}
   where
-    mine : has_register before.allocatable r ≡ true
-    mine = ap (λ (s : PRegSet). has_register s r) h.allocatable ∙ allocatable
-
-    own_class : IsSpillFreeIn names gone r.class (lru_of before r.class) old t
+    own_class : IsSpillFreeIn names gone r.class (order_of old r.class) old t
     own_class = h.each r.class
 
-    here : lru_of after r.class ≡ r ∷ but r (lru_of before r.class) → Taken names gone o.vreg.number r r.class (lru_of after r.class) old u
+    here : order_of new r.class ≡ r ∷ but r (order_of old r.class) → Taken names gone o.vreg.number r r.class (order_of new r.class) old u
     here first =
-        let was_used : Contains own_class.used r = in_used names gone o.vreg.number r r.class (lru_of before r.class) old t own_class
-        ((h.lrus r.class).all r small refl mine) (at ∙ is) in
+        let was_used : Contains own_class.used r = in_used names gone o.vreg.number r r.class (order_of old r.class) old t own_class
+        ((h.lrus r.class).all r small refl allocatable) (at ∙ is) in
         let less : length (but r own_class.used) + 1 ≤ length own_class.used = but_less r own_class.used was_used in
         let few : length own_class.used ≤ length own_class.met = own_class.few in
-        taken_here names gone o.vreg.number r r.class (lru_of before r.class) (lru_of after r.class) old t u own_class.met (free_others t u r o.positions holds)
-        own_class
-        (first ∙ newest_first r own_class.used own_class.unused (lru_of before r.class) own_class.ring) (omega (arith, less, few)) own_class.distinct
+        taken_here names gone o.vreg.number r r.class (order_of old r.class) (order_of new r.class) old t u own_class.met
+        (free_others t u r o.positions holds) own_class
+        (first ∙ newest_first r own_class.used own_class.unused (order_of old r.class) own_class.ring) (omega (arith, less, few)) own_class.distinct
         own_class.of_class
         (λ v c. elim (own_class.known v c) [ inl a ↦ inl a | inr b ↦ inr (inl b) ])
 
--- the vreg had no location, and gets the register that was used longest ago, which no vreg used
-comes_there : (names : List VirtualRegister) (gone : ℕ → Bool) (o : OperandRequest) (r : Register) (p : Place) (t u : InstRegs) (old : StateValue)
-    (before after : AllocatableRegsValue) (h : IsSpillFree names gone before old t) → p ≡ InRegister r
-    → alloc_of old.places o.vreg.number ≡ NoPlace → FitInRegs names old.allocatable → Contains names o.vreg → gone o.vreg.number ≡ false →
-    Contains (h.each o.vreg.class).unused r → Pokes r before after → RemovesAvailable t u r o.positions
-    → Got names gone o p u old old before after
-comes_there names gone o r p t u old before after h is nowhere are_few named there unused touches holds = record {
+-- the vreg had no location, and gets the register that is chosen, which no vreg used
+comes_there : (names : List VirtualRegister) (gone : ℕ → Bool) (o : OperandRequest) (r : Register) (p : Place) (t u : InstRegs) (old new : StateValue)
+    (h : IsSpillFree names gone old t) → p ≡ InRegister r → alloc_of old.places o.vreg.number ≡ NoPlace → FitInRegs names old.allocatable →
+    Contains names o.vreg → gone o.vreg.number ≡ false → Contains (h.each o.vreg.class).unused r → UsesReg r old new →
+    RemovesAvailable t u r o.positions → Got names gone o p u old new
+comes_there names gone o r p t u old new h is nowhere are_few named there unused uses holds = record {
   register = r;
   is = is;
   small = in_ring.1;
-  allocatable = ap (λ (s : PRegSet). has_register s r) (sym h.allocatable) ∙ mine;
-  same = refl;
+  allocatable = mine;
+  same = uses.rest;
   stood_there = inr nowhere;
-  machine = kept.0;
-  lrus = kept.1;
-  each = each_taken names gone o.vreg.number r before after old t u mine touches h.lrus (free_others t u r o.positions holds) h.each here;
+  alone = λ m e. absurd (own_class.empty m r e unused);
+  lrus = rings_kept r old new mine in_ring.1 uses h.lrus;
+  each = each_taken names gone o.vreg.number r old new t u uses h.lrus (free_others t u r o.positions holds) h.each here;
 }
   where
-    own_class : IsSpillFreeIn names gone o.vreg.class (lru_of before o.vreg.class) old t
+    own_class : IsSpillFreeIn names gone o.vreg.class (order_of old o.vreg.class) old t
     own_class = h.each o.vreg.class
 
-    member : Contains (lru_of before o.vreg.class) r
+    member : Contains (order_of old o.vreg.class) r
     member = subst (λ (l : List Register). Contains l r) (sym own_class.ring) (Contains-append_right own_class.used own_class.unused r unused)
 
     in_ring : (r.class ≡ o.vreg.class) × (r.number < 64)
     in_ring = (h.lrus o.vreg.class).of_class r member
 
-    mine : has_register before.allocatable r ≡ true
+    mine : has_register old.allocatable r ≡ true
     mine = (h.lrus o.vreg.class).has r member
 
-    kept : (after.allocatable ≡ before.allocatable) × ((class : RegClass) → IsLruOf after.allocatable class (lru_of after class))
-    kept = rings_kept r before after mine in_ring.1 touches h.lrus
-
-    by_class : lru_of after o.vreg.class ≡ r ∷ but r (lru_of before o.vreg.class) →
-        Taken names gone o.vreg.number r o.vreg.class (lru_of after o.vreg.class) old u
+    by_class : order_of new o.vreg.class ≡ r ∷ but r (order_of old o.vreg.class) →
+        Taken names gone o.vreg.number r o.vreg.class (order_of new o.vreg.class) old u
     by_class first =
-        let more = one_more names gone o.vreg (lru_of before o.vreg.class) old t own_class nowhere there named in
+        let more = one_more names gone o.vreg (order_of old o.vreg.class) old t own_class nowhere there named in
         let most : length (but r own_class.used) ≤ length own_class.used = but_most r own_class.used in
         let few : length own_class.used ≤ length own_class.met = own_class.few in
-        taken_here names gone o.vreg.number r o.vreg.class (lru_of before o.vreg.class) (lru_of after o.vreg.class) old t u (o.vreg ∷ own_class.met)
+        taken_here names gone o.vreg.number r o.vreg.class (order_of old o.vreg.class) (order_of new o.vreg.class) old t u (o.vreg ∷ own_class.met)
         (free_others t u r o.positions holds) own_class
-        (first ∙ newest_first r own_class.used own_class.unused (lru_of before o.vreg.class) own_class.ring) (omega (arith, most, few)) more.0 more.1 known
+        (first ∙ newest_first r own_class.used own_class.unused (order_of old o.vreg.class) own_class.ring) (omega (arith, most, few)) more.0 more.1 known
       where
         known : (v : VirtualRegister) → Contains (o.vreg ∷ own_class.met) v → (alloc_of old.places v.number ≢ NoPlace)
             ⊎ ((gone v.number ≡ true) ⊎ (v.number ≡ o.vreg.number))
         known v (zero, less, at) = inr (inr (ap (λ (w : VirtualRegister). w.number) (sym at)))
         known v (suc k, less, at) = elim (own_class.known v (k, omega arith, at)) [ inl a ↦ inl a | inr b ↦ inr (inl b) ]
 
-    here : lru_of after r.class ≡ r ∷ but r (lru_of before r.class) → Taken names gone o.vreg.number r r.class (lru_of after r.class) old u
-    here first = subst (λ (c : RegClass). Taken names gone o.vreg.number r c (lru_of after c) old u) (sym in_ring.0)
-        (by_class (subst (λ (c : RegClass). lru_of after c ≡ r ∷ but r (lru_of before c)) in_ring.0 first))
+    here : order_of new r.class ≡ r ∷ but r (order_of old r.class) → Taken names gone o.vreg.number r r.class (order_of new r.class) old u
+    here first = subst (λ (c : RegClass). Taken names gone o.vreg.number r c (order_of new c) old u) (sym in_ring.0)
+        (by_class (subst (λ (c : RegClass). order_of new c ≡ r ∷ but r (order_of old c)) in_ring.0 first))
 
 -- a place that meets `AnyReg` is a register that isn't in memory
 suits_register : (t : StateValue) (p : Place) → MeetsRequirement t AnyReg p → (r : Register) × (p ≡ InRegister r) × (is_stack_in t p ≡ false)
@@ -353,55 +339,57 @@ pub suits_so : (t : StateValue) (p : Place) (r : Register) → p ≡ InRegister 
 unfolding MeetsRequirement
 suits_so t p r e apart = (r, e, ap (is_stack_in t) e ∙ apart)
 
--- no place at all doesn't meet the requirement of any register
-pub suits_none : (t : StateValue) (p : Place) → p ≡ NoPlace → MeetsRequirement t AnyReg p → ⊥
-unfolding MeetsRequirement
-suits_none t p e (r, is, apart) = (let wrong : NoPlace ≡ InRegister r = sym e ∙ is in cc)
+-- a register that may be allocated and that an operand asked for as any is used
+used_it : (r : Register) (w : Requirement) (p : Place) (old new : StateValue) → w ≡ AnyReg → p ≡ InRegister r → has_register old.allocatable r ≡ true →
+    UsesPlace w p old new → UsesReg r old new
+used_it r w p old new any is has (used q wants at there uses) = subst (λ (x : Register). UsesReg x old new) (in_register_same q r (sym at ∙ is)) uses
+used_it r w p old new any is has (not_used none same) = absurd (let wrong : true ≡ false = sym has ∙ none r (inr any) is in cc)
 
 -- An operand that asks for any register gets one so.
-pub operand_got : {names : List VirtualRegister} {gone : ℕ → Bool} {point : ℕ} {o : OperandRequest} {p : Place} {t u : InstRegs} {old new : StateValue}
-    {before after : AllocatableRegsValue} → o.requirement ≡ AnyReg → IsSpillFree names gone before old t
-    → FitInRegs names old.allocatable → Contains names o.vreg → gone o.vreg.number ≡ false → AllocsAnyReg t o.vreg p old before after →
-    AllocsOperand point o p t u old new → Got names gone o p u old new before after
-operand_got {names} {gone} {point} {o} {p} {t} {u} {old} {new} {before} {after} any h few named there takes gets = by takes.chooses
+pub operand_got : {names : List VirtualRegister} {gone : ℕ → Bool} {point : ℕ} {o : OperandRequest} {p : Place} {t u : InstRegs} {old new : StateValue} →
+    o.requirement ≡ AnyReg → IsSpillFree names gone old t → FitInRegs names old.allocatable → Contains names o.vreg → gone o.vreg.number ≡ false →
+    AllocsOperand point o p t u old new → Got names gone o p u old new
+operand_got {names} {gone} {point} {o} {p} {t} {u} {old} {new} any h few named there gets = by (subst (SelectsPlace t o p old) middle gets.picks)
   where
     middle : gets.middle ≡ old
     middle = picked_same t o p old gets.middle any gets.picks
 
+    taken : TakesPlace point o p t u old new
+    taken = subst (λ (x : StateValue). TakesPlace point o p t u x new) middle gets.takes
+
     -- no other vreg is in the register
-    claimed : (r : Register) → p ≡ InRegister r → ((w : VirtualRegister) → vreg_of_preg old.places r ≡ Some w → w.number ≡ o.vreg.number) → (new ≡ old)
-        × RemovesAvailable t u r o.positions
-    claimed r is only = occupied point o r t u old new only (subst (λ (q : Place). ClaimsPlace point o q t u old new) is
-        (subst (λ (x : StateValue). ClaimsPlace point o p t u x new) middle gets.occupies))
+    claimed : (r : Register) → p ≡ InRegister r → ((w : VirtualRegister) → vreg_of_preg old.places r ≡ Some w → w.number ≡ o.vreg.number) →
+        (taken.claimed ≡ old) × RemovesAvailable t u r o.positions
+    claimed r is only = occupied point o r t u old taken.claimed only (subst (λ (q : Place). ClaimsPlace point o q t u old taken.claimed) is taken.occupies)
 
-    onward : (r : Register) → (new ≡ old) × RemovesAvailable t u r o.positions →
-        (RemovesAvailable t u r o.positions → Got names gone o p u old old before after) → Got names gone o p u old new before after
-    onward r (same, holds) got = subst (λ (x : StateValue). Got names gone o p u old x before after) (sym same) (got holds)
+    onward : (r : Register) → p ≡ InRegister r → has_register old.allocatable r ≡ true → (taken.claimed ≡ old) × RemovesAvailable t u r o.positions →
+        (UsesReg r old new → RemovesAvailable t u r o.positions → Got names gone o p u old new) → Got names gone o p u old new
+    onward r is has (same, holds) got =
+        got (used_it r o.requirement p old new any is has (subst (λ (x : StateValue). UsesPlace o.requirement p x new) same taken.uses)) holds
 
-    by : SelectsAnyReg t o.vreg before old p → Got names gone o p u old new before after
-    by (where_it_stands at suits) =
-        let r : Register = (suits_register old p suits).0 in
-        let is : p ≡ InRegister r = (suits_register old p suits).1 in
+    by : SelectsPlace t o p old old → Got names gone o p u old new
+    by (stays at suits same) =
+        let reg = suits_register old p (subst (λ (w : Requirement). MeetsRequirement old w p) any suits) in
+        let r : Register = reg.0 in
+        let is : p ≡ InRegister r = reg.1 in
         let current = h.stand o.vreg.number (λ e. (let wrong : InRegister r ≡ NoPlace = sym is ∙ sym at ∙ e in cc)) in
-        let same : r ≡ current.0 = in_register_same r current.0 (sym is ∙ sym at ∙ current.1) in
-        let allocatable : has_register old.allocatable r ≡ true = ap (has_register old.allocatable) same ∙ current.2 in
-        let small : r.number < 64 = takes.inverse.small o.vreg.number r (at ∙ is) in
-        onward r (claimed r is (λ w holds. (let own = takes.inverse.vreg_allocs o.vreg.number r (at ∙ is) in
-        ap (λ (v : VirtualRegister). v.number) (some_same w own.0 (sym holds ∙ own.2)) ∙ own.1)))
-        (stays_there names gone o r p t u old before after h is at allocatable small (takes.touches r is))
-    by (least_recently_used_free among r unsuited all found is) =
-        let nowhere : alloc_of old.places o.vreg.number ≡ NoPlace = nobody unsuited in
+        let one : r ≡ current.0 = in_register_same r current.0 (sym is ∙ sym at ∙ current.1) in
+        let allocatable : has_register old.allocatable r ≡ true = ap (has_register old.allocatable) one ∙ current.2 in
+        let whole = h.whole.stands_in o.vreg.number r (at ∙ is) in
+        onward r is allocatable (claimed r is (λ w holds. ap (λ (v : VirtualRegister). v.number) (some_same w whole.1.0 (sym holds ∙ whole.1.2)) ∙ whole.1.1))
+        (stays_there names gone o r p t u old new h is at allocatable whole.0)
+    by (fixed r asks is same) = absurd (let wrong : InPReg r ≡ AnyReg = sym asks ∙ any in cc)
+    by (slot asks gives places edits machine order) =
+        absurd (elim asks [ inl a ↦ (let wrong : AnyPlace ≡ AnyReg = sym a ∙ any in cc) | inr b ↦ (let wrong : InMemory ≡ AnyReg = sym b ∙ any in cc) ])
+    by (free r asks away may is_free first is same) =
+        let nowhere : alloc_of old.places o.vreg.number ≡ NoPlace = nobody (away any) in
         let own_class = h.each o.vreg.class in
-        let lrus : IsLruOf old.allocatable o.vreg.class (lru_of before o.vreg.class) = subst (λ (s : PRegSet). IsLruOf s o.vreg.class
-        (lru_of before o.vreg.class)) h.allocatable (h.lrus o.vreg.class) in
-        let some : 0 < length own_class.unused = is_left names gone o.vreg (lru_of before o.vreg.class) old.allocatable old t own_class lrus few nowhere there
-        named in
-        let unused : Contains own_class.unused r = found_last (has_register among) own_class.used own_class.unused r some (λ q c. all q (own_class.free q c))
-        (ap (λ (l : List Register). find (has_register among) (reverse l)) (sym own_class.ring) ∙ found) in
-        let small : r.number < 64 = ((h.lrus o.vreg.class).of_class r (subst (λ (l : List Register). Contains l r) (sym own_class.ring)
-        (Contains-append_right own_class.used own_class.unused r unused))).1 in
-        onward r (claimed r is (λ w holds. absurd (own_class.empty w.number r (takes.inverse.holds r w small holds) unused)))
-        (comes_there names gone o r p t u old before after h is nowhere few named there unused (takes.touches r is))
+        let some : 0 < length own_class.unused = is_left names gone o.vreg (order_of old o.vreg.class) old.allocatable old t own_class (h.lrus o.vreg.class) few
+        nowhere there named in
+        let unused : Contains own_class.unused r = found_last (is_available_at t o.positions) own_class.used own_class.unused r some
+        (λ q c. free_at_any t o.positions q (own_class.free q c)) (ap (chosen (is_available_at t o.positions)) (sym own_class.ring) ∙ first) in
+        onward r is may.allocatable (claimed r is (λ w holds. absurd (own_class.empty w.number r (h.whole.holds r w may.small holds) unused)))
+        (comes_there names gone o r p t u old new h is nowhere few named there unused)
       where
         nobody : (MeetsRequirement old AnyReg (alloc_of old.places o.vreg.number) → ⊥) → alloc_of old.places o.vreg.number ≡ NoPlace
         nobody unsuited = elim (cases_place (alloc_of old.places o.vreg.number)) [
@@ -409,9 +397,3 @@ operand_got {names} {gone} {point} {o} {p} {t} {u} {old} {new} {before} {after} 
           | inr e ↦ (let current = h.stand o.vreg.number e in
               absurd (unsuited (suits_so old (alloc_of old.places o.vreg.number) current.0 current.1 (h.apart.allocatable current.0 current.2))))
         ]
-
--- a place that tests as none is none
-pub no_place_is : (p : Place) → is_no_place p ≡ true → p ≡ NoPlace
-no_place_is NoPlace e = refl
-no_place_is (InRegister r) e = absurd cc
-no_place_is (InSlot n) e = absurd cc

@@ -16,7 +16,7 @@ use Rattle.regalloc2_names.specs.Point.{after}
 use Rattle.regalloc2_names.specs.Operand.{OperandValue, fixed_register, is_def, is_late, is_reading}
 use Rattle.regalloc2_names.specs.Place.{Place, NoPlace, InRegister, is_place}
 use Rattle.regalloc2_names.specs.Same.{is_place-same}
-use Rattle.regalloc2_function.specs.FunctionValue.{FunctionValue, block_at, inst_at}
+use Rattle.regalloc2_function.specs.FunctionValue.{FunctionValue, InstValue, block_at, inst_at}
 use Rattle.regalloc2_function.specs.Machine.{MachineValue}
 use Rattle.regalloc2_function.specs.SourceRun.{arguments_at}
 use Rattle.regalloc2_function.specs.WellFormed.{IsWellFormed, last_of}
@@ -28,10 +28,10 @@ use Rattle.regalloc2_branch_defs.proofs.BlockEnds.{last_within}
 use Rattle.regalloc2_fastalloc_state.proofs.VRegInPRegInverse.{same_number}
 use Rattle.regalloc2_fastalloc_state.specs.declared.inst_regs.InstRegs.{InstRegs}
 use Rattle.regalloc2_fastalloc_state.specs.ScratchPool.{Moves}
-use Rattle.regalloc2_fastalloc_state.specs.StateParts.{IsLruOf, AllocatableRegsValue, SpillSlotsValue, lru_of, slot_name, alloc_of}
+use Rattle.regalloc2_fastalloc_state.specs.StateParts.{IsLruOf, SpillSlotsValue, slot_name, alloc_of}
 use Rattle.regalloc2_fastalloc_state.specs.InstRegs.{is_free_throughout}
 use Rattle.regalloc2_validate.specs.Constraints.{op_at}
-use Rattle.regalloc2_fastalloc_proofs.specs.InstSteps.{StateValue, EvictsEach, EvictsFixed, RemovesClobbers, MovesUses, ReservesRegs}
+use Rattle.regalloc2_fastalloc_proofs.specs.InstSteps.{StateValue, AllocsInst, EvictsEach, EvictsFixed, RemovesClobbers, MovesUses, ReservesRegs, order_of}
 use Rattle.regalloc2_fastalloc_proofs.specs.InstSteps.{none_cleared, not_fixed, of_fixed, of_reuse, none_left, one_more, none_moved, not_moved}
 use Rattle.regalloc2_fastalloc_proofs.specs.InstSteps.{one_moved}
 use Rattle.regalloc2_fastalloc_proofs.specs.BranchSteps.{AreApart, ClassMove, GathersMoves, GathersEdgeMoves, no_edge, none_gathered, of_class, one_edge}
@@ -39,19 +39,20 @@ use Rattle.regalloc2_fastalloc_proofs.specs.BranchSteps.{one_gathered, own_argum
 use Rattle.regalloc2_fastalloc_proofs.specs.BlockStart.{ReloadsParams, none_begun, one_begun}
 use Rattle.regalloc2_fastalloc_proofs.specs.InstSteps.{IsFresh, PreparesRegs}
 use Rattle.regalloc2_fastalloc_proofs.specs.StoreSteps.{IsStoredFor, branch_operands, given as given_param, its_own}
-use Rattle.regalloc2_fastalloc_walk.proofs.OperandsSpillFree.{unsent_same}
-use Rattle.regalloc2_fastalloc_walk.proofs.OperandTakesFreeReg.{cases_place}
-use Rattle.regalloc2_fastalloc_walk.specs.SpillFree.{ArePlaced, ArePlain, HasRegOperandsOnly, IsDefinedIn, IsSpillFree, IsSpillFreeFrom}
-use Rattle.regalloc2_fastalloc_walk.specs.SpillFree.{IsSpillFreeIn, LeavesSpillFree, is_same_number}
+use Rattle.regalloc2_unspilled_proofs.proofs.OperandsSpillFree.{operands_placed, unsent_same}
+use Rattle.regalloc2_unspilled_proofs.proofs.OperandTakesFreeReg.{cases_place}
+use Rattle.regalloc2_unspilled_proofs.specs.SpillFree.{ArePlaced, ArePlain, FitInRegs, HasRegOperandsOnly, IsDefinedIn, IsSpillFree, IsSpillFreeFrom}
+use Rattle.regalloc2_fastalloc_proofs.proofs.Safety.StepsKeepState.{IsWhole}
+use Rattle.regalloc2_unspilled_proofs.specs.SpillFree.{IsSpillFreeIn, LeavesSpillFree, is_same_number}
 
 -- the registers that weren't used are available at another instruction
-with_turn : (names : List VirtualRegister) (gone : ℕ → Bool) (regs : AllocatableRegsValue) (t : StateValue) (u w : InstRegs) → IsSpillFree names gone regs t u →
-    ((r : Register) → has_register t.allocatable r ≡ true → is_free_throughout u r ≡ true → is_free_throughout w r ≡ true) → IsSpillFree names gone regs t w
-with_turn names gone regs t u w h kept = record {
+with_turn : (names : List VirtualRegister) (gone : ℕ → Bool) (t : StateValue) (u w : InstRegs) → IsSpillFree names gone t u →
+    ((r : Register) → has_register t.allocatable r ≡ true → is_free_throughout u r ≡ true → is_free_throughout w r ≡ true) → IsSpillFree names gone t w
+with_turn names gone t u w h kept = record {
   no_moves = h.no_moves;
   no_slots = h.no_slots;
   no_units = h.no_units;
-  allocatable = h.allocatable;
+  whole = h.whole;
   apart = h.apart;
   lrus = h.lrus;
   stand = h.stand;
@@ -71,41 +72,38 @@ with_turn names gone regs t u w h kept = record {
   });
 }
   where
-    allocatable : (class : RegClass) (e : IsSpillFreeIn names gone class (lru_of regs class) t u) (r : Register) → Contains e.unused r →
+    allocatable : (class : RegClass) (e : IsSpillFreeIn names gone class (order_of t class) t u) (r : Register) → Contains e.unused r →
         has_register t.allocatable r ≡ true
-    allocatable class e r c = ap (λ (s : PRegSet). has_register s r) (sym h.allocatable)
-        ∙ (h.lrus class).has r (subst (λ (l : List Register). Contains l r) (sym e.ring) (Contains-append_right e.used e.unused r c))
+    allocatable class e r c = (h.lrus class).has r (subst (λ (l : List Register). Contains l r) (sym e.ring) (Contains-append_right e.used e.unused r c))
 
 -- all are free before an instruction
-fresh_free : (t : StateValue) (w : InstRegs) (r : Register) → IsFresh w t → has_register t.allocatable r ≡ true → is_free_throughout w r ≡ true
-fresh_free t w r fresh has = rw (fresh.early r, fresh.late r, has) refl
-
--- a state without moves and slots, with registers for all vregs, stays one where an instruction starts with all registers available
-pub refreshed : (names : List VirtualRegister) (gone : ℕ → Bool) (regs : AllocatableRegsValue) (t : StateValue) (u w : InstRegs) →
-    IsSpillFree names gone regs t u → IsFresh w t → IsSpillFree names gone regs t w
-refreshed names gone regs t u w h fresh = with_turn names gone regs t u w h (λ r has free. fresh_free t w r fresh has)
+fresh_free : (old : StateValue) (began : InstRegs) → IsFresh began old → (r : Register) → has_register old.allocatable r ≡ true →
+    is_free_throughout began r ≡ true
+fresh_free old began fresh r has = rw (fresh.early r, fresh.late r, has) refl
 
 -- nothing is reserved where all operands are under `Reg`
-pub reserved_none : (names : List VirtualRegister) (gone : ℕ → Bool) (regs : AllocatableRegsValue) (operands : List OperandValue) (t : StateValue)
-    (u w : InstRegs) → ((k : ℕ) → k < length operands → (op_at operands k).constraint ≡ Reg) → ReservesRegs operands u w t → IsSpillFree names gone regs t u
-    → IsSpillFree names gone regs t w
-reserved_none names gone regs operands t u w reg reserves h = with_turn names gone regs t u w h (λ r has free. elim (cases_Bool (is_free_throughout w r)) [
+pub reserved_none : (names : List VirtualRegister) (gone : ℕ → Bool) (operands : List OperandValue) (t : StateValue) (u w : InstRegs) →
+    ((k : ℕ) → k < length operands → (op_at operands k).constraint ≡ Reg) → ReservesRegs operands u w t → IsSpillFree names gone t u
+    → IsSpillFree names gone t w
+reserved_none names gone operands t u w reg reserves h = with_turn names gone t u w h (λ r has free. elim (cases_Bool (is_free_throughout w r)) [
   | inl e ↦ e
   | inr e ↦ (let fixed = reserves.only r free e in absurd (let wrong : FixedReg r ≡ Reg = sym fixed.2 ∙ reg fixed.0 fixed.1 in cc))
 ])
 
 -- nor held where there are no clobbers
-pub held_none : (names : List VirtualRegister) (gone : ℕ → Bool) (regs : AllocatableRegsValue) (clobbers : PRegSet) (t : StateValue) (u w : InstRegs) →
-    ((r : Register) → has_register clobbers r ≡ false) → RemovesClobbers clobbers u w → IsSpillFree names gone regs t u
-    → IsSpillFree names gone regs t w
-held_none names gone regs clobbers t u w none holds h = with_turn names gone regs t u w h (λ r has free.
+pub held_none : (names : List VirtualRegister) (gone : ℕ → Bool) (clobbers : PRegSet) (t : StateValue) (u w : InstRegs) →
+    ((r : Register) → has_register clobbers r ≡ false) → RemovesClobbers clobbers u w → IsSpillFree names gone t u → IsSpillFree names gone t w
+held_none names gone clobbers t u w none holds h = with_turn names gone t u w h (λ r has free.
     (let parts = and_parts (has_register u.early r) (has_register u.late r) free in rw (holds.early r, holds.late r, none r, parts.0, parts.1) refl))
 
 -- nothing is cleared
 pub cleared_none : (point : ℕ) (operands : List OperandValue) (t : InstRegs) (old : StateValue) (n : ℕ) (u : InstRegs) (new : StateValue) →
     n ≤ length operands → ((k : ℕ) → k < length operands → (op_at operands k).constraint ≡ Reg) → EvictsFixed point operands t old n u new → (u ≡ t)
     × (new ≡ old)
-cleared_none point operands t old n u new le reg none_cleared = (refl, refl)
+cleared_none point operands t old n u new le reg (none_cleared order used) = (
+  refl,
+  ap (λ (l : List (List Register)). record old { lrus = l }) (used (λ k r lt e. (let wrong : FixedReg r ≡ Reg = sym e ∙ reg k lt in cc))),
+)
 cleared_none point operands t old n u new le reg (not_fixed k x m before a b) = cleared_none point operands t old k u new (omega (arith, le)) reg before
 cleared_none point operands t old n u new le reg (of_fixed k r x y m o before is clears) =
     absurd (let wrong : FixedReg r ≡ Reg = sym is ∙ reg k (omega (arith, le)) in cc)
@@ -135,26 +133,27 @@ moved_none point operands here t old n u new at (one_moved k x y m o before read
     sends).1 ∙ rest
 
 -- before operands are allocated nothing changes but the instruction's registers
-pub ready : {names : List VirtualRegister} {gone : ℕ → Bool} {i : ℕ} {operands : List OperandValue} {clobbers : PRegSet} {regs regs_now : AllocatableRegsValue}
-    {old new : StateValue} {t quiet : InstRegs} → ((k : ℕ) → k < length operands → (op_at operands k).constraint ≡ Reg)
-    → ((r : Register) → has_register clobbers r ≡ false) → regs_now ≡ regs → PreparesRegs i operands clobbers t quiet old new → IsSpillFree names gone regs old t
-    → (new ≡ old) × IsSpillFree names gone regs_now new quiet
-ready {names} {gone} {i} {operands} {clobbers} {regs} {old} {new} {t} {quiet} reg none same p h =
+ready : {names : List VirtualRegister} {gone : ℕ → Bool} {i : ℕ} {operands : List OperandValue} {clobbers : PRegSet} {old new : StateValue}
+    {u began quiet : InstRegs} → ((k : ℕ) → k < length operands → (op_at operands k).constraint ≡ Reg)
+    → ((r : Register) → has_register clobbers r ≡ false) → IsFresh began old → PreparesRegs i operands clobbers began quiet old new → IsSpillFree names gone old u
+    → (new ≡ old) × IsSpillFree names gone new quiet
+ready {names} {gone} {i} {operands} {clobbers} {old} {new} {u} {began} {quiet} reg none fresh p h =
     let f = cleared_none (after i) operands p.held old (length operands) p.cleared p.middle (omega arith) reg p.fixed in
     let c = cleared_all_none (after i) (registers_of clobbers) p.cleared p.middle quiet new
     (λ r c. (let wrong : true ≡ false = sym (listed_is clobbers r c).1 ∙ none r in cc)) p.emptied in
     let tables : new ≡ old = c.1 ∙ f.1 in
     let inst_regs : quiet ≡ p.held = c.0 ∙ f.0 in (
       tables,
-      rw (same, tables, inst_regs) (held_none names gone regs clobbers old p.reserved p.held none p.holds
-          (reserved_none names gone regs operands old t p.reserved reg p.reserves h)),
+      rw (tables, inst_regs) (held_none names gone clobbers old p.reserved p.held none p.holds
+          (reserved_none names gone operands old began p.reserved reg p.reserves
+          (with_turn names gone old u began h (λ r has free. fresh_free old began fresh r has)))),
     )
 
 -- early operands may be placed after late ones
-pub early_plain : (names : List VirtualRegister) (gone : ℕ → Bool) (operands : List OperandValue) (here half : List Place) (regs : AllocatableRegsValue)
-    (old t : StateValue) (u : InstRegs) → ((late : Bool) → ArePlain names gone operands late)
-    → (h : ArePlaced names gone operands true (length operands) here half regs old t u) → ArePlain names h.gone_now operands false
-early_plain names gone operands here half regs old t u plain h = record {
+pub early_plain : (names : List VirtualRegister) (gone : ℕ → Bool) (operands : List OperandValue) (here half : List Place) (old t : StateValue) (u : InstRegs) →
+    ((late : Bool) → ArePlain names gone operands late) → (h : ArePlaced names gone operands true (length operands) here half old t u) →
+    ArePlain names h.gone_now operands false
+early_plain names gone operands here half old t u plain h = record {
   under_reg = (plain false).under_reg;
   named = (plain false).named;
   there = λ k lt at. elim (cases_Bool (h.gone_now (op_at operands k).vreg.number)) [
@@ -169,12 +168,12 @@ early_plain names gone operands here half regs old t u plain h = record {
 }
 
 -- an instruction is done
-pub inst_done : {names : List VirtualRegister} {gone : ℕ → Bool} {point : ℕ} {operands : List OperandValue} {here half places : List Place}
-    {a b c : AllocatableRegsValue} {t0 t1 t2 t3 : StateValue} {u1 u2 u3 : InstRegs} → ((late : Bool) → ArePlain names gone operands late)
-    → (h : ArePlaced names gone operands true (length operands) here half a t0 t1 u1) →
-    ArePlaced names h.gone_now operands false (length operands) half places b t1 t2 u2 → MovesUses point operands places u2 t2 (length operands) u3 t3 →
-    c ≡ b → LeavesSpillFree names gone operands c t3
-inst_done {names} {point} {operands} {places} {b} {t2} {t3} {u2} {u3} plain h e moves regs = record {
+inst_done : {names : List VirtualRegister} {gone : ℕ → Bool} {point : ℕ} {operands : List OperandValue} {here half places : List Place}
+    {t0 t1 t2 t3 : StateValue} {u1 u2 u3 : InstRegs} → ((late : Bool) → ArePlain names gone operands late)
+    → (h : ArePlaced names gone operands true (length operands) here half t0 t1 u1) →
+    ArePlaced names h.gone_now operands false (length operands) half places t1 t2 u2 → MovesUses point operands places u2 t2 (length operands) u3 t3 →
+    LeavesSpillFree names gone operands t3
+inst_done {names} {point} {operands} {places} {t2} {t3} {u2} {u3} plain h e moves = record {
   gone_now = e.gone_now;
   only = λ n g. elim (e.only n g) [
     | inl x ↦ elim (h.only n x) [ inl y ↦ inl y | inr y ↦ inr (y.0, y.1, y.3, y.4) ]
@@ -186,8 +185,7 @@ inst_done {names} {point} {operands} {places} {b} {t2} {t3} {u2} {u3} plain h e 
     | inr early ↦ e.goes n (x.0, x.1, early, x.2, x.3)
   ];
   inst_regs = u2;
-  spill_free = subst (λ (r : AllocatableRegsValue). IsSpillFree names e.gone_now r t3 u2) (sym regs)
-      (subst (λ (x : StateValue). IsSpillFree names e.gone_now b x u2) (sym same) e.spill_free);
+  spill_free = subst (λ (x : StateValue). IsSpillFree names e.gone_now x u2) (sym same) e.spill_free;
 }
   where
     early_not_late : (k : ℕ) → k < length operands → is_late (op_at operands k).position ≡ true → (j : ℕ) × (j < length operands)
@@ -207,6 +205,21 @@ inst_done {names} {point} {operands} {places} {b} {t2} {t3} {u2} {u3} plain h e 
 
     same : t3 ≡ t2
     same = moved_none point operands places u2 t2 (length operands) u3 t3 at_place moves
+
+-- An instruction is allocated without moves and slots, and so may be those before it.
+pub inst_spill_free : {names : List VirtualRegister} {gone : ℕ → Bool} {i : ℕ} (inst : InstValue) {blank places : List Place} {old new : StateValue}
+    {u : InstRegs} → FitInRegs names old.allocatable → ((late : Bool) → ArePlain names gone inst.operands late) →
+    ((r : Register) → has_register inst.clobbers r ≡ false) → AllocsInst i inst blank places old new → IsSpillFree names gone old u →
+    LeavesSpillFree names gone inst.operands new
+inst_spill_free {names} {gone} inst {blank} few plain none a h =
+    let ops : List OperandValue = inst.operands in
+    let begun = ready (plain true).under_reg none a.fresh a.prepares h in
+    let few4 : FitInRegs names a.after_clobbers.allocatable = subst (λ (t : StateValue). FitInRegs names t.allocatable) (sym begun.0) few in
+    let late = operands_placed few4 (plain true) a.long (λ j at. a.no_places j) begun.1 (omega arith) a.lates in
+    let few5 : FitInRegs names a.after_late.allocatable = subst (FitInRegs names) (sym late.machine) few4 in
+    let early = operands_placed few5 (early_plain names gone ops blank a.half a.after_clobbers a.after_late a.late plain late) (late.long ∙ a.long)
+    (λ j at. late.others j (λ e. absurd (let no : true ≡ false = sym e ∙ at in cc)) ∙ a.no_places j) late.spill_free (omega arith) a.earlies in
+    inst_done plain late early a.moves
 
 -- what is read at an instruction is defined by an earlier one
 reads_reg : (o : OperandValue) → is_def o.kind ≡ false → o.constraint ≡ Reg → is_reading o ≡ true
@@ -228,10 +241,10 @@ defined_earlier f env names well asks i k lt less e =
         absurd (omega (arith, at.param, none))
 
 -- what an instruction of such a function names was defined by none behind it
-pub plain_at : (f : FunctionValue) (env : MachineValue) (names : List VirtualRegister) (i : ℕ) (regs : AllocatableRegsValue) (t : StateValue) →
-    IsWellFormed env f → HasRegOperandsOnly names f → i < length f.insts → (h : IsSpillFreeFrom names f (i + 1) regs t) → (late : Bool) →
+pub plain_at : (f : FunctionValue) (env : MachineValue) (names : List VirtualRegister) (i : ℕ) (t : StateValue) →
+    IsWellFormed env f → HasRegOperandsOnly names f → i < length f.insts → (h : IsSpillFreeFrom names f (i + 1) t) → (late : Bool) →
     ArePlain names h.gone (inst_at f i).operands late
-plain_at f env names i regs t well asks lt h late = record {
+plain_at f env names i t well asks lt h late = record {
   under_reg = λ k less. asks.under_reg i k lt less;
   named = λ k less. asks.named i k lt less;
   there = λ k less at. elim (cases_Bool (h.gone (op_at (inst_at f i).operands k).vreg.number)) [
@@ -276,9 +289,9 @@ plain_at f env names i regs t well asks lt h late = record {
         ]
 
 -- one more instruction was walked
-pub from_next : (f : FunctionValue) (names : List VirtualRegister) (i : ℕ) (before after : AllocatableRegsValue) (t u : StateValue) → i < length f.insts →
-    (h : IsSpillFreeFrom names f (i + 1) before t) → LeavesSpillFree names h.gone (inst_at f i).operands after u → IsSpillFreeFrom names f i after u
-from_next f names i before after t u lt h l = record {
+pub from_next : (f : FunctionValue) (names : List VirtualRegister) (i : ℕ) (t u : StateValue) → i < length f.insts → (h : IsSpillFreeFrom names f (i + 1) t) →
+    LeavesSpillFree names h.gone (inst_at f i).operands u → IsSpillFreeFrom names f i u
+from_next f names i t u lt h l = record {
   gone = l.gone_now;
   only = λ n g. elim (l.only n g) [
     | inl x ↦ (let y = h.only n x in (y.0, omega (arith, y.1), y.2, y.3))
@@ -293,14 +306,14 @@ from_next f names i before after t u lt h l = record {
 }
 
 -- at the first instruction no vreg has a location: each vreg was defined
-pub nobody_left : (f : FunctionValue) (env : MachineValue) (names : List VirtualRegister) (regs : AllocatableRegsValue) (t : StateValue) → IsWellFormed env f →
-    HasRegOperandsOnly names f → IsSpillFreeFrom names f 0 regs t → (n : ℕ) → alloc_of t.places n ≡ NoPlace
-nobody_left f env names regs t well asks h n = elim (cases_place (alloc_of t.places n)) [
+pub nobody_left : (f : FunctionValue) (env : MachineValue) (names : List VirtualRegister) (t : StateValue) → IsWellFormed env f →
+    HasRegOperandsOnly names f → IsSpillFreeFrom names f 0 t → (n : ℕ) → alloc_of t.places n ≡ NoPlace
+nobody_left f env names t well asks h n = elim (cases_place (alloc_of t.places n)) [
   | inl e ↦ e
   | inr ne ↦ absurd (ne (stands_not ne))
 ]
   where
-    u : IsSpillFree names h.gone regs t h.inst_regs
+    u : IsSpillFree names h.gone t h.inst_regs
     u = h.spill_free
 
     stands_not : alloc_of t.places n ≢ NoPlace → alloc_of t.places n ≡ NoPlace
@@ -319,7 +332,7 @@ edge_none : {Own : VirtualRegister → Type 0} (point : ℕ) (params arguments :
     (given : List ClassMove) (n : ℕ) (u : InstRegs) (new : StateValue) (more : List ClassMove) → n ≡ 0 →
     GathersEdgeMoves Own point params arguments t old given n u new more → (new ≡ old) × (more ≡ given)
 edge_none point params arguments t old given n u new more e none_gathered = (refl, refl)
-edge_none point params arguments t old given n u new more e (one_gathered j mid to from w x m k o lt before gives places edits machine settles foreign) =
+edge_none point params arguments t old given n u new more e (one_gathered j mid to from w x m k o lt before gives places edits machine order settles foreign) =
     absurd (omega (arith, e))
 edge_none point params arguments t old given n u new more e (own_argument j mid w m lt before own) = absurd (omega (arith, e))
 
@@ -368,11 +381,10 @@ unfolding IsDistinct
 none_alike = tt
 
 -- before the walk
-pub begins_uncrowded : (f : FunctionValue) (names : List VirtualRegister) (regs : AllocatableRegsValue) (t : StateValue) →
-    ((n : ℕ) → alloc_of t.places n ≡ NoPlace) → t.edits ≡ [] → ((n : ℕ) → slot_name t.slots n ≡ NoPlace) → t.slots.count ≡ 0 →
-    regs.allocatable ≡ t.allocatable → AreApart t
-    → ((class : RegClass) → IsLruOf regs.allocatable class (lru_of regs class)) → IsSpillFreeFrom names f (length f.insts) regs t
-begins_uncrowded f names regs t nobody edits slots count same apart lrus = record {
+pub begins_uncrowded : (f : FunctionValue) (names : List VirtualRegister) (t : StateValue) → ((n : ℕ) → alloc_of t.places n ≡ NoPlace) → t.edits ≡ [] →
+    ((n : ℕ) → slot_name t.slots n ≡ NoPlace) → t.slots.count ≡ 0 → IsWhole t → AreApart t
+    → ((class : RegClass) → IsLruOf t.allocatable class (order_of t class)) → IsSpillFreeFrom names f (length f.insts) t
+begins_uncrowded f names t nobody edits slots count whole apart lrus = record {
   gone = λ n. false;
   only = λ n e. absurd cc;
   goes = λ j n past inside. absurd (omega (arith, past, inside));
@@ -381,7 +393,7 @@ begins_uncrowded f names regs t nobody edits slots count same apart lrus = recor
     no_moves = edits;
     no_slots = slots;
     no_units = count;
-    allocatable = same;
+    whole = whole;
     apart = apart;
     lrus = lrus;
     stand = λ n there. absurd (there (nobody n));
@@ -389,7 +401,7 @@ begins_uncrowded f names regs t nobody edits slots count same apart lrus = recor
     nowhere = λ n e. nobody n;
     each = λ class. record {
       used = [];
-      unused = lru_of regs class;
+      unused = order_of t class;
       met = [];
       ring = refl;
       few = omega arith;
@@ -397,7 +409,7 @@ begins_uncrowded f names regs t nobody edits slots count same apart lrus = recor
       of_class = λ k d lt. absurd (omega arith);
       known = λ v c. absurd (omega (arith, c.1));
       empty = λ n r at c. (let wrong : InRegister r ≡ NoPlace = sym at ∙ nobody n in cc);
-      free = λ r c. (let has : has_register t.allocatable r ≡ true = ap (λ (s : PRegSet). has_register s r) (sym same) ∙ (lrus class).has r c in rw has refl);
+      free = λ r c. (let has : has_register t.allocatable r ≡ true = (lrus class).has r c in rw has refl);
     };
   };
 }
@@ -406,11 +418,6 @@ begins_uncrowded f names regs t nobody edits slots count same apart lrus = recor
 pub edge_block : (f : FunctionValue) (env : MachineValue) → IsWellFormed env f → (b k : ℕ) → b < length f.blocks → HasEdge f b k →
     target_at f b k < length f.blocks
 edge_block f env well b k lt edge = well.successors.1 b lt k 0 edge
-
--- what is left of a function of one block
-pub none_left_over : (f : FunctionValue) (env : MachineValue) (names : List VirtualRegister) (regs : AllocatableRegsValue) (t : StateValue) →
-    IsSpillFreeFrom names f 0 regs t → (t.edits ≡ []) × (t.slots.count ≡ 0)
-none_left_over f env names regs t h = (h.spill_free.no_moves, h.spill_free.no_units)
 
 -- no parameter is begun where there is none
 pub none_begun_none : (point : ℕ) (params : List VirtualRegister) (t : InstRegs) (old : StateValue) (n : ℕ) (u : InstRegs) (new : StateValue) → n ≡ 0 →

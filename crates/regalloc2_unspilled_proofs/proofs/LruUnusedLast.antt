@@ -6,10 +6,10 @@ use Rattle.std.proofs.lemmas.Bool.{cases_Bool}
 use Rattle.std.proofs.lemmas.List.{append_assoc, reverse-append}
 use Rattle.std.proofs.lemmas.List.Elements.{All-contains, All-contains_itself, All-filter, Contains-append_right, filter-append}
 use Rattle.regalloc2_names.specs.declared.RegClass.{RegClass}
-use Rattle.regalloc2_names.specs.Register.{Register, class_code, is_register}
+use Rattle.regalloc2_names.specs.Register.{Register, is_register}
 use Rattle.regalloc2_names.specs.Same.{is_register-same, is_register-true}
 use Rattle.regalloc2_function.specs.Fitting.{count_below, register_number}
-use Rattle.regalloc2_fastalloc_state.specs.StateParts.{AreLrus, IsLruOf, AllocatableRegsValue, lru_of}
+use Rattle.regalloc2_fastalloc_state.specs.Choice.{chosen}
 
 -- all others than a register
 abbrev pub but : Register → List Register → List Register
@@ -85,9 +85,9 @@ last_split : (x : Register) (xs : List Register) → (front : List Register) × 
 last_split x [] = ([], x, refl)
 last_split x (y ∷ ys) = (let r = last_split y ys in (x ∷ r.0, r.1, ap (λ (l : List Register). x ∷ l) r.2))
 
--- the least recently used that passes is one of the last ones, where these all pass
+-- the one that is chosen of those that pass is one of the last ones, where these all pass
 pub found_last : (test : Register → Bool) (used unused : List Register) (r : Register) → 0 < length unused →
-    ((q : Register) → Contains unused q → test q ≡ true) → find test (reverse (used ++ unused)) ≡ Some r → Contains unused r
+    ((q : Register) → Contains unused q → test q ≡ true) → chosen test (used ++ unused) ≡ Some r → Contains unused r
 found_last test used [] r some all found = absurd (omega arith)
 found_last test used (x ∷ xs) r some all found = at (last_split x xs).0 (last_split x xs).1 (last_split x xs).2
   where
@@ -134,11 +134,3 @@ pub newest_first : (r : Register) (used unused ring : List Register) → ring �
     ++ but r unused
 newest_first r used unused ring e = ap (λ (l : List Register). r ∷ filter (λ q. not (is_register r q)) l) e
     ∙ ap (λ (l : List Register). r ∷ l) (filter-append (λ q. not (is_register r q)) used unused)
-
--- the LRU list of each class, of all three
-pub ring_is : (t : AllocatableRegsValue) → AreLrus t.allocatable t.lrus → (class : RegClass) → IsLruOf t.allocatable class (lru_of t class)
-ring_is t h class = record {
-  of_class = λ r c. h.of_class class r c;
-  has = λ r c. h.has class r c;
-  all = λ r lt e has. subst (λ (k : RegClass). Contains (slice_index_or t.lrus (class_code k) []) r) e (h.all r lt has);
-}

@@ -1,12 +1,13 @@
-use Rattle.std.proofs.Common.{◌≡◌, ◌-◌, ◌<◌, Bool, true, List, [], length, ap, ◌∙◌, sym, subst, arith, slice_index_or}
-use Rattle.std.specs.Prelude.{Some, IfSome, IfNone, Contains, find, reverse, slice_get}
+use Rattle.std.proofs.Common.{◌≡◌, ◌<◌, Bool, true, List, [], length, ap, ◌∙◌, refl, sym, subst, arith, slice_index_or}
+use Rattle.std.specs.Prelude.{Option, None, Some, IfSome, IfNone, Contains}
 use Rattle.std.proofs.lemmas.List.{get_or_read}
 use Rattle.regalloc2_names.specs.Register.{Register, class_code}
 use Rattle.regalloc2_names.specs.RegisterSet.{has_register}
+use Rattle.regalloc2_fastalloc_state.specs.Choice.{chosen}
 use Rattle.regalloc2_fastalloc_state.specs.StateParts.{AllocatableRegsValue, NoneIsFrom, lru_of}
 use Rattle.regalloc2_fastalloc_state.proofs.LrusByClass.{member_in, none_in}
-use Rattle.regalloc2_fastalloc_state.proofs.allocatable.AllocatableRegs.oldest.Given.{Over}
-use Rattle.regalloc2_fastalloc_state.proofs.allocatable.AllocatableRegs.oldest.Goals as goal
+use Rattle.regalloc2_fastalloc_state.proofs.allocatable.AllocatableRegs.first_choice.Given.{Over}
+use Rattle.regalloc2_fastalloc_state.proofs.allocatable.AllocatableRegs.first_choice.Goals as goal
 
 -- the LRU list that was indexed is that of the class
 indexed : (g : Over) (c : goal.After-oldest g) → c.index-self-code.result ≡ slice_index_or c.self.inside.lrus.items (class_code c.args.class) []
@@ -15,16 +16,22 @@ indexed g c =
     let lt : c.code.result < length lrus = omega (arith, c.self.invariant.0.three, c.code.ensures.small) in
     get_or_read lrus _ _ lt c.index-self-code.is [] ∙ ap (λ k. slice_index_or lrus k []) c.code.ensures.code
 
-pub returns-clause-oldest : goal.returns-clause-oldest
-returns-clause-oldest g c =
-    c.oldest.ensures.oldest
-    ∙ ap (λ (l : List Register). slice_get l (length l - 1))
+-- what is chosen if all are available
+of_all : (result : Option Register) (order : List Register) → IfSome result (λ r. (test : Register → Bool) → test r ≡ true → chosen test order ≡ Some r) →
+    IfNone result (order ≡ []) → result ≡ chosen (λ r. true) order
+of_all None order first none = sym (ap (chosen (λ r. true)) none)
+of_all (Some r) order first none = sym (first (λ r. true) refl)
+
+pub returns-clause-chosen : goal.returns-clause-chosen
+returns-clause-chosen g c =
+    subst (λ (l : List Register). c.oldest.result ≡ chosen (λ r. true) l)
     (sym c.index-self-code.is ∙ indexed g c ∙ ap (λ (t : AllocatableRegsValue). lru_of t c.args.class) c.self.view_is)
+    (of_all c.oldest.result _ c.oldest.ensures.first c.oldest.ensures.none)
 
 pub returns-clause-first : goal.returns-clause-first
 returns-clause-first g c =
     let P : List Register → Type 0 =
-    λ l. IfSome c.oldest.result (λ r. (test : Register → Bool) → test r ≡ true → find test (reverse l) ≡ Some r) in
+    λ l. IfSome c.oldest.result (λ r. (test : Register → Bool) → test r ≡ true → chosen test l ≡ Some r) in
     subst P (sym c.index-self-code.is ∙ indexed g c ∙ ap (λ (t : AllocatableRegsValue). lru_of t c.args.class) c.self.view_is) c.oldest.ensures.first
 
 pub returns-clause-found : goal.returns-clause-found

@@ -1,42 +1,22 @@
--- A block in which each vreg has a register of its own: which register an operand takes, and what holds all along the walk.
-use Rattle.std.specs.Prelude.{ℕ, ◌≡◌, ◌≢◌, ◌<◌, ◌≤◌, ◌⊎◌, Bool, true, false, not, List, [], ◌∷◌, ◌++◌, All, Contains, Some, find, filter}
-use Rattle.std.specs.Prelude.{reverse, length, nat_eq, slice_index_or}
+-- A block in which each vreg has a register of its own: what holds all along the walk.
+use Rattle.std.specs.Prelude.{ℕ, ◌≡◌, ◌≢◌, ◌<◌, ◌≤◌, ◌⊎◌, Bool, true, false, List, [], ◌++◌, All, Contains, length, nat_eq, slice_index_or}
 use Rattle.std.specs.List.{IsDistinct}
 use Rattle.regalloc2_names.specs.declared.RegClass.{RegClass}
 use Rattle.regalloc2_names.specs.declared.OperandConstraint.TheVariants.{Reg}
 use Rattle.regalloc2_names.specs.declared.sets.PRegSet.{PRegSet}
-use Rattle.regalloc2_names.specs.Register.{Register, VirtualRegister, is_register}
+use Rattle.regalloc2_names.specs.Register.{Register, VirtualRegister}
 use Rattle.regalloc2_names.specs.RegisterSet.{has_register}
 use Rattle.regalloc2_names.specs.Place.{Place, NoPlace, InRegister}
 use Rattle.regalloc2_names.specs.Operand.{OperandValue, is_def, is_late, is_reading}
 use Rattle.regalloc2_function.specs.Fitting.{count_below, register_number}
 use Rattle.regalloc2_function.specs.FunctionValue.{FunctionValue, inst_at}
-use Rattle.regalloc2_fastalloc_state.specs.declared.request.Requirement.TheVariants.{AnyReg}
 use Rattle.regalloc2_fastalloc_state.specs.declared.inst_regs.InstRegs.{InstRegs}
-use Rattle.regalloc2_fastalloc_state.specs.StateParts.{IsInverse, IsLruOf, AllocatableRegsValue, SameRegisters, lru_of, slot_name, alloc_of}
+use Rattle.regalloc2_fastalloc_state.specs.StateParts.{IsLruOf, slot_name, alloc_of}
 use Rattle.regalloc2_fastalloc_state.specs.InstRegs.{is_free_throughout}
 use Rattle.regalloc2_validate.specs.Constraints.{op_at}
 use Rattle.regalloc2_fastalloc_proofs.specs.BranchSteps.{AreApart}
-use Rattle.regalloc2_fastalloc_proofs.specs.InstSteps.{MeetsRequirement, StateValue}
-
--- an allocatable register is the one that was used last of its class from now on
-pub data Pokes (r : Register) (old new : AllocatableRegsValue) : Type 0 where
-  not_allocatable : has_register old.allocatable r ≡ false → new ≡ old → Pokes r old new
-  newest : has_register old.allocatable r ≡ true → SameRegisters old new → lru_of new r.class ≡ r ∷ filter (λ q. not (is_register r q)) (lru_of old r.class)
-      → ((class : RegClass) → class ≢ r.class → lru_of new class ≡ lru_of old class) → Pokes r old new
-
--- the place of a vreg that asks for any register: the register where it is, else the free one that was used longest ago
-pub data SelectsAnyReg (inst_regs : InstRegs) (v : VirtualRegister) (registers : AllocatableRegsValue) (t : StateValue) (p : Place) : Type 0 where
-  where_it_stands : alloc_of t.places v.number ≡ p → MeetsRequirement t AnyReg p → SelectsAnyReg inst_regs v registers t p
-  least_recently_used_free : (free : PRegSet) (r : Register) → (MeetsRequirement t AnyReg (alloc_of t.places v.number) → ⊥) →
-      ((q : Register) → is_free_throughout inst_regs q ≡ true → has_register free q ≡ true)
-      → find (has_register free) (reverse (lru_of registers v.class)) ≡ Some r → p ≡ InRegister r → SelectsAnyReg inst_regs v registers t p
-
--- it is taken, and counts as used last
-pub record AllocsAnyReg (inst_regs : InstRegs) (v : VirtualRegister) (p : Place) (t : StateValue) (old new : AllocatableRegsValue) : Type 0 where
-  pub inverse : IsInverse t.places
-  pub chooses : SelectsAnyReg inst_regs v old t p
-  pub touches : (r : Register) → p ≡ InRegister r → Pokes r old new
+use Rattle.regalloc2_fastalloc_proofs.specs.InstSteps.{StateValue, order_of}
+use Rattle.regalloc2_fastalloc_proofs.proofs.Safety.StepsKeepState.{IsWhole}
 
 -- two vregs with one number
 abbrev pub is_same_number : VirtualRegister → VirtualRegister → Bool
@@ -63,18 +43,17 @@ pub record IsSpillFreeIn (names : List VirtualRegister) (gone : ℕ → Bool) (c
   pub free : (r : Register) → Contains unused r → is_free_throughout inst_regs r ≡ true
 
 -- no move was made and no slot; each vreg that has a location is in an allocatable register, and none whose definition was met; each class is as above
-pub record IsSpillFree (names : List VirtualRegister) (gone : ℕ → Bool) (registers : AllocatableRegsValue) (t : StateValue)
-    (inst_regs : InstRegs) : Type 0 where
+pub record IsSpillFree (names : List VirtualRegister) (gone : ℕ → Bool) (t : StateValue) (inst_regs : InstRegs) : Type 0 where
   pub no_moves : t.edits ≡ []
   pub no_slots : (n : ℕ) → slot_name t.slots n ≡ NoPlace
   pub no_units : t.slots.count ≡ 0
-  pub allocatable : registers.allocatable ≡ t.allocatable
+  pub whole : IsWhole t
   pub apart : AreApart t
-  pub lrus : (class : RegClass) → IsLruOf registers.allocatable class (lru_of registers class)
+  pub lrus : (class : RegClass) → IsLruOf t.allocatable class (order_of t class)
   pub stand : (n : ℕ) → alloc_of t.places n ≢ NoPlace → (r : Register) × (alloc_of t.places n ≡ InRegister r) × (has_register t.allocatable r ≡ true)
   pub named : (n : ℕ) → alloc_of t.places n ≢ NoPlace → (v : VirtualRegister) × Contains names v × (v.number ≡ n)
   pub nowhere : (n : ℕ) → gone n ≡ true → alloc_of t.places n ≡ NoPlace
-  pub each : (class : RegClass) → IsSpillFreeIn names gone class (lru_of registers class) t inst_regs
+  pub each : (class : RegClass) → IsSpillFreeIn names gone class (order_of t class) t inst_regs
 
 -- an instruction whose operands of a position are under `Reg` and name listed vregs, of which none was defined by then; those that it defines are named once
 pub record ArePlain (names : List VirtualRegister) (gone : ℕ → Bool) (operands : List OperandValue) (late : Bool) : Type 0 where
@@ -91,9 +70,9 @@ IsDefinedAmong operands late k n = (j : ℕ) × (j < k) × (is_late (op_at opera
 
 -- the first operands of a position are placed: uses are at their places
 pub record ArePlaced (names : List VirtualRegister) (gone : ℕ → Bool) (operands : List OperandValue) (late : Bool) (k : ℕ) (here there : List Place)
-    (registers : AllocatableRegsValue) (old t : StateValue) (inst_regs : InstRegs) : Type 0 where
+    (old t : StateValue) (inst_regs : InstRegs) : Type 0 where
   pub gone_now : ℕ → Bool
-  pub spill_free : IsSpillFree names gone_now registers t inst_regs
+  pub spill_free : IsSpillFree names gone_now t inst_regs
   pub machine : t.allocatable ≡ old.allocatable
   pub only : (n : ℕ) → gone_now n ≡ true → (gone n ≡ true) ⊎ IsDefinedAmong operands late k n
   pub stays : (n : ℕ) → gone n ≡ true → gone_now n ≡ true
@@ -109,14 +88,13 @@ abbrev pub IsDefinedIn : List OperandValue → ℕ → Type 0
 IsDefinedIn operands n = (k : ℕ) × (k < length operands) × (is_def (op_at operands k).kind ≡ true) × ((op_at operands k).vreg.number ≡ n)
 
 -- an instruction was allocated so, and those before it may be
-pub record LeavesSpillFree (names : List VirtualRegister) (gone : ℕ → Bool) (operands : List OperandValue) (registers : AllocatableRegsValue)
-    (t : StateValue) : Type 0 where
+pub record LeavesSpillFree (names : List VirtualRegister) (gone : ℕ → Bool) (operands : List OperandValue) (t : StateValue) : Type 0 where
   pub gone_now : ℕ → Bool
   pub only : (n : ℕ) → gone_now n ≡ true → (gone n ≡ true) ⊎ IsDefinedIn operands n
   pub stays : (n : ℕ) → gone n ≡ true → gone_now n ≡ true
   pub goes : (n : ℕ) → IsDefinedIn operands n → gone_now n ≡ true
   pub inst_regs : InstRegs
-  pub spill_free : IsSpillFree names gone_now registers t inst_regs
+  pub spill_free : IsSpillFree names gone_now t inst_regs
 
 -- a function of one block whose instructions ask for registers alone, clobber none, and name listed vregs
 pub record HasRegOperandsOnly (names : List VirtualRegister) (f : FunctionValue) : Type 0 where
@@ -128,9 +106,9 @@ pub record HasRegOperandsOnly (names : List VirtualRegister) (f : FunctionValue)
   pub no_clobbers : (i : ℕ) (r : Register) → i < length f.insts → has_register (inst_at f i).clobbers r ≡ false
 
 -- its instructions from one on were walked
-pub record IsSpillFreeFrom (names : List VirtualRegister) (f : FunctionValue) (i : ℕ) (registers : AllocatableRegsValue) (t : StateValue) : Type 0 where
+pub record IsSpillFreeFrom (names : List VirtualRegister) (f : FunctionValue) (i : ℕ) (t : StateValue) : Type 0 where
   pub gone : ℕ → Bool
   pub only : (n : ℕ) → gone n ≡ true → (j : ℕ) × (i ≤ j) × (j < length f.insts) × IsDefinedIn (inst_at f j).operands n
   pub goes : (j n : ℕ) → i ≤ j → j < length f.insts → IsDefinedIn (inst_at f j).operands n → gone n ≡ true
   pub inst_regs : InstRegs
-  pub spill_free : IsSpillFree names gone registers t inst_regs
+  pub spill_free : IsSpillFree names gone t inst_regs
