@@ -1,16 +1,15 @@
 -- Operands of an instruction under `Reg`, one after another, as long as registers suffice for all vregs.
 use Rattle.std.proofs.Common.{ℕ, ◌≡◌, ◌≢◌, ◌+◌, ◌<◌, ◌≤◌, ◌⊎◌, inl, inr, Bool, true, false, List, length, refl, arith, sym, ap, ◌∙◌}
 use Rattle.std.proofs.Common.{subst, eqb-true, eq-eqb, get_or-set_same}
-use Rattle.std.specs.Prelude.{None, Some, if◌then◌else◌, Contains, nat_eq, slice_index_or, slice_set, ◌&&◌, ◌||◌, not}
+use Rattle.std.specs.Prelude.{None, Contains, nat_eq, slice_index_or, slice_set, ◌&&◌, ◌||◌, not}
 use Rattle.std.proofs.lemmas.Bool.{cases_Bool}
 use Rattle.std.proofs.lemmas.List.{get_or-set_other, length-set}
 use Rattle.regalloc2_names.specs.declared.RegClass.{RegClass}
-use Rattle.regalloc2_names.specs.declared.OperandConstraint.{OperandConstraint}
 use Rattle.regalloc2_names.specs.declared.OperandConstraint.TheVariants.{Reg, FixedReg, Reuse}
 use Rattle.regalloc2_names.specs.declared.sets.PRegSet.{PRegSet}
 use Rattle.regalloc2_names.specs.Register.{Register, VirtualRegister, class_code}
 use Rattle.regalloc2_names.specs.RegisterSet.{has_register}
-use Rattle.regalloc2_names.specs.Operand.{OperandValue, nonallocatable_register, is_def, is_fixed, is_fixed_nonallocatable, is_late, is_reading}
+use Rattle.regalloc2_names.specs.Operand.{OperandValue, is_def, is_fixed_nonallocatable, is_late, is_reading}
 use Rattle.regalloc2_names.specs.Place.{Place, NoPlace, InRegister, is_place}
 use Rattle.regalloc2_names.specs.Point.{after as after_point}
 use Rattle.regalloc2_names.specs.Same.{is_place-same}

@@ -6,8 +6,6 @@ use Rattle.regalloc2_fastalloc_state.specs.StateParts.{AllAtOrAfter}
 use Rattle.regalloc2_fastalloc_walk.specs.StateView.{tables_of}
 use Rattle.regalloc2_fastalloc_proofs.specs.BranchSteps.{AddsTempSlotsAtMost}
 use Rattle.regalloc2_fastalloc_proofs.specs.BlockSteps.{AllocsBlocks, offset_of}
-use Rattle.std.specs.Prelude.{List, []}
-use Rattle.regalloc2_names.specs.Register.{VirtualRegister}
 use Rattle.regalloc2_fastalloc_walk.proofs.state.State.alloc_blocks.Given as goal
 
 abbrev pub invariant-loop-b : goal.invariant-loop-b

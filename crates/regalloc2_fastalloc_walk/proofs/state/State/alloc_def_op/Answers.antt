@@ -2,8 +2,6 @@ use Rattle.std.proofs.Common.{sym, ◌∙◌}
 use Rattle.std.proofs.lemmas.Result.{err_from_is_err_and}
 use Rattle.regalloc2_fastalloc_proofs.specs.InstSteps.{in_get, in_define}
 use Rattle.regalloc2_fastalloc_walk.specs.StateView.{tables_of}
-use Rattle.std.proofs.Common.{subst}
-use Rattle.regalloc2_fastalloc_state.specs.StateParts.{AllocatableRegsValue}
 use Rattle.regalloc2_fastalloc_walk.proofs.state.State.alloc_def_op.Goals as goal
 
 pub returns-in_err-place-clause-outcome : goal.returns-in_err-place-clause-outcome

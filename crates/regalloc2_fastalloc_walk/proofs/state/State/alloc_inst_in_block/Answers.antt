@@ -15,9 +15,6 @@ use Rattle.regalloc2_fastalloc_proofs.specs.BlockSteps.{AllocInstAt, in_inst, in
 use Rattle.regalloc2_fastalloc_proofs.proofs.Safety.StateKept.{same_lends, lends_then, apart_kept, ends_in_branch, lack_all, lacks_all, lent_six, to_inst}
 use Rattle.regalloc2_fastalloc_proofs.proofs.Walk.UsesReadOwnDefs.{all_in_tables}
 use Rattle.regalloc2_fastalloc_proofs.proofs.Branches.WellFormedMayBranch.{may_pass, parameters_differ}
-use Rattle.regalloc2_semantics.specs.Blocks.{target_at}
-use Rattle.regalloc2_fastalloc_state.specs.StateParts.{AllocatableRegsValue}
-use Rattle.regalloc2_fastalloc_proofs.specs.InstSteps.{IsFresh}
 use Rattle.regalloc2_fastalloc_walk.proofs.state.State.alloc_inst_in_block.Goals as goal
 
 pub alloc_inst_at-requires : goal.alloc_inst_at-requires

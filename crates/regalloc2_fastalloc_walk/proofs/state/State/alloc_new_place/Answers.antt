@@ -5,7 +5,7 @@ use Rattle.regalloc2_semantics.proofs.Forms.{same_register}
 use Rattle.regalloc2_fastalloc_walk.specs.StateView.{tables_of}
 use Rattle.regalloc2_fastalloc_proofs.proofs.Operands.RecordOverState.{no_register_slot}
 use Rattle.regalloc2_fastalloc_proofs.proofs.Operands.SelectedPlace.{wanted_rest}
-use Rattle.regalloc2_fastalloc_state.specs.declared.request.Requirement.TheVariants.{AnyPlace, AnyReg, InPReg}
+use Rattle.regalloc2_fastalloc_state.specs.declared.request.Requirement.TheVariants.{AnyPlace, InPReg}
 use Rattle.regalloc2_fastalloc_walk.proofs.state.State.alloc_new_place.Goals as goal
 
 pub returns-in-InPReg-clause-outcome : goal.returns-in-InPReg-clause-outcome

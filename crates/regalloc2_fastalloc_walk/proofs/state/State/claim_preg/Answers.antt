@@ -3,11 +3,10 @@ use Rattle.std.specs.Prelude.{None}
 use Rattle.std.proofs.lemmas.Result.{err_from_is_err_and}
 use Rattle.regalloc2_names.specs.Place.{NoPlace}
 use Rattle.regalloc2_fastalloc_state.specs.StateParts.{vreg_of_preg, alloc_of}
-use Rattle.regalloc2_fastalloc_proofs.specs.InstSteps.{StateValue, SameButOrder, in_register}
+use Rattle.regalloc2_fastalloc_proofs.specs.InstSteps.{StateValue, in_register}
 use Rattle.regalloc2_fastalloc_proofs.proofs.Changes.OneChange.{uses_rest}
 use Rattle.regalloc2_fastalloc_walk.proofs.Steps.{step_used}
 use Rattle.regalloc2_fastalloc_walk.specs.StateView.{tables_of}
-use Rattle.regalloc2_fastalloc_walk.proofs.state.State.claim_preg.Given.{Over}
 use Rattle.regalloc2_fastalloc_walk.proofs.state.State.claim_preg.Goals as goal
 
 -- the register counts as used, and nothing else changes once others are evicted

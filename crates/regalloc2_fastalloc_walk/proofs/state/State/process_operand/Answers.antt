@@ -1,4 +1,4 @@
-use Rattle.std.proofs.Common.{ℕ, ◌≡◌, ◌<◌, List, length, refl, sym, ap, ◌∙◌, subst, arith, rules, false, slice_index_or}
+use Rattle.std.proofs.Common.{ℕ, ◌≡◌, ◌<◌, List, length, refl, sym, ◌∙◌, subst, arith, rules, false, slice_index_or}
 use Rattle.std.proofs.lemmas.List.{get_or_read}
 use Rattle.regalloc2_names.specs.Place.{NoPlace}
 use Rattle.regalloc2_names.specs.Point.{after}
@@ -12,7 +12,6 @@ use Rattle.regalloc2_fastalloc_walk.proofs.Steps.{step_ok}
 use Rattle.regalloc2_fastalloc_walk.specs.StateView.{tables_of}
 use Rattle.regalloc2_validate.proofs.OperandReads.{read_operand}
 use Rattle.regalloc2_fastalloc_proofs.proofs.Operands.OperandRules.{is_unmarked, op_in_tables, use_in_tables, one_register, one_use, one_def, one_reuse}
-use Rattle.regalloc2_fastalloc_proofs.specs.InstSteps.{requirement_of}
 use Rattle.regalloc2_fastalloc_walk.proofs.state.State.process_operand.Goals as goal
 
 pub returns-in-Some-clause-outcome : goal.returns-in-Some-clause-outcome

@@ -1,4 +1,4 @@
-use Rattle.std.proofs.Common.{ℕ, ◌≡◌, ◌<◌, List, length, refl, sym, ap, ◌∙◌, subst, arith, rules, false}
+use Rattle.std.proofs.Common.{ℕ, ◌≡◌, ◌<◌, List, length, sym, ap, ◌∙◌, subst, arith, rules, false}
 use Rattle.regalloc2_names.specs.Place.{NoPlace}
 use Rattle.regalloc2_names.specs.Point.{after}
 use Rattle.regalloc2_names.specs.Operand.{OperandValue, is_def}
@@ -13,7 +13,6 @@ use Rattle.regalloc2_fastalloc_walk.specs.StateView.{tables_of}
 use Rattle.regalloc2_validate.proofs.OperandReads.{read_operand}
 use Rattle.regalloc2_fastalloc_proofs.proofs.Operands.OperandRules.{op_in_tables, use_in_tables, one_use, one_def}
 use Rattle.regalloc2_fastalloc_walk.proofs.RegOperands.{reg_not_nonallocatable, reg_no_reuse}
-use Rattle.regalloc2_fastalloc_proofs.specs.InstSteps.{requirement_of}
 use Rattle.regalloc2_fastalloc_walk.proofs.state.State.process_reg_operand.Goals as goal
 
 pub reg_request-request-requires : goal.reg_request-request-requires

@@ -1,4 +1,4 @@
-use Rattle.std.proofs.Common.{ℕ, ◌≡◌, ◌+◌, ◌-◌, ◌<◌, List, drop, length, refl, ◌∙◌, subst, arith, slice_index_or}
+use Rattle.std.proofs.Common.{ℕ, ◌≡◌, ◌+◌, ◌-◌, ◌<◌, List, drop, length, refl, subst, arith, slice_index_or}
 use Rattle.std.specs.Prelude.{not}
 use Rattle.std.proofs.Math.Seq.{drop-length}
 use Rattle.regalloc2_names.specs.Place.{is_memory}

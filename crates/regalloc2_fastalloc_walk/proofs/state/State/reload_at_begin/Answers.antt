@@ -9,8 +9,7 @@ use Rattle.regalloc2_fastalloc_walk.proofs.Steps.{step_then}
 use Rattle.std.specs.Prelude.{Ok}
 use Rattle.regalloc2_fastalloc_walk.specs.StateView.{tables_of, IsStepAt}
 use Rattle.regalloc2_fastalloc_state.specs.StateParts.{AllAtOrAfter}
-use Rattle.regalloc2_fastalloc_state.specs.StateParts.{alloc_of}
-use Rattle.regalloc2_fastalloc_proofs.specs.InstSteps.{StateValue, no_register}
+use Rattle.regalloc2_fastalloc_proofs.specs.InstSteps.{no_register}
 use Rattle.regalloc2_fastalloc_walk.proofs.state.State.reload_at_begin.Goals as goal
 
 pub reload_params-requires : goal.reload_params-requires

@@ -2,7 +2,7 @@ use Rattle.std.proofs.Common.{ap, ◌≡◌, refl, ◌∙◌, arith, length}
 use Rattle.regalloc2_fastalloc_proofs.specs.BlockStart.{none_emptied, one_emptied}
 use Rattle.regalloc2_fastalloc_proofs.specs.InstSteps.{StateValue}
 use Rattle.regalloc2_fastalloc_walk.specs.StateView.{tables_of}
-use Rattle.regalloc2_fastalloc_state.specs.StateParts.{alloc_of, vreg_of_preg}
+use Rattle.regalloc2_fastalloc_state.specs.StateParts.{vreg_of_preg}
 use Rattle.regalloc2_fastalloc_proofs.proofs.Evictions.NewestLeaves.{newest_leaves}
 use Rattle.regalloc2_fastalloc_proofs.proofs.Evictions.PushedAndRemoved.{same_then, no_some}
 use Rattle.regalloc2_fastalloc_walk.proofs.state.State.reload_regs.Goals as goal

@@ -1,10 +1,8 @@
 use Rattle.std.proofs.Common.{◌≡◌, length}
-use Rattle.std.specs.Prelude.{ℕ}
-use Rattle.regalloc2_names.specs.Place.{NoPlace}
 use Rattle.regalloc2_fastalloc_proofs.specs.BlockStart.{ReloadsRegs}
 use Rattle.regalloc2_fastalloc_proofs.specs.InstSteps.{SameMachine}
 use Rattle.regalloc2_fastalloc_walk.specs.StateView.{tables_of}
-use Rattle.regalloc2_fastalloc_state.specs.StateParts.{AllAtOrAfter, alloc_of}
+use Rattle.regalloc2_fastalloc_state.specs.StateParts.{AllAtOrAfter}
 use Rattle.regalloc2_fastalloc_walk.proofs.state.State.reload_regs.Given as goal
 
 abbrev pub invariant-loop-preg : goal.invariant-loop-preg

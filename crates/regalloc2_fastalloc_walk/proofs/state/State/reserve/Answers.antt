@@ -1,4 +1,4 @@
-use Rattle.std.proofs.Common.{◌≡◌, length, refl, sym, ◌∙◌, subst, arith}
+use Rattle.std.proofs.Common.{◌≡◌, length, refl, sym, ◌∙◌, arith}
 use Rattle.std.proofs.lemmas.Result.{err_from_is_err_and}
 use Rattle.regalloc2_fastalloc_walk.specs.StateView.{tables_of}
 use Rattle.regalloc2_fastalloc_walk.proofs.RegsReserved.{awaiting_none, awaiting_more, none_fixed_more, reserving_none, reserving_more, reserves_all}

@@ -1,8 +1,6 @@
 use Rattle.regalloc2_fastalloc_walk.specs.StateView.{tables_of}
 use Rattle.regalloc2_fastalloc_proofs.proofs.Operands.SelectedPlace.{suits_there}
-use Rattle.std.proofs.Common.{subst, ◌∙◌}
-use Rattle.regalloc2_fastalloc_proofs.specs.InstSteps.{MeetsRequirement}
-use Rattle.regalloc2_fastalloc_state.specs.declared.request.Requirement.{Requirement}
+use Rattle.std.proofs.Common.{◌∙◌}
 use Rattle.regalloc2_fastalloc_walk.proofs.state.State.select_place.Goals as goal
 
 pub returns-in-Some-clause-there : goal.returns-in-Some-clause-there
