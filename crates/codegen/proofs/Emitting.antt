@@ -1,36 +1,14 @@
 -- Code that grows by what is emitted.
-use Rattle.std.proofs.Common.{ℕ, suc, ◌≡◌, ◌+◌, ◌<◌, ◌≤◌, Bool, true, false, cond, List, [], ◌∷◌, ◌++◌, length, map, refl, sym, ap, subst, ◌∙◌, arith}
-use Rattle.std.proofs.Common.{append_assoc, append-nil, add-one, below_more, ltb-true, ltb-false}
-use Rattle.std.specs.Prelude.{nat_lt, slice_index, All}
+use Rattle.std.proofs.Common.{ℕ, suc, ◌≡◌, ◌+◌, ◌<◌, ◌≤◌, List, [], ◌∷◌, ◌++◌, length, refl, sym, ap, subst, ◌∙◌, arith}
+use Rattle.std.proofs.Common.{append_assoc, append-nil, add-one, below_more}
+use Rattle.std.specs.Prelude.{slice_index, All}
 use Rattle.std.proofs.lemmas.Grind.{common_steps}
 use Rattle.regalloc2_function.specs.FunctionValue.{FunctionValue}
 use Rattle.regalloc2_function.specs.OutputValue.{OutputValue}
 use Rattle.regalloc2_function.specs.Listing.{Listed, ListedInst, ListedMove, IsListedWithin}
-use Rattle.regalloc2_names.specs.Place.{Place, NoPlace, InRegister, InSlot, is_in_slot}
-use Rattle.regalloc2_names.specs.PlaceBits.{index_of_place}
 use Rattle.codegen_ir.specs.declared.operation.Operation.{Operation}
-use Rattle.codegen_machine.specs.declared.Source.TheVariants.{Slot}
 use Rattle.codegen_machine.specs.declared.Instruction.{Instruction}
-use Rattle.codegen_machine.specs.declared.Instruction.TheVariants.{Load, Store}
-use Rattle.codegen.specs.Emitted.{source_of, fetched, move_code, register_of, item_code, items_code, block_code, blocks_code, start_of, label_of, resolved, emitted}
-
--- a slot is read as one
-pub slot_source : (p : Place) → is_in_slot p ≡ true → Slot (index_of_place p) ≡ source_of p
-slot_source NoPlace h = absurd cc
-slot_source (InRegister r) h = absurd cc
-slot_source (InSlot n) h = refl
-
--- and written as one
-pub slot_written : (from to : Place) → is_in_slot to ≡ true → Store (index_of_place to) (register_of from) ≡ move_code from to
-slot_written from NoPlace h = absurd cc
-slot_written from (InRegister r) h = absurd cc
-slot_written from (InSlot n) h = refl
-
--- and a register takes what stands in it
-pub slot_fetched : (to : ℕ) (p : Place) → is_in_slot p ≡ true → Load to (index_of_place p) ≡ fetched to p
-slot_fetched to NoPlace h = absurd cc
-slot_fetched to (InRegister r) h = absurd cc
-slot_fetched to (InSlot n) h = refl
+use Rattle.codegen.specs.Emitted.{item_code, items_code, block_code, blocks_code, start_of}
 
 -- what is within a block is within the function
 wider : (first end n : ℕ) (x : Listed) → end ≤ n → IsListedWithin first end x → IsListedWithin 0 n x
@@ -99,18 +77,3 @@ module _ (operations : List Operation) (out : OutputValue) where
 
       at_each : (k : ℕ) → k < b + 1 → slice_index more k ≡ start_of operations out f k
       at_each = below_more _ b before at_last
-
-  -- the starts of all blocks are the labels
-  labels : (f : FunctionValue) (starts : List ℕ) → AreStarts f starts (length f.blocks) → (b : ℕ) → slice_index starts b ≡ label_of operations out f b
-  labels f starts s b = pick (nat_lt b (length f.blocks)) refl
-    where
-      pick : (t : Bool) → nat_lt b (length f.blocks) ≡ t → slice_index starts b ≡ cond t (start_of operations out f b) 0
-      pick true is = s.starts_at b (ltb-true _ _ is)
-      pick false is = let far : length starts ≤ b = (let long = s.long in let out_of = ltb-false _ _ is in omega arith) in grind (arith, common_steps)
-
-  -- so jumps go where blocks begin
-  pub all_resolved : (f : FunctionValue) (starts : List ℕ) (code done : List Instruction) → AreStarts f starts (length f.blocks) →
-      code ≡ blocks_code operations out f (length f.blocks) → done ≡ map (resolved (λ b. slice_index starts b)) code →
-      done ≡ (emitted operations f out).instructions
-  all_resolved f starts code done s is h =
-      h ∙ ap (λ (start : ℕ → ℕ). map (resolved start) code) (λ i b. labels f starts s b i) ∙ ap (map (resolved (label_of operations out f))) is

@@ -62,11 +62,6 @@ module _ (env : MachineValue) (out : OutputValue) (t : IsTarget env) where
     | inr scratch ↦ absurd (not_some (scratch_of env h.0) scratch.0 (t.no_scratch h.0) scratch.1)
   ]
 
-  not_stored : (from : Place) → IsHere out.num_spillslots from → ((n : ℕ) → from ≡ InSlot n → ⊥) → IsGeneral from
-  not_stored NoPlace h never = absurd h
-  not_stored (InRegister r) h never = h
-  not_stored (InSlot n) h never = absurd (never n refl)
-
   can_move : (from to : Place) → IsHere out.num_spillslots from → IsHere out.num_spillslots to → (IsStackToStack env (record { from = from; to = to }) → ⊥) →
       CanMove out.num_spillslots from to
   can_move from NoPlace h g never = absurd g

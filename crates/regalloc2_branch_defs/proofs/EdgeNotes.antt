@@ -1,6 +1,6 @@
 -- The edges out of blocks whose branches define are noted one after another, with what is stored behind them.
 use Rattle.std.proofs.Common.{ℕ, ◌≡◌, ◌+◌, ◌-◌, ◌<◌, ◌≤◌, ◌⊎◌, inl, inr, Bool, true, false, List, [], ◌∷◌, ◌++◌, length, refl, sym, ap, ◌∙◌, subst, arith}
-use Rattle.std.proofs.Common.{set, length-append, append_assoc, take, drop, length-drop}
+use Rattle.std.proofs.Common.{length-append, append_assoc, take, drop, length-drop}
 use Rattle.std.specs.Prelude.{Option, None, Some, IsSome, slice_index, slice_index_or, slice_range, Contains, ◌↔◌, ◌||◌}
 use Rattle.std.proofs.lemmas.Bool.{cases_eq, cases_lt, cases_Bool}
 use Rattle.std.proofs.lemmas.List.{get_or_append_left, get_or-append-add, drop-append-le, take-append-le}
@@ -23,7 +23,6 @@ use Rattle.regalloc2_branch_defs.specs.BranchDefs.{fixed_definition}
 use Rattle.regalloc2_branch_defs.specs.Notes.{AreUsed, IsMarkedDefinition, ListsStored, NotesEdges}
 use Rattle.regalloc2_branch_defs.specs.Tables.{AreEdges, IsEdgeOf}
 use Rattle.regalloc2_branch_defs.specs.declared.EdgeInto.{EdgeInto}
-use Rattle.regalloc2_branch_defs.proofs.SiteNotes.{found, missing}
 use Rattle.regalloc2_branch_defs.proofs.UseNotes.{used_made}
 
 -- the registers to which definitions among the first operands are fixed
@@ -81,15 +80,6 @@ only x y h = elim (cases_eq h.0 0) [
   | inl same ↦ subst (λ (i : ℕ). slice_index_or (x ∷ []) i y ≡ y) same h.2
   | inr ne ↦ absurd (let lt = h.1 in omega (arith, lt, ne))
 ]
-
--- before any operand nothing is listed
-pub lists_none : (used : List Bool) (ops : List OperandValue) (xs : List ℕ) → xs ≡ xs ++ [] → ListsStored used ops 0 xs xs
-lists_none used ops xs e = record {
-  added = [];
-  is = e;
-  rising = λ i j less lt. absurd (omega (arith, lt));
-  members = λ k. (λ h. absurd (let lt = h.1 in omega (arith, lt)), λ h. absurd (let lt = h.0 in omega (arith, lt)));
-}
 
 -- one operand more that is listed
 pub lists_more : (used : List Bool) (ops : List OperandValue) (k : ℕ) (old mid : List ℕ) → IsMarkedDefinition used (op_at ops k) →
@@ -180,53 +170,6 @@ range_behind : (xs ys : List ℕ) → slice_range (xs ++ ys) (length xs) (length
 range_behind xs ys =
     ap (take (length (xs ++ ys) - length xs)) (drop-append_seam xs ys) ∙ take_all ys (length (xs ++ ys) - length xs)
     (let l = length-append xs ys in omega (arith, l))
-
--- at first no position is noted
-pub positions_none : (succs : List ℕ) (edge : EdgeInto) (edges : List (Option EdgeInto)) → NotesEdges succs edge 0 edges edges
-positions_none succs edge edges = record {
-  from = λ b e h. inl h;
-  kept = λ b e. e;
-  noted = λ p less. absurd (omega (arith, less));
-}
-
--- one position more
-pub positions_more : (succs : List ℕ) (edge : EdgeInto) (k s : ℕ) (old mid : List (Option EdgeInto)) → s ≡ slice_index succs k → s < length mid →
-    NotesEdges succs edge k old mid → NotesEdges succs edge (k + 1) old (set mid s (Some (record edge { position = k })))
-positions_more succs edge k s old mid is lt h =
-    let here : EdgeInto = record edge { position = k } in
-    record {
-      from = λ b e x. elim (found mid s b here e x) [
-        | inl now ↦ inr (k, omega arith, sym is ∙ sym now.0, sym now.1)
-        | inr was ↦ elim (h.from b e was) [ inl old ↦ inl old | inr mine ↦ (let less = mine.1 in inr (mine.0, omega (arith, less), mine.2, mine.3)) ]
-      ];
-      kept = λ b x. h.kept b (missing mid s b here x).1;
-      noted = λ p less x. elim (cases_eq p k) [
-        | inl same ↦ (let at : slice_index succs p ≡ s = ap (slice_index succs) same ∙ sym is in
-            let past = (missing mid s (slice_index succs p) here x).0 at in omega (arith, past, lt))
-        | inr ne ↦ h.noted p (omega (arith, less, ne)) (missing mid s (slice_index succs p) here x).1
-      ];
-    }
-
--- at first no edge is noted
-pub edges_none : (f : FunctionValue) (edges : List (Option EdgeInto)) (listed : List ℕ) → length edges ≡ length f.blocks →
-    ((b : ℕ) → slice_index_or edges b None ≡ None) → AreEdges f 0 edges listed
-edges_none f edges listed long none = record {
-  long = long;
-  edge = λ b e h. absurd (let x : None ≡ Some e = sym (none b) ∙ h in cc);
-  no_edge = λ b h from position less. absurd (omega (arith, less));
-}
-
--- a block that doesn't end in definitions
-pub edges_same : (f : FunctionValue) (b : ℕ) (edges : List (Option EdgeInto)) (listed : List ℕ) → (EndsInDefinitions f b → ⊥) → AreEdges f b edges listed →
-    AreEdges f (b + 1) edges listed
-edges_same f b edges listed none h = record {
-  long = h.long;
-  edge = h.edge;
-  no_edge = λ c e from position less into. elim (cases_eq from b) [
-    | inl same ↦ none (subst (EndsInDefinitions f) same into.definitions)
-    | inr ne ↦ h.no_edge c e from position (omega (arith, less, ne)) into
-  ];
-}
 
 -- what is told of an edge stays where more is listed
 edge_stays : (f : FunctionValue) (b : ℕ) (listed added : List ℕ) (e : EdgeInto) → IsEdgeOf f b listed e → IsEdgeOf f b (listed ++ added) e

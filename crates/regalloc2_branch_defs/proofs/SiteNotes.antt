@@ -1,13 +1,11 @@
 -- The operands of branches are noted one after another.
-use Rattle.std.proofs.Common.{ℕ, ◌≡◌, ◌+◌, ◌<◌, ◌≤◌, ◌⊎◌, inl, inr, true, false, List, length, refl, sym, ap, ◌∙◌, subst, arith, set, length-set}
+use Rattle.std.proofs.Common.{ℕ, ◌≡◌, ◌+◌, ◌<◌, ◌⊎◌, inl, inr, true, false, List, length, sym, ◌∙◌, subst, arith, set, length-set}
 use Rattle.std.proofs.Common.{get_or-set_same}
-use Rattle.std.specs.Prelude.{Option, None, Some, slice_index_or, if◌then◌else◌}
+use Rattle.std.specs.Prelude.{Option, None, Some, slice_index_or}
 use Rattle.std.proofs.lemmas.Bool.{cases_eq, cases_lt, cases_Bool}
 use Rattle.std.proofs.lemmas.List.{get_or_past, get_or-set_other}
-use Rattle.regalloc2_names.specs.Operand.{OperandValue, is_def}
 use Rattle.regalloc2_function.specs.FunctionValue.{FunctionValue, block_at, inst_at}
 use Rattle.regalloc2_function.specs.WellFormed.{last_of}
-use Rattle.regalloc2_semantics.specs.Listing.{op_at}
 use Rattle.regalloc2_cfg.specs.TableLength.{HasRoom}
 use Rattle.regalloc2_branch_defs.specs.BranchDefs.{DefinesNumber, IsSite, MayHaveTables}
 use Rattle.regalloc2_branch_defs.specs.Notes.{NotesBranch, NotesSites}
@@ -28,84 +26,6 @@ found xs m n x y e = elim (cases_eq n m) [
         (let l = length-set xs m (Some x) in omega (arith, l, past, same)) in let is : None ≡ Some y = sym none ∙ e in cc)
   ]
 ]
-
--- where nothing is found nothing was there
-pub missing : {X : Type 0} (xs : List (Option X)) (m n : ℕ) (x : X) → slice_index_or (set xs m (Some x)) n None ≡ None → ((n ≡ m) → length xs ≤ m)
-    × (slice_index_or xs n None ≡ None)
-missing xs m n x e = elim (cases_eq n m) [
-  | inr ne ↦ (λ same. absurd (ne same), sym (get_or-set_other xs m n (Some x) None ne) ∙ e)
-  | inl same ↦ elim (cases_lt m (length xs)) [
-    | inl lt ↦ absurd (let now : slice_index_or (set xs m (Some x)) n None ≡ Some x = subst (λ k. slice_index_or (set xs m (Some x)) k None ≡ Some x) (sym same)
-        (get_or-set_same xs m (Some x) None lt) in let is : None ≡ Some x = sym e ∙ now in cc)
-    | inr past ↦ (λ _. past, get_or_past xs n None (omega (arith, past, same)))
-  ]
-]
-
--- before any operand nothing is noted
-pub notes_none : (ops : List OperandValue) (branch : ℕ) (sites : List (Option DefSite)) → NotesSites ops branch 0 sites sites
-notes_none ops branch sites = record {
-  long = refl;
-  from = λ n s e. inl e;
-  kept = λ n e. e;
-  noted = λ n k less. absurd (omega (arith, less));
-}
-
--- one operand more, which defines
-notes_def : (ops : List OperandValue) (branch k : ℕ) (old mid : List (Option DefSite)) → k < length ops → is_def (op_at ops k).kind ≡ true →
-    NotesSites ops branch k old mid →
-    NotesSites ops branch (k + 1) old (set mid (op_at ops k).vreg.number (Some (record { branch = branch; index = k })))
-notes_def ops branch k old mid lt def h =
-    let m : ℕ = (op_at ops k).vreg.number in
-    let s : DefSite = record { branch = branch; index = k } in
-    let long = h.long in
-    record {
-      long = length-set mid m (Some s) ∙ h.long;
-      from = λ n t e. elim (found mid m n s t e) [
-        | inl now ↦ inr (
-          ap (λ (x : DefSite). x.branch) (sym now.1),
-          record {
-            operand = subst (λ (x : DefSite). x.index < length ops) now.1 lt;
-            definition = subst (λ (x : DefSite). is_def (op_at ops x.index).kind ≡ true) now.1 def;
-            number = subst (λ (x : DefSite). (op_at ops x.index).vreg.number ≡ n) now.1 (sym now.0);
-          },
-        )
-        | inr was ↦ h.from n t was
-      ];
-      kept = λ n e. h.kept n (missing mid m n s e).1;
-      noted = λ n j less small d e.
-          let gone = missing mid m n s e in
-          elim (cases_eq j k) [
-            | inl same ↦ (let number : m ≡ n = subst (λ (x : ℕ). (op_at ops x).vreg.number ≡ n) same d.number in
-                let past = gone.0 (sym number) in omega (arith, past, long, small, number))
-            | inr ne ↦ h.noted n j (omega (arith, less, ne)) small d gone.1
-          ];
-    }
-
--- one operand more, which doesn't
-notes_use : (ops : List OperandValue) (branch k : ℕ) (old mid : List (Option DefSite)) → is_def (op_at ops k).kind ≡ false → NotesSites ops branch k old mid →
-    NotesSites ops branch (k + 1) old mid
-notes_use ops branch k old mid use_it h = record {
-  long = h.long;
-  from = h.from;
-  kept = h.kept;
-  noted = λ n j less small d e. elim (cases_eq j k) [
-    | inl same ↦ (let def : is_def (op_at ops k).kind ≡ true = subst (λ (x : ℕ). is_def (op_at ops x).kind ≡ true) same d.definition in
-        let no : false ≡ true = sym use_it ∙ def in cc)
-    | inr ne ↦ h.noted n j (omega (arith, less, ne)) small d e
-  ];
-}
-
--- one operand more
-pub notes_one : (ops : List OperandValue) (branch k : ℕ) (o : OperandValue) (old mid new : List (Option DefSite)) → k < length ops → o ≡ op_at ops k →
-    new ≡ (if is_def o.kind then set mid o.vreg.number (Some (record { branch = branch; index = k })) else mid)
-    → NotesSites ops branch k old mid → NotesSites ops branch (k + 1) old new
-notes_one ops branch k o old mid new lt is e h =
-    let now : new ≡ (if is_def (op_at ops k).kind then set mid (op_at ops k).vreg.number (Some (record { branch = branch; index = k })) else mid)
-    = subst (λ (x : OperandValue). new ≡ (if is_def x.kind then set mid x.vreg.number (Some (record { branch = branch; index = k })) else mid)) is e in
-    elim (cases_Bool (is_def (op_at ops k).kind)) [
-      | inl def ↦ subst (NotesSites ops branch (k + 1) old) (sym (rw def at now)) (notes_def ops branch k old mid lt def h)
-      | inr use_it ↦ subst (NotesSites ops branch (k + 1) old) (sym (rw use_it at now)) (notes_use ops branch k old mid use_it h)
-    ]
 
 -- what the branches of the first blocks define is noted
 pub record SitesUpTo (f : FunctionValue) (count : ℕ) (sites : List (Option DefSite)) : Type 0 where

@@ -17,15 +17,11 @@ use Rattle.regalloc2_semantics.proofs.SingleDef.Made.{by_operand}
 use Rattle.regalloc2_semantics.proofs.Order.{passed_made}
 use Rattle.regalloc2_cfg.specs.TableLength.{HasRoom}
 use Rattle.regalloc2_branch_defs.specs.BranchDefs.{DefinesNumber, IsSite, IsUsedElsewhere, MayHaveTables}
-use Rattle.regalloc2_branch_defs.specs.Notes.{AreUsed, IsSiteAt, Marks, PassesAmong, PassesIn, PassesOut, ReadsAmong, ReadsIn}
+use Rattle.regalloc2_branch_defs.specs.Notes.{AreUsed, IsSiteAt, Marks, PassesAmong, PassesIn, PassesOut, ReadsIn}
 use Rattle.regalloc2_branch_defs.specs.Tables.{AreSites}
 use Rattle.regalloc2_branch_defs.specs.declared.DefSite.{DefSite}
 use Rattle.regalloc2_branch_defs.proofs.BlockEnds.{goes_on_by_branch, site_defines}
 use Rattle.regalloc2_branch_defs.proofs.RoomForNumbers.{made_room}
-
--- a list that stays marks nothing
-pub marks_none : (P : ℕ → Type 0) (used : List Bool) → ((n : ℕ) → P n → ⊥) → Marks P used used
-marks_none P used none = record { marked = λ n e. inl e; kept = λ n e. e; marks = λ n lt p. absurd (none n p) }
 
 -- one kind after another
 pub marks_then : (P Q R : ℕ → Type 0) (old mid new : List Bool) → length mid ≡ length old → Marks P old mid → Marks Q mid new →
@@ -45,53 +41,6 @@ last_or_before P count h = elim (cases_eq h.0 count) [
   | inl same ↦ inr (subst P same h.2)
   | inr ne ↦ (let lt = h.1 in inl (h.0, omega (arith, lt, ne), h.2))
 ]
-
--- one operand more
-pub reads_more : (ops : List OperandValue) (k : ℕ) (o : OperandValue) (old mid new : List Bool) → o ≡ op_at ops k → length mid ≡ length old →
-    Marks (ReadsAmong ops k) old mid
-    → Marks (λ n. (is_reading o ≡ true) × (o.vreg.number ≡ n)) mid new → Marks (ReadsAmong ops (k + 1)) old new
-reads_more ops k o old mid new is long a b =
-    let here : Marks (λ n. (is_reading (op_at ops k) ≡ true) × ((op_at ops k).vreg.number ≡ n)) mid new
-    = subst (λ (x : OperandValue). Marks (λ n. (is_reading x ≡ true) × (x.vreg.number ≡ n)) mid new) is b in
-    marks_then (ReadsAmong ops k) (λ n. (is_reading (op_at ops k) ≡ true) × ((op_at ops k).vreg.number ≡ n)) (ReadsAmong ops (k + 1)) old mid new long a here
-    (λ n. (
-      λ r. elim (cases_eq r.0 k) [
-        | inl same ↦ inr (subst (λ (x : ℕ). is_reading (op_at ops x) ≡ true) same r.2, subst (λ (x : ℕ). (op_at ops x).vreg.number ≡ n) same r.3)
-        | inr ne ↦ (let lt = r.1 in inl (r.0, omega (arith, lt, ne), r.2, r.3))
-      ],
-      λ e. elim e [ inl p ↦ (let lt = p.1 in (p.0, omega (arith, lt), p.2, p.3)) | inr q ↦ (k, omega arith, q.0, q.1) ],
-    ))
-
--- one instruction more
-pub all_reads_more : (f : FunctionValue) (i : ℕ) (ops : List OperandValue) (old mid new : List Bool) → ops ≡ (inst_at f i).operands →
-    length mid ≡ length old → Marks (ReadsIn f i) old mid
-    → Marks (ReadsAmong ops (length ops)) mid new → Marks (ReadsIn f (i + 1)) old new
-all_reads_more f i ops old mid new is long a b =
-    let Here : ℕ → Type 0 = ReadsAmong (inst_at f i).operands (length (inst_at f i).operands) in
-    let here : Marks Here mid new = subst (λ (xs : List OperandValue). Marks (ReadsAmong xs (length xs)) mid new) is b in
-    marks_then (ReadsIn f i) Here (ReadsIn f (i + 1)) old mid new long a here
-    (λ n. (
-      λ r. last_or_before (λ (x : ℕ). ReadsAmong (inst_at f x).operands (length (inst_at f x).operands) n) i r,
-      λ e. elim e [ inl p ↦ (let lt = p.1 in (p.0, omega (arith, lt), p.2)) | inr q ↦ (i, omega arith, q) ],
-    ))
-
--- one argument more
-pub passes_more : (sites : List (Option DefSite)) (inst : ℕ) (arguments : List VirtualRegister) (j : ℕ) (v : VirtualRegister) (old mid new : List Bool) →
-    j < length arguments → v ≡ slice_index_or arguments j v → length mid ≡ length old → Marks (PassesAmong sites inst arguments j) old mid
-    → Marks (λ n. (v.number ≡ n) × (IsSiteAt sites n inst → ⊥)) mid new → Marks (PassesAmong sites inst arguments (j + 1)) old new
-passes_more sites inst arguments j v old mid new within is long a b =
-    marks_then (PassesAmong sites inst arguments j) (λ n. (v.number ≡ n) × (IsSiteAt sites n inst → ⊥)) (PassesAmong sites inst arguments (j + 1)) old mid new
-    long a b
-    (λ n. (
-      λ r. elim (cases_eq r.0 j) [
-        | inl same ↦ (
-            let at : slice_index_or arguments j r.1 ≡ r.1 = subst (λ (x : ℕ). slice_index_or arguments x r.1 ≡ r.1) same r.3 in
-            let one : v ≡ r.1 = is ∙ get_or_default arguments j v r.1 within ∙ at in
-            inr (ap (λ (x : VirtualRegister). x.number) one ∙ r.4, r.5))
-        | inr ne ↦ (let lt = r.2 in inl (r.0, r.1, omega (arith, lt, ne), r.3, r.4, r.5))
-      ],
-      λ e. elim e [ inl p ↦ (let lt = p.2 in (p.0, p.1, omega (arith, lt), p.3, p.4, p.5)) | inr q ↦ (j, v, omega arith, sym is, q.0, q.1) ],
-    ))
 
 -- one edge more
 pub edges_more : (f : FunctionValue) (sites : List (Option DefSite)) (b k inst : ℕ) (arguments : List VirtualRegister) (old mid new : List Bool) →

@@ -81,13 +81,6 @@ true_right : (a b : Bool) → b ≡ true → (a || b) ≡ true
 true_right true b e = refl
 true_right false b e = e
 
--- an empty set has the registers that no moves name
-pub named_none : (ms : CallMoves) (s : PRegSet) → ((r : Register) → has_register s r ≡ false) → AreNamed ms 0 s
-named_none ms s h = record {
-  yes = λ r e. let no : true ≡ false = sym e ∙ h r in cc;
-  no = λ r x. absurd (omega (arith, x.1));
-}
-
 -- with the registers of move n put in, the set has those that one move more names
 pub named_more : (ms : CallMoves) (n : ℕ) (s t u : PRegSet) → AreNamed ms n s →
     ((r : Register) → has_register t r ≡ (is_place (source ms n) (InRegister r) || has_register s r)) →

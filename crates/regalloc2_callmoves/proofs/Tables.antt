@@ -1,10 +1,10 @@
 -- A table of the moves of a call by destination: which source each has.
-use Rattle.std.proofs.Common.{ℕ, ◌≡◌, ◌≢◌, ◌<◌, ◌+◌, Bool, true, false, cond, Option, None, Some, nat_eq, refl, sym, ap, ◌∙◌, inl, inr, ◌⊎◌, ⊎_elim, subst}
+use Rattle.std.proofs.Common.{ℕ, ◌≡◌, ◌<◌, ◌+◌, Bool, true, false, cond, Option, None, Some, nat_eq, refl, sym, ap, ◌∙◌, inl, inr, ◌⊎◌, ⊎_elim, subst}
 use Rattle.std.proofs.Common.{arith, eqb-true, eq-eqb}
 use Rattle.regalloc2_names.specs.Place.{Place}
 use Rattle.regalloc2_names.specs.PlaceBits.{bits_of_place, place_of_bits}
 use Rattle.regalloc2_parts.specs.AtOnce.{IsPlace}
-use Rattle.regalloc2_callmoves.specs.CallMoves.{CallMoves, source, target, HasOtherSource}
+use Rattle.regalloc2_callmoves.specs.CallMoves.{CallMoves, source, target}
 use Rattle.regalloc2_callmoves.proofs.CallPlaces.{split_more}
 
 abbrev pub Words : Type 0
@@ -22,23 +22,8 @@ pub record IsTable (ms : CallMoves) (n : ℕ) (t : Words) : Type 0 where
   pub back : (w v : ℕ) → t w ≡ Some v → (j : ℕ) × (j < n) × (w ≡ to_word ms j) × (v ≡ from_word ms j)
   pub words : (j : ℕ) → j < n → IsPlace (source ms j) × IsPlace (target ms j)
 
--- two places with one word are one place
-same_word : (p q : Place) → IsPlace p → IsPlace q → bits_of_place p ≡ bits_of_place q → p ≡ q
-same_word p q hp hq e = sym hp ∙ ap place_of_bits e ∙ hq
-
 some_word : (a b : ℕ) → ◌≡◌ {A = Option ℕ} (Some a) (Some b) → a ≡ b
 some_word a b e = cc
-
--- an earlier move has the destination, and another source
-pub table_other : (ms : CallMoves) (n : ℕ) (t : Words) (earlier : ℕ) → IsTable ms n t → IsPlace (target ms n) → t (to_word ms n) ≡ Some earlier →
-    earlier ≢ from_word ms n → HasOtherSource ms n
-table_other ms n t earlier h place e other =
-    let j = h.back (to_word ms n) earlier e in (
-      j.0,
-      j.1,
-      same_word (target ms j.0) (target ms n) (h.words j.0 j.1).1 place (sym j.2),
-      λ same. other (j.3 ∙ ap bits_of_place same),
-    )
 
 module _ (ms : CallMoves) (n : ℕ) (t u : Words) (h : IsTable ms n t) (from : IsPlace (source ms n)) (to : IsPlace (target ms n))
     (put : (w : ℕ) → u w ≡ cond (nat_eq (to_word ms n) w) (Some (from_word ms n)) (t w))

@@ -1,11 +1,11 @@
 -- A pass over all successors that meets each block's predecessors in the order of its list.
-use Rattle.std.proofs.Common.{ℕ, zero, suc, ◌≡◌, ◌+◌, ◌-◌, ◌*◌, ◌<◌, ◌≤◌, ◌↔◌, Bool, true, false}
+use Rattle.std.proofs.Common.{ℕ, zero, suc, ◌≡◌, ◌+◌, ◌-◌, ◌*◌, ◌<◌, ◌≤◌, Bool, true, false}
 use Rattle.std.proofs.Common.{List, [], ◌∷◌, ◌++◌, length, get_or, set, replicate, take, drop, refl, sym, ap, ◌∙◌}
-use Rattle.std.proofs.Common.{eq-eqb, add-one, append_assoc, append-nil, subst, inl, inr, arith}
+use Rattle.std.proofs.Common.{eq-eqb, add-one, append_assoc, subst, inl, inr, arith}
 use Rattle.std.specs.Prelude.{cond, flat_map, nat_eq}
 use Rattle.std.proofs.Math.Seq.{drop-cons}
 use Rattle.std.proofs.lemmas.Bool.{cases_eq}
-use Rattle.std.proofs.lemmas.List.{drop_all, get_or_at, get_or-set_other, get_or-set_same, length-append, replicate-append-replicate, take_all}
+use Rattle.std.proofs.lemmas.List.{get_or_at, get_or-set_other, get_or-set_same, length-append, replicate-append-replicate, take_all}
 use Rattle.std.proofs.lemmas.List.Sums.{count_by_more_no, count_by_more_yes, sum_by-append}
 use Rattle.std.proofs.lemmas.List.Folds.{sum_by-replicate}
 use Rattle.regalloc2_index.specs.Range.{numbers_from}
@@ -14,7 +14,7 @@ use Rattle.regalloc2_function.specs.WellFormed.{EachBlock, PredecessorsAgree, Su
 use Rattle.regalloc2_cfg.specs.Ways.{ListedInOrder, MetSoFar, ways_of_first}
 use Rattle.regalloc2_cfg.proofs.ListsInParts.{numbers_more, numbers_split}
 use Rattle.regalloc2_cfg.proofs.PredsListed.{all_ways_end, all_ways_more, differ}
-use Rattle.regalloc2_cfg.proofs.TimesInList.{times-take, zeros}
+use Rattle.regalloc2_cfg.proofs.TimesInList.{times-take}
 
 -- the predecessors of block n among the first b blocks and the first i positions of block b
 abbrev pub met_part : FunctionValue → ℕ → ℕ → ℕ → List ℕ
@@ -32,10 +32,6 @@ MetInPart f b i counts = EachBlock f (λ n block. AreFirst (met_part f b i n) (g
 pub succ_within : (f : FunctionValue) (b i s : ℕ) → SuccessorsAreBlocks f → b < length f.blocks → i < length (block_at f b).succs →
     s ≡ get_or (block_at f b).succs i s → s < length f.blocks
 succ_within f b i s blocks here less is = subst (λ m. m < length f.blocks) (sym is) (blocks.1 b here i s less)
-
--- no position of a block yet
-pub met_start : (f : FunctionValue) (b : ℕ) (counts : List ℕ) → MetSoFar f b counts → MetInPart f b 0 counts
-met_start f b counts h n less = subst (λ ws. AreFirst ws (get_or counts n 0) (block_at f n).preds) (sym (append-nil (ways_of_first f b n))) (h n less)
 
 -- one block more, at the end of the range
 ways_next : (f : FunctionValue) (b n : ℕ) → ways_of_first f (b + 1) n ≡ ways_of_first f b n ++ replicate (times_in n (block_at f b).succs) b
@@ -116,22 +112,6 @@ next_met f b i s c order here less is within long =
     let rest : List ℕ = flat_map h (numbers_from (0 + b + 1) (length f.blocks - b - 1)) in
     is_next (ways_of_first f b s) rest (block_at f s).preds (times_in s (take i succs)) (times_in s succs) c b (omega (arith, more, le))
     (order s within ∙ numbers_split h 0 (length f.blocks) b here ∙ ap (λ m. (ways_of_first f b s ++ h m) ++ rest) o) long
-
--- no block yet
-pub met_none : (f : FunctionValue) (counts : List ℕ) → counts ≡ replicate (length f.blocks) 0 → MetSoFar f 0 counts
-met_none f counts zero' n less =
-    let none : get_or counts n 0 ≡ 0 = ap (λ l. get_or l n 0) zero' ∙ zeros (length f.blocks) n in
-    (none, ap (λ m. drop m (block_at f n).preds) (sym none))
-
--- all blocks
-pub all_met : (f : FunctionValue) (b : ℕ) (counts : List ℕ) → b ≡ length f.blocks → MetSoFar f b counts →
-    EachBlock f (λ n block. get_or counts n 0 ≡ length block.preds) ↔ ListedInOrder f
-all_met f b counts end met = (
-  λ all n less. (let xs : List ℕ = (block_at f n).preds in
-      (met n less).1 ∙ ap (λ l. ways_of_first f b n ++ l) (drop_all (get_or counts n 0) xs (omega (arith, all n less))) ∙ append-nil (ways_of_first f b n)
-      ∙ ap (λ m. ways_of_first f m n) end),
-  λ order n less. (met n less).0 ∙ ap (λ m. length (ways_of_first f m n)) end ∙ ap length (sym (order n less)),
-)
 
 -- how often a block is among the ways of the first
 times_first : (f : FunctionValue) (b n p : ℕ) → (p < b → times_in p (ways_of_first f b n) ≡ times_in n (block_at f p).succs)

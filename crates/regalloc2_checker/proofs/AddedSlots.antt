@@ -5,14 +5,6 @@ use Rattle.regalloc2_names.specs.Place.{Place, InSlot}
 use Rattle.std.specs.Prelude.{◌⊎◌, ◌↔◌, Contains}
 use Rattle.regalloc2_checker.specs.CellFaults.{AddsSlots}
 
--- nothing is added at first
-pub adds_none : (R : ℕ → ℕ → ℕ → Type 0) (xs : List (ℕ × ℕ)) → AddsSlots (λ n u. (j : ℕ) × (j < 0) × R j n u) xs xs
-adds_none R xs n u = (λ h. inl h, λ h. back h)
-  where
-    back : Contains xs (n, u) ⊎ ((j : ℕ) × (j < 0) × R j n u) → Contains xs (n, u)
-    back (inl p) = p
-    back (inr q) = absurd (omega (arith, q.1))
-
 -- what is added after others
 pub adds_both : (P Q : ℕ → ℕ → Type 0) (xs ys zs : List (ℕ × ℕ)) → AddsSlots P xs ys → AddsSlots Q ys zs → AddsSlots (λ n u. P n u ⊎ Q n u) xs zs
 adds_both P Q xs ys zs first next n u = (λ h. there ((next n u).0 h), λ h. back h)

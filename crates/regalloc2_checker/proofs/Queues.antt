@@ -4,7 +4,7 @@ use Rattle.std.proofs.Common.{false, cond, List, [], ◌∷◌, length, get_or, 
 use Rattle.std.specs.Prelude.{◌⊎◌, Contains, sum_by, slice_index}
 use Rattle.std.specs.List.Sorted.{IsPermutation}
 use Rattle.std.specs.declared.cmp.Reverse.{Reverse}
-use Rattle.std.proofs.lemmas.Bool.{cases_eq, cases_Bool}
+use Rattle.std.proofs.lemmas.Bool.{cases_eq}
 use Rattle.std.proofs.lemmas.List.{length-set, get_or-set_same, get_or-set_other}
 use Rattle.std.proofs.lemmas.List.Elements.{All-cons, All-head, All-tail, All-weaker}
 use Rattle.std.proofs.lemmas.List.Sorted.{All-permutation, Contains-permutation}
@@ -81,14 +81,6 @@ queue-popped marks entries rest x b is p q =
             (All-tail (λ y. block_of y < length marks) x rest small);
       },
     )
-
--- a queue without entries
-pub queue-empty : (marks : List Bool) (entries : List (Reverse (ℕ × ℕ))) (b : ℕ) → length entries ≡ 0 → IsQueue marks entries → b < length marks →
-    mark_at marks b ≡ false
-queue-empty marks entries b none q less = elim (cases_Bool (mark_at marks b)) [
-  | inl m ↦ (let w = q.marked b less m in absurd (omega (arith, w.1.1, none)))
-  | inr m ↦ m
-]
 
 -- with the entry of a reached block pushed, each entry is of a reached block
 pub reached-pushed : (t : List BlockView) (entries new : List (Reverse (ℕ × ℕ))) (x : Reverse (ℕ × ℕ)) (b : ℕ) → block_of x ≡ b →

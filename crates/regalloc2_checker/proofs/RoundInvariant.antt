@@ -1,5 +1,5 @@
 -- What passing on over edges keeps, and what it leaves at the end.
-use Rattle.std.proofs.Common.{ℕ, zero, suc, ◌≡◌, ◌+◌, ◌-◌, ◌<◌, ◌⊎◌, inl, inr, arith, Bool, true, false, List, [], ◌∷◌, length, refl, sym, ap}
+use Rattle.std.proofs.Common.{ℕ, ◌≡◌, ◌+◌, ◌-◌, ◌<◌, ◌⊎◌, inl, inr, arith, Bool, true, false, List, [], ◌∷◌, length, refl, sym, ap}
 use Rattle.std.proofs.Common.{◌∙◌, subst}
 use Rattle.std.specs.Prelude.{◌&&◌, slice_index}
 use Rattle.std.proofs.lemmas.Bool.{cases_Bool, cases_eq}
@@ -12,7 +12,7 @@ use Rattle.regalloc2_function.specs.WellFormed.{IsFramed}
 use Rattle.regalloc2_checker.specs.Facts.{Facts, IsTraced, facts_over_edge, facts_after, true_facts}
 use Rattle.regalloc2_checker.specs.Fixpoint.{nth_of, IsReachedBlock, facts_within, facts_passed, IsRefuted}
 use Rattle.regalloc2_checker.specs.Tables.{BlockView, view_at, facts_at, IsSound, AllSolved, IsUpdated, IsSolved}
-use Rattle.regalloc2_checker.proofs.FactsTraced.{traced-same, traced-after, traced-edge, traced-then, change-same}
+use Rattle.regalloc2_checker.proofs.FactsTraced.{traced-after, traced-edge, traced-then, change-same}
 use Rattle.regalloc2_checker.proofs.FactsFollowMaps.{AreEarlier, true_facts-way}
 use Rattle.regalloc2_checker.proofs.Fixpoint.{reached_within, refuted_within, refuted_change, within-suc}
 use Rattle.regalloc2_checker.proofs.FixpointDecides.{reached_nonempty, block_within}
@@ -137,20 +137,6 @@ solved f o t ok s a = record {
   };
   refuted = λ b p v r. s.refuted b p v (marked_block f o t ok s a b r);
 }
-
--- what is passed depends only on which facts there are
-traced-within : (f : FunctionValue) (o : OutputValue) (b n : ℕ) → IsTraced (λ F. facts_within f o b F n)
-unfolding facts_within
-traced-within f o b zero = traced-same
-traced-within f o b (suc n) = traced-then (λ F. facts_within f o b F n) (facts_after f o (nth_of f b n)) (traced-within f o b n)
-    (traced-after f o (nth_of f b n))
-
--- equal facts at a block's beginning are propagated over an edge as equal facts
-pub passed-same : (f : FunctionValue) (o : OutputValue) (b k : ℕ) (F G : Facts) → ((p : Place) (v : VirtualRegister) → F p v ≡ G p v) →
-    (p : Place) (v : VirtualRegister) → facts_passed f o b k F p v ≡ facts_passed f o b k G p v
-passed-same f o b k F G e = change-same (facts_passed f o b k)
-    (traced-then (λ H. facts_within f o b H ((block_at f b).range.end - (block_at f b).range.first)) (facts_over_edge f (first_of f b) (ToSuccessor k))
-    (traced-within f o b _) (traced-edge f (first_of f b) (ToSuccessor k))) F G e
 
 -- the edge's own step, of what the block makes
 pub over-same : (f : FunctionValue) (b k : ℕ) (F G : Facts) → ((p : Place) (v : VirtualRegister) → F p v ≡ G p v) → (p : Place) (v : VirtualRegister) →

@@ -1,5 +1,5 @@
 -- Slots that are compared in turn, each with the last one before it that has another number.
-use Rattle.std.proofs.Common.{ℕ, ◌≡◌, ◌≢◌, ◌+◌, ◌-◌, ◌<◌, ◌≤◌, Bool, true, false, List, length, get_or, arith, refl, sym, ◌∙◌, ap, subst, inl, inr, Option, Some, None}
+use Rattle.std.proofs.Common.{ℕ, ◌≡◌, ◌≢◌, ◌+◌, ◌-◌, ◌<◌, ◌≤◌, Bool, true, false, List, length, get_or, arith, refl, sym, ◌∙◌, ap, subst, inl, inr, Option, Some}
 use Rattle.std.specs.Prelude.{◌⊎◌, ◌↔◌, Contains, reverse}
 use Rattle.std.specs.List.Sorted.{IsNonDecreasingBy}
 use Rattle.std.proofs.lemmas.Bool.{cases_lt}
@@ -46,15 +46,6 @@ pub record AreSwept (b : Bool) (named : List (ℕ × ℕ)) (k : ℕ) (now : Opti
   pub current : (c : ℕ) → now.0 ≡ Some c → IsSeen named k c
   pub other : (o : ℕ) → now.1 ≡ Some o → IsOther b named k now.0 o
   pub apart : (i j : ℕ) → i < j → j < k → (slot_at named i).0 ≢ (slot_at named j).0 → IsBeyond b (slot_at named j) (slot_at named i).0
-
--- none at first
-pub swept_none : (b : Bool) (named : List (ℕ × ℕ)) → AreSwept b named 0 (None, None)
-swept_none b named = record {
-  seen = λ j less. absurd (omega (arith, less));
-  current = λ c e. absurd cc;
-  other = λ o e. absurd cc;
-  apart = λ i j before less. absurd (omega (arith, less));
-}
 
 before_self : (b : Bool) (m : ℕ) → ComesBefore b m m
 before_self true m = omega arith

@@ -138,22 +138,6 @@ mark-taken f o t marks b h = record {
   here = λ g. (refl, λ q j less. absurd (omega arith));
 }
 
--- or for good, where the block is solved
-pub mark-dropped : (f : FunctionValue) (o : OutputValue) (t : List BlockView) (marks : List Bool) (b : ℕ) → IsKept f o t marks → BlockSolved f o t b →
-    IsKept f o t (set marks b false)
-mark-dropped f o t marks b h s = record {
-  size = length-set marks b false ∙ h.size;
-  settled = λ c less g. elim (cases_eq c b) [
-    | inl e ↦ subst (λ (n : ℕ). BlockSolved f o t n) (sym e) s
-    | inr n ↦ h.settled c less (sym (get_or-set_other marks b c false true n) ∙ g)
-  ];
-}
-
--- at first all have a mark
-pub all-marked : (f : FunctionValue) (o : OutputValue) (t : List BlockView) (marks : List Bool) → length marks ≡ length f.blocks →
-    ((b : ℕ) → b < length f.blocks → mark_at marks b ≡ true) → IsKept f o t marks
-all-marked f o t marks size all = record { size = size; settled = λ b less h. true_false (mark_at marks b) (all b less) h }
-
 -- so many edges of a block are passed on
 pub record EdgesPassed (f : FunctionValue) (o : OutputValue) (old t : List BlockView) (marks : List Bool) (b k : ℕ) : Type 0 where
   pub sound : IsSound f o t

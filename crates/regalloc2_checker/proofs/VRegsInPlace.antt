@@ -1,5 +1,5 @@
 -- The virtual registers that a place holds, as they are found.
-use Rattle.std.proofs.Common.{ℕ, zero, suc, ◌≡◌, ◌≢◌, ◌+◌, ◌-◌, ◌%◌, ◌<◌, ◌≤◌, inl, inr, arith, Bool}
+use Rattle.std.proofs.Common.{ℕ, zero, suc, ◌≡◌, ◌≢◌, ◌+◌, ◌-◌, ◌<◌, ◌≤◌, inl, inr, arith, Bool}
 use Rattle.std.proofs.Common.{true, false, List, [], ◌∷◌, ◌++◌, length, get_or, map, nat_lt, refl, sym, ap, ◌∙◌, subst}
 use Rattle.std.specs.Prelude.{◌⊎◌, ◌↔◌, ◌&&◌, Contains, None, Some}
 use Rattle.std.specs.List.Sorted.{IsStrictlyIncreasing}
@@ -8,14 +8,14 @@ use Rattle.std.proofs.lemmas.Bool.Decides.{nat_tests}
 use Rattle.std.proofs.lemmas.List.{map-append, length-map, get_or_default, get_or_append_left, get_or-append_right}
 use Rattle.std.proofs.lemmas.List.Elements.{Contains-append_left, Contains-append_right, Contains-append_cases}
 use Rattle.std.proofs.Math.ListN.{length-append}
-use Rattle.regalloc2_names.specs.Register.{VirtualRegister, class_code}
+use Rattle.regalloc2_names.specs.Register.{VirtualRegister}
 use Rattle.regalloc2_names.specs.RegisterBits.{bits_of_vreg, vreg_of_bits}
 use Rattle.regalloc2_names.specs.Place.{Place}
 use Rattle.regalloc2_checker_tables.specs.Showing.{Showing, shows_now}
 use Rattle.regalloc2_checker.proofs.Positions.{rising}
 use Rattle.regalloc2_checker.specs.Report.{AreVRegsInValue}
 use Rattle.regalloc2_checker.specs.TableFacts.{is_packed, is_packed_vreg, place_in, facts_now}
-use Rattle.regalloc2_checker.proofs.Keys.{vreg_back, class_small}
+use Rattle.regalloc2_checker.proofs.Keys.{vreg_back}
 use Rattle.regalloc2_checker.proofs.TableSteps.{facts-at, unlisted-holds}
 
 -- bits are among the first of a list
@@ -197,13 +197,3 @@ found_nowhere t p found at e = subst (λ (vs : List VirtualRegister). AreVRegsIn
     both : (b : Bool) → b ≡ true → b ≡ false → ⊥
     both true h g = absurd cc
     both false h g = absurd cc
-
--- bits of no class are those of no virtual register
-pub no_vreg : (v : VirtualRegister) (y : ℕ) → (y % 4 < 3 → ⊥) → bits_of_vreg v ≢ y
-no_vreg v y other e = other (classed v y e)
-  where
-    three : (v : VirtualRegister) → class_code v.class < 3 → (y : ℕ) → bits_of_vreg v ≡ y → y % 4 < 3
-    three v l y e = omega (arith, l, e)
-
-    classed : (v : VirtualRegister) (y : ℕ) → bits_of_vreg v ≡ y → y % 4 < 3
-    classed v y e = three v (class_small v.class) y e

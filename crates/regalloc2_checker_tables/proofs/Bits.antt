@@ -6,8 +6,7 @@ use Rattle.std.proofs.lemmas.Bool.{cases_eq, cases_lt}
 use Rattle.std.proofs.lemmas.Bool.Decides.{nat_tests}
 use Rattle.regalloc2_cfg.specs.Numbers.{NumberSet, has_number, times_in, ListsMembers}
 use Rattle.std.proofs.Common.{length, get_or, ◌-◌, zero, suc}
-use Rattle.std.specs.Prelude.{Result, Ok, Err, IfOk, OnErr}
-use Rattle.std.specs.declared.alloc.AllocError.{AllocError}
+use Rattle.std.specs.Prelude.{Result, Ok, Err, IfOk}
 use Rattle.std.proofs.Math.ListN.{length-append}
 use Rattle.std.proofs.lemmas.List.{get_or-append_right, get_or_append_left}
 use Rattle.regalloc2_checker_tables.specs.EntrySets.{has_bits, is_member, ListsBits, IsSetOf, AreMore}
@@ -213,14 +212,6 @@ within-and has other h y = by (has y) (h y)
     by true g = sym (g refl)
     by false g = refl
 
--- of two tests of which the second passes only where the first does, both pass where the second does
-pub within-and-right : (has other : ℕ → Bool) → ((y : ℕ) → other y ≡ true → has y ≡ true) → (y : ℕ) → other y ≡ (has y && other y)
-within-and-right has other h y = by (other y) (has y) (h y)
-  where
-    by : (a b : Bool) → (a ≡ true → b ≡ true) → a ≡ (b && a)
-    by true b g = sym (ap (λ t. t && true) (g refl))
-    by false b g = sym (and-false b)
-
 -- a set without members has no bits
 pub none-is : (s : NumberSet) → ((i : ℕ) → has_number s i ≡ false) → (y : ℕ) → has_bits s y ≡ false
 none-is s h y = ap (λ t. nat_lt y 4294967296 && t) (h y) ∙ and-false _
@@ -234,12 +225,6 @@ alone false = refl
 pub ok-as : {T E : Type 0} (P Q : T → Type 0) (r : Result T E) → ((x : T) → P x → Q x) → IfOk r P → IfOk r Q
 ok-as P Q (Ok x) f h = f x h
 ok-as P Q (Err e) f h = tt
-
--- whether a set was pushed or memory ran out, the sets that were there stay
-pub added-either : (sets new : List NumberSet) (s : NumberSet) (r : Result ℕ AllocError) → IfOk r (λ n. (n ≡ length sets) × (new ≡ sets ++ s ∷ [])) →
-    OnErr r (new ≡ sets) → AreMore sets new
-added-either sets new s (Ok n) h g = added-more sets new s h.1
-added-either sets new s (Err e) h g = same-sets sets new g
 
 -- what is read from a list, whatever stands for no item
 pub read-is : {X : Type 0} (l whole : List X) (i : ℕ) (x d : X) → l ≡ whole → i < length whole → x ≡ get_or l i x → x ≡ get_or whole i d

@@ -6,12 +6,12 @@ use Rattle.std.specs.List.Sorted.{IsStrictlyIncreasing}
 use Rattle.std.proofs.lemmas.List.{take_more}
 use Rattle.std.proofs.lemmas.Bool.{cases_eq, cases_lt}
 use Rattle.std.proofs.lemmas.List.{get_or-set_other, get_or-set_same, length-set}
-use Rattle.regalloc2_cfg.specs.Numbers.{NumberSet, has_number, times_in, ListsMembers}
+use Rattle.regalloc2_cfg.specs.Numbers.{NumberSet, has_number, times_in}
 use Rattle.regalloc2_checker_tables.specs.SavedNumbers.{Numbers}
 use Rattle.regalloc2_checker_tables.specs.EntrySets.{AreMore}
 use Rattle.regalloc2_checker_tables.specs.Holding.{IsHome, AreBelow, AreStill, AreMoreHomes, is_in}
 use Rattle.regalloc2_checker_tables.proofs.Bits.{below, above, apart, other-times, same-times}
-use Rattle.regalloc2_checker_tables.proofs.Walked.{walked-all, walked-more}
+use Rattle.regalloc2_checker_tables.proofs.Walked.{walked-more}
 use Rattle.regalloc2_checker_tables.proofs.Listed.{listed-once}
 
 -- sets that stay over two steps stay over both
@@ -68,17 +68,6 @@ dropped-more old mid new done place bits size h g i y l = elim (cases_eq i place
     twice false true o = refl
     twice true false o = refl
     twice false false o = refl
-
-some-of : (b : Bool) → nat_lt 0 (if b then 1 else 0) ≡ b
-some-of true = refl
-some-of false = refl
-
--- all are dropped
-pub dropped-all : (old new : ℕ → ℕ → Bool) (homes : NumberSet) (done left : List ℕ) (bits size : ℕ) → ListsMembers homes (done ++ left) → left ≡ [] →
-    ((i y : ℕ) → i < size → new i y ≡ (if nat_lt 0 (times_in done i) && nat_eq y bits then false else old i y)) → (i y : ℕ) → i < size →
-    new i y ≡ (if has_number homes i && nat_eq y bits then false else old i y)
-dropped-all old new homes done left bits size all e h i y l =
-    h i y l ∙ ap (λ b. if b && nat_eq y bits then false else old i y) (ap (λ n. nat_lt 0 n) (walked-all homes done left i all e) ∙ some-of (has_number homes i))
 
 -- what is left was there
 pub dropped-less : (old new : ℕ → ℕ → Bool) (t : ℕ → Bool) (bits size : ℕ) →
@@ -152,13 +141,6 @@ pub holders-none : (has : ℕ → Bool) (bound : ℕ) (holders : List ℕ) → h
     is_in holders i ≡ (nat_lt i bound && (nat_lt 0 (times_in [] i) && has i))
 unfolding times_in
 holders-none has bound holders e i = ap (λ (l : List ℕ). is_in l i) e ∙ sym (and-false (nat_lt i bound))
-
--- once all positions where a vreg may be were walked, the list has its holders
-pub holders-all : (has : ℕ → Bool) (bound : ℕ) (homes : NumberSet) (holders done left : List ℕ) → ListsMembers homes (done ++ left) → left ≡ [] →
-    ((i : ℕ) → is_in holders i ≡ (nat_lt i bound && (nat_lt 0 (times_in done i) && has i))) → (i : ℕ) →
-    is_in holders i ≡ (nat_lt i bound && (has_number homes i && has i))
-holders-all has bound homes holders done left all e h i =
-    h i ∙ ap (λ b. nat_lt i bound && (b && has i)) (ap (λ n. nat_lt 0 n) (walked-all homes done left i all e) ∙ some-of (has_number homes i))
 
 -- homes: one virtual register gets a place
 pub homes-more : (homes : List NumberSet) (j place : ℕ) (set : NumberSet) → j < length homes →

@@ -224,23 +224,3 @@ grown-more sets new o m h g e =
         members = λ y. m.kept g.number y below ∙ k.1.members y ∙ sym (ap (λ b. if nat_eq y g.bits then true else b) (m.kept g.from y k.0));
       },
     )
-
--- a set is kept
-pub grown-is : (sets : List NumberSet) (from bits number : ℕ) → from < length sets →
-    IsSetOf sets number (λ y. if nat_eq y bits then true else is_member sets from y) →
-    IsGrown sets (Some (record { from = from; bits = bits; number = number }))
-grown-is sets from bits number l h g e =
-    subst (λ (x : Grown). (x.from < length sets) × IsSetOf sets x.number (λ y. if nat_eq y x.bits then true else is_member sets x.from y))
-    (one (record { from = from; bits = bits; number = number }) g e) (l, h)
-  where
-    one : (a b : Grown) → ◌≡◌ {A = Option Grown} (Some a) (Some b) → a ≡ b
-    one a b e = cc
-
--- a set that was made of another and one member more, once it has a number
-pub grown-of : (old new : List NumberSet) (s : NumberSet) (set bits number : ℕ) → set < length old → AreMore old new → IsSetOf new number (has_bits s) →
-    ((y : ℕ) → has_bits s y ≡ (if nat_eq y bits then true else is_member old set y)) →
-    IsSetOf new number (λ y. if nat_eq y bits then true else is_member new set y)
-grown-of old new s set bits number l m h e = record {
-  below = h.below;
-  members = λ y. h.members y ∙ e y ∙ sym (ap (λ b. if nat_eq y bits then true else b) (m.kept set y l));
-}

@@ -1,5 +1,5 @@
 -- How far the members of a set are walked over.
-use Rattle.std.proofs.Common.{inl, inr, subst, ℕ, ◌≡◌, ◌+◌, ◌<◌, ◌≤◌, arith, Bool, true}
+use Rattle.std.proofs.Common.{inl, inr, subst, ℕ, ◌≡◌, ◌+◌, ◌<◌, arith, Bool, true}
 use Rattle.std.proofs.Common.{false, cond, nat_eq, eq-eqb, List, [], ◌∷◌, ◌++◌, refl, sym, ap, ◌∙◌, append_assoc}
 use Rattle.std.specs.Prelude.{if◌then◌else◌}
 use Rattle.std.proofs.lemmas.Bool.{cases_eq}
@@ -48,24 +48,6 @@ walked-is s done left rest x h e =
     let c = times-here x rest in
     let d = h x in
     omega arith)
-
--- one that came is a member
-pub walked-was : (s : NumberSet) (done left : List ℕ) (y : ℕ) → ListsMembers s (done ++ left) → 0 < times_in done y → has_number s y ≡ true
-walked-was s done left y h l = one_of (has_number s y) (let a = times-append done left y in let d = h y in omega arith)
-
--- the one that comes did not come before
-pub walked-new : (s : NumberSet) (done left rest : List ℕ) (x : ℕ) → ListsMembers s (done ++ left) → left ≡ x ∷ rest → times_in done x ≡ 0
-walked-new s done left rest x h e =
-    let a = times-append done left x in
-    let b : times_in left x ≡ times_in (x ∷ rest) x = ap (λ (l : List ℕ). times_in l x) e in
-    let c = times-here x rest in
-    let d = h x in
-    let m = at_most (has_number s x) in
-    omega arith
-  where
-    at_most : (b : Bool) → (if b then 1 else 0) ≤ 1
-    at_most true = omega arith
-    at_most false = omega arith
 
 -- at the end each member came
 pub walked-all : (s : NumberSet) (done left : List ℕ) (y : ℕ) → ListsMembers s (done ++ left) → left ≡ [] → times_in done y ≡ (if has_number s y then 1 else 0)

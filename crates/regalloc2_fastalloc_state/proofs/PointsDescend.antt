@@ -1,7 +1,7 @@
 -- Points that never rise.
-use Rattle.std.proofs.Common.{ℕ, ◌≡◌, ◌≢◌, ◌+◌, ◌-◌, ◌<◌, ◌≤◌, List, [], ◌∷◌, ◌++◌, reverse, map, refl, sym, ap, ◌∙◌, length, ◌⊎◌, ⊎_elim, inl, inr, arith}
+use Rattle.std.proofs.Common.{ℕ, ◌≡◌, ◌≢◌, ◌+◌, ◌-◌, ◌<◌, ◌≤◌, List, [], ◌∷◌, ◌++◌, reverse, sym, length, ◌⊎◌, ⊎_elim, inl, inr, arith}
 use Rattle.std.specs.List.Sorted.{IsNonDecreasingBy}
-use Rattle.std.proofs.lemmas.List.{reverse-append, map-append, get_or_append_left, get_or_push, get_or-reverse, length_push, length-reverse}
+use Rattle.std.proofs.lemmas.List.{get_or_append_left, get_or_push, get_or-reverse, length_push, length-reverse}
 use Rattle.std.proofs.lemmas.List.Elements.{All-push}
 use Rattle.regalloc2_function.specs.OutputValue.{MoveValue}
 use Rattle.regalloc2_fastalloc_state.specs.StateParts.{PointsDescend, AllAtOrAfter}
@@ -32,10 +32,3 @@ pub rising_reverse : (es : List (ℕ × MoveValue)) → PointsDescend es → IsN
 rising_reverse es falls = λ i j d le lt.
     let n : length (reverse es) ≡ length es = length-reverse es in
     rw (get_or-reverse es i d (omega arith), get_or-reverse es j d (omega arith)) (falls (length es - 1 - j) (length es - 1 - i) d (omega arith) (omega arith))
-
--- mapping a reversed list is reversing the mapped one
-pub map_reverse : {X Y : Type 0} (f : X → Y) (xs : List X) → map f (reverse xs) ≡ reverse (map f xs)
-map_reverse f [] = refl
-map_reverse f (x ∷ xs) =
-    ap (map f) (reverse-append (x ∷ []) xs) ∙ map-append f (reverse xs) (x ∷ []) ∙ ap (λ l. l ++ f x ∷ []) (map_reverse f xs)
-    ∙ sym (reverse-append (f x ∷ []) (map f xs))

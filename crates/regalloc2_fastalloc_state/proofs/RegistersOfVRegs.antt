@@ -16,13 +16,6 @@ use Rattle.regalloc2_fastalloc_state.proofs.VRegInPRegInverse.{whether}
 one_register : (q r : Register) → InRegister q ≡ InRegister r → q ≡ r
 one_register q r e = cc
 
--- the empty set has those of no vregs
-pub none_found : (allocs : List Place) (set : PRegSet) → ((r : Register) → has_register set r ≡ false) → AreRegistersOf allocs [] set
-none_found allocs set h = record {
-  has = λ r v c e. absurd (let lt = c.1 in omega (arith, lt));
-  only = λ r e. absurd (let z = h r in cc);
-}
-
 -- with the register of one vreg more
 pub one_found : (allocs : List Place) (vregs : List VirtualRegister) (x : VirtualRegister) (r : Register) (set new : PRegSet) →
     slice_index_or allocs x.number NoPlace ≡ InRegister r → ((q : Register) → has_register new q ≡ (is_register r q || has_register set q)) →

@@ -198,21 +198,6 @@ no_slots_made : (f : FunctionValue) (e : ℕ) (t : StateValue) (ds : List Stored
 no_slots_made f e t ds n ns z none_found few = refl
 no_slots_made f e t ds n ns z (one_found j os m x y lt prev one) few = absurd (omega (arith, few))
 
--- and nothing is made of none
-none_of : (z : StateValue) (fm : Bool) (ns : List PlaceMove) (ss : List Store) → length ns ≡ 0 → AreMadeOf z fm ns ss → ss ≡ []
-none_of z fm ns ss few none_made = refl
-none_of z fm ns ss few (passed_over m os ts is rest) = absurd (omega (arith, few))
-none_of z fm ns ss few (one_made m x os ts is made rest) = absurd (omega (arith, few))
-
--- no stores are no moves
-nothing_pushed : (t : StateValue) (s : SpillSlotsValue) (point : ℕ) (ps qs : List Store) → ps ≡ [] → qs ≡ [] →
-    record t { slots = s; edits = (t.edits ++ pushed_moves point (store_moves ps)) ++ pushed_moves point (store_moves qs) } ≡ record t { slots = s }
-unfolding store_moves pushed_moves
-nothing_pushed t s point ps qs a b =
-    ap (λ l. record t { slots = s; edits = (t.edits ++ pushed_moves point (store_moves l)) ++ pushed_moves point (store_moves qs) }) a
-    ∙ ap (λ l. record t { slots = s; edits = (t.edits ++ []) ++ pushed_moves point (store_moves l) }) b
-    ∙ ap (λ l. record t { slots = s; edits = l }) (append-nil (t.edits ++ []) ∙ append-nil t.edits)
-
 -- What is made of moves doesn't hang on slots and edits.
 made_on : (t : StateValue) (s : SpillSlotsValue) (es : List (ℕ × MoveValue)) (from_memory : Bool) (ms : List PlaceMove) (ss : List Store) →
     AreMadeOf (record t { slots = s; edits = es }) from_memory ms ss → AreMadeOf t from_memory ms ss

@@ -1,5 +1,5 @@
 -- Numbers that are no words of 32 bits, among others.
-use Rattle.std.proofs.Common.{ℕ, zero, suc, ◌≡◌, ◌<◌, ◌≤◌, ◌+◌, ◌^◌, List, [], ◌∷◌, ◌++◌, length, slice_index_or, refl, arith, sym, ◌∙◌, ap, append_assoc}
+use Rattle.std.proofs.Common.{ℕ, zero, suc, ◌≡◌, ◌<◌, ◌+◌, List, [], ◌∷◌, ◌++◌, length, slice_index_or, arith, sym, ◌∙◌, ap, append_assoc}
 use Rattle.std.proofs.Common.{subst}
 use Rattle.std.specs.List.{flat_map}
 use Rattle.regalloc2_flat.specs.Flat.{HasLongWord, list}
@@ -32,10 +32,6 @@ long_member u (y ∷ ys) zero x l e h = long_before (u y) (flat_map u ys) (subst
 long_member u (y ∷ ys) (suc i) x l e h =
     let within : i < length ys = omega arith in
     long_after (u y) (flat_map u ys) (long_member u ys i x within e h)
-
--- a long list, and a list with a member that has one
-pub long_list : {A : Type 0} (u : A → List ℕ) (xs : List A) → 2 ^ 32 ≤ length xs → HasLongWord (list u xs)
-long_list u xs h = record { before = []; number = length xs; after = flat_map u xs; parts = refl; is_long = h }
 
 pub long_in_list : {A : Type 0} (u : A → List ℕ) (xs : List A) → HasLongWord (flat_map u xs) → HasLongWord (list u xs)
 long_in_list u xs h = long_after (length xs ∷ []) (flat_map u xs) h

@@ -2,7 +2,7 @@
 use Rattle.std.proofs.Common.{◌≡◌, Bool, true, false, IsTrue}
 use Rattle.regalloc2_names.specs.declared.RegClass.{RegClass}
 use Rattle.regalloc2_names.specs.declared.RegClass.TheVariants.{Int, Float, Vector}
-use Rattle.std.specs.Bool.{OnTrue, OnFalse}
+use Rattle.std.specs.Bool.{OnFalse}
 
 -- where such a test answers no, the fact doesn't hold
 pub not_so : {P : Type 0} (b : Bool) → b ≡ false → (P → IsTrue b) → P → ⊥
@@ -11,11 +11,6 @@ not_so b e f p = let t : b ≡ true = f p in cc
 -- a test that says no doesn't hold
 pub never_true : IsTrue false → ⊥
 never_true t = cc
-
--- what holds where a test answers yes, and where it answers no
-pub holds_at : {P : Type 0} (b : Bool) → b ≡ true → OnTrue b P → P
-holds_at true e h = h
-holds_at false e h = absurd cc
 
 -- if a test says no, what holds in that case holds
 pub none_at : {P : Type 0} (b : Bool) → b ≡ false → OnFalse b P → P

@@ -46,10 +46,6 @@ located_labels Asked place each (kept l k is range rest) = located l (location_a
     (located_labels Asked place each rest)
 located_labels Asked place each (left_out l never rest) = omitted l never (located_labels Asked place each rest)
 
--- the kept labels of a list are those of an equal list
-pub kept_all : (f : FunctionValue) (ls ms : List Label) (ks : List KeptLabel) → ls ≡ ms → AreKeptLabels f ls ks → AreKeptLabels f ms ks
-kept_all f ls ms ks same h = subst (λ (xs : List Label). AreKeptLabels f xs ks) same h
-
 -- one label more
 pub kept_more : (f : FunctionValue) (ls : List Label) (ks : List KeptLabel) (l : Label) (k : KeptLabel) → AreKeptLabels f ls ks → k.label ≡ l.label →
     IsKeptRange f l k.range → AreKeptLabels f (ls ++ l ∷ []) (ks ++ k ∷ [])

@@ -1,10 +1,10 @@
 -- Tables by slots, spread out to tables by number.
-use Rattle.std.proofs.Common.{ℕ, ◌≡◌, ◌≢◌, ◌+◌, ◌<◌, ◌≤◌, ◌⊎◌, inl, inr, Bool, List, [], ◌∷◌, ◌++◌, length, set, take, sym, ap, ◌∙◌, subst}
+use Rattle.std.proofs.Common.{ℕ, ◌≡◌, ◌≢◌, ◌+◌, ◌<◌, ◌≤◌, ◌⊎◌, inl, inr, Bool, List, [], ◌∷◌, ◌++◌, length, set, sym, ◌∙◌, subst}
 use Rattle.std.proofs.Common.{arith, get_or-set_same, get_or-set_other}
 use Rattle.std.specs.Prelude.{Option, None, Some, slice_index_or, replicate}
 use Rattle.std.proofs.lemmas.Bool.{cases_eq}
 use Rattle.std.proofs.lemmas.List.{get_or-map, get_or_past, get_or-replicate, length-map, length-replicate, ext_get_or, length-set}
-use Rattle.std.proofs.lemmas.List.{take_more, get_or_append_left, length-append}
+use Rattle.std.proofs.lemmas.List.{get_or_append_left, length-append}
 use Rattle.std.proofs.Math.Seq.{get_or-append_seam}
 use Rattle.regalloc2_live_ranges.specs.LiveRanges.{IsWanted}
 use Rattle.regalloc2_live_ranges.specs.Slots.{AreSlots, HasSlot, IsApart, spread}
@@ -25,11 +25,6 @@ spread_at slots t n lt = get_or-map (λ s. slice_index_or t s None) slots n 0 No
 -- none past the end
 pub spread_past : {X : Type 0} (slots : List ℕ) (t : List (Option X)) (n : ℕ) → length slots ≤ n → slice_index_or (spread slots t) n None ≡ None
 spread_past slots t n le = get_or_past (spread slots t) n None (let long = spread_length slots t in omega (arith, long, le))
-
--- nor where the slot is past the table's
-pub spread_none : {X : Type 0} (slots : List ℕ) (t : List (Option X)) (n : ℕ) → n < length slots → length t ≤ slice_index_or slots n 0 →
-    slice_index_or (spread slots t) n None ≡ None
-spread_none slots t n lt le = spread_at slots t n lt ∙ get_or_past t (slice_index_or slots n 0) None le
 
 -- an entry that was set is there
 pub set_here : {X : Type 0} (slots : List ℕ) (t : List (Option X)) (n : ℕ) (x : X) → HasSlot slots n (length t) →
@@ -71,12 +66,6 @@ spread_nothing slots m n = elim (lt_or_le n (length slots)) [
   ])
 ]
 
--- a table is spread out entry by entry
-pub spread_more : {X : Type 0} (slots : List ℕ) (t : List (Option X)) (i : ℕ) (o : Option X) → i < length slots →
-    o ≡ slice_index_or (spread slots t) i None → take (i + 1) (spread slots t) ≡ take i (spread slots t) ++ o ∷ []
-spread_more slots t i o lt is = let long = spread_length slots t in
-    take_more (spread slots t) i None (omega (arith, lt, long)) ∙ ap (λ y. take i (spread slots t) ++ y ∷ []) (sym is)
-
 -- the numbers so far have their slots
 pub record SlotsSoFar (wanted : List Bool) (slots : List ℕ) (count num : ℕ) : Type 0 where
   pub few : count ≤ length slots
@@ -85,17 +74,6 @@ pub record SlotsSoFar (wanted : List Bool) (slots : List ℕ) (count num : ℕ) 
   pub theirs : (n : ℕ) → n < length slots → IsWanted wanted n → HasSlot slots n count
   pub only : (n : ℕ) → HasSlot slots n count → IsWanted wanted n
   pub used : (s : ℕ) → s < count → (n : ℕ) × (n < length slots) × (slice_index_or slots n 0 ≡ s)
-
--- no number has one yet
-pub no_slots : (wanted : List Bool) (num : ℕ) → SlotsSoFar wanted [] 0 num
-no_slots wanted num = record {
-  few = omega arith;
-  within = λ n lt. absurd (omega (arith, lt));
-  apart = λ n k has lt same. absurd (omega (arith, lt));
-  theirs = λ n lt w. absurd (omega (arith, lt));
-  only = λ n has. absurd (let lt = has.0 in omega (arith, lt));
-  used = λ s lt. absurd (omega (arith, lt));
-}
 
 module _ (slots : List ℕ) (s : ℕ) where
   -- a slot more leaves those before it

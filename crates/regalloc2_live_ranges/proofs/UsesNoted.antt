@@ -9,12 +9,11 @@ use Rattle.regalloc2_names.specs.Register.{VirtualRegister}
 use Rattle.regalloc2_names.specs.Operand.{OperandValue, is_position, is_reading, reads_at}
 use Rattle.regalloc2_names.proofs.EqualNames.{is_position-true, is_position-same}
 use Rattle.regalloc2_function.specs.FunctionValue.{FunctionValue, block_at, inst_at}
-use Rattle.regalloc2_function.specs.SourceRun.{arguments_at}
 use Rattle.regalloc2_function.specs.WellFormed.{BlocksFollow}
 use Rattle.regalloc2_semantics.specs.Listing.{op_at}
 use Rattle.regalloc2_semantics.proofs.Order.{stands_later}
 use Rattle.regalloc2_live_ranges.specs.declared.ends.RangeEnd.{RangeEnd}
-use Rattle.regalloc2_live_ranges.specs.LastUses.{EndsFrom, EndsUse, HasNumber, HasPassed, Notes, NotesArguments, NotesPassed, NotesReads, NotesUses}
+use Rattle.regalloc2_live_ranges.specs.LastUses.{EndsFrom, EndsUse, HasPassed, Notes, NotesPassed, NotesReads, NotesUses}
 use Rattle.regalloc2_live_ranges.specs.LastUses.{PassesNumber, ReadsFirst, ReadsNumber, UsesNumber, end_at, end_of_argument, end_of_reader}
 use Rattle.regalloc2_live_ranges.specs.LastUses.{read_end}
 use Rattle.regalloc2_live_ranges.specs.LastUses.UsesNumber.{reads, passes}
@@ -135,21 +134,6 @@ pub reads_skip : (at : OperandPos) (i : ℕ) (ops : List OperandValue) (m n : �
 reads_skip at i ops m n old mid o less is never h =
     let item : op_at ops m ≡ o = op_is ops m o less (sym is) in
     reads_same at i ops m n old mid (λ r. never (ap is_reading (sym item) ∙ r.reading, ap (λ (p : OperandValue). p.position) (sym item) ∙ r.position)) h
-
--- successors
-pub passed_more : (f : FunctionValue) (b i m n : ℕ) (old mid new : Option RangeEnd) → NotesPassed f b i m n old mid →
-    NotesArguments i (arguments_at f b m) (length (arguments_at f b m)) n mid new → NotesPassed f b i (m + 1) n old new
-passed_more f b i m n old mid new h k =
-    let A : Type 0 = HasNumber (arguments_at f b m) (length (arguments_at f b m)) n in
-    notes_weaker (HasPassed f b m n ⊎ A) (HasPassed f b (m + 1) n) (λ e. (HasPassed f b m n × (e ≡ end_of_argument i))
-    ⊎ ((HasPassed f b m n → ⊥) × (A × (e ≡ end_of_argument i)))) (λ e. HasPassed f b (m + 1) n × (e ≡ end_of_argument i)) old new
-    (λ s. elim (up_to s.0 m s.1) [
-      | inl lt ↦ inl (s.0, lt, s.2)
-      | inr same ↦
-          inr (subst (λ (q : ℕ). HasNumber (arguments_at f b q) (length (arguments_at f b q)) n) same s.2)
-    ])
-    (λ e s. elim s [ inl p ↦ ((p.0.0, omega (arith, p.0.1), p.0.2), p.1) | inr q ↦ ((m, omega arith, q.1.0), q.1.1) ])
-    (notes_then (HasPassed f b m n) A (λ e. HasPassed f b m n × (e ≡ end_of_argument i)) (λ e. A × (e ≡ end_of_argument i)) old mid new h k)
 
 -- an instruction of a block passes what its block passes, and that only as the last
 pub passed_here : (f : FunctionValue) → BlocksFollow f → (b i n : ℕ) → b < length f.blocks → (block_at f b).range.first ≤ i → i < (block_at f b).range.end →

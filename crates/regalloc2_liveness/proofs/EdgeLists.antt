@@ -47,10 +47,6 @@ edge_test false true true = refl
 edge_test false true false = refl
 edge_test false false t = refl
 
-or_true : (t : Bool) → (t || true) ≡ true
-or_true true = refl
-or_true false = refl
-
 -- once b is added to the list of its successor at i, the lists have b's edges to its first i + 1 successors
 pub edges_more : {A : Type 0} (before old : List (Vec ℕ A)) (s b i : ℕ) (d w : Vec ℕ A) (succs : List ℕ) → s < length old → i < length succs →
     s ≡ get_or succs i s → w.items ≡ (get_or old s d).items ++ b ∷ [] →

@@ -1,16 +1,13 @@
 -- Walks over operands, instructions and blocks.
-use Rattle.std.proofs.Common.{None, cond, ℕ, zero, suc, ◌≡◌, ◌+◌, ◌<◌, Bool, true, false, List, [], ◌∷◌, length, get_or, take, refl, sym, ap}
+use Rattle.std.proofs.Common.{ℕ, zero, suc, ◌≡◌, ◌+◌, ◌<◌, Bool, true, false, List, [], ◌∷◌, length, get_or, take, refl, sym, ap}
 use Rattle.std.proofs.Common.{◌∙◌, subst, arith, inl, inr}
 use Rattle.std.specs.Prelude.{◌&&◌, ◌||◌, not, Contains}
 use Rattle.std.specs.List.{list_any}
 use Rattle.std.proofs.lemmas.List.Folds.{list_any_more, list_any_at}
-use Rattle.std.specs.Option.{is_some}
-use Rattle.regalloc2_names.specs.declared.OperandConstraint.{OperandConstraint}
-use Rattle.regalloc2_names.specs.declared.OperandConstraint.TheVariants.{Any, Reg, Stack, FixedReg, Reuse, Limit}
 use Rattle.regalloc2_names.specs.declared.OperandPos.{OperandPos}
 use Rattle.regalloc2_names.specs.declared.OperandPos.TheVariants.{Early, Late}
 use Rattle.regalloc2_names.specs.Register.{VirtualRegister, is_vreg}
-use Rattle.regalloc2_names.specs.Operand.{OperandValue, fixed_register, is_def, is_fixed, is_position, is_reading, reads_at}
+use Rattle.regalloc2_names.specs.Operand.{OperandValue, is_def, is_position, is_reading, reads_at}
 use Rattle.regalloc2_names.proofs.EqualNames.{is_position-true, is_position-same, is_vreg-true, is_vreg-same}
 use Rattle.regalloc2_semantics.specs.Blocks.{names}
 use Rattle.regalloc2_semantics.specs.Carry.{Undefined}
@@ -196,21 +193,3 @@ asks_twice ops old mid b needs asked new wrote early late =
     late
     (λ v. let e : holds mid (b, v) ≡ (holds old (b, v) || defines v ops) = wrote (b, v) ∙ ap (λ x. holds old (b, v) || (x && defines v ops)) (same_number b) in
     rw e refl)
-
-fixed_some : (c : OperandConstraint) (t : Bool) → is_some (cond t (fixed_register c) None) ≡ (is_fixed c && t)
-fixed_some Any true = refl
-fixed_some Any false = refl
-fixed_some Reg true = refl
-fixed_some Reg false = refl
-fixed_some Stack true = refl
-fixed_some Stack false = refl
-fixed_some (FixedReg r) true = refl
-fixed_some (FixedReg r) false = refl
-fixed_some (Reuse n) true = refl
-fixed_some (Reuse n) false = refl
-fixed_some (Limit n) true = refl
-fixed_some (Limit n) false = refl
-
-turned : (b x : Bool) → x ≡ not b → b ≡ not x
-turned true x h = rw h refl
-turned false x h = rw h refl

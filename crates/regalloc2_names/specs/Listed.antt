@@ -22,11 +22,6 @@ unfoldable RisesWithin : ℕ → List Register → ℕ → Type 0
 RisesWithin low [] high = low ≤ high
 RisesWithin low (x ∷ xs) high = (low ≤ bits_of_register x) × RisesWithin (bits_of_register x + 1) xs high
 
-rises-low : (low : ℕ) (xs : List Register) (high : ℕ) → RisesWithin low xs high → low ≤ high
-unfolding RisesWithin
-rises-low low [] high h = h
-rises-low low (x ∷ xs) high h = let r = rises-low (bits_of_register x + 1) xs high h.1 in omega arith
-
 rises-wider : (l low : ℕ) (xs : List Register) (high : ℕ) → l ≤ low → RisesWithin low xs high → RisesWithin l xs high
 unfolding RisesWithin
 rises-wider l low [] high le h = omega arith

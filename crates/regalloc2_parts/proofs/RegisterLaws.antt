@@ -1,5 +1,5 @@
 -- Names of registers that stand for one register.
-use Rattle.std.proofs.Common.{ℕ, suc, ◌≡◌, ◌≤◌, refl, arith, ◌∙◌, sym, ap, List, [], ◌∷◌, Bool, true, false, cond, ◌&&◌, nat_eq, eqb-true, eq-eqb, length}
+use Rattle.std.proofs.Common.{ℕ, ◌≡◌, refl, arith, ◌∙◌, sym, ap, List, [], ◌∷◌, Bool, true, false, cond, ◌&&◌, nat_eq, eqb-true, eq-eqb}
 use Rattle.std.specs.Prelude.{filter}
 use Rattle.std.specs.List.{IsDistinct, AllByRecursion}
 use Rattle.std.proofs.lemmas.List.Elements.{All-filter, All-from_recursion, recursion_from_All}
@@ -51,10 +51,6 @@ is_register-flip a b = same_answer (is_register a b) (is_register b a) (turned a
   where
     turned : (x y : Register) → is_register x y ≡ true → is_register y x ≡ true
     turned x y e = rw (is_register-true x y e) (is_register-refl y)
-
-by_test : (t : Bool) (x : Register) (xs : List Register) → length (cond t (x ∷ xs) xs) ≤ suc (length xs)
-by_test true x xs = omega arith
-by_test false x xs = omega arith
 
 -- registers that differ still do where some are left out
 pub filter-distinct : (test : Register → Bool) (xs : List Register) → IsDistinct is_register xs → IsDistinct is_register (filter test xs)

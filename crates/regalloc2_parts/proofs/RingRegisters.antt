@@ -1,7 +1,7 @@
 -- The registers that a ring's nodes stand for.
-use Rattle.std.proofs.Common.{ℕ, zero, suc, ◌≡◌, ◌-◌, ◌<◌, ◌≤◌, ◌∙◌, refl, arith, sym, ap, subst}
-use Rattle.std.proofs.Common.{List, [], ◌∷◌, ◌++◌, Bool, true, false, not, cond, nat_eq, eq-eqb, length, inl, inr}
-use Rattle.std.specs.Prelude.{Contains, ◌⊎◌, filter, map, reverse, slice_get, Some}
+use Rattle.std.proofs.Common.{ℕ, zero, suc, ◌≡◌, ◌-◌, ◌<◌, ◌∙◌, refl, arith, sym, ap, subst}
+use Rattle.std.proofs.Common.{List, [], ◌∷◌, ◌++◌, Bool, true, false, not, cond, nat_eq, eq-eqb, length}
+use Rattle.std.specs.Prelude.{Contains, filter, map, reverse, slice_get, Some}
 use Rattle.std.specs.List.{AllByRecursion, IsDistinct}
 use Rattle.std.proofs.lemmas.List.{length-append, reverse-append, reverse-reverse}
 use Rattle.std.proofs.lemmas.Map.Keys.{IsDistinct-head, IsDistinct-tail, IsDistinct-cons}
@@ -75,14 +75,6 @@ pub registers_distinct : (nodes : List LruNode) (h : ℕ) (class : RegClass) →
 unfolding IsDistinct
 registers_distinct [] h class lru = tt
 registers_distinct (node ∷ nodes) h class lru = distinct_named class (ring_numbers (node ∷ nodes) h) (lru.ring (omega arith)).distinct
-
--- an lru has at most 64 nodes
-pub at_most_64 : (nodes : List LruNode) (h : ℕ) → IsLruNodes nodes h → length nodes ≤ 64
-at_most_64 nodes h lru = by_size lru.sized
-  where
-    by_size : (length nodes ≡ 0) ⊎ (length nodes ≡ 64) → length nodes ≤ 64
-    by_size (inl e) = omega arith
-    by_size (inr e) = omega arith
 
 -- the member that was poked
 pub member_number : (nodes : List LruNode) (h : ℕ) (class : RegClass) (r : Register) → Contains (ring_registers nodes h class) r →

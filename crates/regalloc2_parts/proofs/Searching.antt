@@ -1,5 +1,5 @@
 -- Lemmas on the search for the move that writes a place.
-use Rattle.std.proofs.Common.{◌≡◌, ◌≢◌, ℕ, ◌+◌, ◌-◌, ◌<◌, ◌≤◌, ◌⊎◌, inl, inr, List, [], ◌∷◌, ◌++◌, length, get_or, Ok, Err, sym, ap, ◌∙◌, subst, ⊎_elim, arith}
+use Rattle.std.proofs.Common.{◌≡◌, ◌≢◌, ℕ, ◌+◌, ◌-◌, ◌<◌, ◌≤◌, ◌⊎◌, List, [], ◌∷◌, ◌++◌, length, get_or, Ok, Err, sym, ap, ◌∙◌, subst, ⊎_elim, arith}
 use Rattle.std.specs.List.Sorted.{IsBinarySearchResult, IsNonDecreasingBy}
 use Rattle.std.specs.Ordering.{nat_cmp, ordering_index}
 use Rattle.std.proofs.lemmas.Cmp.{ranked}
@@ -23,20 +23,6 @@ written_at ms k d r = ap (λ (m : Ends). m.to) (get_or-map ends ms k d no_move r
 some_in : {M : Type 0} (ms : List M) (k : ℕ) → k < length ms → M
 some_in [] k r = absurd (omega arith)
 some_in (m ∷ ms) k r = m
-
--- a word below that of the first destination is below all, and one above that of the last is above all
-pub outside_all : {T : Type 0} (ms : List (Place × Place × T)) → IsNonDecreasingBy (λ (m : Place × Place × T). bits_of_place m.1) ms → (word first last : ℕ)
-    → ((d : Place × Place × T) → first ≡ bits_of_place (get_or ms 0 d).1) → ((d : Place × Place × T) → last ≡ bits_of_place (get_or ms (length ms - 1) d).1) →
-    (word < first) ⊎ (last < word) → (j : ℕ) (d : Place × Place × T) → j < length ms → bits_of_place (get_or ms j d).1 ≢ word
-outside_all ms sorted word first last is_first is_last (inl below) j d inside e =
-    let rise : bits_of_place (get_or ms 0 d).1 ≤ bits_of_place (get_or ms j d).1 = sorted 0 j d (omega arith) inside in
-    let least = is_first d in
-    omega (arith, rise, least, below, e)
-outside_all ms sorted word first last is_first is_last (inr above) j d inside e =
-    let rise : bits_of_place (get_or ms j d).1 ≤ bits_of_place (get_or ms (length ms - 1) d).1 = sorted j (length ms - 1) d (omega (arith, inside))
-    (omega (arith, inside)) in
-    let greatest = is_last d in
-    omega (arith, rise, greatest, above, e)
 
 module _ {T : Type 0} (ms : List (Place × Place × T)) (proper : AreProper (ends_of ms))
     (sorted : IsNonDecreasingBy (λ (m : Place × Place × T). bits_of_place m.1) ms) (place : Place) (real : IsPlace place) (word : ℕ)

@@ -9,14 +9,13 @@ use Rattle.regalloc2_function.specs.SourceRun.{IsWrittenFirst}
 use Rattle.regalloc2_function.specs.WellFormed.{IsWellFormed, last_of}
 use Rattle.regalloc2_semantics.specs.Carry.{Undefined}
 use Rattle.regalloc2_semantics.specs.Blocks.{IsUnwritten, IsSound, target_at}
-use Rattle.regalloc2_semantics.specs.Listing.{block_items}
 use Rattle.regalloc2_semantics.specs.Live.{IsLive, read_there, passed_there, later}
-use Rattle.regalloc2_semantics.specs.Live.{HasEntered, LiveStandWhereBlocksCarry, LiveStandByPoints, LiveStandWhereBlocksCarryOn}
+use Rattle.regalloc2_semantics.specs.Live.{HasEntered, LiveStandWhereBlocksCarryOn}
 use Rattle.regalloc2_semantics.proofs.SingleDef.{DefinesAt, reads_defined}
 use Rattle.regalloc2_semantics.proofs.Order.{ends_within, reads_later, passes_defined_earlier}
 use Rattle.regalloc2_semantics.proofs.Soundness.{cases_within, well_formed_are_sound}
 use Rattle.regalloc2_semantics.proofs.Paths.{Live, UsedSomewhere, live_somewhere, block_within}
-use Rattle.regalloc2_semantics.proofs.Paths.{holds_live, items_carry, items_carry_on, slots_carry, in_its_slot}
+use Rattle.regalloc2_semantics.proofs.Paths.{holds_live, items_carry_on}
 
 module _ (env : MachineValue) (f : FunctionValue) (ok : IsWellFormed env f) (v : VirtualRegister) where
   -- the instructions of a block before i don't write v
@@ -95,19 +94,7 @@ live_is_used env f ok written ws path entered v live =
     let lb : (end_of f ws).block < length f.blocks = block_within f sound written ws path in
     live_somewhere f sound v (end_of f ws).block lb (live_entered env f ok v ws entered lb live)
 
--- if writes come first and reached blocks carry what they owe, slots of vregs live at a block's entry hold their values
-pub live_stand : LiveStandWhereBlocksCarry
-live_stand env f out slot ok written carries ws path entered v p live is =
-    let sound : IsSound f = well_formed_are_sound env f ok in
-    holds_live f sound written out (in_its_slot slot) (λ b reached. slots_carry f slot b (block_items f out b) (carries b reached)) ws path entered v p
-    (live_entered env f ok v ws entered (block_within f sound written ws path) live) is
-
--- the same as `live_stand`, with listings made by the edits' points: in order, none after a block's last instruction
-pub live_stand_by_points : LiveStandByPoints
-live_stand_by_points env f out slot ok written rising quiet carries = live_stand env f out slot ok written
-    (items_carry f out slot (well_formed_are_sound env f ok) rising quiet carries)
-
--- the same where values are in other places than slots
+-- if writes come first and reached blocks carry what they owe, the places of vregs live at a block's entry hold their values
 pub live_stand_in_places : LiveStandWhereBlocksCarryOn
 live_stand_in_places env f out stand ok written rising quiet carries ws path entered v p live is =
     let sound : IsSound f = well_formed_are_sound env f ok in

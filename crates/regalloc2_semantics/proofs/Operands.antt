@@ -7,14 +7,6 @@ use Rattle.regalloc2_names.specs.Operand.{OperandValue, is_def, is_reading, is_f
 use Rattle.regalloc2_names.specs.Place.{Place, NoPlace, InRegister, InSlot}
 use Rattle.regalloc2_semantics.specs.Instruction.{IsTidy}
 
--- a place that is a preg is not a spill slot
-pub registers_apart : (r : Register) (k : ℕ) (p : Place) → p ≡ InRegister r → p ≡ InSlot k → ⊥
-registers_apart r k p e g = let x : InRegister r ≡ InSlot k = sym e ∙ g in cc
-
--- a place that is a preg is not none
-pub register_there : (r : Register) (p : Place) → p ≡ InRegister r → p ≡ NoPlace → ⊥
-register_there r p e g = let x : InRegister r ≡ NoPlace = sym e ∙ g in cc
-
 -- a reading operand is a use
 pub reads_use : (o : OperandValue) → is_reading o ≡ true → is_def o.kind ≡ false
 reads_use o h = by_test (is_def o.kind) (and_parts (not (is_def o.kind)) (not (is_fixed_nonallocatable o)) h).0
@@ -35,28 +27,9 @@ pub record Evicted (T S T' S' : ℕ → Place) (w : ℕ) (r : Register) (s : Pla
   pub own : (n : ℕ) → S' n ≡ s → n ≡ w
 
 module _ (T S T' S' : ℕ → Place) (w : ℕ) (r : Register) (s : Place) (e : Evicted T S T' S' w r s) (tidy : IsTidy T S) where
-  -- where some vreg is located in a register afterwards, that one was there before, and it is another
-  still : (n : ℕ) (q : Register) → T' n ≡ InRegister q → (n ≢ w) × (T n ≡ InRegister q)
-  still n q h = elim (cases_eq n w) [
-    | inl same ↦ absurd (registers_apart q e.is_slot.0 s (sym e.stands_now ∙ ap T' (sym same) ∙ h) e.is_slot.1)
-    | inr ne ↦ (ne, sym (e.others n ne) ∙ h)
-  ]
-
   -- some vreg is located somewhere exactly where he did before
   found : (n : ℕ) → T n ≢ NoPlace → T' n ≢ NoPlace
   found n h = elim (cases_eq n w) [
     | inl same ↦ (λ z. let x : InSlot e.is_slot.0 ≡ NoPlace = sym e.is_slot.1 ∙ sym e.stands_now ∙ ap T' (sym same) ∙ z in cc)
     | inr ne ↦ (λ z. h (sym (e.others n ne) ∙ z))
-  ]
-
-  lost : (n : ℕ) → T' n ≡ NoPlace → T n ≡ NoPlace
-  lost n h = elim (cases_eq n w) [
-    | inl same ↦ (let x : InSlot e.is_slot.0 ≡ NoPlace = sym e.is_slot.1 ∙ sym e.stands_now ∙ ap T' (sym same) ∙ h in absurd cc)
-    | inr ne ↦ (sym (e.others n ne) ∙ h)
-  ]
-
-  gone : (n : ℕ) → T n ≡ NoPlace → T' n ≡ NoPlace
-  gone n h = elim (cases_eq n w) [
-    | inl same ↦ absurd (register_there r (T w) e.stood_there (ap T (sym same) ∙ h))
-    | inr ne ↦ (e.others n ne ∙ h)
   ]

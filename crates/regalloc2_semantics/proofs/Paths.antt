@@ -11,18 +11,17 @@ use Rattle.regalloc2_names.specs.Place.{Place}
 use Rattle.regalloc2_function.specs.FunctionValue.{FunctionValue, block_at, inst_at}
 use Rattle.regalloc2_function.specs.OutputValue.{OutputValue}
 use Rattle.regalloc2_function.specs.Path.{Way, Onward, ToSuccessor, Location, first_of, end_of, last_inst, IsPath, HasWay}
-use Rattle.regalloc2_function.specs.SourceRun.{Source, Stamp, after_defs, read_of, over_edge}
+use Rattle.regalloc2_function.specs.SourceRun.{Stamp, after_defs, read_of, over_edge}
 use Rattle.regalloc2_function.specs.SourceRun.{arguments_at, source_before, source_after, source_read, IsWrittenFirst}
-use Rattle.regalloc2_function.specs.AllocatedRun.{Cells, cells_before, stored}
+use Rattle.regalloc2_function.specs.AllocatedRun.{cells_before}
 use Rattle.regalloc2_function.specs.Faithful.{ReadsAgree}
 use Rattle.regalloc2_function.specs.Held.{IsReached}
-use Rattle.regalloc2_semantics.specs.Listing.{Item, op_at, no_operand, items_by, items_from, block_items, IsReadIn}
-use Rattle.regalloc2_semantics.specs.Listing.Item.{Move, Exec}
-use Rattle.regalloc2_semantics.specs.Carry.{CarriesFrom, Carries, Undefined, late_cells}
+use Rattle.regalloc2_semantics.specs.Listing.{op_at, no_operand, items_by, items_from, block_items, IsReadIn}
+use Rattle.regalloc2_semantics.specs.Carry.{CarriesFrom, Carries, Undefined}
 use Rattle.regalloc2_semantics.specs.BlockByPoints.{block_walked, Rising, EndsQuiet}
 use Rattle.regalloc2_semantics.specs.Live.{HasEntered, HoldsValue}
 use Rattle.regalloc2_semantics.specs.Blocks.{names, HasEdge, target_at, IsSound, IsUnwritten, IsUsed, IsUsedIn, IsWantedBehind, IsExcused}
-use Rattle.regalloc2_semantics.specs.Blocks.{ExcusedAreSilent, StandsBefore, StandsAfter, BlockCarries, BlocksAgree, BlocksAgreeByPoints}
+use Rattle.regalloc2_semantics.specs.Blocks.{ExcusedAreSilent}
 use Rattle.regalloc2_semantics.specs.Blocks.{ComesIn, GoesOut, BlockCarriesOn, BlocksAgreeInPlaces, BlocksAgreeInPlacesByPoints}
 use Rattle.regalloc2_semantics.proofs.BothRuns.{after_defs-other}
 use Rattle.regalloc2_semantics.proofs.ParamsOnEdge.{passed-other, passed-passes, passes_some, passes_contains}
@@ -415,32 +414,6 @@ module _ (f : FunctionValue) (ok : IsSound f) (written : IsWrittenFirst f) where
 pub blocks_agree_in_places : BlocksAgreeInPlaces
 blocks_agree_in_places f out stand ok written carries = agree_at f ok written out stand carries
 
--- in its slot, at each block's beginning
-abbrev pub in_its_slot : (VirtualRegister → Option Place) → ℕ → VirtualRegister → Option Place
-in_its_slot slot b v = slot v
-
--- what is carried to some places is carried to fewer
-fewer_from : (v : VirtualRegister) (items : List Item) (E F : Place → Type 0) (s : Source) (c : Cells) (n : ℕ) → ((p : Place) → F p → E p) →
-    CarriesFrom v E items s c n → CarriesFrom v F items s c n
-unfolding CarriesFrom
-fewer_from v [] E F s c n fewer h = λ p is. h p (fewer p is)
-fewer_from v (Move m ∷ items) E F s c n fewer h = fewer_from v items E F s (stored c m.to (c m.from)) n fewer h
-fewer_from v (Exec operands places clobbers ∷ items) E F s c n fewer h =
-    (h.0, h.1, fewer_from v items E F (after_defs n 0 operands s) (late_cells n operands places clobbers c) (suc n) fewer h.2)
-
--- a block that carries values from slot to slot does so where each is in its slot wherever a block begins
-pub slots_carry : (f : FunctionValue) (slot : VirtualRegister → Option Place) (b : ℕ) (items : List Item) → BlockCarries f slot b items →
-    BlockCarriesOn f (in_its_slot slot) b items
-unfolding Carries
-slots_carry f slot b items carries = λ silent v used free s c n holds.
-    fewer_from v items (StandsAfter f slot b v) (GoesOut f (in_its_slot slot) b v) s c n
-    (λ p is. elim is [ inl h ↦ inl (h.2, h.3, h.4) | inr h ↦ inr h ]) (carries silent v used free s c n holds)
-
--- so with slots
-pub blocks_agree : BlocksAgree
-blocks_agree f out slot ok written carries = blocks_agree_in_places f out (in_its_slot slot) ok written
-    (λ b reached. slots_carry f slot b (block_items f out b) (carries b reached))
-
 -- a block that a path reaches is one
 reached_within : (f : FunctionValue) → IsSound f → (b : ℕ) → IsReached f (first_of f b) → b < length f.blocks
 reached_within f ok b (ws, p, e) = subst (λ c. c < length f.blocks) (ap (λ (l : Location). l.block) e) (within ws p)
@@ -451,16 +424,6 @@ reached_within f ok b (ws, p, e) = subst (λ c. c < length f.blocks) (ap (λ (l 
     within (ToSuccessor k ∷ vs) q = ok.targets (end_of f vs).block k q.1.1
 
 -- what a block's listing carries that is put together by points
-pub items_carry : (f : FunctionValue) (out : OutputValue) (slot : VirtualRegister → Option Place) → IsSound f → Rising out.edits →
-    ((b : ℕ) → b < length f.blocks → EndsQuiet f out b) →
-    ((b : ℕ) → IsReached f (first_of f b) → BlockCarries f slot b (block_walked f out b)) → (b : ℕ) → IsReached f (first_of f b) →
-    BlockCarries f slot b (block_items f out b)
-items_carry f out slot ok rising quiet carries b reached = λ silent v used free.
-    let within : b < length f.blocks = reached_within f ok b reached in
-    subst (λ l. Carries v l (StandsBefore f slot b v) (StandsAfter f slot b v))
-    (sym (block_items-walked f out b rising (ok.nonempty b within) (quiet b within))) (carries b reached silent v used free)
-
--- and so where values are in other places than slots
 pub items_carry_on : (f : FunctionValue) (out : OutputValue) (stand : ℕ → VirtualRegister → Option Place) → IsSound f → Rising out.edits →
     ((b : ℕ) → b < length f.blocks → EndsQuiet f out b) →
     ((b : ℕ) → IsReached f (first_of f b) → BlockCarriesOn f stand b (block_walked f out b)) → (b : ℕ) → IsReached f (first_of f b) →
@@ -474,7 +437,3 @@ items_carry_on f out stand ok rising quiet carries b reached = λ silent v used 
 pub blocks_agree_in_places_by_points : BlocksAgreeInPlacesByPoints
 blocks_agree_in_places_by_points f out stand ok written rising quiet carries = blocks_agree_in_places f out stand ok written
     (items_carry_on f out stand ok rising quiet carries)
-
--- the same as `blocks_agree`, with listings made by the edits' points: in order, none after a block's last instruction
-pub blocks_agree_by_points : BlocksAgreeByPoints
-blocks_agree_by_points f out slot ok written rising quiet carries = blocks_agree f out slot ok written (items_carry f out slot ok rising quiet carries)

@@ -1,7 +1,7 @@
 -- Choices, options, lists and sizes, whatever they are of.
 use Rattle.std.proofs.Common.{ℕ, zero, suc, ◌≡◌, ◌⊎◌, inl, inr, ◌+◌, ◌-◌, ◌*◌, ◌%◌, ◌<◌, ◌≤◌, Bool, true, false, cond, List, [], ◌∷◌, ◌++◌}
 use Rattle.std.proofs.Common.{length, take, drop, replicate, refl, sym, ap, ◌∙◌, arith, slice_index_or, slice_index, length-append, length-drop}
-use Rattle.std.specs.Prelude.{Option, None, Some, is_some}
+use Rattle.std.specs.Prelude.{None, Some}
 use Rattle.std.specs.Int.{next_multiple_of}
 use Rattle.std.proofs.lemmas.List.{length-take, get_or-take, get_or-drop, get_or-append-add, get_or_append_left}
 use Rattle.std.proofs.lemmas.Nat.{mod_below}
@@ -16,11 +16,6 @@ chosen false false x y z q h = inr (inr (refl, refl, h))
 -- nothing is no value
 pub no_some : {X : Type 0} (x : X) → None ≡ Some x → ⊥
 no_some x h = cc
-
--- tests of whether some vreg is there
-pub nobody_there : {X : Type 0} (o : Option X) → is_some o ≡ false → o ≡ None
-nobody_there None h = refl
-nobody_there (Some x) h = absurd cc
 
 -- a list of one value has it everywhere
 pub always : {X : Type 0} (n k : ℕ) (x : X) → slice_index_or (replicate n x) k x ≡ x

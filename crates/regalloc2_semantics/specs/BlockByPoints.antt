@@ -1,6 +1,6 @@
 -- A block's items_by, by the points of its moves.
-use Rattle.std.specs.Prelude.{ℕ, zero, suc, ◌≡◌, ◌+◌, ◌-◌, ◌≤◌, nat_eq, List, [], ◌∷◌, filter, map, reverse, ◌++◌, ◌||◌, if◌then◌else◌}
-use Rattle.regalloc2_names.specs.Place.{Place, is_place, is_no_place}
+use Rattle.std.specs.Prelude.{ℕ, zero, suc, ◌≡◌, ◌+◌, ◌-◌, ◌≤◌, nat_eq, List, [], ◌∷◌, filter, map, reverse}
+use Rattle.regalloc2_names.specs.Place.{Place}
 use Rattle.regalloc2_names.specs.Point.{before, after}
 use Rattle.regalloc2_function.specs.FunctionValue.{FunctionValue, InstValue, block_at, inst_at}
 use Rattle.regalloc2_function.specs.OutputValue.{OutputValue, MoveValue, allocs_of}
@@ -46,7 +46,3 @@ before_part insts edits places i n item = with_moves (at_point edits (before i))
 -- the moves in the order in which they were pushed, and as they are listed
 abbrev pub listed : List (ℕ × MoveValue) → List (ℕ × MoveValue)
 listed pushed = reverse pushed
-
--- one more move is pushed, unless its destination is none or its source
-abbrev pub sent : ℕ → Place → Place → List (ℕ × MoveValue) → List (ℕ × MoveValue)
-sent point from to pushed = if is_no_place to || is_place from to then pushed else pushed ++ (point, record { from = from; to = to }) ∷ []

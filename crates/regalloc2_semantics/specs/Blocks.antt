@@ -88,11 +88,6 @@ module _ (f : FunctionValue) (slot : VirtualRegister → Option Place) where
       (((k : ℕ) → HasEdge f b k → names v (block_at f (target_at f b k)).params ≡ false) × IsWantedBehind f b v × (slot v ≡ Some p))
       ⊎ ((k : ℕ) × (u : VirtualRegister) × HasEdge f b k × Passes u v (block_at f (target_at f b k)).params (arguments_at f b k) × (slot u ≡ Some p))
 
-  -- what a block owes, for each virtual register that is used somewhere
-  abbrev pub BlockCarries : ℕ → List Item → Type 0
-  BlockCarries b items = ExcusedAreSilent f b → (v : VirtualRegister) → IsUsed f v → (IsExcused f b v → ⊥) →
-      Carries v items (StandsBefore b v) (StandsAfter b v)
-
 -- The same for values that aren't in one slot wherever a block begins: stand says where virtual registers are at each block's beginning.
 module _ (f : FunctionValue) (stand : ℕ → VirtualRegister → Option Place) where
   -- where v may be relied on at the block's beginning: where it is there, unless the block writes it
@@ -113,22 +108,12 @@ module _ (f : FunctionValue) (stand : ℕ → VirtualRegister → Option Place) 
   BlockCarriesOn b items = ExcusedAreSilent f b → (v : VirtualRegister) → IsUsed f v → (IsExcused f b v → ⊥) → Carries v items (ComesIn b v) (GoesOut b v)
 
 -- where no path reads before writing, and every block that a path reaches does what it owes, reads agree on every path
-abbrev pub BlocksAgree : Type 0
-BlocksAgree = (f : FunctionValue) (out : OutputValue) (slot : VirtualRegister → Option Place) → IsSound f → IsWrittenFirst f →
-    ((b : ℕ) → IsReached f (first_of f b) → BlockCarries f slot b (block_items f out b)) → ReadsAgreeOnPaths f out
-
--- and so where values are in other places than slots
 abbrev pub BlocksAgreeInPlaces : Type 0
 BlocksAgreeInPlaces = (f : FunctionValue) (out : OutputValue) (stand : ℕ → VirtualRegister → Option Place) → IsSound f → IsWrittenFirst f →
     ((b : ℕ) → IsReached f (first_of f b) → BlockCarriesOn f stand b (block_items f out b)) → ReadsAgreeOnPaths f out
 
+-- the same, with the listings put together by the points of their moves
 abbrev pub BlocksAgreeInPlacesByPoints : Type 0
 BlocksAgreeInPlacesByPoints = (f : FunctionValue) (out : OutputValue) (stand : ℕ → VirtualRegister → Option Place) → IsSound f → IsWrittenFirst f →
     Rising out.edits → ((b : ℕ) → b < length f.blocks → EndsQuiet f out b) →
     ((b : ℕ) → IsReached f (first_of f b) → BlockCarriesOn f stand b (block_walked f out b)) → ReadsAgreeOnPaths f out
-
--- the same, with the listings put together by the points of their moves
-abbrev pub BlocksAgreeByPoints : Type 0
-BlocksAgreeByPoints = (f : FunctionValue) (out : OutputValue) (slot : VirtualRegister → Option Place) → IsSound f → IsWrittenFirst f → Rising out.edits →
-    ((b : ℕ) → b < length f.blocks → EndsQuiet f out b) →
-    ((b : ℕ) → IsReached f (first_of f b) → BlockCarries f slot b (block_walked f out b)) → ReadsAgreeOnPaths f out

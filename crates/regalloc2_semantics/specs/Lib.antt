@@ -3,7 +3,6 @@ pub mod Carry
 pub mod BlockByPoints
 pub mod Laws
 pub mod Stores
-pub mod StraightBlock
 pub mod Blocks
 pub mod Sound
 pub mod Instruction

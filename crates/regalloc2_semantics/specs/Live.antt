@@ -11,10 +11,10 @@ use Rattle.regalloc2_names.specs.Operand.{is_reading}
 use Rattle.regalloc2_function.specs.AllocatedRun.{cells_before}
 use Rattle.regalloc2_function.specs.Held.{IsReached}
 use Rattle.regalloc2_function.specs.WellFormed.{IsWellFormed}
-use Rattle.regalloc2_semantics.specs.Listing.{op_at, block_items}
+use Rattle.regalloc2_semantics.specs.Listing.{op_at}
 use Rattle.regalloc2_semantics.specs.Carry.{Undefined}
 use Rattle.regalloc2_semantics.specs.BlockByPoints.{block_walked, Rising, EndsQuiet}
-use Rattle.regalloc2_semantics.specs.Blocks.{names, target_at, BlockCarries, BlockCarriesOn}
+use Rattle.regalloc2_semantics.specs.Blocks.{names, target_at, BlockCarriesOn}
 
 -- a way on gives v no new value: it is no edge to a block of which v is a parameter
 abbrev pub IsAside : FunctionValue → VirtualRegister → Location → Way → Type 0
@@ -38,29 +38,13 @@ HasEntered f ws = (end_of f ws).inst ≡ (block_at f (end_of f ws).block).range.
 abbrev pub HoldsValue : FunctionValue → OutputValue → List Way → Place → VirtualRegister → Type 0
 HoldsValue f out ws p v = IsSome (source_before f ws v) × (cells_before f out ws p ≡ source_before f ws v)
 
--- on every path, where it comes to a block, the slot of each virtual register that is live there holds its value
-abbrev pub LiveStand : FunctionValue → OutputValue → (VirtualRegister → Option Place) → Type 0
-LiveStand f out slot = (ws : List Way) → IsPath f ws → HasEntered f ws → (v : VirtualRegister) (p : Place) → IsLive f v (end_of f ws) → slot v ≡ Some p →
-    HoldsValue f out ws p v
-
--- so it is where no path reads before writing, and every block that a path reaches does what it owes
-abbrev pub LiveStandWhereBlocksCarry : Type 0
-LiveStandWhereBlocksCarry = (env : MachineValue) (f : FunctionValue) (out : OutputValue) (slot : VirtualRegister → Option Place) → IsWellFormed env f →
-    IsWrittenFirst f →
-    ((b : ℕ) → IsReached f (first_of f b) → BlockCarries f slot b (block_items f out b)) → LiveStand f out slot
-
--- the same, with the listings put together by the points of their moves
-abbrev pub LiveStandByPoints : Type 0
-LiveStandByPoints = (env : MachineValue) (f : FunctionValue) (out : OutputValue) (slot : VirtualRegister → Option Place) → IsWellFormed env f →
-    IsWrittenFirst f → Rising out.edits → ((b : ℕ) → b < length f.blocks → EndsQuiet f out b) →
-    ((b : ℕ) → IsReached f (first_of f b) → BlockCarries f slot b (block_walked f out b)) → LiveStand f out slot
-
 -- on every path, where it comes to a block, the place where a virtual register is that is live there holds its value
 abbrev pub LiveStandInPlaces : FunctionValue → OutputValue → (ℕ → VirtualRegister → Option Place) → Type 0
 LiveStandInPlaces f out stand = (ws : List Way) → IsPath f ws → HasEntered f ws → (v : VirtualRegister) (p : Place) → IsLive f v (end_of f ws) →
     stand (end_of f ws).block v ≡ Some p → HoldsValue f out ws p v
 
--- so it is where blocks carry values from where they are at a block's beginning to where they are at the next one's
+-- so it is where no path reads before writing, and every block that a path reaches carries values from where they are at its beginning
+-- to where they are at the next one's, with the listings put together by the points of their moves
 abbrev pub LiveStandWhereBlocksCarryOn : Type 0
 LiveStandWhereBlocksCarryOn = (env : MachineValue) (f : FunctionValue) (out : OutputValue) (stand : ℕ → VirtualRegister → Option Place) →
     IsWellFormed env f → IsWrittenFirst f → Rising out.edits → ((b : ℕ) → b < length f.blocks → EndsQuiet f out b) →

@@ -124,10 +124,6 @@ awaiting_on ops D E here there t u old new back same later nobody a = record {
   lates = λ k less not_e late. same k less not_e ∙ a.lates k less (back k less not_e) late;
 }
 
-or_false : (a b : Bool) → (a || b) ≡ true → b ≡ false → a ≡ true
-or_false true b h e = refl
-or_false false b h e = absurd (let x : true ≡ false = sym h ∙ e in cc)
-
 and_left : (a b : Bool) → (a && b) ≡ true → a ≡ true
 and_left true b h = refl
 and_left false b h = absurd cc

@@ -85,11 +85,6 @@ fit_like old new a s d f = record {
       (ap (λ (l : PRegSet). has_register l q) a ∙ x.0, ap (λ (l : PRegSet). has_register l q) s ∙ x.1);
 }
 
-none_or : (p : Place) → (p ≡ NoPlace) ⊎ (p ≢ NoPlace)
-none_or NoPlace = inl refl
-none_or (InRegister r) = inr (λ e. cc)
-none_or (InSlot k) = inr (λ e. cc)
-
 -- whether v is a parameter of one of the first k successors
 param_cases : (f : FunctionValue) (b : ℕ) (v : VirtualRegister) (k : ℕ) → ((e : ℕ) → e < k → names v (params_on f b e) ≡ false)
     ⊎ ((e : ℕ) × (e < k) × (names v (params_on f b e) ≡ true))

@@ -101,11 +101,6 @@ two_pushed point got by from to es one two e f g =
     g ∙ ap (λ l. l ++ a_move point from got ∷ []) f ∙ append_two es (a_move point got to) (a_move point from got)
     ∙ ap (λ p. es ++ a_move point p to ∷ a_move point from p ∷ []) e
 
--- a state that stays the same keeps the machine, the sizes of slots and the number of vregs
-pub same_of : (a b : StateValue) → b ≡ a → SameMachine a b
-same_of a b e = subst (SameMachine a) (sym e)
-    (record { allocatable = refl; fixed_stack = refl; dedicated_scratch = refl; sizes = refl; vregs = refl; num_temp_slots = refl })
-
 -- two steps that each keep the machine, the sizes of slots and the number of vregs keep them together
 pub same_then : (a b c : StateValue) → SameMachine a b → SameMachine b c → SameMachine a c
 same_then a b c f g = record {

@@ -7,14 +7,12 @@ use Rattle.regalloc2_names.specs.declared.RegClass.{RegClass}
 use Rattle.regalloc2_names.specs.Register.{Register, class_code, is_register}
 use Rattle.regalloc2_names.specs.RegisterSet.{has_register}
 use Rattle.regalloc2_names.specs.Place.{Place, NoPlace, InRegister, InSlot}
-use Rattle.regalloc2_semantics.specs.OperandsPlaced.{What, Progress, Held}
+use Rattle.regalloc2_semantics.specs.OperandsPlaced.{What, Held}
 use Rattle.regalloc2_semantics.proofs.Cells.{is_register-same}
 use Rattle.regalloc2_fastalloc_state.specs.declared.inst_regs.InstRegs.{InstRegs}
 use Rattle.regalloc2_fastalloc_proofs.specs.InstSteps.{StateValue, SameMachine, AllocsScratchReg, dedicated_scratch, had, found}
 use Rattle.regalloc2_fastalloc_proofs.proofs.Safety.StepsKeepState.{place_in}
-use Rattle.regalloc2_fastalloc_proofs.proofs.Operands.RecordOverState.{stands_at, slots_at, Located, Owes}
-use Rattle.regalloc2_fastalloc_proofs.proofs.Evictions.EvictVReg.{held_early, held_late, Kept, kept_all}
-use Rattle.regalloc2_fastalloc_proofs.proofs.Operands.BlockTail.{BlockTail}
+use Rattle.regalloc2_fastalloc_proofs.proofs.Evictions.EvictVReg.{held_early, held_late, Kept}
 
 -- no vreg is located in the register, no definition is placed there, and no operand claims it
 pub record IsIdle (here : ℕ → Place) (claimed : ℕ → Bool) (X : Place → ℕ → Bool) (by : Register) (t : StateValue) : Type 0 where
@@ -220,31 +218,3 @@ free_unclaimed what here claimed u by e l h j c at = ⊎_elim
     (λ (d : (what j).is_def ≡ false). let x : not (has_register u.early by) ≡ true = ap (held_early u) (sym at) ∙ h.early_uses j c d in
     let y : not true ≡ true = ap not (sym e) ∙ x in cc)
     (cases_Bool (what j).is_def)
-
-module _ (tail : BlockTail) where
-  open tail use {Known, insts, placesf, i, n, E}
-
-  -- after the instruction
-  pub record Scratched (what : ℕ → What) (far : Progress) (u : InstRegs)
-      (by : Register) (old new : StateValue) : Type 0 where
-    pub located : Located what far new
-    pub owes : Owes tail far.lived far.out far.made_at (stands_at new) (slots_at new) new.edits
-    pub held : Held what far.here far.claimed (held_early u) (held_late u)
-    pub idle : IsIdle far.here far.claimed far.made_at by new
-    pub kept : Kept old new
-    pub others : (x : ℕ) → (place_in old x ≡ InRegister by → ⊥) → place_in new x ≡ place_in old x
-
-  stayed : (what : ℕ → What) (far : Progress) (t u : InstRegs)
-      (by : Register) (old new : StateValue) → u ≡ t → new ≡ old →
-      IsIdle far.here far.claimed far.made_at by old → Held what far.here far.claimed (held_early t) (held_late t) →
-      Located what far old → Owes tail far.lived far.out far.made_at (stands_at old) (slots_at old) old.edits →
-      Scratched what far u by old new
-  stayed what far t u by old new eu en idle h st o =
-      subst (Scratched what far u by old) (sym en) (record {
-        located = st;
-        owes = o;
-        held = subst (λ (y : InstRegs). Held what far.here far.claimed (held_early y) (held_late y)) (sym eu) h;
-        idle = idle;
-        kept = kept_all old;
-        others = λ x g. refl;
-      })

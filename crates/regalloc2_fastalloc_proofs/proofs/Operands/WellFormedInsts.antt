@@ -1,5 +1,5 @@
 -- What a well-formed function's instructions bring to the laws on placing operands.
-use Rattle.std.proofs.Common.{ℕ, ◌≡◌, ◌<◌, Bool, true, false, ◌&&◌, List, length, refl, arith, ap, inl, inr, ◌⊎◌, nat_eq}
+use Rattle.std.proofs.Common.{ℕ, ◌≡◌, ◌<◌, Bool, true, false, ◌&&◌, length, refl, arith, ap, inl, inr, ◌⊎◌, nat_eq}
 use Rattle.std.proofs.lemmas.Bool.{ne_eqb}
 use Rattle.std.proofs.lemmas.List.Elements.{All-get_or}
 use Rattle.regalloc2_names.specs.declared.OperandConstraint.{OperandConstraint}
@@ -25,9 +25,6 @@ reusable env class (Reuse n) h = absurd h
 reusable env class (Limit n) h = absurd h
 
 module _ (env : MachineValue) (f : FunctionValue) (limited : IsLimited f) (ok : IsWellFormed env f) (i : ℕ) (lt : i < length f.insts) where
-  ops : List OperandValue
-  ops = (inst_at f i).operands
-
   reads : ReadsDefined f i
   reads = reads_defined f (omega (arith, ok.successors.0)) ok.follow ok.uses_defined i lt
 

@@ -1,25 +1,21 @@
 -- An instruction leaves a slot to the vreg whose own it is: nothing is written there but that vreg's value.
-use Rattle.std.proofs.Common.{ℕ, suc, ◌≡◌, ◌<◌, ◌≤◌, ◌⊎◌, inl, inr, true, false, List, [], ◌∷◌, length, sym, ap, subst, arith}
+use Rattle.std.proofs.Common.{ℕ, suc, ◌≡◌, ◌<◌, ◌≤◌, ◌⊎◌, inl, inr, List, [], ◌∷◌, sym, ap, subst, arith}
 use Rattle.std.specs.Prelude.{All, Option, Some, slice_index_or}
 use Rattle.std.proofs.lemmas.Bool.{cases_eq}
-use Rattle.regalloc2_names.specs.declared.sets.PRegSet.{PRegSet}
 use Rattle.regalloc2_names.specs.Register.{VirtualRegister}
-use Rattle.regalloc2_names.specs.Operand.{OperandValue, is_def}
 use Rattle.regalloc2_names.specs.Place.{Place, InSlot}
-use Rattle.regalloc2_names.specs.Point.{before, after}
 use Rattle.regalloc2_function.specs.Machine.{MachineValue}
-use Rattle.regalloc2_function.specs.OutputValue.{MoveValue, place_at}
-use Rattle.regalloc2_semantics.specs.Listing.{op_at, with_moves}
+use Rattle.regalloc2_function.specs.OutputValue.{MoveValue}
+use Rattle.regalloc2_semantics.specs.Listing.{with_moves}
 use Rattle.regalloc2_semantics.specs.Carry.{Untouched}
 use Rattle.regalloc2_semantics.specs.BlockByPoints.{at_point}
 use Rattle.regalloc2_semantics.proofs.Cells.{cases_place}
 use Rattle.regalloc2_semantics.proofs.Points.{at_point-here, at_point-other}
-use Rattle.regalloc2_semantics.proofs.UnwrittenPlaces.{NoMoveTo, IsReadAt}
+use Rattle.regalloc2_semantics.proofs.UnwrittenPlaces.{NoMoveTo}
 use Rattle.regalloc2_fastalloc_state.specs.StateParts.{slot_name}
 use Rattle.regalloc2_fastalloc_proofs.specs.InstSteps.{StateValue}
 use Rattle.regalloc2_fastalloc_proofs.specs.Safety.{IsEndOfMove, IsEndOfArgMove, IsSafeEdit}
 use Rattle.regalloc2_fastalloc_proofs.proofs.Operands.RecordOverState.{opt, opt_from, slots_at}
-use Rattle.regalloc2_fastalloc_proofs.proofs.Operands.DefinedNumbers.{defined_by, defined_by-at}
 
 -- no move at a point goes to a place, where none can, or what one would bring
 pub no_move_or : (p : Place) (q : ℕ) (es : List (ℕ × MoveValue)) (R : Type 0) → All (λ e. e.0 ≡ q → e.1.to ≡ p → R) es → NoMoveTo p (at_point es q) ⊎ R
@@ -60,15 +56,6 @@ module _ (env : MachineValue) (Known : VirtualRegister → Type 0) (same : (v w 
           ]
         ]
       ]
-
-  module _ (i : ℕ) (ops : List OperandValue) (places : List Place) (clobbers : PRegSet)
-      (defs : (k : ℕ) → k < length ops → is_def (op_at ops k).kind ≡ true → (n : ℕ) → place_at places k ≡ InSlot n →
-      slot_name new.slots (op_at ops k).vreg.number ≡ InSlot n)
-      (v : VirtualRegister) (known : Known v) (unwritten : defined_by ops v.number ≡ false) (n : ℕ) (mine : F v.number ≡ Some (InSlot n))
-      (sooner : Writes (before i) v n → IsReadAt ops places v (InSlot n))
-      (later : Writes (after i) v n → (k : ℕ) × (k < length ops) × (is_def (op_at ops k).kind ≡ true) × ((op_at ops k).vreg ≡ v)) where
-    not_defined : (k : ℕ) → k < length ops → is_def (op_at ops k).kind ≡ true → (op_at ops k).vreg.number ≡ v.number → ⊥
-    not_defined k lt d e = (let y : defined_by ops v.number ≡ true = subst (λ (x : ℕ). defined_by ops x ≡ true) e (defined_by-at ops k lt d) in cc)
 
 -- the same with the slots that there are
 pub own_written : (env : MachineValue) (Known : VirtualRegister → Type 0) → ((v w : VirtualRegister) → Known v → Known w → v.number ≡ w.number → v ≡ w) →

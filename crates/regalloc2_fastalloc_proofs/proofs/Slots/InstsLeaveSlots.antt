@@ -1,5 +1,5 @@
 -- Where the moves of the walk write only what they may and places are good, each instruction but a block's last one leaves slots to their own vregs.
-use Rattle.std.proofs.Common.{ℕ, zero, suc, ◌≡◌, ◌+◌, ◌<◌, ◌≤◌, inl, inr, true, false, List, [], ◌∷◌, ◌++◌, length, refl, sym, ap, ◌∙◌, subst, arith}
+use Rattle.std.proofs.Common.{ℕ, ◌≡◌, ◌+◌, ◌<◌, ◌≤◌, inl, inr, true, false, List, [], length, refl, sym, ap, ◌∙◌, subst, arith}
 use Rattle.std.specs.Prelude.{All, Some}
 use Rattle.regalloc2_names.specs.Register.{VirtualRegister}
 use Rattle.regalloc2_names.specs.Place.{Place, NoPlace, InRegister, InSlot}
@@ -27,12 +27,6 @@ use Rattle.regalloc2_fastalloc_proofs.proofs.Slots.StepsKeepSlots.{Grown, cases_
 use Rattle.regalloc2_fastalloc_proofs.proofs.Safety.FunctionKeepsSafe.{no_branch_writes, none_written_behind}
 use Rattle.regalloc2_fastalloc_proofs.proofs.Walk.LastInstAndRest.{AnyPlace, KeepsSlots}
 use Rattle.regalloc2_fastalloc_proofs.proofs.Walk.FunctionLaws.{PlacedCode}
-
--- what holds of all holds of the first ones
-pub all_front : {X : Type 0} (P : X → Type 0) (xs ys : List X) → All P (xs ++ ys) → All P xs
-all_front P [] ys h k d lt = absurd (omega (arith, lt))
-all_front P (x ∷ xs) ys h zero d lt = h 0 d (omega arith)
-all_front P (x ∷ xs) ys h (suc k) d lt = all_front P xs ys (λ j e less. h (suc j) e (omega (arith, less))) k d (omega (arith, lt))
 
 -- What may be written to slots around an instruction: before it where it reads a vreg in its slot, and after it where it defines the vreg.
 pub record WritesSound (f : FunctionValue) (placesf : ℕ → List Place) (Writes : ℕ → VirtualRegister → ℕ → Type 0) (i : ℕ) : Type 0 where
