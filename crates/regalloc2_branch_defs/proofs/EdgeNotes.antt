@@ -132,7 +132,7 @@ lists_same used ops k old mid not_marked h = record {
 }
 
 -- a fixed definition defines
-fixed_defines : (o : OperandValue) → IsSome (fixed_definition o) → is_def o.kind ≡ true
+pub fixed_defines : (o : OperandValue) → IsSome (fixed_definition o) → is_def o.kind ≡ true
 fixed_defines o h = elim (cases_Bool (is_def o.kind)) [ inl def ↦ def | inr isnt ↦ absurd (let e : false ≡ true = rw isnt at h in cc) ]
 
 -- all of an instruction's operands

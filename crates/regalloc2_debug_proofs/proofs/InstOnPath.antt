@@ -1,5 +1,5 @@
 -- One instruction of a path, with the moves before it and behind it: what its listing carries holds along the path.
-use Rattle.std.proofs.Common.{ℕ, suc, ◌≡◌, ◌+◌, ◌≤◌, List, [], ◌∷◌, ◌++◌, length, refl, sym, ap, ◌∙◌, subst}
+use Rattle.std.proofs.Common.{ℕ, suc, ◌≡◌, ◌+◌, ◌≤◌, List, [], ◌∷◌, length, sym, ap, ◌∙◌, subst}
 use Rattle.regalloc2_names.specs.Register.{VirtualRegister}
 use Rattle.regalloc2_names.specs.Place.{Place}
 use Rattle.regalloc2_names.specs.Point.{before, after}
@@ -13,12 +13,7 @@ use Rattle.regalloc2_semantics.specs.Carry.{Carries, CarriesFrom}
 use Rattle.regalloc2_semantics.specs.BlockByPoints.{at_point, walked, Rising}
 use Rattle.regalloc2_semantics.proofs.CarryRules.{after_their_moves}
 use Rattle.regalloc2_semantics.proofs.Points.{moves_before-first, moves_before-later}
-
--- moves, one list after another
-pub moves_append : (a b : List MoveValue) (c : Cells) → after_moves (a ++ b) c ≡ after_moves b (after_moves a c)
-unfolding after_moves
-moves_append [] b c = refl
-moves_append (m ∷ a) b c = moves_append a b _
+use Rattle.regalloc2_semantics.proofs.StoresInFront.{after_both}
 
 module _ (f : FunctionValue) (out : OutputValue) (rising : Rising out.edits) where
   abbrev pub moves_on : ℕ → List MoveValue
@@ -42,7 +37,7 @@ module _ (f : FunctionValue) (out : OutputValue) (rising : Rising out.edits) whe
   onward_front ws le = front (
       ap (λ ms. after_moves ms (cells_before f out (Onward ∷ ws))) (moves_before-later out (block_at f (end_of f ws).block).range.first (end_of f ws).inst le
       rising)
-      ∙ moves_append (moves_on (after (end_of f ws).inst)) (moves_on (before ((end_of f ws).inst + 1))) (cells_before f out (Onward ∷ ws)))
+      ∙ after_both (moves_on (after (end_of f ws).inst)) (moves_on (before ((end_of f ws).inst + 1))) (cells_before f out (Onward ∷ ws)))
 
   -- what the listing of the instruction carries
   pub carried_on : (v : VirtualRegister) (P E : Place → Type 0) (ws : List Way) (c : Cells) →

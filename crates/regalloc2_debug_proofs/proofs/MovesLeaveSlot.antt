@@ -1,8 +1,8 @@
 -- The moves before an instruction leave a virtual register's slot alone, or the instruction reads it there.
 use Rattle.std.proofs.Common.{ℕ, suc, ◌≡◌, ◌≢◌, ◌+◌, ◌<◌, ◌≤◌, Bool, true, false, List, [], ◌∷◌, length, map, nat_eq, nat_lt, refl, sym, ap, ◌∙◌, ◌⊎◌, inl, inr}
 use Rattle.std.proofs.Common.{subst, arith, eqb-true}
-use Rattle.std.specs.Prelude.{All, filter, ◌||◌, ◌&&◌}
-use Rattle.std.proofs.lemmas.Bool.{and_parts, ltb-true}
+use Rattle.std.specs.Prelude.{All, filter, ◌&&◌}
+use Rattle.std.proofs.lemmas.Bool.{and_parts, ltb-true, or_cases}
 use Rattle.regalloc2_names.specs.Register.{VirtualRegister}
 use Rattle.regalloc2_names.specs.Place.{Place, InSlot}
 use Rattle.regalloc2_names.specs.Point.{before}
@@ -18,13 +18,9 @@ use Rattle.regalloc2_semantics.proofs.UnwrittenPlaces.{NoMoveTo}
 use Rattle.regalloc2_debug_proofs.specs.SlotHoldsValue.{IsReadIn, IsKeptInSlot}
 use Rattle.regalloc2_debug_proofs.specs.SlotWrites.{MayWrite, after_definition, before_read, before_branch, at_begin, IsSlotOfValue}
 
-either : (a b : Bool) → (a || b) ≡ true → (a ≡ true) ⊎ (b ≡ true)
-either true b h = inl refl
-either false b h = inr h
-
 -- where a listed point is
 listed_where : (first i q : ℕ) → is_listed_at first i q ≡ true → (q ≡ before i) ⊎ ((first < i) × (q + 1 ≡ before i))
-listed_where first i q h = by (either (nat_eq q (before i)) (nat_lt first i && nat_eq (q + 1) (before i)) h)
+listed_where first i q h = by (or_cases (nat_eq q (before i)) (nat_lt first i && nat_eq (q + 1) (before i)) h)
   where
     by : (nat_eq q (before i) ≡ true) ⊎ ((nat_lt first i && nat_eq (q + 1) (before i)) ≡ true) → (q ≡ before i) ⊎ ((first < i) × (q + 1 ≡ before i))
     by (inl e) = inl (eqb-true q (before i) e)

@@ -1,5 +1,5 @@
 -- The place by which a virtual register is shown holds its value: its slot, or that of the operand which reads it last.
-use Rattle.std.proofs.Common.{ℕ, ◌≡◌, ◌≢◌, ◌<◌, ◌≤◌, inl, inr, true, false, List, length, refl, sym, ap, subst, arith}
+use Rattle.std.proofs.Common.{ℕ, ◌≡◌, ◌<◌, ◌≤◌, inl, inr, true, false, List, length, refl, sym, ap, subst, arith}
 use Rattle.std.specs.Prelude.{Option, Contains, slice_index_or}
 use Rattle.regalloc2_names.specs.declared.OperandPos.{OperandPos}
 use Rattle.regalloc2_names.specs.declared.OperandPos.TheVariants.{Early, Late}
@@ -8,7 +8,6 @@ use Rattle.regalloc2_names.specs.Operand.{OperandValue, is_def, is_late, is_read
 use Rattle.regalloc2_names.specs.Place.{Place, NoPlace, InRegister, InSlot}
 use Rattle.regalloc2_function.specs.FunctionValue.{FunctionValue, block_at, inst_at}
 use Rattle.regalloc2_function.specs.Fitting.{MachineFits}
-use Rattle.regalloc2_function.specs.Machine.{MachineValue}
 use Rattle.regalloc2_function.specs.OutputValue.{allocs_of, place_at}
 use Rattle.regalloc2_function.specs.Path.{end_of}
 use Rattle.regalloc2_function.specs.SourceRun.{IsWrittenFirst, arguments_at}
@@ -18,7 +17,7 @@ use Rattle.regalloc2_function.specs.WellFormed.{last_of}
 use Rattle.regalloc2_semantics.specs.Listing.{op_at, no_operand}
 use Rattle.regalloc2_semantics.specs.Blocks.{IsSound, IsUnwritten, target_at}
 use Rattle.regalloc2_semantics.specs.Laws.{ReadsAgreeOnPaths}
-use Rattle.regalloc2_semantics.proofs.SingleDef.{Made, by_operand, one_made, one_operand, not_both, reads_defined}
+use Rattle.regalloc2_semantics.proofs.SingleDef.{Made, by_operand, one_made, one_operand, not_both, reads_defined, default_free}
 use Rattle.regalloc2_semantics.proofs.SingleDef as defined
 use Rattle.regalloc2_semantics.proofs.Order.{ends_within, reads_later}
 use Rattle.regalloc2_semantics.proofs.Soundness.{well_formed_are_sound}
@@ -26,8 +25,7 @@ use Rattle.regalloc2_live_ranges.specs.declared.InstOperand.{InstOperand}
 use Rattle.regalloc2_live_ranges.specs.LiveRanges.{IsReader, IsShownBy}
 use Rattle.regalloc2_live_ranges.proofs.UsesInSSA.{defines_number}
 use Rattle.regalloc2_live_ranges.specs.LiveRanges.IsShownBy.{by_late_use, by_early_use, by_argument, by_definition}
-use Rattle.regalloc2_fastalloc_state.specs.StateParts.{SlotsHaveOneOwner, SpillSlotsValue, IsSlotOrNone, slot_name}
-use Rattle.regalloc2_fastalloc_proofs.specs.Safety.{MayBeLocatedAt}
+use Rattle.regalloc2_fastalloc_state.specs.StateParts.{SlotsHaveOneOwner, IsSlotOrNone, slot_name}
 use Rattle.regalloc2_fastalloc_proofs.proofs.Walk.BlocksCarryFromFreshState.{at_walks_end, used_slots, passed_slots}
 use Rattle.regalloc2_fastalloc_proofs.proofs.Operands.AllocsSoFar.{IsTame, reads_allocated}
 use Rattle.regalloc2_fastalloc_proofs.proofs.Safety.OutputOfWalk.{IsMade, operand_good}
@@ -42,10 +40,10 @@ use Rattle.regalloc2_debug_proofs.proofs.OperandPlaceHoldsValue.{register_shows}
 use Rattle.regalloc2_debug_proofs.proofs.SlotAfterWalk.{left_slot_shows}
 use Rattle.regalloc2_debug_proofs.proofs.SlotAtBlockBegin.{AreAtBegin, entered_shows}
 use Rattle.regalloc2_debug_proofs.proofs.InstWithinWalk.{Met}
-use Rattle.regalloc2_debug_proofs.proofs.WellFormedPaths.{any_default}
 use Rattle.regalloc2_debug_proofs.proofs.LocationBeforeFirstRead.{ComesFirst, late_first, early_first}
 use Rattle.regalloc2_debug_proofs.proofs.LocationWithoutSlot.{IsUnslotted}
 use Rattle.regalloc2_fastalloc_proofs.proofs.Walk.WholeWalk.{WholeWalk}
+use Rattle.regalloc2_fastalloc_proofs.proofs.Safety.StepsKeepSafe.{stand_there}
 
 late_is : (q : OperandPos) → is_late q ≡ true → q ≡ Late
 late_is Early h = absurd cc
@@ -55,18 +53,13 @@ early_is : (q : OperandPos) → is_late q ≡ false → q ≡ Early
 early_is Early h = refl
 early_is Late h = absurd cc
 
-stand_real : (env : MachineValue) (s : SpillSlotsValue) (v : VirtualRegister) (p : Place) → MayBeLocatedAt env s v p → p ≢ NoPlace
-stand_real env s v NoPlace h = absurd h
-stand_real env s v (InRegister r) h = λ e. cc
-stand_real env s v (InSlot n) h = λ e. cc
-
 -- an operand that reads v
 reads_by : (f : FunctionValue) (v : VirtualRegister) (at : OperandPos) (i k : ℕ) → i < length f.insts → k < length (inst_at f i).operands →
     is_reading (op_at (inst_at f i).operands k) ≡ true → (op_at (inst_at f i).operands k).position ≡ at →
     (op_at (inst_at f i).operands k).vreg ≡ v → ReadsAt f v at i
 reads_by f v at i k lt less reads position is =
     let o : OperandValue = op_at (inst_at f i).operands k in
-    (lt, (k, o, less, any_default (inst_at f i).operands k o no_operand less, reads, position, is))
+    (lt, (k, o, less, default_free (inst_at f i).operands k o no_operand less, reads, position, is))
 
 use_by : (f : FunctionValue) (v : VirtualRegister) (i k : ℕ) → i < length f.insts → k < length (inst_at f i).operands →
     is_reading (op_at (inst_at f i).operands k) ≡ true → (op_at (inst_at f i).operands k).vreg ≡ v → UsesAt f v i
@@ -132,14 +125,14 @@ module _ (walk : WholeWalk) (m : IsMade walk.f walk.env (Made walk.f) (MayInBloc
               let xs : List VirtualRegister = arguments_at f b k in
               let w : VirtualRegister = slice_index_or xs j defined.no_vreg in
               let inside : j < length xs = (let n = sound.arguments b k edge in omega (arith, few, n)) in
-              let has : Contains xs w = (j, inside, any_default xs j w defined.no_vreg inside) in
+              let has : Contains xs w = (j, inside, default_free xs j w defined.no_vreg inside) in
               let same : w ≡ v = one_made f ok.defined_once w v (used_made f ok.defined_once ok.follow ok.uses_defined w b lb (inr (k, edge, has))) known e in
               let most = greatest (last_of (block_at f b)) (inr (inr (b, k, lb, refl, edge, subst (Contains xs) same has, other b behind))) in
               omega (arith, most, behind),
         );
         params = λ b lb k few e. not_both f ok.defined_once v.number id d b k at (record { block = lb; param = few; number = e });
         undefined = λ j low jl k less def e. never_defined j k low jl less def (sym e);
-        real = stand_real env last.slots (op_at (inst_at f il).operands ko).vreg (place_at (allocs_of out il) ko)
+        real = stand_there env last.slots (op_at (inst_at f il).operands ko).vreg (place_at (allocs_of out il) ko)
             ((operand_good f env (Made f) (MayInBlocks f) last out m il lt ko within).place (reads_allocated (op_at (inst_at f il).operands ko) reads));
         unslotted = none;
       }

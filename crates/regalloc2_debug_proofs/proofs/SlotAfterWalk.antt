@@ -1,4 +1,5 @@
 -- What the walk leaves of a virtual register's slot: who is in it, and which moves write it.
+use Rattle.regalloc2_parts.proofs.Resolving.{All-reversed}
 use Rattle.std.proofs.Common.{ℕ, ◌≡◌, ◌+◌, ◌<◌, length, sym, ap, ◌∙◌, inl, inr, subst}
 use Rattle.std.specs.Prelude.{All, false, List, ◌∷◌, slice_index_or}
 use Rattle.regalloc2_names.specs.Register.{VirtualRegister}
@@ -19,7 +20,7 @@ use Rattle.regalloc2_semantics.proofs.SingleDef.{Made, one_made}
 use Rattle.regalloc2_fastalloc_state.specs.StateParts.{SlotsHaveOneOwner, slot_name}
 use Rattle.regalloc2_fastalloc_proofs.specs.InstSteps.{StateValue}
 use Rattle.regalloc2_fastalloc_proofs.proofs.Operands.AllocsSoFar.{IsTame}
-use Rattle.regalloc2_fastalloc_proofs.proofs.Safety.OutputOfWalk.{IsMade, place_is, all_reverse}
+use Rattle.regalloc2_fastalloc_proofs.proofs.Safety.OutputOfWalk.{IsMade, place_is}
 use Rattle.regalloc2_fastalloc_proofs.proofs.Slots.InstLeavesOwnedSlot.{own_written}
 use Rattle.regalloc2_fastalloc_proofs.proofs.Slots.SlotsOwned.{owner_known}
 use Rattle.regalloc2_fastalloc_proofs.proofs.Safety.BlocksKeepSafe.{MayInBlocks}
@@ -54,7 +55,7 @@ module _ (env : MachineValue) (f : FunctionValue) (once : DefinedOnce f) (t : St
       (WritesFrom f out.allocs 0)
       (MayInBlocks f) t owned.own m.kept.safe.edits v known n (ap opt mine) in
       subst (All (λ e. e.1.to ≡ InSlot n → MayWrite f out v (InSlot n) e.0)) (sym m.edits)
-      (all_reverse (λ e. e.1.to ≡ InSlot n → MayWrite f out v (InSlot n) e.0) t.edits
+      (All-reversed (λ e. e.1.to ≡ InSlot n → MayWrite f out v (InSlot n) e.0) t.edits
       (λ k d lt to. may_write (slice_index_or t.edits k d).0 (writes k d lt to)))
 
   -- no other vreg's operand is in it

@@ -1,4 +1,5 @@
 -- Where a path comes to a block: once the moves before its first instruction have run, the slot of a virtual register that is live there shows its value.
+use Rattle.regalloc2_parts.proofs.Resolving.{All-reversed}
 use Rattle.std.proofs.Common.{ℕ, ◌≡◌, ◌≢◌, ◌+◌, ◌<◌, ◌⊎◌, inl, inr, true, false, List, length, refl, sym, ap, ◌∙◌, subst, arith}
 use Rattle.std.specs.Prelude.{All, Option, Some, slice_index_or}
 use Rattle.regalloc2_names.specs.Register.{VirtualRegister}
@@ -23,7 +24,7 @@ use Rattle.regalloc2_semantics.proofs.Order.{ends_before}
 use Rattle.regalloc2_semantics.proofs.Paths.{UsedSomewhere}
 use Rattle.regalloc2_semantics.proofs.Points.{moves_before-first}
 use Rattle.regalloc2_semantics.proofs.SingleDef.{Made, one_made}
-use Rattle.regalloc2_semantics.proofs.StoresInFront.{stores_there, stores_else, in_order}
+use Rattle.regalloc2_semantics.proofs.StoresInFront.{stores_there, stores_else, in_order, after_both}
 use Rattle.regalloc2_semantics.proofs.UnwrittenPlaces.{NoMoveTo, moves_kept}
 use Rattle.regalloc2_branch_defs.specs.BranchDefs.{IsUsedElsewhere}
 use Rattle.regalloc2_fastalloc_state.specs.StateParts.{SlotsHaveOneOwner, slot_name}
@@ -38,14 +39,14 @@ use Rattle.regalloc2_fastalloc_proofs.proofs.Branches.EdgesInto.{one_edge_into}
 use Rattle.regalloc2_fastalloc_proofs.proofs.Branches.PlacesOnArrival.{live_used}
 use Rattle.regalloc2_fastalloc_proofs.proofs.Moves.StepsAppendEdits.{pushed_at}
 use Rattle.regalloc2_fastalloc_proofs.proofs.Operands.AllocsSoFar.{IsTame}
-use Rattle.regalloc2_fastalloc_proofs.proofs.Operands.RecordOverState.{slots_at, opt, opt_from, opt_real, no_register_slot, grown_slots}
+use Rattle.regalloc2_fastalloc_proofs.proofs.Operands.RecordOverState.{slots_at, opt, opt_from, opt_real, grown_slots}
 use Rattle.regalloc2_fastalloc_proofs.proofs.Safety.BlocksKeepSafe.{MayInBlocks}
 use Rattle.regalloc2_fastalloc_proofs.proofs.Safety.BlockStartKeepsSafe.{begins_block_kept}
 use Rattle.regalloc2_fastalloc_proofs.proofs.Safety.BranchArgsKeepState.{passes_between}
 use Rattle.regalloc2_fastalloc_proofs.proofs.Safety.FunctionKeepsSafe.{SafeWithin}
 use Rattle.regalloc2_fastalloc_proofs.proofs.Safety.InstsKeepSafe.{WritesFrom}
-use Rattle.regalloc2_fastalloc_proofs.proofs.Safety.OutputOfWalk.{IsMade, machine_apart, all_reverse}
-use Rattle.regalloc2_fastalloc_proofs.proofs.Safety.StepsKeepState.{slot_in, IsWhole}
+use Rattle.regalloc2_fastalloc_proofs.proofs.Safety.OutputOfWalk.{IsMade, machine_apart}
+use Rattle.regalloc2_fastalloc_proofs.proofs.Safety.StepsKeepState.{slot_in, IsWhole, slot_no_register}
 use Rattle.regalloc2_fastalloc_proofs.proofs.Safety.StoredDefs.{concerned_made, last_within}
 use Rattle.regalloc2_fastalloc_proofs.proofs.Slots.InstLeavesOwnedSlot.{no_move_or, writes_allowed}
 use Rattle.regalloc2_fastalloc_proofs.proofs.Slots.InstsLeaveSlots.{writes_sound}
@@ -61,7 +62,6 @@ use Rattle.regalloc2_fastalloc_proofs.proofs.Walk.LastInstAndRest.{AnyPlace}
 use Rattle.regalloc2_fastalloc_proofs.proofs.Inst.ProperInsts.{all_proper}
 use Rattle.regalloc2_debug_proofs.specs.SlotHoldsValue.{IsReadIn, ShowsAt}
 use Rattle.regalloc2_debug_proofs.proofs.BlockWithinWalk.{MetBlock, meet_block, pushed_front}
-use Rattle.regalloc2_debug_proofs.proofs.InstOnPath.{moves_append}
 use Rattle.regalloc2_debug_proofs.proofs.PathStepLeaves.{read_shows}
 use Rattle.regalloc2_debug_proofs.proofs.SlotAfterWalk.{own_alone}
 use Rattle.regalloc2_debug_proofs.proofs.SlotHoldsDefinedValue.{branch, some_block, are_listed}
@@ -108,7 +108,7 @@ module _ (walk : WholeWalk) (fits : MachineFits walk.f walk.env) (m : IsMade wal
 
   slot_there : (x : ℕ) (q : Place) → slots_at last x ≡ Some q → (k : ℕ) × (q ≡ InSlot k)
   slot_there x NoPlace is = absurd (opt_real (slot_in last x) NoPlace is refl)
-  slot_there x (InRegister r) is = absurd (no_register_slot last.slots.count (slot_in last x) r (whole.below x) (opt_from (slot_in last x) (InRegister r) is))
+  slot_there x (InRegister r) is = absurd (slot_no_register last.slots.count (slot_in last x) r (whole.below x) (opt_from (slot_in last x) (InRegister r) is))
   slot_there x (InSlot k) is = (k, refl)
 
   module _ (b : ℕ) (lb : b < length f.blocks) where
@@ -141,7 +141,7 @@ module _ (walk : WholeWalk) (fits : MachineFits walk.f walk.env) (m : IsMade wal
 
     -- the moves so far that go to the slot
     so_far : All (λ e. e.1.to ≡ InSlot n → WritesFrom f out.allocs (b + 1) e.0 v n) (listed reloaded.edits)
-    so_far = all_reverse (λ e. e.1.to ≡ InSlot n → WritesFrom f out.allocs (b + 1) e.0 v n) reloaded.edits
+    so_far = All-reversed (λ e. e.1.to ≡ InSlot n → WritesFrom f out.allocs (b + 1) e.0 v n) reloaded.edits
         (writes_allowed env (Made f) (one_made f ok.defined_once) (WritesFrom f out.allocs (b + 1)) (MayInBlocks f) (slots_at last) slot_own reloaded
         reloaded_safe.edits (grown_slots AnyPlace reloaded last grows)
         (λ x k is. elim (cases_none (slot_name reloaded.slots x)) [
@@ -232,7 +232,7 @@ module _ (walk : WholeWalk) (fits : MachineFits walk.f walk.env) (m : IsMade wal
           ] in
           ap (λ ms. after_moves ms c (InSlot n)) (ap (λ es. at_point (listed es) (before first)) s.edits
           ∙ pushed_front (before first) (store_moves s.stores) reloaded.edits)
-          ∙ ap (λ (d : Cells). d (InSlot n)) (moves_append (store_moves s.stores) M c)
+          ∙ ap (λ (d : Cells). d (InSlot n)) (after_both (store_moves s.stores) M c)
           ∙ moves_kept (InSlot n) M then none ∙ there
 
   module _ (agree : ReadsAgreeOnPaths f out) (owned : SlotsHaveOneOwner last.slots)

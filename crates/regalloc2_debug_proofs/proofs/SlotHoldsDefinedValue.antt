@@ -22,7 +22,7 @@ use Rattle.regalloc2_semantics.specs.Carry.{Carries, Undefined}
 use Rattle.regalloc2_semantics.specs.BlockByPoints.{at_point, walked, before_part, Rising, listed}
 use Rattle.regalloc2_semantics.specs.Blocks.{target_at, IsSound}
 use Rattle.regalloc2_semantics.specs.Laws.{ReadsAgreeOnPaths}
-use Rattle.regalloc2_semantics.proofs.SingleDef.{Made, one_operand, not_both, reads_defined}
+use Rattle.regalloc2_semantics.proofs.SingleDef.{Made, one_operand, not_both, reads_defined, default_free}
 use Rattle.regalloc2_semantics.proofs.SingleDef as defined
 use Rattle.regalloc2_semantics.proofs.UnwrittenPlaces.{NoMoveTo, moves_kept}
 use Rattle.regalloc2_semantics.proofs.Order.{reads_later, passes_later}
@@ -51,7 +51,7 @@ use Rattle.regalloc2_debug_proofs.proofs.InstOnPath.{Fronts, entered_front, onwa
 use Rattle.regalloc2_debug_proofs.proofs.PathStepLeaves.{read_shows}
 use Rattle.regalloc2_debug_proofs.proofs.SlotAfterWalk.{DefinedShows, moves_where, own_alone}
 use Rattle.regalloc2_debug_proofs.proofs.InstWithinWalk.{IsStart, IsBefore, IsUnnamedBefore, Met, meet}
-use Rattle.regalloc2_debug_proofs.proofs.WellFormedPaths.{any_default, op_is, inst_in, inst_lt, next_inside, within}
+use Rattle.regalloc2_debug_proofs.proofs.WellFormedPaths.{op_is, inst_in, inst_lt, next_inside, within}
 use Rattle.regalloc2_debug_proofs.proofs.DefWithMovesStores.{stores}
 use Rattle.regalloc2_debug_proofs.proofs.MovesLeaveSlot.{moves_fine}
 use Rattle.regalloc2_fastalloc_proofs.proofs.Walk.WholeWalk.{WholeWalk}
@@ -87,7 +87,7 @@ module _ (env : MachineValue) (f : FunctionValue) (limited : IsLimited f) (ok : 
           let xs : List VirtualRegister = arguments_at f b k in
           let w : VirtualRegister = slice_index_or xs j defined.no_vreg in
           let inside : j < length xs = (let n = sound.arguments b k edge in omega (arith, less, n)) in
-          let later = passes_later f ok.defined_once x i d b k w at ok.follow ok.uses_defined lb edge (j, inside, any_default xs j w defined.no_vreg inside)
+          let later = passes_later f ok.defined_once x i d b k w at ok.follow ok.uses_defined lb edge (j, inside, default_free xs j w defined.no_vreg inside)
           e in
           omega (arith, sooner, later),
     );

@@ -1,16 +1,12 @@
 -- Each slot that a branch owns serves that branch alone.
-use Rattle.std.proofs.Common.{ℕ, ◌≡◌, ◌∙◌, sym}
-use Rattle.regalloc2_names.specs.declared.RegClass.{RegClass}
+use Rattle.std.proofs.Common.{◌∙◌, sym}
 use Rattle.regalloc2_names.specs.Register.{VirtualRegister}
 use Rattle.regalloc2_function.specs.FunctionValue.{FunctionValue}
 use Rattle.regalloc2_function.specs.OutputValue.{OutputValue}
-use Rattle.regalloc2_function.specs.Slots.{OfVReg, OfBranch}
 use Rattle.regalloc2_fastalloc_state.specs.StateParts.{SpillSlotsValue}
 use Rattle.regalloc2_fastalloc_proofs.proofs.Slots.ApartSlotsAreOwned.{OwnsSlots}
+use Rattle.regalloc2_fastalloc_proofs.proofs.Slots.StepsKeepSlotsApart.{not_branch}
 use Rattle.regalloc2_fastalloc.specs.Promise.{BranchSlotsServe}
-
-not_both : (v : VirtualRegister) (i : ℕ) (class : RegClass) (time : ℕ) → OfVReg v ≡ OfBranch i class time → ⊥
-not_both v i class time e = cc
 
 -- two at most for a class, and named by no operand, by no debug location, and by moves before the branch alone
 pub branch_slots_serve : (Known : VirtualRegister → Type 0) (f : FunctionValue) (s : SpillSlotsValue) (out : OutputValue) → (owns : OwnsSlots Known f s out) →
@@ -18,6 +14,6 @@ pub branch_slots_serve : (Known : VirtualRegister → Type 0) (f : FunctionValue
 branch_slots_serve Known f s out owns = λ n i class time named of. record {
   of_two = owns.two n i class time named of;
   moves = λ k d lt ends. owns.moves k d lt n i class time of ends;
-  no_operand = λ k d lt at. (let x = owns.allocs k d lt n at in not_both x.0 i class time (sym x.1 ∙ of));
-  no_location = λ k d lt at. (let x = owns.shown k d lt n at in not_both x.0 i class time (sym x.1 ∙ of));
+  no_operand = λ k d lt at. (let x = owns.allocs k d lt n at in not_branch x.0 i class time (sym x.1 ∙ of));
+  no_location = λ k d lt at. (let x = owns.shown k d lt n at in not_branch x.0 i class time (sym x.1 ∙ of));
 }

@@ -1,8 +1,8 @@
 -- The places of debug locations: each is one where its label's virtual register may be, and so they are as `run` promises them.
-use Rattle.std.proofs.Common.{if◌then◌else◌, ℕ, ◌≡◌, ◌≢◌, ◌+◌, ◌<◌, Bool, true, false, ◌&&◌, inl, inr, List, length, map, nat_eq, refl, sym, ap, ◌∙◌}
+use Rattle.std.proofs.Common.{if◌then◌else◌, ℕ, ◌≡◌, ◌≢◌, ◌+◌, ◌<◌, false, inl, inr, List, length, map, nat_eq, refl, sym, ap, ◌∙◌}
 use Rattle.std.proofs.Common.{subst, arith, slice_index, slice_index_or}
 use Rattle.std.specs.Prelude.{All, None, Option, Some}
-use Rattle.std.proofs.lemmas.Bool.{ne_eqb}
+use Rattle.std.proofs.lemmas.Bool.{ne_eqb, and_right}
 use Rattle.std.proofs.lemmas.List.{get_or_default}
 use Rattle.std.proofs.lemmas.List.Elements.{All-map, All-weaker}
 use Rattle.std.proofs.lemmas.List.Sorted.{All-permutation}
@@ -38,10 +38,6 @@ use Rattle.regalloc2_fastalloc.specs.DebugLocations.{AreLocated, location_shown,
 use Rattle.regalloc2_fastalloc.specs.Promise.{IsPlaceOf, ShowsLabels}
 use Rattle.regalloc2_fastalloc.proofs.DebugLocationsFound.{pointed_made}
 
-and_false : (a b : Bool) → b ≡ false → (a && b) ≡ false
-and_false true b e = e
-and_false false b e = refl
-
 -- a vreg that shows the value of v, is an operand of it; an argument alone is in a slot
 module _ (env : MachineValue) (f : FunctionValue) (limited : IsLimited f) (ok : IsWellFormed env f) (May : ℕ → Type 0) (t : StateValue) (offsets : List ℕ)
     (allocs : List Place) (at : (i : ℕ) → i < length f.insts → slice_index offsets i ≡ offset_of f i)
@@ -49,7 +45,7 @@ module _ (env : MachineValue) (f : FunctionValue) (limited : IsLimited f) (ok : 
     slot_name t.slots v.number ≢ NoPlace) where
   -- an operand of one that is made is allocated
   allocated : (o : OperandValue) → o.vreg.number < f.num_vregs → is_fixed_nonallocatable o ≡ false
-  allocated o small = and_false (is_fixed o.constraint) (nat_eq o.vreg.number 1073741823)
+  allocated o small = and_right (is_fixed o.constraint) (nat_eq o.vreg.number 1073741823)
       (ne_eqb o.vreg.number 1073741823 (let few = limited.vregs in omega (arith, small, few)))
 
   operand_stands : (v : VirtualRegister) → Made f v → (o : InstOperand) → o.inst < length f.insts → o.index < length (inst_at f o.inst).operands →

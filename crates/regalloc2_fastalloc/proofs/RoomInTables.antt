@@ -1,7 +1,8 @@
 -- The tables of the walk have an entry for each virtual register that a well-formed function defines.
-use Rattle.std.proofs.Common.{ℕ, ◌≡◌, ◌<◌, ◌≤◌, ◌⊎◌, ◌∙◌, length, sym, ap, inl, inr, arith}
+use Rattle.std.proofs.Common.{ℕ, ◌≡◌, ◌<◌, ◌∙◌, length, sym, ap, inl, inr, arith}
 use Rattle.std.specs.Prelude.{slice_index_or}
 use Rattle.std.proofs.lemmas.List.{get_or_default, get_or_past}
+use Rattle.std.proofs.lemmas.Bool.{cases_lt}
 use Rattle.regalloc2_names.specs.Register.{VirtualRegister}
 use Rattle.regalloc2_names.specs.Operand.{OperandValue, is_def}
 use Rattle.regalloc2_function.specs.FunctionValue.{FunctionValue, InstValue, block_at, inst_at, no_inst}
@@ -13,13 +14,10 @@ use Rattle.regalloc2_fastalloc_proofs.specs.BlockSteps.{DefinesBelow}
 
 -- an instruction with operands is one of the function's
 within : (f : FunctionValue) (i k : ℕ) → k < length (inst_at f i).operands → i < length f.insts
-within f i k less = elim (lt_or_le i (length f.insts)) [
+within f i k less = elim (cases_lt i (length f.insts)) [
   | inl lt ↦ lt
   | inr past ↦ absurd (let none = ap (λ (x : InstValue). length x.operands) (get_or_past f.insts i no_inst past) in omega (arith, none, less))
 ]
-  where
-    lt_or_le : (m n : ℕ) → (m < n) ⊎ (n ≤ m)
-    lt_or_le m n = grind arith
 
 -- where each number is defined once, what is defined has a number below the function's count
 defined_small_by : (f : FunctionValue) → DefinedOnce f → (v : VirtualRegister) (point : ℕ) → IsDefinedBy f v point → v.number < f.num_vregs

@@ -8,7 +8,7 @@ use Rattle.regalloc2_names.specs.RegisterSet.{has_register}
 use Rattle.regalloc2_function.specs.Machine.{empty_set}
 
 -- past an array's end there is no register
-zeros : (c : RegClass) → slice_index (0 ∷ 0 ∷ 0 ∷ []) (class_code c) ≡ 0
+pub zeros : (c : RegClass) → slice_index (0 ∷ 0 ∷ 0 ∷ []) (class_code c) ≡ 0
 zeros Int = refl
 zeros Float = refl
 zeros Vector = refl

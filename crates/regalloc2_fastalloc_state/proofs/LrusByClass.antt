@@ -4,13 +4,13 @@ use Rattle.std.proofs.Common.{slice_index_or, set, get_or-set_same}
 use Rattle.std.specs.Prelude.{Option, None, Some, IfSome, IfNone, IsTrue, Contains, ◌↔◌}
 use Rattle.std.proofs.lemmas.List.{get_or-set_other}
 use Rattle.std.proofs.Math.ListN.{length-set}
+use Rattle.std.proofs.lemmas.Bool.{cases_eq}
 use Rattle.regalloc2_names.specs.declared.RegClass.{RegClass}
 use Rattle.regalloc2_names.specs.declared.RegClass.TheVariants.{Int, Float, Vector}
 use Rattle.regalloc2_names.specs.declared.sets.PRegSet.{PRegSet}
 use Rattle.regalloc2_names.specs.Register.{Register, class_code}
 use Rattle.regalloc2_names.specs.RegisterSet.{has_register}
 use Rattle.regalloc2_fastalloc_state.specs.StateParts.{AllocatableRegsValue, AreLrus, IsLeastRecentIn, NoneIsFrom, lru_of}
-use Rattle.regalloc2_fastalloc_state.proofs.VRegInPRegInverse.{same_number}
 
 -- a register found in the LRU of its class, which is also in a set of available ones, is allocatable and available
 pub found_in : (t : AllocatableRegsValue) (class : RegClass) (free : PRegSet) (result : Option Register) → AreLrus t.allocatable t.lrus
@@ -61,7 +61,7 @@ rings_kept allocatable lrus i ring lt same old = record {
         ((same r).0 (subst (λ (l : List Register). Contains l r) (get_or-set_same lrus i ring [] lt)
         (subst (λ (k : ℕ). Contains (slice_index_or (set lrus i ring) k []) r) e h))))
         (λ (d : class_code c ≢ i). subst (λ (l : List Register). Contains l r) (get_or-set_other lrus i (class_code c) ring [] d) h)
-        (same_number (class_code c) i)
+        (cases_eq (class_code c) i)
 
     after : (r : Register) → Contains (slice_index_or lrus (class_code r.class) []) r → Contains (slice_index_or (set lrus i ring) (class_code r.class) []) r
     after r h = ⊎_elim
@@ -69,7 +69,7 @@ rings_kept allocatable lrus i ring lt same old = record {
         (subst (λ (l : List Register). Contains l r) (sym (get_or-set_same lrus i ring [] lt))
         ((same r).1 (subst (λ (k : ℕ). Contains (slice_index_or lrus k []) r) e h))))
         (λ (d : class_code r.class ≢ i). subst (λ (l : List Register). Contains l r) (sym (get_or-set_other lrus i (class_code r.class) ring [] d)) h)
-        (same_number (class_code r.class) i)
+        (cases_eq (class_code r.class) i)
 
 -- a class's LRU list, where it or another one is replaced
 pub ring_replaced : (lrus : List (List Register)) (i : ℕ) (ring : List Register) (c : RegClass) → i < length lrus → i ≡ class_code c →

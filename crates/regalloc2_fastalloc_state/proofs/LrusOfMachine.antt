@@ -14,7 +14,7 @@ use Rattle.regalloc2_semantics.proofs.Cells.{is_register-true}
 use Rattle.regalloc2_parts.specs.Ring.{IsNewRing}
 use Rattle.regalloc2_fastalloc_state.specs.StateParts.{AreThoseBelow, AreLrus, AreSplit, IsLruOf}
 use Rattle.std.proofs.lemmas.List.Elements.{All-push}
-use Rattle.regalloc2_fastalloc_state.proofs.VRegInPRegInverse.{whether, same_number}
+use Rattle.std.proofs.lemmas.Bool.{cases_eq, cases_Bool}
 
 -- a list whose members differ, with one more
 distinct_push : (regs : List Register) (r : Register) → IsDistinct is_register regs → All (λ q. is_register q r ≡ false) regs →
@@ -52,14 +52,14 @@ those_more set class n regs r number of_class has h = record {
       (λ (s : q.number ≡ n). subst (λ (x : Register). Contains (regs ++ r ∷ []) x) (same_registers r q (number ∙ sym s) (of_class ∙ sym c))
       (Contains-append_right regs (r ∷ []) r (0, omega arith, refl)))
       (λ (d : q.number ≢ n). Contains-append_left regs (r ∷ []) q (h.all q (omega arith) c e))
-      (same_number q.number n);
+      (cases_eq q.number n);
 }
   where
     differ : (q : Register) → q.number < n → is_register q r ≡ false
     differ q lt = ⊎_elim
         (λ (e : is_register q r ≡ true). let s : q.number ≡ r.number = ap (λ (x : Register). x.number) (is_register-true q r e) in absurd (omega arith))
         (λ (e : is_register q r ≡ false). e)
-        (whether (is_register q r))
+        (cases_Bool (is_register q r))
 
     same_registers : (p q : Register) → p.number ≡ q.number → p.class ≡ q.class → p ≡ q
     same_registers p q e f = by_parts p.number q.number p.class q.class e f
@@ -78,7 +78,7 @@ those_same set class n regs r number of_class hasnt h = record {
       (λ (s : q.number ≡ n). absurd (let f : has_register set q ≡ has_register set r = ap (has_register set)
       (same_registers q r (s ∙ sym number) (c ∙ sym of_class)) in cc))
       (λ (d : q.number ≢ n). h.all q (omega arith) c e)
-      (same_number q.number n);
+      (cases_eq q.number n);
 }
   where
     same_registers : (p q : Register) → p.number ≡ q.number → p.class ≡ q.class → p ≡ q

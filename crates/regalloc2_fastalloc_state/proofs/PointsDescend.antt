@@ -3,15 +3,15 @@ use Rattle.std.proofs.Common.{ℕ, ◌≡◌, ◌≢◌, ◌+◌, ◌-◌, ◌<�
 use Rattle.std.specs.List.Sorted.{IsNonDecreasingBy}
 use Rattle.std.proofs.lemmas.List.{get_or_append_left, get_or_push, get_or-reverse, length_push, length-reverse}
 use Rattle.std.proofs.lemmas.List.Elements.{All-push}
+use Rattle.std.proofs.lemmas.Bool.{cases_eq}
 use Rattle.regalloc2_function.specs.OutputValue.{MoveValue}
 use Rattle.regalloc2_fastalloc_state.specs.StateParts.{PointsDescend, AllAtOrAfter}
-use Rattle.regalloc2_fastalloc_state.proofs.VRegInPRegInverse.{same_number}
 
 -- an index of a list with one more element is an old one or the last
 pub split_push : {X : Type 0} (xs : List X) (k : ℕ) (x : X) → k < length (xs ++ x ∷ []) → (k < length xs) ⊎ (k ≡ length xs)
 split_push xs k x h =
     let n : length (xs ++ x ∷ []) ≡ length xs + 1 = length_push xs x in
-    ⊎_elim (λ (e : k ≡ length xs). inr e) (λ (d : k ≢ length xs). inl (omega arith)) (same_number k (length xs))
+    ⊎_elim (λ (e : k ≡ length xs). inr e) (λ (d : k ≢ length xs). inl (omega arith)) (cases_eq k (length xs))
 
 -- edits all at or after a point, with one more that is, are all at or after it
 pub none_before_push : (es : List (ℕ × MoveValue)) (p : ℕ) (x : ℕ × MoveValue) → AllAtOrAfter p es → p ≤ x.0 → AllAtOrAfter p (es ++ x ∷ [])

@@ -2,19 +2,16 @@
 use Rattle.std.proofs.Common.{◌≡◌, ◌<◌, ◌++◌, [], ◌∷◌, true, false, List, refl, sym, ap, ◌∙◌, subst, ⊎_elim, arith}
 use Rattle.std.specs.Prelude.{Some, Contains, ◌↔◌, ◌||◌, slice_index_or}
 use Rattle.std.proofs.lemmas.List.Elements.{Contains-append_left, Contains-append_right, Contains-push, Contains-push_cases}
+use Rattle.std.proofs.lemmas.Bool.{or_left, or_right, cases_Bool}
 use Rattle.regalloc2_names.specs.Place.{Place, NoPlace, InRegister}
 use Rattle.regalloc2_names.specs.Register.{Register, VirtualRegister, is_register}
 use Rattle.regalloc2_names.specs.RegisterSet.{has_register}
 use Rattle.regalloc2_names.specs.declared.sets.PRegSet.{PRegSet}
 use Rattle.regalloc2_semantics.proofs.Cells.{is_register-true, is_register-same}
+use Rattle.regalloc2_semantics.proofs.Forms.{same_register}
 use Rattle.regalloc2_fastalloc_state.specs.FilledRegs.{AreRegistersOf}
 use Rattle.regalloc2_fastalloc_state.specs.StateParts.{VRegAllocsValue, IsInverse, vreg_of_preg}
-use Rattle.regalloc2_fastalloc_state.proofs.SetOfList.{or_false, or_true, or_second}
-use Rattle.regalloc2_fastalloc_state.proofs.VRegInPRegInverse.{whether}
-
--- two places that are registers and equal are one register
-one_register : (q r : Register) → InRegister q ≡ InRegister r → q ≡ r
-one_register q r e = cc
+use Rattle.regalloc2_fastalloc_state.proofs.SetOfList.{or_false}
 
 -- with the register of one vreg more
 pub one_found : (allocs : List Place) (vregs : List VirtualRegister) (x : VirtualRegister) (r : Register) (set new : PRegSet) →
@@ -22,10 +19,10 @@ pub one_found : (allocs : List Place) (vregs : List VirtualRegister) (x : Virtua
     AreRegistersOf allocs vregs set → AreRegistersOf allocs (vregs ++ x ∷ []) new
 one_found allocs vregs x r set new at members old = record {
   has = λ q v c e. ⊎_elim
-      (λ (d : Contains vregs v). members q ∙ or_second (is_register r q) (has_register set q) (old.has q v d e))
+      (λ (d : Contains vregs v). members q ∙ or_right (is_register r q) (has_register set q) (old.has q v d e))
       (λ (d : x ≡ v).
-      let same : r ≡ q = one_register r q (sym at ∙ ap (λ (w : VirtualRegister). slice_index_or allocs w.number NoPlace) d ∙ e) in
-      members q ∙ or_true (is_register r q) (has_register set q) (subst (λ (y : Register). is_register r y ≡ true) same (is_register-same r)))
+      let same : r ≡ q = same_register r q (sym at ∙ ap (λ (w : VirtualRegister). slice_index_or allocs w.number NoPlace) d ∙ e) in
+      members q ∙ or_left (is_register r q) (has_register set q) (subst (λ (y : Register). is_register r y ≡ true) same (is_register-same r)))
       (Contains-push_cases vregs x v c);
   only = λ q h. ⊎_elim
       (λ (t : is_register r q ≡ true). (
@@ -39,7 +36,7 @@ one_found allocs vregs x r set new at members old = record {
         Contains-append_left vregs (x ∷ []) o.0 o.1,
         o.2,
       ))
-      (whether (is_register r q));
+      (cases_Bool (is_register r q));
 }
 
 -- the vreg that a walk comes to is in the list
@@ -67,7 +64,7 @@ filled_are t set i are r lt = (
   λ h.
       let o = are.only r h in
       let x = i.only o.0 o.1 in
-      let same : x.0 ≡ r = one_register x.0 r (sym (i.holds x.0 o.0 x.1 x.2) ∙ o.2) in (
+      let same : x.0 ≡ r = same_register x.0 r (sym (i.holds x.0 o.0 x.1 x.2) ∙ o.2) in (
         o.0,
         subst (λ (q : Register). vreg_of_preg t q ≡ Some o.0) same x.2,
       ),

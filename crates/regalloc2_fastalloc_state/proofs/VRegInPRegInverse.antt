@@ -1,6 +1,6 @@
 -- The two tables of places stay inverse.
-use Rattle.std.proofs.Common.{ℕ, ◌≡◌, ◌≢◌, ◌<◌, Bool, true, false, cond, List, ◌∷◌, not, length, refl, sym, ap, ◌∙◌, ◌⊎◌, inl, inr, ⊎_elim, nat_eq, eqb-true}
-use Rattle.std.proofs.Common.{eq-eqb, slice_index_or, set, subst, get_or-set_same, arith}
+use Rattle.std.proofs.Common.{ℕ, ◌≡◌, ◌≢◌, ◌<◌, Bool, true, false, cond, List, ◌∷◌, not, length, refl, sym, ap, ◌∙◌, ◌⊎◌, inl, inr, ⊎_elim, nat_eq}
+use Rattle.std.proofs.Common.{slice_index_or, set, subst, get_or-set_same, arith}
 use Rattle.std.specs.Prelude.{Option, None, Some}
 use Rattle.std.proofs.lemmas.List.{get_or-set_other}
 use Rattle.std.proofs.Math.ListN.{length-set}
@@ -8,6 +8,7 @@ use Rattle.regalloc2_names.specs.Register.{Register, VirtualRegister}
 use Rattle.regalloc2_names.specs.RegisterBits.{bits_of_register}
 use Rattle.std.specs.Prelude.{Contains}
 use Rattle.std.proofs.lemmas.List.Elements.{Contains-get_or}
+use Rattle.std.proofs.lemmas.Bool.{cases_eq}
 use Rattle.regalloc2_names.specs.Place.{Place, NoPlace, InRegister, InSlot, is_in_register, is_place, register_of_place}
 use Rattle.regalloc2_semantics.proofs.Cells.{is_place-true, is_place-same, is_place-other}
 use Rattle.regalloc2_semantics.proofs.Plain.{chosen, no_some}
@@ -15,21 +16,9 @@ use Rattle.regalloc2_fastalloc_state.specs.StateParts.{VRegAllocsValue, IsInvers
 use Rattle.regalloc2_fastalloc_state.specs.StateParts.{without, in_front_if}
 use Rattle.regalloc2_fastalloc_state.proofs.TakenOut.{left_in, in_front, front_or_rest, member_kept, passes_other}
 
--- a test is true or false
-pub whether : (b : Bool) → (b ≡ true) ⊎ (b ≡ false)
-whether true = inl refl
-whether false = inr refl
-
 -- two equal options that have values have equal values
 pub same_some : {X : Type 0} (x y : X) → Some x ≡ Some y → x ≡ y
 same_some x y h = cc
-
--- two numbers are equal or different
-pub same_number : (n m : ℕ) → (n ≡ m) ⊎ (n ≢ m)
-same_number n m = ⊎_elim
-    (λ (t : nat_eq n m ≡ true). inl (eqb-true n m t))
-    (λ (t : nat_eq n m ≡ false). inr (λ (q : n ≡ m). let s : nat_eq n m ≡ true = eq-eqb n m q in absurd cc))
-    (whether (nat_eq n m))
 
 -- a place that is a register
 pub in_one : (p : Place) → is_in_register p ≡ true → (r : Register) × (p ≡ InRegister r)
@@ -68,7 +57,7 @@ inverse_kept t u v p known long small alone i s = record {
   small = λ n r e. ⊎_elim
       (λ (q : n ≡ v.number). small r (sym s.here ∙ ap (alloc_of u) (sym q) ∙ e))
       (λ (q : n ≢ v.number). i.small n r (sym (s.others n q) ∙ e))
-      (same_number n v.number);
+      (cases_eq n v.number);
   known = λ r w lt h. ⊎_elim
       (λ (a : (w ≡ v) × (p ≡ InRegister r)). rw (s.long, ap (λ (x : VirtualRegister). x.number) a.0) known)
       (λ (a : (w.number ≢ v.number) × (vreg_of_preg t r ≡ Some w)). rw s.long (i.known r w lt a.1))
@@ -90,7 +79,7 @@ inverse_kept t u v p known long small alone i s = record {
       let was : alloc_of t n ≡ InRegister r = sym (s.others n q) ∙ e in
       let w = i.vreg_allocs n r was in
       (w.0, w.1, still t u v w.0 p n r (i.small n r was) alone i s q w.1 w.2))
-      (same_number n v.number);
+      (cases_eq n v.number);
   listed = λ r w lt h. subst (λ (vs : List VirtualRegister). Contains vs w) (sym s.order)
       (in_front (is_in_register p) v (without v.number t.in_registers) w (⊎_elim
       (λ (a : (w ≡ v) × (p ≡ InRegister r)). inl (a.0, ap is_in_register a.1))

@@ -2,7 +2,7 @@
 use Rattle.std.proofs.Common.{◌≡◌, Bool, true, false, length, refl, sym, ◌∙◌}
 use Rattle.std.specs.Prelude.{◌&&◌, ◌↔◌, not}
 use Rattle.std.proofs.Common.{inl, inr}
-use Rattle.std.proofs.lemmas.Bool.{and_parts, cases_Bool}
+use Rattle.std.proofs.lemmas.Bool.{and_parts, cases_Bool, and_from}
 use Rattle.regalloc2_names.specs.declared.RegClass.{RegClass}
 use Rattle.regalloc2_names.specs.declared.sets.PRegSet.{PRegSet}
 use Rattle.regalloc2_names.specs.Register.{Register, is_register}
@@ -19,9 +19,6 @@ same_bool true b f g = sym (f refl)
 same_bool false true f g = g refl
 same_bool false false f g = refl
 
-and_both : (a b : Bool) → a ≡ true → b ≡ true → (a && b) ≡ true
-and_both a b x y = rw (x, y) refl
-
 -- the members of a set of free registers, met with that of a class
 pub free_counted : (set free own allocatable : PRegSet) (inst_regs : InstRegs) (class : RegClass) →
     ((r : Register) → has_register free r ≡ true → IsAvailableAt inst_regs both r) →
@@ -37,10 +34,10 @@ free_counted set free own allocatable inst_regs class into from split meet =
     same : (r : Register) → r.class ≡ class → has_register set r ≡ is_free allocatable inst_regs r
     same r of_class = same_bool (has_register set r) (is_free allocatable inst_regs r)
         (λ h. let p = and_parts (has_register free r) (has_register own r) (sym (meet r) ∙ h) in let f = into r p.0 in
-        and_both (has_register allocatable r) (is_free_throughout inst_regs r) ((split r).0 p.1).1
-        (and_both (has_register inst_regs.early r) (has_register inst_regs.late r) (f.early refl) (f.late refl)))
+        and_from (has_register allocatable r) (is_free_throughout inst_regs r) ((split r).0 p.1).1
+        (and_from (has_register inst_regs.early r) (has_register inst_regs.late r) (f.early refl) (f.late refl)))
         (λ h. let p = and_parts (has_register allocatable r) (is_free_throughout inst_regs r) h in
-        meet r ∙ and_both (has_register free r) (has_register own r) (from r p.1) ((split r).1 (of_class, p.0)))
+        meet r ∙ and_from (has_register free r) (has_register own r) (from r p.1) ((split r).1 (of_class, p.0)))
 
 -- a register of a set that isn't there once another is taken out is that one
 pub only_first : (free rest : PRegSet) (first r : Register) → has_register rest r ≡ (not (is_register first r) && has_register free r) →

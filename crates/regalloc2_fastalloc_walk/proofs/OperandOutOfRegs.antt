@@ -1,6 +1,5 @@
 -- Where the placing of an operand stops.
-use Rattle.std.proofs.Common.{ℕ, ◌≡◌, Bool, true, false, List, refl, sym, ap, ◌∙◌, subst, slice_index_or}
-use Rattle.std.specs.Prelude.{not, ◌&&◌}
+use Rattle.std.proofs.Common.{ℕ, ◌≡◌, Bool, true, false, List, sym, ap, ◌∙◌, subst, slice_index_or}
 use Rattle.regalloc2_names.specs.declared.OperandConstraint.TheVariants.{Reuse}
 use Rattle.regalloc2_names.specs.Operand.{OperandValue, is_def, is_fixed_nonallocatable, is_reading}
 use Rattle.regalloc2_names.specs.Place.{Place, NoPlace}
@@ -10,9 +9,7 @@ use Rattle.regalloc2_fastalloc_state.specs.declared.request.OperandRequest.{Oper
 use Rattle.regalloc2_validate.specs.Constraints.{op_at}
 use Rattle.regalloc2_fastalloc_proofs.specs.InstSteps.{StateValue, def_request, reuse_request, use_request}
 use Rattle.regalloc2_fastalloc_proofs.specs.InstSteps.{no_register, AllocUse, AllocDefOp, ProcessOperand, at_use, at_def, at_reuse}
-
-reading : (a b : Bool) → a ≡ false → b ≡ false → (not a && not b) ≡ true
-reading a b x y = rw (x, y) refl
+use Rattle.regalloc2_fastalloc_proofs.proofs.Operands.OperandRules.{reading}
 
 -- if a use that isn't fixed to a nonallocatable register gets no place, processing that operand fails
 pub stop_use : {i : ℕ} {is_ret : Bool} {operands : List OperandValue} {k : ℕ} {here : List Place} {t : InstRegs} {old : StateValue} (o : OperandValue)

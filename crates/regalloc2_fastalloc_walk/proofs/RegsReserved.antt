@@ -2,11 +2,10 @@
 use Rattle.std.proofs.Common.{ℕ, zero, suc, add-one, ◌≡◌, ◌+◌, ◌<◌, ◌≤◌, ◌⊎◌, inl, inr, Bool, true, false, List, [], ◌∷◌, length, refl}
 use Rattle.std.proofs.Common.{arith, sym, ap, ◌∙◌, subst}
 use Rattle.std.specs.Prelude.{Option, None, Some, IfSome, not, ◌&&◌, ◌||◌, take, slice_index}
-use Rattle.std.proofs.lemmas.Bool.{cases_Bool, cases_eq, and_parts}
+use Rattle.std.proofs.lemmas.Bool.{cases_Bool, cases_eq, and_parts, or_left, or_right, and_from, or_cases, both_ways}
 use Rattle.std.proofs.lemmas.List.{length-take-le, take_all}
 use Rattle.std.proofs.lemmas.List.Sums.{count_by-le-length, count_by_more_yes, count_by_more_no}
 use Rattle.regalloc2_names.specs.declared.RegClass.{RegClass}
-use Rattle.regalloc2_names.specs.declared.RegClass.TheVariants.{Int, Float, Vector}
 use Rattle.regalloc2_names.specs.declared.OperandConstraint.TheVariants.{FixedReg}
 use Rattle.regalloc2_names.specs.Register.{Register, class_code, is_register}
 use Rattle.regalloc2_names.specs.RegisterSet.{has_register}
@@ -16,6 +15,7 @@ use Rattle.regalloc2_fastalloc_state.specs.declared.inst_regs.Positions.{Positio
 use Rattle.regalloc2_fastalloc_state.specs.declared.inst_regs.InstRegs.{InstRegs}
 use Rattle.regalloc2_fastalloc_walk.specs.declared.reserve_regs.ReservedRegs.{ReservedRegs}
 use Rattle.regalloc2_fastalloc_state.specs.InstRegs.{RemovesAvailable, awaited_of, is_free_throughout}
+use Rattle.regalloc2_fastalloc_state.proofs.ArraysByClass.{zeros}
 use Rattle.regalloc2_validate.specs.Constraints.{op_at, no_operand}
 use Rattle.regalloc2_fastalloc_proofs.specs.InstSteps.{StateValue, NeedsFixedReg, own, named, IsFixedIn, ReservesRegs, asks, asking}
 use Rattle.regalloc2_fastalloc_proofs.specs.InstSteps.{EvictsFixed, none_cleared, not_fixed}
@@ -134,9 +134,6 @@ reserved_more t r p u w c d e h s x y = record {
   held_late = λ a. stays_held (has_register u.late r) (has_register w.late r) (s.late r) (h.held_late a);
 }
 
-clash : (b : Bool) → b ≡ true → b ≡ false → ⊥
-clash b x y = cc
-
 -- what the first k operands reserved
 pub record Reserving (ops : List OperandValue) (k : ℕ) (t u : InstRegs) (c : ReservedRegs) (old : StateValue) : Type 0 where
   pub shrinks : Shrinks t u
@@ -163,8 +160,8 @@ reserving_none ops t c old no_early no_late = record {
   held_late = λ j r p lt h e. absurd (omega arith);
   apart = λ i j r p q li lj a b e. absurd (omega arith);
   takes = fixed_none ops t t refl refl;
-  early_claims = λ r h. absurd (clash (has_register c.early r) h (no_early r));
-  late_claims = λ r h. absurd (clash (has_register c.late r) h (no_late r));
+  early_claims = λ r h. absurd (both_ways (has_register c.early r) (no_early r) h);
+  late_claims = λ r h. absurd (both_ways (has_register c.late r) (no_late r) h);
 }
 
 two_ways : (a b c d : Bool) → ((a && b) || (c && d)) ≡ true → ((a ≡ true) × (b ≡ true)) ⊎ ((c ≡ true) × (d ≡ true))
@@ -180,8 +177,8 @@ module _ (ops : List OperandValue) (k : ℕ) (t u w : InstRegs) (c d : ReservedR
   met i r p q lt a b e =
       let new : IsNewlyReserved c d r q = (s.reserved r q b).claimed in
       elim (two_ways p.early q.early p.late q.late e) [
-        | inl x ↦ clash (has_register c.early r) (h.claimed_early i r p lt a x.0) (new.fresh_early x.1)
-        | inr x ↦ clash (has_register c.late r) (h.claimed_late i r p lt a x.0) (new.fresh_late x.1)
+        | inl x ↦ both_ways (has_register c.early r) (new.fresh_early x.1) (h.claimed_early i r p lt a x.0)
+        | inr x ↦ both_ways (has_register c.late r) (new.fresh_late x.1) (h.claimed_late i r p lt a x.0)
       ]
 
   turned : (a b e f : Bool) → ((a && b) || (e && f)) ≡ ((b && a) || (f && e))
@@ -238,37 +235,22 @@ module _ (ops : List OperandValue) (k : ℕ) (t u w : InstRegs) (c d : ReservedR
     ];
   }
 
--- an operand whose claim stops the reserving
-or_left : (a b : Bool) → a ≡ true → (a || b) ≡ true
-or_left a b e = rw e refl
-
-or_right : (a b : Bool) → b ≡ true → (a || b) ≡ true
-or_right true b e = refl
-or_right false b e = e
-
-and_both : (a b : Bool) → a ≡ true → b ≡ true → (a && b) ≡ true
-and_both a b x y = rw (x, y) refl
-
-or_parts : (a b : Bool) → (a || b) ≡ true → (a ≡ true) ⊎ (b ≡ true)
-or_parts true b e = inl refl
-or_parts false b e = inr e
-
 -- where operand k can't reserve its register, the reservation of the instruction's registers fails for a reason that is named
 pub stops_reserve : (ops : List OperandValue) (k : ℕ) (t u : InstRegs) (c : ReservedRegs) (old : StateValue) → k < length ops → Reserving ops k t u c old →
     RegIsNotReserved ops k c old → RegsAreNotReserved ops old
 stops_reserve ops k t u c old lt h s = elim s.stops [
   | inl absent ↦ unknown k s.register s.positions lt s.claims absent
-  | inr at ↦ elim (or_parts (s.positions.early && has_register c.early s.register) (s.positions.late && has_register c.late s.register) at) [
+  | inr at ↦ elim (or_cases (s.positions.early && has_register c.early s.register) (s.positions.late && has_register c.late s.register) at) [
     | inl e ↦ (
         let w = and_parts s.positions.early (has_register c.early s.register) e in
         let m = h.early_claims s.register w.1 in
         shared m.0 k s.register m.1 s.positions m.2 lt m.3 s.claims (or_left (m.1.early && s.positions.early) (m.1.late && s.positions.late)
-        (and_both m.1.early s.positions.early m.4 w.0)))
+        (and_from m.1.early s.positions.early m.4 w.0)))
     | inr e ↦ (
         let w = and_parts s.positions.late (has_register c.late s.register) e in
         let m = h.late_claims s.register w.1 in
         shared m.0 k s.register m.1 s.positions m.2 lt m.3 s.claims (or_right (m.1.early && s.positions.early) (m.1.late && s.positions.late)
-        (and_both m.1.late s.positions.late m.4 w.0)))
+        (and_from m.1.late s.positions.late m.4 w.0)))
   ]
 ]
 
@@ -276,14 +258,9 @@ stops_reserve ops k t u c old lt h s = elim s.stops [
 abbrev pub Awaiting : List OperandValue → ℕ → InstRegs → InstRegs → Type 0
 Awaiting ops k t u = t.awaited ≡ 0 ∷ 0 ∷ 0 ∷ [] → (class : RegClass) → awaited_of u class ≡ asking (take k ops) class
 
-none_awaited : (class : RegClass) → slice_index (0 ∷ 0 ∷ 0 ∷ []) (class_code class) ≡ 0
-none_awaited Int = refl
-none_awaited Float = refl
-none_awaited Vector = refl
-
 -- of the first 0 operands none waits for a register
 pub awaiting_none : (ops : List OperandValue) (t : InstRegs) → Awaiting ops 0 t t
-awaiting_none ops t e class = ap (λ xs. slice_index xs (class_code class)) e ∙ none_awaited class
+awaiting_none ops t e class = ap (λ xs. slice_index xs (class_code class)) e ∙ zeros class
 
 asking_few : (ops : List OperandValue) (k : ℕ) (class : RegClass) → k < length ops → asking (take k ops) class ≤ k
 asking_few ops k class lt = (let a = count_by-le-length (asks class) (take k ops) in let b = length-take-le k ops (omega (arith, lt)) in omega (arith, a, b))

@@ -1,6 +1,6 @@
 -- A use under `Any`, whose vreg is in a slot.
 use Rattle.std.proofs.Common.{ℕ, ◌≡◌, Bool, List, refl, sym, ap, ◌∙◌, subst, slice_index_or, slice_set, true, false, nat_eq}
-use Rattle.std.specs.Prelude.{not, ◌&&◌}
+use Rattle.std.specs.Prelude.{◌&&◌}
 use Rattle.regalloc2_names.specs.declared.OperandConstraint.{OperandConstraint}
 use Rattle.regalloc2_names.specs.declared.OperandConstraint.TheVariants.{Any}
 use Rattle.regalloc2_names.specs.Place.{Place, NoPlace, InRegister, InSlot, is_in_slot}
@@ -15,6 +15,7 @@ use Rattle.regalloc2_fastalloc_state.specs.declared.request.Requirement.TheVaria
 use Rattle.regalloc2_fastalloc_state.specs.StateParts.{alloc_of}
 use Rattle.regalloc2_fastalloc_proofs.specs.InstSteps.{StateValue, AllocsUse, MeetsRequirement, ProcessesOperand, requirement_of, use_request}
 use Rattle.regalloc2_fastalloc_proofs.specs.InstSteps.{a_use, awaited_less, in_slot, not_used, stays}
+use Rattle.regalloc2_fastalloc_proofs.proofs.Operands.OperandRules.{use_vreg, reading}
 
 -- it stays there: nothing is claimed, moved or noted
 stays_in_slot : (point : ℕ) (request : OperandRequest) (s : ℕ) (t : InstRegs) (old : StateValue) → request.requirement ≡ AnyPlace →
@@ -44,21 +45,11 @@ asks_any_place o NoPlace any none = ap requirement_of any
 asks_any_place o (InRegister r) any none = absurd (none r refl)
 asks_any_place o (InSlot n) any none = ap requirement_of any
 
-names_its_vreg : (o : OperandValue) (h : Place) → (use_request o h).vreg ≡ o.vreg
-names_its_vreg o NoPlace = refl
-names_its_vreg o (InRegister r) = refl
-names_its_vreg o (InSlot n) = refl
-
 pub is_unfixed : (o : OperandValue) → o.constraint ≡ Any → is_fixed_nonallocatable o ≡ false
 is_unfixed o any = ap (λ (c : OperandConstraint). is_fixed c && nat_eq o.vreg.number 1073741823) any
 
-reads : (a b : Bool) → a ≡ false → b ≡ false → (not a && not b) ≡ true
-reads true b e f = absurd cc
-reads false true e f = absurd cc
-reads false false e f = refl
-
 pub reads_vreg : (o : OperandValue) → is_def o.kind ≡ false → o.constraint ≡ Any → is_reading o ≡ true
-reads_vreg o used any = reads (is_def o.kind) (is_fixed_nonallocatable o) used (is_unfixed o any)
+reads_vreg o used any = reading (is_def o.kind) (is_fixed_nonallocatable o) used (is_unfixed o any)
 
 -- it is processed once its place is set
 pub slot_use : {i : ℕ} {is_ret : Bool} {operands : List OperandValue} {k : ℕ} {here : List Place} {t : InstRegs} {old : StateValue} (o : OperandValue)
@@ -75,4 +66,4 @@ slot_use {i} {operands} {k} {here} {t} {old} o h (InSlot s) e f used any none sl
     a_use (InSlot s) (ap (λ (x : OperandValue). is_reading x) (sym e) ∙ reads_vreg o used any)
     (subst (λ (x : OperandRequest). AllocsUse (after i) x (InSlot s) t t old old) same
     (stays_in_slot (after i) request s t old (asks_any_place o h any (none (reads_vreg o used any)))
-    (ap (λ (v : VirtualRegister). alloc_of old.places v.number) (names_its_vreg o h) ∙ at))) refl
+    (ap (λ (v : VirtualRegister). alloc_of old.places v.number) (use_vreg o h) ∙ at))) refl

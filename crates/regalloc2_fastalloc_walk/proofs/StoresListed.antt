@@ -23,11 +23,11 @@ use Rattle.regalloc2_branch_defs.specs.Tables.{AreBranchDefsOf, site_of}
 use Rattle.regalloc2_branch_defs.specs.declared.BranchDefs.{BranchDefs}
 use Rattle.regalloc2_branch_defs.specs.declared.DefSite.{DefSite}
 use Rattle.regalloc2_branch_defs.proofs.BlockEnds.{last_within}
+use Rattle.regalloc2_branch_defs.proofs.EdgeNotes.{fixed_defines}
 use Rattle.regalloc2_fastalloc_state.specs.StateParts.{SpillSlotsValue, slot_name}
 use Rattle.regalloc2_fastalloc_proofs.specs.BlockStart.{no_vreg}
 use Rattle.regalloc2_fastalloc_proofs.specs.BlockSteps.{MayBeAllocated}
 use Rattle.regalloc2_fastalloc_proofs.specs.StoreSteps.{IsStoredFor, branch_operands, given, its_own}
-use Rattle.regalloc2_fastalloc_proofs.proofs.Safety.StoresKeepSafe.{fixed_defines}
 use Rattle.regalloc2_fastalloc_walk.specs.BranchStores.{IsGiven, ListsGiven, ListsParams, ListsStores, is_for, listed, no_param, no_store, not_given}
 use Rattle.regalloc2_fastalloc_walk.specs.BranchStores.{one_param, own_store}
 use Rattle.regalloc2_fastalloc_walk.specs.declared.store.StoredDef.{StoredDef}

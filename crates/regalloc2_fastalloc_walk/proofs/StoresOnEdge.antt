@@ -18,7 +18,7 @@ use Rattle.regalloc2_semantics.specs.Stores.IsOneOf.{first, later}
 use Rattle.regalloc2_semantics.proofs.SingleDef.{DefinesAt, not_both, one_operand}
 use Rattle.regalloc2_semantics.proofs.Soundness.{well_formed_are_sound}
 use Rattle.regalloc2_branch_defs.specs.BranchDefs.{DefinesNumber, IsEdgeInto, fixed_definition}
-use Rattle.regalloc2_fastalloc_state.specs.StateParts.{SpillSlotsValue, GetsSpillSlot, IsSlotOrNone, NoneIsFrom, slot_name}
+use Rattle.regalloc2_fastalloc_state.specs.StateParts.{SpillSlotsValue, GetsSpillSlot, NoneIsFrom, slot_name}
 use Rattle.regalloc2_fastalloc_proofs.specs.InstSteps.{StateValue, SameMachine, no_register}
 use Rattle.regalloc2_fastalloc_proofs.specs.BlockSteps.{MayBeAllocated}
 use Rattle.regalloc2_fastalloc_proofs.specs.BranchSteps.{AreApart}
@@ -28,11 +28,13 @@ use Rattle.regalloc2_fastalloc_proofs.specs.StoreSteps.{one_slot, IsByWay, Store
 use Rattle.regalloc2_fastalloc_proofs.proofs.Safety.StoredDefs.{last_within}
 use Rattle.regalloc2_fastalloc_proofs.proofs.Safety.StoresKeepSafe.{stored_concerned, stored_defines}
 use Rattle.regalloc2_fastalloc_proofs.proofs.Slots.SlotsGrow.{SlotsStay, gives_stay, same_stay}
+use Rattle.regalloc2_fastalloc_proofs.proofs.Operands.DefRecord.{real_slot}
 use Rattle.regalloc2_fastalloc_walk.specs.declared.operand.PlaceMove.{PlaceMove}
 use Rattle.regalloc2_fastalloc_walk.specs.declared.store.StoredDef.{StoredDef}
 use Rattle.regalloc2_fastalloc_walk.specs.BranchStores.{ListsStores, is_for, FindsDefined, held, in_slot, FindsStore, no_store, FindsStores, none_found}
 use Rattle.regalloc2_fastalloc_walk.specs.BranchStores.{one_found}
 use Rattle.regalloc2_fastalloc_walk.specs.BranchStores.{IsMadeOf, AreMadeOf, none_made, passed_over, one_made, PushesStores, LacksStoreReg}
+use Rattle.regalloc2_fastalloc_walk.proofs.StoresPushed.{pushed_append}
 
 -- a move that no list has
 abbrev no_move : PlaceMove
@@ -106,12 +108,6 @@ moves_of_both [] ts = refl
 moves_of_both (s ∷ ss) ts = ap (λ l. moves_by s.from s.by s.to ++ l) (moves_of_both ss ts)
     ∙ sym (append_assoc (moves_by s.from s.by s.to) (store_moves ss) (store_moves ts))
 
-pushed_both : (point : ℕ) (ms ns : List MoveValue) → pushed_moves point (ms ++ ns) ≡ pushed_moves point ns ++ pushed_moves point ms
-unfolding pushed_moves
-pushed_both point [] ns = sym (append-nil (pushed_moves point ns))
-pushed_both point (m ∷ ms) ns = ap (λ l. l ++ (point, m) ∷ []) (pushed_both point ms ns)
-    ∙ append_assoc (pushed_moves point ns) (pushed_moves point ms) ((point, m) ∷ [])
-
 -- The move of the store i is from where the branch leaves the value, to the slot of the vreg, as the tables have them at the end.
 record Fits (operands : List OperandValue) (slots : SpillSlotsValue) (d : StoredDef) (m : PlaceMove) : Type 0 where
   from : m.from ≡ defined_place slots (op_at operands d.index)
@@ -120,17 +116,11 @@ record Fits (operands : List OperandValue) (slots : SpillSlotsValue) (d : Stored
   slot : (n : ℕ) × (m.to ≡ InSlot n)
   class : m.class ≡ (op_at operands d.index).vreg.class
 
--- a slot that a vreg gets is a slot
-slot_is : (count : ℕ) (p : Place) → IsSlotOrNone count p → p ≢ NoPlace → (n : ℕ) × (p ≡ InSlot n)
-slot_is count NoPlace h there = absurd (there refl)
-slot_is count (InRegister r) h there = absurd h
-slot_is count (InSlot n) h there = (n, refl)
-
 -- and it stays
 gets_stays : (old new final : SpillSlotsValue) (v : VirtualRegister) (p : Place) → GetsSpillSlot old new v p → SlotsStay new final → slot_name final
     v.number ≡ p
 gets_stays old new final v p g stay =
-    let n = slot_is new.count p g.below g.there in stay v.number n.0 (g.gives ∙ n.1) ∙ sym n.1
+    let n = real_slot new.count p g.below g.there in stay v.number n.0 (g.gives ∙ n.1) ∙ sym n.1
 
 module _ (operands : List OperandValue) (final : SpillSlotsValue) where
   place_found : (o : OperandValue) (p : Place) (old new : SpillSlotsValue) → FindsDefined o p old new → SlotsStay new final →
@@ -158,7 +148,7 @@ module _ (operands : List OperandValue) (final : SpillSlotsValue) where
         from = p.0;
         there = p.1;
         to = gets_stays h.middle new final d.to m.to h.slot stay;
-        slot = slot_is new.count m.to h.slot.below h.slot.there;
+        slot = real_slot new.count m.to h.slot.below h.slot.there;
         class = h.class;
       }
 
@@ -482,7 +472,7 @@ module _ (at_edge : EdgeStores) where
     places = ap (λ (z : StateValue). z.places) after_both;
     edits = ap (λ (z : StateValue). z.edits) after_both ∙ append_assoc t.edits (pushed_moves point (store_moves p.stores)) (pushed_moves point (store_moves
         q.stores))
-        ∙ ap (λ l. t.edits ++ l) (sym (ap (pushed_moves point) (moves_of_both q.stores p.stores) ∙ pushed_both point (store_moves q.stores) (store_moves
+        ∙ ap (λ l. t.edits ++ l) (sym (ap (pushed_moves point) (moves_of_both q.stores p.stores) ∙ pushed_append point (store_moves q.stores) (store_moves
         p.stores)));
     machine = subst (SameMachine t) (sym after_both) (record {
       allocatable = refl;

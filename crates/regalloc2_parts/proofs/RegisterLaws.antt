@@ -16,7 +16,7 @@ self-eq n = eq-eqb n n refl
 pub is_register-refl : (r : Register) → is_register r r ≡ true
 is_register-refl r = rw (self-eq (class_code r.class), self-eq r.number) refl
 
-class_codes : (a b : RegClass) → class_code a ≡ class_code b → a ≡ b
+pub class_codes : (a b : RegClass) → class_code a ≡ class_code b → a ≡ b
 class_codes Int Int e = refl
 class_codes Int Float e = absurd (omega arith)
 class_codes Int Vector e = absurd (omega arith)

@@ -20,7 +20,7 @@ some_of : {M : Type 0} (ms : List M) (k : ℕ) → k < length ms → M
 some_of [] k r = absurd (omega arith)
 some_of (m ∷ ms) k r = m
 
-All-reversed : {M : Type 0} (P : M → Type 0) (xs : List M) → All P xs → All P (reverse xs)
+pub All-reversed : {M : Type 0} (P : M → Type 0) (xs : List M) → All P xs → All P (reverse xs)
 All-reversed P xs had k d r =
     let same : length (reverse xs) ≡ length xs = length-reverse xs in
     let low : k < length xs = omega arith in

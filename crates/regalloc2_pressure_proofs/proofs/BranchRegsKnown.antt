@@ -1,12 +1,10 @@
 -- Either the registers to which definitions are fixed are the machine's, for all instructions, or some instruction doesn't fit.
 use Rattle.std.proofs.Common.{ℕ, zero, suc, ◌≡◌, ◌<◌, ◌⊎◌, Bool, true, false, length, refl, sym, ◌∙◌, subst, inl, inr, arith}
-use Rattle.std.specs.Prelude.{Option, None, Some, if◌then◌else◌}
+use Rattle.std.specs.Prelude.{Option, None, Some}
 use Rattle.std.proofs.lemmas.Bool.{cases_Bool}
-use Rattle.regalloc2_names.specs.declared.OperandConstraint.{OperandConstraint}
-use Rattle.regalloc2_names.specs.declared.OperandConstraint.TheVariants.{Any, Reg, Stack, FixedReg, Reuse, Limit}
 use Rattle.regalloc2_names.specs.Register.{Register, VirtualRegister}
 use Rattle.regalloc2_names.specs.RegisterSet.{has_register}
-use Rattle.regalloc2_names.specs.Operand.{OperandValue, is_def, fixed_register}
+use Rattle.regalloc2_names.specs.Operand.{is_def}
 use Rattle.regalloc2_function.specs.FunctionValue.{FunctionValue, inst_at}
 use Rattle.regalloc2_function.specs.Machine.{MachineValue, is_allocatable}
 use Rattle.regalloc2_function.specs.Fitting.{Fits}
@@ -15,6 +13,7 @@ use Rattle.regalloc2_branch_defs.specs.BranchDefs.{fixed_definition}
 use Rattle.regalloc2_fastalloc_proofs.specs.InstSteps.{StateValue}
 use Rattle.regalloc2_fastalloc_proofs.specs.Safety.{HasMachine, IsOfMachine}
 use Rattle.regalloc2_fastalloc_proofs.proofs.Operands.AllocsSoFar.{IsTame}
+use Rattle.regalloc2_fastalloc_proofs.proofs.Safety.WalkKeepsMachine.{constraint_fixed}
 
 -- all below a number, or one that isn't
 all_or_one : (P Q : ℕ → Type 0) (n : ℕ) → ((i : ℕ) → i < n → P i ⊎ Q i) → ((i : ℕ) → i < n → P i) ⊎ ((i : ℕ) × (i < n) × Q i)
@@ -35,17 +34,6 @@ abbrev pub FixedKnown : MachineValue → FunctionValue → ℕ → Type 0
 FixedKnown env f i = (j : ℕ) → j < length (inst_at f i).operands → is_def (op_at (inst_at f i).operands j).kind ≡ true → (r : Register) →
     fixed_definition (op_at (inst_at f i).operands j) ≡ Some r → IsOfMachine env r
 
-constraint_of : (o : OperandValue) → is_def o.kind ≡ true → (r : Register) → fixed_definition o ≡ Some r → o.constraint ≡ FixedReg r
-constraint_of o def r is = in_constraint o.constraint (subst (λ x. (if x then fixed_register o.constraint else None) ≡ Some r) def is)
-  where
-    in_constraint : (c : OperandConstraint) → fixed_register c ≡ Some r → c ≡ FixedReg r
-    in_constraint Any h = cc
-    in_constraint Reg h = cc
-    in_constraint Stack h = cc
-    in_constraint (FixedReg g) h = cc
-    in_constraint (Reuse n) h = cc
-    in_constraint (Limit n) h = cc
-
 module _ (env : MachineValue) (f : FunctionValue) (Known : VirtualRegister → Type 0) (old : StateValue) (machine : HasMachine env old) where
   one_known : (i : ℕ) → IsTame Known (inst_at f i).operands → (j : ℕ) → j < length (inst_at f i).operands → (d : Bool) →
       is_def (op_at (inst_at f i).operands j).kind ≡ d → (g : Option Register) → fixed_definition (op_at (inst_at f i).operands j) ≡ g →
@@ -57,7 +45,7 @@ module _ (env : MachineValue) (f : FunctionValue) (Known : VirtualRegister → T
     | inl regs ↦ inl (λ e r h. (let same : g ≡ r = some_same g r (sym is ∙ h) in subst (IsOfMachine env) same (inl regs)))
     | inr no_reg ↦ elim (cases_Bool (has_register old.fixed_stack g)) [
       | inl stack ↦ inl (λ e r h. (let same : g ≡ r = some_same g r (sym is ∙ h) in subst (IsOfMachine env) same (inr (machine.fixed_stack g stack))))
-      | inr no_stack ↦ inr (λ fits. elim (fits.fixed j no_operand lt (tame.allocated j lt def) g (constraint_of (op_at (inst_at f i).operands j) def g is)) [
+      | inr no_stack ↦ inr (λ fits. elim (fits.fixed j no_operand lt (tame.allocated j lt def) g (constraint_fixed (op_at (inst_at f i).operands j) def g is)) [
         | inl there ↦ (let z : true ≡ false = sym there ∙ no_reg in cc)
         | inr slot ↦ (let z : true ≡ false = sym (machine.memory g slot) ∙ no_stack in cc)
       ])

@@ -2,7 +2,7 @@
 -- the instruction fits.
 use Rattle.std.proofs.Common.{ℕ, ◌≡◌, ◌<◌, ◌≤◌, Bool, true, false, List, [], ◌∷◌, refl, sym, ap, ◌∙◌, subst, inl, inr, arith, eq-eqb}
 use Rattle.std.specs.Prelude.{◌&&◌, ◌||◌, nat_eq, nat_lt, count_by, if◌then◌else◌, is_none, Option, None, slice_index_or}
-use Rattle.std.proofs.lemmas.Bool.{cases_Bool, lt-ltb, ltb-true}
+use Rattle.std.proofs.lemmas.Bool.{cases_Bool, lt-ltb, ltb-true, and_parts, and_from}
 use Rattle.regalloc2_names.specs.declared.OperandConstraint.{OperandConstraint}
 use Rattle.regalloc2_names.specs.declared.OperandConstraint.TheVariants.{FixedReg}
 use Rattle.regalloc2_names.specs.declared.RegClass.{RegClass}
@@ -22,7 +22,6 @@ use Rattle.regalloc2_validate.specs.Constraints.{op_at, no_operand}
 use Rattle.regalloc2_fastalloc_proofs.specs.InstSteps.{StateValue, ReservesRegs, RemovesClobbers, IsFixedIn, scratch_reserve_left}
 use Rattle.regalloc2_pressure_proofs.specs.EnoughRegs.{HasEnoughRegs, waiting, none_needed}
 use Rattle.regalloc2_pressure_proofs.proofs.StepsKeepMachine.{HasAll}
-use Rattle.regalloc2_pressure_proofs.proofs.OneRegTaken.{and_all}
 use Rattle.regalloc2_pressure_proofs.proofs.WaitingOperands.{is_taken_first, fits_enough, all_wait}
 
 -- all registers of the machine are free, and none was taken for moves
@@ -33,7 +32,7 @@ pub record StartsFree (inst_regs : InstRegs) (t : StateValue) : Type 0 where
 
 starts_free : (inst_regs : InstRegs) (t : StateValue) → StartsFree inst_regs t → (r : Register) → has_register t.allocatable r ≡ true
     → is_free_throughout inst_regs r ≡ true
-starts_free inst_regs t s r h = and_all (has_register inst_regs.early r) (has_register inst_regs.late r) (s.early r ∙ first h) (s.late r ∙ first h)
+starts_free inst_regs t s r h = and_from (has_register inst_regs.early r) (has_register inst_regs.late r) (s.early r ∙ first h) (s.late r ∙ first h)
   where
     first : has_register t.allocatable r ≡ true → (has_register t.allocatable r || has_register t.fixed_stack r) ≡ true
     first e = rw e refl
@@ -55,7 +54,7 @@ fresh_ample f env fits inst_regs t all s c named =
     let q : Register = r.0 in
     let same : q.class ≡ c = (fits c).of_class q r.1 in
     let there : has_register t.allocatable q ≡ true = all.allocatable q (subst (λ k. is_allocatable env k q ≡ true) (sym same) r.1) in
-    let free : is_free t.allocatable inst_regs q ≡ true = and_all (has_register t.allocatable q) (is_free_throughout inst_regs q) there
+    let free : is_free t.allocatable inst_regs q ≡ true = and_from (has_register t.allocatable q) (is_free_throughout inst_regs q) there
     (starts_free inst_regs t s q there) in
     let some : 0 < free_count t.allocatable inst_regs q.class = some_count (λ n. is_free t.allocatable inst_regs (register_number q.class n)) 64 q.number
     (all.fit.small q (inl there)) free in
@@ -112,8 +111,8 @@ module _ (f : FunctionValue) (env : MachineValue) (inst : InstValue) (fits : Fit
   -- a register that is neither fixed nor clobbered is free still
   left_free : (c : RegClass) (n : ℕ) → n < 64 → is_allocatable env c (register_number c n) ≡ true → is_taken_first env c inst n ≡ false →
       is_free old.allocatable held (register_number c n) ≡ true
-  left_free c n lt ok none = and_all (has_register old.allocatable r) (is_free_throughout held r) there
-      (and_all (has_register held.early r) (has_register held.late r) (holds.early r ∙ ready.0) (holds.late r ∙ rw (other.0, ready.1) refl))
+  left_free c n lt ok none = and_from (has_register old.allocatable r) (is_free_throughout held r) there
+      (and_from (has_register held.early r) (has_register held.late r) (holds.early r ∙ ready.0) (holds.late r ∙ rw (other.0, ready.1) refl))
     where
       r : Register
       r = register_number c n
@@ -132,13 +131,9 @@ module _ (f : FunctionValue) (env : MachineValue) (inst : InstValue) (fits : Fit
           (count_by (λ o. is_fixed_to r o.constraint) inst.operands) (omega (arith, some)) in
           let none_fixed = other.1 in cc
 
-      split : (a b : Bool) → (a && b) ≡ true → (a ≡ true) × (b ≡ true)
-      split true b h = (refl, h)
-      split false b h = absurd cc
-
       ready : (has_register reserved.early r ≡ true) × (has_register reserved.late r ≡ true)
       ready = elim (cases_Bool (is_free_throughout reserved r)) [
-        | inl free ↦ split (has_register reserved.early r) (has_register reserved.late r) free
+        | inl free ↦ and_parts (has_register reserved.early r) (has_register reserved.late r) free
         | inr gone ↦ absurd (no_fixed (reserves.only r (starts_free began old s r there) gone))
       ]
 

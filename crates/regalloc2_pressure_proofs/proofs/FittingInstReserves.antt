@@ -10,12 +10,13 @@ use Rattle.regalloc2_function.specs.FunctionValue.{FunctionValue, InstValue}
 use Rattle.regalloc2_function.specs.Machine.{MachineValue, is_allocatable, IsFixedStackSlot}
 use Rattle.regalloc2_function.specs.Fitting.{Fits, HoldsEarly, HoldsLate, is_reuse}
 use Rattle.regalloc2_semantics.proofs.Soundness.{cases_within}
+use Rattle.regalloc2_semantics.proofs.Operands.{reads_use}
 use Rattle.regalloc2_validate.specs.Constraints.{op_at, no_operand}
 use Rattle.regalloc2_fastalloc_state.specs.declared.inst_regs.Positions.{Positions}
 use Rattle.regalloc2_fastalloc_state.specs.InstRegs.{positions_of}
 use Rattle.regalloc2_fastalloc_proofs.specs.InstSteps.{StateValue, NeedsFixedReg, own, named}
 use Rattle.regalloc2_fastalloc_proofs.specs.InstSteps.{RegsAreNotReserved, unknown, shared}
-use Rattle.regalloc2_fastalloc_proofs.proofs.Operands.AllocsSoFar.{IsTame, reads_not_def, reads_allocated}
+use Rattle.regalloc2_fastalloc_proofs.proofs.Operands.AllocsSoFar.{IsTame, reads_allocated}
 use Rattle.regalloc2_pressure_proofs.proofs.StepsKeepMachine.{HasAll}
 
 -- an operand that claims its register early holds the early part, and one that claims it late the late part
@@ -116,7 +117,7 @@ module _ (f : FunctionValue) (env : MachineValue) (inst : InstValue) (fits : Fit
 
   -- an early use has nothing late
   early_use : (k n : ℕ) → k < length ops → (op_at ops k).constraint ≡ Reuse n → (positions_of (op_at ops n)).late ≡ true → ⊥
-  early_use k n lt reuses h = by_test (is_def (op_at ops n).kind) (is_late (op_at ops n).position) (reads_not_def (op_at ops n) (tame.named k n lt reuses).2)
+  early_use k n lt reuses h = by_test (is_def (op_at ops n).kind) (is_late (op_at ops n).position) (reads_use (op_at ops n) (tame.named k n lt reuses).2)
       (tame.named k n lt reuses).1 h
     where
       by_test : (a b : Bool) → a ≡ false → b ≡ false → (a || b) ≡ true → ⊥

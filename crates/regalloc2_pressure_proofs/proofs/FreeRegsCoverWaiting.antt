@@ -1,15 +1,16 @@
 -- While operands are allocated, as many registers are free as operands still wait for one; each that is placed takes its own, or one that can be spared.
+use Rattle.regalloc2_parts.proofs.RegisterLaws.{class_codes}
 use Rattle.std.proofs.Common.{ℕ, zero, suc, [], ◌∷◌, ◌≡◌, ◌+◌, ◌-◌, ◌<◌, ◌≤◌, Bool, true, false, List, length, refl, sym, ap, ◌∙◌, subst, arith, inl}
 use Rattle.std.proofs.Common.{inr, ◌⊎◌, get_or-set_same, set}
-use Rattle.std.specs.Prelude.{not, ◌&&◌, ◌||◌, slice_index, slice_set}
-use Rattle.std.proofs.lemmas.Bool.{cases_eq, cases_Bool}
+use Rattle.std.specs.Prelude.{not, ◌&&◌, slice_index, slice_set}
+use Rattle.std.proofs.lemmas.Bool.{cases_eq, cases_Bool, and_parts}
 use Rattle.std.proofs.lemmas.List.{get_or-set_other}
 use Rattle.regalloc2_names.specs.declared.RegClass.{RegClass}
 use Rattle.regalloc2_names.specs.declared.OperandConstraint.TheVariants.{FixedReg, Reuse}
 use Rattle.regalloc2_names.specs.declared.sets.PRegSet.{PRegSet}
 use Rattle.regalloc2_names.specs.Register.{Register, VirtualRegister, class_code, is_register}
 use Rattle.regalloc2_names.specs.RegisterSet.{has_register}
-use Rattle.regalloc2_names.specs.Operand.{OperandValue, is_def, is_late, is_fixed_nonallocatable}
+use Rattle.regalloc2_names.specs.Operand.{OperandValue, is_fixed_nonallocatable}
 use Rattle.regalloc2_names.specs.Place.{Place, InRegister, InSlot}
 use Rattle.regalloc2_semantics.proofs.Cells.{is_register-same}
 use Rattle.regalloc2_function.specs.Machine.{MachineValue, IsStackPlace}
@@ -17,7 +18,7 @@ use Rattle.regalloc2_fastalloc_state.specs.declared.inst_regs.InstRegs.{InstRegs
 use Rattle.regalloc2_fastalloc_state.specs.declared.request.Requirement.{Requirement}
 use Rattle.regalloc2_fastalloc_state.specs.declared.request.Requirement.TheVariants.{AnyPlace, AnyReg, InMemory, InPReg}
 use Rattle.regalloc2_fastalloc_state.specs.declared.request.OperandRequest.{OperandRequest}
-use Rattle.regalloc2_fastalloc_state.specs.InstRegs.{is_free, free_count, awaited_of, positions_of}
+use Rattle.regalloc2_fastalloc_state.specs.InstRegs.{is_free, free_count, awaited_of}
 use Rattle.regalloc2_validate.specs.Constraints.{op_at}
 use Rattle.regalloc2_fastalloc_proofs.specs.InstSteps.{StateValue, scratch_reserve_left, awaited_less, AllocsOperand, ClaimsPlace, in_slot, in_register}
 use Rattle.regalloc2_fastalloc_proofs.specs.Safety.{MayBeLocatedAt}
@@ -26,8 +27,6 @@ use Rattle.regalloc2_fastalloc_proofs.proofs.Operands.AllocsSoFar.{at_place}
 use Rattle.regalloc2_fastalloc_proofs.proofs.Safety.OperandKeepsSafe.{IsAnswer}
 use Rattle.regalloc2_pressure_proofs.specs.EnoughRegs.{HasEnoughRegs, waiting}
 use Rattle.regalloc2_pressure_proofs.proofs.StepsKeepMachine.{HasAll}
-use Rattle.regalloc2_pressure_proofs.proofs.OneRegTaken.{and_left}
-use Rattle.regalloc2_pressure_proofs.proofs.StepsLeaveEnough.{same_code}
 use Rattle.regalloc2_pressure_proofs.proofs.ClaimLeavesEnough.{IsPaid}
 
 -- While operands are allocated: enough are free for those that wait, which are counted. A register that an operand has, or is fixed to, is
@@ -59,14 +58,6 @@ unfree_kept old new t u r same less h = elim (cases_Bool (has_register old r)) [
     left_none : (a : Bool) → (a && false) ≡ false
     left_none true = refl
     left_none false = refl
-
--- an operand holds its register at one position at least
-pub some_position : (o : OperandValue) → ((positions_of o).early ≡ true) ⊎ ((positions_of o).late ≡ true)
-some_position o = by_test (is_def o.kind) (is_late o.position)
-  where
-    by_test : (a b : Bool) → ((not a || not b) ≡ true) ⊎ ((a || b) ≡ true)
-    by_test true b = inr refl
-    by_test false b = inl refl
 
 -- so it is free no more
 pub gets_settled : (point : ℕ) (o : OperandRequest) (p : Place) (t u : InstRegs) (old new : StateValue) → AllocsOperand point o p t u old new →
@@ -112,7 +103,7 @@ pub data Pays (ops : List OperandValue) (here there : List Place) (v : VirtualRe
 pub pays_fewer : (ops : List OperandValue) (here there : List Place) (v : VirtualRegister) (w : Requirement) (t : InstRegs) (old : StateValue) →
     Pays ops here there v w t old → (c : RegClass) → waiting ops there c ≤ waiting ops here c
 pays_fewer ops here there v w t old (waited wants one rest) c = elim (cases_eq (class_code c) (class_code v.class)) [
-  | inl e ↦ subst (λ (k : RegClass). waiting ops there k ≤ waiting ops here k) (sym (same_code c v.class e)) (omega (arith, one))
+  | inl e ↦ subst (λ (k : RegClass). waiting ops there k ≤ waiting ops here k) (sym (class_codes c v.class e)) (omega (arith, one))
   | inr ne ↦ (let e = rest c ne in omega (arith, e))
 ]
 pays_fewer ops here there v w t old (anywhere wants same) c = (let e = same c in omega (arith, e))
@@ -137,7 +128,7 @@ pays_awaited ops here there v w t u old (waited wants one rest) counted less c =
     let now : u.awaited ≡ slice_set t.awaited (class_code v.class) (slice_index t.awaited (class_code v.class) - 1) = less
     ∙ ap (λ (x : Requirement). awaited_less x v.class t.awaited) wants in
     elim (cases_eq (class_code c) (class_code v.class)) [
-      | inl e ↦ subst (λ (k : RegClass). awaited_of u k ≡ waiting ops there k) (sym (same_code c v.class e))
+      | inl e ↦ subst (λ (k : RegClass). awaited_of u k ≡ waiting ops there k) (sym (class_codes c v.class e))
           (let was = counted v.class in
           let fell = awaited_fell t.awaited (class_code v.class) (omega (arith, was, one)) in
           let is : awaited_of u v.class ≡ slice_index (slice_set t.awaited (class_code v.class) (slice_index t.awaited (class_code v.class) - 1))
@@ -159,7 +150,7 @@ memory_unfree : (env : MachineValue) (t : StateValue) (u : InstRegs) (p : Place)
 memory_unfree env t u p r all stack is free =
     let at : IsStackPlace env (InRegister r) = subst (IsStackPlace env) is stack in
     let yes : has_register t.fixed_stack r ≡ true = all.machine.memory r at in
-    let nay : has_register t.fixed_stack r ≡ false = all.fit.stack_apart r (and_left (has_register t.allocatable r) _ free) in cc
+    let nay : has_register t.fixed_stack r ≡ false = all.fit.stack_apart r ((and_parts (has_register t.allocatable r) _ free).0) in cc
 
 -- so what an operand takes is paid for
 pub pays_paid : (Named : RegClass → Type 0) {env : MachineValue} {ops : List OperandValue} {here there : List Place} {o : OperandRequest} {p : Place}

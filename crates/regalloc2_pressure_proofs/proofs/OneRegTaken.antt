@@ -1,7 +1,7 @@
 -- How many registers are free when one is taken, and what is needed then.
 use Rattle.std.proofs.Common.{ℕ, ◌≡◌, ◌+◌, ◌<◌, ◌≤◌, Bool, true, false, List, refl, sym, ap, ◌∙◌, subst, arith, set}
 use Rattle.std.specs.Prelude.{not, ◌&&◌, nat_lt, is_none, if◌then◌else◌, Option, None, Some, slice_index_or}
-use Rattle.std.proofs.lemmas.Bool.{lt-ltb}
+use Rattle.std.proofs.lemmas.Bool.{lt-ltb, false_from_ne_true, and_from, and_parts}
 use Rattle.regalloc2_names.specs.declared.RegClass.{RegClass}
 use Rattle.regalloc2_names.specs.declared.sets.PRegSet.{PRegSet}
 use Rattle.regalloc2_names.specs.Register.{Register, class_code, is_register}
@@ -17,37 +17,19 @@ use Rattle.regalloc2_fastalloc_proofs.specs.InstSteps.{StateValue, scratch_reser
 use Rattle.regalloc2_pressure_proofs.specs.EnoughRegs.{HasEnoughRegs, TakesAtMost}
 use Rattle.regalloc2_fastalloc_proofs.proofs.Safety.StepsKeepMachine.{KeepsMachine}
 
-not_true : (b : Bool) → (b ≡ true → ⊥) → b ≡ false
-not_true true h = absurd (h refl)
-not_true false h = refl
-
--- the first part of a true conjunction is true
-pub and_left : (a b : Bool) → (a && b) ≡ true → a ≡ true
-and_left true b h = refl
-and_left false b h = absurd cc
-
--- the second part of a true conjunction is true
-pub and_right : (a b : Bool) → (a && b) ≡ true → b ≡ true
-and_right true b h = h
-and_right false b h = absurd cc
-
--- a conjunction of two true parts is true
-pub and_all : (a b : Bool) → a ≡ true → b ≡ true → (a && b) ≡ true
-and_all a b p q = rw (p, q) refl
-
 -- two registers that differ
 pub other_register : (a b : Register) → (a ≡ b → ⊥) → is_register a b ≡ false
-other_register a b ne = not_true (is_register a b) (λ e. ne (is_register-true a b e))
+other_register a b ne = false_from_ne_true (is_register a b) (λ e. ne (is_register-true a b e))
 
 -- a register that is free and isn't the one that was taken is free
 stays_free : (set : PRegSet) (by q : Register) (t u : InstRegs) → TakesAtMost by t u → is_register by q ≡ false → is_free set t q ≡ true
     → is_free set u q ≡ true
 stays_free set by q t u l other h =
-    let in_set : has_register set q ≡ true = and_left (has_register set q) _ h in
-    let both = and_right (has_register set q) _ h in
-    and_all (has_register set q) (has_register u.early q && has_register u.late q) in_set
-    (and_all (has_register u.early q) (has_register u.late q) (l.early q other ∙ and_left (has_register t.early q) _ both)
-    (l.late q other ∙ and_right (has_register t.early q) _ both))
+    let in_set : has_register set q ≡ true = (and_parts (has_register set q) _ h).0 in
+    let both = (and_parts (has_register set q) _ h).1 in
+    and_from (has_register set q) (has_register u.early q && has_register u.late q) in_set
+    (and_from (has_register u.early q) (has_register u.late q) (l.early q other ∙ (and_parts (has_register t.early q) _ both).0)
+    (l.late q other ∙ (and_parts (has_register t.early q) _ both).1))
 
 -- at most that one is free no more
 pub free_but_one : (set : PRegSet) (by : Register) (t u : InstRegs) (c : RegClass) → TakesAtMost by t u → free_count set t c ≤ free_count set u c + 1

@@ -1,4 +1,5 @@
 -- An operand that is allocated leaves registers enough for those that wait, and finds one where it waits itself.
+use Rattle.regalloc2_semantics.proofs.Operands.{reads_use}
 use Rattle.std.proofs.Common.{ℕ, ◌≡◌, ◌≢◌, ◌+◌, ◌<◌, true, false, List, length, refl, sym, ap, ◌∙◌, subst, inl, inr, ◌⊎◌, arith, get_or-set_same, set}
 use Rattle.std.proofs.lemmas.List.{get_or-set_other}
 use Rattle.std.proofs.Math.ListN.{length-set}
@@ -17,8 +18,9 @@ use Rattle.regalloc2_validate.specs.Constraints.{op_at}
 use Rattle.regalloc2_fastalloc_proofs.specs.InstSteps.{StateValue, requirement_of, reuse_requirement_of, use_request}
 use Rattle.regalloc2_fastalloc_proofs.specs.Safety.{IsOfMachine, MayBeLocatedAt}
 use Rattle.regalloc2_fastalloc_proofs.proofs.Safety.OperandKeepsSafe.{IsAnswer}
-use Rattle.regalloc2_fastalloc_proofs.proofs.Operands.AllocsSoFar.{at_place, IsTame, IsInRegister, Filled, FixedAreKnown, not_both, reads_not_def}
+use Rattle.regalloc2_fastalloc_proofs.proofs.Operands.AllocsSoFar.{at_place, IsTame, Filled, FixedAreKnown, not_both}
 use Rattle.regalloc2_fastalloc_proofs.proofs.Operands.AllocsSoFar.{reads_allocated, asked_fixed, asked_as_fixed, fixed_class}
+use Rattle.regalloc2_fastalloc_proofs.proofs.Safety.OperandPassesKeepSafe.{a_place_of}
 use Rattle.regalloc2_pressure_proofs.specs.EnoughRegs.{waits, waiting, AllWrite, AllMay}
 use Rattle.regalloc2_pressure_proofs.proofs.WaitingOperands.{waits_no_more, waits_as_before, waits_not, waits_elsewhere, waits_placed, waits_here, some_wait}
 use Rattle.regalloc2_pressure_proofs.proofs.FreeRegsCoverWaiting.{Paying, Pays, waited, anywhere, memory, at_one}
@@ -28,11 +30,6 @@ plain_at : (env : MachineValue) (p : Place) → IsPlainRegister env p → (r : R
 plain_at env NoPlace h = absurd h
 plain_at env (InRegister r) h = (r, refl)
 plain_at env (InSlot n) h = absurd h
-
-in_one : (p : Place) → IsInRegister p → (r : Register) × (p ≡ InRegister r)
-in_one NoPlace h = absurd h
-in_one (InRegister r) h = (r, refl)
-in_one (InSlot n) h = absurd h
 
 -- the constraint of an operand that asks for any register, and is no reuse
 asks_reg : (c : OperandConstraint) → ((n : ℕ) → c ≡ Reuse n → ⊥) → ((n : ℕ) → c ≡ Limit n → ⊥) → requirement_of c ≡ AnyReg → is_under_reg c ≡ true
@@ -125,8 +122,8 @@ module _ (env : MachineValue) (Known : VirtualRegister → Type 0) (ops : List O
     use_ready reads = elim (h.waits k lt undone) [
       | inl none ↦ subst (λ x. Ready (use_request (op_at ops k) x).vreg (use_request (op_at ops k) x).requirement here (λ q. set here k q) t old) (sym none)
           (asked_ready (reads_allocated (op_at ops k) reads) (λ n e. not_both (is_def (op_at ops k).kind) (tame.late_reuse k n lt e).0
-          (reads_not_def (op_at ops k) reads)) none)
-      | inr g ↦ (let r = in_one (at_place here k) g.1 in
+          (reads_use (op_at ops k) reads)) none)
+      | inr g ↦ (let r = a_place_of (at_place here k) g.1 in
           subst (λ x. Ready (use_request (op_at ops k) x).vreg (use_request (op_at ops k) x).requirement here (λ q. set here k q) t old) (sym r.1)
           (chosen_ready r.0 reads r.1 (subst (MayBeLocatedAt env old.slots (op_at ops k).vreg) r.1 (g.0.place (reads_allocated (op_at ops k) reads)))))
     ]
@@ -135,8 +132,8 @@ module _ (env : MachineValue) (Known : VirtualRegister → Type 0) (ops : List O
     def_blank : is_def (op_at ops k).kind ≡ true → at_place here k ≡ NoPlace
     def_blank def = elim (h.waits k lt undone) [
       | inl none ↦ none
-      | inr g ↦ (let r = in_one (at_place here k) g.1 in let m = p.named k r.0 lt undone r.1 in
-          absurd (not_both (is_def (op_at ops k).kind) def (reads_not_def (op_at ops k) (tame.named m.0 k m.1 m.3).2)))
+      | inr g ↦ (let r = a_place_of (at_place here k) g.1 in let m = p.named k r.0 lt undone r.1 in
+          absurd (not_both (is_def (op_at ops k).kind) def (reads_use (op_at ops k) (tame.named m.0 k m.1 m.3).2)))
     ]
 
     -- a definition that is no reuse brings what it has to before it gets a place
@@ -149,7 +146,7 @@ module _ (env : MachineValue) (Known : VirtualRegister → Type 0) (ops : List O
       named_blank : at_place here n ≡ NoPlace
       named_blank = elim (h.waits n (tame.named k n lt reuses).0 not_n) [
         | inl none ↦ none
-        | inr g ↦ (let r = in_one (at_place here n) g.1 in let m = p.named n r.0 (tame.named k n lt reuses).0 not_n r.1 in
+        | inr g ↦ (let r = a_place_of (at_place here n) g.1 in let m = p.named n r.0 (tame.named k n lt reuses).0 not_n r.1 in
             absurd (undone (subst D (tame.apart m.0 k n m.1 lt m.3 reuses) m.2)))
       ]
 

@@ -16,7 +16,7 @@ use Rattle.regalloc2_semantics.specs.OperandsPlaced.{Once, Counts, what_of}
 use Rattle.regalloc2_semantics.proofs.Soundness.{total, total-two, count_at, in_blocks, in_insts, at_most_one}
 
 -- within a list the default doesn't matter
-default_free : {X : Type 0} (xs : List X) (i : ℕ) (d e : X) → i < length xs → slice_index_or xs i d ≡ slice_index_or xs i e
+pub default_free : {X : Type 0} (xs : List X) (i : ℕ) (d e : X) → i < length xs → slice_index_or xs i d ≡ slice_index_or xs i e
 default_free [] i d e lt = absurd (omega arith)
 default_free (x ∷ xs) zero d e lt = refl
 default_free (x ∷ xs) (suc i) d e lt = default_free xs i d e (omega arith)

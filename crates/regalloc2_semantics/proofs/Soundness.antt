@@ -206,11 +206,11 @@ entered_once f agree b k edge lt ways =
     }
 
 -- an element that is counted is there
-rest_counts : (c : Bool) (n m : ℕ) → c ≡ false → m ≡ cond c 1 0 + n → 1 ≤ m → 1 ≤ n
+pub rest_counts : (c : Bool) (n m : ℕ) → c ≡ false → m ≡ cond c 1 0 + n → 1 ≤ m → 1 ≤ n
 rest_counts true n m h e g = absurd cc
 rest_counts false n m h e g = omega arith
 
-find : (n : ℕ) (xs : List ℕ) → 1 ≤ times_in n xs → (k : ℕ) × (k < length xs) × (slice_index_or xs k 0 ≡ n)
+pub find : (n : ℕ) (xs : List ℕ) → 1 ≤ times_in n xs → (k : ℕ) × (k < length xs) × (slice_index_or xs k 0 ≡ n)
 find n [] h = absurd (omega arith)
 find n (x ∷ xs) h = elim (cases_eq x n) [
   | inl e ↦ (0, omega arith, e)

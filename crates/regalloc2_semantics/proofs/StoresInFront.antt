@@ -12,7 +12,7 @@ use Rattle.regalloc2_semantics.proofs.Cells.{stored-same, stored-other}
 use Rattle.regalloc2_semantics.proofs.CarryRules.{carries_moves}
 
 -- moves, and then others
-after_both : (ms ns : List MoveValue) (c : Cells) → after_moves (ms ++ ns) c ≡ after_moves ns (after_moves ms c)
+pub after_both : (ms ns : List MoveValue) (c : Cells) → after_moves (ms ++ ns) c ≡ after_moves ns (after_moves ms c)
 unfolding after_moves
 after_both [] ns c = refl
 after_both (m ∷ ms) ns c = after_both ms ns (stored c m.to (c m.from))

@@ -3,7 +3,7 @@ use Rattle.std.proofs.Common.{ℕ, ◌≡◌, ◌≢◌, ◌+◌, ◌<◌, ◌�
 use Rattle.std.proofs.Common.{ap, ◌∙◌, subst}
 use Rattle.std.specs.Prelude.{None, Contains, IsSome, slice_index_or, not, if◌then◌else◌}
 use Rattle.std.specs.List.{IsDistinct}
-use Rattle.std.proofs.lemmas.Bool.{and_parts, cases_Bool}
+use Rattle.std.proofs.lemmas.Bool.{and_parts, cases_Bool, cases_eq}
 use Rattle.std.proofs.lemmas.List.Elements.{Contains-append_right}
 use Rattle.regalloc2_names.specs.declared.RegClass.{RegClass}
 use Rattle.regalloc2_names.specs.declared.OperandConstraint.{OperandConstraint}
@@ -25,7 +25,6 @@ use Rattle.regalloc2_semantics.proofs.SingleDef.{DefinesAt, MadeBefore, by_earli
 use Rattle.regalloc2_semantics.proofs.Soundness.{well_formed_are_sound}
 use Rattle.regalloc2_branch_defs.specs.BranchDefs.{IsEdgeInto, fixed_definition}
 use Rattle.regalloc2_branch_defs.proofs.BlockEnds.{last_within}
-use Rattle.regalloc2_fastalloc_state.proofs.VRegInPRegInverse.{same_number}
 use Rattle.regalloc2_fastalloc_state.specs.declared.inst_regs.InstRegs.{InstRegs}
 use Rattle.regalloc2_fastalloc_state.specs.ScratchPool.{Moves}
 use Rattle.regalloc2_fastalloc_state.specs.StateParts.{IsLruOf, SpillSlotsValue, slot_name, alloc_of}
@@ -40,9 +39,9 @@ use Rattle.regalloc2_fastalloc_proofs.specs.BlockStart.{ReloadsParams, none_begu
 use Rattle.regalloc2_fastalloc_proofs.specs.InstSteps.{IsFresh, PreparesRegs}
 use Rattle.regalloc2_fastalloc_proofs.specs.StoreSteps.{IsStoredFor, branch_operands, given as given_param, its_own}
 use Rattle.regalloc2_unspilled_proofs.proofs.OperandsSpillFree.{operands_placed, unsent_same}
-use Rattle.regalloc2_unspilled_proofs.proofs.OperandTakesFreeReg.{cases_place}
 use Rattle.regalloc2_unspilled_proofs.specs.SpillFree.{ArePlaced, ArePlain, FitInRegs, HasRegOperandsOnly, IsDefinedIn, IsSpillFree, IsSpillFreeFrom}
 use Rattle.regalloc2_fastalloc_proofs.proofs.Safety.StepsKeepState.{IsWhole}
+use Rattle.regalloc2_fastalloc_proofs.proofs.Slots.StepsKeepSlots.{cases_none}
 use Rattle.regalloc2_unspilled_proofs.specs.SpillFree.{IsSpillFreeIn, LeavesSpillFree, is_same_number}
 
 -- the registers that weren't used are available at another instruction
@@ -297,7 +296,7 @@ from_next f names i t u lt h l = record {
     | inl x ↦ (let y = h.only n x in (y.0, omega (arith, y.1), y.2, y.3))
     | inr x ↦ (i, omega arith, lt, x)
   ];
-  goes = λ j n past inside x. elim (same_number j i) [
+  goes = λ j n past inside x. elim (cases_eq j i) [
     | inl e ↦ l.goes n (subst (λ (y : ℕ). IsDefinedIn (inst_at f y).operands n) e x)
     | inr ne ↦ l.stays n (h.goes j n (omega (arith, past, ne)) inside x)
   ];
@@ -308,7 +307,7 @@ from_next f names i t u lt h l = record {
 -- at the first instruction no vreg has a location: each vreg was defined
 pub nobody_left : (f : FunctionValue) (env : MachineValue) (names : List VirtualRegister) (t : StateValue) → IsWellFormed env f →
     HasRegOperandsOnly names f → IsSpillFreeFrom names f 0 t → (n : ℕ) → alloc_of t.places n ≡ NoPlace
-nobody_left f env names t well asks h n = elim (cases_place (alloc_of t.places n)) [
+nobody_left f env names t well asks h n = elim (cases_none (alloc_of t.places n)) [
   | inl e ↦ e
   | inr ne ↦ absurd (ne (stands_not ne))
 ]

@@ -1,4 +1,5 @@
 -- An operand under `Reg` takes a register in which no other vreg is located, as long as registers suffice for all vregs.
+use Rattle.regalloc2_semantics.proofs.Forms.{same_register}
 use Rattle.std.proofs.Common.{ℕ, zero, suc, ◌≡◌, ◌≢◌, ◌+◌, ◌<◌, ◌≤◌, ◌⊎◌, inl, inr, Bool, true, false, List, ◌∷◌, ◌++◌, length, refl, arith, sym}
 use Rattle.std.proofs.Common.{ap, ◌∙◌, subst, length-append, eqb-true}
 use Rattle.std.specs.Prelude.{Some, All, Contains, slice_index_or, not, ◌&&◌}
@@ -11,7 +12,7 @@ use Rattle.regalloc2_names.specs.declared.RegClass.TheVariants.{Int, Float, Vect
 use Rattle.regalloc2_names.specs.declared.sets.PRegSet.{PRegSet}
 use Rattle.regalloc2_names.specs.Register.{Register, VirtualRegister, is_register}
 use Rattle.regalloc2_names.specs.RegisterSet.{has_register}
-use Rattle.regalloc2_names.specs.Place.{Place, NoPlace, InRegister, InSlot}
+use Rattle.regalloc2_names.specs.Place.{Place, NoPlace, InRegister}
 use Rattle.regalloc2_names.specs.Same.{is_register-true}
 use Rattle.regalloc2_function.specs.Fitting.{count_below, register_number}
 use Rattle.regalloc2_fastalloc_state.specs.declared.request.OperandRequest.{OperandRequest}
@@ -29,6 +30,7 @@ use Rattle.regalloc2_fastalloc_proofs.specs.InstSteps.{own, others, empty, clear
 use Rattle.regalloc2_unspilled_proofs.proofs.FreeAtAny.{free_at_any}
 use Rattle.regalloc2_unspilled_proofs.proofs.LruUnusedLast.{but, but_from, but_less, but_most, but_not, counted, found_last, newest_first, same_members}
 use Rattle.regalloc2_fastalloc_proofs.proofs.Safety.StepsKeepState.{whole_tidy}
+use Rattle.regalloc2_fastalloc_proofs.proofs.Slots.StepsKeepSlots.{cases_none}
 use Rattle.regalloc2_unspilled_proofs.specs.SpillFree.{FitInRegs, IsSpillFree, IsSpillFreeIn, is_same_number}
 
 -- two register classes are the same, or they aren't
@@ -42,16 +44,6 @@ cases_class Float Vector = inr (λ e. cc)
 cases_class Vector Int = inr (λ e. cc)
 cases_class Vector Float = inr (λ e. cc)
 cases_class Vector Vector = inl refl
-
--- a place is none, or is there
-pub cases_place : (p : Place) → (p ≡ NoPlace) ⊎ (p ≢ NoPlace)
-cases_place NoPlace = inl refl
-cases_place (InRegister r) = inr (λ e. cc)
-cases_place (InSlot n) = inr (λ e. cc)
-
--- registers that are equal as places are equal
-pub in_register_same : (r q : Register) → InRegister r ≡ InRegister q → r ≡ q
-in_register_same r q e = cc
 
 -- vregs that are equal as options are equal
 pub some_same : (v w : VirtualRegister) → Some v ≡ Some w → v ≡ w
@@ -186,7 +178,7 @@ pub occupied : (point : ℕ) (o : OperandRequest) (r : Register) (t u : InstRegs
     × RemovesAvailable t u r o.positions
 occupied point o r t u old new only (in_slot k is sets same) = absurd cc
 occupied point o r t u old new only (in_register q m is clears holds) =
-    let e : r ≡ q = in_register_same r q is in
+    let e : r ≡ q = same_register r q is in
     let c : (new ≡ old) × (m ≡ t) = by_clears q (λ w h. only w (ap (vreg_of_preg old.places) e ∙ h)) clears in
     (c.0, subst (λ (x : InstRegs). RemovesAvailable x u r o.positions) c.1 (subst (λ (x : Register). RemovesAvailable m u x o.positions) (sym e) holds))
   where
@@ -342,7 +334,7 @@ suits_so t p r e apart = (r, e, ap (is_stack_in t) e ∙ apart)
 -- a register that may be allocated and that an operand asked for as any is used
 used_it : (r : Register) (w : Requirement) (p : Place) (old new : StateValue) → w ≡ AnyReg → p ≡ InRegister r → has_register old.allocatable r ≡ true →
     UsesPlace w p old new → UsesReg r old new
-used_it r w p old new any is has (used q wants at there uses) = subst (λ (x : Register). UsesReg x old new) (in_register_same q r (sym at ∙ is)) uses
+used_it r w p old new any is has (used q wants at there uses) = subst (λ (x : Register). UsesReg x old new) (same_register q r (sym at ∙ is)) uses
 used_it r w p old new any is has (not_used none same) = absurd (let wrong : true ≡ false = sym has ∙ none r (inr any) is in cc)
 
 -- An operand that asks for any register gets one so.
@@ -373,7 +365,7 @@ operand_got {names} {gone} {point} {o} {p} {t} {u} {old} {new} any h few named t
         let r : Register = reg.0 in
         let is : p ≡ InRegister r = reg.1 in
         let current = h.stand o.vreg.number (λ e. (let wrong : InRegister r ≡ NoPlace = sym is ∙ sym at ∙ e in cc)) in
-        let one : r ≡ current.0 = in_register_same r current.0 (sym is ∙ sym at ∙ current.1) in
+        let one : r ≡ current.0 = same_register r current.0 (sym is ∙ sym at ∙ current.1) in
         let allocatable : has_register old.allocatable r ≡ true = ap (has_register old.allocatable) one ∙ current.2 in
         let whole = h.whole.stands_in o.vreg.number r (at ∙ is) in
         onward r is allocatable (claimed r is (λ w holds. ap (λ (v : VirtualRegister). v.number) (some_same w whole.1.0 (sym holds ∙ whole.1.2)) ∙ whole.1.1))
@@ -392,7 +384,7 @@ operand_got {names} {gone} {point} {o} {p} {t} {u} {old} {new} any h few named t
         (comes_there names gone o r p t u old new h is nowhere few named there unused)
       where
         nobody : (MeetsRequirement old AnyReg (alloc_of old.places o.vreg.number) → ⊥) → alloc_of old.places o.vreg.number ≡ NoPlace
-        nobody unsuited = elim (cases_place (alloc_of old.places o.vreg.number)) [
+        nobody unsuited = elim (cases_none (alloc_of old.places o.vreg.number)) [
           | inl e ↦ e
           | inr e ↦ (let current = h.stand o.vreg.number e in
               absurd (unsuited (suits_so old (alloc_of old.places o.vreg.number) current.0 current.1 (h.apart.allocatable current.0 current.2))))

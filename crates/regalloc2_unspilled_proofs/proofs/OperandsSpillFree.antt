@@ -1,19 +1,20 @@
 -- Operands of an instruction under `Reg`, one after another, as long as registers suffice for all vregs.
+use Rattle.regalloc2_semantics.proofs.Operands.{reads_use}
+use Rattle.regalloc2_semantics.proofs.Forms.{same_register}
 use Rattle.std.proofs.Common.{ℕ, ◌≡◌, ◌≢◌, ◌+◌, ◌<◌, ◌≤◌, ◌⊎◌, inl, inr, Bool, true, false, List, length, refl, arith, sym, ap, ◌∙◌}
 use Rattle.std.proofs.Common.{subst, eqb-true, eq-eqb, get_or-set_same}
 use Rattle.std.specs.Prelude.{None, Contains, nat_eq, slice_index_or, slice_set, ◌&&◌, ◌||◌, not}
-use Rattle.std.proofs.lemmas.Bool.{cases_Bool}
+use Rattle.std.proofs.lemmas.Bool.{cases_Bool, cases_eq, or_right}
 use Rattle.std.proofs.lemmas.List.{get_or-set_other, length-set}
 use Rattle.regalloc2_names.specs.declared.RegClass.{RegClass}
 use Rattle.regalloc2_names.specs.declared.OperandConstraint.TheVariants.{Reg, FixedReg, Reuse}
 use Rattle.regalloc2_names.specs.declared.sets.PRegSet.{PRegSet}
 use Rattle.regalloc2_names.specs.Register.{Register, VirtualRegister, class_code}
 use Rattle.regalloc2_names.specs.RegisterSet.{has_register}
-use Rattle.regalloc2_names.specs.Operand.{OperandValue, is_def, is_fixed_nonallocatable, is_late, is_reading}
+use Rattle.regalloc2_names.specs.Operand.{OperandValue, is_def, is_late, is_reading}
 use Rattle.regalloc2_names.specs.Place.{Place, NoPlace, InRegister, is_place}
 use Rattle.regalloc2_names.specs.Point.{after as after_point}
 use Rattle.regalloc2_names.specs.Same.{is_place-same}
-use Rattle.regalloc2_fastalloc_state.proofs.VRegInPRegInverse.{same_number}
 use Rattle.regalloc2_fastalloc_state.specs.declared.request.OperandRequest.{OperandRequest}
 use Rattle.regalloc2_fastalloc_state.specs.declared.request.Requirement.TheVariants.{AnyReg}
 use Rattle.regalloc2_fastalloc_state.specs.declared.inst_regs.InstRegs.{InstRegs}
@@ -22,7 +23,7 @@ use Rattle.regalloc2_validate.specs.Constraints.{op_at}
 use Rattle.regalloc2_fastalloc_proofs.specs.InstSteps.{StateValue, FreesDef, AllocsDefOp, ProcessesOperand, AllocsUse, AddsMoveIf, SameMachine}
 use Rattle.regalloc2_fastalloc_proofs.specs.InstSteps.{LocatesUse, a_register, a_use, a_def, a_reuse, requirement_of, def_request, is_another, sent}
 use Rattle.regalloc2_fastalloc_proofs.specs.InstSteps.{unsent, stays, located, use_request}
-use Rattle.regalloc2_unspilled_proofs.proofs.OperandTakesFreeReg.{Got, Taken, in_register_same, operand_got}
+use Rattle.regalloc2_unspilled_proofs.proofs.OperandTakesFreeReg.{Got, Taken, operand_got}
 use Rattle.regalloc2_unspilled_proofs.specs.SpillFree.{FitInRegs, ArePlaced, ArePlain, IsSpillFree, IsSpillFreeIn}
 use Rattle.regalloc2_fastalloc_state.specs.StateParts.{SetsAlloc}
 use Rattle.regalloc2_fastalloc_proofs.proofs.Evictions.PushedAndRemoved.{same_then}
@@ -51,7 +52,7 @@ class_settled names gone gone_now n r class ring t u inst_regs h others own grow
 }
   where
     known : (v : VirtualRegister) → Contains h.met v → (alloc_of u.places v.number ≢ NoPlace) ⊎ (gone_now v.number ≡ true)
-    known v c = elim (same_number v.number n) [
+    known v c = elim (cases_eq v.number n) [
       | inl e ↦ elim own [
         | inl at ↦ inl (λ none. (let wrong : InRegister r ≡ NoPlace = sym at ∙ ap (alloc_of u.places) (sym e) ∙ none in cc))
         | inr at ↦ inr (ap gone_now e ∙ at.1)
@@ -63,9 +64,9 @@ class_settled names gone gone_now n r class ring t u inst_regs h others own grow
     ]
 
     empty : (m : ℕ) (q : Register) → alloc_of u.places m ≡ InRegister q → Contains h.unused q → ⊥
-    empty m q at c = elim (same_number m n) [
+    empty m q at c = elim (cases_eq m n) [
       | inl e ↦ elim own [
-        | inl there ↦ h.apart (subst (Contains h.unused) (in_register_same q r (sym at ∙ ap (alloc_of u.places) e ∙ there)) c)
+        | inl there ↦ h.apart (subst (Contains h.unused) (same_register q r (sym at ∙ ap (alloc_of u.places) e ∙ there)) c)
         | inr nowhere ↦ (let wrong : InRegister q ≡ NoPlace = sym at ∙ ap (alloc_of u.places) e ∙ nowhere.0 in cc)
       ]
       | inr ne ↦ h.empty m q (sym (others m ne) ∙ at) c
@@ -104,7 +105,7 @@ settled names gone gone_now o p inst_regs after_turn old left new h named got wh
     own_register = elim own [ inl a ↦ inl (a ∙ got.is) | inr b ↦ inr b ]
 
     stand : (m : ℕ) → alloc_of new.places m ≢ NoPlace → (r : Register) × (alloc_of new.places m ≡ InRegister r) × (has_register new.allocatable r ≡ true)
-    stand m there = elim (same_number m o.vreg.number) [
+    stand m there = elim (cases_eq m o.vreg.number) [
       | inl e ↦ elim own_register [
         | inl at ↦ (got.register, ap (alloc_of new.places) e ∙ at, ap (λ (s : PRegSet). has_register s got.register) machine.allocatable ∙ got.allocatable)
         | inr at ↦ absurd (there (ap (alloc_of new.places) e ∙ at.0))
@@ -114,7 +115,7 @@ settled names gone gone_now o p inst_regs after_turn old left new h named got wh
     ]
 
     named_there : (m : ℕ) → alloc_of new.places m ≢ NoPlace → (v : VirtualRegister) × Contains names v × (v.number ≡ m)
-    named_there m there = elim (same_number m o.vreg.number) [
+    named_there m there = elim (cases_eq m o.vreg.number) [
       | inl e ↦ (o.vreg, named, sym e)
       | inr ne ↦ h.named m (λ none. there (others m ne ∙ none))
     ]
@@ -151,7 +152,7 @@ use_placed names gone point o p t u old new any h few named there places = by pl
     whole_there = subst IsWhole (sym got.same) (whole_used old taken.lrus h.whole)
 
     still_nowhere : (m : ℕ) → gone m ≡ true → ((a : ℕ) → a ≢ o.vreg.number → alloc_of new.places a ≡ alloc_of old.places a) → alloc_of new.places m ≡ NoPlace
-    still_nowhere m g others = elim (same_number m o.vreg.number) [
+    still_nowhere m g others = elim (cases_eq m o.vreg.number) [
       | inl e ↦ absurd (let wrong : true ≡ false = sym g ∙ ap gone e ∙ there in cc)
       | inr ne ↦ others m ne ∙ h.nowhere m g
     ]
@@ -226,11 +227,7 @@ gone_here n gone = rw (eq-eqb n n refl) refl
 
 gone_grows : (n : ℕ) (gone : ℕ → Bool) (m : ℕ) → gone m ≡ true → and_gone n gone m ≡ true
 unfolding and_gone
-gone_grows n gone m e = by (nat_eq n m) (gone m) e
-  where
-    by : (a b : Bool) → b ≡ true → (a || b) ≡ true
-    by true b e = refl
-    by false b e = e
+gone_grows n gone m e = or_right (nat_eq n m) (gone m) e
 
 gone_from : (n : ℕ) (gone : ℕ → Bool) (m : ℕ) → and_gone n gone m ≡ true → (gone m ≡ true) ⊎ (n ≡ m)
 unfolding and_gone
@@ -287,18 +284,10 @@ def_placed names gone point o is_ret p t u old new any h few named there places 
     others m ne = d.settles.others m ne ∙ same_at m
 
     still_nowhere : (m : ℕ) → and_gone o.vreg.number gone m ≡ true → alloc_of d.left.places m ≡ NoPlace
-    still_nowhere m g = elim (same_number m o.vreg.number) [
+    still_nowhere m g = elim (cases_eq m o.vreg.number) [
       | inl e ↦ ap (alloc_of d.left.places) e ∙ d.settles.here
       | inr ne ↦ others m ne ∙ elim (gone_from o.vreg.number gone m g) [ inl x ↦ h.nowhere m x | inr x ↦ absurd (ne (sym x)) ]
     ]
-
--- a use isn't a definition
-reads_only : (o : OperandValue) → is_reading o ≡ true → is_def o.kind ≡ false
-reads_only o e = by (is_def o.kind) (not (is_fixed_nonallocatable o)) e
-  where
-    by : (a b : Bool) → (not a && b) ≡ true → a ≡ false
-    by true b e = absurd cc
-    by false b e = refl
 
 -- the operand k is placed, after those before it
 more_placed : (names : List VirtualRegister) (gone : ℕ → Bool) (operands : List OperandValue) (k : ℕ) (late d : Bool) (here there next : List Place) (p : Place)
@@ -318,7 +307,7 @@ more_placed names gone operands k late d here there next p old m n u w plain lt 
         | inr g ↦ inr (k, omega arith, at, kind ∙ g.0, g.1)
       ];
       stays = λ a e. to_gone a (h.stays a e);
-      goes = λ a x. elim (same_number x.0 k) [
+      goes = λ a x. elim (cases_eq x.0 k) [
         | inl e ↦ subst (λ (y : ℕ). gone_now y ≡ true) (ap (λ (j : ℕ). (op_at operands j).vreg.number) (sym e) ∙ x.4)
             (def_gone (sym kind ∙ ap (λ (j : ℕ). is_def (op_at operands j).kind) (sym e) ∙ x.3))
         | inr ne ↦ to_gone a (h.goes a (x.0, omega (arith, x.1, ne), x.2, x.3, x.4))
@@ -328,7 +317,7 @@ more_placed names gone operands k late d here there next p old m n u w plain lt 
           slot_other j ne ∙ h.others j (λ e. (let more = past e in omega (arith, more))));
       stand = λ a there_before not_defined. (let same : alloc_of m.places a ≡ alloc_of old.places a = h.stand a there_before
           (λ x. not_defined (x.0, omega (arith, x.1), x.2, x.3, x.4)) in
-          elim (same_number a (op_at operands k).vreg.number) [
+          elim (cases_eq a (op_at operands k).vreg.number) [
             | inl e ↦ elim (cases_Bool d) [
               | inl defines ↦ absurd (not_defined (k, omega arith, at, kind ∙ defines, sym e))
               | inr use_it ↦ subst (λ (y : ℕ). alloc_of m.places y ≡ alloc_of old.places y → alloc_of m.places y ≢ NoPlace →
@@ -336,10 +325,10 @@ more_placed names gone operands k late d here there next p old m n u w plain lt 
             ]
             | inr ne ↦ placed.others a ne ∙ same
           ]);
-      uses = λ j less position reading. elim (same_number j k) [
+      uses = λ j less position reading. elim (cases_eq j k) [
         | inl e ↦ subst (λ (y : ℕ). is_reading (op_at operands y) ≡ true → (slice_index_or next y NoPlace ≢ NoPlace)
             × (alloc_of n.places (op_at operands y).vreg.number ≡ slice_index_or next y NoPlace)) (sym e)
-            (λ r. (λ none. placed.there (sym slot_here ∙ none), placed.own (sym kind ∙ reads_only (op_at operands k) r) ∙ sym slot_here)) reading
+            (λ r. (λ none. placed.there (sym slot_here ∙ none), placed.own (sym kind ∙ reads_use (op_at operands k) r) ∙ sym slot_here)) reading
         | inr ne ↦ (let was = h.uses j (omega (arith, less, ne)) position reading in let same = slot_other j ne in
             (λ none. was.0 (sym same ∙ none), still j (omega (arith, less, ne, lt)) ne reading (λ none. was.0 (sym was.1 ∙ none)) ∙ was.1 ∙ sym same))
       ];
@@ -360,7 +349,7 @@ more_placed names gone operands k late d here there next p old m n u w plain lt 
     -- an earlier use still is where it was
     still : (j : ℕ) → j < length operands → j ≢ k → is_reading (op_at operands j) ≡ true → alloc_of m.places (op_at operands j).vreg.number ≢ NoPlace →
         alloc_of n.places (op_at operands j).vreg.number ≡ alloc_of m.places (op_at operands j).vreg.number
-    still j inside ne reading somewhere = elim (same_number (op_at operands j).vreg.number (op_at operands k).vreg.number) [
+    still j inside ne reading somewhere = elim (cases_eq (op_at operands j).vreg.number (op_at operands k).vreg.number) [
       | inl e ↦ elim (cases_Bool d) [
         | inl defines ↦ absurd (ne (sym (plain.apart k j lt inside (kind ∙ defines) (sym e))))
         | inr use_it ↦ subst (λ (y : ℕ). alloc_of m.places y ≢ NoPlace → alloc_of n.places y ≡ alloc_of m.places y) (sym e) (placed.stays use_it) somewhere
@@ -401,7 +390,7 @@ one_placed_more {names} {gone} {i} {is_ret} {operands} {k} {late} {here} {there}
         let o : OperandRequest = use_request (op_at operands k) NoPlace in
         let done : AllocsUse (after_point i) o p u w m n = subst (λ (q : Place). AllocsUse (after_point i) (use_request (op_at operands k) q) p u w m n)
         no_place places in
-        more_placed names gone operands k late false here there next p old m n u w plain lt here_long at (reads_only (op_at operands k) reading) h
+        more_placed names gone operands k late false here there next p old m n u w plain lt here_long at (reads_use (op_at operands k) reading) h
         set_to h.gone_now (λ a g. inl g) (λ a g. g) (λ e. absurd cc)
         (use_placed names h.gone_now (after_point i) o p u w m n (ap requirement_of reg) h.spill_free few_now (plain.named k lt) there_now done)
     by (a_def p defines not_reuse places set_to) =
@@ -431,7 +420,7 @@ other_left names gone operands k late here there old m u not_at h = record {
 }
   where
     before_it : (j : ℕ) → j < k + 1 → is_late (op_at operands j).position ≡ late → j < k
-    before_it j less position = elim (same_number j k) [
+    before_it j less position = elim (cases_eq j k) [
       | inl e ↦ absurd (not_at (subst (λ (y : ℕ). is_late (op_at operands y).position ≡ late) e position))
       | inr ne ↦ omega (arith, less, ne)
     ]

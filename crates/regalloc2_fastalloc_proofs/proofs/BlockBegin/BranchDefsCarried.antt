@@ -21,6 +21,7 @@ use Rattle.regalloc2_semantics.proofs.SingleDef.{DefinesAt, Made, one_made, one_
 use Rattle.regalloc2_semantics.proofs.SingleDef.Made.{by_operand}
 use Rattle.regalloc2_semantics.proofs.StoresInFront.{carries_stores, in_order}
 use Rattle.regalloc2_branch_defs.specs.BranchDefs.{DefinesNumber, IsEdgeInto, IsUsedElsewhere, fixed_definition}
+use Rattle.regalloc2_branch_defs.proofs.EdgeNotes.{fixed_defines}
 use Rattle.regalloc2_fastalloc_state.specs.StateParts.{slot_name}
 use Rattle.regalloc2_fastalloc_proofs.specs.InstSteps.{StateValue}
 use Rattle.regalloc2_fastalloc_proofs.specs.BlockStart.{no_vreg}
@@ -32,7 +33,7 @@ use Rattle.regalloc2_fastalloc_proofs.proofs.Operands.RecordOverState.{opt_some,
 use Rattle.regalloc2_fastalloc_proofs.proofs.Operands.DefinedNumbers.{defined_by, defined_by-number, number_defined}
 use Rattle.regalloc2_fastalloc_proofs.proofs.BlockEnd.DefsInSlots.{IsAnyOrStack}
 use Rattle.regalloc2_fastalloc_proofs.proofs.BlockBegin.StoresOfDefs.{walked_stores}
-use Rattle.regalloc2_fastalloc_proofs.proofs.Safety.StoresKeepSafe.{order_each, fixed_defines, stored_concerned}
+use Rattle.regalloc2_fastalloc_proofs.proofs.Safety.StoresKeepSafe.{order_each, stored_concerned}
 use Rattle.regalloc2_fastalloc_proofs.proofs.Branches.Arrivals.{left_at, IsNeeded, Arrive, DefsPlaced}
 
 -- a parameter of that name, or none

@@ -1,6 +1,7 @@
 -- A block's beginning, for one vreg: its listing carries it from the slot that it has at the end of the whole walk, unless the block writes it.
 use Rattle.std.proofs.Common.{ℕ, suc, ◌≡◌, ◌⊎◌, inl, inr, Bool, true, false, List, [], ◌∷◌, ◌++◌, nat_eq, refl, sym, ap, ◌∙◌, subst, eq-eqb}
 use Rattle.std.specs.Prelude.{Option, None, Some, ◌&&◌, is_some}
+use Rattle.std.proofs.lemmas.Bool.{and_right, and_from, and_parts}
 use Rattle.regalloc2_names.specs.Register.{Register, VirtualRegister}
 use Rattle.regalloc2_names.specs.Place.{Place, NoPlace, InRegister, InSlot, is_place}
 use Rattle.regalloc2_names.specs.Point.{before}
@@ -45,16 +46,6 @@ pub is_there-none : (x : Option Place) (p : Place) → (x ≡ Some p → ⊥) �
 is_there-none None p h = refl
 is_there-none (Some q) p h = is_place-other q p (λ e. h (ap Some e))
 
--- the second part of a true conjunction is true
-pub second_true : (a b : Bool) → (a && b) ≡ true → b ≡ true
-second_true true b h = h
-second_true false b h = absurd cc
-
--- a conjunction whose second part is false is false
-pub second_false : (a b : Bool) → b ≡ false → (a && b) ≡ false
-second_false true b h = h
-second_false false b h = refl
-
 module _ (insts : ℕ → InstValue) (placesf : ℕ → List Place) (i n : ℕ) (v : VirtualRegister) (E : Place → Type 0) where
   -- the listing from the block's first instruction on
   abbrev pub from_first : StateValue → List Item
@@ -90,11 +81,11 @@ module _ (insts : ℕ → InstValue) (placesf : ℕ → List Place) (i n : ℕ) 
         (λ p h. elim h [
           | located l at ↦ stays p (by_place p (b.settled v.number) at)
           | in_slot o at ↦ stays p at
-          | made x ↦ is_there-true F p (second_true (nat_eq v.number v.number) (is_there F p) x)
+          | made x ↦ is_there-true F p ((and_parts (nat_eq v.number v.number) (is_there F p) x).1)
         ])
         (λ p h. h)
         (begins_carried (λ w. w ≡ v) insts placesf i n (λ w. E) (λ x. false) X params old new
-        (λ r x. second_false (nat_eq x v.number) (is_there F (InRegister r)) (is_there-none F (InRegister r) (slot r))) (λ x e. absurd cc) begins between
+        (λ r x. and_right (nat_eq x v.number) (is_there F (InRegister r)) (is_there-none F (InRegister r) (slot r))) (λ x e. absurd cc) begins between
         (λ w same. subst (λ (u : VirtualRegister). Carries u (from_first old) (Need (lives_in old) (λ x. false) X (stands_at old) (slots_at old) u.number) E)
         (sym same)
         (carries_weaken v (from_first old) (Relied false false (stands_at old v.number) (slots_at old v.number) F)
@@ -102,7 +93,7 @@ module _ (insts : ℕ → InstValue) (placesf : ℕ → List Place) (i n : ℕ) 
         (λ p h. elim h.1 [
           | inl at ↦ located (ap is_some at) at
           | inr (inl at) ↦ in_slot refl at
-          | inr (inr at) ↦ made (both_true (eq-eqb v.number v.number refl) (is_there-same F p at.1))
+          | inr (inr at) ↦ made (and_from (eq-eqb v.number v.number refl) (is_there-same F p at.1))
         ])
         (λ p h. h) c)) v refl)
       where
@@ -110,9 +101,6 @@ module _ (insts : ℕ → InstValue) (placesf : ℕ → List Place) (i n : ℕ) 
             stands_at new v.number ≡ Some p → slots_at new v.number ≡ Some p
         by_place p (inl none) at = (let x : None ≡ Some p = ap opt (sym none) ∙ at in absurd cc)
         by_place p (inr k) at = ap opt k.2 ∙ ap opt (sym k.1) ∙ at
-
-        both_true : {a c : Bool} → a ≡ true → c ≡ true → (a && c) ≡ true
-        both_true x y = rw (x, y) refl
 
     -- with a block's beginning in front, its listing carries v from its final slot, or from nowhere if the block writes it
     pub entered_carried : Carries v (from_first old) (Relied block block (stands_at old v.number) (slots_at old v.number) F) E →

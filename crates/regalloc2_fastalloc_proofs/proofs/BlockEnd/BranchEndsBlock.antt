@@ -16,8 +16,8 @@ use Rattle.regalloc2_semantics.proofs.BlockBackward.{Relied}
 use Rattle.regalloc2_fastalloc_proofs.specs.InstSteps.{StateValue, AllocsInst, ends_block}
 use Rattle.regalloc2_fastalloc_state.specs.declared.inst_regs.InstRegs.{InstRegs}
 use Rattle.regalloc2_fastalloc_state.specs.StateParts.{slot_name, units_of}
-use Rattle.regalloc2_fastalloc_proofs.proofs.Safety.StepsKeepState.{slot_in, IsWhole}
-use Rattle.regalloc2_fastalloc_proofs.proofs.Operands.RecordOverState.{opt_from, opt_real, opt_none, stands_at, slots_at, no_register_slot, slot_below}
+use Rattle.regalloc2_fastalloc_proofs.proofs.Safety.StepsKeepState.{slot_in, IsWhole, slot_no_register}
+use Rattle.regalloc2_fastalloc_proofs.proofs.Operands.RecordOverState.{opt_from, opt_real, opt_none, stands_at, slots_at, slot_below}
 use Rattle.regalloc2_fastalloc_proofs.proofs.Operands.RecordOverState.{grown_slots}
 use Rattle.regalloc2_fastalloc_proofs.proofs.Slots.StepsKeepSlots.{Grown, IsAt, allocates_grown}
 use Rattle.regalloc2_fastalloc_proofs.proofs.Operands.DefinedNumbers.{defined_by, defined_by-at}
@@ -37,7 +37,7 @@ pub record ToCome (F : ℕ → Option Place) (t : StateValue) : Type 0 where
 -- a slot is one below the count
 pub slot_there : (t : StateValue) → IsWhole t → (x : ℕ) (p : Place) → slots_at t x ≡ Some p → (n : ℕ) × (p ≡ InSlot n) × (n < t.slots.count)
 slot_there t w x NoPlace at = absurd (opt_real (slot_in t x) NoPlace at refl)
-slot_there t w x (InRegister r) at = absurd (no_register_slot t.slots.count (slot_in t x) r (w.below x) (opt_from (slot_in t x) (InRegister r) at))
+slot_there t w x (InRegister r) at = absurd (slot_no_register t.slots.count (slot_in t x) r (w.below x) (opt_from (slot_in t x) (InRegister r) at))
 slot_there t w x (InSlot n) at = (n, refl, slot_below t.slots.count (slot_in t x) n (w.below x) (opt_from (slot_in t x) (InSlot n) at))
 
 -- a place or none

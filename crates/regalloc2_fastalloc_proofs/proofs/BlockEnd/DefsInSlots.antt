@@ -1,5 +1,6 @@
 -- At the end of a block, where no vreg is in a register behind it, a definition under `Any` or `Stack` is in no register.
 -- The fold in `Changes` doesn't fit: what the listing carries, or the operands' record, differs from step to step.
+use Rattle.regalloc2_semantics.proofs.Operands.{reads_use}
 use Rattle.std.proofs.Common.{ℕ, ◌≡◌, ◌≢◌, ◌<◌, ◌≤◌, ◌+◌, ◌⊎◌, List, Bool, true, false, refl, sym, ap, ◌∙◌, subst, inl, inr, arith, length, set}
 use Rattle.std.proofs.Common.{get_or-set_same}
 use Rattle.std.proofs.lemmas.Bool.{cases_eq, cases_Bool}
@@ -15,16 +16,17 @@ use Rattle.regalloc2_function.specs.OutputValue.{MoveValue}
 use Rattle.regalloc2_fastalloc_state.specs.declared.inst_regs.InstRegs.{InstRegs}
 use Rattle.regalloc2_fastalloc_state.specs.declared.request.Requirement.{Requirement}
 use Rattle.regalloc2_fastalloc_state.specs.declared.request.Requirement.TheVariants.{AnyPlace, AnyReg, InMemory, InPReg}
-use Rattle.regalloc2_fastalloc_state.specs.StateParts.{IsSlotOrNone, alloc_of}
+use Rattle.regalloc2_fastalloc_state.specs.StateParts.{alloc_of}
 use Rattle.regalloc2_validate.specs.Constraints.{op_at}
 use Rattle.regalloc2_fastalloc_proofs.specs.InstSteps.{StateValue, SelectsPlace, AllocsDefOp, ProcessesOperand, a_register, a_use, a_def, a_reuse}
 use Rattle.regalloc2_fastalloc_proofs.specs.InstSteps.{ProcessesOperandsAt, none_placed, of_other, one_placed, AllocsInst, ends_block, requirement_of}
 use Rattle.regalloc2_fastalloc_proofs.specs.InstSteps.{def_request}
 use Rattle.regalloc2_fastalloc_proofs.specs.InstSteps.SelectsPlace.{stays, fixed, slot, free}
-use Rattle.regalloc2_fastalloc_proofs.proofs.Operands.AllocsSoFar.{at_place, IsTame, not_both, reads_not_def}
+use Rattle.regalloc2_fastalloc_proofs.proofs.Operands.AllocsSoFar.{at_place, IsTame, not_both}
 use Rattle.regalloc2_fastalloc_proofs.proofs.BlockEnd.NoMoveForOperand.{IsOutside}
 use Rattle.regalloc2_fastalloc_proofs.proofs.BlockEnd.NoMoveInPasses.{Calm}
 use Rattle.regalloc2_fastalloc_proofs.proofs.BlockEnd.NoMoveInLastInst.{LateDone, EarlyDone, late_calm, early_calm, other_pass, calm_start}
+use Rattle.regalloc2_fastalloc_proofs.proofs.Safety.StepsKeepState.{slot_no_register}
 
 -- a constraint under which a definition may be anywhere, or in memory
 abbrev pub IsAnyOrStack : OperandConstraint → Type 0
@@ -37,9 +39,6 @@ no_fixed c r (inr s) e = (let x : Stack ≡ FixedReg r = sym s ∙ e in cc)
 no_reuse : (c : OperandConstraint) (n : ℕ) → IsAnyOrStack c → c ≡ Reuse n → ⊥
 no_reuse c n (inl a) e = (let x : Any ≡ Reuse n = sym a ∙ e in cc)
 no_reuse c n (inr s) e = (let x : Stack ≡ Reuse n = sym s ∙ e in cc)
-
-no_slot_register : (count : ℕ) (p : Place) (r : Register) → IsSlotOrNone count p → p ≡ InRegister r → ⊥
-no_slot_register count p r below at = subst (IsSlotOrNone count) at below
 
 no_wish : (wants : Requirement) → wants ≡ InMemory → (wants ≡ AnyPlace) ⊎ (wants ≡ AnyReg) → ⊥
 no_wish wants e (inl a) = (let x : InMemory ≡ AnyPlace = sym e ∙ a in cc)
@@ -65,7 +64,7 @@ module _ (Known : VirtualRegister → Type 0) (ops : List OperandValue) (tame : 
       by_place : requirement_of (op_at ops j).constraint ≡ InMemory → SelectsPlace t (def_request (op_at ops j)) p old d.gets.middle → ⊥
       by_place wish (stays there suits en) = away r (there ∙ at)
       by_place wish (fixed q wants same en) = (let x : InMemory ≡ InPReg q = sym wish ∙ wants in cc)
-      by_place wish (slot wants gives places es machine order) = no_slot_register d.gets.middle.slots.count p r gives.below at
+      by_place wish (slot wants gives places es machine order) = slot_no_register d.gets.middle.slots.count p r gives.below at
       by_place wish (free q wants away may is_free first same en) = no_wish (requirement_of (op_at ops j).constraint) wish wants
 
   one_none : (D E : ℕ → Type 0) (j : ℕ) (here there : List Place) (t u : InstRegs) (old new : StateValue) →
@@ -77,7 +76,7 @@ module _ (Known : VirtualRegister → Type 0) (ops : List OperandValue) (tame : 
     | inr ne ↦ h k lk (back k done ne) def kind r (sym (get_or-set_other here j k (InRegister q) NoPlace ne) ∙ ap (λ l. at_place l k) (sym written) ∙ at)
   ]
   one_none D E j here there t u old new (a_use p reads places written) less back long away h k lk done def kind r at = elim (cases_eq k j) [
-    | inl e ↦ not_both (is_def (op_at ops k).kind) def (ap (λ (x : ℕ). is_def (op_at ops x).kind) e ∙ reads_not_def (op_at ops j) reads)
+    | inl e ↦ not_both (is_def (op_at ops k).kind) def (ap (λ (x : ℕ). is_def (op_at ops x).kind) e ∙ reads_use (op_at ops j) reads)
     | inr ne ↦ h k lk (back k done ne) def kind r (sym (get_or-set_other here j k p NoPlace ne) ∙ ap (λ l. at_place l k) (sym written) ∙ at)
   ]
   one_none D E j here there t u old new (a_def p defines plain places written) less back long away h k lk done def kind r at = elim (cases_eq k j) [
@@ -90,7 +89,7 @@ module _ (Known : VirtualRegister → Type 0) (ops : List OperandValue) (tame : 
     | inl e ↦ no_reuse (op_at ops k).constraint n kind (ap (λ (x : ℕ). (op_at ops x).constraint) e ∙ reuses)
     | inr ne ↦ elim (cases_eq k n) [
       | inl e ↦ not_both (is_def (op_at ops k).kind) def (ap (λ (x : ℕ). is_def (op_at ops x).kind) e
-          ∙ reads_not_def (op_at ops n) (tame.named j n less reuses).2)
+          ∙ reads_use (op_at ops n) (tame.named j n less reuses).2)
       | inr other ↦ h k lk (back k done ne) def kind r (sym (get_or-set_other here j k p NoPlace ne) ∙ sym (get_or-set_other (set here j p) n k p NoPlace other)
           ∙ ap (λ l. at_place l k) (sym written) ∙ at)
     ]

@@ -2,7 +2,7 @@
 -- The fold in `Changes` doesn't fit: what the listing carries, or the operands' record, differs from step to step.
 use Rattle.std.proofs.Common.{ℕ, ◌≡◌, ◌≢◌, ◌<◌, List, Bool, true, false, cond, refl, sym, ap, ◌∙◌, inl, inr, length}
 use Rattle.std.specs.Prelude.{Option, None, Some, not, ◌&&◌, ◌||◌}
-use Rattle.std.proofs.lemmas.Bool.{cases_eq}
+use Rattle.std.proofs.lemmas.Bool.{cases_eq, and_right}
 use Rattle.regalloc2_names.specs.declared.sets.PRegSet.{PRegSet}
 use Rattle.regalloc2_names.specs.Register.{Register, VirtualRegister, is_register}
 use Rattle.regalloc2_names.specs.RegisterSet.{has_register}
@@ -20,10 +20,11 @@ use Rattle.regalloc2_validate.specs.Constraints.{op_at}
 use Rattle.regalloc2_fastalloc_proofs.specs.InstSteps.{StateValue, empty, cleared, EvictsOthers, own, others, SelectsPlace, ClaimsPlace, in_slot}
 use Rattle.regalloc2_fastalloc_proofs.specs.InstSteps.{in_register, AllocsOperand, AddsMoveIf, sent, unsent, FreesDef, NeedsFixedReg}
 use Rattle.regalloc2_fastalloc_proofs.specs.InstSteps.SelectsPlace.{stays, fixed, slot, free}
-use Rattle.regalloc2_fastalloc_proofs.proofs.Safety.OperandKeepsSafe.{suits_there}
 use Rattle.regalloc2_semantics.proofs.Plain.{no_some}
+use Rattle.regalloc2_semantics.proofs.Forms.{same_register}
 use Rattle.regalloc2_fastalloc_proofs.proofs.Operands.AllocsSoFar.{at_place}
 use Rattle.regalloc2_fastalloc_proofs.proofs.Changes.OneChange.{uses_rest}
+use Rattle.regalloc2_fastalloc_proofs.proofs.Operands.SelectedPlace.{suits_there}
 
 -- no vreg has a location
 pub record IsEmpty (t : StateValue) : Type 0 where
@@ -98,10 +99,6 @@ pub record Got (o : OperandRequest) (p : Place) (t u : InstRegs) (old new : Stat
   pub claimed_late : (q : Register) → p ≡ InRegister q → o.positions.late ≡ true → has_register u.late q ≡ false
   pub origin : Origin o p t old
 
--- equal places that are registers are one register
-pub one_register : (q r : Register) → InRegister q ≡ InRegister r → q ≡ r
-one_register q r e = cc
-
 -- a spill slot isn't a register
 pub no_register_slot : (k : ℕ) (r : Register) → InSlot k ≡ InRegister r → ⊥
 no_register_slot k r e = cc
@@ -115,10 +112,6 @@ pub slot_number : (count : ℕ) (p : Place) → p ≢ NoPlace → IsSlotOrNone c
 slot_number count NoPlace d h = absurd (d refl)
 slot_number count (InRegister r) d h = absurd h
 slot_number count (InSlot k) d h = (k, refl)
-
-false_and : (a b : Bool) → b ≡ false → (a && b) ≡ false
-false_and true b h = h
-false_and false b h = refl
 
 held_now : (a : Bool) (r q : Register) (b : Bool) → a ≡ true → q ≡ r → (not (a && is_register r q) && b) ≡ false
 held_now a r q b e same = (let yes : is_register r q ≡ true = ap (is_register r) same ∙ is_place-same (InRegister r) in rw (e, yes) refl)
@@ -149,9 +142,9 @@ module _ (point : ℕ) (ops : List OperandValue) (pass : Bool) (edits : List (�
       let same : s.1.0 ≡ w = cc in
       ap (λ (x : VirtualRegister). x.number) (sym same) ∙ s.1.1
   alone t o p old r w (asked q at wants) still none taken is small held =
-      absurd (none_some (vreg_of_preg old.places r) w (ap (vreg_of_preg old.places) (sym (one_register q r (sym at ∙ is))) ∙ none q wants) held)
+      absurd (none_some (vreg_of_preg old.places r) w (ap (vreg_of_preg old.places) (sym (same_register q r (sym at ∙ is))) ∙ none q wants) held)
   alone t o p old r w (was_free q at lt is_free) still none taken is small held =
-      absurd (taken q w lt (ap (vreg_of_preg old.places) (one_register q r (sym at ∙ is)) ∙ held) is_free)
+      absurd (taken q w lt (ap (vreg_of_preg old.places) (same_register q r (sym at ∙ is)) ∙ held) is_free)
   alone t o p old r w (in_a_slot k at) still none taken is small held = absurd (no_register_slot k r (sym at ∙ is))
 
   -- no vreg is moved
@@ -174,14 +167,14 @@ module _ (point : ℕ) (ops : List OperandValue) (pass : Bool) (edits : List (�
       let c = clears_nobody o r t m old new clears (λ w small held. only r w is small held) in (
         c.1,
         record {
-          early = λ q h. holds.early q ∙ false_and (not (o.positions.early && is_register r q)) (has_register m.early q)
+          early = λ q h. holds.early q ∙ and_right (not (o.positions.early && is_register r q)) (has_register m.early q)
               (ap (λ (x : InstRegs). has_register x.early q) c.0 ∙ h);
-          late = λ q h. holds.late q ∙ false_and (not (o.positions.late && is_register r q)) (has_register m.late q)
+          late = λ q h. holds.late q ∙ and_right (not (o.positions.late && is_register r q)) (has_register m.late q)
               (ap (λ (x : InstRegs). has_register x.late q) c.0 ∙ h);
         },
         (
-          λ q at e. holds.early q ∙ held_now o.positions.early r q (has_register m.early q) e (one_register q r (sym at ∙ is)),
-          λ q at e. holds.late q ∙ held_now o.positions.late r q (has_register m.late q) e (one_register q r (sym at ∙ is)),
+          λ q at e. holds.early q ∙ held_now o.positions.early r q (has_register m.early q) e (same_register q r (sym at ∙ is)),
+          λ q at e. holds.late q ∙ held_now o.positions.late r q (has_register m.late q) e (same_register q r (sym at ∙ is)),
         ),
       )
 

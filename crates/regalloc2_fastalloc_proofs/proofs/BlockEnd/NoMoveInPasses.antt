@@ -1,8 +1,8 @@
 -- At a block's last instruction, where no vreg is in a register, placing operands pushes no move: the passes.
 -- The fold in `Changes` doesn't fit: what the listing carries, or the operands' record, differs from step to step.
 use Rattle.std.proofs.Common.{ℕ, ◌≡◌, ◌≢◌, ◌<◌, List, Bool, true, false, cond, refl, sym, ap, ◌∙◌, ◌⊎◌, inl, inr, subst, arith, length, set, get_or-set_same}
-use Rattle.std.specs.Prelude.{Option, None, Some, ◌&&◌, ◌||◌}
-use Rattle.std.proofs.lemmas.Bool.{cases_eq, cases_Bool}
+use Rattle.std.specs.Prelude.{None, Some, ◌&&◌, ◌||◌}
+use Rattle.std.proofs.lemmas.Bool.{cases_eq, cases_Bool, and_parts}
 use Rattle.std.proofs.lemmas.List.{get_or-set_other}
 use Rattle.std.proofs.Math.ListN.{length-set}
 use Rattle.regalloc2_names.specs.declared.OperandConstraint.TheVariants.{FixedReg, Reuse}
@@ -13,6 +13,8 @@ use Rattle.regalloc2_names.specs.Place.{Place, NoPlace, InRegister, InSlot, is_p
 use Rattle.regalloc2_names.specs.Point.{after}
 use Rattle.regalloc2_function.specs.OutputValue.{MoveValue}
 use Rattle.regalloc2_semantics.proofs.Cells.{is_place-same, is_place-other}
+use Rattle.regalloc2_semantics.proofs.Operands.{reads_use}
+use Rattle.regalloc2_semantics.proofs.Forms.{same_register}
 use Rattle.regalloc2_fastalloc_state.specs.declared.inst_regs.InstRegs.{InstRegs}
 use Rattle.regalloc2_fastalloc_state.specs.declared.inst_regs.Positions.{Positions}
 use Rattle.regalloc2_fastalloc_state.specs.declared.request.Requirement.TheVariants.{InPReg}
@@ -22,10 +24,12 @@ use Rattle.regalloc2_validate.specs.Constraints.{op_at}
 use Rattle.regalloc2_fastalloc_proofs.specs.InstSteps.{StateValue, use_request, def_request, reuse_request, LocatesUse, stays, located, AllocsUse}
 use Rattle.regalloc2_fastalloc_proofs.specs.InstSteps.{AllocsDefOp, ProcessesOperand, a_register, a_use, a_def, a_reuse, own, named}
 use Rattle.regalloc2_fastalloc_proofs.proofs.Safety.StepsKeepSafe.{settled_holder}
-use Rattle.regalloc2_fastalloc_proofs.proofs.Operands.AllocsSoFar.{at_place, IsTame, not_both, reads_not_def, reads_allocated, asked_fixed, asked_as_fixed}
+use Rattle.regalloc2_fastalloc_proofs.proofs.Operands.AllocsSoFar.{at_place, IsTame, not_both, reads_allocated, asked_fixed, asked_as_fixed}
 use Rattle.regalloc2_fastalloc_proofs.proofs.BlockEnd.NoMoveForOperand.{Overlap, Asks, claims, chosen, Still, Awaiting, Later, later_none, Origin}
-use Rattle.regalloc2_fastalloc_proofs.proofs.BlockEnd.NoMoveForOperand.{stood_there, asked, was_free, in_a_slot, Got, no_register_slot, one_register}
+use Rattle.regalloc2_fastalloc_proofs.proofs.BlockEnd.NoMoveForOperand.{stood_there, asked, was_free, in_a_slot, Got, no_register_slot}
 use Rattle.regalloc2_fastalloc_proofs.proofs.BlockEnd.NoMoveForOperand.{none_some, gets_calm, SamePlaces, same_places, defines_calm}
+use Rattle.regalloc2_fastalloc_proofs.proofs.Operands.OperandRules.{use_vreg}
+use Rattle.regalloc2_fastalloc_proofs.proofs.Evictions.PushedAndRemoved.{no_some}
 
 -- the tables, where the same vregs are located in the same places
 still_on : (ops : List OperandValue) (pass : Bool) (edits : List (ℕ × MoveValue)) (t u : InstRegs) (old new : StateValue) → Later t u → SamePlaces old new →
@@ -92,10 +96,6 @@ settled_none v p old new r small z ne none = z.holders r small ∙ (let a : is_p
     either true = refl
     either false = none
 
-none_or : {X : Type 0} (x : Option X) → ((y : X) → x ≡ Some y → ⊥) → x ≡ None
-none_or None h = refl
-none_or (Some y) h = absurd (h y refl)
-
 -- the next operand is done
 pub record NextDone (D E : ℕ → Type 0) (k : ℕ) : Type 0 where
   pub before_it : D k → ⊥
@@ -124,18 +124,10 @@ awaiting_on ops D E here there t u old new back same later nobody a = record {
   lates = λ k less not_e late. same k less not_e ∙ a.lates k less (back k less not_e) late;
 }
 
-and_left : (a b : Bool) → (a && b) ≡ true → a ≡ true
-and_left true b h = refl
-and_left false b h = absurd cc
-
-and_right : (a b : Bool) → (a && b) ≡ true → b ≡ true
-and_right true b h = h
-and_right false b h = absurd cc
-
 overlap_cases : (p q : Positions) → Overlap p q → ((p.early ≡ true) × (q.early ≡ true)) ⊎ ((p.late ≡ true) × (q.late ≡ true))
 overlap_cases p q h = elim (cases_Bool (p.early && q.early)) [
-  | inl e ↦ inl (and_left p.early q.early e, and_right p.early q.early e)
-  | inr e ↦ (let l : (p.late && q.late) ≡ true = ap (λ b. b || (p.late && q.late)) (sym e) ∙ h in inr (and_left p.late q.late l, and_right p.late q.late l))
+  | inl e ↦ inl (and_parts p.early q.early e)
+  | inr e ↦ (let l : (p.late && q.late) ≡ true = ap (λ b. b || (p.late && q.late)) (sym e) ∙ h in inr (and_parts p.late q.late l))
 ]
 
 -- two operands that both hold a register at the early position hold it at one time
@@ -237,11 +229,6 @@ use_positions o NoPlace = refl
 use_positions o (InRegister r) = refl
 use_positions o (InSlot n) = refl
 
-use_vreg : (o : OperandValue) (here : Place) → (use_request o here).vreg ≡ o.vreg
-use_vreg o NoPlace = refl
-use_vreg o (InRegister r) = refl
-use_vreg o (InSlot n) = refl
-
 free_at : (t : InstRegs) (p q : Positions) (r : Register) → p ≡ q → IsAvailableAt t p r → IsAvailableAt t q r
 free_at t p q r e h = subst (λ (x : Positions). IsAvailableAt t x r) e h
 
@@ -299,7 +286,7 @@ module _ (Known : VirtualRegister → Type 0) (ops : List OperandValue) (tame : 
       let o : OperandValue = op_at ops k in
       let m : OperandValue = op_at ops n in
       let name = tame.named k n less reuses in
-      let use_it : is_def m.kind ≡ false = reads_not_def m name.2 in
+      let use_it : is_def m.kind ≡ false = reads_use m name.2 in
       let mine : (q : Register) → (reuse_request o m).requirement ≡ InPReg q →
       Asks ops here k q (record { early = false; late = true }) = λ q wants. claims (named n reuses name.0 (asked_as_fixed m.constraint q wants) refl) in
       let none : (q : Register) → (reuse_request o m).requirement ≡ InPReg q →
@@ -344,7 +331,7 @@ module _ (Known : VirtualRegister → Type 0) (ops : List OperandValue) (tame : 
           w.early ≡ true → ⊥)
       by_origin q is (stood_there there real) none taken mine = absurd (c.0.away k q less def (there ∙ is))
       by_origin q is (asked r at wants) none taken mine =
-          let same : r ≡ q = one_register r q (sym at ∙ is) in
+          let same : r ≡ q = same_register r q (sym at ∙ is) in
           let asks : (reuse_request (op_at ops k) (op_at ops n)).requirement ≡ InPReg q = wants ∙ ap InPReg same in
           let name = tame.named k n less reuses in
           let claim : Asks ops here n q (positions_of (op_at ops n)) = claims
@@ -352,15 +339,15 @@ module _ (Known : VirtualRegister → Type 0) (ops : List OperandValue) (tame : 
             c.1.small k q (record { early = false; late = true }) less next.before_it (mine q asks),
             none q asks,
             λ j w within not_e ne x early. ne (c.1.one j n q w (positions_of (op_at ops n)) within name.0 (next.back j not_e).0 not_n x claim
-                (early_overlap w (positions_of (op_at ops n)) early (early_use (op_at ops n) (reads_not_def (op_at ops n) name.2) name.1).0)),
+                (early_overlap w (positions_of (op_at ops n)) early (early_use (op_at ops n) (reads_use (op_at ops n) name.2) name.1).0)),
           )
       by_origin q is (was_free r at small is_free) none taken mine =
-          let same : r ≡ q = one_register r q (sym at ∙ is) in
+          let same : r ≡ q = same_register r q (sym at ∙ is) in
           let lt : q.number < 64 = subst (λ (x : Register). x.number < 64) same small in
           let f : IsAvailableAt t (reuse_request (op_at ops k) (op_at ops n)).positions
           q = subst (IsAvailableAt t (reuse_request (op_at ops k) (op_at ops n)).positions) same is_free in (
             lt,
-            none_or (vreg_of_preg old.places q) (λ v held. taken q v lt held f),
+            no_some (vreg_of_preg old.places q) (λ v held. taken q v lt held f),
             λ j w within not_e ne x early. not_both (has_register t.early q) (f.early refl) (c.1.held_early j q w within (next.back j not_e).0 x early),
           )
       by_origin q is (in_a_slot l at) none taken mine = absurd (no_register_slot l q (sym at ∙ is))
@@ -391,7 +378,7 @@ module _ (Known : VirtualRegister → Type 0) (ops : List OperandValue) (tame : 
       g = gets_calm (after i) ops pass edits (use_request (op_at ops k) (at_place here k)) p t u old d.middle d.gets c.0 none taken
 
       early : (positions_of (op_at ops k)).early ≡ true
-      early = (let e : is_def (op_at ops k).kind ≡ false = reads_not_def (op_at ops k) reads in rw e refl)
+      early = (let e : is_def (op_at ops k).kind ≡ false = reads_use (op_at ops k) reads in rw e refl)
 
       -- where the vreg came
       mine : (alloc_of old.places (op_at ops k).vreg.number ≡ NoPlace) → (q : Register) → p ≡ InRegister q →
@@ -400,7 +387,7 @@ module _ (Known : VirtualRegister → Type 0) (ops : List OperandValue) (tame : 
       mine nowhere q is (stood_there there real) =
           absurd (real (sym there ∙ ap (λ (v : VirtualRegister). alloc_of old.places v.number) (use_vreg (op_at ops k) (at_place here k)) ∙ nowhere))
       mine nowhere q is (asked r at wants) =
-          let same : r ≡ q = one_register r q (sym at ∙ is) in
+          let same : r ≡ q = same_register r q (sym at ∙ is) in
           let asks : (use_request (op_at ops k) (at_place here k)).requirement ≡ InPReg q = wants ∙ ap InPReg same in (
             c.1.small k q (positions_of (op_at ops k)) less next.before_it (asks_it q asks),
             none q asks,
@@ -409,13 +396,13 @@ module _ (Known : VirtualRegister → Type 0) (ops : List OperandValue) (tame : 
                 (covers j q w within (next.back j not_e).0 x))),
           )
       mine nowhere q is (was_free r at small is_free) =
-          let same : r ≡ q = one_register r q (sym at ∙ is) in
+          let same : r ≡ q = same_register r q (sym at ∙ is) in
           let lt : q.number < 64 = subst (λ (x : Register). x.number < 64) same small in
           let f : IsAvailableAt t (positions_of (op_at ops k)) q = free_at t (use_request (op_at ops k) (at_place here k)).positions
           (positions_of (op_at ops k)) q (use_positions (op_at ops k) (at_place here k))
           (subst (IsAvailableAt t (use_request (op_at ops k) (at_place here k)).positions) same is_free) in (
             lt,
-            none_or (vreg_of_preg old.places q) (λ v held. not_free t old (positions_of (op_at ops k)) reach c.0 q v lt held f),
+            no_some (vreg_of_preg old.places q) (λ v held. not_free t old (positions_of (op_at ops k)) reach c.0 q v lt held f),
             λ j w within not_e x. elim (overlap_cases (positions_of (op_at ops k)) w (covers j q w within (next.back j not_e).0 x)) [
               | inl both ↦ not_both (has_register t.early q) (f.early both.0) (c.1.held_early j q w within (next.back j not_e).0 x both.1)
               | inr both ↦ not_both (has_register t.late q) (f.late both.0) (c.1.held_late j q w within (next.back j not_e).0 x both.1)

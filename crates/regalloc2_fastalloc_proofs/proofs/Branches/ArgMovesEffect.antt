@@ -1,6 +1,7 @@
 -- The moves of a branch's arguments: which places of a vreg they leave alone, and what they bring to the parameters.
 use Rattle.std.proofs.Common.{ℕ, zero, suc, ◌≡◌, ◌≢◌, ◌<◌, ◌≤◌, inl, inr, Bool, true, false, List, [], ◌∷◌, length, refl, sym, ap, ◌∙◌, subst, arith}
-use Rattle.std.specs.Prelude.{Option, None, Some, ◌||◌, Contains, slice_index_or}
+use Rattle.std.specs.Prelude.{Option, None, Some, Contains, slice_index_or}
+use Rattle.std.proofs.lemmas.Bool.{or_left, or_right}
 use Rattle.regalloc2_names.specs.declared.RegClass.{RegClass}
 use Rattle.regalloc2_names.specs.Register.{Register, VirtualRegister, class_code, is_vreg}
 use Rattle.regalloc2_names.specs.RegisterSet.{has_register}
@@ -26,18 +27,10 @@ use Rattle.regalloc2_fastalloc_proofs.proofs.Branches.ArgMovesByClass.{ClassStep
 pub names_at : (ps : List VirtualRegister) (j : ℕ) (v : VirtualRegister) → j < length ps → argument_at ps j ≡ v → names v ps ≡ true
 unfolding names
 names_at [] j v lt e = absurd (omega arith)
-names_at (p ∷ ps) zero v lt e = or_first (is_vreg p v) (names v ps) (subst (λ q. is_vreg p q ≡ true) e (is_vreg-same p))
-  where
-    or_first : (x y : Bool) → x ≡ true → (x || y) ≡ true
-    or_first true y h = refl
-    or_first false y h = absurd cc
-names_at (p ∷ ps) (suc j) v lt e = or_second (is_vreg p v) (names v ps) (names_at ps j v (omega arith) e)
-  where
-    or_second : (x y : Bool) → y ≡ true → (x || y) ≡ true
-    or_second true y h = refl
-    or_second false y h = h
+names_at (p ∷ ps) zero v lt e = or_left (is_vreg p v) (names v ps) (subst (λ q. is_vreg p q ≡ true) e (is_vreg-same p))
+names_at (p ∷ ps) (suc j) v lt e = or_right (is_vreg p v) (names v ps) (names_at ps j v (omega arith) e)
 
-one_slot : (m n : ℕ) → InSlot m ≡ InSlot n → m ≡ n
+pub one_slot : (m n : ℕ) → InSlot m ≡ InSlot n → m ≡ n
 one_slot m n e = cc
 
 -- The moves of the arguments of the block b's branch, class after class. F: the slots at the walk's end, each of one vreg; the parameters of the block's

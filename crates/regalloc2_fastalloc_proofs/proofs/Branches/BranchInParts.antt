@@ -1,7 +1,7 @@
 -- What a branch carries: with its own moves, the reloads of its arguments, and their moves to the parameters.
 use Rattle.std.proofs.Common.{ℕ, ◌≡◌, inl, inr, Bool, true, false, List, [], nat_eq, refl, sym, ap, subst, eq-eqb}
 use Rattle.std.specs.Prelude.{Option, Some, not, ◌&&◌}
-use Rattle.std.proofs.lemmas.Bool.{and_parts}
+use Rattle.std.proofs.lemmas.Bool.{and_parts, and_right, and_from, not-true}
 use Rattle.regalloc2_names.specs.Register.{Register, VirtualRegister}
 use Rattle.regalloc2_names.specs.Place.{Place, InRegister}
 use Rattle.regalloc2_names.specs.Point.{before}
@@ -19,7 +19,7 @@ use Rattle.regalloc2_fastalloc_proofs.specs.BranchSteps.{ClassMove, GathersMoves
 use Rattle.regalloc2_fastalloc_proofs.proofs.Operands.RecordOverState.{stands_at, slots_at}
 use Rattle.regalloc2_fastalloc_proofs.proofs.Inst.OneInstCarries.{Between}
 use Rattle.regalloc2_fastalloc_proofs.proofs.BlockBegin.ReloadAtBegin.{SpareHere}
-use Rattle.regalloc2_fastalloc_proofs.proofs.BlockBegin.CarriesFromSlot.{is_there, is_there-true, is_there-same, is_there-none, second_false}
+use Rattle.regalloc2_fastalloc_proofs.proofs.BlockBegin.CarriesFromSlot.{is_there, is_there-true, is_there-same, is_there-none}
 use Rattle.regalloc2_fastalloc_proofs.proofs.Branches.ArgsSpilled.{Stage}
 use Rattle.regalloc2_fastalloc_proofs.proofs.Branches.EdgeArgsGathered.{MovesByClass, gathered}
 use Rattle.regalloc2_fastalloc_proofs.proofs.Operands.BlockTail.{tail_of}
@@ -30,15 +30,8 @@ is_kept block v F p x = nat_eq x v && (not block && is_there F p)
 
 kept-clear : (block : Bool) (v : ℕ) (F : Option Place) → ((r : Register) → F ≡ Some (InRegister r) → ⊥) → (r : Register) (x : ℕ) →
     is_kept block v F (InRegister r) x ≡ false
-kept-clear block v F only r x = second_false (nat_eq x v) (not block && is_there F (InRegister r))
-    (second_false (not block) (is_there F (InRegister r)) (is_there-none F (InRegister r) (only r)))
-
-both_true : (a b : Bool) → a ≡ true → b ≡ true → (a && b) ≡ true
-both_true a b x y = rw (x, y) refl
-
-was_false : (b : Bool) → not b ≡ true → b ≡ false
-was_false true h = absurd cc
-was_false false h = refl
+kept-clear block v F only r x = and_right (nat_eq x v) (not block && is_there F (InRegister r))
+    (and_right (not block) (is_there F (InRegister r)) (is_there-none F (InRegister r) (only r)))
 
 module _ (insts : ℕ → InstValue) (placesf : ℕ → List Place) (last : ℕ) (v : VirtualRegister) (block : Bool) (F : Option Place)
     (only : (r : Register) → F ≡ Some (InRegister r) → ⊥) (E : Place → Type 0) where
@@ -70,8 +63,8 @@ module _ (insts : ℕ → InstValue) (placesf : ℕ → List Place) (last : ℕ)
             (λ p h. elim h.1 [
               | inl at ↦ located refl at
               | inr (inl at) ↦ in_slot refl at
-              | inr (inr at) ↦ made (both_true (nat_eq v.number v.number) (not block && is_there F p) (eq-eqb v.number v.number refl)
-                  (both_true (not block) (is_there F p) (ap not at.0) (is_there-same F p at.1)))
+              | inr (inr at) ↦ made (and_from (nat_eq v.number v.number) (not block && is_there F p) (eq-eqb v.number v.number refl)
+                  (and_from (not block) (is_there F p) (ap not at.0) (is_there-same F p at.1)))
             ])
             (λ p h. h) here);
         fit = b.fit;
@@ -88,7 +81,7 @@ module _ (insts : ℕ → InstValue) (placesf : ℕ → List Place) (last : ℕ)
         | located l at ↦ (refl, inl at)
         | in_slot o at ↦ (refl, inr (inl at))
         | made x ↦ (let y = and_parts (nat_eq v.number v.number) (not block && is_there F p) x in let z = and_parts (not block) (is_there F p) y.1 in
-            (refl, inr (inr (was_false block z.0, is_there-true F p z.1))))
+            (refl, inr (inr (not-true block z.0, is_there-true F p z.1))))
       ])
       (λ p h. h) (s.brings v refl))
 

@@ -35,7 +35,7 @@ is_class-same Int = refl
 is_class-same Float = refl
 is_class-same Vector = refl
 
-is_class-true : (c d : RegClass) → is_class c d ≡ true → d ≡ c
+pub is_class-true : (c d : RegClass) → is_class c d ≡ true → d ≡ c
 unfolding is_class
 is_class-true Int Int h = refl
 is_class-true Int Float h = absurd cc

@@ -1,8 +1,8 @@
 -- A well-formed function's branches may pass their arguments.
-use Rattle.std.proofs.Common.{ℕ, zero, suc, ◌≡◌, ◌≢◌, ◌+◌, ◌<◌, ◌≤◌, Bool, true, false, cond, List, [], ◌∷◌, length, refl, sym, ap, inl, inr, arith}
+use Rattle.std.proofs.Common.{ℕ, zero, suc, ◌≡◌, ◌≢◌, ◌<◌, ◌≤◌, Bool, cond, List, [], ◌∷◌, length, refl, sym, ap, inl, inr, arith}
 use Rattle.std.proofs.Common.{eq-eqb, nat_eq}
 use Rattle.std.specs.Prelude.{slice_index_or}
-use Rattle.std.proofs.lemmas.Bool.{cases_eq, ne_eqb}
+use Rattle.std.proofs.lemmas.Bool.{cases_eq}
 use Rattle.std.proofs.lemmas.List.{get_or_default}
 use Rattle.std.proofs.lemmas.List.Sums.{sum_by-cons, count_by-le-length}
 use Rattle.regalloc2_names.specs.Register.{VirtualRegister}
@@ -13,7 +13,7 @@ use Rattle.regalloc2_function.specs.SourceRun.{arguments_at}
 use Rattle.regalloc2_function.specs.WellFormed.{IsWellFormed, times_in, ways_into, last_of}
 use Rattle.regalloc2_semantics.specs.Blocks.{HasEdge, target_at, IsSound}
 use Rattle.regalloc2_semantics.proofs.SingleDef.{TakesAt, one_param}
-use Rattle.regalloc2_semantics.proofs.Soundness.{count_at, well_formed_are_sound}
+use Rattle.regalloc2_semantics.proofs.Soundness.{count_at, well_formed_are_sound, find}
 use Rattle.regalloc2_fastalloc_proofs.specs.BlockStart.{no_vreg}
 use Rattle.regalloc2_fastalloc_proofs.specs.BranchSteps.{MayBranch, ParametersDiffer}
 use Rattle.regalloc2_fastalloc_proofs.specs.InstSteps.{StateValue}
@@ -40,20 +40,6 @@ counted_twice n (x ∷ xs) (suc j) (suc k) ne lj lk a b =
     let c = sum_by-cons (λ y. cond (nat_eq y n) 1 0) x xs in
     let h = counted_twice n xs j k (λ e. ne (ap suc e)) (omega arith) (omega arith) a b in
     omega (arith, c, h)
-
--- one that is counted has a location
-rest_counts : (c : Bool) (n m : ℕ) → c ≡ false → m ≡ cond c 1 0 + n → 1 ≤ m → 1 ≤ n
-rest_counts true n m h e g = absurd cc
-rest_counts false n m h e g = omega arith
-
-find : (n : ℕ) (xs : List ℕ) → 1 ≤ times_in n xs → (k : ℕ) × (k < length xs) × (slice_index_or xs k 0 ≡ n)
-find n [] h = absurd (omega arith)
-find n (x ∷ xs) h = elim (cases_eq x n) [
-  | inl e ↦ (0, omega arith, e)
-  | inr ne ↦ (
-      let r = find n xs (rest_counts (nat_eq x n) (times_in n xs) (times_in n (x ∷ xs)) (ne_eqb x n ne) (sum_by-cons (λ y. cond (nat_eq y n) 1 0) x xs) h) in
-      (suc r.0, omega (arith, r.1), r.2))
-]
 
 module _ (env : MachineValue) (f : FunctionValue) (ok : IsWellFormed env f) (b : ℕ) (within : b < length f.blocks) where
   sound : IsSound f

@@ -2,7 +2,7 @@
 use Rattle.std.proofs.Common.{ℕ, ◌≡◌, List, [], ◌∷◌, ◌++◌, sym, ap, ◌∙◌, subst, append-nil}
 use Rattle.regalloc2_names.specs.Register.{Register}
 use Rattle.regalloc2_fastalloc_state.specs.declared.inst_regs.InstRegs.{InstRegs}
-use Rattle.regalloc2_fastalloc_proofs.specs.InstSteps.{StateValue, SameMachine, EvictsPReg, EvictsEach, none_left, one_more}
+use Rattle.regalloc2_fastalloc_proofs.specs.InstSteps.{StateValue, EvictsPReg, EvictsEach, none_left, one_more}
 
 -- where nothing of a list is left, the registers of all of it were evicted
 pub clears_all : (point : ℕ) (xs rest rs : List Register) (t u : InstRegs) (old new : StateValue) → rest ≡ [] → xs ++ rest ≡ rs →
@@ -15,15 +15,3 @@ pub clears_more : (point : ℕ) (rs : List Register) (r : Register) (t u w : Ins
 clears_more point rs r t u w old m new (none_left v l) c = one_more r [] v w w l new new c (none_left w new)
 clears_more point rs r t u w old m new (one_more q qs a b d k l n first rest) c =
     one_more q (qs ++ r ∷ []) a b w k l new first (clears_more point qs r b d w l n new rest c)
-
--- the machine, the sizes of slots and the number of vregs stay over two steps that each keep them
-pub machine_then : (a b c : StateValue) → SameMachine a b → SameMachine b c → SameMachine a c
-machine_then a b c x y = record {
-  allocatable = y.allocatable ∙ x.allocatable;
-  fixed_stack = y.fixed_stack ∙ x.fixed_stack;
-  dedicated_scratch = y.dedicated_scratch ∙ x.dedicated_scratch;
-  sizes = y.sizes ∙ x.sizes;
-  vregs = y.vregs ∙ x.vregs;
-  num_temp_slots = y.num_temp_slots
-      ∙ x.num_temp_slots;
-}

@@ -3,7 +3,7 @@
 use Rattle.std.proofs.Common.{ℕ, ◌≡◌, ◌≢◌, ◌+◌, ◌<◌, ◌≤◌, Bool, true, false, cond, List, length, refl, arith, sym, ap, ◌∙◌, subst, inl, inr, ◌⊎◌}
 use Rattle.std.proofs.Common.{⊎_elim, nat_eq, eq-eqb}
 use Rattle.std.specs.Prelude.{None, Some, not, ◌&&◌, ◌||◌, slice_index_or}
-use Rattle.std.proofs.lemmas.Bool.{cases_Bool, cases_eq, ne_eqb}
+use Rattle.std.proofs.lemmas.Bool.{cases_Bool, cases_eq, ne_eqb, or_right}
 use Rattle.regalloc2_names.specs.declared.RegClass.{RegClass}
 use Rattle.regalloc2_names.specs.declared.OperandConstraint.TheVariants.{FixedReg, Reuse}
 use Rattle.regalloc2_names.specs.Register.{Register, VirtualRegister, class_code}
@@ -84,13 +84,9 @@ puts_one here claimed k p fresh = record {
   at_k = ap (λ b. cond b p (here k)) (eq-eqb k k refl);
   at_j = λ j n. ap (λ b. cond b p (here j)) (ne_eqb j k n);
   grows = λ j c. elim (cases_eq j k) [ inl e ↦ inl e | inr n ↦ inr (ap (λ b. b || claimed j) (sym (ne_eqb j k n)) ∙ c) ];
-  keeps = λ j c. either (nat_eq j k) (claimed j) c;
+  keeps = λ j c. or_right (nat_eq j k) (claimed j) c;
   claims = ap (λ b. b || claimed k) (eq-eqb k k refl);
 }
-  where
-    either : (a b : Bool) → b ≡ true → (a || b) ≡ true
-    either true b h = refl
-    either false b h = h
 
 -- scratch registers that are taken were available in b
 abbrev pub WereFree : InstRegs → InstRegs → Type 0

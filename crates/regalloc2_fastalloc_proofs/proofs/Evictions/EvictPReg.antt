@@ -18,8 +18,8 @@ use Rattle.regalloc2_semantics.proofs.NeedsAcrossMoves.{need_slot, claims_throug
 use Rattle.regalloc2_fastalloc_state.specs.declared.inst_regs.InstRegs.{InstRegs}
 use Rattle.regalloc2_fastalloc_proofs.specs.InstSteps.{StateValue, is_stack_in, moved, direct, through, EvictsPReg, empty, cleared, EvictsOthers, own, others}
 use Rattle.regalloc2_fastalloc_proofs.specs.InstSteps.{a_move}
-use Rattle.regalloc2_fastalloc_proofs.proofs.Safety.StepsKeepState.{place_in, slot_in, IsWhole}
-use Rattle.regalloc2_fastalloc_proofs.proofs.Operands.RecordOverState.{stands_at, slots_at, opt, opt_from, no_register_slot, Located, Owes, Shifts, shifts}
+use Rattle.regalloc2_fastalloc_proofs.proofs.Safety.StepsKeepState.{place_in, slot_in, IsWhole, slot_no_register}
+use Rattle.regalloc2_fastalloc_proofs.proofs.Operands.RecordOverState.{stands_at, slots_at, opt, opt_from, Located, Owes, Shifts, shifts}
 use Rattle.regalloc2_fastalloc_proofs.proofs.Operands.RecordOverState.{shift_whole, shift_stands}
 use Rattle.regalloc2_fastalloc_proofs.proofs.Evictions.EvictVReg.{held_early, held_late, Kept, kept_all, shift_kept, Emptied, evict_step}
 use Rattle.regalloc2_fastalloc_proofs.proofs.Moves.ScratchRegTaken.{IsIdle, IsScratch, of_machine, taken, Fit, Spare, spare_same, spare_kept, spare_more}
@@ -77,7 +77,7 @@ module _ (tail : BlockTail) where
       let L : List Item = after_part insts (listed t.edits) placesf i n in
       let T : ℕ → Option Place = put (stands_at t) v (Some (InRegister r)) in
       let no_slot : (x : ℕ) (q : Register) → slots_at t x ≡ Some (InRegister q) →
-      ⊥ = λ x q e. no_register_slot t.slots.count (slot_in t x) q (st.whole.below x) (opt_from (slot_in t x) (InRegister q) e) in
+      ⊥ = λ x q e. slot_no_register t.slots.count (slot_in t x) q (st.whole.below x) (opt_from (slot_in t x) (InRegister q) e) in
       let moves : Claims Known (Move (record { from = s; to = InRegister by }) ∷ (Move (record { from = InRegister by; to = InRegister r }) ∷ L))
       (Need far.lived far.out far.made_at (stands_at t) (slots_at t)) E =
       claims_through Known E L (Need far.lived far.out far.made_at T (slots_at t)) (Need far.lived far.out far.made_at (stands_at t) (slots_at t)) s

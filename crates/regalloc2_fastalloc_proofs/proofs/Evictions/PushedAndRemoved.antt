@@ -14,21 +14,6 @@ use Rattle.regalloc2_fastalloc_state.specs.declared.inst_regs.InstRegs.{InstRegs
 use Rattle.regalloc2_fastalloc_proofs.specs.InstSteps.{StateValue, SameMachine, a_move, EvictsVReg, nobody, moved, AllocsScratchReg}
 use Rattle.regalloc2_fastalloc_proofs.specs.InstSteps.{dedicated_scratch, had, found, AddsMove, direct, through, EvictsPReg, empty, cleared}
 
--- a conjunction of two true parts is true
-pub and_true : (a b : Bool) → a ≡ true → b ≡ true → (a && b) ≡ true
-and_true true b d e = e
-and_true false b d e = absurd cc
-
--- a conjunction whose first part is false is false
-pub and_no_first : (a b : Bool) → a ≡ false → (a && b) ≡ false
-and_no_first true b d = absurd cc
-and_no_first false b d = refl
-
--- a conjunction whose second part is false is false
-pub and_no_second : (a b : Bool) → b ≡ false → (a && b) ≡ false
-and_no_second true b e = e
-and_no_second false b e = refl
-
 -- a vreg whose new location is no register leaves empty registers empty
 settles_empty : (old new : VRegAllocsValue) (v : VirtualRegister) (s : Place) (r : Register) → r.number < 64 → (s ≡ InRegister r → ⊥) → SetsAlloc old new v s →
     vreg_of_preg old r ≡ None → vreg_of_preg new r ≡ None
@@ -89,7 +74,7 @@ pub no_some : {X : Type 0} (o : Option X) → ((x : X) → o ≡ Some x → ⊥)
 no_some None h = refl
 no_some (Some x) h = absurd (h x refl)
 
-append_two : {X : Type 0} (xs : List X) (a b : X) → (xs ++ a ∷ []) ++ b ∷ [] ≡ xs ++ a ∷ b ∷ []
+pub append_two : {X : Type 0} (xs : List X) (a b : X) → (xs ++ a ∷ []) ++ b ∷ [] ≡ xs ++ a ∷ b ∷ []
 append_two [] a b = refl
 append_two (x ∷ xs) a b = ap (λ l. x ∷ l) (append_two xs a b)
 

@@ -23,8 +23,9 @@ use Rattle.regalloc2_fastalloc_proofs.proofs.Operands.ClaimAndUse.{PlacesUse}
 use Rattle.regalloc2_fastalloc_state.specs.StateParts.{SpillSlotsValue, slot_name, units_of, IsSlotOrNone, SetsAlloc}
 use Rattle.regalloc2_fastalloc_proofs.specs.InstSteps.{StateValue}
 use Rattle.regalloc2_fastalloc_proofs.proofs.Safety.StepsKeepState.{place_in, slot_in, IsWhole, away_holds, away_stands, arrive_holds, arrive_stands}
-use Rattle.regalloc2_fastalloc_proofs.proofs.Operands.RecordOverState.{opt, opt_some, opt_from, opt_real, stands_at, slots_at, no_register_slot, Located, Owes}
+use Rattle.regalloc2_fastalloc_proofs.proofs.Operands.RecordOverState.{opt, opt_some, opt_from, opt_real, stands_at, slots_at, Located, Owes}
 use Rattle.regalloc2_fastalloc_proofs.proofs.Operands.BlockTail.{BlockTail}
+use Rattle.regalloc2_fastalloc_proofs.proofs.Safety.StepsKeepState.{slot_no_register}
 
 -- the slots stay
 module _ (old new : StateValue) (v : VirtualRegister) (nowhere : place_in old v.number ≡ NoPlace) (slots : new.slots ≡ old.slots) (w : IsWhole old) where
@@ -132,5 +133,5 @@ module _ (tail : BlockTail) where
     where
       slot_calm : (p q : Place) → IsSlotOrNone t.slots.count q → q ≡ p → p ≢ NoPlace → far.clobbered p ≡ false
       slot_calm NoPlace q b e ne = absurd (ne refl)
-      slot_calm (InRegister r) q b e ne = absurd (no_register_slot t.slots.count q r b e)
+      slot_calm (InRegister r) q b e ne = absurd (slot_no_register t.slots.count q r b e)
       slot_calm (InSlot m) q b e ne = st.calm m

@@ -26,7 +26,7 @@ use Rattle.regalloc2_fastalloc_proofs.specs.InstSteps.{AllocsInst, ends_block}
 use Rattle.regalloc2_fastalloc_proofs.proofs.Safety.StepsKeepState.{place_in, IsWhole}
 use Rattle.regalloc2_fastalloc_proofs.proofs.Operands.RecordOverState.{opt_from, stands_at, slots_at, Located, Owes}
 use Rattle.regalloc2_fastalloc_proofs.proofs.Evictions.EvictVReg.{Kept, kept_all}
-use Rattle.regalloc2_fastalloc_proofs.proofs.Moves.ScratchRegTaken.{of_machine, taken, Fit, Less, less_same, less_then}
+use Rattle.regalloc2_fastalloc_proofs.proofs.Moves.ScratchRegTaken.{of_machine, taken, Fit, Less, less_same, less_then, and_none}
 use Rattle.regalloc2_fastalloc_proofs.proofs.Evictions.EvictPReg.{kept_then}
 use Rattle.regalloc2_fastalloc_proofs.proofs.Inst.AcrossInst.{lives_in, begin_stands, begin_owes}
 use Rattle.regalloc2_fastalloc_proofs.proofs.Operands.RecordOfInst.{Orderly, Waits, of_fixed, of_reuse, Laid}
@@ -42,10 +42,6 @@ AvoidClobbers ops clobbers = (k : ℕ) (r : Register) (p : Positions) → k < le
 still_held : (a b c : Bool) → c ≡ (not a && b) → b ≡ false → c ≡ false
 still_held true b c e h = e
 still_held false b c e h = e ∙ h
-
-now_held : (a b c : Bool) → c ≡ (not a && b) → a ≡ true → c ≡ false
-now_held true b c e h = e
-now_held false b c e h = absurd cc
 
 -- what operands reserve stays reserved once the clobbers are taken too
 pub reserved_all : (ops : List OperandValue) (clobbers : PRegSet) (t u b : InstRegs) (old : StateValue) → Fit old → ReservesRegs ops t u old →
@@ -223,7 +219,7 @@ module _ (tail : BlockTail) where
           held = y.ready.held;
           scratch_reserve = y.ready.scratch_reserve;
           fit = y.ready.fit;
-          clobbers = λ r e. less.late r (now_held (has_register inst.clobbers r) (has_register a.prepares.reserved.late r) (has_register a.prepares.held.late r)
+          clobbers = λ r e. less.late r (and_none (has_register inst.clobbers r) (has_register a.prepares.reserved.late r) (has_register a.prepares.held.late r)
               (a.prepares.holds.late r) e);
           within = y.ready.within;
           small = y.ready.small;

@@ -19,8 +19,8 @@ use Rattle.regalloc2_semantics.proofs.NeedsAcrossMoves.{claims_move, claims_thro
 use Rattle.regalloc2_semantics.proofs.PushedMoves.{after_part-more}
 use Rattle.regalloc2_fastalloc_state.specs.declared.inst_regs.InstRegs.{InstRegs}
 use Rattle.regalloc2_fastalloc_proofs.specs.InstSteps.{StateValue, AddsMove, direct, through, is_stack_in, a_move}
-use Rattle.regalloc2_fastalloc_proofs.proofs.Safety.StepsKeepState.{place_in, slot_in}
-use Rattle.regalloc2_fastalloc_proofs.proofs.Operands.RecordOverState.{opt_from, stands_at, slots_at, no_register_slot, Located, Owes, later_push}
+use Rattle.regalloc2_fastalloc_proofs.proofs.Safety.StepsKeepState.{place_in, slot_in, slot_no_register}
+use Rattle.regalloc2_fastalloc_proofs.proofs.Operands.RecordOverState.{opt_from, stands_at, slots_at, Located, Owes, later_push}
 use Rattle.regalloc2_fastalloc_proofs.proofs.Operands.RecordOverState.{stands_edits}
 use Rattle.regalloc2_fastalloc_proofs.proofs.Evictions.EvictVReg.{held_early, held_late, Kept, kept_all, kept_edits}
 use Rattle.regalloc2_fastalloc_proofs.proofs.Moves.ScratchRegTaken.{of_machine, taken, Fit, Spare, Less, scratches_less, spare_more, scratch_off, fit_same}
@@ -162,7 +162,7 @@ module _ (tail : BlockTail) where
           ]
           | inr d ↦ sb.idle.no_allocs x (opt_from (place_in m x) (InRegister by) (sym (put_other (stands_at m) v c x d) ∙ e))
         ]
-        | in_slot f e ↦ no_register_slot m.slots.count (slot_in m x) by (sb.located.whole.below x) (opt_from (slot_in m x) (InRegister by) e)
+        | in_slot f e ↦ slot_no_register m.slots.count (slot_in m x) by (sb.located.whole.below x) (opt_from (slot_in m x) (InRegister by) e)
         | made g ↦ (let y = sb.idle.clear x in cc)
       ] in
       let claims : Claims Known (Move (record { from = from; to = InRegister by }) ∷ (Move (record { from = InRegister by; to = to }) ∷ L)) M E =

@@ -1,19 +1,20 @@
 -- Moves of one class, put in an order in which they can be made.
-use Rattle.std.proofs.Common.{ℕ, ◌≡◌, ◌≢◌, ◌+◌, ◌-◌, ◌*◌, ◌<◌, ◌≤◌, Bool, true, false, if◌then◌else◌, List, [], length, get_or, Option, None, Some}
+use Rattle.std.proofs.Common.{ℕ, ◌≡◌, ◌≢◌, ◌+◌, ◌-◌, ◌*◌, ◌<◌, ◌≤◌, Bool, true, false, if◌then◌else◌, [], length, get_or, Option, None, Some}
 use Rattle.std.proofs.Common.{refl, sym, ap, ◌∙◌, subst, inl, inr, ◌⊎◌, ⊎_elim, arith}
 use Rattle.std.specs.Prelude.{Contains, IfSome, IfNone, ◌&&◌, not, slice_index_or}
 use Rattle.std.specs.Int.{next_multiple_of}
 use Rattle.std.specs.List.{All}
-use Rattle.std.proofs.lemmas.Bool.{cases_eq}
+use Rattle.std.proofs.lemmas.Bool.{cases_eq, and_parts}
 use Rattle.std.proofs.Math.Nat.{mul-le-mul_right}
 use Rattle.std.proofs.lemmas.List.{get_or_default, get_or-map, length-map}
 use Rattle.std.proofs.lemmas.List.Sums.{count_by-le-length}
+use Rattle.std.proofs.lemmas.List.Elements.{All-contains}
 use Rattle.regalloc2_names.specs.declared.RegClass.{RegClass}
-use Rattle.regalloc2_names.specs.declared.RegClass.TheVariants.{Int, Float, Vector}
 use Rattle.regalloc2_names.specs.declared.sets.PRegSet.{PRegSet}
 use Rattle.regalloc2_names.specs.RegisterSet.{has_register}
 use Rattle.regalloc2_names.specs.Register.{Register, class_code, is_register}
 use Rattle.regalloc2_names.specs.Place.{Place, NoPlace, InRegister, InSlot, is_no_place, is_memory}
+use Rattle.regalloc2_names.proofs.Bits.{class_code-lt}
 use Rattle.regalloc2_parts.specs.AtOnce.{Ends, ends, ends_of, names, in_turn, IsOfMoves}
 use Rattle.regalloc2_parts.specs.Resolved.{IsResolution, IsUnnamed}
 use Rattle.regalloc2_fastalloc_state.specs.declared.inst_regs.InstRegs.{InstRegs}
@@ -30,12 +31,6 @@ use Rattle.regalloc2_fastalloc_proofs.specs.BranchSteps.{IsScratchPlace, IsScrat
 use Rattle.regalloc2_semantics.proofs.Cells.{is_register-same}
 use Rattle.regalloc2_semantics.proofs.Plain.{end_near}
 
--- the code of a class is below three
-class_small : (c : RegClass) → class_code c < 3
-class_small Int = omega arith
-class_small Float = omega arith
-class_small Vector = omega arith
-
 -- the name of a slot is one of its units
 named_within : (b : Bool) (start size : ℕ) → 0 < size → (start ≤ (if b then start + size - 1 else start))
     × ((if b then start + size - 1 else start) < start + size)
@@ -44,7 +39,7 @@ named_within false start size some = (omega (arith, some), omega (arith, some))
 
 module _ (s : SpillSlotsValue) (class : RegClass) (owned : SlotsHaveOneOwner s) where
   some_units : 0 < units_of s class
-  some_units = (owned.sizes (class_code class) (class_small class)).0
+  some_units = (owned.sizes (class_code class) (class_code-lt class)).0
 
   -- a later slot lies past the count, and past the end of those before it
   pub later_from : (k : ℕ) → (next_multiple_of s.count (units_of s class) + k * units_of s class ≤ later_slot s class k)
@@ -144,11 +139,6 @@ are_next s class a b slot room full slot2 room2 full2 owned = record {
   owned = owned;
 }
 
--- the registers that the tables give
-both_true : (a b : Bool) → (a && b) ≡ true → (a ≡ true) × (b ≡ true)
-both_true true b e = (refl, e)
-both_true false b e = absurd cc
-
 not_true : (b : Bool) → not b ≡ true → b ≡ true → ⊥
 not_true true e f = cc
 not_true false e f = cc
@@ -195,7 +185,7 @@ module _ (pair : PairFound) where
   second_found r e = if_some (IsLeastRecentIn regs class rest) oldest r found e
 
   parts : (r : Register) → oldest ≡ Some r → (not (is_register first r) ≡ true) × (has_register free r ≡ true)
-  parts r e = both_true (not (is_register first r)) (has_register free r) (sym (left r) ∙ (second_found r e).free_there)
+  parts r e = and_parts (not (is_register first r)) (has_register free r) (sym (left r) ∙ (second_found r e).free_there)
 
   -- either register of the scratch pair may be a scratch register of the class
   pub spare_of : (p : Place) → IsOfScratchPair (record { first = Some place; second = second }) p → IsScratchRegFor inst_regs t class p
@@ -233,15 +223,11 @@ pub short_full : (s : SpillSlotsValue) (class : RegClass) (pair : ScratchPair) �
 short_full s class pair next short most upto =
     let owned = next.owned in
     let past = next.short short in
-    let near = end_near s.count (units_of s class) (owned.sizes (class_code class) (class_small class)).0 in
+    let near = end_near s.count (units_of s class) (owned.sizes (class_code class) (class_code-lt class)).0 in
     let less : owners s ≤ length s.vreg_spillslots = count_by-le-length (λ p. not (is_no_place p)) s.vreg_spillslots in
     let fits = two_fit (owners s) s.num_temp_slots (length s.vreg_spillslots) s.count (units_of s class) most (next_multiple_of s.count (units_of s class))
-    (later_end s class 1) (owned.room most upto) less near (upto (class_code class) (class_small class)) refl in
+    (later_end s class 1) (owned.room most upto) less near (upto (class_code class) (class_code-lt class)) refl in
     omega (arith, past, fits)
-
--- what holds of all values of a list holds of one of them
-pub of_each : {X : Type 0} (P : X → Type 0) (xs : List X) (x : X) → All P xs → Contains xs x → P x
-of_each P xs x all (k, lt, e) = subst P e (all k x lt)
 
 -- an end of a resolved move is none, or that of a given one
 resolved_from : (given : Moves) (n : Place × Place × Unit {0}) → IsOfMoves given n → (n.0 ≡ NoPlace)
@@ -262,11 +248,11 @@ unnamed count given listed p between of_moves real other k d lt =
     let o = of_moves k d lt in (
       (λ e. ⊎_elim
           (λ none. real (sym e ∙ none))
-          (λ x. other (subst (IsSlotBelow count) (sym x.2 ∙ e) (of_each (λ m. IsSlotBelow count m.0 × IsSlotBelow count m.1) given x.0 between x.1).0))
+          (λ x. other (subst (IsSlotBelow count) (sym x.2 ∙ e) (All-contains (λ m. IsSlotBelow count m.0 × IsSlotBelow count m.1) given x.0 between x.1).0))
           (resolved_from given n o)),
       (λ e. ⊎_elim
           (λ none. real (sym e ∙ none))
-          (λ x. other (subst (IsSlotBelow count) (sym x.2 ∙ e) (of_each (λ m. IsSlotBelow count m.0 × IsSlotBelow count m.1) given x.0 between x.1).1))
+          (λ x. other (subst (IsSlotBelow count) (sym x.2 ∙ e) (All-contains (λ m. IsSlotBelow count m.0 × IsSlotBelow count m.1) given x.0 between x.1).1))
           (resolved_to given n o)),
     )
 
@@ -400,7 +386,7 @@ module _ (moves : GivenMoves) where
     -- the ordered moves bring to each target what was at the source of its given move
     pub assigned_all : (m : Place × Place × Unit {0}) → Contains given m → in_turn (ends_of made) names m.1 ≡ m.0
     assigned_all m c =
-        let b = (of_each (λ x. IsSlotBelow old.slots.count x.0 × IsSlotBelow old.slots.count x.1) given m between c).1 in
+        let b = (All-contains (λ x. IsSlotBelow old.slots.count x.0 × IsSlotBelow old.slots.count x.1) given m between c).1 in
         at_q m.1 (λ e. let no : InSlot b.0 ≡ NoPlace = sym b.1 ∙ e in cc) (old_slot m.1 b) ∙ is.at_once.assigned (ends m) (ends_contain given m c)
 
     -- the ordered moves leave each place alone that is no target and no scratch place
@@ -424,12 +410,12 @@ module _ (moves : GivenMoves) where
         source_of : (p : Place) → p ≢ NoPlace → (n : Place × Place × Unit {0}) → Contains listed n → p ≡ n.0 → IsScratchUsed inst_regs old new class p
             ⊎ ((g : Place × Place × Unit {0}) × Contains given g × (p ≡ g.0))
         source_of p real n c e = ⊎_elim (λ none. absurd (real (e ∙ none))) (λ x. inr (x.0, x.1, e ∙ x.2))
-            (resolved_from given n (of_each (IsOfMoves given) listed n is.of_moves c))
+            (resolved_from given n (All-contains (IsOfMoves given) listed n is.of_moves c))
 
         target_of : (p : Place) → p ≢ NoPlace → (n : Place × Place × Unit {0}) → Contains listed n → p ≡ n.1 → IsScratchUsed inst_regs old new class p
             ⊎ ((g : Place × Place × Unit {0}) × Contains given g × (p ≡ g.1))
         target_of p real n c e = ⊎_elim (λ none. absurd (real (e ∙ none))) (λ x. inr (x.0, x.1, e ∙ x.2))
-            (resolved_to given n (of_each (IsOfMoves given) listed n is.of_moves c))
+            (resolved_to given n (All-contains (IsOfMoves given) listed n is.of_moves c))
 
     -- where only temporary slots were added, the moves made are the given ones in an order in which they can be made
     pub orders : new.places ≡ old.places → new.edits ≡ old.edits → new.allocatable ≡ old.allocatable → new.fixed_stack ≡ old.fixed_stack →

@@ -78,7 +78,7 @@ and_false : (a b c : Bool) → c ≡ (a && b) → b ≡ false → c ≡ false
 and_false true b c e h = e ∙ h
 and_false false b c e h = e
 
-and_none : (a b c : Bool) → c ≡ (not a && b) → a ≡ true → c ≡ false
+pub and_none : (a b c : Bool) → c ≡ (not a && b) → a ≡ true → c ≡ false
 and_none true b c e h = e
 and_none false b c e h = absurd cc
 

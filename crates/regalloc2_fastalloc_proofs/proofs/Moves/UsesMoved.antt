@@ -2,7 +2,7 @@
 -- The fold in `Changes` doesn't fit: what the listing carries, or the operands' record, differs from step to step.
 use Rattle.std.proofs.Common.{ℕ, ◌≡◌, ◌+◌, ◌≤◌, Bool, true, false, List, [], ◌∷◌, ◌++◌, length, refl, arith, sym, ap, ◌∙◌, subst, inr, ⊎_elim}
 use Rattle.std.specs.Prelude.{Option, None, Some, not}
-use Rattle.std.proofs.lemmas.Bool.{and_parts}
+use Rattle.std.proofs.lemmas.Bool.{and_parts, not-false}
 use Rattle.std.proofs.lemmas.List.{append_assoc}
 use Rattle.regalloc2_names.specs.declared.RegClass.{RegClass}
 use Rattle.regalloc2_names.specs.Register.{Register}
@@ -27,8 +27,8 @@ use Rattle.regalloc2_validate.specs.Constraints.{op_at}
 use Rattle.regalloc2_fastalloc_proofs.specs.InstSteps.{StateValue, is_stack_in, EvictsVReg, nobody, moved, AllocsScratchReg, dedicated_scratch, had}
 use Rattle.regalloc2_fastalloc_proofs.specs.InstSteps.{found, direct, through, AddsMoveIf, sent, unsent, MovesUses, none_moved, not_moved, one_moved}
 use Rattle.regalloc2_fastalloc_proofs.specs.InstSteps.{a_move}
-use Rattle.regalloc2_fastalloc_proofs.proofs.Safety.StepsKeepState.{place_in, slot_in, IsWhole}
-use Rattle.regalloc2_fastalloc_proofs.proofs.Operands.RecordOverState.{stands_at, slots_at, opt, opt_from, no_register_slot, Located, Shifts, shifts}
+use Rattle.regalloc2_fastalloc_proofs.proofs.Safety.StepsKeepState.{place_in, slot_in, IsWhole, slot_no_register}
+use Rattle.regalloc2_fastalloc_proofs.proofs.Operands.RecordOverState.{stands_at, slots_at, opt, opt_from, Located, Shifts, shifts}
 use Rattle.regalloc2_fastalloc_proofs.proofs.Operands.RecordOverState.{shift_whole, shift_stands, shift_goes, later_push, stands_edits}
 use Rattle.regalloc2_fastalloc_proofs.proofs.Evictions.EvictVReg.{held_early, held_late, Kept, kept_all, kept_edits, shift_kept}
 use Rattle.regalloc2_fastalloc_proofs.proofs.Moves.ScratchRegTaken.{IsIdle, IsScratch, of_machine, taken, less_early, less_late, held_keeps}
@@ -199,7 +199,7 @@ module _ (tail : BlockTail) (item : Item) where
   move_one what far k class u w base m t d us (unsent made eu en) v =
       let f : IsMoved what far (stands_at m) (slots_at m) k (place_in m (what k).number) = use_facts what far k m d us v.located in
       let same : place_in m (what k).number ≡ far.here k = is_place-true (place_in m (what k).number) (far.here k)
-      (was_true (is_place (place_in m (what k).number) (far.here k)) made) in
+      (not-false (is_place (place_in m (what k).number) (far.here k)) made) in
       subst (Moves what far (k + 1) w base) (sym en) (record {
         located = v.located;
         pends = record {
@@ -212,10 +212,7 @@ module _ (tail : BlockTail) (item : Item) where
         fit = v.fit;
         kept = v.kept;
       })
-    where
-      was_true : (b : Bool) → not b ≡ false → b ≡ true
-      was_true true h = refl
-      was_true false h = absurd cc
+
   move_one what far k class u w base m t d us (sent made (direct flat eu en)) v =
       let f : IsMoved what far (stands_at m) (slots_at m) k (place_in m (what k).number) = use_facts what far k m d us v.located in
       let q : Place = place_in m (what k).number in
@@ -250,7 +247,7 @@ module _ (tail : BlockTail) (item : Item) where
       (record { there = f.there; is_use = us; was_located = still_there; alone = f.alone; own = f.own; apart = f.apart }) (InRegister by) Known E L (λ z. cc)
       (λ x z. elim z [
         | still e ↦ s.idle.no_allocs x (opt_from (place_in m2 x) (InRegister by) e)
-        | slotted o e ↦ no_register_slot m2.slots.count (slot_in m2 x) by (s.located.whole.below x) (opt_from (slot_in m2 x) (InRegister by) e)
+        | slotted o e ↦ slot_no_register m2.slots.count (slot_in m2 x) by (s.located.whole.below x) (opt_from (slot_in m2 x) (InRegister by) e)
         | used j le dj uj a e ↦ s.idle.unclaimed j (s.located.placed.claims j dj) e
       ]) s.pends.claims in
       let es : List (ℕ × MoveValue) = m2.edits ++ a_move (before i) (InRegister by) (far.here k) ∷ a_move (before i) q (InRegister by) ∷ [] in

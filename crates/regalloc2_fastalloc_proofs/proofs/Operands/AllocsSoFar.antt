@@ -1,4 +1,5 @@
 -- The places of an instruction's operands, while they are placed one after another.
+use Rattle.regalloc2_semantics.proofs.Operands.{reads_use}
 use Rattle.std.proofs.Common.{ℕ, ◌≡◌, ◌≢◌, ◌<◌, List, Bool, true, false, refl, sym, ap, ◌∙◌, ◌⊎◌, inl, inr, subst, arith, length, set, slice_index_or}
 use Rattle.std.proofs.Common.{get_or-set_same}
 use Rattle.std.specs.Prelude.{◌&&◌, not}
@@ -72,14 +73,6 @@ good_grows env s t o p stay g = record { place = λ a. stand_grows env s t o.vre
 -- no Boolean is both true and false
 pub not_both : (b : Bool) → b ≡ true → b ≡ false → ⊥
 not_both b p q = cc
-
--- an operand that reads isn't a definition
-pub reads_not_def : (o : OperandValue) → is_reading o ≡ true → is_def o.kind ≡ false
-reads_not_def o h = by_test (is_def o.kind) (not (is_fixed_nonallocatable o)) h
-  where
-    by_test : (a b : Bool) → (not a && b) ≡ true → a ≡ false
-    by_test true b h = absurd cc
-    by_test false b h = refl
 
 -- an operand that reads isn't fixed to a nonallocatable register, so it is allocated
 pub reads_allocated : (o : OperandValue) → is_reading o ≡ true → is_fixed_nonallocatable o ≡ false
@@ -319,7 +312,7 @@ module _ (filling : FillingContext) where
     found = λ j less e reads. elim (more.back j e) [
       | inl d ↦ h.found j less d reads
       | inr same ↦ absurd (not_both (is_def (op_at ops k).kind) (tame.late_reuse k n lt reuses).0
-          (reads_not_def (op_at ops k) (subst (λ (m : ℕ). is_reading (op_at ops m) ≡ true) same reads)))
+          (reads_use (op_at ops k) (subst (λ (m : ℕ). is_reading (op_at ops m) ≡ true) same reads)))
     ];
   }
     where

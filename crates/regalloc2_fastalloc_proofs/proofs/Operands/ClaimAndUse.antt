@@ -8,8 +8,8 @@ use Rattle.regalloc2_semantics.specs.OperandsPlaced.{What, uses, Progress, Place
 use Rattle.regalloc2_semantics.proofs.BoundaryToBoundary.{Covers}
 use Rattle.regalloc2_semantics.proofs.RecordSteps.{step_claim, step_use}
 use Rattle.regalloc2_fastalloc_proofs.specs.InstSteps.{StateValue}
-use Rattle.regalloc2_fastalloc_proofs.proofs.Safety.StepsKeepState.{place_in, slot_in}
-use Rattle.regalloc2_fastalloc_proofs.proofs.Operands.RecordOverState.{opt, opt_some, opt_from, stands_at, slots_at, no_register_slot, slot_below, Located}
+use Rattle.regalloc2_fastalloc_proofs.proofs.Safety.StepsKeepState.{place_in, slot_in, slot_no_register}
+use Rattle.regalloc2_fastalloc_proofs.proofs.Operands.RecordOverState.{opt, opt_some, opt_from, stands_at, slots_at, slot_below, Located}
 
 -- the positions at which an operand holds its register are its own
 pub covers_at : (number : ℕ) (d l : Bool) → Covers (record { number = number; is_def = d; is_late = l }) (not d || not l) (d || l)
@@ -62,7 +62,7 @@ claim_register what far there claimed2 t k r u clear alone calm st = record {
       (record {
         for_def = λ d w l e. alone w (opt_from (place_in t w) (InRegister r) e);
         for_use = λ d w e. alone w (opt_from (place_in t w) (InRegister r) e);
-        of_slots = λ w e. absurd (no_register_slot t.slots.count (slot_in t w) r (st.whole.below w) (opt_from (slot_in t w) (InRegister r) e));
+        of_slots = λ w e. absurd (slot_no_register t.slots.count (slot_in t w) r (st.whole.below w) (opt_from (slot_in t w) (InRegister r) e));
       })
       calm (λ z. cc) st.placed;
   below = puts_below far.here there far.claimed claimed2 k (InRegister r) t.slots.count u (λ m e. absurd cc) st.below;

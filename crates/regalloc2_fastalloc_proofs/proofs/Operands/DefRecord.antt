@@ -16,8 +16,8 @@ use Rattle.regalloc2_fastalloc_state.specs.declared.inst_regs.InstRegs.{InstRegs
 use Rattle.regalloc2_fastalloc_state.specs.StateParts.{SpillSlotsValue, slot_name, IsSlotOrNone, SetsAlloc}
 use Rattle.regalloc2_validate.specs.Constraints.{op_at}
 use Rattle.regalloc2_fastalloc_proofs.specs.InstSteps.{StateValue, SameMachine, AddsMoveIf, sent, unsent, FreesDef, is_another}
-use Rattle.regalloc2_fastalloc_proofs.proofs.Safety.StepsKeepState.{place_in, slot_in, IsWhole, whole_tidy}
-use Rattle.regalloc2_fastalloc_proofs.proofs.Operands.RecordOverState.{opt, opt_some, opt_from, opt_real, stands_at, slots_at, no_register_slot, Located, Owes}
+use Rattle.regalloc2_fastalloc_proofs.proofs.Safety.StepsKeepState.{place_in, slot_in, IsWhole, whole_tidy, slot_no_register}
+use Rattle.regalloc2_fastalloc_proofs.proofs.Operands.RecordOverState.{opt, opt_some, opt_from, opt_real, stands_at, slots_at, Located, Owes}
 use Rattle.regalloc2_fastalloc_proofs.proofs.Evictions.EvictVReg.{Kept, kept_all}
 use Rattle.regalloc2_fastalloc_proofs.proofs.Moves.ScratchRegTaken.{IsIdle, fit_same, scratch_back}
 use Rattle.regalloc2_fastalloc_proofs.proofs.Moves.ScratchRegMidMove.{put, put_same, put_other, owes_same}
@@ -71,7 +71,7 @@ either_part : (a b : Bool) → (a && not b) ≡ false → b ≡ false → a ≡ 
 either_part true b e f = let x : not b ≡ true = ap not f in absurd cc
 either_part false b e f = refl
 
-real_slot : (count : ℕ) (s : Place) → IsSlotOrNone count s → s ≢ NoPlace → (q : ℕ) × (s ≡ InSlot q)
+pub real_slot : (count : ℕ) (s : Place) → IsSlotOrNone count s → s ≢ NoPlace → (q : ℕ) × (s ≡ InSlot q)
 real_slot count NoPlace b ne = absurd (ne refl)
 real_slot count (InRegister r) b ne = absurd b
 real_slot count (InSlot q) b ne = (q, refl)
@@ -142,7 +142,7 @@ module _ (tail : BlockTail) (ops : List OperandValue) (far : Progress) (done2 ou
     -- no other vreg is where the vreg was, nor has that slot
     own_at : (q : Place) → c ≡ q → q ≢ NoPlace → (m : StateValue) → IsWhole m → Kept left m → (x : ℕ) → slot_in m x ≡ q → x ≡ v.number
     own_at NoPlace at ne m w k2 x e = absurd (ne refl)
-    own_at (InRegister g) at ne m w k2 x e = absurd (no_register_slot m.slots.count (slot_in m x) g (w.below x) e)
+    own_at (InRegister g) at ne m w k2 x e = absurd (slot_no_register m.slots.count (slot_in m x) g (w.below x) e)
     own_at (InSlot g) at ne m w k2 x e = w.own x v.number g e (slot_then m k2 ∙ r.located.whole.own_slot v.number g at)
 
     alone_at : (q : Place) → c ≡ q → q ≢ NoPlace → (m : StateValue) → IsWhole m → Kept left m → (x : ℕ) → place_in m x ≡ q → x ≡ v.number

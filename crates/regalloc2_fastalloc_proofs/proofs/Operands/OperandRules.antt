@@ -49,7 +49,7 @@ op_in_tables operands k o t lt e not_it within =
     subst (λ (x : OperandValue). x.vreg.number < length t.places.vreg_allocs) (sym e)
     (within k lt (sym (ap (λ (x : OperandValue). is_fixed_nonallocatable x) e) ∙ not_it))
 
-use_vreg : (o : OperandValue) (h : Place) → (use_request o h).vreg ≡ o.vreg
+pub use_vreg : (o : OperandValue) (h : Place) → (use_request o h).vreg ≡ o.vreg
 use_vreg o NoPlace = refl
 use_vreg o (InRegister r) = refl
 use_vreg o (InSlot n) = refl
@@ -72,7 +72,7 @@ one_register i is_ret operands k here t m o r q e h p =
     a_register r (ap (λ (x : OperandValue). is_fixed_nonallocatable x) (sym e) ∙ f.0) (ap (λ (x : OperandValue). x.constraint) (sym e) ∙ f.1)
     (ap (λ (x : Place). slice_set here k x) p) refl refl
 
-reading : (a b : Bool) → a ≡ false → b ≡ false → (not a && not b) ≡ true
+pub reading : (a b : Bool) → a ≡ false → b ≡ false → (not a && not b) ≡ true
 reading true b e f = absurd cc
 reading false true e f = absurd cc
 reading false false e f = refl

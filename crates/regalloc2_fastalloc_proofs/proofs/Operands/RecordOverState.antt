@@ -18,7 +18,7 @@ use Rattle.regalloc2_fastalloc_state.specs.StateParts.{VRegAllocsValue, SpillSlo
 use Rattle.regalloc2_fastalloc_state.specs.StateParts.{GetsSpillSlot}
 use Rattle.regalloc2_fastalloc_proofs.specs.InstSteps.{StateValue, a_move}
 use Rattle.regalloc2_fastalloc_proofs.proofs.Safety.StepsKeepState.{place_in, slot_in, IsWhole, whole_tidy, away_holds, away_stands, given, given_own}
-use Rattle.regalloc2_fastalloc_proofs.proofs.Safety.StepsKeepState.{given_below, given_units}
+use Rattle.regalloc2_fastalloc_proofs.proofs.Safety.StepsKeepState.{given_below, given_units, slot_no_register}
 use Rattle.regalloc2_fastalloc_proofs.proofs.Operands.BlockTail.{BlockTail}
 use Rattle.regalloc2_fastalloc_proofs.proofs.Slots.StepsKeepSlots.{Grown, changes_grow}
 use Rattle.regalloc2_fastalloc_proofs.proofs.Changes.OneChange.{Anything, Changes}
@@ -61,12 +61,6 @@ stands_at t n = opt (place_in t n)
 -- the spill slot of the vreg of a number, as an option
 abbrev pub slots_at : StateValue → ℕ → Option Place
 slots_at t n = opt (slot_in t n)
-
--- a place that is none or a slot below a count isn't a register
-pub no_register_slot : (count : ℕ) (p : Place) (r : Register) → IsSlotOrNone count p → p ≡ InRegister r → ⊥
-no_register_slot count NoPlace r h e = cc
-no_register_slot count (InRegister q) r h e = h
-no_register_slot count (InSlot k) r h e = cc
 
 -- a slot that is one below a count has a number below it
 pub slot_below : (count : ℕ) (p : Place) (k : ℕ) → IsSlotOrNone count p → p ≡ InSlot k → k < count
@@ -228,7 +222,7 @@ module _ (old new : StateValue) (v : VirtualRegister) (r : Register) (s : Place)
       | inl i ↦ (let y : InSlot slot_is.0 ≡ InRegister r = sym slot_is.1 ∙ sym z.here ∙ ap (place_in new) (sym i) ∙ e in cc)
       | inr n ↦ n ((whole_tidy old w).apart x v.number r (sym (z.others x n) ∙ e) there)
     ];
-    no_slot = λ x q e. no_register_slot new.slots.count (slot_in new x) q (given_below old.slots new.slots v s g w.units w.below w.own x)
+    no_slot = λ x q e. slot_no_register new.slots.count (slot_in new x) q (given_below old.slots new.slots v s g w.units w.below w.own x)
         (opt_from (slot_in new x) (InRegister q) e);
     grows = slots_grow old new v s g w;
     fresh = slots_fresh old new v s g w;

@@ -4,8 +4,7 @@ use Rattle.std.proofs.Common.{ℕ, ◌≡◌, ◌≢◌, ◌+◌, ◌<◌, Bool,
 use Rattle.std.specs.Prelude.{Some, not, ◌&&◌, slice_index_or, slice_set}
 use Rattle.std.proofs.lemmas.Bool.{cases_Bool, cases_eq}
 use Rattle.std.proofs.lemmas.List.{get_or-set_same, get_or-set_other, length-set}
-use Rattle.regalloc2_names.specs.declared.OperandConstraint.{OperandConstraint}
-use Rattle.regalloc2_names.specs.declared.OperandConstraint.TheVariants.{Any, Reg, Stack, FixedReg, Reuse, Limit}
+use Rattle.regalloc2_names.specs.declared.OperandConstraint.TheVariants.{Reg, FixedReg, Reuse}
 use Rattle.regalloc2_names.specs.declared.RegClass.{RegClass}
 use Rattle.regalloc2_names.specs.Register.{Register, VirtualRegister, is_register}
 use Rattle.regalloc2_names.specs.RegisterSet.{has_register}
@@ -38,6 +37,7 @@ use Rattle.regalloc2_fastalloc_proofs.proofs.Operands.AllocOperand.{puts_one, an
 use Rattle.regalloc2_fastalloc_proofs.proofs.Operands.RecordAfterOperand.{def_step, made_one, makes_one}
 use Rattle.regalloc2_fastalloc_proofs.proofs.Operands.UsesAndPlainDefs.{waits_set, fresh_turn, phase_turn, laid_next}
 use Rattle.regalloc2_fastalloc_proofs.proofs.Operands.RecordOfInst.{LayingContext}
+use Rattle.regalloc2_fastalloc_proofs.proofs.Operands.AllocsSoFar.{asked_as_fixed}
 
 -- what is held stays held while a definition is sent
 pub sends_less : (point : ℕ) (class : RegClass) (is_made : Bool) (from to : Place) (t u : InstRegs) (old new : StateValue) →
@@ -82,15 +82,6 @@ picks_register t o p old new w (slot h g e ed machine order) = absurd (elim w [
   | inr a ↦ elim h [ inl b ↦ (let x : InPReg a.0 ≡ AnyPlace = sym a.1 ∙ b in cc) | inr b ↦ (let x : InPReg a.0 ≡ InMemory = sym a.1 ∙ b in cc) ]
 ])
 picks_register t o p old new w (free r h away may fr first e en) = (r, e)
-
--- a reuse that requires one preg names an operand that is fixed to that preg
-pub asked_as_at : (c : OperandConstraint) (r : Register) → reuse_requirement_of c ≡ InPReg r → c ≡ FixedReg r
-asked_as_at Any r e = absurd cc
-asked_as_at Reg r e = absurd cc
-asked_as_at Stack r e = absurd cc
-asked_as_at (FixedReg q) r e = let same : q ≡ r = cc in ap FixedReg same
-asked_as_at (Reuse m) r e = absurd cc
-asked_as_at (Limit m) r e = absurd cc
 
 module _ (laying : LayingContext) (late : Bool) (k : ℕ) (list : List Place) (u : InstRegs) (t : StateValue)
     (L : Laid laying.tail laying.ops laying.lived laying.clob laying.ret late k list u t) (lt : k < length laying.ops)
@@ -148,7 +139,7 @@ module _ (laying : LayingContext) (late : Bool) (k : ℕ) (list : List Place) (u
   due : Due L.here L.claimed k (reuse_requirement_of (op_at ops q).constraint)
   due = ⊎_elim
       (λ (ck : L.claimed k ≡ true). let w = claimed_fixed ck in owed w.0 ck w.1 (ap reuse_requirement_of w.2))
-      (λ (f : L.claimed k ≡ false). fresh f (λ r w. let x = (L.fixed_reuse k q r counts_k reuse (asked_as_at (op_at ops q).constraint r w)).0 in cc))
+      (λ (f : L.claimed k ≡ false). fresh f (λ r w. let x = (L.fixed_reuse k q r counts_k reuse (asked_as_fixed (op_at ops q).constraint r w)).0 in cc))
       (cases_Bool (L.claimed k))
 
   -- under Reg neither claimed before

@@ -1,6 +1,7 @@
 -- What is chosen for an operand, and what it claims.
 use Rattle.std.proofs.Common.{ℕ, ◌≡◌, ◌≢◌, Bool, true, false, inl, inr, ◌⊎◌, refl, sym, ap, ◌∙◌}
 use Rattle.std.specs.Prelude.{None, IsTrue, not}
+use Rattle.std.proofs.lemmas.Bool.{not-true}
 use Rattle.regalloc2_names.specs.Register.{Register}
 use Rattle.regalloc2_names.specs.RegisterSet.{has_register}
 use Rattle.regalloc2_names.specs.Place.{Place, NoPlace, InRegister, InSlot, is_place, register_of_place}
@@ -26,16 +27,12 @@ pub suits_any : (t : StateValue) (w : Requirement) (p : Place) (b : Bool) → w 
 unfolding MeetsRequirement
 suits_any t w p b e there same = rw e (by_place p b there same)
   where
-    not_true : (b : Bool) → not b ≡ true → b ≡ false
-    not_true true h = absurd cc
-    not_true false h = refl
-
     by_place : (p : Place) (b : Bool) → p ≢ NoPlace → b ≡ is_stack_in t p
         → (not b ≡ true → (r : Register) × (p ≡ InRegister r) × (is_stack_in t p ≡ false))
         × (((r : Register) × (p ≡ InRegister r) × (is_stack_in t p ≡ false)) → not b ≡ true)
     by_place NoPlace b there same = absurd (there refl)
-    by_place (InRegister r) b there same = (λ h. (r, refl, sym same ∙ not_true b h), λ s. ap not (same ∙ s.2))
-    by_place (InSlot n) b there same = (λ h. absurd (let f = not_true b h in cc), λ s. absurd (let f = s.1 in cc))
+    by_place (InRegister r) b there same = (λ h. (r, refl, sym same ∙ not-true b h), λ s. ap not (same ∙ s.2))
+    by_place (InSlot n) b there same = (λ h. absurd (let f = not-true b h in cc), λ s. absurd (let f = s.1 in cc))
 
 -- a place meets the requirement of memory exactly where it is in memory
 pub suits_memory : (t : StateValue) (w : Requirement) (p : Place) (b : Bool) → w ≡ InMemory → b ≡ is_stack_in t p → (IsTrue b → MeetsRequirement t w p)

@@ -3,14 +3,14 @@ use Rattle.std.proofs.Common.{ℕ, ◌≡◌, ◌≢◌, ◌+◌, ◌<◌, Bool,
 use Rattle.std.specs.Prelude.{not, ◌&&◌, slice_index_or, slice_set}
 use Rattle.std.proofs.lemmas.Bool.{cases_Bool, cases_eq}
 use Rattle.std.proofs.lemmas.List.{get_or-set_same, get_or-set_other, length-set}
-use Rattle.regalloc2_names.specs.declared.OperandConstraint.{OperandConstraint}
-use Rattle.regalloc2_names.specs.declared.OperandConstraint.TheVariants.{Any, Reg, Stack, FixedReg, Reuse, Limit}
+use Rattle.regalloc2_names.specs.declared.OperandConstraint.TheVariants.{FixedReg, Reuse}
 use Rattle.regalloc2_names.specs.Register.{Register}
 use Rattle.regalloc2_names.specs.Operand.{OperandValue, is_def, is_late, is_reading, is_fixed_nonallocatable}
 use Rattle.regalloc2_names.specs.Place.{Place, NoPlace, InRegister, InSlot}
 use Rattle.regalloc2_names.specs.Point.{after}
 use Rattle.regalloc2_semantics.specs.OperandsPlaced.{what_of, Progress, Counts}
 use Rattle.regalloc2_semantics.proofs.BoundaryToBoundary.{Covers}
+use Rattle.regalloc2_semantics.proofs.Operands.{reads_use}
 use Rattle.regalloc2_fastalloc_state.specs.declared.inst_regs.InstRegs.{InstRegs}
 use Rattle.regalloc2_fastalloc_state.specs.declared.request.Requirement.TheVariants.{InPReg}
 use Rattle.regalloc2_validate.specs.Constraints.{op_at}
@@ -21,6 +21,7 @@ use Rattle.regalloc2_fastalloc_proofs.proofs.Operands.AllocOperand.{Due, owed, f
 use Rattle.regalloc2_fastalloc_proofs.proofs.Operands.AllocOperand.{and_one_keeps}
 use Rattle.regalloc2_fastalloc_proofs.proofs.Operands.RecordAfterOperand.{use_step, def_step, made_one, makes_one}
 use Rattle.regalloc2_fastalloc_proofs.proofs.Operands.RecordOfInst.{LayingContext}
+use Rattle.regalloc2_fastalloc_proofs.proofs.Operands.AllocsSoFar.{asked_fixed}
 
 -- an operand that was allocated
 pub turned_next : (ops : List OperandValue) (late : Bool) (k j : ℕ) → Turned ops late k j → Turned ops late (k + 1) j
@@ -69,15 +70,6 @@ skipped ops false k j e other t = ⊎_elim
     (λ (a : is_late (op_at ops k).position ≡ false). absurd (other a))
     (cases_Bool (is_late (op_at ops k).position))
 
--- an operand that requires one preg is fixed to that preg
-pub asked_at : (c : OperandConstraint) (r : Register) → requirement_of c ≡ InPReg r → c ≡ FixedReg r
-asked_at Any r e = absurd cc
-asked_at Reg r e = absurd cc
-asked_at Stack r e = absurd cc
-asked_at (FixedReg q) r e = let same : q ≡ r = cc in ap FixedReg same
-asked_at (Reuse m) r e = absurd cc
-asked_at (Limit m) r e = absurd cc
-
 -- a use as it is allocated
 pub use_number : (o : OperandValue) (q : Place) → (use_request o q).vreg.number ≡ o.vreg.number
 use_number o NoPlace = refl
@@ -101,13 +93,6 @@ waits_set ops list k j p r lt real ne w = elim w [
     | inr x ↦ (λ y. e (sym (get_or-set_other list k d p NoPlace x) ∙ y))
   ]) (get_or-set_other list k j p NoPlace ne ∙ f)
 ]
-
-reads_no_def : (o : OperandValue) → is_reading o ≡ true → is_def o.kind ≡ false
-reads_no_def o e = not_def (is_def o.kind) (is_fixed_nonallocatable o) e
-  where
-    not_def : (a b : Bool) → (not a && not b) ≡ true → a ≡ false
-    not_def true b e = absurd cc
-    not_def false b e = refl
 
 -- no operand both reads a vreg and is fixed to a nonallocatable register
 pub reads_no_fixed : (o : OperandValue) → is_reading o ≡ true → is_fixed_nonallocatable o ≡ true → ⊥
@@ -277,7 +262,7 @@ module _ (laying : LayingContext) where
 
       use_free : (q : Place) → slice_index_or list k NoPlace ≡ q → Counts ops k → L.claimed k ≡ false → (r : Register) →
           (use_request (op_at ops k) q).requirement ≡ InPReg r → ⊥
-      use_free NoPlace e c f r w = let x = (L.fixed k r c (asked_at (op_at ops k).constraint r w)).0 in cc
+      use_free NoPlace e c f r w = let x = (L.fixed k r c (asked_fixed (op_at ops k).constraint r w)).0 in cc
       use_free (InRegister g) e c f r w = let x = (L.listed_here k c (λ y. let z : InRegister g ≡ NoPlace = sym e ∙ y in cc)).0 in cc
       use_free (InSlot m) e c f r w = let x = (L.listed_here k c (λ y. let z : InSlot m ≡ NoPlace = sym e ∙ y in cc)).0 in cc
 
@@ -300,7 +285,7 @@ module _ (laying : LayingContext) where
           Laid tail ops lived clob ret late (k + 1) (slice_set list k p) w m
       laid_use p w m reading s =
           let q : Place = slice_index_or list k NoPlace in
-          let is_use : is_def (op_at ops k).kind ≡ false = reads_no_def (op_at ops k) reading in
+          let is_use : is_def (op_at ops k).kind ≡ false = reads_use (op_at ops k) reading in
           let counts : Counts ops k = (lt, inr reading) in
           let g : Got tail ops now ret k p w s.middle =
           gets_step tail ops now ret (record {
@@ -334,7 +319,7 @@ module _ (laying : LayingContext) where
             | of_reuse m a b ↦ absurd (plain m a)
             | of_named d a b h f g ↦ absurd cc
           ]))
-          (λ (f : L.claimed k ≡ false). fresh f (λ r w. let x = (L.fixed k r c (asked_at (op_at ops k).constraint r w)).0 in cc))
+          (λ (f : L.claimed k ≡ false). fresh f (λ r w. let x = (L.fixed k r c (asked_fixed (op_at ops k).constraint r w)).0 in cc))
           (cases_Bool (L.claimed k))
 
       -- allocating operand k as a definition that is no reuse keeps the record of the pass, with k done

@@ -1,28 +1,16 @@
 -- What a well-formed function's instructions bring to the laws on placing operands.
-use Rattle.std.proofs.Common.{ℕ, ◌≡◌, ◌<◌, Bool, true, false, ◌&&◌, length, refl, arith, ap, inl, inr, ◌⊎◌, nat_eq}
+use Rattle.std.proofs.Common.{ℕ, ◌≡◌, ◌<◌, Bool, true, false, ◌&&◌, length, refl, arith, ap, nat_eq}
 use Rattle.std.proofs.lemmas.Bool.{ne_eqb}
 use Rattle.std.proofs.lemmas.List.Elements.{All-get_or}
-use Rattle.regalloc2_names.specs.declared.OperandConstraint.{OperandConstraint}
-use Rattle.regalloc2_names.specs.declared.OperandConstraint.TheVariants.{Any, Reg, Stack, FixedReg, Reuse, Limit}
-use Rattle.regalloc2_names.specs.declared.RegClass.{RegClass}
-use Rattle.regalloc2_names.specs.Register.{Register}
 use Rattle.regalloc2_names.specs.Operand.{OperandValue, is_def, is_late, is_fixed}
 use Rattle.regalloc2_function.specs.FunctionValue.{FunctionValue, IsLimited, inst_at, no_inst}
 use Rattle.regalloc2_function.specs.Machine.{MachineValue}
-use Rattle.regalloc2_function.specs.WellFormed.{IsWellFormed, MayBeReused, ReusesAreSound}
+use Rattle.regalloc2_function.specs.WellFormed.{IsWellFormed, ReusesAreSound}
 use Rattle.regalloc2_semantics.specs.Instruction.{Knows}
 use Rattle.regalloc2_semantics.proofs.SingleDef.{Made, ReadsDefined, once_at, knows_at, defined_small, reads_defined}
 use Rattle.regalloc2_validate.specs.Constraints.{no_operand, op_at}
 use Rattle.regalloc2_fastalloc_proofs.proofs.Operands.RecordOfInst.{Orderly}
-
--- under a constraint that may be reused
-reusable : (env : MachineValue) (class : RegClass) (c : OperandConstraint) → MayBeReused env class c → (c ≡ Reg) ⊎ ((r : Register) × (c ≡ FixedReg r))
-reusable env class Any h = absurd h
-reusable env class Reg h = inl refl
-reusable env class Stack h = absurd h
-reusable env class (FixedReg r) h = inr (r, refl)
-reusable env class (Reuse n) h = absurd h
-reusable env class (Limit n) h = absurd h
+use Rattle.regalloc2_fastalloc_proofs.proofs.Safety.OperandAssumptions.{reusable}
 
 module _ (env : MachineValue) (f : FunctionValue) (limited : IsLimited f) (ok : IsWellFormed env f) (i : ℕ) (lt : i < length f.insts) where
   reads : ReadsDefined f i

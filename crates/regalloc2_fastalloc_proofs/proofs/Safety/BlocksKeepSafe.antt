@@ -55,7 +55,7 @@ start_next f follow b lt = record {
 }
 
 -- where all instructions of a block are left, nothing has been done
-block_start : (f : FunctionValue) (b : ℕ) (blank : List Place) (old : StateValue) (i : ℕ) (places : List Place) (t : StateValue) →
+pub block_start : (f : FunctionValue) (b : ℕ) (blank : List Place) (old : StateValue) (i : ℕ) (places : List Place) (t : StateValue) →
     AllocsBlockInsts f b blank old i places t → i ≡ (block_at f b).range.end → t ≡ old
 block_start f b blank old i places t at_end e = refl
 block_start f b blank old i places t (one_in n before_it p s u ge lt prev a) e = absurd (omega arith)

@@ -35,6 +35,7 @@ use Rattle.regalloc2_fastalloc_proofs.proofs.Safety.StepsKeepSafe.{StepRules}
 use Rattle.regalloc2_fastalloc_proofs.proofs.Changes.OneChange.{in_order}
 use Rattle.regalloc2_fastalloc_proofs.proofs.Changes.InstChanges.{clears_changes}
 use Rattle.regalloc2_fastalloc_proofs.proofs.Changes.WalkChanges.{settles_changes, pushes_changes}
+use Rattle.regalloc2_fastalloc_proofs.proofs.Operands.RecordOverState.{slot_below}
 
 -- the value of a move that is given: it goes from some vreg's slot to that of a known vreg whose value may be written
 pub record IsGiven (Known : VirtualRegister → Type 0) (Passed : VirtualRegister → Type 0) (slots : SpillSlotsValue) (from to : Place) : Type 0 where
@@ -98,9 +99,6 @@ in_memory : (env : MachineValue) (t : StateValue) (p : Place) → HasMachine env
 in_memory env t NoPlace m h = absurd h
 in_memory env t (InRegister r) m h = m.memory r h
 in_memory env t (InSlot k) m h = refl
-
-below_count : (count : ℕ) (p : Place) (n : ℕ) → IsSlotOrNone count p → p ≡ InSlot n → n < count
-below_count count p n h e = subst (IsSlotOrNone count) e h
 
 -- a scratch register or the borrowed one is one through which moves of the class go
 lent_through : (env : MachineValue) (inst_regs : InstRegs) (t : StateValue) (class : RegClass) (r : Register) → HasMachine env t →
@@ -222,7 +220,7 @@ module _ (rules : StepRules) where
 
       named_end : (x k : ℕ) (p : Place) → slot_name old.slots x ≡ InSlot k → p ≡ InSlot k → IsEndOfArgMove env middle.slots class p
       named_end x k p own is =
-          let below = below_count old.slots.count (slot_name old.slots x) k (h.slots x) own in
+          let below = slot_below old.slots.count (slot_name old.slots x) k (h.slots x) own in
           let grows = orders.grows in
           subst (IsEndOfArgMove env middle.slots class) (sym is) (omega (arith, below, grows))
 
@@ -250,7 +248,7 @@ module _ (rules : StepRules) where
       target_written p (inl (inr (k, is, above_it, below, j, which, ends))) n at = inr (λ v known own.
           let x : InSlot k ≡ InSlot n = sym is ∙ at in
           let same : k ≡ n = cc in
-          let low = below_count old.slots.count (slot_name old.slots v.number) n (h.slots v.number) (sym (same_names v.number) ∙ own) in
+          let low = slot_below old.slots.count (slot_name old.slots v.number) n (h.slots v.number) (sym (same_names v.number) ∙ own) in
           omega (arith, same, low, above_it))
       target_written p (inr (x, c, is)) n at =
           let g = is_given x c in

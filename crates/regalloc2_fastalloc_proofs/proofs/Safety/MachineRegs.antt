@@ -1,7 +1,7 @@
 -- The registers of a machine that suits the function, as the walk's tables have them.
-use Rattle.std.proofs.Common.{◌≡◌, ◌≢◌, ◌<◌, Bool, true, false, subst, inl, ◌⊎◌, ⊎_elim}
+use Rattle.std.proofs.Common.{◌≡◌, ◌≢◌, ◌<◌, true, false, subst, inl, ◌⊎◌}
 use Rattle.std.specs.Prelude.{None, Some, slice_index_or}
-use Rattle.std.proofs.lemmas.Bool.{cases_Bool}
+use Rattle.std.proofs.lemmas.Bool.{false_from_ne_true}
 use Rattle.std.proofs.lemmas.List.Elements.{All-contains}
 use Rattle.regalloc2_names.specs.declared.RegClass.{RegClass}
 use Rattle.regalloc2_names.specs.Register.{Register, class_code, invalid_register}
@@ -13,9 +13,6 @@ use Rattle.regalloc2_fastalloc_proofs.specs.BranchSteps.{AreApart}
 use Rattle.regalloc2_fastalloc_proofs.specs.InstSteps.{StateValue}
 use Rattle.regalloc2_fastalloc_proofs.proofs.Moves.ScratchRegTaken.{Fit}
 
-not_true : (b : Bool) → (b ≡ true → ⊥) → b ≡ false
-not_true b h = ⊎_elim (λ (e : b ≡ true). absurd (h e)) (λ (e : b ≡ false). e) (cases_Bool b)
-
 -- registers that a machine that suits the function has, with numbers below 64, fit: the three kinds of them are apart
 pub machine_fit : (f : FunctionValue) (env : MachineValue) (t : StateValue) → MachineFits f env →
     ((r : Register) → (has_register t.allocatable r ≡ true) ⊎ (has_register t.fixed_stack r ≡ true) → r.number < 64) →
@@ -24,15 +21,15 @@ pub machine_fit : (f : FunctionValue) (env : MachineValue) (t : StateValue) → 
     ((c : RegClass) (r : Register) → slice_index_or t.dedicated_scratch (class_code c) None ≡ Some r → scratch_of env c ≡ Some r) → Fit t
 machine_fit f env t fits small allocatable fixed dedicated_scratch = record {
   small = small;
-  stack_apart = λ r h. not_true (has_register t.fixed_stack r) (λ e.
+  stack_apart = λ r h. false_from_ne_true (has_register t.fixed_stack r) (λ e.
       let yes : is_allocatable env r.class r ≡ true = allocatable r (small r (inl h)) h in
       let no = slot_apart r.class r (fixed r e) in let x : is_allocatable env r.class r ≡ false = no.0 in cc);
   own_apart = λ c b h.
       let s = (fits c).scratch_apart b (dedicated_scratch c b h) in (
-        not_true (has_register t.allocatable b) (λ e.
+        false_from_ne_true (has_register t.allocatable b) (λ e.
             let yes : is_allocatable env c b ≡ true = subst (λ x. is_allocatable env x b ≡ true) s.0 (allocatable b (small b (inl e)) e) in
             let no : is_allocatable env c b ≡ false = s.1 in cc),
-        not_true (has_register t.fixed_stack b) (λ e. (slot_apart c b (fixed b e)).1 (dedicated_scratch c b h)),
+        false_from_ne_true (has_register t.fixed_stack b) (λ e. (slot_apart c b (fixed b e)).1 (dedicated_scratch c b h)),
       );
 }
   where

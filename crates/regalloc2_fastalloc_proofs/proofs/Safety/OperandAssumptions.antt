@@ -12,11 +12,12 @@ use Rattle.regalloc2_function.specs.Machine.{MachineValue}
 use Rattle.regalloc2_function.specs.WellFormed.{MayBeReused, ReusesAreSound}
 use Rattle.regalloc2_semantics.specs.Instruction.{Knows}
 use Rattle.regalloc2_semantics.specs.OperandsPlaced.{Once, Counts, what_of}
+use Rattle.regalloc2_semantics.proofs.Operands.{reads_use}
 use Rattle.regalloc2_validate.specs.Constraints.{no_operand, op_at}
-use Rattle.regalloc2_fastalloc_proofs.proofs.Operands.AllocsSoFar.{IsTame, reads_not_def}
+use Rattle.regalloc2_fastalloc_proofs.proofs.Operands.AllocsSoFar.{IsTame}
 
 -- under a constraint that may be reused
-reusable : (env : MachineValue) (class : RegClass) (c : OperandConstraint) → MayBeReused env class c → (c ≡ Reg) ⊎ ((r : Register) × (c ≡ FixedReg r))
+pub reusable : (env : MachineValue) (class : RegClass) (c : OperandConstraint) → MayBeReused env class c → (c ≡ Reg) ⊎ ((r : Register) × (c ≡ FixedReg r))
 reusable env class Any h = absurd h
 reusable env class Reg h = inl refl
 reusable env class Stack h = absurd h
@@ -56,5 +57,5 @@ tame_of env Known inst knows once allocated reuses constraint unlimited =
       named_as = λ k n less e. (let r = reuses.targets k no_operand less n no_operand e in
           reusable env (op_at ops n).vreg.class (op_at ops n).constraint r.1.4);
       apart = λ j k n lj lk a b. reuses.apart j k n no_operand no_operand lj lk a b;
-      unread = λ j k lj lk def reads e. once.unread j k (lj, inl def) (lk, inr reads) def (reads_not_def (op_at ops k) reads) (sym e);
+      unread = λ j k lj lk def reads e. once.unread j k (lj, inl def) (lk, inr reads) def (reads_use (op_at ops k) reads) (sym e);
     }

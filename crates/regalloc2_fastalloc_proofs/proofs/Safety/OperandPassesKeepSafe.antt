@@ -1,7 +1,8 @@
 -- The passes over an instruction's operands keep the tables safe and fill the places.
 -- The fold in `Changes` serves its evictions alone: an operand's place is handed from its selection to the steps that follow.
+use Rattle.regalloc2_semantics.proofs.Operands.{reads_use}
 use Rattle.std.proofs.Common.{ℕ, ◌≡◌, ◌≢◌, ◌+◌, ◌<◌, ◌≤◌, List, Bool, true, false, refl, sym, ap, ◌∙◌, ◌⊎◌, inl, inr, subst, arith, length, set}
-use Rattle.std.proofs.lemmas.Bool.{cases_eq}
+use Rattle.std.proofs.lemmas.Bool.{cases_eq, false_from_ne_true, true_from_ne_false}
 use Rattle.regalloc2_names.specs.declared.OperandConstraint.TheVariants.{FixedReg, Reuse}
 use Rattle.regalloc2_names.specs.Register.{Register, VirtualRegister}
 use Rattle.regalloc2_names.specs.Operand.{OperandValue, is_def, is_late, is_reading, is_fixed_nonallocatable}
@@ -20,14 +21,14 @@ use Rattle.regalloc2_fastalloc_proofs.proofs.Slots.SlotsGrow.{changes_stay}
 use Rattle.regalloc2_fastalloc_proofs.proofs.Slots.LocatedStaysLocated.{changes_last}
 use Rattle.regalloc2_fastalloc_proofs.proofs.Safety.StepsKeepSafe.{IsApart}
 use Rattle.regalloc2_fastalloc_proofs.proofs.Safety.OperandKeepsSafe.{places_def_kept, places_use_kept}
-use Rattle.regalloc2_fastalloc_proofs.proofs.Operands.AllocsSoFar.{at_place, IsInRegister, MeetsAlone, IsGood, not_both, reads_not_def}
+use Rattle.regalloc2_fastalloc_proofs.proofs.Operands.AllocsSoFar.{at_place, IsInRegister, MeetsAlone, IsGood, not_both}
 use Rattle.regalloc2_fastalloc_proofs.proofs.Operands.AllocsSoFar.{reads_allocated, answer_meets, answer_named, reuse_meets, fixed_meets, asked_fixed}
 use Rattle.regalloc2_fastalloc_proofs.proofs.Operands.AllocsSoFar.{asked_as_fixed, fixed_class, FixedAreKnown, Filled, DefsAreWritten, reuse_register}
 use Rattle.regalloc2_fastalloc_proofs.proofs.Operands.AllocsSoFar.{no_place_register, OneMore, filled_same, filled_on, written, written_twice}
 use Rattle.regalloc2_fastalloc_proofs.proofs.Safety.StepsKeepSafe.{rules_of}
 use Rattle.regalloc2_fastalloc_proofs.proofs.Operands.AllocsSoFar.{FillingContext}
 
-a_place_of : (p : Place) → IsInRegister p → (r : Register) × (p ≡ InRegister r)
+pub a_place_of : (p : Place) → IsInRegister p → (r : Register) × (p ≡ InRegister r)
 a_place_of NoPlace h = absurd h
 a_place_of (InRegister r) h = (r, refl)
 a_place_of (InSlot n) h = absurd h
@@ -90,11 +91,11 @@ module _ (passes : PassesContext) where
       let f = filled_on filling D here t u old new w.given.kept.safe w.given.kept.inst_regs (changes_stay (places_use_changes (λ q s. tt) tt tt places))
       (λ j within r there. changes_last (op_at ops j).vreg.number (places_use_changes (λ q s. tt) tt tt places) there) h in
       written filling D E k p here u new less more
-      (λ n e. not_both (is_def o.kind) (tame.late_reuse k n less e).0 (reads_not_def o reads))
+      (λ n e. not_both (is_def o.kind) (tame.late_reuse k n less e).0 (reads_use o reads))
       (record {
         place = λ a. w.given.place;
         meets = answer_meets env o.constraint p
-            (λ n e. not_both (is_def o.kind) (tame.late_reuse k n less e).0 (reads_not_def o reads)) (λ n e. tame.unlimited k n less e) w.given.answer;
+            (λ n e. not_both (is_def o.kind) (tame.late_reuse k n less e).0 (reads_use o reads)) (λ n e. tame.unlimited k n less e) w.given.answer;
       })
       (λ r. w.found)
       (λ j within d names. absurd (no_place_register (at_place here j) (h.shared j k within d names ∙ none)
@@ -118,7 +119,7 @@ module _ (passes : PassesContext) where
       (λ j within x there. changes_last (op_at ops j).vreg.number (places_use_changes (λ q s. tt) tt tt places) there) h in
       let as_chosen : p ≡ at_place here k = w.given.answer ∙ sym at_it in
       written filling D E k p here u new less more
-      (λ n e. not_both (is_def o.kind) (tame.late_reuse k n less e).0 (reads_not_def o reads))
+      (λ n e. not_both (is_def o.kind) (tame.late_reuse k n less e).0 (reads_use o reads))
       (record { place = λ a. w.given.place; meets = subst (MeetsAlone env o.constraint) (sym as_chosen) good.meets })
       (λ x. w.found)
       (λ j within d names. as_chosen)
@@ -142,8 +143,8 @@ module _ (passes : PassesContext) where
       (λ j within r there. changes_last (op_at ops j).vreg.number (places_def_changes (λ q s. tt) tt (tame.unread k j less within def r) places) there) h in
       written filling D E k p here u new less more no_reuse
       (record { place = λ a. w.place; meets = answer_meets env o.constraint p no_reuse (λ n e. tame.unlimited k n less e) w.answer })
-      (λ reads. absurd (not_both (is_def o.kind) def (reads_not_def o reads)))
-      (λ j within d names. absurd (not_both (is_def o.kind) def (reads_not_def o (tame.named j k within names).2)))
+      (λ reads. absurd (not_both (is_def o.kind) def (reads_use o reads)))
+      (λ j within d names. absurd (not_both (is_def o.kind) def (reads_use o (tame.named j k within names).2)))
       f
 
   -- a reuse
@@ -201,14 +202,6 @@ module _ (passes : PassesContext) where
   abbrev pub InEarly : ℕ → ℕ → Type 0
   InEarly k j = (is_late (op_at ops j).position ≡ true) ⊎ (j < k)
 
-  not_true : (b : Bool) → (b ≡ true → ⊥) → b ≡ false
-  not_true true h = absurd (h refl)
-  not_true false h = refl
-
-  not_false : (b : Bool) → (b ≡ false → ⊥) → b ≡ true
-  not_false true h = refl
-  not_false false h = absurd (h refl)
-
   -- in the pass over late operands k is one more that is done, if it is late
   pub late_more : (k : ℕ) → is_late (op_at ops k).position ≡ true → OneMore filling (InLate k) (InLate (k + 1)) k
   late_more k late = record {
@@ -248,7 +241,7 @@ module _ (passes : PassesContext) where
       Filled env Known Writes May ops (InLate k) there u m
   lates_kept blank t old h k there u m none_placed le = h
   lates_kept blank t old h k there u m (of_other j l w s prev other) le =
-      let early : is_late (op_at ops j).position ≡ false = not_true (is_late (op_at ops j).position) other in
+      let early : is_late (op_at ops j).position ≡ false = false_from_ne_true (is_late (op_at ops j).position) other in
       filled_same filling (InLate j) (InLate (j + 1)) there u m
       (λ x less e. (
         (let ne : x ≢ j = λ same. not_both (is_late (op_at ops j).position) (ap (λ (y : ℕ). is_late (op_at ops y).position) (sym same) ∙ e.1)
@@ -268,7 +261,7 @@ module _ (passes : PassesContext) where
       Filled env Known Writes May ops (InEarly k) there u m
   earlies_kept half t old h k there u m none_placed le = h
   earlies_kept half t old h k there u m (of_other j l w s prev other) le =
-      let late : is_late (op_at ops j).position ≡ true = not_false (is_late (op_at ops j).position) other in
+      let late : is_late (op_at ops j).position ≡ true = true_from_ne_false (is_late (op_at ops j).position) other in
       filled_same filling (InEarly j) (InEarly (j + 1)) there u m
       (λ x less e. elim e [
         | inl is ↦ inl is

@@ -1,10 +1,11 @@
 -- What the walk's end gives, with operands of every kind but `Limit`.
+use Rattle.regalloc2_parts.proofs.Resolving.{All-reversed}
 use Rattle.std.proofs.Common.{ℕ, ◌≡◌, ◌≢◌, ◌+◌, ◌-◌, ◌<◌, ◌≤◌, ⊎_elim, inl, inr, Bool, true, false, cond, List, length, drop, reverse, refl, sym, ap}
 use Rattle.std.proofs.Common.{◌∙◌, subst, arith, nat_eq, eq-eqb, slice_index_or, slice_index}
 use Rattle.std.specs.Prelude.{All, Any as SomeIn, None, Some, sum_by}
 use Rattle.std.specs.List.Sorted.{IsNonDecreasingBy}
 use Rattle.std.proofs.lemmas.Bool.{ne_eqb, cases_eq}
-use Rattle.std.proofs.lemmas.List.{get_or-take, get_or-drop, get_or-reverse, length-reverse, take_all}
+use Rattle.std.proofs.lemmas.List.{get_or-take, get_or-drop, take_all}
 use Rattle.std.proofs.lemmas.List.Elements.{All-contains}
 use Rattle.std.proofs.lemmas.List.Sums.{sum_by-take-le}
 use Rattle.regalloc2_names.specs.declared.OperandConstraint.{OperandConstraint}
@@ -58,12 +59,6 @@ pub record IsMade (f : FunctionValue) (env : MachineValue) (Known : VirtualRegis
   pub debug : All (IsOfLabel f env Known t.slots) o.debug_locations
   pub kept : WalkKept env Known f May o.allocs 0 0 o.allocs t
 
--- what holds of each element holds the other way round
-pub all_reverse : {X : Type 0} (P : X → Type 0) (xs : List X) → All P xs → All P (reverse xs)
-all_reverse P xs h k d lt =
-    let n : length (reverse xs) ≡ length xs = length-reverse xs in
-    subst P (sym (get_or-reverse xs k d (omega arith))) (h (length xs - 1 - k) d (omega arith))
-
 all_weaker : {X : Type 0} (P Q : X → Type 0) (xs : List X) → ((x : X) → P x → Q x) → All P xs → All Q xs
 all_weaker P Q xs f h k d lt = f (slice_index_or xs k d) (h k d lt)
 
@@ -72,7 +67,7 @@ pub each_edit : (f : FunctionValue) (env : MachineValue) (Known : VirtualRegiste
     (Q : ℕ × MoveValue → Type 0) → IsMade f env Known May t o
     → ((e : ℕ × MoveValue) → IsSafeEdit env Known (WritesFrom f o.allocs 0) t.slots May e → Q e) → All Q o.edits
 each_edit f env Known May t o Q m g =
-    subst (All Q) (sym m.edits) (all_reverse Q t.edits (all_weaker (IsSafeEdit env Known (WritesFrom f o.allocs 0) t.slots May) Q t.edits g m.kept.safe.edits))
+    subst (All Q) (sym m.edits) (All-reversed Q t.edits (all_weaker (IsSafeEdit env Known (WritesFrom f o.allocs 0) t.slots May) Q t.edits g m.kept.safe.edits))
 
 -- the places of all operands end where those of the last instruction do
 last_offset : (f : FunctionValue) (n : ℕ) → n ≡ length f.insts → offset_of f n ≡ operand_count f

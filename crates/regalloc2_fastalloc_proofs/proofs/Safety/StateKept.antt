@@ -1,5 +1,5 @@
 -- What stays of the tables over several steps, where temporary slots are added; and an instruction whose fields are known, with the registers that it leaves.
-use Rattle.std.proofs.Common.{ℕ, zero, suc, ◌≡◌, ◌+◌, ◌-◌, ◌*◌, ◌<◌, ◌≤◌, Bool, true, false, List, length, refl, sym, ap, ◌∙◌, subst, inl, inr, arith}
+use Rattle.std.proofs.Common.{ℕ, ◌≡◌, ◌+◌, ◌-◌, ◌*◌, ◌<◌, ◌≤◌, Bool, true, false, List, length, refl, sym, ap, ◌∙◌, subst, inl, inr, arith}
 use Rattle.std.specs.Prelude.{if◌then◌else◌, All, Option, None, slice_index_or}
 use Rattle.std.proofs.Math.Nat.{mul-le-mul_right}
 use Rattle.std.proofs.lemmas.Bool.{cases_eq}
@@ -122,20 +122,6 @@ lent_so_far f ends b i lt from upto old new all none = elim (cases_eq (i + 1) (b
 -- a block begins where the one before it ends
 pub joins_at : (f : FunctionValue) → BlocksFollow f → (b : ℕ) → b < length f.blocks → 0 < b → (block_at f (b - 1)).range.end ≡ (block_at f b).range.first
 joins_at f follow b lt some = sym ((follow b lt).2 some)
-
--- all instructions of a block are the function's
-pub block_within : (f : FunctionValue) → BlocksFollow f → (b : ℕ) → b < length f.blocks → (block_at f b).range.end ≤ length f.insts
-block_within f follow b lt = within (length f.blocks - (b + 1)) b (omega (arith, lt))
-  where
-    within : (n c : ℕ) → c + n + 1 ≡ length f.blocks → (block_at f c).range.end ≤ length f.insts
-    within zero c e = (let end = (follow c (omega (arith, e))).3 (omega (arith, e)) in omega (arith, end))
-    within (suc n) c e =
-        let rest : (block_at f (suc c)).range.end ≤ length f.insts = within n (suc c) (omega (arith, e)) in
-        let same : suc c - 1 ≡ c = omega arith in
-        let next : (block_at f (suc c)).range.first ≡ (block_at f c).range.end = (follow (suc c) (omega (arith, e))).2 (omega arith)
-        ∙ ap (λ (m : ℕ). (block_at f m).range.end) same in
-        let some = (follow (suc c) (omega (arith, e))).0 in
-        omega (arith, rest, next, some)
 
 -- what is made has a number below that bound
 pub made_below : (f : FunctionValue) (n : ℕ) → DefinesBelow f n → (v : VirtualRegister) → Made f v → v.number < n

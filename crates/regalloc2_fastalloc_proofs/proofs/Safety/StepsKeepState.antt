@@ -36,7 +36,7 @@ pub whole_used : (t : StateValue) (order : List (List Register)) → IsWhole t �
 whole_used t order w =
     record { holds = w.holds; stands_in = w.stands_in; own_slot = w.own_slot; below = w.below; own = w.own; units = w.units }
 
-slot_no_register : (count : ℕ) (p : Place) (r : Register) → IsSlotOrNone count p → p ≡ InRegister r → ⊥
+pub slot_no_register : (count : ℕ) (p : Place) (r : Register) → IsSlotOrNone count p → p ≡ InRegister r → ⊥
 slot_no_register count NoPlace r h e = cc
 slot_no_register count (InRegister q) r h e = h
 slot_no_register count (InSlot k) r h e = cc

@@ -1,11 +1,11 @@
 -- What a block's beginning stores of a branch's definitions keeps the tables safe.
 use Rattle.std.proofs.Common.{ℕ, suc, ◌≡◌, ◌≢◌, ◌<◌, ◌⊎◌, List, [], ◌∷◌, Bool, true, false, refl, sym, ap, ◌∙◌, subst, inl, inr, arith}
-use Rattle.std.specs.Prelude.{All, Option, None, Some, IsSome, slice_index_or, if◌then◌else◌}
+use Rattle.std.specs.Prelude.{All, Option, None, Some, slice_index_or}
 use Rattle.std.proofs.lemmas.List.Elements.{All-append, All-push, All-cons, All-nil}
 use Rattle.regalloc2_names.specs.Register.{Register, VirtualRegister, class_code}
 use Rattle.regalloc2_names.specs.Place.{Place, NoPlace, InRegister, InSlot, is_memory}
 use Rattle.regalloc2_names.specs.Point.{before}
-use Rattle.regalloc2_names.specs.Operand.{OperandValue, is_def, fixed_register}
+use Rattle.regalloc2_names.specs.Operand.{OperandValue}
 use Rattle.regalloc2_function.specs.FunctionValue.{FunctionValue, block_at}
 use Rattle.regalloc2_function.specs.Machine.{MachineValue, IsStackPlace, scratch_of}
 use Rattle.regalloc2_function.specs.OutputValue.{MoveValue}
@@ -13,6 +13,7 @@ use Rattle.regalloc2_semantics.specs.Listing.{op_at}
 use Rattle.regalloc2_semantics.specs.Stores.{Store, moves_by, store_moves, IsOneOf, AreInOrder}
 use Rattle.regalloc2_semantics.specs.Stores.IsOneOf.{first, later}
 use Rattle.regalloc2_branch_defs.specs.BranchDefs.{IsEdgeInto, DefinesNumber, fixed_definition}
+use Rattle.regalloc2_branch_defs.proofs.EdgeNotes.{fixed_defines}
 use Rattle.regalloc2_fastalloc_state.specs.StateParts.{VRegAllocsValue, SpillSlotsValue, IsSlotOrNone, alloc_of, vreg_of_preg, slot_name}
 use Rattle.regalloc2_fastalloc_proofs.specs.InstSteps.{StateValue, MayHold}
 use Rattle.regalloc2_fastalloc_proofs.specs.StoreSteps.{branch_operands, place_by, IsStoredFor, its_own, given, IsConcerned, GetsSlots, no_slot, one_slot}
@@ -85,13 +86,6 @@ order_each M (s ∷ ss) h x (first is) = (
   λ q by. (h.1 q (ap (λ (y : Store). y.by) is ∙ by)).0,
 )
 order_each M (s ∷ ss) h x (later m) = order_each M ss h.3 x m
-
-pub fixed_defines : (o : OperandValue) → IsSome (fixed_definition o) → is_def o.kind ≡ true
-fixed_defines o h = by_test (is_def o.kind) refl h
-  where
-    by_test : (b : Bool) → is_def o.kind ≡ b → IsSome (if b then fixed_register o.constraint else None) → is_def o.kind ≡ true
-    by_test true e h = e
-    by_test false e h = absurd cc
 
 -- what is stored is defined by the operand, and is for what the branch defines, or for a parameter
 pub stored_defines : (f : FunctionValue) (e k : ℕ) (slots : SpillSlotsValue) (j : ℕ) (v : VirtualRegister) → IsStoredFor f e k slots j v →

@@ -1,4 +1,5 @@
 -- Where the moves of the walk write only what they may and places are good, each instruction but a block's last one leaves slots to their own vregs.
+use Rattle.regalloc2_parts.proofs.Resolving.{All-reversed}
 use Rattle.std.proofs.Common.{ℕ, ◌≡◌, ◌+◌, ◌<◌, ◌≤◌, inl, inr, true, false, List, [], length, refl, sym, ap, ◌∙◌, subst, arith}
 use Rattle.std.specs.Prelude.{All, Some}
 use Rattle.regalloc2_names.specs.Register.{VirtualRegister}
@@ -16,12 +17,11 @@ use Rattle.regalloc2_fastalloc_state.specs.StateParts.{slot_name}
 use Rattle.regalloc2_validate.specs.Constraints.{op_at}
 use Rattle.regalloc2_fastalloc_proofs.specs.InstSteps.{StateValue}
 use Rattle.regalloc2_fastalloc_proofs.specs.Safety.{MayBeLocatedAt, IsSafe}
-use Rattle.regalloc2_fastalloc_proofs.proofs.Safety.StepsKeepState.{slot_in, IsWhole}
-use Rattle.regalloc2_fastalloc_proofs.proofs.Operands.RecordOverState.{slots_at, opt_from, opt_real, no_register_slot, grown_slots}
+use Rattle.regalloc2_fastalloc_proofs.proofs.Safety.StepsKeepState.{slot_in, IsWhole, slot_no_register}
+use Rattle.regalloc2_fastalloc_proofs.proofs.Operands.RecordOverState.{slots_at, opt_from, opt_real, grown_slots}
 use Rattle.regalloc2_fastalloc_proofs.proofs.Operands.DefinedNumbers.{defined_by, defined_by-at}
 use Rattle.regalloc2_fastalloc_proofs.proofs.Walk.InstsCarry.{AreListed}
 use Rattle.regalloc2_fastalloc_proofs.proofs.Safety.InstsKeepSafe.{HasGood, WritesAt, WritesFrom, place_of}
-use Rattle.regalloc2_fastalloc_proofs.proofs.Safety.OutputOfWalk.{all_reverse}
 use Rattle.regalloc2_fastalloc_proofs.proofs.Slots.InstLeavesOwnedSlot.{no_move_or, writes_allowed}
 use Rattle.regalloc2_fastalloc_proofs.proofs.Slots.StepsKeepSlots.{Grown, cases_none}
 use Rattle.regalloc2_fastalloc_proofs.proofs.Safety.FunctionKeepsSafe.{no_branch_writes, none_written_behind}
@@ -112,7 +112,7 @@ module _ (env : MachineValue) (code : PlacedCode) (final : StateValue) (Writes :
 
       -- the moves so far that go there
       so_far : All (λ e. e.1.to ≡ InSlot n → Writes b e.0 v n) (listed u.edits)
-      so_far = all_reverse (λ e. e.1.to ≡ InSlot n → Writes b e.0 v n) u.edits
+      so_far = All-reversed (λ e. e.1.to ≡ InSlot n → Writes b e.0 v n) u.edits
           (writes_allowed env Known same (Writes b) May (slots_at final)
           (λ x y k c d. whole.own x y k (opt_from (slot_in final x) (InSlot k) c) (opt_from (slot_in final y) (InSlot k) d)) u safe.edits
           (grown_slots AnyPlace u final rest)
@@ -150,7 +150,7 @@ module _ (env : MachineValue) (code : PlacedCode) (final : StateValue) (Writes :
         by_place : (p : Place) → s ≡ p → Keeps (inst_at f i).operands (placesf i) (inst_at f i).clobbers (at_point (listed u.edits) (before i))
             (at_point (listed u.edits) (after i)) v s
         by_place NoPlace e = absurd (opt_real (slot_in final v.number) s is e)
-        by_place (InRegister r) e = absurd (no_register_slot final.slots.count (slot_in final v.number) r (whole.below v.number)
+        by_place (InRegister r) e = absurd (slot_no_register final.slots.count (slot_in final v.number) r (whole.below v.number)
             (opt_from (slot_in final v.number) (InRegister r) (is ∙ ap Some e)))
         by_place (InSlot n) e = subst (Keeps (inst_at f i).operands (placesf i) (inst_at f i).clobbers (at_point (listed u.edits) (before i))
             (at_point (listed u.edits) (after i)) v) (sym e)

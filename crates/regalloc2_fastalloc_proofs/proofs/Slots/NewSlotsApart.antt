@@ -1,4 +1,5 @@
 -- New slots lie behind all others, at units of their own.
+use Rattle.regalloc2_parts.proofs.Tidying.{contains_here, contains_there}
 use Rattle.std.proofs.Common.{if◌then◌else◌, ℕ, zero, suc, ◌≡◌, ◌≢◌, ◌+◌, ◌-◌, ◌*◌, ◌/◌, ◌%◌, ◌<◌, ◌≤◌, Bool, true, false, List, [], ◌∷◌, refl, sym}
 use Rattle.std.proofs.Common.{ap, ◌∙◌, ⊎_elim, subst, arith, slice_index_or}
 use Rattle.std.specs.Prelude.{All, Contains}
@@ -6,6 +7,7 @@ use Rattle.std.specs.Int.{next_multiple_of}
 use Rattle.std.proofs.lemmas.Bool.{cases_eq}
 use Rattle.std.proofs.Math.Nat.{mod_self, mod-eq_of_lt, mul-mod_left, add-mul-mod_self_right}
 use Rattle.std.proofs.lemmas.Nat.{div-add-mod', mod_below}
+use Rattle.std.proofs.lemmas.List.Elements.{All-cons}
 use Rattle.regalloc2_names.specs.declared.RegClass.{RegClass}
 use Rattle.regalloc2_names.specs.Register.{VirtualRegister}
 use Rattle.regalloc2_names.specs.Place.{Place, NoPlace, InSlot}
@@ -15,6 +17,7 @@ use Rattle.regalloc2_fastalloc_proofs.specs.SlotLayout.{OwnedSlot, start_in, sta
 use Rattle.regalloc2_fastalloc_proofs.specs.SlotLayout.{LaysOut}
 use Rattle.regalloc2_fastalloc_proofs.proofs.Slots.SlotsGrow.{gives_stay}
 use Rattle.regalloc2_fastalloc_proofs.proofs.Slots.StepsKeepSlots.{cases_none}
+use Rattle.regalloc2_fastalloc_proofs.proofs.Branches.ArgMovesEffect.{one_slot}
 
 -- the next multiple is one
 next_is_multiple : (x y : ℕ) → 0 < y → next_multiple_of x y % y ≡ 0
@@ -74,18 +77,6 @@ owners_more c made other h zero (suc j) d lt less = other j d (omega (arith, les
 owners_more c made other h (suc i) zero d lt less = absurd (omega (arith, lt))
 owners_more c made other h (suc i) (suc j) d lt less = h i j d (omega (arith, lt)) (omega (arith, less))
 
-all_more : {X : Type 0} (P : X → Type 0) (x : X) (xs : List X) → P x → All P xs → All P (x ∷ xs)
-all_more P x xs p h zero d lt = p
-all_more P x xs p h (suc k) d lt = h k d (omega (arith, lt))
-
--- a list's head is in the list
-pub first_of : {X : Type 0} (x : X) (xs : List X) → Contains (x ∷ xs) x
-first_of x xs = (zero, omega arith, refl)
-
--- what is in a list's tail is in the list
-pub later_of : {X : Type 0} (x y : X) (xs : List X) → Contains xs y → Contains (x ∷ xs) y
-later_of x y xs (k, lt, e) = (suc k, omega (arith, lt), e)
-
 laid_upto : (sizes : List ℕ) (by_last : Bool) (m n : ℕ) (c : OwnedSlot) → m ≤ n → IsLaidOut sizes by_last m c → IsLaidOut sizes by_last n c
 laid_upto sizes by_last m n c le h = record { some = h.some; named = h.named; aligned = h.aligned; within = (let w = h.within in omega (arith, w, le)) }
 
@@ -107,7 +98,7 @@ module _ (Known : VirtualRegister → Type 0) (s t : SpillSlotsValue) (made : Li
       → ((v : VirtualRegister) → Known v → (k : ℕ) → slot_name t v.number ≡ InSlot k → Contains (c ∷ made) (record { owner = OfVReg v; name = k })) →
       IsOwn t c → All (IsOwn t) made → AreLaidOut Known t (c ∷ made)
   one_more_laid c past lies other known mine own =
-      let all : All (IsLaidOut s.sizes s.by_last t.count) (c ∷ made) = all_more (IsLaidOut s.sizes s.by_last t.count) c made lies
+      let all : All (IsLaidOut s.sizes s.by_last t.count) (c ∷ made) = All-cons (IsLaidOut s.sizes s.by_last t.count) c made lies
       (λ k d lt. laid_upto s.sizes s.by_last s.count t.count _ grows (h.each k d lt)) in
       let behind : AreApart s.sizes s.by_last (c ∷ made) = apart_more s.sizes s.by_last c made
       (λ k d lt. let w = (h.each k d lt).within in omega (arith, w, past)) h.apart in
@@ -117,7 +108,7 @@ module _ (Known : VirtualRegister → Type 0) (s t : SpillSlotsValue) (made : Li
         apart = subst (λ z. AreApart z t.by_last (c ∷ made)) (sym sizes) (subst (λ z. AreApart s.sizes z (c ∷ made)) (sym by_last) behind);
         differ = owners_more c made other h.differ;
         known = known;
-        own = all_more (IsOwn t) c made mine own;
+        own = All-cons (IsOwn t) c made mine own;
       }
 
 new_is_later : (s : SpillSlotsValue) (class : RegClass) → new_slot s class ≡ later_slot s class 0
@@ -131,9 +122,6 @@ new_is_later s class = by_test s.by_last
 
 owner_vreg : (v w : VirtualRegister) → OfVReg v ≡ OfVReg w → v ≡ w
 owner_vreg v w e = cc
-
-slot_same : (m n : ℕ) → InSlot m ≡ InSlot n → m ≡ n
-slot_same m n e = cc
 
 module _ (Known : VirtualRegister → Type 0) (same : (v w : VirtualRegister) → Known v → Known w → v.number ≡ w.number → v ≡ w)
     (Holds : OwnedSlot → Type 0) where
@@ -155,15 +143,15 @@ module _ (Known : VirtualRegister → Type 0) (same : (v w : VirtualRegister) �
             (later_laid s (OfVReg v) 0 t.count (units v.class) (omega (arith, count)))
             (λ k d lt e. let x : NoPlace ≡ InSlot _ = sym none ∙ h.own k d lt v (sym e) in cc)
             (λ w is k there. ⊎_elim
-            (λ (one : w.number ≡ v.number). let e : n ≡ k = slot_same n k (sym at ∙ ap (slot_name t) (sym one) ∙ there) in
+            (λ (one : w.number ≡ v.number). let e : n ≡ k = one_slot n k (sym at ∙ ap (slot_name t) (sym one) ∙ there) in
             subst (λ (x : OwnedSlot). Contains (c ∷ made) x) (let f : v ≡ w = sym (same w v is known one) in ap (λ x. record { owner = OfVReg x; name = n }) f
-            ∙ ap (λ x. record { owner = OfVReg w; name = x }) e) (first_of c made))
-            (λ (other : w.number ≢ v.number). later_of c _ made (h.known w is k (sym (gives.others w.number other) ∙ there)))
+            ∙ ap (λ x. record { owner = OfVReg w; name = x }) e) (contains_here c made))
+            (λ (other : w.number ≢ v.number). contains_there c _ made (h.known w is k (sym (gives.others w.number other) ∙ there)))
             (cases_eq w.number v.number))
             (λ w e. ap (λ (x : VirtualRegister). slot_name t x.number) (sym (owner_vreg v w e)) ∙ at)
             (λ k d lt w e. gives_stay s t v p gives w.number _ (h.own k d lt w e));
-        kept = λ x is. later_of c x made is;
-        all = all_more Holds c made (holds n) all;
+        kept = λ x is. contains_there c x made is;
+        all = All-cons Holds c made (holds n) all;
       })
       (λ (there : slot_name s v.number ≢ NoPlace).
       let had = gives.had there in
@@ -194,7 +182,7 @@ module _ (Known : VirtualRegister → Type 0) (Holds : OwnedSlot → Type 0) (br
   temp_slots_at k = record { owner = OfBranch branch class k; name = later_slot s class k }
 
   one_holds : All Holds (temp_slots_at 0 ∷ made)
-  one_holds = all_more Holds (temp_slots_at 0) made (holds 0 (later_slot s class 0) (omega arith)) all
+  one_holds = All-cons Holds (temp_slots_at 0) made (holds 0 (later_slot s class 0) (omega arith)) all
 
   -- the slots with so many temporary ones
   abbrev with_lent : ℕ → ℕ → SpillSlotsValue
@@ -214,7 +202,7 @@ module _ (Known : VirtualRegister → Type 0) (Holds : OwnedSlot → Type 0) (br
       let start = later_start s (OfBranch branch class 0) 0 some in
       one_more_laid Known s (with_lent count num_temp_slots) made refl refl (omega (arith, upto)) h (temp_slots_at 0) (omega (arith, start))
       (later_laid s (OfBranch branch class 0) 0 count some upto)
-      (λ k d lt. first_time k d lt 0) (λ v is k there. later_of (temp_slots_at 0) _ made (h.known v is k there)) (λ v e. absurd (not_vreg 0 v e)) h.own
+      (λ k d lt. first_time k d lt 0) (λ v is k there. contains_there (temp_slots_at 0) _ made (h.known v is k there)) (λ v e. absurd (not_vreg 0 v e)) h.own
 
   two_lent : (count num_temp_slots : ℕ) → later_end s class 1 ≤ count
       → AreLaidOut Known (with_lent count num_temp_slots) (temp_slots_at 1 ∷ temp_slots_at 0 ∷ made)
@@ -223,8 +211,8 @@ module _ (Known : VirtualRegister → Type 0) (Holds : OwnedSlot → Type 0) (br
       let start = later_start s (OfBranch branch class 1) 1 some in
       one_more_laid Known (with_lent (later_end s class 0) num_temp_slots) (with_lent count num_temp_slots) (temp_slots_at 0 ∷ made) refl refl
       (omega (arith, upto)) g (temp_slots_at 1) (omega (arith, start)) (later_laid s (OfBranch branch class 1) 1 count some upto)
-      (all_more (λ x. OfBranch branch class 1 ≢ x.owner) (temp_slots_at 0) made (lent_sooner branch class 0) (λ k d lt. first_time k d lt 1))
-      (λ v is k there. later_of (temp_slots_at 1) _ (temp_slots_at 0 ∷ made) (g.known v is k there)) (λ v e. absurd (not_vreg 1 v e)) g.own
+      (All-cons (λ x. OfBranch branch class 1 ≢ x.owner) (temp_slots_at 0) made (lent_sooner branch class 0) (λ k d lt. first_time k d lt 1))
+      (λ v is k there. contains_there (temp_slots_at 1) _ (temp_slots_at 0 ∷ made) (g.known v is k there)) (λ v e. absurd (not_vreg 1 v e)) g.own
 
   -- adding temporary slots for a branch, two at most, leaves all slots apart, each with one owner
   pub lends_laid : (t : SpillSlotsValue) (taken : ℕ) → taken ≤ 2 → AddsTempSlots s t class taken → LaysOutTempSlots Known Holds branch class taken s t made
@@ -246,12 +234,12 @@ module _ (Known : VirtualRegister → Type 0) (Holds : OwnedSlot → Type 0) (br
           made = temp_slots_at 0 ∷ made;
           laid = still_laid Known (with_lent t.count t.num_temp_slots) t (temp_slots_at 0 ∷ made) l.sizes l.by_last
               (omega arith) g (λ n. ap (λ xs. slice_index_or xs n NoPlace) l.vreg_spillslots);
-          kept = λ x is. later_of (temp_slots_at 0) x made is;
+          kept = λ x is. contains_there (temp_slots_at 0) x made is;
           all =
               one_holds;
         };
         each = λ k lt. subst (λ n. Contains (temp_slots_at 0 ∷ made) (temp_slots_at n)) (let e : 0 ≡ k = omega (arith, lt) in e)
-            (first_of (temp_slots_at 0) made);
+            (contains_here (temp_slots_at 0) made);
       }
   lends_laid t (suc (suc zero)) few l =
       let end = l.some 1 (omega arith) in
@@ -261,13 +249,13 @@ module _ (Known : VirtualRegister → Type 0) (Holds : OwnedSlot → Type 0) (br
           made = temp_slots_at 1 ∷ temp_slots_at 0 ∷ made;
           laid = still_laid Known (with_lent t.count t.num_temp_slots) t (temp_slots_at 1 ∷ temp_slots_at 0 ∷ made) l.sizes l.by_last (omega arith) g
               (λ n. ap (λ xs. slice_index_or xs n NoPlace) l.vreg_spillslots);
-          kept = λ x is. later_of (temp_slots_at 1) x (temp_slots_at 0 ∷ made) (later_of (temp_slots_at 0) x made is);
-          all = all_more Holds (temp_slots_at 1) (temp_slots_at 0 ∷ made) (holds 1 (later_slot s class 1) (omega arith)) one_holds;
+          kept = λ x is. contains_there (temp_slots_at 1) x (temp_slots_at 0 ∷ made) (contains_there (temp_slots_at 0) x made is);
+          all = All-cons Holds (temp_slots_at 1) (temp_slots_at 0 ∷ made) (holds 1 (later_slot s class 1) (omega arith)) one_holds;
         };
         each = λ k lt. ⊎_elim (λ (e : k ≡ 0). subst (λ n. Contains (temp_slots_at 1 ∷ temp_slots_at 0 ∷ made) (temp_slots_at n)) (sym e)
-            (later_of (temp_slots_at 1) (temp_slots_at 0) (temp_slots_at 0 ∷ made) (first_of (temp_slots_at 0) made)))
+            (contains_there (temp_slots_at 1) (temp_slots_at 0) (temp_slots_at 0 ∷ made) (contains_here (temp_slots_at 0) made)))
             (λ (d : k ≢ 0). subst (λ n. Contains (temp_slots_at 1 ∷ temp_slots_at 0 ∷ made) (temp_slots_at n)) (let e : 1 ≡ k = omega (arith, d, lt) in e)
-            (first_of (temp_slots_at 1) (temp_slots_at 0 ∷ made))) (cases_eq k 0);
+            (contains_here (temp_slots_at 1) (temp_slots_at 0 ∷ made))) (cases_eq k 0);
       }
   lends_laid t (suc (suc (suc k))) few l = absurd (omega (arith, few))
 

@@ -1,4 +1,5 @@
 -- An output whose slots were laid apart, and whose moves keep to a class, owns its slots.
+use Rattle.regalloc2_parts.proofs.Resolving.{All-reversed}
 use Rattle.std.proofs.Common.{ℕ, suc, ◌≡◌, ◌≢◌, ◌+◌, ◌-◌, ◌<◌, ◌≤◌, Bool, true, List, [], ◌∷◌, length, refl, sym, ap, ◌∙◌, ⊎_elim, subst, arith, slice_index_or}
 use Rattle.std.specs.Prelude.{All, Some, sum_by, take}
 use Rattle.regalloc2_semantics.proofs.Soundness.{cases_within}
@@ -18,7 +19,7 @@ use Rattle.regalloc2_fastalloc_proofs.specs.InstSteps.{StateValue}
 use Rattle.regalloc2_fastalloc_proofs.specs.Safety.{MayBeLocatedAt}
 use Rattle.regalloc2_fastalloc_proofs.specs.SlotLayout.{OwnedSlot, IsEndOf, IsOfOneClass}
 use Rattle.regalloc2_fastalloc_proofs.proofs.Operands.AllocsSoFar.{IsTame}
-use Rattle.regalloc2_fastalloc_proofs.proofs.Safety.OutputOfWalk.{IsMade, all_reverse, made_in_order, place_is}
+use Rattle.regalloc2_fastalloc_proofs.proofs.Safety.OutputOfWalk.{IsMade, made_in_order, place_is}
 use Rattle.regalloc2_fastalloc_proofs.proofs.Slots.StepsKeepSlotsApart.{IsEndOrNone, KeepsToClass, IsOfMet, IsClassed}
 use Rattle.regalloc2_fastalloc_proofs.proofs.Slots.SlotsOwned.{owner_known}
 use Rattle.regalloc2_fastalloc_proofs.proofs.Slots.ApartSlotsAreOwned.{IsSlotOfKnown, OwnsSlots, slots_owned}
@@ -72,7 +73,7 @@ module _ (f : FunctionValue) (env : MachineValue) (Known : VirtualRegister → T
 
   moves_keep : All (IsOfOneClass h.made) o.edits
   moves_keep j d lt =
-      let e = subst (All (KeepsToClass h.made)) (sym m.edits) (all_reverse (KeepsToClass h.made) t.edits h.edits) j d lt in
+      let e = subst (All (KeepsToClass h.made)) (sym m.edits) (All-reversed (KeepsToClass h.made) t.edits h.edits) j d lt in
       let there = (made_in_order f env Known May t o m).moves_name_places j d lt in
       let point : ℕ = (slice_index_or o.edits j d).0 in
       (e.0, whole_end h.made point e.0 _ there.0 e.1, whole_end h.made point e.0 _ there.1 e.2)

@@ -24,6 +24,7 @@ use Rattle.regalloc2_fastalloc_proofs.proofs.Changes.InstChanges.{scratches_chan
 use Rattle.regalloc2_fastalloc_proofs.proofs.Safety.StepsKeepSafe.{same_units, slots_kept, settled_holder, scratch_each}
 use Rattle.regalloc2_fastalloc_proofs.proofs.Slots.NewSlotsApart.{gives_laid}
 use Rattle.regalloc2_fastalloc_proofs.specs.InstSteps.{SameButOrder}
+use Rattle.regalloc2_fastalloc_proofs.proofs.Safety.StepsKeepState.{slot_no_register}
 
 -- where the value of a vreg may be, if anywhere: in a register of its class, or in its own slot
 abbrev pub IsOwnPlace : SpillSlotsValue → VirtualRegister → Place → Type 0
@@ -122,9 +123,6 @@ held_settled Known t u v p s here h r w small held = elim (settled_holder t u v 
   | inr b ↦ h r w small b
 ]
 
-no_register : (count : ℕ) (p : Place) (r : Register) → IsSlotOrNone count p → p ≡ InRegister r → ⊥
-no_register count p r h e = subst (IsSlotOrNone count) e h
-
 -- dedicated scratch registers are of the class that they serve, as long as the state keeps them
 pub dedicated_kept : (t u : StateValue) → u.dedicated_scratch ≡ t.dedicated_scratch →
     ((c : RegClass) (r : Register) → slice_index_or t.dedicated_scratch (class_code c) None ≡ Some r → r.class ≡ c) → (c : RegClass) (r : Register)
@@ -139,7 +137,7 @@ like_turn t u e h = record {
       (ap (λ (l : List (Option Register)). slice_index_or l (class_code c) None) (sym e) ∙ is);
 }
 
-not_branch : (v : VirtualRegister) (branch : ℕ) (class : RegClass) (time : ℕ) → OfVReg v ≡ OfBranch branch class time → ⊥
+pub not_branch : (v : VirtualRegister) (branch : ℕ) (class : RegClass) (time : ℕ) → OfVReg v ≡ OfBranch branch class time → ⊥
 not_branch v branch class time e = cc
 
 module _ (Known : VirtualRegister → Type 0) (same : (v w : VirtualRegister) → Known v → Known w → v.number ≡ w.number → v ≡ w) (named : Bool)
@@ -204,7 +202,7 @@ module _ (Known : VirtualRegister → Type 0) (same : (v w : VirtualRegister) �
       → ((made : List OwnedSlot) → AreLaidOut Known u.slots made → All (KeepsToClass made) es) → IsClassed Known named Met t → IsClassed Known named Met u
   to_slot t u v s es known gives settles machine edits ends h =
       given t u v s es known gives machine edits ends (held_settled Known t.places u.places v s settles
-      (λ r e. absurd (no_register u.slots.count s r gives.below e)) h.holders)
+      (λ r e. absurd (slot_no_register u.slots.count s r gives.below e)) h.holders)
       (own_settled Known t.slots u.slots t.places u.places v s (gives_stay t.slots u.slots v s gives) settles
       (λ w k e. slot_own u.slots w s u.slots.count (ap (slot_name u.slots) e ∙ gives.gives) gives.below) h.places) h
 

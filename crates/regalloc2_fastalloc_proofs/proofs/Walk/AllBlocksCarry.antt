@@ -1,7 +1,7 @@
 -- All blocks of the walk: each carries what the law on paths wants.
-use Rattle.std.proofs.Common.{ℕ, ◌≡◌, ◌+◌, ◌-◌, ◌<◌, ◌≤◌, ◌⊎◌, inl, inr, List, [], length, refl, sym, ap, ◌∙◌, subst, arith}
+use Rattle.std.proofs.Common.{ℕ, ◌≡◌, ◌+◌, ◌-◌, ◌<◌, ◌≤◌, inl, inr, List, [], length, refl, sym, ap, ◌∙◌, subst, arith}
 use Rattle.std.specs.Prelude.{Option}
-use Rattle.std.proofs.lemmas.Bool.{cases_eq}
+use Rattle.std.proofs.lemmas.Bool.{cases_eq, cases_lt}
 use Rattle.std.proofs.lemmas.List.{get_or_past}
 use Rattle.regalloc2_names.specs.Register.{VirtualRegister}
 use Rattle.regalloc2_names.specs.Place.{Place}
@@ -111,6 +111,3 @@ module _ (carrying : CarryingContext) (out : OutputValue) (some : 0 < length car
     | inl lt ↦ each_carries b lt
     | inr le ↦ past_carries f out placesf stand b le
   ]
-    where
-      cases_lt : (m n : ℕ) → (m < n) ⊎ (n ≤ m)
-      cases_lt m n = grind (arith)

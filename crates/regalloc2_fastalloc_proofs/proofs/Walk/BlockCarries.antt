@@ -1,5 +1,5 @@
 -- One block of the walk: its listing carries each vreg that is used somewhere, as the law on paths wants it.
-use Rattle.std.proofs.Common.{ℕ, suc, ◌≡◌, ◌≢◌, ◌+◌, ◌-◌, ◌<◌, ◌≤◌, ◌⊎◌, inl, inr, Bool, true, false, List, [], ◌∷◌, length, refl, sym, ap, ◌∙◌, subst, arith}
+use Rattle.std.proofs.Common.{ℕ, suc, ◌≡◌, ◌≢◌, ◌+◌, ◌-◌, ◌<◌, ◌≤◌, ◌⊎◌, inl, inr, Bool, true, false, List, [], length, refl, sym, ap, ◌∙◌, subst, arith}
 use Rattle.std.specs.Prelude.{Option, None, Some, slice_index_or}
 use Rattle.regalloc2_names.specs.Register.{Register, VirtualRegister}
 use Rattle.regalloc2_names.specs.Place.{Place, NoPlace, InRegister, InSlot}
@@ -24,7 +24,7 @@ use Rattle.regalloc2_names.specs.Operand.{OperandValue, is_def}
 use Rattle.regalloc2_names.specs.declared.OperandPos.{OperandPos}
 use Rattle.regalloc2_names.specs.declared.OperandPos.TheVariants.{Early, Late}
 use Rattle.regalloc2_branch_defs.specs.BranchDefs.{IsUsedElsewhere, IsEdgeInto}
-use Rattle.std.proofs.lemmas.List.{get_or_default, get_or_past}
+use Rattle.std.proofs.lemmas.List.{get_or_default, get_or_past, nil_from_length}
 use Rattle.std.proofs.lemmas.Bool.{cases_Bool}
 use Rattle.regalloc2_semantics.proofs.Order.{ends_within}
 use Rattle.regalloc2_fastalloc_proofs.specs.InstSteps.{StateValue}
@@ -32,8 +32,8 @@ use Rattle.regalloc2_fastalloc_proofs.specs.BlockStart.{no_vreg}
 use Rattle.regalloc2_fastalloc_proofs.specs.BranchSteps.{IsOwn}
 use Rattle.regalloc2_fastalloc_proofs.specs.StoreSteps.{branch_operands, IsConcerned, StoresBranchDefs, none_stored, all_stored}
 use Rattle.regalloc2_fastalloc_proofs.specs.BlockSteps.{AllocsInstInBlock, AllocsBlockInsts, AllocsBlocks}
-use Rattle.regalloc2_fastalloc_proofs.proofs.Safety.StepsKeepState.{place_in, slot_in, IsWhole}
-use Rattle.regalloc2_fastalloc_proofs.proofs.Operands.RecordOverState.{stands_at, slots_at, opt_from, opt_real, no_register_slot, grown_slots}
+use Rattle.regalloc2_fastalloc_proofs.proofs.Safety.StepsKeepState.{place_in, slot_in, IsWhole, slot_no_register}
+use Rattle.regalloc2_fastalloc_proofs.proofs.Operands.RecordOverState.{stands_at, slots_at, opt_from, opt_real, grown_slots}
 use Rattle.regalloc2_fastalloc_proofs.proofs.Walk.InstsCarry.{AreListed}
 use Rattle.regalloc2_fastalloc_proofs.proofs.Slots.StepsKeepSlots.{Grown, grown_then}
 use Rattle.regalloc2_fastalloc_proofs.proofs.Moves.StepsAppendEdits.{pushed_walked}
@@ -106,10 +106,6 @@ IsUnused f v = (b e k : ℕ) × IsEdgeInto f b e k × IsOwn f e v × (IsUsedElse
 abbrev pub IsBelow : ℕ → ℕ → Type 0
 IsBelow i p = p < before i
 
-no_element : {X : Type 0} (xs : List X) → length xs ≡ 0 → xs ≡ []
-no_element [] e = refl
-no_element (x ∷ xs) e = absurd (omega (arith, e))
-
 -- What blocks need to carry each vreg: the function's laws; the places of operands and the last tables, whose slots all instructions keep where the tables
 -- are safe (SafeIn); where vregs are at blocks' beginnings, and what edges bring there; branches that carry; and the fresh tables from which
 -- the walk, always safe, begins.
@@ -145,7 +141,7 @@ module _ (carrying : CarryingContext) where
 
   -- a slot of the walk's end
   slot_only : (x : ℕ) (r : Register) → slots_at final x ≡ Some (InRegister r) → ⊥
-  slot_only x r e = no_register_slot final.slots.count (slot_in final x) r (whole.below x) (opt_from (slot_in final x) (InRegister r) e)
+  slot_only x r e = slot_no_register final.slots.count (slot_in final x) r (whole.below x) (opt_from (slot_in final x) (InRegister r) e)
 
   slot_own : (x y n : ℕ) → slots_at final x ≡ Some (InSlot n) → slots_at final y ≡ Some (InSlot n) → x ≡ y
   slot_own x y n a b = whole.own x y n (opt_from (slot_in final x) (InSlot n) a) (opt_from (slot_in final y) (InSlot n) b)
@@ -229,7 +225,7 @@ module _ (carrying : CarryingContext) where
           (writes_in f b last v.number)
           (GoesOut f stand b v) (subst (Alone (proper_of (Made f) f placesf proper) last s) (sym (parts.ends.no_branch ret.0)) a)
           (rw (ret.0, ret.1) refl)
-          (λ x e. nothing_goes f stand b v x (no_element (block_at f b).succs ret.2) e))
+          (λ x e. nothing_goes f stand b v x (nil_from_length (block_at f b).succs ret.2) e))
     ]
 
     -- from the reloads at its beginning to the walk's end

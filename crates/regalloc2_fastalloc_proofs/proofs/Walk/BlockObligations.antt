@@ -1,7 +1,7 @@
 -- What a block owes to the law on paths: from its last instruction, those before it and its beginning.
-use Rattle.std.proofs.Common.{ℕ, zero, suc, ◌≡◌, ◌+◌, ◌-◌, ◌<◌, ◌≤◌, ◌⊎◌, inl, inr, Bool, true, false, length, refl, ap, subst, arith}
-use Rattle.std.specs.Prelude.{Option, Some, ◌||◌}
-use Rattle.std.proofs.lemmas.Bool.{cases_eq}
+use Rattle.std.proofs.Common.{ℕ, zero, suc, ◌≡◌, ◌+◌, ◌-◌, ◌<◌, ◌≤◌, inl, inr, Bool, true, false, length, ap, subst, arith}
+use Rattle.std.specs.Prelude.{Option, Some}
+use Rattle.std.proofs.lemmas.Bool.{cases_eq, or_cases, or_parts}
 use Rattle.regalloc2_names.specs.Register.{Register, VirtualRegister}
 use Rattle.regalloc2_names.specs.Place.{Place, InRegister}
 use Rattle.regalloc2_names.specs.Point.{before}
@@ -30,14 +30,10 @@ pub defined_from-some : (f : FunctionValue) (x i n : ℕ) → defined_from f x i
     × (defined_by (inst_at f j).operands x ≡ true)
 unfolding defined_from
 defined_from-some f x i zero h = absurd cc
-defined_from-some f x i (suc n) h = elim (either (defined_by (inst_at f i).operands x) (defined_from f x (i + 1) n) h) [
+defined_from-some f x i (suc n) h = elim (or_cases (defined_by (inst_at f i).operands x) (defined_from f x (i + 1) n) h) [
   | inl is ↦ (i, omega arith, omega arith, is)
   | inr g ↦ (let r = defined_from-some f x (i + 1) n g in (r.0, omega (arith, r.1), omega (arith, r.2), r.3))
 ]
-  where
-    either : (a b : Bool) → (a || b) ≡ true → (a ≡ true) ⊎ (b ≡ true)
-    either true b h = inl refl
-    either false b h = inr h
 
 -- a vreg that none of n instructions defines isn't defined by any single one of them
 pub defined_from-none : (f : FunctionValue) (x i n : ℕ) → defined_from f x i n ≡ false → (j : ℕ) → i ≤ j → j < i + n →
@@ -45,15 +41,11 @@ pub defined_from-none : (f : FunctionValue) (x i n : ℕ) → defined_from f x i
 unfolding defined_from
 defined_from-none f x i zero h j le lt = absurd (omega arith)
 defined_from-none f x i (suc n) h j le lt =
-    let p = both_false (defined_by (inst_at f i).operands x) (defined_from f x (i + 1) n) h in
+    let p = or_parts (defined_by (inst_at f i).operands x) (defined_from f x (i + 1) n) h in
     elim (cases_eq i j) [
       | inl e ↦ subst (λ k. defined_by (inst_at f k).operands x ≡ false) e p.0
       | inr ne ↦ defined_from-none f x (i + 1) n p.1 j (omega arith) (omega arith)
     ]
-  where
-    both_false : (a b : Bool) → (a || b) ≡ false → (a ≡ false) × (b ≡ false)
-    both_false true b h = absurd cc
-    both_false false b h = (refl, h)
 
 -- what defines a number
 pub defines_at : (f : FunctionValue) (x i : ℕ) → i < length f.insts → defined_by (inst_at f i).operands x ≡ true → (k : ℕ) × DefinesAt f x i k

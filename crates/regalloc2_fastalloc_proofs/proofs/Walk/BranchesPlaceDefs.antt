@@ -1,7 +1,7 @@
 -- Where the branches of a whole walk leave what they define: in the registers that are named, each in its own, and else in slots.
 use Rattle.std.specs.Prelude.{Some, ◌||◌, ◌&&◌, slice_index_or}
 use Rattle.std.proofs.Common.{ℕ, ◌≡◌, ◌+◌, ◌<◌, ◌≤◌, ◌⊎◌, Bool, true, false, List, length, inl, inr, refl, sym, ap, ◌∙◌, subst, arith}
-use Rattle.std.proofs.lemmas.Bool.{cases_eq}
+use Rattle.std.proofs.lemmas.Bool.{cases_eq, or_right}
 use Rattle.regalloc2_names.specs.declared.OperandConstraint.{OperandConstraint}
 use Rattle.regalloc2_names.specs.declared.OperandConstraint.TheVariants.{Any, Reg, Stack, FixedReg, Reuse, Limit}
 use Rattle.regalloc2_names.specs.Register.{Register}
@@ -30,8 +30,9 @@ use Rattle.regalloc2_fastalloc_proofs.proofs.Safety.StoredDefs.{last_within}
 use Rattle.regalloc2_fastalloc_proofs.proofs.Safety.WellFormedKeepsSafe.{tame_at}
 use Rattle.regalloc2_fastalloc_proofs.proofs.Walk.InstsCarry.{AreListed}
 use Rattle.regalloc2_fastalloc_proofs.proofs.Walk.InstBoundaries.{IsEdge, edge_next}
-use Rattle.regalloc2_fastalloc_proofs.proofs.Walk.LastInstAndRest.{at_its_end, listed_behind, walk_listed}
+use Rattle.regalloc2_fastalloc_proofs.proofs.Walk.LastInstAndRest.{listed_behind, walk_listed}
 use Rattle.regalloc2_fastalloc_proofs.proofs.Walk.FunctionLaws.{PlacedCode}
+use Rattle.regalloc2_fastalloc_proofs.proofs.Safety.BlocksKeepSafe.{block_start}
 
 -- the last instruction of a block was allocated from tables in which no vreg is in a register
 pub record LastAllocated (f : FunctionValue) (placesf : ℕ → List Place) (e : ℕ) : Type 0 where
@@ -60,7 +61,7 @@ module _ (code : PlacedCode) where
               old = s;
               new = a.middle;
               allocates = al;
-              bare = subst IsOutside (sym (at_its_end f b blank old (j + 1) p s prev (omega (arith, e, less)))) bare;
+              bare = subst IsOutside (sym (block_start f b blank old (j + 1) p s prev (omega (arith, e, less)))) bare;
               at = at;
             }) (λ k few. are j (omega arith) within k few ∙ a.allocates.inside k few) a.allocates.allocates
         | inr ne ↦ last_in b lb blank old bare (j + 1) p s prev (omega (arith, less, ne))
@@ -89,10 +90,6 @@ both_late : (a b : OperandValue) → is_def a.kind ≡ true → is_def b.kind �
 both_late a b x y = or_right ((positions_of a).early && (positions_of b).early) ((positions_of a).late && (positions_of b).late)
     (both (is_def a.kind) (is_late a.position) (is_def b.kind) (is_late b.position) x y)
   where
-    or_right : (p q : Bool) → q ≡ true → (p || q) ≡ true
-    or_right true q h = refl
-    or_right false q h = h
-
     both : (p q r s : Bool) → p ≡ true → r ≡ true → ((p || q) && (r || s)) ≡ true
     both true q true s h k = refl
     both true q false s h k = cc

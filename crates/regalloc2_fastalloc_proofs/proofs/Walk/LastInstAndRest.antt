@@ -1,6 +1,6 @@
 -- The instructions of a block in the walk: its last one, and those before it, which are no branches and no returns.
 -- The fold in `Changes` doesn't fit: what holds depends on how far the walk is.
-use Rattle.std.proofs.Common.{ℕ, ◌≡◌, ◌+◌, ◌<◌, ◌≤◌, inl, inr, false, List, length, refl, sym, ◌∙◌, subst, arith}
+use Rattle.std.proofs.Common.{ℕ, ◌≡◌, ◌+◌, ◌<◌, ◌≤◌, inl, inr, false, List, length, sym, ◌∙◌, subst, arith}
 use Rattle.std.specs.Prelude.{Some, slice_index_or}
 use Rattle.std.proofs.lemmas.Bool.{cases_eq}
 use Rattle.regalloc2_names.specs.Register.{VirtualRegister}
@@ -24,16 +24,11 @@ use Rattle.regalloc2_fastalloc_proofs.proofs.Walk.InstsBeforeLastCarry.{Goes, st
 use Rattle.regalloc2_fastalloc_proofs.proofs.Walk.InstBoundaries.{grown_weaken, in_grown}
 use Rattle.regalloc2_fastalloc_proofs.proofs.Walk.FunctionLaws.{PlacedCode}
 use Rattle.regalloc2_fastalloc_proofs.proofs.Walk.InstBoundaries.{kept_of}
+use Rattle.regalloc2_fastalloc_proofs.proofs.Safety.BlocksKeepSafe.{block_start}
 
 -- any point
 abbrev pub AnyPlace : ℕ → Type 0
 AnyPlace p = Unit {0}
-
--- at a block's end nothing is done yet
-pub at_its_end : (f : FunctionValue) (b : ℕ) (blank : List Place) (old : StateValue) (i : ℕ) (places : List Place) (t : StateValue) →
-    AllocsBlockInsts f b blank old i places t → i ≡ (block_at f b).range.end → t ≡ old
-at_its_end f b blank old i places t at_end e = refl
-at_its_end f b blank old i places t (one_in j p q s u ge less prev a) e = absurd (omega (arith, less, e))
 
 -- The last instruction of a block, with the tables behind it and before it, and the instructions before it; the walk goes on from there to its end.
 pub record Split (f : FunctionValue) (placesf : ℕ → List Place) (L : ℕ → StateValue → StateValue → Type 0) (final : StateValue) (b last : ℕ) (old : StateValue)
@@ -76,7 +71,7 @@ module _ (code : PlacedCode) (final : StateValue) where
           (omega arith) (within j less) k few ∙ a.allocates.inside k few in
           elim (cases_eq j (last_of (block_at f b))) [
             | inl e ↦ (
-                let none : s ≡ old = at_its_end f b blank old (j + 1) p s prev (omega (arith, e, less)) in
+                let none : s ≡ old = block_start f b blank old (j + 1) p s prev (omega (arith, e, less)) in
                 let from_old : AllocsInstInBlock f b j p q old u = subst (λ (z : StateValue). AllocsInstInBlock f b j p q z u) none a in
                 let made : Split f placesf L final b j old j u = record {
                   begin = u;

@@ -4,13 +4,14 @@ use Rattle.std.proofs.lemmas.Result.{err_from_is_err_and}
 use Rattle.regalloc2_names.specs.Point.{before}
 use Rattle.regalloc2_index.specs.Range.{Span}
 use Rattle.regalloc2_function.specs.FunctionValue.{FunctionValue, block_at, inst_at, no_inst}
+use Rattle.regalloc2_function.specs.Following.{end_within}
 use Rattle.regalloc2_fastalloc_state.specs.OutOfResources.{IsResourceError, SlotsExhaustedWith}
 use Rattle.regalloc2_fastalloc_state.specs.StateParts.{AllAtOrAfter}
 use Rattle.regalloc2_fastalloc_proofs.specs.InstSteps.{StateValue, no_register}
 use Rattle.regalloc2_fastalloc_walk.specs.StateView.{tables_of}
 use Rattle.regalloc2_fastalloc_proofs.specs.BranchSteps.{AddsTempSlotsAtMost}
 use Rattle.regalloc2_fastalloc_proofs.specs.BlockSteps.{AllocsInstInBlock, AllocInstInBlock, AllocsBlockInsts, DefinesBelow, at_end, one_in, temp_slots_at, offset_of}
-use Rattle.regalloc2_fastalloc_proofs.proofs.Safety.StateKept.{none_lends, lends_then, apart_kept, lacks_all, block_within, lent_so_far}
+use Rattle.regalloc2_fastalloc_proofs.proofs.Safety.StateKept.{none_lends, lends_then, apart_kept, lacks_all, lent_so_far}
 use Rattle.regalloc2_fastalloc_walk.proofs.state.State.alloc_block.Goals as goal
 
 pub first-requires : goal.first-requires
@@ -28,7 +29,7 @@ loop-i-init g c =
     let first : c.index-first.result ≡ (block_at f c.args.block).range.first = c.index-first.ensures ∙ c.first.ensures
     ∙ ap (λ (r : Span). r.first) c.block_insns-range.ensures in
     let some = (c.requires.well_formed.1.follow c.args.block c.requires.block).0 in
-    let within = block_within f c.requires.well_formed.1.follow c.args.block c.requires.block in
+    let within = end_within f c.requires.well_formed.1.follow c.args.block c.requires.block in
     let P : ℕ → Type 0 = λ n. AllocsBlockInsts f c.args.block c.args.allocs.now t n c.args.allocs.now t in
     let Q : ℕ → Type 0 = λ n. AllAtOrAfter (before n) c.args.self.now.edits in
     record {

@@ -3,8 +3,8 @@ use Rattle.regalloc2_names.specs.Place.{NoPlace, InRegister}
 use Rattle.regalloc2_fastalloc_proofs.specs.InstSteps.{IsAffordable, fixed, free, slot}
 use Rattle.regalloc2_semantics.proofs.Forms.{same_register}
 use Rattle.regalloc2_fastalloc_walk.specs.StateView.{tables_of}
-use Rattle.regalloc2_fastalloc_proofs.proofs.Operands.RecordOverState.{no_register_slot}
 use Rattle.regalloc2_fastalloc_proofs.proofs.Operands.SelectedPlace.{wanted_rest}
+use Rattle.regalloc2_fastalloc_proofs.proofs.Safety.StepsKeepState.{slot_no_register}
 use Rattle.regalloc2_fastalloc_state.specs.declared.request.Requirement.TheVariants.{AnyPlace, InPReg}
 use Rattle.regalloc2_fastalloc_walk.proofs.state.State.alloc_new_place.Goals as goal
 
@@ -57,4 +57,4 @@ pub returns-in-InPReg-clause-awaited : goal.returns-in-InPReg-clause-awaited
 returns-in-InPReg-clause-awaited g c = λ any def r e. absurd (let no : InPReg c.in-InPReg.preg ≡ AnyPlace = sym c.in-InPReg.is ∙ any in cc)
 
 pub returns-clause-awaited : goal.returns-clause-awaited
-returns-clause-awaited g c = λ any def r e. absurd (no_register_slot _ _ r c.in_ok-slot.ensures.ok.below e)
+returns-clause-awaited g c = λ any def r e. absurd (slot_no_register _ _ r c.in_ok-slot.ensures.ok.below e)

@@ -5,11 +5,12 @@ use Rattle.regalloc2_index.specs.Range.{Span}
 use Rattle.regalloc2_names.specs.Point.{before}
 use Rattle.regalloc2_names.specs.Register.{VirtualRegister}
 use Rattle.regalloc2_function.specs.FunctionValue.{FunctionValue, block_at}
+use Rattle.regalloc2_function.specs.Following.{end_within}
 use Rattle.regalloc2_fastalloc_state.specs.StateParts.{AllAtOrAfter}
 use Rattle.regalloc2_fastalloc_proofs.specs.BlockStart.{ReloadsAtBegin, ReloadAtBegin}
 use Rattle.regalloc2_fastalloc_proofs.specs.BlockSteps.{DefinesBelow, at_reloads, at_stores}
 use Rattle.regalloc2_fastalloc_proofs.specs.InstSteps.{StateValue, no_register}
-use Rattle.regalloc2_fastalloc_proofs.proofs.Safety.StateKept.{same_lends, apart_kept, block_within, params_known}
+use Rattle.regalloc2_fastalloc_proofs.proofs.Safety.StateKept.{same_lends, apart_kept, params_known}
 use Rattle.regalloc2_fastalloc_walk.specs.StateView.{tables_of, IsStepAt}
 use Rattle.regalloc2_fastalloc_walk.proofs.Steps.{step_then}
 use Rattle.regalloc2_fastalloc_walk.proofs.state.State.begin_block.Goals as goal
@@ -25,7 +26,7 @@ reload_at_begin-requires g c =
     let b : ℕ = c.args.block in
     let first : c.first-first.result ≡ (block_at f b).range.first = c.first-first.ensures ∙ ap (λ (r : Span). r.first) c.block_insns.ensures in
     let some = (c.requires.well_formed.1.follow b c.requires.block).0 in
-    let within = block_within f c.requires.well_formed.1.follow b c.requires.block in
+    let within = end_within f c.requires.well_formed.1.follow b c.requires.block in
     let few = (g.met.F.Function.limited c.args.cx.now.f.now).insts in (
       search rules,
       (

@@ -3,8 +3,8 @@ use Rattle.regalloc2_names.specs.Register.{VirtualRegister}
 use Rattle.regalloc2_names.specs.Operand.{OperandValue}
 use Rattle.regalloc2_validate.specs.Constraints.{op_at}
 use Rattle.regalloc2_fastalloc_proofs.specs.InstSteps.{StateValue, EvictsOthers, EvictsFixed, none_cleared, not_fixed, of_fixed, of_reuse}
+use Rattle.regalloc2_fastalloc_proofs.proofs.Evictions.PushedAndRemoved.{same_then}
 use Rattle.regalloc2_fastalloc_walk.specs.StateView.{tables_of}
-use Rattle.regalloc2_fastalloc_proofs.proofs.Evictions.EvictClobbers.{machine_then}
 use Rattle.regalloc2_validate.proofs.OperandReads.{read_operand, read_vreg}
 use Rattle.std.proofs.lemmas.Result.{err_from_is_err_and}
 use Rattle.regalloc2_fastalloc_walk.proofs.RegsReserved.{evicts_none}
@@ -50,7 +50,7 @@ loop-k-preserved g c =
             awaited = w.evict_others.ensures.awaited ∙ h.awaited;
             later = w.in_ok-evict_others-in-FixedReg.ensures.step.later;
             long = w.in_ok-evict_others-in-FixedReg.ensures.step.long ∙ h.long;
-            machine = machine_then begin m n h.machine w.in_ok-evict_others-in-FixedReg.ensures.step.machine;
+            machine = same_then begin m n h.machine w.in_ok-evict_others-in-FixedReg.ensures.step.machine;
           })
       | in-Reuse+in-Some+in_ok-evict_preg-in-Reuse w ↦ rw (w.self-is, w.inst_regs-is) (
           let n : StateValue = tables_of w.evict_preg.new.self in
@@ -61,7 +61,7 @@ loop-k-preserved g c =
             awaited = w.evict_preg.ensures.awaited ∙ h.awaited;
             later = w.in_ok-evict_preg-in-Reuse.ensures.step.later;
             long = w.in_ok-evict_preg-in-Reuse.ensures.step.long ∙ h.long;
-            machine = machine_then begin m n h.machine w.in_ok-evict_preg-in-Reuse.ensures.step.machine;
+            machine = same_then begin m n h.machine w.in_ok-evict_preg-in-Reuse.ensures.step.machine;
           })
       | in-Reuse+in_default-reused_register w ↦ rw (w.self-is, w.inst_regs-is) (record {
         cleared = not_fixed k c.loop-k.inst_regs m h.cleared (λ r e. let x = sym (at ∙ w.in-Reuse.is) ∙ e in cc)

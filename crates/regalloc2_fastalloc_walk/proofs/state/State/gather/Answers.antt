@@ -4,6 +4,7 @@ use Rattle.regalloc2_names.specs.Point.{before}
 use Rattle.regalloc2_names.specs.Register.{VirtualRegister}
 use Rattle.regalloc2_function.specs.FunctionValue.{FunctionValue, block_at, inst_at}
 use Rattle.regalloc2_function.specs.SourceRun.{arguments_at}
+use Rattle.regalloc2_function.specs.Following.{end_within}
 use Rattle.regalloc2_semantics.specs.Blocks.{target_at}
 use Rattle.regalloc2_fastalloc_proofs.specs.BranchSteps.{GathersMoves, no_edge, one_edge, IsOwn}
 use Rattle.regalloc2_fastalloc_proofs.specs.InstSteps.{StateValue, no_register}
@@ -12,7 +13,6 @@ use Rattle.regalloc2_fastalloc_proofs.specs.BranchSteps.{GatherEdge}
 use Rattle.regalloc2_branch_defs.specs.Tables.{AreBranchDefsOf}
 use Rattle.regalloc2_branch_defs.specs.declared.BranchDefs.{BranchDefs}
 use Rattle.regalloc2_fastalloc_proofs.specs.BlockSteps.{MayBeAllocated}
-use Rattle.regalloc2_fastalloc_proofs.proofs.Safety.StateKept.{block_within}
 use Rattle.regalloc2_fastalloc_walk.proofs.OwnDefs.{own_by, by_own, gathers_as, fails_as}
 use Rattle.regalloc2_fastalloc_walk.specs.OwnDefs.{IsOwnBy}
 use Rattle.regalloc2_fastalloc_walk.specs.StateView.{tables_of}
@@ -75,7 +75,7 @@ module _ (f : FunctionValue) {A : Type 0} (defs : BranchDefs A) (are : AreBranch
   own_there v own = own_by f defs are b i (omega (arith, last)) v own
 
   there_own : (v : VirtualRegister) → IsOwn f b v → IsOwnBy defs i v
-  there_own v own = (let within = block_within f well.1.follow b lt in by_own f defs are well.1.defined_once b i (omega (arith, last)) (omega (
+  there_own v own = (let within = end_within f well.1.follow b lt in by_own f defs are well.1.defined_once b i (omega (arith, last)) (omega (
     arith,
     last,
     within,

@@ -11,8 +11,8 @@ use Rattle.regalloc2_fastalloc_proofs.specs.InstSteps.{StateValue}
 use Rattle.regalloc2_fastalloc_proofs.specs.BranchSteps.{LacksMoveReg, in_gather, in_order}
 use Rattle.regalloc2_fastalloc_walk.specs.StateView.{tables_of}
 use Rattle.regalloc2_fastalloc_state.specs.StateParts.{AllAtOrAfter}
-use Rattle.regalloc2_fastalloc_proofs.proofs.Branches.ArgMovesAreParallel.{apart_lent, full_before, gathered_below, gathered_sources, lends_none, pushes_at}
-use Rattle.regalloc2_fastalloc_proofs.proofs.Safety.StateKept.{lends_then, none_lends, same_lends}
+use Rattle.regalloc2_fastalloc_proofs.proofs.Branches.ArgMovesAreParallel.{full_before, gathered_below, gathered_sources, lends_none, pushes_at}
+use Rattle.regalloc2_fastalloc_proofs.proofs.Safety.StateKept.{lends_then, none_lends, same_lends, apart_kept}
 use Rattle.regalloc2_fastalloc_proofs.proofs.Branches.ArgMovesAreParallel.{pushes_long}
 use Rattle.regalloc2_fastalloc_state.proofs.SpillSlotUnits.{lacks_then}
 use Rattle.regalloc2_fastalloc_walk.proofs.NothingPassed.{processes_nothing}
@@ -54,7 +54,7 @@ push_gathered-requires g c =
           (
             each Vector c.in_ok-moves.moves.vector x.1.vector,
             (
-              apart_lent 0 old m (lends_none old m c.gather.ensures.step.machine) c.requires.apart,
+              apart_kept 0 old m (lends_none old m c.gather.ensures.step.machine) c.requires.apart,
               subst (λ (p : ℕ). AllAtOrAfter p c.gather.new.self.edits) (sym at) c.in_ok-moves.ensures.step.later,
             ),
           ),

@@ -4,7 +4,8 @@ use Rattle.regalloc2_names.specs.declared.RegClass.TheVariants.{Int, Float}
 use Rattle.regalloc2_fastalloc_state.specs.OutOfResources.{SlotsExhaustedWith, IsResourceError}
 use Rattle.regalloc2_fastalloc_proofs.specs.InstSteps.{StateValue}
 use Rattle.regalloc2_fastalloc_walk.specs.StateView.{tables_of}
-use Rattle.regalloc2_fastalloc_proofs.proofs.Branches.ArgMovesAreParallel.{apart_lent, between_more, full_before, lends_same, lends_then, pushes_grow}
+use Rattle.regalloc2_fastalloc_proofs.proofs.Branches.ArgMovesAreParallel.{between_more, full_before, lends_same, lends_then, pushes_grow}
+use Rattle.regalloc2_fastalloc_proofs.proofs.Safety.StateKept.{apart_kept}
 use Rattle.regalloc2_fastalloc_state.proofs.SpillSlotUnits.{lacks_then}
 use Rattle.regalloc2_fastalloc_walk.proofs.state.State.push_gathered.Goals as goal
 
@@ -27,7 +28,7 @@ push_moves-requires-2 g c =
           (
             c.requires.floats.one_source,
             (
-              apart_lent (0 + 2) old (tables_of c.push_moves.new.self)
+              apart_kept (0 + 2) old (tables_of c.push_moves.new.self)
                   (lends_then (0) 2 old (tables_of c.args.self.now) (tables_of c.push_moves.new.self) (lends_same 0 old old refl) c.push_moves.ensures.machine)
                   c.requires.apart,
               c.in_ok-push_moves.ensures.later,
@@ -53,7 +54,7 @@ push_moves-requires-3 g c =
           (
             c.requires.vectors.one_source,
             (
-              apart_lent (0 + 2 + 2) old (tables_of c.push_moves-2.new.self)
+              apart_kept (0 + 2 + 2) old (tables_of c.push_moves-2.new.self)
                   (lends_then (0 + 2) 2 old (tables_of c.push_moves.new.self) (tables_of c.push_moves-2.new.self)
                   (lends_then (0) 2 old (tables_of c.args.self.now) (tables_of c.push_moves.new.self) (lends_same 0 old old refl) c.push_moves.ensures.machine)
                   c.push_moves-2.ensures.machine) c.requires.apart,

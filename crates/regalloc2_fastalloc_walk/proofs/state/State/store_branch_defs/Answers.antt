@@ -8,6 +8,7 @@ use Rattle.regalloc2_names.specs.Point.{before}
 use Rattle.regalloc2_names.specs.Register.{VirtualRegister}
 use Rattle.regalloc2_function.specs.FunctionValue.{FunctionValue, block_at, inst_at}
 use Rattle.regalloc2_function.specs.OutputValue.{MoveValue}
+use Rattle.regalloc2_function.specs.Following.{end_within}
 use Rattle.regalloc2_semantics.specs.Listing.{op_at}
 use Rattle.regalloc2_branch_defs.specs.BranchDefs.{IsEdgeInto}
 use Rattle.regalloc2_branch_defs.proofs.BlockEnds.{last_within}
@@ -16,7 +17,7 @@ use Rattle.regalloc2_fastalloc_proofs.specs.BlockSteps.{DefinesBelow, MayBeAlloc
 use Rattle.regalloc2_fastalloc_proofs.specs.InstSteps.{StateValue, SameMachine}
 use Rattle.regalloc2_fastalloc_proofs.specs.StoreSteps.{IsStoredFor, StoresOn, all_stored, branch_operands}
 use Rattle.regalloc2_fastalloc_proofs.proofs.Evictions.PushedAndRemoved.{same_then}
-use Rattle.regalloc2_fastalloc_proofs.proofs.Safety.StateKept.{block_within, made_below}
+use Rattle.regalloc2_fastalloc_proofs.proofs.Safety.StateKept.{made_below}
 use Rattle.regalloc2_fastalloc_proofs.proofs.Safety.StoredDefs.{concerned_made}
 use Rattle.regalloc2_fastalloc_proofs.proofs.Safety.StoresKeepSafe.{stored_concerned, stored_defines}
 use Rattle.regalloc2_fastalloc_walk.specs.BranchStores.{FindsStores, LacksStoreReg, PushesStores}
@@ -94,7 +95,7 @@ before-point-requires g c = λ valid.
     let f : FunctionValue = g.F.Function.function c.args.f.now in
     let first : c.first.result ≡ (block_at f c.args.block).range.first = c.first.ensures ∙ ap (λ (r : Span). r.first) c.block_insns.ensures in
     let some = (c.requires.well_formed.1.follow c.args.block c.requires.block).0 in
-    let within = block_within f c.requires.well_formed.1.follow c.args.block c.requires.block in
+    let within = end_within f c.requires.well_formed.1.follow c.args.block c.requires.block in
     let few = (g.met.F.Function.limited c.args.f.now).insts in omega (arith, first, some, within, few)
 
 pub push_stores-requires : goal.push_stores-requires
@@ -102,7 +103,7 @@ push_stores-requires g c =
     let f : FunctionValue = g.F.Function.function c.args.f.now in
     let first : c.first.result ≡ (block_at f c.args.block).range.first = c.first.ensures ∙ ap (λ (r : Span). r.first) c.block_insns.ensures in
     let some = (c.requires.well_formed.1.follow c.args.block c.requires.block).0 in
-    let within = block_within f c.requires.well_formed.1.follow c.args.block c.requires.block in
+    let within = end_within f c.requires.well_formed.1.follow c.args.block c.requires.block in
     let few = (g.met.F.Function.limited c.args.f.now).insts in
     let at : c.before-point.result ≡ before (block_at f c.args.block).range.first = c.before-point.ensures.point (λ e. omega (
       arith,
@@ -193,7 +194,7 @@ returns-clause-outcome g c =
     c.in_ok-push_stores-2.ensures.outcome in
     let first : c.first.result ≡ (block_at f c.args.block).range.first = c.first.ensures ∙ ap (λ (r : Span). r.first) c.block_insns.ensures in
     let some = (c.requires.well_formed.1.follow c.args.block c.requires.block).0 in
-    let within = block_within f c.requires.well_formed.1.follow c.args.block c.requires.block in
+    let within = end_within f c.requires.well_formed.1.follow c.args.block c.requires.block in
     let few = (g.met.F.Function.limited c.args.f.now).insts in
     let at : c.before-point.result ≡ before (block_at f c.args.block).range.first = c.before-point.ensures.point (λ v. omega (
       arith,
@@ -217,7 +218,7 @@ returns-clause-step g c =
     let u : StateValue = tables_of c.push_stores.new.self in
     let first : c.first.result ≡ (block_at f c.args.block).range.first = c.first.ensures ∙ ap (λ (r : Span). r.first) c.block_insns.ensures in
     let some = (c.requires.well_formed.1.follow c.args.block c.requires.block).0 in
-    let within = block_within f c.requires.well_formed.1.follow c.args.block c.requires.block in
+    let within = end_within f c.requires.well_formed.1.follow c.args.block c.requires.block in
     let few = (g.met.F.Function.limited c.args.f.now).insts in
     let at : c.before-point.result ≡ before (block_at f c.args.block).range.first = c.before-point.ensures.point (λ v. omega (
       arith,
