@@ -24,7 +24,8 @@ use Rattle.codegen_ir.specs.Successors.{wanted_by}
 use Rattle.codegen_ir.specs.Seen.{function_of, inst_of, operations}
 use Rattle.codegen_ir.specs.declared.operation.Operation.{Operation}
 use Rattle.codegen_ir.specs.declared.operation.Operation.TheVariants.{Argument as TakeArgument, Constant as TakeConstant, Copy, Compute as Computation}
-use Rattle.codegen_ir.specs.declared.operation.Operation.TheVariants.{Shift as Shifting, Compare as Comparison, Select, Jump as GoTo, BranchIf, BranchIfHolds, Return as GiveBack}
+use Rattle.codegen_ir.specs.declared.operation.Operation.TheVariants.{Shift as Shifting, Compare as Comparison, Select, Jump as GoTo, BranchIf, BranchIfHolds}
+use Rattle.codegen_ir.specs.declared.operation.Operation.TheVariants.{Return as GiveBack}
 use Rattle.codegen_ir.specs.declared.operation.Count.{Count}
 use Rattle.codegen_ir.specs.declared.operation.Count.TheVariants.{VReg as CountIn, Number as CountOf}
 use Rattle.codegen_ir.specs.declared.operation.Right.{Right}

@@ -1,6 +1,6 @@
 -- A procedure's own run is that of the interpreter over virtual registers, with what operations mean.
-use Rattle.std.proofs.Common.{ℕ, zero, suc, ◌≡◌, ◌+◌, ◌<◌, ◌≤◌, Bool, true, false, cond, not, List, [], ◌∷◌, length, Option, Some, None, refl, sym, subst, arith}
-use Rattle.std.proofs.Common.{nat_eq, lt-ltb, le-ltb, eq-eqb}
+use Rattle.std.proofs.Common.{ℕ, zero, suc, ◌≡◌, ◌+◌, ◌<◌, ◌≤◌, Bool, true, false, cond, not, List, [], ◌∷◌, length, Option, Some, None, refl, sym, subst}
+use Rattle.std.proofs.Common.{arith, nat_eq, lt-ltb, le-ltb, eq-eqb}
 use Rattle.std.specs.Prelude.{slice_get, slice_index, option_map}
 use Rattle.std.proofs.lemmas.Option.{slice_get-get_or}
 use Rattle.regalloc2_names.specs.Register.{VirtualRegister}
@@ -14,7 +14,8 @@ use Rattle.codegen_ir.specs.Operands.{operands_of}
 use Rattle.codegen_ir.specs.Meaning.{ProcedureState, onward, entered, along, done, procedure_step}
 use Rattle.codegen_ir.specs.declared.operation.Operation.{Operation}
 use Rattle.codegen_ir.specs.declared.operation.Operation.TheVariants.{Argument as TakeArgument, Constant as TakeConstant, Copy, Compute as Computation}
-use Rattle.codegen_ir.specs.declared.operation.Operation.TheVariants.{Shift as Shifting, Compare as Comparison, Select, Jump as GoTo, BranchIf, BranchIfHolds, Return as GiveBack}
+use Rattle.codegen_ir.specs.declared.operation.Operation.TheVariants.{Shift as Shifting, Compare as Comparison, Select, Jump as GoTo, BranchIf, BranchIfHolds}
+use Rattle.codegen_ir.specs.declared.operation.Operation.TheVariants.{Return as GiveBack}
 use Rattle.codegen_ir.specs.declared.operation.Count.TheVariants.{VReg as CountIn, Number as CountOf}
 use Rattle.codegen_ir.specs.declared.operation.Right.TheVariants.{VReg, Number as Given}
 use Rattle.codegen_machine.specs.Machine.{CodeValue}
@@ -67,7 +68,8 @@ module _ (f : FunctionValue) (args : ℕ → ℕ) where
   plain_goes (Shifting o to left (CountIn v)) c plain =
       let x : ℕ = c.numbers left in
       let n : ℕ = c.numbers v in
-      subst (λ (b : Bool). onward (seen c) to (shifted o x n) ≡ onward (seen c) to (shifted o x (slice_index (x ∷ cond (not b) (n ∷ []) []) 1))) (sym plain) refl
+      subst (λ (b : Bool). onward (seen c) to (shifted o x n) ≡ onward (seen c) to (shifted o x (slice_index (x ∷ cond (not b) (n ∷ []) []) 1))) (sym plain)
+          refl
   plain_goes (Shifting o to left (CountOf n)) c plain = refl
   plain_goes (Comparison o to left (VReg v)) c plain = refl
   plain_goes (Comparison o to left (Given n)) c plain = refl

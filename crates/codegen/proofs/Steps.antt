@@ -15,16 +15,18 @@ use Rattle.codegen_ir.specs.declared.operation.Condition.{Condition}
 use Rattle.codegen_ir.specs.declared.operation.Condition.TheVariants.{Equal, NotEqual}
 use Rattle.codegen_ir.specs.declared.operation.Operation.{Operation}
 use Rattle.codegen_ir.specs.declared.operation.Operation.TheVariants.{Argument as TakeArgument, Constant as TakeConstant, Copy, Compute as Computation}
-use Rattle.codegen_ir.specs.declared.operation.Operation.TheVariants.{Shift as Shifting, Compare as Comparison, Select, Jump as GoTo, BranchIf, BranchIfHolds, Return as GiveBack}
+use Rattle.codegen_ir.specs.declared.operation.Operation.TheVariants.{Shift as Shifting, Compare as Comparison, Select, Jump as GoTo, BranchIf, BranchIfHolds}
+use Rattle.codegen_ir.specs.declared.operation.Operation.TheVariants.{Return as GiveBack}
 use Rattle.codegen_ir.specs.declared.operation.Count.{Count}
 use Rattle.codegen_ir.specs.declared.operation.Count.TheVariants.{VReg as CountIn, Number as CountOf}
 use Rattle.codegen_ir.specs.declared.operation.Right.{Right}
 use Rattle.codegen_ir.specs.declared.operation.Right.TheVariants.{VReg, Number as Given}
 use Rattle.codegen_machine.specs.declared.Instruction.{Instruction}
-use Rattle.codegen_machine.specs.declared.Instruction.TheVariants.{Constant, Clear, Argument, Compute, Shift, ShiftBy, Compare, Set, MoveIf, Test, Jump, JumpIf, Return}
+use Rattle.codegen_machine.specs.declared.Instruction.TheVariants.{Constant, Clear, Argument, Compute, Shift, ShiftBy, Compare, Set, MoveIf, Test, Jump, JumpIf}
+use Rattle.codegen_machine.specs.declared.Instruction.TheVariants.{Return}
 use Rattle.codegen_machine.specs.Machine.{CodeValue, MachineState, is_general, with_register, with_source, written, compared_to, jumped, executed, machine_run}
-use Rattle.codegen.specs.Emitted.{register_of, source_of, right_source, fetched, constant_code, branch_code, branch_if_code, compare_code, select_code, shift_code}
-use Rattle.codegen.specs.Emitted.{resolved, operation_at, operation_code}
+use Rattle.codegen.specs.Emitted.{register_of, source_of, right_source, fetched, constant_code, branch_code, branch_if_code, compare_code, select_code}
+use Rattle.codegen.specs.Emitted.{shift_code, resolved, operation_at, operation_code}
 use Rattle.codegen.proofs.Premise.{IsGeneral, IsHere, IsRightHere, IsCountHere, IsPlaced, IsPlain, IsEnd}
 use Rattle.codegen.proofs.Runs.{Comes, comes_by, comes_on, ends_by, ends_then}
 use Rattle.codegen.proofs.Stands.{StandAt}
@@ -133,7 +135,8 @@ module _ (args : ℕ → ℕ) (starts : ℕ → ℕ) (code : CodeValue) (succs :
   reads_right (VReg v) s numbers r h a go = reads_source code.slots s numbers a r h go
   reads_right (Given n) s numbers r h a go = refl
 
-  compute_done : (o : Operator) (right : Right) (s : MachineState) (numbers : Place → ℕ) (p q r : Place) → IsGeneral p → p ≡ q → IsRightHere code.slots right r →
+  compute_done : (o : Operator) (right : Right) (s : MachineState) (numbers : Place → ℕ) (p q r : Place) → IsGeneral p → p ≡ q →
+      IsRightHere code.slots right r →
       Agree s.registers s.frame numbers →
       StandAt starts code.instructions s.pc (Compute o (register_of p) (right_source right r) ∷ rest) →
       Done s (place_set numbers p (computed o (numbers q) (right_read right (numbers r))))
@@ -162,7 +165,8 @@ module _ (args : ℕ → ℕ) (starts : ℕ → ℕ) (code : CodeValue) (succs :
       ∙ ap (λ (x : Place). Running (wrote s (register_of p) (shifted o (numbers x) n) None)) e) h
 
   -- numbers are compared
-  compares : (right : Right) (s : MachineState) (numbers : Place → ℕ) (q r : Place) → IsGeneral q → IsRightHere code.slots right r → Agree s.registers s.frame numbers →
+  compares : (right : Right) (s : MachineState) (numbers : Place → ℕ) (q r : Place) → IsGeneral q → IsRightHere code.slots right r →
+      Agree s.registers s.frame numbers →
       slice_get code.instructions s.pc ≡ Some (Compare (register_of q) (right_source right r)) →
       Comes code args 1 s (compared_state s (numbers q) (right_read right (numbers r)))
   compares right s numbers q r hq hr a h =
@@ -185,8 +189,10 @@ module _ (args : ℕ → ℕ) (starts : ℕ → ℕ) (code : CodeValue) (succs :
     stands = done.stands;
   }
 
-  compare_done : (c : Condition) (right : Right) (s : MachineState) (numbers : Place → ℕ) (ps : List Place) → IsGeneral (place_at ps 0) → IsGeneral (place_at ps 1) →
-      IsRightHere code.slots right (place_at ps 2) → Agree s.registers s.frame numbers → StandAt starts code.instructions s.pc (compare_code c right ps ++ rest) →
+  compare_done : (c : Condition) (right : Right) (s : MachineState) (numbers : Place → ℕ) (ps : List Place) → IsGeneral (place_at ps 0) →
+      IsGeneral (place_at ps 1) →
+      IsRightHere code.slots right (place_at ps 2) → Agree s.registers s.frame numbers →
+      StandAt starts code.instructions s.pc (compare_code c right ps ++ rest) →
       Done s (place_set numbers (place_at ps 0) (truth (holds c (numbers (place_at ps 1)) (right_read right (numbers (place_at ps 2))))))
   compare_done c right s numbers ps hp hq hr a h =
       let x : ℕ = numbers (place_at ps 1) in
@@ -337,7 +343,8 @@ module _ (args : ℕ → ℕ) (starts : ℕ → ℕ) (code : CodeValue) (succs :
       subst (λ (k : ℕ). Left s (numbers p ∷ []) numbers (edge_to (length succs) (Some k))) (turned (nat_eq (numbers p) 0))
       (forks NotEqual s (numbers p) 0 (numbers p ∷ []) numbers lt a (tests s numbers p hp a h.0) h.1)
 
-  forks_so : (c : Condition) (right : Right) (s : MachineState) (p q : Place) (read : List ℕ) (numbers : Place → ℕ) → IsGeneral p → IsRightHere code.slots right q →
+  forks_so : (c : Condition) (right : Right) (s : MachineState) (p q : Place) (read : List ℕ) (numbers : Place → ℕ) → IsGeneral p →
+      IsRightHere code.slots right q →
       1 < length succs → Agree s.registers s.frame numbers →
       StandAt starts code.instructions s.pc (Compare (register_of p) (right_source right q) ∷ branch_code c succs ++ rest) →
       Left s read numbers (edge_to (length succs) (Some (cond (holds c (numbers p) (right_read right (numbers q))) 0 1)))

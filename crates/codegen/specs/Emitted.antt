@@ -7,7 +7,8 @@ use Rattle.regalloc2_function.specs.OutputValue.{OutputValue, allocs_of, place_a
 use Rattle.regalloc2_function.specs.Listing.{Listed, ListedInst, ListedMove, block_listing}
 use Rattle.codegen_ir.specs.declared.operation.Operation.{Operation}
 use Rattle.codegen_ir.specs.declared.operation.Operation.TheVariants.{Argument as TakeArgument, Constant as TakeConstant, Copy, Compute as Computation}
-use Rattle.codegen_ir.specs.declared.operation.Operation.TheVariants.{Shift as Shifting, Compare as Comparison, Select, Jump as GoTo, BranchIf, BranchIfHolds, Return as GiveBack}
+use Rattle.codegen_ir.specs.declared.operation.Operation.TheVariants.{Shift as Shifting, Compare as Comparison, Select, Jump as GoTo, BranchIf, BranchIfHolds}
+use Rattle.codegen_ir.specs.declared.operation.Operation.TheVariants.{Return as GiveBack}
 use Rattle.codegen_ir.specs.declared.operation.ShiftOperator.{ShiftOperator}
 use Rattle.codegen_ir.specs.declared.operation.Condition.{Condition}
 use Rattle.codegen_ir.specs.declared.operation.Condition.TheVariants.{Equal, NotEqual}

@@ -7,7 +7,8 @@ use Rattle.regalloc2_function.specs.SourceRun.{arguments_at}
 use Rattle.regalloc2_values.specs.Interpreters.{number_set, passed_on}
 use Rattle.codegen_ir.specs.Numbers.{Outcome, Running, Returned, Stuck, further, computed, shifted, holds, truth}
 use Rattle.codegen_ir.specs.declared.operation.Operation.{Operation}
-use Rattle.codegen_ir.specs.declared.operation.Operation.TheVariants.{Argument, Constant, Copy, Compute, Shift, Compare, Select, Jump, BranchIf, BranchIfHolds, Return}
+use Rattle.codegen_ir.specs.declared.operation.Operation.TheVariants.{Argument, Constant, Copy, Compute, Shift, Compare, Select, Jump, BranchIf, BranchIfHolds}
+use Rattle.codegen_ir.specs.declared.operation.Operation.TheVariants.{Return}
 use Rattle.codegen_ir.specs.declared.operation.Count.{Count}
 use Rattle.codegen_ir.specs.declared.operation.Count.TheVariants.{VReg as CountIn, Number as CountOf}
 use Rattle.codegen_ir.specs.declared.operation.Right.{Right}

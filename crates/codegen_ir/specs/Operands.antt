@@ -7,7 +7,8 @@ use Rattle.regalloc2_names.specs.declared.OperandConstraint.TheVariants.{Any, Re
 use Rattle.regalloc2_names.specs.declared.OperandKind.TheVariants.{Def, Use}
 use Rattle.regalloc2_names.specs.declared.OperandPos.TheVariants.{Early, Late}
 use Rattle.codegen_ir.specs.declared.operation.Operation.{Operation}
-use Rattle.codegen_ir.specs.declared.operation.Operation.TheVariants.{Argument, Constant, Copy, Compute, Shift, Compare, Select, Jump, BranchIf, BranchIfHolds, Return}
+use Rattle.codegen_ir.specs.declared.operation.Operation.TheVariants.{Argument, Constant, Copy, Compute, Shift, Compare, Select, Jump, BranchIf, BranchIfHolds}
+use Rattle.codegen_ir.specs.declared.operation.Operation.TheVariants.{Return}
 use Rattle.codegen_ir.specs.declared.operation.Count.{Count}
 use Rattle.codegen_ir.specs.declared.operation.Count.TheVariants.{VReg as CountIn, Number as CountOf}
 use Rattle.codegen_ir.specs.declared.operation.Right.{Right}

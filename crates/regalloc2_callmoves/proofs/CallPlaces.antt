@@ -136,7 +136,8 @@ taken_more ms f n s t h put = record {
         put r ∙ true_left (is_register (free_at f n) r) (has_register s r) (is_place-along (InRegister (free_at f n)) (InRegister r) here)
 
 -- a free register that the set doesn't have isn't in use
-pub taken_not : {A : Type 0} (ms : CallMoves) (f : CallFrame A) (n : ℕ) (s : PRegSet) → AreTaken ms f n s → false ≡ has_register s (free_at f n) → IsTaken ms f n → ⊥
+pub taken_not : {A : Type 0} (ms : CallMoves) (f : CallFrame A) (n : ℕ) (s : PRegSet) → AreTaken ms f n s → false ≡ has_register s (free_at f n) →
+    IsTaken ms f n → ⊥
 taken_not ms f n s h e x = let no : true ≡ false = sym (h.no (free_at f n) x) ∙ sym e in cc
 
 -- the lowest slot of those that the first n moves name, from a start on and below an end

@@ -26,7 +26,8 @@ adds_both P Q xs ys zs first next n u = (λ h. there ((next n u).0 h), λ h. bac
     back (inr (inr q)) = (next n u).1 (inr q)
 
 -- the same slots by other words
-pub adds_same : (P Q : ℕ → ℕ → Type 0) (xs ys : List (ℕ × ℕ)) → ((n u : ℕ) → P n u → Q n u) → ((n u : ℕ) → Q n u → P n u) → AddsSlots P xs ys → AddsSlots Q xs ys
+pub adds_same : (P Q : ℕ → ℕ → Type 0) (xs ys : List (ℕ × ℕ)) → ((n u : ℕ) → P n u → Q n u) → ((n u : ℕ) → Q n u → P n u) → AddsSlots P xs ys →
+    AddsSlots Q xs ys
 adds_same P Q xs ys to from h n u = (λ c. there ((h n u).0 c), λ c. back c)
   where
     there : Contains xs (n, u) ⊎ P n u → Contains xs (n, u) ⊎ Q n u

@@ -166,8 +166,8 @@ MeetsRequirement t AnyReg p = (r : Register) × (p ≡ InRegister r) × (is_stac
 MeetsRequirement t InMemory p = is_stack_in t p ≡ true
 MeetsRequirement t (InPReg r) p = p ≡ InRegister r
 
--- The place of an operand, before it is claimed: where its vreg is located; or the register that it asks for; or its slot; or of the registers that are free the
--- one that is chosen, but where any register will do only if its vreg is in none.
+-- The place of an operand, before it is claimed: where its vreg is located; or the register that it asks for; or its slot; or of the
+-- registers that are free the one that is chosen, but where any register will do only if its vreg is in none.
 pub data SelectsPlace (inst_regs : InstRegs) (o : OperandRequest) (p : Place) (old new : StateValue) : Type 0 where
   stays : alloc_of old.places o.vreg.number ≡ p → MeetsRequirement old o.requirement p → new ≡ old → SelectsPlace inst_regs o p old new
   fixed : (r : Register) → o.requirement ≡ InPReg r → p ≡ InRegister r → new ≡ old → SelectsPlace inst_regs o p old new
@@ -175,7 +175,8 @@ pub data SelectsPlace (inst_regs : InstRegs) (o : OperandRequest) (p : Place) (o
       new.edits ≡ old.edits → SameMachine old new → new.lrus ≡ old.lrus → SelectsPlace inst_regs o p old new
   free : (r : Register) → (o.requirement ≡ AnyPlace) ⊎ (o.requirement ≡ AnyReg) →
       (o.requirement ≡ AnyReg → MeetsRequirement old AnyReg (alloc_of old.places o.vreg.number) → ⊥) → MayHold old o.vreg.class r →
-      IsAvailableAt inst_regs o.positions r → chosen (is_available_at inst_regs o.positions) (order_of old o.vreg.class) ≡ Some r → p ≡ InRegister r → new ≡ old → SelectsPlace inst_regs o p old new
+      IsAvailableAt inst_regs o.positions r → chosen (is_available_at inst_regs o.positions) (order_of old o.vreg.class) ≡ Some r → p ≡ InRegister r →
+          new ≡ old → SelectsPlace inst_regs o p old new
 
 -- or there is none: any register was asked for, and none is free
 abbrev pub SelectPlace : InstRegs → OperandRequest → StateValue → Outcome Place → Type 0

@@ -48,7 +48,8 @@ pub step_then_fails : {A T U : Type 0} {point at : ℕ} {e d : RegAllocError} (r
 step_then_fails r a b c is same kept step = fails_with r a c is same (same_then (tables_of a) (tables_of b) (tables_of c) kept step.machine) step.err
 
 -- what is known of a value and of an error says what a call comes to
-pub outcome_of : {T P R : Type 0} {Q S : RegAllocError → Type 0} (r : Result T RegAllocError) → OnOk r P → IfErr r Q → (P → R) → ((e : RegAllocError) → Q e → S e)
+pub outcome_of : {T P R : Type 0} {Q S : RegAllocError → Type 0} (r : Result T RegAllocError) → OnOk r P → IfErr r Q → (P → R) →
+    ((e : RegAllocError) → Q e → S e)
     → MatchResult r (λ x. R) S
 outcome_of (Ok x) p q ok err = ok p
 outcome_of (Err e) p q ok err = err e q

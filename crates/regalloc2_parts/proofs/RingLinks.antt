@@ -1,5 +1,6 @@
 -- Nodes of a ring of registers whose links were changed.
-use Rattle.std.proofs.Common.{ℕ, zero, suc, ◌≡◌, ◌≢◌, ◌+◌, ◌<◌, ◌≤◌, ◌∙◌, refl, arith, sym, ap, subst, List, [], ◌∷◌, ◌++◌, true, false, nat_eq, eq-eqb, inl, inr, length}
+use Rattle.std.proofs.Common.{ℕ, zero, suc, ◌≡◌, ◌≢◌, ◌+◌, ◌<◌, ◌≤◌, ◌∙◌, refl, arith, sym, ap, subst, List, [], ◌∷◌, ◌++◌, true, false, nat_eq, eq-eqb, inl}
+use Rattle.std.proofs.Common.{inr, length}
 use Rattle.std.specs.Prelude.{◌⊎◌, All, Contains, slice_index, slice_index_or, slice_set}
 use Rattle.std.specs.List.{IsDistinct}
 use Rattle.std.proofs.Math.Seq.{map-set_same}

@@ -1,6 +1,5 @@
 -- Functions of one block with registers for all vregs: instruction after instruction no move is made, and no slot.
-use Rattle.std.proofs.Common.{ℕ, ◌≡◌, ◌≢◌, ◌+◌, ◌<◌, ◌≤◌, inl, inr, Bool, true, false, List, [], ◌∷◌, length, refl, arith, sym}
-use Rattle.std.proofs.Common.{ap, ◌∙◌, subst}
+use Rattle.std.proofs.Common.{ℕ, ◌≡◌, ◌≢◌, ◌+◌, ◌<◌, ◌≤◌, inl, inr, Bool, true, false, List, [], ◌∷◌, length, refl, arith, sym, ap, ◌∙◌, subst}
 use Rattle.std.specs.Prelude.{None, Contains, IsSome, slice_index_or, not, if◌then◌else◌}
 use Rattle.std.specs.List.{IsDistinct}
 use Rattle.std.proofs.lemmas.Bool.{and_parts, cases_Bool, cases_eq}
@@ -31,8 +30,7 @@ use Rattle.regalloc2_fastalloc_state.specs.StateParts.{IsLruOf, SpillSlotsValue,
 use Rattle.regalloc2_fastalloc_state.specs.InstRegs.{is_free_throughout}
 use Rattle.regalloc2_validate.specs.Constraints.{op_at}
 use Rattle.regalloc2_fastalloc_proofs.specs.InstSteps.{StateValue, AllocsInst, EvictsEach, EvictsFixed, RemovesClobbers, MovesUses, ReservesRegs, order_of}
-use Rattle.regalloc2_fastalloc_proofs.specs.InstSteps.{none_cleared, not_fixed, of_fixed, of_reuse, none_left, one_more, none_moved, not_moved}
-use Rattle.regalloc2_fastalloc_proofs.specs.InstSteps.{one_moved}
+use Rattle.regalloc2_fastalloc_proofs.specs.InstSteps.{none_cleared, not_fixed, of_fixed, of_reuse, none_left, one_more, none_moved, not_moved, one_moved}
 use Rattle.regalloc2_fastalloc_proofs.specs.BranchSteps.{AreApart, ClassMove, GathersMoves, GathersEdgeMoves, no_edge, none_gathered, of_class, one_edge}
 use Rattle.regalloc2_fastalloc_proofs.specs.BranchSteps.{one_gathered, own_argument}
 use Rattle.regalloc2_fastalloc_proofs.specs.BlockStart.{ReloadsParams, none_begun, one_begun}
@@ -134,7 +132,8 @@ moved_none point operands here t old n u new at (one_moved k x y m o before read
 -- before operands are allocated nothing changes but the instruction's registers
 ready : {names : List VirtualRegister} {gone : ℕ → Bool} {i : ℕ} {operands : List OperandValue} {clobbers : PRegSet} {old new : StateValue}
     {u began quiet : InstRegs} → ((k : ℕ) → k < length operands → (op_at operands k).constraint ≡ Reg)
-    → ((r : Register) → has_register clobbers r ≡ false) → IsFresh began old → PreparesRegs i operands clobbers began quiet old new → IsSpillFree names gone old u
+    → ((r : Register) → has_register clobbers r ≡ false) → IsFresh began old → PreparesRegs i operands clobbers began quiet old new →
+    IsSpillFree names gone old u
     → (new ≡ old) × IsSpillFree names gone new quiet
 ready {names} {gone} {i} {operands} {clobbers} {old} {new} {u} {began} {quiet} reg none fresh p h =
     let f = cleared_none (after i) operands p.held old (length operands) p.cleared p.middle (omega arith) reg p.fixed in

@@ -79,7 +79,8 @@ module _ (f : FunctionValue) (env : MachineValue) (well : IsWellFormed env f) (n
   inst_leaves b i before_it places old new lt less few h a = subst (IsSpillFreeFrom names f i) (sym same) done
     where
       done : IsSpillFreeFrom names f i a.middle
-      done = from_next f names i old a.middle less h (inst_spill_free (inst_at f i) few (plain_at f env names i old well asks less h) (λ r. asks.no_clobbers i r less)
+      done = from_next f names i old a.middle less h (inst_spill_free (inst_at f i) few (plain_at f env names i old well asks less h)
+          (λ r. asks.no_clobbers i r less)
           a.allocates.allocates h.spill_free)
 
       same : new ≡ a.middle

@@ -73,7 +73,8 @@ class_settled names gone gone_now n r class ring t u inst_regs h others own grow
     ]
 
 -- so a step leaves the state as it sets the vreg's location; left: the state once the register was taken
-settled : (names : List VirtualRegister) (gone gone_now : ℕ → Bool) (o : OperandRequest) (p : Place) (inst_regs after_turn : InstRegs) (old left new : StateValue)
+settled : (names : List VirtualRegister) (gone gone_now : ℕ → Bool) (o : OperandRequest) (p : Place) (inst_regs after_turn : InstRegs)
+    (old left new : StateValue)
     → IsSpillFree names gone old inst_regs → Contains names o.vreg → (got : Got names gone o p after_turn old left) → IsWhole new →
     ((m : ℕ) → m ≢ o.vreg.number → alloc_of new.places m ≡ alloc_of old.places m)
     → (alloc_of new.places o.vreg.number ≡ p) ⊎ ((alloc_of new.places o.vreg.number ≡ NoPlace) × (gone_now o.vreg.number ≡ true)) →

@@ -152,7 +152,8 @@ module _ (point : ℕ) (ops : List OperandValue) (pass : Bool) (edits : List (�
       → ((w : VirtualRegister) → r.number < 64 → vreg_of_preg old.places r ≡ Some w → w.number ≡ o.vreg.number) → (u ≡ t) × (new ≡ old)
   clears_nobody o r t u old new (own w held same eu en) only = (eu, en)
   clears_nobody o r t u old new (others not_own (empty none eu en)) only = (eu, en)
-  clears_nobody o r t u old new (others not_own (cleared v s m small held gives settles e machine order crosses)) only = absurd (not_own v held (only v small held))
+  clears_nobody o r t u old new (others not_own (cleared v s m small held gives settles e machine order crosses)) only =
+      absurd (not_own v held (only v small held))
 
   occupies_nobody : (o : OperandRequest) (p : Place) (t u : InstRegs) (old new : StateValue) → ClaimsPlace point o p t u old new
       → ((r : Register) (w : VirtualRegister) → p ≡ InRegister r → r.number < 64 → vreg_of_preg old.places r ≡ Some w → w.number ≡ o.vreg.number)

@@ -31,7 +31,8 @@ no_longer old new v s count slot z = rw (left_alone old new v s count slot z) (l
 evicts_no_longer : (point : ℕ) (by : Register) (old new : StateValue) → EvictsVReg point by old new →
     length new.places.in_registers ≤ length old.places.in_registers
 evicts_no_longer point by old new (nobody h e) = rw e (omega arith)
-evicts_no_longer point by old new (moved v s small h gives settles edits machine order) = no_longer old.places new.places v s new.slots.count gives.below settles
+evicts_no_longer point by old new (moved v s small h gives settles edits machine order) =
+    no_longer old.places new.places v s new.slots.count gives.below settles
 
 scratches_no_longer : (point : ℕ) (class : RegClass) (t u : InstRegs) (by : Register) (old new : StateValue) → AllocsScratchReg point class t u by old new →
     length new.places.in_registers ≤ length old.places.in_registers

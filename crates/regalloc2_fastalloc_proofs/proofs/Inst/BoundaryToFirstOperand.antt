@@ -192,11 +192,14 @@ module _ (tail : BlockTail) where
       let none : a.prepares.held.scratch ≡ None ∷ None ∷ None ∷ [] = a.prepares.holds.scratch ∙ a.prepares.reserves.scratch ∙ a.fresh.scratch in
       let x : FixedUpTo tail ops (lives_in old) (ends_block inst) a.prepares.held old (length ops) a.prepares.cleared a.prepares.middle =
       fixed_done tail ops (lives_in old) (ends_block inst) a.prepares.held old o
-      (reserved_all ops inst.clobbers a.began a.prepares.reserved a.prepares.held old c.fit a.prepares.reserves a.prepares.holds) (start ops (ends_block inst) a.prepares.held old c ends none)
+      (reserved_all ops inst.clobbers a.began a.prepares.reserved a.prepares.held old c.fit a.prepares.reserves a.prepares.holds)
+      (start ops (ends_block inst) a.prepares.held old c ends none)
       (length ops)
       a.prepares.cleared a.prepares.middle a.prepares.fixed (omega arith) in
-      let y : Quieted ops x.here x.claimed (lives_in old) (ends_block inst) (registers_of inst.clobbers) a.prepares.cleared a.quiet a.prepares.middle a.after_clobbers =
-      all_cleared ops x.here x.claimed (lives_in old) (ends_block inst) (registers_of inst.clobbers) a.prepares.cleared a.quiet a.prepares.middle a.after_clobbers
+      let y : Quieted ops x.here x.claimed (lives_in old) (ends_block inst) (registers_of inst.clobbers) a.prepares.cleared a.quiet a.prepares.middle
+      a.after_clobbers =
+      all_cleared ops x.here x.claimed (lives_in old) (ends_block inst) (registers_of inst.clobbers) a.prepares.cleared a.quiet a.prepares.middle
+      a.after_clobbers
       a.prepares.emptied
       x.ready in
       let less : Less a.prepares.held a.quiet = less_then a.prepares.held a.prepares.cleared a.quiet x.less y.less in

@@ -381,7 +381,8 @@ module _ (tail : BlockTail) (ops : List OperandValue) (far : Progress) (ret : Bo
     gets_by middle new (fresh f other) (stays x su en) occ = get_kept new f x (subst (λ m. ClaimsPlace (after i) o p t u m new) en occ)
     gets_by middle new (fresh f other) (fixed g wg pg en) occ = absurd (other g wg)
     gets_by middle new (fresh f other) (slot h g e ed machine order) occ = get_slot middle new f g e ed machine occ
-    gets_by middle new (fresh f other) (free g h away may fr first pg en) occ = get_free new g f may fr pg (subst (λ m. ClaimsPlace (after i) o p t u m new) en occ)
+    gets_by middle new (fresh f other) (free g h away may fr first pg en) occ =
+        get_free new g f may fr pg (subst (λ m. ClaimsPlace (after i) o p t u m new) en occ)
 
     -- whatever registers were used
     got_used : (new : StateValue) (order : List (List Register)) → Got k p u new → Got k p u (record new { lrus = order })

@@ -25,11 +25,13 @@ loop-succ-preserved g c =
     (rw c.block_params.ensures at (not_so c.is_named.result c.if-is_named.false c.is_named.ensures.1)) in
     elim c.if-index.branch [
       | then-index+in_ok-push w ↦ record {
-        near = rw (w.near-is, w.in_ok-push.ensures.items) (All-push (LeadsBack f c.args.vreg) c.loop-succ.near.items c.succ-item.result c.loop-succ.invariant.near back);
+        near = rw (w.near-is, w.in_ok-push.ensures.items) (All-push (LeadsBack f c.args.vreg) c.loop-succ.near.items c.succ-item.result
+        c.loop-succ.invariant.near back);
         far = rw w.far-is c.loop-succ.invariant.far;
       }
       | else-index+in_ok-push-2 w ↦ record {
         near = rw w.near-is c.loop-succ.invariant.near;
-        far = rw (w.far-is, w.in_ok-push-2.ensures.items) (All-push (LeadsBack f c.args.vreg) c.loop-succ.far.items c.succ-item.result c.loop-succ.invariant.far back);
+        far = rw (w.far-is, w.in_ok-push-2.ensures.items) (All-push (LeadsBack f c.args.vreg) c.loop-succ.far.items c.succ-item.result c.loop-succ.invariant.far
+            back);
       }
     ]

@@ -10,7 +10,8 @@ use Rattle.regalloc2_fastalloc_state.specs.StateParts.{AllAtOrAfter}
 use Rattle.regalloc2_fastalloc_proofs.specs.InstSteps.{StateValue, no_register}
 use Rattle.regalloc2_fastalloc_walk.specs.StateView.{tables_of}
 use Rattle.regalloc2_fastalloc_proofs.specs.BranchSteps.{AddsTempSlotsAtMost}
-use Rattle.regalloc2_fastalloc_proofs.specs.BlockSteps.{AllocsInstInBlock, AllocInstInBlock, AllocsBlockInsts, DefinesBelow, at_end, one_in, temp_slots_at, offset_of}
+use Rattle.regalloc2_fastalloc_proofs.specs.BlockSteps.{AllocsInstInBlock, AllocInstInBlock, AllocsBlockInsts, DefinesBelow, at_end, one_in, temp_slots_at}
+use Rattle.regalloc2_fastalloc_proofs.specs.BlockSteps.{offset_of}
 use Rattle.regalloc2_fastalloc_proofs.proofs.Safety.StateKept.{none_lends, lends_then, apart_kept, lacks_all, lent_so_far}
 use Rattle.regalloc2_fastalloc_walk.proofs.state.State.alloc_block.Goals as goal
 

@@ -103,5 +103,6 @@ returns-in_err-store_branch_defs-clause-outcome g c =
     let first : c.first-first.result ≡ (block_at f c.args.block).range.first = c.first-first.ensures ∙ ap (λ (r : Span). r.first) c.block_insns.ensures in
     let e = err_from_is_err_and c.from_residual-in_err-store_branch_defs.result c.from_residual-in_err-store_branch_defs.ensures.1 in
     rw e.1 (λ lacks. at_stores m (subst (λ (n : ℕ). ReloadsAtBegin (before n) (block_at f c.args.block).params old m) first
-    (subst (λ (vs : List VirtualRegister). ReloadsAtBegin (before c.first-first.result) vs old m) c.block_params.ensures c.in_ok-reload_at_begin.ensures.outcome))
+    (subst (λ (vs : List VirtualRegister). ReloadsAtBegin (before c.first-first.result) vs old m) c.block_params.ensures
+    c.in_ok-reload_at_begin.ensures.outcome))
     (c.in_err-store_branch_defs.ensures.outcome (sym e.2 ∙ lacks)))

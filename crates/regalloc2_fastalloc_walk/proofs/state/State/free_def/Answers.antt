@@ -71,7 +71,8 @@ returns-in_err-add_move_if-2-clause-outcome g c =
     let middle : StateValue = tables_of c.add_move_if.new.self in
     let ret : Bool = c.args.is_ret in
     let A : RegClass → Bool → Place → Type 0 = λ k b q. AddsMoveIf c.args.point k b p q c.args.inst_regs.now c.add_move_if.new.inst_regs left middle in
-    let a1 = subst (λ (k : RegClass). A k c.is_awaited-is_awaited.result c.current_alloc-awaited.result) c.class-class.ensures c.in_ok-add_move_if.ensures.outcome in
+    let a1 = subst (λ (k : RegClass). A k c.is_awaited-is_awaited.result c.current_alloc-awaited.result) c.class-class.ensures
+        c.in_ok-add_move_if.ensures.outcome in
     let a2 = subst (λ (b : Bool). A c.args.vreg.class b c.current_alloc-awaited.result) c.is_awaited-is_awaited.ensures a1 in
     let a3 = subst (λ (q : Place). A c.args.vreg.class (not ret && is_another q p) q) c.current_alloc-awaited.ensures.place a2 in
     let S : RegClass → Bool → Place → Type 0 = λ k b q. AddMoveIf c.args.point k b p q c.add_move_if.new.inst_regs middle no_register in
@@ -84,5 +85,6 @@ returns-in_err-add_move_if-2-clause-outcome g c =
     let s3 = subst (λ (q : Place). S c.args.vreg.class (not ret && (is_another q p && not (is_place q c.current_alloc-awaited.result))) q)
     c.find_spillslot-slot.ensures.slot s2 in
     let s4 = subst (λ (q : Place). S c.args.vreg.class (not ret && (is_another s p && not (is_place s q))) s) c.current_alloc-awaited.ensures.place s3 in
-    to_slot left middle c.add_move_if.new.inst_regs (subst (SetsAlloc t.places c.set_alloc.new.self c.args.vreg) c.none.ensures c.set_alloc.ensures.settled) refl refl
+    to_slot left middle c.add_move_if.new.inst_regs (subst (SetsAlloc t.places c.set_alloc.new.self c.args.vreg) c.none.ensures c.set_alloc.ensures.settled)
+    refl refl
     (record { allocatable = refl; fixed_stack = refl; dedicated_scratch = refl; sizes = refl; vregs = refl; num_temp_slots = refl }) a3 s4)

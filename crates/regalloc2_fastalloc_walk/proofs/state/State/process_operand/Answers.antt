@@ -121,7 +121,8 @@ returns-in_err-here-clause-outcome g c =
     (omega (arith, c.requires.inside, c.requires.here_long)) c.index-here-k.is NoPlace in
     let at : c.after-point.result ≡ after c.args.cx.now.inst = c.after-point.ensures.point (λ e. omega (arith, c.requires.inst)) in
     let e = err_from_is_err_and c.from_residual.result c.from_residual.ensures.1 in
-    rw e.1 (λ same. stop_use c.index-operands-k.result c.index-here-k.result o h c.use_request-request.ensures at not_it (sym c.is_def.ensures ∙ c.if-not-is_def.true) (c.in_err-here.ensures.outcome (sym e.2 ∙ same)))
+    rw e.1 (λ same. stop_use c.index-operands-k.result c.index-here-k.result o h c.use_request-request.ensures at not_it
+        (sym c.is_def.ensures ∙ c.if-not-is_def.true) (c.in_err-here.ensures.outcome (sym e.2 ∙ same)))
 
 pub returns-in_err-place-clause-outcome : goal.returns-in_err-place-clause-outcome
 returns-in_err-place-clause-outcome g c =
@@ -139,5 +140,6 @@ returns-in_err-here-2-clause-outcome g c =
     let o : c.index-operands-k.result ≡ op_at ops c.args.k = read_operand ops c.args.k c.index-operands-k.result c.requires.inside c.index-operands-k.is in
     let at : c.after-point.result ≡ after c.args.cx.now.inst = c.after-point.ensures.point (λ e. omega (arith, c.requires.inst)) in
     let e = err_from_is_err_and c.from_residual-in_err-here-2.result c.from_residual-in_err-here-2.ensures.1 in
-    rw e.1 (λ same. stop_def c.index-operands-k.result o c.def_request.ensures at (sym c.is_def.ensures ∙ c.if-not-is_def.false) (c.in_default-reused.ensures.none refl)
+    rw e.1 (λ same. stop_def c.index-operands-k.result o c.def_request.ensures at (sym c.is_def.ensures ∙ c.if-not-is_def.false)
+    (c.in_default-reused.ensures.none refl)
     (c.in_err-here-2.ensures.outcome (sym e.2 ∙ same)))

@@ -91,7 +91,8 @@ returns-in_err-here-clause-outcome g c =
     let reads : is_def c.index-operands-k.result.kind ≡ false = sym c.is_def.ensures ∙ c.if-not-is_def.true in
     let at : c.after-point.result ≡ after c.args.cx.now.inst = c.after-point.ensures.point (λ e. omega (arith, c.requires.inst)) in
     let e = err_from_is_err_and c.from_residual.result c.from_residual.ensures.1 in
-    rw e.1 (λ same. stop_use c.index-operands-k.result NoPlace o (sym c.requires.unplaced) (c.reg_request-request.ensures.used reads) at (reg_not_nonallocatable c.index-operands-k.result reg) reads
+    rw e.1 (λ same. stop_use c.index-operands-k.result NoPlace o (sym c.requires.unplaced) (c.reg_request-request.ensures.used reads) at
+    (reg_not_nonallocatable c.index-operands-k.result reg) reads
     (c.in_err-here.ensures.outcome (sym e.2 ∙ same)))
 
 pub returns-in_err-here-2-clause-outcome : goal.returns-in_err-here-2-clause-outcome
@@ -102,5 +103,6 @@ returns-in_err-here-2-clause-outcome g c =
     let at : c.after-point.result ≡ after c.args.cx.now.inst = c.after-point.ensures.point (λ e. omega (arith, c.requires.inst)) in
     let def = sym c.is_def.ensures ∙ c.if-not-is_def.false in
     let e = err_from_is_err_and c.from_residual-in_err-here-2.result c.from_residual-in_err-here-2.ensures.1 in
-    rw e.1 (λ same. stop_def c.index-operands-k.result o (c.reg_request-request.ensures.defined def) at def (λ n e. reg_no_reuse c.index-operands-k.result n reg e)
+    rw e.1 (λ same. stop_def c.index-operands-k.result o (c.reg_request-request.ensures.defined def) at def
+    (λ n e. reg_no_reuse c.index-operands-k.result n reg e)
     (c.in_err-here-2.ensures.outcome (sym e.2 ∙ same)))

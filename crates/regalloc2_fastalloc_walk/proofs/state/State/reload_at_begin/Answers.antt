@@ -56,7 +56,8 @@ returns-in_err-reload_params-clause-outcome g c =
       scratch = c.new-inst_regs.ensures.scratch;
       awaited = c.new-inst_regs.ensures.awaited;
     })
-    (subst (λ (p : ℕ). ReloadParams p c.args.params.now c.new-inst_regs.result (tables_of c.args.self.now) no_register) at (c.in_err-reload_params.ensures.outcome
+    (subst (λ (p : ℕ). ReloadParams p c.args.params.now c.new-inst_regs.result (tables_of c.args.self.now) no_register) at
+    (c.in_err-reload_params.ensures.outcome
     (sym e.2 ∙ same))))
 
 pub returns-in_err-reload_regs-clause-outcome : goal.returns-in_err-reload_regs-clause-outcome
