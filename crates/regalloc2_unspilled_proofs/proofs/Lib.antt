@@ -2,8 +2,8 @@
 -- Main theorem: `unspilled` in `OneBlock`. Its invariant: `IsSpillFree` in the specs: of each class the registers that weren't used come
 -- last in the order of use, are free, and hold no vreg; those that were used are no more than the vregs that were met.
 -- Read first: `operand_got` in `OperandTakesFreeReg`, an operand takes a register that no other vreg uses; `found_last` in `LruUnusedLast`
--- has from `chosen` that the chosen one wasn't used. Then upwards: `OperandsSpillFree` (the operands of a position), `BlockSpillFree` (an instruction), `OneBlock`
--- (the walk).
+-- has from `chosen` that the chosen one wasn't used. Then upwards: `OperandsSpillFree` (the operands of a position), `BlockSpillFree`
+-- (an instruction), `OneBlock` (the walk).
 pub mod FreeAtAny
 pub mod LruUnusedLast
 pub mod OperandTakesFreeReg
