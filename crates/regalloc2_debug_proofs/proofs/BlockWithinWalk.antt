@@ -1,9 +1,8 @@
 -- One block of the walk, with the tables behind it, before its first instruction and before its beginning.
-use Rattle.std.proofs.Common.{ℕ, ◌≡◌, ◌+◌, ◌<◌, ◌≤◌, inl, inr, List, [], ◌∷◌, ◌++◌, length, refl, sym, ap, ◌∙◌, subst, arith}
+use Rattle.std.proofs.Common.{ℕ, ◌≡◌, ◌+◌, ◌<◌, ◌≤◌, inl, inr, List, [], ◌∷◌, ◌++◌, length, sym, ap, ◌∙◌, subst, arith}
 use Rattle.std.proofs.lemmas.Bool.{cases_eq}
 use Rattle.std.proofs.lemmas.List.{append-nil, append_assoc}
 use Rattle.regalloc2_names.specs.Place.{Place}
-use Rattle.regalloc2_names.specs.Point.{before}
 use Rattle.regalloc2_function.specs.FunctionValue.{FunctionValue, block_at}
 use Rattle.regalloc2_function.specs.OutputValue.{MoveValue}
 use Rattle.regalloc2_semantics.specs.BlockByPoints.{at_point, listed}
@@ -12,13 +11,14 @@ use Rattle.regalloc2_semantics.proofs.PushedMoves.{listed-push}
 use Rattle.regalloc2_fastalloc_proofs.specs.InstSteps.{StateValue}
 use Rattle.regalloc2_fastalloc_proofs.specs.BlockSteps.{AllocsBlockInsts, AllocsBlocks, BeginsBlock, all_left, one_block}
 use Rattle.regalloc2_fastalloc_proofs.specs.StoreSteps.{pushed_moves}
-use Rattle.regalloc2_fastalloc_proofs.proofs.Slots.StepsKeepSlots.{Grown, grown_then}
+use Rattle.regalloc2_fastalloc_proofs.proofs.Slots.StepsKeepSlots.{Grown, grown_then, changes_grow}
 use Rattle.regalloc2_fastalloc_proofs.proofs.Walk.InstsCarry.{AreListed}
-use Rattle.regalloc2_fastalloc_proofs.proofs.Walk.InstBoundaries.{IsEdge, IsWithin, grown_weaken, begins_grown, walk_grown, edge_next}
+use Rattle.regalloc2_fastalloc_proofs.proofs.Walk.InstBoundaries.{IsEdge, IsWithin, grown_weaken, walk_grown, edge_next}
 use Rattle.regalloc2_fastalloc_proofs.proofs.Walk.LastInstAndRest.{walk_listed}
 use Rattle.regalloc2_fastalloc_proofs.proofs.Walk.BlockCarries.{IsBelow}
 use Rattle.regalloc2_fastalloc_proofs.proofs.Walk.FunctionLaws.{PlacedCode}
 use Rattle.regalloc2_fastalloc_proofs.proofs.Walk.InstBoundaries.{kept_of}
+use Rattle.regalloc2_fastalloc_proofs.proofs.Changes.WalkChanges.{begun_changes, any_begin}
 
 -- the block b in the walk, with what comes after it until final
 pub record MetBlock (f : FunctionValue) (placesf : ℕ → List Place) (start : List Place) (begin : StateValue) (b : ℕ) (final : StateValue) : Type 0 where
@@ -66,8 +66,8 @@ module _ (code : PlacedCode) (start : List Place) (begin final : StateValue) (b 
             (walk_listed code final d ld p s first q u walk are_here)
             (grown_then (IsBelow end) s u final (grown_weaken (IsWithin first end) (IsBelow end) s u (λ m h. h.1)
             (walk_grown (kept_of Known f proper kept) follow d ld p s first q u walk))
-            (grown_then (IsBelow end) u w final (grown_weaken (λ m. m ≡ before first) (IsBelow end) u w (λ m h. omega (arith, h, some))
-            (begins_grown (λ m. m ≡ before first) f d refl u w begins))
+            (grown_then (IsBelow end) u w final
+            (changes_grow (IsBelow end) (begun_changes (any_begin (λ e. IsBelow end e.0) f d (λ m r. omega (arith, some))) begins))
             (grown_weaken (IsBelow first) (IsBelow end) w final (λ m h. omega (arith, h, some)) rest_here)))
             (omega (arith, le, ne))
       ]

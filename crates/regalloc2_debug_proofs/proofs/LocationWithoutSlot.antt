@@ -16,16 +16,16 @@ use Rattle.regalloc2_fastalloc_proofs.specs.BlockStart.{no_vreg}
 use Rattle.regalloc2_fastalloc_proofs.specs.BlockSteps.{AllocsInstInBlock, AllocsBlockInsts, at_end, one_in, AllocsBlocks, all_left, one_block}
 use Rattle.regalloc2_fastalloc_proofs.proofs.Safety.StepsKeepState.{place_in, slot_in}
 use Rattle.regalloc2_fastalloc_proofs.proofs.Walk.InstsCarry.{AreListed}
-use Rattle.regalloc2_fastalloc_proofs.proofs.Slots.StepsKeepSlots.{Grown, IsAt, grown_then, cases_none}
+use Rattle.regalloc2_fastalloc_proofs.proofs.Slots.StepsKeepSlots.{Grown, grown_then, cases_none, changes_grow}
 use Rattle.regalloc2_fastalloc_proofs.proofs.Safety.StateKept.{ends_in_branch}
-use Rattle.regalloc2_fastalloc_proofs.proofs.Walk.InstBoundaries.{IsEdge, grown_weaken, in_grown, edge_next}
+use Rattle.regalloc2_fastalloc_proofs.proofs.Walk.InstBoundaries.{IsEdge, grown_weaken, edge_next}
 use Rattle.regalloc2_fastalloc_proofs.proofs.Walk.LastInstAndRest.{AnyPlace, listed_behind}
 use Rattle.regalloc2_debug_proofs.proofs.UnnamedStaysUnlocated.{Absent, IsUnpassed, inst_out, begun_absent}
 use Rattle.regalloc2_debug_proofs.proofs.LocatedStaysOrHasSlot.{Holds, hold_then, allocates_hold, branch_hold}
 use Rattle.regalloc2_debug_proofs.proofs.InstWithinWalk.{Met, IsBefore}
 use Rattle.regalloc2_debug_proofs.proofs.LocationBeforeFirstRead.{ComesFirst, reads_at}
 use Rattle.regalloc2_fastalloc_proofs.proofs.Walk.FunctionLaws.{PlacedCode}
-use Rattle.regalloc2_fastalloc_proofs.proofs.Walk.InstBoundaries.{kept_of}
+use Rattle.regalloc2_fastalloc_proofs.proofs.Changes.WalkChanges.{in_changes, any_inst}
 
 -- x is defined at the instruction id, used last at il, where its operand ko reads it and is placed first, and has no slot at the walk's end
 pub record IsUnslotted (f : FunctionValue) (placesf : ℕ → List Place) (final : StateValue) (x id il ko : ℕ) : Type 0 where
@@ -116,8 +116,8 @@ module _ (code : PlacedCode) (final : StateValue) (x id il ko : ℕ) (un : IsUns
         step_stays ge less a (λ m few. are k (omega arith) (of_function k less) m few ∙ a.allocates.inside m few) rest
         (in_stays h prev (listed_behind code final b k p q s u (of_function k less) a
         are)
-        (grown_then AnyPlace s u final (grown_weaken (IsAt k) AnyPlace s u (λ n y. tt)
-        (in_grown (kept_of Known f proper kept) b k p q s u (of_function k less) a)) rest))
+        (grown_then AnyPlace s u final (changes_grow AnyPlace
+        (in_changes (any_inst (λ e. AnyPlace e.0) f b k (λ n r. tt) (λ n r. tt)) a)) rest))
 
     walk_absent : (blank : List Place) (old : StateValue) → Absent x old → (j : ℕ) (places : List Place) (t : StateValue) →
         AllocsBlockInsts f b blank old j places t → il < j → Absent x t
@@ -143,15 +143,14 @@ module _ (code : PlacedCode) (final : StateValue) (x id il ko : ℕ) (un : IsUns
     -- in the state that the walk comes with, x is where it is before the next instruction
     pub old_stays : Stays placesf x id il ko (j + 1) w.old
     old_stays =
-        let lt : j < length f.insts = of_function w.block w.within j w.less in
         in_stays w.block w.within
         (record {
           after_it = λ behind. blocks_absent absent w.blocks (block_at f w.block).range.end
               (edge_next f follow w.block w.within) behind;
           there = λ low high. absurd (omega (arith, high, upto));
         }) w.inside w.listed
-        (grown_then AnyPlace w.old w.new final (grown_weaken (IsAt j) AnyPlace w.old w.new (λ n y. tt)
-        (in_grown (kept_of Known f proper kept) w.block j w.blank w.places w.old w.new lt w.allocates))
+        (grown_then AnyPlace w.old w.new final
+        (changes_grow AnyPlace (in_changes (any_inst (λ e. AnyPlace e.0) f w.block j (λ n r. tt) (λ n r. tt)) w.allocates))
         (grown_weaken (IsBefore f j) AnyPlace w.new final (λ n y. tt) w.rest))
 
     -- in the state that the walk goes on with, x is where it is before this one

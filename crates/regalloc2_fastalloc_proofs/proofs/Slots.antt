@@ -3,7 +3,7 @@
 -- a block's last one leaves the slot of a vreg that it doesn't define alone. Its counterpart: `used_has_slot` in `LiveInHasSlot`, that a
 -- vreg used in a block that doesn't write it has a slot from that block's beginning on in the walk. `Walk/BlocksCarryFromFreshState` uses
 -- both.
--- Read first: `Grown` and `allocates_grown` in `StepsKeepSlots`: slots that are there stay, new ones lie at or past the count.
+-- Read first: `Grown` and `changes_grow` in `StepsKeepSlots`: slots that are there stay, new ones lie at or past the count.
 -- `InstLeavesOwnedSlot` gives its premise on edits: one that goes to a vreg's own slot is one that may write that vreg's value
 -- (`own_written`). `LocatedStaysLocated` serves `LiveInHasSlot`: what is located stays so over evictions, moves and a block's beginning.
 -- `SlotsGrow` restates growth for the table of slots alone, as `Safety` needs it. `SlotsOwned` (`owner_known`) says that an operand in a

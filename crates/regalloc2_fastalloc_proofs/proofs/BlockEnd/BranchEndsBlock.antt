@@ -19,13 +19,14 @@ use Rattle.regalloc2_fastalloc_state.specs.StateParts.{slot_name, units_of}
 use Rattle.regalloc2_fastalloc_proofs.proofs.Safety.StepsKeepState.{slot_in, IsWhole, slot_no_register}
 use Rattle.regalloc2_fastalloc_proofs.proofs.Operands.RecordOverState.{opt_from, opt_real, opt_none, stands_at, slots_at, slot_below}
 use Rattle.regalloc2_fastalloc_proofs.proofs.Operands.RecordOverState.{grown_slots}
-use Rattle.regalloc2_fastalloc_proofs.proofs.Slots.StepsKeepSlots.{Grown, IsAt, allocates_grown}
+use Rattle.regalloc2_fastalloc_proofs.proofs.Slots.StepsKeepSlots.{Grown, IsAt, changes_grow}
 use Rattle.regalloc2_fastalloc_proofs.proofs.Operands.DefinedNumbers.{defined_by, defined_by-at}
 use Rattle.regalloc2_fastalloc_proofs.proofs.Inst.OneInstCarries.{Between, Needed, alone}
 use Rattle.regalloc2_fastalloc_proofs.proofs.Walk.InstForOneVReg.{needed_parts, undefined_by}
 use Rattle.regalloc2_fastalloc_proofs.proofs.Moves.StepsAppendEdits.{pushed_at}
 use Rattle.regalloc2_fastalloc_proofs.proofs.BlockEnd.BranchAlone.{IsUseMove, Branched, moved_or, none_below}
 use Rattle.regalloc2_fastalloc_proofs.proofs.Inst.ProperInsts.{ProperCode}
+use Rattle.regalloc2_fastalloc_proofs.proofs.Changes.InstChanges.{allocates_changes, any_operand}
 
 -- what is known of the slots at the end of the whole walk: each has one owner, and those that come after t lie at or above its count
 pub record ToCome (F : ℕ → Option Place) (t : StateValue) : Type 0 where
@@ -164,9 +165,9 @@ module _ (at_end : EndsBlock) where
 
     by_table : (s : Place) → F v.number ≡ Some s → block ≡ true → (x : Option Place) → slots_at middle v.number ≡ x → Carries v L On E
     by_table s is yes_block None none = nothing (λ p o.
-        let now : slots_at middle v.number ≡ Some p = grown_slots (IsAt last) old middle (allocates_grown last (inst_at f last) blank here old middle a)
-        v.number p
-        (there yes_block p o) in
+        let now : slots_at middle v.number ≡ Some p = grown_slots (IsAt last) old middle
+            (changes_grow (IsAt last) (allocates_changes (λ p q. inr refl) (λ p q. inl refl) (λ k lt. any_operand (λ e. IsAt last e.0) _) a))
+            v.number p (there yes_block p o) in
         let x : None ≡ Some p = sym none ∙ now in cc)
     by_table s is yes_block (Some q) at =
         let same : Some q ≡ Some s = sym (h.stays v.number q at) ∙ is in

@@ -31,7 +31,7 @@ use Rattle.regalloc2_fastalloc_proofs.proofs.Safety.StepsKeepState.{place_in, sl
 use Rattle.regalloc2_fastalloc_proofs.proofs.Operands.RecordOverState.{opt, stands_at, slots_at, grown_slots}
 use Rattle.regalloc2_fastalloc_proofs.proofs.Moves.ScratchRegTaken.{of_machine, Fit}
 use Rattle.regalloc2_fastalloc_proofs.proofs.Operands.AllocsSoFar.{IsTame}
-use Rattle.regalloc2_fastalloc_proofs.proofs.Slots.StepsKeepSlots.{IsAt, allocates_grown, changes_grow}
+use Rattle.regalloc2_fastalloc_proofs.proofs.Slots.StepsKeepSlots.{IsAt, changes_grow}
 use Rattle.regalloc2_fastalloc_proofs.proofs.Operands.DefinedNumbers.{defined_by, defined_by-at}
 use Rattle.regalloc2_fastalloc_proofs.proofs.BlockEnd.NoMoveForOperand.{IsOutside}
 use Rattle.regalloc2_fastalloc_proofs.proofs.Moves.StepsAppendEdits.{Pushes, pushes_then, pushes_weaken, changes_push}
@@ -51,6 +51,7 @@ use Rattle.regalloc2_fastalloc_proofs.proofs.Branches.ArgMovesEffect.{ArgMoves, 
 use Rattle.regalloc2_fastalloc_proofs.proofs.Branches.BranchInParts.{settled_carries, Parted, parted}
 use Rattle.regalloc2_fastalloc_proofs.proofs.Inst.ProperInsts.{ProperCode}
 use Rattle.regalloc2_fastalloc_proofs.proofs.Branches.ArgMovesByClass.{ClassSteps, steps_of}
+use Rattle.regalloc2_fastalloc_proofs.proofs.Changes.InstChanges.{allocates_changes, any_operand}
 
 -- tables that differ in moves and in temporary slots
 pub whole_like : (old new : StateValue) → new.places ≡ old.places → new.slots.vreg_spillslots ≡ old.slots.vreg_spillslots → new.slots.sizes ≡ old.slots.sizes →
@@ -216,7 +217,8 @@ module _ (branch : BlockBranch) where
       (changes_grow (λ q. q ≡ before last) (gathers_changes (λ q r. refl) (any_passed (λ e. e.0 ≡ before last) f b) p.gathers)) come_gathered
 
   stays_old : (x : ℕ) (q : Place) → slots_at old x ≡ Some q → F x ≡ Some q
-  stays_old x q at = come_middle.stays x q (grown_slots (IsAt last) old middle (allocates_grown last (inst_at f last) blank here old middle a) x q at)
+  stays_old x q at = come_middle.stays x q (grown_slots (IsAt last) old middle
+      (changes_grow (IsAt last) (allocates_changes (λ p r. inr refl) (λ p r. inl refl) (λ k lt. any_operand (λ e. IsAt last e.0) _) a)) x q at)
 
   held : IsHeldHere inst_regs p.gathered
   held x r at = part.comes.less.early r (br.held x r (part.comes.registers x r at))

@@ -42,7 +42,6 @@ use Rattle.regalloc2_fastalloc_proofs.proofs.Branches.ArgMovesEffect.{names_at}
 use Rattle.regalloc2_fastalloc_proofs.proofs.Branches.Arrivals.{left_at, IsNeeded, Arrive, DefsPlaced, own_slot_of, left_there, left_apart}
 use Rattle.regalloc2_fastalloc_proofs.proofs.Branches.DefinitionsCarry.{made_walked}
 use Rattle.regalloc2_fastalloc_proofs.proofs.Branches.EdgesInto.{entered_by_one}
-use Rattle.regalloc2_fastalloc_proofs.proofs.Branches.LocationsAfterBranch.{passes_grown}
 use Rattle.regalloc2_fastalloc_proofs.proofs.BlockEnd.BranchAlone.{IsUseMove, branched}
 use Rattle.regalloc2_fastalloc_proofs.proofs.BlockEnd.BranchEndsBlock.{ToCome}
 use Rattle.regalloc2_fastalloc_proofs.proofs.Branches.BranchCarries.{branch_carries}
@@ -53,6 +52,8 @@ use Rattle.regalloc2_fastalloc_proofs.proofs.Walk.DefsBeforeUses.{used_made, use
 use Rattle.regalloc2_fastalloc_proofs.proofs.Walk.BlockCarries.{BlockEnd, EndCarries, BranchCarries, IsUnused, writes_in}
 use Rattle.regalloc2_fastalloc_proofs.proofs.Inst.ProperInsts.{all_proper}
 use Rattle.regalloc2_fastalloc_proofs.proofs.Inst.ProperInsts.{proper_of}
+use Rattle.regalloc2_fastalloc_proofs.proofs.Slots.StepsKeepSlots.{changes_grow, Grown}
+use Rattle.regalloc2_fastalloc_proofs.proofs.Changes.WalkChanges.{passes_changes, any_passed}
 
 kind_is : (k : OperandKind) → is_def k ≡ true → k ≡ Def
 kind_is Def h = refl
@@ -185,7 +186,8 @@ module _ (env : MachineValue) (f : FunctionValue) (limited : IsLimited f) (ok : 
           e.allocates.allocates.here old e.allocates.middle within e.at (tame_at env f limited ok taken last within) ends e.between e.bare
           e.allocates.allocates.allocates in
           let p = e.allocates.branch branch in
-          let g = passes_grown f b last e.allocates.allocates.allocates.ended e.allocates.inst_regs e.allocates.middle new p in
+          let g : Grown (λ n. n ≡ before last) e.allocates.middle new =
+              changes_grow (λ n. n ≡ before last) (passes_changes (λ q r. refl) (any_passed (λ d. d.0 ≡ before last) f b) p) in
           pushed_at (λ d. d.0 ≡ before last) (after last) e.allocates.middle.edits new.edits (λ d is at. omega (arith, is, at))
           (grown_pushes (λ n. n ≡ before last) e.allocates.middle new g)
           ∙ pushed_at (IsUseMove last (inst_at f last).operands e.allocates.allocates.here) (after last) old.edits e.allocates.middle.edits

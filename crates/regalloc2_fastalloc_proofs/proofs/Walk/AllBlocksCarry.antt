@@ -5,7 +5,6 @@ use Rattle.std.proofs.lemmas.Bool.{cases_eq, cases_lt}
 use Rattle.std.proofs.lemmas.List.{get_or_past}
 use Rattle.regalloc2_names.specs.Register.{VirtualRegister}
 use Rattle.regalloc2_names.specs.Place.{Place}
-use Rattle.regalloc2_names.specs.Point.{before}
 use Rattle.regalloc2_function.specs.FunctionValue.{FunctionValue, BlockValue, block_at, inst_at, no_block}
 use Rattle.regalloc2_function.specs.WellFormed.{BlocksFollow}
 use Rattle.regalloc2_function.specs.OutputValue.{OutputValue}
@@ -20,13 +19,14 @@ use Rattle.regalloc2_fastalloc_proofs.specs.InstSteps.{StateValue}
 use Rattle.regalloc2_fastalloc_proofs.specs.BlockSteps.{AllocsBlocks, all_left, one_block}
 use Rattle.regalloc2_fastalloc_proofs.proofs.Moves.ScratchRegTaken.{Fit}
 use Rattle.regalloc2_fastalloc_proofs.proofs.Walk.InstsCarry.{AreListed, Blank, at_start}
-use Rattle.regalloc2_fastalloc_proofs.proofs.Slots.StepsKeepSlots.{Grown, grown_none, grown_then}
+use Rattle.regalloc2_fastalloc_proofs.proofs.Slots.StepsKeepSlots.{Grown, grown_none, grown_then, changes_grow}
 use Rattle.regalloc2_fastalloc_proofs.proofs.Inst.OneInstCarries.{Between}
-use Rattle.regalloc2_fastalloc_proofs.proofs.Walk.InstBoundaries.{IsEdge, IsWithin, grown_weaken, begins_grown, walk_grown, edge_next}
+use Rattle.regalloc2_fastalloc_proofs.proofs.Walk.InstBoundaries.{IsEdge, IsWithin, grown_weaken, walk_grown, edge_next}
 use Rattle.regalloc2_fastalloc_proofs.proofs.Walk.LastInstAndRest.{walk_listed}
 use Rattle.regalloc2_fastalloc_proofs.proofs.Walk.BlockCarries.{CarryingContext, IsBelow, nothing_goes, block_carries}
 use Rattle.regalloc2_fastalloc_proofs.proofs.Walk.FunctionLaws.{code_of}
 use Rattle.regalloc2_fastalloc_proofs.proofs.Walk.InstBoundaries.{kept_of}
+use Rattle.regalloc2_fastalloc_proofs.proofs.Changes.WalkChanges.{begun_changes, any_begin}
 
 module _ (carrying : CarryingContext) where
   open carrying.laws use {f, once, follow, ends, uses, counted, proper, kept}
@@ -57,8 +57,8 @@ module _ (carrying : CarryingContext) where
             (walk_listed (code_of (Made f) f proper kept follow ends placesf) final d lt p s first q u walk are_here)
             (grown_then (IsBelow end) s u final (grown_weaken (IsWithin first end) (IsBelow end) s u (λ m h. h.1)
             (walk_grown (kept_of (Made f) f proper kept) follow d lt p s first q u walk))
-            (grown_then (IsBelow end) u w final (grown_weaken (λ m. m ≡ before first) (IsBelow end) u w (λ m h. omega (arith, h, some))
-            (begins_grown (λ m. m ≡ before first) f d refl u w begins))
+            (grown_then (IsBelow end) u w final
+            (changes_grow (IsBelow end) (begun_changes (any_begin (λ e. IsBelow end e.0) f d (λ m r. omega (arith, some))) begins))
             (grown_weaken (IsBelow first) (IsBelow end) w final (λ m h. omega (arith, h, some)) rest_here)))
             c (omega (arith, le, ne)) lc
       ]

@@ -35,7 +35,7 @@ use Rattle.regalloc2_fastalloc_proofs.specs.BlockSteps.{AllocsInstInBlock, Alloc
 use Rattle.regalloc2_fastalloc_proofs.proofs.Safety.StepsKeepState.{place_in, slot_in, IsWhole, slot_no_register}
 use Rattle.regalloc2_fastalloc_proofs.proofs.Operands.RecordOverState.{stands_at, slots_at, opt_from, opt_real, grown_slots}
 use Rattle.regalloc2_fastalloc_proofs.proofs.Walk.InstsCarry.{AreListed}
-use Rattle.regalloc2_fastalloc_proofs.proofs.Slots.StepsKeepSlots.{Grown, grown_then}
+use Rattle.regalloc2_fastalloc_proofs.proofs.Slots.StepsKeepSlots.{Grown, grown_then, changes_grow}
 use Rattle.regalloc2_fastalloc_proofs.proofs.Moves.StepsAppendEdits.{pushed_walked}
 use Rattle.regalloc2_fastalloc_proofs.proofs.BlockEnd.NoMoveForOperand.{IsEmpty, IsOutside}
 use Rattle.regalloc2_fastalloc_proofs.proofs.Inst.OneInstCarries.{Between, Alone, alone}
@@ -50,13 +50,14 @@ use Rattle.regalloc2_fastalloc_proofs.proofs.Branches.Arrivals.{IsNeeded, Arrive
 use Rattle.regalloc2_fastalloc_proofs.proofs.Branches.EdgeArgsGathered.{params_on, passes_at}
 use Rattle.regalloc2_fastalloc_proofs.proofs.Slots.LiveInHasSlot.{used_at_begin}
 use Rattle.regalloc2_fastalloc_proofs.proofs.Walk.InstBoundaries.{IsEdge, grown_weaken, grown_fresh, grown_pushes}
-use Rattle.regalloc2_fastalloc_proofs.proofs.Walk.InstBoundaries.{begins_grown, in_between, edge_next, blocks_between, blocks_settled, blocks_outside}
+use Rattle.regalloc2_fastalloc_proofs.proofs.Walk.InstBoundaries.{in_between, edge_next, blocks_between, blocks_settled, blocks_outside}
 use Rattle.regalloc2_fastalloc_proofs.proofs.Walk.DefsBeforeUses.{used_made, used_somewhere, param_before, written_there, stands_behind}
 use Rattle.regalloc2_fastalloc_proofs.proofs.Walk.LastInstAndRest.{AnyPlace, Split, split, KeepsSlots, leaves_at}
 use Rattle.regalloc2_fastalloc_proofs.proofs.Walk.FunctionLaws.{FunctionLaws, BlockInWalk}
 use Rattle.regalloc2_fastalloc_proofs.proofs.Walk.FunctionLaws.{PlacedCode, code_of}
 use Rattle.regalloc2_fastalloc_proofs.proofs.Inst.ProperInsts.{proper_of}
 use Rattle.regalloc2_fastalloc_proofs.proofs.Walk.InstBoundaries.{kept_of}
+use Rattle.regalloc2_fastalloc_proofs.proofs.Changes.WalkChanges.{begun_changes, any_begin}
 
 -- whether a block writes a number
 abbrev pub writes_in : FunctionValue → ℕ → ℕ → ℕ → Bool
@@ -178,7 +179,7 @@ module _ (carrying : CarryingContext) where
 
     -- from the block's first instruction to the walk's end
     onward : Grown AnyPlace u final
-    onward = grown_then AnyPlace u w final (begins_grown AnyPlace f b tt u w begins)
+    onward = grown_then AnyPlace u w final (changes_grow AnyPlace (begun_changes (any_begin (λ e. AnyPlace e.0) f b (λ n r. tt)) begins))
         (grown_weaken (IsBelow (block_at f b).range.first) AnyPlace w final (λ n x. tt) rest)
 
     parts : Split f placesf each_leaves final b last s (block_at f b).range.first u

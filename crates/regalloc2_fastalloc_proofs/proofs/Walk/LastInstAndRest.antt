@@ -18,13 +18,12 @@ use Rattle.regalloc2_fastalloc_proofs.proofs.Operands.RecordOverState.{slots_at,
 use Rattle.regalloc2_fastalloc_proofs.proofs.Operands.DefinedNumbers.{defined_by}
 use Rattle.regalloc2_fastalloc_proofs.proofs.Walk.InstsCarry.{AreListed}
 use Rattle.regalloc2_fastalloc_proofs.proofs.Safety.InstsKeepSafe.{later_same}
-use Rattle.regalloc2_fastalloc_proofs.proofs.Slots.StepsKeepSlots.{Grown, IsAt, grown_then}
+use Rattle.regalloc2_fastalloc_proofs.proofs.Slots.StepsKeepSlots.{Grown, grown_then, changes_grow}
 use Rattle.regalloc2_fastalloc_proofs.proofs.Walk.InstForOneVReg.{Leaves}
 use Rattle.regalloc2_fastalloc_proofs.proofs.Walk.InstsBeforeLastCarry.{Goes, stopped, one_more}
-use Rattle.regalloc2_fastalloc_proofs.proofs.Walk.InstBoundaries.{grown_weaken, in_grown}
 use Rattle.regalloc2_fastalloc_proofs.proofs.Walk.FunctionLaws.{PlacedCode}
-use Rattle.regalloc2_fastalloc_proofs.proofs.Walk.InstBoundaries.{kept_of}
 use Rattle.regalloc2_fastalloc_proofs.proofs.Safety.BlocksKeepSafe.{block_start}
+use Rattle.regalloc2_fastalloc_proofs.proofs.Changes.WalkChanges.{in_changes, any_inst}
 
 -- any point
 abbrev pub AnyPlace : ℕ → Type 0
@@ -87,7 +86,7 @@ module _ (code : PlacedCode) (final : StateValue) where
                 let sooner : j < last_of (block_at f b) = omega (arith, less, ne) in
                 let plain = ((ends b lb).1 j ge less sooner).0 in
                 let before_it : Grown AnyPlace s final = grown_then AnyPlace s u final
-                (grown_weaken (IsAt j) AnyPlace s u (λ n x. tt) (in_grown (kept_of Known f proper kept) b j p q s u (within j less) a)) rest in
+                (changes_grow AnyPlace (in_changes (any_inst (λ e. AnyPlace e.0) f b j (λ n r. tt) (λ n r. tt)) a)) rest in
                 let sp = split (j + 1) p s prev (omega (arith, sooner)) (listed_behind b j p q s u (within j less) a h) before_it in
                 record {
                   begin = sp.begin;
