@@ -14,7 +14,7 @@ use Rattle.regalloc2_semantics.proofs.Cells.{is_register-true}
 use Rattle.regalloc2_parts.specs.Ring.{IsNewRing}
 use Rattle.regalloc2_fastalloc_state.specs.StateParts.{AreThoseBelow, AreLrus, AreSplit, IsLruOf}
 use Rattle.std.proofs.lemmas.List.Elements.{All-push}
-use Rattle.std.proofs.lemmas.Bool.{cases_eq, cases_Bool}
+use Rattle.std.proofs.lemmas.Bool.{cases_eq, cases_Bool, or_left, or_right}
 
 -- a list whose members differ, with one more
 distinct_push : (regs : List Register) (r : Register) → IsDistinct is_register regs → All (λ q. is_register q r ≡ false) regs →
@@ -37,6 +37,13 @@ those_none set class = record {
   has = λ k d lt. absurd (omega arith);
   all = λ r lt c h. absurd (omega arith);
 }
+
+-- registers with one number and one class are one
+same_registers : (p q : Register) → p.number ≡ q.number → p.class ≡ q.class → p ≡ q
+same_registers p q e f = by_parts p.number q.number p.class q.class e f
+  where
+    by_parts : (m n : ℕ) (c d : RegClass) → m ≡ n → c ≡ d → ◌≡◌ {A = Register} (record { number = m; class = c }) (record { number = n; class = d })
+    by_parts m n c d e f = rw (e, f) refl
 
 -- the registers of a class in a set with numbers below n + 1 are those below n, and register n, if the set has it
 pub those_more : (set : PRegSet) (class : RegClass) (n : ℕ) (regs : List Register) (r : Register) → r.number ≡ n → r.class ≡ class → has_register set r ≡ true
@@ -61,12 +68,6 @@ those_more set class n regs r number of_class has h = record {
         (λ (e : is_register q r ≡ false). e)
         (cases_Bool (is_register q r))
 
-    same_registers : (p q : Register) → p.number ≡ q.number → p.class ≡ q.class → p ≡ q
-    same_registers p q e f = by_parts p.number q.number p.class q.class e f
-      where
-        by_parts : (m n : ℕ) (c d : RegClass) → m ≡ n → c ≡ d → ◌≡◌ {A = Register} (record { number = m; class = c }) (record { number = n; class = d })
-        by_parts m n c d e f = rw (e, f) refl
-
 -- the registers of a class in a set with numbers below n + 1 are those below n, if the set lacks register n
 pub those_same : (set : PRegSet) (class : RegClass) (n : ℕ) (regs : List Register) (r : Register) → r.number ≡ n → r.class ≡ class → has_register set r ≡ false
     → AreThoseBelow set class n regs → AreThoseBelow set class (n + 1) regs
@@ -80,12 +81,6 @@ those_same set class n regs r number of_class hasnt h = record {
       (λ (d : q.number ≢ n). h.all q (omega arith) c e)
       (cases_eq q.number n);
 }
-  where
-    same_registers : (p q : Register) → p.number ≡ q.number → p.class ≡ q.class → p ≡ q
-    same_registers p q e f = by_parts p.number q.number p.class q.class e f
-      where
-        by_parts : (m n : ℕ) (c d : RegClass) → m ≡ n → c ≡ d → ◌≡◌ {A = Register} (record { number = m; class = c }) (record { number = n; class = d })
-        by_parts m n c d e f = rw (e, f) refl
 
 -- an LRU list of a class's registers, among those of other classes
 pub ring_is : (allocatable set : PRegSet) (class : RegClass) (regs ring : List Register) → AreThoseBelow set class 64 regs → IsNewRing regs ring
@@ -127,19 +122,13 @@ one_of false true c e = inr (inl refl)
 one_of false false c e = inr (inr e)
 
 or_first : (a b c : Bool) → a ≡ true → ((a || b) || c) ≡ true
-or_first true b c e = refl
-or_first false b c e = absurd cc
+or_first a b c e = or_left (a || b) c (or_left a b e)
 
 or_second : (a b c : Bool) → b ≡ true → ((a || b) || c) ≡ true
-or_second true b c e = refl
-or_second false true c e = refl
-or_second false false c e = absurd cc
+or_second a b c e = or_left (a || b) c (or_right a b e)
 
 or_third : (a b c : Bool) → c ≡ true → ((a || b) || c) ≡ true
-or_third true b c e = refl
-or_third false true c e = refl
-or_third false false true e = refl
-or_third false false false e = absurd cc
+or_third a b c e = or_right (a || b) c e
 
 -- a set of three sets, each of its class
 pub record IsUnion (all int float vector : PRegSet) : Type 0 where

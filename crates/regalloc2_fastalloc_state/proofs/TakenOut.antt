@@ -1,8 +1,9 @@
 -- Lists of which some members are taken out, and to which one comes in front.
 use Rattle.std.proofs.Common.{ℕ, zero, suc, ◌≡◌, ◌≢◌, ◌<◌, ◌≤◌, ◌⊎◌, inl, inr, Bool, true, false, cond, not, List, [], ◌∷◌, length, refl, sym, ap}
-use Rattle.std.proofs.Common.{arith, slice_index_or, eq-eqb, eqb-true, nat_eq}
+use Rattle.std.proofs.Common.{arith, slice_index_or, eq-eqb, nat_eq}
 use Rattle.std.specs.Prelude.{Contains, All, filter}
 use Rattle.std.proofs.lemmas.List.Elements.{All-contains, All-filter, All-contains_itself, filter_passes}
+use Rattle.std.proofs.lemmas.Bool.{not_from_false, ne_eqb}
 use Rattle.regalloc2_names.specs.Register.{VirtualRegister}
 use Rattle.regalloc2_fastalloc_state.specs.StateParts.{without, in_front_if}
 
@@ -59,11 +60,7 @@ all_other n vs k d less e =
 
 -- one of another number stays
 pub passes_other : (n : ℕ) (w : VirtualRegister) → w.number ≢ n → not (nat_eq w.number n) ≡ true
-passes_other n w d = by (nat_eq w.number n) (λ e. d (eqb-true w.number n e))
-  where
-    by : (b : Bool) → (b ≡ true → ⊥) → not b ≡ true
-    by true f = absurd (f refl)
-    by false f = refl
+passes_other n w d = not_from_false (nat_eq w.number n) (ne_eqb w.number n d)
 
 -- where no vreg has the number, none is taken out
 pub none_out : (n : ℕ) (vs : List VirtualRegister) → All (λ w. w.number ≢ n) vs → without n vs ≡ vs

@@ -1,7 +1,7 @@
 -- An instruction that fits claims its registers: each is the machine's, and no two are one where they share a position.
 use Rattle.std.proofs.Common.{ℕ, ◌≡◌, ◌≢◌, ◌<◌, Bool, true, false, List, length, refl, sym, ap, ◌∙◌, inl, inr, ◌⊎◌, arith}
 use Rattle.std.specs.Prelude.{not, ◌&&◌, ◌||◌}
-use Rattle.std.proofs.lemmas.Bool.{cases_eq}
+use Rattle.std.proofs.lemmas.Bool.{cases_eq, and_parts, or_from, both_ways}
 use Rattle.regalloc2_names.specs.declared.OperandConstraint.TheVariants.{FixedReg, Reuse}
 use Rattle.regalloc2_names.specs.Register.{Register, VirtualRegister}
 use Rattle.regalloc2_names.specs.RegisterSet.{has_register}
@@ -39,12 +39,8 @@ holds_late i k o h e = absurd (by_test (is_def o.kind) (is_late o.position) h e)
 -- positions that are shared
 share : (a b c d : Bool) → ((a && b) || (c && d)) ≡ true → ((a ≡ true) × (b ≡ true)) ⊎ ((c ≡ true) × (d ≡ true))
 share true true c d h = inl (refl, refl)
-share true false true true h = inr (refl, refl)
-share true false true false h = absurd cc
-share true false false d h = absurd cc
-share false b true true h = inr (refl, refl)
-share false b true false h = absurd cc
-share false b false d h = absurd cc
+share true false c d h = inr (and_parts c d h)
+share false b c d h = inr (and_parts c d h)
 
 either_false : (a b : Bool) → (a ≡ true) ⊎ (b ≡ true) → (a || b) ≡ false → ⊥
 either_false true b (inl e) h = cc
@@ -117,13 +113,8 @@ module _ (f : FunctionValue) (env : MachineValue) (inst : InstValue) (fits : Fit
 
   -- an early use has nothing late
   early_use : (k n : ℕ) → k < length ops → (op_at ops k).constraint ≡ Reuse n → (positions_of (op_at ops n)).late ≡ true → ⊥
-  early_use k n lt reuses h = by_test (is_def (op_at ops n).kind) (is_late (op_at ops n).position) (reads_use (op_at ops n) (tame.named k n lt reuses).2)
-      (tame.named k n lt reuses).1 h
-    where
-      by_test : (a b : Bool) → a ≡ false → b ≡ false → (a || b) ≡ true → ⊥
-      by_test true b x y z = cc
-      by_test false true x y z = cc
-      by_test false false x y z = cc
+  early_use k n lt reuses h = both_ways (positions_of (op_at ops n)).late (or_from (is_def (op_at ops n).kind) (is_late (op_at ops n).position)
+      (reads_use (op_at ops n) (tame.named k n lt reuses).2) (tame.named k n lt reuses).1) h
 
   -- a reuse shares the late position alone
   late_alone : (p q : Positions) → q ≡ record { early = false; late = true } → ((p.early ≡ true) × (q.early ≡ true)) ⊎ ((p.late ≡ true) × (q.late ≡ true)) →

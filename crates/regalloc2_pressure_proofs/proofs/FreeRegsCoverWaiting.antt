@@ -3,7 +3,7 @@ use Rattle.regalloc2_parts.proofs.RegisterLaws.{class_codes}
 use Rattle.std.proofs.Common.{ℕ, zero, suc, [], ◌∷◌, ◌≡◌, ◌+◌, ◌-◌, ◌<◌, ◌≤◌, Bool, true, false, List, length, refl, sym, ap, ◌∙◌, subst, arith, inl}
 use Rattle.std.proofs.Common.{inr, ◌⊎◌, get_or-set_same, set}
 use Rattle.std.specs.Prelude.{not, ◌&&◌, slice_index, slice_set}
-use Rattle.std.proofs.lemmas.Bool.{cases_eq, cases_Bool, and_parts}
+use Rattle.std.proofs.lemmas.Bool.{cases_eq, cases_Bool, and_parts, and_left, and_right}
 use Rattle.std.proofs.lemmas.List.{get_or-set_other}
 use Rattle.regalloc2_names.specs.declared.RegClass.{RegClass}
 use Rattle.regalloc2_names.specs.declared.OperandConstraint.TheVariants.{FixedReg, Reuse}
@@ -18,7 +18,7 @@ use Rattle.regalloc2_fastalloc_state.specs.declared.inst_regs.InstRegs.{InstRegs
 use Rattle.regalloc2_fastalloc_state.specs.declared.request.Requirement.{Requirement}
 use Rattle.regalloc2_fastalloc_state.specs.declared.request.Requirement.TheVariants.{AnyPlace, AnyReg, InMemory, InPReg}
 use Rattle.regalloc2_fastalloc_state.specs.declared.request.OperandRequest.{OperandRequest}
-use Rattle.regalloc2_fastalloc_state.specs.InstRegs.{is_free, free_count, awaited_of}
+use Rattle.regalloc2_fastalloc_state.specs.InstRegs.{is_free, free_count, awaited_of, is_free_throughout}
 use Rattle.regalloc2_validate.specs.Constraints.{op_at}
 use Rattle.regalloc2_fastalloc_proofs.specs.InstSteps.{StateValue, scratch_reserve_left, awaited_less, AllocsOperand, ClaimsPlace, in_slot, in_register}
 use Rattle.regalloc2_fastalloc_proofs.specs.Safety.{MayBeLocatedAt}
@@ -44,20 +44,11 @@ pub unfree_kept : (old new : PRegSet) (t u : InstRegs) (r : Register) → new �
 unfree_kept old new t u r same less h = elim (cases_Bool (has_register old r)) [
   | inl there ↦ elim (cases_Bool (has_register t.early r)) [
     | inl early ↦ (let late : has_register t.late r ≡ false = rw (there, early) at h in let gone = less.late r late in
-        rw gone (none (has_register new r) (has_register u.early r)))
-    | inr early ↦ (let gone = less.early r early in rw gone (left_none (has_register new r)))
+        rw gone (and_right (has_register new r) (has_register u.early r && false) (and_right (has_register u.early r) false refl)))
+    | inr early ↦ (let gone = less.early r early in rw gone (and_right (has_register new r) false refl))
   ]
   | inr away ↦ (let gone : has_register new r ≡ false = ap (λ (x : PRegSet). has_register x r) same ∙ away in rw gone refl)
 ]
-  where
-    none : (a b : Bool) → (a && (b && false)) ≡ false
-    none true true = refl
-    none true false = refl
-    none false b = refl
-
-    left_none : (a : Bool) → (a && false) ≡ false
-    left_none true = refl
-    left_none false = refl
 
 -- so it is free no more
 pub gets_settled : (point : ℕ) (o : OperandRequest) (p : Place) (t u : InstRegs) (old new : StateValue) → AllocsOperand point o p t u old new →
@@ -67,16 +58,6 @@ gets_settled point o p t u old new g some set r is = by_case g.takes.occupies
     held : (b c y x : Bool) → x ≡ (not (b && c) && y) → b ≡ true → c ≡ true → x ≡ false
     held b c y x e f h = (let n : x ≡ (not (true && true) && y) = rw (f, h) at e in n)
 
-    no_late : (a b d : Bool) → d ≡ false → (a && (b && d)) ≡ false
-    no_late true true d e = e
-    no_late true false d e = refl
-    no_late false b d e = refl
-
-    no_early : (a b d : Bool) → b ≡ false → (a && (b && d)) ≡ false
-    no_early true true d e = absurd cc
-    no_early true false d e = refl
-    no_early false b d e = refl
-
     by_case : ClaimsPlace point o p t u g.middle g.takes.claimed → is_free set u r ≡ false
     by_case (in_slot k at sets en) = (let x : InRegister r ≡ InSlot k = sym is ∙ at in absurd cc)
     by_case (in_register q m at clears holds) =
@@ -84,10 +65,10 @@ gets_settled point o p t u old new g some set r is = by_case g.takes.occupies
         let same : q ≡ r = cc in
         let it : is_register q r ≡ true = ap (is_register q) (sym same) ∙ is_register-same q in
         elim some [
-          | inl early ↦ no_early (has_register set r) (has_register u.early r) (has_register u.late r)
-              (held o.positions.early (is_register q r) (has_register m.early r) (has_register u.early r) (holds.early r) early it)
-          | inr late ↦ no_late (has_register set r) (has_register u.early r) (has_register u.late r)
-              (held o.positions.late (is_register q r) (has_register m.late r) (has_register u.late r) (holds.late r) late it)
+          | inl early ↦ and_right (has_register set r) (is_free_throughout u r) (and_left (has_register u.early r) (has_register u.late r)
+              (held o.positions.early (is_register q r) (has_register m.early r) (has_register u.early r) (holds.early r) early it))
+          | inr late ↦ and_right (has_register set r) (is_free_throughout u r) (and_right (has_register u.early r) (has_register u.late r)
+              (held o.positions.late (is_register q r) (has_register m.late r) (has_register u.late r) (holds.late r) late it))
         ]
 
 -- How those that wait change by an operand's place: an operand that asks for any register waits no more, and others change nothing.

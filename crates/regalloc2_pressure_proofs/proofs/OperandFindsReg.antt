@@ -3,6 +3,7 @@ use Rattle.regalloc2_semantics.proofs.Operands.{reads_use}
 use Rattle.std.proofs.Common.{ℕ, ◌≡◌, ◌≢◌, ◌+◌, ◌<◌, true, false, List, length, refl, sym, ap, ◌∙◌, subst, inl, inr, ◌⊎◌, arith, get_or-set_same, set}
 use Rattle.std.proofs.lemmas.List.{get_or-set_other}
 use Rattle.std.proofs.Math.ListN.{length-set}
+use Rattle.std.proofs.lemmas.Bool.{both_ways}
 use Rattle.regalloc2_names.specs.declared.RegClass.{RegClass}
 use Rattle.regalloc2_names.specs.declared.OperandConstraint.{OperandConstraint}
 use Rattle.regalloc2_names.specs.declared.OperandConstraint.TheVariants.{Any, Reg, Stack, FixedReg, Reuse, Limit}
@@ -18,7 +19,7 @@ use Rattle.regalloc2_validate.specs.Constraints.{op_at}
 use Rattle.regalloc2_fastalloc_proofs.specs.InstSteps.{StateValue, requirement_of, reuse_requirement_of, use_request}
 use Rattle.regalloc2_fastalloc_proofs.specs.Safety.{IsOfMachine, MayBeLocatedAt}
 use Rattle.regalloc2_fastalloc_proofs.proofs.Safety.OperandKeepsSafe.{IsAnswer}
-use Rattle.regalloc2_fastalloc_proofs.proofs.Operands.AllocsSoFar.{at_place, IsTame, Filled, FixedAreKnown, not_both}
+use Rattle.regalloc2_fastalloc_proofs.proofs.Operands.AllocsSoFar.{at_place, IsTame, Filled, FixedAreKnown}
 use Rattle.regalloc2_fastalloc_proofs.proofs.Operands.AllocsSoFar.{reads_allocated, asked_fixed, asked_as_fixed, fixed_class}
 use Rattle.regalloc2_fastalloc_proofs.proofs.Safety.OperandPassesKeepSafe.{a_place_of}
 use Rattle.regalloc2_pressure_proofs.specs.EnoughRegs.{waits, waiting, AllWrite, AllMay}
@@ -133,7 +134,7 @@ module _ (env : MachineValue) (Known : VirtualRegister → Type 0) (ops : List O
     def_blank def = elim (h.waits k lt undone) [
       | inl none ↦ none
       | inr g ↦ (let r = a_place_of (at_place here k) g.1 in let m = p.named k r.0 lt undone r.1 in
-          absurd (not_both (is_def (op_at ops k).kind) def (reads_use (op_at ops k) (tame.named m.0 k m.1 m.3).2)))
+          absurd (both_ways (is_def (op_at ops k).kind) (reads_use (op_at ops k) (tame.named m.0 k m.1 m.3).2) def))
     ]
 
     -- a definition that is no reuse brings what it has to before it gets a place

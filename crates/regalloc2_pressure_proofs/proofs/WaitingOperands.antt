@@ -2,7 +2,7 @@
 use Rattle.std.proofs.Common.{ℕ, zero, suc, ◌≡◌, ◌+◌, ◌<◌, ◌≤◌, Bool, true, false, List, length, refl, sym, ap, ◌∙◌, subst, arith, inl, inr}
 use Rattle.std.proofs.Common.{get_or-set_same, eq-eqb}
 use Rattle.std.specs.Prelude.{not, ◌&&◌, ◌||◌, nat_eq, nat_lt, count_by, slice_index_or, slice_set, take}
-use Rattle.std.proofs.lemmas.Bool.{cases_Bool, cases_eq, ne_eqb}
+use Rattle.std.proofs.lemmas.Bool.{cases_Bool, cases_eq, ne_eqb, and_left, and_right}
 use Rattle.std.proofs.lemmas.List.{get_or-set_other, take_all}
 use Rattle.std.proofs.lemmas.List.Sums.{count_by_more_yes, count_by_more_no}
 use Rattle.regalloc2_names.specs.declared.RegClass.{RegClass}
@@ -25,14 +25,10 @@ pub waits_no_more : (ops : List OperandValue) (here : List Place) (c : RegClass)
 waits_no_more ops here c k r lt long h = count_more (waits ops (slice_set here k (InRegister r)) c) (waits ops here c) k (length ops) lt
     (let e : slice_index_or (slice_set here k (InRegister r)) k NoPlace ≡ InRegister r = get_or-set_same here k (InRegister r) NoPlace
     (omega (arith, lt, long)) in
-    rw e (none (asks c (op_at ops k))))
+    rw e (and_right (asks c (op_at ops k)) false refl))
     h
     (λ j less ne. let e : slice_index_or (slice_set here k (InRegister r)) j NoPlace ≡ slice_index_or here j NoPlace = get_or-set_other here k j (InRegister r)
     NoPlace ne in rw e refl)
-  where
-    none : (b : Bool) → (b && not true) ≡ false
-    none true = refl
-    none false = refl
 
 -- one that doesn't may get any place
 pub waits_as_before : (ops : List OperandValue) (here : List Place) (c : RegClass) (k : ℕ) (p : Place) → length here ≡ length ops →
@@ -54,20 +50,13 @@ pub waits_elsewhere : (ops : List OperandValue) (here : List Place) (c : RegClas
 waits_elsewhere ops here c k ne =
     let e : nat_eq (class_code (op_at ops k).vreg.class) (class_code c) ≡ false = ne_eqb (class_code (op_at ops k).vreg.class) (class_code c)
     (λ same. ne (sym same)) in
-    rw e (none (is_under_reg (op_at ops k).constraint) (not (is_in_register (slice_index_or here k NoPlace))))
-  where
-    none : (b d : Bool) → ((b && false) && d) ≡ false
-    none true d = refl
-    none false d = refl
+    rw e (and_left (is_under_reg (op_at ops k).constraint && false) (not (is_in_register (slice_index_or here k NoPlace)))
+    (and_right (is_under_reg (op_at ops k).constraint) false refl))
 
 -- one that has its place already doesn't either
 pub waits_placed : (ops : List OperandValue) (here : List Place) (c : RegClass) (k : ℕ) (r : Register) → slice_index_or here k NoPlace ≡ InRegister r →
     waits ops here c k ≡ false
-waits_placed ops here c k r e = rw e (none (asks c (op_at ops k)))
-  where
-    none : (b : Bool) → (b && not true) ≡ false
-    none true = refl
-    none false = refl
+waits_placed ops here c k r e = rw e (and_right (asks c (op_at ops k)) false refl)
 
 -- one without a place waits for a register of its class
 pub waits_here : (ops : List OperandValue) (here : List Place) (k : ℕ) → is_under_reg (op_at ops k).constraint ≡ true →

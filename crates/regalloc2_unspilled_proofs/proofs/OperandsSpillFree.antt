@@ -4,7 +4,7 @@ use Rattle.regalloc2_semantics.proofs.Forms.{same_register}
 use Rattle.std.proofs.Common.{ℕ, ◌≡◌, ◌≢◌, ◌+◌, ◌<◌, ◌≤◌, ◌⊎◌, inl, inr, Bool, true, false, List, length, refl, arith, sym, ap, ◌∙◌}
 use Rattle.std.proofs.Common.{subst, eqb-true, eq-eqb, get_or-set_same}
 use Rattle.std.specs.Prelude.{None, Contains, nat_eq, slice_index_or, slice_set, ◌&&◌, ◌||◌, not}
-use Rattle.std.proofs.lemmas.Bool.{cases_Bool, cases_eq, or_right}
+use Rattle.std.proofs.lemmas.Bool.{cases_Bool, cases_eq, or_right, and_right}
 use Rattle.std.proofs.lemmas.List.{get_or-set_other, length-set}
 use Rattle.regalloc2_names.specs.declared.RegClass.{RegClass}
 use Rattle.regalloc2_names.specs.declared.OperandConstraint.TheVariants.{Reg, FixedReg, Reuse}
@@ -199,24 +199,11 @@ unsent_same point class b p q t u old new off (sent made crosses) = absurd (let 
 unsent_same point class b p q t u old new off (unsent is inst_regs same) = (inst_regs, same)
 
 no_other : (a : Bool) (q p : Place) → (q ≡ p) ⊎ (q ≡ NoPlace) → (a && is_another q p) ≡ false
-no_other a q p (inl e) = rw (e, is_place-same p) (by a (not (is_place p NoPlace)))
-  where
-    by : (a b : Bool) → (a && (b && not true)) ≡ false
-    by true true = refl
-    by true false = refl
-    by false b = refl
-no_other a q p (inr e) = rw e (by a)
-  where
-    by : (a : Bool) → (a && false) ≡ false
-    by true = refl
-    by false = refl
+no_other a q p (inl e) = rw (e, is_place-same p) (and_right a (not (is_place p NoPlace) && false) (and_right (not (is_place p NoPlace)) false refl))
+no_other a q p (inr e) = rw e (and_right a false refl)
 
 nor_stored : (a b : Bool) (s p : Place) → s ≡ NoPlace → (a && (is_another s p && b)) ≡ false
-nor_stored a b s p e = rw e (by a)
-  where
-    by : (a : Bool) → (a && false) ≡ false
-    by true = refl
-    by false = refl
+nor_stored a b s p e = rw e (and_right a false refl)
 
 -- a definition
 unfoldable pub and_gone : ℕ → (ℕ → Bool) → ℕ → Bool

@@ -3,7 +3,7 @@
 use Rattle.regalloc2_semantics.proofs.Operands.{reads_use}
 use Rattle.std.proofs.Common.{ℕ, ◌≡◌, ◌≢◌, ◌<◌, ◌≤◌, ◌+◌, ◌⊎◌, List, Bool, true, false, refl, sym, ap, ◌∙◌, subst, inl, inr, arith, length, set}
 use Rattle.std.proofs.Common.{get_or-set_same}
-use Rattle.std.proofs.lemmas.Bool.{cases_eq, cases_Bool}
+use Rattle.std.proofs.lemmas.Bool.{cases_eq, cases_Bool, both_ways}
 use Rattle.std.proofs.lemmas.List.{get_or-set_other}
 use Rattle.regalloc2_names.specs.declared.OperandConstraint.{OperandConstraint}
 use Rattle.regalloc2_names.specs.declared.OperandConstraint.TheVariants.{Any, Stack, FixedReg, Reuse}
@@ -22,7 +22,7 @@ use Rattle.regalloc2_fastalloc_proofs.specs.InstSteps.{StateValue, SelectsPlace,
 use Rattle.regalloc2_fastalloc_proofs.specs.InstSteps.{ProcessesOperandsAt, none_placed, of_other, one_placed, AllocsInst, ends_block, requirement_of}
 use Rattle.regalloc2_fastalloc_proofs.specs.InstSteps.{def_request}
 use Rattle.regalloc2_fastalloc_proofs.specs.InstSteps.SelectsPlace.{stays, fixed, slot, free}
-use Rattle.regalloc2_fastalloc_proofs.proofs.Operands.AllocsSoFar.{at_place, IsTame, not_both}
+use Rattle.regalloc2_fastalloc_proofs.proofs.Operands.AllocsSoFar.{at_place, IsTame}
 use Rattle.regalloc2_fastalloc_proofs.proofs.BlockEnd.NoMoveForOperand.{IsOutside}
 use Rattle.regalloc2_fastalloc_proofs.proofs.BlockEnd.NoMoveInPasses.{Calm}
 use Rattle.regalloc2_fastalloc_proofs.proofs.BlockEnd.NoMoveInLastInst.{LateDone, EarlyDone, late_calm, early_calm, other_pass, calm_start}
@@ -76,7 +76,7 @@ module _ (Known : VirtualRegister → Type 0) (ops : List OperandValue) (tame : 
     | inr ne ↦ h k lk (back k done ne) def kind r (sym (get_or-set_other here j k (InRegister q) NoPlace ne) ∙ ap (λ l. at_place l k) (sym written) ∙ at)
   ]
   one_none D E j here there t u old new (a_use p reads places written) less back long away h k lk done def kind r at = elim (cases_eq k j) [
-    | inl e ↦ not_both (is_def (op_at ops k).kind) def (ap (λ (x : ℕ). is_def (op_at ops x).kind) e ∙ reads_use (op_at ops j) reads)
+    | inl e ↦ both_ways (is_def (op_at ops k).kind) (ap (λ (x : ℕ). is_def (op_at ops x).kind) e ∙ reads_use (op_at ops j) reads) def
     | inr ne ↦ h k lk (back k done ne) def kind r (sym (get_or-set_other here j k p NoPlace ne) ∙ ap (λ l. at_place l k) (sym written) ∙ at)
   ]
   one_none D E j here there t u old new (a_def p defines plain places written) less back long away h k lk done def kind r at = elim (cases_eq k j) [
@@ -88,7 +88,7 @@ module _ (Known : VirtualRegister → Type 0) (ops : List OperandValue) (tame : 
   one_none D E j here there t u old new (a_reuse n p defines reuses places written) less back long away h k lk done def kind r at = elim (cases_eq k j) [
     | inl e ↦ no_reuse (op_at ops k).constraint n kind (ap (λ (x : ℕ). (op_at ops x).constraint) e ∙ reuses)
     | inr ne ↦ elim (cases_eq k n) [
-      | inl e ↦ not_both (is_def (op_at ops k).kind) def (ap (λ (x : ℕ). is_def (op_at ops x).kind) e
+      | inl e ↦ both_ways (is_def (op_at ops k).kind) (ap (λ (x : ℕ). is_def (op_at ops x).kind) e def
           ∙ reads_use (op_at ops n) (tame.named j n less reuses).2)
       | inr other ↦ h k lk (back k done ne) def kind r (sym (get_or-set_other here j k p NoPlace ne) ∙ sym (get_or-set_other (set here j p) n k p NoPlace other)
           ∙ ap (λ l. at_place l k) (sym written) ∙ at)

@@ -1,7 +1,7 @@
 -- The last instruction of a block: what is owed behind it, and what a return carries.
 use Rattle.std.proofs.Common.{ℕ, ◌≡◌, ◌≢◌, ◌<◌, ◌⊎◌, inl, inr, Bool, true, false, length, refl, sym, ap, ◌∙◌}
 use Rattle.std.specs.Prelude.{Option, None, Some, ◌||◌}
-use Rattle.std.proofs.lemmas.Bool.{cases_Bool}
+use Rattle.std.proofs.lemmas.Bool.{cases_Bool, or_from}
 use Rattle.regalloc2_names.specs.Register.{VirtualRegister}
 use Rattle.regalloc2_names.specs.Place.{Place, NoPlace, InSlot}
 use Rattle.regalloc2_function.specs.FunctionValue.{FunctionValue, block_at, inst_at}
@@ -24,9 +24,6 @@ defined_from-one : (f : FunctionValue) (x i : ℕ) → defined_from f x i 1 ≡ 
 unfolding defined_from
 defined_from-one f x i = refl
 
-or_none : (a : Bool) → a ≡ false → (a || false) ≡ false
-or_none a e = rw e refl
-
 module _ (code : ProperCode) (F : ℕ → Option Place) where
   open code use {Known, f, placesf, proper}
 
@@ -48,7 +45,7 @@ module _ (code : ProperCode) (F : ℕ → Option Place) where
           | inr s ↦ (let x : true ≡ false = sym d ∙ s.0 in absurd cc)
         ]
         | inr u ↦ (
-          defined_from-one f v.number last ∙ or_none (defined_by (inst_at f last).operands v.number) u,
+          defined_from-one f v.number last ∙ or_from (defined_by (inst_at f last).operands v.number) false u refl,
           elim (needed_parts (defined_by (inst_at f last).operands) new v p h) [
             | inl at ↦ inl at
             | inr s ↦ inr (inl s.1)

@@ -2,7 +2,7 @@
 -- The fold in `Changes` doesn't fit: what the listing carries, or the operands' record, differs from step to step.
 use Rattle.std.proofs.Common.{ℕ, ◌≡◌, ◌≢◌, ◌<◌, List, Bool, true, false, cond, refl, sym, ap, ◌∙◌, ◌⊎◌, inl, inr, subst, arith, length, set, get_or-set_same}
 use Rattle.std.specs.Prelude.{None, Some, ◌&&◌, ◌||◌}
-use Rattle.std.proofs.lemmas.Bool.{cases_eq, cases_Bool, and_parts}
+use Rattle.std.proofs.lemmas.Bool.{cases_eq, cases_Bool, and_parts, or_right, both_ways}
 use Rattle.std.proofs.lemmas.List.{get_or-set_other}
 use Rattle.std.proofs.Math.ListN.{length-set}
 use Rattle.regalloc2_names.specs.declared.OperandConstraint.TheVariants.{FixedReg, Reuse}
@@ -24,7 +24,7 @@ use Rattle.regalloc2_validate.specs.Constraints.{op_at}
 use Rattle.regalloc2_fastalloc_proofs.specs.InstSteps.{StateValue, use_request, def_request, reuse_request, LocatesUse, stays, located, AllocsUse}
 use Rattle.regalloc2_fastalloc_proofs.specs.InstSteps.{AllocsDefOp, ProcessesOperand, a_register, a_use, a_def, a_reuse, own, named}
 use Rattle.regalloc2_fastalloc_proofs.proofs.Safety.StepsKeepSafe.{settled_holder}
-use Rattle.regalloc2_fastalloc_proofs.proofs.Operands.AllocsSoFar.{at_place, IsTame, not_both, reads_allocated, asked_fixed, asked_as_fixed}
+use Rattle.regalloc2_fastalloc_proofs.proofs.Operands.AllocsSoFar.{at_place, IsTame, reads_allocated, asked_fixed, asked_as_fixed}
 use Rattle.regalloc2_fastalloc_proofs.proofs.BlockEnd.NoMoveForOperand.{Overlap, Asks, claims, chosen, Still, Awaiting, Later, later_none, Origin}
 use Rattle.regalloc2_fastalloc_proofs.proofs.BlockEnd.NoMoveForOperand.{stood_there, asked, was_free, in_a_slot, Got, no_register_slot}
 use Rattle.regalloc2_fastalloc_proofs.proofs.BlockEnd.NoMoveForOperand.{none_some, gets_calm, SamePlaces, same_places, defines_calm}
@@ -136,11 +136,7 @@ early_overlap p q a b = rw (a, b) refl
 
 -- two operands that both hold a register at the late position hold it at one time
 pub late_overlap : (p q : Positions) → p.late ≡ true → q.late ≡ true → Overlap p q
-late_overlap p q a b = rw (a, b) (either (p.early && q.early))
-  where
-    either : (x : Bool) → (x || true) ≡ true
-    either true = refl
-    either false = refl
+late_overlap p q a b = rw (a, b) (or_right (p.early && q.early) true refl)
 
 -- an early use holds its register at the early position alone
 early_use : (o : OperandValue) → is_def o.kind ≡ false → is_late o.position ≡ false → ((positions_of o).early ≡ true) × ((positions_of o).late ≡ false)
@@ -190,7 +186,7 @@ awaiting_reuse ops D E n p here there t u old new within reads early_n back at_n
     | inr x ↦ (newly r x.1).3
   ];
   lates = λ k less not_e late. elim (cases_eq k n) [
-    | inl e ↦ absurd (not_both (is_late (op_at ops n).position) (ap (λ (x : ℕ). is_late (op_at ops x).position) (sym e) ∙ late) early_n)
+    | inl e ↦ absurd (both_ways (is_late (op_at ops n).position) early_n (ap (λ (x : ℕ). is_late (op_at ops x).position) (sym e) ∙ late))
     | inr ne ↦ (same k less not_e ne ∙ a.lates k less (back k less not_e) late)
   ];
 }
@@ -204,7 +200,7 @@ awaiting_reuse ops D E n p here there t u old new within reads early_n back at_n
     ]
 
     no_late : (w : Positions) → w ≡ positions_of (op_at ops n) → w.late ≡ true → ⊥
-    no_late w e h = not_both (positions_of (op_at ops n)).late (ap (λ (x : Positions). x.late) (sym e) ∙ h) (early_use (op_at ops n) reads early_n).1
+    no_late w e h = both_ways (positions_of (op_at ops n)).late (early_use (op_at ops n) reads early_n).1 (ap (λ (x : Positions). x.late) (sym e) ∙ h)
 
     left_early : (w z : Positions) → Overlap w z → z ≡ positions_of (op_at ops n) → w.early ≡ true
     left_early w z both e = elim (overlap_cases w z both) [
@@ -240,8 +236,8 @@ module _ (Known : VirtualRegister → Type 0) (ops : List OperandValue) (tame : 
 
   not_free : (t : InstRegs) (old : StateValue) (p : Positions) → Reaches p → Still ops pass edits t old → (q : Register) (v : VirtualRegister) → q.number < 64 →
       vreg_of_preg old.places q ≡ Some v → IsAvailableAt t p q → ⊥
-  not_free t old p (inl early) still q v small held is_free = not_both (has_register t.early q) (is_free.early early) (still.early q v small held)
-  not_free t old p (inr late) still q v small held is_free = not_both (has_register t.late q) (is_free.late late.1) (still.late late.0 q v small held)
+  not_free t old p (inl early) still q v small held is_free = both_ways (has_register t.early q) (still.early q v small held) (is_free.early early)
+  not_free t old p (inr late) still q v small held is_free = both_ways (has_register t.late q) (still.late late.0 q v small held) (is_free.late late.1)
 
   -- no edit was added in the pass, operands that wait still have their registers, and the list of places is as long as before
   abbrev pub Calm : (ℕ → Type 0) → List Place → InstRegs → StateValue → Type 0
@@ -292,7 +288,7 @@ module _ (Known : VirtualRegister → Type 0) (ops : List OperandValue) (tame : 
       let none : (q : Register) → (reuse_request o m).requirement ≡ InPReg q →
       vreg_of_preg old.places q ≡ None = λ q wants. c.1.nobody k q (record { early = false; late = true }) less next.before_it (mine q wants) in
       let taken : (q : Register) (v : VirtualRegister) → q.number < 64 → vreg_of_preg old.places q ≡ Some v → IsAvailableAt t (reuse_request o m).positions q →
-      ⊥ = λ q v small held f. not_both (has_register t.early q) (f.early refl) (c.0.early q v small held) in
+      ⊥ = λ q v small held f. both_ways (has_register t.early q) (c.0.early q v small held) (f.early refl) in
       let g = gets_calm (after i) ops pass edits (reuse_request o m) p t d.inst_regs old d.middle d.gets c.0 none taken in
       let z = defines_calm (after i) o.vreg is_ret p d.inst_regs u d.middle new (ret k less def) d.defines
       (λ q at. c.0.away k q less def (ap (λ (x : VRegAllocsValue). alloc_of x o.vreg.number) (sym g.places) ∙ at)) in
@@ -348,7 +344,7 @@ module _ (Known : VirtualRegister → Type 0) (ops : List OperandValue) (tame : 
           q = subst (IsAvailableAt t (reuse_request (op_at ops k) (op_at ops n)).positions) same is_free in (
             lt,
             no_some (vreg_of_preg old.places q) (λ v held. taken q v lt held f),
-            λ j w within not_e ne x early. not_both (has_register t.early q) (f.early refl) (c.1.held_early j q w within (next.back j not_e).0 x early),
+            λ j w within not_e ne x early. both_ways (has_register t.early q) (c.1.held_early j q w within (next.back j not_e).0 x early) (f.early refl),
           )
       by_origin q is (in_a_slot l at) none taken mine = absurd (no_register_slot l q (sym at ∙ is))
 
@@ -404,8 +400,8 @@ module _ (Known : VirtualRegister → Type 0) (ops : List OperandValue) (tame : 
             lt,
             no_some (vreg_of_preg old.places q) (λ v held. not_free t old (positions_of (op_at ops k)) reach c.0 q v lt held f),
             λ j w within not_e x. elim (overlap_cases (positions_of (op_at ops k)) w (covers j q w within (next.back j not_e).0 x)) [
-              | inl both ↦ not_both (has_register t.early q) (f.early both.0) (c.1.held_early j q w within (next.back j not_e).0 x both.1)
-              | inr both ↦ not_both (has_register t.late q) (f.late both.0) (c.1.held_late j q w within (next.back j not_e).0 x both.1)
+              | inl both ↦ both_ways (has_register t.early q) (c.1.held_early j q w within (next.back j not_e).0 x both.1) (f.early both.0)
+              | inr both ↦ both_ways (has_register t.late q) (c.1.held_late j q w within (next.back j not_e).0 x both.1) (f.late both.0)
             ],
           )
       mine nowhere q is (in_a_slot l at) = absurd (no_register_slot l q (sym at ∙ is))

@@ -32,6 +32,8 @@ use Rattle.regalloc2_fastalloc_proofs.proofs.Operands.ClaimKeepsRecord.{Grips, r
 use Rattle.regalloc2_fastalloc_proofs.proofs.Operands.BlockTail.{BlockTail}
 use Rattle.regalloc2_fastalloc_proofs.proofs.Evictions.EvictVReg.{kept_used}
 use Rattle.regalloc2_fastalloc_proofs.proofs.Operands.RecordOfInst.{ready_used}
+use Rattle.regalloc2_fastalloc_proofs.proofs.Safety.OperandAssumptions.{defines_or_reads}
+use Rattle.regalloc2_fastalloc_proofs.proofs.Operands.AllocsSoFar.{reads_allocated}
 
 -- operands that hold no position together may be in one place
 share_apart : (a b : ℕ) (d l e k : Bool) → (((not d || not l) && (not e || not k)) || ((d || l) && (e || k))) ≡ false →
@@ -214,23 +216,13 @@ all_lived what here claimed lived t st x p e = ⊎_elim
 
 -- an operand that isn't fixed to a nonallocatable register defines or reads a vreg
 pub counts_by : (ops : List OperandValue) (k : ℕ) → k < length ops → is_fixed_nonallocatable (op_at ops k) ≡ false → Counts ops k
-counts_by ops k lt able = (lt, by_kind (is_def (op_at ops k).kind) (is_fixed_nonallocatable (op_at ops k)) able)
-  where
-    by_kind : (d a : Bool) → a ≡ false → (d ≡ true) ⊎ ((not d && not a) ≡ true)
-    by_kind true a h = inl refl
-    by_kind false true h = absurd cc
-    by_kind false false h = inr refl
+counts_by ops k lt able = (lt, defines_or_reads (op_at ops k) able)
 
 counts_able : (ops : List OperandValue) (k : ℕ) → Orderly ops → Counts ops k → is_fixed_nonallocatable (op_at ops k) ≡ false
 counts_able ops k o c = elim c.1 [
   | inl d ↦ o.allocated k c.0 d
-  | inr u ↦ by_test (not (is_def (op_at ops k).kind)) (is_fixed_nonallocatable (op_at ops k)) u
+  | inr u ↦ reads_allocated (op_at ops k) u
 ]
-  where
-    by_test : (d a : Bool) → (d && not a) ≡ true → a ≡ false
-    by_test d false h = refl
-    by_test true true h = absurd cc
-    by_test false true h = absurd cc
 
 module _ (tail : BlockTail) where
   open tail use {Known, insts, placesf, i, n, E}

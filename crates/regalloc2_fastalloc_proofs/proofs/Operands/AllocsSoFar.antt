@@ -1,9 +1,9 @@
 -- The places of an instruction's operands, while they are placed one after another.
 use Rattle.regalloc2_semantics.proofs.Operands.{reads_use}
-use Rattle.std.proofs.Common.{ℕ, ◌≡◌, ◌≢◌, ◌<◌, List, Bool, true, false, refl, sym, ap, ◌∙◌, ◌⊎◌, inl, inr, subst, arith, length, set, slice_index_or}
+use Rattle.std.proofs.Common.{ℕ, ◌≡◌, ◌≢◌, ◌<◌, List, true, false, refl, sym, ap, ◌∙◌, ◌⊎◌, inl, inr, subst, arith, length, set, slice_index_or}
 use Rattle.std.proofs.Common.{get_or-set_same}
-use Rattle.std.specs.Prelude.{◌&&◌, not}
-use Rattle.std.proofs.lemmas.Bool.{cases_eq}
+use Rattle.std.specs.Prelude.{not}
+use Rattle.std.proofs.lemmas.Bool.{cases_eq, and_parts, not-true}
 use Rattle.std.proofs.lemmas.List.{get_or-set_other}
 use Rattle.std.proofs.Math.ListN.{length-set}
 use Rattle.regalloc2_names.specs.declared.RegClass.{RegClass}
@@ -70,18 +70,9 @@ pub record IsGood (env : MachineValue) (slots : SpillSlotsValue) (o : OperandVal
 pub good_grows : (env : MachineValue) (s t : SpillSlotsValue) (o : OperandValue) (p : Place) → SlotsStay s t → IsGood env s o p → IsGood env t o p
 good_grows env s t o p stay g = record { place = λ a. stand_grows env s t o.vreg p stay (g.place a); meets = g.meets }
 
--- no Boolean is both true and false
-pub not_both : (b : Bool) → b ≡ true → b ≡ false → ⊥
-not_both b p q = cc
-
 -- an operand that reads isn't fixed to a nonallocatable register, so it is allocated
 pub reads_allocated : (o : OperandValue) → is_reading o ≡ true → is_fixed_nonallocatable o ≡ false
-reads_allocated o h = by_test (not (is_def o.kind)) (is_fixed_nonallocatable o) h
-  where
-    by_test : (a b : Bool) → (a && not b) ≡ true → b ≡ false
-    by_test true true h = absurd cc
-    by_test false true h = absurd cc
-    by_test a false h = refl
+reads_allocated o h = not-true (is_fixed_nonallocatable o) (and_parts (not (is_def o.kind)) (not (is_fixed_nonallocatable o)) h).1
 
 -- an answer meets the constraint
 pub answer_meets : (env : MachineValue) (c : OperandConstraint) (p : Place) → ((n : ℕ) → c ≡ Reuse n → ⊥) → ((n : ℕ) → c ≡ Limit n → ⊥) →

@@ -1,7 +1,7 @@
 -- Operands are allocated: the record before one and after it. Uses, and definitions that are no reuses.
 use Rattle.std.proofs.Common.{ℕ, ◌≡◌, ◌≢◌, ◌+◌, ◌<◌, Bool, true, false, List, length, refl, arith, sym, ap, ◌∙◌, subst, inl, inr, ◌⊎◌, ⊎_elim}
-use Rattle.std.specs.Prelude.{not, ◌&&◌, slice_index_or, slice_set}
-use Rattle.std.proofs.lemmas.Bool.{cases_Bool, cases_eq}
+use Rattle.std.specs.Prelude.{slice_index_or, slice_set}
+use Rattle.std.proofs.lemmas.Bool.{cases_Bool, cases_eq, both_ways}
 use Rattle.std.proofs.lemmas.List.{get_or-set_same, get_or-set_other, length-set}
 use Rattle.regalloc2_names.specs.declared.OperandConstraint.TheVariants.{FixedReg, Reuse}
 use Rattle.regalloc2_names.specs.Register.{Register}
@@ -21,7 +21,7 @@ use Rattle.regalloc2_fastalloc_proofs.proofs.Operands.AllocOperand.{Due, owed, f
 use Rattle.regalloc2_fastalloc_proofs.proofs.Operands.AllocOperand.{and_one_keeps}
 use Rattle.regalloc2_fastalloc_proofs.proofs.Operands.RecordAfterOperand.{use_step, def_step, made_one, makes_one}
 use Rattle.regalloc2_fastalloc_proofs.proofs.Operands.RecordOfInst.{LayingContext}
-use Rattle.regalloc2_fastalloc_proofs.proofs.Operands.AllocsSoFar.{asked_fixed}
+use Rattle.regalloc2_fastalloc_proofs.proofs.Operands.AllocsSoFar.{asked_fixed, reads_allocated}
 
 -- an operand that was allocated
 pub turned_next : (ops : List OperandValue) (late : Bool) (k j : ℕ) → Turned ops late k j → Turned ops late (k + 1) j
@@ -96,12 +96,7 @@ waits_set ops list k j p r lt real ne w = elim w [
 
 -- no operand both reads a vreg and is fixed to a nonallocatable register
 pub reads_no_fixed : (o : OperandValue) → is_reading o ≡ true → is_fixed_nonallocatable o ≡ true → ⊥
-reads_no_fixed o e f = not_both_of (is_def o.kind) (is_fixed_nonallocatable o) e f
-  where
-    not_both_of : (a b : Bool) → (not a && not b) ≡ true → b ≡ true → ⊥
-    not_both_of true b e f = cc
-    not_both_of false true e f = cc
-    not_both_of false false e f = cc
+reads_no_fixed o e f = both_ways (is_fixed_nonallocatable o) (reads_allocated o e) f
 
 module _ (laying : LayingContext) where
   open laying use {tail, ops, lived, clob, ret, orderly}

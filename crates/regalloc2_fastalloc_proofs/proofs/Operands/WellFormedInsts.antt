@@ -1,6 +1,6 @@
 -- What a well-formed function's instructions bring to the laws on placing operands.
-use Rattle.std.proofs.Common.{ℕ, ◌≡◌, ◌<◌, Bool, true, false, ◌&&◌, length, refl, arith, ap, nat_eq}
-use Rattle.std.proofs.lemmas.Bool.{ne_eqb}
+use Rattle.std.proofs.Common.{ℕ, ◌≡◌, ◌<◌, false, length, refl, arith, ap, nat_eq}
+use Rattle.std.proofs.lemmas.Bool.{ne_eqb, and_right}
 use Rattle.std.proofs.lemmas.List.Elements.{All-get_or}
 use Rattle.regalloc2_names.specs.Operand.{OperandValue, is_def, is_late, is_fixed}
 use Rattle.regalloc2_function.specs.FunctionValue.{FunctionValue, IsLimited, inst_at, no_inst}
@@ -28,7 +28,7 @@ module _ (env : MachineValue) (f : FunctionValue) (limited : IsLimited f) (ok : 
         let small : o.vreg.number < f.num_vregs = defined_small f ok.defined_once o.vreg.number i k
         (record { inst = lt; operand = less; definition = def; number = refl }) in
         let ne : nat_eq o.vreg.number 1073741823 ≡ false = ne_eqb o.vreg.number 1073741823 (λ e. omega (arith, small, limited.vregs, e)) in
-        rw ne (never (is_fixed o.constraint));
+        rw ne (and_right (is_fixed o.constraint) false refl);
     late_reuse = λ d m less e. let r = reuses.definitions d no_operand less m e in (ap is_def r.0, ap is_late r.1);
     named = λ d m less e.
         let r = reuses.targets d no_operand less m no_operand e in
@@ -38,10 +38,6 @@ module _ (env : MachineValue) (f : FunctionValue) (limited : IsLimited f) (ok : 
         reusable env (op_at (inst_at f i).operands m).vreg.class (op_at (inst_at f i).operands m).constraint r.1.4;
     apart = λ d e m ld le a b. reuses.apart d e m no_operand no_operand ld le a b;
   }
-    where
-      never : (b : Bool) → (b && false) ≡ false
-      never true = refl
-      never false = refl
 
   -- in a well-formed function each instruction's operands name vregs that are defined somewhere
   pub knows : Knows (Made f) (inst_at f i).operands

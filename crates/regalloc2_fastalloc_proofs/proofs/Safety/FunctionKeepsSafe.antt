@@ -1,8 +1,8 @@
 -- The whole walk over a well-formed function of any blocks keeps the tables safe, and what its end gives.
 use Rattle.std.proofs.Common.{ℕ, ◌≡◌, ◌≢◌, ◌+◌, ◌<◌, ◌≤◌, ◌⊎◌, ◌||◌, ◌&&◌, Bool, true, false, List, [], length, nat_eq, nat_lt, eq-eqb, refl, sym, ap}
-use Rattle.std.proofs.Common.{◌∙◌, inl, inr, subst, arith}
+use Rattle.std.proofs.Common.{inl, inr, subst, arith}
 use Rattle.std.specs.Prelude.{slice_index_or}
-use Rattle.std.proofs.lemmas.Bool.{lt-ltb, cases_eq}
+use Rattle.std.proofs.lemmas.Bool.{lt-ltb, cases_eq, or_right, and_from}
 use Rattle.std.proofs.lemmas.List.Elements.{All-get_or}
 use Rattle.regalloc2_names.specs.declared.RegClass.{RegClass}
 use Rattle.regalloc2_names.specs.Register.{VirtualRegister}
@@ -151,13 +151,10 @@ listed_in_blocks f p (b, i, lt, ge, less, inr (e, next)) = (
   lt,
   omega (arith, ge),
   next,
-  either (nat_eq p (before (i + 1))) (nat_lt (block_at f b).range.first (i + 1)) (nat_eq (p + 1) (before (i + 1)))
-      (lt-ltb (block_at f b).range.first (i + 1) (omega (arith, ge))) (eq-eqb (p + 1) (before (i + 1)) (omega (arith, e))),
+  or_right (nat_eq p (before (i + 1))) (nat_lt (block_at f b).range.first (i + 1) && nat_eq (p + 1) (before (i + 1)))
+      (and_from (nat_lt (block_at f b).range.first (i + 1)) (nat_eq (p + 1) (before (i + 1)))
+      (lt-ltb (block_at f b).range.first (i + 1) (omega (arith, ge))) (eq-eqb (p + 1) (before (i + 1)) (omega (arith, e)))),
 )
-  where
-    either : (a b c : Bool) → b ≡ true → c ≡ true → (a || (b && c)) ≡ true
-    either true b c x y = refl
-    either false b c x y = ap (λ d. d && c) x ∙ y
 
 -- and not behind a block's last one
 not_behind : (f : FunctionValue) → BlocksFollow f → (p : ℕ) → MayInBlocks f p → (b : ℕ) → b < length f.blocks → p + 1 ≢ before (block_at f b).range.end

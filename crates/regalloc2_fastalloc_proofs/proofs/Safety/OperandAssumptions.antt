@@ -26,7 +26,7 @@ reusable env class (Reuse n) h = absurd h
 reusable env class (Limit n) h = absurd h
 
 -- an operand that stands for a vreg defines it or reads it
-defines_or_reads : (o : OperandValue) → is_fixed_nonallocatable o ≡ false → (is_def o.kind ≡ true) ⊎ (is_reading o ≡ true)
+pub defines_or_reads : (o : OperandValue) → is_fixed_nonallocatable o ≡ false → (is_def o.kind ≡ true) ⊎ (is_reading o ≡ true)
 defines_or_reads o h = by_test (is_def o.kind) (is_fixed_nonallocatable o) h
   where
     by_test : (a b : Bool) → b ≡ false → (a ≡ true) ⊎ ((not a && not b) ≡ true)

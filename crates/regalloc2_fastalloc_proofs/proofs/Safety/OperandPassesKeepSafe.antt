@@ -2,7 +2,7 @@
 -- The fold in `Changes` serves its evictions alone: an operand's place is handed from its selection to the steps that follow.
 use Rattle.regalloc2_semantics.proofs.Operands.{reads_use}
 use Rattle.std.proofs.Common.{ℕ, ◌≡◌, ◌≢◌, ◌+◌, ◌<◌, ◌≤◌, List, Bool, true, false, refl, sym, ap, ◌∙◌, ◌⊎◌, inl, inr, subst, arith, length, set}
-use Rattle.std.proofs.lemmas.Bool.{cases_eq, false_from_ne_true, true_from_ne_false}
+use Rattle.std.proofs.lemmas.Bool.{cases_eq, false_from_ne_true, true_from_ne_false, both_ways}
 use Rattle.regalloc2_names.specs.declared.OperandConstraint.TheVariants.{FixedReg, Reuse}
 use Rattle.regalloc2_names.specs.Register.{Register, VirtualRegister}
 use Rattle.regalloc2_names.specs.Operand.{OperandValue, is_def, is_late, is_reading, is_fixed_nonallocatable}
@@ -21,7 +21,7 @@ use Rattle.regalloc2_fastalloc_proofs.proofs.Slots.SlotsGrow.{changes_stay}
 use Rattle.regalloc2_fastalloc_proofs.proofs.Slots.LocatedStaysLocated.{changes_last}
 use Rattle.regalloc2_fastalloc_proofs.proofs.Safety.StepsKeepSafe.{IsApart}
 use Rattle.regalloc2_fastalloc_proofs.proofs.Safety.OperandKeepsSafe.{places_def_kept, places_use_kept}
-use Rattle.regalloc2_fastalloc_proofs.proofs.Operands.AllocsSoFar.{at_place, IsInRegister, MeetsAlone, IsGood, not_both}
+use Rattle.regalloc2_fastalloc_proofs.proofs.Operands.AllocsSoFar.{at_place, IsInRegister, MeetsAlone, IsGood}
 use Rattle.regalloc2_fastalloc_proofs.proofs.Operands.AllocsSoFar.{reads_allocated, answer_meets, answer_named, reuse_meets, fixed_meets, asked_fixed}
 use Rattle.regalloc2_fastalloc_proofs.proofs.Operands.AllocsSoFar.{asked_as_fixed, fixed_class, FixedAreKnown, Filled, DefsAreWritten, reuse_register}
 use Rattle.regalloc2_fastalloc_proofs.proofs.Operands.AllocsSoFar.{no_place_register, OneMore, filled_same, filled_on, written, written_twice}
@@ -71,9 +71,9 @@ module _ (passes : PassesContext) where
       Filled env Known Writes May ops E (set here k (InRegister r)) t old
   register_kept D E k r here t old less more silent is h = written filling D E k (InRegister r) here t old less more
       (λ n e. (let x : FixedReg r ≡ Reuse n = sym is ∙ e in cc))
-      (record { place = λ a. absurd (not_both (is_fixed_nonallocatable (op_at ops k)) silent a); meets = fixed_meets env (op_at ops k).constraint r is })
-      (λ reads. absurd (not_both (is_fixed_nonallocatable (op_at ops k)) silent (reads_allocated (op_at ops k) reads)))
-      (λ j within d names. absurd (not_both (is_fixed_nonallocatable (op_at ops k)) silent (reads_allocated (op_at ops k) (tame.named j k within names).2)))
+      (record { place = λ a. absurd (both_ways (is_fixed_nonallocatable (op_at ops k)) a silent); meets = fixed_meets env (op_at ops k).constraint r is })
+      (λ reads. absurd (both_ways (is_fixed_nonallocatable (op_at ops k)) (reads_allocated (op_at ops k) reads) silent))
+      (λ j within d names. absurd (both_ways (is_fixed_nonallocatable (op_at ops k)) (reads_allocated (op_at ops k) (tame.named j k within names).2) silent))
       h
 
   -- a use that no reuse has chosen a register for
@@ -91,11 +91,11 @@ module _ (passes : PassesContext) where
       let f = filled_on filling D here t u old new w.given.kept.safe w.given.kept.inst_regs (changes_stay (places_use_changes (λ q s. tt) tt tt places))
       (λ j within r there. changes_last (op_at ops j).vreg.number (places_use_changes (λ q s. tt) tt tt places) there) h in
       written filling D E k p here u new less more
-      (λ n e. not_both (is_def o.kind) (tame.late_reuse k n less e).0 (reads_use o reads))
+      (λ n e. both_ways (is_def o.kind) (reads_use o reads) (tame.late_reuse k n less e).0)
       (record {
         place = λ a. w.given.place;
         meets = answer_meets env o.constraint p
-            (λ n e. not_both (is_def o.kind) (tame.late_reuse k n less e).0 (reads_use o reads)) (λ n e. tame.unlimited k n less e) w.given.answer;
+            (λ n e. both_ways (is_def o.kind) (reads_use o reads) (tame.late_reuse k n less e).0) (λ n e. tame.unlimited k n less e) w.given.answer;
       })
       (λ r. w.found)
       (λ j within d names. absurd (no_place_register (at_place here j) (h.shared j k within d names ∙ none)
@@ -119,7 +119,7 @@ module _ (passes : PassesContext) where
       (λ j within x there. changes_last (op_at ops j).vreg.number (places_use_changes (λ q s. tt) tt tt places) there) h in
       let as_chosen : p ≡ at_place here k = w.given.answer ∙ sym at_it in
       written filling D E k p here u new less more
-      (λ n e. not_both (is_def o.kind) (tame.late_reuse k n less e).0 (reads_use o reads))
+      (λ n e. both_ways (is_def o.kind) (reads_use o reads) (tame.late_reuse k n less e).0)
       (record { place = λ a. w.given.place; meets = subst (MeetsAlone env o.constraint) (sym as_chosen) good.meets })
       (λ x. w.found)
       (λ j within d names. as_chosen)
@@ -143,8 +143,8 @@ module _ (passes : PassesContext) where
       (λ j within r there. changes_last (op_at ops j).vreg.number (places_def_changes (λ q s. tt) tt (tame.unread k j less within def r) places) there) h in
       written filling D E k p here u new less more no_reuse
       (record { place = λ a. w.place; meets = answer_meets env o.constraint p no_reuse (λ n e. tame.unlimited k n less e) w.answer })
-      (λ reads. absurd (not_both (is_def o.kind) def (reads_use o reads)))
-      (λ j within d names. absurd (not_both (is_def o.kind) def (reads_use o (tame.named j k within names).2)))
+      (λ reads. absurd (both_ways (is_def o.kind) (reads_use o reads) def))
+      (λ j within d names. absurd (both_ways (is_def o.kind) (reads_use o (tame.named j k within names).2) def))
       f
 
   -- a reuse
@@ -218,7 +218,7 @@ module _ (passes : PassesContext) where
   pub early_more : (k : ℕ) → is_late (op_at ops k).position ≡ false → OneMore filling (InEarly k) (InEarly (k + 1)) k
   early_more k early = record {
     before_it = λ d. elim d [
-      | inl late ↦ not_both (is_late (op_at ops k).position) late early
+      | inl late ↦ both_ways (is_late (op_at ops k).position) early late
       | inr less ↦ omega arith
     ];
     at_it = inr (omega arith);
@@ -252,7 +252,7 @@ module _ (passes : PassesContext) where
       (lates_kept blank t old h j there u m prev (omega arith))
   lates_kept blank t old h k there u m (one_placed j l next w x s n prev late one) le =
       one_kept (InLate j) (InLate (j + 1)) j l there w u s m one (omega arith) (late_more j late)
-      (λ y reuses d. not_both (is_late (op_at ops y).position) d.1 (tame.named j y (omega arith) reuses).1)
+      (λ y reuses d. both_ways (is_late (op_at ops y).position) (tame.named j y (omega arith) reuses).1 d.1)
       (lates_kept blank t old h j l w s prev (omega arith))
 
   -- and that over early ones
@@ -277,5 +277,5 @@ module _ (passes : PassesContext) where
       (earlies_kept half t old h j there u m prev (omega arith))
   earlies_kept half t old h k there u m (one_placed j l next w x s n prev early one) le =
       one_kept (InEarly j) (InEarly (j + 1)) j l there w u s m one (omega arith) (early_more j early)
-      (λ y reuses d. not_both (is_late (op_at ops j).position) (tame.late_reuse j y (omega arith) reuses).1 early)
+      (λ y reuses d. both_ways (is_late (op_at ops j).position) early (tame.late_reuse j y (omega arith) reuses).1)
       (earlies_kept half t old h j l w s prev (omega arith))

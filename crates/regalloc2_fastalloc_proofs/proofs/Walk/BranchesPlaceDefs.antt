@@ -1,7 +1,7 @@
 -- Where the branches of a whole walk leave what they define: in the registers that are named, each in its own, and else in slots.
 use Rattle.std.specs.Prelude.{Some, ◌||◌, ◌&&◌, slice_index_or}
-use Rattle.std.proofs.Common.{ℕ, ◌≡◌, ◌+◌, ◌<◌, ◌≤◌, ◌⊎◌, Bool, true, false, List, length, inl, inr, refl, sym, ap, ◌∙◌, subst, arith}
-use Rattle.std.proofs.lemmas.Bool.{cases_eq, or_right}
+use Rattle.std.proofs.Common.{ℕ, ◌≡◌, ◌+◌, ◌<◌, ◌≤◌, ◌⊎◌, true, List, length, inl, inr, refl, sym, ap, ◌∙◌, subst, arith}
+use Rattle.std.proofs.lemmas.Bool.{cases_eq, or_right, or_left, and_from}
 use Rattle.regalloc2_names.specs.declared.OperandConstraint.{OperandConstraint}
 use Rattle.regalloc2_names.specs.declared.OperandConstraint.TheVariants.{Any, Reg, Stack, FixedReg, Reuse, Limit}
 use Rattle.regalloc2_names.specs.Register.{Register}
@@ -88,12 +88,8 @@ module _ (code : PlacedCode) where
 both_late : (a b : OperandValue) → is_def a.kind ≡ true → is_def b.kind ≡ true →
     (((positions_of a).early && (positions_of b).early) || ((positions_of a).late && (positions_of b).late)) ≡ true
 both_late a b x y = or_right ((positions_of a).early && (positions_of b).early) ((positions_of a).late && (positions_of b).late)
-    (both (is_def a.kind) (is_late a.position) (is_def b.kind) (is_late b.position) x y)
-  where
-    both : (p q r s : Bool) → p ≡ true → r ≡ true → ((p || q) && (r || s)) ≡ true
-    both true q true s h k = refl
-    both true q false s h k = cc
-    both false q r s h k = cc
+    (and_from (positions_of a).late (positions_of b).late
+    (or_left (is_def a.kind) (is_late a.position) x) (or_left (is_def b.kind) (is_late b.position) y))
 
 -- a definition's place that is known before registers are chosen: a register by name, or anywhere, or in memory
 in_place : (c : OperandConstraint) → IsInPlace c → ((n : ℕ) → c ≡ Limit n → ⊥) → ((r : Register) × (c ≡ FixedReg r)) ⊎ IsAnyOrStack c

@@ -1,5 +1,5 @@
 -- Definitions come before uses: what a block writes and another one uses is used in a later block, and has a location at its end.
-use Rattle.std.proofs.Common.{ℕ, ◌≡◌, ◌≢◌, ◌+◌, ◌<◌, ◌≤◌, ◌⊎◌, inl, inr, true, List, [], length, refl, sym, ap, ◌∙◌, subst, arith}
+use Rattle.std.proofs.Common.{ℕ, ◌≡◌, ◌≢◌, ◌+◌, ◌<◌, ◌≤◌, inl, inr, true, List, [], length, refl, sym, ap, ◌∙◌, subst, arith}
 use Rattle.std.specs.Prelude.{slice_index_or}
 use Rattle.std.proofs.lemmas.Bool.{cases_Bool}
 use Rattle.regalloc2_names.specs.Register.{VirtualRegister}
@@ -115,17 +115,11 @@ used_somewhere f v (inl r) = elim (cases_lt r.0 (length f.blocks)) [
   | inr le ↦ (let none : (block_at f r.0).range.end ≡ 0 = ap (λ (b : BlockValue). b.range.end) (get_or_past f.blocks r.0 no_block le) in let less = r.1.3 in
       absurd (omega (arith, none, less)))
 ]
-  where
-    cases_lt : (m n : ℕ) → (m < n) ⊎ (n ≤ m)
-    cases_lt m n = grind (arith)
 used_somewhere f v (inr p) = elim (cases_lt p.0 (length f.blocks)) [
   | inl lt ↦ (p.0, lt, inr (p.1, p.2, p.3))
   | inr le ↦ (let none : length (block_at f p.0).succs ≡ 0 = ap (λ (b : BlockValue). length b.succs) (get_or_past f.blocks p.0 no_block le) in let less = p.2 in
       absurd (omega (arith, none, less)))
 ]
-  where
-    cases_lt : (m n : ℕ) → (m < n) ⊎ (n ≤ m)
-    cases_lt m n = grind (arith)
 
 module _ (f : FunctionValue) (once : DefinedOnce f) (follow : BlocksFollow f) (uses : UsesAreDefined f) (b m : ℕ) (v : VirtualRegister)
     (takes : TakesAt f v.number b m) where
