@@ -122,8 +122,8 @@ module _ (env : MachineValue) (Known : VirtualRegister → Type 0) (ops : List O
         (use_request (op_at ops k) (at_place here k)).requirement here (λ q. set here k q) t old
     use_ready reads = elim (h.waits k lt undone) [
       | inl none ↦ subst (λ x. Ready (use_request (op_at ops k) x).vreg (use_request (op_at ops k) x).requirement here (λ q. set here k q) t old) (sym none)
-          (asked_ready (reads_allocated (op_at ops k) reads) (λ n e. not_both (is_def (op_at ops k).kind) (tame.late_reuse k n lt e).0
-          (reads_use (op_at ops k) reads)) none)
+          (asked_ready (reads_allocated (op_at ops k) reads) (λ n e. both_ways (is_def (op_at ops k).kind)
+          (reads_use (op_at ops k) reads) (tame.late_reuse k n lt e).0) none)
       | inr g ↦ (let r = a_place_of (at_place here k) g.1 in
           subst (λ x. Ready (use_request (op_at ops k) x).vreg (use_request (op_at ops k) x).requirement here (λ q. set here k q) t old) (sym r.1)
           (chosen_ready r.0 reads r.1 (subst (MayBeLocatedAt env old.slots (op_at ops k).vreg) r.1 (g.0.place (reads_allocated (op_at ops k) reads)))))
@@ -153,8 +153,8 @@ module _ (env : MachineValue) (Known : VirtualRegister → Type 0) (ops : List O
 
       -- the use that a reuse names is another operand
       pub named_other : n ≢ k
-      named_other e = not_both (is_late (op_at ops k).position) (tame.late_reuse k n lt reuses).1
-          (ap (λ (m : ℕ). is_late (op_at ops m).position) (sym e) ∙ (tame.named k n lt reuses).1)
+      named_other e = both_ways (is_late (op_at ops k).position)
+          (ap (λ (m : ℕ). is_late (op_at ops m).position) (sym e) ∙ (tame.named k n lt reuses).1) (tame.late_reuse k n lt reuses).1
 
       same_class : (op_at ops n).vreg.class ≡ (op_at ops k).vreg.class
       same_class = (tame.named k n lt reuses).3

@@ -25,6 +25,7 @@ use Rattle.regalloc2_semantics.proofs.Forms.{same_register}
 use Rattle.regalloc2_fastalloc_proofs.proofs.Operands.AllocsSoFar.{at_place}
 use Rattle.regalloc2_fastalloc_proofs.proofs.Changes.OneChange.{uses_rest}
 use Rattle.regalloc2_fastalloc_proofs.proofs.Operands.SelectedPlace.{suits_there}
+use Rattle.regalloc2_fastalloc_proofs.proofs.Moves.ScratchRegTaken.{Less}
 
 -- no vreg has a location
 pub record IsEmpty (t : StateValue) : Type 0 where
@@ -70,19 +71,6 @@ pub record Awaiting (ops : List OperandValue) (done : ℕ → Type 0) (there : L
   pub nobody : (k : ℕ) (r : Register) (p : Positions) → k < length ops → (done k → ⊥) → Asks ops there k r p → vreg_of_preg t.places r ≡ None
   pub lates : (k : ℕ) → k < length ops → (done k → ⊥) → is_late (op_at ops k).position ≡ true → at_place there k ≡ NoPlace
 
--- what is held stays so
-pub record Later (t u : InstRegs) : Type 0 where
-  pub early : (r : Register) → has_register t.early r ≡ false → has_register u.early r ≡ false
-  pub late : (r : Register) → has_register t.late r ≡ false → has_register u.late r ≡ false
-
--- registers of an instruction that don't change make nothing available again
-pub later_none : (t u : InstRegs) → u ≡ t → Later t u
-later_none t u e = record {
-  early = λ r h. ap (λ (x : InstRegs). has_register x.early r) e ∙ h;
-  late = λ r h. ap (λ (x : InstRegs). has_register x.late r) e
-      ∙ h;
-}
-
 -- where a place comes from
 pub data Origin (o : OperandRequest) (p : Place) (t : InstRegs) (old : StateValue) : Type 0 where
   stood_there : alloc_of old.places o.vreg.number ≡ p → p ≢ NoPlace → Origin o p t old
@@ -94,7 +82,7 @@ pub data Origin (o : OperandRequest) (p : Place) (t : InstRegs) (old : StateValu
 pub record Got (o : OperandRequest) (p : Place) (t u : InstRegs) (old new : StateValue) : Type 0 where
   pub places : new.places ≡ old.places
   pub edits : new.edits ≡ old.edits
-  pub later : Later t u
+  pub later : Less t u
   pub claimed_early : (q : Register) → p ≡ InRegister q → o.positions.early ≡ true → has_register u.early q ≡ false
   pub claimed_late : (q : Register) → p ≡ InRegister q → o.positions.late ≡ true → has_register u.late q ≡ false
   pub origin : Origin o p t old
@@ -157,7 +145,7 @@ module _ (point : ℕ) (ops : List OperandValue) (pass : Bool) (edits : List (�
 
   occupies_nobody : (o : OperandRequest) (p : Place) (t u : InstRegs) (old new : StateValue) → ClaimsPlace point o p t u old new
       → ((r : Register) (w : VirtualRegister) → p ≡ InRegister r → r.number < 64 → vreg_of_preg old.places r ≡ Some w → w.number ≡ o.vreg.number)
-      → (new ≡ old) × Later t u × (((q : Register) → p ≡ InRegister q → o.positions.early ≡ true → has_register u.early q ≡ false)
+      → (new ≡ old) × Less t u × (((q : Register) → p ≡ InRegister q → o.positions.early ≡ true → has_register u.early q ≡ false)
       × ((q : Register) → p ≡ InRegister q → o.positions.late ≡ true → has_register u.late q ≡ false))
   occupies_nobody o p t u old new (in_slot k is sets en) only = (
     en,

@@ -25,14 +25,15 @@ use Rattle.regalloc2_fastalloc_proofs.specs.InstSteps.{StateValue, use_request, 
 use Rattle.regalloc2_fastalloc_proofs.specs.InstSteps.{AllocsDefOp, ProcessesOperand, a_register, a_use, a_def, a_reuse, own, named}
 use Rattle.regalloc2_fastalloc_proofs.proofs.Safety.StepsKeepSafe.{settled_holder}
 use Rattle.regalloc2_fastalloc_proofs.proofs.Operands.AllocsSoFar.{at_place, IsTame, reads_allocated, asked_fixed, asked_as_fixed}
-use Rattle.regalloc2_fastalloc_proofs.proofs.BlockEnd.NoMoveForOperand.{Overlap, Asks, claims, chosen, Still, Awaiting, Later, later_none, Origin}
+use Rattle.regalloc2_fastalloc_proofs.proofs.BlockEnd.NoMoveForOperand.{Overlap, Asks, claims, chosen, Still, Awaiting, Origin}
 use Rattle.regalloc2_fastalloc_proofs.proofs.BlockEnd.NoMoveForOperand.{stood_there, asked, was_free, in_a_slot, Got, no_register_slot}
 use Rattle.regalloc2_fastalloc_proofs.proofs.BlockEnd.NoMoveForOperand.{none_some, gets_calm, SamePlaces, same_places, defines_calm}
 use Rattle.regalloc2_fastalloc_proofs.proofs.Operands.OperandRules.{use_vreg}
 use Rattle.regalloc2_fastalloc_proofs.proofs.Evictions.PushedAndRemoved.{no_some}
+use Rattle.regalloc2_fastalloc_proofs.proofs.Moves.ScratchRegTaken.{Less, less_same}
 
 -- the tables, where the same vregs are located in the same places
-still_on : (ops : List OperandValue) (pass : Bool) (edits : List (ℕ × MoveValue)) (t u : InstRegs) (old new : StateValue) → Later t u → SamePlaces old new →
+still_on : (ops : List OperandValue) (pass : Bool) (edits : List (ℕ × MoveValue)) (t u : InstRegs) (old new : StateValue) → Less t u → SamePlaces old new →
     Still ops pass edits t old → Still ops pass edits u new
 still_on ops pass edits t u old new later same s = record {
   edits_are = same.edits ∙ s.edits_are;
@@ -45,7 +46,7 @@ still_on ops pass edits t u old new later same s = record {
 
 -- and where a vreg has come
 settled_still : (ops : List OperandValue) (pass : Bool) (edits : List (ℕ × MoveValue)) (v : VirtualRegister) (p : Place) (t u : InstRegs)
-    (old new : StateValue) → Later t u → SetsAlloc old.places new.places v p → new.edits ≡ old.edits
+    (old new : StateValue) → Less t u → SetsAlloc old.places new.places v p → new.edits ≡ old.edits
     → alloc_of old.places v.number ≡ NoPlace
     → ((q : Register) → p ≡ InRegister q → (q.number < 64) × (vreg_of_preg old.places q ≡ None) × (has_register u.early q ≡ false)
     × (pass ≡ true → has_register u.late q ≡ false))
@@ -109,7 +110,7 @@ asks_back ops here there k r p e (chosen at is) = chosen (sym e ∙ at) is
 -- operands that wait for their registers go on waiting, if fewer are left, nothing becomes available, and their registers stay empty
 pub awaiting_on : (ops : List OperandValue) (D E : ℕ → Type 0) (here there : List Place) (t u : InstRegs) (old new : StateValue) →
     ((j : ℕ) → j < length ops → (E j → ⊥) → D j → ⊥)
-    → ((j : ℕ) → j < length ops → (E j → ⊥) → at_place there j ≡ at_place here j) → Later t u
+    → ((j : ℕ) → j < length ops → (E j → ⊥) → at_place there j ≡ at_place here j) → Less t u
     → ((j : ℕ) (r : Register) (p : Positions) → j < length ops → (E j → ⊥) → Asks ops here j r p → vreg_of_preg new.places r ≡ None) →
     Awaiting ops D here t old → Awaiting ops E there u new
 awaiting_on ops D E here there t u old new back same later nobody a = record {
@@ -146,7 +147,7 @@ early_use o d l = (rw d refl, rw (d, l) refl)
 awaiting_reuse : (ops : List OperandValue) (D E : ℕ → Type 0) (n : ℕ) (p : Place) (here there : List Place) (t u : InstRegs) (old new : StateValue) →
     n < length ops → is_def (op_at ops n).kind ≡ false → is_late (op_at ops n).position ≡ false
     → ((j : ℕ) → j < length ops → (E j → ⊥) → D j → ⊥) → at_place there n ≡ p →
-    ((j : ℕ) → j < length ops → (E j → ⊥) → j ≢ n → at_place there j ≡ at_place here j) → Later t u
+    ((j : ℕ) → j < length ops → (E j → ⊥) → j ≢ n → at_place there j ≡ at_place here j) → Less t u
     → ((q : Register) → p ≡ InRegister q → (q.number < 64) × (has_register u.early q ≡ false) × (has_register u.late q ≡ false)
     × (vreg_of_preg new.places q ≡ None)
     × ((j : ℕ) (w : Positions) → j < length ops → (E j → ⊥) → j ≢ n → Asks ops here j q w → w.early ≡ true → ⊥))
@@ -244,7 +245,7 @@ module _ (Known : VirtualRegister → Type 0) (ops : List OperandValue) (tame : 
   Calm D there u t = Still ops pass edits u t × Awaiting ops D there u t × (length there ≡ length ops)
 
   -- where no vreg comes
-  same_calm : (D E : ℕ → Type 0) (k : ℕ) (p : Place) (here : List Place) (t u : InstRegs) (old new : StateValue) → NextDone D E k → Later t u →
+  same_calm : (D E : ℕ → Type 0) (k : ℕ) (p : Place) (here : List Place) (t u : InstRegs) (old new : StateValue) → NextDone D E k → Less t u →
       SamePlaces old new → Calm D here t old → Calm E (set here k p) u new
   same_calm D E k p here t u old new next later same c = (
     still_on ops pass edits t u old new later same c.0,
@@ -265,7 +266,7 @@ module _ (Known : VirtualRegister → Type 0) (ops : List OperandValue) (tame : 
       (not_free t old (positions_of o) reach c.0) in
       let z = defines_calm (after i) o.vreg is_ret p d.inst_regs u d.middle new (ret k less def) d.defines
       (λ q at. c.0.away k q less def (ap (λ (x : VRegAllocsValue). alloc_of x o.vreg.number) (sym g.places) ∙ at)) in
-      let later : Later t u = subst (Later t) (sym z.0) g.later in
+      let later : Less t u = subst (Less t) (sym z.0) g.later in
       let both : SamePlaces old new = record {
         edits = z.1.edits ∙ g.edits;
         stood_at = λ n r h. ap (λ (x : VRegAllocsValue). alloc_of x n) (sym g.places) ∙ z.1.stood_at n r h;
@@ -292,7 +293,7 @@ module _ (Known : VirtualRegister → Type 0) (ops : List OperandValue) (tame : 
       let g = gets_calm (after i) ops pass edits (reuse_request o m) p t d.inst_regs old d.middle d.gets c.0 none taken in
       let z = defines_calm (after i) o.vreg is_ret p d.inst_regs u d.middle new (ret k less def) d.defines
       (λ q at. c.0.away k q less def (ap (λ (x : VRegAllocsValue). alloc_of x o.vreg.number) (sym g.places) ∙ at)) in
-      let later : Later t u = subst (Later t) (sym z.0) g.later in
+      let later : Less t u = subst (Less t) (sym z.0) g.later in
       let both : SamePlaces old new = record {
         edits = z.1.edits ∙ g.edits;
         stood_at = λ x r h. ap (λ (y : VRegAllocsValue). alloc_of y x) (sym g.places) ∙ z.1.stood_at x r h;
@@ -446,7 +447,7 @@ module _ (Known : VirtualRegister → Type 0) (ops : List OperandValue) (tame : 
       Overlap (positions_of (op_at ops k)) w)
       → Calm D here t old → Calm E there u new
   one_calm {D} {E} {k} {here} {t} {u} {old} {new} (a_register r silent is written_it eu en) less next reach not_n lates covers c =
-      subst (λ l. Calm E l u new) (sym written_it) (same_calm D E k (InRegister r) here t u old new next (later_none t u eu)
+      subst (λ l. Calm E l u new) (sym written_it) (same_calm D E k (InRegister r) here t u old new next (less_same t u eu)
       (same_places old new (ap (λ (x : StateValue). x.places) en) (ap (λ (x : StateValue). x.edits) en)) c)
   one_calm {D} {E} {k} {here} {t} {u} {old} {new} (a_use p reads places written_it) less next reach not_n lates covers c =
       subst (λ l. Calm E l u new) (sym written_it) (use_calm D E k p here t u old new less next reach reads (lates reads) (covers reads) places c)

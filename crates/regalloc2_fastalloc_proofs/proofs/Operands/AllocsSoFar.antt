@@ -302,8 +302,8 @@ module _ (filling : FillingContext) where
         ];
     found = λ j less e reads. elim (more.back j e) [
       | inl d ↦ h.found j less d reads
-      | inr same ↦ absurd (not_both (is_def (op_at ops k).kind) (tame.late_reuse k n lt reuses).0
-          (reads_use (op_at ops k) (subst (λ (m : ℕ). is_reading (op_at ops m) ≡ true) same reads)))
+      | inr same ↦ absurd (both_ways (is_def (op_at ops k).kind)
+          (reads_use (op_at ops k) (subst (λ (m : ℕ). is_reading (op_at ops m) ≡ true) same reads)) (tame.late_reuse k n lt reuses).0)
     ];
   }
     where
@@ -311,12 +311,12 @@ module _ (filling : FillingContext) where
       n_within = (tame.named k n lt reuses).0
 
       apart_k : n ≢ k
-      apart_k same = not_both (is_late (op_at ops k).position) (tame.late_reuse k n lt reuses).1
-          (ap (λ (m : ℕ). is_late (op_at ops m).position) (sym same) ∙ (tame.named k n lt reuses).1)
+      apart_k same = both_ways (is_late (op_at ops k).position)
+          (ap (λ (m : ℕ). is_late (op_at ops m).position) (sym same) ∙ (tame.named k n lt reuses).1) (tame.late_reuse k n lt reuses).1
 
       names_no_def : (j m : ℕ) → j < length ops → (op_at ops j).constraint ≡ Reuse m → m ≢ k
-      names_no_def j m less is same = not_both (is_late (op_at ops k).position) (tame.late_reuse k n lt reuses).1
-          (ap (λ (x : ℕ). is_late (op_at ops x).position) (sym same) ∙ (tame.named j m less is).1)
+      names_no_def j m less is same = both_ways (is_late (op_at ops k).position)
+          (ap (λ (x : ℕ). is_late (op_at ops x).position) (sym same) ∙ (tame.named j m less is).1) (tame.late_reuse k n lt reuses).1
 
       there : at_place (set (set here k p) n p) k ≡ p
       there = get_or-set_other (set here k p) n k p NoPlace (λ e. apart_k (sym e)) ∙ get_or-set_same here k p NoPlace (let l = h.long in omega (arith, l, lt))

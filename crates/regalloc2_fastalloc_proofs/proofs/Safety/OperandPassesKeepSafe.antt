@@ -244,8 +244,8 @@ module _ (passes : PassesContext) where
       let early : is_late (op_at ops j).position ≡ false = false_from_ne_true (is_late (op_at ops j).position) other in
       filled_same filling (InLate j) (InLate (j + 1)) there u m
       (λ x less e. (
-        (let ne : x ≢ j = λ same. not_both (is_late (op_at ops j).position) (ap (λ (y : ℕ). is_late (op_at ops y).position) (sym same) ∙ e.1)
-            early in let a = e.0 in omega (arith, ne, a)),
+        (let ne : x ≢ j = λ same. both_ways (is_late (op_at ops j).position)
+            early (ap (λ (y : ℕ). is_late (op_at ops y).position) (sym same) ∙ e.1) in let a = e.0 in omega (arith, ne, a)),
         e.1,
       ))
       (λ x less d. ((let a = d.0 in omega arith), d.1))
