@@ -31,7 +31,6 @@ use Rattle.regalloc2_fastalloc_proofs.proofs.Safety.StepsKeepState.{place_in, sl
 use Rattle.regalloc2_fastalloc_proofs.proofs.Operands.DefinedNumbers.{defined_by, defined_by-at}
 use Rattle.regalloc2_fastalloc_proofs.proofs.Moves.StepsAppendEdits.{pushed_at}
 use Rattle.regalloc2_fastalloc_proofs.proofs.Safety.BlocksKeepSafe.{MayInBlocks}
-use Rattle.regalloc2_fastalloc_proofs.proofs.Walk.LastInstAndRest.{AnyPlace}
 use Rattle.regalloc2_fastalloc_proofs.proofs.Operands.RecordOverState.{opt, opt_some, opt_from}
 use Rattle.regalloc2_fastalloc_proofs.proofs.Safety.BranchArgsKeepState.{passes_between}
 use Rattle.regalloc2_fastalloc_proofs.proofs.Walk.InstForOneVReg.{needed_parts, parts_needed}
@@ -49,6 +48,7 @@ use Rattle.regalloc2_debug_proofs.proofs.LocationWithoutSlot.{IsUnslotted, none_
 use Rattle.regalloc2_fastalloc_proofs.proofs.Walk.WholeWalk.{WholeWalk}
 use Rattle.regalloc2_fastalloc_proofs.proofs.Walk.FunctionLaws.{PlacedCode, code_of}
 use Rattle.regalloc2_fastalloc_proofs.proofs.Inst.ProperInsts.{proper_of}
+use Rattle.regalloc2_fastalloc_proofs.proofs.Slots.StepsKeepSlots.{AnyPlace}
 
 module _ (walk : WholeWalk) (m : IsMade walk.f walk.env (Made walk.f) (MayInBlocks walk.f) walk.last walk.out) (written : IsWrittenFirst walk.f)
     (v : VirtualRegister) (known : Made walk.f v) (id d il ko : ℕ) (un : IsUnslotted walk.f (allocs_of walk.out) walk.last v.number id il ko)

@@ -2,8 +2,8 @@
 use Rattle.std.proofs.Common.{◌≡◌, ◌^◌, ◌<◌, ◌≤◌, Bool, true, Err, refl, subst, inl, arith}
 use Rattle.std.specs.Prelude.{◌↔◌, IfErr, Result}
 use Rattle.regalloc2_names.specs.declared.RegAllocError.{RegAllocError}
-use Rattle.regalloc2_names.specs.declared.RegAllocError.TheVariants.{CritEdge, SSA, BB, Branch, EntryLivein, DisallowedBranchArg, TooManyLiveRegs}
-use Rattle.regalloc2_names.specs.declared.RegAllocError.TheVariants.{TooManyOperands, Unsupported, TooManySpillSlots, Memory}
+use Rattle.regalloc2_names.specs.declared.RegAllocError.TheVariants.{TooManyLiveRegs}
+use Rattle.regalloc2_names.specs.declared.RegAllocError.TheVariants.{TooManyOperands, TooManySpillSlots, Memory}
 use Rattle.regalloc2_function.specs.FunctionValue.{FunctionValue, operand_count}
 use Rattle.regalloc2_function.specs.Machine.{MachineValue}
 use Rattle.regalloc2_function.specs.Reasons.{HasShape, IsShapeFault, IsSound, IsSoundnessFault}
@@ -45,32 +45,17 @@ fault_is_reason f env asked {e} p on (clashing shape sound h) = fixed_reason f e
 
 -- what the walk lacks, where it says when registers and slots do
 pub lacks_where : (R P Q : Type 0) → (P → Q) → (e : RegAllocError) → IsResourceError P e → (e ≡ TooManyLiveRegs → R) → Lacks R Q e
-lacks_where R P Q more (CritEdge a b) h where_it = h
-lacks_where R P Q more (SSA v i) h where_it = h
-lacks_where R P Q more (BB b) h where_it = h
-lacks_where R P Q more (Branch i) h where_it = h
-lacks_where R P Q more EntryLivein h where_it = h
-lacks_where R P Q more (DisallowedBranchArg i) h where_it = h
 lacks_where R P Q more TooManyLiveRegs h where_it = where_it refl
-lacks_where R P Q more TooManyOperands h where_it = h
-lacks_where R P Q more (Unsupported i) h where_it = h
 lacks_where R P Q more TooManySpillSlots h where_it = more h
-lacks_where R P Q more Memory h where_it = h
+lacks_where R P Q more e h where_it = h
 
 -- and what may be lacking is one, after all tests
 pub lack_is_a_reason : (f : FunctionValue) (env : MachineValue) (asked : Bool) → PassesAllChecks f env asked → (e : RegAllocError) →
     Lacks (SomeDoesNotFit f env) (2 ^ 24 < units_at_most f) e → IsReason f env asked e
-lack_is_a_reason f env asked p (CritEdge a b) h = absurd h
-lack_is_a_reason f env asked p (SSA v i) h = absurd h
-lack_is_a_reason f env asked p (BB b) h = absurd h
-lack_is_a_reason f env asked p (Branch i) h = absurd h
-lack_is_a_reason f env asked p EntryLivein h = absurd h
-lack_is_a_reason f env asked p (DisallowedBranchArg i) h = absurd h
 lack_is_a_reason f env asked p TooManyLiveRegs h = (p, h)
-lack_is_a_reason f env asked p TooManyOperands h = absurd h
-lack_is_a_reason f env asked p (Unsupported i) h = absurd h
 lack_is_a_reason f env asked p TooManySpillSlots h = (p, h)
 lack_is_a_reason f env asked p Memory h = p.first
+lack_is_a_reason f env asked p e h = absurd h
 
 -- where operands are few, no error says that they are too many
 pub counted_alone : {T : Type 0} (f : FunctionValue) (env : MachineValue) (asked : Bool) (r : Result T RegAllocError) → HasFewOperands f →

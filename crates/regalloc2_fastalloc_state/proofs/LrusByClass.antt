@@ -1,4 +1,5 @@
 -- The LRU list of each class.
+use Rattle.regalloc2_parts.proofs.RegisterLaws.{class_codes}
 use Rattle.std.proofs.Common.{ℕ, ◌≡◌, ◌≢◌, ◌<◌, Bool, true, false, List, [], length, arith, refl, sym, ap, ◌∙◌, ⊎_elim, subst}
 use Rattle.std.proofs.Common.{slice_index_or, set, get_or-set_same}
 use Rattle.std.specs.Prelude.{Option, None, Some, IfSome, IfNone, IsTrue, Contains, ◌↔◌}
@@ -6,7 +7,6 @@ use Rattle.std.proofs.lemmas.List.{get_or-set_other}
 use Rattle.std.proofs.Math.ListN.{length-set}
 use Rattle.std.proofs.lemmas.Bool.{cases_eq}
 use Rattle.regalloc2_names.specs.declared.RegClass.{RegClass}
-use Rattle.regalloc2_names.specs.declared.RegClass.TheVariants.{Int, Float, Vector}
 use Rattle.regalloc2_names.specs.declared.sets.PRegSet.{PRegSet}
 use Rattle.regalloc2_names.specs.Register.{Register, class_code}
 use Rattle.regalloc2_names.specs.RegisterSet.{has_register}
@@ -77,15 +77,7 @@ pub ring_replaced : (lrus : List (List Register)) (i : ℕ) (ring : List Registe
 ring_replaced lrus i ring c lt e = subst (λ (k : ℕ). slice_index_or (set lrus i ring) k [] ≡ ring) e (get_or-set_same lrus i ring [] lt)
 
 code_other : (a b : RegClass) → a ≢ b → class_code a ≢ class_code b
-code_other Int Int ne = absurd (ne refl)
-code_other Int Float ne = λ e. cc
-code_other Int Vector ne = λ e. cc
-code_other Float Int ne = λ e. cc
-code_other Float Float ne = absurd (ne refl)
-code_other Float Vector ne = λ e. cc
-code_other Vector Int ne = λ e. cc
-code_other Vector Float ne = λ e. cc
-code_other Vector Vector ne = absurd (ne refl)
+code_other a b ne e = ne (class_codes a b e)
 
 -- replacing the LRU of one class leaves those of the other classes
 pub other_ring : (lrus : List (List Register)) (i : ℕ) (ring : List Register) (c d : RegClass) → i ≡ class_code c → d ≢ c →

@@ -11,7 +11,7 @@ use Rattle.regalloc2_names.specs.RegisterSet.{has_register}
 pub small_by_walk : (s : PRegSet) (xs : List Register) → IsWalkOf s xs → (r : Register) → has_register s r ≡ true → r.number < 64
 small_by_walk s xs walk r h = (listed_is s r (subst (λ (ys : List Register). Contains ys r) walk.list ((walk.members r).0 h))).0
 
-swapped : (a b : Bool) → a && b ≡ b && a
+pub swapped : (a b : Bool) → a && b ≡ b && a
 swapped true true = refl
 swapped true false = refl
 swapped false true = refl

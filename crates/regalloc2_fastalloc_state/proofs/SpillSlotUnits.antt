@@ -8,8 +8,8 @@ use Rattle.std.proofs.lemmas.Bool.{cases_eq}
 use Rattle.std.proofs.lemmas.List.{get_or_read, get_or-set_same, get_or-set_other, length-set}
 use Rattle.std.proofs.lemmas.List.Sums.{sum_by-set, count_by-le-length}
 use Rattle.regalloc2_names.specs.declared.RegAllocError.{RegAllocError}
-use Rattle.regalloc2_names.specs.declared.RegAllocError.TheVariants.{CritEdge, SSA, BB, Branch, EntryLivein, DisallowedBranchArg, TooManyLiveRegs}
-use Rattle.regalloc2_names.specs.declared.RegAllocError.TheVariants.{TooManyOperands, Unsupported, TooManySpillSlots, Memory}
+use Rattle.regalloc2_names.specs.declared.RegAllocError.TheVariants.{TooManyLiveRegs}
+use Rattle.regalloc2_names.specs.declared.RegAllocError.TheVariants.{TooManySpillSlots}
 use Rattle.regalloc2_names.specs.declared.RegClass.{RegClass}
 use Rattle.regalloc2_names.specs.Register.{class_code}
 use Rattle.regalloc2_names.specs.Place.{Place, NoPlace, InSlot, is_no_place}
@@ -209,17 +209,8 @@ lends_within s t class code taken e c some room =
 
 -- what is lacking, where the slots are full only if more holds
 pub lacks_then : (P Q : Type 0) → (P → Q) → (e : RegAllocError) → IsResourceError P e → IsResourceError Q e
-lacks_then P Q more (CritEdge a b) h = h
-lacks_then P Q more (SSA v i) h = h
-lacks_then P Q more (BB b) h = h
-lacks_then P Q more (Branch i) h = h
-lacks_then P Q more EntryLivein h = h
-lacks_then P Q more (DisallowedBranchArg i) h = h
-lacks_then P Q more TooManyLiveRegs h = h
-lacks_then P Q more TooManyOperands h = h
-lacks_then P Q more (Unsupported i) h = h
 lacks_then P Q more TooManySpillSlots h = more h
-lacks_then P Q more Memory h = h
+lacks_then P Q more e h = h
 
 -- a fault of moves is an error for slots or memory
 pub slots_of_fault : (P : Type 0) (fault : MoveFault) → (fault ≡ NoSlot → P) → LacksSlots P (error_of fault)
@@ -228,17 +219,9 @@ slots_of_fault P MemoryFault h = tt
 
 -- an error for slots or memory alone is one for registers, slots or memory, also under a weaker claim that slots ran out
 pub lacks_slots : (P Q : Type 0) → (P → Q) → (e : RegAllocError) → LacksSlots P e → IsResourceError Q e
-lacks_slots P Q more (CritEdge a b) h = h
-lacks_slots P Q more (SSA v i) h = h
-lacks_slots P Q more (BB b) h = h
-lacks_slots P Q more (Branch i) h = h
-lacks_slots P Q more EntryLivein h = h
-lacks_slots P Q more (DisallowedBranchArg i) h = h
 lacks_slots P Q more TooManyLiveRegs h = tt
-lacks_slots P Q more TooManyOperands h = h
-lacks_slots P Q more (Unsupported i) h = h
 lacks_slots P Q more TooManySpillSlots h = more h
-lacks_slots P Q more Memory h = h
+lacks_slots P Q more e h = h
 
 -- an error for slots or memory alone is not `TooManyLiveRegs`
 pub no_register : (P : Type 0) (e : RegAllocError) → LacksSlots P e → e ≡ TooManyLiveRegs → ⊥

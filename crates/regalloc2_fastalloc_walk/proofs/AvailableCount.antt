@@ -1,5 +1,6 @@
 -- How many registers of a class are free at both positions, and which is left once one is taken.
-use Rattle.std.proofs.Common.{◌≡◌, Bool, true, false, length, refl, sym, ◌∙◌}
+use Rattle.regalloc2_parts.proofs.RegisterLaws.{same_answer}
+use Rattle.std.proofs.Common.{◌≡◌, true, false, length, refl, sym, ◌∙◌}
 use Rattle.std.specs.Prelude.{◌&&◌, ◌↔◌, not}
 use Rattle.std.proofs.Common.{inl, inr}
 use Rattle.std.proofs.lemmas.Bool.{and_parts, cases_Bool, and_from}
@@ -14,11 +15,6 @@ use Rattle.regalloc2_fastalloc_state.proofs.CountingLaws.{count_same}
 use Rattle.regalloc2_fastalloc_state.proofs.SetMembers.{members_of_class}
 use Rattle.regalloc2_semantics.proofs.Cells.{is_register-true}
 
-same_bool : (a b : Bool) → (a ≡ true → b ≡ true) → (b ≡ true → a ≡ true) → a ≡ b
-same_bool true b f g = sym (f refl)
-same_bool false true f g = g refl
-same_bool false false f g = refl
-
 -- the members of a set of free registers, met with that of a class
 pub free_counted : (set free own allocatable : PRegSet) (inst_regs : InstRegs) (class : RegClass) →
     ((r : Register) → has_register free r ≡ true → IsAvailableAt inst_regs both r) →
@@ -32,7 +28,7 @@ free_counted set free own allocatable inst_regs class into from split meet =
     (λ n lt. same (register_number class n) refl)
   where
     same : (r : Register) → r.class ≡ class → has_register set r ≡ is_free allocatable inst_regs r
-    same r of_class = same_bool (has_register set r) (is_free allocatable inst_regs r)
+    same r of_class = same_answer (has_register set r) (is_free allocatable inst_regs r)
         (λ h. let p = and_parts (has_register free r) (has_register own r) (sym (meet r) ∙ h) in let f = into r p.0 in
         and_from (has_register allocatable r) (is_free_throughout inst_regs r) ((split r).0 p.1).1
         (and_from (has_register inst_regs.early r) (has_register inst_regs.late r) (f.early refl) (f.late refl)))

@@ -16,6 +16,7 @@ use Rattle.regalloc2_fastalloc_state.specs.declared.inst_regs.InstRegs.{InstRegs
 use Rattle.regalloc2_fastalloc_walk.specs.declared.reserve_regs.ReservedRegs.{ReservedRegs}
 use Rattle.regalloc2_fastalloc_state.specs.InstRegs.{RemovesAvailable, awaited_of, is_free_throughout}
 use Rattle.regalloc2_fastalloc_state.proofs.ArraysByClass.{zeros}
+use Rattle.regalloc2_fastalloc_state.proofs.SetDifference.{swapped}
 use Rattle.regalloc2_validate.specs.Constraints.{op_at, no_operand}
 use Rattle.regalloc2_fastalloc_proofs.specs.InstSteps.{StateValue, NeedsFixedReg, own, named, IsFixedIn, ReservesRegs, asks, asking}
 use Rattle.regalloc2_fastalloc_proofs.specs.InstSteps.{EvictsFixed, none_cleared, not_fixed}
@@ -182,19 +183,7 @@ module _ (ops : List OperandValue) (k : ℕ) (t u w : InstRegs) (c d : ReservedR
       ]
 
   turned : (a b e f : Bool) → ((a && b) || (e && f)) ≡ ((b && a) || (f && e))
-  turned true true e f = refl
-  turned true false true true = refl
-  turned true false true false = refl
-  turned true false false true = refl
-  turned true false false false = refl
-  turned false true true true = refl
-  turned false true true false = refl
-  turned false true false true = refl
-  turned false true false false = refl
-  turned false false true true = refl
-  turned false false true false = refl
-  turned false false false true = refl
-  turned false false false false = refl
+  turned a b e f = rw (swapped a b, swapped e f) refl
 
   newest : (P : ℕ → Type 0) (j : ℕ) → j < k + 1 → (j < k → P j) → P k → P j
   newest P j lt f g = elim (cases_eq j k) [ inl e ↦ subst P (sym e) g | inr ne ↦ f (omega arith) ]

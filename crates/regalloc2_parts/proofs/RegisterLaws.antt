@@ -40,7 +40,7 @@ is_register-true a b e =
     let h = both (nat_eq (class_code a.class) (class_code b.class)) (nat_eq a.number b.number) e in
     named a b (class_codes a.class b.class (eqb-true _ _ h.0)) (eqb-true _ _ h.1)
 
-same_answer : (a b : Bool) → (a ≡ true → b ≡ true) → (b ≡ true → a ≡ true) → a ≡ b
+pub same_answer : (a b : Bool) → (a ≡ true → b ≡ true) → (b ≡ true → a ≡ true) → a ≡ b
 same_answer true b f g = sym (f refl)
 same_answer false true f g = g refl
 same_answer false false f g = refl

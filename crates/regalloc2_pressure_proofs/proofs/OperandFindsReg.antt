@@ -34,12 +34,10 @@ plain_at env (InSlot n) h = absurd h
 
 -- the constraint of an operand that asks for any register, and is no reuse
 asks_reg : (c : OperandConstraint) → ((n : ℕ) → c ≡ Reuse n → ⊥) → ((n : ℕ) → c ≡ Limit n → ⊥) → requirement_of c ≡ AnyReg → is_under_reg c ≡ true
-asks_reg Any r l e = absurd cc
 asks_reg Reg r l e = refl
-asks_reg Stack r l e = absurd cc
-asks_reg (FixedReg q) r l e = absurd cc
 asks_reg (Reuse n) r l e = absurd (r n refl)
 asks_reg (Limit n) r l e = absurd (l n refl)
+asks_reg c r l e = absurd cc
 
 -- an operand that waits is told by the constraint
 not_under : (c d : OperandConstraint) → c ≡ d → is_under_reg d ≡ false → is_under_reg c ≡ false

@@ -2,9 +2,9 @@
 use Rattle.regalloc2_semantics.proofs.Forms.{same_register}
 use Rattle.std.proofs.Common.{ℕ, zero, suc, ◌≡◌, ◌≢◌, ◌+◌, ◌<◌, ◌≤◌, ◌⊎◌, inl, inr, Bool, true, false, List, ◌∷◌, ◌++◌, length, refl, arith, sym}
 use Rattle.std.proofs.Common.{ap, ◌∙◌, subst, length-append, eqb-true}
-use Rattle.std.specs.Prelude.{Some, All, Contains, slice_index_or, not, ◌&&◌}
+use Rattle.std.specs.Prelude.{Some, All, Contains, slice_index_or}
 use Rattle.std.specs.List.{IsDistinct}
-use Rattle.std.proofs.lemmas.Bool.{cases_Bool}
+use Rattle.std.proofs.lemmas.Bool.{cases_Bool, and_right}
 use Rattle.std.proofs.lemmas.List.Elements.{All-cons, Contains-append_cases, Contains-append_right, Contains-get_or, recursion_from_All}
 use Rattle.std.proofs.lemmas.Map.Keys.{IsDistinct-cons}
 use Rattle.regalloc2_names.specs.declared.RegClass.{RegClass}
@@ -36,14 +36,9 @@ use Rattle.regalloc2_unspilled_proofs.specs.SpillFree.{FitInRegs, IsSpillFree, I
 -- two register classes are the same, or they aren't
 pub cases_class : (a b : RegClass) → (a ≡ b) ⊎ (a ≢ b)
 cases_class Int Int = inl refl
-cases_class Int Float = inr (λ e. cc)
-cases_class Int Vector = inr (λ e. cc)
-cases_class Float Int = inr (λ e. cc)
 cases_class Float Float = inl refl
-cases_class Float Vector = inr (λ e. cc)
-cases_class Vector Int = inr (λ e. cc)
-cases_class Vector Float = inr (λ e. cc)
 cases_class Vector Vector = inl refl
+cases_class a b = inr (λ e. cc)
 
 -- vregs that are equal as options are equal
 pub some_same : (v w : VirtualRegister) → Some v ≡ Some w → v ≡ w
@@ -67,13 +62,7 @@ pub record Taken (names : List VirtualRegister) (gone : ℕ → Bool) (n : ℕ) 
 -- other registers stay free
 pub free_others : (t u : InstRegs) (r : Register) (p : Positions) → RemovesAvailable t u r p → (q : Register) → is_register r q ≡ false →
     is_free_throughout t q ≡ true → is_free_throughout u q ≡ true
-free_others t u r p h q e f = rw (h.early q, h.late q, e) (by p.early p.late (has_register t.early q) (has_register t.late q) f)
-  where
-    by : (a b c d : Bool) → (c && d) ≡ true → ((not (a && false) && c) && (not (b && false) && d)) ≡ true
-    by true true c d f = f
-    by true false c d f = f
-    by false true c d f = f
-    by false false c d f = f
+free_others t u r p h q e f = rw (h.early q, h.late q, e, and_right p.early false refl, and_right p.late false refl) f
 
 -- of another class nothing changes
 taken_elsewhere : (names : List VirtualRegister) (gone : ℕ → Bool) (n : ℕ) (r : Register) (class : RegClass) (old new : List Register) (t : StateValue)

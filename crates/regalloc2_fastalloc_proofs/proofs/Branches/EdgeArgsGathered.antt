@@ -38,14 +38,9 @@ is_class-same Vector = refl
 pub is_class-true : (c d : RegClass) → is_class c d ≡ true → d ≡ c
 unfolding is_class
 is_class-true Int Int h = refl
-is_class-true Int Float h = absurd cc
-is_class-true Int Vector h = absurd cc
-is_class-true Float Int h = absurd cc
 is_class-true Float Float h = refl
-is_class-true Float Vector h = absurd cc
-is_class-true Vector Int h = absurd cc
-is_class-true Vector Float h = absurd cc
 is_class-true Vector Vector h = refl
+is_class-true c d h = absurd cc
 
 -- one in front, or not
 in_first : {X : Type 0} → (b : Bool) (x : X) (xs : List X) → b ≡ true → Contains (cond b (x ∷ xs) xs) x

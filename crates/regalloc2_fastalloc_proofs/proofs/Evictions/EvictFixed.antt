@@ -1,9 +1,9 @@
 -- Fixed registers are emptied and claimed, before operands are allocated.
 -- The fold in `Changes` doesn't fit: what the listing carries, or the operands' record, differs from step to step.
-use Rattle.std.proofs.Common.{ℕ, ◌≡◌, ◌≢◌, ◌+◌, ◌<◌, ◌≤◌, Bool, true, false, cond, List, length, refl, arith, sym, ap, ◌∙◌, subst, inl, inr, ◌⊎◌}
-use Rattle.std.proofs.Common.{⊎_elim, nat_eq, eq-eqb}
+use Rattle.std.proofs.Common.{ℕ, ◌≡◌, ◌≢◌, ◌+◌, ◌<◌, ◌≤◌, Bool, true, false, List, length, refl, arith, sym, ap, ◌∙◌, subst, inl, inr, ◌⊎◌}
+use Rattle.std.proofs.Common.{⊎_elim}
 use Rattle.std.specs.Prelude.{None, Some, not, ◌&&◌, ◌||◌, slice_index_or}
-use Rattle.std.proofs.lemmas.Bool.{cases_Bool, cases_eq, ne_eqb, or_right}
+use Rattle.std.proofs.lemmas.Bool.{cases_Bool, cases_eq}
 use Rattle.regalloc2_names.specs.declared.RegClass.{RegClass}
 use Rattle.regalloc2_names.specs.declared.OperandConstraint.TheVariants.{FixedReg, Reuse}
 use Rattle.regalloc2_names.specs.Register.{Register, VirtualRegister, class_code}
@@ -34,26 +34,23 @@ use Rattle.regalloc2_fastalloc_proofs.proofs.Evictions.EvictVReg.{kept_used}
 use Rattle.regalloc2_fastalloc_proofs.proofs.Operands.RecordOfInst.{ready_used}
 use Rattle.regalloc2_fastalloc_proofs.proofs.Safety.OperandAssumptions.{defines_or_reads}
 use Rattle.regalloc2_fastalloc_proofs.proofs.Operands.AllocsSoFar.{reads_allocated}
+use Rattle.regalloc2_fastalloc_proofs.proofs.Operands.AllocOperand.{set_at, and_one, puts_one}
 
 -- operands that hold no position together may be in one place
 share_apart : (a b : ℕ) (d l e k : Bool) → (((not d || not l) && (not e || not k)) || ((d || l) && (e || k))) ≡ false →
     Share (record { number = a; is_def = d; is_late = l }) (record { number = b; is_def = e; is_late = k })
 share_apart a b true true false false h = written_after refl refl refl refl
 share_apart a b false false true true h = read_first refl refl refl refl
-share_apart a b true true true true h = absurd cc
-share_apart a b true true true false h = absurd cc
+share_apart a b true true true k h = absurd cc
 share_apart a b true true false true h = absurd cc
 share_apart a b true false true true h = absurd cc
 share_apart a b true false true false h = absurd cc
-share_apart a b true false false true h = absurd cc
-share_apart a b true false false false h = absurd cc
+share_apart a b true false false k h = absurd cc
 share_apart a b false true true true h = absurd cc
 share_apart a b false true true false h = absurd cc
-share_apart a b false true false true h = absurd cc
-share_apart a b false true false false h = absurd cc
+share_apart a b false true false k h = absurd cc
 share_apart a b false false true false h = absurd cc
-share_apart a b false false false true h = absurd cc
-share_apart a b false false false false h = absurd cc
+share_apart a b false false false k h = absurd cc
 
 -- what an operand claims before it is placed, it claims at its positions
 abbrev positions_by : Bool → Bool → Positions
@@ -70,25 +67,6 @@ pub claims_at : (ops : List OperandValue) (j : ℕ) (r : Register) (p : Position
 claims_at ops j r p o lt (of_its_own able fixed e) = e
 claims_at ops j r p o lt (of_named m reuse within fixed e) = let x = o.late_reuse j m lt reuse in e
     ∙ late_positions (is_def (op_at ops j).kind) (is_late (op_at ops j).position) x.0 x.1
-
--- one more operand claims
-abbrev pub put_at : (ℕ → Place) → ℕ → Place → ℕ → Place
-put_at here k p = λ j. cond (nat_eq j k) p (here j)
-
--- operand k is marked, beside those that were
-abbrev pub and_one : (ℕ → Bool) → ℕ → ℕ → Bool
-and_one claimed k = λ j. nat_eq j k || claimed j
-
--- operand k, which had claimed nothing, claims its place; the others have the places and claims that they had
-pub puts_one : (here : ℕ → Place) (claimed : ℕ → Bool) (k : ℕ) (p : Place) → claimed k ≡ false → Puts here (put_at here k p) claimed (and_one claimed k) k p
-puts_one here claimed k p fresh = record {
-  fresh = fresh;
-  at_k = ap (λ b. cond b p (here k)) (eq-eqb k k refl);
-  at_j = λ j n. ap (λ b. cond b p (here j)) (ne_eqb j k n);
-  grows = λ j c. elim (cases_eq j k) [ inl e ↦ inl e | inr n ↦ inr (ap (λ b. b || claimed j) (sym (ne_eqb j k n)) ∙ c) ];
-  keeps = λ j c. or_right (nat_eq j k) (claimed j) c;
-  claims = ap (λ b. b || claimed k) (eq-eqb k k refl);
-}
 
 -- scratch registers that are taken were available in b
 abbrev pub WereFree : InstRegs → InstRegs → Type 0
@@ -278,7 +256,7 @@ module _ (tail : BlockTail) where
       ((j : ℕ) (q : Register) → (op_at ops k).constraint ≡ Reuse j → (op_at ops j).constraint ≡ FixedReg q → r ≡ q) →
       FixedUpTo ops lived ret b old (k + 1) w t
   claim_one ops lived ret b old k r u w m t o s takes counts x ready kept less free alone is_fixed is_named =
-      let there : ℕ → Place = put_at x.here k (InRegister r) in
+      let there : ℕ → Place = set_at x.here k (InRegister r) in
       let claimed2 : ℕ → Bool = and_one x.claimed k in
       let fresh : x.claimed k ≡ false = ⊎_elim (λ (c : x.claimed k ≡ true). let y = x.took k c in let lt : k < k = y.0 in absurd (omega arith))
       (λ (c : x.claimed k ≡ false). c) (cases_Bool (x.claimed k)) in

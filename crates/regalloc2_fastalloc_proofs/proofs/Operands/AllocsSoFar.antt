@@ -77,12 +77,9 @@ reads_allocated o h = not-true (is_fixed_nonallocatable o) (and_parts (not (is_d
 -- an answer meets the constraint
 pub answer_meets : (env : MachineValue) (c : OperandConstraint) (p : Place) → ((n : ℕ) → c ≡ Reuse n → ⊥) → ((n : ℕ) → c ≡ Limit n → ⊥) →
     IsAnswer env (requirement_of c) p → MeetsAlone env c p
-answer_meets env Any p r l h = h
-answer_meets env Reg p r l h = h
-answer_meets env Stack p r l h = h
-answer_meets env (FixedReg q) p r l h = h
 answer_meets env (Reuse n) p r l h = absurd (r n refl)
 answer_meets env (Limit n) p r l h = absurd (l n refl)
+answer_meets env c p r l h = h
 
 plain_in_register : (env : MachineValue) (p : Place) → IsPlainRegister env p → IsInRegister p
 plain_in_register env NoPlace h = h
@@ -112,21 +109,13 @@ fixed_meets env c r e = subst (λ x. MeetsAlone env x (InRegister r)) (sym e) re
 
 -- an operand that asks for a register by name is fixed to it
 pub asked_fixed : (c : OperandConstraint) (r : Register) → requirement_of c ≡ InPReg r → c ≡ FixedReg r
-asked_fixed Any r h = absurd cc
-asked_fixed Reg r h = absurd cc
-asked_fixed Stack r h = absurd cc
 asked_fixed (FixedReg q) r h = (let x : InPReg q ≡ InPReg r = h in let same : q ≡ r = cc in ap FixedReg same)
-asked_fixed (Reuse n) r h = absurd cc
-asked_fixed (Limit n) r h = absurd cc
+asked_fixed c r h = absurd cc
 
 -- where a reuse requires one preg, the operand that it names is fixed to that preg
 pub asked_as_fixed : (c : OperandConstraint) (r : Register) → reuse_requirement_of c ≡ InPReg r → c ≡ FixedReg r
-asked_as_fixed Any r h = absurd cc
-asked_as_fixed Reg r h = absurd cc
-asked_as_fixed Stack r h = absurd cc
 asked_as_fixed (FixedReg q) r h = (let x : InPReg q ≡ InPReg r = h in let same : q ≡ r = cc in ap FixedReg same)
-asked_as_fixed (Reuse n) r h = absurd cc
-asked_as_fixed (Limit n) r h = absurd cc
+asked_as_fixed c r h = absurd cc
 
 -- the preg to which an operand may be fixed is of the operand's class
 pub fixed_class : (class : RegClass) (c : OperandConstraint) (r : Register) → IsConstraintOf class c → c ≡ FixedReg r → r.class ≡ class

@@ -2,7 +2,7 @@
 -- The fold in `Changes` doesn't fit: what the listing carries, or the operands' record, differs from step to step.
 use Rattle.std.proofs.Common.{ℕ, ◌≡◌, ◌≢◌, Bool, true, false, List, refl, sym, ap, ◌∙◌, subst, inl, inr, ◌⊎◌, ⊎_elim}
 use Rattle.std.specs.Prelude.{None, Some, not, ◌&&◌}
-use Rattle.std.proofs.lemmas.Bool.{cases_Bool, cases_eq}
+use Rattle.std.proofs.lemmas.Bool.{cases_Bool, cases_eq, and_parts, not-true}
 use Rattle.regalloc2_names.specs.Register.{Register, VirtualRegister}
 use Rattle.regalloc2_names.specs.RegisterSet.{has_register}
 use Rattle.regalloc2_names.specs.Operand.{OperandValue}
@@ -28,17 +28,12 @@ use Rattle.regalloc2_fastalloc_proofs.proofs.Evictions.EvictKeepsRecord.{Nothing
 use Rattle.regalloc2_fastalloc_proofs.proofs.Moves.MoveAfterInst.{Steady, Sent, Moves, ready_of, cross_step}
 use Rattle.regalloc2_fastalloc_proofs.proofs.Operands.BlockTail.{BlockTail}
 
-another_parts : (a b : Bool) → (not a && not b) ≡ true → (a ≡ false) × (b ≡ false)
-another_parts true b e = absurd cc
-another_parts false true e = absurd cc
-another_parts false false e = (refl, refl)
-
 -- a place that is there and isn't the other, and one that isn't
 pub another_is : (p q : Place) → is_another p q ≡ true → (p ≢ NoPlace) × (p ≢ q)
 another_is p q e =
-    let x = another_parts (is_place p NoPlace) (is_place p q) e in (
-      (λ a. let y : is_place p NoPlace ≡ true = ap (λ z. is_place z NoPlace) a in let w = x.0 in cc),
-      (λ a. let y : is_place p q ≡ true = ap (λ z. is_place z q) a ∙ is_place-same q in let w = x.1 in cc),
+    let x = and_parts (not (is_place p NoPlace)) (not (is_place p q)) e in (
+      (λ a. let y : is_place p NoPlace ≡ true = ap (λ z. is_place z NoPlace) a in let w = not-true (is_place p NoPlace) x.0 in cc),
+      (λ a. let y : is_place p q ≡ true = ap (λ z. is_place z q) a ∙ is_place-same q in let w = not-true (is_place p q) x.1 in cc),
     )
 
 -- a place that doesn't count as another one than q is none, or q itself

@@ -1,8 +1,9 @@
 -- The operands of an instruction, as they are placed.
 use Rattle.std.proofs.Common.{ℕ, ◌≡◌, ◌<◌, Bool, true, false, List, length, refl, sym, ap, ◌∙◌, subst, slice_index_or}
 use Rattle.std.specs.Prelude.{None, Some, ◌&&◌, not, nat_eq, if◌then◌else◌, slice_set}
+use Rattle.std.proofs.lemmas.Bool.{and_right}
 use Rattle.regalloc2_names.specs.declared.OperandConstraint.{OperandConstraint}
-use Rattle.regalloc2_names.specs.declared.OperandConstraint.TheVariants.{Any, Reg, Stack, FixedReg, Reuse, Limit}
+use Rattle.regalloc2_names.specs.declared.OperandConstraint.TheVariants.{FixedReg, Reuse}
 use Rattle.regalloc2_names.specs.Register.{Register, VirtualRegister}
 use Rattle.regalloc2_names.specs.Place.{Place, NoPlace, InRegister, InSlot}
 use Rattle.regalloc2_names.specs.Operand.{OperandValue, fixed_register, nonallocatable_register, is_def, is_fixed, is_fixed_nonallocatable, is_reading}
@@ -15,27 +16,13 @@ use Rattle.regalloc2_fastalloc_proofs.specs.InstSteps.{ProcessesOperand, a_regis
 
 -- an operand that names a register and no vreg
 marked : (b : Bool) (k : OperandConstraint) (r : Register) → (if b then fixed_register k else None) ≡ Some r → ((is_fixed k && b) ≡ true) × (k ≡ FixedReg r)
-marked true Any r e = absurd cc
-marked true Reg r e = absurd cc
-marked true Stack r e = absurd cc
 marked true (FixedReg q) r e = let same : q ≡ r = cc in (refl, ap FixedReg same)
-marked true (Reuse n) r e = absurd cc
-marked true (Limit n) r e = absurd cc
-marked false k r e = absurd cc
+marked b k r e = absurd cc
 
 unmarked : (b : Bool) (k : OperandConstraint) → (if b then fixed_register k else None) ≡ None → (is_fixed k && b) ≡ false
-unmarked true Any e = refl
-unmarked true Reg e = refl
-unmarked true Stack e = refl
 unmarked true (FixedReg q) e = absurd cc
-unmarked true (Reuse n) e = refl
-unmarked true (Limit n) e = refl
-unmarked false Any e = refl
-unmarked false Reg e = refl
-unmarked false Stack e = refl
-unmarked false (FixedReg q) e = refl
-unmarked false (Reuse n) e = refl
-unmarked false (Limit n) e = refl
+unmarked true k e = refl
+unmarked false k e = and_right (is_fixed k) false refl
 
 -- an operand that names no nonallocatable register isn't fixed to one
 pub is_unmarked : (o : OperandValue) → nonallocatable_register o ≡ None → is_fixed_nonallocatable o ≡ false

@@ -4,7 +4,7 @@ use Rattle.std.specs.Prelude.{slice_index_or, slice_set}
 use Rattle.std.proofs.lemmas.Bool.{cases_Bool, cases_eq, both_ways}
 use Rattle.std.proofs.lemmas.List.{get_or-set_same, get_or-set_other, length-set}
 use Rattle.regalloc2_names.specs.declared.OperandConstraint.TheVariants.{FixedReg, Reuse}
-use Rattle.regalloc2_names.specs.Register.{Register}
+use Rattle.regalloc2_names.specs.Register.{Register, VirtualRegister}
 use Rattle.regalloc2_names.specs.Operand.{OperandValue, is_def, is_late, is_reading, is_fixed_nonallocatable}
 use Rattle.regalloc2_names.specs.Place.{Place, NoPlace, InRegister, InSlot}
 use Rattle.regalloc2_names.specs.Point.{after}
@@ -22,6 +22,7 @@ use Rattle.regalloc2_fastalloc_proofs.proofs.Operands.AllocOperand.{and_one_keep
 use Rattle.regalloc2_fastalloc_proofs.proofs.Operands.RecordAfterOperand.{use_step, def_step, made_one, makes_one}
 use Rattle.regalloc2_fastalloc_proofs.proofs.Operands.RecordOfInst.{LayingContext}
 use Rattle.regalloc2_fastalloc_proofs.proofs.Operands.AllocsSoFar.{asked_fixed, reads_allocated}
+use Rattle.regalloc2_fastalloc_proofs.proofs.Operands.OperandRules.{use_vreg}
 
 -- an operand that was allocated
 pub turned_next : (ops : List OperandValue) (late : Bool) (k j : ℕ) → Turned ops late k j → Turned ops late (k + 1) j
@@ -72,9 +73,7 @@ skipped ops false k j e other t = ⊎_elim
 
 -- a use as it is allocated
 pub use_number : (o : OperandValue) (q : Place) → (use_request o q).vreg.number ≡ o.vreg.number
-use_number o NoPlace = refl
-use_number o (InRegister r) = refl
-use_number o (InSlot m) = refl
+use_number o q = ap (λ (v : VirtualRegister). v.number) (use_vreg o q)
 
 use_covers : (ops : List OperandValue) (k : ℕ) (q : Place) → Covers (what_of ops k) (use_request (op_at ops k) q).positions.early
     (use_request (op_at ops k) q).positions.late

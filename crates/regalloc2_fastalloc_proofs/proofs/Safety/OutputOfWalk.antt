@@ -196,13 +196,8 @@ slots_below f env Known May t o m = subst (AreBelow t.slots) (sym m.count) m.kep
 
 -- the register of an operand that names no virtual register
 names_register : (b : Bool) (c : OperandConstraint) (r : Register) → cond b (fixed_register c) None ≡ Some r → c ≡ FixedReg r
-names_register true Any r e = absurd cc
-names_register true Reg r e = absurd cc
-names_register true Stack r e = absurd cc
 names_register true (FixedReg q) r e = (let same : q ≡ r = cc in ap FixedReg same)
-names_register true (Reuse n) r e = absurd cc
-names_register true (Limit n) r e = absurd cc
-names_register false c r e = absurd cc
+names_register b c r e = absurd cc
 
 -- in an output made of the final state operands, moves and debug locations have proper places
 pub made_proper : (f : FunctionValue) (env : MachineValue) (Known : VirtualRegister → Type 0) (May : ℕ → Type 0) (t : StateValue) (o : OutputValue) →

@@ -5,7 +5,7 @@ use Rattle.std.proofs.lemmas.List.{get_or-map}
 use Rattle.std.proofs.lemmas.List.Elements.{All-get_or}
 use Rattle.regalloc2_names.specs.declared.RegClass.{RegClass}
 use Rattle.regalloc2_names.specs.declared.OperandConstraint.{OperandConstraint}
-use Rattle.regalloc2_names.specs.declared.OperandConstraint.TheVariants.{Any, Reg, Stack, FixedReg, Reuse, Limit}
+use Rattle.regalloc2_names.specs.declared.OperandConstraint.TheVariants.{FixedReg}
 use Rattle.regalloc2_names.specs.Register.{Register, VirtualRegister}
 use Rattle.regalloc2_names.specs.Operand.{OperandValue, is_def, fixed_register}
 use Rattle.regalloc2_names.specs.Packing.{IsConstraintOf}
@@ -79,12 +79,8 @@ made_alike env f ok b k j lt edge within =
 
 -- a fixed register is of its operand's class
 fixed_class : (c : OperandConstraint) (class : RegClass) (r : Register) → IsConstraintOf class c → fixed_register c ≡ Some r → r.class ≡ class
-fixed_class Any class r of is = cc
-fixed_class Reg class r of is = cc
-fixed_class Stack class r of is = cc
 fixed_class (FixedReg g) class r of is = (let same : g ≡ r = cc in subst (λ (x : Register). x.class ≡ class) same of.1)
-fixed_class (Reuse n) class r of is = cc
-fixed_class (Limit n) class r of is = cc
+fixed_class c class r of is = cc
 
 -- what the operand j of the branch at the end of the block e defines is of v's class, and so is the register that it is fixed to
 pub record IsOfClass (f : FunctionValue) (e j : ℕ) (v : VirtualRegister) : Type 0 where
@@ -155,9 +151,5 @@ stored_alike {env} {f} limited ok taken {blank} {places} {old} {t} machine walks
         (omega (arith, some)))
 
     small : (x : OperandConstraint) (r : Register) → IsConstraintOf (op_at (branch_operands f e) j).vreg.class x → fixed_register x ≡ Some r → r.number < 64
-    small Any r of is = cc
-    small Reg r of is = cc
-    small Stack r of is = cc
     small (FixedReg g) r of is = (let same : g ≡ r = cc in subst (λ (y : Register). y.number < 64) same of.0)
-    small (Reuse n) r of is = cc
-    small (Limit n) r of is = cc
+    small x r of is = cc

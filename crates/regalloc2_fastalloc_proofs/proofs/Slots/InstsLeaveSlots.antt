@@ -23,9 +23,9 @@ use Rattle.regalloc2_fastalloc_proofs.proofs.Operands.DefinedNumbers.{defined_by
 use Rattle.regalloc2_fastalloc_proofs.proofs.Walk.InstsCarry.{AreListed}
 use Rattle.regalloc2_fastalloc_proofs.proofs.Safety.InstsKeepSafe.{HasGood, WritesAt, WritesFrom, place_of}
 use Rattle.regalloc2_fastalloc_proofs.proofs.Slots.InstLeavesOwnedSlot.{no_move_or, writes_allowed}
-use Rattle.regalloc2_fastalloc_proofs.proofs.Slots.StepsKeepSlots.{Grown, cases_none}
+use Rattle.regalloc2_fastalloc_proofs.proofs.Slots.StepsKeepSlots.{Grown, cases_none, AnyPlace}
 use Rattle.regalloc2_fastalloc_proofs.proofs.Safety.FunctionKeepsSafe.{no_branch_writes, none_written_behind}
-use Rattle.regalloc2_fastalloc_proofs.proofs.Walk.LastInstAndRest.{AnyPlace, KeepsSlots}
+use Rattle.regalloc2_fastalloc_proofs.proofs.Walk.LastInstAndRest.{KeepsSlots}
 use Rattle.regalloc2_fastalloc_proofs.proofs.Walk.FunctionLaws.{PlacedCode}
 
 -- What may be written to slots around an instruction: before it where it reads a vreg in its slot, and after it where it defines the vreg.

@@ -2,7 +2,7 @@
 use Rattle.std.proofs.Common.{ℕ, ◌≡◌, ◌<◌, ⊎_elim, Bool, true, false, ◌&&◌, length, ap, ◌∙◌, subst}
 use Rattle.std.proofs.lemmas.Bool.{cases_Bool}
 use Rattle.regalloc2_names.specs.declared.OperandConstraint.{OperandConstraint}
-use Rattle.regalloc2_names.specs.declared.OperandConstraint.TheVariants.{Any, Reg, Stack, FixedReg, Reuse, Limit}
+use Rattle.regalloc2_names.specs.declared.OperandConstraint.TheVariants.{FixedReg}
 use Rattle.regalloc2_names.specs.Register.{VirtualRegister}
 use Rattle.regalloc2_names.specs.Operand.{OperandValue, is_fixed, is_fixed_nonallocatable}
 use Rattle.regalloc2_names.specs.Place.{Place, InRegister, InSlot}
@@ -20,12 +20,8 @@ use Rattle.std.proofs.lemmas.List.{get_or_default}
 
 -- an operand that is fixed to a register has no slot
 fixed_no_slot : (env : MachineValue) (c : OperandConstraint) (b : Bool) (n : ℕ) → (is_fixed c && b) ≡ true → MeetsAlone env c (InSlot n) → ⊥
-fixed_no_slot env Any b n h m = absurd cc
-fixed_no_slot env Reg b n h m = absurd cc
-fixed_no_slot env Stack b n h m = absurd cc
 fixed_no_slot env (FixedReg r) b n h m = (let e : InSlot n ≡ InRegister r = m in cc)
-fixed_no_slot env (Reuse k) b n h m = absurd cc
-fixed_no_slot env (Limit k) b n h m = absurd cc
+fixed_no_slot env c b n h m = absurd cc
 
 -- an operand whose place is a slot stands for a vreg, and the slot is that vreg's own
 own_slot : (env : MachineValue) (s : SpillSlotsValue) (o : OperandValue) (p : Place) (n : ℕ) → IsGood env s o p → p ≡ InSlot n →

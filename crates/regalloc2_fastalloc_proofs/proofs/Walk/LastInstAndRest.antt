@@ -18,16 +18,12 @@ use Rattle.regalloc2_fastalloc_proofs.proofs.Operands.RecordOverState.{slots_at,
 use Rattle.regalloc2_fastalloc_proofs.proofs.Operands.DefinedNumbers.{defined_by}
 use Rattle.regalloc2_fastalloc_proofs.proofs.Walk.InstsCarry.{AreListed}
 use Rattle.regalloc2_fastalloc_proofs.proofs.Safety.InstsKeepSafe.{later_same}
-use Rattle.regalloc2_fastalloc_proofs.proofs.Slots.StepsKeepSlots.{Grown, grown_then, changes_grow}
+use Rattle.regalloc2_fastalloc_proofs.proofs.Slots.StepsKeepSlots.{Grown, grown_then, changes_grow, AnyPlace}
 use Rattle.regalloc2_fastalloc_proofs.proofs.Walk.InstForOneVReg.{Leaves}
 use Rattle.regalloc2_fastalloc_proofs.proofs.Walk.InstsBeforeLastCarry.{Goes, stopped, one_more}
 use Rattle.regalloc2_fastalloc_proofs.proofs.Walk.FunctionLaws.{PlacedCode}
 use Rattle.regalloc2_fastalloc_proofs.proofs.Safety.BlocksKeepSafe.{block_start}
 use Rattle.regalloc2_fastalloc_proofs.proofs.Changes.WalkChanges.{in_changes, any_inst}
-
--- any point
-abbrev pub AnyPlace : ℕ → Type 0
-AnyPlace p = Unit {0}
 
 -- The last instruction of a block, with the tables behind it and before it, and the instructions before it; the walk goes on from there to its end.
 pub record Split (f : FunctionValue) (placesf : ℕ → List Place) (L : ℕ → StateValue → StateValue → Type 0) (final : StateValue) (b last : ℕ) (old : StateValue)
