@@ -1,7 +1,7 @@
 //! Causes, and their words.
 
-use crate::stored::{ClassName, Counted, VRegName};
-use regalloc2_names::{PReg, RegClass, VReg};
+use crate::stored::{ClassName, Counted};
+use regalloc2_names::{PReg, RegClass, VReg, VRegText};
 use std::fmt;
 
 /// A part of a function.
@@ -271,8 +271,8 @@ fn write_of_ends<W: fmt::Write>(
             passed,
             wanted,
         } => {
-            let passed = VRegName(passed);
-            let wanted = VRegName(wanted);
+            let passed = VRegText(passed);
+            let wanted = VRegText(wanted);
             write!(
                 f,
                 "the argument {passed} for the parameter {wanted} of block{succ} is of another class"
@@ -302,27 +302,27 @@ fn write_of_vregs<W: fmt::Write>(
 ) -> Result<bool, fmt::Error> {
     match *cause {
         Cause::DefinedTwice { vreg } => {
-            let vreg = VRegName(vreg);
+            let vreg = VRegText(vreg);
             write!(f, "{vreg} is defined twice")?;
         }
         Cause::PastCount { vreg, count } => {
-            let vreg = VRegName(vreg);
+            let vreg = VRegText(vreg);
             write!(
                 f,
                 "{vreg} is defined, and only numbers below {count} may be"
             )?;
         }
         Cause::Undefined { vreg } => {
-            let vreg = VRegName(vreg);
+            let vreg = VRegText(vreg);
             write!(f, "{vreg} is used, and nothing defines it")?;
         }
         Cause::OtherClass { vreg, defined } => {
-            let vreg = VRegName(vreg);
-            let defined = VRegName(defined);
+            let vreg = VRegText(vreg);
+            let defined = VRegText(defined);
             write!(f, "{vreg} is used, and its number is defined as {defined}")?;
         }
         Cause::UsedEarly { vreg } => {
-            let vreg = VRegName(vreg);
+            let vreg = VRegText(vreg);
             write!(f, "{vreg} is used before its definition")?;
         }
         _ => return Ok(false),

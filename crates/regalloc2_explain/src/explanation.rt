@@ -5,10 +5,10 @@ use crate::pressure::{
     count_named, is_in_any, names_register, of_registers, register_index, spare,
 };
 use crate::source::Source;
-use crate::stored::{ClassName, VRegName, class_number, is_allocatable, operand_of, operands_at};
+use crate::stored::{ClassName, class_number, is_allocatable, operand_of, operands_at};
 use crate::{blocks, definitions, operands};
 use regalloc2_function::MachineMisfit;
-use regalloc2_names::{PReg, RegAllocError, RegClass};
+use regalloc2_names::{PReg, RegAllocError, RegClass, VRegText};
 use regalloc2_serialize::StoredFunction;
 use std::fmt;
 use std::io::{self, Write};
@@ -105,7 +105,7 @@ impl fmt::Display for InAny<'_> {
                 continue;
             }
             if let Some(operand) = operand_of(*bits) {
-                let vreg = VRegName(operand.vreg());
+                let vreg = VRegText(operand.vreg());
                 write!(f, "{before}{vreg}")?;
                 before = ", ";
             }

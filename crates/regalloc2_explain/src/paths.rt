@@ -1,8 +1,8 @@
 //! A path on which a virtual register is read before it is written.
 
 use crate::cause::Site;
-use crate::stored::{VRegName, arguments_of, list_of, operand_of, operands_at, range_of, vreg_of};
-use regalloc2_names::{OperandPos, VReg};
+use crate::stored::{arguments_of, list_of, operand_of, operands_at, range_of, vreg_of};
+use regalloc2_names::{OperandPos, VReg, VRegText};
 use regalloc2_serialize::StoredFunction;
 use std::alloc::{AllocError, Global};
 use std::collections::BTreeSet;
@@ -22,7 +22,7 @@ pub struct UnwrittenRead {
 /// As `v7i is read before it is written along block0, block2`.
 impl fmt::Display for UnwrittenRead {
     fn fmt<W: fmt::Write>(&self, f: &mut fmt::Formatter<W>) -> fmt::Result {
-        let vreg = VRegName(self.vreg);
+        let vreg = VRegText(self.vreg);
         write!(f, "{vreg} is read before it is written along ")?;
         for (k, block) in self.path.iter().enumerate() {
             let before = if k == 0 { "" } else { ", " };

@@ -102,21 +102,6 @@ impl fmt::Display for ClassName {
     }
 }
 
-/// A vreg with the letter of its class, as `v7i`.
-#[derive(Clone, Copy)]
-pub(crate) struct VRegName(pub VReg);
-
-impl fmt::Display for VRegName {
-    fn fmt<W: fmt::Write>(&self, f: &mut fmt::Formatter<W>) -> fmt::Result {
-        let vreg = self.0;
-        match vreg.class() {
-            RegClass::Int => write!(f, "{vreg}i"),
-            RegClass::Float => write!(f, "{vreg}f"),
-            RegClass::Vector => write!(f, "{vreg}v"),
-        }
-    }
-}
-
 /// A count with its noun, as `1 register` or `2 registers`.
 #[derive(Clone, Copy)]
 pub(crate) struct Counted(pub usize, pub &'static str);

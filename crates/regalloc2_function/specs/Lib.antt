@@ -18,5 +18,6 @@ pub mod Slots
 pub mod DebugPoints
 pub mod DebugPaths
 pub mod Stored
+pub mod FaultText
 pub mod Misfit
 pub mod SingleUnits

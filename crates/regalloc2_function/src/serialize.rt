@@ -29,9 +29,22 @@ pub enum StoredFault {
     Shape,
 }
 
+/// Says what is wrong, as `a word names nothing`.
 impl fmt::Display for StoredFault {
+    ghost use Rattle.std.specs.Prelude.{Some};
+    ghost use Rattle.regalloc2_function.specs.FaultText.{fault_reason};
+
+    ghost output = { λ e. Some (fault_reason e) };
+
     fn fmt<W: fmt::Write>(&self, f: &mut fmt::Formatter<W>) -> fmt::Result {
-        write!(f, "{self:?}")
+        match self {
+            Self::Lengths => write!(f, "lists by block or by class have different lengths"),
+            Self::Index => write!(f, "a block, a range or a label is out of range"),
+            Self::Bits => write!(f, "a word names nothing"),
+            Self::Limit => write!(f, "a limit is passed"),
+            Self::Memory => write!(f, "out of memory"),
+            Self::Shape => write!(f, "a value has another shape"),
+        }
     }
 }
 

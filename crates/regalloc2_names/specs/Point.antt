@@ -16,6 +16,10 @@ abbrev pub point_at : ℕ → InstPosition → ℕ
 point_at i Before = before i
 point_at i After = after i
 
+-- the numbers of instructions that have points are below it
+abbrev pub inst_limit : ℕ
+inst_limit = 1073741824
+
 -- the number of an invalid instruction, and the points before and after it
 abbrev pub invalid_inst : ℕ
 invalid_inst = 4294967295

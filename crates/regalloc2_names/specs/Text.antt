@@ -1,5 +1,5 @@
 -- The texts of names.
-use Rattle.std.specs.Prelude.{ℕ, zero, suc, ◌%◌, codes, List, [], ◌∷◌, ◌++◌, Option, None, Some}
+use Rattle.std.specs.Prelude.{ℕ, zero, suc, ◌%◌, codes, List, [], ◌∷◌, ◌++◌, nat_eq, if◌then◌else◌, Option, None, Some}
 use Rattle.std.specs.Fmt.{decimal}
 use Rattle.regalloc2_names.specs.declared.OperandConstraint.{OperandConstraint}
 use Rattle.regalloc2_names.specs.declared.OperandConstraint.TheVariants.{Any, Reg, Stack, FixedReg, Reuse, Limit}
@@ -32,6 +32,10 @@ register_text r = codes "p" ++ decimal r.number ++ class_letter r.class
 -- as v7
 abbrev pub vreg_text : VirtualRegister → List ℕ
 vreg_text v = codes "v" ++ decimal v.number
+
+-- a virtual register with its class, as v7i
+abbrev pub class_vreg_text : VirtualRegister → List ℕ
+class_vreg_text v = vreg_text v ++ class_letter v.class
 
 -- as stack5; the invalid slot has the greatest number
 abbrev pub slot_text : ℕ → List ℕ
@@ -104,22 +108,38 @@ position_ending After = codes "-post"
 abbrev pub point_debug_text : ℕ → List ℕ
 point_debug_text p = codes "progpoint" ++ decimal (inst_of_point p) ++ position_ending (position_of_point p)
 
-abbrev pub block_debug_text : ℕ → List ℕ
-block_debug_text b = codes "Block(" ++ decimal b ++ codes ")"
+-- where a definition or a use is; the greatest number stands for no instruction
+abbrev pub site_text : ℕ → List ℕ
+site_text i = if nat_eq i 4294967295 then codes "a block's parameter" else codes "inst" ++ decimal i
 
-abbrev pub inst_debug_text : ℕ → List ℕ
-inst_debug_text i = codes "Inst(" ++ decimal i ++ codes ")"
+-- what a refusal names: an edge, a virtual register with its site, a block, an instruction or nothing
+abbrev pub refusal_subject : RegAllocError → List ℕ
+refusal_subject (CritEdge a b) = codes "the edge from block" ++ decimal a ++ codes " to block" ++ decimal b
+refusal_subject (SSA v i) = class_vreg_text v ++ codes " at " ++ site_text i
+refusal_subject (BB b) = codes "block" ++ decimal b
+refusal_subject (Branch i) = codes "inst" ++ decimal i
+refusal_subject EntryLivein = []
+refusal_subject (DisallowedBranchArg i) = codes "inst" ++ decimal i
+refusal_subject TooManyLiveRegs = []
+refusal_subject TooManyOperands = []
+refusal_subject (Unsupported i) = codes "inst" ++ decimal i
+refusal_subject TooManySpillSlots = []
+refusal_subject Memory = []
 
--- as CritEdge(Block(0), Block(2))
+-- what is wrong with what a refusal names
+abbrev pub refusal_words : RegAllocError → List ℕ
+refusal_words (CritEdge a b) = codes " is critical"
+refusal_words (SSA v i) = codes " is defined again, past the count, or used too early"
+refusal_words (BB b) = codes " is out of range, or badly begun, ended or linked"
+refusal_words (Branch i) = codes " passes arguments that are not as the parameters"
+refusal_words EntryLivein = codes "the entry has parameters"
+refusal_words (DisallowedBranchArg i) = codes " has operands and leads to a block that is entered in several ways"
+refusal_words TooManyLiveRegs = codes "an instruction asks for more registers than there are"
+refusal_words TooManyOperands = codes "too many operands"
+refusal_words (Unsupported i) = codes " has an operand of a form that is not taken"
+refusal_words TooManySpillSlots = codes "a slot would end past the last unit"
+refusal_words Memory = codes "out of memory"
+
+-- as the edge from block0 to block2 is critical
 abbrev pub refusal_text : RegAllocError → List ℕ
-refusal_text (CritEdge a b) = codes "CritEdge(" ++ block_debug_text a ++ codes ", " ++ block_debug_text b ++ codes ")"
-refusal_text (SSA v i) = codes "SSA(" ++ vreg_debug_text v ++ codes ", " ++ inst_debug_text i ++ codes ")"
-refusal_text (BB b) = codes "BB(" ++ block_debug_text b ++ codes ")"
-refusal_text (Branch i) = codes "Branch(" ++ inst_debug_text i ++ codes ")"
-refusal_text EntryLivein = codes "EntryLivein"
-refusal_text (DisallowedBranchArg i) = codes "DisallowedBranchArg(" ++ inst_debug_text i ++ codes ")"
-refusal_text TooManyLiveRegs = codes "TooManyLiveRegs"
-refusal_text TooManyOperands = codes "TooManyOperands"
-refusal_text (Unsupported i) = codes "Unsupported(" ++ inst_debug_text i ++ codes ")"
-refusal_text TooManySpillSlots = codes "TooManySpillSlots"
-refusal_text Memory = codes "Memory"
+refusal_text e = refusal_subject e ++ refusal_words e

@@ -22,6 +22,7 @@ pub use places::{Allocation, SpillSlot};
 pub use points::ProgPoint;
 pub use registers::PReg;
 pub use sets::{PRegSet, PRegSetIter};
+pub use texts::VRegText;
 pub use virtual_registers::VReg;
 
 /// The class of a value and of the registers that may hold it. Classes have separate register files.

@@ -1,7 +1,7 @@
 //! Points before and after instructions.
 
 ghost use Rattle.std.specs.Prelude.{◌≡◌, ◌≢◌, ℕ, ◌+◌, ◌-◌, ◌<◌, ◌↔◌, IsTrue};
-ghost use Rattle.regalloc2_names.specs.Point.{IsPointNumber, after, before, inst_of_point, invalid_inst, invalid_point, point_at, position_of_point};
+ghost use Rattle.regalloc2_names.specs.Point.{IsPointNumber, after, before, inst_limit, inst_of_point, invalid_inst, invalid_point, point_at, position_of_point};
 
 use super::InstPosition;
 use regalloc2_index::Inst;
@@ -30,9 +30,9 @@ impl Model for ProgPoint {
 }
 
 impl ProgPoint {
-    /// The point at that position of that instruction, whose number is below 2^30 or that of `Inst::invalid()`.
+    /// The point at that position of that instruction, whose number is below `inst_limit`, 2^30, or that of `Inst::invalid()`.
     pub fn new(inst: Inst, pos: InstPosition) -> Self
-        requires { inst ≢ invalid_inst → inst < 1073741824 }
+        requires { inst ≢ invalid_inst → inst < inst_limit }
         ensures point { inst ≢ invalid_inst → result ≡ point_at inst pos }
         ensures invalid { inst ≡ invalid_inst → result ≡ invalid_point pos }
     {
@@ -44,7 +44,7 @@ impl ProgPoint {
 
     /// The point before that instruction.
     pub fn before(inst: Inst) -> Self
-        requires { inst ≢ invalid_inst → inst < 1073741824 }
+        requires { inst ≢ invalid_inst → inst < inst_limit }
         ensures point { inst ≢ invalid_inst → result ≡ before inst }
         ensures invalid { inst ≡ invalid_inst → result ≡ 4294967294 }
     {
@@ -54,7 +54,7 @@ impl ProgPoint {
     /// The point after that instruction.
     #[tactic(auto, using(crate::proofs::Words::odd_word))]
     pub fn after(inst: Inst) -> Self
-        requires { inst ≢ invalid_inst → inst < 1073741824 }
+        requires { inst ≢ invalid_inst → inst < inst_limit }
         ensures point { inst ≢ invalid_inst → result ≡ after inst }
         ensures invalid { inst ≡ invalid_inst → result ≡ 4294967295 }
     {
@@ -66,7 +66,7 @@ impl ProgPoint {
     /// The instruction of the point.
     pub fn inst(self) -> Inst
         ensures inst { result ≡ inst_of_point self }
-        ensures valid { result ≢ invalid_inst → result < 1073741824 }
+        ensures valid { result ≢ invalid_inst → result < inst_limit }
     {
         if self.bits < 1 << 31 {
             Inst(self.bits >> 1)

@@ -3,7 +3,7 @@
 ghost use Rattle.std.specs.Prelude.{Some, ◌≡◌};
 ghost use Rattle.regalloc2_names.specs.RegisterSet.{registers_of};
 ghost use Rattle.regalloc2_names.specs.Text.{class_letter, class_name, constraint_text, kind_text, operand_text, place_text, point_debug_text};
-ghost use Rattle.regalloc2_names.specs.Text.{register_debug_text, register_text, set_text, slot_text, vreg_debug_text, vreg_text};
+ghost use Rattle.regalloc2_names.specs.Text.{class_vreg_text, register_debug_text, register_text, set_text, slot_text, vreg_debug_text, vreg_text};
 
 use super::{
     Allocation, InstPosition, Operand, OperandConstraint, OperandKind, OperandPos, PReg, PRegSet,
@@ -52,6 +52,20 @@ impl fmt::Display for VReg {
     fn fmt<W: fmt::Write>(&self, f: &mut fmt::Formatter<W>) -> fmt::Result {
         let number = self.vreg();
         write!(f, "v{number}")
+    }
+}
+
+/// A virtual register with the letter of its class, as `v7i`.
+#[derive(Clone, Copy)]
+pub struct VRegText(pub VReg);
+
+impl fmt::Display for VRegText {
+    ghost output = { λ t. Some (class_vreg_text t.0) };
+
+    fn fmt<W: fmt::Write>(&self, f: &mut fmt::Formatter<W>) -> fmt::Result {
+        let vreg = self.0;
+        let class = class_letter(vreg.class());
+        write!(f, "{vreg}{class}")
     }
 }
 

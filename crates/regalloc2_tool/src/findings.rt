@@ -1,8 +1,7 @@
 //! What the checker finds, in words.
 
-use crate::names::VRegText;
 use regalloc2_checker::CheckerError;
-use regalloc2_names::{OperandConstraint, VReg};
+use regalloc2_names::{OperandConstraint, VReg, VRegText};
 use std::alloc::Allocator;
 use std::fmt;
 

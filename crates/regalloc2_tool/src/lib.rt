@@ -4,7 +4,6 @@
 pub mod findings;
 pub mod listing;
 mod moves;
-pub mod names;
 mod operands;
 mod places;
 pub mod refusal;

@@ -2,7 +2,7 @@
 
 ghost use Rattle.std.specs.Prelude.{◌≡◌, Some};
 ghost use Rattle.regalloc2_tool.specs.Fault.{fault_number};
-ghost use Rattle.regalloc2_tool.specs.Text.{fault_reason, fault_text};
+ghost use Rattle.regalloc2_tool.specs.Text.{fault_text};
 
 use regalloc2_function::StoredFault;
 use std::fmt;
@@ -21,20 +21,6 @@ pub fn number_of(fault: StoredFault) -> u8
     }
 }
 
-/// What a fault is, in words.
-fn reason_of(fault: StoredFault) -> &'static str
-    ensures { result.now ≡ fault_reason fault }
-{
-    match fault {
-        StoredFault::Lengths => "lists by block or by class have different lengths",
-        StoredFault::Index => "a block, a range or a label is out of range",
-        StoredFault::Bits => "a word names nothing",
-        StoredFault::Limit => "a limit is passed",
-        StoredFault::Memory => "out of memory",
-        StoredFault::Shape => "a value has another shape",
-    }
-}
-
 /// A fault of stored numbers with its number and its words, as `3: a word names nothing`.
 #[derive(Clone, Copy)]
 pub struct FaultText(pub StoredFault);
@@ -44,7 +30,7 @@ impl fmt::Display for FaultText {
 
     fn fmt<W: fmt::Write>(&self, f: &mut fmt::Formatter<W>) -> fmt::Result {
         let number = number_of(self.0);
-        let reason = reason_of(self.0);
+        let reason = self.0;
         write!(f, "{number}: {reason}")
     }
 }
