@@ -255,8 +255,9 @@ def check_mutants():
 
 def main():
     tree, findings, size = Tree(TOP), [], 0
-    pages = ["README.md", "SECURITY.md", "CHANGELOG.md"] + sorted(os.path.relpath(it, TOP) for it in glob.glob(f"{TOP}/docs/*.md"))
-    for page in [it for it in pages if os.path.exists(os.path.join(TOP, it))]:
+    pages = [it for it in ("README.md", "SECURITY.md", "CHANGELOG.md") if os.path.exists(os.path.join(TOP, it))]
+    pages += sorted(os.path.relpath(it, TOP) for it in glob.glob(f"{TOP}/docs/*.md"))
+    for page in pages:
         text = open(os.path.join(TOP, page), encoding="utf-8").read()
         size += len(text.encode())
         for line in lines_of(text):
