@@ -3,7 +3,7 @@
 
     python3 bench/measure.py [--upstream PATH] [--task allocate|test|check|reads|tested|tree] [--sizes 1000,10000] [--shapes real,switch] [--heap]
 
-It needs valgrind, and the program `regalloc2_bench` (`cd crates/regalloc2_bench && rt lib` builds it, as `rt ci` does). `--upstream` is the
+It needs valgrind, and the program `regalloc2_bench` (docs/BENCH.md says how to build it). `--upstream` is the
 path of a program that reads a stored function and runs upstream's allocator or checker on it: it is called as `PATH bench FILE TIMES`, with
 `--validate` for the task `test`, and as `PATH bench-check FILE TIMES` for the check, and does the work that many times. One time is the difference of two times and one, so that
 start-up and reading don't count. `--heap` gives the bytes that one allocation holds at most beside the function, as `heap.c` counts them, in place

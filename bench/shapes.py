@@ -1,8 +1,11 @@
 #!/usr/bin/env python3
 """shapes.py SHAPE N OUT [SEED]: writes a stored function of about N instructions to OUT.
 
-docs/BENCH.md says what each shape is. The same words give the same function. `real` is at random, from the seed: straight runs, forks,
-loops and small switches, as in compiled code for x86-64, in which a definition dominates its uses.
+The same arguments give the same function. Each is for a machine of 16 integer and 16 float registers, of which p0i to
+p8i and p0f to p7f are preferred, without a dedicated scratch register. A slot takes one unit for an integer and two
+for a float. The docstring of each shape below is its recipe, where n is N; docs/BENCH.md says what each is for, and
+counts by the instructions that a function has, which may be fewer than N: of 10,000 `params` has 6,254, `branch-ops`
+5,002 and `branch-defs-wide` 2,502.
 """
 import random, sys
 
@@ -117,6 +120,11 @@ class F:
 # ------------------------------------------------------------------- real
 
 class Real:
+    """`real`: randomly generated from the seed, like compiled code for x86-64. The function's arguments come in
+    fixed registers; then straight runs of instructions of several kinds with calls that clobber, forks, loops with
+    parameters and small switches, nested. A definition dominates its uses, and 4% of the vregs have a debug label.
+    """
+
     def __init__(self, n, seed):
         self.f, self.n, self.r = F(), n, random.Random(seed)
         self.vis = ([], [])          # visible vregs of class 0 and 1
@@ -343,6 +351,9 @@ class Real:
 # ------------------------------------------------------------ one pattern
 
 def straight_live(n, rev):
+    """`straight-live`: one block of n/2 definitions, integer and float in turn, all live; then each is used, in the
+    order of the definitions, so that each reload evicts. `straight-live-rev`: used in the reverse order.
+    """
     f = F()
     f.begin()
     vs = []
@@ -357,6 +368,9 @@ def straight_live(n, rev):
 
 
 def straight_any(n):
+    """One block of n/3 integer definitions; then 2n/3 instructions, of which the kth reads under `Any` the vregs k
+    and 7k + 3, modulo n/3.
+    """
     f = F()
     f.begin()
     vs = [f.new(0) for _ in range(n // 3)]
@@ -369,6 +383,9 @@ def straight_any(n):
 
 
 def live_through(n, nv, nb):
+    """`nv` vregs, live through a chain of `nb` blocks that each define and use one more, and then used.
+    `live-through` has n/5 vregs and n/5 blocks, `live-sqrt` 2 * sqrt(n) and n/4.
+    """
     f = F()
     f.begin()
     vs = [f.new(k & 1) for k in range(nv)]
@@ -389,6 +406,9 @@ def live_through(n, nv, nb):
 
 
 def params(n, how):
+    """`params`: a loop with n/4 parameters, passed on in a cycle. `params-swap`: swapped by pairs.
+    `params-one-swap`: one pair swapped, the others newly defined. `params-perm`: all newly defined.
+    """
     f = F()
     k = n // 4
     f.begin()
@@ -425,6 +445,7 @@ def params(n, how):
 
 
 def branch_ops(n):
+    """A branch that reads n/4 vregs under `Any` and passes them all to one block, which uses its parameters."""
     f = F()
     k = n // 4
     f.begin()
@@ -441,6 +462,7 @@ def branch_ops(n):
 
 
 def params_small(n, w=32):
+    """A chain of loops with 32 parameters each. Each turn passes them on in a cycle, two places further."""
     f = F()
     f.begin()
     vs = [f.new(k & 1) for k in range(w)]
@@ -468,6 +490,10 @@ def params_small(n, w=32):
 
 
 def clobbers(n):
+    """One block of 24 definitions, integer and float in turn; then instructions that define a new integer in p0i,
+    read an older integer in p7i and a float in p1f, and clobber all 31 other registers. The new integer replaces
+    the older one. The values are read in turn, each the fifth after the last. Then the 24 are used.
+    """
     f = F()
     f.begin()
     allr = list(range(16)) + [64 + i for i in range(16)]
@@ -488,6 +514,9 @@ def clobbers(n):
 
 
 def wide(n):
+    """One block of n/2 integer definitions, one instruction that reads them all under `Any`, and n/4 times a
+    definition and its use.
+    """
     f = F()
     f.begin()
     k = n // 2
@@ -504,6 +533,7 @@ def wide(n):
 
 
 def switch(n):
+    """A branch to n/3 blocks, each with a parameter, a use of it and a return."""
     f = F()
     f.begin()
     a = f.new()
@@ -519,6 +549,7 @@ def switch(n):
 
 
 def switch_merge(n):
+    """A branch to n/4 blocks that all branch to one block, with n/4 vregs live through and used there."""
     f = F()
     f.begin()
     k = n // 4
@@ -542,6 +573,10 @@ def switch_merge(n):
 
 
 def stack_moves(n):
+    """One block over eight fixed stack slots. n/4 times: a definition fixed to one of them in turn, a definition
+    under `Stack`, an instruction that reads the first under `Stack` and the second fixed to the next slot, and one
+    that reads the second under `Stack`.
+    """
     f = F()
     f.fixed_stack = list(range(32, 40))
     f.begin()
@@ -557,7 +592,9 @@ def stack_moves(n):
 
 
 def chain(n, backward=False):
-    """Blocks of a definition, its use and a branch, each going to the next by number or, backward, to the one before."""
+    """`chain`: n/3 blocks of a definition, its use and a branch, each going to the next by number. `chain-back`: to
+    the one before.
+    """
     f = F()
     k = max(2, n // 3)
     for b in range(k):
@@ -576,8 +613,8 @@ def chain(n, backward=False):
 def graph(succs, entries):
     """Blocks of a definition, a use of it and of the first block's vreg, and a branch, along a graph's edges.
 
-    Each edge of a block with several successors leads over a block of its own, so that no edge is critical. The first block branches to
-    the entries.
+    Each edge of a block with several successors leads over a block of its own, so that no edge is critical. The
+    first block branches to the entries.
     """
     f = F()
     succs = [entries] + [[s for s in to] for to in succs]
@@ -602,13 +639,13 @@ def graph(succs, entries):
 
 
 def traps(n):
-    """A chain of tests, each of which may go to one common block, as tests of bounds do."""
+    """A chain of n/5 tests, each of which may go to one common block, as tests of bounds do."""
     k = max(2, n // 5)
     return graph([[i + 1, k] for i in range(k - 1)] + [[k], []], [0])
 
 
 def rungs(n):
-    """Two chains with edges across both ways: irreducible."""
+    """Two chains of n/10 blocks with edges across both ways: irreducible."""
     k = max(2, n // 10)
     left = [([i + 1] if i + 1 < k else []) + [k + i * 7 % k] for i in range(k)]
     right = [([k + i + 1] if i + 1 < k else []) + [i * 5 % k] for i in range(k)]
@@ -616,13 +653,17 @@ def rungs(n):
 
 
 def two_ends(n):
-    """A chain walked both ways and entered at both ends: irreducible, and no block of it is above another one."""
+    """A chain of n/5 blocks, walked both ways and entered at both ends: irreducible, and no block of it dominates
+    another one.
+    """
     k = max(3, n // 5)
     return graph([[j for j in (i + 1, i - 1) if 0 <= j < k] for i in range(k)], [0, k - 1])
 
 
 def branch_defs(n, w=8):
-    """A chain of blocks; each branch defines what it passes to the next block's parameters."""
+    """A chain of n/2 blocks, each of which uses one of its parameters. Its branch defines eight integers under
+    `Any`, and passes them to the next block's eight parameters.
+    """
     f = F()
     f.begin()
     k = max(1, n // 2)
@@ -644,7 +685,9 @@ def branch_defs(n, w=8):
 
 
 def branch_defs_wide(n):
-    """One branch that defines all that it passes."""
+    """A branch that defines n/4 integers under `Any` and passes them all to one block, in which n/4 instructions
+    use the parameters.
+    """
     f = F()
     k = n // 4
     f.begin()

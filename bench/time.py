@@ -3,7 +3,7 @@
 
     python3 bench/time.py [--upstream PATH] [--task allocate|test|check] [--sizes 1000,10000] [--shapes real,clobbers] [--rounds 15]
 
-It needs a C compiler, and the program `regalloc2_bench` (`cd crates/regalloc2_bench && rt lib` builds it, as `rt ci` does). `--program`
+It needs a C compiler, and the program `regalloc2_bench` (docs/BENCH.md says how to build it). `--program`
 names another build of it, and may be given several times, to hold builds against each other. `--upstream` is called as `measure.py` says.
 
 A period is one whole time of the task, with what it frees: `clock.c` reads the clock whenever the program asks for a block of a size that each time

@@ -1,14 +1,14 @@
 #!/bin/sh
 # test.sh: builds and runs what `rt ci` doesn't: the static library, the C programs, the assembly that two programs print, the
-# programs on examples/, and the crate for cargo. `make test` calls it. The status is 0 only if nothing differs.
+# programs on examples/, the crate for cargo, and what the documents name. `make test` calls it. The status is 0 only if nothing differs.
 set -u
 here=$(cd "$(dirname "$0")" && pwd)
 top=$(dirname "$here")
 cc=${CC:-cc}
 
-for tool in "$cc" cargo rt; do
+for tool in "$cc" cargo python3 rt; do
     if ! command -v "$tool" >/dev/null; then
-        echo "make test needs a C compiler, cargo and rt, and finds no $tool"
+        echo "make test needs a C compiler, cargo, python3 and rt, and finds no $tool"
         exit 2
     fi
 done
@@ -72,6 +72,7 @@ transcript() {
 }
 
 mkdir "$made/bin"
+step "what the documents name is there, and their commands are run" python3 "$top/bench/check_docs.py"
 echo "If the libraries aren't proved yet, the first step proves them, which takes most of an hour on four cores."
 library=$top/crates/regalloc2_c/out/libregalloc2_c.a
 (cd "$top/crates/regalloc2_c" && step "the static library is built" rt lib) || exit 1

@@ -1,4 +1,4 @@
-//! For the comparison with upstream in docs/BENCH.md.
+//! For a comparison with upstream: its checker is given each output that is written, and its allocator each function.
 //!
 //!     compare write FOLDER COUNT PARTS   writes generated functions, and each with its output, as JSON
 //!     compare time PARTS SEED RUNS       writes a function to standard output, and to standard error what an allocation takes
