@@ -1,6 +1,6 @@
 -- Definitions for the entry points, and those of the crates below that contracts name: a client lists no other crate.
--- Read first: `Accepted`: the checker accepts what the allocator guarantees; `Allocated` and `Judged` are reasons of errors.
--- Depends on regalloc2_fastalloc (`Promise`, `ErrorReason`) and regalloc2_checker (`Report`); the `pub use` lines pass on the rest.
+-- Read first: `Accepted`: the checker accepts what the allocator guarantees; `Allocated` and `Judged`: errors.
+-- Depends on regalloc2_fastalloc (`Promise`, `ErrorReason`) and regalloc2_checker (`Report`).
 pub mod Accepted
 pub mod Judged
 pub mod Allocated

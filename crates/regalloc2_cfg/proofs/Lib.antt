@@ -1,4 +1,4 @@
--- The tests of blocks and definitions decide what they test, blocks are in a depth-first walk's order, a set is its members.
+-- The tests of blocks and definitions, the order of a depth-first walk, and sets of numbers are as defined.
 -- Read first: `Keeps` in `TableKeepsDefs`, what the table of definitions keeps.
 -- Depends on the specs, and on `WellFormed` and `Reasons` of regalloc2_function.
 -- Definitions and uses: `noted_once`, `usable_uses`, `taken_fault` and `unusable_fault` in `TableDecidesSSA`: the

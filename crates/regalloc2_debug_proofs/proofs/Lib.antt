@@ -1,6 +1,6 @@
 -- A debug location's place holds its vreg's value, on every path from a definition to each use.
--- Read first: `label_shown` in `DebugLocationsHoldValues`, then the two halves of `shown`: with a slot, and without one.
--- Depends on the walk in regalloc2_fastalloc_proofs (`Walk`, `Safety`, `Slots`), paths in regalloc2_semantics, and kept labels.
+-- Read first: `label_shown` in `DebugLocationsHoldValues`, then the halves of `shown`: with a slot, without one.
+-- Depends on regalloc2_fastalloc_proofs (`Walk`, `Safety`, `Slots`), regalloc2_semantics (paths), and kept labels.
 -- Main theorem: `label_shown` in `DebugLocationsHoldValues`: a kept label's place is proper, and holds the value. It
 -- is `shown` in `ShownPlaceHoldsValue`, which has two halves.
 -- With a slot: `left_slot_shows` in `SlotAfterWalk`. Read `IsKeptInSlot` in the specs, then `slot_shows` in

@@ -1,5 +1,5 @@
 -- What an output does with one vreg's spill slot, and the place that debug locations name for a vreg.
--- Read first: `IsKeptInSlot` in `SlotHoldsValue`; `SlotWrites` says which moves write the slot, `ShownPlace` names the place.
+-- Read first: `IsKeptInSlot` in `SlotHoldsValue`; then `SlotWrites`, the moves that write the slot, and `ShownPlace`.
 -- Depends on regalloc2_function (paths and debug points) and on the listings of regalloc2_semantics.
 pub mod SlotHoldsValue
 pub mod ShownPlace

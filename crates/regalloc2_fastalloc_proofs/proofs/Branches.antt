@@ -1,5 +1,5 @@
--- A branch passes its arguments: each is spilled to its slot, and then moved from there to its parameter's slot, all at once.
--- Read first: `branch_carries` in `BranchCarries`, the theorem for one vreg and any block with its premises spelled out.
+-- A branch passes its arguments: each is spilled to its slot, then all are moved at once to their parameters' slots.
+-- Read first: `branch_carries` in `BranchCarries`, the theorem for one vreg and any block, with its premises.
 -- Depends on `Operands`, `BlockEnd` and `Walk`, and on `SingleDef` and `Soundness` of regalloc2_semantics.
 -- Main theorem: `branches_carry` in `BranchInWalk`. In a well-formed function the last instruction of a block, if it
 -- is a branch, carries each used vreg to where it is wanted behind the block: in its own slot, or in the slot of a

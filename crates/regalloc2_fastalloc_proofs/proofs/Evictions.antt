@@ -1,5 +1,5 @@
--- Registers are evicted before an instruction gets them: their vregs go to their slots, and are reloaded after the instruction.
--- Read first: `evict_step` in `EvictVReg`, the eviction of an allocatable register, and `Kept` there: what no eviction changes.
+-- Registers that an instruction takes are evicted: their vregs go to their slots, and are reloaded after it.
+-- Read first: `evict_step` in `EvictVReg`, one allocatable register, and `Kept` there: what no eviction changes.
 -- Depends on `Operands` for the record of an instruction's operands, and on `Moves` for scratch registers.
 -- Main theorem: `ready_clears` in `EvictKeepsRecord` (`ready_clears_but`, where the operand's own vreg may stay): an
 -- eviction keeps the record of the instruction's operands, so the listing still carries each vreg from its location,

@@ -1,5 +1,5 @@
 -- A vreg's spill slot, once made, holds that vreg's value alone.
--- Read first: `Grown` and `allocates_grown` in `StepsKeepSlots`: slots that are there stay, new ones lie at or past the count.
+-- Read first: `Grown` and `allocates_grown` in `StepsKeepSlots`: slots stay, and new ones are at or past the count.
 -- Depends on `Changes` and `Safety`, and on `Walk` for the walk over all blocks.
 -- Main theorem: `keeps_slots` in `InstsLeaveSlots`. Where edits write to slots only what they may and places are good,
 -- each instruction but a block's last one leaves the slot of a vreg that it doesn't define alone. Its counterpart:

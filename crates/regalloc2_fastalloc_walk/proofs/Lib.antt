@@ -1,6 +1,6 @@
--- Lemmas for the contracts of the walk's functions; that these make the steps of regalloc2_fastalloc_proofs is answered function by function.
+-- Lemmas for the walk's functions, each of which makes its step, a relation of regalloc2_fastalloc_proofs.
 -- Read first: `Steps`, which chains steps; then `reserves_all` in `RegsReserved`, the loop over fixed registers.
--- Depends on the relations of regalloc2_fastalloc_proofs, the tables of regalloc2_fastalloc_state, and the branch definitions.
+-- Depends on regalloc2_fastalloc_proofs (relations), regalloc2_fastalloc_state (tables) and the branch definitions.
 -- `AvailableCount` says which registers are found free, and `LrusOfClasses` what the order of their use has.
 -- `RegsReserved` (`reserves_all`) is the loop over fixed registers, `OperandOutOfRegs` says where an operand stops,
 -- `Steps` chains steps.

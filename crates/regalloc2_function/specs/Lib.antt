@@ -1,5 +1,5 @@
 -- The definitions that all contracts share: functions, machines, outputs, listings, paths, both runs, faithful outputs.
--- Read first: `FunctionValue`, `Machine`, `OutputValue`; then `Path`, `SourceRun`, `AllocatedRun`, `Faithful`; `WellFormed`.
+-- Read first: `FunctionValue`, `Machine`, `OutputValue`, `WellFormed`; `Path`, `SourceRun`, `AllocatedRun`, `Faithful`.
 -- Depends on regalloc2_names: registers, vregs, places, operands and program points.
 pub mod FunctionValue
 pub mod OutputValue

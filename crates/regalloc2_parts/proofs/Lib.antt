@@ -1,5 +1,5 @@
 -- Three parts with a theorem each: resolvers of parallel moves, the LRU list, the list of live vregs.
--- Read first: `rings_follow` in `Rings` and `given_whole` in `Whole`: moves given out one by one do what all do at once.
+-- Read first: `rings_follow` in `Rings` and `given_whole` in `Whole`: moves one by one do what all do at once.
 -- Depends on the specs, and on `EqualNames` of regalloc2_names.
 -- Moves: `rings_follow` and `given_whole` are over `Chains`, `Following`, `Rounds` and `Orders`; `resolves_order` in
 -- `Resolving` turns them round, `Tidying` and `Searching` make the list that is followed, `Counting` counts the
