@@ -1,6 +1,9 @@
--- The theorem is `behaves` in Behaving, over the premises of Premise, which Premises shows of what is emitted for an allocated procedure. Read Premise
--- first; then Simulation, in which the machine follows the interpreter over places, step by step (Steps: one operation; Places: one move), and Source,
--- in which the procedure's own interpreter follows the one over virtual registers. Emitting is about the code that grows.
+-- Emitted code behaves as its procedure: `behaves` in `Behaving`.
+-- Read first: `Premise`, then `Simulation` and `Source`, in which machine and procedure follow the two interpreters.
+-- Depends on the two interpreters of a function, over vregs and over places, which run alike (`FaithfulRunAlike`).
+-- `Premises` shows the premises of what is emitted for an allocated procedure; `Steps` is one operation, `Places` one
+-- move. `Stands` and `Runs` are code at an address and runs of it, `Procedures` a procedure's function; `Emitting` is
+-- the code that grows.
 pub mod Emitting
 pub mod Procedures
 pub mod Premise

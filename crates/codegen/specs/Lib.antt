@@ -1,3 +1,6 @@
+-- Definitions for the code generator: the code that it emits, its main theorem, and why it rejects a function.
+-- Read first: `BehavesAs` in `Behaves`, the theorem's conclusion; then `Emitted`, the code of each operation and move.
+-- Depends on the interpreters of procedures (`Meaning`) and of machine code (`Machine`), and on regalloc2_function.
 pub mod Emitted
 pub mod Behaves
 pub mod Target

@@ -1,4 +1,6 @@
--- This crate's own words, and those of the crates below that its contracts name: a client needs no other crate on its line.
+-- Definitions for the entry points, and those of the crates below that contracts name: a client lists no other crate.
+-- Read first: `Accepted`: the checker accepts what the allocator guarantees; `Allocated` and `Judged`: errors.
+-- Depends on regalloc2_fastalloc (`Promise`, `ErrorReason`) and regalloc2_checker (`Report`).
 pub mod Accepted
 pub mod Judged
 pub mod Allocated

@@ -1,13 +1,17 @@
--- The tests of blocks and of definitions answer their definitions, the order of blocks is that of a depth-first walk, and a set of numbers is
--- seen as its members.
--- Definitions and uses: `noted_once`, `usable_uses`, `taken_fault` and `unusable_fault` in `TableDecidesSSA`: the table of definitions decides
--- both tests, and names the first failure. Read `Keeps` in `TableKeepsDefs` first; `ListingsOfFunction` and `DefsCounted` join the listings
--- with the function, `NotedInParts`, `ListsInParts` and `ListMembers` serve loops. `ErrorOnlyOutOfMemory` has the case without failure.
+-- The tests of blocks and definitions, the order of a depth-first walk, and sets of numbers are as defined.
+-- Read first: `Keeps` in `TableKeepsDefs`, what the table of definitions keeps.
+-- Depends on the specs, and on `WellFormed` and `Reasons` of regalloc2_function.
+-- Definitions and uses: `noted_once`, `usable_uses`, `taken_fault` and `unusable_fault` in `TableDecidesSSA`: the
+-- table of definitions decides both tests, and names the first failure. `ListingsOfFunction` and `DefsCounted` join
+-- the listings with the function; `NotedInParts`, `ListsInParts` and `ListMembers` serve loops. `ErrorOnlyOutOfMemory`
+-- is the case without failure.
 -- Tables by number: `room_above` and `short_above` in `TableLengths`.
--- Blocks: `PredsListed` (`all_ways_end`), `PredsInOrder` (`order_agrees`), `TimesInList`, `BlockRanges`, `TablesByBlock`.
--- The order: `leaves_once` and `leaves_reached` in `LeavesReached`; `walked_end` in `DepthFirstWalk`, whose invariant is `Walked`;
--- `NamedBlocks` for what has to be a block.
--- Sets: `NumberSets`, over `NumberMaps` and `NumberPlaces` (words by key), `NumberBits` (members of a word) and `NumberUnions`.
+-- Blocks: `PredsListed` (`all_ways_end`), `PredsInOrder` (`order_agrees`), `TimesInList`, `BlockRanges`,
+-- `TablesByBlock`.
+-- The order: `leaves_once` and `leaves_reached` in `LeavesReached`; `walked_end` in `DepthFirstWalk`, whose invariant
+-- is `Walked`; `NamedBlocks` for what has to be a block.
+-- Sets: `NumberSets`, over `NumberMaps` and `NumberPlaces` (words by key), `NumberBits` (members of a word) and
+-- `NumberUnions`.
 pub mod ListsInParts
 pub mod NotedInParts
 pub mod BlockRanges

@@ -1,3 +1,6 @@
+-- The checker reports no error exactly if the output is faithful.
+-- Read first: `accepted_is_faithful` in `FixpointDecides`, then `report_verdict` in `NoErrorsIsFaithful`.
+-- Depends on regalloc2_checker_tables by `TableSteps`: a step of the tables is a step of the facts.
 pub mod FactsTraced
 pub mod FactsFollowMaps
 pub mod Fixpoint

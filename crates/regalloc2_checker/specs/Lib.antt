@@ -1,3 +1,6 @@
+-- Definitions for the checker: facts (which write a place holds), their fixpoint, and the errors reported.
+-- Read first: `Facts`, then `AcceptedIsFaithful` in `Fixpoint`, then `IsReport` in `Report`. `Cells`: places are apart.
+-- Depends on regalloc2_function (paths, both runs, faithful outputs) and on the tables of regalloc2_checker_tables.
 pub mod Facts
 pub mod Fixpoint
 pub mod TableFacts

@@ -1,12 +1,14 @@
 -- A block's last instruction, behind which no vreg is in a register.
--- Main theorem: `own_moves` in `BranchEndsBlock`. A branch with its own moves carries a vreg that it doesn't define from where it may be
--- relied on before the branch to where it may be behind it, and leaves slots to their vregs (`leaves_own`). For a return: `return_owes` in
--- `LastInst`.
--- Read first: `IsOutside` and `Still` in `NoMoveForOperand`, then `calm_end` in `NoMoveInLastInst`: allocating the operands adds no edit.
--- `NoMoveForOperand` is one operand (`gets_calm`, `defines_calm`), `NoMoveInPasses` one step of a pass (`one_calm`), `NoMoveInLastInst`
--- both passes (`still_end`); `Safety/BlocksKeepSafe` uses it too, since no edit may be behind a block. `BranchAlone` (`branched`) is a
--- branch so: its moves are before it, each to a register or to the place of a use. `BranchEndsBlock` imports it. `LastInst` is apart from
--- these: what is wanted behind a block (`owed_there`).
+-- Read first: `IsOutside` and `Still` in `NoMoveForOperand`, then `calm_end` in `NoMoveInLastInst`.
+-- Depends on `Operands` and `Inst`, and on `Walk` and `Safety` for a branch in its block.
+-- Main theorem: `own_moves` in `BranchEndsBlock`. A branch with its own moves carries a vreg that it doesn't define
+-- from where it may be relied on before the branch to where it may be behind it, and leaves slots to their vregs
+-- (`keeps_own`). For a return: `return_owes` in `LastInst`.
+-- `calm_end`: allocating the operands adds no edit. `NoMoveForOperand` is one operand (`gets_calm`, `defines_calm`),
+-- `NoMoveInPasses` one step of a pass (`one_calm`), `NoMoveInLastInst` both passes (`still_end`);
+-- `Safety/BlocksKeepSafe` uses it too, since no edit may be behind a block. `BranchAlone` (`branched`) is a branch so:
+-- its moves are before it, each to a register or to the place of a use. `BranchEndsBlock` imports it. `LastInst` is
+-- apart from these: what is wanted behind a block (`owed_there`).
 pub mod BranchAlone
 pub mod BranchEndsBlock
 pub mod DefsInSlots

@@ -1,3 +1,6 @@
+-- Each function of the walk as a relation between a state and its outcome, and the invariant that the walk keeps.
+-- Read first: `InstSteps` (`StateValue`, `AllocInst`), then `BranchSteps`, `BlockStart`, `BlockSteps`, `Safety`.
+-- Depends on the tables of regalloc2_fastalloc_state (`StateParts`, `InstRegs`) and on regalloc2_function.
 pub mod BlockStart
 pub mod StoreSteps
 pub mod BranchSteps

@@ -1,7 +1,10 @@
--- Lemmas for the contracts of the state's parts, each of which keeps its invariant; crates above cite some (see docs/ARCHITECTURE.md).
--- Locations: `inverse_marked` in `VRegInPRegInverse`, the two tables stay inverse; `RegistersOfVRegs`. Slots: `SpillSlotUnits` (how many units they take),
--- `SlotsAsPlaces`. Registers: `LrusOfMachine` and `LrusByClass`, over `ArraysByClass`, `ClassIsEmpty`, `SetMembers`, `SetOfList`, `SetDifference` and
--- `CountingLaws`. Edits: `PointsDescend` (points never rise), `EditsPushed`.
+-- Lemmas for the parts of the walk's state, each of which keeps its invariant; docs/ARCHITECTURE.md lists their users.
+-- Read first: `inverse_marked` in `VRegInPRegInverse`: the two tables of locations stay inverse.
+-- Depends on the specs, and on `Cells` and `Plain` of regalloc2_semantics for maps that change at one place.
+-- Locations: `inverse_marked` in `VRegInPRegInverse`, the two tables stay inverse; `RegistersOfVRegs`. Slots:
+-- `SpillSlotUnits` (how many units they take), `SlotsAsPlaces`. Registers: `LrusOfMachine` and `LrusByClass`, over
+-- `ArraysByClass`, `ClassIsEmpty`, `SetMembers`, `SetOfList`, `SetDifference` and `CountingLaws`. Edits:
+-- `PointsDescend` (points never rise), `EditsPushed`.
 pub mod CountingLaws
 pub mod PointsDescend
 pub mod LrusOfMachine

@@ -1,10 +1,15 @@
--- Lemmas for the contracts of the walk's functions; that these make the steps of regalloc2_fastalloc_proofs is answered function by function.
+-- Lemmas for the walk's functions, each of which makes its step, a relation of regalloc2_fastalloc_proofs.
+-- Read first: `Steps`, which chains steps; then `reserves_all` in `RegsReserved`, the loop over fixed registers.
+-- Depends on regalloc2_fastalloc_proofs (relations), regalloc2_fastalloc_state (tables) and the branch definitions.
 -- `AvailableCount` says which registers are found free, and `LrusOfClasses` what the order of their use has.
--- `RegsReserved` (`reserves_all`) is the loop over fixed registers, `OperandOutOfRegs` says where an operand stops, `Steps` chains steps.
--- `NothingPassed`: a branch to blocks without parameters does nothing to the tables. `FilledClobbers`: only clobbers in which vregs are have to be emptied.
+-- `RegsReserved` (`reserves_all`) is the loop over fixed registers, `OperandOutOfRegs` says where an operand stops,
+-- `Steps` chains steps.
+-- `NothingPassed`: a branch to blocks without parameters does nothing to the tables. `FilledClobbers`: only clobbers
+-- in which vregs are have to be emptied.
 -- `SlotUses` (`slot_use`): a use under `Any` stays in its vreg's slot.
--- What a branch defines: `OwnDefs` (the tables say what is its own), `StoresListed` (`lists_stores`: what a block's beginning stores is listed, each
--- once, counted in `CountedOnce`), `StoresPushed` (the moves of that, as they are pushed) and `StoresOnEdge` (`stores_on`: those are the stores).
+-- What a branch defines: `OwnDefs` (the tables say what is its own), `StoresListed` (`lists_stores`: what a block's
+-- beginning stores is listed, each once, counted in `CountedOnce`), `StoresPushed` (the moves of that, as they are
+-- pushed) and `StoresOnEdge` (`stores_on`: those are the stores).
 pub mod AvailableCount
 pub mod CountedOnce
 pub mod FilledClobbers

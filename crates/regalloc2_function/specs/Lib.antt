@@ -1,3 +1,6 @@
+-- The definitions that all contracts share: functions, machines, outputs, listings, paths, both runs, faithful outputs.
+-- Read first: `FunctionValue`, `Machine`, `OutputValue`, `WellFormed`; `Path`, `SourceRun`, `AllocatedRun`, `Faithful`.
+-- Depends on regalloc2_names: registers, vregs, places, operands and program points.
 pub mod FunctionValue
 pub mod OutputValue
 pub mod Machine

@@ -1,3 +1,6 @@
+-- Which vregs an instruction needs: on some path they are read before they are written.
+-- Read first: `IsNeeded` in `LiveIn`, then `IsScoped` in `Scopes`, a tree of blocks; `Propagation` follows edges.
+-- Depends on definite assignment (`IsWrittenFirst`) of regalloc2_function and on `Blocks` of regalloc2_semantics.
 pub mod Edges
 pub mod LiveIn
 pub mod BlockVRegPairs

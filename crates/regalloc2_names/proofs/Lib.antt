@@ -1,3 +1,6 @@
+-- Lemmas on encodings, register sets and the equality of names.
+-- Read first: `EqualNames`, which other crates cite: two names are equal exactly if the test accepts them.
+-- Depends on the specs. `Bits`, `Words`: packed fields. `SetBits`, `Members`, `Counted`, `Highest`, `EmptyWord`: sets.
 pub mod Bits
 pub mod SetBits
 pub mod Members

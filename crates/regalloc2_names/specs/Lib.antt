@@ -1,3 +1,6 @@
+-- Registers, vregs, operands, places, program points and register sets as values, with their encodings and texts.
+-- Read first: `Register`, `Place`, `Operand`, `Point`, `RegisterSet`; then `Packing`, `PlaceBits`, `RegisterBits`.
+-- Depends on std alone.
 pub mod Register
 pub mod RegisterBits
 pub mod Place

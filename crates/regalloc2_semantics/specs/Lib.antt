@@ -1,3 +1,6 @@
+-- What a listing carries for one vreg, and what each block owes for reads to agree on every path.
+-- Read first: `Carries` in `Carry`, over `Listing`; `BlocksAgree` in `Blocks`; `Progress` in `OperandsPlaced`.
+-- Depends on regalloc2_function: paths, both runs, well-formed functions. The allocator isn't mentioned.
 pub mod Listing
 pub mod Carry
 pub mod BlockByPoints

@@ -1,3 +1,6 @@
+-- Lemmas for decoding and encoding: stored numbers name one function, and an encoded function passes the tests.
+-- Read first: `function-named` in `SameNames`, `sound` in `Storable`, `kept-whole` in `Whole`.
+-- Depends on the specs. `Lists`, `FilledLists`, `EncodedLists`, `Indexes` and `Blocks` are loops over lists.
 pub mod Lists
 pub mod Given
 pub mod Indexes

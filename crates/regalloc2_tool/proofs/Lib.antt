@@ -1,3 +1,6 @@
+-- Lemmas for writing a listing piece by piece.
+-- Read first: `listing_written` in `ListingLines`, over `OperandPieces` and `WrittenInParts`.
+-- Depends on `Listing` of the specs. `ListedInsts`: the instructions of a block's listing are the function's.
 pub mod ListedInsts
 pub mod WrittenInParts
 pub mod ListingLines
