@@ -3,8 +3,8 @@
 
     python3 bench/house.py [CRATES_TXT] > docs/house.svg
 
-CRATES_TXT is crates.txt of the repository if it isn't given. Each crate rests only on crates of lower floors, or left of
-it on its own floor. The script tests this, and that FLOORS names each crate once; the status is 1 if either fails.
+CRATES_TXT is crates.txt of the repository if it isn't given. Each crate rests only on crates of lower floors, or left
+of it on its own floor. The script tests this, and that FLOORS names each crate once; the status is 1 if either fails.
 """
 
 import os
