@@ -69,7 +69,7 @@ module _ (f : FunctionValue) (args : ℕ → ℕ) where
       let x : ℕ = c.numbers left in
       let n : ℕ = c.numbers v in
       subst (λ (b : Bool). onward (seen c) to (shifted o x n) ≡ onward (seen c) to (shifted o x (slice_index (x ∷ cond (not b) (n ∷ []) []) 1))) (sym plain)
-          refl
+      refl
   plain_goes (Shifting o to left (CountOf n)) c plain = refl
   plain_goes (Comparison o to left (VReg v)) c plain = refl
   plain_goes (Comparison o to left (Given n)) c plain = refl

@@ -117,7 +117,7 @@ swept_more b named k n old now turned less is step free swept = record {
 
     beyond_at : (i : ℕ) → (slot_at named i).0 ≢ (slot_at named k).0 →
         (now.0 ≡ Some (slot_at named i).0) ⊎ ((o : ℕ) × (now.1 ≡ Some o) × ComesBefore b (slot_at named i).0 o) →
-            IsBeyond b (slot_at named k) (slot_at named i).0
+        IsBeyond b (slot_at named k) (slot_at named i).0
     beyond_at i differ (inl e) = absurd (differ (sym (same_number n (slot_at named i).0 now.0 (now_current n old now step) e) ∙ is))
     beyond_at i differ (inr q) =
         beyond b (slot_at named k) q.0 (slot_at named i).0

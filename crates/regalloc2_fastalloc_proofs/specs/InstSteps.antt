@@ -176,7 +176,7 @@ pub data SelectsPlace (inst_regs : InstRegs) (o : OperandRequest) (p : Place) (o
   free : (r : Register) → (o.requirement ≡ AnyPlace) ⊎ (o.requirement ≡ AnyReg) →
       (o.requirement ≡ AnyReg → MeetsRequirement old AnyReg (alloc_of old.places o.vreg.number) → ⊥) → MayHold old o.vreg.class r →
       IsAvailableAt inst_regs o.positions r → chosen (is_available_at inst_regs o.positions) (order_of old o.vreg.class) ≡ Some r → p ≡ InRegister r →
-          new ≡ old → SelectsPlace inst_regs o p old new
+      new ≡ old → SelectsPlace inst_regs o p old new
 
 -- or there is none: any register was asked for, and none is free
 abbrev pub SelectPlace : InstRegs → OperandRequest → StateValue → Outcome Place → Type 0

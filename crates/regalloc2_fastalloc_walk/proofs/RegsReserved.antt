@@ -23,6 +23,7 @@ use Rattle.regalloc2_fastalloc_proofs.specs.InstSteps.{EvictsFixed, none_cleared
 use Rattle.regalloc2_fastalloc_walk.specs.ReserveSteps.{IsKnown, Shrinks, Grows, IsNewlyReserved, IsReserved, ReservesRegForOperand, TakesOnly}
 use Rattle.regalloc2_fastalloc_walk.specs.ReserveSteps.{TakesFixed, AwaitsOne, ReservesOnly, OperandReserves, RegIsNotReserved}
 use Rattle.regalloc2_fastalloc_proofs.specs.InstSteps.{RegsAreNotReserved, SameButOrder, unknown, shared}
+use Rattle.regalloc2_fastalloc_proofs.proofs.BlockEnd.NoMoveInPasses.{overlap_cases}
 
 -- no register becomes available where nothing changes
 pub shrinks_none : (t : InstRegs) → Shrinks t t
@@ -165,11 +166,6 @@ reserving_none ops t c old no_early no_late = record {
   late_claims = λ r h. absurd (both_ways (has_register c.late r) (no_late r) h);
 }
 
-two_ways : (a b c d : Bool) → ((a && b) || (c && d)) ≡ true → ((a ≡ true) × (b ≡ true)) ⊎ ((c ≡ true) × (d ≡ true))
-two_ways true true c d e = inl (refl, refl)
-two_ways true false c d e = inr (and_parts c d e)
-two_ways false b c d e = inr (and_parts c d e)
-
 module _ (ops : List OperandValue) (k : ℕ) (t u w : InstRegs) (c d : ReservedRegs) (old : StateValue) (h : Reserving ops k t u c old)
     (s : ReservesRegForOperand ops k u w c d old) where
   -- two operands of which the second is the new one
@@ -177,7 +173,7 @@ module _ (ops : List OperandValue) (k : ℕ) (t u w : InstRegs) (c d : ReservedR
       ((p.early && q.early) || (p.late && q.late)) ≡ true → ⊥
   met i r p q lt a b e =
       let new : IsNewlyReserved c d r q = (s.reserved r q b).claimed in
-      elim (two_ways p.early q.early p.late q.late e) [
+      elim (overlap_cases p q e) [
         | inl x ↦ both_ways (has_register c.early r) (new.fresh_early x.1) (h.claimed_early i r p lt a x.0)
         | inr x ↦ both_ways (has_register c.late r) (new.fresh_late x.1) (h.claimed_late i r p lt a x.0)
       ]

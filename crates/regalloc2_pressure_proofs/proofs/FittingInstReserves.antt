@@ -1,7 +1,7 @@
 -- An instruction that fits claims its registers: each is the machine's, and no two are one where they share a position.
 use Rattle.std.proofs.Common.{ℕ, ◌≡◌, ◌≢◌, ◌<◌, Bool, true, false, List, length, refl, sym, ap, ◌∙◌, inl, inr, ◌⊎◌, arith}
 use Rattle.std.specs.Prelude.{not, ◌&&◌, ◌||◌}
-use Rattle.std.proofs.lemmas.Bool.{cases_eq, and_parts, or_from, both_ways}
+use Rattle.std.proofs.lemmas.Bool.{cases_eq, or_from, both_ways, or_left, or_right}
 use Rattle.regalloc2_names.specs.declared.OperandConstraint.TheVariants.{FixedReg, Reuse}
 use Rattle.regalloc2_names.specs.Register.{Register, VirtualRegister}
 use Rattle.regalloc2_names.specs.RegisterSet.{has_register}
@@ -17,6 +17,7 @@ use Rattle.regalloc2_fastalloc_state.specs.InstRegs.{positions_of}
 use Rattle.regalloc2_fastalloc_proofs.specs.InstSteps.{StateValue, NeedsFixedReg, own, named}
 use Rattle.regalloc2_fastalloc_proofs.specs.InstSteps.{RegsAreNotReserved, unknown, shared}
 use Rattle.regalloc2_fastalloc_proofs.proofs.Operands.AllocsSoFar.{IsTame, reads_allocated}
+use Rattle.regalloc2_fastalloc_proofs.proofs.BlockEnd.NoMoveInPasses.{overlap_cases}
 use Rattle.regalloc2_pressure_proofs.proofs.StepsKeepMachine.{HasAll}
 
 -- an operand that claims its register early holds the early part, and one that claims it late the late part
@@ -36,17 +37,9 @@ holds_late i k o h e = absurd (by_test (is_def o.kind) (is_late o.position) h e)
     by_test false true h e = cc
     by_test false false h e = cc
 
--- positions that are shared
-share : (a b c d : Bool) → ((a && b) || (c && d)) ≡ true → ((a ≡ true) × (b ≡ true)) ⊎ ((c ≡ true) × (d ≡ true))
-share true true c d h = inl (refl, refl)
-share true false c d h = inr (and_parts c d h)
-share false b c d h = inr (and_parts c d h)
-
 either_false : (a b : Bool) → (a ≡ true) ⊎ (b ≡ true) → (a || b) ≡ false → ⊥
-either_false true b (inl e) h = cc
-either_false true b (inr e) h = cc
-either_false false b (inl e) h = cc
-either_false false b (inr e) h = (let x : b ≡ false = h in cc)
+either_false a b (inl e) h = both_ways (a || b) h (or_left a b e)
+either_false a b (inr e) h = both_ways (a || b) h (or_right a b e)
 
 module _ (f : FunctionValue) (env : MachineValue) (inst : InstValue) (fits : Fits f env inst) (Known : VirtualRegister → Type 0)
     (tame : IsTame Known inst.operands) where
@@ -148,4 +141,4 @@ module _ (f : FunctionValue) (env : MachineValue) (inst : InstValue) (fits : Fit
         | inl a ↦ inl (all.allocatable r a)
         | inr s ↦ inr (all.machine.memory r s)
       ]) none
-  never_reserve old all (shared j k r p q less lt a b both) = never_shared j k r p q less lt a b (share p.early q.early p.late q.late both)
+  never_reserve old all (shared j k r p q less lt a b both) = never_shared j k r p q less lt a b (overlap_cases p q both)

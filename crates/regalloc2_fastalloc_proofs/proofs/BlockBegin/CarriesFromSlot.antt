@@ -93,7 +93,7 @@ module _ (insts : ℕ → InstValue) (placesf : ℕ → List Place) (i n : ℕ) 
         (λ p h. elim h.1 [
           | inl at ↦ located (ap is_some at) at
           | inr (inl at) ↦ in_slot refl at
-          | inr (inr at) ↦ made (and_from (eq-eqb v.number v.number refl) (is_there-same F p at.1))
+          | inr (inr at) ↦ made (and_from (nat_eq v.number v.number) (is_there F p) (eq-eqb v.number v.number refl) (is_there-same F p at.1))
         ])
         (λ p h. h) c)) v refl)
       where

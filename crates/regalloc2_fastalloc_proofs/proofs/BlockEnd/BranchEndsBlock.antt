@@ -166,8 +166,8 @@ module _ (at_end : EndsBlock) where
     by_table : (s : Place) → F v.number ≡ Some s → block ≡ true → (x : Option Place) → slots_at middle v.number ≡ x → Carries v L On E
     by_table s is yes_block None none = nothing (λ p o.
         let now : slots_at middle v.number ≡ Some p = grown_slots (IsAt last) old middle
-            (changes_grow (IsAt last) (allocates_changes (λ p q. inr refl) (λ p q. inl refl) (λ k lt. any_operand (λ e. IsAt last e.0) _) a))
-            v.number p (there yes_block p o) in
+        (changes_grow (IsAt last) (allocates_changes (λ p q. inr refl) (λ p q. inl refl) (λ k lt. any_operand (λ e. IsAt last e.0) _) a))
+        v.number p (there yes_block p o) in
         let x : None ≡ Some p = sym none ∙ now in cc)
     by_table s is yes_block (Some q) at =
         let same : Some q ≡ Some s = sym (h.stays v.number q at) ∙ is in

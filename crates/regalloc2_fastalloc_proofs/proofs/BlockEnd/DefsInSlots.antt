@@ -88,8 +88,8 @@ module _ (Known : VirtualRegister → Type 0) (ops : List OperandValue) (tame : 
   one_none D E j here there t u old new (a_reuse n p defines reuses places written) less back long away h k lk done def kind r at = elim (cases_eq k j) [
     | inl e ↦ no_reuse (op_at ops k).constraint n kind (ap (λ (x : ℕ). (op_at ops x).constraint) e ∙ reuses)
     | inr ne ↦ elim (cases_eq k n) [
-      | inl e ↦ both_ways (is_def (op_at ops k).kind) (ap (λ (x : ℕ). is_def (op_at ops x).kind) e def
-          ∙ reads_use (op_at ops n) (tame.named j n less reuses).2)
+      | inl e ↦ both_ways (is_def (op_at ops k).kind) (ap (λ (x : ℕ). is_def (op_at ops x).kind) e
+          ∙ reads_use (op_at ops n) (tame.named j n less reuses).2) def
       | inr other ↦ h k lk (back k done ne) def kind r (sym (get_or-set_other here j k p NoPlace ne) ∙ sym (get_or-set_other (set here j p) n k p NoPlace other)
           ∙ ap (λ l. at_place l k) (sym written) ∙ at)
     ]

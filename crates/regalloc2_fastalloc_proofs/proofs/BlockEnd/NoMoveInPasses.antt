@@ -1,8 +1,8 @@
 -- At a block's last instruction, where no vreg is in a register, placing operands pushes no move: the passes.
 -- The fold in `Changes` doesn't fit: what the listing carries, or the operands' record, differs from step to step.
 use Rattle.std.proofs.Common.{ℕ, ◌≡◌, ◌≢◌, ◌<◌, List, Bool, true, false, cond, refl, sym, ap, ◌∙◌, ◌⊎◌, inl, inr, subst, arith, length, set, get_or-set_same}
-use Rattle.std.specs.Prelude.{None, Some, ◌&&◌, ◌||◌}
-use Rattle.std.proofs.lemmas.Bool.{cases_eq, cases_Bool, and_parts, or_right, both_ways}
+use Rattle.std.specs.Prelude.{None, Some, ◌&&◌}
+use Rattle.std.proofs.lemmas.Bool.{cases_eq, and_parts, or_right, both_ways, or_cases}
 use Rattle.std.proofs.lemmas.List.{get_or-set_other}
 use Rattle.std.proofs.Math.ListN.{length-set}
 use Rattle.regalloc2_names.specs.declared.OperandConstraint.TheVariants.{FixedReg, Reuse}
@@ -125,10 +125,11 @@ awaiting_on ops D E here there t u old new back same later nobody a = record {
   lates = λ k less not_e late. same k less not_e ∙ a.lates k less (back k less not_e) late;
 }
 
-overlap_cases : (p q : Positions) → Overlap p q → ((p.early ≡ true) × (q.early ≡ true)) ⊎ ((p.late ≡ true) × (q.late ≡ true))
-overlap_cases p q h = elim (cases_Bool (p.early && q.early)) [
+-- two operands that overlap both hold a register at the early position or both at the late one
+pub overlap_cases : (p q : Positions) → Overlap p q → ((p.early ≡ true) × (q.early ≡ true)) ⊎ ((p.late ≡ true) × (q.late ≡ true))
+overlap_cases p q h = elim (or_cases (p.early && q.early) (p.late && q.late) h) [
   | inl e ↦ inl (and_parts p.early q.early e)
-  | inr e ↦ (let l : (p.late && q.late) ≡ true = ap (λ b. b || (p.late && q.late)) (sym e) ∙ h in inr (and_parts p.late q.late l))
+  | inr e ↦ inr (and_parts p.late q.late e)
 ]
 
 -- two operands that both hold a register at the early position hold it at one time

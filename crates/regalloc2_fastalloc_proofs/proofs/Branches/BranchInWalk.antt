@@ -187,7 +187,7 @@ module _ (env : MachineValue) (f : FunctionValue) (limited : IsLimited f) (ok : 
           e.allocates.allocates.allocates in
           let p = e.allocates.branch branch in
           let g : Grown (λ n. n ≡ before last) e.allocates.middle new =
-              changes_grow (λ n. n ≡ before last) (passes_changes (λ q r. refl) (any_passed (λ d. d.0 ≡ before last) f b) p) in
+          changes_grow (λ n. n ≡ before last) (passes_changes (λ q r. refl) (any_passed (λ d. d.0 ≡ before last) f b) p) in
           pushed_at (λ d. d.0 ≡ before last) (after last) e.allocates.middle.edits new.edits (λ d is at. omega (arith, is, at))
           (grown_pushes (λ n. n ≡ before last) e.allocates.middle new g)
           ∙ pushed_at (IsUseMove last (inst_at f last).operands e.allocates.allocates.here) (after last) old.edits e.allocates.middle.edits

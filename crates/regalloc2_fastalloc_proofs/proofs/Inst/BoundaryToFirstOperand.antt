@@ -1,7 +1,7 @@
 -- From the boundary after an instruction to its first operand: fixed registers are claimed, and clobbers are emptied.
 use Rattle.std.proofs.Common.{ℕ, zero, suc, ◌≡◌, ◌+◌, ◌<◌, Bool, true, false, List, [], ◌∷◌, length, refl, arith, sym, ap, ◌∙◌, subst, inl, inr, ◌⊎◌, ⊎_elim}
 use Rattle.std.specs.Prelude.{None, Some, not, ◌&&◌, ◌||◌, Contains, slice_index_or}
-use Rattle.std.proofs.lemmas.Bool.{cases_Bool}
+use Rattle.std.proofs.lemmas.Bool.{cases_Bool, or_left, or_right}
 use Rattle.regalloc2_names.specs.declared.RegClass.{RegClass}
 use Rattle.regalloc2_names.specs.declared.RegClass.TheVariants.{Int, Float, Vector}
 use Rattle.regalloc2_names.specs.declared.sets.PRegSet.{PRegSet}
@@ -89,9 +89,7 @@ clob_stands what far clob2 t kept cleared calm st = record {
 }
 
 late_by : (d l : Bool) → (d ≡ true) ⊎ (l ≡ true) → (d || l) ≡ true
-late_by true l h = refl
-late_by false true h = refl
-late_by false false h = elim h [ inl e ↦ absurd cc | inr e ↦ absurd cc ]
+late_by d l h = elim h [ inl e ↦ or_left d l e | inr e ↦ or_right d l e ]
 
 module _ (Known : VirtualRegister → Type 0) (insts : ℕ → InstValue) (placesf : ℕ → List Place) (E : VirtualRegister → Place → Type 0) where
   -- What holds before the instruction i, with n from it on: no move is before it, the listing carries each known vreg from where it is and,

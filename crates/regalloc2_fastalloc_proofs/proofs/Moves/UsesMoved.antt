@@ -212,7 +212,6 @@ module _ (tail : BlockTail) (item : Item) where
         fit = v.fit;
         kept = v.kept;
       })
-
   move_one what far k class u w base m t d us (sent made (direct flat eu en)) v =
       let f : IsMoved what far (stands_at m) (slots_at m) k (place_in m (what k).number) = use_facts what far k m d us v.located in
       let q : Place = place_in m (what k).number in

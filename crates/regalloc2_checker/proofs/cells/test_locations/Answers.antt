@@ -15,7 +15,7 @@ returns-then-not-is_proper_of_any-clause-fault g c f =
     let out = output_of c.args.output.now in
     let less : c.loop-k.k < length out.debug_locations = omega (arith, c.loop-k-test.true, c.loop-k.invariant.whole) in
     let within : c.loop-k.k < length c.args.output.now.debug_locations.items =
-        omega (arith, less, length-map c.args.output.now.debug_locations.items location_seen) in
+    omega (arith, less, length-map c.args.output.now.debug_locations.items location_seen) in
     let place = location_is c.args.output.now c.loop-k.k c.index-location.result.now _ within c.index-location.ensures in (
       less,
       λ class h. not_so c.is_proper_of_any.result c.if-not-is_proper_of_any.true c.is_proper_of_any.ensures.1
@@ -28,7 +28,7 @@ loop-k-preserved g c =
     let env = machine_of c.args.env.now in
     let less : c.loop-k.k < length out.debug_locations = omega (arith, c.loop-k-test.true, c.loop-k.invariant.whole) in
     let within : c.loop-k.k < length c.args.output.now.debug_locations.items =
-        omega (arith, less, length-map c.args.output.now.debug_locations.items location_seen) in
+    omega (arith, less, length-map c.args.output.now.debug_locations.items location_seen) in
     let place = location_is c.args.output.now c.loop-k.k c.index-location.result.now _ within c.index-location.ensures in
     record {
       whole = c.loop-k.invariant.whole;

@@ -26,7 +26,7 @@ loop-succ-preserved g c =
     elim c.if-index.branch [
       | then-index+in_ok-push w ↦ record {
         near = rw (w.near-is, w.in_ok-push.ensures.items) (All-push (LeadsBack f c.args.vreg) c.loop-succ.near.items c.succ-item.result
-        c.loop-succ.invariant.near back);
+            c.loop-succ.invariant.near back);
         far = rw w.far-is c.loop-succ.invariant.far;
       }
       | else-index+in_ok-push-2 w ↦ record {

@@ -47,7 +47,7 @@ loop-k-preserved g c =
           record {
             cleared = of_fixed k w.in-FixedReg.preg c.loop-k.inst_regs w.evict_others.new.inst_regs m n h.cleared (at ∙ w.in-FixedReg.is)
                 (subst P (read_vreg ops k o w.vreg.result c.loop-k-test.true c.index-operands-k.is w.vreg.ensures)
-                    w.in_ok-evict_others-in-FixedReg.ensures.outcome);
+                w.in_ok-evict_others-in-FixedReg.ensures.outcome);
             awaited = w.evict_others.ensures.awaited ∙ h.awaited;
             later = w.in_ok-evict_others-in-FixedReg.ensures.step.later;
             long = w.in_ok-evict_others-in-FixedReg.ensures.step.long ∙ h.long;

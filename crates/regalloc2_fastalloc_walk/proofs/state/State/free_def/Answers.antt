@@ -72,7 +72,7 @@ returns-in_err-add_move_if-2-clause-outcome g c =
     let ret : Bool = c.args.is_ret in
     let A : RegClass → Bool → Place → Type 0 = λ k b q. AddsMoveIf c.args.point k b p q c.args.inst_regs.now c.add_move_if.new.inst_regs left middle in
     let a1 = subst (λ (k : RegClass). A k c.is_awaited-is_awaited.result c.current_alloc-awaited.result) c.class-class.ensures
-        c.in_ok-add_move_if.ensures.outcome in
+    c.in_ok-add_move_if.ensures.outcome in
     let a2 = subst (λ (b : Bool). A c.args.vreg.class b c.current_alloc-awaited.result) c.is_awaited-is_awaited.ensures a1 in
     let a3 = subst (λ (q : Place). A c.args.vreg.class (not ret && is_another q p) q) c.current_alloc-awaited.ensures.place a2 in
     let S : RegClass → Bool → Place → Type 0 = λ k b q. AddMoveIf c.args.point k b p q c.add_move_if.new.inst_regs middle no_register in

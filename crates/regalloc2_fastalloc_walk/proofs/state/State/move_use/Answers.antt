@@ -25,7 +25,7 @@ returns-in_err-add_move_if-clause-outcome g c =
     let at : c.current_alloc-current.result ≡ alloc_of c.args.self.now.places c.args.operand.vreg.number =
     c.current_alloc-current.ensures.place ∙ ap (λ (v : VirtualRegister). alloc_of c.args.self.now.places v.number) c.vreg.ensures in
     let S : RegClass → Bool → Place → Type 0 = λ k b q.
-        AddMoveIf c.args.point k b q c.args.place c.args.inst_regs.now (tables_of c.args.self.now) no_register in
+    AddMoveIf c.args.point k b q c.args.place c.args.inst_regs.now (tables_of c.args.self.now) no_register in
     let e = err_from_is_err_and c.from_residual.result c.from_residual.ensures.1 in
     rw e.1 (λ lacks.
     let s1 : S c.args.operand.vreg.class c.differ-is_moved.result c.current_alloc-current.result = subst (λ (k : RegClass). S k c.differ-is_moved.result

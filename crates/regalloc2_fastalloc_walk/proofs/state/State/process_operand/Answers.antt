@@ -122,7 +122,7 @@ returns-in_err-here-clause-outcome g c =
     let at : c.after-point.result ≡ after c.args.cx.now.inst = c.after-point.ensures.point (λ e. omega (arith, c.requires.inst)) in
     let e = err_from_is_err_and c.from_residual.result c.from_residual.ensures.1 in
     rw e.1 (λ same. stop_use c.index-operands-k.result c.index-here-k.result o h c.use_request-request.ensures at not_it
-        (sym c.is_def.ensures ∙ c.if-not-is_def.true) (c.in_err-here.ensures.outcome (sym e.2 ∙ same)))
+    (sym c.is_def.ensures ∙ c.if-not-is_def.true) (c.in_err-here.ensures.outcome (sym e.2 ∙ same)))
 
 pub returns-in_err-place-clause-outcome : goal.returns-in_err-place-clause-outcome
 returns-in_err-place-clause-outcome g c =

@@ -22,7 +22,7 @@ loop-preg-preserved g c =
     let newest = c.in-Some.ensures.some in
     record {
       done = one_emptied c.in-Some.preg c.loop-preg.inst_regs c.evict_preg.new.inst_regs m n c.loop-preg.invariant.done newest
-      c.in_ok-evict_preg.ensures.outcome;
+          c.in_ok-evict_preg.ensures.outcome;
       later = c.in_ok-evict_preg.ensures.step.later;
       long = c.in_ok-evict_preg.ensures.step.long ∙ c.loop-preg.invariant.long;
       machine = same_then (tables_of c.args.self.now) m n c.loop-preg.invariant.machine c.in_ok-evict_preg.ensures.step.machine;
